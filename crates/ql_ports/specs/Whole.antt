@@ -1,0 +1,5 @@
+use Rattle.std.specs.Prelude.{◌≡◌, ℕ, List, ◌++◌, length, drop}
+
+-- a list is a front of a whole
+abbrev pub IsFront : List ℕ → List ℕ → Type 0
+IsFront front whole = front ++ drop (length front) whole ≡ whole

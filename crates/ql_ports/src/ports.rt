@@ -1,0 +1,51 @@
+ghost use Rattle.std.specs.Prelude.{◌≡◌, ◌≢◌, ◌<◌, ◌≤◌, ◌++◌, ℕ, List, [], Option, length, take, drop, IfOk, OnErr, IfSome};
+ghost use Rattle.ql_ports.specs.Faults.{Rose};
+ghost use Rattle.ql_ports.specs.Written.{appended};
+
+/// A device failed at a fetch or a put. The shelf or the sink has counted the fault.
+#[derive(Clone, Copy, Debug, PartialEq, Eq)]
+pub struct Failed;
+
+/// Named byte strings that are read piece by piece.
+///
+/// A shelf over memory tells what it holds. A shelf of real files tells nothing, and the clauses
+/// then say nothing of the bytes that it gives.
+pub trait Shelf {
+    // The bytes under a name, where the shelf tells them.
+    ghost held: { Self → List ℕ → Option (List ℕ) };
+
+    // How many faults the fetches of a name have met.
+    ghost faults: { Self → List ℕ → ℕ };
+
+    /// Fills the front of `into` with the bytes under `name` from the place `at` on, and gives how
+    /// many they are. No bytes for a buffer that isn't empty means the end. A name that the shelf
+    /// doesn't have is a fault. After `Failed` the contents of `into` are open.
+    fn fetch(&mut self, name: &str, at: u64, into: &mut [u8]) -> Result<usize, Failed>
+        ensures within { IfOk result (λ count. count ≤ length into.new) }
+        ensures bytes { IfOk result (λ count. IfSome (held self.old name.now)
+            (λ whole. take count into.new ≡ take count (drop at whole))) }
+        ensures end { IfOk result (λ count. IfSome (held self.old name.now)
+            (λ whole. count ≡ 0 → into.new ≢ [] → length whole ≤ at)) }
+        ensures failed { OnErr result (Rose (faults self.old name.now) (faults self.new name.now)) }
+        ensures same_contents { (other : List ℕ) → held self.new other ≡ held self.old other }
+        ensures counts_stay { (other : List ℕ) → faults self.old other ≤ faults self.new other };
+}
+
+/// Where bytes are written, piece by piece.
+pub trait Sink {
+    // The bytes taken so far, where the sink tells them.
+    ghost written: { Self → Option (List ℕ) };
+
+    // How many faults the puts have met.
+    ghost faults: { Self → ℕ };
+
+    /// Takes a front of `bytes` and gives its length: at least one byte where there are any.
+    fn put(&mut self, bytes: &[u8]) -> Result<usize, Failed>
+        ensures within { IfOk result (λ count. count ≤ length bytes.now) }
+        ensures some { IfOk result (λ count. bytes.now ≢ [] → 0 < count) }
+        ensures taken { IfOk result (λ count.
+            written self.new ≡ appended (written self.old) (take count bytes.now)) }
+        ensures kept { OnErr result (written self.new ≡ written self.old) }
+        ensures failed { OnErr result (Rose (faults self.old) (faults self.new)) }
+        ensures count_stays { faults self.old ≤ faults self.new };
+}

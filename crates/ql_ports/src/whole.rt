@@ -1,0 +1,124 @@
+ghost use Rattle.std.specs.Prelude.{◌≡◌, ◌≢◌, ◌<◌, ◌≤◌, ◌+◌, ◌++◌, ℕ, List, length, take, drop, IfOk, OnOk, OnErr, IsErrOf, IfSome, IsTrue, IsFalse, vec_len};
+ghost use Rattle.ql_ports.specs.Faults.{Rose};
+ghost use Rattle.ql_ports.specs.Whole.{IsFront};
+ghost use Rattle.ql_ports.specs.Written.{appended, AppendsFront};
+ghost use Rattle.ql_ports.specs.declared.whole.ReadError.{ReadError};
+
+use crate::ports::{Failed, Shelf, Sink};
+use ql_base::NoMemory;
+use std::alloc::{AllocError, Global};
+
+/// Why a file could not be read whole.
+#[derive(Clone, Copy, Debug, PartialEq, Eq)]
+pub enum ReadError {
+    /// The shelf counted a fault at this name.
+    Failed,
+    /// The file has more bytes than the limit.
+    TooLong,
+    NoMemory,
+}
+
+impl From<Failed> for ReadError {
+    ghost from_gives = { λ _ error. error ≡ ReadError.Failed };
+
+    fn from(_failed: Failed) -> ReadError {
+        ReadError::Failed
+    }
+}
+
+impl From<NoMemory> for ReadError {
+    ghost from_gives = { λ _ error. error ≡ ReadError.NoMemory };
+
+    fn from(_error: NoMemory) -> ReadError {
+        ReadError::NoMemory
+    }
+}
+
+impl From<AllocError> for ReadError {
+    ghost from_gives = { λ _ error. error ≡ ReadError.NoMemory };
+
+    fn from(_error: AllocError) -> ReadError {
+        ReadError::NoMemory
+    }
+}
+
+// How many bytes a fetch asks for.
+const PIECE: usize = 65_536;
+
+/// Reads the bytes under a name to their end, at most `limit` of them.
+pub fn read_whole<S: Shelf>(
+    alloc: Global,
+    shelf: &mut S,
+    name: &str,
+    limit: usize,
+) -> Result<Vec<u8>, ReadError>
+    ensures whole { IfOk result (λ bytes. IfSome (S.held shelf.old name.now)
+        (λ whole. bytes.items ≡ whole)) }
+    ensures in_limit { IfOk result (λ bytes. vec_len bytes ≤ limit) }
+    ensures failed { IsErrOf result ReadError.Failed →
+        Rose (S.faults shelf.old name.now) (S.faults shelf.new name.now) }
+    ensures too_long { IsErrOf result ReadError.TooLong →
+        IfSome (S.held shelf.old name.now) (λ whole. limit < length whole) }
+    ensures same_contents { (other : List ℕ) → S.held shelf.new other ≡ S.held shelf.old other }
+    ensures counts_stay { (other : List ℕ) → S.faults shelf.old other ≤ S.faults shelf.new other }
+{
+    let mut buffer = make_buffer(alloc, PIECE)?;
+    let piece = buffer.as_mut_slice();
+    let mut bytes = Vec::new(alloc);
+    while read_piece(shelf, name, limit, piece, &mut bytes)? {}
+    Ok(bytes)
+}
+
+fn make_buffer(alloc: Global, size: usize) -> Result<Vec<u8>, NoMemory>
+    ensures { IfOk result (λ buffer. vec_len buffer ≡ size) }
+{
+    Ok(vec![in alloc; 0; size]?)
+}
+
+// One turn of reading: true where bytes were added, false at the end.
+fn read_piece<S: Shelf>(
+    shelf: &mut S,
+    name: &str,
+    limit: usize,
+    piece: &mut [u8],
+    bytes: &mut Vec<u8>,
+) -> Result<bool, ReadError>
+    requires room { 0 < length piece.old }
+    requires in_limit { vec_len bytes.old ≤ limit }
+    requires front { IfSome (S.held shelf.old name.now) (IsFront bytes.old.items) }
+    ensures grows { IfOk result (λ more. IsTrue more → vec_len bytes.old < vec_len bytes.new) }
+    ensures within { IfOk result (λ _. vec_len bytes.new ≤ limit) }
+    ensures reads { OnOk result (IfSome (S.held shelf.old name.now) (IsFront bytes.new.items)) }
+    ensures end { IfOk result (λ more. IsFalse more →
+        IfSome (S.held shelf.old name.now) (λ whole. bytes.new.items ≡ whole)) }
+    ensures failed { IsErrOf result ReadError.Failed →
+        Rose (S.faults shelf.old name.now) (S.faults shelf.new name.now) }
+    ensures too_long { IsErrOf result ReadError.TooLong →
+        IfSome (S.held shelf.old name.now) (λ whole. limit < length whole) }
+    ensures same_contents { (other : List ℕ) → S.held shelf.new other ≡ S.held shelf.old other }
+    ensures counts_stay { (other : List ℕ) → S.faults shelf.old other ≤ S.faults shelf.new other }
+{
+    let count = shelf.fetch(name, bytes.len() as u64, piece)?;
+    if count == 0 {
+        return Ok(false);
+    }
+    if count > limit - bytes.len() {
+        return Err(ReadError::TooLong);
+    }
+    bytes.extend_from_slice(&piece[..count])?;
+    Ok(true)
+}
+
+/// Writes all the bytes, in their order. After `Failed` a front of them was appended.
+pub fn write_whole<K: Sink>(sink: &mut K, bytes: &[u8]) -> Result<(), Failed>
+    ensures whole { OnOk result (K.written sink.new ≡ appended (K.written sink.old) bytes.now) }
+    ensures failed { OnErr result (Rose (K.faults sink.old) (K.faults sink.new)) }
+    ensures front { OnErr result (AppendsFront (K.written sink.old) (K.written sink.new) bytes.now) }
+    ensures count_stays { K.faults sink.old ≤ K.faults sink.new }
+{
+    let mut done = 0;
+    while done < bytes.len() {
+        done += sink.put(&bytes[done..])?;
+    }
+    Ok(())
+}
