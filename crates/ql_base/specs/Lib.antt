@@ -1,2 +1,4 @@
 pub mod Words
 pub mod Rows
+pub mod Bytes
+pub mod Names

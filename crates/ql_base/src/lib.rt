@@ -1,11 +1,13 @@
 // What every other crate shares: the numbers that name things, and the answer for want of memory.
 #![tactic(auto)]
 
+mod bytes;
 mod ids;
 mod limits;
 mod no_memory;
 mod word;
 
+pub use bytes::{is_blank, is_digit, is_lower, is_name_byte, is_text_byte, is_word_byte};
 pub use ids::{DeclId, EffId, MsgId, ObjId, OpId, ReplicaId, RunId, SessId, TypeId};
 pub use limits::{
     MAX_ATOMS, MAX_BODY_VARIABLES, MAX_BRACKETS, MAX_CERTIFICATE_BYTES, MAX_DECLARED_OBJECTS,
