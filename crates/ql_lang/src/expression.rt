@@ -1,0 +1,99 @@
+ghost use Rattle.std.specs.Prelude.{◌≡◌};
+
+use crate::name::Name;
+use std::marker::Model;
+
+/// An expression and the place of its first token, without parentheses round the whole of it.
+#[cycle(expression)]
+#[derive(Debug, Drop)]
+pub struct Expr {
+    pub at: u32,
+    pub node: ExprNode,
+}
+
+/// What an expression is made of.
+#[cycle(expression)]
+#[derive(Debug, Drop)]
+pub enum ExprNode {
+    Int(i64),
+    Text(TextLit),
+    Bool(bool),
+    Unit,
+    Var(Name),
+    Call(Name, Exprs),
+    If(Box<Expr>, Box<Expr>, Box<Expr>),
+    Binary(BinOp, Box<Expr>, Box<Expr>),
+    Not(Box<Expr>),
+    Neg(Box<Expr>),
+}
+
+/// The arguments of a call, in order.
+#[cycle(expression)]
+#[derive(Debug, Drop)]
+pub struct Exprs {
+    items: Vec<Expr>,
+}
+
+impl Exprs {
+    pub fn of(items: Vec<Expr>) -> Exprs {
+        Exprs { items }
+    }
+
+    pub fn items(&self) -> &[Expr] {
+        self.items.as_slice()
+    }
+
+    pub fn into_items(self) -> Vec<Expr> {
+        self.items
+    }
+}
+
+/// The operators of two operands.
+#[derive(Clone, Copy, Debug, PartialEq, Eq)]
+pub enum BinOp {
+    Or,
+    And,
+    Eq,
+    Ne,
+    Lt,
+    Le,
+    Gt,
+    Ge,
+    Add,
+    Sub,
+    Mul,
+}
+
+/// The bytes between the quotes of a text.
+#[derive(Debug, Drop)]
+pub struct TextLit {
+    bytes: Vec<u8>,
+}
+
+impl Model for TextLit {
+    ghost use Rattle.std.specs.Prelude.{List, ℕ};
+
+    ghost Value = { List ℕ };
+
+    ghost view = { λ text. text.bytes.items };
+}
+
+impl TextLit {
+    pub fn of(bytes: Vec<u8>) -> TextLit
+        ensures { result ≡ bytes.items }
+    {
+        TextLit { bytes }
+    }
+
+    pub fn items(&self) -> &[u8]
+        ensures { result.now ≡ self.now }
+    {
+        self.bytes.as_slice()
+    }
+
+    pub fn into_items(self) -> Vec<u8>
+        ensures { result.items ≡ self }
+    {
+        self.bytes
+    }
+}

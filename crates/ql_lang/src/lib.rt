@@ -1,0 +1,20 @@
+// The trees of the contract language, as the parser makes them and the later passes read them.
+// Each tree follows the grammar node for node, and each list of trees is seen as a list.
+// The one contract: what is printed of a tree is in the grammar, and means that tree.
+#![tactic(auto)]
+
+mod contract;
+mod expression;
+mod name;
+mod operation;
+mod program;
+mod relation;
+
+pub use contract::{Contract, Point, Points, Prop, Var, Vars};
+pub use expression::{BinOp, Expr, ExprNode, Exprs, TextLit};
+pub use name::{Name, NameList};
+pub use operation::{
+    Base, Bind, Binds, EmitDecl, Kind, OpDecl, OpDecls, Param, Params, Stmt, Stmts,
+};
+pub use program::{Field, Fields, Init, InitNode, Program, TxnDecl, TxnDecls, TypeDecl, TypeDecls};
+pub use relation::{Rel, RelName};

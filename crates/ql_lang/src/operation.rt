@@ -1,0 +1,224 @@
+ghost use Rattle.std.specs.Prelude.{◌≡◌};
+
+use crate::contract::Contract;
+use crate::expression::{Expr, TextLit};
+use crate::name::Name;
+use std::marker::Model;
+
+/// The kinds of single values.
+#[derive(Clone, Copy, Debug, PartialEq, Eq)]
+pub enum Base {
+    Int,
+    Bool,
+    Text,
+}
+
+/// The kinds of values.
+#[derive(Clone, Copy, Debug, PartialEq, Eq)]
+pub enum Kind {
+    Unit,
+    Int,
+    Bool,
+    Text,
+    Set(Base),
+    Map(Base, Base),
+}
+
+/// A parameter of an operation.
+#[derive(Clone, Copy, Debug, PartialEq, Eq)]
+pub struct Param {
+    pub name: Name,
+    pub base: Base,
+}
+
+/// An operation's parameters, in order.
+#[derive(Debug, Drop)]
+pub struct Params {
+    items: Vec<Param>,
+}
+
+impl Model for Params {
+    ghost use Rattle.std.specs.Prelude.{List};
+    ghost use Rattle.ql_lang.specs.declared.operation.Param.{Param};
+
+    ghost Value = { List Param };
+
+    ghost view = { λ list. list.items.items };
+}
+
+impl Params {
+    pub fn of(items: Vec<Param>) -> Params
+        ensures { result ≡ items.items }
+    {
+        Params { items }
+    }
+
+    pub fn items(&self) -> &[Param]
+        ensures { result.now ≡ self.now }
+    {
+        self.items.as_slice()
+    }
+
+    pub fn into_items(self) -> Vec<Param>
+        ensures { result.items ≡ self }
+    {
+        self.items
+    }
+}
+
+/// A value that an operation emits, under a name.
+#[derive(Debug, Drop)]
+pub struct Bind {
+    pub name: Name,
+    pub base: Base,
+    pub value: Expr,
+}
+
+/// An operation's emitted values, in order.
+#[derive(Debug, Drop)]
+pub struct Binds {
+    items: Vec<Bind>,
+}
+
+impl Model for Binds {
+    ghost use Rattle.std.specs.Prelude.{List};
+    ghost use Rattle.ql_lang.specs.declared.operation.Bind.{Bind};
+
+    ghost Value = { List Bind };
+
+    ghost use Rattle.std.specs.Coded.{codes};
+    ghost use Rattle.ql_lang.specs.contracts.expression.ExprNode as expression;
+
+    ghost coded = { Prim.hlevel (codes, expression.the_row.coded) };
+
+    ghost view = { λ list. list.items.items };
+}
+
+impl Binds {
+    pub fn of(items: Vec<Bind>) -> Binds
+        ensures { result ≡ items.items }
+    {
+        Binds { items }
+    }
+
+    pub fn items(&self) -> &[Bind]
+        ensures { result.now ≡ self.now }
+    {
+        self.items.as_slice()
+    }
+
+    pub fn into_items(self) -> Vec<Bind>
+        ensures { result.items ≡ self }
+    {
+        self.items
+    }
+}
+
+/// A statement: the new value of a state field.
+#[derive(Debug, Drop)]
+pub struct Stmt {
+    pub target: Name,
+    pub value: Expr,
+}
+
+/// An operation's statements, in order.
+#[derive(Debug, Drop)]
+pub struct Stmts {
+    items: Vec<Stmt>,
+}
+
+impl Model for Stmts {
+    ghost use Rattle.std.specs.Prelude.{List};
+    ghost use Rattle.ql_lang.specs.declared.operation.Stmt.{Stmt};
+
+    ghost Value = { List Stmt };
+
+    ghost use Rattle.std.specs.Coded.{codes};
+    ghost use Rattle.ql_lang.specs.contracts.expression.ExprNode as expression;
+
+    ghost coded = { Prim.hlevel (codes, expression.the_row.coded) };
+
+    ghost view = { λ list. list.items.items };
+}
+
+impl Stmts {
+    pub fn of(items: Vec<Stmt>) -> Stmts
+        ensures { result ≡ items.items }
+    {
+        Stmts { items }
+    }
+
+    pub fn items(&self) -> &[Stmt]
+        ensures { result.now ≡ self.now }
+    {
+        self.items.as_slice()
+    }
+
+    pub fn into_items(self) -> Vec<Stmt>
+        ensures { result.items ≡ self }
+    {
+        self.items
+    }
+}
+
+/// What an operation emits, when it does, and the statements that apply it to a state.
+#[derive(Debug, Drop)]
+pub struct EmitDecl {
+    pub binds: Binds,
+    pub test: Expr,
+    pub stmts: Stmts,
+}
+
+/// An operation, and the place of the word `op`.
+#[derive(Debug, Drop)]
+pub struct OpDecl {
+    pub at: u32,
+    pub name: Name,
+    pub params: Params,
+    pub kind: Kind,
+    pub contract: Contract,
+    pub answer: Expr,
+    pub effect: Option<EmitDecl>,
+}
+
+/// A type's operations, in order.
+#[derive(Debug, Drop)]
+pub struct OpDecls {
+    items: Vec<OpDecl>,
+}
+
+impl Model for OpDecls {
+    ghost use Rattle.std.specs.Prelude.{List};
+    ghost use Rattle.ql_lang.specs.declared.operation.OpDecl.{OpDecl};
+
+    ghost Value = { List OpDecl };
+
+    ghost use Rattle.std.specs.Coded.{codes};
+    ghost use Rattle.ql_lang.specs.contracts.expression.ExprNode as expression;
+    ghost use Rattle.ql_lang.specs.contracts.contract.Prop as prop;
+    ghost use Rattle.ql_lang.specs.contracts.relation.Rel as rel;
+
+    ghost coded = { Prim.hlevel (codes, expression.the_row.coded, prop.the_row.coded, rel.the_row.coded) };
+
+    ghost view = { λ list. list.items.items };
+}
+
+impl OpDecls {
+    pub fn of(items: Vec<OpDecl>) -> OpDecls
+        ensures { result ≡ items.items }
+    {
+        OpDecls { items }
+    }
+
+    pub fn items(&self) -> &[OpDecl]
+        ensures { result.now ≡ self.now }
+    {
+        self.items.as_slice()
+    }
+
+    pub fn into_items(self) -> Vec<OpDecl>
+        ensures { result.items ≡ self }
+    {
+        self.items
+    }
+}
