@@ -1,0 +1,3 @@
+pub mod Reading
+pub mod Items
+pub mod Answers

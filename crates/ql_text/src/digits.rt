@@ -1,0 +1,36 @@
+ghost use Rattle.std.specs.Prelude.{◌≡◌, ◌≤◌, ◌<◌, ◌^◌, Some, None, option_copied, nat_le, if◌then◌else◌, decimal};
+ghost use Rattle.std.specs.Option.{option_map};
+ghost use Rattle.ql_text.specs.Reading.{leading_value, number_at};
+
+use crate::front::literal;
+use itoa::Buffer;
+
+/// The decimal number at the front, of at most `most`, and what stands behind it. It has no sign
+/// and no leading zero.
+#[tactic(auto, unfolding(crate::specs::Reading::number_at))]
+pub fn number(bytes: &[u8], most: u32) -> Option<(u32, &[u8])>
+    ensures { option_map (λ x. (x.0, x.1.now)) result ≡ number_at most bytes.now }
+{
+    let value = value_of_front(bytes, most)?;
+    let mut buffer = Buffer::new();
+    let rest = literal(bytes, buffer.format(value).as_bytes())?;
+    Some((value, rest))
+}
+
+// The value of the digits at the front, where it is at most `most`.
+fn value_of_front(bytes: &[u8], most: u32) -> Option<u32>
+    ensures { result ≡ (if nat_le (leading_value bytes.now) most then Some (leading_value bytes.now) else None) }
+{
+    let mut value: u32 = 0;
+    for byte in bytes {
+        if !byte.is_ascii_digit() {
+            return Some(value);
+        }
+        let longer = 10 * u64::from(value) + u64::from(*byte - b'0');
+        if longer > u64::from(most) {
+            return None;
+        }
+        value = longer as u32;
+    }
+    Some(value)
+}
