@@ -1,0 +1,12 @@
+// The ground atoms of a problem and their numbers: pairs of constants under a relation, constants
+// of the current transaction, and constants that are effects of an operation.
+// The one contract: `number` and `atom_of` undo each other, over 1 to the shape's count.
+#![tactic(auto)]
+
+mod atoms;
+mod numbering;
+mod shapes;
+
+pub use atoms::{Atom, PairKind};
+pub use numbering::{atom_of, number};
+pub use shapes::Shape;
