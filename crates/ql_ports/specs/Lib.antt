@@ -1,3 +1,4 @@
 pub mod Faults
 pub mod Whole
 pub mod Written
+pub mod Memory

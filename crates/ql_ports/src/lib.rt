@@ -4,8 +4,15 @@
 // faults rose.
 #![tactic(auto)]
 
+mod faults;
+mod mem_shelf;
+mod mem_sink;
 mod ports;
+mod system;
 mod whole;
 
+pub use mem_shelf::MemShelf;
+pub use mem_sink::MemSink;
 pub use ports::{Failed, Shelf, Sink};
+pub use system::{FileShelf, StdSink};
 pub use whole::{ReadError, read_whole, write_whole};

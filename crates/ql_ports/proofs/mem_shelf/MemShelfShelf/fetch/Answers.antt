@@ -1,0 +1,20 @@
+use Rattle.std.proofs.Common.{◌≡◌, ◌<◌, length, rules, Some}
+use Rattle.ql_ports.specs.Memory.{place_of, bytes_under}
+use Rattle.ql_ports.proofs.mem_shelf.MemShelfShelf.fetch.Goals as goal
+use Rattle.ql_ports.proofs.MemoryLemmas.{bytes_under-at}
+
+pub returns-clause-bytes : goal.returns-clause-bytes
+returns-clause-bytes c =
+    let at : c.place_named-place.result ≡ place_of c.args.self.now.files.items c.args.name.now = search rules in
+    let inside : c.place_named-place.result < length c.args.self.now.files.items = search rules in
+    let is : bytes_under c.args.self.now.files.items c.args.name.now ≡ Some c.index-2.result.now.1.items =
+    bytes_under-at _ _ c.place_named-place.result c.index-2.result.now at inside c.index-2.ensures in
+    rw is (search rules)
+
+pub returns-clause-end : goal.returns-clause-end
+returns-clause-end c =
+    let at : c.place_named-place.result ≡ place_of c.args.self.now.files.items c.args.name.now = search rules in
+    let inside : c.place_named-place.result < length c.args.self.now.files.items = search rules in
+    let is : bytes_under c.args.self.now.files.items c.args.name.now ≡ Some c.index-2.result.now.1.items =
+    bytes_under-at _ _ c.place_named-place.result c.index-2.result.now at inside c.index-2.ensures in
+    rw is (search rules)

@@ -1,0 +1,100 @@
+ghost use Rattle.std.specs.Prelude.{◌≡◌, ◌≢◌, ◌<◌, ◌≤◌, [], length, take, drop, position};
+ghost use Rattle.ql_ports.specs.Memory.{place_of, is_named, bytes_given};
+
+use crate::faults::next_count;
+use crate::ports::{Failed, Shelf};
+use ql_base::NoMemory;
+use std::alloc::Global;
+
+/// A shelf in memory, for tests: it gives its files in pieces and fails at chosen fetches.
+#[derive(Drop)]
+pub struct MemShelf {
+    files: Vec<(String, Vec<u8>)>,
+    counts: Vec<u64>,
+    missing: u64,
+    piece: usize,
+    failing: Vec<u64>,
+    fetches: u64,
+    ghost has_piece: { 1 ≤ piece },
+    ghost counted: { length counts.items ≡ length files.items },
+}
+
+impl MemShelf {
+    /// A shelf of named files. `piece` is the greatest count of bytes that a fetch gives, and
+    /// `failing` has the numbers of the fetches that fail, counted from 1. Of two files with one
+    /// name the first counts.
+    pub fn new(
+        alloc: Global,
+        files: Vec<(String, Vec<u8>)>,
+        piece: usize,
+        failing: Vec<u64>,
+    ) -> Result<MemShelf, NoMemory>
+        requires { 1 ≤ piece }
+    {
+        let counts = vec![in alloc; 0; files.len()]?;
+        Ok(MemShelf {
+            files,
+            counts,
+            missing: 0,
+            piece,
+            failing,
+            fetches: 0,
+        })
+    }
+}
+
+impl Shelf for MemShelf {
+    ghost use Rattle.std.specs.Prelude.{◌≡◌, ◌≢◌, ◌≤◌, ◌+◌, ℕ, List, [], length, take, drop, IfOk, OnErr, IfSome};
+    ghost use Rattle.ql_ports.specs.Faults.{Rose};
+    ghost use Rattle.ql_ports.specs.Memory.{bytes_under, count_under};
+
+    ghost held = { λ shelf name. bytes_under shelf.files.items name };
+
+    ghost faults = { λ shelf name. count_under shelf.files.items shelf.counts.items shelf.missing name };
+
+    fn fetch(&mut self, name: &str, at: u64, into: &mut [u8]) -> Result<usize, Failed> {
+        self.fetches = next_count(self.fetches);
+        let place = place_named(&self.files, name);
+        if place == self.files.len() {
+            self.missing = next_count(self.missing);
+            return Err(Failed);
+        }
+        if self.failing.contains(&self.fetches) {
+            self.counts[place] = next_count(self.counts[place]);
+            return Err(Failed);
+        }
+        Ok(copy_piece(&self.files[place].1, at, self.piece, into))
+    }
+}
+
+// The place of a name's file, or the number of files.
+fn place_named(files: &[(String, Vec<u8>)], name: &str) -> usize
+    ensures value { result ≡ place_of files.now name.now }
+    ensures in_range { result ≤ length files.now }
+{
+    match first_named(files, name) {
+        Some(place) => place,
+        None => files.len(),
+    }
+}
+
+fn first_named(files: &[(String, Vec<u8>)], name: &str) -> Option<usize>
+    ensures { result ≡ position (is_named name.now) files.now }
+{
+    files.iter().position(|file| file.0.as_str() == name)
+}
+
+// Copies bytes from a place on into the front of `into`, at most a piece, and gives their count.
+fn copy_piece(bytes: &[u8], at: u64, piece: usize, into: &mut [u8]) -> usize
+    ensures count { result ≡ bytes_given piece at (length into.new) bytes.now }
+    ensures copied { take result into.new ≡ take result (drop at bytes.now) }
+    ensures end { 1 ≤ piece → result ≡ 0 → into.new ≢ [] → length bytes.now ≤ at }
+{
+    if at >= bytes.len() as u64 {
+        return 0;
+    }
+    let rest = &bytes[at as usize..];
+    let count = piece.min(into.len()).min(rest.len());
+    into[..count].copy_from_slice(&rest[..count]);
+    count
+}

@@ -1,0 +1,120 @@
+ghost use Rattle.std.specs.Prelude.{◌≡◌, ◌≤◌, length, IfOk};
+
+use crate::faults::next_count;
+use crate::ports::{Failed, Shelf, Sink};
+use std::alloc::{AllocError, Global};
+use std::io::{Read, Seek, SeekFrom};
+use std::rt::Files;
+use std::{fs, io};
+
+/// The system's files, each named by its path. It keeps one count of faults for all names, and
+/// tells no contents.
+///
+/// A file is read on from where the last fetch of it ended, so a pipe can be read too.
+#[derive(Drop)]
+pub struct FileShelf<R: Files + Drop> {
+    system: R,
+    alloc: Global,
+    open: Option<OpenFile<R::File>>,
+    faults: u64,
+}
+
+// A file, and the place of the byte that a read gives next.
+#[derive(Drop)]
+struct OpenFile<F: Drop> {
+    name: String,
+    file: F,
+    next: u64,
+}
+
+impl<R: Files + Drop> FileShelf<R> {
+    /// A shelf of the system's files. `alloc` serves the system's calls alone.
+    pub fn new(alloc: Global, system: R) -> FileShelf<R> {
+        FileShelf {
+            system,
+            alloc,
+            open: None,
+            faults: 0,
+        }
+    }
+
+    fn open_at(&self, name: &str, at: u64) -> io::Result<OpenFile<R::File>> {
+        let mut file = fs::open(&self.system, name)?;
+        if at > 0 {
+            file.seek(SeekFrom::Start(at))?;
+        }
+        let name = String::from_str(self.alloc, name)?;
+        Ok(OpenFile {
+            name,
+            file,
+            next: at,
+        })
+    }
+
+    fn read(&mut self, name: &str, at: u64, into: &mut [u8]) -> io::Result<usize>
+        ensures within { IfOk result (λ count. count ≤ length into.new) }
+        ensures no_fault { self.new.faults ≡ self.old.faults }
+    {
+        let mut open = match self.open.take() {
+            Some(open) if at > 0 && open.next == at && open.name.as_str() == name => open,
+            _ => self.open_at(name, at)?,
+        };
+        let count = open.file.read(into)?;
+        open.next = at.saturating_add(count as u64);
+        self.open = Some(open);
+        Ok(count)
+    }
+}
+
+impl<R: Files + Drop> Shelf for FileShelf<R> {
+    ghost use Rattle.std.specs.Prelude.{◌≡◌, ◌≢◌, ◌≤◌, ℕ, List, [], length, take, drop, None, IfOk, OnErr, IfSome};
+    ghost use Rattle.ql_ports.specs.Faults.{Rose};
+
+    ghost held = { λ _ _. None };
+
+    ghost faults = { λ shelf _. shelf.faults };
+
+    fn fetch(&mut self, name: &str, at: u64, into: &mut [u8]) -> Result<usize, Failed> {
+        match self.read(name, at, into) {
+            Ok(count) => Ok(count),
+            Err(_) => {
+                self.faults = next_count(self.faults);
+                Err(Failed)
+            }
+        }
+    }
+}
+
+/// The standard output. It keeps a count of faults and tells no contents. A write that takes
+/// nothing of a piece that isn't empty is a fault.
+#[derive(Drop)]
+pub struct StdSink<P: Print + Drop> {
+    system: P,
+    faults: u64,
+}
+
+impl<P: Print + Drop> StdSink<P> {
+    pub fn new(system: P) -> StdSink<P> {
+        StdSink { system, faults: 0 }
+    }
+}
+
+impl<P: Print + Drop> Sink for StdSink<P> {
+    ghost use Rattle.std.specs.Prelude.{◌≡◌, ◌≢◌, ◌<◌, ◌≤◌, ℕ, List, [], length, take, None, IfOk, OnErr};
+    ghost use Rattle.ql_ports.specs.Faults.{Rose};
+    ghost use Rattle.ql_ports.specs.Written.{appended};
+
+    ghost written = { λ _. None };
+
+    ghost faults = { λ sink. sink.faults };
+
+    fn put(&mut self, bytes: &[u8]) -> Result<usize, Failed> {
+        match self.system.write_some(bytes) {
+            Ok(count) if count > 0 || bytes.is_empty() => Ok(count),
+            _ => {
+                self.faults = next_count(self.faults);
+                Err(Failed)
+            }
+        }
+    }
+}
