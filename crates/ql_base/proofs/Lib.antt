@@ -1,1 +1,3 @@
 mod Filled
+pub mod Fronts
+mod Numerals

@@ -1,4 +1,4 @@
-use Rattle.std.specs.Prelude.{ℕ, Bool, ◌&&◌, ◌||◌, ◌==◌, nat_le, not}
+use Rattle.std.specs.Prelude.{ℕ, ◌≡◌, Bool, false, ◌&&◌, ◌||◌, ◌==◌, nat_le, not, List, [], ◌∷◌}
 
 -- space, tab, line feed and carriage return
 unfoldable pub is_blank : ℕ → Bool
@@ -23,3 +23,8 @@ is_word_byte b = nat_le 97 b && nat_le b 122 || nat_le 65 b && nat_le b 90 || na
 -- what may stand inside a text: printable ASCII but `"` and `\`
 unfoldable pub is_text_byte : ℕ → Bool
 is_text_byte b = nat_le 32 b && nat_le b 126 && not (b == 34) && not (b == 92)
+
+-- the text ends here, or its next byte fails the test
+abbrev pub StopsBefore : (ℕ → Bool) → List ℕ → Type 0
+StopsBefore test [] = Unit {0}
+StopsBefore test (b ∷ rest) = test b ≡ false

@@ -2,3 +2,4 @@ pub mod Words
 pub mod Rows
 pub mod Bytes
 pub mod Names
+pub mod Numbers

@@ -4,7 +4,9 @@
 mod bytes;
 mod ids;
 mod limits;
+mod name;
 mod no_memory;
+mod number;
 mod word;
 
 pub use bytes::{is_blank, is_digit, is_lower, is_name_byte, is_text_byte, is_word_byte};
@@ -16,5 +18,7 @@ pub use limits::{
     MAX_PROOF_BYTES, MAX_REPLICAS, MAX_SCHEDULE_BYTES, MAX_SESSIONS, MAX_SOURCE_BYTES,
     MAX_STATEMENTS, MAX_TEXT_BYTES, MAX_TRANSACTIONS, MAX_TYPES, MAX_VARIABLES, MAX_WORK,
 };
+pub use name::{is_keyword, is_name, name_bytes};
 pub use no_memory::NoMemory;
+pub use number::{digit_bytes, number_of};
 pub use word::Word;
