@@ -1,0 +1,4 @@
+mod Rest
+mod Places
+pub mod Meaning
+pub mod Truth

@@ -1,0 +1,139 @@
+ghost use Rattle.std.specs.Prelude.{◌≡◌, ℕ, ◌+◌, ◌-◌, ◌^◌, ◌<◌, ◌≤◌, ◌↔◌, ◌&&◌, List, Bool, [], length, slice_get, IfOk, OnOk, OnErr, IfSome, IsNone, is_some, Some, None, MatchBool};
+ghost use Rattle.ql_cnf.specs.Literals.{clause_of, with_literal, count_below, HasBothSigns, SameLiterals, IsAscending};
+ghost use Rattle.ql_cnf.specs.Satisfaction.{AreInRange, ClausesInRange, with_clause, all_true, clause_true};
+
+use crate::{Clause, Lit};
+use ql_base::NoMemory;
+use std::alloc::Global;
+use std::marker::Model;
+
+/// Clauses over the variables from 1 to a count: their conjunction.
+#[derive(Debug, Drop)]
+pub struct Clauses {
+    variables: u32,
+    clauses: Vec<Clause>,
+}
+
+impl Model for Clauses {
+    ghost use Rattle.std.specs.Prelude.{◌^◌, ◌<◌, length};
+    ghost use Rattle.ql_cnf.specs.Satisfaction.{ClauseList, ClausesInRange};
+
+    ghost Value = { ClauseList };
+
+    ghost view = { λ c. record { variables = c.variables; clauses = c.clauses.items } };
+
+    ghost invariant = { λ c. record { in_range : ClausesInRange c.variables c.clauses.items; numbered : length c.clauses.items < 2 ^ 32; counted : c.variables < 2 ^ 32 } };
+}
+
+impl Clauses {
+    /// No clauses over this many variables.
+    pub fn new(alloc: Global, variables: u32) -> Clauses
+        ensures variables { result.variables ≡ variables }
+        ensures empty { result.clauses ≡ [] }
+    {
+        Clauses {
+            variables,
+            clauses: Vec::new(alloc),
+        }
+    }
+
+    /// Appends the clause of these literals: sorted by variable, each literal once. Literals that hold
+    /// both signs of a variable are true in any assignment; nothing is appended then, and the answer
+    /// is false.
+    #[tactic(auto, using(crate::proofs::Meaning::is_clause, crate::proofs::Meaning::is_tautology, crate::proofs::Truth::added_means, crate::proofs::Truth::left_out_means, crate::proofs::Truth::added_in_range))]
+    pub fn add(&mut self, lits: &[Lit]) -> Result<bool, NoMemory>
+        requires in_range { AreInRange self.old.variables lits.now }
+        requires numbered { length self.old.clauses + 1 < 2 ^ 32 }
+        ensures added { IfOk result (λ added. added ≡ is_some (clause_of lits.now)) }
+        ensures new { OnOk result (self.new ≡ with_clause self.old (clause_of lits.now)) }
+        ensures err { OnErr result (self.new ≡ self.old) }
+        ensures variables { self.new.variables ≡ self.old.variables }
+        ensures len { length self.new.clauses ≤ length self.old.clauses + 1 }
+
+        // What the clause of the literals is, and when there is none.
+        ensures clause { IfSome (clause_of lits.now) (λ c. IsAscending c × SameLiterals c lits.now) }
+        ensures tautology { IsNone (clause_of lits.now) ↔ HasBothSigns lits.now }
+
+        // What it means.
+        ensures meaning { OnOk result ((a : List Bool) → all_true a self.new.clauses ≡ (all_true a self.old.clauses && clause_true a lits.now)) }
+    {
+        match ascending(*self.clauses.allocator(), lits)? {
+            Some(clause) => {
+                self.clauses.push(clause)?;
+                Ok(true)
+            }
+            None => Ok(false),
+        }
+    }
+
+    /// How many clauses there are.
+    pub fn len(&self) -> u32
+        ensures value { result ≡ length self.now.clauses }
+        ensures in_range { ClausesInRange self.now.variables self.now.clauses }
+    {
+        self.clauses.len() as u32
+    }
+
+    /// The clause of this number, from 1.
+    pub fn clause(&self, k: u32) -> &Clause
+        requires first { 1 ≤ k }
+        requires last { k ≤ length self.now.clauses }
+        ensures same { slice_get self.now.clauses (k - 1) ≡ Some result.now }
+        ensures in_range { AreInRange self.now.variables result.now }
+    {
+        &self.clauses[k as usize - 1]
+    }
+
+    pub(crate) fn items(&self) -> &[Clause]
+        ensures same { result.now ≡ self.now.clauses }
+        ensures in_range { ClausesInRange self.now.variables self.now.clauses }
+    {
+        &self.clauses
+    }
+
+    /// How many variables there are.
+    pub fn variables(&self) -> u32
+        ensures { result ≡ self.now.variables }
+    {
+        self.variables
+    }
+}
+
+// The ascending clause of the literals, or none where they hold both signs of a variable.
+fn ascending(alloc: Global, lits: &[Lit]) -> Result<Option<Clause>, NoMemory>
+    ensures { IfOk result (λ clause. clause ≡ clause_of lits.now) }
+{
+    let mut items = Vec::with_capacity(alloc, lits.len())?;
+    for lit in lits {
+        if !insert(&mut items, *lit)? {
+            return Ok(None);
+        }
+    }
+    Ok(Some(Clause::of(items)))
+}
+
+// Puts the literal into its place, unless it is there; false where its negation is. A literal that
+// belongs at the end costs one comparison.
+fn insert(items: &mut Vec<Lit>, lit: Lit) -> Result<bool, NoMemory>
+    requires { IsAscending items.old.items }
+    ensures { IfOk result (λ fits. MatchBool fits (with_literal lit items.old.items ≡ Some items.new.items) (with_literal lit items.old.items ≡ None)) }
+{
+    let place = place_of(items, lit.var);
+    if place < items.len() && items[place].var == lit.var {
+        return Ok(items[place].positive == lit.positive);
+    }
+    items.insert(place, lit)?;
+    Ok(true)
+}
+
+// How many literals at the front have a smaller variable.
+fn place_of(items: &[Lit], var: u32) -> usize
+    requires { IsAscending items.now }
+    ensures { result ≡ count_below var items.now }
+{
+    let mut place = items.len();
+    while place > 0 && var <= items[place - 1].var {
+        place -= 1;
+    }
+    place
+}
