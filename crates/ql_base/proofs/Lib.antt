@@ -1,3 +1,4 @@
 mod Filled
 pub mod Fronts
 mod Numerals
+mod Numbered

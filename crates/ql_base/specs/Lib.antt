@@ -3,3 +3,4 @@ pub mod Rows
 pub mod Bytes
 pub mod Names
 pub mod Numbers
+pub mod Numbering

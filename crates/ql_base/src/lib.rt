@@ -7,6 +7,7 @@ mod limits;
 mod name;
 mod no_memory;
 mod number;
+mod numbering;
 mod word;
 
 pub use bytes::{is_blank, is_digit, is_lower, is_name_byte, is_text_byte, is_word_byte};
@@ -21,4 +22,5 @@ pub use limits::{
 pub use name::{is_keyword, is_name, name_bytes};
 pub use no_memory::NoMemory;
 pub use number::{digit_bytes, number_of};
+pub use numbering::Names;
 pub use word::Word;
