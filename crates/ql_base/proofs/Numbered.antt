@@ -1,11 +1,12 @@
-use Rattle.std.proofs.Common.{◌≡◌, ◌<◌, ◌+◌, ℕ, Bool, true, false, cond, ◌&&◌, nat_eq, List, [], ◌∷◌, ◌++◌, Option, None, Some, if◌then◌else◌, length, get_or, take, refl, sym, ◌∙◌, ap, arith, lt-ltb, eqb-true}
+use Rattle.std.proofs.Common.{◌≡◌, ◌<◌, ◌≤◌, ◌+◌, ℕ, Bool, true, false, cond, ◌&&◌, nat_eq, List, [], ◌∷◌, ◌++◌, Option, None, Some, if◌then◌else◌, length, get_or, take, refl, sym, ◌∙◌, ap, arith, lt-ltb, ltb-false, eqb-true, is_some, nat_lt}
 use Rattle.std.specs.List.{position_or_len}
 use Rattle.std.specs.Str.{bytes_eq}
 use Rattle.std.specs.Bool.{Decides}
 use Rattle.std.specs.Cmp.Derive.{both_true}
 use Rattle.std.proofs.lemmas.Slice.Eq.{bytes_eq-Decides}
 use Rattle.std.proofs.lemmas.Bool.Decides.{Decides-eqb, same_from_decides}
-use Rattle.std.proofs.lemmas.List.Folds.{position_or_len_push}
+use Rattle.std.proofs.lemmas.List.Folds.{position_or_len_push, list_any_none, list_any_at}
+use Rattle.std.proofs.lemmas.List.Sums.{fails_before_first}
 use Rattle.std.proofs.lemmas.List.Quantifiers.{position-Some}
 use Rattle.std.proofs.Math.Seq.{take-append_seam}
 use Rattle.ql_base.specs.Words.{padded}
@@ -78,3 +79,20 @@ first-with_name names w = by (has_name names w)
 -- the place of a name that was put in
 pub place-with_name : (names : List (List ℕ)) (w : List ℕ) → position_or_len (bytes_eq w) names < length (with_name names w) → place (with_name names w) w ≡ Some (position_or_len (bytes_eq w) names)
 place-with_name names w below = rw (first-with_name names w) (rw (lt-ltb _ _ below) refl)
+
+-- a name has a place exactly where the list has it
+pub known-place : (names : List (List ℕ)) (w : List ℕ) → is_some (place names w) ≡ has_name names w
+known-place names w = by (place names w) refl
+  where
+    at : ℕ
+    at = position_or_len (bytes_eq w) names
+
+    none : (b : Bool) → nat_lt at (length names) ≡ b → cond b (Some at) None ≡ None → length names ≤ at
+    none true e h = cc
+    none false e h = ltb-false _ _ e
+
+    by : (r : Option ℕ) → place names w ≡ r → is_some r ≡ has_name names w
+    by None e = sym (list_any_none (bytes_eq w) names (λ k d below. fails_before_first (bytes_eq w) names k d (omega (arith, none (nat_lt at (length names)) refl e))))
+    by (Some k) e =
+        let here = position-Some (bytes_eq w) names k [] e in
+        sym (list_any_at (bytes_eq w) names k [] here.0 here.1)

@@ -1,7 +1,7 @@
-ghost use Rattle.std.specs.Prelude.{◌≡◌, ◌+◌, ◌<◌, ◌≤◌, ◌^◌, [], Some, length, take, IfOk, OnErr, slice_get};
+ghost use Rattle.std.specs.Prelude.{◌≡◌, ◌+◌, ◌<◌, ◌≤◌, ◌^◌, [], Some, is_some, length, take, IfOk, OnErr, slice_get};
 ghost use Rattle.std.specs.List.{IsDistinct};
 ghost use Rattle.std.specs.Str.{bytes_eq};
-ghost use Rattle.ql_base.specs.Numbering.{place, with_name};
+ghost use Rattle.ql_base.specs.Numbering.{has_name, place, with_name};
 
 use crate::no_memory::NoMemory;
 use crate::word::Word;
@@ -59,7 +59,8 @@ impl Names {
 
     /// The place of the name `w`.
     pub fn find(&self, w: &[u8]) -> Option<u32>
-        ensures { result ≡ place self.now w.now }
+        ensures numbered { result ≡ place self.now w.now }
+        ensures known { is_some result ≡ has_name self.now w.now }
     {
         let words = &self.words;
         if w.is_empty() || w.len() > 32 {
