@@ -2,3 +2,4 @@ mod Filled
 pub mod Fronts
 mod Numerals
 mod Numbered
+pub mod IdLemmas

@@ -4,3 +4,4 @@ pub mod Bytes
 pub mod Names
 pub mod Numbers
 pub mod Numbering
+pub mod IdLists

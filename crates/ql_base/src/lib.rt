@@ -2,15 +2,18 @@
 #![tactic(auto)]
 
 mod bytes;
+mod id_set;
 mod ids;
 mod limits;
 mod name;
 mod no_memory;
 mod number;
 mod numbering;
+mod push;
 mod word;
 
 pub use bytes::{is_blank, is_digit, is_lower, is_name_byte, is_text_byte, is_word_byte};
+pub use id_set::IdSet;
 pub use ids::{DeclId, EffId, MsgId, ObjId, OpId, ReplicaId, RunId, SessId, TypeId};
 pub use limits::{
     MAX_ATOMS, MAX_BODY_VARIABLES, MAX_BRACKETS, MAX_CERTIFICATE_BYTES, MAX_DECLARED_OBJECTS,
@@ -23,4 +26,5 @@ pub use name::{is_keyword, is_name, name_bytes};
 pub use no_memory::NoMemory;
 pub use number::{digit_bytes, number_of};
 pub use numbering::Names;
+pub use push::{push_bytes, push_number};
 pub use word::Word;
