@@ -5,12 +5,8 @@ use Rattle.std.proofs.lemmas.Option.{some_pair_parts}
 use Rattle.std.proofs.lemmas.List.{append-nil, length-append}
 use Rattle.ql_text.specs.Reading.{◌>>=◌, literal_at, items_within}
 use Rattle.ql_text.specs.Items.{more_items, separated_items, spelled_behind, separated, EachMayFollow}
+use Rattle.ql_text.proofs.Steps.{bind_some}
 use Rattle.ql_text.proofs.Texts.{literal_takes, literal_again}
-
--- the value of a step that gave something
-pub bind_some : {A B : Type 0} (o : Option A) (f : A → Option B) (y : B) → (o >>= f) ≡ Some y → (x : A) × (o ≡ Some x) × (f x ≡ Some y)
-bind_some (Some x) f y e = (x, refl, e)
-bind_some None f y e = absurd cc
 
 -- what reading an item takes from the front, and that it may follow
 abbrev pub ItemTakes : {X : Type 0} → (List X → List ℕ → Option (X × List ℕ)) → (X → List ℕ) → (List X → X → Type 0) → Type 0
@@ -23,6 +19,13 @@ ItemAgain {X} item_at spell May Behind = (xs : List X) (x : X) (rest : List ℕ)
 -- the items that a list of items gained
 abbrev pub Gains : {X : Type 0} → List ℕ → (X → List ℕ) → (List X → X → Type 0) → List X → List ℕ → List X → List ℕ → Type 0
 Gains {X} before spell May xs bytes ys rest = (zs : List X) × (ys ≡ xs ++ zs) × (bytes ≡ spelled_behind before spell zs ++ rest) × EachMayFollow May xs zs
+
+-- reading an item never lengthens what is left
+pub item_shortens : {X : Type 0} (item_at : List X → List ℕ → Option (X × List ℕ)) (spell : X → List ℕ) (May : List X → X → Type 0) → ItemTakes item_at spell May
+    → (xs : List X) (bytes : List ℕ) (x : X) (rest : List ℕ) → item_at xs bytes ≡ Some (x, rest) → length rest ≤ length bytes
+item_shortens item_at spell May takes xs bytes x rest e =
+    let t = takes xs bytes x rest e in
+    omega (arith, ap length t.0, length-append (spell x) rest)
 
 regroup : (a b c d : List ℕ) → ((a ++ b) ++ c) ++ d ≡ a ++ (b ++ (c ++ d))
 regroup a b c d = simp append_assoc

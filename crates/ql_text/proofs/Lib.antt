@@ -1,4 +1,6 @@
 pub mod Texts
+pub mod Steps
 pub mod Numbers
+pub mod Letters
 pub mod ItemLaws
 pub mod Loop

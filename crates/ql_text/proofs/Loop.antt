@@ -1,7 +1,7 @@
 -- A loop that reads items one after the other: what is left to read gives the same as all.
 use Rattle.std.proofs.Common.{◌≡◌, ℕ, zero, suc, ◌<◌, ◌≤◌, List, [], ◌∷◌, ◌++◌, length, Option, Some, None, refl, sym, ◌∙◌, arith}
 use Rattle.ql_text.specs.Reading.{◌>>=◌, literal_at, items_within}
-use Rattle.ql_text.specs.Items.{more_items}
+use Rattle.ql_text.specs.Items.{more_items, separated_items}
 use Rattle.ql_text.proofs.Texts.{literal_shortens}
 
 -- the items so far and the bytes that are left lead to the whole answer
@@ -42,3 +42,11 @@ module _ {X : Type 0} (before : List ℕ) (item_at : List X → List ℕ → Opt
   pub turns : (xs : List X) (bytes behind : List ℕ) (x : X) (rest : List ℕ) (whole : Option (List X × List ℕ)) → 0 < length before → literal_at before bytes ≡ Some behind → item_at xs behind ≡ Some (x, rest)
       → length rest ≤ length behind → GoesOn before item_at xs bytes whole → GoesOn before item_at (xs ++ x ∷ []) rest whole
   turns xs bytes behind x rest whole some e item shorter g = turns_at g.count xs bytes behind x rest whole some e item shorter g.enough g.same
+
+  pub separated_begins : (bytes : List ℕ) (x : X) (rest : List ℕ) → item_at [] bytes ≡ Some (x, rest) → GoesOn before item_at (x ∷ []) rest (separated_items before item_at bytes)
+  unfolding separated_items
+  separated_begins bytes x rest e = record { count = length rest; enough = omega arith; same = rw e refl }
+
+  pub separated_fails : (bytes : List ℕ) → item_at [] bytes ≡ None → separated_items before item_at bytes ≡ None
+  unfolding separated_items
+  separated_fails bytes e = rw e refl

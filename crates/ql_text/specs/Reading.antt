@@ -32,6 +32,10 @@ unfoldable pub number_at : ℕ → List ℕ → Option (ℕ × List ℕ)
 number_at most bytes =
     if nat_le (leading_value bytes) most then option_map (λ rest. (leading_value bytes, rest)) (literal_at (decimal (leading_value bytes)) bytes) else None
 
+-- what a reading function takes, and then a text
+unfoldable pub before_text : {X : Type 0} → (List ℕ → Option (X × List ℕ)) → List ℕ → List ℕ → Option (X × List ℕ)
+before_text item_at text bytes = item_at bytes >>= λ x. literal_at text x.1 >>= λ rest. Some (x.0, rest)
+
 -- A list of items. As long as the text `before` stands at the front, an item stands behind it, which may depend on
 -- those read so far; at most `count` of them.
 unfoldable pub items_within : {X : Type 0} → ℕ → List ℕ → (List X → List ℕ → Option (X × List ℕ)) → List X → List ℕ → Option (List X × List ℕ)

@@ -1,6 +1,6 @@
 ghost use Rattle.std.specs.Prelude.{◌≡◌, ◌≤◌, ◌<◌, ◌^◌, Some, None, option_copied, nat_le, if◌then◌else◌, decimal};
 ghost use Rattle.std.specs.Option.{option_map};
-ghost use Rattle.ql_text.specs.Reading.{leading_value, number_at};
+ghost use Rattle.ql_text.specs.Reading.{leading_value, number_at, before_text};
 
 use crate::front::literal;
 use itoa::Buffer;
@@ -33,4 +33,14 @@ fn value_of_front(bytes: &[u8], most: u32) -> Option<u32>
         value = longer as u32;
     }
     Some(value)
+}
+
+/// The decimal number at the front, of at most `most`, with `text` behind it, and what stands behind
+/// both.
+#[tactic(auto, unfolding(crate::specs::Reading::before_text))]
+pub fn number_before<'a>(bytes: &'a [u8], most: u32, text: &[u8]) -> Option<(u32, &'a [u8])>
+    ensures { option_map (λ x. (x.0, x.1.now)) result ≡ before_text (number_at most) text.now bytes.now }
+{
+    let (value, rest) = number(bytes, most)?;
+    Some((value, literal(rest, text)?))
 }

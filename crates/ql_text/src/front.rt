@@ -1,6 +1,6 @@
 ghost use Rattle.std.specs.Prelude.{◌≡◌, option_copied};
 ghost use Rattle.std.specs.Option.{option_map};
-ghost use Rattle.ql_text.specs.Reading.{literal_at, letter_at};
+ghost use Rattle.ql_text.specs.Reading.{literal_at, letter_at, before_text};
 
 /// What stands behind `text`, where the bytes begin with it.
 pub fn literal<'a>(bytes: &'a [u8], text: &[u8]) -> Option<&'a [u8]>
@@ -20,4 +20,13 @@ pub fn letter(bytes: &[u8]) -> Option<(u8, &[u8])>
     } else {
         None
     }
+}
+
+/// The lower-case letter at the front, with `text` behind it, and what stands behind both.
+#[tactic(auto, unfolding(crate::specs::Reading::before_text))]
+pub fn letter_before<'a>(bytes: &'a [u8], text: &[u8]) -> Option<(u8, &'a [u8])>
+    ensures { option_map (λ x. (x.0, x.1.now)) result ≡ before_text letter_at text.now bytes.now }
+{
+    let (first, rest) = letter(bytes)?;
+    Some((first, literal(rest, text)?))
 }

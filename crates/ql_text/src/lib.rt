@@ -7,6 +7,6 @@ mod digits;
 mod front;
 mod parse_error;
 
-pub use digits::number;
-pub use front::{letter, literal};
+pub use digits::{number, number_before};
+pub use front::{letter, letter_before, literal};
 pub use parse_error::ParseError;

@@ -1,0 +1,23 @@
+-- The grammar of the words.
+use Rattle.std.specs.Prelude.{◌≡◌, ◌≢◌, ℕ, ◌≤◌, List, [], ◌∷◌, length, map, slice_index, codes}
+use Rattle.std.specs.Global.{Global, Vec}
+use Rattle.std.specs.declared.string.String.{String}
+use Rattle.std.specs.String.{string_bytes}
+use Rattle.ql_app.specs.declared.words.Command.{Command}
+use Rattle.ql_app.specs.declared.words.Command.TheVariants.{Holds}
+
+-- the words' bytes
+abbrev pub word_texts : Vec (String Global) → List (List ℕ)
+word_texts words = map string_bytes words.items
+
+-- the name of a file has 1 to 255 bytes, and doesn't begin with '-'
+abbrev pub IsName : List ℕ → Type 0
+IsName name = (1 ≤ length name) × (length name ≤ 255) × (slice_index name 0 ≢ 45)
+
+-- the word of a command
+abbrev pub command_word : Command → List ℕ
+command_word Holds = codes "holds"
+
+-- the words ask for a command on the file of a name
+abbrev pub IsRequest : List (List ℕ) → Command → List ℕ → Type 0
+IsRequest words command name = (words ≡ command_word command ∷ name ∷ []) × IsName name

@@ -1,0 +1,14 @@
+// The program behind its words: it reads the named file from a shelf, judges it, and writes the
+// answer to a sink. The one contract: what `quelea` writes is what the words and the file's bytes
+// allow with its status, and each status comes only for its cause.
+#![tactic(auto)]
+
+mod contract;
+mod contract_text;
+mod outcome;
+mod program;
+mod status;
+mod words;
+
+pub use program::quelea;
+pub use status::Status;

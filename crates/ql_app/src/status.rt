@@ -1,0 +1,18 @@
+/// How a call of the program ended. Its number is the process's exit status.
+#[derive(Clone, Copy, Debug, PartialEq, Eq)]
+pub enum Status {
+    /// The question was answered with yes.
+    Done = 0,
+    /// The question was answered with no.
+    No = 1,
+    /// The file isn't in its grammar.
+    Bad = 2,
+    /// The shelf failed.
+    ReadFault = 3,
+    /// The sink failed. A front of the text may have been written.
+    WriteFault = 4,
+    /// The words aren't those of a command.
+    Usage = 5,
+    /// The file has more bytes than its limit.
+    TooLarge = 7,
+}
