@@ -1,0 +1,58 @@
+ghost use Rattle.std.specs.Prelude.{◌≡◌, ◌++◌, IfOk, codes};
+ghost use Rattle.ql_app.specs.Words.{word_texts};
+ghost use Rattle.ql_app.specs.Outcome.{Says, CommandSays};
+
+use ql_base::NoMemory;
+use ql_ports::{ReadError, Shelf, read_whole};
+use std::alloc::Global;
+
+use crate::status::Status;
+use crate::words::{Command, request};
+
+/// The status and the text that answer the words. The named file is read once, to its end, and has
+/// at most `limit` bytes.
+pub fn outcome<S: Shelf>(
+    alloc: Global,
+    words: &Vec<String>,
+    shelf: &mut S,
+    limit: usize,
+) -> Result<(Status, Vec<u8>), NoMemory>
+    ensures { IfOk result (λ answer. Says limit (word_texts words.now) (S.held shelf.old)
+        (S.faults shelf.old) (S.faults shelf.new) answer.0 answer.1.items) }
+{
+    let Some((command, name)) = request(words) else {
+        return Ok((Status::Usage, Vec::from_slice(alloc, b"usage\n")?));
+    };
+    match read_whole(alloc, shelf, name, limit) {
+        Ok(bytes) => judged(alloc, command, bytes.as_slice()),
+        Err(ReadError::Failed) => {
+            Ok((Status::ReadFault, named(alloc, b"read fault ", name)?))
+        }
+        Err(ReadError::TooLong) => {
+            Ok((Status::TooLarge, named(alloc, b"too large ", name)?))
+        }
+        Err(ReadError::NoMemory) => Err(NoMemory),
+    }
+}
+
+// A line of a text and a name.
+fn named(alloc: Global, text: &[u8], name: &str) -> Result<Vec<u8>, NoMemory>
+    ensures { IfOk result (λ line. line.items ≡ text.now ++ name.now ++ codes "\n") }
+{
+    let mut line = Vec::from_slice(alloc, text)?;
+    line.extend_from_slice(name.as_bytes())?;
+    line.push(b'\n')?;
+    Ok(line)
+}
+
+fn judged(
+    alloc: Global,
+    command: Command,
+    bytes: &[u8],
+) -> Result<(Status, Vec<u8>), NoMemory>
+    ensures { IfOk result (λ answer. CommandSays command bytes.now answer.0 answer.1.items) }
+{
+    match command {
+        Command::Holds => Ok((Status::Bad, Vec::from_slice(alloc, b"bad holds\n")?)),
+    }
+}
