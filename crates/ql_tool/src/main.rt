@@ -6,6 +6,7 @@ use ql_app::quelea;
 use ql_base::NoMemory;
 use ql_ports::{FileShelf, StdSink};
 use std::process::ExitCode;
+use std::env::Env;
 use std::{env, io};
 
 // The exit statuses that aren't the top call's.
