@@ -5,6 +5,7 @@
 
 mod contract;
 mod expression;
+mod formula;
 mod name;
 mod operation;
 mod program;
@@ -12,6 +13,7 @@ mod relation;
 
 pub use contract::{Contract, Point, Points, Prop, Var, Vars};
 pub use expression::{BinOp, Expr, ExprNode, Exprs, TextLit};
+pub use formula::{Body, Choices, Formula, OpChoice, Term, Terms};
 pub use name::{Name, NameList};
 pub use operation::{
     Base, Bind, Binds, EmitDecl, Kind, OpDecl, OpDecls, Param, Params, Stmt, Stmts,
