@@ -1,0 +1,23 @@
+use ql_base::EffId;
+use std::alloc::AllocFailed;
+
+/// Why a draft is no next effect of an execution. The id is the one that it would have.
+#[derive(Clone, Copy, Debug, PartialEq, Eq)]
+pub enum ExecFault {
+    /// It sees an id that names no earlier effect.
+    NotForward(EffId),
+    /// It sees an effect on another object.
+    OtherObject(EffId),
+    NoMemory,
+}
+
+impl<T: Drop> From<AllocFailed<T>> for ExecFault {
+    ghost use Rattle.std.specs.Prelude.{◌≡◌};
+    ghost use Rattle.ql_exec.specs.declared.fault.ExecFault.TheVariants.{NoMemory};
+
+    ghost from_gives = { λ _ fault. fault ≡ NoMemory };
+
+    fn from(_failed: AllocFailed<T>) -> ExecFault {
+        ExecFault::NoMemory
+    }
+}
