@@ -26,7 +26,7 @@ module _ (p : ℕ → Bool) where
 
   -- what follows the front fails
   pub front_stops : (xs : List ℕ) → StopsBefore p (drop (prefix_len p xs) xs)
-  front_stops [] = tt
+  front_stops [] = refl
   front_stops (b ∷ bs) =
       let P : Bool → Type 0 = λ t. p b ≡ t → StopsBefore p (drop (cond t (1 + prefix_len p bs) 0) (b ∷ bs)) in
       elim (p b) as P [ true ↦ λ e. rw (one-add (prefix_len p bs)) (front_stops bs) | false ↦ λ e. e ] refl

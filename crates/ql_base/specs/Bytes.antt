@@ -24,7 +24,11 @@ is_word_byte b = nat_le 97 b && nat_le b 122 || nat_le 65 b && nat_le b 90 || na
 unfoldable pub is_text_byte : ℕ → Bool
 is_text_byte b = nat_le 32 b && nat_le b 126 && not (b == 34) && not (b == 92)
 
+-- whether a text begins with a byte that passes the test
+abbrev pub begins : (ℕ → Bool) → List ℕ → Bool
+begins test [] = false
+begins test (b ∷ rest) = test b
+
 -- the text ends here, or its next byte fails the test
 abbrev pub StopsBefore : (ℕ → Bool) → List ℕ → Type 0
-StopsBefore test [] = Unit {0}
-StopsBefore test (b ∷ rest) = test b ≡ false
+StopsBefore test text = begins test text ≡ false

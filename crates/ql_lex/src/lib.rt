@@ -3,6 +3,10 @@
 // that fits no token.
 #![tactic(auto)]
 
+mod front;
+mod marks;
+mod scan;
 mod token;
 
+pub use scan::tokens;
 pub use token::{LexFault, Token, TokenKind};

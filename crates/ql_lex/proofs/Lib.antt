@@ -1,0 +1,4 @@
+mod Classes
+mod Within
+mod Steps
+mod Spans

@@ -1,0 +1,157 @@
+ghost use Rattle.std.specs.Prelude.{◌≡◌, ◌<◌, ◌≤◌, true, length, slice_index};
+ghost use Rattle.std.specs.List.{prefix_len};
+ghost use Rattle.ql_base.specs.Bytes.{is_blank, is_digit, is_lower, is_text_byte, is_word_byte, begins};
+ghost use Rattle.ql_lex.specs.Bytes.{is_in_line, is_quote};
+
+use crate::marks::{is_mark_byte, is_mark_pair};
+use crate::token::TokenKind;
+use ql_base::{
+    MAX_NAME_BYTES, MAX_TEXT_BYTES, digit_bytes, is_blank, is_digit, is_keyword, is_lower,
+    is_text_byte, is_word_byte, name_bytes, number_of,
+};
+
+const HASH: u8 = b'#';
+
+const QUOTE: u8 = b'"';
+
+const MOST_NUMBER: u64 = 9_223_372_036_854_775_807;
+
+// What stands at the front of a text, with how many bytes it takes or how far its fault is.
+#[derive(Clone, Copy, Debug, PartialEq, Eq)]
+pub enum Front {
+    Gap(usize),
+    Lexeme(TokenKind, usize),
+    NoToken(usize),
+    TooLong,
+    NoNumber,
+}
+
+impl Front {
+    ghost use Rattle.ql_lex.specs.Fronts.{IsFront, BeginsNothing};
+    ghost use Rattle.ql_lex.specs.Tokens.{FitsIn};
+
+    // The front of a text that isn't at its end.
+    pub(crate) fn of(text: &[u8]) -> Front
+        requires { 0 < length text.now }
+        ensures kind { IsFront text.now result }
+        ensures within { FitsIn (length text.now) result }
+    {
+        let first = text[0];
+        if is_blank(first) {
+            Front::Gap(1)
+        } else if first == HASH {
+            Front::comment(text)
+        } else if is_lower(first) {
+            Front::word(text)
+        } else if is_digit(first) {
+            Front::number(text)
+        } else if first == QUOTE {
+            Front::quoted(text)
+        } else {
+            Front::mark(text)
+        }
+    }
+
+    fn comment(text: &[u8]) -> Front
+        requires some { 0 < length text.now }
+        requires first { slice_index text.now 0 ≡ HASH }
+        ensures { IsFront text.now result }
+    {
+        Front::Gap(line_bytes(&text[1..]) + 1)
+    }
+
+    fn word(text: &[u8]) -> Front
+        requires some { 0 < length text.now }
+        requires first { is_lower (slice_index text.now 0) ≡ true }
+        ensures { IsFront text.now result }
+    {
+        let len = name_bytes(text);
+        if is_keyword(&text[..len]) {
+            Front::Lexeme(TokenKind::Keyword, len)
+        } else if len <= MAX_NAME_BYTES {
+            Front::Lexeme(TokenKind::Name, len)
+        } else {
+            Front::TooLong
+        }
+    }
+
+    fn number(text: &[u8]) -> Front
+        requires some { 0 < length text.now }
+        requires first { is_digit (slice_index text.now 0) ≡ true }
+        ensures { IsFront text.now result }
+    {
+        let (digits, rest) = text.split_at(digit_bytes(text));
+        if begins_word(rest) {
+            return Front::NoNumber;
+        }
+        match number_of(digits, MOST_NUMBER) {
+            Some(_) => Front::Lexeme(TokenKind::Int, digits.len()),
+            None => Front::NoNumber,
+        }
+    }
+
+    fn quoted(text: &[u8]) -> Front
+        requires some { 0 < length text.now }
+        requires first { slice_index text.now 0 ≡ QUOTE }
+        ensures { IsFront text.now result }
+    {
+        let (inside, rest) = text[1..].split_at(text_bytes(&text[1..]));
+        if inside.len() > MAX_TEXT_BYTES {
+            Front::TooLong
+        } else if begins_quote(rest) {
+            Front::Lexeme(TokenKind::Text, inside.len() + 2)
+        } else {
+            Front::NoToken(inside.len() + 1)
+        }
+    }
+
+    fn mark(text: &[u8]) -> Front
+        requires some { 0 < length text.now }
+        requires first { BeginsNothing (slice_index text.now 0) }
+        ensures { IsFront text.now result }
+    {
+        if text.len() > 1 && is_mark_pair(text[0], text[1]) {
+            Front::Lexeme(TokenKind::Mark, 2)
+        } else if is_mark_byte(text[0]) {
+            Front::Lexeme(TokenKind::Mark, 1)
+        } else {
+            Front::NoToken(0)
+        }
+    }
+}
+
+// How many bytes stand before the line's end.
+fn line_bytes(text: &[u8]) -> usize
+    ensures longest { result ≡ prefix_len is_in_line text.now }
+    ensures within { result ≤ length text.now }
+{
+    text.iter().take_while(|b| **b != b'\n').count()
+}
+
+// How many bytes at the front may stand inside a text.
+fn text_bytes(text: &[u8]) -> usize
+    ensures longest { result ≡ prefix_len is_text_byte text.now }
+    ensures within { result ≤ length text.now }
+{
+    text.iter().take_while(|b| is_text_byte(**b)).count()
+}
+
+// Whether the text goes on with what may not stand straight after a number.
+fn begins_word(text: &[u8]) -> bool
+    ensures { result ≡ begins is_word_byte text.now }
+{
+    match text.first() {
+        Some(b) => is_word_byte(*b),
+        None => false,
+    }
+}
+
+// Whether the text goes on with a quote.
+fn begins_quote(text: &[u8]) -> bool
+    ensures { result ≡ begins is_quote text.now }
+{
+    match text.first() {
+        Some(b) => *b == QUOTE,
+        None => false,
+    }
+}

@@ -1,0 +1,35 @@
+ghost use Rattle.std.specs.Prelude.{◌≡◌, ◌<◌, ◌^◌, Ok, length, IfOk, MatchResult};
+ghost use Rattle.ql_lex.specs.Tokens.{AreSpans, IsFirstFault, Lexes};
+
+use crate::front::Front;
+use crate::token::{LexFault, Token};
+use std::alloc::Global;
+
+/// The tokens of a source text of fewer than 2^32 bytes, in order, blanks and comments left out; or
+/// the first place that fits no token.
+pub fn tokens(alloc: Global, bytes: &[u8]) -> Result<Vec<Token>, LexFault>
+    requires { length bytes.now < 2 ^ 32 }
+    ensures exact { MatchResult result (λ found. Lexes 0 bytes.now (Ok found.items)) (IsFirstFault bytes.now) }
+    ensures spans { IfOk result (λ found. AreSpans 0 (length bytes.now) found.items) }
+{
+    let mut found = Vec::new(alloc);
+    let mut at = 0;
+    while at < bytes.len() {
+        match Front::of(&bytes[at..]) {
+            Front::Gap(len) => at += len,
+            Front::Lexeme(what, len) => {
+                let to = at + len;
+                found.push(Token {
+                    what,
+                    from: at as u32,
+                    to: to as u32,
+                })?;
+                at = to;
+            }
+            Front::NoToken(len) => return Err(LexFault::BadChar((at + len) as u32)),
+            Front::TooLong => return Err(LexFault::LongWord(at as u32)),
+            Front::NoNumber => return Err(LexFault::BadNumber(at as u32)),
+        }
+    }
+    Ok(found)
+}
