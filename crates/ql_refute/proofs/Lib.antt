@@ -1,0 +1,4 @@
+pub mod Laws
+mod Marking
+pub mod Soundness
+mod Steps

@@ -1,0 +1,14 @@
+// Refutations of clause lists, and a checker for them. Its one contract: a refutation that `check`
+// accepts shows that no assignment satisfies the clauses, whoever made it.
+#![tactic(auto)]
+
+mod checker;
+mod refutation;
+mod verdict;
+
+pub use checker::check;
+pub use refutation::{Hint, Hints, Line, Lines, Refutation};
+pub use verdict::Verdict;
+
+#[cfg(test)]
+mod tests;
