@@ -176,8 +176,8 @@ Placed-ascending x c d None e h = absurd (cc)
 Placed-ascending x c d (Some b) e h = let same : b ≡ d = cc in subst IsAscending same h.1
 
 -- a clause stays ascending
-pub with_literal-ascending : (x : Lit) (c d : List Lit) → with_literal x c ≡ Some d → IsAscending c → IsAscending d
-with_literal-ascending x c d e a = Placed-ascending x c d (with_literal x c) e (placed x c a)
+pub stays_ascending : (x : Lit) (c d : List Lit) → with_literal x c ≡ Some d → IsAscending c → IsAscending d
+stays_ascending x c d e a = Placed-ascending x c d (with_literal x c) e (placed x c a)
 
 -- the clause of the literals is ascending and has the same literals
 clause_from : (xs : List Lit) (o : Option (List Lit)) → AllPlaced [] xs o → IfSome o (λ c. IsAscending c × SameLiterals c xs)

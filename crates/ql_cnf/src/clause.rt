@@ -1,7 +1,9 @@
-ghost use Rattle.std.specs.Prelude.{◌≡◌};
-ghost use Rattle.ql_cnf.specs.Literals.{IsAscending};
+ghost use Rattle.std.specs.Prelude.{◌≡◌, Some, None, IfOk, MatchBool};
+ghost use Rattle.ql_cnf.specs.Literals.{IsAscending, count_below, with_literal};
 
 use crate::Lit;
+use ql_base::NoMemory;
+use std::alloc::Global;
 use std::marker::Model;
 
 /// A clause: the disjunction of its literals, which are strictly ascending by variable.
@@ -39,6 +41,19 @@ impl Clause {
         &self.items
     }
 
+    /// The clause with one more literal in its place; none where it has the other sign of its variable.
+    #[tactic(auto, using(crate::proofs::Meaning::stays_ascending))]
+    pub fn with(&self, alloc: Global, lit: Lit) -> Result<Option<Clause>, NoMemory>
+        ensures { IfOk result (λ clause. clause ≡ with_literal lit self.now) }
+    {
+        let mut items = Vec::from_slice(alloc, self.items())?;
+        if insert(&mut items, lit)? {
+            Ok(Some(Clause::of(items)))
+        } else {
+            Ok(None)
+        }
+    }
+
     /// The literals.
     pub fn into_items(self) -> Vec<Lit>
         ensures same { result.items ≡ self }
@@ -46,4 +61,30 @@ impl Clause {
     {
         self.items
     }
+}
+
+// Puts the literal into its place, unless it is there; false where its negation is. A literal that
+// belongs at the end costs one comparison.
+pub(crate) fn insert(items: &mut Vec<Lit>, lit: Lit) -> Result<bool, NoMemory>
+    requires { IsAscending items.old.items }
+    ensures { IfOk result (λ fits. MatchBool fits (with_literal lit items.old.items ≡ Some items.new.items) (with_literal lit items.old.items ≡ None)) }
+{
+    let place = place_of(items, lit.var);
+    if place < items.len() && items[place].var == lit.var {
+        return Ok(items[place].positive == lit.positive);
+    }
+    items.insert(place, lit)?;
+    Ok(true)
+}
+
+// How many literals at the front have a smaller variable.
+fn place_of(items: &[Lit], var: u32) -> usize
+    requires { IsAscending items.now }
+    ensures { result ≡ count_below var items.now }
+{
+    let mut place = items.len();
+    while place > 0 && var <= items[place - 1].var {
+        place -= 1;
+    }
+    place
 }

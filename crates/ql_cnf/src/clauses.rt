@@ -1,7 +1,8 @@
 ghost use Rattle.std.specs.Prelude.{◌≡◌, ℕ, ◌+◌, ◌-◌, ◌^◌, ◌<◌, ◌≤◌, ◌↔◌, ◌&&◌, List, Bool, [], length, slice_get, IfOk, OnOk, OnErr, IfSome, IsNone, is_some, Some, None, MatchBool};
-ghost use Rattle.ql_cnf.specs.Literals.{clause_of, with_literal, count_below, HasBothSigns, SameLiterals, IsAscending};
+ghost use Rattle.ql_cnf.specs.Literals.{clause_of, HasBothSigns, SameLiterals, IsAscending};
 ghost use Rattle.ql_cnf.specs.Satisfaction.{AreInRange, ClausesInRange, with_clause, all_true, clause_true};
 
+use crate::clause::insert;
 use crate::{Clause, Lit};
 use ql_base::NoMemory;
 use std::alloc::Global;
@@ -110,30 +111,4 @@ fn ascending(alloc: Global, lits: &[Lit]) -> Result<Option<Clause>, NoMemory>
         }
     }
     Ok(Some(Clause::of(items)))
-}
-
-// Puts the literal into its place, unless it is there; false where its negation is. A literal that
-// belongs at the end costs one comparison.
-fn insert(items: &mut Vec<Lit>, lit: Lit) -> Result<bool, NoMemory>
-    requires { IsAscending items.old.items }
-    ensures { IfOk result (λ fits. MatchBool fits (with_literal lit items.old.items ≡ Some items.new.items) (with_literal lit items.old.items ≡ None)) }
-{
-    let place = place_of(items, lit.var);
-    if place < items.len() && items[place].var == lit.var {
-        return Ok(items[place].positive == lit.positive);
-    }
-    items.insert(place, lit)?;
-    Ok(true)
-}
-
-// How many literals at the front have a smaller variable.
-fn place_of(items: &[Lit], var: u32) -> usize
-    requires { IsAscending items.now }
-    ensures { result ≡ count_below var items.now }
-{
-    let mut place = items.len();
-    while place > 0 && var <= items[place - 1].var {
-        place -= 1;
-    }
-    place
 }

@@ -11,8 +11,8 @@ use Rattle.ql_cnf.specs.Satisfaction.{ClauseList, value_of, literal_true, clause
 use Rattle.ql_cnf.specs.declared.lit.Lit.{Lit}
 use Rattle.ql_refute.specs.Partial.{Partial, nothing, with_true, with_all_false, is_value, is_open, reading_of, reading}
 use Rattle.ql_refute.specs.Verdict.{numbered, hinted, after_reading, after_hint, hints_fault, in_range, line_fault, first_of_two, first_fault, is_empty, has_empty, verdict, IsGood, AreGood}
-use Rattle.ql_refute.specs.declared.checker.Reading.{Reading}
-use Rattle.ql_refute.specs.declared.checker.Reading.TheVariants.{AllFalse, Forces, Neither}
+use Rattle.ql_refute.specs.declared.marks.Reading.{Reading}
+use Rattle.ql_refute.specs.declared.marks.Reading.TheVariants.{AllFalse, Forces, Neither}
 use Rattle.ql_refute.specs.declared.refutation.Hint.{Hint}
 use Rattle.ql_refute.specs.declared.refutation.Hint.TheVariants.{Given, Earlier}
 use Rattle.ql_refute.specs.declared.refutation.Line.{Line}

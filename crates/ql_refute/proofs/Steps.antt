@@ -11,7 +11,7 @@ use Rattle.ql_cnf.specs.declared.lit.Lit.{Lit}
 use Rattle.ql_refute.specs.Partial.{Partial, nothing, with_true, with_all_false, is_open, reading_of, reading}
 use Rattle.ql_refute.specs.Verdict.{hinted, hints_fault, in_range, line_fault, first_of_two, first_fault}
 use Rattle.ql_refute.specs.Marks.{has_variable, marked, IsClear, unmarked, OnlyMarks, hinted_literals, LinesInRange}
-use Rattle.ql_refute.specs.declared.checker.Reading.TheVariants.{AllFalse, Forces, Neither}
+use Rattle.ql_refute.specs.declared.marks.Reading.TheVariants.{AllFalse, Forces, Neither}
 use Rattle.ql_refute.specs.declared.refutation.Hint.{Hint}
 use Rattle.ql_refute.specs.declared.refutation.Line.{Line}
 use Rattle.ql_refute.specs.declared.verdict.Verdict.{Verdict}

@@ -4,8 +4,8 @@ use Rattle.std.specs.Bool.{beq}
 use Rattle.std.specs.List.{filter}
 use Rattle.ql_cnf.specs.Literals.{negated}
 use Rattle.ql_cnf.specs.declared.lit.Lit.{Lit}
-use Rattle.ql_refute.specs.declared.checker.Reading.{Reading}
-use Rattle.ql_refute.specs.declared.checker.Reading.TheVariants.{AllFalse, Forces, Neither}
+use Rattle.ql_refute.specs.declared.marks.Reading.{Reading}
+use Rattle.ql_refute.specs.declared.marks.Reading.TheVariants.{AllFalse, Forces, Neither}
 
 -- the truth values of some variables
 abbrev pub Partial : Type 0

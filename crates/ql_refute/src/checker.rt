@@ -5,17 +5,9 @@ ghost use Rattle.ql_refute.specs.Marks.{AllBelow, IsClear, LinesInRange, OnlyMar
 ghost use Rattle.ql_refute.specs.Partial.{reading, with_all_false};
 ghost use Rattle.ql_refute.specs.Verdict.{first_fault, has_empty, hinted, hints_fault, line_fault, verdict};
 
+use crate::marks::{Reading, clear, falsify, read, set, unmark};
 use crate::{Hint, Line, Refutation, Verdict};
 use ql_cnf::{Clauses, Lit, are_in_range};
-
-const UNSET: u8 = 0;
-
-// What a clause says under a partial assignment.
-enum Reading {
-    AllFalse,
-    Forces(Lit),
-    Neither,
-}
 
 /// The verdict on the refutation. The lines are taken in order, and the first at fault decides.
 ///
@@ -73,14 +65,6 @@ fn has_empty(lines: &[Line]) -> bool
     false
 }
 
-fn clear(marks: &mut [u8])
-    ensures { IsClear marks.new }
-{
-    for mark in marks.iter_mut() {
-        *mark = UNSET;
-    }
-}
-
 // The refusal of the line; where there is none the marks are clear again.
 fn line_fault(c: &Clauses, earlier: &[Line], line: &Line, marks: &mut [u8]) -> Option<Verdict>
     requires room { c.now.variables < length marks.old }
@@ -100,39 +84,6 @@ fn line_fault(c: &Clauses, earlier: &[Line], line: &Line, marks: &mut [u8]) -> O
         undo(c, earlier, line, marks);
     }
     fault
-}
-
-fn falsify(literals: &[Lit], marks: &mut [u8])
-    requires in_range { AllBelow (length marks.old) literals.now }
-    ensures falsified { marked marks.new ≡ with_all_false (marked marks.old) literals.now }
-    ensures only { IsClear marks.old → OnlyMarks marks.new literals.now }
-{
-    for lit in literals {
-        set(marks, lit.negated());
-    }
-}
-
-fn set(marks: &mut [u8], lit: Lit)
-    requires { lit.var < length marks.old }
-    ensures { marks.new ≡ slice_set marks.old lit.var (mark_of lit.positive) }
-{
-    marks[lit.var as usize] = mark_of(lit.positive);
-}
-
-fn value_of_mark(mark: u8) -> Option<bool>
-    ensures { result ≡ value_of_mark mark }
-{
-    match mark {
-        1 => Some(true),
-        2 => Some(false),
-        _ => None,
-    }
-}
-
-fn mark_of(value: bool) -> u8
-    ensures { result ≡ mark_of value }
-{
-    if value { 1 } else { 2 }
 }
 
 // Takes the hints in order from the marks.
@@ -179,25 +130,6 @@ fn hinted<'a>(c: &'a Clauses, earlier: &'a [Line], hint: Hint) -> Option<&'a [Li
     }
 }
 
-// What the clause says under the marks. One true literal settles it, as do two that aren't false.
-fn read(clause: &[Lit], marks: &[u8]) -> Reading
-    requires { AllBelow (length marks.now) clause.now }
-    ensures { result ≡ reading (marked marks.now) clause.now }
-{
-    let mut open = None;
-    for lit in clause {
-        match value_of_mark(marks[lit.var as usize]) {
-            Some(value) if value != lit.positive => {}
-            None if open.is_none() => open = Some(*lit),
-            _ => return Reading::Neither,
-        }
-    }
-    match open {
-        Some(lit) => Reading::Forces(lit),
-        None => Reading::AllFalse,
-    }
-}
-
 // Clears what the line marked: its own literals, and literals of the clauses that it hints at.
 fn undo(c: &Clauses, earlier: &[Line], line: &Line, marks: &mut [u8])
     requires room { c.now.variables < length marks.old }
@@ -211,14 +143,5 @@ fn undo(c: &Clauses, earlier: &[Line], line: &Line, marks: &mut [u8])
         if let Some(clause) = hinted(c, earlier, *hint) {
             unmark(clause, marks);
         }
-    }
-}
-
-fn unmark(literals: &[Lit], marks: &mut [u8])
-    requires { AllBelow (length marks.old) literals.now }
-    ensures { marks.new ≡ unmarked marks.old literals.now }
-{
-    for lit in literals {
-        marks[lit.var as usize] = UNSET;
     }
 }

@@ -3,6 +3,7 @@
 #![tactic(auto)]
 
 mod checker;
+pub mod marks;
 mod refutation;
 mod verdict;
 

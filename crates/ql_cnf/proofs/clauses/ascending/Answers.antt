@@ -1,6 +1,6 @@
 use Rattle.std.proofs.Common.{arith}
 use Rattle.ql_cnf.proofs.Rest.{rest_none, rest_some, rest_done}
-use Rattle.ql_cnf.proofs.Meaning.{with_literal-ascending}
+use Rattle.ql_cnf.proofs.Meaning.{stays_ascending}
 use Rattle.ql_cnf.proofs.clauses.ascending.Goals as goal
 
 pub returns-then-not-branch : goal.returns-then-not-branch
@@ -11,7 +11,7 @@ pub loop-lit-preserved : goal.loop-lit-preserved
 loop-lit-preserved c =
     let placed = rw c.if-not-branch.false at c.in_ok-insert.ensures in
     record {
-      sorted = with_literal-ascending _ _ _ placed c.loop-lit.invariant.sorted;
+      sorted = stays_ascending _ _ _ placed c.loop-lit.invariant.sorted;
       rest = rest_some c.args.lits.now c.loop-lit.items.items c.insert.new.items.items c.loop-lit.lit-index _ (omega arith) c.loop-lit.invariant.rest placed;
     }
 

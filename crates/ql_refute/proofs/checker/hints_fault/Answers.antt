@@ -1,7 +1,7 @@
 use Rattle.std.proofs.Common.{◌≡◌, ◌<◌, ◌≤◌, ◌++◌, true, arith, length, sym, ◌∙◌}
 use Rattle.ql_refute.specs.Marks.{marked, has_variable, hinted_literals}
 use Rattle.ql_refute.specs.Partial.{reading}
-use Rattle.ql_refute.specs.declared.checker.Reading.TheVariants.{Forces}
+use Rattle.ql_refute.specs.declared.marks.Reading.TheVariants.{Forces}
 use Rattle.ql_refute.proofs.Marking.{marked-set, only_set, append_has, hinted_has}
 use Rattle.ql_refute.proofs.Steps.{hints_step, forced_passes, forced_variable}
 use Rattle.ql_refute.proofs.checker.hints_fault.Goals as goal

@@ -1,7 +1,7 @@
 use Rattle.std.proofs.Common.{◌≡◌, drop}
 use Rattle.ql_refute.specs.Marks.{marked, IsClear, OnlyMarks}
 use Rattle.ql_refute.specs.Partial.{with_all_false}
-use Rattle.ql_refute.proofs.checker.falsify.Given as goal
+use Rattle.ql_refute.proofs.marks.falsify.Given as goal
 
 abbrev pub invariant-loop-lit : goal.invariant-loop-lit
 invariant-loop-lit l = record {

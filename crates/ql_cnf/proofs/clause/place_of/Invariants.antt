@@ -1,6 +1,6 @@
 use Rattle.std.proofs.Common.{◌≤◌, length}
 use Rattle.ql_cnf.specs.Literals.{count_below}
-use Rattle.ql_cnf.proofs.clauses.place_of.Given as goal
+use Rattle.ql_cnf.proofs.clause.place_of.Given as goal
 
 abbrev pub invariant-loop-place : goal.invariant-loop-place
 invariant-loop-place l = (count_below l.var l.items ≤ l.place) × (l.place ≤ length l.items)

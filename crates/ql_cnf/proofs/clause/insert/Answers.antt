@@ -1,8 +1,8 @@
 use Rattle.std.proofs.Common.{◌≡◌, ◌≤◌, ◌<◌, length, arith, sym}
 use Rattle.ql_cnf.specs.Literals.{count_below}
 use Rattle.ql_cnf.proofs.Places.{count_below-length, IsFreeAt, free_from_read, with_literal-new, there}
-use Rattle.ql_cnf.proofs.clauses.insert.Goals as goal
-use Rattle.ql_cnf.proofs.clauses.insert.Goals.{else-place-len-via-then-place-len+else-index-lit, else-place-len-via-else-place-len}
+use Rattle.ql_cnf.proofs.clause.insert.Goals as goal
+use Rattle.ql_cnf.proofs.clause.insert.Goals.{else-place-len-via-then-place-len+else-index-lit, else-place-len-via-else-place-len}
 
 pub returns-then-index-lit : goal.returns-then-index-lit
 returns-then-index-lit c =

@@ -1,7 +1,7 @@
 use Rattle.std.proofs.Common.{arith, ◌<◌, ◌≤◌, suc, ◌-◌, length}
 use Rattle.ql_cnf.specs.Literals.{count_below}
 use Rattle.ql_cnf.proofs.Places.{count_below-length, count_below-le, count_below-ge}
-use Rattle.ql_cnf.proofs.clauses.place_of.Goals as goal
+use Rattle.ql_cnf.proofs.clause.place_of.Goals as goal
 
 pub loop-place-init : goal.loop-place-init
 loop-place-init c = (count_below-length c.args.var c.args.items.now, omega arith)

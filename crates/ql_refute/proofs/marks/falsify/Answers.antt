@@ -1,6 +1,6 @@
 use Rattle.std.proofs.Common.{arith, ◌<◌, length, get_or}
 use Rattle.ql_refute.proofs.Marking.{falsify_more, only_set, has_variable_at}
-use Rattle.ql_refute.proofs.checker.falsify.Goals as goal
+use Rattle.ql_refute.proofs.marks.falsify.Goals as goal
 
 pub loop-lit-preserved : goal.loop-lit-preserved
 loop-lit-preserved c =
