@@ -1,0 +1,7 @@
+use Rattle.std.proofs.Common.{◌≡◌, [], drop}
+use Rattle.ql_typing.specs.Faults.{earlier, first_fault, repeats, names_met}
+use Rattle.ql_typing.specs.Invariant.{IsRest}
+use Rattle.ql_typing.proofs.names.meet.Given as goal
+
+abbrev pub invariant-loop-name : goal.invariant-loop-name
+invariant-loop-name l = IsRest l.names l.fault (drop l.name-index l.list) l.list

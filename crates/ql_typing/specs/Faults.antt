@@ -1,0 +1,70 @@
+use Rattle.std.specs.Prelude.{◌≡◌, ℕ, Bool, ◌&&◌, ◌||◌, nat_eq, nat_lt, List, [], ◌∷◌, ◌++◌, Option, None, Some, if◌then◌else◌}
+use Rattle.ql_base.specs.Numbering.{has_name, with_name}
+use Rattle.ql_lang.specs.declared.name.Name.{Name}
+use Rattle.ql_typing.specs.declared.fault.TypeFault.{TypeFault}
+use Rattle.ql_typing.specs.declared.fault.TypeFault.TheVariants.{Unknown, Twice, Kind, TooMany, TxnClosure, Variables, TxnAtom, NoMemory}
+
+-- where a fault stands in the source
+abbrev pub place_of : TypeFault → ℕ
+place_of (Unknown at) = at
+place_of (Twice at) = at
+place_of (Kind at) = at
+place_of (TooMany at) = at
+place_of (TxnClosure at) = at
+place_of (Variables at) = at
+place_of (TxnAtom at) = at
+place_of NoMemory = 0
+
+-- the number of the rule that a fault breaks
+abbrev pub rule_of : TypeFault → ℕ
+rule_of (Unknown at) = 1
+rule_of (Twice at) = 2
+rule_of (Kind at) = 3
+rule_of (TooMany at) = 4
+rule_of (TxnClosure at) = 5
+rule_of (Variables at) = 6
+rule_of (TxnAtom at) = 7
+rule_of NoMemory = 0
+
+-- a stands at a lower place than b, or at the same and breaks a lower rule
+unfoldable pub comes_before : TypeFault → TypeFault → Bool
+comes_before a b = nat_lt (place_of a) (place_of b) || (nat_eq (place_of a) (place_of b) && nat_lt (rule_of a) (rule_of b))
+
+-- the first of two faults, where there are any
+unfoldable pub earlier : Option TypeFault → Option TypeFault → Option TypeFault
+earlier None b = b
+earlier (Some a) None = Some a
+earlier (Some a) (Some b) = if comes_before b a then Some b else Some a
+
+-- the fault of a list that no other comes before
+unfoldable pub first_fault : List TypeFault → Option TypeFault
+first_fault [] = None
+first_fault (f ∷ fs) = earlier (Some f) (first_fault fs)
+
+-- a refusal: want of memory, or the first of the faults
+unfoldable pub IsRefusal : List TypeFault → TypeFault → Type 0
+IsRefusal faults NoMemory = Unit {0}
+IsRefusal faults f = first_fault faults ≡ Some f
+
+-- the fault f where b is false
+abbrev pub unless : Bool → TypeFault → List TypeFault
+unless b f = if b then [] else f ∷ []
+
+-- the fault f where b is true
+abbrev pub where_so : Bool → TypeFault → List TypeFault
+where_so b f = if b then f ∷ [] else []
+
+-- the faults of each item of a list, in order
+unfoldable pub each : {A : Type 0} → (A → List TypeFault) → List A → List TypeFault
+each faults [] = []
+each faults (x ∷ xs) = faults x ++ each faults xs
+
+-- each name that stands in `before` or earlier in the list is there twice
+unfoldable pub repeats : List (List ℕ) → List Name → List TypeFault
+repeats before [] = []
+repeats before (n ∷ ns) = where_so (has_name before n.word) (Twice n.at) ++ repeats (with_name before n.word) ns
+
+-- the distinct names after more are met
+unfoldable pub names_met : List (List ℕ) → List Name → List (List ℕ)
+names_met before [] = before
+names_met before (n ∷ ns) = names_met (with_name before n.word) ns

@@ -1,0 +1,10 @@
+// Typing: which faults a program has, and programs that have none.
+// The faults of a program are a list, by cases on its declarations and expressions.
+// The one contract: a program is typed exactly where that list is empty, and else its first fault is told.
+#![tactic(auto)]
+
+mod contract;
+mod fault;
+mod names;
+
+pub use fault::TypeFault;
