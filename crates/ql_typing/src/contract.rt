@@ -1,6 +1,6 @@
-ghost use Rattle.std.specs.Prelude.{◌≡◌, ◌∷◌, [], Option, Some, None, List, ℕ, IfOk, map, drop, option_map};
+ghost use Rattle.std.specs.Prelude.{◌≡◌, ◌∷◌, [], Option, Some, None, List, ℕ, IfOk, map, drop, option_copied};
 ghost use Rattle.ql_base.specs.Numbering.{has_name};
-ghost use Rattle.ql_typing.specs.Faults.{each, first_fault};
+ghost use Rattle.ql_typing.specs.Faults.{each, first_fault, names_met};
 ghost use Rattle.ql_typing.specs.ContractFaults.{choice_faults, contract_faults, extra_var, is_closure, is_known, op_faults, point_faults, prop_faults, rel_faults, var_names};
 
 use crate::fault::{TypeFault, first};
@@ -102,4 +102,108 @@ fn prop_fault(body: &Prop, vars: &Names, for_txn: bool) -> Option<TypeFault>
             )
         }
     }
+}
+
+/// Whether an operation is known, where only those of a list are.
+#[tactic(auto, unfolding(crate::specs::ContractFaults::op_faults, crate::specs::Faults::first_fault, crate::specs::Faults::earlier))]
+fn op_fault(name: &Name, known: Option<&Names>) -> Option<TypeFault>
+    ensures { result ≡ first_fault (op_faults (option_copied known.entry) name.now) }
+{
+    match known {
+        Some(ops) if ops.find(name.word.bytes()).is_none() => Some(TypeFault::Unknown(name.at)),
+        _ => None,
+    }
+}
+
+fn ops_fault(names: &[Name], known: Option<&Names>) -> Option<TypeFault>
+    ensures { result ≡ first_fault (each (op_faults (option_copied known.entry)) names.now) }
+{
+    let mut fault = None;
+    for name in names {
+        fault = first(fault, op_fault(name, known));
+    }
+    fault
+}
+
+/// The first fault of the operations that a variable names.
+#[tactic(auto, unfolding(crate::specs::ContractFaults::choice_faults), using(crate::proofs::FirstFault::first_append))]
+fn choice_fault(
+    alloc: Global,
+    var: &Var,
+    known: Option<&Names>,
+) -> Result<Option<TypeFault>, NoMemory>
+    ensures { IfOk result (λ fault. fault ≡ first_fault (choice_faults (option_copied known.entry) var.now)) }
+{
+    let met = meet(alloc, var.ops.items())?;
+    Ok(first(met.fault, ops_fault(var.ops.items(), known)))
+}
+
+fn choices_fault(
+    alloc: Global,
+    vars: &[Var],
+    known: Option<&Names>,
+) -> Result<Option<TypeFault>, NoMemory>
+    ensures { IfOk result (λ fault. fault ≡ first_fault (each (choice_faults (option_copied known.entry)) vars.now)) }
+{
+    let mut fault = None;
+    for var in vars {
+        let choice = choice_fault(alloc, var, known)?;
+        fault = first(fault, choice);
+    }
+    Ok(fault)
+}
+
+/// The first of variables that are one too many.
+fn extra_fault(names: &[Name]) -> Option<TypeFault>
+    ensures { result ≡ first_fault (each extra_var names.now) }
+{
+    let mut fault = None;
+    for name in names {
+        fault = first(fault, Some(TypeFault::Variables(name.at)));
+    }
+    fault
+}
+
+/// The variables of a contract in their order, without repeats, and the contract's first fault.
+#[derive(Drop)]
+pub(crate) struct Checked {
+    pub vars: Names,
+    pub fault: Option<TypeFault>,
+}
+
+/// Checks a contract, whose operations are among the known ones where only those are allowed.
+#[tactic(auto, unfolding(crate::specs::ContractFaults::contract_faults), using(crate::proofs::FirstFault::first_append))]
+pub(crate) fn check_contract(
+    alloc: Global,
+    contract: &Contract,
+    known: Option<&Names>,
+    for_txn: bool,
+) -> Result<Checked, NoMemory>
+    ensures vars { IfOk result (λ checked. checked.vars ≡ names_met [] (var_names contract.now.vars)) }
+    ensures fault { IfOk result (λ checked. checked.fault ≡ first_fault (contract_faults (option_copied known.entry) for_txn contract.now)) }
+{
+    let vars = contract.vars.items();
+    let names = names_of(alloc, vars)?;
+    let met = meet(alloc, names.as_slice())?;
+    let choice = choices_fault(alloc, vars, known)?;
+    let body = prop_fault(&contract.body, &met.names, for_txn);
+    let extra = extra_fault(past_limit(names.as_slice()));
+    Ok(Checked {
+        fault: first(met.fault, first(extra, first(choice, body))),
+        vars: met.names,
+    })
+}
+
+/// The names past the most that a contract may have variables.
+fn past_limit(names: &[Name]) -> &[Name]
+    ensures { result.now ≡ drop 5 names.now }
+{
+    &names[MAX_VARIABLES.min(names.len())..]
+}
+
+/// The names of variables, in order.
+fn names_of(alloc: Global, vars: &[Var]) -> Result<Vec<Name>, NoMemory>
+    ensures { IfOk result (λ names. names.items ≡ var_names vars.now) }
+{
+    Ok(vars.iter().map(|var| var.name).collect(alloc)?)
 }

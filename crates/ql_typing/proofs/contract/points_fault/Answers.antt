@@ -1,17 +1,14 @@
-use Rattle.std.proofs.Common.{rules, ◌≡◌, ◌∷◌, [], Option, Some, None, List, ℕ, IfOk, map, drop, option_map, ◌+◌, ◌-◌, ◌*◌, ◌<◌, ◌≤◌, length, ◌/◌, ◌%◌, Bool, true, false, nat_eq, nat_lt, ◌++◌, slice_index_or, slice_set, bit_and, bit_or, Fits, w8, w32, w64, Bor, MutBor}
-use Rattle.ql_base.specs.Numbering.{has_name}
-use Rattle.ql_typing.specs.Faults.{each, first_fault}
-use Rattle.ql_typing.specs.ContractFaults.{choice_faults, contract_faults, extra_var, is_closure, is_known, op_faults, point_faults, prop_faults, rel_faults, var_names}
+use Rattle.ql_typing.specs.ContractFaults.{point_faults}
+use Rattle.ql_typing.proofs.Each.{each_start, each_step, each_end}
 use Rattle.ql_typing.proofs.contract.points_fault.Goals as goal
 
--- src/contract.rt:66:5
 pub loop-point-init : goal.loop-point-init
-loop-point-init c = ?
+loop-point-init c = each_start (point_faults c.args.for_txn c.args.vars.now) c.args.points.now
 
--- src/contract.rt:66:5
 pub loop-point-preserved : goal.loop-point-preserved
-loop-point-preserved c = ?
+loop-point-preserved c =
+    rw (c.first-fault.ensures, c.point_fault.ensures)
+      (each_step (point_faults c.args.for_txn c.args.vars.now) c.args.points.now c.loop-point.fault c.loop-point.point-index c.point-item.result c.loop-point-test.true c.point-item.is c.loop-point.invariant)
 
--- src/contract.rt:62:1
 pub returns : goal.returns
-returns c = ?
+returns c = each_end (point_faults c.args.for_txn c.args.vars.now) c.args.points.now c.loop-point.fault c.loop-point.point-index c.loop-point-test.false c.loop-point.invariant

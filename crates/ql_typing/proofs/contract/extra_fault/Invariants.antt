@@ -1,0 +1,8 @@
+use Rattle.ql_typing.specs.ContractFaults.{extra_var}
+use Rattle.ql_typing.specs.declared.fault.TypeFault.TheVariants.{Variables}
+use Rattle.ql_typing.proofs.FirstFault.{first_single}
+use Rattle.ql_typing.specs.Invariant.{SoFar}
+use Rattle.ql_typing.proofs.contract.extra_fault.Given as goal
+
+abbrev pub invariant-loop-name : goal.invariant-loop-name
+invariant-loop-name l = SoFar (extra_var) l.fault l.name-index l.names
