@@ -1,4 +1,4 @@
-use Rattle.std.proofs.Common.{◌≡◌, ◌<◌, ◌≤◌, ◌+◌, ℕ, List, [], ◌∷◌, ◌++◌, Option, None, Some, length, get_or, drop, refl, sym, ap, ◌∙◌, subst, arith, drop-cons, add-one, suc}
+use Rattle.std.proofs.Common.{◌≡◌, ◌<◌, ◌≤◌, ◌+◌, ℕ, List, [], ◌∷◌, Option, None, length, get_or, drop, refl, sym, ap, ◌∙◌, drop-cons, add-one, suc}
 use Rattle.std.proofs.lemmas.List.{drop_all}
 use Rattle.ql_typing.specs.declared.fault.TypeFault.{TypeFault}
 use Rattle.ql_typing.specs.Faults.{earlier, first_fault, each}

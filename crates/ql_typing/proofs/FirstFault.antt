@@ -1,8 +1,8 @@
-use Rattle.std.proofs.Common.{◌≡◌, ◌≤◌, ◌<◌, ◌+◌, ◌*◌, ℕ, Bool, true, false, ◌&&◌, ◌||◌, nat_eq, nat_lt, List, [], ◌∷◌, ◌++◌, Option, None, Some, if◌then◌else◌, refl, sym, ap, ◌∙◌, arith, ltb-true, ltb-false, lt-ltb}
+use Rattle.std.proofs.Common.{◌≡◌, ◌≤◌, ◌+◌, ◌*◌, ℕ, Bool, true, false, ◌&&◌, ◌||◌, nat_eq, nat_lt, List, [], ◌∷◌, ◌++◌, Option, None, Some, if◌then◌else◌, refl, sym, ap, ◌∙◌, arith, ltb-true, ltb-false, lt-ltb, subst}
 use Rattle.std.proofs.lemmas.Bool.Decides.{nat_tests}
 use Rattle.ql_typing.specs.declared.fault.TypeFault.{TypeFault}
 use Rattle.ql_typing.specs.declared.fault.TypeFault.TheVariants.{Unknown, Twice, Kind, TooMany, TxnClosure, Variables, TxnAtom, NoMemory}
-use Rattle.ql_typing.specs.Faults.{place_of, rule_of, comes_before, earlier, first_fault}
+use Rattle.ql_typing.specs.Faults.{place_of, rule_of, comes_before, earlier, first_fault, IsRefusal}
 
 rule_small : (f : TypeFault) → rule_of f ≤ 7
 rule_small (Unknown at) = omega arith
@@ -75,3 +75,35 @@ first_single f = refl
 pub first_none : first_fault [] ≡ None
 unfolding first_fault
 first_none = refl
+
+earlier-Some : (f : TypeFault) (b : Option TypeFault) → earlier (Some f) b ≡ None → ⊥
+unfolding earlier
+earlier-Some f None h = cc
+earlier-Some f (Some g) h = by (comes_before g f) h
+  where
+    by : (t : Bool) → (if t then Some g else Some f) ≡ None → ⊥
+    by true e = cc
+    by false e = cc
+
+-- a list without a first fault has none
+pub no_fault : (fs : List TypeFault) → first_fault fs ≡ None → fs ≡ []
+unfolding first_fault
+no_fault [] h = refl
+no_fault (f ∷ fs) h = absurd (earlier-Some f (first_fault fs) h)
+
+-- the first fault is a refusal
+pub refusal : (fs : List TypeFault) (f : TypeFault) → first_fault fs ≡ Some f → IsRefusal fs f
+unfolding IsRefusal
+refusal fs (Unknown at) h = h
+refusal fs (Twice at) h = h
+refusal fs (Kind at) h = h
+refusal fs (TooMany at) h = h
+refusal fs (TxnClosure at) h = h
+refusal fs (Variables at) h = h
+refusal fs (TxnAtom at) h = h
+refusal fs NoMemory h = tt
+
+-- and so is want of memory
+pub no_memory : (fs : List TypeFault) (f : TypeFault) → f ≡ NoMemory → IsRefusal fs f
+unfolding IsRefusal
+no_memory fs f e = subst (λ g. IsRefusal fs g) (sym e) tt

@@ -1,3 +1,4 @@
 pub mod FirstFault
 pub mod MetNames
 pub mod Each
+pub mod KeptNames

@@ -1,4 +1,4 @@
-use Rattle.std.proofs.Common.{◌≡◌, ◌<◌, ℕ, List, [], ◌∷◌, ◌++◌, Option, None, Some, length, drop, refl, sym, ap, ◌∙◌, arith}
+use Rattle.std.proofs.Common.{◌≡◌, ℕ, List, [], ◌∷◌, Option, None, refl, sym, ap, ◌∙◌}
 use Rattle.ql_base.specs.Numbering.{has_name, with_name}
 use Rattle.ql_lang.specs.declared.name.Name.{Name}
 use Rattle.ql_typing.specs.declared.fault.TypeFault.{TypeFault}

@@ -1,3 +1,4 @@
 pub mod Faults
 pub mod ContractFaults
 pub mod Invariant
+pub mod Resolved

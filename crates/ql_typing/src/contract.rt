@@ -1,5 +1,6 @@
 ghost use Rattle.std.specs.Prelude.{◌≡◌, ◌∷◌, [], Option, Some, None, List, ℕ, IfOk, map, drop, option_copied};
 ghost use Rattle.ql_base.specs.Numbering.{has_name};
+ghost use Rattle.ql_lang.specs.Trees.{proposition_of, relation_of, sentence_of};
 ghost use Rattle.ql_typing.specs.Faults.{each, first_fault, names_met};
 ghost use Rattle.ql_typing.specs.ContractFaults.{choice_faults, contract_faults, extra_var, is_closure, is_known, op_faults, point_faults, prop_faults, rel_faults, var_names};
 
@@ -20,7 +21,7 @@ fn closes(name: RelName) -> bool
 /// The first closure of a relation in a transaction's contract.
 #[tactic(auto, unfolding(crate::specs::ContractFaults::rel_faults, crate::specs::Faults::first_fault, crate::specs::Faults::earlier), using(crate::proofs::FirstFault::first_append))]
 fn rel_fault(rel: &Rel, for_txn: bool) -> Option<TypeFault>
-    ensures { result ≡ first_fault (rel_faults for_txn rel.now) }
+    ensures { result ≡ first_fault (rel_faults for_txn (relation_of rel.now)) }
 {
     match rel {
         Rel::Base(name, at) => {
@@ -72,7 +73,7 @@ fn points_fault(points: &[Point], vars: &Names, for_txn: bool) -> Option<TypeFau
 /// The first fault of a contract's body, with the variables in scope.
 #[tactic(auto, unfolding(crate::specs::ContractFaults::prop_faults, crate::specs::Faults::first_fault, crate::specs::Faults::earlier), using(crate::proofs::FirstFault::first_append))]
 fn prop_fault(body: &Prop, vars: &Names, for_txn: bool) -> Option<TypeFault>
-    ensures { result ≡ first_fault (prop_faults for_txn vars.now body.now) }
+    ensures { result ≡ first_fault (prop_faults for_txn vars.now (proposition_of body.now)) }
 {
     match body {
         Prop::True => None,
@@ -180,7 +181,7 @@ pub(crate) fn check_contract(
     for_txn: bool,
 ) -> Result<Checked, NoMemory>
     ensures vars { IfOk result (λ checked. checked.vars ≡ names_met [] (var_names contract.now.vars)) }
-    ensures fault { IfOk result (λ checked. checked.fault ≡ first_fault (contract_faults (option_copied known.entry) for_txn contract.now)) }
+    ensures fault { IfOk result (λ checked. checked.fault ≡ first_fault (contract_faults (option_copied known.entry) for_txn (sentence_of contract.now))) }
 {
     let vars = contract.vars.items();
     let names = names_of(alloc, vars)?;

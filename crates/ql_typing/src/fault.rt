@@ -107,12 +107,6 @@ pub(crate) fn first(a: Option<TypeFault>, b: Option<TypeFault>) -> Option<TypeFa
     match (a, b) {
         (None, b) => b,
         (Some(a), None) => Some(a),
-        (Some(a), Some(b)) => {
-            if comes_first(b, a) {
-                Some(b)
-            } else {
-                Some(a)
-            }
-        }
+        (Some(a), Some(b)) => { if comes_first(b, a) { Some(b) } else { Some(a) } }
     }
 }

@@ -3,8 +3,10 @@
 // The one contract: a program is typed exactly where that list is empty, and else its first fault is told.
 #![tactic(auto)]
 
+mod build;
 mod contract;
 mod fault;
 mod names;
 
+pub use build::resolve;
 pub use fault::TypeFault;

@@ -48,5 +48,9 @@ fn meet_one(names: &mut Names, name: &Name) -> Result<Option<TypeFault>, NoMemor
 {
     let known = names.find(name.word.bytes()).is_some();
     put_in(names, &name.word)?;
-    Ok(if known { Some(TypeFault::Twice(name.at)) } else { None })
+    Ok(if known {
+        Some(TypeFault::Twice(name.at))
+    } else {
+        None
+    })
 }

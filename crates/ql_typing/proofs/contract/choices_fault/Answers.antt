@@ -9,7 +9,7 @@ loop-var-init c = each_start (choice_faults (option_copied c.args.known)) c.args
 pub loop-var-preserved : goal.loop-var-preserved
 loop-var-preserved c =
     rw (c.first-fault.ensures, c.in_ok-choice.ensures)
-      (each_step (choice_faults (option_copied c.args.known)) c.args.vars.now c.loop-var.fault c.loop-var.var-index c.var-item.result c.loop-var-test.true c.var-item.is c.loop-var.invariant)
+    (each_step (choice_faults (option_copied c.args.known)) c.args.vars.now c.loop-var.fault c.loop-var.var-index c.var-item.result c.loop-var-test.true c.var-item.is c.loop-var.invariant)
 
 pub returns : goal.returns
 returns c = each_end (choice_faults (option_copied c.args.known)) c.args.vars.now c.loop-var.fault c.loop-var.var-index c.loop-var-test.false c.loop-var.invariant

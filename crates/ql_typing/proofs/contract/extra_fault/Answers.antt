@@ -10,7 +10,7 @@ pub loop-name-preserved : goal.loop-name-preserved
 unfolding extra_var first_fault earlier
 loop-name-preserved c =
     rw c.first-fault.ensures
-      (each_step extra_var c.args.names.now c.loop-name.fault c.loop-name.name-index c.name-item.result c.loop-name-test.true c.name-item.is c.loop-name.invariant)
+    (each_step extra_var c.args.names.now c.loop-name.fault c.loop-name.name-index c.name-item.result c.loop-name-test.true c.name-item.is c.loop-name.invariant)
 
 pub returns : goal.returns
 returns c = each_end (extra_var) c.args.names.now c.loop-name.fault c.loop-name.name-index c.loop-name-test.false c.loop-name.invariant

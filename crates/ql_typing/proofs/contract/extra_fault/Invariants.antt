@@ -1,6 +1,4 @@
 use Rattle.ql_typing.specs.ContractFaults.{extra_var}
-use Rattle.ql_typing.specs.declared.fault.TypeFault.TheVariants.{Variables}
-use Rattle.ql_typing.proofs.FirstFault.{first_single}
 use Rattle.ql_typing.specs.Invariant.{SoFar}
 use Rattle.ql_typing.proofs.contract.extra_fault.Given as goal
 

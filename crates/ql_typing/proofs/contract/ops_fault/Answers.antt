@@ -9,7 +9,7 @@ loop-name-init c = each_start (op_faults (option_copied c.args.known)) c.args.na
 pub loop-name-preserved : goal.loop-name-preserved
 loop-name-preserved c =
     rw (c.first-fault.ensures, c.op_fault.ensures)
-      (each_step (op_faults (option_copied c.args.known)) c.args.names.now c.loop-name.fault c.loop-name.name-index c.name-item.result c.loop-name-test.true c.name-item.is c.loop-name.invariant)
+    (each_step (op_faults (option_copied c.args.known)) c.args.names.now c.loop-name.fault c.loop-name.name-index c.name-item.result c.loop-name-test.true c.name-item.is c.loop-name.invariant)
 
 pub returns : goal.returns
 returns c = each_end (op_faults (option_copied c.args.known)) c.args.names.now c.loop-name.fault c.loop-name.name-index c.loop-name-test.false c.loop-name.invariant

@@ -8,7 +8,7 @@ loop-point-init c = each_start (point_faults c.args.for_txn c.args.vars.now) c.a
 pub loop-point-preserved : goal.loop-point-preserved
 loop-point-preserved c =
     rw (c.first-fault.ensures, c.point_fault.ensures)
-      (each_step (point_faults c.args.for_txn c.args.vars.now) c.args.points.now c.loop-point.fault c.loop-point.point-index c.point-item.result c.loop-point-test.true c.point-item.is c.loop-point.invariant)
+    (each_step (point_faults c.args.for_txn c.args.vars.now) c.args.points.now c.loop-point.fault c.loop-point.point-index c.point-item.result c.loop-point-test.true c.point-item.is c.loop-point.invariant)
 
 pub returns : goal.returns
 returns c = each_end (point_faults c.args.for_txn c.args.vars.now) c.args.points.now c.loop-point.fault c.loop-point.point-index c.loop-point-test.false c.loop-point.invariant

@@ -1,4 +1,4 @@
-use Rattle.std.proofs.Common.{◌≡◌, [], drop, subst}
+use Rattle.std.proofs.Common.{subst}
 use Rattle.ql_typing.specs.Invariant.{IsRest}
 use Rattle.ql_typing.proofs.Each.{next_item, no_item}
 use Rattle.ql_typing.proofs.MetNames.{rest_start, rest_step, rest_end}
@@ -11,8 +11,8 @@ pub loop-name-preserved : goal.loop-name-preserved
 loop-name-preserved c =
     let here = next_item c.args.list.now c.loop-name.name-index c.name-item.result c.loop-name-test.true c.name-item.is in
     rw (c.first-fault.ensures, c.in_ok-twice.ensures.names, c.in_ok-twice.ensures.fault)
-      (rest_step c.loop-name.names c.loop-name.fault c.name-item.result _ c.args.list.now
-        (subst (λ ns. IsRest c.loop-name.names c.loop-name.fault ns c.args.list.now) here c.loop-name.invariant))
+    (rest_step c.loop-name.names c.loop-name.fault c.name-item.result _ c.args.list.now
+    (subst (λ ns. IsRest c.loop-name.names c.loop-name.fault ns c.args.list.now) here c.loop-name.invariant))
 
 pub returns-clause-names : goal.returns-clause-names
 returns-clause-names c = (rest_end c.loop-name.names c.loop-name.fault c.args.list.now

@@ -1,5 +1,4 @@
-use Rattle.std.proofs.Common.{◌≡◌, [], drop}
-use Rattle.ql_typing.specs.Faults.{earlier, first_fault, repeats, names_met}
+use Rattle.std.proofs.Common.{drop}
 use Rattle.ql_typing.specs.Invariant.{IsRest}
 use Rattle.ql_typing.proofs.names.meet.Given as goal
 

@@ -1,0 +1,18 @@
+use Rattle.std.proofs.Common.{◌≡◌, ap, sym, subst, ◌∙◌}
+use Rattle.ql_typing.specs.Resolved.{ops_met}
+use Rattle.ql_typing.proofs.Each.{next_item, no_item}
+use Rattle.ql_typing.proofs.KeptNames.{kept-names_met}
+use Rattle.ql_typing.proofs.build.number_all.Goals as goal
+
+pub loop-var-preserved : goal.loop-var-preserved
+unfolding ops_met
+loop-var-preserved c =
+    let here = next_item c.args.vars.now c.loop-var.var-index c.var-item.result c.loop-var-test.true c.var-item.is in
+    let met = subst (λ vs. ops_met c.loop-var.ops vs ≡ ops_met c.args.ops.now c.args.vars.now) here c.loop-var.invariant.met in
+    rw (c.in_ok-number_each.ensures.numbered, c.items.ensures)
+    (record { kept = kept-names_met c.args.ops.now c.loop-var.ops c.var-item.result.ops c.loop-var.invariant.kept; met = met })
+
+pub returns-clause-numbered : goal.returns-clause-numbered
+unfolding ops_met
+returns-clause-numbered c =
+    ap (λ vs. ops_met c.loop-var.ops vs) (sym (no_item c.args.vars.now c.loop-var.var-index c.loop-var-test.false)) ∙ c.loop-var.invariant.met

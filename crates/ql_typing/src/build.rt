@@ -1,0 +1,230 @@
+ghost use Rattle.std.specs.Prelude.{◌≡◌, [], IfOk, IfErr, OnOk, OnErr, map, take, length, None};
+ghost use Rattle.ql_lang.specs.Formulas.{resolved_of, statement_of};
+ghost use Rattle.ql_lang.specs.Trees.{proposition_of, relation_of, sentence_of};
+ghost use Rattle.ql_typing.specs.Faults.{IsRefusal, names_met};
+ghost use Rattle.ql_typing.specs.ContractFaults.{contract_faults, var_names};
+ghost use Rattle.ql_typing.specs.Resolved.{choice_of, number_in, ops_met, resolved_in, statement_in, term_of, with_numbers};
+
+use crate::contract::check_contract;
+use crate::fault::TypeFault;
+use crate::names::put_in;
+use ql_base::{IdSet, Names, NoMemory, Word};
+use ql_lang::{
+    Body, Choices, Contract, Formula, Name, OpChoice, Point, Prop, Rel, Term, Terms, Var,
+};
+use std::alloc::Global;
+
+/// The formula of a contract. An operation's number is its place in `ops`, where new ones are put at the end.
+#[tactic(auto, unfolding(crate::specs::Faults::IsRefusal))]
+pub fn resolve(
+    alloc: Global,
+    contract: &Contract,
+    ops: &mut Names,
+    for_txn: bool,
+) -> Result<Formula, TypeFault>
+    ensures typed { OnOk result (contract_faults None for_txn (sentence_of contract.now) ≡ []) }
+    ensures numbered { OnOk result (ops.new ≡ ops_met ops.old contract.now.vars) }
+    ensures formula { IfOk result (λ formula. resolved_of formula ≡ resolved_in ops.new (sentence_of contract.now)) }
+    ensures refused { IfErr result (IsRefusal (contract_faults None for_txn (sentence_of contract.now))) }
+    ensures kept { OnErr result (ops.new ≡ ops.old) }
+{
+    let Ok(checked) = check_contract(alloc, contract, None, for_txn) else {
+        return Err(TypeFault::NoMemory);
+    };
+    match checked.fault {
+        Some(fault) => Err(fault),
+        None => match number_or_undo(alloc, contract, &checked.vars, ops) {
+            Ok(formula) => Ok(formula),
+            Err(NoMemory) => Err(TypeFault::NoMemory),
+        },
+    }
+}
+
+/// Puts the operations of a contract in and builds its formula, or leaves them as they were.
+fn number_or_undo(
+    alloc: Global,
+    contract: &Contract,
+    vars: &Names,
+    ops: &mut Names,
+) -> Result<Formula, NoMemory>
+    requires { vars.now ≡ names_met [] (var_names contract.now.vars) }
+    ensures numbered { OnOk result (ops.new ≡ ops_met ops.old contract.now.vars) }
+    ensures formula { IfOk result (λ formula. resolved_of formula ≡ resolved_in ops.new (sentence_of contract.now)) }
+    ensures kept { OnErr result (ops.new ≡ ops.old) }
+{
+    let before = ops.len();
+    match number_and_build(alloc, contract, vars, ops) {
+        Ok(formula) => Ok(formula),
+        Err(NoMemory) => {
+            ops.truncate(before);
+            Err(NoMemory)
+        }
+    }
+}
+
+/// Puts the operations of a contract in, and builds its formula.
+fn number_and_build(
+    alloc: Global,
+    contract: &Contract,
+    vars: &Names,
+    ops: &mut Names,
+) -> Result<Formula, NoMemory>
+    requires { vars.now ≡ names_met [] (var_names contract.now.vars) }
+    ensures numbered { OnOk result (ops.new ≡ ops_met ops.old contract.now.vars) }
+    ensures formula { IfOk result (λ formula. resolved_of formula ≡ resolved_in ops.new (sentence_of contract.now)) }
+    ensures kept { take (length ops.old) ops.new ≡ ops.old }
+{
+    number_all(contract.vars.items(), ops)?;
+    build_formula(alloc, contract, vars, ops)
+}
+
+/// Puts the operations of variables in, one after another.
+fn number_all(vars: &[Var], ops: &mut Names) -> Result<(), NoMemory>
+    ensures numbered { OnOk result (ops.new ≡ ops_met ops.old vars.now) }
+    ensures kept { take (length ops.old) ops.new ≡ ops.old }
+{
+    for var in vars {
+        number_each(var.ops.items(), ops)?;
+    }
+    Ok(())
+}
+
+fn number_each(names: &[Name], ops: &mut Names) -> Result<(), NoMemory>
+    ensures numbered { OnOk result (ops.new ≡ names_met ops.old names.now) }
+    ensures kept { take (length ops.old) ops.new ≡ ops.old }
+{
+    for name in names {
+        put_in(ops, &name.word)?;
+    }
+    Ok(())
+}
+
+/// The formula of a contract, by the places of its variables and the numbers of operations.
+#[tactic(auto, unfolding(crate::specs::Resolved::resolved_in))]
+pub(crate) fn build_formula(
+    alloc: Global,
+    contract: &Contract,
+    vars: &Names,
+    ops: &Names,
+) -> Result<Formula, NoMemory>
+    requires { vars.now ≡ names_met [] (var_names contract.now.vars) }
+    ensures { IfOk result (λ formula. resolved_of formula ≡ resolved_in ops.now (sentence_of contract.now)) }
+{
+    let choices = build_choices(alloc, contract.vars.items(), ops)?;
+    let body = build_body(alloc, &contract.body, vars)?;
+    Ok(Formula {
+        vars: Choices::of(choices),
+        body,
+    })
+}
+
+/// A name's place, where it has one.
+fn number_of(names: &Names, word: &Word) -> u32
+    ensures { result ≡ number_in names.now word.now }
+{
+    names.find(word.bytes()).unwrap_or(0)
+}
+
+fn build_choices(alloc: Global, vars: &[Var], ops: &Names) -> Result<Vec<OpChoice>, NoMemory>
+    ensures { IfOk result (λ choices. choices.items ≡ map (λ v. choice_of ops.now v.ops) vars.now) }
+{
+    let mut choices = Vec::with_capacity(alloc, vars.len())?;
+    for var in vars {
+        let choice = build_choice(alloc, var.ops.items(), ops)?;
+        choices.push(choice)?;
+    }
+    Ok(choices)
+}
+
+fn build_choice(alloc: Global, names: &[Name], ops: &Names) -> Result<OpChoice, NoMemory>
+    ensures { IfOk result (λ choice. choice ≡ choice_of ops.now names.now) }
+{
+    if names.is_empty() {
+        return Ok(OpChoice::Any);
+    }
+    let ids = build_ids(alloc, names, ops)?;
+    Ok(OpChoice::OneOf(ids))
+}
+
+fn build_ids(alloc: Global, names: &[Name], ops: &Names) -> Result<IdSet, NoMemory>
+    ensures { IfOk result (λ ids. ids ≡ with_numbers ops.now [] names.now) }
+{
+    let mut ids = IdSet::new(alloc);
+    for name in names {
+        ids.insert(number_of(ops, &name.word))?;
+    }
+    Ok(ids)
+}
+
+#[tactic(auto, unfolding(crate::specs::Resolved::term_of))]
+fn build_term(point: &Point, vars: &Names) -> Term
+    ensures { result ≡ term_of vars.now point.now }
+{
+    match point {
+        Point::CurAt(_) => Term::Cur,
+        Point::Named(name) => Term::Var(number_of(vars, &name.word)),
+    }
+}
+
+fn build_terms(alloc: Global, points: &[Point], vars: &Names) -> Result<Terms, NoMemory>
+    ensures { IfOk result (λ terms. terms ≡ map (term_of vars.now) points.now) }
+{
+    let mut terms = Vec::with_capacity(alloc, points.len())?;
+    for point in points {
+        terms.push(build_term(point, vars))?;
+    }
+    Ok(Terms::of(terms))
+}
+
+/// A copy of a relation.
+fn copy_rel(alloc: Global, rel: &Rel) -> Result<Rel, NoMemory>
+    ensures { IfOk result (λ copy. relation_of copy ≡ relation_of rel.now) }
+{
+    match rel {
+        Rel::Base(name, at) => Ok(Rel::Base(*name, *at)),
+        Rel::Union(left, right) => {
+            let left = Box::new(alloc, copy_rel(alloc, left)?)?;
+            let right = Box::new(alloc, copy_rel(alloc, right)?)?;
+            Ok(Rel::Union(left, right))
+        }
+        Rel::Inter(left, right) => {
+            let left = Box::new(alloc, copy_rel(alloc, left)?)?;
+            let right = Box::new(alloc, copy_rel(alloc, right)?)?;
+            Ok(Rel::Inter(left, right))
+        }
+    }
+}
+
+/// What a contract says, by the places of its variables.
+#[tactic(auto, unfolding(crate::specs::Resolved::statement_in))]
+fn build_body(alloc: Global, body: &Prop, vars: &Names) -> Result<Body, NoMemory>
+    ensures { IfOk result (λ statement. statement_of statement ≡ statement_in vars.now (proposition_of body.now)) }
+{
+    match body {
+        Prop::True => Ok(Body::True),
+        Prop::Apply(rel, left, right) => {
+            let rel = copy_rel(alloc, rel)?;
+            Ok(Body::Apply(rel, build_term(left, vars), build_term(right, vars)))
+        }
+        Prop::And(left, right) => {
+            let left = Box::new(alloc, build_body(alloc, left, vars)?)?;
+            let right = Box::new(alloc, build_body(alloc, right, vars)?)?;
+            Ok(Body::And(left, right))
+        }
+        Prop::Or(left, right) => {
+            let left = Box::new(alloc, build_body(alloc, left, vars)?)?;
+            let right = Box::new(alloc, build_body(alloc, right, vars)?)?;
+            Ok(Body::Or(left, right))
+        }
+        Prop::Implies(left, right) => {
+            let left = Box::new(alloc, build_body(alloc, left, vars)?)?;
+            let right = Box::new(alloc, build_body(alloc, right, vars)?)?;
+            Ok(Body::Implies(left, right))
+        }
+        Prop::Txn(_, members, others) => {
+            let members = build_terms(alloc, members.items(), vars)?;
+            let others = build_terms(alloc, others.items(), vars)?;
+            Ok(Body::Txn(members, others))
+        }
+    }
+}
