@@ -1,4 +1,4 @@
-use Rattle.std.specs.Prelude.{ℕ, List}
+use Rattle.std.specs.Prelude.{List}
 use Rattle.ql_lang.specs.declared.expression.Expr.{Expr}
 use Rattle.ql_lang.specs.declared.expression.Exprs.{Exprs, out-Exprs}
 
