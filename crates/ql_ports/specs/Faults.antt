@@ -1,5 +1,9 @@
-use Rattle.std.specs.Prelude.{◌≡◌, ℕ, ◌<◌, ◌⊎◌}
+use Rattle.std.specs.Prelude.{◌≡◌, ℕ, suc, ◌<◌, ◌⊎◌, min}
 
 -- a count rose in a call: it is greater after the call, or stands at the end of its range, where every count stays
 abbrev pub Rose : ℕ → ℕ → Type 0
 Rose before after = (before < after) ⊎ (after ≡ 18446744073709551615)
+
+-- a count after one more
+abbrev pub next_count_of : ℕ → ℕ
+next_count_of count = min (suc count) 18446744073709551615

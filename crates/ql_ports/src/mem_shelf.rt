@@ -1,7 +1,7 @@
 ghost use Rattle.std.specs.Prelude.{◌≡◌, ◌≢◌, ◌<◌, ◌≤◌, [], length, take, drop, position};
 ghost use Rattle.ql_ports.specs.Memory.{place_of, is_named, bytes_given};
 
-use crate::faults::next_count;
+use crate::faults::{is_failing_call, next_count};
 use crate::ports::{Failed, Shelf};
 use ql_base::NoMemory;
 use std::alloc::Global;
@@ -20,6 +20,9 @@ pub struct MemShelf {
 }
 
 impl MemShelf {
+    ghost use Rattle.std.specs.Prelude.{◌≤◌, IfOk};
+    ghost use Rattle.ql_ports.specs.MemShelf.{IsNewShelf};
+
     /// A shelf of named files. `piece` is the greatest count of bytes that a fetch gives, and
     /// `failing` has the numbers of the fetches that fail, counted from 1. Of two files with one
     /// name the first counts.
@@ -30,6 +33,7 @@ impl MemShelf {
         failing: Vec<u64>,
     ) -> Result<MemShelf, NoMemory>
         requires { 1 ≤ piece }
+        ensures { IfOk result (IsNewShelf files.items piece failing.items) }
     {
         let counts = vec![in alloc; 0; files.len()]?;
         Ok(MemShelf {
@@ -44,22 +48,38 @@ impl MemShelf {
 }
 
 impl Shelf for MemShelf {
-    ghost use Rattle.std.specs.Prelude.{◌≡◌, ◌≢◌, ◌≤◌, ◌+◌, ℕ, List, [], length, take, drop, IfOk, OnErr, IfSome};
+    ghost use Rattle.std.specs.Prelude.{◌≡◌, ◌≢◌, ◌≤◌, ◌+◌, ℕ, List, [], length, take, drop, IfOk, OnOk, OnErr, IfSome};
+    ghost use Rattle.std.specs.Result.{result_ok};
     ghost use Rattle.ql_ports.specs.Faults.{Rose};
-    ghost use Rattle.ql_ports.specs.Memory.{bytes_under, count_under};
+    ghost use Rattle.ql_ports.specs.MemShelf.{held_of, count_of, fetched, IsFetchedShelf};
 
-    ghost held = { λ shelf name. bytes_under shelf.files.items name };
+    ghost held = { held_of };
 
-    ghost faults = { λ shelf name. count_under shelf.files.items shelf.counts.items shelf.missing name };
+    ghost faults = { count_of };
 
-    fn fetch(&mut self, name: &str, at: u64, into: &mut [u8]) -> Result<usize, Failed> {
+    fn fetch(&mut self, name: &str, at: u64, into: &mut [u8]) -> Result<usize, Failed>
+        // As for every shelf.
+        ensures within { IfOk result (λ count. count ≤ length into.new) }
+        ensures bytes { IfOk result (λ count. IfSome (held_of self.old name.now)
+            (λ whole. take count into.new ≡ take count (drop at whole))) }
+        ensures end { IfOk result (λ count. IfSome (held_of self.old name.now)
+            (λ whole. count ≡ 0 → into.new ≢ [] → length whole ≤ at)) }
+        ensures failed { OnErr result (Rose (count_of self.old name.now) (count_of self.new name.now)) }
+        ensures same_contents { (other : List ℕ) → held_of self.new other ≡ held_of self.old other }
+        ensures counts_stay { (other : List ℕ) → count_of self.old other ≤ count_of self.new other }
+
+        // What this shelf answers.
+        ensures answer { result_ok result ≡ fetched self.old name.now at (length into.new) }
+        ensures no_fault { OnOk result ((other : List ℕ) → count_of self.new other ≡ count_of self.old other) }
+        ensures fetched { IsFetchedShelf self.old self.new }
+    {
         self.fetches = next_count(self.fetches);
         let place = place_named(&self.files, name);
         if place == self.files.len() {
             self.missing = next_count(self.missing);
             return Err(Failed);
         }
-        if self.failing.contains(&self.fetches) {
+        if is_failing_call(&self.failing, self.fetches) {
             self.counts[place] = next_count(self.counts[place]);
             return Err(Failed);
         }

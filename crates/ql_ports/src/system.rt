@@ -1,4 +1,4 @@
-ghost use Rattle.std.specs.Prelude.{◌≡◌, ◌≤◌, length, IfOk};
+ghost use Rattle.std.specs.Prelude.{◌≡◌, ◌≤◌, ℕ, List, length, IfOk};
 
 use crate::faults::next_count;
 use crate::ports::{Failed, Shelf, Sink};
@@ -29,7 +29,9 @@ struct OpenFile<F: Drop> {
 
 impl<R: Files + Drop> FileShelf<R> {
     /// A shelf of the system's files. `alloc` serves the system's calls alone.
-    pub fn new(alloc: Global, system: R) -> FileShelf<R> {
+    pub fn new(alloc: Global, system: R) -> FileShelf<R>
+        ensures no_fault { (name : List ℕ) → ⟦<FileShelf<R> as Shelf>⟧.faults result name ≡ 0 }
+    {
         FileShelf {
             system,
             alloc,
@@ -94,7 +96,9 @@ pub struct StdSink<P: Print + Drop> {
 }
 
 impl<P: Print + Drop> StdSink<P> {
-    pub fn new(system: P) -> StdSink<P> {
+    pub fn new(system: P) -> StdSink<P>
+        ensures no_fault { ⟦<StdSink<P> as Sink>⟧.faults result ≡ 0 }
+    {
         StdSink { system, faults: 0 }
     }
 }
