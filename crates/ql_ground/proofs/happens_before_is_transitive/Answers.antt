@@ -1,0 +1,5 @@
+use Rattle.ql_ground.proofs.Laws.{hb-trans}
+use Rattle.ql_ground.proofs.happens_before_is_transitive.Goals as goal
+
+pub returns : goal.returns
+returns c x e = hb-trans x e

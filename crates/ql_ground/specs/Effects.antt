@@ -1,0 +1,20 @@
+-- Effects, and executions as lists of them.
+use Rattle.std.specs.Prelude.{ℕ, zero, suc, List, Option, None, Some, slice_get}
+
+-- an effect is outside any begun transaction, or inside one: its number and its declared name
+pub data Member : Type 0 where
+  Alone : Member
+  Inside : ℕ → ℕ → Member
+
+-- what the relations and the formulas read of an effect
+pub record Effect : Type 0 where
+  pub object : ℕ
+  pub op : ℕ
+  pub session : ℕ
+  pub member : Member
+  pub seen : List ℕ
+
+-- the effect of a number; the first has number 1
+abbrev pub effect_at : List Effect → ℕ → Option Effect
+effect_at x zero = None
+effect_at x (suc k) = slice_get x k
