@@ -2,3 +2,5 @@ mod Rest
 mod Places
 pub mod Meaning
 pub mod Truth
+pub mod CircuitLemmas
+pub mod CircuitLaws

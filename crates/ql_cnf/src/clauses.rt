@@ -1,6 +1,7 @@
-ghost use Rattle.std.specs.Prelude.{◌≡◌, ℕ, ◌+◌, ◌-◌, ◌^◌, ◌<◌, ◌≤◌, ◌↔◌, ◌&&◌, List, Bool, [], length, slice_get, IfOk, OnOk, OnErr, IfSome, IsNone, is_some, Some, None, MatchBool};
+ghost use Rattle.std.specs.Prelude.{◌≡◌, ℕ, suc, take, ◌+◌, ◌-◌, ◌^◌, ◌<◌, ◌≤◌, ◌↔◌, ◌&&◌, List, Bool, [], length, slice_get, IfOk, OnOk, OnErr, IfSome, IsNone, is_some, Some, None, MatchBool};
 ghost use Rattle.ql_cnf.specs.Literals.{clause_of, HasBothSigns, SameLiterals, IsAscending};
 ghost use Rattle.ql_cnf.specs.Satisfaction.{AreInRange, ClausesInRange, with_clause, all_true, clause_true};
+ghost use Rattle.ql_cnf.specs.Circuits.{yes};
 
 use crate::clause::insert;
 use crate::{Clause, Lit};
@@ -90,6 +91,28 @@ impl Clauses {
         ensures in_range { ClausesInRange self.now.variables self.now.clauses }
     {
         &self.clauses
+    }
+
+    // One more variable, the last; its literal.
+    pub(crate) fn add_variable(&mut self) -> Lit
+        requires { self.old.variables + 1 < 2 ^ 32 }
+        ensures literal { result ≡ yes (suc self.old.variables) }
+        ensures new { self.new ≡ record { variables = suc self.old.variables; clauses = self.old.clauses } }
+    {
+        self.variables += 1;
+        Lit {
+            var: self.variables,
+            positive: true,
+        }
+    }
+
+    // Goes back to fewer variables and clauses.
+    pub(crate) fn truncate(&mut self, variables: u32, len: usize)
+        requires { ClausesInRange variables (take len self.old.clauses) }
+        ensures { self.new ≡ record { variables = variables; clauses = take len self.old.clauses } }
+    {
+        self.variables = variables;
+        self.clauses.truncate(len);
     }
 
     /// How many variables there are.

@@ -6,12 +6,16 @@
 mod assignment;
 mod clause;
 mod clauses;
+mod ground;
 mod lit;
+mod tseitin;
 
 pub use assignment::{Assignment, satisfies};
 pub use clause::Clause;
 pub use clauses::Clauses;
+pub use ground::Ground;
 pub use lit::{Lit, are_in_range};
+pub use tseitin::clausify;
 
 #[cfg(test)]
 mod tests;

@@ -1,0 +1,168 @@
+ghost use Rattle.std.specs.Prelude.{◌≡◌, ℕ, suc, ◌+◌, ◌*◌, ◌^◌, ◌<◌, ◌≤◌, ◌++◌, ◌∷◌, [], List, Bool, false, length, take, IfOk, OnOk, OnErr};
+ghost use Rattle.ql_cnf.specs.Satisfaction.{Satisfies};
+ghost use Rattle.ql_cnf.specs.Circuits.{circuit_of, circuit_true, InputsInRange, gates, output, both_clauses, either_clauses, if_then_clauses, defining, denying, clauses_of, gate_values, yes};
+
+use crate::{Clauses, Ground, Lit};
+use ql_base::NoMemory;
+
+/// Appends clauses that say that the formula is false. Each node that isn't a leaf gets a variable of
+/// its own, after those that are there, children first from left to right, and the clauses that define
+/// it; the last clause is the root's negation.
+pub fn clausify(g: &Ground, c: &mut Clauses) -> Result<(), NoMemory>
+    requires leaves { InputsInRange c.old.variables (circuit_of g.now) }
+    requires variables { c.old.variables + gates (circuit_of g.now) < 2 ^ 32 }
+    requires numbered { length c.old.clauses + 3 * gates (circuit_of g.now) + 1 < 2 ^ 32 }
+    ensures variables { OnOk result (c.new.variables ≡ c.old.variables + gates (circuit_of g.now)) }
+    ensures clauses { OnOk result (c.new.clauses ≡ c.old.clauses ++ clauses_of (denying c.old.variables (circuit_of g.now))) }
+    ensures err { OnErr result (c.new ≡ c.old) }
+
+    // An assignment that satisfied the clauses extends where the formula is false in it; and where all
+    // clauses are satisfied the formula is false.
+    ensures extends { OnOk result ((a : List Bool) → Satisfies a c.old → circuit_true a (circuit_of g.now) ≡ false → Satisfies (a ++ gate_values a (circuit_of g.now)) c.new) }
+    ensures denied { OnOk result ((a : List Bool) → Satisfies a c.new → circuit_true a (circuit_of g.now) ≡ false) }
+{
+    let variables = c.variables();
+    let clauses = c.len() as usize;
+    let answer = deny(g, c);
+    if answer.is_err() {
+        c.truncate(variables, clauses);
+    }
+    answer
+}
+
+// The same, but want of memory may leave more clauses.
+fn deny(g: &Ground, c: &mut Clauses) -> Result<(), NoMemory>
+    requires leaves { InputsInRange c.old.variables (circuit_of g.now) }
+    requires variables { c.old.variables + gates (circuit_of g.now) < 2 ^ 32 }
+    requires numbered { length c.old.clauses + 3 * gates (circuit_of g.now) + 1 < 2 ^ 32 }
+    ensures variables { OnOk result (c.new.variables ≡ c.old.variables + gates (circuit_of g.now)) }
+    ensures clauses { OnOk result (c.new.clauses ≡ c.old.clauses ++ clauses_of (denying c.old.variables (circuit_of g.now))) }
+    ensures kept { OnErr result (take (length c.old.clauses) c.new.clauses ≡ c.old.clauses) }
+{
+    let root = define(g, c)?;
+    c.add(&[root.negated()])?;
+    Ok(())
+}
+
+// Appends the clauses that define the formula's nodes, and answers the literal that stands for it.
+fn define(g: &Ground, c: &mut Clauses) -> Result<Lit, NoMemory>
+    requires leaves { InputsInRange c.old.variables (circuit_of g.now) }
+    requires variables { c.old.variables + gates (circuit_of g.now) < 2 ^ 32 }
+    requires numbered { length c.old.clauses + 3 * gates (circuit_of g.now) < 2 ^ 32 }
+    ensures output { IfOk result (λ x. x ≡ output c.old.variables (circuit_of g.now)) }
+    ensures in_range { IfOk result (λ x. (1 ≤ x.var) × (x.var ≤ c.new.variables)) }
+    ensures variables { OnOk result (c.new.variables ≡ c.old.variables + gates (circuit_of g.now)) }
+    ensures clauses { OnOk result (c.new.clauses ≡ c.old.clauses ++ clauses_of (defining c.old.variables (circuit_of g.now))) }
+    ensures counted { OnOk result (length c.new.clauses ≤ length c.old.clauses + 3 * gates (circuit_of g.now)) }
+    ensures kept { OnErr result (take (length c.old.clauses) c.new.clauses ≡ c.old.clauses) }
+{
+    match g {
+        Ground::True => {
+            let t = c.add_variable();
+            c.add(&[t])?;
+            Ok(t)
+        }
+        Ground::Leaf(lit) => Ok(*lit),
+        Ground::And(left, right) => {
+            let x = define(left, c)?;
+            let y = define(right, c)?;
+            define_both(x, y, c)
+        }
+        Ground::Or(left, right) => {
+            let x = define(left, c)?;
+            let y = define(right, c)?;
+            define_either(x, y, c)
+        }
+        Ground::Implies(left, right) => {
+            let x = define(left, c)?;
+            let y = define(right, c)?;
+            define_if_then(x, y, c)
+        }
+    }
+}
+
+// A new variable that is true exactly where both literals are.
+fn define_both(x: Lit, y: Lit, c: &mut Clauses) -> Result<Lit, NoMemory>
+    requires left { (1 ≤ x.var) × (x.var ≤ c.old.variables) }
+    requires right { (1 ≤ y.var) × (y.var ≤ c.old.variables) }
+    requires variables { c.old.variables + 1 < 2 ^ 32 }
+    requires numbered { length c.old.clauses + 3 < 2 ^ 32 }
+    ensures output { IfOk result (λ t. t ≡ yes (suc c.old.variables)) }
+    ensures variables { OnOk result (c.new.variables ≡ suc c.old.variables) }
+    ensures clauses { OnOk result (c.new.clauses ≡ c.old.clauses ++ clauses_of (both_clauses (suc c.old.variables) x y)) }
+    ensures counted { OnOk result (length c.new.clauses ≤ length c.old.clauses + 3) }
+    ensures kept { OnErr result (take (length c.old.clauses) c.new.clauses ≡ c.old.clauses) }
+{
+    let t = c.add_variable();
+    c.add(&[t.negated(), x])?;
+    c.add(&[t.negated(), y])?;
+    c.add(&[t, x.negated(), y.negated()])?;
+    Ok(t)
+}
+
+// A new variable that is true exactly where one of the literals is.
+fn define_either(x: Lit, y: Lit, c: &mut Clauses) -> Result<Lit, NoMemory>
+    requires left { (1 ≤ x.var) × (x.var ≤ c.old.variables) }
+    requires right { (1 ≤ y.var) × (y.var ≤ c.old.variables) }
+    requires variables { c.old.variables + 1 < 2 ^ 32 }
+    requires numbered { length c.old.clauses + 3 < 2 ^ 32 }
+    ensures output { IfOk result (λ t. t ≡ yes (suc c.old.variables)) }
+    ensures variables { OnOk result (c.new.variables ≡ suc c.old.variables) }
+    ensures clauses { OnOk result (c.new.clauses ≡ c.old.clauses ++ clauses_of (either_clauses (suc c.old.variables) x y)) }
+    ensures counted { OnOk result (length c.new.clauses ≤ length c.old.clauses + 3) }
+    ensures kept { OnErr result (take (length c.old.clauses) c.new.clauses ≡ c.old.clauses) }
+{
+    let t = c.add_variable();
+    c.add(&[t, x.negated()])?;
+    c.add(&[t, y.negated()])?;
+    c.add(&[t.negated(), x, y])?;
+    Ok(t)
+}
+
+// A new variable that is true exactly where the first literal implies the second.
+fn define_if_then(x: Lit, y: Lit, c: &mut Clauses) -> Result<Lit, NoMemory>
+    requires left { (1 ≤ x.var) × (x.var ≤ c.old.variables) }
+    requires right { (1 ≤ y.var) × (y.var ≤ c.old.variables) }
+    requires variables { c.old.variables + 1 < 2 ^ 32 }
+    requires numbered { length c.old.clauses + 3 < 2 ^ 32 }
+    ensures output { IfOk result (λ t. t ≡ yes (suc c.old.variables)) }
+    ensures variables { OnOk result (c.new.variables ≡ suc c.old.variables) }
+    ensures clauses { OnOk result (c.new.clauses ≡ c.old.clauses ++ clauses_of (if_then_clauses (suc c.old.variables) x y)) }
+    ensures counted { OnOk result (length c.new.clauses ≤ length c.old.clauses + 3) }
+    ensures kept { OnErr result (take (length c.old.clauses) c.new.clauses ≡ c.old.clauses) }
+{
+    let t = c.add_variable();
+    c.add(&[t, x])?;
+    c.add(&[t, y.negated()])?;
+    c.add(&[t.negated(), x.negated(), y])?;
+    Ok(t)
+}
+
+#[cfg(test)]
+mod tests {
+    use super::*;
+    use std::alloc::Global;
+
+    fn denied(alloc: Global, g: &Ground, variables: u32) -> Result<Clauses, NoMemory>
+        requires leaves { InputsInRange variables (circuit_of g.now) }
+        requires variables { variables + gates (circuit_of g.now) < 2 ^ 32 }
+        requires numbered { 3 * gates (circuit_of g.now) + 1 < 2 ^ 32 }
+    {
+        let mut clauses = Clauses::new(alloc, variables);
+        clausify(g, &mut clauses)?;
+        Ok(clauses)
+    }
+
+    #[test]
+    fn one_clause_a_gate_and_the_denial(rt: HostRuntime) -> Result<(), NoMemory> {
+        let clauses = denied(rt.alloc(), &Ground::True, 9)?;
+        assert_eq!(rt; clauses.variables(), 10);
+        assert_eq!(rt; clauses.len(), 2);
+        let want = [Lit {
+            var: 10,
+            positive: false,
+        }];
+        assert!(rt; clauses.clause(2).items() == want.as_slice());
+        Ok(())
+    }
+}
