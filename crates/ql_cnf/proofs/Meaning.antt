@@ -1,12 +1,10 @@
 -- What the clause of a list of literals has in it, and when it is true.
-use Rattle.std.proofs.Common.{◌≡◌, ◌≢◌, ℕ, ◌<◌, ◌≤◌, Bool, true, false, cond, not, ◌&&◌, ◌||◌, List, [], ◌∷◌, ◌++◌, Option, Some, None, refl, sym, ◌∙◌, ap, subst, arith}
+use Rattle.std.proofs.Common.{◌≡◌, ℕ, ◌<◌, Bool, true, false, cond, not, ◌&&◌, ◌||◌, List, [], ◌∷◌, Option, Some, None, refl, sym, ◌∙◌, subst, arith}
 use Rattle.std.proofs.lemmas.Bool.Decides.{nat_tests}
 use Rattle.std.specs.Prelude.{nat_lt, ◌==◌, ◌↔◌, MatchOption, IfSome, IsNone, IsTrue}
 use Rattle.std.specs.Bool.{beq}
-use Rattle.std.specs.List.{list_any, list_all}
 use Rattle.std.specs.Option.{option_map, option_and_then}
 use Rattle.ql_cnf.specs.Literals.{negated, same_literal, has_literal, AllAbove, IsAscending, with_literal, with_literals, clause_of, HasBothSigns, SameLiterals}
-use Rattle.ql_cnf.specs.Satisfaction.{value_of, literal_true, clause_true, all_true}
 use Rattle.ql_cnf.specs.declared.lit.Lit.{Lit}
 
 pub AllAbove-lower : (m n : ℕ) (c : List Lit) → m < n → AllAbove n c → AllAbove m c

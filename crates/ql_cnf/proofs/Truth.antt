@@ -2,9 +2,9 @@
 use Rattle.std.proofs.Common.{◌≡◌, ℕ, zero, suc, ◌<◌, ◌≤◌, Bool, true, false, not, ◌&&◌, ◌||◌, List, [], ◌∷◌, ◌++◌, Option, Some, None, length, get_or, refl, sym, ◌∙◌, ap, subst, arith}
 use Rattle.std.proofs.lemmas.List.Elements.{All-push}
 use Rattle.std.proofs.lemmas.List.Folds.{list_all-append, list_any_at}
-use Rattle.std.specs.Prelude.{IfSome, IsTrue}
+use Rattle.std.specs.Prelude.{IfSome}
 use Rattle.std.specs.Bool.{beq}
-use Rattle.std.specs.List.{All, list_any, list_all}
+use Rattle.std.specs.List.{All, list_any}
 use Rattle.ql_cnf.specs.Literals.{negated, same_literal, has_literal, IsAscending, clause_of, HasBothSigns, SameLiterals}
 use Rattle.ql_cnf.specs.Satisfaction.{AreInRange, ClausesInRange, value_of, literal_true, clause_true, all_true}
 use Rattle.ql_cnf.specs.declared.lit.Lit.{Lit}

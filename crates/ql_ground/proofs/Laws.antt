@@ -1,8 +1,8 @@
 -- What the relations of every execution keep.
-use Rattle.std.proofs.Common.{◌≡◌, ℕ, suc, ◌<◌, ◌+◌, Bool, true, false, ◌&&◌, ◌||◌, ◌==◌, nat_lt, ◌⊎◌, inl, inr, List, Option, Some, None, refl, sym, ◌∙◌, ap, arith}
+use Rattle.std.proofs.Common.{◌≡◌, ℕ, ◌<◌, Bool, true, ◌==◌, nat_lt, ◌⊎◌, inl, inr, List, Option, Some, None, refl, sym, ◌∙◌, ap, arith}
 use Rattle.std.proofs.lemmas.Bool.{false≢true, or_cases, or_left, or_right, and_parts, and_from, ltb-true, lt-ltb, eqb-true, eq-eqb, cases_order}
 use Rattle.ql_ground.specs.Effects.{Effect, Member, Alone, Inside, effect_at}
-use Rattle.ql_ground.specs.Relations.{both, one, is_op, in_run, inside, so, vis, sameobj, soo, same_run, sametxn, leads, hbo_step, hb_step, hbo, hb, IsExecution}
+use Rattle.ql_ground.specs.Relations.{both, one, is_op, in_run, inside, so, vis, sameobj, soo, same_run, sametxn, hbo_step, hb_step, hbo, hb, IsExecution}
 use Rattle.ql_ground.proofs.Paths as path
 use Rattle.ql_ground.proofs.Paths.{Path, Path-append, Path-forward, Path-within, leads-path, path-leads}
 
@@ -40,7 +40,7 @@ same-trans key x a b c h g =
     let q = both-pair (λ e f. key e == key f) (effect_at x b) (effect_at x c) g in
     let middle : p.second ≡ q.first = cc (p.second_is, q.first_is) in
     pair-both _ _ _ p.first q.second p.first_is q.second_is
-        (eq-eqb _ _ (eqb-true _ _ p.holds ∙ ap key middle ∙ eqb-true _ _ q.holds))
+    (eq-eqb _ _ (eqb-true _ _ p.holds ∙ ap key middle ∙ eqb-true _ _ q.holds))
 
 -- session order is the same session, and earlier
 abbrev pub session : Effect → ℕ
@@ -68,7 +68,7 @@ so-trans x a b c h g =
 -- two effects of one session are one, or in session order one way or the other
 session-order : (x : List Effect) (a b : ℕ) → same session x a b ≡ true → (so x a b ≡ true) ⊎ ((so x b a ≡ true) ⊎ ((a == b) ≡ true))
 session-order x a b h = elim (cases_order a b) [
-    inl equal ↦ inr (inr (eq-eqb a b equal))
+  | inl equal ↦ inr (inr (eq-eqb a b equal))
   | inr (inl less) ↦ inl (so_from x a b h less)
   | inr (inr more) ↦ inr (inl (so_from x b a (same-sym session x a b h) more))
 ]
@@ -98,7 +98,7 @@ module _ (x : List Effect) (e : IsExecution x) where
 
   hbo-to-hb : (a b : ℕ) → hbo_step x a b ≡ true → hb_step x a b ≡ true
   hbo-to-hb a b h = elim (or_cases (soo x a b) (vis x a b) h) [
-      inl s ↦ or_left (so x a b) (vis x a b) (and_parts (so x a b) (sameobj x a b) s).0
+    | inl s ↦ or_left (so x a b) (vis x a b) (and_parts (so x a b) (sameobj x a b) s).0
     | inr v ↦ or_right (so x a b) (vis x a b) v
   ]
 
@@ -107,7 +107,7 @@ module _ (x : List Effect) (e : IsExecution x) where
 
   hbo-object : (a b : ℕ) → hbo_step x a b ≡ true → sameobj x a b ≡ true
   hbo-object a b h = elim (or_cases (soo x a b) (vis x a b) h) [
-      inl s ↦ (and_parts (so x a b) (sameobj x a b) s).1
+    | inl s ↦ (and_parts (so x a b) (sameobj x a b) s).1
     | inr v ↦ e.sees_own_object a b v
   ]
 
@@ -178,14 +178,14 @@ runs-trans x a b c h g =
     let middle : p.second ≡ q.first = cc (p.second_is, q.first_is) in
     let next : same_run p.second.member q.second.member ≡ true = ap (λ e. same_run e.member q.second.member) middle ∙ q.holds in
     pair-both _ _ _ p.first q.second p.first_is q.second_is
-        (same_run-trans p.first.member p.second.member q.second.member p.holds next)
+    (same_run-trans p.first.member p.second.member q.second.member p.holds next)
 
 pub sametxn-refl : (x : List Effect) (a : ℕ) → sametxn x a a ≡ true
 sametxn-refl x a = or_left (a == a) _ (eq-eqb a a refl)
 
 pub sametxn-sym : (x : List Effect) (a b : ℕ) → sametxn x a b ≡ true → sametxn x b a ≡ true
 sametxn-sym x a b h = elim (or_cases (a == b) _ h) [
-    inl equal ↦ or_left (b == a) _ (eq-eqb b a (sym (eqb-true a b equal)))
+  | inl equal ↦ or_left (b == a) _ (eq-eqb b a (sym (eqb-true a b equal)))
   | inr runs ↦
       let p = both-pair (λ e f. same_run e.member f.member) (effect_at x a) (effect_at x b) runs in
       or_right (b == a) _ (pair-both _ _ _ p.second p.first p.second_is p.first_is (same_run-sym p.first.member p.second.member p.holds))
@@ -194,16 +194,16 @@ sametxn-sym x a b h = elim (or_cases (a == b) _ h) [
 pub sametxn-trans : (x : List Effect) (a b c : ℕ) → sametxn x a b ≡ true → sametxn x b c ≡ true → sametxn x a c ≡ true
 unfolding runs
 sametxn-trans x a b c h g = elim (or_cases (a == b) _ h) [
-    inl first ↦ ap (λ i. sametxn x i c) (eqb-true a b first) ∙ g
+  | inl first ↦ ap (λ i. sametxn x i c) (eqb-true a b first) ∙ g
   | inr run ↦ elim (or_cases (b == c) _ g) [
-        inl second ↦ ap (λ i. sametxn x a i) (sym (eqb-true b c second)) ∙ h
-      | inr next ↦ or_right (a == c) _ (runs-trans x a b c run next)
-    ]
+    | inl second ↦ ap (λ i. sametxn x a i) (sym (eqb-true b c second)) ∙ h
+    | inr next ↦ or_right (a == c) _ (runs-trans x a b c run next)
+  ]
 ]
 
 pub sametxn-order : (x : List Effect) → IsExecution x → (a b : ℕ) → sametxn x a b ≡ true → (so x a b ≡ true) ⊎ ((so x b a ≡ true) ⊎ ((a == b) ≡ true))
 sametxn-order x e a b h = elim (cases_order a b) [
-    inl equal ↦ inr (inr (eq-eqb a b equal))
+  | inl equal ↦ inr (inr (eq-eqb a b equal))
   | inr (inl less) ↦ inl (e.one_session a b less h)
   | inr (inr more) ↦ inr (inl (e.one_session b a more (sametxn-sym x a b h)))
 ]
@@ -217,7 +217,7 @@ inside-sametxn x run a b h g =
 
 pub inside-closed : (x : List Effect) (run a b : ℕ) → inside x run a ≡ true → sametxn x a b ≡ true → inside x run b ≡ true
 inside-closed x run a b h g = elim (or_cases (a == b) _ g) [
-    inl equal ↦ ap (λ i. inside x run i) (sym (eqb-true a b equal)) ∙ h
+  | inl equal ↦ ap (λ i. inside x run i) (sym (eqb-true a b equal)) ∙ h
   | inr run_too ↦
       let p = one-found (λ e. in_run run e.member) (effect_at x a) h in
       let q = both-pair (λ e f. same_run e.member f.member) (effect_at x a) (effect_at x b) run_too in

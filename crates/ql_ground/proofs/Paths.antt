@@ -1,5 +1,5 @@
 -- Chains of steps as paths: what `leads` means.
-use Rattle.std.proofs.Common.{◌≡◌, ℕ, zero, suc, ◌+◌, ◌<◌, ◌≤◌, Bool, true, false, ◌&&◌, ◌||◌, ◌⊎◌, inl, inr, refl, sym, ◌∙◌, ap, arith}
+use Rattle.std.proofs.Common.{◌≡◌, ℕ, zero, suc, ◌<◌, ◌≤◌, Bool, true, ◌&&◌, inl, inr, ◌∙◌, ap, arith}
 use Rattle.std.proofs.lemmas.Bool.{cases_lt, false≢true, or_cases, or_left, or_right, and_parts, and_from}
 use Rattle.ql_ground.specs.Relations.{some_below, leads_in, leads}
 
@@ -25,21 +25,21 @@ Path-within R has join (more p h) = join _ _ _ (Path-within R has join p) (has _
 some_below-found : (n : ℕ) (test : ℕ → Bool) (c : ℕ) → c < n → test c ≡ true → some_below n test ≡ true
 some_below-found zero test c l h = absurd (omega arith)
 some_below-found (suc n) test c l h = elim (cases_lt c n) [
-    inl lt ↦ or_right (test n) _ (some_below-found n test c lt h)
+  | inl lt ↦ or_right (test n) _ (some_below-found n test c lt h)
   | inr ge ↦ or_left (test n) _ (ap test (omega arith) ∙ h)
 ]
 
 some_below-means : (n : ℕ) (test : ℕ → Bool) → some_below n test ≡ true → (c : ℕ) × (c < n) × (test c ≡ true)
 some_below-means zero test h = absurd (false≢true h)
 some_below-means (suc n) test h = elim (or_cases (test n) _ h) [
-    inl here ↦ (n, omega arith, here)
+  | inl here ↦ (n, omega arith, here)
   | inr below ↦ let found : (c : ℕ) × (c < n) × (test c ≡ true) = some_below-means n test below in (found.0, omega arith, found.2)
 ]
 
 leads_in-path : (step : ℕ → ℕ → Bool) (k a b : ℕ) → leads_in step k a b ≡ true → Path step a b
 leads_in-path step zero a b h = absurd (false≢true h)
 leads_in-path step (suc k) a b h = elim (or_cases (step a b) _ h) [
-    inl direct ↦ one direct
+  | inl direct ↦ one direct
   | inr longer ↦
       let found : (c : ℕ) × (c < b) × ((leads_in step k a c && step c b) ≡ true) = some_below-means b (λ c. leads_in step k a c && step c b) longer in
       let parts = and_parts (leads_in step k a found.0) (step found.0 b) found.2 in

@@ -1,5 +1,5 @@
 -- Effects, and executions as lists of them.
-use Rattle.std.specs.Prelude.{ℕ, zero, suc, List, Option, None, Some, slice_get}
+use Rattle.std.specs.Prelude.{ℕ, zero, suc, List, Option, None, slice_get}
 
 -- an effect is outside any begun transaction, or inside one: its number and its declared name
 pub data Member : Type 0 where

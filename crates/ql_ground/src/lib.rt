@@ -8,5 +8,4 @@ ghost use Rattle.ql_ground.specs.Relations.{IsExecution, hb};
 /// Happens-before is transitive in every execution.
 pub fn happens_before_is_transitive()
     ensures { (x : List Effect) → IsExecution x → (a b c : ℕ) → hb x a b ≡ true → hb x b c ≡ true → hb x a c ≡ true }
-{
-}
+{}

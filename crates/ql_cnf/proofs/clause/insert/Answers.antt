@@ -1,4 +1,4 @@
-use Rattle.std.proofs.Common.{◌≡◌, ◌≤◌, ◌<◌, length, arith, sym}
+use Rattle.std.proofs.Common.{◌≡◌, arith}
 use Rattle.ql_cnf.specs.Literals.{count_below}
 use Rattle.ql_cnf.proofs.Places.{count_below-length, IsFreeAt, free_from_read, with_literal-new, there}
 use Rattle.ql_cnf.proofs.clause.insert.Goals as goal

@@ -1,4 +1,4 @@
-use Rattle.std.proofs.Common.{arith, ◌<◌, ◌≤◌, suc, ◌-◌, length}
+use Rattle.std.proofs.Common.{arith, ◌≤◌, suc, ◌-◌}
 use Rattle.ql_cnf.specs.Literals.{count_below}
 use Rattle.ql_cnf.proofs.Places.{count_below-length, count_below-le, count_below-ge}
 use Rattle.ql_cnf.proofs.clause.place_of.Goals as goal
