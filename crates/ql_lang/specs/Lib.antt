@@ -1,3 +1,4 @@
 pub mod Trees
 pub mod Formulas
 pub mod Arguments
+pub mod Expressions

@@ -1,5 +1,4 @@
 use Rattle.std.specs.Prelude.{ℕ, List}
-use Rattle.ql_lang.specs.declared.name.Name.{Name}
 use Rattle.ql_lang.specs.declared.relation.RelName.{RelName}
 use Rattle.ql_lang.specs.declared.relation.Rel.{Rel, Base, Union', Inter'}
 use Rattle.ql_lang.specs.declared.contract.Point.{Point}

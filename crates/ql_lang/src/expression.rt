@@ -1,4 +1,6 @@
 ghost use Rattle.std.specs.Prelude.{◌≡◌};
+ghost use Rattle.ql_lang.specs.Arguments.{arguments};
+ghost use Rattle.ql_lang.specs.Expressions.{operands_in, operands_of};
 
 use crate::name::Name;
 use std::marker::Model;
@@ -35,15 +37,22 @@ pub struct Exprs {
 }
 
 impl Exprs {
-    pub fn of(items: Vec<Expr>) -> Exprs {
+    pub fn of(items: Vec<Expr>) -> Exprs
+        ensures { arguments result ≡ items.items }
+    {
         Exprs { items }
     }
 
-    pub fn items(&self) -> &[Expr] {
+    pub fn items(&self) -> &[Expr]
+        ensures same { result.now ≡ arguments self.now }
+        ensures operands { operands_of result.now ≡ operands_in self.now }
+    {
         self.items.as_slice()
     }
 
-    pub fn into_items(self) -> Vec<Expr> {
+    pub fn into_items(self) -> Vec<Expr>
+        ensures { result.items ≡ arguments self }
+    {
         self.items
     }
 }
