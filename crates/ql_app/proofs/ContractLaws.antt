@@ -21,7 +21,7 @@ use Rattle.ql_app.specs.Contract.{relation_text, term_text, name_text, applicati
 
 -- ---- names
 
-pub name_takes : ItemTakes name_at name_text MayBeNamed
+pub name_takes : ItemTakes name_at (λ _. name_text) MayBeNamed
 unfolding name_at
 name_takes names bytes v rest e =
     let a = bind_some (letter_at bytes) (λ (x : ℕ × List ℕ). cond (ltb (length names) 3 && not (is_named names x.0)) (Some x) None) (v, rest) e in
@@ -30,7 +30,7 @@ name_takes names bytes v rest e =
     let t = and_parts (ltb (length names) 3) (not (is_named names a.0.0)) g.0 in
     subst (λ (x : ℕ × List ℕ). (bytes ≡ name_text x.0 ++ x.1) × MayBeNamed names x.0) (same_Some a.0 (v, rest) g.1) (l.0, (l.1, ltb-true (length names) 3 t.0, t.1))
 
-name_again : ItemAgain name_at name_text MayBeNamed (λ _. Unit {0})
+name_again : ItemAgain name_at (λ _. name_text) MayBeNamed (λ _. Unit {0})
 unfolding name_at
 name_again names v rest may h =
     rw (letter_again v rest may.0, and_from (ltb (length names) 3) (not (is_named names v)) (lt-ltb (length names) 3 may.1) may.2) refl

@@ -1,1 +1,2 @@
 pub mod ContractLaws
+pub mod SeenLaws

@@ -1,4 +1,6 @@
 pub mod Words
 pub mod Contract
+pub mod EffectLine
+pub mod Truth
 pub mod HoldsFile
 pub mod Outcome

@@ -5,8 +5,10 @@
 
 mod contract;
 mod contract_text;
+mod effect_line;
 mod outcome;
 mod program;
+mod question;
 mod status;
 mod words;
 

@@ -10,7 +10,12 @@ more_items before item_at xs bytes = items_within (length bytes) before item_at 
 unfoldable pub separated_items : {X : Type 0} → List ℕ → (List X → List ℕ → Option (X × List ℕ)) → List ℕ → Option (List X × List ℕ)
 separated_items between item_at bytes = item_at [] bytes >>= λ x. more_items between item_at (x.0 ∷ []) x.1
 
--- the spellings of the items, each behind the text `before`
+-- the spellings of the items, each behind the text `before`, where a spelling may depend on the items before it
+abbrev pub spelled_after : {X : Type 0} → List ℕ → (List X → X → List ℕ) → List X → List X → List ℕ
+spelled_after before spell earlier [] = []
+spelled_after before spell earlier (x ∷ xs) = before ++ spell earlier x ++ spelled_after before spell (earlier ++ x ∷ []) xs
+
+-- the same, where no spelling depends on others
 abbrev pub spelled_behind : {X : Type 0} → List ℕ → (X → List ℕ) → List X → List ℕ
 spelled_behind before spell [] = []
 spelled_behind before spell (x ∷ xs) = before ++ spell x ++ spelled_behind before spell xs

@@ -21,14 +21,14 @@ returns-in_default-application c =
 pub loop-behind-smaller : goal.loop-behind-smaller
 loop-behind-smaller c =
     let behind = c.in-Some-literal.behind.now in
-    let shorter = item_shortens (λ _. application_at c.args.names.now) application_text (λ _ a. AreBound c.args.names.now a) (λ _. application_takes c.args.names.now) c.loop-behind.applications.items behind c.in-Some-application.next c.in-Some-application.after.now (sym c.in-Some-application.ensures) in
+    let shorter = item_shortens (λ _. application_at c.args.names.now) (λ _. application_text) (λ _ a. AreBound c.args.names.now a) (λ _. application_takes c.args.names.now) c.loop-behind.applications.items behind c.in-Some-application.next c.in-Some-application.after.now (sym c.in-Some-application.ensures) in
     omega (arith, literal_shortens (codes " /\\ ") c.loop-behind.rest.now behind (sym c.in-Some-literal.ensures), shorter)
 
 pub loop-behind-preserved : goal.loop-behind-preserved
 loop-behind-preserved c =
     let behind = c.in-Some-literal.behind.now in
     let item = sym c.in-Some-application.ensures in
-    let shorter = item_shortens (λ _. application_at c.args.names.now) application_text (λ _ a. AreBound c.args.names.now a) (λ _. application_takes c.args.names.now) c.loop-behind.applications.items behind c.in-Some-application.next c.in-Some-application.after.now item in
+    let shorter = item_shortens (λ _. application_at c.args.names.now) (λ _. application_text) (λ _ a. AreBound c.args.names.now a) (λ _. application_takes c.args.names.now) c.loop-behind.applications.items behind c.in-Some-application.next c.in-Some-application.after.now item in
     rw c.in_ok-push.ensures.items (turns (codes " /\\ ") (λ _. application_at c.args.names.now) c.loop-behind.applications.items c.loop-behind.rest.now behind c.in-Some-application.next c.in-Some-application.after.now (separated_items (codes " /\\ ") (λ _. application_at c.args.names.now) c.args.bytes.now) (omega arith) (sym c.in-Some-literal.ensures) item shorter c.loop-behind.invariant)
 
 pub returns : goal.returns

@@ -22,14 +22,14 @@ pub loop-behind-smaller : goal.loop-behind-smaller
 loop-behind-smaller c =
     let behind = c.in-Some-literal.behind.now in
     let item = ap (λ (before : List ℕ). name_at before behind) (sym c.as_slice.ensures.value) ∙ sym c.in-Some-name.ensures in
-    let shorter = item_shortens name_at name_text MayBeNamed name_takes c.loop-behind.names.items behind c.in-Some-name.next c.in-Some-name.after.now item in
+    let shorter = item_shortens name_at (λ _. name_text) MayBeNamed name_takes c.loop-behind.names.items behind c.in-Some-name.next c.in-Some-name.after.now item in
     omega (arith, literal_shortens (codes ", ") c.loop-behind.rest.now behind (sym c.in-Some-literal.ensures), shorter)
 
 pub loop-behind-preserved : goal.loop-behind-preserved
 loop-behind-preserved c =
     let behind = c.in-Some-literal.behind.now in
     let item = ap (λ (before : List ℕ). name_at before behind) (sym c.as_slice.ensures.value) ∙ sym c.in-Some-name.ensures in
-    let shorter = item_shortens name_at name_text MayBeNamed name_takes c.loop-behind.names.items behind c.in-Some-name.next c.in-Some-name.after.now item in
+    let shorter = item_shortens name_at (λ _. name_text) MayBeNamed name_takes c.loop-behind.names.items behind c.in-Some-name.next c.in-Some-name.after.now item in
     rw c.in_ok-push.ensures.items (turns (codes ", ") name_at c.loop-behind.names.items c.loop-behind.rest.now behind c.in-Some-name.next c.in-Some-name.after.now (separated_items (codes ", ") name_at c.args.bytes.now) (omega arith) (sym c.in-Some-literal.ensures) item shorter c.loop-behind.invariant)
 
 pub returns : goal.returns
