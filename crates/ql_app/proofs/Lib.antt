@@ -1,2 +1,3 @@
 pub mod ContractLaws
 pub mod SeenLaws
+pub mod EffectLaws

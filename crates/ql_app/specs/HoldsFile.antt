@@ -2,6 +2,7 @@
 use Rattle.std.specs.Prelude.{◌≡◌, ℕ, suc, ◌≤◌, List, [], ◌∷◌, ◌++◌, length, ◌&&◌, ◌==◌, Option, Some, None, nat_le, if◌then◌else◌, codes, decimal}
 use Rattle.ql_text.specs.Reading.{◌>>=◌, literal_at, number_at, before_text}
 use Rattle.ql_text.specs.Items.{more_items, EachMayFollow}
+use Rattle.ql_app.specs.declared.contract.Contract.{Contract}
 use Rattle.ql_app.specs.declared.question.Question.{Question}
 use Rattle.ql_app.specs.declared.status.Status.{Status}
 use Rattle.ql_app.specs.declared.status.Status.TheVariants.{Done, No, Bad, ReadFault, WriteFault, Usage, TooLarge}
@@ -22,10 +23,13 @@ pub record Fits (q : Question) : Type 0 where
 abbrev pub Asks : List ℕ → Question → Type 0
 Asks bytes q = Fits q × (bytes ≡ question_text q)
 
+-- the line of the contract, and the word of the next one
+unfoldable pub asked_contract_at : List ℕ → Option (Contract × List ℕ)
+asked_contract_at bytes = literal_at (codes "contract ") bytes >>= λ start. before_text contract_at (codes "\nat ") start
+
 unfoldable pub question_at : List ℕ → Option Question
 question_at bytes = do
-  start ← literal_at (codes "contract ") bytes
-  contract ← before_text contract_at (codes "\nat ") start
+  contract ← asked_contract_at bytes
   at ← before_text (number_at 200) (codes "\n") contract.1
   effects ← before_text (more_items (codes "effect ") effect_line_at []) (codes "end\n") at.1
   if nat_le 1 at.0 && nat_le at.0 (length effects.0) && (length effects.1 == 0)

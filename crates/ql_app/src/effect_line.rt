@@ -10,8 +10,10 @@ use ql_exec::{Draft, ExecFault, Execution};
 use ql_text::{ParseError, letter_before, literal, number, number_before};
 use std::alloc::Global;
 
-// The greatest number of effects, and of a session.
-const MOST_EFFECTS: u32 = 200;
+/// The greatest number of effects.
+pub const MOST_EFFECTS: u32 = 200;
+
+// The greatest session.
 const MOST_SESSION: u32 = 255;
 
 /// The effects at the front, each on a line of its own, and what stands behind them.

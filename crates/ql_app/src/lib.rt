@@ -9,6 +9,7 @@ mod effect_line;
 mod outcome;
 mod program;
 mod question;
+mod question_text;
 mod status;
 mod words;
 

@@ -2,6 +2,9 @@
 use Rattle.std.proofs.Common.{◌≡◌, ℕ, zero, suc, ◌<◌, ◌≤◌, List, [], ◌∷◌, ◌++◌, length, Option, Some, None, refl, sym, ◌∙◌, arith}
 use Rattle.ql_text.specs.Reading.{◌>>=◌, literal_at, items_within}
 use Rattle.ql_text.specs.Items.{more_items, separated_items}
+use Rattle.ql_text.specs.Answers.{Refuses}
+use Rattle.ql_text.specs.declared.parse_error.ParseError.{ParseError}
+use Rattle.ql_text.specs.declared.parse_error.ParseError.TheVariants.{Malformed, NoMemory}
 use Rattle.ql_text.proofs.Texts.{literal_shortens}
 
 -- the items so far and the bytes that are left lead to the whole answer
@@ -50,3 +53,8 @@ module _ {X : Type 0} (before : List ℕ) (item_at : List X → List ℕ → Opt
   pub separated_fails : (bytes : List ℕ) → item_at [] bytes ≡ None → separated_items before item_at bytes ≡ None
   unfolding separated_items
   separated_fails bytes e = rw e refl
+
+  -- a loop whose turn refuses ends with that refusal
+  pub refuses : (error : ParseError) (xs : List X) (bytes behind : List ℕ) (whole : Option (List X × List ℕ)) → 0 < length before → literal_at before bytes ≡ Some behind → Refuses error (item_at xs behind) → GoesOn before item_at xs bytes whole → Refuses error whole
+  refuses Malformed xs bytes behind whole some e no_item g = fails xs bytes behind whole some e no_item g
+  refuses NoMemory xs bytes behind whole some e no_item g = tt
