@@ -2,15 +2,14 @@
 use Rattle.std.proofs.Common.{◌≡◌, ◌⊎◌, inl, inr, ℕ, ◌<◌, Bool, true, false, cond, not, ◌&&◌, eqb, ltb, List, [], ◌∷◌, ◌++◌, length, Option, Some, None, refl, sym, ap, subst, ◌∙◌, append_assoc, codes, arith}
 use Rattle.std.specs.Option.{option_map_or}
 use Rattle.std.specs.List.{AllByRecursion}
-use Rattle.std.specs.Char.{is_ascii_lowercase}
-use Rattle.std.proofs.lemmas.Bool.{and_parts, and_from, ltb-true, lt-ltb, eqb-false}
+use Rattle.std.proofs.lemmas.Bool.{and_parts, and_from, ltb-true, lt-ltb}
 use Rattle.std.proofs.lemmas.Option.{some_pair_parts, same_Some}
 use Rattle.ql_text.specs.Reading.{◌>>=◌, literal_at, letter_at, before_text}
 use Rattle.ql_text.specs.Items.{separated_items, separated, EachMayFollow}
 use Rattle.ql_text.proofs.Texts.{passed, literal_takes, literal_again}
 use Rattle.ql_text.proofs.Steps.{bind_some, before_text_takes, before_text_again}
 use Rattle.ql_text.proofs.Letters.{letter_takes, letter_again}
-use Rattle.ql_text.proofs.ItemLaws.{ItemTakes, ItemAgain, item_shortens, separated_take, separated_again}
+use Rattle.ql_text.proofs.ItemLaws.{ItemTakes, ItemAgain, separated_take, separated_again}
 use Rattle.ql_app.specs.declared.contract.Term.{Term}
 use Rattle.ql_app.specs.declared.contract.Term.TheVariants.{Variable, Current}
 use Rattle.ql_app.specs.declared.contract.Relation.{Relation}

@@ -1,11 +1,11 @@
 -- The laws of an effect's text: what is read is spelled so and may follow, and what may follow is read.
-use Rattle.std.proofs.Common.{◌≡◌, ℕ, suc, ◌+◌, ◌<◌, ◌≤◌, ◌^◌, Bool, true, false, cond, ◌&&◌, eqb, ltb, List, [], ◌∷◌, ◌++◌, length, Option, Some, None, is_none, refl, sym, ap, subst, ◌∙◌, append_assoc, codes, decimal, eq-eqb, arith}
+use Rattle.std.proofs.Common.{◌≡◌, ℕ, suc, ◌≤◌, true, cond, ◌&&◌, eqb, ltb, List, [], ◌∷◌, ◌++◌, length, Option, Some, None, is_none, refl, sym, ap, subst, ◌∙◌, append_assoc, codes, decimal, eq-eqb, arith}
 use Rattle.std.specs.Char.{is_ascii_lowercase}
 use Rattle.std.specs.List.{AllByRecursion}
-use Rattle.std.proofs.lemmas.Bool.{and_parts, and_from, eqb-true, ltb-true, lt-ltb}
+use Rattle.std.proofs.lemmas.Bool.{and_parts, eqb-true, ltb-true, lt-ltb}
 use Rattle.std.proofs.lemmas.Option.{same_Some}
-use Rattle.ql_base.specs.IdLists.{IsAscending, has_id}
-use Rattle.ql_text.specs.Reading.{◌>>=◌, literal_at, letter_at, number_at, before_text}
+use Rattle.ql_base.specs.IdLists.{IsAscending}
+use Rattle.ql_text.specs.Reading.{◌>>=◌, letter_at, number_at, before_text}
 use Rattle.ql_text.specs.Items.{spelled_behind}
 use Rattle.ql_text.proofs.Texts.{passed}
 use Rattle.ql_text.proofs.Steps.{bind_some, before_text_takes, before_text_again}
@@ -14,7 +14,7 @@ use Rattle.ql_text.proofs.Numbers.{number_takes, number_again}
 use Rattle.ql_text.proofs.ItemLaws.{ItemTakes, ItemAgain}
 use Rattle.ql_exec.specs.declared.effect.Effect.{Effect}
 use Rattle.ql_exec.specs.declared.effect.Draft.{Draft}
-use Rattle.ql_exec.specs.Execution.{SeesEarlier, fault_of, effect_of}
+use Rattle.ql_exec.specs.Execution.{fault_of, effect_of}
 use Rattle.ql_exec.proofs.Law.{fault_of-None}
 use Rattle.ql_app.specs.EffectLine.{effect_fields, effect_text, MayFollow, seen_at, draft_at, effect_line_at}
 use Rattle.ql_app.proofs.SeenLaws.{seen_takes, seen_again, all_from_has}
@@ -47,9 +47,9 @@ draft_takes bytes d rest e =
     let vt = seen_takes s.0.1 v.0.0 v.0.1 v.1 in
     let made : Draft × List ℕ = (record { object = record { 0 = o.0.0 }; op = record { 0 = p.0.0 }; session = record { 0 = s.0.0 }; seen = v.0.0 }, v.0.1) in
     let whole : bytes ≡ behind_fields made.0 made.1 =
-        ot.0 ∙ ap (λ (w : List ℕ). o.0.0 ∷ (codes " " ++ w)) (pt.0 ∙ ap (λ (w : List ℕ). p.0.0 ∷ (codes " session " ++ w)) (st.0 ∙ ap (λ (w : List ℕ). decimal s.0.0 ++ (codes " vis" ++ w)) vt.0)) in
+    ot.0 ∙ ap (λ (w : List ℕ). o.0.0 ∷ (codes " " ++ w)) (pt.0 ∙ ap (λ (w : List ℕ). p.0.0 ∷ (codes " session " ++ w)) (st.0 ∙ ap (λ (w : List ℕ). decimal s.0.0 ++ (codes " vis" ++ w)) vt.0)) in
     subst (λ (x : Draft × List ℕ). (bytes ≡ effect_fields (effect_of [] x.0) ++ x.1) × FitsLine x.0) (same_Some made (d, rest) v.2)
-        (whole ∙ sym (fields_behind made.0 made.1), record { object = ot.1; op = pt.1; session = st.1; seen = vt.1 })
+    (whole ∙ sym (fields_behind made.0 made.1), record { object = ot.1; op = pt.1; session = st.1; seen = vt.1 })
 
 draft_again : (d : Draft) (rest : List ℕ) → FitsLine d → AllByRecursion (λ id. id ≤ 200) d.seen → draft_at (effect_fields (effect_of [] d) ++ rest) ≡ Some (d, rest)
 unfolding draft_at behind_fields
@@ -60,10 +60,12 @@ draft_again d rest fits all =
     let object = d.object.0 ∷ (codes " " ++ op) in
     let le = fits.session in
     ap draft_at (fields_behind d rest)
-    ∙ rw (before_text_again letter_at (codes " ") object d.object.0 op (letter_again d.object.0 (codes " " ++ op) fits.object),
-          before_text_again letter_at (codes " session ") op d.op.0 session (letter_again d.op.0 (codes " session " ++ session) fits.op),
-          before_text_again (number_at 255) (codes " vis") session d.session.0 seen (number_again 255 d.session.0 (codes " vis" ++ seen) le (omega arith) refl),
-          seen_again d.seen rest fits.seen all) refl
+    ∙ rw (
+      before_text_again letter_at (codes " ") object d.object.0 op (letter_again d.object.0 (codes " " ++ op) fits.object),
+      before_text_again letter_at (codes " session ") op d.op.0 session (letter_again d.op.0 (codes " session " ++ session) fits.op),
+      before_text_again (number_at 255) (codes " vis") session d.session.0 seen (number_again 255 d.session.0 (codes " vis" ++ seen) le (omega arith) refl),
+      seen_again d.seen rest fits.seen all,
+    ) refl
 
 is_nothing : {A : Type 0} (o : Option A) → is_none o ≡ true → o ≡ None
 is_nothing None e = refl
@@ -91,11 +93,11 @@ effect_takes earlier bytes e rest h =
     let f = draft_takes a.0.1 d b.0.1 b.1 in
     let id : a.0.0 ≡ suc (length earlier) = eqb-true a.0.0 (suc (length earlier)) u.1 in
     let whole : bytes ≡ effect_text earlier (effect_of earlier d) ++ b.0.1 =
-        n.0 ∙ ap (λ (k : ℕ). decimal k ++ (codes " " ++ a.0.1)) id ∙ ap (λ (w : List ℕ). decimal (suc (length earlier)) ++ (codes " " ++ w)) f.0
-        ∙ sym (three (decimal (suc (length earlier))) (codes " ") (effect_fields (effect_of earlier d)) b.0.1) in
+    n.0 ∙ ap (λ (k : ℕ). decimal k ++ (codes " " ++ a.0.1)) id ∙ ap (λ (w : List ℕ). decimal (suc (length earlier)) ++ (codes " " ++ w)) f.0
+    ∙ sym (three (decimal (suc (length earlier))) (codes " ") (effect_fields (effect_of earlier d)) b.0.1) in
     let sees = (fault_of-None earlier d f.1.seen).0 (is_nothing (fault_of earlier d) t.1) in
     subst (λ (x : Effect × List ℕ). (bytes ≡ effect_text earlier x.0 ++ x.1) × MayFollow earlier x.0) (same_Some (effect_of earlier d, b.0.1) (e, rest) g.1)
-        (whole, record { few = ltb-true (length earlier) 200 u.0; object = f.1.object; op = f.1.op; session = f.1.session; seen = sees })
+    (whole, record { few = ltb-true (length earlier) 200 u.0; object = f.1.object; op = f.1.op; session = f.1.session; seen = sees })
 
 pub effect_again : ItemAgain effect_line_at effect_text MayFollow (λ _. Unit {0})
 unfolding effect_line_at draft_of
@@ -108,5 +110,10 @@ effect_again earlier e rest may h =
     let none : fault_of earlier d ≡ None = (fault_of-None earlier d may.seen.1).1 may.seen in
     let fits : FitsLine d = record { object = may.object; op = may.op; session = may.session; seen = may.seen.1 } in
     ap (effect_line_at earlier) (three (decimal id) (codes " ") (effect_fields e) rest)
-    ∙ rw (before_text_again (number_at 200) (codes " ") (decimal id ++ (codes " " ++ behind)) id behind (number_again 200 id (codes " " ++ behind) (omega arith) (omega arith) refl),
-          draft_again d rest fits small, lt-ltb (length earlier) 200 few, eq-eqb id id refl, none) refl
+    ∙ rw (
+      before_text_again (number_at 200) (codes " ") (decimal id ++ (codes " " ++ behind)) id behind (number_again 200 id (codes " " ++ behind) (omega arith) (omega arith) refl),
+      draft_again d rest fits small,
+      lt-ltb (length earlier) 200 few,
+      eq-eqb id id refl,
+      none,
+    ) refl

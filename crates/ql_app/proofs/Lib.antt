@@ -1,3 +1,6 @@
 pub mod ContractLaws
 pub mod SeenLaws
 pub mod EffectLaws
+pub mod QuestionLaws
+pub mod SearchLaws
+pub mod OutcomeLaws

@@ -1,11 +1,11 @@
 -- The laws of a list of seen ids: what is read is spelled so and ascends, and what ascends is read.
-use Rattle.std.proofs.Common.{◌≡◌, inl, inr, ℕ, zero, suc, ◌+◌, ◌-◌, ◌<◌, ◌≤◌, ◌^◌, Bool, true, false, cond, ◌&&◌, ◌||◌, eqb, ltb, List, [], ◌∷◌, ◌++◌, length, get_or, Option, Some, None, refl, sym, ap, subst, ◌∙◌, append_assoc, codes, decimal, eq-eqb, arith}
+use Rattle.std.proofs.Common.{◌≡◌, inl, inr, ℕ, zero, suc, ◌-◌, ◌<◌, ◌≤◌, Bool, true, false, cond, ◌&&◌, eqb, ltb, List, [], ◌∷◌, ◌++◌, length, Some, None, refl, sym, ap, subst, ◌∙◌, append_assoc, codes, decimal, eq-eqb, arith}
 use Rattle.std.specs.List.{slice_get, AllByRecursion}
 use Rattle.std.proofs.lemmas.Bool.{and_parts, and_from, and_right, or_right, ltb-true, lt-ltb, le-ltb, cases_lt}
 use Rattle.std.proofs.lemmas.List.{append-nil}
-use Rattle.std.proofs.lemmas.Option.{some_pair_parts, same_Some}
+use Rattle.std.proofs.lemmas.Option.{same_Some}
 use Rattle.ql_base.specs.IdLists.{IsBelowAll, IsAscending, has_id, with_id}
-use Rattle.ql_text.specs.Reading.{◌>>=◌, literal_at, number_at, before_text}
+use Rattle.ql_text.specs.Reading.{literal_at, number_at}
 use Rattle.ql_text.specs.Items.{more_items, spelled_behind, EachMayFollow}
 use Rattle.ql_text.proofs.Texts.{passed}
 use Rattle.ql_text.proofs.Steps.{bind_some, before_text_takes, before_text_again}
@@ -117,7 +117,7 @@ seen_again ids rest up all =
     let items = more_items (codes " ") seen_id_at [] in
     let bytes = spelled_behind (codes " ") decimal ids ++ (codes "\n" ++ rest) in
     let read : items bytes ≡ Some (ids, codes "\n" ++ rest) =
-        plain_again (codes " ") seen_id_at decimal MaySee BeginsWithNoDigit seen_id_again (λ _. refl) ids (codes "\n" ++ rest) (omega arith) (ascends_follow [] ids up all) refl (no_space rest) in
+    plain_again (codes " ") seen_id_at decimal MaySee BeginsWithNoDigit seen_id_again (λ _. refl) ids (codes "\n" ++ rest) (omega arith) (ascends_follow [] ids up all) refl (no_space rest) in
     before_text_again items (codes "\n") bytes ids rest read
 
 -- a fact of each id that a list has

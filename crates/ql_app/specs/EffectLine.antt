@@ -1,6 +1,5 @@
 -- The text of an effect: how it is spelled, what has a spelling, and how it is read.
 use Rattle.std.specs.Prelude.{◌≡◌, ℕ, suc, ◌<◌, ◌≤◌, List, [], ◌∷◌, ◌++◌, length, Bool, true, ◌&&◌, IsTrue, Option, Some, None, is_none, nat_lt, ◌==◌, if◌then◌else◌, codes, decimal}
-use Rattle.std.specs.List.{list_all}
 use Rattle.std.specs.Char.{is_ascii_lowercase}
 use Rattle.ql_text.specs.Reading.{◌>>=◌, letter_at, number_at, before_text}
 use Rattle.ql_text.specs.Items.{more_items, spelled_after, spelled_behind}

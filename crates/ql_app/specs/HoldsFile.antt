@@ -1,5 +1,5 @@
 -- The files of `holds`: a contract, an effect, and an execution; and what is said of them.
-use Rattle.std.specs.Prelude.{◌≡◌, ℕ, suc, ◌≤◌, List, [], ◌∷◌, ◌++◌, length, ◌&&◌, ◌==◌, Option, Some, None, nat_le, if◌then◌else◌, codes, decimal}
+use Rattle.std.specs.Prelude.{◌≡◌, ℕ, ◌≤◌, List, [], ◌∷◌, ◌++◌, length, ◌&&◌, ◌==◌, Option, Some, None, nat_le, if◌then◌else◌, codes, decimal}
 use Rattle.ql_text.specs.Reading.{◌>>=◌, literal_at, number_at, before_text}
 use Rattle.ql_text.specs.Items.{more_items, EachMayFollow}
 use Rattle.ql_app.specs.declared.contract.Contract.{Contract}
@@ -33,7 +33,7 @@ question_at bytes = do
   at ← before_text (number_at 200) (codes "\n") contract.1
   effects ← before_text (more_items (codes "effect ") effect_line_at []) (codes "end\n") at.1
   if nat_le 1 at.0 && nat_le at.0 (length effects.0) && (length effects.1 == 0)
-    then Some (record { contract = contract.0; at = record { 0 = at.0 }; execution = effects.0 }) else None
+      then Some (record { contract = contract.0; at = record { 0 = at.0 }; execution = effects.0 }) else None
 
 -- the places of the variables, as ` a=1`
 abbrev pub places_text : List ℕ → List ℕ → List ℕ

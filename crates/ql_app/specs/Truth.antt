@@ -1,7 +1,8 @@
 -- When a contract is true of an effect in an execution.
 -- A contract quantifies over all effects and speaks of one current effect (Sivaramakrishnan, Kaki and Jagannathan,
 -- 'Declarative Programming over Eventually Consistent Data Stores', PLDI 2015, section 4).
-use Rattle.std.specs.Prelude.{◌≡◌, ◌⊎◌, ℕ, zero, ◌<◌, ◌≤◌, List, [], ◌∷◌, length, Bool, false, not, ◌||◌, IsTrue, ◌==◌, if◌then◌else◌}
+use Rattle.std.specs.Prelude.{◌≡◌, ◌⊎◌, ℕ, ◌<◌, ◌≤◌, List, [], ◌∷◌, length, Bool, false, not, ◌||◌, IsTrue, ◌==◌, slice_index, position}
+use Rattle.std.specs.Option.{option_map_or}
 use Rattle.std.specs.List.{list_all}
 use Rattle.ql_exec.specs.declared.effect.Effect.{Effect}
 use Rattle.ql_exec.specs.Relations.{so, vis, sameobj, soo}
@@ -14,9 +15,7 @@ use Rattle.ql_app.specs.declared.contract.Contract.{Contract}
 
 -- the place that was chosen for a variable
 abbrev pub place_of : List ℕ → List ℕ → ℕ → ℕ
-place_of [] places v = 0
-place_of (w ∷ variables) [] v = 0
-place_of (w ∷ variables) (p ∷ places) v = if w == v then p else place_of variables places v
+place_of variables places v = option_map_or (λ k. slice_index places k) (position (λ w. w == v) variables) 0
 
 -- the effect that a term stands for
 abbrev pub meaning : List ℕ → List ℕ → ℕ → Term → ℕ

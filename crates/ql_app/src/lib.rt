@@ -6,11 +6,13 @@
 mod contract;
 mod contract_text;
 mod effect_line;
+mod holds;
 mod outcome;
 mod program;
 mod question;
 mod question_text;
 mod status;
+mod truth;
 mod words;
 
 pub use program::quelea;

@@ -2,12 +2,12 @@ ghost use Rattle.std.specs.Prelude.{◌≡◌, ◌++◌, IfOk, codes};
 ghost use Rattle.ql_app.specs.Words.{word_texts};
 ghost use Rattle.ql_app.specs.Outcome.{Says, CommandSays};
 
+use crate::holds::holds;
+use crate::status::Status;
+use crate::words::{Command, request};
 use ql_base::NoMemory;
 use ql_ports::{ReadError, Shelf, read_whole};
 use std::alloc::Global;
-
-use crate::status::Status;
-use crate::words::{Command, request};
 
 /// The status and the text that answer the words. The named file is read once, to its end, and has
 /// at most `limit` bytes.
@@ -25,12 +25,8 @@ pub fn outcome<S: Shelf>(
     };
     match read_whole(alloc, shelf, name, limit) {
         Ok(bytes) => judged(alloc, command, bytes.as_slice()),
-        Err(ReadError::Failed) => {
-            Ok((Status::ReadFault, named(alloc, b"read fault ", name)?))
-        }
-        Err(ReadError::TooLong) => {
-            Ok((Status::TooLarge, named(alloc, b"too large ", name)?))
-        }
+        Err(ReadError::Failed) => { Ok((Status::ReadFault, named(alloc, b"read fault ", name)?)) }
+        Err(ReadError::TooLong) => { Ok((Status::TooLarge, named(alloc, b"too large ", name)?)) }
         Err(ReadError::NoMemory) => Err(NoMemory),
     }
 }
@@ -45,14 +41,10 @@ fn named(alloc: Global, text: &[u8], name: &str) -> Result<Vec<u8>, NoMemory>
     Ok(line)
 }
 
-fn judged(
-    alloc: Global,
-    command: Command,
-    bytes: &[u8],
-) -> Result<(Status, Vec<u8>), NoMemory>
+fn judged(alloc: Global, command: Command, bytes: &[u8]) -> Result<(Status, Vec<u8>), NoMemory>
     ensures { IfOk result (λ answer. CommandSays command bytes.now answer.0 answer.1.items) }
 {
     match command {
-        Command::Holds => Ok((Status::Bad, Vec::from_slice(alloc, b"bad holds\n")?)),
+        Command::Holds => holds(alloc, bytes),
     }
 }

@@ -4,12 +4,11 @@ ghost use Rattle.ql_app.specs.declared.words.Command.{Command};
 ghost use Rattle.ql_app.specs.Words.{IsRequest, word_texts};
 ghost use Rattle.ql_app.specs.Outcome.{Says, Wrote, IsInGrammar, IsAnswered};
 
+use crate::outcome::outcome;
+use crate::status::Status;
 use ql_base::{MAX_HOLDS_BYTES, NoMemory};
 use ql_ports::{Failed, Shelf, Sink, write_whole};
 use std::alloc::Global;
-
-use crate::outcome::outcome;
-use crate::status::Status;
 
 /// Answers the words, which are those of the command line without the program's own name: reads the
 /// file that they name from the shelf, and writes one text to the sink.

@@ -1,7 +1,6 @@
+use crate::contract::Contract;
 use ql_base::EffId;
 use ql_exec::Execution;
-
-use crate::contract::Contract;
 
 /// What a file of `holds` asks: whether the contract is true in the execution, with the effect `at`
 /// as the current one.

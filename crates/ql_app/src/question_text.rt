@@ -2,14 +2,13 @@ ghost use Rattle.std.specs.Prelude.{◌≡◌};
 ghost use Rattle.ql_text.specs.Answers.{Gives};
 ghost use Rattle.ql_app.specs.HoldsFile.{asked_contract_at, question_at};
 
-use ql_base::EffId;
-use ql_text::{ParseError, literal, number_before};
-use std::alloc::Global;
-
 use crate::contract::Contract;
 use crate::contract_text::contract;
 use crate::effect_line::{MOST_EFFECTS, effects};
 use crate::question::Question;
+use ql_base::EffId;
+use ql_text::{ParseError, literal, number_before};
+use std::alloc::Global;
 
 /// The question that all of the bytes ask.
 #[tactic(auto, unfolding(crate::specs::HoldsFile::question_at, ql_text::specs::Reading::before_text))]

@@ -49,10 +49,12 @@ module _ {X : Type 0} (before : List ℕ) (item_at : List X → List ℕ → Opt
       let b = bind_some (item_at xs behind) (λ (x : X × List ℕ). items_within count before item_at (xs ++ x.0 ∷ []) x.1) (ys, rest) e in
       let x = b.0.0 in
       let t = takes xs behind x b.0.1 b.1 in
-      let g = further (xs ++ x ∷ []) b.0.1 b.2 in
-      (x ∷ g.0, g.1 ∙ append_assoc xs (x ∷ []) g.0,
+      let g = further (xs ++ x ∷ []) b.0.1 b.2 in (
+        x ∷ g.0,
+        g.1 ∙ append_assoc xs (x ∷ []) g.0,
         literal_takes before bytes behind is ∙ ap (λ (r : List ℕ). before ++ r) (t.0 ∙ ap (λ (r : List ℕ). spell xs x ++ r) g.2) ∙ sym (regroup before (spell xs x) (spelled_after before spell (xs ++ x ∷ []) g.0) rest),
-        (t.1, g.3))
+        (t.1, g.3),
+      )
 
   items_take : (count : ℕ) (xs : List X) (bytes : List ℕ) (ys : List X) (rest : List ℕ) → items_within count before item_at xs bytes ≡ Some (ys, rest) → Gains before spell May xs bytes ys rest
   unfolding items_within
@@ -101,7 +103,7 @@ module _ {X : Type 0} (before : List ℕ) (item_at : List X → List ℕ → Opt
       let others = spelled_after before spell (xs ++ z ∷ []) zs ++ rest in
       ap (items_within (suc count) before item_at xs) (regroup before (spell xs z) (spelled_after before spell (xs ++ z ∷ []) zs) rest)
       ∙ rw (literal_again before (spell xs z ++ others), again xs z others may.0 (behind_next (xs ++ z ∷ []) zs rest h))
-          (items_again count (xs ++ z ∷ []) zs rest (omega arith) may.1 h stop ∙ ap (λ (l : List X). Some (l, rest)) (append_assoc xs (z ∷ []) zs))
+      (items_again count (xs ++ z ∷ []) zs rest (omega arith) may.1 h stop ∙ ap (λ (l : List X). Some (l, rest)) (append_assoc xs (z ∷ []) zs))
 
   short : 0 < length before → (earlier zs : List X) (rest : List ℕ) → length zs ≤ length (spelled_after before spell earlier zs ++ rest)
   short some earlier [] rest = omega arith
@@ -132,4 +134,4 @@ module _ {X : Type 0} (before : List ℕ) (item_at : List X → List ℕ → Opt
       ap (λ (w : List ℕ). separated_items before item_at ((spell y ++ w) ++ rest)) (sym (plainly before spell (y ∷ []) ys))
       ∙ ap (separated_items before item_at) (append_assoc (spell y) spelled rest)
       ∙ rw (again [] y others may.0 (behind_next before item_at (λ _. spell) May Behind again next (y ∷ []) ys rest h))
-          (items_again before item_at (λ _. spell) May Behind again next (length others) (y ∷ []) ys rest (short before item_at (λ _. spell) May Behind again next some (y ∷ []) ys rest) may.1 h stop)
+      (items_again before item_at (λ _. spell) May Behind again next (length others) (y ∷ []) ys rest (short before item_at (λ _. spell) May Behind again next some (y ∷ []) ys rest) may.1 h stop)

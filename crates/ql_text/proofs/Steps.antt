@@ -1,5 +1,5 @@
 -- The laws of one step after the other.
-use Rattle.std.proofs.Common.{◌≡◌, ℕ, Bool, true, false, cond, List, [], ◌∷◌, ◌++◌, Option, Some, None, refl, sym, ap, ◌∙◌, append_assoc}
+use Rattle.std.proofs.Common.{◌≡◌, ℕ, List, ◌++◌, Option, Some, None, refl, ap, ◌∙◌}
 use Rattle.std.proofs.lemmas.Option.{some_pair_parts}
 use Rattle.ql_text.specs.Reading.{◌>>=◌, literal_at, before_text}
 use Rattle.ql_text.proofs.Texts.{literal_takes, literal_again}

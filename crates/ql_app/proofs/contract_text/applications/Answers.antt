@@ -1,5 +1,4 @@
-use Rattle.std.proofs.Common.{◌≡◌, ◌≤◌, length, codes, Some, sym, arith}
-use Rattle.ql_text.specs.Reading.{literal_at}
+use Rattle.std.proofs.Common.{codes, sym, arith}
 use Rattle.ql_text.specs.Items.{separated_items}
 use Rattle.ql_text.proofs.Texts.{literal_shortens}
 use Rattle.ql_text.proofs.ItemLaws.{item_shortens}

@@ -1,5 +1,4 @@
-use Rattle.std.proofs.Common.{◌≡◌, ◌≤◌, ℕ, List, length, codes, Some, sym, ap, ◌∙◌, arith}
-use Rattle.ql_text.specs.Reading.{literal_at}
+use Rattle.std.proofs.Common.{ℕ, List, codes, sym, ap, ◌∙◌, arith}
 use Rattle.ql_text.specs.Items.{separated_items}
 use Rattle.ql_text.proofs.Texts.{literal_shortens}
 use Rattle.ql_text.proofs.ItemLaws.{item_shortens}

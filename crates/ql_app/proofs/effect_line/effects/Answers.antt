@@ -1,4 +1,4 @@
-use Rattle.std.proofs.Common.{◌≡◌, [], length, codes, Some, sym, arith}
+use Rattle.std.proofs.Common.{[], codes, sym, arith}
 use Rattle.std.proofs.lemmas.Result.{err_from_is_err_and}
 use Rattle.ql_text.specs.Items.{more_items}
 use Rattle.ql_text.proofs.Texts.{literal_shortens}
@@ -9,7 +9,7 @@ use Rattle.ql_app.proofs.EffectLaws.{effect_takes}
 use Rattle.ql_app.proofs.effect_line.effects.Goals as goal
 
 pub returns-in_err-rest : goal.returns-in_err-rest
-returns-in_err-rest c = 
+returns-in_err-rest c =
     let p = err_from_is_err_and c.from_residual.result c.from_residual.ensures.1 in
     rw (p.1, p.2) (refuses (codes "effect ") effect_line_at c.in_err-rest.field-0.0 c.loop-behind.execution c.loop-behind.rest.now c.in-Some.behind.now (more_items (codes "effect ") effect_line_at [] c.args.bytes.now) (omega arith) (sym c.in-Some.ensures) c.in_err-rest.ensures.refused c.loop-behind.invariant)
 

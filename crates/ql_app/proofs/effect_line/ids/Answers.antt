@@ -1,4 +1,4 @@
-use Rattle.std.proofs.Common.{◌≡◌, [], length, codes, decimal, Some, sym, arith}
+use Rattle.std.proofs.Common.{[], codes, decimal, sym, arith}
 use Rattle.ql_text.specs.Items.{more_items}
 use Rattle.ql_text.proofs.Texts.{literal_shortens}
 use Rattle.ql_text.proofs.ItemLaws.{item_shortens}
@@ -25,7 +25,7 @@ loop-behind-preserved c =
     let shorter = item_shortens seen_id_at (λ _. decimal) MaySee seen_id_takes ids behind c.in-Some-seen_id.next c.in-Some-seen_id.after.now item in
     let above = (seen_id_takes ids behind c.in-Some-seen_id.next c.in-Some-seen_id.after.now item).1.1 in
     rw (c.in-Ok.ensures.added, with_id-above ids c.in-Some-seen_id.next above)
-        (turns (codes " ") seen_id_at ids c.loop-behind.rest.now behind c.in-Some-seen_id.next c.in-Some-seen_id.after.now (more_items (codes " ") seen_id_at [] c.args.bytes.now) (omega arith) (sym c.in-Some.ensures) item shorter c.loop-behind.invariant)
+    (turns (codes " ") seen_id_at ids c.loop-behind.rest.now behind c.in-Some-seen_id.next c.in-Some-seen_id.after.now (more_items (codes " ") seen_id_at [] c.args.bytes.now) (omega arith) (sym c.in-Some.ensures) item shorter c.loop-behind.invariant)
 
 pub returns : goal.returns
 returns c = ends (codes " ") seen_id_at c.loop-behind.ids c.loop-behind.rest.now (more_items (codes " ") seen_id_at [] c.args.bytes.now) (sym c.in_default.ensures) c.loop-behind.invariant
