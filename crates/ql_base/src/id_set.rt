@@ -128,3 +128,45 @@ fn merged(alloc: Global, xs: &[u32], ys: &[u32]) -> Result<Vec<u32>, NoMemory>
     both.extend_from_slice(&ys[j..])?;
     Ok(both)
 }
+
+#[cfg(test)]
+mod tests {
+    use super::*;
+    use std::test::Fail;
+
+    fn set_of(alloc: Global, ids: &[u32]) -> Result<IdSet, NoMemory> {
+        let mut set = IdSet::new(alloc);
+        for id in ids {
+            set.insert(*id)?;
+        }
+        Ok(set)
+    }
+
+    #[test]
+    fn keeps_each_id_once_in_order(rt: HostRuntime) -> Result<(), Fail> {
+        let mut set = set_of(rt.alloc(), &[7, 3, 9, 3, 1])?;
+        assert_eq!(rt; set.items(), [1, 3, 7, 9].as_slice());
+        assert_eq!(rt; set.insert(7)?, false);
+        assert_eq!(rt; set.insert(8)?, true);
+        assert_eq!(rt; set.copy()?.items(), [1, 3, 7, 8, 9].as_slice());
+        for (id, there) in [(0, false), (1, true), (2, false), (9, true), (10, false)] {
+            assert_eq!(rt; set.has(id), there, "{id}");
+        }
+        Ok(())
+    }
+
+    #[test]
+    fn unites(rt: HostRuntime) -> Result<(), Fail> {
+        let cases: [(&[u32], &[u32], &[u32]); 4] = [
+            (&[], &[], &[]),
+            (&[2, 5], &[], &[2, 5]),
+            (&[2, 5], &[1, 2, 3, 9], &[1, 2, 3, 5, 9]),
+            (&[8], &[1, 8], &[1, 8]),
+        ];
+        for (left, right, want) in cases {
+            let both = set_of(rt.alloc(), left)?.union(&set_of(rt.alloc(), right)?)?;
+            assert_eq!(rt; both.items(), want);
+        }
+        Ok(())
+    }
+}

@@ -10,3 +10,6 @@ mod fault;
 pub use effect::{Draft, Effect};
 pub use execution::Execution;
 pub use fault::ExecFault;
+
+#[cfg(test)]
+mod tests;
