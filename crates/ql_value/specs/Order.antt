@@ -1,17 +1,10 @@
-use Rattle.std.specs.Prelude.{ℕ, List, [], ◌∷◌, Bool, true, false}
-use Rattle.std.specs.Ordering.{int_cmp, nat_cmp, ordering_then}
+use Rattle.std.specs.Prelude.{ℕ}
+use Rattle.std.specs.Ordering.{bool_cmp, int_cmp, nat_cmp, ordering_then}
 use Rattle.std.specs.Cmp.Lexicographic.{slice_cmp}
 use Rattle.std.specs.declared.cmp.Ordering.{Ordering}
 use Rattle.std.specs.declared.cmp.Ordering.TheVariants.{Less, Equal, Greater}
 use Rattle.ql_value.specs.declared.scalar.Scalar.{Scalar}
 use Rattle.ql_value.specs.declared.scalar.Scalar.TheVariants.{Int, Bool as Truth, Text}
-
--- false before true
-abbrev pub bool_cmp : Bool → Bool → Ordering
-bool_cmp false false = Equal
-bool_cmp false true = Less
-bool_cmp true false = Greater
-bool_cmp true true = Equal
 
 -- numbers before truth values before texts; texts by their bytes
 abbrev pub scalar_cmp : Scalar → Scalar → Ordering

@@ -3,12 +3,22 @@
 // and the text of a value is read back as that value, or its first fault is told.
 #![tactic(auto)]
 
-mod order;
+mod contents;
+mod copying;
+mod maps;
+mod ordering;
+mod printing;
 mod saturating;
 mod scalar;
+mod sets;
 mod value;
 
-pub use order::scalar_order;
+pub use contents::{has, size};
+pub use copying::{copy, copy_map, copy_scalar, copy_set, copy_text};
+pub use maps::{drop_key, get, put, sum};
+pub use ordering::{order, same_scalar, scalar_order};
+pub use printing::print_value;
 pub use saturating::{sat_add, sat_mul, sat_neg, sat_sub};
 pub use scalar::{Scalar, TextVal};
+pub use sets::{add, remove, union};
 pub use value::{MapVal, SetVal, Value, Values};

@@ -1,0 +1,5 @@
+mod Stepwise
+mod Ascending
+pub mod ScalarOrder
+pub mod Keeping
+mod Separated

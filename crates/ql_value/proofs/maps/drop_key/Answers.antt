@@ -1,0 +1,10 @@
+use Rattle.std.proofs.Common.{◌≡◌, ◌≤◌, take, length, arith, ap, ◌∙◌}
+use Rattle.std.proofs.lemmas.List.{take_all}
+use Rattle.ql_value.specs.Collections.{dropped}
+use Rattle.ql_value.proofs.Keeping.{map_dropped}
+use Rattle.ql_value.proofs.maps.drop_key.Goals as goal
+
+pub of-requires : goal.of-requires
+of-requires c =
+    let whole : take c.loop-entry.entry-index c.items-entry-items.result.now ≡ c.items-entry-items.result.now = take_all c.loop-entry.entry-index c.items-entry-items.result.now (omega arith) in
+    rw (c.loop-entry.invariant, whole, c.items-entry-items.ensures.same) (map_dropped c.args.map.now c.args.key.now c.items-entry-items.ensures.map)

@@ -1,0 +1,6 @@
+use Rattle.std.proofs.Common.{◌≡◌, ◌++◌, take, map}
+use Rattle.ql_value.specs.Spelling.{scalar_text, followed}
+use Rattle.ql_value.proofs.printing.push_elements.Given as goal
+
+abbrev pub invariant-loop-element : goal.invariant-loop-element
+invariant-loop-element l = l.out.items ≡ l.initial.out.items ++ followed (map scalar_text (take l.element-index l.elements))

@@ -1,0 +1,6 @@
+use Rattle.std.proofs.Common.{◌≡◌, ◌++◌, take, map}
+use Rattle.ql_value.specs.Spelling.{entry_text, followed}
+use Rattle.ql_value.proofs.printing.push_entries.Given as goal
+
+abbrev pub invariant-loop-entry : goal.invariant-loop-entry
+invariant-loop-entry l = l.out.items ≡ l.initial.out.items ++ followed (map entry_text (take l.entry-index l.entries))
