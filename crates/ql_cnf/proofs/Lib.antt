@@ -1,5 +1,5 @@
 mod Rest
-mod Places
+pub mod Places
 pub mod Meaning
 pub mod Truth
 pub mod CircuitLemmas

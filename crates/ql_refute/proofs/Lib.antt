@@ -1,4 +1,4 @@
 pub mod Laws
-mod Marking
+pub mod Marking
 pub mod Soundness
-mod Steps
+pub mod Steps

@@ -41,7 +41,7 @@ forced_variable p d x h = forced_passes (λ y. has_variable d y.var ≡ true) p 
 pub hints_step : (c : ClauseList) (e : List Line) (n : ℕ) (hs : List Hint) (i : ℕ) (h : Hint) (p : Partial) (d : List Lit) (x : Lit) → i < length hs → Some d ≡ hinted c e (get_or hs i h) → reading p d ≡ Forces x → hints_fault c e n (drop i hs) p ≡ hints_fault c e n (drop (i + 1) hs) (with_true p x)
 hints_step c e n hs i h p d x l f g = rw (drop-cons hs i h l, add-one) (rw (← f, g) refl)
 
-in_range-true : (n : ℕ) (c : List Lit) → AreInRange n c → in_range n c ≡ true
+pub in_range-true : (n : ℕ) (c : List Lit) → AreInRange n c → in_range n c ≡ true
 in_range-true n c h = list_all-from_AllPass (λ x. nat_le 1 x.var && nat_le x.var n) c (λ k d l. both (get_or c k d) (h k d l))
   where
     both : (x : Lit) → (1 ≤ x.var) × (x.var ≤ n) → (nat_le 1 x.var && nat_le x.var n) ≡ true

@@ -1,0 +1,4 @@
+mod Models
+mod Reaching
+mod Rounds
+mod Splitting

@@ -1,0 +1,11 @@
+use ql_cnf::Assignment;
+use ql_refute::Refutation;
+
+/// What a clause list is, with the evidence.
+#[derive(Debug, Drop)]
+pub enum Decided {
+    /// An assignment that satisfies the clauses.
+    Model(Assignment),
+    /// A refutation of the clauses.
+    Refuted(Refutation),
+}

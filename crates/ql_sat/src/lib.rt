@@ -1,0 +1,12 @@
+// A solver for clause lists. Its one contract: the answer is an assignment that satisfies the clauses,
+// or a refutation that the checker accepts.
+#![tactic(auto)]
+
+mod decided;
+mod plain;
+
+pub use decided::Decided;
+pub use plain::decide;
+
+#[cfg(test)]
+mod tests;
