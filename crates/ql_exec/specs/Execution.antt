@@ -1,7 +1,7 @@
 -- Executions: the effects of a run in their order, each with the earlier effects that it saw.
 -- The model is that of Sivaramakrishnan, Kaki and Jagannathan, 'Declarative Programming over Eventually Consistent Data
--- Stores' (PLDI 2015), sections 3 and 4: a set of effects with visibility and session order. That effects stand in a
--- list, that they are numbered from 1, and that each sees earlier ones alone, is ours.
+-- Stores' (PLDI 2015): effects with visibility and session order. That effects stand in a list, that they are numbered
+-- from 1, and that each sees earlier ones on its own object alone, is ours.
 use Rattle.std.specs.Prelude.{◌≡◌, ℕ, zero, suc, ◌<◌, Bool, false, not, nat_eq, if◌then◌else◌, List, length, Option, Some, None, is_none, Result, Ok, Err, IsTrue}
 use Rattle.std.specs.List.{slice_get, list_any}
 use Rattle.ql_base.specs.IdLists.{IsAscending, has_id}

@@ -1,6 +1,7 @@
 -- Relations between the effects of an execution, each named by its id.
--- From Sivaramakrishnan, Kaki and Jagannathan (PLDI 2015), section 3: visibility `vis`, session order `so`, `sameobj`,
--- and `soo`, which is `so` and `sameobj` together. Session order by ids is ours, since ids follow the run's order.
+-- From Sivaramakrishnan, Kaki and Jagannathan (PLDI 2015): visibility `vis`, session order `so`, `sameobj`, and `soo`,
+-- which is `so` and `sameobj` together. That session order is the order of ids within a session is ours, since ids
+-- follow the run.
 use Rattle.std.specs.Prelude.{ℕ, Bool, false, ◌&&◌, nat_eq, nat_lt, List, Option, Some, None}
 use Rattle.ql_base.specs.IdLists.{has_id}
 use Rattle.ql_exec.specs.declared.effect.Effect.{Effect}

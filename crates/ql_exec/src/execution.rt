@@ -1,4 +1,4 @@
-ghost use Rattle.std.specs.Prelude.{◌≡◌, ◌+◌, ◌^◌, ◌<◌, ◌≤◌, ◌++◌, ◌∷◌, ◌↔◌, [], length, Some, None, nat_eq, ◌==◌, OnOk, OnErr, is_none};
+ghost use Rattle.std.specs.Prelude.{◌≡◌, ◌+◌, ◌^◌, ◌<◌, ◌≤◌, ◌++◌, ◌∷◌, ◌↔◌, [], length, Some, None, ◌==◌, OnOk, OnErr, is_none};
 ghost use Rattle.std.specs.List.{list_any};
 ghost use Rattle.std.specs.Option.{option_copied};
 ghost use Rattle.ql_base.specs.IdLists.{IsAscending};
@@ -93,7 +93,7 @@ impl Execution {
     }
 }
 
-// What is wrong with a draft that is to have this id.
+// What is wrong with a draft that is to have this id, the next one.
 fn fault_in(effects: &[Effect], draft: &Draft, id: EffId) -> Option<ExecFault>
     requires { id ≡ next_id effects.now }
     ensures value { result ≡ fault_of effects.now draft.now }
@@ -109,12 +109,14 @@ fn fault_in(effects: &[Effect], draft: &Draft, id: EffId) -> Option<ExecFault>
     }
 }
 
+// Whether a seen id names no earlier effect.
 fn sees_absent(effects: &[Effect], seen: &[u32]) -> bool
     ensures { result ≡ list_any (λ id. is_none (effect_at effects.now id)) seen.now }
 {
     seen.iter().any(|id| effect(effects, *id).is_none())
 }
 
+// Whether a seen effect is on another object.
 fn sees_elsewhere(effects: &[Effect], object: ObjId, seen: &[u32]) -> bool
     ensures { result ≡ list_any (λ id. is_elsewhere object (effect_at effects.now id)) seen.now }
 {

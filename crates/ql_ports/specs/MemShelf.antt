@@ -27,12 +27,13 @@ held_of shelf name = bytes_under shelf.files.items name
 abbrev pub count_of : MemShelf → List ℕ → ℕ
 count_of shelf name = count_under shelf.files.items shelf.counts.items shelf.missing name
 
--- how many bytes the next fetch gives, or none where it fails: where it is to fail, or the name is missing
+-- how many bytes a fetch gives: none where it is to fail, or where its file is missing
 abbrev pub given : Bool → ℕ → ℕ → ℕ → Option (List ℕ) → Option ℕ
 given true piece at room found = None
 given false piece at room None = None
 given false piece at room (Some bytes) = Some (bytes_given piece at room bytes)
 
+-- how many bytes the next fetch of a shelf gives, where it doesn't fail
 abbrev pub fetched : MemShelf → List ℕ → ℕ → ℕ → Option ℕ
 fetched shelf name at room =
     given (is_failing (failing_of shelf) (next_count_of (fetches_of shelf))) (piece_of shelf) at room (held_of shelf name)

@@ -27,11 +27,12 @@ puts_of sink = sink.puts
 abbrev pub count_of : MemSink → ℕ
 count_of sink = sink.faults
 
--- how many of some bytes the next put takes, or none where it fails: where it is to fail, or no room is left for them
+-- how many bytes a put takes: none where it is to fail, or where no room is left for them
 abbrev pub taken : Bool → ℕ → ℕ → ℕ → Option ℕ
 taken true piece left size = None
 taken false piece left size = if nat_eq left 0 && not (nat_eq size 0) then None else Some (min (min piece left) size)
 
+-- how many bytes the next put of a sink takes, where it doesn't fail
 abbrev pub put_of : MemSink → List ℕ → Option ℕ
 put_of sink bytes =
     taken (is_failing (failing_of sink) (next_count_of (puts_of sink))) (piece_of sink) (room_of sink - length (taken_of sink)) (length bytes)

@@ -48,7 +48,7 @@ impl MemShelf {
 }
 
 impl Shelf for MemShelf {
-    ghost use Rattle.std.specs.Prelude.{◌≡◌, ◌≢◌, ◌≤◌, ◌+◌, ℕ, List, [], length, take, drop, IfOk, OnOk, OnErr, IfSome};
+    ghost use Rattle.std.specs.Prelude.{◌≡◌, ◌≢◌, ◌≤◌, ℕ, List, [], length, take, drop, IfOk, OnOk, OnErr, IfSome};
     ghost use Rattle.std.specs.Result.{result_ok};
     ghost use Rattle.ql_ports.specs.Faults.{Rose};
     ghost use Rattle.ql_ports.specs.MemShelf.{held_of, count_of, fetched, IsFetchedShelf};

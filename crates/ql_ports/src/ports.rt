@@ -1,4 +1,4 @@
-ghost use Rattle.std.specs.Prelude.{◌≡◌, ◌≢◌, ◌<◌, ◌≤◌, ◌++◌, ℕ, List, [], Option, length, take, drop, IfOk, OnErr, IfSome};
+ghost use Rattle.std.specs.Prelude.{◌≡◌, ◌≢◌, ◌<◌, ◌≤◌, ℕ, List, [], Option, length, take, drop, IfOk, OnErr, IfSome};
 ghost use Rattle.ql_ports.specs.Faults.{Rose};
 ghost use Rattle.ql_ports.specs.Written.{appended};
 

@@ -2,7 +2,7 @@ ghost use Rattle.std.specs.Prelude.{◌≡◌, ◌≤◌, ℕ, List, length, IfO
 
 use crate::faults::next_count;
 use crate::ports::{Failed, Shelf, Sink};
-use std::alloc::{AllocError, Global};
+use std::alloc::Global;
 use std::io::{Read, Seek, SeekFrom};
 use std::rt::Files;
 use std::{fs, io};
@@ -96,6 +96,7 @@ pub struct StdSink<P: Print + Drop> {
 }
 
 impl<P: Print + Drop> StdSink<P> {
+    /// The standard output of a system.
     pub fn new(system: P) -> StdSink<P>
         ensures no_fault { ⟦<StdSink<P> as Sink>⟧.faults result ≡ 0 }
     {
