@@ -1,4 +1,4 @@
--- No two atoms of a shape have one number.
+-- No two atoms of a size have one number.
 use Rattle.std.proofs.Common.{◌≡◌, ℕ, ◌+◌, ◌*◌, ◌<◌, ◌≤◌, List, [], ◌∷◌, get_or, refl, ap, sym, ◌∙◌, arith}
 use Rattle.std.proofs.lemmas.Nat.{same_from_place, mul-add-lt}
 use Rattle.ql_base.specs.declared.ids.OpId.{OpId}
@@ -6,8 +6,7 @@ use Rattle.ql_atoms.specs.declared.atoms.Atom.{Atom}
 use Rattle.ql_atoms.specs.declared.atoms.Atom.TheVariants.{Pair, Current, Is}
 use Rattle.ql_atoms.specs.declared.atoms.PairKind.{PairKind}
 use Rattle.ql_atoms.specs.declared.atoms.PairKind.TheVariants.{Eq, So, SameObj, Vis, Hbo, Hb, SameTxn}
-use Rattle.ql_atoms.specs.declared.shapes.Shape.{Shape}
-use Rattle.ql_atoms.specs.Atoms.{Fits, kind_place, place_of, number_of, count_of, relations_of}
+use Rattle.ql_atoms.specs.Atoms.{Size, Fits, kind_place, place_of, number_of, count_of, relations_of}
 
 kinds : List PairKind
 kinds = Eq ∷ So ∷ SameObj ∷ Vis ∷ Hbo ∷ Hb ∷ SameTxn ∷ []
@@ -35,13 +34,13 @@ few_kinds Hb = omega arith
 few_kinds SameTxn = omega arith
 
 -- a relation's atoms come before all others
-pair_below : (s : Shape) (kind : PairKind) (i j : ℕ) → Fits s (Pair kind i j) → place_of s (Pair kind i j) < relations_of s
+pair_below : (s : Size) (kind : PairKind) (i j : ℕ) → Fits s (Pair kind i j) → place_of s (Pair kind i j) < relations_of s
 pair_below s kind i j h =
     let inner : i * s.constants + j < s.constants * s.constants = mul-add-lt i s.constants j s.constants h.0 h.1 in
     let outer : place_of s (Pair kind i j) < (s.constants * s.constants) * 7 = mul-add-lt (kind_place kind) (s.constants * s.constants) (i * s.constants + j) 7 (few_kinds kind) inner in
     omega arith
 
-same_pair : (s : Shape) (k l : PairKind) (i j p q : ℕ) → Fits s (Pair k i j) → Fits s (Pair l p q) → number_of s (Pair k i j) ≡ number_of s (Pair l p q) → Pair k i j ≡ Pair l p q
+same_pair : (s : Size) (k l : PairKind) (i j p q : ℕ) → Fits s (Pair k i j) → Fits s (Pair l p q) → number_of s (Pair k i j) ≡ number_of s (Pair l p q) → Pair k i j ≡ Pair l p q
 same_pair s k l i j p q h g e =
     let n : ℕ = s.constants in
     let first : i * n + j < n * n = mul-add-lt i n j n h.0 h.1 in
@@ -54,13 +53,13 @@ same_pair s k l i j p q h g e =
     ∙ ap (λ row. Pair l row j) cell.0
     ∙ ap (λ column. Pair l p column) cell.1
 
-same_is : (s : Shape) (o p : OpId) (i j : ℕ) → Fits s (Is o i) → Fits s (Is p j) → number_of s (Is o i) ≡ number_of s (Is p j) → Is o i ≡ Is p j
+same_is : (s : Size) (o p : OpId) (i j : ℕ) → Fits s (Is o i) → Fits s (Is p j) → number_of s (Is o i) ≡ number_of s (Is p j) → Is o i ≡ Is p j
 same_is s o p i j h g e =
     let places : o.0 * s.constants + i ≡ p.0 * s.constants + j = omega arith in
     let cell = same_from_place o.0 i p.0 j s.constants h.1 g.1 places in
     ap (λ (row : ℕ). Is record { 0 = row } i) cell.0 ∙ ap (λ column. Is p column) cell.1
 
-pub same_atom : (s : Shape) (a b : Atom) → Fits s a → Fits s b → number_of s a ≡ number_of s b → a ≡ b
+pub same_atom : (s : Size) (a b : Atom) → Fits s a → Fits s b → number_of s a ≡ number_of s b → a ≡ b
 same_atom s (Pair k i j) (Pair l p q) h g e = same_pair s k l i j p q h g e
 same_atom s (Pair k i j) (Current p) h g e = absurd (omega (arith, pair_below s k i j h))
 same_atom s (Pair k i j) (Is o p) h g e = absurd (omega (arith, pair_below s k i j h))
@@ -72,7 +71,7 @@ same_atom s (Is o i) (Current p) h g e = absurd (omega arith)
 same_atom s (Is o i) (Is p j) h g e = same_is s o p i j h g e
 
 -- the last number is the count
-pub counted : (s : Shape) (a : Atom) → Fits s a → number_of s a ≤ count_of s
+pub counted : (s : Size) (a : Atom) → Fits s a → number_of s a ≤ count_of s
 counted s (Pair k i j) h = omega (arith, pair_below s k i j h)
 counted s (Current i) h = omega arith
 counted s (Is o i) h = omega (arith, mul-add-lt o.0 s.constants i s.operations h.0 h.1)

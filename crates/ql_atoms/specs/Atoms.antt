@@ -6,6 +6,14 @@ use Rattle.ql_atoms.specs.declared.atoms.PairKind.{PairKind}
 use Rattle.ql_atoms.specs.declared.atoms.PairKind.TheVariants.{Eq, So, SameObj, Vis, Hbo, Hb, SameTxn}
 use Rattle.ql_atoms.specs.declared.shapes.Shape.{Shape}
 
+-- how many constants and operations there are
+pub record Size : Type 0 where
+  pub constants : ℕ
+  pub operations : ℕ
+
+abbrev pub size_of : Shape → Size
+size_of s = record { constants = s.constants; operations = s.operations }
+
 -- the place of a relation among the seven, from 0
 abbrev pub kind_place : PairKind → ℕ
 kind_place Eq = 0
@@ -16,27 +24,27 @@ kind_place Hbo = 4
 kind_place Hb = 5
 kind_place SameTxn = 6
 
--- the atom speaks of constants and operations of the shape alone
-abbrev pub Fits : Shape → Atom → Type 0
+-- the atom speaks of constants and operations of the size alone
+abbrev pub Fits : Size → Atom → Type 0
 Fits s (Pair kind i j) = (i < s.constants) × (j < s.constants)
 Fits s (Current i) = i < s.constants
 Fits s (Is o i) = (o.0 < s.operations) × (i < s.constants)
 
 -- how many atoms the seven relations have
-abbrev pub relations_of : Shape → ℕ
+abbrev pub relations_of : Size → ℕ
 relations_of s = 7 * (s.constants * s.constants)
 
 -- how many atoms there are
-abbrev pub count_of : Shape → ℕ
+abbrev pub count_of : Size → ℕ
 count_of s = relations_of s + s.constants + s.operations * s.constants
 
 -- The place of an atom, from 0: first the relations, each a square of rows; then the current
 -- effects; then the operations, each a row.
-abbrev pub place_of : Shape → Atom → ℕ
+abbrev pub place_of : Size → Atom → ℕ
 place_of s (Pair kind i j) = kind_place kind * (s.constants * s.constants) + (i * s.constants + j)
 place_of s (Current i) = relations_of s + i
 place_of s (Is o i) = relations_of s + s.constants + (o.0 * s.constants + i)
 
 -- atoms are numbered from 1
-abbrev pub number_of : Shape → Atom → ℕ
+abbrev pub number_of : Size → Atom → ℕ
 number_of s a = suc (place_of s a)

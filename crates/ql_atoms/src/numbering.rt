@@ -1,6 +1,6 @@
 ghost use Rattle.std.specs.Prelude.{◌≡◌, ℕ, ◌+◌, ◌*◌, ◌<◌, ◌≤◌, ◌↔◌, IsSome, IfSome, Some};
 ghost use Rattle.ql_atoms.specs.declared.atoms.Atom.{Atom};
-ghost use Rattle.ql_atoms.specs.Atoms.{Fits, kind_place, number_of, count_of};
+ghost use Rattle.ql_atoms.specs.Atoms.{Fits, size_of, kind_place, number_of, count_of};
 
 use crate::atoms::{Atom, PairKind};
 use crate::shapes::Shape;
@@ -8,9 +8,9 @@ use ql_base::OpId;
 
 /// The number of an atom, from 1.
 pub fn number(a: Atom, s: Shape) -> u32
-    requires { Fits s a }
-    ensures value { result ≡ number_of s a }
-    ensures counted { result ≤ count_of s }
+    requires { Fits (size_of s) a }
+    ensures value { result ≡ number_of (size_of s) a }
+    ensures counted { result ≤ count_of (size_of s) }
 {
     let n = s.constants;
     match a {
@@ -22,9 +22,9 @@ pub fn number(a: Atom, s: Shape) -> u32
 
 /// The atom with a number.
 pub fn atom_of(n: u32, s: Shape) -> Option<Atom>
-    ensures counted { IsSome result ↔ ((1 ≤ n) × (n ≤ count_of s)) }
-    ensures numbered { IfSome result (λ a. Fits s a × (number_of s a ≡ n)) }
-    ensures only { (a : Atom) → Fits s a → number_of s a ≡ n → result ≡ Some a }
+    ensures counted { IsSome result ↔ ((1 ≤ n) × (n ≤ count_of (size_of s))) }
+    ensures numbered { IfSome result (λ a. Fits (size_of s) a × (number_of (size_of s) a ≡ n)) }
+    ensures only { (a : Atom) → Fits (size_of s) a → number_of (size_of s) a ≡ n → result ≡ Some a }
 {
     let constants = s.constants;
     let pairs = constants * constants;

@@ -1,0 +1,16 @@
+-- The words of the levels: names of Sivaramakrishnan, Kaki and Jagannathan (PLDI 2015), sections 4 and 5.
+use Rattle.std.specs.Prelude.{ℕ, List, codes}
+use Rattle.ql_levels.specs.declared.level.Level.{Level}
+use Rattle.ql_levels.specs.declared.level.Level.TheVariants.{Eventual, Causal, Strong}
+use Rattle.ql_levels.specs.declared.level.TxnLevel.{TxnLevel}
+use Rattle.ql_levels.specs.declared.level.TxnLevel.TheVariants.{Rc, Mav, Rr}
+
+abbrev pub word_of : Level → List ℕ
+word_of Eventual = codes "eventual"
+word_of Causal = codes "causal"
+word_of Strong = codes "strong"
+
+abbrev pub txn_word_of : TxnLevel → List ℕ
+txn_word_of Rc = codes "rc"
+txn_word_of Mav = codes "mav"
+txn_word_of Rr = codes "rr"

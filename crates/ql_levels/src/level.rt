@@ -1,0 +1,16 @@
+/// What the store promises a call of an operation, in ascending order.
+#[derive(Clone, Copy, Debug, PartialEq, Eq, PartialOrd, Ord)]
+pub enum Level {
+    Eventual,
+    Causal,
+    Strong,
+}
+
+/// What the store promises a transaction, in ascending order: read committed, monotonic atomic view,
+/// repeatable read.
+#[derive(Clone, Copy, Debug, PartialEq, Eq, PartialOrd, Ord)]
+pub enum TxnLevel {
+    Rc,
+    Mav,
+    Rr,
+}

@@ -1,0 +1,75 @@
+ghost use Rattle.std.specs.Prelude.{◌≡◌, ◌<◌, length, slice_get, Some, IfOk};
+
+use crate::level::{Level, TxnLevel};
+use ql_base::{DeclId, NoMemory, OpId};
+use std::alloc::Global;
+use std::marker::Model;
+
+/// A level for each operation and each declared transaction of a program.
+#[derive(Debug, Drop)]
+pub struct Levels {
+    ops: Vec<Level>,
+    txns: Vec<TxnLevel>,
+}
+
+impl Model for Levels {
+    ghost use Rattle.ql_levels.specs.Lists.{LevelLists};
+
+    ghost Value = { LevelLists };
+
+    ghost view = { λ levels. record { ops = levels.ops.items; txns = levels.txns.items } };
+}
+
+impl Levels {
+    pub fn of(ops: Vec<Level>, txns: Vec<TxnLevel>) -> Levels
+        ensures { result ≡ record { ops = ops.items; txns = txns.items } }
+    {
+        Levels { ops, txns }
+    }
+
+    pub fn copy(&self, alloc: Global) -> Result<Levels, NoMemory>
+        ensures { IfOk result (λ copy. copy ≡ self.now) }
+    {
+        let ops = self.ops.to_vec(alloc)?;
+        let txns = self.txns.to_vec(alloc)?;
+        Ok(Levels { ops, txns })
+    }
+
+    /// The level of an operation.
+    pub fn op(&self, o: OpId) -> Level
+        requires { o.0 < length self.now.ops }
+        ensures { slice_get self.now.ops o.0 ≡ Some result }
+    {
+        self.ops[o.0 as usize]
+    }
+
+    /// The level of a declared transaction.
+    pub fn txn(&self, d: DeclId) -> TxnLevel
+        requires { d.0 < length self.now.txns }
+        ensures { slice_get self.now.txns d.0 ≡ Some result }
+    {
+        self.txns[d.0 as usize]
+    }
+}
+
+#[cfg(test)]
+mod tests {
+    use super::*;
+    use crate::{formula, txn_formula};
+    use ql_lang::Body;
+    use std::test::Fail;
+
+    #[test]
+    fn formulas_and_copies_are_made(rt: HostRuntime) -> Result<(), Fail> {
+        let strong = formula(rt.alloc(), Level::Strong)?;
+        assert_eq!(rt; strong.vars.items().len(), 1);
+        assert!(rt; matches!(strong.body, Body::Implies(_, _)));
+        let mav = txn_formula(rt.alloc(), TxnLevel::Mav)?;
+        assert_eq!(rt; mav.vars.items().len(), 4);
+        assert!(rt; matches!(mav.body, Body::And(_, _)));
+        let ops = [Level::Causal].to_vec(rt.alloc())?;
+        let levels = Levels::of(ops, Vec::new(rt.alloc())).copy(rt.alloc())?;
+        assert_eq!(rt; levels.op(OpId(0)), Level::Causal);
+        Ok(())
+    }
+}

@@ -1,0 +1,60 @@
+ghost use Rattle.std.specs.Prelude.{◌≡◌, Some, IfSome};
+ghost use Rattle.ql_levels.specs.declared.level.Level.{Level};
+ghost use Rattle.ql_levels.specs.declared.level.TxnLevel.{TxnLevel};
+ghost use Rattle.ql_levels.specs.Words.{word_of, txn_word_of};
+
+use crate::level::{Level, TxnLevel};
+
+/// The word of a level.
+pub fn level_word(l: Level) -> &'static str
+    ensures { result.now ≡ word_of l }
+{
+    match l {
+        Level::Eventual => "eventual",
+        Level::Causal => "causal",
+        Level::Strong => "strong",
+    }
+}
+
+/// The word of a transaction's level.
+pub fn txn_word(l: TxnLevel) -> &'static str
+    ensures { result.now ≡ txn_word_of l }
+{
+    match l {
+        TxnLevel::Rc => "rc",
+        TxnLevel::Mav => "mav",
+        TxnLevel::Rr => "rr",
+    }
+}
+
+/// The level of a word; none where it is no level's.
+pub fn level_of(w: &[u8]) -> Option<Level>
+    ensures found { IfSome result (λ l. word_of l ≡ w.now) }
+    ensures only { (l : Level) → word_of l ≡ w.now → result ≡ Some l }
+{
+    if w == b"eventual".as_slice() {
+        Some(Level::Eventual)
+    } else if w == b"causal".as_slice() {
+        Some(Level::Causal)
+    } else if w == b"strong".as_slice() {
+        Some(Level::Strong)
+    } else {
+        None
+    }
+}
+
+/// The transaction level of a word; none where it is no level's.
+pub fn txn_of(w: &[u8]) -> Option<TxnLevel>
+    ensures found { IfSome result (λ l. txn_word_of l ≡ w.now) }
+    ensures only { (l : TxnLevel) → txn_word_of l ≡ w.now → result ≡ Some l }
+{
+    if w == b"rc".as_slice() {
+        Some(TxnLevel::Rc)
+    } else if w == b"mav".as_slice() {
+        Some(TxnLevel::Mav)
+    } else if w == b"rr".as_slice() {
+        Some(TxnLevel::Rr)
+    } else {
+        None
+    }
+}
