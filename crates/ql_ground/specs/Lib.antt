@@ -1,2 +1,4 @@
 pub mod Effects
 pub mod Relations
+pub mod Rules
+pub mod Ground
