@@ -1,4 +1,7 @@
 pub mod Effects
 pub mod Relations
 pub mod Rules
+pub mod Bodies
 pub mod Ground
+pub mod Truth
+pub mod Implication

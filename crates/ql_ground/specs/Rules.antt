@@ -121,12 +121,12 @@ committed_rule = rule 3 (Current i ∷ Pair SameTxn j k ∷ Pair SameObj j k ∷
 abbrev pub monotonic_rule : Rule
 monotonic_rule =
     rule 4 (Current i ∷ Current j ∷ Pair SameTxn k l ∷ Pair So i j ∷ Pair Vis k i ∷ Pair SameObj l j ∷ [])
-        (Current k ∷ Pair Vis l j ∷ [])
+    (Current k ∷ Pair Vis l j ∷ [])
 
 abbrev pub repeatable_rule : Rule
 repeatable_rule =
     rule 4 (Current i ∷ Current j ∷ Pair SameTxn k l ∷ Pair Vis k i ∷ Pair SameObj l j ∷ [])
-        (Current k ∷ Pair Vis l j ∷ [])
+    (Current k ∷ Pair Vis l j ∷ [])
 
 abbrev pub txn_level_rules : TxnLevel → List Rule
 txn_level_rules Rc = committed_rule ∷ []
