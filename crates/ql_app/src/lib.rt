@@ -12,6 +12,8 @@ mod program;
 mod question;
 mod question_text;
 mod status;
+#[cfg(test)]
+mod tests;
 mod truth;
 mod words;
 
