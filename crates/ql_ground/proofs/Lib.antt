@@ -1,2 +1,6 @@
 pub mod Paths
 pub mod Laws
+pub mod Upto
+pub mod ReadOff
+pub mod Instances
+pub mod Axioms
