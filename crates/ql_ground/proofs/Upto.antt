@@ -1,10 +1,10 @@
 -- Lists made over ranges and over choices: what stands where, and what all of them pass.
 use Rattle.std.proofs.Common.{◌≡◌, ℕ, zero, suc, ◌+◌, ◌*◌, ◌<◌, ◌≤◌, Bool, true, ◌&&◌, List, [], ◌∷◌, ◌++◌, length, get_or, refl, sym, ◌∙◌, ap, arith, inl, inr, length-append}
-use Rattle.std.proofs.lemmas.Bool.{and_from, cases_lt}
+use Rattle.std.proofs.lemmas.Bool.{and_from, or_left, or_right, cases_lt}
 use Rattle.std.proofs.lemmas.List.{get_or_append_left, get_or-append-add}
-use Rattle.std.proofs.lemmas.List.Folds.{list_all-append}
+use Rattle.std.proofs.lemmas.List.Folds.{list_all-append, list_any-append}
 use Rattle.std.proofs.lemmas.Nat.{mul-add-lt}
-use Rattle.std.specs.List.{list_all}
+use Rattle.std.specs.List.{list_all, list_any}
 use Rattle.ql_ground.specs.Ground.{upto, choices}
 
 pub length-upto : {A : Type 0} (n w : ℕ) (f : ℕ → List A) → ((i : ℕ) → length (f i) ≡ w) → length (upto n f) ≡ n * w
@@ -57,3 +57,11 @@ choices-all p n zero f h = h [] refl tt
 choices-all p n (suc places) f h =
     upto-all p n (λ first. choices n places (λ rest. f (first ∷ rest)))
         (λ i l. choices-all p n places (λ rest. f (i ∷ rest)) (λ rest e b. h (i ∷ rest) (omega arith) (l, b)))
+
+-- an item of a part passes
+pub upto-any : {A : Type 0} (p : A → Bool) (n : ℕ) (f : ℕ → List A) (i : ℕ) → i < n → list_any p (f i) ≡ true → list_any p (upto n f) ≡ true
+upto-any p zero f i l h = absurd (omega arith)
+upto-any p (suc n) f i l h = list_any-append p (upto n f) (f n) ∙ elim (cases_lt i n) [
+  | inl less ↦ or_left (list_any p (upto n f)) (list_any p (f n)) (upto-any p n f i less h)
+  | inr more ↦ or_right (list_any p (upto n f)) (list_any p (f n)) (ap (λ k. list_any p (f k)) (omega arith) ∙ h)
+]
