@@ -4,3 +4,4 @@ pub mod Upto
 pub mod ReadOff
 pub mod Instances
 pub mod Axioms
+pub mod Operations
