@@ -5,3 +5,4 @@ pub mod ReadOff
 pub mod Instances
 pub mod Axioms
 pub mod Operations
+pub mod LevelRules
