@@ -6,3 +6,4 @@ pub mod Instances
 pub mod Axioms
 pub mod Operations
 pub mod LevelRules
+pub mod Bodies

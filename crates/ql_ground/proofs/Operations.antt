@@ -15,7 +15,7 @@ use Rattle.ql_lang.specs.declared.formula.OpChoice.TheVariants.{Any, OneOf}
 use Rattle.ql_ground.specs.Effects.{Effect, effect_at}
 use Rattle.ql_ground.specs.Relations.{one, sameobj, is_op}
 use Rattle.ql_ground.specs.Truth.{in_range, Chosen}
-use Rattle.ql_ground.specs.Implication.{FitsProgram}
+use Rattle.ql_ground.specs.Implication.{FitsProgram, AreBelow, AreChoicesOf}
 use Rattle.ql_ground.specs.Ground.{upto, op, implication, some_operation, one_operation, one_type, variable_operations, all_variable_operations}
 use Rattle.ql_ground.proofs.Laws.{is_op-one, one-found, found-one}
 use Rattle.ql_ground.proofs.Upto.{all-append, upto-all, upto-any}
@@ -79,3 +79,28 @@ module _ (x : List Effect) (types : List ℕ) (fits : FitsProgram types x) (curr
 
   pub own_operation-true : (o : ℕ) (i : ℕ) → o < s.operations → i < s.constants → is_op x o (slice_index effects i) ≡ true → list_all (clause_true assigned) (implication s [] (Is (op o) i ∷ []) ∷ []) ≡ true
   own_operation-true o i l m h = clause [] (Is (op o) i ∷ []) tt ((l, m), tt) (λ g. inl h)
+
+  ops-fit : (ops : List ℕ) (v : ℕ) → AreBelow s.operations ops → v < s.constants → AllFit s (map (λ o. Is (op o) v) ops)
+  ops-fit [] v b l = tt
+  ops-fit (o ∷ ops) v b l = ((b.0, l), ops-fit ops v b.1 l)
+
+  ops-some : (ops : List ℕ) (v p : ℕ) (e : Effect) → slice_index effects v ≡ p → effect_at x p ≡ Some e → list_any (λ o. e.op == o) ops ≡ true → SomeTrue (map t (map (λ o. Is (op o) v) ops))
+  ops-some [] v p e same is h = absurd (false≢true h)
+  ops-some (o ∷ ops) v p e same is h = elim (or_cases (e.op == o) (list_any (λ q. e.op == q) ops) h) [
+    | inl here ↦ inl (ap (λ a. is_op x o a) same ∙ found-one (λ f. f.op == o) (effect_at x p) e is here)
+    | inr more ↦ inr (ops-some ops v p e same is more)
+  ]
+
+  -- 33: the variables that name operations
+  pub variables-true : (vars : List OpChoice) (places : List ℕ) (v : ℕ) → AreChoicesOf s.operations vars → Chosen x vars places → v + length vars ≤ s.constants → ((i : ℕ) → i < length vars → slice_index effects (v + i) ≡ slice_index places i) → list_all (clause_true assigned) (all_variable_operations s v vars) ≡ true
+  variables-true [] places v b c l h = refl
+  variables-true (Any ∷ vars) [] v b c l h = absurd c
+  variables-true (OneOf ops ∷ vars) [] v b c l h = absurd c
+  variables-true (Any ∷ vars) (p ∷ places) v b c l h =
+      variables-true vars places (suc v) b c.1 (omega arith) (λ i m. ap (λ k. slice_index effects k) (omega arith) ∙ h (suc i) (omega arith))
+  variables-true (OneOf ops ∷ vars) (p ∷ places) v b c l h =
+      let found = one-found (λ e. list_any (λ o. e.op == o) ops) (effect_at x p) c.0 in
+      let here : slice_index effects v ≡ p = ap (λ k. slice_index effects k) (omega arith) ∙ h 0 (omega arith) in
+      all-append (clause_true assigned) (implication s [] (map (λ o. Is (op o) v) ops) ∷ []) (all_variable_operations s (suc v) vars)
+          (clause [] (map (λ o. Is (op o) v) ops) tt (ops-fit ops v b.0 (omega arith)) (λ g. ops-some ops v p found.effect here found.effect_is found.holds))
+          (variables-true vars places (suc v) b.1 c.1 (omega arith) (λ i m. ap (λ k. slice_index effects k) (omega arith) ∙ h (suc i) (omega arith)))
