@@ -7,3 +7,5 @@ pub mod Axioms
 pub mod Operations
 pub mod LevelRules
 pub mod Bodies
+pub mod Inputs
+pub mod Soundness
