@@ -1,6 +1,6 @@
 -- The circuit of a body has the truth value of the body.
-use Rattle.std.proofs.Common.{◌≡◌, ℕ, zero, suc, ◌+◌, ◌<◌, ◌≤◌, Bool, true, false, not, ◌&&◌, ◌||◌, ◌⊎◌, inl, inr, List, [], ◌∷◌, ◌++◌, map, refl, sym, ◌∙◌, ap, arith}
-use Rattle.std.proofs.lemmas.Bool.{and_from, and_parts, both_ways, cases_Bool, false_from_ne_true, not_from_false}
+use Rattle.std.proofs.Common.{◌≡◌, ℕ, ◌<◌, Bool, true, false, not, ◌&&◌, ◌||◌, List, [], ◌∷◌, ◌++◌, map, refl, ◌∙◌, ap}
+use Rattle.std.proofs.lemmas.Bool.{and_from, and_parts, both_ways, false_from_ne_true, not_from_false}
 use Rattle.std.proofs.lemmas.List.Folds.{list_all-append}
 use Rattle.std.specs.Prelude.{slice_index}
 use Rattle.std.specs.Bool.{beq}
@@ -8,9 +8,8 @@ use Rattle.std.specs.List.{list_all}
 use Rattle.ql_atoms.specs.declared.atoms.Atom.{Atom}
 use Rattle.ql_atoms.specs.declared.atoms.Atom.TheVariants.{Pair, Current}
 use Rattle.ql_atoms.specs.declared.atoms.PairKind.TheVariants as kind
-use Rattle.ql_atoms.specs.Atoms.{Size, Fits, number_of, count_of}
-use Rattle.ql_atoms.proofs.Numbers.{counted}
-use Rattle.ql_cnf.specs.Circuits.{Circuit, Input, Both, circuit_true, InputsInRange}
+use Rattle.ql_atoms.specs.Atoms.{Size, Fits, number_of}
+use Rattle.ql_cnf.specs.Circuits.{Circuit, Both, circuit_true}
 use Rattle.ql_cnf.specs.Satisfaction.{value_of}
 use Rattle.ql_lang.specs.Trees.{Relation, Basic, Union, Intersection}
 use Rattle.ql_lang.specs.Formulas.{Statement, Always, Related, BothOf, OneOf, IfThen, InOneTxn}
@@ -18,7 +17,7 @@ use Rattle.ql_lang.specs.declared.relation.RelName.{RelName}
 use Rattle.ql_lang.specs.declared.relation.RelName.TheVariants.{Vis, So, Soo, SameObj, Eq, Hb, Hbo}
 use Rattle.ql_lang.specs.declared.formula.Term.{Term}
 use Rattle.ql_ground.specs.Effects.{Effect}
-use Rattle.ql_ground.specs.Relations.{so, sameobj, sametxn}
+use Rattle.ql_ground.specs.Relations.{so, sametxn}
 use Rattle.ql_ground.specs.Truth.{named, related, in_one_txn, place_of, statement_true}
 use Rattle.ql_ground.specs.Implication.{IsTermOf, AreTermsOf, IsBodyOf}
 use Rattle.ql_ground.specs.Bodies.{constant_of, holds, fails, named_circuit, relation_circuit, grouped, all_of, other_circuits, txn_circuit, body_circuit}
@@ -132,9 +131,9 @@ module _ (x : List Effect) (current : ℕ → Bool) (closed : (a b : ℕ) → cu
       ∙ list_all-append (circuit_true assigned) (map (λ m. holds s (Current m)) ms) (other_circuits s (c ∷ os))
       ∙ ap (λ b. b && list_all (circuit_true assigned) (other_circuits s (c ∷ os))) (members-true ms f)
       ∙ ap (λ b. list_all current (map place ms) && b)
-          (ap (λ b. b && list_all (circuit_true assigned) (map (λ d. holds s (Pair kind.SameTxn c d)) os)) (fails-true (Current c) g.0)
-          ∙ ap (λ b. not (current (place c)) && b) (same-true c os g.0 g.1)
-          ∙ others-law x current closed (place c) (map place os))
+      (ap (λ b. b && list_all (circuit_true assigned) (map (λ d. holds s (Pair kind.SameTxn c d)) os)) (fails-true (Current c) g.0)
+      ∙ ap (λ b. not (current (place c)) && b) (same-true c os g.0 g.1)
+      ∙ others-law x current closed (place c) (map place os))
 
   module _ (n : ℕ) (has_current : Bool) (places : List ℕ) (cur : ℕ) (terms : (t : Term) → IsTermOf n has_current t → (constant_of s t < s.constants) × (place (constant_of s t) ≡ place_of places cur t)) where
     constants : (ts : List Term) → AreTermsOf n has_current ts → AllConstants (map (constant_of s) ts)

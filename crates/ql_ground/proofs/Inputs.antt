@@ -1,9 +1,9 @@
 -- The inputs of a body's circuit are atoms of the problem.
-use Rattle.std.proofs.Common.{◌≡◌, ℕ, zero, suc, ◌+◌, ◌<◌, ◌≤◌, Bool, List, [], ◌∷◌, ◌++◌, map, arith}
+use Rattle.std.proofs.Common.{ℕ, ◌<◌, Bool, List, [], ◌∷◌, ◌++◌, map, arith}
 use Rattle.ql_atoms.specs.declared.atoms.Atom.{Atom}
 use Rattle.ql_atoms.specs.declared.atoms.Atom.TheVariants.{Pair, Current}
 use Rattle.ql_atoms.specs.declared.atoms.PairKind.TheVariants as kind
-use Rattle.ql_atoms.specs.Atoms.{Size, Fits, number_of, count_of}
+use Rattle.ql_atoms.specs.Atoms.{Size, Fits, count_of}
 use Rattle.ql_atoms.proofs.Numbers.{counted}
 use Rattle.ql_cnf.specs.Circuits.{Circuit, Both, InputsInRange}
 use Rattle.ql_lang.specs.Trees.{Relation, Basic, Union, Intersection}
@@ -12,7 +12,7 @@ use Rattle.ql_lang.specs.declared.relation.RelName.{RelName}
 use Rattle.ql_lang.specs.declared.relation.RelName.TheVariants.{Vis, So, Soo, SameObj, Eq, Hb, Hbo}
 use Rattle.ql_lang.specs.declared.formula.Term.{Term}
 use Rattle.ql_ground.specs.Implication.{IsTermOf, AreTermsOf, IsBodyOf}
-use Rattle.ql_ground.specs.Bodies.{constant_of, holds, fails, named_circuit, relation_circuit, grouped, all_of, other_circuits, txn_circuit, body_circuit}
+use Rattle.ql_ground.specs.Bodies.{constant_of, holds, fails, named_circuit, relation_circuit, grouped, all_of, other_circuits, body_circuit}
 
 module _ (s : Size) where
   abbrev In : Circuit → Type 0

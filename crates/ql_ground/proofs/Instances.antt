@@ -1,11 +1,9 @@
 -- A rule that is true of the chosen effects at every choice has true clauses.
-use Rattle.std.proofs.Common.{◌≡◌, ℕ, zero, suc, ◌+◌, ◌-◌, ◌<◌, ◌≤◌, Bool, true, false, not, ◌&&◌, ◌||◌, ◌⊎◌, inl, inr, List, [], ◌∷◌, ◌++◌, map, length, get_or, refl, sym, ◌∙◌, ap, arith}
-use Rattle.std.proofs.lemmas.Bool.{and_from, and_parts, or_left, or_right, not_from_false}
+use Rattle.std.proofs.Common.{◌≡◌, ℕ, zero, suc, ◌<◌, Bool, true, false, not, ◌||◌, ◌⊎◌, inl, inr, List, [], ◌∷◌, map, length, refl, ◌∙◌, ap, arith}
+use Rattle.std.proofs.lemmas.Bool.{and_from, or_left, or_right}
 use Rattle.std.proofs.lemmas.List.Folds.{list_any-append}
-use Rattle.std.specs.Prelude.{nat_lt}
 use Rattle.std.specs.Bool.{beq}
-use Rattle.std.specs.List.{list_all, list_any, slice_index_or, flat_map}
-use Rattle.ql_base.specs.declared.ids.OpId.{OpId}
+use Rattle.std.specs.List.{list_all, list_any}
 use Rattle.ql_atoms.specs.declared.atoms.Atom.{Atom}
 use Rattle.ql_atoms.specs.declared.atoms.Atom.TheVariants.{Pair, Current, Is}
 use Rattle.ql_atoms.specs.Atoms.{Size, Fits, number_of}
@@ -13,9 +11,8 @@ use Rattle.ql_cnf.specs.declared.lit.Lit.{Lit}
 use Rattle.ql_cnf.specs.Circuits.{yes, no}
 use Rattle.ql_cnf.specs.Satisfaction.{value_of, literal_true, clause_true}
 use Rattle.ql_ground.specs.Rules.{Rule}
-use Rattle.ql_ground.specs.Bodies.{current_effect}
-use Rattle.ql_ground.specs.Ground.{upto, choices, implication, chosen, at, instances, all_instances}
-use Rattle.ql_ground.proofs.Upto.{ForEach, AllBelow, each-at, choices-all, all-append}
+use Rattle.ql_ground.specs.Ground.{implication, chosen, at, instances}
+use Rattle.ql_ground.proofs.Upto.{ForEach, AllBelow, each-at, choices-all}
 use Rattle.ql_ground.proofs.ReadOff.{ReadsOff}
 
 -- where all hypotheses are true, one of the conclusions is
@@ -43,7 +40,7 @@ all_or_not (false ∷ hs) = inl refl
 pub implied-from : (hs cs : List Bool) → (AllTrue hs → SomeTrue cs) → implied hs cs ≡ true
 unfolding implied
 implied-from hs cs h = elim (all_or_not hs) [
-    inl no_hypothesis ↦ or_left (list_any not hs) (list_any (λ b. b) cs) no_hypothesis
+  | inl no_hypothesis ↦ or_left (list_any not hs) (list_any (λ b. b) cs) no_hypothesis
   | inr all ↦ or_right (list_any not hs) (list_any (λ b. b) cs) (some_true cs (h all))
 ]
 
@@ -118,9 +115,9 @@ module _ (assigned : List Bool) (s : Size) (t : Atom → Bool) (reads : ReadsOff
   pub instances-true : (r : Rule) → 0 < r.places → OpsFit s r.hypotheses → OpsFit s r.conclusions → ForEach s.constants r.places (λ constants. implied (map t (map (at s constants) r.hypotheses)) (map t (map (at s constants) r.conclusions)) ≡ true) → list_all (clause_true assigned) (instances s r) ≡ true
   instances-true r pos f g h =
       choices-all (clause_true assigned) s.constants r.places (λ constants. implication s (map (at s constants) r.hypotheses) (map (at s constants) r.conclusions) ∷ [])
-          (λ constants e b.
-              let some : 0 < s.constants = some-constant constants r.places pos e b in
-              one_clause (implication s (map (at s constants) r.hypotheses) (map (at s constants) r.conclusions))
-                  (implication-true (map (at s constants) r.hypotheses) (map (at s constants) r.conclusions)
-                      (all-at-fit constants r.hypotheses some b f) (all-at-fit constants r.conclusions some b g)
-                      (each-at s.constants r.places (λ chosen. implied (map t (map (at s chosen) r.hypotheses)) (map t (map (at s chosen) r.conclusions)) ≡ true) h constants e b)))
+      (λ constants e b.
+      let some : 0 < s.constants = some-constant constants r.places pos e b in
+      one_clause (implication s (map (at s constants) r.hypotheses) (map (at s constants) r.conclusions))
+      (implication-true (map (at s constants) r.hypotheses) (map (at s constants) r.conclusions)
+      (all-at-fit constants r.hypotheses some b f) (all-at-fit constants r.conclusions some b g)
+      (each-at s.constants r.places (λ chosen. implied (map t (map (at s chosen) r.hypotheses)) (map t (map (at s chosen) r.conclusions)) ≡ true) h constants e b)))

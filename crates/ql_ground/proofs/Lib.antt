@@ -8,4 +8,4 @@ pub mod Operations
 pub mod LevelRules
 pub mod Bodies
 pub mod Inputs
-pub mod Soundness
+pub mod Refuted

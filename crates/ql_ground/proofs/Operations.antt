@@ -1,26 +1,24 @@
 -- The groups on operations are true in every execution that fits the program.
-use Rattle.std.proofs.Common.{◌≡◌, ℕ, zero, suc, ◌+◌, ◌<◌, ◌≤◌, Bool, true, false, not, ◌||◌, ◌==◌, inl, inr, List, [], ◌∷◌, ◌++◌, map, length, cond, Some, refl, sym, ◌∙◌, ap, arith}
-use Rattle.std.proofs.lemmas.Bool.{or_left, or_right, or_cases, false≢true, eqb-true, eq-eqb, eqb-false, ltb-true}
+use Rattle.std.proofs.Common.{◌≡◌, ℕ, zero, suc, ◌+◌, ◌<◌, ◌≤◌, Bool, true, false, ◌==◌, inl, inr, List, [], ◌∷◌, ◌++◌, map, length, cond, Some, refl, ◌∙◌, ap, arith}
+use Rattle.std.proofs.lemmas.Bool.{or_left, or_cases, false≢true, eq-eqb, eqb-false, ltb-true}
 use Rattle.std.specs.Prelude.{slice_index, nat_lt}
 use Rattle.std.specs.List.{list_all, list_any}
-use Rattle.ql_base.specs.declared.ids.OpId.{OpId}
 use Rattle.ql_atoms.specs.declared.atoms.Atom.{Atom}
-use Rattle.ql_atoms.specs.declared.atoms.Atom.TheVariants.{Pair, Current, Is}
+use Rattle.ql_atoms.specs.declared.atoms.Atom.TheVariants.{Pair, Is}
 use Rattle.ql_atoms.specs.declared.atoms.PairKind.TheVariants.{SameObj}
-use Rattle.ql_atoms.specs.Atoms.{Size, Fits}
-use Rattle.ql_cnf.specs.declared.lit.Lit.{Lit}
+use Rattle.ql_atoms.specs.Atoms.{Size}
 use Rattle.ql_cnf.specs.Satisfaction.{clause_true}
 use Rattle.ql_lang.specs.declared.formula.OpChoice.{OpChoice}
 use Rattle.ql_lang.specs.declared.formula.OpChoice.TheVariants.{Any, OneOf}
 use Rattle.ql_ground.specs.Effects.{Effect, effect_at}
-use Rattle.ql_ground.specs.Relations.{one, sameobj, is_op}
-use Rattle.ql_ground.specs.Truth.{in_range, Chosen}
+use Rattle.ql_ground.specs.Relations.{is_op}
+use Rattle.ql_ground.specs.Truth.{Chosen}
 use Rattle.ql_ground.specs.Implication.{FitsProgram, AreBelow, AreChoicesOf}
-use Rattle.ql_ground.specs.Ground.{upto, op, implication, some_operation, one_operation, one_type, variable_operations, all_variable_operations}
+use Rattle.ql_ground.specs.Ground.{upto, op, implication, some_operation, one_operation, one_type, all_variable_operations}
 use Rattle.ql_ground.proofs.Laws.{is_op-one, one-found, found-one}
 use Rattle.ql_ground.proofs.Upto.{all-append, upto-all, upto-any}
 use Rattle.ql_ground.proofs.ReadOff.{ReadsOff}
-use Rattle.ql_ground.proofs.Instances.{implied, implied-from, AllTrue, SomeTrue, AllFit, implication-true, one_clause}
+use Rattle.ql_ground.proofs.Instances.{implied-from, AllTrue, SomeTrue, AllFit, implication-true, one_clause}
 use Rattle.ql_ground.proofs.Axioms.{atom_true}
 
 AllFit-append : (s : Size) (p q : List Atom) → AllFit s p → AllFit s q → AllFit s (p ++ q)
@@ -50,14 +48,14 @@ module _ (x : List Effect) (types : List ℕ) (fits : FitsProgram types x) (curr
       let own : is_op x e.0.op (slice_index effects i) ≡ true = found-one (λ f. f.op == e.0.op) (effect_at x (slice_index effects i)) e.0 e.1 (eq-eqb e.0.op e.0.op refl) in
       let known : e.0.op < s.operations = omega (arith, fits.known (slice_index effects i) e.0.op own) in
       clause [] (upto s.operations (λ o. Is (op o) i ∷ [])) tt (AllFit-upto s s.operations (λ o. Is (op o) i ∷ []) (λ o m. ((m, l), tt)))
-          (λ g. some_from t (upto s.operations (λ o. Is (op o) i ∷ [])) (upto-any t s.operations (λ o. Is (op o) i ∷ []) e.0.op known (or_left (is_op x e.0.op (slice_index effects i)) false own))))
+      (λ g. some_from t (upto s.operations (λ o. Is (op o) i ∷ [])) (upto-any t s.operations (λ o. Is (op o) i ∷ []) e.0.op known (or_left (is_op x e.0.op (slice_index effects i)) false own))))
 
   pub one_operation-true : list_all (clause_true assigned) (one_operation s) ≡ true
   one_operation-true =
       upto-all (clause_true assigned) s.constants _ (λ i l.
       upto-all (clause_true assigned) s.operations _ (λ o m.
       upto-all (clause_true assigned) s.operations (λ p. cond (nat_lt o p) (implication s (Is (op o) i ∷ Is (op p) i ∷ []) [] ∷ []) []) (λ p n.
-          two i o p l m n (nat_lt o p) refl)))
+      two i o p l m n (nat_lt o p) refl)))
     where
       two : (i o p : ℕ) → i < s.constants → o < s.operations → p < s.operations → (b : Bool) → nat_lt o p ≡ b → list_all (clause_true assigned) (cond b (implication s (Is (op o) i ∷ Is (op p) i ∷ []) [] ∷ []) []) ≡ true
       two i o p l m n false e = refl
@@ -70,7 +68,7 @@ module _ (x : List Effect) (types : List ℕ) (fits : FitsProgram types x) (curr
       upto-all (clause_true assigned) s.constants _ (λ j k.
       upto-all (clause_true assigned) s.operations _ (λ o m.
       upto-all (clause_true assigned) s.operations (λ p. cond (slice_index types o == slice_index types p) [] (implication s (Pair SameObj i j ∷ Is (op o) i ∷ Is (op p) j ∷ []) [] ∷ [])) (λ p n.
-          other i j o p l k m n (slice_index types o == slice_index types p) refl))))
+      other i j o p l k m n (slice_index types o == slice_index types p) refl))))
     where
       other : (i j o p : ℕ) → i < s.constants → j < s.constants → o < s.operations → p < s.operations → (b : Bool) → (slice_index types o == slice_index types p) ≡ b → list_all (clause_true assigned) (cond b [] (implication s (Pair SameObj i j ∷ Is (op o) i ∷ Is (op p) j ∷ []) [] ∷ [])) ≡ true
       other i j o p l k m n true e = refl
@@ -102,5 +100,5 @@ module _ (x : List Effect) (types : List ℕ) (fits : FitsProgram types x) (curr
       let found = one-found (λ e. list_any (λ o. e.op == o) ops) (effect_at x p) c.0 in
       let here : slice_index effects v ≡ p = ap (λ k. slice_index effects k) (omega arith) ∙ h 0 (omega arith) in
       all-append (clause_true assigned) (implication s [] (map (λ o. Is (op o) v) ops) ∷ []) (all_variable_operations s (suc v) vars)
-          (clause [] (map (λ o. Is (op o) v) ops) tt (ops-fit ops v b.0 (omega arith)) (λ g. ops-some ops v p found.effect here found.effect_is found.holds))
-          (variables-true vars places (suc v) b.1 c.1 (omega arith) (λ i m. ap (λ k. slice_index effects k) (omega arith) ∙ h (suc i) (omega arith)))
+      (clause [] (map (λ o. Is (op o) v) ops) tt (ops-fit ops v b.0 (omega arith)) (λ g. ops-some ops v p found.effect here found.effect_is found.holds))
+      (variables-true vars places (suc v) b.1 c.1 (omega arith) (λ i m. ap (λ k. slice_index effects k) (omega arith) ∙ h (suc i) (omega arith)))

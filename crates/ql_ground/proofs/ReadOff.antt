@@ -1,8 +1,7 @@
 -- An assignment read off a truth value for each atom.
-use Rattle.std.proofs.Common.{◌≡◌, ℕ, zero, suc, ◌+◌, ◌-◌, ◌*◌, ◌<◌, ◌≤◌, Bool, true, false, List, [], ◌∷◌, ◌++◌, length, get_or, refl, sym, ◌∙◌, ap, arith, length-append}
+use Rattle.std.proofs.Common.{◌≡◌, ℕ, ◌+◌, ◌*◌, ◌<◌, Bool, false, List, [], ◌∷◌, ◌++◌, length, get_or, refl, sym, ◌∙◌, ap, arith, length-append}
 use Rattle.std.proofs.lemmas.List.{get_or_append_left, get_or-append-add}
 use Rattle.std.proofs.lemmas.Nat.{mul-add-lt}
-use Rattle.ql_base.specs.declared.ids.OpId.{OpId}
 use Rattle.ql_atoms.specs.declared.atoms.Atom.{Atom}
 use Rattle.ql_atoms.specs.declared.atoms.Atom.TheVariants.{Pair, Current, Is}
 use Rattle.ql_atoms.specs.declared.atoms.PairKind.{PairKind}
@@ -119,7 +118,9 @@ pub record ReadsOff (a : List Bool) (s : Size) (t : Atom → Bool) : Type 0 wher
 
 -- the assignment that is read off, whatever comes after
 pub reads_off : (s : Size) (t : Atom → Bool) (more : List Bool) → ReadsOff (read_off s t ++ more) s t
-reads_off s t more = record { value = λ atom h.
-    ap (λ p. get_or (read_off s t ++ more) p false) (omega arith)
-    ∙ get_or_append_left (read_off s t) more false (place_of s atom) (omega (arith, length-read_off s t, counted s atom h))
-    ∙ read_off-at s t atom h }
+reads_off s t more = record {
+  value = λ atom h.
+      ap (λ p. get_or (read_off s t ++ more) p false) (omega arith)
+      ∙ get_or_append_left (read_off s t) more false (place_of s atom) (omega (arith, length-read_off s t, counted s atom h))
+      ∙ read_off-at s t atom h;
+}

@@ -1,5 +1,5 @@
 -- Lists made over ranges and over choices: what stands where, and what all of them pass.
-use Rattle.std.proofs.Common.{◌≡◌, ℕ, zero, suc, ◌+◌, ◌*◌, ◌<◌, ◌≤◌, Bool, true, ◌&&◌, List, [], ◌∷◌, ◌++◌, length, get_or, refl, sym, ◌∙◌, ap, arith, inl, inr, length-append}
+use Rattle.std.proofs.Common.{◌≡◌, ℕ, zero, suc, ◌+◌, ◌*◌, ◌<◌, Bool, true, List, [], ◌∷◌, ◌++◌, length, get_or, refl, sym, ◌∙◌, ap, arith, inl, inr, length-append}
 use Rattle.std.proofs.lemmas.Bool.{and_from, or_left, or_right, cases_lt}
 use Rattle.std.proofs.lemmas.List.{get_or_append_left, get_or-append-add}
 use Rattle.std.proofs.lemmas.List.Folds.{list_all-append, list_any-append}
@@ -56,7 +56,7 @@ pub choices-all : {A : Type 0} (p : A → Bool) (n places : ℕ) (f : List ℕ �
 choices-all p n zero f h = h [] refl tt
 choices-all p n (suc places) f h =
     upto-all p n (λ first. choices n places (λ rest. f (first ∷ rest)))
-        (λ i l. choices-all p n places (λ rest. f (i ∷ rest)) (λ rest e b. h (i ∷ rest) (omega arith) (l, b)))
+    (λ i l. choices-all p n places (λ rest. f (i ∷ rest)) (λ rest e b. h (i ∷ rest) (omega arith) (l, b)))
 
 -- an item of a part passes
 pub upto-any : {A : Type 0} (p : A → Bool) (n : ℕ) (f : ℕ → List A) (i : ℕ) → i < n → list_any p (f i) ≡ true → list_any p (upto n f) ≡ true

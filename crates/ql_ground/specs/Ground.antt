@@ -1,6 +1,6 @@
 -- The ground clauses of a goal, group by group. A clause here is the list of its literals as they come; the
 -- problem's clauses are these sorted by variable, without those that hold both signs of one.
-use Rattle.std.specs.Prelude.{ℕ, zero, suc, ◌+◌, ◌-◌, Bool, ◌==◌, nat_lt, if◌then◌else◌, List, [], ◌∷◌, ◌++◌, map, length, slice_index}
+use Rattle.std.specs.Prelude.{ℕ, zero, suc, ◌+◌, ◌==◌, nat_lt, if◌then◌else◌, List, [], ◌∷◌, ◌++◌, map, length, slice_index}
 use Rattle.std.specs.List.{flat_map, slice_index_or}
 use Rattle.ql_base.specs.declared.ids.OpId.{OpId}
 use Rattle.ql_atoms.specs.declared.atoms.Atom.{Atom}
