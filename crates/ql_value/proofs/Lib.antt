@@ -3,3 +3,6 @@ mod Ascending
 pub mod ScalarOrder
 pub mod Keeping
 mod Separated
+mod NumberText
+mod QuotedText
+mod ReadSteps

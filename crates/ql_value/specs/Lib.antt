@@ -6,3 +6,4 @@ pub mod Contents
 pub mod ValueOrder
 pub mod Places
 pub mod Spelling
+pub mod Reading

@@ -5,9 +5,12 @@
 
 mod contents;
 mod copying;
+mod fault;
 mod maps;
 mod ordering;
 mod printing;
+mod reading;
+mod reading_scalar;
 mod saturating;
 mod scalar;
 mod sets;
@@ -15,9 +18,11 @@ mod value;
 
 pub use contents::{has, size};
 pub use copying::{copy, copy_map, copy_scalar, copy_set, copy_text};
+pub use fault::ValueFault;
 pub use maps::{drop_key, get, put, sum};
 pub use ordering::{order, same_scalar, scalar_order};
 pub use printing::print_value;
+pub use reading::parse_value;
 pub use saturating::{sat_add, sat_mul, sat_neg, sat_sub};
 pub use scalar::{Scalar, TextVal};
 pub use sets::{add, remove, union};
