@@ -1,1 +1,12 @@
 pub mod TerminalLemmas
+pub mod Wanted
+pub mod Sound
+pub mod Steps
+pub mod Told
+pub mod Paths
+pub mod Again
+pub mod Laws
+pub mod Choices
+pub mod Taking
+pub mod Fixed
+pub mod Rules

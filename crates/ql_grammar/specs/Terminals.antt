@@ -79,93 +79,49 @@ is_same a b = nat_eq (number a) (number b)
 abbrev pub is_spelled : List ℕ → List ℕ → Bool
 is_spelled text word = pointwise nat_eq text word
 
+-- the terminal that these bytes spell in a table, else the other one
+abbrev pub spelled_in : List (List ℕ × Terminal) → List ℕ → Terminal → Terminal
+spelled_in [] w other = other
+spelled_in (row ∷ rows) w other = if is_spelled w row.0 then row.1 else spelled_in rows w other
+
 -- the names of relations
+abbrev pub relation_words : List (List ℕ × Terminal)
+relation_words = (codes "vis", VisWord) ∷ (codes "so", SoWord) ∷ (codes "soo", SooWord) ∷ (codes "sameobj", SameObjWord) ∷ (codes "eq", EqWord) ∷ (codes "hb", HbWord) ∷ (codes "hbo", HboWord) ∷ []
+
 unfoldable pub relation_word : List ℕ → Terminal
-relation_word w =
-    if is_spelled w (codes "vis") then VisWord else (
-    if is_spelled w (codes "so") then SoWord else (
-    if is_spelled w (codes "soo") then SooWord else (
-    if is_spelled w (codes "sameobj") then SameObjWord else (
-    if is_spelled w (codes "eq") then EqWord else (
-    if is_spelled w (codes "hb") then HbWord else (
-    if is_spelled w (codes "hbo") then HboWord else (
-    NoTerminal)))))))
+relation_word w = spelled_in relation_words w NoTerminal
 
 -- the words of contracts and values
+abbrev pub logic_words : List (List ℕ × Terminal)
+logic_words = (codes "forall", ForallWord) ∷ (codes "true", TrueWord) ∷ (codes "false", FalseWord) ∷ (codes "unit", UnitWord) ∷ (codes "empty", EmptyWord) ∷ (codes "cur", CurWord) ∷ (codes "txn", TxnWord) ∷ []
+
 unfoldable pub logic_word : List ℕ → Terminal
-logic_word w =
-    if is_spelled w (codes "forall") then ForallWord else (
-    if is_spelled w (codes "true") then TrueWord else (
-    if is_spelled w (codes "false") then FalseWord else (
-    if is_spelled w (codes "unit") then UnitWord else (
-    if is_spelled w (codes "empty") then EmptyWord else (
-    if is_spelled w (codes "cur") then CurWord else (
-    if is_spelled w (codes "txn") then TxnWord else (
-    relation_word w)))))))
+logic_word w = spelled_in logic_words w (relation_word w)
 
 -- the words of expressions and kinds
+abbrev pub expression_words : List (List ℕ × Terminal)
+expression_words = (codes "if", IfWord) ∷ (codes "then", ThenWord) ∷ (codes "else", ElseWord) ∷ (codes "and", AndWord) ∷ (codes "or", OrWord) ∷ (codes "not", NotWord) ∷ (codes "int", IntWord) ∷ (codes "bool", BoolWord) ∷ (codes "text", TextWord) ∷ (codes "set", SetWord) ∷ (codes "map", MapWord) ∷ []
+
 unfoldable pub expression_word : List ℕ → Terminal
-expression_word w =
-    if is_spelled w (codes "if") then IfWord else (
-    if is_spelled w (codes "then") then ThenWord else (
-    if is_spelled w (codes "else") then ElseWord else (
-    if is_spelled w (codes "and") then AndWord else (
-    if is_spelled w (codes "or") then OrWord else (
-    if is_spelled w (codes "not") then NotWord else (
-    if is_spelled w (codes "int") then IntWord else (
-    if is_spelled w (codes "bool") then BoolWord else (
-    if is_spelled w (codes "text") then TextWord else (
-    if is_spelled w (codes "set") then SetWord else (
-    if is_spelled w (codes "map") then MapWord else (
-    logic_word w)))))))))))
+expression_word w = spelled_in expression_words w (logic_word w)
 
 -- the words of declarations
+abbrev pub declaration_words : List (List ℕ × Terminal)
+declaration_words = (codes "type", TypeWord) ∷ (codes "state", StateWord) ∷ (codes "op", OpWord) ∷ (codes "contract", ContractWord) ∷ (codes "answer", AnswerWord) ∷ (codes "emit", EmitWord) ∷ (codes "when", WhenWord) ∷ (codes "apply", ApplyWord) ∷ (codes "transaction", TransactionWord) ∷ (codes "uses", UsesWord) ∷ []
+
 unfoldable pub keyword : List ℕ → Terminal
-keyword w =
-    if is_spelled w (codes "type") then TypeWord else (
-    if is_spelled w (codes "state") then StateWord else (
-    if is_spelled w (codes "op") then OpWord else (
-    if is_spelled w (codes "contract") then ContractWord else (
-    if is_spelled w (codes "answer") then AnswerWord else (
-    if is_spelled w (codes "emit") then EmitWord else (
-    if is_spelled w (codes "when") then WhenWord else (
-    if is_spelled w (codes "apply") then ApplyWord else (
-    if is_spelled w (codes "transaction") then TransactionWord else (
-    if is_spelled w (codes "uses") then UsesWord else (
-    expression_word w))))))))))
+keyword w = spelled_in declaration_words w (expression_word w)
 
 -- the operators
+abbrev pub operators : List (List ℕ × Terminal)
+operators = (codes "=", Equals) ∷ (codes ":=", Assign) ∷ (codes "=>", Arrow) ∷ (codes "==", IsEqual) ∷ (codes "!=", NotEqual) ∷ (codes "<", Less) ∷ (codes "<=", LessEqual) ∷ (codes ">", Greater) ∷ (codes ">=", GreaterEqual) ∷ (codes "+", Plus) ∷ (codes "-", Minus) ∷ (codes "*", Times) ∷ (codes "/\\", AndMark) ∷ (codes "\\/", OrMark) ∷ (codes "|", Bar) ∷ (codes "&", Ampersand) ∷ []
+
 unfoldable pub operator : List ℕ → Terminal
-operator w =
-    if is_spelled w (codes "=") then Equals else (
-    if is_spelled w (codes ":=") then Assign else (
-    if is_spelled w (codes "=>") then Arrow else (
-    if is_spelled w (codes "==") then IsEqual else (
-    if is_spelled w (codes "!=") then NotEqual else (
-    if is_spelled w (codes "<") then Less else (
-    if is_spelled w (codes "<=") then LessEqual else (
-    if is_spelled w (codes ">") then Greater else (
-    if is_spelled w (codes ">=") then GreaterEqual else (
-    if is_spelled w (codes "+") then Plus else (
-    if is_spelled w (codes "-") then Minus else (
-    if is_spelled w (codes "*") then Times else (
-    if is_spelled w (codes "/\\") then AndMark else (
-    if is_spelled w (codes "\\/") then OrMark else (
-    if is_spelled w (codes "|") then Bar else (
-    if is_spelled w (codes "&") then Ampersand else (
-    NoTerminal))))))))))))))))
+operator w = spelled_in operators w NoTerminal
 
 -- the brackets and separators
+abbrev pub brackets : List (List ℕ × Terminal)
+brackets = (codes "{", OpenBrace) ∷ (codes "}", CloseBrace) ∷ (codes "(", OpenParen) ∷ (codes ")", CloseParen) ∷ (codes "[", OpenBracket) ∷ (codes "]", CloseBracket) ∷ (codes ",", Comma) ∷ (codes ";", Semicolon) ∷ (codes ":", Colon) ∷ (codes ".", Dot) ∷ []
+
 unfoldable pub mark : List ℕ → Terminal
-mark w =
-    if is_spelled w (codes "{") then OpenBrace else (
-    if is_spelled w (codes "}") then CloseBrace else (
-    if is_spelled w (codes "(") then OpenParen else (
-    if is_spelled w (codes ")") then CloseParen else (
-    if is_spelled w (codes "[") then OpenBracket else (
-    if is_spelled w (codes "]") then CloseBracket else (
-    if is_spelled w (codes ",") then Comma else (
-    if is_spelled w (codes ";") then Semicolon else (
-    if is_spelled w (codes ":") then Colon else (
-    if is_spelled w (codes ".") then Dot else (
-    operator w))))))))))
+mark w = spelled_in brackets w (operator w)

@@ -2,6 +2,8 @@
 // It has the terminals that the grammar speaks of, and no reader: its definitions say what a reader must answer.
 #![tactic(auto)]
 
+mod role;
 mod terminal;
 
-pub use terminal::Terminal;
+pub use role::Role;
+pub use terminal::{Terminal, is_same, terminal_of};

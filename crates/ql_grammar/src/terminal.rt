@@ -1,5 +1,8 @@
 ghost use Rattle.std.specs.Prelude.{◌≡◌};
 ghost use Rattle.ql_grammar.specs.Terminals.{is_same, keyword, expression_word, logic_word, relation_word, mark, operator};
+ghost use Rattle.ql_grammar.specs.Tokens.{terminal_of};
+
+use ql_lex::TokenKind;
 
 /// What the grammar tells apart in a token: a name, a number, a text, or one of the fixed words and marks.
 #[derive(Clone, Copy, Debug, PartialEq, Eq)]
@@ -309,4 +312,18 @@ fn mark(text: &[u8]) -> Terminal
         return Terminal::Dot;
     }
     operator(text)
+}
+
+/// The terminal of a token of this kind with these bytes.
+#[tactic(auto, unfolding(crate::specs::Tokens::terminal_of))]
+pub fn terminal_of(what: TokenKind, text: &[u8]) -> Terminal
+    ensures { result ≡ terminal_of what text.now }
+{
+    match what {
+        TokenKind::Name => Terminal::NameToken,
+        TokenKind::Int => Terminal::IntToken,
+        TokenKind::Text => Terminal::TextToken,
+        TokenKind::Mark => mark(text),
+        TokenKind::Keyword => keyword(text),
+    }
 }

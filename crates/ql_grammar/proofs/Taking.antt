@@ -1,0 +1,80 @@
+use Rattle.std.proofs.Common.{◌≡◌, ℕ, List, [], ◌∷◌, Bool, true, false, Result, Ok, Err, refl, sym, ap, ◌∙◌, cond, drop}
+use Rattle.ql_grammar.specs.declared.terminal.Terminal.{Terminal}
+use Rattle.ql_grammar.specs.declared.terminal.Terminal.TheVariants.{NameToken}
+use Rattle.ql_grammar.specs.declared.role.Role.{Role}
+use Rattle.ql_grammar.specs.Terminals.{is_same}
+use Rattle.ql_grammar.specs.Tokens.{Lexeme}
+use Rattle.ql_grammar.specs.Limits.{Fault, Unexpected, Counts, counted, if_within}
+use Rattle.ql_grammar.specs.Table.{Value, APlace, AName, Sym, Word, Placed, ANameOf}
+use Rattle.ql_grammar.specs.Machine.{lead, step, finish, go_on, Reading, run, read, is_ahead, place_ahead}
+
+-- What a reading does at a word or a name.
+
+-- the reading behind the next token, with these counts
+abbrev pub behind : Reading → Counts → Reading
+behind r c = record { tokens = drop 1 r.tokens; counts = c; end = r.end }
+
+-- the bytes of the next token
+abbrev pub text_ahead : List Lexeme → List ℕ
+text_ahead [] = []
+text_ahead (t ∷ ts) = t.text
+
+word_at : (ts : List Lexeme) (c : Counts) (end : ℕ) (k : Terminal) (role : Role) (below : List Sym) (vs : List Value) → is_ahead k ts ≡ true → run ts (Word k role ∷ below) vs c end ≡ if_within (counted c role (place_ahead ts end)) (λ d. run (drop 1 ts) below vs d end)
+unfolding run step lead is_ahead
+word_at [] c end k role below vs sees = cc
+word_at (t ∷ ts) c end k role below vs sees = rw sees refl
+
+word_not_at : (ts : List Lexeme) (c : Counts) (end : ℕ) (k : Terminal) (role : Role) (below : List Sym) (vs : List Value) → is_ahead k ts ≡ false → run ts (Word k role ∷ below) vs c end ≡ Err (Unexpected (place_ahead ts end))
+unfolding run step lead is_ahead finish
+word_not_at [] c end k role below vs sees = refl
+word_not_at (t ∷ ts) c end k role below vs sees = rw sees refl
+
+placed_at : (ts : List Lexeme) (c : Counts) (end : ℕ) (k : Terminal) (role : Role) (below : List Sym) (vs : List Value) → is_ahead k ts ≡ true → run ts (Placed k role ∷ below) vs c end ≡ if_within (counted c role (place_ahead ts end)) (λ d. run (drop 1 ts) below (APlace (place_ahead ts end) ∷ vs) d end)
+unfolding run step lead is_ahead
+placed_at [] c end k role below vs sees = cc
+placed_at (t ∷ ts) c end k role below vs sees = rw sees refl
+
+placed_not_at : (ts : List Lexeme) (c : Counts) (end : ℕ) (k : Terminal) (role : Role) (below : List Sym) (vs : List Value) → is_ahead k ts ≡ false → run ts (Placed k role ∷ below) vs c end ≡ Err (Unexpected (place_ahead ts end))
+unfolding run step lead is_ahead finish
+placed_not_at [] c end k role below vs sees = refl
+placed_not_at (t ∷ ts) c end k role below vs sees = rw sees refl
+
+name_at : (ts : List Lexeme) (c : Counts) (end : ℕ) (role : Role) (below : List Sym) (vs : List Value) → is_ahead NameToken ts ≡ true → run ts (ANameOf role ∷ below) vs c end ≡ if_within (counted c role (place_ahead ts end)) (λ d. run (drop 1 ts) below (AName (record { word = text_ahead ts; at = place_ahead ts end }) ∷ vs) d end)
+unfolding run step lead is_ahead
+name_at [] c end role below vs sees = cc
+name_at (t ∷ ts) c end role below vs sees = rw sees refl
+
+name_not_at : (ts : List Lexeme) (c : Counts) (end : ℕ) (role : Role) (below : List Sym) (vs : List Value) → is_ahead NameToken ts ≡ false → run ts (ANameOf role ∷ below) vs c end ≡ Err (Unexpected (place_ahead ts end))
+unfolding run step lead is_ahead finish
+name_not_at [] c end role below vs sees = refl
+name_not_at (t ∷ ts) c end role below vs sees = rw sees refl
+
+pub word_taken : (r : Reading) (k : Terminal) (role : Role) (below : List Sym) (vs : List Value) → is_ahead k r.tokens ≡ true → read r (Word k role ∷ below) vs ≡ if_within (counted r.counts role (place_ahead r.tokens r.end)) (λ d. read (behind r d) below vs)
+unfolding read
+word_taken r k role below vs sees = word_at r.tokens r.counts r.end k role below vs sees
+
+pub word_missing : (r : Reading) (k : Terminal) (role : Role) (below : List Sym) (vs : List Value) → is_ahead k r.tokens ≡ false → read r (Word k role ∷ below) vs ≡ Err (Unexpected (place_ahead r.tokens r.end))
+unfolding read
+word_missing r k role below vs sees = word_not_at r.tokens r.counts r.end k role below vs sees
+
+pub placed_taken : (r : Reading) (k : Terminal) (role : Role) (below : List Sym) (vs : List Value) → is_ahead k r.tokens ≡ true → read r (Placed k role ∷ below) vs ≡ if_within (counted r.counts role (place_ahead r.tokens r.end)) (λ d. read (behind r d) below (APlace (place_ahead r.tokens r.end) ∷ vs))
+unfolding read
+placed_taken r k role below vs sees = placed_at r.tokens r.counts r.end k role below vs sees
+
+pub placed_missing : (r : Reading) (k : Terminal) (role : Role) (below : List Sym) (vs : List Value) → is_ahead k r.tokens ≡ false → read r (Placed k role ∷ below) vs ≡ Err (Unexpected (place_ahead r.tokens r.end))
+unfolding read
+placed_missing r k role below vs sees = placed_not_at r.tokens r.counts r.end k role below vs sees
+
+pub name_taken : (r : Reading) (role : Role) (below : List Sym) (vs : List Value) → is_ahead NameToken r.tokens ≡ true → read r (ANameOf role ∷ below) vs ≡ if_within (counted r.counts role (place_ahead r.tokens r.end)) (λ d. read (behind r d) below (AName (record { word = text_ahead r.tokens; at = place_ahead r.tokens r.end }) ∷ vs))
+unfolding read
+name_taken r role below vs sees = name_at r.tokens r.counts r.end role below vs sees
+
+pub name_missing : (r : Reading) (role : Role) (below : List Sym) (vs : List Value) → is_ahead NameToken r.tokens ≡ false → read r (ANameOf role ∷ below) vs ≡ Err (Unexpected (place_ahead r.tokens r.end))
+unfolding read
+name_missing r role below vs sees = name_not_at r.tokens r.counts r.end role below vs sees
+
+-- where the next token is some one, there is a token
+pub some_ahead : (k : Terminal) (ts : List Lexeme) → is_ahead k ts ≡ true → (t : Lexeme) × (us : List Lexeme) × (ts ≡ t ∷ us)
+unfolding is_ahead
+some_ahead k [] sees = cc
+some_ahead k (t ∷ ts) sees = (t, ts, refl)

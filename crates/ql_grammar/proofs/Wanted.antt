@@ -1,0 +1,42 @@
+use Rattle.std.proofs.Common.{◌≡◌, ℕ, List, [], ◌∷◌, Option, Some, None, Bool, true, false, refl, cond, sym, ◌++◌}
+use Rattle.ql_lang.specs.declared.name.Name.{Name}
+use Rattle.ql_lang.specs.declared.relation.RelName.{RelName}
+use Rattle.ql_lang.specs.declared.relation.RelName.TheVariants.{Eq}
+use Rattle.ql_lang.specs.declared.contract.Point.{Point}
+use Rattle.ql_lang.specs.declared.contract.Point.TheVariants.{CurAt, Named}
+use Rattle.ql_lang.specs.declared.contract.Var.{Var}
+use Rattle.ql_lang.specs.Trees.{Relation, Basic, Union, Intersection, Proposition, Truth, Application, Conjunction, Disjunction, Implication, InTxn, Sentence}
+use Rattle.ql_grammar.specs.declared.terminal.Terminal.{Terminal}
+use Rattle.ql_grammar.specs.declared.terminal.Terminal.TheVariants.{NameToken, CurWord, ForallWord, TrueWord, TxnWord, VisWord, SoWord, SooWord, SameObjWord, EqWord, HbWord, HboWord, OpenBrace, CloseBrace, OpenParen, CloseParen, OpenBracket, CloseBracket, Comma, Colon, Dot, Equals, Arrow, AndMark, OrMark, Bar, Ampersand}
+use Rattle.ql_grammar.specs.Terminals.{is_same}
+use Rattle.ql_grammar.specs.declared.role.Role.{Role}
+use Rattle.ql_grammar.specs.declared.role.Role.TheVariants.{Plain, Makes, Opens, Closes}
+use Rattle.ql_grammar.specs.Tokens.{Marked, marked}
+use Rattle.ql_grammar.specs.ContractGrammar
+use Rattle.ql_grammar.specs.ContractGrammar.{ReadsTerm, ReadsTerms, ReadsRelation, RelationPart, Applied, Single, Product, Sum, ReadsProp, PropPart, Atom, Both, Either, Whole, ReadsNames, ReadsVar, ReadsVars, ReadsContract}
+use Rattle.ql_grammar.specs.Table.{Value, APlace, AName, ATerm, TheTerms, ARelation, AProp, TheNames, AVar, TheVars, ASentence, Sym, Word, Placed, ANameOf, Do, APart, Then, Part, Term, TermList, RelationAt, PropAt, BarredNames, Variable, VarList, WholeContract, Rest, ways, way_on, MoreTerms, MoreFactors, MoreSummands, MoreAnds, MoreOrs, MoreImplied, MoreNames, Operations, MoreVars, add_name, set_operations, add_var, add_term, intersect, unite, conjoin, disjoin, imply, to_variable, to_free}
+use Rattle.ql_grammar.specs.Machine.{Taken, or_else, lead, first_fit, step}
+use Rattle.ql_grammar.proofs.TerminalLemmas.{same_terminal}
+
+-- The text that a stack wants: `Has stack values ts out` says that `ts` is such a text, and that the values
+-- become `out` at its end.
+pub data Has : List Sym → List Value → List Marked → List Value → Type 0 where
+  none : {vs : List Value} → Has [] vs [] vs
+  word : {k : Terminal} {r : Role} {x : List ℕ} {n : ℕ} {below : List Sym} {vs out : List Value} {ts : List Marked} → Has below vs ts out → Has (Word k r ∷ below) vs (marked r k x n ∷ ts) out
+  placed : {k : Terminal} {r : Role} {x : List ℕ} {n : ℕ} {below : List Sym} {vs out : List Value} {ts : List Marked} → Has below (APlace n ∷ vs) ts out → Has (Placed k r ∷ below) vs (marked r k x n ∷ ts) out
+  name : {r : Role} {x : List ℕ} {n : ℕ} {below : List Sym} {vs out : List Value} {ts : List Marked} → Has below (AName (record { word = x; at = n }) ∷ vs) ts out → Has (ANameOf r ∷ below) vs (marked r NameToken x n ∷ ts) out
+  change : {f : List Value → List Value} {below : List Sym} {vs out : List Value} {ts : List Marked} → Has below (f vs) ts out → Has (Do f ∷ below) vs ts out
+  term : {r : Role} {p : Point} {below : List Sym} {vs out : List Value} {ts rest : List Marked} → ReadsTerm r ts rest p → Has below (ATerm p ∷ vs) rest out → Has (APart (Term r) ∷ below) vs ts out
+  terms : {ps : List Point} {below : List Sym} {vs out : List Value} {ts rest : List Marked} → ReadsTerms ts rest ps → Has below (TheTerms ps ∷ vs) rest out → Has (APart TermList ∷ below) vs ts out
+  relation : {part : RelationPart} {r : Relation} {below : List Sym} {vs out : List Value} {ts rest : List Marked} → ReadsRelation part ts rest r → Has below (ARelation r ∷ vs) rest out → Has (APart (RelationAt part) ∷ below) vs ts out
+  prop : {part : PropPart} {p : Proposition} {below : List Sym} {vs out : List Value} {ts rest : List Marked} → ReadsProp part ts rest p → Has below (AProp p ∷ vs) rest out → Has (APart (PropAt part) ∷ below) vs ts out
+  names : {ns : List Name} {below : List Sym} {vs out : List Value} {ts rest : List Marked} → ReadsNames Bar ts rest ns → Has below (TheNames ns ∷ vs) rest out → Has (APart BarredNames ∷ below) vs ts out
+  variable : {v : Var} {below : List Sym} {vs out : List Value} {ts rest : List Marked} → ReadsVar ts rest v → Has below (AVar v ∷ vs) rest out → Has (APart Variable ∷ below) vs ts out
+  vars : {vars : List Var} {below : List Sym} {vs out : List Value} {ts rest : List Marked} → ReadsVars ts rest vars → Has below (TheVars vars ∷ vs) rest out → Has (APart VarList ∷ below) vs ts out
+  contract : {s : Sentence} {below : List Sym} {vs out : List Value} {ts rest : List Marked} → ReadsContract ts rest s → Has below (ASentence s ∷ vs) rest out → Has (APart WholeContract ∷ below) vs ts out
+  stop : {l : Rest} {below : List Sym} {vs out : List Value} {ts : List Marked} → Has below vs ts out → Has (Then l ∷ below) vs ts out
+  go : {l : Rest} {below : List Sym} {vs out : List Value} {ts : List Marked} → Has (way_on l below) vs ts out → Has (Then l ∷ below) vs ts out
+
+-- every text of the one stack is one of the other, whatever the values
+abbrev pub Widens : List Sym → List Sym → Type 0
+Widens from to = (vs out : List Value) (ts : List Marked) → Has from vs ts out → Has to vs ts out

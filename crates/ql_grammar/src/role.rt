@@ -1,0 +1,14 @@
+/// What a token does to the counts of the expression or contract that it stands in.
+#[derive(Clone, Copy, Debug, PartialEq, Eq)]
+pub enum Role {
+    /// Nothing.
+    Plain,
+    /// It makes so many nodes.
+    Makes(usize),
+    /// It opens a bracket and makes so many nodes.
+    Opens(usize),
+    /// It closes a bracket.
+    Closes,
+    /// It stands before a new expression or contract.
+    Before,
+}
