@@ -2,3 +2,4 @@ pub mod Faults
 pub mod ContractFaults
 pub mod Invariant
 pub mod Resolved
+pub mod Functions

@@ -6,7 +6,9 @@
 mod build;
 mod contract;
 mod fault;
+mod function;
 mod names;
 
 pub use build::resolve;
 pub use fault::TypeFault;
+pub use function::{Function, Signature};
