@@ -2,3 +2,4 @@ pub mod FirstFault
 pub mod MetNames
 pub mod Each
 pub mod KeptNames
+pub mod KindsIn

@@ -3,3 +3,4 @@ pub mod ContractFaults
 pub mod Invariant
 pub mod Resolved
 pub mod Functions
+pub mod Kinds

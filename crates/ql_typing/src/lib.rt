@@ -7,8 +7,11 @@ mod build;
 mod contract;
 mod fault;
 mod function;
+mod kind;
 mod names;
+mod scope;
 
 pub use build::resolve;
 pub use fault::TypeFault;
+pub use scope::{Known, Scope};
 pub use function::{Function, Signature};
