@@ -3,3 +3,4 @@ pub mod MetNames
 pub mod Each
 pub mod KeptNames
 pub mod KindsIn
+pub mod CallArgs

@@ -7,6 +7,7 @@ mod build;
 mod contract;
 mod fault;
 mod function;
+mod judge;
 mod kind;
 mod names;
 mod scope;
