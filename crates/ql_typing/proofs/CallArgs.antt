@@ -52,7 +52,7 @@ module _ (scope : List Known) (at : ℕ) (name : Name) (f : Option Function) (f_
       → p ≡ begins_at (expression_of a) → k ≡ kind_of scope (expression_of a) → g ≡ first_fault (faults_of scope (expression_of a))
       → q ≡ begins_at (expression_of b) → l ≡ kind_of scope (expression_of b) → h ≡ first_fault (faults_of scope (expression_of b))
       → earlier (earlier g h) (earlier (first_fault (head_faults at name f 2 p k)) (first_fault (mismatch (second_of (signature_at f 2 k)) q l)))
-        ≡ first_fault (faults_of scope (Calling at name (operands_of xs)))
+      ≡ first_fault (faults_of scope (Calling at name (operands_of xs)))
   unfolding faults_of call_faults
   two_fault a b p q k l g h xs_are p_is k_is g_is q_is l_is h_is =
       rw (xs_are, f_is, p_is, k_is, g_is, q_is, l_is, h_is) (simp (first_append, first_none, earlier_none) refl)
@@ -62,8 +62,8 @@ module _ (scope : List Known) (at : ℕ) (name : Name) (f : Option Function) (f_
       → q ≡ begins_at (expression_of b) → l ≡ kind_of scope (expression_of b) → h ≡ first_fault (faults_of scope (expression_of b))
       → r ≡ begins_at (expression_of c) → m ≡ kind_of scope (expression_of c) → j ≡ first_fault (faults_of scope (expression_of c))
       → earlier (earlier g (earlier h j)) (earlier (first_fault (head_faults at name f 3 p k))
-          (earlier (first_fault (mismatch (second_of (signature_at f 3 k)) q l)) (first_fault (mismatch (third_of (signature_at f 3 k)) r m))))
-        ≡ first_fault (faults_of scope (Calling at name (operands_of xs)))
+      (earlier (first_fault (mismatch (second_of (signature_at f 3 k)) q l)) (first_fault (mismatch (third_of (signature_at f 3 k)) r m))))
+      ≡ first_fault (faults_of scope (Calling at name (operands_of xs)))
   unfolding faults_of call_faults
   three_fault a b c p q r k l m g h j xs_are p_is k_is g_is q_is l_is h_is r_is m_is j_is =
       rw (xs_are, f_is, p_is, k_is, g_is, q_is, l_is, h_is, r_is, m_is, j_is) (simp (first_append, first_none, earlier_none) refl)
@@ -94,7 +94,7 @@ pub count_fault_of : (scope : List Known) (at : ℕ) (name : Name) (f : Option F
 unfolding faults_of
 count_fault_of scope at name f xs g f_is g_is x y z =
     rw (f_is, g_is) (ap (λ fs. earlier (first_fault (operand_faults scope (operands_of xs))) (first_fault fs)) (other_count scope at name xs x y z)
-      ∙ sym (first_append (operand_faults scope (operands_of xs)) (call_faults scope at name (operands_of xs))))
+    ∙ sym (first_append (operand_faults scope (operands_of xs)) (call_faults scope at name (operands_of xs))))
 
 -- arguments one after another
 pub inside_step : (scope : List Known) (fault g : Option TypeFault) (args : List Expr) (i : ℕ) (a : Expr) → i < length args → a ≡ get_or args i a
@@ -104,7 +104,7 @@ pub inside_step : (scope : List Known) (fault g : Option TypeFault) (args : List
 unfolding faults_of
 inside_step scope fault g args i a below is g_is h =
     rw g_is (earlier_assoc fault _ _ ∙ ap (λ r. earlier fault r) (sym (first_append (faults_of scope (expression_of a)) (operand_faults scope (operands_of (drop (i + 1) args)))))
-      ∙ ap (λ ys. earlier fault (first_fault (operand_faults scope (operands_of ys)))) (sym (next_item args i a below is)) ∙ h)
+    ∙ ap (λ ys. earlier fault (first_fault (operand_faults scope (operands_of ys)))) (sym (next_item args i a below is)) ∙ h)
 
 pub inside_start : (r : Option TypeFault) → earlier None r ≡ r
 unfolding earlier

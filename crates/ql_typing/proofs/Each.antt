@@ -1,4 +1,4 @@
-use Rattle.std.proofs.Common.{◌≡◌, ◌<◌, ◌≤◌, ◌+◌, ℕ, List, [], ◌∷◌, Option, None, length, get_or, drop, refl, sym, ap, ◌∙◌, drop-cons, add-one, suc}
+use Rattle.std.proofs.Common.{◌≡◌, ◌<◌, ◌≤◌, ◌+◌, ℕ, List, [], ◌∷◌, Option, None, length, get_or, drop, refl, sym, ap, ◌∙◌, arith, drop-cons, add-one, suc, zero}
 use Rattle.std.proofs.lemmas.List.{drop_all}
 use Rattle.ql_typing.specs.declared.fault.TypeFault.{TypeFault}
 use Rattle.ql_typing.specs.Faults.{earlier, first_fault, each}
@@ -11,6 +11,12 @@ next_item xs i x below is = rw (add-one, drop-cons xs i x) (ap (λ y. y ∷ drop
 -- no items stand past the end
 pub no_item : {A : Type 0} (xs : List A) (i : ℕ) → length xs ≤ i → drop i xs ≡ []
 no_item xs i past = drop_all i xs past
+
+-- within a list the item of a place doesn't hang on what stands past the end
+pub get_or_within : {A : Type 0} (xs : List A) (i : ℕ) (d e : A) → i < length xs → get_or xs i d ≡ get_or xs i e
+get_or_within [] i d e below = absurd (omega arith)
+get_or_within (x ∷ xs) zero d e below = refl
+get_or_within (x ∷ xs) (suc i) d e below = get_or_within xs i d e (omega arith)
 
 module _ {A : Type 0} (faults : A → List TypeFault) (xs : List A) where
   pub each_start : earlier None (first_fault (each faults xs)) ≡ first_fault (each faults xs)

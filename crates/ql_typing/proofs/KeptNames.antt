@@ -1,5 +1,5 @@
 use Rattle.std.proofs.Common.{◌≡◌, ◌≤◌, ℕ, Bool, true, false, List, [], ◌∷◌, ◌++◌, if◌then◌else◌, length, take, sym, ap, ◌∙◌, arith, length-take}
-use Rattle.std.proofs.lemmas.List.{take-append-le, take-take}
+use Rattle.std.proofs.lemmas.List.{take-append-le, take-take, take_all}
 use Rattle.ql_base.specs.Numbering.{has_name, with_name}
 use Rattle.ql_lang.specs.declared.name.Name.{Name}
 use Rattle.ql_typing.specs.Faults.{names_met}
@@ -27,3 +27,6 @@ pub kept_along : (before names more : List (List ℕ)) → take (length before) 
 kept_along before names more kept further =
     let long : length before ≤ length names = omega (arith, length-take (length before) names, ap length kept) in
     sym (take-take (length before) (length names) more long) ∙ ap (λ ns. take (length before) ns) further ∙ kept
+
+pub kept_whole : (names : List (List ℕ)) → take (length names) names ≡ names
+kept_whole names = take_all (length names) names (omega arith)

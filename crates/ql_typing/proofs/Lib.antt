@@ -4,3 +4,4 @@ pub mod Each
 pub mod KeptNames
 pub mod KindsIn
 pub mod CallArgs
+pub mod Declared

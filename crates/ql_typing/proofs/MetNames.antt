@@ -7,18 +7,18 @@ use Rattle.ql_typing.specs.Faults.{earlier, first_fault, repeats, names_met, whe
 use Rattle.ql_typing.specs.Invariant.{IsRest}
 use Rattle.ql_typing.proofs.FirstFault.{earlier_assoc, earlier_none, first_append}
 
-pub rest_start : (all : List Name) → IsRest [] None all all
+pub rest_start : (before : List (List ℕ)) (all : List Name) → IsRest before before None all all
 unfolding earlier
-rest_start all = record { names = refl; faults = refl }
+rest_start before all = record { names = refl; faults = refl }
 
-pub rest_step : (met : List (List ℕ)) (fault : Option TypeFault) (n : Name) (ns all : List Name) → IsRest met fault (n ∷ ns) all
-    → IsRest (with_name met n.word) (earlier fault (first_fault (where_so (has_name met n.word) (Twice n.at)))) ns all
+pub rest_step : (before met : List (List ℕ)) (fault : Option TypeFault) (n : Name) (ns all : List Name) → IsRest before met fault (n ∷ ns) all
+    → IsRest before (with_name met n.word) (earlier fault (first_fault (where_so (has_name met n.word) (Twice n.at)))) ns all
 unfolding names_met repeats
-rest_step met fault n ns all h = record {
+rest_step before met fault n ns all h = record {
   names = h.names;
   faults = earlier_assoc fault _ _ ∙ ap (λ r. earlier fault r) (sym (first_append (where_so (has_name met n.word) (Twice n.at)) (repeats (with_name met n.word) ns))) ∙ h.faults;
 }
 
-pub rest_end : (met : List (List ℕ)) (fault : Option TypeFault) (all : List Name) → IsRest met fault [] all → (met ≡ names_met [] all) × (fault ≡ first_fault (repeats [] all))
+pub rest_end : (before met : List (List ℕ)) (fault : Option TypeFault) (all : List Name) → IsRest before met fault [] all → (met ≡ names_met before all) × (fault ≡ first_fault (repeats before all))
 unfolding names_met repeats first_fault
-rest_end met fault all h = (h.names, sym (earlier_none fault) ∙ h.faults)
+rest_end before met fault all h = (h.names, sym (earlier_none fault) ∙ h.faults)

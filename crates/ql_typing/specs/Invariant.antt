@@ -3,10 +3,10 @@ use Rattle.ql_lang.specs.declared.name.Name.{Name}
 use Rattle.ql_typing.specs.declared.fault.TypeFault.{TypeFault}
 use Rattle.ql_typing.specs.Faults.{each, earlier, first_fault, repeats, names_met}
 
--- with the names met and the fault so far, the rest of a list gives what the whole list gives
-pub record IsRest (met : List (List ℕ)) (fault : Option TypeFault) (rest all : List Name) : Type 0 where
-  pub names : names_met met rest ≡ names_met [] all
-  pub faults : earlier fault (first_fault (repeats met rest)) ≡ first_fault (repeats [] all)
+-- with the names met and the fault so far, the rest of a list gives what the whole list gives after the names before
+pub record IsRest (before met : List (List ℕ)) (fault : Option TypeFault) (rest all : List Name) : Type 0 where
+  pub names : names_met met rest ≡ names_met before all
+  pub faults : earlier fault (first_fault (repeats met rest)) ≡ first_fault (repeats before all)
 
 -- a fault together with those of the items from place i on is the first of all items'
 abbrev pub SoFar : {A : Type 0} → (A → List TypeFault) → Option TypeFault → ℕ → List A → Type 0

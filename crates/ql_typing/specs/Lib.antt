@@ -4,3 +4,4 @@ pub mod Invariant
 pub mod Resolved
 pub mod Functions
 pub mod Kinds
+pub mod Programs

@@ -82,28 +82,28 @@ unfoldable pub stmt_faults : List Known → List Known → Stmt → List TypeFau
 stmt_faults fields scope s =
     reading_faults (kind_in fields s.target.word) s.target.at ++ faults_as scope (kind_in fields s.target.word) (expression_of s.value)
 
--- what an operation emits and how it is applied, by the fields and the fields and parameters
-unfoldable pub effect_faults : List Field → List Known → EmitDecl → List TypeFault
-effect_faults fields scope e =
-    repeats (names_met [] (field_names fields)) (bind_names e.binds)
+-- what an operation emits and how it is applied, by the names of the fields, the fields, and the fields and parameters
+unfoldable pub effect_faults : List (List ℕ) → List Known → List Known → EmitDecl → List TypeFault
+effect_faults names fields scope e =
+    repeats names (bind_names e.binds)
     ++ (above 4 (places (bind_names e.binds))
     ++ (each (bind_faults scope) e.binds
     ++ (faults_as scope (Some kind.Bool) (expression_of e.test)
     ++ (above 64 (places (target_names e.stmts))
-    ++ each (stmt_faults (fields_known fields) (fields_known fields ++ binds_known e.binds)) e.stmts))))
+    ++ each (stmt_faults fields (fields ++ binds_known e.binds)) e.stmts))))
 
-abbrev pub maybe_effect_faults : List Field → List Known → Option EmitDecl → List TypeFault
-maybe_effect_faults fields scope None = []
-maybe_effect_faults fields scope (Some e) = effect_faults fields scope e
+abbrev pub maybe_effect_faults : List (List ℕ) → List Known → List Known → Option EmitDecl → List TypeFault
+maybe_effect_faults names fields scope None = []
+maybe_effect_faults names fields scope (Some e) = effect_faults names fields scope e
 
--- an operation, by the known operations and the fields of its type
-unfoldable pub op_decl_faults : List (List ℕ) → List Field → OpDecl → List TypeFault
-op_decl_faults known fields o =
-    repeats (names_met [] (field_names fields)) (param_names o.params)
+-- an operation, by the known operations, the names of its type's fields and the fields
+unfoldable pub op_decl_faults : List (List ℕ) → List (List ℕ) → List Known → OpDecl → List TypeFault
+op_decl_faults known names fields o =
+    repeats names (param_names o.params)
     ++ (above 8 (places (param_names o.params))
     ++ (contract_faults (Some known) false (sentence_of o.contract)
-    ++ (faults_as (fields_known fields ++ params_known o.params) (Some o.kind) (expression_of o.answer)
-    ++ maybe_effect_faults fields (fields_known fields ++ params_known o.params) o.effect)))
+    ++ (faults_as (fields ++ params_known o.params) (Some o.kind) (expression_of o.answer)
+    ++ maybe_effect_faults names fields (fields ++ params_known o.params) o.effect)))
 
 -- a type, by the known operations
 unfoldable pub type_faults : List (List ℕ) → TypeDecl → List TypeFault
@@ -111,29 +111,25 @@ type_faults known t =
     repeats [] (field_names t.fields)
     ++ (above 16 (map (λ f. f.at) t.fields)
     ++ (each init_faults t.fields
-    ++ each (op_decl_faults known t.fields) t.ops))
+    ++ each (op_decl_faults known (names_met [] (field_names t.fields)) (fields_known t.fields)) t.ops))
 
 -- a transaction, by the known operations
 unfoldable pub txn_faults : List (List ℕ) → TxnDecl → List TypeFault
 txn_faults known d =
     repeats [] d.uses ++ (each (op_faults (Some known)) d.uses ++ contract_faults (Some known) true (sentence_of d.contract))
 
--- the operations of all types, in order
-abbrev pub all_ops : List TypeDecl → List OpDecl
-all_ops types = flat_map (λ t. t.ops) types
+-- the names of the operations of all types, in order
+abbrev pub op_names : List TypeDecl → List Name
+op_names types = flat_map (λ t. map (λ o. o.name) t.ops) types
 
-abbrev pub op_names : List OpDecl → List Name
-op_names ops = map (λ o. o.name) ops
+-- the places of the operations of all types, in order
+abbrev pub op_places : List TypeDecl → List ℕ
+op_places types = flat_map (λ t. map (λ o. o.at) t.ops) types
 
--- all that is wrong in a program
+-- all that is wrong in a program: its names, then its limits, then each declaration by itself
 unfoldable pub program_faults : Program → List TypeFault
 program_faults p =
-    let known = names_met [] (op_names (all_ops p.types)) in
-    repeats [] (map (λ t. t.name) p.types)
-    ++ (repeats [] (op_names (all_ops p.types))
-    ++ (repeats [] (map (λ d. d.name) p.txns)
-    ++ (above 16 (map (λ t. t.at) p.types)
-    ++ (above 32 (map (λ o. o.at) (all_ops p.types))
-    ++ (above 16 (map (λ d. d.at) p.txns)
-    ++ (each (type_faults known) p.types
-    ++ each (txn_faults known) p.txns))))))
+    ((repeats [] (map (λ t. t.name) p.types) ++ repeats [] (map (λ d. d.name) p.txns)) ++ repeats [] (op_names p.types))
+    ++ ((above 16 (map (λ t. t.at) p.types) ++ (above 32 (op_places p.types) ++ above 16 (map (λ d. d.at) p.txns)))
+    ++ (each (type_faults (names_met [] (op_names p.types))) p.types
+    ++ each (txn_faults (names_met [] (op_names p.types))) p.txns))

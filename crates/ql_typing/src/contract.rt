@@ -116,7 +116,7 @@ fn op_fault(name: &Name, known: Option<&Names>) -> Option<TypeFault>
     }
 }
 
-fn ops_fault(names: &[Name], known: Option<&Names>) -> Option<TypeFault>
+pub(crate) fn ops_fault(names: &[Name], known: Option<&Names>) -> Option<TypeFault>
     ensures { result ≡ first_fault (each (op_faults (option_copied known.entry)) names.now) }
 {
     let mut fault = None;

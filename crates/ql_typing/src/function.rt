@@ -60,11 +60,8 @@ impl Function {
         match self {
             Function::Size | Function::Sum => 1,
             Function::Put | Function::Get => 3,
-            Function::Has
-            | Function::Add
-            | Function::Remove
-            | Function::Union
-            | Function::Drop => 2,
+            Function::Has | Function::Add | Function::Remove | Function::Union | Function::Drop =>
+                2,
         }
     }
 

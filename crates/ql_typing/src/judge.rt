@@ -252,10 +252,7 @@ fn call_of_three(
     Judged {
         at,
         kind: given_where(fitting, signature),
-        fault: first(
-            first(a.fault, first(b.fault, c.fault)),
-            first(head, rest),
-        ),
+        fault: first(first(a.fault, first(b.fault, c.fault)), first(head, rest)),
     }
 }
 

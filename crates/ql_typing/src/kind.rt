@@ -15,7 +15,7 @@ fn are_same_base(a: Base, b: Base) -> bool
     }
 }
 
-fn are_same(a: Kind, b: Kind) -> bool
+pub(crate) fn are_same(a: Kind, b: Kind) -> bool
     ensures { result ≡ same_kind a b }
 {
     match (a, b) {
@@ -66,13 +66,7 @@ fn basic(kind: Option<Kind>) -> Option<Kind>
     ensures { result ≡ base_only kind }
 {
     match kind {
-        Some(kind) => {
-            if is_basic(kind) {
-                Some(kind)
-            } else {
-                None
-            }
-        }
+        Some(kind) => { if is_basic(kind) { Some(kind) } else { None } }
         None => None,
     }
 }
@@ -84,13 +78,8 @@ pub(crate) fn operand_kind(op: BinOp, left: Option<Kind>) -> Option<Kind>
     match op {
         BinOp::Or | BinOp::And => Some(Kind::Bool),
         BinOp::Eq | BinOp::Ne => basic(left),
-        BinOp::Lt
-        | BinOp::Le
-        | BinOp::Gt
-        | BinOp::Ge
-        | BinOp::Add
-        | BinOp::Sub
-        | BinOp::Mul => Some(Kind::Int),
+        BinOp::Lt | BinOp::Le | BinOp::Gt | BinOp::Ge | BinOp::Add | BinOp::Sub | BinOp::Mul =>
+            Some(Kind::Int),
     }
 }
 

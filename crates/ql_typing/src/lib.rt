@@ -9,10 +9,13 @@ mod fault;
 mod function;
 mod judge;
 mod kind;
+mod limits;
 mod names;
+mod operation;
+mod program;
 mod scope;
 
 pub use build::resolve;
 pub use fault::TypeFault;
-pub use scope::{Known, Scope};
 pub use function::{Function, Signature};
+pub use scope::{Known, Scope};

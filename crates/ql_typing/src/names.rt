@@ -32,12 +32,32 @@ pub(crate) fn meet(alloc: Global, list: &[Name]) -> Result<Met, NoMemory>
     ensures fault { IfOk result (λ met. met.fault ≡ first_fault (repeats [] list.now)) }
 {
     let mut names = Names::new(alloc);
+    let fault = meet_more(&mut names, list)?;
+    Ok(Met { names, fault })
+}
+
+/// Meets names after others, which stay alone.
+pub(crate) fn meet_after(names: &mut Names, list: &[Name]) -> Result<Option<TypeFault>, NoMemory>
+    ensures same { OnOk result (names.new ≡ names.old) }
+    ensures fault { IfOk result (λ fault. fault ≡ first_fault (repeats names.old list.now)) }
+{
+    let before = names.len();
+    let fault = meet_more(names, list)?;
+    names.truncate(before);
+    Ok(fault)
+}
+
+/// Meets the names of a list after others.
+fn meet_more(names: &mut Names, list: &[Name]) -> Result<Option<TypeFault>, NoMemory>
+    ensures names { OnOk result (names.new ≡ names_met names.old list.now) }
+    ensures fault { IfOk result (λ fault. fault ≡ first_fault (repeats names.old list.now)) }
+{
     let mut fault = None;
     for name in list {
-        let twice = meet_one(&mut names, name)?;
+        let twice = meet_one(names, name)?;
         fault = first(fault, twice);
     }
-    Ok(Met { names, fault })
+    Ok(fault)
 }
 
 /// Meets one name more: it is there twice where it was met before.

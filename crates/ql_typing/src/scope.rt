@@ -1,4 +1,4 @@
-ghost use Rattle.std.specs.Prelude.{◌≡◌, ◌∷◌, ◌++◌, [], IfOk, OnOk, OnErr};
+ghost use Rattle.std.specs.Prelude.{◌≡◌, ◌∷◌, ◌++◌, [], IfOk, OnOk, length, take};
 ghost use Rattle.ql_typing.specs.Kinds.{kind_in};
 
 use ql_base::{NoMemory, Word};
@@ -43,6 +43,28 @@ impl Scope {
     {
         self.names.push(Known { word, kind })?;
         Ok(())
+    }
+
+    /// The same names again.
+    pub(crate) fn copy(&self) -> Result<Scope, NoMemory>
+        ensures { IfOk result (λ copy. copy ≡ self.now) }
+    {
+        let names = self.names.as_slice().to_vec(*self.names.allocator())?;
+        Ok(Scope { names })
+    }
+
+    /// How many names were brought into scope.
+    pub(crate) fn len(&self) -> usize
+        ensures { result ≡ length self.now }
+    {
+        self.names.len()
+    }
+
+    /// Takes all but the first names out of scope.
+    pub(crate) fn truncate(&mut self, len: usize)
+        ensures { self.new ≡ take len self.old }
+    {
+        self.names.truncate(len);
     }
 
     /// The kind of a name in scope.

@@ -17,32 +17,32 @@ faults_inside-returns t c = inside_end c.args.scope.now c.loop-arg.fault c.args.
 pub judge_call-returns-then-args-eq1-clause-kind : goal.judge_call-returns-then-args-eq1-clause-kind
 judge_call-returns-then-args-eq1-clause-kind t c =
     c.call_of_one.ensures.kind ∙ one_kind c.args.scope.now c.args.at c.args.name.now c.find_function-function.result (c.find_function-function.ensures ∙ ap function_named c.bytes.ensures.same) c.args.args.now c.index-args-0.result c.judge_node-a.result.kind
-      (list_of_one c.args.args.now c.index-args-0.result c.if-args-eq1.true c.index-args-0.is) c.judge_node-a.ensures.kind
+    (list_of_one c.args.args.now c.index-args-0.result c.if-args-eq1.true c.index-args-0.is) c.judge_node-a.ensures.kind
 
 pub judge_call-returns-then-args-eq1-clause-fault : goal.judge_call-returns-then-args-eq1-clause-fault
 judge_call-returns-then-args-eq1-clause-fault t c =
     c.call_of_one.ensures.fault ∙ one_fault c.args.scope.now c.args.at c.args.name.now c.find_function-function.result (c.find_function-function.ensures ∙ ap function_named c.bytes.ensures.same) c.args.args.now c.index-args-0.result c.judge_node-a.result.at c.judge_node-a.result.kind c.judge_node-a.result.fault
-      (list_of_one c.args.args.now c.index-args-0.result c.if-args-eq1.true c.index-args-0.is) c.judge_node-a.ensures.at c.judge_node-a.ensures.kind c.judge_node-a.ensures.fault
+    (list_of_one c.args.args.now c.index-args-0.result c.if-args-eq1.true c.index-args-0.is) c.judge_node-a.ensures.at c.judge_node-a.ensures.kind c.judge_node-a.ensures.fault
 
 pub judge_call-returns-then-args-eq2-clause-kind : goal.judge_call-returns-then-args-eq2-clause-kind
 judge_call-returns-then-args-eq2-clause-kind t c =
     c.call_of_two.ensures.kind ∙ two_kind c.args.scope.now c.args.at c.args.name.now c.find_function-function.result (c.find_function-function.ensures ∙ ap function_named c.bytes.ensures.same) c.args.args.now c.index-args-0-then-args-eq2.result c.index-args-1.result c.judge_node-a-then-args-eq2.result.kind c.judge_node-b.result.kind
-      (list_of_two c.args.args.now c.index-args-0-then-args-eq2.result c.index-args-1.result c.if-args-eq2.true c.index-args-0-then-args-eq2.is c.index-args-1.is) c.judge_node-a-then-args-eq2.ensures.kind c.judge_node-b.ensures.kind
+    (list_of_two c.args.args.now c.index-args-0-then-args-eq2.result c.index-args-1.result c.if-args-eq2.true c.index-args-0-then-args-eq2.is c.index-args-1.is) c.judge_node-a-then-args-eq2.ensures.kind c.judge_node-b.ensures.kind
 
 pub judge_call-returns-then-args-eq2-clause-fault : goal.judge_call-returns-then-args-eq2-clause-fault
 judge_call-returns-then-args-eq2-clause-fault t c =
     c.call_of_two.ensures.fault ∙ two_fault c.args.scope.now c.args.at c.args.name.now c.find_function-function.result (c.find_function-function.ensures ∙ ap function_named c.bytes.ensures.same) c.args.args.now c.index-args-0-then-args-eq2.result c.index-args-1.result c.judge_node-a-then-args-eq2.result.at c.judge_node-b.result.at c.judge_node-a-then-args-eq2.result.kind c.judge_node-b.result.kind c.judge_node-a-then-args-eq2.result.fault c.judge_node-b.result.fault
-      (list_of_two c.args.args.now c.index-args-0-then-args-eq2.result c.index-args-1.result c.if-args-eq2.true c.index-args-0-then-args-eq2.is c.index-args-1.is) c.judge_node-a-then-args-eq2.ensures.at c.judge_node-a-then-args-eq2.ensures.kind c.judge_node-a-then-args-eq2.ensures.fault c.judge_node-b.ensures.at c.judge_node-b.ensures.kind c.judge_node-b.ensures.fault
+    (list_of_two c.args.args.now c.index-args-0-then-args-eq2.result c.index-args-1.result c.if-args-eq2.true c.index-args-0-then-args-eq2.is c.index-args-1.is) c.judge_node-a-then-args-eq2.ensures.at c.judge_node-a-then-args-eq2.ensures.kind c.judge_node-a-then-args-eq2.ensures.fault c.judge_node-b.ensures.at c.judge_node-b.ensures.kind c.judge_node-b.ensures.fault
 
 pub judge_call-returns-then-args-eq3-clause-kind : goal.judge_call-returns-then-args-eq3-clause-kind
 judge_call-returns-then-args-eq3-clause-kind t c =
     c.call_of_three.ensures.kind ∙ three_kind c.args.scope.now c.args.at c.args.name.now c.find_function-function.result (c.find_function-function.ensures ∙ ap function_named c.bytes.ensures.same) c.args.args.now c.index-args-0-then-args-eq3.result c.index-args-1-then-args-eq3.result c.index-args-2.result c.judge_node-a-then-args-eq3.result.kind c.judge_node-b-then-args-eq3.result.kind c.judge_node-c.result.kind
-      (list_of_three c.args.args.now c.index-args-0-then-args-eq3.result c.index-args-1-then-args-eq3.result c.index-args-2.result c.if-args-eq3.true c.index-args-0-then-args-eq3.is c.index-args-1-then-args-eq3.is c.index-args-2.is) c.judge_node-a-then-args-eq3.ensures.kind c.judge_node-b-then-args-eq3.ensures.kind c.judge_node-c.ensures.kind
+    (list_of_three c.args.args.now c.index-args-0-then-args-eq3.result c.index-args-1-then-args-eq3.result c.index-args-2.result c.if-args-eq3.true c.index-args-0-then-args-eq3.is c.index-args-1-then-args-eq3.is c.index-args-2.is) c.judge_node-a-then-args-eq3.ensures.kind c.judge_node-b-then-args-eq3.ensures.kind c.judge_node-c.ensures.kind
 
 pub judge_call-returns-then-args-eq3-clause-fault : goal.judge_call-returns-then-args-eq3-clause-fault
 judge_call-returns-then-args-eq3-clause-fault t c =
     c.call_of_three.ensures.fault ∙ three_fault c.args.scope.now c.args.at c.args.name.now c.find_function-function.result (c.find_function-function.ensures ∙ ap function_named c.bytes.ensures.same) c.args.args.now c.index-args-0-then-args-eq3.result c.index-args-1-then-args-eq3.result c.index-args-2.result c.judge_node-a-then-args-eq3.result.at c.judge_node-b-then-args-eq3.result.at c.judge_node-c.result.at c.judge_node-a-then-args-eq3.result.kind c.judge_node-b-then-args-eq3.result.kind c.judge_node-c.result.kind c.judge_node-a-then-args-eq3.result.fault c.judge_node-b-then-args-eq3.result.fault c.judge_node-c.result.fault
-      (list_of_three c.args.args.now c.index-args-0-then-args-eq3.result c.index-args-1-then-args-eq3.result c.index-args-2.result c.if-args-eq3.true c.index-args-0-then-args-eq3.is c.index-args-1-then-args-eq3.is c.index-args-2.is) c.judge_node-a-then-args-eq3.ensures.at c.judge_node-a-then-args-eq3.ensures.kind c.judge_node-a-then-args-eq3.ensures.fault c.judge_node-b-then-args-eq3.ensures.at c.judge_node-b-then-args-eq3.ensures.kind c.judge_node-b-then-args-eq3.ensures.fault c.judge_node-c.ensures.at c.judge_node-c.ensures.kind c.judge_node-c.ensures.fault
+    (list_of_three c.args.args.now c.index-args-0-then-args-eq3.result c.index-args-1-then-args-eq3.result c.index-args-2.result c.if-args-eq3.true c.index-args-0-then-args-eq3.is c.index-args-1-then-args-eq3.is c.index-args-2.is) c.judge_node-a-then-args-eq3.ensures.at c.judge_node-a-then-args-eq3.ensures.kind c.judge_node-a-then-args-eq3.ensures.fault c.judge_node-b-then-args-eq3.ensures.at c.judge_node-b-then-args-eq3.ensures.kind c.judge_node-b-then-args-eq3.ensures.fault c.judge_node-c.ensures.at c.judge_node-c.ensures.kind c.judge_node-c.ensures.fault
 
 pub judge_call-returns-else-args-eq3-clause-kind : goal.judge_call-returns-else-args-eq3-clause-kind
 judge_call-returns-else-args-eq3-clause-kind t c =
@@ -51,6 +51,5 @@ judge_call-returns-else-args-eq3-clause-kind t c =
 pub judge_call-returns-else-args-eq3-clause-fault : goal.judge_call-returns-else-args-eq3-clause-fault
 judge_call-returns-else-args-eq3-clause-fault t c =
     c.first.ensures ∙ ap (λ r. earlier c.faults_inside-inside.result r) c.count_fault.ensures
-      ∙ count_fault_of c.args.scope.now c.args.at c.args.name.now c.find_function-function.result c.args.args.now c.faults_inside-inside.result
-        (c.find_function-function.ensures ∙ ap function_named c.bytes.ensures.same) c.faults_inside-inside.ensures c.if-args-eq1.false c.if-args-eq2.false c.if-args-eq3.false
-
+    ∙ count_fault_of c.args.scope.now c.args.at c.args.name.now c.find_function-function.result c.args.args.now c.faults_inside-inside.result
+    (c.find_function-function.ensures ∙ ap function_named c.bytes.ensures.same) c.faults_inside-inside.ensures c.if-args-eq1.false c.if-args-eq2.false c.if-args-eq3.false

@@ -7,4 +7,4 @@ use Rattle.ql_typing.proofs.judge.fault_as.Goals as goal
 pub returns : goal.returns
 returns c =
     rw (c.first.ensures, c.misfit.ensures, c.judge-judged.ensures.fault, c.judge-judged.ensures.at, c.judge-judged.ensures.kind)
-      (sym (first_append (faults_of c.args.scope.now (expression_of c.args.e.now)) (mismatch c.args.wanted (begins_at (expression_of c.args.e.now)) (kind_of c.args.scope.now (expression_of c.args.e.now)))))
+    (sym (first_append (faults_of c.args.scope.now (expression_of c.args.e.now)) (mismatch c.args.wanted (begins_at (expression_of c.args.e.now)) (kind_of c.args.scope.now (expression_of c.args.e.now)))))

@@ -1,0 +1,195 @@
+ghost use Rattle.std.specs.Prelude.{◌≡◌, ◌++◌, Some, IfOk, OnOk, map};
+ghost use Rattle.ql_lang.specs.Expressions.{expression_of};
+ghost use Rattle.ql_typing.specs.Faults.{each, first_fault};
+ghost use Rattle.ql_typing.specs.Kinds.{kind_in, reading_faults};
+ghost use Rattle.ql_typing.specs.Programs.{bind_faults, bind_names, binds_known, effect_faults, maybe_effect_faults, op_decl_faults, param_names, params_known, places, stmt_faults, target_names};
+
+use crate::contract::check_contract;
+use crate::fault::{TypeFault, first};
+use crate::function::kind_of_base;
+use crate::judge::fault_as;
+use crate::limits::above_limit;
+use crate::names::meet_after;
+use crate::scope::Scope;
+use ql_base::{MAX_EMITTED, MAX_PARAMETERS, MAX_STATEMENTS, Names, NoMemory};
+use ql_lang::{Bind, EmitDecl, Kind, Name, OpDecl, Param, Stmt};
+use std::alloc::Global;
+
+/// The first fault of an operation. The names and the scope hold those of the fields, and do afterwards.
+pub(crate) fn op_decl_fault(
+    alloc: Global,
+    op: &OpDecl,
+    known: &Names,
+    fields: &Scope,
+    names: &mut Names,
+    scope: &mut Scope,
+) -> Result<Option<TypeFault>, NoMemory>
+    requires { scope.old ≡ fields.now }
+    ensures names { OnOk result (names.new ≡ names.old) }
+    ensures scope { OnOk result (scope.new ≡ scope.old) }
+    ensures fault { IfOk result (λ fault. fault ≡ first_fault (op_decl_faults known.now names.old fields.now op.now)) }
+{
+    let params = op.params.items();
+    let list = list_params(alloc, params)?;
+    let repeated = meet_after(names, list.as_slice())?;
+    let all = places_of(alloc, list.as_slice())?;
+    let many = above_limit(all.as_slice(), MAX_PARAMETERS);
+    let checked = check_contract(alloc, &op.contract, Some(known), false)?;
+    let before = scope.len();
+    declare_params(scope, params)?;
+    let answer = fault_as(scope, Some(op.kind), &op.answer);
+    let effect = maybe_effect_fault(alloc, &op.effect, fields, names, scope)?;
+    scope.truncate(before);
+    Ok(first(
+        repeated,
+        first(many, first(checked.fault, first(answer, effect))),
+    ))
+}
+
+/// The first fault of what an operation emits, where it does.
+#[tactic(auto, unfolding(crate::specs::Faults::first_fault))]
+fn maybe_effect_fault(
+    alloc: Global,
+    effect: &Option<EmitDecl>,
+    fields: &Scope,
+    names: &mut Names,
+    scope: &Scope,
+) -> Result<Option<TypeFault>, NoMemory>
+    ensures names { OnOk result (names.new ≡ names.old) }
+    ensures fault { IfOk result (λ fault. fault ≡ first_fault (maybe_effect_faults names.old fields.now scope.now effect.now)) }
+{
+    match effect {
+        Some(effect) => effect_fault(alloc, effect, fields, names, scope),
+        None => Ok(None),
+    }
+}
+
+/// The first fault of what an operation emits and of its statements.
+fn effect_fault(
+    alloc: Global,
+    effect: &EmitDecl,
+    fields: &Scope,
+    names: &mut Names,
+    scope: &Scope,
+) -> Result<Option<TypeFault>, NoMemory>
+    ensures names { OnOk result (names.new ≡ names.old) }
+    ensures fault { IfOk result (λ fault. fault ≡ first_fault (effect_faults names.old fields.now scope.now effect.now)) }
+{
+    let binds = effect.binds.items();
+    let stmts = effect.stmts.items();
+    let list = list_binds(alloc, binds)?;
+    let repeated = meet_after(names, list.as_slice())?;
+    let all = places_of(alloc, list.as_slice())?;
+    let many = above_limit(all.as_slice(), MAX_EMITTED);
+    let values = binds_fault(scope, binds);
+    let test = fault_as(scope, Some(Kind::Bool), &effect.test);
+    let targets = list_targets(alloc, stmts)?;
+    let steps = places_of(alloc, targets.as_slice())?;
+    let long = above_limit(steps.as_slice(), MAX_STATEMENTS);
+    let inner = inner_scope(fields, binds)?;
+    let applied = stmts_fault(fields, &inner, stmts);
+    Ok(first(
+        repeated,
+        first(many, first(values, first(test, first(long, applied)))),
+    ))
+}
+
+/// The fields together with emitted names.
+fn inner_scope(fields: &Scope, binds: &[Bind]) -> Result<Scope, NoMemory>
+    ensures { IfOk result (λ inner. inner ≡ fields.now ++ binds_known binds.now) }
+{
+    let mut inner = fields.copy()?;
+    declare_binds(&mut inner, binds)?;
+    Ok(inner)
+}
+
+fn binds_fault(scope: &Scope, binds: &[Bind]) -> Option<TypeFault>
+    ensures { result ≡ first_fault (each (bind_faults scope.now) binds.now) }
+{
+    let mut fault = None;
+    for bind in binds {
+        fault = first(fault, bind_fault(scope, bind));
+    }
+    fault
+}
+
+#[tactic(auto, unfolding(crate::specs::Programs::bind_faults))]
+fn bind_fault(scope: &Scope, bind: &Bind) -> Option<TypeFault>
+    ensures { result ≡ first_fault (bind_faults scope.now bind.now) }
+{
+    fault_as(scope, Some(kind_of_base(bind.base)), &bind.value)
+}
+
+fn stmts_fault(fields: &Scope, scope: &Scope, stmts: &[Stmt]) -> Option<TypeFault>
+    ensures { result ≡ first_fault (each (stmt_faults fields.now scope.now) stmts.now) }
+{
+    let mut fault = None;
+    for stmt in stmts {
+        fault = first(fault, stmt_fault(fields, scope, stmt));
+    }
+    fault
+}
+
+/// The first fault of a statement: it assigns a field, and a value of its kind.
+fn stmt_fault(fields: &Scope, scope: &Scope, stmt: &Stmt) -> Option<TypeFault>
+    ensures { result ≡ first_fault (stmt_faults fields.now scope.now stmt.now) }
+{
+    let wanted = fields.find(&stmt.target.word);
+    first(
+        target_fault(wanted, stmt.target.at),
+        fault_as(scope, wanted, &stmt.value),
+    )
+}
+
+#[tactic(auto, unfolding(crate::specs::Faults::first_fault, crate::specs::Faults::earlier))]
+fn target_fault(kind: Option<Kind>, at: u32) -> Option<TypeFault>
+    ensures { result ≡ first_fault (reading_faults kind at) }
+{
+    match kind {
+        Some(_) => None,
+        None => Some(TypeFault::Unknown(at)),
+    }
+}
+
+fn declare_params(scope: &mut Scope, params: &[Param]) -> Result<(), NoMemory>
+    ensures { OnOk result (scope.new ≡ scope.old ++ params_known params.now) }
+{
+    for param in params {
+        scope.declare(param.name.word, kind_of_base(param.base))?;
+    }
+    Ok(())
+}
+
+fn declare_binds(scope: &mut Scope, binds: &[Bind]) -> Result<(), NoMemory>
+    ensures { OnOk result (scope.new ≡ scope.old ++ binds_known binds.now) }
+{
+    for bind in binds {
+        scope.declare(bind.name.word, kind_of_base(bind.base))?;
+    }
+    Ok(())
+}
+
+fn list_params(alloc: Global, params: &[Param]) -> Result<Vec<Name>, NoMemory>
+    ensures { IfOk result (λ names. names.items ≡ param_names params.now) }
+{
+    Ok(params.iter().map(|param| param.name).collect(alloc)?)
+}
+
+fn list_binds(alloc: Global, binds: &[Bind]) -> Result<Vec<Name>, NoMemory>
+    ensures { IfOk result (λ names. names.items ≡ bind_names binds.now) }
+{
+    Ok(binds.iter().map(|bind| bind.name).collect(alloc)?)
+}
+
+fn list_targets(alloc: Global, stmts: &[Stmt]) -> Result<Vec<Name>, NoMemory>
+    ensures { IfOk result (λ names. names.items ≡ target_names stmts.now) }
+{
+    Ok(stmts.iter().map(|stmt| stmt.target).collect(alloc)?)
+}
+
+/// The places of names.
+fn places_of(alloc: Global, names: &[Name]) -> Result<Vec<u32>, NoMemory>
+    ensures { IfOk result (λ all. all.items ≡ places names.now) }
+{
+    Ok(names.iter().map(|name| name.at).collect(alloc)?)
+}
