@@ -5,3 +5,4 @@ pub mod Bodies
 pub mod Ground
 pub mod Truth
 pub mod Implication
+pub mod Worked

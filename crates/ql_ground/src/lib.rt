@@ -4,5 +4,7 @@
 #![tactic(auto)]
 
 mod soundness;
+mod worked;
 
 pub use soundness::{refuted_op_is_implied, refuted_txn_is_implied};
+pub use worked::problems_of_one_operation;
