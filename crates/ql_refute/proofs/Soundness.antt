@@ -1,23 +1,23 @@
 -- Accepted lines follow from the clauses.
-use Rattle.std.proofs.Common.{◌≡◌, ◌≢◌, ℕ, zero, suc, ◌+◌, ◌-◌, Bool, true, false, not, cond, ◌||◌, ◌&&◌, List, [], ◌∷◌, ◌++◌, Option, Some, None, length, refl, sym, ◌∙◌, ap, arith}
+use Rattle.std.proofs.Common.{◌≡◌, ◌≢◌, ℕ, zero, suc, ◌+◌, ◌-◌, Bool, true, false, not, cond, ◌||◌, ◌&&◌, List, [], ◌∷◌, ◌++◌, Option, Some, None, length, refl, ◌∙◌, arith}
 use Rattle.std.proofs.lemmas.Bool.Decides.{nat_tests}
 use Rattle.std.proofs.lemmas.List.Folds.{list_all-append}
 use Rattle.std.specs.Prelude.{◌==◌, IfSome, is_some, slice_get, unwrap_or}
 use Rattle.std.specs.Bool.{beq}
-use Rattle.std.specs.List.{list_any, list_all, filter}
+use Rattle.std.specs.List.{list_all, filter}
 use Rattle.std.specs.Option.{option_map}
 use Rattle.ql_cnf.specs.Literals.{negated}
-use Rattle.ql_cnf.specs.Satisfaction.{ClauseList, value_of, literal_true, clause_true, all_true, Satisfies, IsUnsatisfiable}
+use Rattle.ql_cnf.specs.Satisfaction.{ClauseList, value_of, literal_true, clause_true, all_true, IsUnsatisfiable}
 use Rattle.ql_cnf.specs.declared.lit.Lit.{Lit}
 use Rattle.ql_refute.specs.Partial.{Partial, nothing, with_true, with_all_false, is_value, is_open, reading_of, reading}
-use Rattle.ql_refute.specs.Verdict.{numbered, hinted, after_reading, after_hint, hints_fault, in_range, line_fault, first_of_two, first_fault, is_empty, has_empty, verdict, IsGood, AreGood}
+use Rattle.ql_refute.specs.Verdict.{numbered, hinted, after_reading, after_hint, hints_fault, in_range, line_fault, first_of_two, first_fault, is_empty, has_empty, verdict, IsGood}
 use Rattle.ql_refute.specs.declared.marks.Reading.{Reading}
 use Rattle.ql_refute.specs.declared.marks.Reading.TheVariants.{AllFalse, Forces, Neither}
 use Rattle.ql_refute.specs.declared.refutation.Hint.{Hint}
 use Rattle.ql_refute.specs.declared.refutation.Hint.TheVariants.{Given, Earlier}
 use Rattle.ql_refute.specs.declared.refutation.Line.{Line}
 use Rattle.ql_refute.specs.declared.verdict.Verdict.{Verdict}
-use Rattle.ql_refute.specs.declared.verdict.Verdict.TheVariants.{Accepted, BadHint, NotUnit, NoConflict, NoEmpty, BadVariable}
+use Rattle.ql_refute.specs.declared.verdict.Verdict.TheVariants.{Accepted, NoEmpty, BadVariable}
 
 -- the assignment gives the variables the values of p, where p has one
 abbrev pub Agrees : List Bool → Partial → Type 0

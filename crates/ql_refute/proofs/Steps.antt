@@ -1,5 +1,5 @@
 -- One more hint, and one more line.
-use Rattle.std.proofs.Common.{◌≡◌, ℕ, zero, suc, ◌+◌, ◌<◌, ◌≤◌, Bool, true, false, cond, ◌&&◌, List, [], ◌∷◌, ◌++◌, Option, Some, None, length, get_or, take, drop, refl, sym, ◌∙◌, ap, subst, arith, add-one, drop-cons}
+use Rattle.std.proofs.Common.{◌≡◌, ℕ, suc, ◌+◌, ◌<◌, ◌≤◌, Bool, true, false, cond, ◌&&◌, List, [], ◌∷◌, ◌++◌, Option, Some, None, length, get_or, take, drop, refl, sym, ◌∙◌, ap, subst, arith, add-one, drop-cons}
 use Rattle.std.proofs.Math.Seq.{take-suc}
 use Rattle.std.proofs.lemmas.Bool.Decides.{nat_tests}
 use Rattle.std.proofs.lemmas.List.Elements.{All-filter, All-push}
@@ -8,18 +8,17 @@ use Rattle.std.specs.Prelude.{is_some, nat_le, IfNone}
 use Rattle.std.specs.List.{All, filter}
 use Rattle.ql_cnf.specs.Satisfaction.{ClauseList, AreInRange}
 use Rattle.ql_cnf.specs.declared.lit.Lit.{Lit}
-use Rattle.ql_refute.specs.Partial.{Partial, nothing, with_true, with_all_false, is_open, reading_of, reading}
+use Rattle.ql_refute.specs.Partial.{Partial, with_true, with_all_false, is_open, reading_of, reading}
 use Rattle.ql_refute.specs.Verdict.{hinted, hints_fault, in_range, line_fault, first_of_two, first_fault}
 use Rattle.ql_refute.specs.Marks.{has_variable, marked, IsClear, unmarked, OnlyMarks, hinted_literals, LinesInRange}
-use Rattle.ql_refute.specs.declared.marks.Reading.TheVariants.{AllFalse, Forces, Neither}
+use Rattle.ql_refute.specs.declared.marks.Reading.TheVariants.{Forces, Neither}
 use Rattle.ql_refute.specs.declared.refutation.Hint.{Hint}
 use Rattle.ql_refute.specs.declared.refutation.Line.{Line}
 use Rattle.ql_refute.specs.declared.verdict.Verdict.{Verdict}
-use Rattle.ql_refute.specs.declared.verdict.Verdict.TheVariants.{BadVariable}
 use Rattle.ql_refute.proofs.Marking.{marked-clear, has_variable_at, only_unmarked}
 
 -- a reading that forces a literal is of that literal alone
-from_reading : (p : Partial) (ys : List Lit) (x : Lit) → reading_of p ys ≡ Forces x → ys ≡ x ∷ []
+pub from_reading : (p : Partial) (ys : List Lit) (x : Lit) → reading_of p ys ≡ Forces x → ys ≡ x ∷ []
 from_reading p [] x h = absurd (cc)
 from_reading p (y ∷ []) x h = step (is_some (p y.var)) h
   where

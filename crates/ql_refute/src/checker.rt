@@ -108,8 +108,8 @@ fn hints_fault(c: &Clauses, earlier: &[Line], line: &Line, marks: &mut [u8]) -> 
     Some(Verdict::NoConflict(number))
 }
 
-// The clause that the hint names.
-fn hinted<'a>(c: &'a Clauses, earlier: &'a [Line], hint: Hint) -> Option<&'a [Lit]>
+/// The clause that the hint names, after these lines.
+pub fn hinted<'a>(c: &'a Clauses, earlier: &'a [Line], hint: Hint) -> Option<&'a [Lit]>
     requires { LinesInRange c.now.variables earlier.now }
     ensures clause { option_copied result ≡ hinted c.now earlier.now hint }
     ensures in_range { IfSome result (λ clause. AreInRange c.now.variables clause.now) }

@@ -7,7 +7,7 @@ pub mod marks;
 mod refutation;
 mod verdict;
 
-pub use checker::check;
+pub use checker::{check, hinted};
 pub use refutation::{Hint, Hints, Line, Lines, Refutation};
 pub use verdict::Verdict;
 

@@ -1,14 +1,13 @@
 -- A quiet search in which each variable has a value is a model.
-use Rattle.std.proofs.Common.{◌≡◌, ℕ, zero, suc, ◌+◌, ◌<◌, ◌≤◌, Bool, true, false, not, cond, ◌||◌, List, [], ◌∷◌, ◌++◌, Option, Some, None, length, get_or, refl, sym, ◌∙◌, ap, subst, arith}
-use Rattle.std.proofs.lemmas.Bool.Decides.{nat_tests}
+use Rattle.std.proofs.Common.{◌≡◌, ℕ, zero, suc, ◌≤◌, Bool, true, false, not, cond, ◌||◌, List, [], ◌∷◌, Option, Some, None, get_or, refl, ◌∙◌, arith}
 use Rattle.std.proofs.lemmas.List.Sums.{list_all-from_AllPass}
 use Rattle.std.specs.Prelude.{◌==◌, is_some, slice_index}
 use Rattle.std.specs.Bool.{beq}
 use Rattle.std.specs.List.{All, filter, list_any}
-use Rattle.ql_cnf.specs.Satisfaction.{ClauseList, AreInRange, ClausesInRange, value_of, literal_true, clause_true, Satisfies}
+use Rattle.ql_cnf.specs.Satisfaction.{ClauseList, AreInRange, ClausesInRange, literal_true, clause_true, Satisfies}
 use Rattle.ql_cnf.specs.declared.lit.Lit.{Lit}
 use Rattle.ql_refute.specs.Marks.{marked, value_of_mark}
-use Rattle.ql_refute.specs.Partial.{Partial, is_value, is_open, reading_of, reading}
+use Rattle.ql_refute.specs.Partial.{Partial, is_value, is_open, reading}
 use Rattle.ql_refute.specs.declared.marks.Reading.TheVariants.{AllFalse, Neither}
 use Rattle.ql_sat.specs.Search.{IsQuiet, IsTotal, AgreesWith}
 
@@ -36,7 +35,7 @@ open_is_true (Some true) false h e = absurd (cc)
 open_is_true (Some false) true h e = absurd (cc)
 open_is_true (Some false) false h e = refl
 
-mark_value : (n : ℕ) (b : Bool) → value_of_mark n ≡ Some b → (n == 1) ≡ b
+pub mark_value : (n : ℕ) (b : Bool) → value_of_mark n ≡ Some b → (n == 1) ≡ b
 mark_value n b h = step (n == 1) (n == 2) refl refl h
   where
     step : (s t : Bool) → (n == 1) ≡ s → (n == 2) ≡ t → cond s (Some true) (cond t (Some false) None) ≡ Some b → (n == 1) ≡ b

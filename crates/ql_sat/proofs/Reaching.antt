@@ -1,19 +1,18 @@
 -- How unit propagation gets from a clause's negation to the marks.
-use Rattle.std.proofs.Common.{◌≡◌, ℕ, zero, suc, ◌+◌, ◌<◌, ◌≤◌, Bool, true, false, cond, ◌||◌, List, [], ◌∷◌, ◌++◌, Option, Some, None, length, get_or, take, refl, sym, ◌∙◌, ap, subst, arith, append_assoc}
+use Rattle.std.proofs.Common.{◌≡◌, ℕ, ◌+◌, ◌<◌, Bool, true, false, cond, ◌||◌, List, [], ◌∷◌, ◌++◌, Some, None, length, get_or, refl, ◌∙◌, ap, subst, arith, append_assoc}
 use Rattle.std.proofs.lemmas.Bool.Decides.{nat_tests}
 use Rattle.std.proofs.lemmas.List.Sums.{sum_by-set}
-use Rattle.std.specs.Prelude.{◌==◌, is_some, slice_index, slice_set}
-use Rattle.std.specs.List.{filter, list_any, sum_by}
+use Rattle.std.specs.Prelude.{◌==◌, is_some, slice_set}
+use Rattle.std.specs.List.{filter}
 use Rattle.ql_cnf.specs.Literals.{negated}
 use Rattle.ql_cnf.specs.Satisfaction.{ClauseList}
 use Rattle.ql_cnf.specs.declared.lit.Lit.{Lit}
 use Rattle.ql_refute.specs.Marks.{has_variable, marked, mark_of, value_of_mark, IsClear}
-use Rattle.ql_refute.specs.Partial.{Partial, nothing, with_true, with_all_false, is_open, reading_of, reading}
-use Rattle.ql_refute.specs.Verdict.{numbered, hinted, hints_fault}
+use Rattle.ql_refute.specs.Partial.{Partial, with_true, with_all_false, is_open, reading_of, reading}
+use Rattle.ql_refute.specs.Verdict.{numbered}
 use Rattle.ql_refute.specs.declared.marks.Reading.TheVariants.{AllFalse, Forces, Neither}
 use Rattle.ql_refute.specs.declared.refutation.Hint.{Hint}
 use Rattle.ql_refute.specs.declared.refutation.Hint.TheVariants.{Given}
-use Rattle.ql_refute.specs.declared.refutation.Line.{Line}
 use Rattle.ql_refute.proofs.Marking.{marked-set, marked-clear}
 use Rattle.ql_sat.specs.Search.{IsReached, IsConflict, HasValuesOf, unset_count}
 

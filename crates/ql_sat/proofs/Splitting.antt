@@ -1,11 +1,10 @@
 -- Two clauses that differ in one literal give the clause without it.
-use Rattle.std.proofs.Common.{◌≡◌, ◌≢◌, ℕ, zero, suc, ◌+◌, ◌-◌, ◌<◌, ◌≤◌, Bool, true, false, not, cond, ◌||◌, List, [], ◌∷◌, ◌++◌, Option, Some, None, length, get_or, take, drop, refl, sym, ◌∙◌, ◌⊎◌, inl, inr, arith}
+use Rattle.std.proofs.Common.{◌≡◌, ◌≢◌, ℕ, zero, suc, ◌+◌, ◌-◌, ◌<◌, ◌≤◌, Bool, true, false, not, cond, ◌||◌, List, [], ◌∷◌, ◌++◌, Option, Some, None, length, refl, sym, ◌∙◌, ◌⊎◌, inl, inr, arith}
 use Rattle.std.proofs.lemmas.List.{append-nil}
 use Rattle.std.proofs.lemmas.Bool.Decides.{nat_tests}
 use Rattle.std.proofs.lemmas.List.Folds.{list_any_at}
-use Rattle.std.specs.Prelude.{◌==◌, is_some, insert, slice_get}
-use Rattle.std.specs.Bool.{beq}
-use Rattle.std.specs.List.{All, filter, list_any}
+use Rattle.std.specs.Prelude.{◌==◌, insert, slice_get}
+use Rattle.std.specs.List.{filter}
 use Rattle.std.specs.Option.{option_map}
 use Rattle.ql_cnf.specs.Literals.{negated, AllAbove, IsAscending, count_below, with_literal}
 use Rattle.ql_cnf.specs.Satisfaction.{ClauseList, AreInRange}
@@ -13,16 +12,16 @@ use Rattle.ql_cnf.specs.declared.lit.Lit.{Lit}
 use Rattle.ql_cnf.proofs.Meaning.{stays_ascending}
 use Rattle.ql_cnf.proofs.Places.{IsFreeAt, with_literal-new, count_below-length}
 use Rattle.ql_refute.specs.Marks.{has_variable}
-use Rattle.ql_refute.specs.Partial.{Partial, nothing, with_true, with_all_false, is_value, is_open, reading_of, reading}
-use Rattle.ql_refute.specs.Verdict.{numbered, hinted, hints_fault, in_range, line_fault, has_empty, is_empty, IsGood, AreGood, verdict}
-use Rattle.ql_refute.specs.declared.marks.Reading.TheVariants.{AllFalse, Forces, Neither}
+use Rattle.ql_refute.specs.Partial.{Partial, nothing, with_true, with_all_false, is_value, is_open, reading}
+use Rattle.ql_refute.specs.Verdict.{numbered, hinted, hints_fault, has_empty, is_empty, IsGood, AreGood, verdict}
+use Rattle.ql_refute.specs.declared.marks.Reading.TheVariants.{AllFalse, Forces}
 use Rattle.ql_refute.specs.declared.refutation.Hint.{Hint}
 use Rattle.ql_refute.specs.declared.refutation.Hint.TheVariants.{Earlier}
 use Rattle.ql_refute.specs.declared.refutation.Line.{Line}
 use Rattle.ql_refute.specs.declared.verdict.Verdict.TheVariants.{Accepted}
 use Rattle.ql_refute.proofs.Laws.{names_more, AreGood-push, verdict-good}
 use Rattle.ql_refute.proofs.Steps.{in_range-true}
-use Rattle.ql_sat.specs.Search.{IsConflict, Extends}
+use Rattle.ql_sat.specs.Search.{Extends}
 
 is_same : (a b : ℕ) → (a == b) ≡ true → a ≡ b
 is_same a b h = grind (arith, nat_tests)

@@ -1,7 +1,6 @@
 -- The state of the search in the words of the checker's definitions.
-use Rattle.std.specs.Prelude.{ℕ, ◌≡◌, ◌<◌, ◌≤◌, ◌==◌, Bool, true, false, if◌then◌else◌, List, [], ◌∷◌, ◌++◌, length, is_some, slice_index, None, Some}
+use Rattle.std.specs.Prelude.{ℕ, ◌≡◌, ◌≤◌, ◌==◌, Bool, true, if◌then◌else◌, List, ◌++◌, length, is_some, slice_index, None, Some}
 use Rattle.std.specs.List.{All, sum_by}
-use Rattle.ql_cnf.specs.Literals.{negated}
 use Rattle.ql_cnf.specs.Satisfaction.{ClauseList, value_of, Satisfies}
 use Rattle.ql_cnf.specs.declared.lit.Lit.{Lit}
 use Rattle.ql_refute.specs.Marks.{has_variable, marked, value_of_mark}

@@ -3,10 +3,12 @@
 #![tactic(auto)]
 
 mod decided;
+mod learning;
 mod plain;
+mod trail;
 
 pub use decided::Decided;
-pub use plain::decide;
+pub use learning::decide;
 
 #[cfg(test)]
 mod tests;

@@ -23,7 +23,8 @@ enum Outcome {
     Refuted(u64),
 }
 
-/// An assignment that satisfies the clauses, or a refutation of them.
+/// The same contract by a recursion on the variables that are unset, without learning: the plain
+/// program beside which the solver is tested.
 pub fn decide(alloc: Global, c: &Clauses) -> Result<Decided, NoMemory>
     ensures { IfOk result (IsRight c.now) }
 {
@@ -110,7 +111,7 @@ fn conflict(
 }
 
 // The greatest variable without a value.
-fn greatest_unset(variables: u32, marks: &[u8]) -> Option<u32>
+pub(crate) fn greatest_unset(variables: u32, marks: &[u8]) -> Option<u32>
     requires { variables < length marks.now }
     ensures { MatchOption result (IsTotal variables marks.now) (λ v. (1 ≤ v) × (v ≤ variables) × (marked marks.now v ≡ None)) }
 {
@@ -139,7 +140,7 @@ fn longer(alloc: Global, clause: &Clause, var: u32, positive: bool) -> Result<Cl
 }
 
 // Appends a line, and gives its number.
-fn push_line(
+pub(crate) fn push_line(
     alloc: Global,
     clause: &Clause,
     hints: Vec<Hint>,
@@ -157,7 +158,7 @@ fn push_line(
 }
 
 // The values that the marks stand for.
-fn assignment(alloc: Global, marks: &[u8]) -> Result<Assignment, NoMemory>
+pub(crate) fn assignment(alloc: Global, marks: &[u8]) -> Result<Assignment, NoMemory>
     requires { 1 ≤ length marks.now }
     ensures { IfOk result (AgreesWith (length marks.now - 1) marks.now) }
 {

@@ -1,4 +1,4 @@
-use Rattle.std.proofs.Common.{◌≡◌, None, get_or, take, sym, ◌∙◌}
+use Rattle.std.proofs.Common.{◌≡◌, None, take, sym, ◌∙◌}
 use Rattle.ql_cnf.specs.Satisfaction.{AreInRange}
 use Rattle.ql_refute.specs.Marks.{IsClear}
 use Rattle.ql_refute.specs.Verdict.{line_fault}

@@ -1,4 +1,3 @@
-use Rattle.std.proofs.Common.{sym, ◌∙◌}
 use Rattle.ql_refute.proofs.Marking.{only_unmarked}
 use Rattle.ql_refute.proofs.Steps.{undo_hint, undo_nothing}
 use Rattle.ql_refute.proofs.checker.undo.Goals as goal

@@ -1,4 +1,3 @@
-use Rattle.std.proofs.Common.{arith, ◌<◌, length, get_or}
 use Rattle.ql_refute.proofs.Marking.{falsify_more, only_set, has_variable_at}
 use Rattle.ql_refute.proofs.marks.falsify.Goals as goal
 

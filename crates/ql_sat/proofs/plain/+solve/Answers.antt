@@ -1,6 +1,4 @@
-use Rattle.std.proofs.Common.{◌≡◌, ◌≤◌, ◌<◌, ◌+◌, ◌-◌, length, arith, sym, ◌∙◌, true, false, Some, [], ◌∷◌}
-use Rattle.ql_refute.specs.Verdict.{hinted}
-use Rattle.ql_refute.specs.declared.refutation.Hint.TheVariants.{Earlier}
+use Rattle.std.proofs.Common.{◌+◌, length, arith, true}
 use Rattle.ql_sat.specs.Search.{IsConflict, IsTotal}
 use Rattle.ql_sat.proofs.Models.{is_model}
 use Rattle.ql_sat.proofs.Reaching.{unset_is_new}

@@ -1,12 +1,11 @@
-use Rattle.std.proofs.Common.{◌≡◌, ◌≤◌, ◌<◌, ◌+◌, length, get_or, take, false, arith, refl, sym, ◌∙◌, subst, List}
+use Rattle.std.proofs.Common.{◌≡◌, ◌<◌, ◌+◌, length, take, arith, refl, sym, ◌∙◌, subst, List}
 use Rattle.std.proofs.lemmas.List.{take_all}
-use Rattle.std.specs.Bool.{OnFalse}
 use Rattle.ql_cnf.specs.declared.lit.Lit.{Lit}
 use Rattle.ql_refute.specs.Marks.{marked}
 use Rattle.ql_refute.specs.Partial.{reading, with_all_false}
-use Rattle.ql_refute.specs.declared.marks.Reading.TheVariants.{Forces, Neither, AllFalse}
-use Rattle.ql_sat.specs.Search.{IsQuiet, unset_count}
-use Rattle.ql_sat.proofs.Reaching.{reached_start, reached_more, reached_conflict, has_values_start, has_values_more, forced_unset, unset_count-set}
+use Rattle.ql_refute.specs.declared.marks.Reading.TheVariants.{Forces, Neither}
+use Rattle.ql_sat.specs.Search.{IsQuiet}
+use Rattle.ql_sat.proofs.Reaching.{reached_start, reached_more, has_values_start, has_values_more, forced_unset, unset_count-set}
 use Rattle.ql_sat.proofs.Rounds.{numbered_next, quiet_more, no_more, forced_in_range}
 use Rattle.ql_sat.proofs.plain.conflict.Goals as goal
 use Rattle.ql_sat.proofs.plain.conflict.Goals.{in-Forces+in_ok-push-in-Forces, in-Neither}

@@ -1,4 +1,4 @@
-use Rattle.std.proofs.Common.{◌≡◌, ◌<◌, ◌≤◌, false, true, take, length}
+use Rattle.std.proofs.Common.{◌≡◌, ◌<◌, take}
 use Rattle.std.specs.Bool.{OnTrue, OnFalse}
 use Rattle.ql_sat.specs.Search.{IsReached, HasValuesOf, IsQuiet, unset_count}
 use Rattle.ql_sat.proofs.plain.conflict.Given as goal

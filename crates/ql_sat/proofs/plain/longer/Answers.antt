@@ -1,4 +1,4 @@
-use Rattle.std.proofs.Common.{◌≡◌, sym, ◌∙◌}
+use Rattle.std.proofs.Common.{sym, ◌∙◌}
 use Rattle.ql_sat.proofs.Splitting.{longer_is, longer_length, longer_in_range}
 use Rattle.ql_sat.proofs.plain.longer.Goals as goal
 

@@ -1,0 +1,84 @@
+-- The trail of a search with learned clauses: what was assigned in what order, and why.
+use Rattle.std.specs.Prelude.{ℕ, zero, suc, ◌+◌, ◌≤◌, ◌≡◌, ◌==◌, if◌then◌else◌, is_some, slice_index, drop, Bool, true, false, not, List, [], ◌∷◌, ◌++◌, length, None, Some, reverse, MatchOption}
+use Rattle.std.specs.List.{slice_index_or}
+use Rattle.ql_cnf.specs.Satisfaction.{ClauseList, Satisfies}
+use Rattle.ql_cnf.specs.declared.lit.Lit.{Lit}
+use Rattle.ql_refute.specs.Marks.{marked, LinesInRange}
+use Rattle.ql_refute.specs.Partial.{Partial, nothing, with_true, reading}
+use Rattle.ql_refute.specs.Verdict.{hinted, hints_fault, AreGood}
+use Rattle.ql_refute.specs.declared.marks.Reading.TheVariants.{AllFalse, Forces}
+use Rattle.ql_refute.specs.declared.refutation.Hint.{Hint}
+use Rattle.ql_refute.specs.declared.refutation.Line.{Line}
+use Rattle.ql_refute.specs.declared.refutation.Hint.TheVariants.{Earlier}
+use Rattle.ql_sat.specs.Search.{AgreesWith}
+use Rattle.ql_sat.specs.declared.learning.Turn.{Turn}
+use Rattle.ql_sat.specs.declared.learning.Turn.TheVariants.{More, Model, Refuted}
+use Rattle.ql_sat.specs.declared.trail.Step.{Step}
+
+-- the partial assignment after these steps
+abbrev pub assigned_from : Partial → List Step → Partial
+assigned_from p [] = p
+assigned_from p (s ∷ ss) = assigned_from (with_true p s.lit) ss
+
+-- a decision sets an unset variable; another step is forced by the clause of its reason
+abbrev pub IsStep : ClauseList → List Line → Partial → Step → Type 0
+IsStep c lines p s = MatchOption s.reason (p s.lit.var ≡ None) (λ h. (d : List Lit) × (hinted c lines h ≡ Some d) × (reading p d ≡ Forces s.lit))
+
+abbrev pub IsTrail : ClauseList → List Line → Partial → List Step → Type 0
+IsTrail c lines p [] = Unit {0}
+IsTrail c lines p (s ∷ ss) = IsStep c lines p s × IsTrail c lines (with_true p s.lit) ss
+
+-- what holds between the steps of a search
+pub record IsSearching (c : ClauseList) (lines : List Line) (trail : List Step) (marks : List ℕ) : Type 0 where
+  pub good : AreGood c lines
+  pub in_range : LinesInRange c.variables lines
+  pub steps : IsTrail c lines nothing trail
+  pub values : marked marks ≡ assigned_from nothing trail
+  pub room : length marks ≡ c.variables + 1
+
+-- the clause of the hint is false
+abbrev pub IsFalseClause : ClauseList → List Line → Hint → List ℕ → Type 0
+IsFalseClause c lines h marks = (d : List Lit) × (hinted c lines h ≡ Some d) × (reading (marked marks) d ≡ AllFalse)
+
+abbrev pub is_seen : List Bool → ℕ → Bool
+is_seen seen v = slice_index_or seen v false
+
+-- p sets no variable of these steps
+abbrev pub AllUnset : Partial → List Step → Type 0
+AllUnset p [] = Unit {0}
+AllUnset p (s ∷ ss) = (p s.lit.var ≡ None) × AllUnset p ss
+
+-- no variable of these steps is seen
+abbrev pub NoneSeen : List Bool → List Step → Type 0
+NoneSeen seen [] = Unit {0}
+NoneSeen seen (s ∷ ss) = (is_seen seen s.lit.var ≡ false) × NoneSeen seen ss
+
+-- from any values that have those of the seen variables, and none of the later steps' variables, the hints in
+-- reverse come to a conflict
+abbrev pub IsDerived : ClauseList → List Line → List Step → List Step → List Bool → List Hint → Type 0
+IsDerived c lines trail later seen hints = (p : Partial) → ((v : ℕ) → is_seen seen v ≡ true → p v ≡ assigned_from nothing trail v) → AllUnset p later → (k : ℕ) → hints_fault c lines k (reverse hints) p ≡ None
+
+-- the literals of the seen variables up to v, each false under the marks
+abbrev pub learned_to : List ℕ → List Bool → ℕ → List Lit
+learned_to marks seen zero = []
+learned_to marks seen (suc v) = learned_to marks seen v ++ (if is_seen seen (suc v) then record { var = suc v; positive = not (slice_index marks (suc v) == 1) } ∷ [] else [])
+
+-- the seen variables have values
+abbrev pub SeenHaveValues : ℕ → List Step → List Bool → Type 0
+SeenHaveValues n trail seen = (v : ℕ) → is_seen seen v ≡ true → (1 ≤ v) × (v ≤ n) × (is_some (assigned_from nothing trail v) ≡ true)
+
+-- no variable is seen
+abbrev pub NothingSeen : List Bool → Type 0
+NothingSeen seen = (v : ℕ) → is_seen seen v ≡ false
+
+-- what holds in the analysis of a conflict when the steps from place i on are done
+pub record IsAnalysis (c : ClauseList) (lines : List Line) (trail : List Step) (i : ℕ) (seen : List Bool) (hints : List Hint) : Type 0 where
+  pub derived : IsDerived c lines trail (drop i trail) seen hints
+  pub values : SeenHaveValues c.variables trail seen
+  pub none : NoneSeen seen (drop i trail)
+
+-- what a turn came to: the marks are a model, or a line is empty
+abbrev pub IsTurn : ClauseList → List Line → List ℕ → Turn → Type 0
+IsTurn c lines marks More = Unit {0}
+IsTurn c lines marks Model = (a : List Bool) → AgreesWith c.variables marks a → Satisfies a c
+IsTurn c lines marks (Refuted n) = hinted c lines (Earlier n) ≡ Some []
