@@ -6,3 +6,4 @@ pub mod Ground
 pub mod Truth
 pub mod Implication
 pub mod Worked
+pub mod Least
