@@ -6,7 +6,7 @@ use Rattle.ql_base.specs.declared.no_memory.NoMemory.{NoMemory}
 use Rattle.ql_app.specs.declared.status.Status.{Status}
 use Rattle.ql_app.specs.declared.status.Status.TheVariants.{Done, No, Bad, ReadFault, WriteFault, Usage, TooLarge}
 use Rattle.ql_app.specs.declared.words.Command.{Command}
-use Rattle.ql_app.specs.declared.words.Command.TheVariants.{Holds}
+use Rattle.ql_app.specs.declared.words.Command.TheVariants.{Holds, Proof}
 use Rattle.ql_app.specs.Words.{IsRequest}
 use Rattle.ql_app.specs.Outcome.{Says, Judges, CommandSays}
 
@@ -26,9 +26,13 @@ command_says limit words held before after command name bytes Done text asks sam
 command_says limit words held before after command name bytes No text asks same short says = judges limit words held command name bytes No text asks same short says
 command_says limit words held before after command name bytes Bad text asks same short says = judges limit words held command name bytes Bad text asks same short says
 command_says limit words held before after Holds name bytes ReadFault text asks same short says = absurd says
+command_says limit words held before after Proof name bytes ReadFault text asks same short says = absurd says
 command_says limit words held before after Holds name bytes WriteFault text asks same short says = absurd says
+command_says limit words held before after Proof name bytes WriteFault text asks same short says = absurd says
 command_says limit words held before after Holds name bytes Usage text asks same short says = absurd says
+command_says limit words held before after Proof name bytes Usage text asks same short says = absurd says
 command_says limit words held before after Holds name bytes TooLarge text asks same short says = absurd says
+command_says limit words held before after Proof name bytes TooLarge text asks same short says = absurd says
 
 -- the answer of a command is an answer to the words
 pub answer_says : (limit : ℕ) (words : List (List ℕ)) (held : List ℕ → Option (List ℕ)) (before after : List ℕ → ℕ) (command : Command) (name bytes : List ℕ) (answer : Result (Status × Vec ℕ) NoMemory)

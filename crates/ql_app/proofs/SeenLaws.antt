@@ -55,7 +55,7 @@ below_push : (i : ℕ) (ids : List ℕ) (id : ℕ) → IsBelowAll i ids → i < 
 below_push i [] id below less = (less, tt)
 below_push i (j ∷ ids) id below less = (below.0, below_push i ids id below.1 less)
 
-ascending_push : (ids : List ℕ) (id : ℕ) → IsAscending ids → is_above ids id ≡ true → IsAscending (ids ++ id ∷ [])
+pub ascending_push : (ids : List ℕ) (id : ℕ) → IsAscending ids → is_above ids id ≡ true → IsAscending (ids ++ id ∷ [])
 ascending_push [] id up above = (tt, tt)
 ascending_push (other ∷ ids) id up above =
     let p = and_parts (ltb other id) (is_above ids id) above in
@@ -65,7 +65,7 @@ below_middle : (i : ℕ) (before : List ℕ) (id : ℕ) (ids : List ℕ) → IsB
 below_middle i [] id ids below = below.0
 below_middle i (b ∷ before) id ids below = below_middle i before id ids below.1
 
-above_from : (before : List ℕ) (id : ℕ) (ids : List ℕ) → IsAscending (before ++ id ∷ ids) → is_above before id ≡ true
+pub above_from : (before : List ℕ) (id : ℕ) (ids : List ℕ) → IsAscending (before ++ id ∷ ids) → is_above before id ≡ true
 above_from [] id ids up = refl
 above_from (b ∷ before) id ids up =
     and_from (ltb b id) (is_above before id) (lt-ltb b id (below_middle b before id ids up.0)) (above_from before id ids up.1)

@@ -4,4 +4,5 @@ pub mod EffectLine
 pub mod Truth
 pub mod Search
 pub mod HoldsFile
+pub mod ProofFile
 pub mod Outcome

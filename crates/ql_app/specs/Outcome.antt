@@ -6,17 +6,20 @@ use Rattle.ql_ports.specs.Written.{appended, AppendsFront}
 use Rattle.ql_app.specs.declared.status.Status.{Status}
 use Rattle.ql_app.specs.declared.status.Status.TheVariants.{Done, No, Bad, ReadFault, WriteFault, Usage, TooLarge}
 use Rattle.ql_app.specs.declared.words.Command.{Command}
-use Rattle.ql_app.specs.declared.words.Command.TheVariants.{Holds}
+use Rattle.ql_app.specs.declared.words.Command.TheVariants.{Holds, Proof}
 use Rattle.ql_app.specs.Words.{IsRequest}
 use Rattle.ql_app.specs.HoldsFile.{HoldsSays, IsHoldsFile}
+use Rattle.ql_app.specs.ProofFile.{ProofSays, IsProofFile}
 
 -- what a command says of its file's bytes
 abbrev pub CommandSays : Command → List ℕ → Status → List ℕ → Type 0
 CommandSays Holds bytes status text = HoldsSays bytes status text
+CommandSays Proof bytes status text = ProofSays bytes status text
 
 -- the file's bytes are in the grammar of the command's files
 abbrev pub IsInGrammar : Command → List ℕ → Type 0
 IsInGrammar Holds bytes = IsHoldsFile bytes
+IsInGrammar Proof bytes = IsProofFile bytes
 
 -- the words ask for a command on a file, of which more is said
 abbrev pub ForRequest : List (List ℕ) → (Command → List ℕ → Type 0) → Type 0

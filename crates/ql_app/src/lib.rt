@@ -9,6 +9,8 @@ mod effect_line;
 mod holds;
 mod outcome;
 mod program;
+mod proof;
+mod proof_text;
 mod question;
 mod question_text;
 mod status;
@@ -17,5 +19,5 @@ mod tests;
 mod truth;
 mod words;
 
-pub use program::quelea;
+pub use program::{MAX_FILE_BYTES, quelea};
 pub use status::Status;

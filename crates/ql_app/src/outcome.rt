@@ -3,6 +3,7 @@ ghost use Rattle.ql_app.specs.Words.{word_texts};
 ghost use Rattle.ql_app.specs.Outcome.{Says, CommandSays};
 
 use crate::holds::holds;
+use crate::proof::judge;
 use crate::status::Status;
 use crate::words::{Command, request};
 use ql_base::NoMemory;
@@ -46,5 +47,6 @@ fn judged(alloc: Global, command: Command, bytes: &[u8]) -> Result<(Status, Vec<
 {
     match command {
         Command::Holds => holds(alloc, bytes),
+        Command::Proof => judge(alloc, bytes),
     }
 }

@@ -35,6 +35,45 @@ effect 4 x r session 2 vis 2 3
 end
 ";
 
+// Two lines down to the empty clause, and three ways to get them wrong.
+const ACCEPTED: &[u8] = b"variables 2
+c 1 2
+c 1 -2
+c -1
+1 1 : c1 c2
+2 : l1 c3
+end
+";
+
+const HINT_MISSING: &[u8] = b"variables 2
+c 1 2
+c 1 -2
+c -1
+1 1 : c1
+2 : l1 c3
+end
+";
+
+const HINT_TOO_EARLY: &[u8] = b"variables 2
+c 1 2
+c 1 -2
+c -1
+1 1 : c1 c2
+2 : c1 l1 c3
+end
+";
+
+const NUMBER_TWICE: &[u8] = b"variables 2
+c 1 2
+c 1 -2
+c -1
+1 1 : c1 c2
+1 : l1 c3
+end
+";
+// Lines may end with a carriage return and a line feed, and the last one with nothing.
+const OTHER_ENDS: &[u8] = b"variables 0\r\nc\r\nend";
+
 // The words, the numbers of the fetches and of the puts that fail, and the answer to them.
 type Case = (
     &'static [&'static str],
@@ -60,6 +99,11 @@ fn files(alloc: Global) -> Result<Vec<(String, Vec<u8>)>, AllocError> {
         ("later", LATER_WRITE),
         ("three", NOT_HANDED_ON),
         ("empty", b""),
+        ("accepted", ACCEPTED),
+        ("missing", HINT_MISSING),
+        ("early", HINT_TOO_EARLY),
+        ("twice", NUMBER_TWICE),
+        ("ends", OTHER_ENDS),
     ] {
         files.push((
             String::from_str(alloc, name)?,
@@ -71,7 +115,7 @@ fn files(alloc: Global) -> Result<Vec<(String, Vec<u8>)>, AllocError> {
 
 #[test]
 fn answers_words_over_memory(rt: HostRuntime) -> Result<(), Fail> {
-    let cases: [Case; 11] = [
+    let cases: [Case; 16] = [
         (&["holds", "own"], &[], &[], Status::Done, b"holds\n"),
         (&["holds", "lost"], &[], &[], Status::No, b"fails a=1\n"),
         (
@@ -107,6 +151,35 @@ fn answers_words_over_memory(rt: HostRuntime) -> Result<(), Fail> {
             b"read fault own\n",
         ),
         (&["holds", "own"], &[], &[4], Status::WriteFault, b"hol"),
+        (
+            &["proof", "accepted"],
+            &[],
+            &[],
+            Status::Done,
+            b"accepted\n",
+        ),
+        (
+            &["proof", "missing"],
+            &[],
+            &[],
+            Status::No,
+            b"refused 1 NoConflict\n",
+        ),
+        (
+            &["proof", "early"],
+            &[],
+            &[],
+            Status::No,
+            b"refused 2 NotUnit\n",
+        ),
+        (&["proof", "twice"], &[], &[], Status::Bad, b"bad proof\n"),
+        (
+            &["proof", "ends"],
+            &[],
+            &[],
+            Status::No,
+            b"refused NoEmpty\n",
+        ),
     ];
     for (words, failing_fetches, failing_puts, want, text) in cases {
         let alloc = rt.alloc();

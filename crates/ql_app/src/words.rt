@@ -7,6 +7,8 @@ ghost use Rattle.ql_app.specs.Words.{IsName, IsRequest, command_word, word_texts
 pub enum Command {
     /// Whether a contract holds at an effect of an execution.
     Holds,
+    /// Whether a refutation shows that no assignment satisfies some clauses.
+    Proof,
 }
 
 /// The command and the name of its file, where the words are those of a command.
@@ -34,6 +36,7 @@ fn command_named(word: &str) -> Option<Command>
 {
     match word {
         "holds" => Some(Command::Holds),
+        "proof" => Some(Command::Proof),
         _ => None,
     }
 }

@@ -4,3 +4,5 @@ pub mod Numbers
 pub mod Letters
 pub mod ItemLaws
 pub mod Loop
+pub mod StoppedLaws
+pub mod LineEndLaws

@@ -1,13 +1,13 @@
 -- The laws of a number at the front.
-use Rattle.std.proofs.Common.{◌≡◌, ℕ, ◌+◌, ◌-◌, ◌*◌, ◌^◌, ◌<◌, ◌≤◌, Bool, true, false, cond, leb, List, [], ◌∷◌, ◌++◌, length, drop, get_or, Option, Some, None, refl, sym, ap, ◌∙◌, arith, rules}
+use Rattle.std.proofs.Common.{◌≡◌, ℕ, ◌+◌, ◌-◌, ◌*◌, ◌^◌, ◌<◌, ◌≤◌, Bool, true, false, cond, leb, List, [], ◌∷◌, ◌++◌, length, drop, get_or, Option, Some, None, refl, sym, ap, ◌∙◌, arith, rules, eqb}
 use Rattle.std.specs.Prelude.{decimal}
 use Rattle.std.specs.Char.{is_ascii_digit}
 use Rattle.std.specs.Str.{all_ascii_digits}
 use Rattle.std.specs.Option.{option_map}
-use Rattle.std.proofs.lemmas.Bool.{and_parts, leb-true, le-leb, lt-leb}
+use Rattle.std.proofs.lemmas.Bool.{and_parts, leb-true, le-leb, lt-leb, ne_eqb, false≢true}
 use Rattle.std.proofs.lemmas.Option.{some_pair_parts}
 use Rattle.std.proofs.lemmas.List.{at_drop_more, at_drop_all}
-use Rattle.std.proofs.lemmas.Fmt.{digits_decimal, digits_value-decimal}
+use Rattle.std.proofs.lemmas.Fmt.{digits_decimal, digits_value-decimal, decimal_nonempty}
 use Rattle.std.proofs.lemmas.Str.Parse.{IsNumeralModel, numerals_by_fold}
 use Rattle.ql_text.specs.Reading.{literal_at, value_from, leading_value, number_at}
 use Rattle.ql_text.proofs.Texts.{passed, literal_takes, literal_again}
@@ -95,3 +95,17 @@ pub number_again : (most n : ℕ) (rest : List ℕ) → n ≤ most → n < 2 ^ 6
 unfolding number_at
 number_again most n rest le small h =
     rw (leading_value-decimal n rest small h, le-leb n most le, literal_again (decimal n) rest) refl
+
+-- ---- no other text stands where a number does
+
+apart_from_digit : (t d : ℕ) → is_ascii_digit t ≡ false → is_ascii_digit d ≡ true → eqb t d ≡ false
+apart_from_digit t d other digit = ne_eqb t d (λ same. false≢true (sym other ∙ ap is_ascii_digit same ∙ digit))
+
+no_literal_at_digits : (t : ℕ) (text ds rest : List ℕ) → is_ascii_digit t ≡ false → all_ascii_digits ds ≡ true → 0 < length ds → literal_at (t ∷ text) (ds ++ rest) ≡ None
+unfolding literal_at
+no_literal_at_digits t text [] rest other all some = absurd (omega arith)
+no_literal_at_digits t text (d ∷ ds) rest other all some =
+    rw (apart_from_digit t d other (and_parts (is_ascii_digit d) (all_ascii_digits ds) all).0) refl
+
+pub no_literal_at_number : (t : ℕ) (text : List ℕ) (n : ℕ) (rest : List ℕ) → is_ascii_digit t ≡ false → n < 2 ^ 64 → literal_at (t ∷ text) (decimal n ++ rest) ≡ None
+no_literal_at_number t text n rest other small = no_literal_at_digits t text (decimal n) rest other (digits_decimal own n small) (decimal_nonempty n small)

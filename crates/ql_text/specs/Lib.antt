@@ -1,3 +1,4 @@
 pub mod Reading
 pub mod Items
 pub mod Answers
+pub mod LineEnds

@@ -5,8 +5,10 @@
 
 mod digits;
 mod front;
+mod line_ends;
 mod parse_error;
 
-pub use digits::{number, number_before};
+pub use digits::{number, number_before, wide_number};
 pub use front::{letter, letter_before, literal};
+pub use line_ends::with_line_feeds;
 pub use parse_error::ParseError;
