@@ -10,3 +10,6 @@ mod token;
 
 pub use scan::tokens;
 pub use token::{LexFault, Token, TokenKind};
+
+#[cfg(test)]
+mod tests;
