@@ -7,7 +7,7 @@ use Rattle.ql_grammar.specs.declared.role.Role.{Role}
 use Rattle.ql_grammar.specs.declared.role.Role.TheVariants.{Plain, Makes, Opens, Closes}
 use Rattle.ql_grammar.specs.ContractGrammar.{RelationPart, Applied, Single, Sum, PropPart, Atom, Whole}
 use Rattle.ql_grammar.specs.Limits.{Fault, Unexpected}
-use Rattle.ql_grammar.specs.Table.{Value, Sym, Word, Placed, ANameOf, Do, APart, Then, Part, Term, TermList, RelationAt, PropAt, VarList, WholeContract, Rest, ways, way_on, term_ways, relation_ways, atom_ways, to_cur, to_variable, to_basic, add_truth, to_equality, to_application, to_txn, to_plain, to_forall, MoreAnds, MoreOrs, MoreImplied}
+use Rattle.ql_grammar.specs.Table.{Value, Sym, Word, Placed, ANameOf, Do, APart, Then, Part, Term, TermList, RelationAt, PropAt, BarredNames, Variable, VarList, WholeContract, Rest, ways, way_on, term_ways, relation_ways, atom_ways, to_cur, to_variable, to_basic, add_truth, to_equality, to_application, to_txn, to_names, to_free, to_plain, to_forall, MoreAnds, MoreOrs, MoreImplied, MoreNames, Operations}
 use Rattle.ql_grammar.specs.Machine.{Reading, read, is_ahead, place_ahead, is_begun, chosen}
 use Rattle.ql_grammar.proofs.Taking.{word_missing, placed_missing, name_missing}
 use Rattle.ql_grammar.proofs.Choices.{read-part, read-then}
@@ -79,6 +79,12 @@ module _ (r : Reading) where
       read-part r (PropAt Atom) below vs ∙ rw (a, b, c) (none_cases (is_ahead CurWord r.tokens) (is_ahead NameToken r.tokens) _ _ _ none) ∙ sym (read-part r (RelationAt Applied) (behind_relation below) vs)
 
   -- contracts
+
+  pub names-start : (below : List Sym) (vs : List Value) → read r (APart BarredNames ∷ below) vs ≡ read r (ANameOf Plain ∷ Do to_names ∷ Then MoreNames ∷ below) vs
+  names-start below vs = read-part r BarredNames below vs ∙ last_name Plain (Do to_names ∷ Then MoreNames ∷ below) vs (is_ahead NameToken r.tokens) refl
+
+  pub variable-start : (below : List Sym) (vs : List Value) → read r (APart Variable ∷ below) vs ≡ read r (ANameOf Plain ∷ Do to_free ∷ Then Operations ∷ below) vs
+  variable-start below vs = read-part r Variable below vs ∙ last_name Plain (Do to_free ∷ Then Operations ∷ below) vs (is_ahead NameToken r.tokens) refl
 
   pub contract-forall : (below : List Sym) (vs : List Value) → is_ahead ForallWord r.tokens ≡ true → read r (APart WholeContract ∷ below) vs ≡ read r (Word ForallWord Plain ∷ APart VarList ∷ Word Dot Plain ∷ APart (PropAt Whole) ∷ Do to_forall ∷ below) vs
   contract-forall below vs sees = read-part r WholeContract below vs ∙ rw sees refl

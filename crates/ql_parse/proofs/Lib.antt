@@ -1,0 +1,4 @@
+pub mod ReaderLemmas
+pub mod RelationRules
+pub mod Spans
+pub mod ContractLemmas

@@ -1,0 +1,37 @@
+use Rattle.std.proofs.Common.{sym, ◌∙◌, ap, refl, ◌∷◌}
+use Rattle.std.proofs.lemmas.Result.{err_from_is_err_and, MatchResult-weaker, IfOk-weaker}
+use Rattle.ql_grammar.specs.declared.role.Role.TheVariants.{Makes, Plain}
+use Rattle.ql_grammar.specs.ContractGrammar.{Atom, Both, Either, Whole}
+use Rattle.ql_grammar.specs.Table.{Placed, Do, Then, PropAt, Term, TermList, BarredNames, Variable, VarList, MoreAnds, MoreOrs, MoreImplied, MoreTerms, MoreNames, MoreVars, Operations, to_terms, to_names, to_vars, to_free}
+use Rattle.ql_grammar.specs.Machine.{read}
+use Rattle.ql_grammar.proofs.Choices.{read-do}
+use Rattle.ql_grammar.proofs.Rules.{term-cur, term-name, atom-truth, atom-group, atom-txn, atom-term, atom-relation, contract-forall, contract-plain, read-as, then-on, then-past}
+use Rattle.ql_parse.proofs.reader.Reader.arguments.Goals as goal
+
+pub returns-in_err-take-clause-refused : goal.returns-in_err-take-clause-refused
+returns-in_err-take-clause-refused c =
+    let p = err_from_is_err_and c.from_residual.result c.from_residual.ensures.1 in
+    rw (p.1, p.2) (λ f is below vs. c.in_err-take.ensures.refused f is _ _)
+
+pub returns-in_err-left-clause-refused : goal.returns-in_err-left-clause-refused
+returns-in_err-left-clause-refused c =
+    let p = err_from_is_err_and c.from_residual-in_err-left.result c.from_residual-in_err-left.ensures.1 in
+    rw (p.1, p.2) (λ f is below vs. c.in_ok-take.ensures.took _ _ ∙ c.in_err-left.ensures.refused f is _ _)
+
+pub returns-in_err-take-2-clause-refused : goal.returns-in_err-take-2-clause-refused
+returns-in_err-take-2-clause-refused c =
+    let p = err_from_is_err_and c.from_residual-in_err-take-2.result c.from_residual-in_err-take-2.ensures.1 in
+    rw (p.1, p.2) (λ f is below vs. c.in_ok-take.ensures.took _ _ ∙ c.in_ok-left.ensures.gave _ _ ∙ c.in_err-take-2.ensures.refused f is _ _)
+
+pub returns-in_err-right-clause-refused : goal.returns-in_err-right-clause-refused
+returns-in_err-right-clause-refused c =
+    let p = err_from_is_err_and c.from_residual-in_err-right.result c.from_residual-in_err-right.ensures.1 in
+    rw (p.1, p.2) (λ f is below vs. c.in_ok-take.ensures.took _ _ ∙ c.in_ok-left.ensures.gave _ _ ∙ c.in_ok-take-2.ensures.took _ _ ∙ c.in_err-right.ensures.refused f is _ _)
+
+pub returns-in_err-take-3-clause-refused : goal.returns-in_err-take-3-clause-refused
+returns-in_err-take-3-clause-refused c =
+    let p = err_from_is_err_and c.from_residual-in_err-take-3.result c.from_residual-in_err-take-3.ensures.1 in
+    rw (p.1, p.2) (λ f is below vs. c.in_ok-take.ensures.took _ _ ∙ c.in_ok-left.ensures.gave _ _ ∙ c.in_ok-take-2.ensures.took _ _ ∙ c.in_ok-right.ensures.gave _ _ ∙ c.in_err-take-3.ensures.refused f is _ _)
+
+pub returns-clause-gave : goal.returns-clause-gave
+returns-clause-gave c = λ below vs. c.in_ok-take.ensures.took _ _ ∙ c.in_ok-left.ensures.gave _ _ ∙ c.in_ok-take-2.ensures.took _ _ ∙ c.in_ok-right.ensures.gave _ _ ∙ c.in_ok-take-3.ensures.took _ _ ∙ read-do _ _ _ _

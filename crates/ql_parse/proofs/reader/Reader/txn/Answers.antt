@@ -1,0 +1,27 @@
+use Rattle.std.proofs.Common.{sym, ◌∙◌, ap, refl, ◌∷◌}
+use Rattle.std.proofs.lemmas.Result.{err_from_is_err_and, MatchResult-weaker, IfOk-weaker}
+use Rattle.ql_grammar.specs.declared.role.Role.TheVariants.{Makes, Plain}
+use Rattle.ql_grammar.specs.ContractGrammar.{Atom, Both, Either, Whole}
+use Rattle.ql_grammar.specs.Table.{Placed, Do, Then, PropAt, Term, TermList, BarredNames, Variable, VarList, MoreAnds, MoreOrs, MoreImplied, MoreTerms, MoreNames, MoreVars, Operations, to_terms, to_names, to_vars, to_free}
+use Rattle.ql_grammar.specs.Machine.{read}
+use Rattle.ql_grammar.proofs.Choices.{read-do}
+use Rattle.ql_grammar.proofs.Rules.{term-cur, term-name, atom-truth, atom-group, atom-txn, atom-term, atom-relation, contract-forall, contract-plain, read-as, then-on, then-past}
+use Rattle.ql_parse.proofs.reader.Reader.txn.Goals as goal
+
+pub returns-in_err-at-clause-refused : goal.returns-in_err-at-clause-refused
+returns-in_err-at-clause-refused c =
+    let p = err_from_is_err_and c.from_residual.result c.from_residual.ensures.1 in
+    rw (p.1, p.2) (λ f is below vs. c.in_err-at.ensures.refused_placed f is _ _)
+
+pub returns-in_err-first-clause-refused : goal.returns-in_err-first-clause-refused
+returns-in_err-first-clause-refused c =
+    let p = err_from_is_err_and c.from_residual-in_err-first.result c.from_residual-in_err-first.ensures.1 in
+    rw (p.1, p.2) (λ f is below vs. c.in_ok-at.ensures.gave _ _ ∙ c.in_err-first.ensures.refused f is _ _)
+
+pub returns-in_err-second-clause-refused : goal.returns-in_err-second-clause-refused
+returns-in_err-second-clause-refused c =
+    let p = err_from_is_err_and c.from_residual-in_err-second.result c.from_residual-in_err-second.ensures.1 in
+    rw (p.1, p.2) (λ f is below vs. c.in_ok-at.ensures.gave _ _ ∙ c.in_ok-first.ensures.gave _ _ ∙ c.in_err-second.ensures.refused f is _ _)
+
+pub returns-clause-gave : goal.returns-clause-gave
+returns-clause-gave c = λ below vs. c.in_ok-at.ensures.gave _ _ ∙ c.in_ok-first.ensures.gave _ _ ∙ c.in_ok-second.ensures.gave _ _ ∙ read-do _ _ _ _

@@ -1,0 +1,101 @@
+use Rattle.std.specs.Prelude.{◌≡◌, ℕ, List, [], ◌∷◌, Err, Ok, Option, Some, None, if◌then◌else◌, length, ◌<◌}
+use Rattle.ql_grammar.specs.Limits as limits
+use Rattle.ql_lang.specs.declared.relation.RelName.{RelName}
+use Rattle.ql_lang.specs.declared.relation.RelName.TheVariants.{Vis, So, Soo, SameObj, Eq, Hb, Hbo}
+use Rattle.ql_grammar.specs.declared.terminal.Terminal.{Terminal}
+use Rattle.ql_grammar.specs.declared.terminal.Terminal.TheVariants.{VisWord, SoWord, SooWord, SameObjWord, EqWord, HbWord, HboWord, CloseBrace, CloseParen, Comma, Equals, OpenBrace, OpenParen, TxnWord}
+use Rattle.ql_grammar.specs.declared.role.Role.{Role}
+use Rattle.ql_grammar.specs.declared.role.Role.TheVariants.{Plain, Makes, Opens, Closes}
+use Rattle.ql_grammar.specs.Tokens.{Lexeme}
+use Rattle.ql_grammar.specs.ContractGrammar.{Applied}
+use Rattle.ql_lang.specs.Trees.{Relation}
+use Rattle.ql_grammar.specs.Table.{Sym, Value, ARelation, APart, Do, Placed, RelationAt, Rest, Term, TermList, Then, Word, to_application, to_equality, to_txn}
+use Rattle.ql_grammar.specs.Machine.{Reading, read, is_ahead}
+use Rattle.ql_parse.specs.declared.fault.Refusal.{Refusal}
+use Rattle.ql_parse.specs.declared.fault.Refusal.TheVariants.{Unexpected, Deep, Wide, NoMemory}
+
+-- A symbol was read, and gave no value: whatever is wanted behind it, it is read from the new place on.
+abbrev pub Took : Sym → Reading → Reading → Type 0
+Took s old new = (below : List Sym) (vs : List Value) → read old (s ∷ below) vs ≡ read new below vs
+
+-- A symbol was read and gave this value.
+abbrev pub Gave : Sym → Value → Reading → Reading → Type 0
+Gave s v old new = (below : List Sym) (vs : List Value) → read old (s ∷ below) vs ≡ read new below (v ∷ vs)
+
+-- A symbol is not read, and the first fault is this one, whatever is wanted behind it.
+abbrev pub Faults : Sym → Reading → limits.Fault → Type 0
+Faults s old f = (below : List Sym) (vs : List Value) → read old (s ∷ below) vs ≡ Err f
+
+-- what a refusal says of the text
+abbrev pub fault_of : Refusal → Option limits.Fault
+fault_of (Unexpected at) = Some (limits.Unexpected at)
+fault_of (Deep at) = Some (limits.Deep at)
+fault_of (Wide at) = Some (limits.Wide at)
+fault_of NoMemory = None
+
+-- A symbol is refused: where that isn't for want of memory, its first fault is this one.
+abbrev pub IsRefused : Sym → Reading → Refusal → Type 0
+IsRefused s old e = (f : limits.Fault) → fault_of e ≡ Some f → Faults s old f
+
+-- a token of this role goes past a limit
+abbrev pub IsPast : limits.Counts → Role → ℕ → Refusal → Type 0
+IsPast c role at e = (f : limits.Fault) → fault_of e ≡ Some f → limits.counted c role at ≡ Err f
+
+-- What may follow was read once, and turned the topmost value into another.
+abbrev pub Turned : Rest → Value → Value → Reading → Reading → Type 0
+Turned l a b old new = (below : List Sym) (vs : List Value) → read old (Then l ∷ below) (a ∷ vs) ≡ read new (Then l ∷ below) (b ∷ vs)
+
+abbrev pub IsTurnRefused : Rest → Value → Reading → Refusal → Type 0
+IsTurnRefused l a old e = (f : limits.Fault) → fault_of e ≡ Some f → (below : List Sym) (vs : List Value) → read old (Then l ∷ below) (a ∷ vs) ≡ Err f
+
+-- the relation whose name comes next, or the last of them
+abbrev pub relation_ahead : List Lexeme → Terminal × RelName
+relation_ahead ts =
+    if is_ahead VisWord ts then (VisWord, Vis) else (
+    if is_ahead SoWord ts then (SoWord, So) else (
+    if is_ahead SooWord ts then (SooWord, Soo) else (
+    if is_ahead SameObjWord ts then (SameObjWord, SameObj) else (
+    if is_ahead EqWord ts then (EqWord, Eq) else (
+    if is_ahead HbWord ts then (HbWord, Hb) else (HboWord, Hbo))))))
+
+-- A symbol was begun and gave a value so far; something may follow.
+pub record Started (s : Sym) (l : Rest) (v : Value) (old new : Reading) : Type 0 where
+  pub so_far : (below : List Sym) (vs : List Value) → read old (s ∷ below) vs ≡ read new (Then l ∷ below) (v ∷ vs)
+  pub shorter : length new.tokens < length old.tokens
+
+-- Several symbols were read, and gave this value.
+abbrev pub GaveAll : (List Sym → List Sym) → Value → Reading → Reading → Type 0
+GaveAll want v old new = (below : List Sym) (vs : List Value) → read old (want below) vs ≡ read new below (v ∷ vs)
+
+abbrev pub AreRefused : (List Sym → List Sym) → Reading → Refusal → Type 0
+AreRefused want old e = (f : limits.Fault) → fault_of e ≡ Some f → (below : List Sym) (vs : List Value) → read old (want below) vs ≡ Err f
+
+-- an equality, after it an application and a `txn` with its terms
+abbrev pub equality_symbols : List Sym → List Sym
+equality_symbols below = APart (Term Plain) ∷ Placed Equals (Makes 2) ∷ APart (Term Plain) ∷ Do to_equality ∷ below
+
+abbrev pub argument_symbols : List Sym → List Sym
+argument_symbols below = Word OpenParen (Opens 0) ∷ APart (Term Plain) ∷ Word Comma Plain ∷ APart (Term Plain) ∷ Word CloseParen Closes ∷ Do to_application ∷ below
+
+abbrev pub application_symbols : List Sym → List Sym
+application_symbols below = APart (RelationAt Applied) ∷ argument_symbols below
+
+abbrev pub braced_symbols : List Sym → List Sym
+braced_symbols below = Word OpenBrace Plain ∷ APart TermList ∷ Word CloseBrace Plain ∷ below
+
+abbrev pub txn_symbols : List Sym → List Sym
+txn_symbols below = Placed TxnWord (Makes 1) ∷ braced_symbols (braced_symbols (Do to_txn ∷ below))
+
+-- the relation, and the arguments to which it is applied
+abbrev pub GaveArguments : Relation → Value → Reading → Reading → Type 0
+GaveArguments r v old new = (below : List Sym) (vs : List Value) → read old (argument_symbols below) (ARelation r ∷ vs) ≡ read new below (v ∷ vs)
+
+abbrev pub AreArgumentsRefused : Relation → Reading → Refusal → Type 0
+AreArgumentsRefused r old e = (f : limits.Fault) → fault_of e ≡ Some f → (below : List Sym) (vs : List Value) → read old (argument_symbols below) (ARelation r ∷ vs) ≡ Err f
+
+-- nothing is left, or the fault is at what is
+abbrev pub EndsHere : Reading → Type 0
+EndsHere r = (vs : List Value) → read r [] vs ≡ Ok vs
+
+abbrev pub EndsNot : Reading → Refusal → Type 0
+EndsNot r e = (f : limits.Fault) → fault_of e ≡ Some f → (vs : List Value) → read r [] vs ≡ Err f

@@ -1,0 +1,322 @@
+ghost use Rattle.std.specs.Prelude.{◌||◌, ◌≡◌, ◌<◌, ◌++◌, IfErr, IfOk, OnOk, false, length, true};
+ghost use Rattle.ql_grammar.specs.declared.terminal.Terminal.TheVariants.{AndMark, CurWord, NameToken, OpenParen, OrMark, TrueWord};
+ghost use Rattle.ql_grammar.specs.ContractGrammar.{Atom, Both, Either, Whole};
+ghost use Rattle.ql_grammar.specs.Machine.{is_ahead};
+ghost use Rattle.ql_grammar.specs.Table.{
+  APart,
+  AProp,
+  ASentence,
+  ATerm,
+  AVar,
+  BarredNames,
+  MoreAnds,
+  MoreOrs,
+  PropAt,
+  Term,
+  TermList,
+  TheNames,
+  TheTerms,
+  TheVars,
+  VarList,
+  Variable,
+  WholeContract,
+};
+ghost use Rattle.ql_lang.specs.Trees.{proposition_of, relation_of, sentence_of};
+ghost use Rattle.ql_parse.specs.Readings.{
+  AreArgumentsRefused,
+  AreRefused,
+  Gave,
+  GaveAll,
+  GaveArguments,
+  IsRefused,
+  IsTurnRefused,
+  Turned,
+  application_symbols,
+  braced_symbols,
+  equality_symbols,
+  txn_symbols,
+};
+
+use crate::fault::Refusal;
+use crate::reader::Reader;
+use ql_grammar::{Role, Terminal};
+use ql_lang::{Contract, NameList, Point, Points, Prop, Rel, RelName, Var, Vars};
+use std::alloc::Global;
+
+impl Reader<'_> {
+    /// A variable or `cur`.
+    fn term(&mut self, role: Role) -> Result<Point, Refusal>
+        ensures gave { IfOk result (λ p. Gave (APart (Term role)) (ATerm p) self.old self.new) }
+        ensures shorter { OnOk result (length self.new.tokens < length self.old.tokens) }
+        ensures refused { IfErr result (IsRefused (APart (Term role)) self.old) }
+    {
+        if self.sees(Terminal::CurWord) {
+            let at = self.take(Terminal::CurWord, role)?;
+            return Ok(Point::CurAt(at));
+        }
+        let name = self.name(role)?;
+        Ok(Point::Named(name))
+    }
+
+    /// Whether a term comes next.
+    fn sees_term(&self) -> bool
+        ensures { result ≡ (is_ahead CurWord self.now.tokens || is_ahead NameToken self.now.tokens) }
+    {
+        self.sees(Terminal::CurWord) || self.sees(Terminal::NameToken)
+    }
+
+    /// The terms in the braces of a `txn`.
+    fn terms(&mut self, alloc: Global) -> Result<Points, Refusal>
+        ensures gave { IfOk result (λ ps. Gave (APart TermList) (TheTerms ps) self.old self.new) }
+        ensures shorter { OnOk result (length self.new.tokens < length self.old.tokens) }
+        ensures refused { IfErr result (IsRefused (APart TermList) self.old) }
+    {
+        let first = self.term(Role::Makes(1))?;
+        let mut terms = Vec::new(alloc);
+        terms.push(first)?;
+        'terms: while self.sees(Terminal::Comma) {
+            self.take(Terminal::Comma, Role::Plain)?;
+            let term = self.term(Role::Makes(1))?;
+            terms.push(term)?;
+        }
+        Ok(Points::of(terms))
+    }
+
+    /// Two terms with `=` between them.
+    fn equality(&mut self) -> Result<Prop, Refusal>
+        ensures gave { IfOk result (λ p. GaveAll equality_symbols (AProp (proposition_of p)) self.old self.new) }
+        ensures shorter { OnOk result (length self.new.tokens < length self.old.tokens) }
+        ensures refused { IfErr result (AreRefused equality_symbols self.old) }
+    {
+        let left = self.term(Role::Plain)?;
+        let at = self.take(Terminal::Equals, Role::Makes(2))?;
+        let right = self.term(Role::Plain)?;
+        Ok(Prop::Apply(Rel::Base(RelName::Eq, at), left, right))
+    }
+
+    /// Two terms in brackets, to which the relation is applied.
+    fn arguments(&mut self, relation: Rel) -> Result<Prop, Refusal>
+        ensures gave { IfOk result (λ p. GaveArguments (relation_of relation) (AProp (proposition_of p)) self.old self.new) }
+        ensures shorter { OnOk result (length self.new.tokens < length self.old.tokens) }
+        ensures refused { IfErr result (AreArgumentsRefused (relation_of relation) self.old) }
+    {
+        self.take(Terminal::OpenParen, Role::Opens(0))?;
+        let left = self.term(Role::Plain)?;
+        self.take(Terminal::Comma, Role::Plain)?;
+        let right = self.term(Role::Plain)?;
+        self.take(Terminal::CloseParen, Role::Closes)?;
+        Ok(Prop::Apply(relation, left, right))
+    }
+
+    /// A relation that is applied to two terms.
+    fn application(&mut self, alloc: Global) -> Result<Prop, Refusal>
+        ensures gave { IfOk result (λ p. GaveAll application_symbols (AProp (proposition_of p)) self.old self.new) }
+        ensures shorter { OnOk result (length self.new.tokens < length self.old.tokens) }
+        ensures refused { IfErr result (AreRefused application_symbols self.old) }
+    {
+        let relation = self.applied(alloc)?;
+        let applied = self.arguments(relation)?;
+        Ok(applied)
+    }
+
+    /// The word `txn` and its two groups of terms.
+    fn txn(&mut self, alloc: Global) -> Result<Prop, Refusal>
+        ensures gave { IfOk result (λ p. GaveAll txn_symbols (AProp (proposition_of p)) self.old self.new) }
+        ensures shorter { OnOk result (length self.new.tokens < length self.old.tokens) }
+        ensures refused { IfErr result (AreRefused txn_symbols self.old) }
+    {
+        let at = self.take(Terminal::TxnWord, Role::Makes(1))?;
+        let first = self.braced(alloc)?;
+        let second = self.braced(alloc)?;
+        Ok(Prop::Txn(at, first, second))
+    }
+
+    /// Terms in braces.
+    fn braced(&mut self, alloc: Global) -> Result<Points, Refusal>
+        ensures gave { IfOk result (λ ps. GaveAll braced_symbols (TheTerms ps) self.old self.new) }
+        ensures shorter { OnOk result (length self.new.tokens < length self.old.tokens) }
+        ensures refused { IfErr result (AreRefused braced_symbols self.old) }
+    {
+        self.take(Terminal::OpenBrace, Role::Plain)?;
+        let terms = self.terms(alloc)?;
+        self.take(Terminal::CloseBrace, Role::Plain)?;
+        Ok(terms)
+    }
+
+    /// What neither is `true` nor stands in brackets.
+    fn statement(&mut self, alloc: Global) -> Result<Prop, Refusal>
+        requires no_truth { is_ahead TrueWord self.old.tokens ≡ false }
+        requires no_group { is_ahead OpenParen self.old.tokens ≡ false }
+        ensures gave { IfOk result (λ p. Gave (APart (PropAt Atom)) (AProp (proposition_of p)) self.old self.new) }
+        ensures shorter { OnOk result (length self.new.tokens < length self.old.tokens) }
+        ensures refused { IfErr result (IsRefused (APart (PropAt Atom)) self.old) }
+    {
+        if self.sees(Terminal::TxnWord) {
+            let txn = self.txn(alloc)?;
+            return Ok(txn);
+        }
+        if self.sees_term() {
+            let equality = self.equality()?;
+            return Ok(equality);
+        }
+        let application = self.application(alloc)?;
+        Ok(application)
+    }
+
+    /// A single statement, or statements in brackets.
+    #[cycle(prop)]
+    fn atom(&mut self, alloc: Global) -> Result<Prop, Refusal>
+        ensures gave { IfOk result (λ p. Gave (APart (PropAt Atom)) (AProp (proposition_of p)) self.old self.new) }
+        ensures shorter { OnOk result (length self.new.tokens < length self.old.tokens) }
+        ensures refused { IfErr result (IsRefused (APart (PropAt Atom)) self.old) }
+    {
+        if self.sees(Terminal::TrueWord) {
+            self.take(Terminal::TrueWord, Role::Makes(1))?;
+            return Ok(Prop::True);
+        }
+        if self.sees(Terminal::OpenParen) {
+            self.take(Terminal::OpenParen, Role::Opens(0))?;
+            let inside = self.prop(alloc)?;
+            self.take(Terminal::CloseParen, Role::Closes)?;
+            return Ok(inside);
+        }
+        self.statement(alloc)
+    }
+
+    /// Statements with `/\` between them.
+    #[cycle(prop)]
+    fn both(&mut self, alloc: Global) -> Result<Prop, Refusal>
+        ensures gave { IfOk result (λ p. Gave (APart (PropAt Both)) (AProp (proposition_of p)) self.old self.new) }
+        ensures shorter { OnOk result (length self.new.tokens < length self.old.tokens) }
+        ensures refused { IfErr result (IsRefused (APart (PropAt Both)) self.old) }
+    {
+        let mut left = self.atom(alloc)?;
+        'ands: while self.sees(Terminal::AndMark) {
+            left = self.more_ands(alloc, left)?;
+        }
+        Ok(left)
+    }
+
+    #[cycle(prop)]
+    fn more_ands(&mut self, alloc: Global, left: Prop) -> Result<Prop, Refusal>
+        requires { is_ahead AndMark self.old.tokens ≡ true }
+        ensures turned { IfOk result (λ p. Turned MoreAnds (AProp (proposition_of left)) (AProp (proposition_of p)) self.old self.new) }
+        ensures shorter { OnOk result (length self.new.tokens < length self.old.tokens) }
+        ensures refused { IfErr result (IsTurnRefused MoreAnds (AProp (proposition_of left)) self.old) }
+    {
+        self.take(Terminal::AndMark, Role::Makes(1))?;
+        let right = self.atom(alloc)?;
+        Ok(Prop::And(Box::new(alloc, left)?, Box::new(alloc, right)?))
+    }
+
+    /// Statements with `\/` between them.
+    #[cycle(prop)]
+    fn either(&mut self, alloc: Global) -> Result<Prop, Refusal>
+        ensures gave { IfOk result (λ p. Gave (APart (PropAt Either)) (AProp (proposition_of p)) self.old self.new) }
+        ensures shorter { OnOk result (length self.new.tokens < length self.old.tokens) }
+        ensures refused { IfErr result (IsRefused (APart (PropAt Either)) self.old) }
+    {
+        let mut left = self.both(alloc)?;
+        'ors: while self.sees(Terminal::OrMark) {
+            left = self.more_ors(alloc, left)?;
+        }
+        Ok(left)
+    }
+
+    #[cycle(prop)]
+    fn more_ors(&mut self, alloc: Global, left: Prop) -> Result<Prop, Refusal>
+        requires { is_ahead OrMark self.old.tokens ≡ true }
+        ensures turned { IfOk result (λ p. Turned MoreOrs (AProp (proposition_of left)) (AProp (proposition_of p)) self.old self.new) }
+        ensures shorter { OnOk result (length self.new.tokens < length self.old.tokens) }
+        ensures refused { IfErr result (IsTurnRefused MoreOrs (AProp (proposition_of left)) self.old) }
+    {
+        self.take(Terminal::OrMark, Role::Makes(1))?;
+        let right = self.both(alloc)?;
+        Ok(Prop::Or(Box::new(alloc, left)?, Box::new(alloc, right)?))
+    }
+
+    /// Statements with `=>` between them.
+    #[cycle(prop)]
+    fn prop(&mut self, alloc: Global) -> Result<Prop, Refusal>
+        ensures gave { IfOk result (λ p. Gave (APart (PropAt Whole)) (AProp (proposition_of p)) self.old self.new) }
+        ensures shorter { OnOk result (length self.new.tokens < length self.old.tokens) }
+        ensures refused { IfErr result (IsRefused (APart (PropAt Whole)) self.old) }
+    {
+        let left = self.either(alloc)?;
+        if self.sees(Terminal::Arrow) {
+            self.take(Terminal::Arrow, Role::Makes(1))?;
+            let right = self.prop(alloc)?;
+            return Ok(Prop::Implies(Box::new(alloc, left)?, Box::new(alloc, right)?));
+        }
+        Ok(left)
+    }
+
+    /// Names with `|` between them.
+    fn operations(&mut self, alloc: Global) -> Result<NameList, Refusal>
+        ensures gave { IfOk result (λ names. Gave (APart BarredNames) (TheNames names) self.old self.new) }
+        ensures shorter { OnOk result (length self.new.tokens < length self.old.tokens) }
+        ensures refused { IfErr result (IsRefused (APart BarredNames) self.old) }
+    {
+        let first = self.name(Role::Plain)?;
+        let mut names = Vec::new(alloc);
+        names.push(first)?;
+        'names: while self.sees(Terminal::Bar) {
+            self.take(Terminal::Bar, Role::Plain)?;
+            let name = self.name(Role::Plain)?;
+            names.push(name)?;
+        }
+        Ok(NameList::of(names))
+    }
+
+    /// A variable with the operations that it ranges over.
+    fn variable(&mut self, alloc: Global) -> Result<Var, Refusal>
+        ensures gave { IfOk result (λ v. Gave (APart Variable) (AVar v) self.old self.new) }
+        ensures shorter { OnOk result (length self.new.tokens < length self.old.tokens) }
+        ensures refused { IfErr result (IsRefused (APart Variable) self.old) }
+    {
+        let name = self.name(Role::Plain)?;
+        if self.sees(Terminal::Colon) {
+            self.take(Terminal::Colon, Role::Plain)?;
+            let ops = self.operations(alloc)?;
+            return Ok(Var { name, ops });
+        }
+        let none = Vec::new(alloc);
+        let ops = NameList::of(none);
+        Ok(Var { name, ops })
+    }
+
+    /// Variables with commas between them.
+    fn variables(&mut self, alloc: Global) -> Result<Vars, Refusal>
+        ensures gave { IfOk result (λ vars. Gave (APart VarList) (TheVars vars) self.old self.new) }
+        ensures shorter { OnOk result (length self.new.tokens < length self.old.tokens) }
+        ensures refused { IfErr result (IsRefused (APart VarList) self.old) }
+    {
+        let first = self.variable(alloc)?;
+        let mut vars = Vec::new(alloc);
+        vars.push(first)?;
+        'vars: while self.sees(Terminal::Comma) {
+            self.take(Terminal::Comma, Role::Plain)?;
+            let var = self.variable(alloc)?;
+            vars.push(var)?;
+        }
+        Ok(Vars::of(vars))
+    }
+
+    /// A whole contract.
+    pub(crate) fn contract(&mut self, alloc: Global) -> Result<Contract, Refusal>
+        ensures gave { IfOk result (λ c. Gave (APart WholeContract) (ASentence (sentence_of c)) self.old self.new) }
+        ensures refused { IfErr result (IsRefused (APart WholeContract) self.old) }
+    {
+        if self.sees(Terminal::ForallWord) {
+            self.take(Terminal::ForallWord, Role::Plain)?;
+            let vars = self.variables(alloc)?;
+            self.take(Terminal::Dot, Role::Plain)?;
+            let body = self.prop(alloc)?;
+            return Ok(Contract { vars, body });
+        }
+        let body = self.prop(alloc)?;
+        let none = Vec::new(alloc);
+        let vars = Vars::of(none);
+        Ok(Contract { vars, body })
+    }
+}

@@ -1,0 +1,12 @@
+// Reads contracts, and says where the first fault of a text stands that isn't one.
+// Its one contract: the answer is the tree that the grammar has for the text, and else the first fault.
+#![tactic(auto)]
+
+mod contract;
+mod fault;
+mod parse;
+mod reader;
+mod relation;
+
+pub use fault::ParseFault;
+pub use parse::parse_contract;

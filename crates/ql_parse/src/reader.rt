@@ -1,0 +1,216 @@
+ghost use Rattle.std.specs.Prelude.{
+  ◌≡◌,
+  ◌<◌,
+  ◌≤◌,
+  ◌^◌,
+  ◌∷◌,
+  IfErr,
+  IfOk,
+  OnErr,
+  OnOk,
+  [],
+  drop,
+  false,
+  length,
+  true,
+};
+ghost use Rattle.ql_grammar.specs.declared.terminal.Terminal.TheVariants.{NameToken};
+ghost use Rattle.ql_grammar.specs.Limits.{Wide, counted, with_nodes};
+ghost use Rattle.ql_grammar.specs.Table.{ANameOf, AName, APlace, Placed, Word};
+ghost use Rattle.ql_grammar.specs.Machine.{is_ahead, place_ahead};
+ghost use Rattle.ql_grammar.proofs.Taking.{text_ahead};
+ghost use Rattle.ql_parse.specs.Readers.{AreSpans, lexemes_of, terminal_ahead};
+ghost use Rattle.ql_parse.specs.Readings.{EndsHere, EndsNot, Gave, IsPast, IsRefused, Took};
+
+use crate::fault::Refusal;
+use ql_base::{MAX_BRACKETS, MAX_NODES};
+use ql_grammar::{Role, Terminal, is_same, terminal_of};
+use ql_lang::Name;
+use ql_lex::Token;
+use std::marker::Model;
+
+/// What is left to read of a source, and the counts of the expression or contract that is being read.
+#[derive(Drop)]
+pub(crate) struct Reader<'a> {
+    bytes: &'a [u8],
+    rest: &'a [Token],
+    ahead: Option<Terminal>,
+    open_brackets: usize,
+    nodes: usize,
+}
+
+impl<'a> Model for Reader<'a> {
+    ghost use Rattle.std.specs.Prelude.{length};
+    ghost use Rattle.ql_grammar.specs.Machine.{Reading};
+    ghost use Rattle.ql_parse.specs.Readers.{lexemes_of, IsReader};
+
+    ghost Value = { Reading };
+
+    ghost view = { λ r. record { tokens = lexemes_of r.bytes.now r.rest.now; counts = record { open_brackets = r.open_brackets; nodes = r.nodes }; end = length r.bytes.now } };
+
+    ghost invariant = { λ r. IsReader r.bytes.now r.rest.now r.ahead r.open_brackets r.nodes };
+}
+
+/// The terminal of the first token.
+fn terminal_ahead(bytes: &[u8], rest: &[Token]) -> Option<Terminal>
+    requires { AreSpans (length bytes.now) rest.now }
+    ensures { result ≡ terminal_ahead (lexemes_of bytes.now rest.now) }
+{
+    let token = rest.first()?;
+    Some(terminal_of(token.what, &bytes[token.from as usize..token.to as usize]))
+}
+
+impl<'a> Reader<'a> {
+    ghost use Rattle.ql_grammar.specs.Limits.{nothing_yet};
+
+    /// A reader of the tokens of `bytes`.
+    pub(crate) fn new(bytes: &'a [u8], tokens: &'a [Token]) -> Reader<'a>
+        requires small { length bytes.now < 2 ^ 32 }
+        requires spans { AreSpans (length bytes.now) tokens.now }
+        ensures { result ≡ record { tokens = lexemes_of bytes.now tokens.now; counts = nothing_yet; end = length bytes.now } }
+    {
+        Reader {
+            bytes,
+            rest: tokens,
+            ahead: terminal_ahead(bytes, tokens),
+            open_brackets: 0,
+            nodes: 0,
+        }
+    }
+
+    /// Whether the next token is this one.
+    pub(crate) fn sees(&self, terminal: Terminal) -> bool
+        ensures { result ≡ is_ahead terminal self.now.tokens }
+    {
+        match self.ahead {
+            Some(next) => is_same(next, terminal),
+            None => false,
+        }
+    }
+
+    /// The place of the next token, or the source's end.
+    pub(crate) fn place(&self) -> u32
+        ensures { result ≡ place_ahead self.now.tokens self.now.end }
+    {
+        match self.rest.first() {
+            Some(token) => token.from,
+            None => self.bytes.len() as u32,
+        }
+    }
+
+    /// Goes past the next token.
+    fn advance(&mut self)
+        requires { 0 < length self.old.tokens }
+        ensures { self.new ≡ record self.old { tokens = drop 1 self.old.tokens } }
+    {
+        self.rest = &self.rest[1..];
+        self.ahead = terminal_ahead(self.bytes, self.rest);
+    }
+
+    #[tactic(auto, unfolding(ql_grammar::specs::Limits::counted, ql_grammar::specs::Limits::with_nodes))]
+    /// Counts a token of this role, which stands at `at`.
+    fn count(&mut self, role: Role, at: u32) -> Result<(), Refusal>
+        ensures ok { OnOk result (counted self.old.counts role at ≡ Ok self.new.counts) }
+        ensures tokens { OnOk result (self.new.tokens ≡ self.old.tokens) }
+        ensures end { OnOk result (self.new.end ≡ self.old.end) }
+        ensures err { IfErr result (IsPast self.old.counts role at) }
+    {
+        match role {
+            Role::Plain => Ok(()),
+            Role::Makes(nodes) => self.count_nodes(nodes, at),
+            Role::Opens(nodes) => {
+                if self.open_brackets >= MAX_BRACKETS {
+                    return Err(Refusal::Deep(at));
+                }
+                self.open_brackets += 1;
+                self.count_nodes(nodes, at)
+            }
+            Role::Closes => {
+                self.open_brackets = self.open_brackets.saturating_sub(1);
+                Ok(())
+            }
+            Role::Before => {
+                self.open_brackets = 0;
+                self.nodes = 0;
+                Ok(())
+            }
+        }
+    }
+
+    #[tactic(auto, unfolding(ql_grammar::specs::Limits::with_nodes))]
+    /// Counts so many nodes, which the token at `at` makes.
+    fn count_nodes(&mut self, nodes: usize, at: u32) -> Result<(), Refusal>
+        ensures ok { OnOk result (with_nodes self.old.counts nodes at ≡ Ok self.new.counts) }
+        ensures tokens { OnOk result (self.new.tokens ≡ self.old.tokens) }
+        ensures end { OnOk result (self.new.end ≡ self.old.end) }
+        ensures err { IfErr result (λ e. (e ≡ Refusal.Wide at) × (with_nodes self.old.counts nodes at ≡ Err (Wide at))) }
+    {
+        if nodes > MAX_NODES - self.nodes {
+            return Err(Refusal::Wide(at));
+        }
+        self.nodes += nodes;
+        Ok(())
+    }
+
+    /// The place of the next token, which has to be this one.
+    fn expect(&self, terminal: Terminal) -> Result<u32, Refusal>
+        ensures sees { OnOk result (is_ahead terminal self.now.tokens ≡ true) }
+        ensures place { IfOk result (λ at. at ≡ place_ahead self.now.tokens self.now.end) }
+        ensures err { IfErr result (λ e. e ≡ Refusal.Unexpected (place_ahead self.now.tokens self.now.end)) }
+        ensures misses { OnErr result (is_ahead terminal self.now.tokens ≡ false) }
+    {
+        let at = self.place();
+        if self.sees(terminal) {
+            Ok(at)
+        } else {
+            Err(Refusal::Unexpected(at))
+        }
+    }
+
+    /// Takes the next token, which has to be this one, in this role, and says where it stands.
+    pub(crate) fn take(&mut self, terminal: Terminal, role: Role) -> Result<u32, Refusal>
+        ensures took { OnOk result (Took (Word terminal role) self.old self.new) }
+        ensures gave { IfOk result (λ at. Gave (Placed terminal role) (APlace at) self.old self.new) }
+        ensures shorter { OnOk result (length self.new.tokens < length self.old.tokens) }
+        ensures refused { IfErr result (IsRefused (Word terminal role) self.old) }
+        ensures refused_placed { IfErr result (IsRefused (Placed terminal role) self.old) }
+    {
+        let at = self.expect(terminal)?;
+        self.count(role, at)?;
+        self.advance();
+        Ok(at)
+    }
+
+    /// The bytes of the next token, which is a name.
+    fn word_ahead(&self) -> ql_base::Word
+        requires { is_ahead NameToken self.now.tokens ≡ true }
+        ensures { result ≡ text_ahead self.now.tokens }
+    {
+        let token = self.rest[0];
+        ql_base::Word::of(&self.bytes[token.from as usize..token.to as usize])
+    }
+
+    /// Takes the next token, which has to be a name, in this role.
+    pub(crate) fn name(&mut self, role: Role) -> Result<Name, Refusal>
+        ensures gave { IfOk result (λ name. Gave (ANameOf role) (AName name) self.old self.new) }
+        ensures shorter { OnOk result (length self.new.tokens < length self.old.tokens) }
+        ensures refused { IfErr result (IsRefused (ANameOf role) self.old) }
+    {
+        let at = self.expect(Terminal::NameToken)?;
+        let word = self.word_ahead();
+        self.count(role, at)?;
+        self.advance();
+        Ok(Name { word, at })
+    }
+
+    /// Whether nothing is left.
+    pub(crate) fn end(&self) -> Result<(), Refusal>
+        ensures ok { OnOk result (EndsHere self.now) }
+        ensures err { IfErr result (EndsNot self.now) }
+    {
+        match self.ahead {
+            None => Ok(()),
+            Some(_) => Err(Refusal::Unexpected(self.place())),
+        }
+    }
+}
