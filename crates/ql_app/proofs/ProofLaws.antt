@@ -1,6 +1,5 @@
 -- The laws of a proof's text: what is read is spelled so and fits, and what is spelled so is read.
-use Rattle.std.proofs.Common.{◌≡◌, ◌⊎◌, inl, inr, ℕ, suc, ◌+◌, ◌<◌, ◌≤◌, ◌^◌, Bool, true, false, cond, eqb, leb, List, [], ◌∷◌, ◌++◌, length, Option, Some, None, refl, sym, ap, subst, ◌∙◌, append_assoc, codes, decimal, eq-eqb, arith}
-use Rattle.std.specs.Option.{option_map_or}
+use Rattle.std.proofs.Common.{◌≡◌, inl, inr, ℕ, suc, ◌<◌, ◌^◌, cond, eqb, leb, List, [], ◌∷◌, ◌++◌, length, Option, Some, None, refl, sym, ap, subst, ◌∙◌, append_assoc, codes, decimal, eq-eqb, arith}
 use Rattle.std.specs.List.{AllByRecursion}
 use Rattle.std.proofs.lemmas.Bool.{eqb-true, leb-true, le-leb}
 use Rattle.std.proofs.lemmas.List.{length-append, nil_from_length}
@@ -316,3 +315,7 @@ accepted_from (BadHint k) e = absurd cc
 accepted_from (NotUnit k) e = absurd cc
 accepted_from (NoConflict k) e = absurd cc
 accepted_from (BadVariable k) e = absurd cc
+
+-- no text spells two proofs
+pub one_proof : (bytes : List ℕ) (p q : Proof) → Spells bytes p → Spells bytes q → p ≡ q
+one_proof bytes p q a b = same_Some p q (sym (proof_again p a.0) ∙ ap proof_at (sym a.1 ∙ b.1) ∙ proof_again q b.0)

@@ -95,3 +95,7 @@ nothing_asked bytes none file =
     let read = question_again file.0 file.1.0 in
     let same = ap question_at file.1.1 in
     absurd cc
+
+-- no text asks two questions
+pub one_question : (bytes : List ℕ) (p q : Question) → Asks bytes p → Asks bytes q → p ≡ q
+one_question bytes p q a b = same_Some p q (sym (question_again p a.0) ∙ ap question_at (sym a.1 ∙ b.1) ∙ question_again q b.0)

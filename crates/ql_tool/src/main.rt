@@ -5,12 +5,13 @@
 use ql_app::quelea;
 use ql_base::NoMemory;
 use ql_ports::{FileShelf, StdSink};
-use std::process::ExitCode;
 use std::env::Env;
+use std::process::ExitCode;
 use std::{env, io};
 
 // The exit statuses that aren't the top call's.
 const NO_MEMORY: u8 = 6;
+
 const NO_WORDS: u8 = 8;
 
 fn main(rt: HostRuntime) -> ExitCode {

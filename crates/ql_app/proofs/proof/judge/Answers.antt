@@ -1,5 +1,4 @@
-use Rattle.std.proofs.Common.{◌≡◌, sym, ap, ◌∙◌}
-use Rattle.ql_text.specs.Answers.{Refuses}
+use Rattle.std.proofs.Common.{sym, ap, ◌∙◌}
 use Rattle.ql_app.specs.ProofFile.{refusal_of}
 use Rattle.ql_app.proofs.ProofLaws.{is_spelled, nothing_spelled, accepted_from}
 use Rattle.ql_app.proofs.proof.judge.Goals as goal

@@ -1,10 +1,10 @@
-use Rattle.std.proofs.Common.{◌≡◌, ℕ, [], length, codes, sym, ap, subst, ◌∙◌, arith}
+use Rattle.std.proofs.Common.{◌≡◌, ℕ, [], codes, sym, ap, subst, ◌∙◌, arith}
 use Rattle.std.proofs.lemmas.Result.{err_from_is_err_and}
 use Rattle.ql_text.specs.Items.{more_items}
 use Rattle.ql_text.specs.Answers.{Refuses}
 use Rattle.ql_text.proofs.Texts.{literal_shortens}
 use Rattle.ql_text.proofs.ItemLaws.{item_shortens}
-use Rattle.ql_text.proofs.Loop.{GoesOn, begins, refuses, turns, ends}
+use Rattle.ql_text.proofs.Loop.{GoesOn, refuses, turns, ends}
 use Rattle.ql_cnf.specs.Satisfaction.{ClauseList}
 use Rattle.ql_app.specs.ProofFile.{IsClause, given_text, given_at}
 use Rattle.ql_app.proofs.ProofLaws.{given_takes, given_ends, given_refuses}

@@ -1,7 +1,7 @@
-use Rattle.std.proofs.Common.{◌≡◌, codes, sym, ◌∙◌}
+use Rattle.std.proofs.Common.{codes, sym, ◌∙◌}
 use Rattle.ql_text.specs.Items.{stopped_items}
 use Rattle.ql_text.specs.declared.parse_error.ParseError.TheVariants.{Malformed}
-use Rattle.ql_text.proofs.StoppedLaws.{begins, ends, refuses, turns}
+use Rattle.ql_text.proofs.StoppedLaws.{ends, refuses, turns}
 use Rattle.ql_app.specs.ProofFile.{next_hint_at}
 use Rattle.ql_app.proofs.ProofLaws.{next_hint_shortens, any_hint}
 use Rattle.ql_app.proofs.proof_text.hints.Goals as goal

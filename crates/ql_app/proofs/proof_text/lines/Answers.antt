@@ -1,8 +1,8 @@
-use Rattle.std.proofs.Common.{◌≡◌, List, codes, sym, ap, subst, ◌∙◌}
+use Rattle.std.proofs.Common.{List, codes, sym, ap, subst, ◌∙◌}
 use Rattle.std.proofs.lemmas.Result.{err_from_is_err_and}
 use Rattle.ql_text.specs.Items.{stopped_items}
 use Rattle.ql_text.specs.Answers.{Refuses}
-use Rattle.ql_text.proofs.StoppedLaws.{begins, ends, refuses, turns}
+use Rattle.ql_text.proofs.StoppedLaws.{ends, refuses, turns}
 use Rattle.ql_refute.specs.declared.refutation.Line.{Line}
 use Rattle.ql_app.specs.ProofFile.{line_at}
 use Rattle.ql_app.proofs.ProofLaws.{line_shortens}

@@ -1,7 +1,7 @@
-use Rattle.std.proofs.Common.{◌≡◌, List, sym, ap, ◌∙◌}
+use Rattle.std.proofs.Common.{List, sym, ap, ◌∙◌}
 use Rattle.ql_text.specs.Items.{stopped_items}
 use Rattle.ql_text.specs.declared.parse_error.ParseError.TheVariants.{Malformed}
-use Rattle.ql_text.proofs.StoppedLaws.{begins, ends, refuses, turns}
+use Rattle.ql_text.proofs.StoppedLaws.{ends, refuses, turns}
 use Rattle.ql_cnf.specs.declared.lit.Lit.{Lit}
 use Rattle.ql_app.specs.ProofFile.{next_lit_at, clause_until}
 use Rattle.ql_app.proofs.LitLaws.{next_lit_takes, next_lit_shortens, push_ascends}
