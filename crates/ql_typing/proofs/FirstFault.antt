@@ -1,8 +1,8 @@
-use Rattle.std.proofs.Common.{◌≡◌, ◌≤◌, ◌+◌, ◌*◌, ℕ, Bool, true, false, ◌&&◌, ◌||◌, nat_eq, nat_lt, List, [], ◌∷◌, ◌++◌, Option, None, Some, if◌then◌else◌, refl, sym, ap, ◌∙◌, arith, ltb-true, ltb-false, lt-ltb, subst}
+use Rattle.std.proofs.Common.{◌≡◌, ◌≤◌, ◌+◌, ◌*◌, ℕ, Bool, true, false, ◌&&◌, ◌||◌, nat_eq, nat_lt, List, [], ◌∷◌, ◌++◌, Option, None, Some, if◌then◌else◌, refl, sym, ap, ◌∙◌, arith, ltb-true, ltb-false, lt-ltb, subst, ◌<◌, length, get_or, All, Contains, zero, suc}
 use Rattle.std.proofs.lemmas.Bool.Decides.{nat_tests}
 use Rattle.ql_typing.specs.declared.fault.TypeFault.{TypeFault}
 use Rattle.ql_typing.specs.declared.fault.TypeFault.TheVariants.{Unknown, Twice, Kind, TooMany, TxnClosure, Variables, TxnAtom, NoMemory}
-use Rattle.ql_typing.specs.Faults.{place_of, rule_of, comes_before, earlier, first_fault, IsRefusal}
+use Rattle.ql_typing.specs.Faults.{place_of, rule_of, comes_before, earlier, first_fault, IsRefusal, IsFirstOf, TellsFirst}
 
 rule_small : (f : TypeFault) → rule_of f ≤ 7
 rule_small (Unknown at) = omega arith
@@ -107,3 +107,85 @@ refusal fs NoMemory h = tt
 pub no_memory : (fs : List TypeFault) (f : TypeFault) → f ≡ NoMemory → IsRefusal fs f
 unfolding IsRefusal
 no_memory fs f e = subst (λ g. IsRefusal fs g) (sym e) tt
+
+not_before_itself : (a : TypeFault) → comes_before a a ≡ false
+not_before_itself a =
+    let none : nat_lt (key a) (key a) ≡ false = grind (arith, nat_tests) in
+    before-key a a ∙ none
+
+not_after : (a b : TypeFault) → comes_before b a ≡ true → comes_before a b ≡ false
+not_after a b x =
+    let below = ltb-true (key b) (key a) (sym (before-key b a) ∙ x) in
+    let none : nat_lt (key a) (key b) ≡ false = grind (arith, nat_tests) in
+    before-key a b ∙ none
+
+-- what no fault of a list comes before
+Leads : List TypeFault → TypeFault → Type 0
+Leads fs f = All (λ g. comes_before g f ≡ false) fs
+
+leads_none : (f : TypeFault) → Leads [] f
+unfolding Leads
+leads_none f k d below = absurd (omega (arith, below))
+
+leads_more : (g f : TypeFault) (gs : List TypeFault) → comes_before g f ≡ false → Leads gs f → Leads (g ∷ gs) f
+unfolding Leads
+leads_more g f gs p ps zero d below = p
+leads_more g f gs p ps (suc k) d below = ps k d (omega (arith, below))
+
+leads_back : (g m : TypeFault) (gs : List TypeFault) → comes_before m g ≡ false → Leads gs m → Leads gs g
+unfolding Leads
+leads_back g m gs e ps k d below = goes_back g m (get_or gs k d) e (ps k d below)
+
+among_more : (g m : TypeFault) (gs : List TypeFault) → Contains gs m → Contains (g ∷ gs) m
+among_more g m gs p = (suc p.0, omega (arith, p.1), p.2)
+
+among_first : (g : TypeFault) (gs : List TypeFault) → Contains (g ∷ gs) g
+among_first g gs = (zero, omega arith, refl)
+
+is_first : (fs : List TypeFault) (f : TypeFault) → Contains fs f → Leads fs f → IsFirstOf fs f
+unfolding Leads
+is_first fs f p ps = record { member = p; none_before = ps }
+
+leads : (fs : List TypeFault) (f : TypeFault) → IsFirstOf fs f → Leads fs f
+unfolding Leads
+leads fs f p = p.none_before
+
+-- the first fault of a list is one of it, and none of it comes before
+pub is_first_of : (fs : List TypeFault) (f : TypeFault) → first_fault fs ≡ Some f → IsFirstOf fs f
+unfolding first_fault earlier
+is_first_of [] f h =
+    let no : ⊥ = cc in
+    absurd no
+is_first_of (g ∷ gs) f h = by (λ m n. is_first_of gs m n) (first_fault gs) refl h
+  where
+    here : g ≡ f → Leads gs g → IsFirstOf (g ∷ gs) f
+    here e rest = subst (λ x. IsFirstOf (g ∷ gs) x) e (is_first (g ∷ gs) g (among_first g gs) (leads_more g g gs (not_before_itself g) rest))
+
+    later : (m : TypeFault) → m ≡ f → IsFirstOf gs m → comes_before m g ≡ true → IsFirstOf (g ∷ gs) f
+    later m e p t = subst (λ x. IsFirstOf (g ∷ gs) x) e (is_first (g ∷ gs) m (among_more g m gs p.member) (leads_more g m gs (not_after g m t) (leads gs m p)))
+
+    by_two : (m : TypeFault) → IsFirstOf gs m → (t : Bool) → comes_before m g ≡ t → (if t then Some m else Some g) ≡ Some f → IsFirstOf (g ∷ gs) f
+    by_two m p true e k =
+        let same : m ≡ f = cc in
+        later m same p e
+    by_two m p false e k =
+        let same : g ≡ f = cc in
+        here same (leads_back g m gs e (leads gs m p))
+
+    by : ((m : TypeFault) → first_fault gs ≡ Some m → IsFirstOf gs m) → (r : Option TypeFault) → first_fault gs ≡ r → earlier (Some g) r ≡ Some f → IsFirstOf (g ∷ gs) f
+    by rest None n k =
+        let same : g ≡ f = cc in
+        here same (subst (λ ys. Leads ys g) (sym (no_fault gs n)) (leads_none g))
+    by rest (Some m) n k = by_two m (rest m n) (comes_before m g) refl k
+
+-- so a refusal with the first fault tells it
+pub tells : (fs : List TypeFault) (f : TypeFault) → first_fault fs ≡ Some f → TellsFirst fs f
+unfolding TellsFirst
+tells fs (Unknown at) h = is_first_of fs (Unknown at) h
+tells fs (Twice at) h = is_first_of fs (Twice at) h
+tells fs (Kind at) h = is_first_of fs (Kind at) h
+tells fs (TooMany at) h = is_first_of fs (TooMany at) h
+tells fs (TxnClosure at) h = is_first_of fs (TxnClosure at) h
+tells fs (Variables at) h = is_first_of fs (Variables at) h
+tells fs (TxnAtom at) h = is_first_of fs (TxnAtom at) h
+tells fs NoMemory h = tt

@@ -1,4 +1,4 @@
-use Rattle.std.specs.Prelude.{◌≡◌, ℕ, Bool, ◌&&◌, ◌||◌, nat_eq, nat_lt, List, [], ◌∷◌, ◌++◌, Option, None, Some, if◌then◌else◌}
+use Rattle.std.specs.Prelude.{◌≡◌, ℕ, Bool, false, ◌&&◌, ◌||◌, nat_eq, nat_lt, List, [], ◌∷◌, ◌++◌, Option, None, Some, All, Contains, if◌then◌else◌}
 use Rattle.ql_base.specs.Numbering.{has_name, with_name}
 use Rattle.ql_lang.specs.declared.name.Name.{Name}
 use Rattle.ql_typing.specs.declared.fault.TypeFault.{TypeFault}
@@ -45,6 +45,16 @@ first_fault (f ∷ fs) = earlier (Some f) (first_fault fs)
 unfoldable pub IsRefusal : List TypeFault → TypeFault → Type 0
 IsRefusal faults NoMemory = Unit {0}
 IsRefusal faults f = first_fault faults ≡ Some f
+
+-- a fault of the list, before which none of the list comes
+pub record IsFirstOf (faults : List TypeFault) (f : TypeFault) : Type 0 where
+  pub member : Contains faults f
+  pub none_before : All (λ g. comes_before g f ≡ false) faults
+
+-- a refusal tells want of memory, or a fault before which none comes
+unfoldable pub TellsFirst : List TypeFault → TypeFault → Type 0
+TellsFirst faults NoMemory = Unit {0}
+TellsFirst faults f = IsFirstOf faults f
 
 -- the fault f where b is false
 abbrev pub unless : Bool → TypeFault → List TypeFault

@@ -1,7 +1,7 @@
 ghost use Rattle.std.specs.Prelude.{◌≡◌, [], IfOk, IfErr, OnOk, OnErr, map, take, length, None};
 ghost use Rattle.ql_lang.specs.Formulas.{resolved_of, statement_of};
 ghost use Rattle.ql_lang.specs.Trees.{proposition_of, relation_of, sentence_of};
-ghost use Rattle.ql_typing.specs.Faults.{IsRefusal, names_met};
+ghost use Rattle.ql_typing.specs.Faults.{IsRefusal, TellsFirst, names_met};
 ghost use Rattle.ql_typing.specs.ContractFaults.{contract_faults, var_names};
 ghost use Rattle.ql_typing.specs.Resolved.{choice_of, number_in, ops_met, resolved_in, statement_in, term_of, with_numbers};
 
@@ -15,7 +15,7 @@ use ql_lang::{
 use std::alloc::Global;
 
 /// The formula of a contract. An operation's number is its place in `ops`, where new ones are put at the end.
-#[tactic(auto, unfolding(crate::specs::Faults::IsRefusal))]
+#[tactic(auto, unfolding(crate::specs::Faults::IsRefusal, crate::specs::Faults::TellsFirst))]
 pub fn resolve(
     alloc: Global,
     contract: &Contract,
@@ -26,6 +26,7 @@ pub fn resolve(
     ensures numbered { OnOk result (ops.new ≡ ops_met ops.old contract.now.vars) }
     ensures formula { IfOk result (λ formula. resolved_of formula ≡ resolved_in ops.new (sentence_of contract.now)) }
     ensures refused { IfErr result (IsRefusal (contract_faults None for_txn (sentence_of contract.now))) }
+    ensures first { IfErr result (TellsFirst (contract_faults None for_txn (sentence_of contract.now))) }
     ensures kept { OnErr result (ops.new ≡ ops.old) }
 {
     let Ok(checked) = check_contract(alloc, contract, None, for_txn) else {

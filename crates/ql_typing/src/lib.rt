@@ -14,8 +14,10 @@ mod names;
 mod operation;
 mod program;
 mod scope;
+mod typed;
 
 pub use build::resolve;
 pub use fault::TypeFault;
 pub use function::{Function, Signature};
 pub use scope::{Known, Scope};
+pub use typed::{Typed, typecheck};

@@ -1,7 +1,7 @@
 use Rattle.std.proofs.Common.{sym, ◌∙◌, None}
 use Rattle.ql_lang.specs.Trees.{sentence_of}
 use Rattle.ql_typing.specs.ContractFaults.{contract_faults}
-use Rattle.ql_typing.proofs.FirstFault.{no_fault, refusal}
+use Rattle.ql_typing.proofs.FirstFault.{no_fault, refusal, tells}
 use Rattle.ql_typing.proofs.build.resolve.Goals as goal
 
 pub returns-in-Some-clause-refused : goal.returns-in-Some-clause-refused
@@ -9,3 +9,6 @@ returns-in-Some-clause-refused c = refusal (contract_faults None c.args.for_txn 
 
 pub returns-in-Ok-number_or_undo-clause-typed : goal.returns-in-Ok-number_or_undo-clause-typed
 returns-in-Ok-number_or_undo-clause-typed c = no_fault (contract_faults None c.args.for_txn (sentence_of c.args.contract.now)) (sym c.in-Ok.ensures.fault ∙ c.in-None.is)
+
+pub returns-in-Some-clause-first : goal.returns-in-Some-clause-first
+returns-in-Some-clause-first c = tells (contract_faults None c.args.for_txn (sentence_of c.args.contract.now)) c.in-Some.fault (sym c.in-Ok.ensures.fault ∙ c.in-Some.is)
