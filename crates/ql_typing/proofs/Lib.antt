@@ -5,3 +5,4 @@ pub mod KeptNames
 pub mod KindsIn
 pub mod CallArgs
 pub mod Declared
+pub mod Bounds

@@ -5,3 +5,4 @@ pub mod Resolved
 pub mod Functions
 pub mod Kinds
 pub mod Programs
+pub mod Lookups
