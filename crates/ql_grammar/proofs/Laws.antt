@@ -18,14 +18,14 @@ use Rattle.ql_grammar.proofs.Again.{again_contract}
 abbrev pub start : List Sym
 start = APart WholeContract ∷ []
 
-text_of : {ms : List Marked} {out : List Value} → Has start [] ms out → (s : Sentence) × ReadsContract ms [] s × (out ≡ ASentence s ∷ [])
+pub text_of : {ms : List Marked} {out : List Value} → Has start [] ms out → (s : Sentence) × ReadsContract ms [] s × (out ≡ ASentence s ∷ [])
 text_of (contract {s = s} reads none) = (s, reads, refl)
 
 begins_of : (ms : List Marked) → Reaches start [] ms → Begins IsContract ms
 begins_of ms reaches = let h = text_of reaches.2 in (reaches.0, (h.0, h.1))
 
 -- what reads as a contract is run to its tree, unless a token goes past a limit
-contract_runs : {ms : List Marked} {s : Sentence} → ReadsContract ms [] s → (end : ℕ) → run (lexemes ms) start [] nothing_yet end ≡ if_within (counted_all nothing_yet ms) (λ d. Ok (ASentence s ∷ []))
+pub contract_runs : {ms : List Marked} {s : Sentence} → ReadsContract ms [] s → (end : ℕ) → run (lexemes ms) start [] nothing_yet end ≡ if_within (counted_all nothing_yet ms) (λ d. Ok (ASentence s ∷ []))
 unfolding run finish
 contract_runs {ms = ms} {s = s} reads end =
     let path = path_runs (again_contract reads [] [] (record { no_and = tt; no_or = tt; no_arrow = tt })) in
@@ -77,7 +77,7 @@ never_unexpected {ms = ms} {s = s} end at reads is =
     let same : answer ≡ Err (Unexpected at) = sym (contract_runs reads end) ∙ is in
     subst (λ (o : Result (List Value) Fault). IsExpected o) same expected
 
-lexemes_append : (ms ns : List Marked) → lexemes (ms ++ ns) ≡ lexemes ms ++ lexemes ns
+pub lexemes_append : (ms ns : List Marked) → lexemes (ms ++ ns) ≡ lexemes ms ++ lexemes ns
 lexemes_append [] ns = refl
 lexemes_append (m ∷ ms) ns = ap (λ l. m.lexeme ∷ l) (lexemes_append ms ns)
 

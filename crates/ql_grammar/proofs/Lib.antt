@@ -10,3 +10,4 @@ pub mod Choices
 pub mod Taking
 pub mod Fixed
 pub mod Rules
+pub mod Uniqueness

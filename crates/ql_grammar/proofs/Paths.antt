@@ -87,7 +87,7 @@ part_head p q below under vs same (m ∷ ms) = ap (λ all. first_fit all vs m.le
 pub as_part : (p q : Part) (below under : List Sym) {vs : List Value} {ts : List Marked} → ways p below ≡ ways q under → Path (APart p ∷ below) vs ts (APart q ∷ under) vs ts
 as_part p q below under {vs = vs} {ts = ts} same = via (part_head p q below under vs same ts) here
 
-within_then : (w : Result Counts Fault) (f : Counts → Result (List Value) Fault) (g : Counts → Result Counts Fault) (h : Counts → Result (List Value) Fault) → ((d : Counts) → f d ≡ if_within (g d) h) → if_within w f ≡ if_within (if_within w g) h
+pub within_then : (w : Result Counts Fault) (f : Counts → Result (List Value) Fault) (g : Counts → Result Counts Fault) (h : Counts → Result (List Value) Fault) → ((d : Counts) → f d ≡ if_within (g d) h) → if_within w f ≡ if_within (if_within w g) h
 within_then (Ok d) f g h same = same d
 within_then (Err e) f g h same = refl
 
@@ -97,7 +97,7 @@ pub record Runs (st : List Sym) (vs : List Value) (ts : List Marked) (to : List 
   pub all : ts ≡ taken ++ rest
   pub runs : (c : Counts) (end : ℕ) → run (lexemes ts) st vs c end ≡ if_within (counted_all c taken) (λ d. run (lexemes rest) to out d end)
 
-take_run : (st : List Sym) (vs : List Value) (k : Terminal) (x : List ℕ) (n : ℕ) {s : List Sym} {w : List Value} {r : Role} (ts : List Lexeme) (c : Counts) (end : ℕ) → step st vs k x n ≡ Some (record { role = r; stack = s; values = w }) → run (record { what = k; text = x; at = n } ∷ ts) st vs c end ≡ if_within (counted c r n) (λ d. run ts s w d end)
+pub take_run : (st : List Sym) (vs : List Value) (k : Terminal) (x : List ℕ) (n : ℕ) {s : List Sym} {w : List Value} {r : Role} (ts : List Lexeme) (c : Counts) (end : ℕ) → step st vs k x n ≡ Some (record { role = r; stack = s; values = w }) → run (record { what = k; text = x; at = n } ∷ ts) st vs c end ≡ if_within (counted c r n) (λ d. run ts s w d end)
 unfolding run
 take_run st vs k x n ts c end e = rw e refl
 

@@ -4,6 +4,8 @@
 
 mod role;
 mod terminal;
+mod unique;
 
 pub use role::Role;
 pub use terminal::{Terminal, is_same, terminal_of};
+pub use unique::one_answer;
