@@ -11,4 +11,6 @@ pub use decided::Decided;
 pub use learning::decide;
 
 #[cfg(test)]
+mod goals;
+#[cfg(test)]
 mod tests;

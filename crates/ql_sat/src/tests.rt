@@ -1,6 +1,7 @@
 ghost use Rattle.std.specs.Prelude.{pos, ◌≤ℤ◌};
 ghost use Rattle.ql_sat.specs.Answer.{IsRight};
 
+use crate::goals::{BALANCE_EVENTUAL, TOUCH_EVENTUAL, WITHDRAW_CAUSAL};
 use crate::{Decided, decide, plain};
 use ql_base::NoMemory;
 use ql_cnf::{Clauses, Lit, are_in_range, satisfies};
@@ -26,6 +27,21 @@ fn decides_small_lists(rt: HostRuntime) -> Result<(), NoMemory> {
         let answer = is_satisfiable(rt.alloc(), variables, numbers)?;
         assert_eq!(rt; answer, Some(satisfiable));
         let answer = is_plainly_satisfiable(rt.alloc(), variables, numbers)?;
+        assert_eq!(rt; answer, Some(satisfiable));
+    }
+    Ok(())
+}
+
+// The level gives the contract where its problem has no model.
+#[test]
+fn decides_ground_problems(rt: HostRuntime) -> Result<(), NoMemory> {
+    let cases: [(u32, &[i32], bool); 3] = [
+        (10, &TOUCH_EVENTUAL, false),
+        (39, &WITHDRAW_CAUSAL, true),
+        (77, &BALANCE_EVENTUAL, false),
+    ];
+    for (variables, numbers, satisfiable) in cases {
+        let answer = is_satisfiable(rt.alloc(), variables, numbers)?;
         assert_eq!(rt; answer, Some(satisfiable));
     }
     Ok(())
