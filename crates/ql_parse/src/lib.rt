@@ -7,6 +7,8 @@ mod fault;
 mod parse;
 mod reader;
 mod relation;
+#[cfg(test)]
+mod tests;
 
 pub use fault::ParseFault;
 pub use parse::parse_contract;
