@@ -1,0 +1,3 @@
+mod Splits
+pub mod FieldLaws
+pub mod LineLaws

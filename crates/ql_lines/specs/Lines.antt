@@ -1,0 +1,38 @@
+-- The lines of a line file. A line ends at a line feed, before which a carriage return doesn't count, and the end of the
+-- last line may be missing. Lines that are blank or whose first byte but spaces is `#` tell nothing, and are counted.
+use Rattle.std.specs.Prelude.{ℕ, Bool, true, false, ◌+◌, ◌==◌, List, [], ◌∷◌, length, if◌then◌else◌}
+use Rattle.std.specs.Str.Lines.{lines}
+use Rattle.ql_lines.specs.Fields.{fields_of}
+
+abbrev pub begins_with : ℕ → List ℕ → Bool
+begins_with b [] = false
+begins_with b (c ∷ cs) = c == b
+
+-- a line with its number, from 1
+pub record Numbered : Type 0 where
+  pub number : ℕ
+  pub text : List ℕ
+
+abbrev pub is_line_feed : ℕ → Bool
+is_line_feed b = b == 10
+
+-- whether a line with these fields is blank or a comment
+abbrev pub tell_nothing : List (List ℕ) → Bool
+tell_nothing [] = true
+tell_nothing (f ∷ fs) = begins_with 35 f
+
+unfoldable pub is_skipped : List ℕ → Bool
+is_skipped line = tell_nothing (fields_of line)
+
+-- the lines that tell something, where the first line has the number n
+unfoldable pub told : ℕ → List (List ℕ) → List Numbered
+told n [] = []
+told n (l ∷ ls) = if is_skipped l then told (n + 1) ls else record { number = n; text = l } ∷ told (n + 1) ls
+
+-- what a reader has before it: lines, and the place of the file's end, which is one more than the number of its last line
+pub record Ahead : Type 0 where
+  pub lines : List Numbered
+  pub end : ℕ
+
+abbrev pub ahead_from : ℕ → List ℕ → Ahead
+ahead_from n bytes = record { lines = told n (lines bytes); end = n + length (lines bytes) }
