@@ -1,9 +1,9 @@
 -- the rules of sets and maps are kept
-use Rattle.std.proofs.Common.{◌≡◌, ◌≤◌, ◌<◌, suc, cond, [], ◌∷◌, Bool, true, false, List, length, filter, not, arith, subst, sym}
+use Rattle.std.proofs.Common.{◌≤◌, suc, cond, [], ◌∷◌, Bool, true, false, List, length, filter, not, arith}
 use Rattle.std.specs.Ordering.{is_eq}
 use Rattle.ql_value.specs.declared.scalar.Scalar.{Scalar}
 use Rattle.ql_value.specs.Order.{scalar_cmp, key_cmp}
-use Rattle.ql_value.specs.Collections.{IsSet, IsMap, Ascends, added, removed, put_in, dropped}
+use Rattle.ql_value.specs.Collections.{IsSet, IsMap, added, removed, put_in, dropped}
 use Rattle.ql_value.proofs.Ascending.{kept, ascends_filter}
 use Rattle.ql_value.proofs.ScalarOrder.{scalars_total, keys_total}
 

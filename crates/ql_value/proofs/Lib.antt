@@ -6,3 +6,5 @@ mod Separated
 mod NumberText
 mod QuotedText
 mod ReadSteps
+pub mod ScalarGrammar
+pub mod ValueLaws

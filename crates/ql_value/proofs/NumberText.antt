@@ -1,12 +1,12 @@
 -- what a run of digits spells
-use Rattle.std.proofs.Common.{◌≡◌, ◌≢◌, ◌≤◌, ◌<◌, ◌+◌, ◌-◌, ◌^◌, ℕ, suc, Bool, true, false, Option, Some, None, Ok, Err, List, [], ◌∷◌, length, take, drop, drop-drop, length-drop, arith, refl, sym, ap, ◌∙◌, decimal, bytes_eq, nat_le, ◌&&◌, pos, neg_ℤ, eqb, cond}
+use Rattle.std.proofs.Common.{◌≡◌, ◌≢◌, ◌≤◌, ◌<◌, ◌+◌, ◌-◌, ◌^◌, ℕ, Bool, true, false, Some, None, Ok, Err, List, length, take, drop, drop-drop, length-drop, arith, refl, sym, ap, ◌∙◌, decimal, bytes_eq, nat_le, ◌&&◌, pos, neg_ℤ, eqb}
 use Rattle.std.specs.List.{prefix_len}
 use Rattle.std.specs.Str.Parse.{digits_value}
 use Rattle.std.proofs.lemmas.Fmt.{decimal_is_IsNumeral}
 use Rattle.std.proofs.lemmas.Slice.Eq.{bytes_eq-Decides}
 use Rattle.std.proofs.lemmas.Bool.Decides.{nat_tests}
 use Rattle.ql_base.specs.Bytes.{is_digit}
-use Rattle.ql_base.specs.Numbers.{IsNumberOf, Spells}
+use Rattle.ql_base.specs.Numbers.{Spells}
 use Rattle.ql_value.specs.declared.scalar.Scalar.TheVariants.{Int}
 use Rattle.ql_value.specs.Reading.{number_up_to, plain_at, negative_at}
 

@@ -1,6 +1,6 @@
 -- what a quote opens, and words byte by byte
-use Rattle.std.proofs.Common.{◌≡◌, ◌≤◌, ◌<◌, ◌+◌, ◌-◌, ℕ, zero, suc, Bool, true, false, Ok, Err, List, [], ◌∷◌, length, take, drop, drop-drop, length-drop, get_or, arith, refl, sym, ap, ◌∙◌, add-one, nat_lt, cond, eqb}
-use Rattle.std.specs.List.{prefix_len, AllPass}
+use Rattle.std.proofs.Common.{◌≡◌, ◌≤◌, ◌<◌, ◌+◌, ◌-◌, ℕ, suc, true, false, Ok, Err, List, [], ◌∷◌, length, take, drop, drop-drop, length-drop, get_or, arith, refl, ap, ◌∙◌, add-one, nat_lt}
+use Rattle.std.specs.List.{prefix_len}
 use Rattle.std.proofs.lemmas.List.Folds.{length-prefix_len}
 use Rattle.std.proofs.lemmas.Bool.Decides.{nat_tests}
 use Rattle.std.proofs.lemmas.List.{drop_all}

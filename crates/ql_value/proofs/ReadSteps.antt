@@ -1,5 +1,5 @@
 -- readings that follow from readings of parts
-use Rattle.std.proofs.Common.{◌≡◌, ◌≤◌, ◌<◌, ◌+◌, ◌-◌, ℕ, zero, suc, Bool, true, false, Result, Ok, Err, List, [], ◌∷◌, ◌++◌, length, take, drop, drop-drop, length-drop, arith, refl, sym, ap, ◌∙◌, cond}
+use Rattle.std.proofs.Common.{◌≡◌, ◌≤◌, ◌<◌, ◌+◌, ◌-◌, ℕ, suc, true, false, Result, Ok, Err, List, [], ◌∷◌, ◌++◌, length, drop, drop-drop, length-drop, arith, refl, ap, ◌∙◌}
 use Rattle.std.specs.Prelude.{codes, slice_get}
 use Rattle.std.proofs.Common.{Some, length-append}
 use Rattle.std.specs.Ordering.{is_lt}
@@ -8,12 +8,11 @@ use Rattle.std.specs.List.{prefix_len}
 use Rattle.ql_base.specs.Bytes.{begins, is_digit}
 use Rattle.ql_value.specs.declared.scalar.Scalar.{Scalar}
 use Rattle.ql_value.specs.declared.scalar.Scalar.TheVariants.{Bool as Truth}
-use Rattle.ql_value.specs.declared.value.Value.{Value}
 use Rattle.ql_value.specs.declared.value.Value.TheVariants.{Unit as Nothing, Set, Map}
 use Rattle.ql_value.specs.declared.fault.ValueFault.{ValueFault}
 use Rattle.ql_value.specs.declared.fault.ValueFault.TheVariants.{Unexpected, NoMemory}
 use Rattle.ql_value.specs.Order.{scalar_cmp, key_cmp}
-use Rattle.ql_value.specs.Reading.{Read, IsRead, IsWordRead, is_byte, scalar_at, word_at, word_end, standing_for, quoted_at, negative_at, plain_at, after_spaces, elements_at, entries_at, entry_value_at, collection_at, value_at, value_of, follows, behind_item, on_read}
+use Rattle.ql_value.specs.Reading.{Read, IsRead, IsWordRead, is_byte, scalar_at, word_at, standing_for, quoted_at, negative_at, plain_at, after_spaces, elements_at, entries_at, entry_value_at, collection_at, value_at, value_of, follows}
 
 -- a reading from one place that is one from another
 pub moved : {X : Type 0} (f g : List ℕ → Read X) (bytes : List ℕ) (at sp : ℕ) (r : Result (X × ℕ) ValueFault) → f (drop at bytes) ≡ g (drop sp bytes) → IsRead g bytes sp r → IsRead f bytes at r

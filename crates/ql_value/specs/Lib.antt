@@ -7,3 +7,4 @@ pub mod ValueOrder
 pub mod Places
 pub mod Spelling
 pub mod Reading
+pub mod ValueGrammar

@@ -1,4 +1,4 @@
-ghost use Rattle.std.specs.Prelude.{◌≡◌, ◌++◌, codes, map, OnOk, OnErr};
+ghost use Rattle.std.specs.Prelude.{◌≡◌, ◌++◌, codes, map, All, OnOk, OnErr};
 ghost use Rattle.ql_value.specs.Spelling.{
   bool_text,
   entry_text,
@@ -9,14 +9,18 @@ ghost use Rattle.ql_value.specs.Spelling.{
   separated,
   value_text,
 };
+ghost use Rattle.ql_value.specs.Texts.{IsText};
+ghost use Rattle.ql_value.specs.ValueGrammar.{IsEntry, IsReadBack, IsScalar, IsValue};
 
 use crate::scalar::{Scalar, TextVal};
 use crate::value::Value;
 use ql_base::{NoMemory, push_bytes, push_number};
 
-/// Appends the text of a value. After want of memory the text is as before.
+/// Appends the text of a value, from which the value is read again. After want of memory the text is
+/// as before.
 pub fn print_value(out: &mut Vec<u8>, value: &Value) -> Result<(), NoMemory>
     ensures ok { OnOk result (out.new.items ≡ out.old.items ++ value_text value.now) }
+    ensures again { OnOk result (IsReadBack value.now) }
     ensures err { OnErr result (out.new.items ≡ out.old.items) }
 {
     let mut text = Vec::new(*out.allocator());
@@ -25,7 +29,8 @@ pub fn print_value(out: &mut Vec<u8>, value: &Value) -> Result<(), NoMemory>
 }
 
 fn push_value(out: &mut Vec<u8>, value: &Value) -> Result<(), NoMemory>
-    ensures { OnOk result (out.new.items ≡ out.old.items ++ value_text value.now) }
+    ensures text { OnOk result (out.new.items ≡ out.old.items ++ value_text value.now) }
+    ensures value { OnOk result (IsValue value.now) }
 {
     match value {
         Value::Unit => push_bytes(out, b"unit"),
@@ -38,7 +43,8 @@ fn push_value(out: &mut Vec<u8>, value: &Value) -> Result<(), NoMemory>
 }
 
 fn push_scalar(out: &mut Vec<u8>, scalar: &Scalar) -> Result<(), NoMemory>
-    ensures { OnOk result (out.new.items ≡ out.old.items ++ scalar_text scalar.now) }
+    ensures text { OnOk result (out.new.items ≡ out.old.items ++ scalar_text scalar.now) }
+    ensures scalar { OnOk result (IsScalar scalar.now) }
 {
     match scalar {
         Scalar::Int(n) => push_number(out, *n),
@@ -58,7 +64,8 @@ fn push_bool(out: &mut Vec<u8>, b: bool) -> Result<(), NoMemory>
 }
 
 fn push_quoted(out: &mut Vec<u8>, text: &TextVal) -> Result<(), NoMemory>
-    ensures { OnOk result (out.new.items ≡ out.old.items ++ quoted text.now) }
+    ensures text { OnOk result (out.new.items ≡ out.old.items ++ quoted text.now) }
+    ensures plain { OnOk result (IsText text.now) }
 {
     push_bytes(out, b"\"")?;
     push_bytes(out, text.items())?;
@@ -66,8 +73,9 @@ fn push_quoted(out: &mut Vec<u8>, text: &TextVal) -> Result<(), NoMemory>
 }
 
 fn push_set(out: &mut Vec<u8>, elements: &[Scalar]) -> Result<(), NoMemory>
-    ensures { OnOk result (out.new.items
+    ensures text { OnOk result (out.new.items
         ≡ out.old.items ++ (codes "{" ++ separated (map scalar_text elements.now) ++ codes "}")) }
+    ensures scalars { OnOk result (All IsScalar elements.now) }
 {
     push_bytes(out, b"{")?;
     if let Some((first, rest)) = elements.split_first() {
@@ -79,7 +87,8 @@ fn push_set(out: &mut Vec<u8>, elements: &[Scalar]) -> Result<(), NoMemory>
 
 // Elements that follow a first one.
 fn push_elements(out: &mut Vec<u8>, elements: &[Scalar]) -> Result<(), NoMemory>
-    ensures { OnOk result (out.new.items ≡ out.old.items ++ followed (map scalar_text elements.now)) }
+    ensures text { OnOk result (out.new.items ≡ out.old.items ++ followed (map scalar_text elements.now)) }
+    ensures scalars { OnOk result (All IsScalar elements.now) }
 {
     for element in elements {
         push_bytes(out, b", ")?;
@@ -89,7 +98,8 @@ fn push_elements(out: &mut Vec<u8>, elements: &[Scalar]) -> Result<(), NoMemory>
 }
 
 fn push_map(out: &mut Vec<u8>, entries: &[(Scalar, Scalar)]) -> Result<(), NoMemory>
-    ensures { OnOk result (out.new.items ≡ out.old.items ++ map_text entries.now) }
+    ensures text { OnOk result (out.new.items ≡ out.old.items ++ map_text entries.now) }
+    ensures scalars { OnOk result (All IsEntry entries.now) }
 {
     match entries.split_first() {
         None => push_bytes(out, b"{:}"),
@@ -104,7 +114,8 @@ fn push_map(out: &mut Vec<u8>, entries: &[(Scalar, Scalar)]) -> Result<(), NoMem
 
 // Entries that follow a first one.
 fn push_entries(out: &mut Vec<u8>, entries: &[(Scalar, Scalar)]) -> Result<(), NoMemory>
-    ensures { OnOk result (out.new.items ≡ out.old.items ++ followed (map entry_text entries.now)) }
+    ensures text { OnOk result (out.new.items ≡ out.old.items ++ followed (map entry_text entries.now)) }
+    ensures scalars { OnOk result (All IsEntry entries.now) }
 {
     for entry in entries {
         push_bytes(out, b", ")?;
@@ -114,7 +125,8 @@ fn push_entries(out: &mut Vec<u8>, entries: &[(Scalar, Scalar)]) -> Result<(), N
 }
 
 fn push_entry(out: &mut Vec<u8>, entry: &(Scalar, Scalar)) -> Result<(), NoMemory>
-    ensures { OnOk result (out.new.items ≡ out.old.items ++ entry_text entry.now) }
+    ensures text { OnOk result (out.new.items ≡ out.old.items ++ entry_text entry.now) }
+    ensures scalars { OnOk result (IsEntry entry.now) }
 {
     push_scalar(out, &entry.0)?;
     push_bytes(out, b": ")?;

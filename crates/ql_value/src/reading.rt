@@ -1,4 +1,4 @@
-ghost use Rattle.std.specs.Prelude.{◌≡◌, ◌≤◌, ◌+◌, [], length, drop};
+ghost use Rattle.std.specs.Prelude.{◌≡◌, ◌≤◌, ◌+◌, [], IfOk, length, drop};
 ghost use Rattle.std.specs.List.{prefix_len};
 ghost use Rattle.ql_value.specs.Order.{key_cmp, scalar_cmp};
 ghost use Rattle.ql_value.specs.Reading.{
@@ -12,6 +12,7 @@ ghost use Rattle.ql_value.specs.Reading.{
   value_at,
   value_of,
 };
+ghost use Rattle.ql_value.specs.ValueGrammar.{ReadsEach, ReadsValue};
 
 use crate::fault::ValueFault;
 use crate::ordering::scalar_order;
@@ -21,8 +22,18 @@ use crate::value::{MapVal, SetVal, Value};
 use ql_base::MAX_ENTRIES;
 use std::alloc::Global;
 
-/// The value whose text stands at the place `from`, and the place behind it; or the first fault.
+/// The value whose text stands at the place `from`, and the place behind it; or the first fault. What
+/// is read is in the grammar of values, and each text of the grammar is read.
 pub fn parse_value(alloc: Global, bytes: &[u8], from: usize) -> Result<(Value, usize), ValueFault>
+    requires { from ≤ length bytes.now }
+    ensures read { IsRead value_at bytes.now from result }
+    ensures spelled { IfOk result (λ r. ReadsValue r.0 (drop from bytes.now) (drop r.1 bytes.now)) }
+    ensures all { ReadsEach (drop from bytes.now) }
+{
+    read_value(alloc, bytes, from)
+}
+
+fn read_value(alloc: Global, bytes: &[u8], from: usize) -> Result<(Value, usize), ValueFault>
     requires { from ≤ length bytes.now }
     ensures { IsRead value_at bytes.now from result }
 {

@@ -1,6 +1,5 @@
-use Rattle.std.proofs.Common.{◌≡◌, ◌≤◌, take, length, arith, ap, ◌∙◌}
+use Rattle.std.proofs.Common.{◌≡◌, take, arith}
 use Rattle.std.proofs.lemmas.List.{take_all}
-use Rattle.ql_value.specs.Collections.{dropped}
 use Rattle.ql_value.proofs.Keeping.{map_dropped}
 use Rattle.ql_value.proofs.maps.drop_key.Goals as goal
 

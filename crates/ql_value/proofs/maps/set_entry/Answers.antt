@@ -1,6 +1,5 @@
-use Rattle.std.proofs.Common.{◌≡◌, ◌≤◌, ◌<◌, sym, ◌∙◌, arith}
+use Rattle.std.proofs.Common.{sym, arith}
 use Rattle.ql_value.specs.Order.{key_cmp}
-use Rattle.ql_value.specs.Collections.{IsMap}
 use Rattle.ql_value.proofs.Ascending.{overwrites, inserts, no_room}
 use Rattle.ql_value.proofs.ScalarOrder.{keys_total}
 use Rattle.ql_value.proofs.Keeping.{map_put}

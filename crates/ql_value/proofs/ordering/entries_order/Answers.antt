@@ -1,4 +1,4 @@
-use Rattle.std.proofs.Common.{◌≡◌, ◌≤◌, sym, ◌∙◌, length, min, arith}
+use Rattle.std.proofs.Common.{sym, ◌∙◌, arith}
 use Rattle.ql_value.specs.Order.{entry_cmp}
 use Rattle.ql_value.proofs.Stepwise.{at_end}
 use Rattle.ql_value.proofs.ordering.entries_order.Goals as goal

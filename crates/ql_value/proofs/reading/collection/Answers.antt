@@ -1,4 +1,4 @@
-use Rattle.std.proofs.Common.{◌≡◌, ◌≤◌, ◌+◌, ◌∙◌, [], drop, drop-drop, arith, sym, ap, Ok}
+use Rattle.std.proofs.Common.{◌≡◌, ◌∙◌, [], drop, drop-drop, ap, Ok}
 use Rattle.std.specs.Prelude.{codes}
 use Rattle.std.proofs.lemmas.Result.{err_from_is_err_and}
 use Rattle.ql_value.specs.declared.value.Value.TheVariants.{Map, Set}

@@ -1,7 +1,6 @@
-use Rattle.std.proofs.Common.{◌≡◌, ◌≤◌, ◌∙◌, arith, sym}
+use Rattle.std.proofs.Common.{◌∙◌, arith, sym}
 use Rattle.std.proofs.lemmas.Result.{err_from_is_err_and}
 use Rattle.ql_value.specs.Order.{scalar_cmp}
-use Rattle.ql_value.specs.Collections.{IsSet}
 use Rattle.ql_value.proofs.Ascending.{pushed}
 use Rattle.ql_value.proofs.ScalarOrder.{scalars_total}
 use Rattle.ql_value.proofs.QuotedText.{within}

@@ -1,4 +1,3 @@
-use Rattle.std.proofs.Common.{◌≡◌, drop}
 use Rattle.ql_value.specs.Reading.{scalar_at, entry_value_at}
 use Rattle.ql_value.proofs.ReadSteps.{moved, value_behind}
 use Rattle.ql_value.proofs.reading.entry_value.Goals as goal

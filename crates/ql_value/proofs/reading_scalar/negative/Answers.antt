@@ -1,4 +1,4 @@
-use Rattle.std.proofs.Common.{◌≡◌, ◌≤◌, ◌∙◌, arith, w64, rules}
+use Rattle.std.proofs.Common.{arith, w64, rules}
 use mir.Val.{SFits}
 use Rattle.std.proofs.lemmas.Int.{to_z-of_z}
 use Rattle.ql_value.proofs.NumberText.{no_digit, negative_some, negative_zero, negative_none}

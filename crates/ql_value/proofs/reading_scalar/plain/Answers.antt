@@ -1,4 +1,4 @@
-use Rattle.std.proofs.Common.{◌≡◌, ◌≤◌, ◌∙◌, arith, w64}
+use Rattle.std.proofs.Common.{arith, w64}
 use Rattle.std.proofs.lemmas.Int.{to_z_pos}
 use Rattle.ql_value.proofs.NumberText.{plain_some, plain_none}
 use Rattle.ql_value.proofs.reading_scalar.plain.Goals as goal

@@ -1,5 +1,4 @@
-use Rattle.std.proofs.Common.{◌≡◌, ◌≤◌, ◌<◌, ◌+◌, ◌∙◌, arith}
-use Rattle.ql_value.specs.Texts.{IsText}
+use Rattle.std.proofs.Common.{arith}
 use Rattle.ql_value.proofs.QuotedText.{too_long, not_closed, closed, is_text, within}
 use Rattle.ql_value.proofs.reading_scalar.quoted.Goals as goal
 

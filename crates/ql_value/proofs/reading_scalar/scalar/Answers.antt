@@ -1,4 +1,4 @@
-use Rattle.std.proofs.Common.{◌≡◌, ◌≤◌, ◌∙◌, ap, drop, length-drop, Err}
+use Rattle.std.proofs.Common.{◌∙◌, ap, drop, length-drop, Err}
 use Rattle.std.specs.Prelude.{codes}
 use Rattle.std.proofs.Common.{true, false}
 use Rattle.ql_value.specs.declared.scalar.Scalar.TheVariants.{Bool as Truth}

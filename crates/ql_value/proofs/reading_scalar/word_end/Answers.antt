@@ -1,4 +1,4 @@
-use Rattle.std.proofs.Common.{◌≡◌, ◌≤◌, ◌<◌, ◌+◌, ◌∙◌, arith, get_or}
+use Rattle.std.proofs.Common.{◌∙◌, get_or}
 use Rattle.ql_value.proofs.QuotedText.{letter, other_letter, no_letter, within}
 use Rattle.ql_value.proofs.reading_scalar.word_end.Goals as goal
 

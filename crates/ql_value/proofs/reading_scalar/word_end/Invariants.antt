@@ -1,4 +1,4 @@
-use Rattle.std.proofs.Common.{◌≡◌, ◌+◌, ◌≤◌, drop, length}
+use Rattle.std.proofs.Common.{◌≡◌, ◌≤◌, drop, length}
 use Rattle.ql_value.specs.Reading.{word_end}
 use Rattle.ql_value.proofs.reading_scalar.word_end.Given as goal
 

@@ -1,6 +1,5 @@
-use Rattle.std.proofs.Common.{◌≡◌, ◌≤◌, ◌<◌, sym, ◌∙◌, arith}
+use Rattle.std.proofs.Common.{sym, arith}
 use Rattle.ql_value.specs.Order.{scalar_cmp}
-use Rattle.ql_value.specs.Collections.{IsSet}
 use Rattle.ql_value.proofs.Ascending.{stays, inserts}
 use Rattle.ql_value.proofs.ScalarOrder.{scalars_total, exact}
 use Rattle.ql_value.proofs.Keeping.{set_added}

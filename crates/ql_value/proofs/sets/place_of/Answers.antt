@@ -1,4 +1,3 @@
-use Rattle.std.proofs.Common.{◌≡◌, ◌≤◌, Bool, true, false, length}
 use Rattle.ql_value.specs.Order.{scalar_cmp}
 use Rattle.ql_value.proofs.Ascending.{is_found, is_missing, is_past}
 use Rattle.ql_value.proofs.ScalarOrder.{scalars_total}

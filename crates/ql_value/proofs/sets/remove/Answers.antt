@@ -1,6 +1,5 @@
-use Rattle.std.proofs.Common.{◌≡◌, ◌≤◌, take, length, arith, ap, ◌∙◌}
+use Rattle.std.proofs.Common.{◌≡◌, take, arith}
 use Rattle.std.proofs.lemmas.List.{take_all}
-use Rattle.ql_value.specs.Collections.{removed}
 use Rattle.ql_value.proofs.Keeping.{set_removed}
 use Rattle.ql_value.proofs.sets.remove.Goals as goal
 
