@@ -1,4 +1,4 @@
-use Rattle.std.proofs.Common.{◌≡◌, ℕ, Bool, true, false, List, [], ◌∷◌, Option, None, Some, refl}
+use Rattle.std.proofs.Common.{◌≡◌, ℕ, true, false, List, [], ◌∷◌, None, Some, refl}
 use Rattle.std.specs.Str.{bytes_eq}
 use Rattle.ql_typing.specs.declared.scope.Known.{Known}
 use Rattle.ql_typing.specs.Kinds.{kind_in}

@@ -5,4 +5,9 @@ pub mod KeptNames
 pub mod KindsIn
 pub mod CallArgs
 pub mod Declared
-pub mod Bounds
+pub mod Parts
+pub mod Flat
+pub mod Positions
+pub mod Formed
+pub mod FaultFree
+pub mod ResolvedSet

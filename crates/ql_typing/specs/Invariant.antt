@@ -1,4 +1,4 @@
-use Rattle.std.specs.Prelude.{◌≡◌, ℕ, List, [], Option, drop, take, length}
+use Rattle.std.specs.Prelude.{◌≡◌, ℕ, List, Option, drop, take, length}
 use Rattle.ql_lang.specs.declared.name.Name.{Name}
 use Rattle.ql_typing.specs.declared.fault.TypeFault.{TypeFault}
 use Rattle.ql_typing.specs.Faults.{each, earlier, first_fault, repeats, names_met}

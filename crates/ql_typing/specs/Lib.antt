@@ -6,3 +6,5 @@ pub mod Functions
 pub mod Kinds
 pub mod Programs
 pub mod Lookups
+pub mod Operations
+pub mod WellFormed

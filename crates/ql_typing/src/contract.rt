@@ -203,7 +203,7 @@ fn past_limit(names: &[Name]) -> &[Name]
 }
 
 /// The names of variables, in order.
-fn names_of(alloc: Global, vars: &[Var]) -> Result<Vec<Name>, NoMemory>
+pub(crate) fn names_of(alloc: Global, vars: &[Var]) -> Result<Vec<Name>, NoMemory>
     ensures { IfOk result (λ names. names.items ≡ var_names vars.now) }
 {
     Ok(vars.iter().map(|var| var.name).collect(alloc)?)

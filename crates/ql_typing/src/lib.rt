@@ -6,10 +6,12 @@
 mod build;
 mod contract;
 mod fault;
+mod formulas;
 mod function;
 mod judge;
 mod kind;
 mod limits;
+mod lookup;
 mod names;
 mod operation;
 mod program;

@@ -172,7 +172,7 @@ pub(crate) fn program_fault(alloc: Global, program: &Program) -> Result<Option<T
 }
 
 /// Meets the names of all operations.
-fn meet_ops(alloc: Global, types: &[TypeDecl]) -> Result<Met, NoMemory>
+pub(crate) fn meet_ops(alloc: Global, types: &[TypeDecl]) -> Result<Met, NoMemory>
     ensures names { IfOk result (λ met. met.names ≡ names_met [] (op_names types.now)) }
     ensures fault { IfOk result (λ met. met.fault ≡ first_fault (repeats [] (op_names types.now))) }
 {

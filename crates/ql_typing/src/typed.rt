@@ -1,19 +1,33 @@
-ghost use Rattle.std.specs.Prelude.{◌≡◌, ◌<◌, [], IfErr, IfOk, IfSome, OnOk, Some, length, option_map, slice_get};
+ghost use Rattle.std.specs.Prelude.{◌≡◌, ◌<◌, ◌≤◌, [], IfErr, IfOk, IfSome, OnOk, Some, length, map, option_map, slice_get};
+ghost use Rattle.ql_lang.specs.Formulas.{resolved_of};
+ghost use Rattle.std.specs.List.{list_any};
+ghost use Rattle.std.specs.Str.{bytes_eq};
 ghost use Rattle.ql_typing.specs.Faults.{IsRefusal, TellsFirst};
 ghost use Rattle.ql_typing.specs.Lookups.{txn_place, type_place};
+ghost use Rattle.ql_typing.specs.Operations.{all_ops, op_contracts, op_kinds, op_place, op_words, txn_contracts, uses_op};
 ghost use Rattle.ql_typing.specs.Programs.{program_faults};
+ghost use Rattle.ql_typing.specs.WellFormed.{IsOpContract, IsTxnContract};
 
 use crate::fault::TypeFault;
-use crate::program::program_fault;
-use ql_base::{DeclId, TypeId};
-use ql_lang::{Program, TxnDecl, TypeDecl};
+use crate::formulas::{formulas_of_ops, formulas_of_txns};
+use crate::lookup::{find_kind, find_op, find_txn, find_type};
+use crate::program::{meet_ops, program_fault};
+use ql_base::{DeclId, Names, NoMemory, OpId, TypeId};
+use ql_lang::{Formula, Name, OpDecl, Program, TxnDecl, TypeDecl};
 use std::alloc::Global;
 
-/// A program in which nothing is wrong.
+/// A program in which nothing is wrong. Its types, operations and transactions have numbers from 0, in the order of
+/// the source; operations are counted over all types.
 #[derive(Drop)]
 pub struct Typed {
     pub program: Program,
+    ops: Names,
+    op_formulas: Vec<Formula>,
+    txn_formulas: Vec<Formula>,
     pub ghost well_typed: { ∥ program_faults program ≡ [] ∥₁ },
+    ghost named: { ops ≡ op_words program.types },
+    ghost of_ops: { ∥ map resolved_of op_formulas.items ≡ op_contracts program.types ∥₁ },
+    ghost of_txns: { ∥ map resolved_of txn_formulas.items ≡ txn_contracts program ∥₁ },
 }
 
 /// The program with the fact that it is well typed, or its first fault: the one of the least place, and there of the
@@ -30,14 +44,78 @@ pub fn typecheck(alloc: Global, program: Program) -> Result<Typed, TypeFault>
     };
     match fault {
         Some(fault) => Err(fault),
-        None => Ok(Typed { program }),
+        None => match number(alloc, program) {
+            Ok(typed) => Ok(typed),
+            Err(NoMemory) => Err(TypeFault::NoMemory),
+        },
     }
 }
 
+/// Numbers the operations of a program without faults, and resolves its contracts.
+fn number(alloc: Global, program: Program) -> Result<Typed, NoMemory>
+    requires { program_faults program ≡ [] }
+    ensures { IfOk result (λ typed. typed.program ≡ program) }
+{
+    let met = meet_ops(alloc, program.types.items())?;
+    let op_formulas = formulas_of_ops(alloc, program.types.items(), &met.names)?;
+    let txn_formulas = formulas_of_txns(alloc, program.txns.items(), &met.names)?;
+    Ok(Typed {
+        program,
+        ops: met.names,
+        op_formulas,
+        txn_formulas,
+    })
+}
+
 impl Typed {
+    /// How many operations there are.
+    pub fn ops(&self) -> u32
+        ensures count { result ≡ length (all_ops self.now.program.types) }
+        ensures few { result ≤ 32 }
+    {
+        self.ops.len()
+    }
+
+    /// The operation of a number.
+    pub fn op(&self, o: OpId) -> &OpDecl
+        requires { o.0 < length (all_ops self.now.program.types) }
+        ensures { slice_get (all_ops self.now.program.types) o.0 ≡ Some result.now }
+    {
+        find_op(self.program.types.items(), o.0 as usize).unwrap()
+    }
+
+    /// The type that an operation is one of.
+    pub fn kind_of(&self, o: OpId) -> TypeId
+        requires { o.0 < length (all_ops self.now.program.types) }
+        ensures kind { slice_get (op_kinds self.now.program.types) o.0 ≡ Some result.0 }
+        ensures within { result.0 < length self.now.program.types }
+    {
+        let kind = find_kind(self.program.types.items(), o.0 as usize).unwrap();
+        TypeId(kind as u32)
+    }
+
+    /// The operation of a name.
+    pub fn op_named(&self, w: &[u8]) -> Option<OpId>
+        ensures place { option_map (λ o. o.0) result ≡ op_place self.now.program.types w.now }
+        ensures within { IfSome result (λ o. o.0 < length (all_ops self.now.program.types)) }
+    {
+        let number = self.ops.find(w)?;
+        Some(OpId(number))
+    }
+
+    /// The contract of an operation, with its names resolved.
+    pub fn op_formula(&self, o: OpId) -> &Formula
+        requires { o.0 < length (all_ops self.now.program.types) }
+        ensures resolved { slice_get (op_contracts self.now.program.types) o.0 ≡ Some (resolved_of result.now) }
+        ensures well_formed { IsOpContract (length (all_ops self.now.program.types)) (resolved_of result.now) }
+    {
+        &self.op_formulas[o.0 as usize]
+    }
+
     /// How many types there are.
     pub fn types(&self) -> u32
-        ensures { result ≡ length self.now.program.types }
+        ensures count { result ≡ length self.now.program.types }
+        ensures few { result ≤ 16 }
     {
         self.program.types.items().len() as u32
     }
@@ -49,9 +127,19 @@ impl Typed {
         &self.program.types.items()[t.0 as usize]
     }
 
+    /// The type of a name.
+    pub fn type_named(&self, w: &[u8]) -> Option<TypeId>
+        ensures place { option_map (λ t. t.0) result ≡ type_place self.now.program.types w.now }
+        ensures within { IfSome result (λ t. t.0 < length self.now.program.types) }
+    {
+        let place = find_type(self.program.types.items(), w)?;
+        Some(TypeId(place as u32))
+    }
+
     /// How many transactions there are.
     pub fn txns(&self) -> u32
-        ensures { result ≡ length self.now.program.txns }
+        ensures count { result ≡ length self.now.program.txns }
+        ensures few { result ≤ 16 }
     {
         self.program.txns.items().len() as u32
     }
@@ -63,36 +151,38 @@ impl Typed {
         &self.program.txns.items()[d.0 as usize]
     }
 
-    /// The type of a name.
-    pub fn type_named(&self, w: &[u8]) -> Option<TypeId>
-        ensures { option_map (λ t. t.0) result ≡ type_place self.now.program.types w.now }
-    {
-        let place = find_type(self.program.types.items(), w)?;
-        Some(TypeId(place as u32))
-    }
-
     /// The transaction of a name.
     pub fn txn_named(&self, w: &[u8]) -> Option<DeclId>
-        ensures { option_map (λ d. d.0) result ≡ txn_place self.now.program.txns w.now }
+        ensures place { option_map (λ d. d.0) result ≡ txn_place self.now.program.txns w.now }
+        ensures within { IfSome result (λ d. d.0 < length self.now.program.txns) }
     {
         let place = find_txn(self.program.txns.items(), w)?;
         Some(DeclId(place as u32))
     }
+
+    /// The contract of a transaction, with its names resolved.
+    pub fn txn_formula(&self, d: DeclId) -> &Formula
+        requires { d.0 < length self.now.program.txns }
+        ensures resolved { slice_get (txn_contracts self.now.program) d.0 ≡ Some (resolved_of result.now) }
+        ensures well_formed { IsTxnContract (length (all_ops self.now.program.types)) (resolved_of result.now) }
+    {
+        &self.txn_formulas[d.0 as usize]
+    }
+
+    /// Whether a transaction uses an operation.
+    pub fn uses(&self, d: DeclId, o: OpId) -> bool
+        requires txn { d.0 < length self.now.program.txns }
+        requires op { o.0 < length (all_ops self.now.program.types) }
+        ensures { result ≡ uses_op self.now.program d.0 o.0 }
+    {
+        let op = self.op(o);
+        has_word(self.txn(d).uses.items(), op.name.word.bytes())
+    }
 }
 
-fn find_type(types: &[TypeDecl], w: &[u8]) -> Option<usize>
-    ensures place { result ≡ type_place types.now w.now }
-    ensures within { IfSome result (λ k. k < length types.now) }
+/// Whether one of the names is the word `w`.
+fn has_word(names: &[Name], w: &[u8]) -> bool
+    ensures { result ≡ list_any (λ n. bytes_eq w.now n.word) names.now }
 {
-    types
-        .iter()
-        .position(|declared| w == declared.name.word.bytes())
-}
-
-fn find_txn(txns: &[TxnDecl], w: &[u8]) -> Option<usize>
-    ensures place { result ≡ txn_place txns.now w.now }
-    ensures within { IfSome result (λ k. k < length txns.now) }
-{
-    txns.iter()
-        .position(|declared| w == declared.name.word.bytes())
+    names.iter().any(|name| w == name.word.bytes())
 }

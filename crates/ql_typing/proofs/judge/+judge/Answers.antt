@@ -1,4 +1,4 @@
-use Rattle.std.proofs.Common.{◌≡◌, ap, ◌∙◌}
+use Rattle.std.proofs.Common.{ap, ◌∙◌}
 use Rattle.ql_typing.specs.Faults.{earlier}
 use Rattle.ql_typing.specs.Functions.{function_named}
 use Rattle.ql_typing.proofs.CallArgs.{list_of_one, list_of_two, list_of_three, one_kind, two_kind, three_kind, one_fault, two_fault, three_fault, other_kind_none, count_fault_of, inside_start, inside_step, inside_end}

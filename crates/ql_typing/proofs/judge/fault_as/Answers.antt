@@ -1,4 +1,4 @@
-use Rattle.std.proofs.Common.{◌≡◌, sym}
+use Rattle.std.proofs.Common.{sym}
 use Rattle.ql_lang.specs.Expressions.{expression_of}
 use Rattle.ql_typing.specs.Kinds.{faults_of, begins_at, kind_of, mismatch}
 use Rattle.ql_typing.proofs.FirstFault.{first_append}

@@ -1,5 +1,4 @@
 use Rattle.ql_typing.specs.Programs.{too_many}
-use Rattle.ql_typing.specs.Faults.{first_fault, earlier}
 use Rattle.ql_typing.specs.Invariant.{SoFar}
 use Rattle.ql_typing.proofs.limits.extra_fault.Given as goal
 

@@ -1,4 +1,3 @@
-use Rattle.std.proofs.Common.{◌≡◌, ap, ◌∙◌, take, length}
 use Rattle.ql_typing.proofs.KeptNames.{kept-names_met, kept_whole}
 use Rattle.ql_typing.proofs.names.meet_after.Goals as goal
 

@@ -1,4 +1,4 @@
-use Rattle.std.proofs.Common.{◌≡◌, refl}
+use Rattle.std.proofs.Common.{refl}
 use Rattle.ql_typing.specs.Programs.{effect_faults}
 use Rattle.ql_typing.proofs.FirstFault.{first_append}
 use Rattle.ql_typing.proofs.operation.effect_fault.Goals as goal

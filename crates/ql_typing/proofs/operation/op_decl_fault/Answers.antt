@@ -1,4 +1,4 @@
-use Rattle.std.proofs.Common.{◌≡◌, refl}
+use Rattle.std.proofs.Common.{refl}
 use Rattle.std.proofs.Math.Seq.{take-append_seam}
 use Rattle.ql_typing.specs.Programs.{op_decl_faults}
 use Rattle.ql_typing.proofs.FirstFault.{first_append}

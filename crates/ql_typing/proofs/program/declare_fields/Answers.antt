@@ -1,8 +1,7 @@
-use Rattle.std.proofs.Common.{◌≡◌, ◌++◌, ap, ◌∙◌}
+use Rattle.std.proofs.Common.{◌++◌, ap, ◌∙◌}
 use Rattle.std.proofs.lemmas.List.{take_all}
 use Rattle.ql_lang.specs.declared.program.Field.{Field}
 use Rattle.ql_typing.specs.declared.scope.Known.{Known}
-use Rattle.ql_typing.specs.Functions.{of_base}
 use Rattle.ql_typing.specs.Programs.{fields_known}
 use Rattle.ql_typing.proofs.Declared.{declared_start, declared_step}
 use Rattle.ql_typing.proofs.program.declare_fields.Goals as goal

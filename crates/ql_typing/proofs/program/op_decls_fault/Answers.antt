@@ -1,4 +1,4 @@
-use Rattle.std.proofs.Common.{◌≡◌, refl, ◌∙◌}
+use Rattle.std.proofs.Common.{refl, ◌∙◌}
 use Rattle.ql_typing.specs.Programs.{op_decl_faults}
 use Rattle.ql_typing.proofs.Each.{each_start, each_step, each_end}
 use Rattle.ql_typing.proofs.program.op_decls_fault.Goals as goal

@@ -1,4 +1,4 @@
-use Rattle.std.proofs.Common.{◌≡◌, refl}
+use Rattle.std.proofs.Common.{refl}
 use Rattle.ql_typing.specs.Programs.{txn_faults}
 use Rattle.ql_typing.proofs.FirstFault.{first_append}
 use Rattle.ql_typing.proofs.program.txn_fault.Goals as goal

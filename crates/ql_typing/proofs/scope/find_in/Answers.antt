@@ -1,4 +1,4 @@
-use Rattle.std.proofs.Common.{◌≡◌, ℕ, true, false, drop, sym, subst, ◌∙◌, ap}
+use Rattle.std.proofs.Common.{◌≡◌, true, false, sym, ◌∙◌, ap}
 use Rattle.std.specs.Str.{bytes_eq}
 use Rattle.ql_typing.specs.Kinds.{kind_in}
 use Rattle.ql_typing.proofs.Each.{next_item, no_item}

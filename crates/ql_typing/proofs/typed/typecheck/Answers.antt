@@ -1,14 +1,13 @@
 use Rattle.std.proofs.Common.{sym, ◌∙◌}
-use Rattle.std.proofs.lemmas.Grind.{merely}
 use Rattle.ql_typing.specs.Programs.{program_faults}
 use Rattle.ql_typing.proofs.FirstFault.{no_fault, refusal, tells}
 use Rattle.ql_typing.proofs.typed.typecheck.Goals as goal
 
-pub invariant_of-result : goal.invariant_of-result
-invariant_of-result c = record { well_typed = merely (no_fault (program_faults c.args.program) (sym c.in-Ok.ensures ∙ c.in-None.is)) }
+pub number-requires : goal.number-requires
+number-requires c = no_fault (program_faults c.args.program) (sym c.in-Ok.ensures ∙ c.in-None.is)
 
-pub returns-in-None-clause-typed : goal.returns-in-None-clause-typed
-returns-in-None-clause-typed c = no_fault (program_faults c.args.program) (sym c.in-Ok.ensures ∙ c.in-None.is)
+pub returns-in-Ok-number-clause-typed : goal.returns-in-Ok-number-clause-typed
+returns-in-Ok-number-clause-typed c = no_fault (program_faults c.args.program) (sym c.in-Ok.ensures ∙ c.in-None.is)
 
 pub returns-in-Some-clause-refused : goal.returns-in-Some-clause-refused
 returns-in-Some-clause-refused c = refusal (program_faults c.args.program) c.in-Some.fault (sym c.in-Ok.ensures ∙ c.in-Some.is)

@@ -1,0 +1,68 @@
+ghost use Rattle.std.specs.Prelude.{◌≡◌, ◌++◌, IfOk, OnOk, map};
+ghost use Rattle.ql_lang.specs.Formulas.{resolved_of};
+ghost use Rattle.ql_lang.specs.Trees.{sentence_of};
+ghost use Rattle.ql_typing.specs.Operations.{all_ops, op_contract, txn_contract};
+ghost use Rattle.ql_typing.specs.Resolved.{resolved_in};
+
+use crate::build::build_formula;
+use crate::contract::names_of;
+use crate::names::meet;
+use ql_base::{Names, NoMemory};
+use ql_lang::{Contract, Formula, OpDecl, TxnDecl, TypeDecl};
+use std::alloc::Global;
+
+/// A contract with its names resolved, where operations have their places among `ops`.
+fn formula_of(alloc: Global, contract: &Contract, ops: &Names) -> Result<Formula, NoMemory>
+    ensures { IfOk result (λ formula. resolved_of formula ≡ resolved_in ops.now (sentence_of contract.now)) }
+{
+    let list = names_of(alloc, contract.vars.items())?;
+    let met = meet(alloc, list.as_slice())?;
+    build_formula(alloc, contract, &met.names, ops)
+}
+
+/// The contracts of all operations, in order.
+pub(crate) fn formulas_of_ops(
+    alloc: Global,
+    types: &[TypeDecl],
+    ops: &Names,
+) -> Result<Vec<Formula>, NoMemory>
+    ensures { IfOk result (λ formulas. map resolved_of formulas.items ≡ map (op_contract ops.now) (all_ops types.now)) }
+{
+    let mut formulas = Vec::new(alloc);
+    for declared in types {
+        put_own(alloc, declared.ops.items(), ops, &mut formulas)?;
+    }
+    Ok(formulas)
+}
+
+/// Puts the contracts of a type's operations after others.
+fn put_own(
+    alloc: Global,
+    own: &[OpDecl],
+    ops: &Names,
+    formulas: &mut Vec<Formula>,
+) -> Result<(), NoMemory>
+    ensures { OnOk result (map resolved_of formulas.new.items ≡ map resolved_of formulas.old.items ++ map (op_contract ops.now) own.now) }
+{
+    for op in own {
+        let formula = formula_of(alloc, &op.contract, ops)?;
+        formulas.push(formula)?;
+    }
+    Ok(())
+}
+
+/// The contracts of all transactions, in order.
+pub(crate) fn formulas_of_txns(
+    alloc: Global,
+    txns: &[TxnDecl],
+    ops: &Names,
+) -> Result<Vec<Formula>, NoMemory>
+    ensures { IfOk result (λ formulas. map resolved_of formulas.items ≡ map (txn_contract ops.now) txns.now) }
+{
+    let mut formulas = Vec::with_capacity(alloc, txns.len())?;
+    for declared in txns {
+        let formula = formula_of(alloc, &declared.contract, ops)?;
+        formulas.push(formula)?;
+    }
+    Ok(formulas)
+}
