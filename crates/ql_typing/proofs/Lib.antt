@@ -10,4 +10,5 @@ pub mod Flat
 pub mod Positions
 pub mod Formed
 pub mod FaultFree
+pub mod InTypes
 pub mod ResolvedSet
