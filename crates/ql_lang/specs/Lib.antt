@@ -2,3 +2,4 @@ pub mod Trees
 pub mod Formulas
 pub mod Arguments
 pub mod Expressions
+pub mod Spelling

@@ -8,6 +8,7 @@ mod expression;
 mod formula;
 mod name;
 mod operation;
+mod print;
 mod program;
 mod relation;
 
@@ -18,5 +19,6 @@ pub use name::{Name, NameList};
 pub use operation::{
     Base, Bind, Binds, EmitDecl, Kind, OpDecl, OpDecls, Param, Params, Stmt, Stmts,
 };
+pub use print::print_contract;
 pub use program::{Field, Fields, Init, InitNode, Program, TxnDecl, TxnDecls, TypeDecl, TypeDecls};
 pub use relation::{Rel, RelName};

@@ -1,13 +1,14 @@
 -- each kind of front, from what the code sees of the text
-use Rattle.std.proofs.Common.{◌≡◌, ◌≤◌, ◌<◌, ◌+◌, ◌-◌, ◌⊎◌, ℕ, zero, suc, Bool, true, false, List, [], ◌∷◌, ◌++◌, Option, Some, None, is_some, length, take, drop, get_or, arith, refl, sym, ap, ◌∙◌, subst, inl, inr, length-take, length-drop}
+use Rattle.std.proofs.Common.{◌≡◌, ◌≤◌, ◌<◌, ◌+◌, ◌-◌, ◌⊎◌, ℕ, Bool, true, false, List, [], ◌∷◌, ◌++◌, length, take, drop, get_or, arith, refl, sym, subst, length-drop}
 use Rattle.std.specs.List.{AllPass, prefix_len}
 use Rattle.std.proofs.lemmas.List.{take-append-drop, take_all, get_or-take}
 use Rattle.std.proofs.lemmas.Bool.Decides.{nat_tests}
 use Rattle.std.proofs.lemmas.List.Folds.{length-prefix_len}
+use Rattle.std.proofs.lemmas.List.Sums.{prefix_len-le-length}
 use Rattle.std.proofs.lemmas.Bool.{false≢true}
 use Rattle.ql_base.specs.Bytes.{begins, StopsBefore, is_blank, is_digit, is_lower, is_name_byte, is_word_byte, is_text_byte}
 use Rattle.ql_base.specs.Names.{IsWord, is_keyword}
-use Rattle.ql_base.specs.Numbers.{IsNumberOf, Spells}
+use Rattle.ql_base.specs.Numbers.{Spells}
 use Rattle.ql_base.proofs.Fronts.{front_passes, front_stops, front_next}
 use Rattle.ql_lex.specs.Bytes.{is_in_line, is_quote}
 use Rattle.ql_lex.specs.Marks.{is_mark_byte, is_mark_pair}
@@ -149,3 +150,6 @@ mark_is (a ∷ rest) some h stop = mark h stop
 pub stray_is : (t : List ℕ) → 0 < length t → BeginsNothing (get_or t 0 0) → is_mark_byte (get_or t 0 0) ≡ false → StopsBefore (is_mark_pair (get_or t 0 0)) (drop 1 t) → IsFront t (NoToken 0)
 stray_is [] some nothing h stop = absurd (omega arith)
 stray_is (a ∷ rest) some nothing h stop = stray nothing h stop
+
+pub digits_fit : (t : List ℕ) → prefix_len is_digit t ≤ length t
+digits_fit t = prefix_len-le-length is_digit t

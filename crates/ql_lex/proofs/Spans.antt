@@ -1,6 +1,5 @@
 -- tokens ascend, and lie within their text
-use Rattle.std.proofs.Common.{◌≡◌, ◌≤◌, ◌<◌, ◌+◌, ◌-◌, ℕ, List, [], ◌∷◌, ◌++◌, Result, Ok, Err, length, drop, arith, length-drop}
-use Rattle.ql_lex.specs.Fronts.{IsFront}
+use Rattle.std.proofs.Common.{◌≡◌, ◌<◌, ◌+◌, ℕ, List, [], ◌∷◌, Result, Ok, Err, length, arith, length-drop}
 use Rattle.ql_lex.specs.Tokens.{Lexes, preceded, AreSpans}
 use Rattle.ql_lex.specs.Tokens.Lexes.{ends, gap, token, no_token, too_long, no_number}
 use Rattle.ql_lex.specs.declared.token.Token.{Token}

@@ -1,8 +1,8 @@
 -- one more gap or token of a text
-use Rattle.std.proofs.Common.{◌≡◌, ◌≤◌, ◌<◌, ◌+◌, ◌-◌, ℕ, List, [], ◌∷◌, ◌++◌, Result, Ok, Err, length, take, drop, arith, refl, sym, ap, subst, ◌∙◌, append_assoc, length-drop}
+use Rattle.std.proofs.Common.{◌≡◌, ◌≤◌, ◌+◌, ◌-◌, ℕ, List, [], ◌∷◌, ◌++◌, Result, Ok, Err, length, take, drop, arith, refl, sym, ap, subst, append_assoc, length-drop}
 use Rattle.std.proofs.lemmas.List.{take_all, drop_all, drop-drop, append-nil}
 use Rattle.ql_lex.specs.Fronts.{IsFront}
-use Rattle.ql_lex.specs.Tokens.{Lexes, preceded, AreSpans, FitsIn}
+use Rattle.ql_lex.specs.Tokens.{Lexes, preceded}
 use Rattle.ql_lex.specs.Tokens.Lexes.{ends, gap, token, no_token, too_long, no_number}
 use Rattle.ql_lex.specs.declared.front.Front.{Front}
 use Rattle.ql_lex.specs.declared.front.Front.TheVariants.{Gap, Lexeme, NoToken, TooLong, NoNumber}

@@ -1,6 +1,5 @@
-use Rattle.std.proofs.Common.{◌≡◌, ◌≤◌, ◌<◌, ◌+◌, ℕ, zero, suc, List, [], ◌∷◌, ◌++◌, length, arith, length-append}
+use Rattle.std.proofs.Common.{ℕ, List, ◌∷◌, length, arith, length-append}
 use Rattle.std.proofs.lemmas.Fmt.{decimal_nonempty}
-use Rattle.ql_base.specs.Numbers.{Spells}
 use Rattle.ql_lex.specs.Fronts.{IsFront}
 use Rattle.ql_lex.specs.Fronts.IsFront.{blank, comment, name, keyword, long_name, number, no_number, text, long_text, no_text, pair, mark, stray}
 use Rattle.ql_lex.specs.Tokens.{FitsIn}

@@ -1,4 +1,4 @@
-use Rattle.std.specs.Prelude.{ℕ, ◌+◌, ◌≤◌, ◌<◌, List, [], ◌∷◌, ◌++◌, Result, Ok, Err, drop, length}
+use Rattle.std.specs.Prelude.{ℕ, ◌+◌, ◌≤◌, ◌<◌, List, [], ◌∷◌, ◌++◌, Result, Ok, Err, drop}
 use Rattle.ql_lex.specs.Fronts.{IsFront}
 use Rattle.ql_lex.specs.declared.front.Front.{Front}
 use Rattle.ql_lex.specs.declared.front.Front.TheVariants.{Gap, Lexeme, NoToken, TooLong, NoNumber}

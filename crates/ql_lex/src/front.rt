@@ -31,6 +31,7 @@ impl Front {
     ghost use Rattle.ql_lex.specs.Tokens.{FitsIn};
 
     // The front of a text that isn't at its end.
+    #[tactic(auto, using(crate::proofs::Classes::blank_is, crate::proofs::Within::front_within))]
     pub(crate) fn of(text: &[u8]) -> Front
         requires { 0 < length text.now }
         ensures kind { IsFront text.now result }
@@ -52,6 +53,7 @@ impl Front {
         }
     }
 
+    #[tactic(auto, using(crate::proofs::Classes::comment_is))]
     fn comment(text: &[u8]) -> Front
         requires some { 0 < length text.now }
         requires first { slice_index text.now 0 ≡ HASH }
@@ -60,6 +62,7 @@ impl Front {
         Front::Gap(line_bytes(&text[1..]) + 1)
     }
 
+    #[tactic(auto, using(crate::proofs::Classes::name_is, crate::proofs::Classes::keyword_is, crate::proofs::Classes::long_name_is))]
     fn word(text: &[u8]) -> Front
         requires some { 0 < length text.now }
         requires first { is_lower (slice_index text.now 0) ≡ true }
@@ -75,6 +78,7 @@ impl Front {
         }
     }
 
+    #[tactic(auto, using(crate::proofs::Classes::int_is, crate::proofs::Classes::no_int_is, crate::proofs::Classes::digits_fit))]
     fn number(text: &[u8]) -> Front
         requires some { 0 < length text.now }
         requires first { is_digit (slice_index text.now 0) ≡ true }
@@ -90,6 +94,7 @@ impl Front {
         }
     }
 
+    #[tactic(auto, using(crate::proofs::Classes::tail_is, crate::proofs::Classes::long_text_is, crate::proofs::Classes::text_is, crate::proofs::Classes::no_text_is))]
     fn quoted(text: &[u8]) -> Front
         requires some { 0 < length text.now }
         requires first { slice_index text.now 0 ≡ QUOTE }
@@ -105,6 +110,7 @@ impl Front {
         }
     }
 
+    #[tactic(auto, using(crate::proofs::Classes::pair_is, crate::proofs::Classes::no_pair, crate::proofs::Classes::no_second, crate::proofs::Classes::mark_is, crate::proofs::Classes::stray_is))]
     fn mark(text: &[u8]) -> Front
         requires some { 0 < length text.now }
         requires first { BeginsNothing (slice_index text.now 0) }

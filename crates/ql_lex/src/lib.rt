@@ -7,9 +7,11 @@ mod front;
 mod marks;
 mod scan;
 mod token;
+mod unique;
 
 pub use scan::tokens;
 pub use token::{LexFault, Token, TokenKind};
+pub use unique::one_answer;
 
 #[cfg(test)]
 mod tests;

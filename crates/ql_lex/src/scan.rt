@@ -7,6 +7,7 @@ use std::alloc::Global;
 
 /// The tokens of a source text of fewer than 2^32 bytes, in order, blanks and comments left out; or
 /// the first place that fits no token.
+#[tactic(auto, using(crate::proofs::Steps::after_gap, crate::proofs::Steps::after_token, crate::proofs::Steps::at_no_token, crate::proofs::Steps::at_too_long, crate::proofs::Steps::at_no_number, crate::proofs::Steps::at_end, crate::proofs::Spans::tokens_spans))]
 pub fn tokens(alloc: Global, bytes: &[u8]) -> Result<Vec<Token>, LexFault>
     requires { length bytes.now < 2 ^ 32 }
     ensures exact { MatchResult result (λ found. Lexes 0 bytes.now (Ok found.items)) (IsFirstFault bytes.now) }
