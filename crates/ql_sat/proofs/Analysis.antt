@@ -96,7 +96,7 @@ analysis_begin c lines trail m before seen h d searching names closed inside not
     valued : (v : ℕ) → reading (assigned_from nothing trail) d ≡ AllFalse → has_variable d v ≡ true → (1 ≤ v) × (v ≤ c.variables) × (is_some (assigned_from nothing trail v) ≡ true)
     valued v e f = let range = in_range_at c.variables d v inside f in (range.0, range.1, all_valued (assigned_from nothing trail) d v (closed_list (assigned_from nothing trail) d e) f)
 
-none_absent : (seen : List Bool) (ss : List Step) (v : ℕ) → NoneSeen seen ss → is_seen seen v ≡ true → Absent v ss
+pub none_absent : (seen : List Bool) (ss : List Step) (v : ℕ) → NoneSeen seen ss → is_seen seen v ≡ true → Absent v ss
 none_absent seen [] v h e = tt
 none_absent seen (s ∷ ss) v h e = ((λ same. absurd (let yes : is_seen seen s.lit.var ≡ true = subst (λ (u : ℕ). is_seen seen u ≡ true) (sym same) e in let no = h.0 in cc)), none_absent seen ss v h.1 e)
 
@@ -156,7 +156,7 @@ analysis_step c lines xs ys s seen mid now hints h d trail reason names inside d
       | inr e ↦ ((λ same. w.0 (sym same)), none_absent seen ys v none e)
     ]
 
-split_at : (trail : List Step) (q : ℕ) (e : Step) → q < length trail → trail ≡ take q trail ++ get_or trail q e ∷ drop (suc q) trail
+pub split_at : (trail : List Step) (q : ℕ) (e : Step) → q < length trail → trail ≡ take q trail ++ get_or trail q e ∷ drop (suc q) trail
 split_at trail q e l = sym (take-append-drop q trail) ∙ ap (λ (ys : List Step). take q trail ++ ys) (drop-cons trail q e l)
 
 -- a seen step resolved with its reason
@@ -194,6 +194,7 @@ searching_keep c lines trail m clause hints searching inside none = record {
   steps = trail-more c lines (record { clause = clause; hints = hints } ∷ []) nothing trail searching.steps;
   values = searching.values;
   room = searching.room;
+  counted = searching.counted;
 }
 
 -- the clause in conflict

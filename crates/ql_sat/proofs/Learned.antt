@@ -120,7 +120,7 @@ later_unset : (m : List ℕ) (seen : List Bool) (n : ℕ) (ss : List Step) → N
 later_unset m seen n [] h = tt
 later_unset m seen n (s ∷ ss) h = (values_unseen m seen n s.lit.var h.0, later_unset m seen n ss h.1)
 
-some_value : (o : Option Bool) (n : ℕ) → value_of_mark n ≡ o → is_some o ≡ true → Some (n == 1) ≡ o
+pub some_value : (o : Option Bool) (n : ℕ) → value_of_mark n ≡ o → is_some o ≡ true → Some (n == 1) ≡ o
 some_value None n h e = absurd (cc)
 some_value (Some b) n h e = ap Some (mark_value n b h)
 

@@ -1,5 +1,7 @@
 mod Analysis
+mod Asserting
 mod Learned
+mod Measure
 mod Models
 mod Reaching
 mod Rounds

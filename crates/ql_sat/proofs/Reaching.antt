@@ -1,7 +1,7 @@
 -- How unit propagation gets from a clause's negation to the marks.
-use Rattle.std.proofs.Common.{◌≡◌, ℕ, ◌+◌, ◌<◌, Bool, true, false, cond, ◌||◌, List, [], ◌∷◌, ◌++◌, Some, None, length, get_or, refl, ◌∙◌, ap, subst, arith, append_assoc}
+use Rattle.std.proofs.Common.{◌≡◌, ℕ, zero, suc, ◌+◌, ◌<◌, Bool, true, false, cond, ◌||◌, List, [], ◌∷◌, ◌++◌, Some, None, length, get_or, refl, ◌∙◌, ap, subst, arith, append_assoc}
 use Rattle.std.proofs.lemmas.Bool.Decides.{nat_tests}
-use Rattle.std.proofs.lemmas.List.Sums.{sum_by-set}
+use Rattle.std.proofs.lemmas.List.Sums.{sum_by-cons, sum_by-set}
 use Rattle.std.specs.Prelude.{◌==◌, is_some, slice_set}
 use Rattle.std.specs.List.{filter}
 use Rattle.ql_cnf.specs.Literals.{negated}
@@ -81,15 +81,42 @@ mark_is_set true = refl
 mark_is_set false = refl
 
 -- one variable fewer is unset
-pub unset_count-set : (m : List ℕ) (x : Lit) → x.var < length m → is_some (marked m x.var) ≡ false → unset_count (slice_set m x.var (mark_of x.positive)) < unset_count m
-unset_count-set m x below unset =
+pub unset_count-one_less : (m : List ℕ) (x : Lit) → x.var < length m → is_some (marked m x.var) ≡ false → unset_count (slice_set m x.var (mark_of x.positive)) + 1 ≡ unset_count m
+unset_count-one_less m x below unset =
     let sums : unset_count (slice_set m x.var (mark_of x.positive)) + cond (is_some (value_of_mark (get_or m x.var 0))) 0 1 ≡ unset_count m + cond (is_some (value_of_mark (mark_of x.positive))) 0 1 = sum_by-set (λ k. cond (is_some (value_of_mark k)) 0 1) m x.var (mark_of x.positive) 0 below in
     let before : cond (is_some (value_of_mark (get_or m x.var 0))) 0 1 ≡ 1 = rw unset refl in
     let after : cond (is_some (value_of_mark (mark_of x.positive))) 0 1 ≡ 0 = rw (mark_is_set x.positive) refl in
     less (unset_count (slice_set m x.var (mark_of x.positive))) (unset_count m) (cond (is_some (value_of_mark (get_or m x.var 0))) 0 1) (cond (is_some (value_of_mark (mark_of x.positive))) 0 1) sums before after
   where
-    less : (a b s t : ℕ) → a + s ≡ b + t → s ≡ 1 → t ≡ 0 → a < b
+    less : (a b s t : ℕ) → a + s ≡ b + t → s ≡ 1 → t ≡ 0 → a + 1 ≡ b
     less a b s t e f g = omega arith
+
+pub unset_count-set : (m : List ℕ) (x : Lit) → x.var < length m → is_some (marked m x.var) ≡ false → unset_count (slice_set m x.var (mark_of x.positive)) < unset_count m
+unset_count-set m x below unset = omega (arith, unset_count-one_less m x below unset)
+
+-- one variable more is unset
+pub unset_count-one_more : (m : List ℕ) (v : ℕ) → v < length m → is_some (marked m v) ≡ true → unset_count (slice_set m v 0) ≡ unset_count m + 1
+unset_count-one_more m v below valued =
+    let sums : unset_count (slice_set m v 0) + cond (is_some (value_of_mark (get_or m v 0))) 0 1 ≡ unset_count m + 1 = sum_by-set (λ k. cond (is_some (value_of_mark k)) 0 1) m v 0 0 below in
+    let before : cond (is_some (value_of_mark (get_or m v 0))) 0 1 ≡ 0 = rw valued refl in
+    more (unset_count (slice_set m v 0)) (unset_count m) (cond (is_some (value_of_mark (get_or m v 0))) 0 1) sums before
+  where
+    more : (a b s : ℕ) → a + s ≡ b + 1 → s ≡ 0 → a ≡ b + 1
+    more a b s e f = omega arith
+
+-- a mark stands within the buffer
+pub valued_below : (m : List ℕ) (v : ℕ) → is_some (marked m v) ≡ true → v < length m
+valued_below [] v h = absurd (cc)
+valued_below (x ∷ xs) zero h = omega arith
+valued_below (x ∷ xs) (suc v) h = let below : v < length xs = valued_below xs v h in omega arith
+
+-- in a clear buffer each variable is unset
+pub unset_count-clear : (m : List ℕ) → IsClear m → unset_count m ≡ length m
+unset_count-clear [] h = refl
+unset_count-clear (x ∷ xs) h =
+    let first : x ≡ 0 = h zero in
+    let rest : unset_count xs ≡ length xs = unset_count-clear xs (λ v. h (suc v)) in
+    sum_by-cons (λ k. cond (is_some (value_of_mark k)) 0 1) x xs ∙ rw (first, rest) (omega arith)
 
 -- a variable without a value is none of the clause's
 pub unset_is_new : (clause : List Lit) (m : List ℕ) (v : ℕ) → HasValuesOf clause m → marked m v ≡ None → has_variable clause v ≡ false

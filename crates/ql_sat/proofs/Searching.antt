@@ -1,16 +1,20 @@
 -- The steps of a search keep what holds between them.
-use Rattle.std.proofs.Common.{◌≡◌, ◌≢◌, ℕ, zero, suc, ◌<◌, Bool, true, false, List, [], ◌∷◌, ◌++◌, None, length, refl, sym, ◌∙◌, ap, subst, arith, get_or-set_other}
+use Rattle.std.proofs.Common.{◌≡◌, ◌≢◌, ℕ, zero, suc, ◌+◌, ◌<◌, ◌≤◌, Bool, true, false, List, [], ◌∷◌, ◌++◌, None, length, refl, sym, ◌∙◌, ap, subst, arith, get_or-set_other}
 use Rattle.std.proofs.lemmas.Bool.Decides.{nat_tests}
-use Rattle.std.proofs.Math.ListN.{length-set}
-use Rattle.std.specs.Prelude.{◌==◌, slice_index, slice_set}
+use Rattle.std.proofs.Math.ListN.{length-set, replicate}
+use Rattle.std.proofs.lemmas.List.{length_push}
+use Rattle.std.specs.Prelude.{◌==◌, is_some, slice_index, slice_set}
 use Rattle.ql_cnf.specs.Satisfaction.{ClauseList}
 use Rattle.ql_cnf.specs.declared.lit.Lit.{Lit}
-use Rattle.ql_refute.specs.Marks.{marked, mark_of, value_of_mark}
+use Rattle.ql_refute.specs.Marks.{IsClear, marked, mark_of, value_of_mark}
 use Rattle.ql_refute.specs.Partial.{Partial, nothing, with_true}
 use Rattle.ql_refute.specs.declared.refutation.Line.{Line}
-use Rattle.ql_refute.proofs.Marking.{marked-set}
-use Rattle.ql_sat.specs.Trail.{assigned_from, IsStep, IsSearching}
+use Rattle.ql_refute.proofs.Marking.{marked-set, marked-clear, same_refl}
+use Rattle.ql_sat.specs.Trail.{assigned_from, IsStep, IsSearching, trail_number}
 use Rattle.ql_sat.specs.declared.trail.Step.{Step}
+use Rattle.ql_sat.specs.Search.{unset_count}
+use Rattle.ql_sat.proofs.Measure.{number_push}
+use Rattle.ql_sat.proofs.Reaching.{unset_count-one_less, unset_count-one_more, unset_count-clear, valued_below}
 use Rattle.ql_sat.proofs.Trails.{assigned-append, trail-push, trail-front, trail-back, fresh}
 
 -- one more step
@@ -21,6 +25,36 @@ searching_push c lines trail marks s h below step = record {
   steps = trail-push c lines nothing trail s h.steps (subst (λ (p : Partial). IsStep c lines p s) h.values step);
   values = marked-set marks s.lit below ∙ ap (λ (p : Partial). with_true p s.lit) h.values ∙ sym (assigned-append nothing trail (s ∷ []));
   room = length-set marks s.lit.var (mark_of s.lit.positive) ∙ h.room;
+  counted =
+      let fewer : unset_count (slice_set marks s.lit.var (mark_of s.lit.positive)) + 1 ≡ unset_count marks = unset_count-one_less marks s.lit below (rw (fresh c lines (marked marks) s step) refl) in
+      let long : length (trail ++ s ∷ []) ≡ length trail + 1 = length_push trail s in
+      let same : length (slice_set marks s.lit.var (mark_of s.lit.positive)) ≡ length marks = length-set marks s.lit.var (mark_of s.lit.positive) in
+      omega (arith, fewer, long, same, h.counted);
+}
+
+-- and makes the trail greater
+pub number_step : (c : ClauseList) (lines : List Line) (trail : List Step) (marks : List ℕ) (s : Step) → IsSearching c lines trail marks → s.lit.var < length marks → IsStep c lines (marked marks) s → trail_number (c.variables + 1) trail < trail_number (c.variables + 1) (trail ++ s ∷ [])
+number_step c lines trail marks s h below step =
+    let fewer : unset_count (slice_set marks s.lit.var (mark_of s.lit.positive)) + 1 ≡ unset_count marks = unset_count-one_less marks s.lit below (rw (fresh c lines (marked marks) s step) refl) in
+    number_push (c.variables + 1) trail s (omega (arith, fewer, h.counted, h.room))
+
+pub at_most : (c : ClauseList) (lines : List Line) (trail : List Step) (marks : List ℕ) → IsSearching c lines trail marks → length trail ≤ c.variables + 1
+at_most c lines trail marks h = omega (arith, h.counted, h.room)
+
+pub clear_zeros : (n : ℕ) → IsClear (replicate n 0)
+clear_zeros zero v = refl
+clear_zeros (suc n) zero = refl
+clear_zeros (suc n) (suc v) = clear_zeros n v
+
+-- before the first step
+pub searching_start : (c : ClauseList) (marks : List ℕ) → IsClear marks → length marks ≡ c.variables + 1 → IsSearching c [] [] marks
+searching_start c marks clear long = record {
+  good = refl;
+  in_range = λ k d l. absurd (omega arith);
+  steps = tt;
+  values = marked-clear marks clear;
+  room = long;
+  counted = let all : unset_count marks ≡ length marks = unset_count-clear marks clear in omega (arith, all);
 }
 
 is_same : (a b : ℕ) → (a == b) ≡ true → a ≡ b
@@ -55,4 +89,10 @@ searching_pop c lines trail s marks h = record {
   steps = trail-front c lines nothing trail (s ∷ []) h.steps;
   values = marked-unset (assigned_from nothing trail) s.lit marks (h.values ∙ assigned-append nothing trail (s ∷ [])) (fresh c lines (assigned_from nothing trail) s (trail-back c lines nothing trail (s ∷ []) h.steps).0);
   room = length-set marks s.lit.var 0 ∙ h.room;
+  counted =
+      let valued : is_some (marked marks s.lit.var) ≡ true = ap (λ (p : Partial). is_some (p s.lit.var)) (h.values ∙ assigned-append nothing trail (s ∷ [])) ∙ rw (same_refl s.lit.var) refl in
+      let more : unset_count (slice_set marks s.lit.var 0) ≡ unset_count marks + 1 = unset_count-one_more marks s.lit.var (valued_below marks s.lit.var valued) valued in
+      let long : length (trail ++ s ∷ []) ≡ length trail + 1 = length_push trail s in
+      let same : length (slice_set marks s.lit.var 0) ≡ length marks = length-set marks s.lit.var 0 in
+      omega (arith, more, long, same, h.counted);
 }

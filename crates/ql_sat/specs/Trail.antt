@@ -1,19 +1,22 @@
 -- The trail of a search with learned clauses: what was assigned in what order, and why.
-use Rattle.std.specs.Prelude.{ℕ, zero, suc, ◌+◌, ◌≤◌, ◌≡◌, ◌==◌, if◌then◌else◌, is_some, slice_index, drop, Bool, true, false, not, List, [], ◌∷◌, ◌++◌, length, None, Some, reverse, MatchOption}
+use Rattle.std.specs.Prelude.{ℕ, zero, suc, ◌+◌, ◌*◌, ◌^◌, ◌<◌, ◌≤◌, ◌⊎◌, ◌≡◌, ◌==◌, if◌then◌else◌, is_some, slice_index, drop, Bool, true, false, not, List, [], ◌∷◌, ◌++◌, length, None, Some, reverse, MatchOption}
 use Rattle.std.specs.List.{slice_index_or}
 use Rattle.ql_cnf.specs.Satisfaction.{ClauseList, Satisfies}
 use Rattle.ql_cnf.specs.declared.lit.Lit.{Lit}
 use Rattle.ql_refute.specs.Marks.{marked, LinesInRange}
 use Rattle.ql_refute.specs.Partial.{Partial, nothing, with_true, reading}
 use Rattle.ql_refute.specs.Verdict.{hinted, hints_fault, AreGood}
-use Rattle.ql_refute.specs.declared.marks.Reading.TheVariants.{AllFalse, Forces}
+use Rattle.ql_refute.specs.declared.marks.Reading.{Reading}
+use Rattle.ql_refute.specs.declared.marks.Reading.TheVariants.{AllFalse, Forces, Neither}
 use Rattle.ql_refute.specs.declared.refutation.Hint.{Hint}
 use Rattle.ql_refute.specs.declared.refutation.Line.{Line}
 use Rattle.ql_refute.specs.declared.refutation.Hint.TheVariants.{Earlier}
-use Rattle.ql_sat.specs.Search.{AgreesWith}
-use Rattle.ql_sat.specs.declared.learning.Turn.{Turn}
-use Rattle.ql_sat.specs.declared.learning.Turn.TheVariants.{More, Model, Refuted}
+use Rattle.ql_sat.specs.Search.{AgreesWith, unset_count}
+use Rattle.ql_sat.specs.declared.turn.Turn.{Turn}
+use Rattle.ql_sat.specs.declared.turn.Turn.TheVariants.{More, Model, Refuted}
 use Rattle.ql_sat.specs.declared.trail.Step.{Step}
+use Rattle.ql_sat.specs.declared.trail.Visit.{Visit}
+use Rattle.ql_sat.specs.declared.trail.Visit.TheVariants.{Conflict, Forced, Nothing}
 
 -- the partial assignment after these steps
 abbrev pub assigned_from : Partial → List Step → Partial
@@ -35,6 +38,29 @@ pub record IsSearching (c : ClauseList) (lines : List Line) (trail : List Step) 
   pub steps : IsTrail c lines nothing trail
   pub values : marked marks ≡ assigned_from nothing trail
   pub room : length marks ≡ c.variables + 1
+  pub counted : length trail + unset_count marks ≡ length marks
+
+-- the digit of a step: 1 for a decision, 2 for a forced literal
+abbrev pub digit : Step → ℕ
+digit s = if is_some s.reason then 2 else 1
+
+-- the trail as a number in base 3 of this many digits, the first step's the highest, and 0 past its end
+unfoldable pub trail_number : ℕ → List Step → ℕ
+trail_number zero ss = 0
+trail_number (suc n) [] = 0
+trail_number (suc n) (s ∷ ss) = digit s * 3 ^ n + trail_number n ss
+
+-- what reading a clause comes to
+abbrev pub visit_of : Reading → Visit
+visit_of AllFalse = Conflict
+visit_of (Forces x) = Forced
+visit_of Neither = Nothing
+
+-- a forced literal is one more step with a reason, and makes the trail greater; else it stays as it was
+abbrev pub IsLonger : Visit → ℕ → List Step → List Step → Type 0
+IsLonger Forced n xs ys = (s : Step) × (is_some s.reason ≡ true) × (ys ≡ xs ++ s ∷ []) × (trail_number n xs < trail_number n ys)
+IsLonger Conflict n xs ys = ys ≡ xs
+IsLonger Nothing n xs ys = ys ≡ xs
 
 -- the clause of the hint is false
 abbrev pub IsFalseClause : ClauseList → List Line → Hint → List ℕ → Type 0
@@ -52,6 +78,17 @@ AllUnset p (s ∷ ss) = (p s.lit.var ≡ None) × AllUnset p ss
 abbrev pub NoneSeen : List Bool → List Step → Type 0
 NoneSeen seen [] = Unit {0}
 NoneSeen seen (s ∷ ss) = (is_seen seen s.lit.var ≡ false) × NoneSeen seen ss
+
+-- just one of these steps is seen
+abbrev pub IsOneSeen : List Bool → List Step → Type 0
+IsOneSeen seen [] = ⊥
+IsOneSeen seen (s ∷ ss) = ((is_seen seen s.lit.var ≡ true) × NoneSeen seen ss) ⊎ ((is_seen seen s.lit.var ≡ false) × IsOneSeen seen ss)
+
+-- a decision is at place i, and just one of the steps from there on is seen
+pub record IsAsserting (trail : List Step) (i : ℕ) (seen : List Bool) : Type 0 where
+  pub within : i < length trail
+  pub decision : is_some (slice_index_or trail i (record { lit = record { var = 0; positive = false }; reason = None })).reason ≡ false
+  pub one : IsOneSeen seen (drop i trail)
 
 -- from any values that have those of the seen variables, and none of the later steps' variables, the hints in
 -- reverse come to a conflict

@@ -1,146 +1,26 @@
-// The solver: unit propagation and decisions on a trail, and from each conflict a learned clause, resolved
-// backwards along the trail to one literal of the last decisions.
+// From each conflict a learned clause, resolved backwards along the trail to one literal of the last
+// decisions.
 ghost use Rattle.std.specs.List.{slice_index_or};
-ghost use Rattle.std.specs.Prelude.{◌≡◌, ◌||◌, ℕ, ◌+◌, ◌<◌, ◌≤◌, ◌++◌, ◌∷◌, [], false, length, IfNone, IfOk, IfSome, if◌then◌else◌, ◌==◌, MatchOption, OnOk, None, Some, reverse, true};
-ghost use Rattle.ql_cnf.specs.Satisfaction.{AreInRange, ClausesInRange};
-ghost use Rattle.ql_refute.specs.Marks.{AllBelow, has_variable, marked};
+ghost use Rattle.std.specs.Prelude.{◌≡◌, ◌||◌, is_some, ℕ, ◌+◌, ◌<◌, drop, [], false, length, IfNone, IfOk, IfSome, if◌then◌else◌, ◌==◌, MatchOption, OnOk, None, Some, true};
+ghost use Rattle.ql_cnf.specs.Satisfaction.{AreInRange};
+ghost use Rattle.ql_refute.specs.Marks.{AllBelow, has_variable};
 ghost use Rattle.ql_refute.specs.Partial.{nothing, with_all_false};
 ghost use Rattle.ql_refute.specs.Verdict.{hinted, hints_fault};
-ghost use Rattle.ql_sat.specs.Answer.{IsRight};
-ghost use Rattle.ql_sat.specs.Search.{IsQuiet, IsTotal};
-ghost use Rattle.ql_sat.specs.Trail.{IsAnalysis, IsFalseClause, IsSearching, NothingSeen, SeenHaveValues, is_seen, learned_to, IsTurn};
+ghost use Rattle.ql_sat.specs.Trail.{IsAnalysis, IsAsserting, IsFalseClause, IsOneSeen, IsSearching, IsTurn, NoneSeen, NothingSeen, is_seen, learned_to, trail_number};
 
-use crate::plain::{assignment, greatest_unset, push_line};
-use crate::trail::{Step, Visit, decide_on, go_back, propagate_clause};
-use crate::{Decided, plain};
+use crate::guide::Guide;
+use crate::order::Order;
+use crate::plain::push_line;
+use crate::trail::{Step, go_back, propagate_clause};
+use crate::turn::Turn;
+use crate::watches::Watches;
 use ql_base::NoMemory;
 use ql_cnf::{Clause, Clauses, Lit};
-use ql_refute::marks::{Reading, read};
-use ql_refute::{Hint, Line, Lines, Refutation, hinted};
+use ql_refute::{Hint, Line, hinted};
 use std::alloc::Global;
 
-// What one turn of the search came to.
-#[derive(Clone, Copy)]
-enum Turn {
-    More,
-    // The marks are a model.
-    Model,
-    // The line of this number is empty.
-    Refuted(u64),
-}
-
-/// An assignment that satisfies the clauses, or a refutation of them.
-///
-/// Conflict-driven clause learning (Marques-Silva and Sakallah, "GRASP", 1999): the learned clause is
-/// the one at the first unique implication point, and each is kept. The greatest unset variable is
-/// decided on, false first. Should the turns ever pass 2^64 - 1, the plain recursion answers.
-pub fn decide(alloc: Global, c: &Clauses) -> Result<Decided, NoMemory>
-    ensures { IfOk result (IsRight c.now) }
-{
-    let mut marks = vec![in alloc; 0; c.variables() as usize + 1]?;
-    let mut seen = vec![in alloc; false; c.variables() as usize + 1]?;
-    let mut trail = Vec::new(alloc);
-    let mut lines = Vec::new(alloc);
-    'turns: for _ in 0..u64::MAX {
-        match take_turn(alloc, c, &mut lines, &mut trail, &mut marks, &mut seen)? {
-            Turn::More => {}
-            Turn::Model => return Ok(Decided::Model(assignment(alloc, &marks)?)),
-            Turn::Refuted(_) => {
-                return Ok(Decided::Refuted(Refutation {
-                    lines: Lines::of(lines),
-                }));
-            }
-        }
-    }
-    plain::decide(alloc, c)
-}
-
-// Propagates, and then learns from a conflict or decides on a variable.
-fn take_turn(
-    alloc: Global,
-    c: &Clauses,
-    lines: &mut Vec<Line>,
-    trail: &mut Vec<Step>,
-    marks: &mut [u8],
-    seen: &mut [bool],
-) -> Result<Turn, NoMemory>
-    requires searching { IsSearching c.now lines.old.items trail.old.items marks.old }
-    requires seen { length seen.old ≡ c.now.variables + 1 }
-    ensures searching { OnOk result (IsSearching c.now lines.new.items trail.new.items marks.new) }
-    ensures turn { IfOk result (IsTurn c.now lines.new.items marks.new) }
-{
-    if let Some(conflict) = propagate(c, lines, trail, marks)? {
-        return learn(alloc, c, conflict, lines, trail, marks, seen);
-    }
-    if let Some(var) = greatest_unset(c.variables(), marks) {
-        let lit = Lit {
-            var,
-            positive: false,
-        };
-        decide_on(c, lines, lit, trail, marks)?;
-        return Ok(Turn::More);
-    }
-    match first_not_quiet(c, marks) {
-        None => Ok(Turn::Model),
-        Some(number) => {
-            let hint = Hint::Given(number);
-            match propagate_clause(c, lines, hint, trail, marks)? {
-                Visit::Conflict => learn(alloc, c, hint, lines, trail, marks, seen),
-                _ => Ok(Turn::More),
-            }
-        }
-    }
-}
-
-// Propagates units to the end. The clause that is false, or none.
-fn propagate(
-    c: &Clauses,
-    lines: &[Line],
-    trail: &mut Vec<Step>,
-    marks: &mut [u8],
-) -> Result<Option<Hint>, NoMemory>
-    requires { IsSearching c.now lines.now trail.old.items marks.old }
-    ensures searching { OnOk result (IsSearching c.now lines.now trail.new.items marks.new) }
-    ensures conflict { IfOk result (λ found. IfSome found (λ hint. IsFalseClause c.now lines.now hint marks.new)) }
-{
-    'rounds: for _ in 0..=c.variables() {
-        let before = trail.len();
-        for k in 0..c.len() {
-            let hint = Hint::Given(k + 1);
-            if propagate_clause(c, lines, hint, trail, marks)? == Visit::Conflict {
-                return Ok(Some(hint));
-            }
-        }
-        for n in 0..lines.len() {
-            let hint = Hint::Earlier(n as u64 + 1);
-            if propagate_clause(c, lines, hint, trail, marks)? == Visit::Conflict {
-                return Ok(Some(hint));
-            }
-        }
-        if trail.len() == before {
-            break;
-        }
-    }
-    Ok(None)
-}
-
-// The first clause that the marks don't make true.
-fn first_not_quiet(c: &Clauses, marks: &[u8]) -> Option<u32>
-    requires { c.now.variables < length marks.now }
-    ensures quiet { IfNone result (IsQuiet c.now.clauses marks.now) }
-    ensures in_range { ClausesInRange c.now.variables c.now.clauses }
-{
-    for k in 0..c.len() {
-        match read(c.clause(k + 1).items(), marks) {
-            Reading::Neither => {}
-            _ => return Some(k + 1),
-        }
-    }
-    None
-}
-
 // Keeps the clause that is learned from a conflict as a line, and goes back to where it forces a literal.
-fn learn(
+pub(crate) fn learn(
     alloc: Global,
     c: &Clauses,
     conflict: Hint,
@@ -148,26 +28,51 @@ fn learn(
     trail: &mut Vec<Step>,
     marks: &mut [u8],
     seen: &mut [bool],
+    guide: &mut Guide,
 ) -> Result<Turn, NoMemory>
     requires searching { IsSearching c.now lines.old.items trail.old.items marks.old }
     requires seen { length seen.old ≡ c.now.variables + 1 }
     requires conflict { IsFalseClause c.now lines.old.items conflict marks.old }
     ensures searching { OnOk result (IsSearching c.now lines.new.items trail.new.items marks.new) }
     ensures turn { IfOk result (IsTurn c.now lines.new.items marks.new) }
+    ensures number { IfOk result (λ turn. turn ≡ Turn.More → trail_number (c.now.variables + 1) trail.old.items < trail_number (c.now.variables + 1) trail.new.items) }
 {
     let mut hints = Vec::new(alloc);
-    let last = analyze(c, lines, conflict, trail, marks, seen, &mut hints)?;
+    let found = analyze(
+        c,
+        lines,
+        conflict,
+        trail,
+        marks,
+        seen,
+        &mut hints,
+        &mut guide.order,
+    )?;
     let clause = learned(alloc, c.variables(), marks, seen)?;
     hints.reverse();
-    let is_empty = clause.items().is_empty();
     let number = keep(alloc, c, &clause, hints, lines, trail, marks)?;
-    if is_empty {
+    let Some(to) = found else {
         return Ok(Turn::Refuted(number));
-    }
-    let to = target(trail, seen, last);
-    go_back(c, lines, to, trail, marks);
+    };
+    go_back(c, lines, to, trail, marks, &mut guide.order);
     propagate_clause(c, lines, Hint::Earlier(number), trail, marks)?;
+    guide.watches.done = to;
+    watch(&mut guide.watches, trail, seen, to)?;
     Ok(Turn::More)
+}
+
+// The learned clause watches the literal that it forces and the latest of its false ones.
+fn watch(watches: &mut Watches, trail: &[Step], seen: &[bool], to: usize) -> Result<(), NoMemory> {
+    if to < trail.len() {
+        let mut place = to;
+        while place > 0 {
+            place -= 1;
+            if is_seen(seen, trail[place].lit.var) {
+                return watches.attach(trail[to].lit, trail[place].lit.negated());
+            }
+        }
+    }
+    watches.attach_none()
 }
 
 // Appends a good line, and gives its number.
@@ -190,8 +95,8 @@ fn keep(
     Ok(number)
 }
 
-// Resolves the conflict backwards along the trail to one literal of the last decisions. Its place, or
-// the trail's start where no decision was needed.
+// Resolves the conflict backwards along the trail to one literal of the last decisions. The decision that
+// is to be taken back, or none where the learned clause is empty.
 fn analyze(
     c: &Clauses,
     lines: &[Line],
@@ -200,33 +105,33 @@ fn analyze(
     marks: &[u8],
     seen: &mut [bool],
     hints: &mut Vec<Hint>,
-) -> Result<usize, NoMemory>
+    order: &mut Order,
+) -> Result<Option<usize>, NoMemory>
     requires searching { IsSearching c.now lines.now trail.now marks.now }
     requires seen { length seen.old ≡ c.now.variables + 1 }
     requires conflict { IsFalseClause c.now lines.now conflict marks.now }
     requires none { hints.old.items ≡ [] }
-    ensures { OnOk result ((i : ℕ) × IsAnalysis c.now lines.now trail.now i seen.new hints.new.items) }
+    ensures analysis { OnOk result ((i : ℕ) × IsAnalysis c.now lines.now trail.now i seen.new hints.new.items) }
+    ensures found { IfOk result (λ found. MatchOption found (IsAnalysis c.now lines.now trail.now 0 seen.new hints.new.items) (λ to. IsAsserting trail.now to seen.new)) }
 {
-    begin(c, lines, conflict, trail, marks, seen, hints)?;
+    begin(c, lines, conflict, trail, marks, seen, hints, order)?;
+    order.decay();
     let mut place = trail.len();
-    let mut floor = None;
     while place > 0 {
         let at = place - 1;
         let step = trail[at];
         if is_seen(seen, step.lit.var) {
-            if floor.is_none() {
-                floor = last_decision(trail, at);
+            if let Some(to) = asserting(trail, seen, at) {
+                return Ok(Some(to));
             }
-            match step.reason {
-                Some(reason) if !is_last_seen(trail, seen, floor, at) => {
-                    resolve(c, lines, trail, marks, at, reason, seen, hints)?;
-                }
-                _ => return Ok(at),
-            }
+            let Some(reason) = step.reason else {
+                unreachable!();
+            };
+            resolve(c, lines, trail, marks, at, reason, seen, hints, order)?;
         }
         place = at;
     }
-    Ok(0)
+    Ok(None)
 }
 
 // Sees the variables of the clause in conflict alone.
@@ -238,6 +143,7 @@ fn begin(
     marks: &[u8],
     seen: &mut [bool],
     hints: &mut Vec<Hint>,
+    order: &mut Order,
 ) -> Result<(), NoMemory>
     requires searching { IsSearching c.now lines.now trail.now marks.now }
     requires seen { length seen.old ≡ c.now.variables + 1 }
@@ -249,6 +155,7 @@ fn begin(
         unreachable!();
     };
     see_nothing(seen);
+    bump(clause, seen, order);
     see(clause, seen);
     hints.push(conflict)?;
     Ok(())
@@ -264,6 +171,7 @@ fn resolve(
     reason: Hint,
     seen: &mut [bool],
     hints: &mut Vec<Hint>,
+    order: &mut Order,
 ) -> Result<(), NoMemory>
     requires searching { IsSearching c.now lines.now trail.now marks.now }
     requires len { length seen.old ≡ c.now.variables + 1 }
@@ -276,6 +184,7 @@ fn resolve(
     let Some(clause) = hinted(c, lines, reason) else {
         unreachable!();
     };
+    bump(clause, seen, order);
     see(clause, seen);
     forget(trail[at].lit.var, seen);
     hints.push(reason)?;
@@ -296,46 +205,46 @@ fn is_seen(seen: &[bool], var: u32) -> bool
     (var as usize) < seen.len() && seen[var as usize]
 }
 
-// The place of the last decision up to a place.
-fn last_decision(trail: &[Step], at: usize) -> Option<usize>
-    requires { at < length trail.now }
+// The first decision that can be taken back with all of the learned clause but the literal at a place still
+// false; none where another literal of the clause follows the last decision up to that place.
+fn asserting(trail: &[Step], seen: &[bool], at: usize) -> Option<usize>
+    requires at { at < length trail.now }
+    requires seen { is_seen seen.now (slice_index_or trail.now at (record { lit = record { var = 0; positive = false }; reason = None })).lit.var ≡ true }
+    requires later { NoneSeen seen.now (drop (at + 1) trail.now) }
+    ensures { MatchOption result (is_some (slice_index_or trail.now at (record { lit = record { var = 0; positive = false }; reason = None })).reason ≡ true) (λ to. IsAsserting trail.now to seen.now) }
 {
-    let mut place = at + 1;
-    while place > 0 {
+    let mut to = decision(trail, seen, at, None);
+    let mut place = at;
+    while place > 0 && !is_seen(seen, trail[place - 1].lit.var) {
         place -= 1;
-        if trail[place].reason.is_none() {
-            return Some(place);
-        }
-    }
-    None
-}
-
-// Whether no step from the last decision up to a place is seen.
-fn is_last_seen(trail: &[Step], seen: &[bool], floor: Option<usize>, at: usize) -> bool
-    requires { at < length trail.now }
-{
-    let Some(floor) = floor else {
-        return false;
-    };
-    for place in floor..at {
-        if is_seen(seen, trail[place].lit.var) {
-            return false;
-        }
-    }
-    true
-}
-
-// The first decision that can be taken back with all of the learned clause but one literal still false.
-fn target(trail: &[Step], seen: &[bool], last: usize) -> usize {
-    let mut to = last;
-    let mut place = last;
-    while place > 0 && place <= trail.len() && !is_seen(seen, trail[place - 1].lit.var) {
-        place -= 1;
-        if trail[place].reason.is_none() {
-            to = place;
-        }
+        to = decision(trail, seen, place, to);
     }
     to
+}
+
+// The place where a decision is there, else the later one.
+fn decision(trail: &[Step], seen: &[bool], place: usize, later: Option<usize>) -> Option<usize>
+    requires within { place < length trail.now }
+    requires one { IsOneSeen seen.now (drop place trail.now) }
+    requires later { IfSome later (λ to. IsAsserting trail.now to seen.now) }
+    ensures asserting { IfSome result (λ to. IsAsserting trail.now to seen.now) }
+    ensures later { IfNone result (later ≡ None) }
+    ensures none { IfNone result (is_some (slice_index_or trail.now place (record { lit = record { var = 0; positive = false }; reason = None })).reason ≡ true) }
+{
+    if trail[place].reason.is_none() {
+        Some(place)
+    } else {
+        later
+    }
+}
+
+// Variables that weren't seen yet gain activity.
+fn bump(clause: &[Lit], seen: &[bool], order: &mut Order) {
+    for lit in clause {
+        if !is_seen(seen, lit.var) {
+            order.bump(lit.var);
+        }
+    }
 }
 
 // Marks the variables of the clause as seen.

@@ -3,12 +3,18 @@
 #![tactic(auto)]
 
 mod decided;
+mod guide;
 mod learning;
-mod plain;
+mod order;
+pub mod plain;
+mod propagation;
+mod search;
 mod trail;
+mod turn;
+mod watches;
 
 pub use decided::Decided;
-pub use learning::decide;
+pub use search::decide;
 
 #[cfg(test)]
 mod goals;

@@ -1,8 +1,12 @@
 // The trail of a search: the literals that were made true, in their order.
-ghost use Rattle.std.specs.Prelude.{◌≡◌, ◌+◌, ◌<◌, ◌≤◌, IfOk, OnOk, None, Some, length, slice_set};
+ghost use Rattle.std.specs.Prelude.{◌≡◌, ◌+◌, ◌<◌, ◌≤◌, IfOk, List, OnOk, None, Some, length, slice_set, take};
+ghost use Rattle.ql_cnf.specs.declared.lit.Lit.{Lit};
 ghost use Rattle.ql_refute.specs.Marks.{marked};
-ghost use Rattle.ql_sat.specs.Trail.{IsFalseClause, IsSearching};
+ghost use Rattle.ql_refute.specs.Partial.{reading};
+ghost use Rattle.ql_refute.specs.Verdict.{hinted};
+ghost use Rattle.ql_sat.specs.Trail.{IsFalseClause, IsLonger, IsSearching, trail_number, visit_of};
 
+use crate::order::Order;
 use ql_base::NoMemory;
 use ql_cnf::{Clauses, Lit};
 use ql_refute::marks::{Reading, read, set};
@@ -34,6 +38,8 @@ pub(crate) fn propagate_clause(
     requires { IsSearching c.now lines.now trail.old.items marks.old }
     ensures searching { OnOk result (IsSearching c.now lines.now trail.new.items marks.new) }
     ensures conflict { IfOk result (λ visit. visit ≡ Visit.Conflict → IsFalseClause c.now lines.now hint marks.new) }
+    ensures visit { IfOk result (λ visit. (d : List Lit) → hinted c.now lines.now hint ≡ Some d → visit ≡ visit_of (reading (marked marks.old) d)) }
+    ensures number { IfOk result (λ visit. IsLonger visit (c.now.variables + 1) trail.old.items trail.new.items) }
 {
     let Some(clause) = hinted(c, lines, hint) else {
         return Ok(Visit::Nothing);
@@ -63,7 +69,8 @@ pub(crate) fn decide_on(
     requires searching { IsSearching c.now lines.now trail.old.items marks.old }
     requires in_range { lit.var ≤ c.now.variables }
     requires unset { marked marks.old lit.var ≡ None }
-    ensures { OnOk result (IsSearching c.now lines.now trail.new.items marks.new) }
+    ensures searching { OnOk result (IsSearching c.now lines.now trail.new.items marks.new) }
+    ensures number { OnOk result (trail_number (c.now.variables + 1) trail.old.items < trail_number (c.now.variables + 1) trail.new.items) }
 {
     trail.push(Step { lit, reason: None })?;
     set(marks, lit);
@@ -77,13 +84,16 @@ pub(crate) fn go_back(
     to: usize,
     trail: &mut Vec<Step>,
     marks: &mut [u8],
+    order: &mut Order,
 )
     requires { IsSearching c.now lines.now trail.old.items marks.old }
-    ensures { IsSearching c.now lines.now trail.new.items marks.new }
+    ensures searching { IsSearching c.now lines.now trail.new.items marks.new }
+    ensures trail { trail.new.items ≡ take to trail.old.items }
 {
     while trail.len() > to {
         if let Some(step) = trail.pop() {
             unset(marks, step.lit.var);
+            order.give_back(step.lit);
         }
     }
 }

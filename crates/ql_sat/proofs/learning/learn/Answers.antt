@@ -1,3 +1,7 @@
+use Rattle.std.proofs.Common.{◌≡◌, Some, ap, ◌∙◌}
+use Rattle.ql_refute.specs.declared.refutation.Hint.TheVariants.{Earlier}
+use Rattle.ql_sat.specs.Trail.{learned_to}
+use Rattle.ql_sat.proofs.Asserting.{learned_greater, nothing_learned}
 use Rattle.ql_sat.proofs.Learned.{learned_in_range, learned_conflict}
 use Rattle.ql_sat.proofs.learning.learn.Goals as goal
 
@@ -7,5 +11,21 @@ keep-requires-clause-in_range c =
 
 pub keep-requires-clause-conflict : goal.keep-requires-clause-conflict
 keep-requires-clause-conflict c =
-    let analysis = rw (c.deref.ensures.value, c.deref-2.ensures.value) at c.in_ok-last.ensures.1 in
-    λ k. rw (c.reverse.ensures.items, c.in_ok-clause.ensures, c.variables.ensures) (learned_conflict c.args.c.now c.args.lines.now.items c.args.trail.now.items c.args.marks.now c.in_ok-last.ensures.0 c.analyze.new.seen c.analyze.new.hints.items c.requires.searching analysis k)
+    let analysis = rw (c.deref.ensures.value, c.deref-2.ensures.value) at c.in_ok-found.ensures.analysis.1 in
+    λ k. rw (c.reverse.ensures.items, c.in_ok-clause.ensures, c.variables.ensures) (learned_conflict c.args.c.now c.args.lines.now.items c.args.trail.now.items c.args.marks.now c.in_ok-found.ensures.analysis.0 c.analyze.new.seen c.analyze.new.hints.items c.requires.searching analysis k)
+
+pub returns-in_default-clause-turn : goal.returns-in_default-clause-turn
+returns-in_default-clause-turn c =
+    let analysis = rw (c.deref.ensures.value, c.deref-2.ensures.value, c.in_default.is) at c.in_ok-found.ensures.found in
+    let is : c.in_ok-clause.clause ≡ learned_to c.args.marks.now c.analyze.new.seen c.args.c.now.variables = rw (← c.variables.ensures) c.in_ok-clause.ensures in
+    c.in_ok-number.ensures.number ∙ ap Some (is ∙ nothing_learned c.args.c.now c.args.lines.now.items c.args.trail.now.items c.args.marks.now c.analyze.new.seen c.analyze.new.hints.items analysis)
+
+pub returns-clause-number : goal.returns-clause-number
+returns-clause-number c =
+    let analysis = rw (c.deref.ensures.value, c.deref-2.ensures.value) at c.in_ok-found.ensures.analysis.1 in
+    let asserting = rw (c.deref-2.ensures.value, c.in-Some.is) at c.in_ok-found.ensures.found in
+    let is : c.in_ok-clause.clause ≡ learned_to c.args.marks.now c.analyze.new.seen c.args.c.now.variables = rw (← c.variables.ensures) c.in_ok-clause.ensures in
+    let values = rw c.go_back.ensures.trail at c.go_back.ensures.searching.values in
+    let longer = rw c.go_back.ensures.trail at c.in_ok-propagate_clause.ensures.number in
+    let visits = rw c.deref-5.ensures.value at c.in_ok-propagate_clause.ensures.visit in
+    λ e. learned_greater c.args.c.now c.args.lines.now.items c.keep.new.lines.items c.args.trail.now.items c.propagate_clause.new.trail.items c.args.marks.now c.go_back.new.marks c.in_ok-found.ensures.analysis.0 c.in-Some.to c.analyze.new.seen c.analyze.new.hints.items c.in_ok-clause.clause (Earlier c.in_ok-number.number) c.in_ok-propagate_clause.field-0 c.requires.searching analysis asserting is values c.in_ok-number.ensures.number visits longer

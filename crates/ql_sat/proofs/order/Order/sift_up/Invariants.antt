@@ -1,4 +1,4 @@
-use Rattle.ql_sat.proofs.learning.target.Given as goal
+use Rattle.ql_sat.proofs.order.Order.sift_up.Given as goal
 
 abbrev pub decreases-loop-place : goal.decreases-loop-place
 decreases-loop-place l = l.place

@@ -1,0 +1,164 @@
+-- The learned clause forces a literal once the search has gone back, or it is empty.
+use Rattle.std.proofs.Common.{◌≡◌, ◌≢◌, ℕ, zero, suc, ◌+◌, ◌<◌, ◌≤◌, Bool, true, false, not, cond, List, [], ◌∷◌, ◌++◌, Option, Some, None, length, get_or, take, drop, refl, sym, ◌∙◌, ap, subst, inl, inr, arith, drop-cons, add-one}
+use Rattle.std.proofs.lemmas.List.{append-nil, take-append-drop, length-take-le}
+use Rattle.std.proofs.lemmas.Bool.Decides.{nat_tests}
+use Rattle.std.proofs.lemmas.List.Elements.{filter-append}
+use Rattle.std.specs.Prelude.{◌==◌, is_some, slice_index}
+use Rattle.std.specs.List.{filter}
+use Rattle.ql_cnf.specs.Satisfaction.{ClauseList}
+use Rattle.ql_cnf.specs.declared.lit.Lit.{Lit}
+use Rattle.ql_refute.specs.Marks.{marked}
+use Rattle.ql_refute.specs.Partial.{Partial, nothing, is_value, is_open, reading_of, reading}
+use Rattle.ql_refute.specs.Verdict.{hinted}
+use Rattle.ql_refute.specs.declared.marks.Reading.{Reading}
+use Rattle.ql_refute.specs.declared.marks.Reading.TheVariants.{AllFalse, Forces, Neither}
+use Rattle.ql_refute.specs.declared.refutation.Hint.{Hint}
+use Rattle.ql_refute.specs.declared.refutation.Line.{Line}
+use Rattle.ql_sat.specs.Trail.{assigned_from, IsTrail, is_seen, NoneSeen, IsOneSeen, IsAsserting, IsSearching, IsAnalysis, IsLonger, learned_to, trail_number, visit_of}
+use Rattle.ql_sat.specs.declared.trail.Step.{Step}
+use Rattle.ql_sat.specs.declared.trail.Visit.{Visit}
+use Rattle.ql_sat.specs.declared.trail.Visit.TheVariants.{Conflict, Forced}
+use Rattle.ql_sat.proofs.Analysis.{none_absent, split_at}
+use Rattle.ql_sat.proofs.Learned.{some_value}
+use Rattle.ql_sat.proofs.Measure.{number_back}
+use Rattle.ql_sat.proofs.Searching.{at_most}
+use Rattle.ql_sat.proofs.Trails.{Absent, absent, untouched, trail-back, assigned-append}
+
+is_same : (a b : ℕ) → (a == b) ≡ true → a ≡ b
+is_same a b h = grind (arith, nat_tests)
+
+not_same : (a b : ℕ) → (a == b) ≡ false → a ≢ b
+not_same a b h = grind (arith, nat_tests)
+
+-- the one variable
+one_variable : (seen : List Bool) (zs : List Step) → IsOneSeen seen zs → (v : ℕ) × (is_seen seen v ≡ true) × (Absent v zs → ⊥) × ((u : ℕ) → is_seen seen u ≡ true → u ≢ v → Absent u zs)
+one_variable seen [] h = absurd h
+one_variable seen (s ∷ ss) (inl g) = (s.lit.var, g.0, (λ a. a.0 refl), (λ u e ne. ((λ same. ne (sym same)), none_absent seen ss u g.1 e)))
+one_variable seen (s ∷ ss) (inr g) =
+    let r = one_variable seen ss g.1 in
+    (r.0, r.1, (λ a. r.2 a.1), (λ u e ne. ((λ same. absurd (let yes : is_seen seen s.lit.var ≡ true = subst (λ (w : ℕ). is_seen seen w ≡ true) (sym same) e in let no : is_seen seen s.lit.var ≡ false = g.0 in cc)), r.3 u e ne)))
+
+abbrev lit_of : List ℕ → ℕ → Lit
+lit_of m v = record { var = v; positive = not (slice_index m v == 1) }
+
+closed_there : (o : Option Bool) (b : Bool) → o ≡ Some b → not (is_value o (not (not b))) ≡ false
+closed_there o true h = rw h refl
+closed_there o false h = rw h refl
+
+-- of the learned clause's literals up to n none is open but that of the one variable
+none_open : (p : Partial) (m : List ℕ) (seen : List Bool) (w n : ℕ) → ((u : ℕ) → is_seen seen u ≡ true → u ≢ w → p u ≡ Some (slice_index m u == 1)) → n < w → filter (is_open p) (learned_to m seen n) ≡ []
+none_open p m seen w zero values l = refl
+none_open p m seen w (suc n) values l =
+    filter-append (is_open p) (learned_to m seen n) (cond (is_seen seen (suc n)) (lit_of m (suc n) ∷ []) [])
+    ∙ ap (λ (zs : List Lit). zs ++ filter (is_open p) (cond (is_seen seen (suc n)) (lit_of m (suc n) ∷ []) [])) (none_open p m seen w n values (omega arith))
+    ∙ step (is_seen seen (suc n)) refl
+  where
+    step : (b : Bool) → is_seen seen (suc n) ≡ b → filter (is_open p) (cond b (lit_of m (suc n) ∷ []) []) ≡ []
+    step true e =
+        let closed : is_open p (lit_of m (suc n)) ≡ false = closed_there (p (suc n)) (slice_index m (suc n) == 1) (values (suc n) e (λ same. omega arith)) in
+        rw closed refl
+    step false e = refl
+
+one_open : (p : Partial) (m : List ℕ) (seen : List Bool) (w n : ℕ) → ((u : ℕ) → is_seen seen u ≡ true → u ≢ w → p u ≡ Some (slice_index m u == 1)) → p w ≡ None → is_seen seen w ≡ true → 1 ≤ w → w ≤ n → filter (is_open p) (learned_to m seen n) ≡ lit_of m w ∷ []
+one_open p m seen w zero values none sees low high = absurd (omega arith)
+one_open p m seen w (suc n) values none sees low high =
+    filter-append (is_open p) (learned_to m seen n) (cond (is_seen seen (suc n)) (lit_of m (suc n) ∷ []) [])
+    ∙ step (w == suc n) refl (λ l. one_open p m seen w n values none sees low l)
+  where
+    last_open : (b : Bool) → b ≡ true → p (suc n) ≡ None → filter (is_open p) (cond b (lit_of m (suc n) ∷ []) []) ≡ lit_of m (suc n) ∷ []
+    last_open true e unset = rw unset refl
+    last_open false e unset = absurd (cc)
+
+    last_closed : (b : Bool) → is_seen seen (suc n) ≡ b → suc n ≢ w → filter (is_open p) (cond b (lit_of m (suc n) ∷ []) []) ≡ []
+    last_closed true e other =
+        let closed : is_open p (lit_of m (suc n)) ≡ false = closed_there (p (suc n)) (slice_index m (suc n) == 1) (values (suc n) e other) in
+        rw closed refl
+    last_closed false e other = refl
+
+    step : (t : Bool) → (w == suc n) ≡ t → (w ≤ n → filter (is_open p) (learned_to m seen n) ≡ lit_of m w ∷ []) → filter (is_open p) (learned_to m seen n) ++ filter (is_open p) (cond (is_seen seen (suc n)) (lit_of m (suc n) ∷ []) []) ≡ lit_of m w ∷ []
+    step true e before =
+        let same : suc n ≡ w = sym (is_same w (suc n) e) in
+        let sees_it : is_seen seen (suc n) ≡ true = subst (λ (u : ℕ). is_seen seen u ≡ true) (sym same) sees in
+        let unset : p (suc n) ≡ None = subst (λ (u : ℕ). p u ≡ None) (sym same) none in
+        ap (λ (zs : List Lit). zs ++ filter (is_open p) (cond (is_seen seen (suc n)) (lit_of m (suc n) ∷ []) [])) (none_open p m seen w n values (omega arith))
+        ∙ last_open (is_seen seen (suc n)) sees_it unset
+        ∙ ap (λ (u : ℕ). lit_of m u ∷ []) same
+    step false e before =
+        let other : w ≢ suc n = not_same w (suc n) e in
+        ap (λ (zs : List Lit). filter (is_open p) (learned_to m seen n) ++ zs) (last_closed (is_seen seen (suc n)) refl (λ same. other (sym same)))
+        ∙ append-nil (filter (is_open p) (learned_to m seen n))
+        ∙ before (omega arith)
+
+-- a variable of a later step has no value yet
+unset_before : (c : ClauseList) (lines : List Line) (p : Partial) (zs : List Step) (w : ℕ) → IsTrail c lines p zs → (Absent w zs → ⊥) → p w ≡ None
+unset_before c lines p zs w steps there = by_value (p w) refl
+  where
+    by_value : (o : Option Bool) → p w ≡ o → o ≡ None
+    by_value None e = refl
+    by_value (Some b) e = absurd (there (absent c lines p zs w b steps e))
+
+-- the learned clause forces a literal under what the trail says before such a decision
+pub forces_there : (c : ClauseList) (lines : List Line) (trail : List Step) (m : List ℕ) (i to : ℕ) (seen : List Bool) (hints : List Hint) → IsSearching c lines trail m → IsAnalysis c lines trail i seen hints → IsAsserting trail to seen → (x : Lit) × (reading (assigned_from nothing (take to trail)) (learned_to m seen c.variables) ≡ Forces x)
+forces_there c lines trail m i to seen hints searching analysis asserting =
+    within (take to trail) (drop to trail) (sym (take-append-drop to trail)) (one_variable seen (drop to trail) asserting.one)
+  where
+    within : (xs zs : List Step) → trail ≡ xs ++ zs → (v : ℕ) × (is_seen seen v ≡ true) × (Absent v zs → ⊥) × ((u : ℕ) → is_seen seen u ≡ true → u ≢ v → Absent u zs) → (x : Lit) × (reading (assigned_from nothing xs) (learned_to m seen c.variables) ≡ Forces x)
+    within xs zs whole one =
+        let known = analysis.values one.0 one.1 in
+        let steps : IsTrail c lines nothing (xs ++ zs) = subst (λ (t : List Step). IsTrail c lines nothing t) whole searching.steps in
+        let none : assigned_from nothing xs one.0 ≡ None = unset_before c lines (assigned_from nothing xs) zs one.0 (trail-back c lines nothing xs zs steps) one.2 in
+        let alone : filter (is_open (assigned_from nothing xs)) (learned_to m seen c.variables) ≡ lit_of m one.0 ∷ [] = one_open (assigned_from nothing xs) m seen one.0 c.variables values none one.1 known.0 known.1 in
+        (lit_of m one.0, ap (λ (ys : List Lit). reading_of (assigned_from nothing xs) ys) alone ∙ rw none refl)
+      where
+        values : (u : ℕ) → is_seen seen u ≡ true → u ≢ one.0 → assigned_from nothing xs u ≡ Some (slice_index m u == 1)
+        values u e ne =
+            let known = analysis.values u e in
+            let kept : assigned_from nothing trail u ≡ assigned_from nothing xs u = ap (λ (t : List Step). assigned_from nothing t u) whole ∙ ap (λ (p : Partial). p u) (assigned-append nothing xs zs) ∙ untouched (assigned_from nothing xs) zs u (one.3 u e ne) in
+            sym (some_value (assigned_from nothing trail u) (slice_index m u) (ap (λ (p : Partial). p u) searching.values) known.2 ∙ kept)
+
+-- where no variable of the trail is seen the learned clause is empty
+pub nothing_learned : (c : ClauseList) (lines : List Line) (trail : List Step) (m : List ℕ) (seen : List Bool) (hints : List Hint) → IsAnalysis c lines trail 0 seen hints → learned_to m seen c.variables ≡ []
+nothing_learned c lines trail m seen hints analysis = empty c.variables
+  where
+    unseen : (v : ℕ) (b : Bool) → is_seen seen v ≡ b → b ≡ false
+    unseen v false e = refl
+    unseen v true e =
+        absurd (let known = analysis.values v e in
+        let none : assigned_from nothing trail v ≡ None = untouched nothing trail v (none_absent seen trail v analysis.none e) in
+        let no : is_some (assigned_from nothing trail v) ≡ false = rw none refl in
+        let yes : is_some (assigned_from nothing trail v) ≡ true = known.2 in cc)
+
+    empty : (n : ℕ) → learned_to m seen n ≡ []
+    empty zero = refl
+    empty (suc n) = let no : is_seen seen (suc n) ≡ false = unseen (suc n) (is_seen seen (suc n)) refl in rw (empty n, no) refl
+
+-- going back to such a decision and forcing a literal there makes the trail greater
+pub greater_after : (n to : ℕ) (trail now : List Step) (f : Step) (seen : List Bool) → IsAsserting trail to seen → length trail ≤ n → is_some f.reason ≡ true → now ≡ take to trail ++ f ∷ [] → trail_number n trail < trail_number n now
+greater_after n to trail now f seen asserting most forced is =
+    let e : Step = record { lit = record { var = 0; positive = false }; reason = None } in
+    let long : length (take to trail) ≡ to = length-take-le to trail (omega (arith, asserting.within)) in
+    let greater : trail_number n (take to trail ++ get_or trail to e ∷ drop (suc to) trail) < trail_number n (take to trail ++ f ∷ []) = number_back n (take to trail) (drop (suc to) trail) (get_or trail to e) f (omega (arith, asserting.within, long, most)) asserting.decision forced in
+    subst (λ (t : List Step). trail_number n t < trail_number n now) (sym (split_at trail to e asserting.within)) (subst (λ (t : List Step). trail_number n (take to trail ++ get_or trail to e ∷ drop (suc to) trail) < trail_number n t) (sym is) greater)
+
+-- so the turn that learns a clause makes the trail greater
+pub learned_greater : (c : ClauseList) (lines more : List Line) (trail now : List Step) (m n : List ℕ) (i to : ℕ) (seen : List Bool) (hints : List Hint) (clause : List Lit) (h : Hint) (v : Visit) → IsSearching c lines trail m → IsAnalysis c lines trail i seen hints → IsAsserting trail to seen → clause ≡ learned_to m seen c.variables → marked n ≡ assigned_from nothing (take to trail) → hinted c more h ≡ Some clause → ((d : List Lit) → hinted c more h ≡ Some d → v ≡ visit_of (reading (marked n) d)) → IsLonger v (c.variables + 1) (take to trail) now → trail_number (c.variables + 1) trail < trail_number (c.variables + 1) now
+learned_greater c lines more trail now m n i to seen hints clause h v searching analysis asserting is values names visits longer =
+    let forces = forces_there c lines trail m i to seen hints searching analysis asserting in
+    let read : reading (marked n) clause ≡ Forces forces.0 = rw (values, is) forces.1 in
+    let forced : v ≡ Forced = visits clause names ∙ ap visit_of read in
+    let one : IsLonger Forced (c.variables + 1) (take to trail) now = subst (λ (w : Visit). IsLonger w (c.variables + 1) (take to trail) now) forced longer in
+    greater_after (c.variables + 1) to trail now one.0 seen asserting (at_most c lines trail m searching) one.1 one.2
+
+-- a clause that says something makes the trail greater or is false
+pub said_greater : (v : Visit) (r : Reading) (n : ℕ) (xs ys : List Step) → v ≡ visit_of r → r ≢ Neither → v ≢ Conflict → IsLonger v n xs ys → trail_number n xs < trail_number n ys
+said_greater v AllFalse n xs ys is says other longer = absurd (other is)
+said_greater v (Forces x) n xs ys is says other longer =
+    let one : IsLonger Forced n xs ys = subst (λ (w : Visit). IsLonger w n xs ys) is longer in one.3
+said_greater v Neither n xs ys is says other longer = absurd (says refl)
+
+-- the walk back over the steps
+pub one_here : (trail : List Step) (seen : List Bool) (i : ℕ) (e : Step) → i < length trail → is_seen seen (get_or trail i e).lit.var ≡ true → NoneSeen seen (drop (i + 1) trail) → IsOneSeen seen (drop i trail)
+one_here trail seen i e l sees none = subst (λ (zs : List Step). IsOneSeen seen zs) (sym (drop-cons trail i e l)) (inl (sees, subst (λ (k : ℕ). NoneSeen seen (drop k trail)) (add-one i) none))
+
+pub one_before : (trail : List Step) (seen : List Bool) (i : ℕ) (e : Step) → i < length trail → is_seen seen (get_or trail i e).lit.var ≡ false → IsOneSeen seen (drop (suc i) trail) → IsOneSeen seen (drop i trail)
+one_before trail seen i e l unseen one = subst (λ (zs : List Step). IsOneSeen seen zs) (sym (drop-cons trail i e l)) (inr (unseen, one))

@@ -1,0 +1,9 @@
+// What one turn of the search came to.
+#[derive(Clone, Copy)]
+pub(crate) enum Turn {
+    More,
+    // The marks are a model.
+    Model,
+    // The line of this number is empty.
+    Refuted(u64),
+}
