@@ -3,6 +3,7 @@ pub mod MetNames
 pub mod Each
 pub mod KeptNames
 pub mod KindsIn
+pub mod WordEq
 pub mod CallArgs
 pub mod Declared
 pub mod Parts

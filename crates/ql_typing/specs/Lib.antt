@@ -8,3 +8,4 @@ pub mod Programs
 pub mod Lookups
 pub mod Operations
 pub mod WellFormed
+pub mod Tables

@@ -21,7 +21,7 @@ pub(crate) struct Judged {
 }
 
 /// Judges an expression by the names in scope.
-pub(crate) fn judge(scope: &Scope, e: &Expr) -> Judged
+pub(crate) fn judge(scope: &Scope<'_>, e: &Expr) -> Judged
     ensures at { result.at ≡ begins_at (expression_of e.now) }
     ensures kind { result.kind ≡ kind_of scope.now (expression_of e.now) }
     ensures fault { result.fault ≡ first_fault (faults_of scope.now (expression_of e.now)) }
@@ -30,7 +30,7 @@ pub(crate) fn judge(scope: &Scope, e: &Expr) -> Judged
 }
 
 /// The first fault of an expression of which a kind is wanted.
-pub(crate) fn fault_as(scope: &Scope, wanted: Option<Kind>, e: &Expr) -> Option<TypeFault>
+pub(crate) fn fault_as(scope: &Scope<'_>, wanted: Option<Kind>, e: &Expr) -> Option<TypeFault>
     ensures { result ≡ first_fault (faults_as scope.now wanted (expression_of e.now)) }
 {
     let judged = judge(scope, e);
@@ -39,7 +39,7 @@ pub(crate) fn fault_as(scope: &Scope, wanted: Option<Kind>, e: &Expr) -> Option<
 
 #[cycle(judge)]
 #[tactic(auto, unfolding(ql_lang::specs::Expressions::node_of, crate::specs::Kinds::kind_of, crate::specs::Kinds::faults_of, crate::specs::Faults::first_fault, crate::specs::Faults::earlier), using(crate::proofs::FirstFault::first_append))]
-fn judge_node(scope: &Scope, at: u32, node: &ExprNode) -> Judged
+fn judge_node(scope: &Scope<'_>, at: u32, node: &ExprNode) -> Judged
     ensures at { result.at ≡ begins_at (node_of at node.now) }
     ensures kind { result.kind ≡ kind_of scope.now (node_of at node.now) }
     ensures fault { result.fault ≡ first_fault (faults_of scope.now (node_of at node.now)) }
@@ -74,7 +74,7 @@ fn judge_node(scope: &Scope, at: u32, node: &ExprNode) -> Judged
 }
 
 #[cycle(judge)]
-fn judge_call(scope: &Scope, at: u32, name: &Name, args: &[Expr]) -> Judged
+fn judge_call(scope: &Scope<'_>, at: u32, name: &Name, args: &[Expr]) -> Judged
     ensures at { result.at ≡ at }
     ensures kind { result.kind ≡ kind_of scope.now (Calling at name.now (operands_of args.now)) }
     ensures fault { result.fault ≡ first_fault (faults_of scope.now (Calling at name.now (operands_of args.now))) }
@@ -110,7 +110,7 @@ fn judge_call(scope: &Scope, at: u32, name: &Name, args: &[Expr]) -> Judged
 
 /// The first fault inside the arguments of a call.
 #[cycle(judge)]
-fn faults_inside(scope: &Scope, args: &[Expr]) -> Option<TypeFault>
+fn faults_inside(scope: &Scope<'_>, args: &[Expr]) -> Option<TypeFault>
     ensures { result ≡ first_fault (operand_faults scope.now (operands_of args.now)) }
 {
     let mut fault = None;

@@ -21,5 +21,5 @@ mod typed;
 pub use build::resolve;
 pub use fault::TypeFault;
 pub use function::{Function, Signature};
-pub use scope::{Known, Scope};
+pub use scope::{Known, Scope, Table};
 pub use typed::{Typed, typecheck};

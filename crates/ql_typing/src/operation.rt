@@ -1,8 +1,8 @@
-ghost use Rattle.std.specs.Prelude.{◌≡◌, ◌++◌, Some, IfOk, OnOk, map};
+ghost use Rattle.std.specs.Prelude.{◌≡◌, Some, IfOk, OnOk, map};
 ghost use Rattle.ql_lang.specs.Expressions.{expression_of};
-ghost use Rattle.ql_typing.specs.Faults.{each, first_fault};
+ghost use Rattle.ql_typing.specs.Faults.{each, earlier, first_fault, repeats};
 ghost use Rattle.ql_typing.specs.Kinds.{kind_in, reading_faults};
-ghost use Rattle.ql_typing.specs.Programs.{bind_faults, bind_names, binds_known, effect_faults, maybe_effect_faults, op_decl_faults, param_names, params_known, places, stmt_faults, target_names};
+ghost use Rattle.ql_typing.specs.Programs.{above, bind_faults, bind_names, binds_known, effect_faults, maybe_effect_faults, op_decl_faults, param_names, params_known, places, stmt_faults, target_names};
 
 use crate::contract::check_contract;
 use crate::fault::{TypeFault, first};
@@ -10,40 +10,46 @@ use crate::function::kind_of_base;
 use crate::judge::fault_as;
 use crate::limits::above_limit;
 use crate::names::meet_after;
-use crate::scope::Scope;
+use crate::scope::{Known, Scope, Table};
 use ql_base::{MAX_EMITTED, MAX_PARAMETERS, MAX_STATEMENTS, Names, NoMemory};
 use ql_lang::{Bind, EmitDecl, Kind, Name, OpDecl, Param, Stmt};
 use std::alloc::Global;
 
-/// The first fault of an operation. The names and the scope hold those of the fields, and do afterwards.
+/// The first fault of an operation. The names hold those of the fields, and do afterwards.
 pub(crate) fn op_decl_fault(
     alloc: Global,
     op: &OpDecl,
     known: &Names,
-    fields: &Scope,
+    fields: &Table,
     names: &mut Names,
-    scope: &mut Scope,
 ) -> Result<Option<TypeFault>, NoMemory>
-    requires { scope.old ≡ fields.now }
     ensures names { OnOk result (names.new ≡ names.old) }
-    ensures scope { OnOk result (scope.new ≡ scope.old) }
     ensures fault { IfOk result (λ fault. fault ≡ first_fault (op_decl_faults known.now names.old fields.now op.now)) }
 {
     let params = op.params.items();
-    let list = list_params(alloc, params)?;
-    let repeated = meet_after(names, list.as_slice())?;
-    let all = places_of(alloc, list.as_slice())?;
-    let many = above_limit(all.as_slice(), MAX_PARAMETERS);
+    let named = params_fault(alloc, params, names)?;
     let checked = check_contract(alloc, &op.contract, Some(known), false)?;
-    let before = scope.len();
-    declare_params(scope, params)?;
-    let answer = fault_as(scope, Some(op.kind), &op.answer);
-    let effect = maybe_effect_fault(alloc, &op.effect, fields, names, scope)?;
-    scope.truncate(before);
-    Ok(first(
-        repeated,
-        first(many, first(checked.fault, first(answer, effect))),
-    ))
+    let kinds = kinds_of_params(alloc, params)?;
+    let table = Table::of(alloc, kinds)?;
+    let scope = Scope::over(fields, table);
+    let answer = fault_as(&scope, Some(op.kind), &op.answer);
+    let effect = maybe_effect_fault(alloc, &op.effect, fields, names, &scope)?;
+    Ok(first(named, first(checked.fault, first(answer, effect))))
+}
+
+/// The first parameter that repeats a name before it, of the fields or of a parameter, or is one too many.
+fn params_fault(
+    alloc: Global,
+    params: &[Param],
+    names: &mut Names,
+) -> Result<Option<TypeFault>, NoMemory>
+    ensures names { OnOk result (names.new ≡ names.old) }
+    ensures fault { IfOk result (λ fault. fault ≡ earlier (first_fault (repeats names.old (param_names params.now))) (first_fault (above 8 (places (param_names params.now))))) }
+{
+    let list = list_params(alloc, params)?;
+    let all = places_of(alloc, list.as_slice())?;
+    let repeated = meet_after(names, list.as_slice())?;
+    Ok(first(repeated, above_limit(all.as_slice(), MAX_PARAMETERS)))
 }
 
 /// The first fault of what an operation emits, where it does.
@@ -51,9 +57,9 @@ pub(crate) fn op_decl_fault(
 fn maybe_effect_fault(
     alloc: Global,
     effect: &Option<EmitDecl>,
-    fields: &Scope,
+    fields: &Table,
     names: &mut Names,
-    scope: &Scope,
+    scope: &Scope<'_>,
 ) -> Result<Option<TypeFault>, NoMemory>
     ensures names { OnOk result (names.new ≡ names.old) }
     ensures fault { IfOk result (λ fault. fault ≡ first_fault (maybe_effect_faults names.old fields.now scope.now effect.now)) }
@@ -68,42 +74,44 @@ fn maybe_effect_fault(
 fn effect_fault(
     alloc: Global,
     effect: &EmitDecl,
-    fields: &Scope,
+    fields: &Table,
     names: &mut Names,
-    scope: &Scope,
+    scope: &Scope<'_>,
 ) -> Result<Option<TypeFault>, NoMemory>
     ensures names { OnOk result (names.new ≡ names.old) }
     ensures fault { IfOk result (λ fault. fault ≡ first_fault (effect_faults names.old fields.now scope.now effect.now)) }
 {
     let binds = effect.binds.items();
     let stmts = effect.stmts.items();
-    let list = list_binds(alloc, binds)?;
-    let repeated = meet_after(names, list.as_slice())?;
-    let all = places_of(alloc, list.as_slice())?;
-    let many = above_limit(all.as_slice(), MAX_EMITTED);
+    let named = bind_names_fault(alloc, binds, names)?;
     let values = binds_fault(scope, binds);
     let test = fault_as(scope, Some(Kind::Bool), &effect.test);
     let targets = list_targets(alloc, stmts)?;
     let steps = places_of(alloc, targets.as_slice())?;
     let long = above_limit(steps.as_slice(), MAX_STATEMENTS);
-    let inner = inner_scope(fields, binds)?;
+    let kinds = kinds_of_binds(alloc, binds)?;
+    let table = Table::of(alloc, kinds)?;
+    let inner = Scope::over(fields, table);
     let applied = stmts_fault(fields, &inner, stmts);
-    Ok(first(
-        repeated,
-        first(many, first(values, first(test, first(long, applied)))),
-    ))
+    Ok(first(named, first(values, first(test, first(long, applied)))))
 }
 
-/// The fields together with emitted names.
-fn inner_scope(fields: &Scope, binds: &[Bind]) -> Result<Scope, NoMemory>
-    ensures { IfOk result (λ inner. inner ≡ fields.now ++ binds_known binds.now) }
+/// The first emitted name that repeats one before it, of the fields or emitted, or is one too many.
+fn bind_names_fault(
+    alloc: Global,
+    binds: &[Bind],
+    names: &mut Names,
+) -> Result<Option<TypeFault>, NoMemory>
+    ensures names { OnOk result (names.new ≡ names.old) }
+    ensures fault { IfOk result (λ fault. fault ≡ earlier (first_fault (repeats names.old (bind_names binds.now))) (first_fault (above 4 (places (bind_names binds.now))))) }
 {
-    let mut inner = fields.copy()?;
-    declare_binds(&mut inner, binds)?;
-    Ok(inner)
+    let list = list_binds(alloc, binds)?;
+    let all = places_of(alloc, list.as_slice())?;
+    let repeated = meet_after(names, list.as_slice())?;
+    Ok(first(repeated, above_limit(all.as_slice(), MAX_EMITTED)))
 }
 
-fn binds_fault(scope: &Scope, binds: &[Bind]) -> Option<TypeFault>
+fn binds_fault(scope: &Scope<'_>, binds: &[Bind]) -> Option<TypeFault>
     ensures { result ≡ first_fault (each (bind_faults scope.now) binds.now) }
 {
     let mut fault = None;
@@ -114,13 +122,13 @@ fn binds_fault(scope: &Scope, binds: &[Bind]) -> Option<TypeFault>
 }
 
 #[tactic(auto, unfolding(crate::specs::Programs::bind_faults))]
-fn bind_fault(scope: &Scope, bind: &Bind) -> Option<TypeFault>
+fn bind_fault(scope: &Scope<'_>, bind: &Bind) -> Option<TypeFault>
     ensures { result ≡ first_fault (bind_faults scope.now bind.now) }
 {
     fault_as(scope, Some(kind_of_base(bind.base)), &bind.value)
 }
 
-fn stmts_fault(fields: &Scope, scope: &Scope, stmts: &[Stmt]) -> Option<TypeFault>
+fn stmts_fault(fields: &Table, scope: &Scope<'_>, stmts: &[Stmt]) -> Option<TypeFault>
     ensures { result ≡ first_fault (each (stmt_faults fields.now scope.now) stmts.now) }
 {
     let mut fault = None;
@@ -131,7 +139,7 @@ fn stmts_fault(fields: &Scope, scope: &Scope, stmts: &[Stmt]) -> Option<TypeFaul
 }
 
 /// The first fault of a statement: it assigns a field, and a value of its kind.
-fn stmt_fault(fields: &Scope, scope: &Scope, stmt: &Stmt) -> Option<TypeFault>
+fn stmt_fault(fields: &Table, scope: &Scope<'_>, stmt: &Stmt) -> Option<TypeFault>
     ensures { result ≡ first_fault (stmt_faults fields.now scope.now stmt.now) }
 {
     let wanted = fields.find(&stmt.target.word);
@@ -151,22 +159,32 @@ fn target_fault(kind: Option<Kind>, at: u32) -> Option<TypeFault>
     }
 }
 
-fn declare_params(scope: &mut Scope, params: &[Param]) -> Result<(), NoMemory>
-    ensures { OnOk result (scope.new ≡ scope.old ++ params_known params.now) }
+fn kinds_of_params(alloc: Global, params: &[Param]) -> Result<Vec<Known>, NoMemory>
+    ensures { IfOk result (λ kinds. kinds.items ≡ params_known params.now) }
 {
-    for param in params {
-        scope.declare(param.name.word, kind_of_base(param.base))?;
-    }
-    Ok(())
+    Ok(
+        params
+            .iter()
+            .map(|param| Known {
+                word: param.name.word,
+                kind: kind_of_base(param.base),
+            })
+            .collect(alloc)?,
+    )
 }
 
-fn declare_binds(scope: &mut Scope, binds: &[Bind]) -> Result<(), NoMemory>
-    ensures { OnOk result (scope.new ≡ scope.old ++ binds_known binds.now) }
+fn kinds_of_binds(alloc: Global, binds: &[Bind]) -> Result<Vec<Known>, NoMemory>
+    ensures { IfOk result (λ kinds. kinds.items ≡ binds_known binds.now) }
 {
-    for bind in binds {
-        scope.declare(bind.name.word, kind_of_base(bind.base))?;
-    }
-    Ok(())
+    Ok(
+        binds
+            .iter()
+            .map(|bind| Known {
+                word: bind.name.word,
+                kind: kind_of_base(bind.base),
+            })
+            .collect(alloc)?,
+    )
 }
 
 fn list_params(alloc: Global, params: &[Param]) -> Result<Vec<Name>, NoMemory>

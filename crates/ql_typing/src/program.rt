@@ -1,4 +1,4 @@
-ghost use Rattle.std.specs.Prelude.{◌≡◌, ◌++◌, [], IfOk, OnOk, map};
+ghost use Rattle.std.specs.Prelude.{◌≡◌, [], IfOk, OnOk, map};
 ghost use Rattle.std.specs.List.{flat_map};
 ghost use Rattle.ql_typing.specs.Faults.{each, earlier, first_fault, names_met, repeats, unless};
 ghost use Rattle.ql_typing.specs.Programs.{above, field_names, fields_known, init_faults, is_collection, may_begin, op_decl_faults, op_names, op_places, program_faults, txn_faults, type_faults};
@@ -9,7 +9,7 @@ use crate::kind::are_same;
 use crate::limits::above_limit;
 use crate::names::{Met, meet};
 use crate::operation::op_decl_fault;
-use crate::scope::Scope;
+use crate::scope::{Known, Table};
 use ql_base::{MAX_FIELDS, MAX_OPERATIONS, MAX_TRANSACTIONS, MAX_TYPES, Names, NoMemory};
 use ql_lang::{Field, InitNode, Kind, Name, OpDecl, Program, TxnDecl, TypeDecl};
 use std::alloc::Global;
@@ -66,13 +66,18 @@ fn place_fields(alloc: Global, fields: &[Field]) -> Result<Vec<u32>, NoMemory>
     Ok(fields.iter().map(|field| field.at).collect(alloc)?)
 }
 
-fn declare_fields(scope: &mut Scope, fields: &[Field]) -> Result<(), NoMemory>
-    ensures { OnOk result (scope.new ≡ scope.old ++ fields_known fields.now) }
+fn kinds_of_fields(alloc: Global, fields: &[Field]) -> Result<Vec<Known>, NoMemory>
+    ensures { IfOk result (λ kinds. kinds.items ≡ fields_known fields.now) }
 {
-    for field in fields {
-        scope.declare(field.name.word, field.kind)?;
-    }
-    Ok(())
+    Ok(
+        fields
+            .iter()
+            .map(|field| Known {
+                word: field.name.word,
+                kind: field.kind,
+            })
+            .collect(alloc)?,
+    )
 }
 
 /// The first fault of a type, by the known operations.
@@ -89,9 +94,9 @@ fn type_fault(
     let all = place_fields(alloc, fields)?;
     let many = above_limit(all.as_slice(), MAX_FIELDS);
     let inits = inits_fault(fields);
-    let mut scope = Scope::new(alloc);
-    declare_fields(&mut scope, fields)?;
-    let ops = op_decls_fault(alloc, declared.ops.items(), known, &scope, &mut met.names)?;
+    let kinds = kinds_of_fields(alloc, fields)?;
+    let table = Table::of(alloc, kinds)?;
+    let ops = op_decls_fault(alloc, declared.ops.items(), known, &table, &mut met.names)?;
     Ok(first(met.fault, first(many, first(inits, ops))))
 }
 
@@ -99,15 +104,14 @@ fn op_decls_fault(
     alloc: Global,
     ops: &[OpDecl],
     known: &Names,
-    fields: &Scope,
+    fields: &Table,
     names: &mut Names,
 ) -> Result<Option<TypeFault>, NoMemory>
     ensures { IfOk result (λ fault. fault ≡ first_fault (each (op_decl_faults known.now names.old fields.now) ops.now)) }
 {
-    let mut scope = fields.copy()?;
     let mut fault = None;
     for op in ops {
-        let here = op_decl_fault(alloc, op, known, fields, names, &mut scope)?;
+        let here = op_decl_fault(alloc, op, known, fields, names)?;
         fault = first(fault, here);
     }
     Ok(fault)

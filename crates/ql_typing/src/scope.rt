@@ -1,6 +1,8 @@
-ghost use Rattle.std.specs.Prelude.{◌≡◌, ◌∷◌, ◌++◌, [], IfOk, OnOk, length, take};
+ghost use Rattle.std.specs.Prelude.{◌≡◌, ◌++◌, IfOk, length};
 ghost use Rattle.ql_typing.specs.Kinds.{kind_in};
+ghost use Rattle.ql_typing.specs.Tables.{FindsKinds};
 
+use indexmap::IndexMap;
 use ql_base::{NoMemory, Word};
 use ql_lang::Kind;
 use std::alloc::Global;
@@ -13,75 +15,84 @@ pub struct Known {
     pub kind: Kind,
 }
 
-/// The names in scope, seen as their list. Of a name that is declared again the first kind counts.
+/// Names with their kinds, seen as their list. Of a name that is there twice the first kind counts.
 #[derive(Drop)]
-pub struct Scope {
-    names: Vec<Known>,
+pub struct Table {
+    known: Vec<Known>,
+    kinds: IndexMap<Word, Kind>,
 }
 
-impl Model for Scope {
+impl Model for Table {
     ghost use Rattle.std.specs.Prelude.{List};
     ghost use Rattle.ql_typing.specs.declared.scope.Known.{Known};
 
     ghost Value = { List Known };
 
-    ghost view = { λ scope. scope.names.items };
+    ghost use Rattle.ql_typing.specs.Tables.{FindsKinds};
+
+    ghost view = { λ table. table.known.items };
+
+    ghost invariant = { λ table. FindsKinds table.kinds table.known.items };
 }
 
-impl Scope {
-    pub(crate) fn new(alloc: Global) -> Scope
-        ensures { result ≡ [] }
+impl Table {
+    pub(crate) fn of(alloc: Global, known: Vec<Known>) -> Result<Table, NoMemory>
+        ensures { IfOk result (λ table. table ≡ known.items) }
     {
-        Scope {
-            names: Vec::new(alloc),
-        }
+        let kinds = index_kinds(alloc, known.as_slice())?;
+        Ok(Table { known, kinds })
     }
 
-    /// Brings a name into scope.
-    pub(crate) fn declare(&mut self, word: Word, kind: Kind) -> Result<(), NoMemory>
-        ensures { OnOk result (self.new ≡ self.old ++ record { word = word; kind = kind } ∷ []) }
+    /// The kind of a name.
+    pub(crate) fn find(&self, word: &Word) -> Option<Kind>
+        ensures { result ≡ kind_in self.now word.now }
     {
-        self.names.push(Known { word, kind })?;
-        Ok(())
+        self.kinds.get(word).copied()
     }
+}
 
-    /// The same names again.
-    pub(crate) fn copy(&self) -> Result<Scope, NoMemory>
-        ensures { IfOk result (λ copy. copy ≡ self.now) }
-    {
-        let names = self.names.as_slice().to_vec(*self.names.allocator())?;
-        Ok(Scope { names })
+/// The kinds of names. The last comes first, so that of a name that is there twice the first kind stays.
+fn index_kinds(alloc: Global, known: &[Known]) -> Result<IndexMap<Word, Kind>, NoMemory>
+    ensures { IfOk result (λ kinds. FindsKinds kinds known.now) }
+{
+    let mut kinds = IndexMap::new(alloc);
+    for k in 0..known.len() {
+        let last = &known[known.len() - 1 - k];
+        kinds.insert(last.word, last.kind)?;
     }
+    Ok(kinds)
+}
 
-    /// How many names were brought into scope.
-    pub(crate) fn len(&self) -> usize
-        ensures { result ≡ length self.now }
-    {
-        self.names.len()
-    }
+/// The names in scope: those of the fields, and others after them.
+#[derive(Drop)]
+pub struct Scope<'a> {
+    fields: &'a Table,
+    others: Table,
+}
 
-    /// Takes all but the first names out of scope.
-    pub(crate) fn truncate(&mut self, len: usize)
-        ensures { self.new ≡ take len self.old }
+impl<'a> Model for Scope<'a> {
+    ghost use Rattle.std.specs.Prelude.{List, ◌++◌};
+    ghost use Rattle.ql_typing.specs.declared.scope.Known.{Known};
+
+    ghost Value = { List Known };
+
+    ghost view = { λ scope. scope.fields.now ++ scope.others };
+}
+
+impl<'a> Scope<'a> {
+    pub(crate) fn over(fields: &'a Table, others: Table) -> Scope<'a>
+        ensures { result ≡ fields.now ++ others }
     {
-        self.names.truncate(len);
+        Scope { fields, others }
     }
 
     /// The kind of a name in scope.
     pub(crate) fn find(&self, word: &Word) -> Option<Kind>
         ensures { result ≡ kind_in self.now word.now }
     {
-        find_in(self.names.as_slice(), word)
-    }
-}
-
-fn find_in(names: &[Known], word: &Word) -> Option<Kind>
-    ensures { result ≡ kind_in names.now word.now }
-{
-    for known in names {
-        if known.word.bytes() == word.bytes() {
-            return Some(known.kind);
+        match self.fields.find(word) {
+            Some(kind) => Some(kind),
+            None => self.others.find(word),
         }
     }
-    None
 }
