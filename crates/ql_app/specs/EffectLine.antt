@@ -5,7 +5,11 @@ use Rattle.ql_text.specs.Reading.{◌>>=◌, letter_at, number_at, before_text}
 use Rattle.ql_text.specs.Items.{more_items, spelled_after, spelled_behind}
 use Rattle.ql_exec.specs.declared.effect.Effect.{Effect}
 use Rattle.ql_exec.specs.declared.effect.Draft.{Draft}
-use Rattle.ql_exec.specs.Execution.{SeesEarlier, fault_of, effect_of}
+use Rattle.ql_value.specs.declared.value.Value.{Value}
+use Rattle.ql_value.specs.declared.value.Value.TheVariants.{Unit as UnitValue}
+use Rattle.ql_exec.specs.declared.effect.Payload.TheVariants.{Nothing}
+use Rattle.ql_exec.specs.declared.effect.Member.TheVariants.{Alone}
+use Rattle.ql_exec.specs.Execution.{SeesEarlier, fault_of, effect_of, stamp_of}
 
 -- ---- how it is spelled
 
@@ -23,6 +27,27 @@ effects_text effects = spelled_after (codes "effect ") effect_text [] effects
 
 -- ---- what has a spelling
 
+-- an effect outside any transaction, of which no arguments, payload and answer are told
+pub record IsPlain (earlier : List Effect) (e : Effect) : Type 0 where
+  pub args : e.args ≡ []
+  pub payload : e.payload ≡ Nothing
+  pub answer : e.answer ≡ UnitValue
+  pub member : e.member ≡ Alone
+  pub stamp : e.stamp ≡ stamp_of earlier e.session e.seen
+
+-- such an effect before it has a stamp
+abbrev pub plain_draft : ℕ → ℕ → ℕ → List ℕ → Draft
+plain_draft object op session seen = record {
+  object = record { 0 = object };
+  op = record { 0 = op };
+  args = [];
+  payload = Nothing;
+  answer = UnitValue;
+  session = record { 0 = session };
+  member = Alone;
+  seen = seen;
+}
+
 -- an effect may follow those before it
 pub record MayFollow (earlier : List Effect) (e : Effect) : Type 0 where
   pub few : length earlier < 200
@@ -30,6 +55,7 @@ pub record MayFollow (earlier : List Effect) (e : Effect) : Type 0 where
   pub op : IsTrue (is_ascii_lowercase e.op.0)
   pub session : e.session.0 ≤ 255
   pub seen : SeesEarlier earlier (suc (length earlier)) e.object e.seen
+  pub plain : IsPlain earlier e
 
 -- ---- how it is read
 
@@ -51,7 +77,7 @@ draft_at bytes = do
   op ← before_text letter_at (codes " session ") object.1
   session ← before_text (number_at 255) (codes " vis") op.1
   seen ← seen_at session.1
-  Some (record { object = record { 0 = object.0 }; op = record { 0 = op.0 }; session = record { 0 = session.0 }; seen = seen.0 }, seen.1)
+  Some (plain_draft object.0 op.0 session.0 seen.0, seen.1)
 
 -- an effect behind its word, after those before it
 unfoldable pub effect_line_at : List Effect → List ℕ → Option (Effect × List ℕ)

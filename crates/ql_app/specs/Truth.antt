@@ -1,6 +1,6 @@
 -- When a contract is true of an effect in an execution.
 -- A contract quantifies over all effects and speaks of one current effect (Sivaramakrishnan, Kaki and Jagannathan,
--- 'Declarative Programming over Eventually Consistent Data Stores', PLDI 2015, section 4).
+-- 'Declarative Programming over Eventually Consistent Data Stores', PLDI 2015).
 use Rattle.std.specs.Prelude.{◌≡◌, ◌⊎◌, ℕ, ◌<◌, ◌≤◌, List, [], ◌∷◌, length, Bool, false, not, ◌||◌, IsTrue, ◌==◌, slice_index, position}
 use Rattle.std.specs.Option.{option_map_or}
 use Rattle.std.specs.List.{list_all}

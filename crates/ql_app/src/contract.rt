@@ -10,7 +10,7 @@ pub enum Term {
 }
 
 /// A relation between two effects of an execution (Sivaramakrishnan, Kaki and Jagannathan, PLDI
-/// 2015, section 3).
+/// 2015).
 #[derive(Clone, Copy, Debug, PartialEq, Eq)]
 pub enum Relation {
     /// `vis`: the second effect saw the first one.

@@ -6,8 +6,9 @@ ghost use Rattle.ql_base.specs.IdLists.{IsAscending};
 ghost use Rattle.ql_app.specs.EffectLine.{is_above, seen_id_at, seen_at, draft_at, effect_line_at, Gained};
 
 use ql_base::{IdSet, ObjId, OpId, SessId};
-use ql_exec::{Draft, ExecFault, Execution};
+use ql_exec::{Draft, ExecFault, Execution, Member, Payload};
 use ql_text::{ParseError, letter_before, literal, number, number_before};
+use ql_value::{Value, Values};
 use std::alloc::Global;
 
 /// The greatest number of effects.
@@ -70,7 +71,11 @@ fn draft(alloc: Global, bytes: &[u8]) -> Result<(Draft, &[u8]), ParseError>
     let draft = Draft {
         object: ObjId(u32::from(object)),
         op: OpId(u32::from(op)),
+        args: Values::of(Vec::new(alloc)),
+        payload: Payload::Nothing,
+        answer: Value::Unit,
         session: SessId(session),
+        member: Member::Alone,
         seen,
     };
     Ok((draft, rest))

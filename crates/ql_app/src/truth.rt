@@ -1,7 +1,7 @@
 ghost use Rattle.std.specs.Prelude.{◌≡◌, ◌-◌, ◌≤◌, length, take, drop, true, false, IfOk, MatchOption, ◌==◌, position};
 ghost use Rattle.std.specs.List.{list_all};
 ghost use Rattle.std.specs.Option.{option_copied};
-ghost use Rattle.ql_exec.specs.Execution.{effect_at};
+ghost use Rattle.ql_exec.specs.Effects.{effect_at};
 ghost use Rattle.ql_app.specs.Truth.{place_of, meaning, relates, applies, body_true, Holds, IsFirstFalse};
 ghost use Rattle.ql_app.specs.Search.{AllTrueFrom, IsFirstFrom};
 
@@ -105,7 +105,8 @@ fn position_of(variables: &[u8], variable: u8) -> Option<usize>
 fn relates(relation: Relation, execution: &Execution, a: u32, b: u32) -> bool
     ensures { result ≡ relates relation execution.now a b }
 {
-    let (Some(first), Some(second)) = (effect(execution, a), effect(execution, b)) else {
+    let effects = execution.effects();
+    let (Some(first), Some(second)) = (effect(effects, a), effect(effects, b)) else {
         return false;
     };
     match relation {
@@ -118,12 +119,12 @@ fn relates(relation: Relation, execution: &Execution, a: u32, b: u32) -> bool
     }
 }
 
-fn effect(execution: &Execution, id: u32) -> Option<&Effect>
-    ensures { option_copied result ≡ effect_at execution.now id }
+fn effect(effects: &[Effect], id: u32) -> Option<&Effect>
+    ensures { option_copied result ≡ effect_at effects.now id }
 {
-    if id == 0 || id > execution.len() {
+    if id == 0 {
         None
     } else {
-        Some(execution.get(EffId(id)))
+        effects.get(id as usize - 1)
     }
 }

@@ -1,1 +1,5 @@
+pub mod Finding
 pub mod Law
+pub mod Stamps
+pub mod LatestLaws
+pub mod Making

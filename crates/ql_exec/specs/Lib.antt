@@ -1,2 +1,5 @@
-pub mod Execution
+pub mod Effects
 pub mod Relations
+pub mod Execution
+pub mod Latest
+pub mod Folding

@@ -1,12 +1,17 @@
-ghost use Rattle.std.specs.Prelude.{◌≡◌, ◌+◌, ◌^◌, ◌<◌, ◌≤◌, ◌++◌, ◌∷◌, ◌↔◌, [], length, Some, None, ◌==◌, OnOk, OnErr, is_none};
-ghost use Rattle.std.specs.List.{list_any};
+ghost use Rattle.std.specs.Prelude.{◌≡◌, ◌+◌, ◌-◌, ◌^◌, ◌<◌, ◌≤◌, ◌++◌, ◌∷◌, ◌↔◌, [], List, true, length, take, Some, None, ◌==◌, IfOk, OnOk, OnErr};
 ghost use Rattle.std.specs.Option.{option_copied};
 ghost use Rattle.ql_base.specs.IdLists.{IsAscending};
-ghost use Rattle.ql_exec.specs.Execution.{effect_at, is_elsewhere, IsExecution, SeesEarlier, fault_of, effect_of, next_id, IsPushAnswer};
+ghost use Rattle.ql_exec.specs.declared.effect.Effect.{Effect};
+ghost use Rattle.ql_exec.specs.Effects.{effect_at, of_session, last};
+ghost use Rattle.ql_exec.specs.Execution.{IsExecution, fault_of, effect_of, next_id, IsPushAnswer, IsMade, with_stamp};
+ghost use Rattle.ql_exec.specs.Latest.{FindsLast, KnowsRuns, has_entry, KnowsRunOf};
 
-use crate::effect::{Draft, Effect};
+use crate::copying::copy_effect;
+use crate::effect::{Draft, Effect, Member};
 use crate::fault::ExecFault;
-use ql_base::{EffId, ObjId};
+use crate::judging::{effect, fault_in, last_place, stamp_after};
+use crate::latest::Latest;
+use ql_base::{EffId, IdSet, NoMemory, SessId};
 use std::alloc::Global;
 use std::marker::Model;
 
@@ -14,6 +19,10 @@ use std::marker::Model;
 #[derive(Debug, Drop)]
 pub struct Execution {
     effects: Vec<Effect>,
+    // The last effect of each session.
+    latest: Latest,
+    // Each begun transaction of which there is an effect, and maybe some of which there is none.
+    runs: IdSet,
 }
 
 impl Model for Execution {
@@ -23,10 +32,12 @@ impl Model for Execution {
     ghost Value = { List Effect };
 
     ghost use Rattle.ql_exec.specs.Execution.{IsExecution};
+    ghost use Rattle.ql_exec.specs.Latest.{FindsLast, KnowsRuns};
 
     ghost view = { λ x. x.effects.items };
 
-    ghost invariant = { λ x. IsExecution x.effects.items × (length x.effects.items < 2 ^ 32) };
+    ghost invariant = { λ x. IsExecution x.effects.items × (length x.effects.items < 2 ^ 32)
+        × FindsLast x.latest x.effects.items × KnowsRuns x.runs x.effects.items };
 }
 
 impl Execution {
@@ -36,7 +47,23 @@ impl Execution {
     {
         Execution {
             effects: Vec::new(alloc),
+            latest: Latest::new(alloc),
+            runs: IdSet::new(alloc),
         }
+    }
+
+    /// The pushes of these drafts in order. The first that is refused is told.
+    pub fn from_effects(alloc: Global, drafts: Vec<Draft>) -> Result<Execution, ExecFault>
+        requires { length drafts.items < 2 ^ 32 }
+        ensures { IsMade drafts.items result }
+    {
+        let mut execution = Execution::new(alloc);
+        for draft in drafts {
+            if let Err(fault) = execution.push(draft) {
+                return Err(fault);
+            }
+        }
+        Ok(execution)
     }
 
     pub fn len(&self) -> u32
@@ -65,80 +92,100 @@ impl Execution {
     pub fn effects(&self) -> &[Effect]
         ensures same { result.now ≡ self.now }
         ensures execution { IsExecution self.now }
+        ensures few { length self.now < 2 ^ 32 }
     {
         &self.effects
     }
 
-    /// Appends an effect and gives its id. A draft that is refused is dropped. Of the two faults
-    /// `NotForward` is told first.
+    /// Appends an effect with its stamp and gives its id. A draft that is refused is dropped. Of its
+    /// faults the first is told.
     pub fn push(&mut self, draft: Draft) -> Result<EffId, ExecFault>
         requires room { length self.old + 1 < 2 ^ 32 }
         ensures answer { IsPushAnswer self.old draft result }
         ensures pushed { OnOk result (self.new ≡ self.old ++ effect_of self.old draft ∷ []) }
         ensures err { OnErr result (self.new ≡ self.old) }
-        ensures lawful { (fault_of self.old draft ≡ None)
-            ↔ SeesEarlier self.old (next_id self.old).0 draft.object draft.seen }
+        ensures lawful { (fault_of self.old draft ≡ None) ↔ IsExecution (self.old ++ effect_of self.old draft ∷ []) }
     {
         let id = EffId(self.effects.len() as u32 + 1);
-        if let Some(fault) = fault_in(&self.effects, &draft, id) {
+        let last = effect(&self.effects, self.latest.of(draft.session));
+        if let Some(fault) = fault_in(&self.effects, last, &self.runs, &draft, id) {
             return Err(fault);
         }
-        self.effects.push(Effect {
-            object: draft.object,
-            op: draft.op,
-            session: draft.session,
-            seen: draft.seen,
-        })?;
+        let stamp = stamp_after(&self.effects, last, draft.session, draft.seen.items());
+        let session = draft.session;
+        make_room(&mut self.latest, &mut self.runs, session, draft.member)?;
+        self.effects.push(stamped(draft, stamp))?;
+        self.latest.put(session, id.0);
         Ok(id)
     }
-}
 
-// What is wrong with a draft that is to have this id, the next one.
-fn fault_in(effects: &[Effect], draft: &Draft, id: EffId) -> Option<ExecFault>
-    requires { id ≡ next_id effects.now }
-    ensures value { result ≡ fault_of effects.now draft.now }
-    ensures ascending { IsAscending draft.now.seen }
-{
-    let seen = draft.seen.items();
-    if sees_absent(effects, seen) {
-        Some(ExecFault::NotForward(id))
-    } else if sees_elsewhere(effects, draft.object, seen) {
-        Some(ExecFault::OtherObject(id))
-    } else {
-        None
+    /// Takes the last effect away.
+    pub fn pop(&mut self)
+        requires { 1 ≤ length self.old }
+        ensures { self.new ≡ take (length self.old - 1) self.old }
+    {
+        let count = self.effects.len() - 1;
+        let session = self.effects[count].session;
+        self.effects.truncate(count);
+        let before = last_place(&self.effects, session);
+        self.latest.put(session, before);
+    }
+
+    /// An equal execution.
+    pub fn copy(&self) -> Result<Execution, NoMemory>
+        ensures { IfOk result (λ copied. copied ≡ self.now) }
+    {
+        let alloc = *self.effects.allocator();
+        let effects = copy_effects(alloc, &self.effects)?;
+        Ok(Execution {
+            effects,
+            latest: self.latest.copy()?,
+            runs: self.runs.copy()?,
+        })
     }
 }
 
-// Whether a seen id names no earlier effect.
-fn sees_absent(effects: &[Effect], seen: &[u32]) -> bool
-    ensures { result ≡ list_any (λ id. is_none (effect_at effects.now id)) seen.now }
+fn copy_effects(alloc: Global, effects: &[Effect]) -> Result<Vec<Effect>, NoMemory>
+    ensures { IfOk result (λ copied. copied.items ≡ effects.now) }
 {
-    seen.iter().any(|id| effect(effects, *id).is_none())
-}
-
-// Whether a seen effect is on another object.
-fn sees_elsewhere(effects: &[Effect], object: ObjId, seen: &[u32]) -> bool
-    ensures { result ≡ list_any (λ id. is_elsewhere object (effect_at effects.now id)) seen.now }
-{
-    seen.iter().any(|id| is_on_other(effects, object, *id))
-}
-
-fn effect(effects: &[Effect], id: u32) -> Option<&Effect>
-    ensures value { option_copied result ≡ effect_at effects.now id }
-    ensures there { is_none result ≡ is_none (effect_at effects.now id) }
-{
-    if id == 0 {
-        None
-    } else {
-        effects.get(id as usize - 1)
+    let mut copied = Vec::with_capacity(alloc, effects.len())?;
+    for effect in effects {
+        copied.push(copy_effect(alloc, effect)?)?;
     }
+    Ok(copied)
 }
 
-fn is_on_other(effects: &[Effect], object: ObjId, id: u32) -> bool
-    ensures { result ≡ is_elsewhere object (effect_at effects.now id) }
+// Makes room in the tables for an effect of the session and the transaction.
+fn make_room(
+    latest: &mut Latest,
+    runs: &mut IdSet,
+    session: SessId,
+    member: Member,
+) -> Result<(), NoMemory>
+    ensures latest { (x : List Effect) → FindsLast latest.old x → FindsLast latest.new x }
+    ensures runs { (x : List Effect) → KnowsRuns runs.old x → KnowsRuns runs.new x }
+    ensures entry { OnOk result (has_entry latest.new session ≡ true) }
+    ensures run { OnOk result (KnowsRunOf runs.new member) }
 {
-    match effect(effects, id) {
-        Some(effect) => effect.object != object,
-        None => false,
+    latest.include(session)?;
+    if let Member::Inside(run, _) = member {
+        runs.insert(run.0)?;
+    }
+    Ok(())
+}
+
+fn stamped(draft: Draft, stamp: u32) -> Effect
+    ensures { result ≡ with_stamp draft stamp }
+{
+    Effect {
+        object: draft.object,
+        op: draft.op,
+        args: draft.args,
+        payload: draft.payload,
+        answer: draft.answer,
+        session: draft.session,
+        member: draft.member,
+        stamp,
+        seen: draft.seen,
     }
 }

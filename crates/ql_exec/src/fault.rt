@@ -1,4 +1,4 @@
-use ql_base::EffId;
+use ql_base::{EffId, NoMemory};
 use std::alloc::AllocFailed;
 
 /// Why a draft is no next effect of an execution. The id is the one that it would have.
@@ -8,6 +8,9 @@ pub enum ExecFault {
     NotForward(EffId),
     /// It sees an effect on another object.
     OtherObject(EffId),
+    /// It is in a begun transaction of which there are effects, and one of them is of another
+    /// session or under another declared name, or the session's last effect isn't one of them.
+    SplitTxn(EffId),
     NoMemory,
 }
 
@@ -18,6 +21,17 @@ impl<T: Drop> From<AllocFailed<T>> for ExecFault {
     ghost from_gives = { λ _ fault. fault ≡ NoMemory };
 
     fn from(_failed: AllocFailed<T>) -> ExecFault {
+        ExecFault::NoMemory
+    }
+}
+
+impl From<NoMemory> for ExecFault {
+    ghost use Rattle.std.specs.Prelude.{◌≡◌};
+    ghost use Rattle.ql_exec.specs.declared.fault.ExecFault.TheVariants.{NoMemory};
+
+    ghost from_gives = { λ _ fault. fault ≡ NoMemory };
+
+    fn from(_error: ql_base::NoMemory) -> ExecFault {
         ExecFault::NoMemory
     }
 }

@@ -1,25 +1,48 @@
-use Rattle.std.proofs.Common.{◌≡◌, ◌+◌, ◌<◌, ◌^◌, None, length, arith, sym, ap, length-append}
+use Rattle.std.proofs.Common.{◌≡◌, ◌++◌, ◌∷◌, [], List, ℕ, suc, length-append, ◌+◌, ◌<◌, ◌^◌, length, None, sym, ap, arith, ◌∙◌}
 use Rattle.ql_exec.specs.declared.effect.Effect.{Effect}
-use Rattle.ql_exec.specs.Execution.{fault_of}
-use Rattle.ql_exec.proofs.Law.{fault_of-None, IsExecution-push}
+use Rattle.ql_exec.specs.Execution.{fault_of, effect_of, stamp_of, with_stamp}
+use Rattle.ql_exec.specs.Latest.{with_latest}
+use Rattle.ql_exec.proofs.Law.{fault_of-None, faultless, IsExecution-push}
+use Rattle.ql_exec.proofs.LatestLaws.{FindsLast-push, KnowsRuns-push}
 use Rattle.ql_exec.proofs.execution.Execution.push.Goals as goal
 
 pub returns-in-Some-clause-lawful : goal.returns-in-Some-clause-lawful
-returns-in-Some-clause-lawful c = fault_of-None c.args.self.now c.args.draft c.fault_in.ensures.ascending
+returns-in-Some-clause-lawful c = fault_of-None c.args.self.now c.args.draft (rw (← c.self.view_is) c.self.invariant.0) c.fault_in.ensures.ascending
+
+pub returns-in_err-make_room-clause-lawful : goal.returns-in_err-make_room-clause-lawful
+returns-in_err-make_room-clause-lawful c = fault_of-None c.args.self.now c.args.draft (rw (← c.self.view_is) c.self.invariant.0) c.fault_in.ensures.ascending
 
 pub returns-in_err-push-clause-lawful : goal.returns-in_err-push-clause-lawful
-returns-in_err-push-clause-lawful c = fault_of-None c.args.self.now c.args.draft c.fault_in.ensures.ascending
+returns-in_err-push-clause-lawful c = fault_of-None c.args.self.now c.args.draft (rw (← c.self.view_is) c.self.invariant.0) c.fault_in.ensures.ascending
 
 pub returns-clause-lawful : goal.returns-clause-lawful
-returns-clause-lawful c = fault_of-None c.args.self.now c.args.draft c.fault_in.ensures.ascending
+returns-clause-lawful c = fault_of-None c.args.self.now c.args.draft (rw (← c.self.view_is) c.self.invariant.0) c.fault_in.ensures.ascending
+
+pub invariant_of-self : goal.invariant_of-self
+invariant_of-self c = (c.self.invariant.0, c.self.invariant.1, c.make_room.ensures.latest c.self.inside.effects.items c.self.invariant.2, c.make_room.ensures.runs c.self.inside.effects.items c.self.invariant.3)
+
+pub invariant_of-self-in_err-push : goal.invariant_of-self-in_err-push
+invariant_of-self-in_err-push c =
+    rw c.in_err-push.ensures.items
+    (c.self.invariant.0, c.self.invariant.1, c.make_room.ensures.latest c.self.inside.effects.items c.self.invariant.2, c.make_room.ensures.runs c.self.inside.effects.items c.self.invariant.3)
 
 pub invariant_of-self-2 : goal.invariant_of-self-2
 invariant_of-self-2 c =
-    let no_fault : fault_of c.self.inside.effects.items c.args.draft ≡ None =
-    rw (← c.deref.ensures.value) (sym c.in_default.ensures.value) in
-    let sees = (fault_of-None c.self.inside.effects.items c.args.draft c.fault_in.ensures.ascending).0 no_fault in
-    let room : length c.self.inside.effects.items + 1 < 2 ^ 32 = rw c.self.view_is c.requires.room in
-    let longer = ap length c.in_ok-push.ensures.items in (
-      rw c.in_ok-push.ensures.items (IsExecution-push _ _ c.self.invariant.0 sees),
-      omega (arith, room, longer, length-append {A = Effect}),
+    let x = c.self.inside.effects.items in
+    let no_fault : fault_of x c.args.draft ≡ None = rw (← c.deref-2.ensures.value) (sym c.in_default.ensures.value) in
+    let sound = faultless x c.args.draft c.fault_in.ensures.ascending no_fault in
+    let draft = c.args.draft in
+    let stamp : stamp_of c.deref-3.result.now draft.session c.items.result.now ≡ stamp_of x draft.session draft.seen =
+    ap (λ (y : List Effect). stamp_of y draft.session c.items.result.now) c.deref-3.ensures.value ∙ ap (λ (seen : List ℕ). stamp_of x draft.session seen) c.items.ensures.same in
+    let made : c.stamped.result ≡ effect_of x draft = c.stamped.ensures ∙ ap (λ (n : ℕ). with_stamp draft n) (c.stamp_after-stamp.ensures ∙ stamp) in
+    let items : c.push.new.self.items ≡ x ++ effect_of x draft ∷ [] = c.in_ok-push.ensures.items ∙ ap (λ (e : Effect). x ++ e ∷ []) made in
+    let count = c.len.ensures in
+    let id : c.len.result + 1 ≡ suc (length x) = omega (arith, count, c.self.inside.effects.ok.0) in
+    let table : c.put.new.self ≡ with_latest c.make_room.new.latest draft.session (suc (length x)) = c.put.ensures ∙ ap (λ (n : ℕ). with_latest c.make_room.new.latest draft.session n) id in
+    let room : length x + 1 < 2 ^ 32 = rw c.self.view_is c.requires.room in
+    rw (items, table) (
+      IsExecution-push x draft c.self.invariant.0 sound.0 sound.1,
+      omega (arith, room, length-append x (effect_of x draft ∷ [])),
+      FindsLast-push c.make_room.new.latest x (effect_of x draft) c.in_ok-make_room.ensures.entry (c.make_room.ensures.latest x c.self.invariant.2),
+      KnowsRuns-push c.make_room.new.runs x (effect_of x draft) c.in_ok-make_room.ensures.run (c.make_room.ensures.runs x c.self.invariant.3),
     )
