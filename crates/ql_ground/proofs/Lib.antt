@@ -9,3 +9,7 @@ pub mod LevelRules
 pub mod Bodies
 pub mod Inputs
 pub mod Refuted
+pub mod Growth
+pub mod Constants
+pub mod Members
+pub mod Problems

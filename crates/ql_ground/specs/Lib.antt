@@ -7,3 +7,4 @@ pub mod Truth
 pub mod Implication
 pub mod Worked
 pub mod Least
+pub mod Parts

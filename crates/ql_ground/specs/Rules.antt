@@ -1,5 +1,5 @@
 -- The axioms of executions and the levels as rules over a few effects.
-use Rattle.std.specs.Prelude.{ℕ, List, [], ◌∷◌}
+use Rattle.std.specs.Prelude.{ℕ, List, [], ◌∷◌, ◌++◌}
 use Rattle.ql_base.specs.declared.ids.OpId.{OpId}
 use Rattle.ql_atoms.specs.declared.atoms.Atom.{Atom}
 use Rattle.ql_atoms.specs.declared.atoms.Atom.TheVariants.{Pair, Current, Is}
@@ -58,16 +58,16 @@ alike_left r = rule 3 (Pair Eq i j ∷ Pair r i k ∷ []) (Pair r j k ∷ [])
 abbrev pub alike_right : PairKind → Rule
 alike_right r = rule 3 (Pair Eq i j ∷ Pair r k i ∷ []) (Pair r k j ∷ [])
 
+abbrev pub alike_rules : PairKind → List Rule
+alike_rules r = alike_left r ∷ alike_right r ∷ []
+
+-- 4
+abbrev pub all_alike_rules : List Rule
+all_alike_rules = alike_rules So ++ alike_rules SameObj ++ alike_rules Vis ++ alike_rules Hbo ++ alike_rules Hb ++ alike_rules SameTxn
+
 -- 1 to 4: equality
 abbrev pub equality_rules : List Rule
-equality_rules =
-    reflexive Eq ∷ symmetric Eq ∷ transitive Eq
-    ∷ alike_left So ∷ alike_right So
-    ∷ alike_left SameObj ∷ alike_right SameObj
-    ∷ alike_left Vis ∷ alike_right Vis
-    ∷ alike_left Hbo ∷ alike_right Hbo
-    ∷ alike_left Hb ∷ alike_right Hb
-    ∷ alike_left SameTxn ∷ alike_right SameTxn ∷ []
+equality_rules = reflexive Eq ∷ symmetric Eq ∷ transitive Eq ∷ all_alike_rules
 
 -- 5: equal effects are of one operation, and both current or neither
 abbrev pub alike_op : OpId → Rule
@@ -76,37 +76,59 @@ alike_op o = rule 2 (Pair Eq i j ∷ Is o i ∷ []) (Is o j ∷ [])
 abbrev pub alike_current : Rule
 alike_current = rule 2 (Pair Eq i j ∷ Current i ∷ []) (Current j ∷ [])
 
+-- effects after one are in order, and effects before one
+abbrev pub from_one_rule : Rule
+from_one_rule = rule 3 (Pair So i j ∷ Pair So i k ∷ []) (Pair So j k ∷ Pair So k j ∷ Pair Eq j k ∷ [])
+
+abbrev pub to_one_rule : Rule
+to_one_rule = rule 3 (Pair So i k ∷ Pair So j k ∷ []) (Pair So i j ∷ Pair So j i ∷ Pair Eq i j ∷ [])
+
 -- 6 to 8: session order, an order of each session's effects
 abbrev pub session_rules : List Rule
-session_rules =
-    transitive So
-    ∷ rule 3 (Pair So i j ∷ Pair So i k ∷ []) (Pair So j k ∷ Pair So k j ∷ Pair Eq j k ∷ [])
-    ∷ rule 3 (Pair So i k ∷ Pair So j k ∷ []) (Pair So i j ∷ Pair So j i ∷ Pair Eq i j ∷ []) ∷ []
+session_rules = transitive So ∷ from_one_rule ∷ to_one_rule ∷ []
 
 -- 9 to 12: objects
 abbrev pub object_rules : List Rule
 object_rules = reflexive SameObj ∷ symmetric SameObj ∷ transitive SameObj ∷ within Vis SameObj ∷ []
 
+abbrev pub of_session_rule : Rule
+of_session_rule = rule 2 (Pair So i j ∷ Pair SameObj i j ∷ []) (Pair Hbo i j ∷ [])
+
 -- 13 to 16: happens-before on one object
 abbrev pub object_order_rules : List Rule
-object_order_rules =
-    within Vis Hbo
-    ∷ rule 2 (Pair So i j ∷ Pair SameObj i j ∷ []) (Pair Hbo i j ∷ [])
-    ∷ transitive Hbo
-    ∷ within Hbo SameObj ∷ []
+object_order_rules = within Vis Hbo ∷ of_session_rule ∷ transitive Hbo ∷ within Hbo SameObj ∷ []
 
 -- 17 to 21: happens-before
 abbrev pub order_rules : List Rule
 order_rules = within Hbo Hb ∷ within So Hb ∷ within Vis Hb ∷ transitive Hb ∷ irreflexive Hb ∷ []
 
--- 25 to 31: transactions, each within one session and with nothing of another between its effects
+-- a transaction is within one session
+abbrev pub one_session_rule : Rule
+one_session_rule = rule 2 (Pair SameTxn i j ∷ []) (Pair So i j ∷ Pair So j i ∷ Pair Eq i j ∷ [])
+
+-- with nothing of another between its effects
+abbrev pub contiguous_rule : Rule
+contiguous_rule = rule 3 (Pair SameTxn i k ∷ Pair So i j ∷ Pair So j k ∷ []) (Pair SameTxn i j ∷ [])
+
+-- the current effects are in one transaction
+abbrev pub in_one_rule : Rule
+in_one_rule = rule 2 (Current i ∷ Current j ∷ []) (Pair SameTxn i j ∷ [])
+
+-- and are all of it
+abbrev pub whole_rule : Rule
+whole_rule = rule 2 (Current i ∷ Pair SameTxn i j ∷ []) (Current j ∷ [])
+
+-- 28, 29
+abbrev pub contiguous_rules : List Rule
+contiguous_rules = one_session_rule ∷ contiguous_rule ∷ []
+
+-- 30, 31
+abbrev pub current_rules : List Rule
+current_rules = in_one_rule ∷ whole_rule ∷ []
+
+-- 25 to 31: transactions
 abbrev pub transaction_rules : List Rule
-transaction_rules =
-    reflexive SameTxn ∷ symmetric SameTxn ∷ transitive SameTxn
-    ∷ rule 2 (Pair SameTxn i j ∷ []) (Pair So i j ∷ Pair So j i ∷ Pair Eq i j ∷ [])
-    ∷ rule 3 (Pair SameTxn i k ∷ Pair So i j ∷ Pair So j k ∷ []) (Pair SameTxn i j ∷ [])
-    ∷ rule 2 (Current i ∷ Current j ∷ []) (Pair SameTxn i j ∷ [])
-    ∷ rule 2 (Current i ∷ Pair SameTxn i j ∷ []) (Current j ∷ []) ∷ []
+transaction_rules = reflexive SameTxn ∷ symmetric SameTxn ∷ transitive SameTxn ∷ contiguous_rules ++ current_rules
 
 -- 32: what the level of an operation promises the current effect
 abbrev pub level_rule : Level → Rule

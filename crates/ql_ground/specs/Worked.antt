@@ -1,8 +1,7 @@
 -- A worked problem: one type with one operation, whose contract is `true`.
-use Rattle.std.specs.Prelude.{ℕ, List, [], ◌∷◌}
+use Rattle.std.specs.Prelude.{List, [], ◌∷◌}
 use Rattle.ql_cnf.specs.declared.lit.Lit.{Lit}
 use Rattle.ql_cnf.specs.Circuits.{yes, no}
-use Rattle.ql_cnf.specs.Satisfaction.{ClauseList}
 use Rattle.ql_lang.specs.Formulas.{Always, Resolved}
 
 abbrev pub always_true : Resolved

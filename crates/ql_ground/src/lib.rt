@@ -3,8 +3,17 @@
 // every execution.
 #![tactic(auto)]
 
+mod body;
+mod literal;
+mod operation_axioms;
+mod problem;
+mod promises;
+mod relation_axioms;
+mod rule;
 mod soundness;
+mod transaction_axioms;
 mod worked;
 
+pub use problem::{op_problem, txn_problem};
 pub use soundness::{refuted_op_is_implied, refuted_txn_is_implied};
 pub use worked::problems_of_one_operation;

@@ -1,0 +1,13 @@
+use Rattle.std.proofs.Common.{true, ℕ, ◌++◌, ◌∷◌, [], ap, ◌∙◌}
+use Rattle.ql_atoms.specs.Atoms.{size_of}
+use Rattle.ql_atoms.specs.declared.atoms.Atom.TheVariants.{Current}
+use Rattle.ql_cnf.specs.declared.lit.Lit.{Lit}
+use Rattle.ql_ground.specs.Bodies.{constant_of}
+use Rattle.ql_ground.specs.Parts.{literal_of}
+use Rattle.ql_ground.proofs.Growth.{mapped_more}
+use Rattle.ql_ground.proofs.body.push_members.Goals as goal
+
+pub loop-t-preserved : goal.loop-t-preserved
+loop-t-preserved c =
+    mapped_more (λ (m : ℕ). literal_of (size_of c.args.s) true (Current m)) (constant_of (size_of c.args.s)) [] c.loop-t.lits.items c.push.new.self.items c.args.members.now c.loop-t.t-index _ c.loop-t-test.true c.loop-t.invariant
+    (c.in_ok-push.ensures.items ∙ ap (λ (x : Lit). c.loop-t.lits.items ++ x ∷ []) (c.literal.ensures.value ∙ ap (λ (m : ℕ). literal_of (size_of c.args.s) true (Current m)) c.constant_of.ensures))

@@ -1,0 +1,8 @@
+use Rattle.std.proofs.Common.{◌≡◌, map, take}
+use Rattle.ql_atoms.specs.Atoms.{size_of}
+use Rattle.ql_ground.specs.Bodies.{constant_of}
+use Rattle.ql_ground.specs.Parts.{member_literals}
+use Rattle.ql_ground.proofs.body.push_members.Given as goal
+
+abbrev pub invariant-loop-t : goal.invariant-loop-t
+invariant-loop-t l = l.lits.items ≡ member_literals (size_of l.s) (map (constant_of (size_of l.s)) (take l.t-index l.members))

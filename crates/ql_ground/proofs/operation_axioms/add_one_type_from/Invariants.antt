@@ -1,0 +1,13 @@
+use Rattle.std.proofs.Common.{◌≡◌, ◌+◌, ◌*◌, ◌≤◌, ◌++◌, length}
+use Rattle.ql_atoms.specs.Atoms.{size_of}
+use Rattle.ql_cnf.specs.Circuits.{clauses_of}
+use Rattle.ql_ground.specs.Ground.{upto}
+use Rattle.ql_ground.specs.Parts.{one_type_between}
+use Rattle.ql_ground.proofs.operation_axioms.add_one_type_from.Given as goal
+
+abbrev pub invariant-loop-j : goal.invariant-loop-j
+invariant-loop-j l = record {
+  clauses : l.c.clauses ≡ l.initial.c.clauses ++ clauses_of (upto l.j (λ j. one_type_between l.types (size_of l.s) l.i j));
+  variables : l.c.variables ≡ l.initial.c.variables;
+  counted : length l.c.clauses ≤ length l.initial.c.clauses + l.j * 1024;
+}

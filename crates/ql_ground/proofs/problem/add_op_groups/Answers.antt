@@ -1,0 +1,26 @@
+use Rattle.std.proofs.Common.{◌≡◌, ◌++◌, [], ◌∷◌}
+use Rattle.std.proofs.lemmas.Result.{on_ok_weaker}
+use Rattle.ql_atoms.specs.Atoms.{size_of}
+use Rattle.ql_cnf.specs.Circuits.{clauses_of}
+use Rattle.ql_atoms.specs.declared.atoms.Atom.TheVariants.{Is}
+use Rattle.ql_ground.specs.Bodies.{current_effect}
+use Rattle.ql_ground.specs.Ground.{op, implication, instances, all_instances, alike_operations, axioms, all_variable_operations}
+use Rattle.ql_ground.specs.Rules.{equality_rules, level_rule}
+use Rattle.ql_ground.proofs.Growth.{then}
+use Rattle.ql_ground.proofs.problem.add_op_groups.Goals as goal
+
+pub returns-clause-clauses : goal.returns-clause-clauses
+returns-clause-clauses c = on_ok_weaker c.add_variables.result
+    (λ (h : c.add_variables.new.c.clauses ≡ c.add_own_operation.new.c.clauses ++ clauses_of (all_variable_operations (size_of c.args.s) 0 c.args.variables.now)).
+    then c.args.c.now.clauses c.add_own_operation.new.c.clauses c.add_variables.new.c.clauses (all_instances (size_of c.args.s) equality_rules ++ alike_operations (size_of c.args.s) ++ axioms c.args.types.now (size_of c.args.s) ++ instances (size_of c.args.s) (level_rule c.args.goal.1) ++ implication (size_of c.args.s) [] (Is (op c.args.goal.0.0) (current_effect (size_of c.args.s)) ∷ []) ∷ []) (all_variable_operations (size_of c.args.s) 0 c.args.variables.now)
+    (then c.args.c.now.clauses c.add_level.new.c.clauses c.add_own_operation.new.c.clauses (all_instances (size_of c.args.s) equality_rules ++ alike_operations (size_of c.args.s) ++ axioms c.args.types.now (size_of c.args.s) ++ instances (size_of c.args.s) (level_rule c.args.goal.1)) (implication (size_of c.args.s) [] (Is (op c.args.goal.0.0) (current_effect (size_of c.args.s)) ∷ []) ∷ [])
+    (then c.args.c.now.clauses c.add_axioms.new.c.clauses c.add_level.new.c.clauses (all_instances (size_of c.args.s) equality_rules ++ alike_operations (size_of c.args.s) ++ axioms c.args.types.now (size_of c.args.s)) (instances (size_of c.args.s) (level_rule c.args.goal.1))
+    (then c.args.c.now.clauses c.add_alike_operations.new.c.clauses c.add_axioms.new.c.clauses (all_instances (size_of c.args.s) equality_rules ++ alike_operations (size_of c.args.s)) (axioms c.args.types.now (size_of c.args.s))
+    (then c.args.c.now.clauses c.add_equality.new.c.clauses c.add_alike_operations.new.c.clauses (all_instances (size_of c.args.s) equality_rules) (alike_operations (size_of c.args.s))
+    c.in_ok-add_equality.ensures.clauses
+    c.in_ok-add_alike_operations.ensures.clauses)
+    c.in_ok-add_axioms.ensures.clauses)
+    c.in_ok-add_level.ensures.clauses)
+    c.in_ok-add_own_operation.ensures.clauses)
+    h)
+    c.add_variables.ensures.clauses

@@ -1,0 +1,20 @@
+use Rattle.std.proofs.Common.{◌≡◌, ◌++◌}
+use Rattle.std.proofs.lemmas.Result.{on_ok_weaker}
+use Rattle.ql_atoms.specs.Atoms.{size_of}
+use Rattle.ql_cnf.specs.Circuits.{clauses_of}
+use Rattle.ql_ground.specs.Ground.{all_instances}
+use Rattle.ql_ground.specs.Rules.{session_rules, object_rules, object_order_rules, order_rules}
+use Rattle.ql_ground.proofs.Growth.{then}
+use Rattle.ql_ground.proofs.problem.add_relations.Goals as goal
+
+pub returns-clause-clauses : goal.returns-clause-clauses
+returns-clause-clauses c = on_ok_weaker c.add_order.result
+    (λ (h : c.add_order.new.c.clauses ≡ c.add_object_order.new.c.clauses ++ clauses_of (all_instances (size_of c.args.s) order_rules)).
+    then c.args.c.now.clauses c.add_object_order.new.c.clauses c.add_order.new.c.clauses (all_instances (size_of c.args.s) session_rules ++ all_instances (size_of c.args.s) object_rules ++ all_instances (size_of c.args.s) object_order_rules) (all_instances (size_of c.args.s) order_rules)
+    (then c.args.c.now.clauses c.add_objects.new.c.clauses c.add_object_order.new.c.clauses (all_instances (size_of c.args.s) session_rules ++ all_instances (size_of c.args.s) object_rules) (all_instances (size_of c.args.s) object_order_rules)
+    (then c.args.c.now.clauses c.add_session_order.new.c.clauses c.add_objects.new.c.clauses (all_instances (size_of c.args.s) session_rules) (all_instances (size_of c.args.s) object_rules)
+    c.in_ok-add_session_order.ensures.clauses
+    c.in_ok-add_objects.ensures.clauses)
+    c.in_ok-add_object_order.ensures.clauses)
+    h)
+    c.add_order.ensures.clauses

@@ -1,0 +1,39 @@
+use Rattle.std.proofs.Common.{◌≡◌, ℕ, suc, ◌+◌, ◌≤◌, ◌++◌, List, length, arith, ap, subst, ◌∙◌}
+use Rattle.ql_cnf.specs.Circuits.{gates, clauses_of}
+use Rattle.ql_cnf.specs.declared.lit.Lit.{Lit}
+use Rattle.ql_lang.specs.Formulas.{resolved_of, statement_of}
+use Rattle.ql_lang.specs.declared.formula.OpChoice.{OpChoice}
+use Rattle.ql_ground.specs.Bodies.{body_circuit}
+use Rattle.ql_ground.specs.Parts.{op_groups}
+use Rattle.ql_ground.proofs.Constants.{op_over, op_inputs}
+use Rattle.ql_ground.proofs.Problems.{size, op_done, op_implied}
+use Rattle.ql_ground.proofs.problem.op_problem.Goals as goal
+
+pub deny-requires-clause-terms : goal.deny-requires-clause-terms
+deny-requires-clause-terms c =
+    op_over (size (length c.items-variables.result.now + 1) (length c.args.types.now)) (length c.args.f.now.vars) (omega (arith, ap length c.items-variables.ensures)) (statement_of c.args.f.now.body) c.requires.contract.body
+
+pub deny-requires-clause-leaves : goal.deny-requires-clause-leaves
+deny-requires-clause-leaves c =
+    op_inputs (size (length c.items-variables.result.now + 1) (length c.args.types.now)) (length c.args.f.now.vars) (omega (arith, ap length c.items-variables.ensures)) (statement_of c.args.f.now.body) c.requires.contract.body
+
+pub deny-requires-clause-small : goal.deny-requires-clause-small
+deny-requires-clause-small c =
+    let counted : suc (length c.args.f.now.vars) ≡ length c.items-variables.result.now + 1 = omega (arith, ap length c.items-variables.ensures) in
+    subst (λ (n : ℕ). gates (body_circuit (size n (length c.args.types.now)) (statement_of c.args.f.now.body)) ≤ 256) counted c.requires.small
+
+pub deny-requires-clause-room : goal.deny-requires-clause-room
+deny-requires-clause-room c = omega (arith, c.in_ok-add_op_groups.ensures.counted, ap length c.new-c.ensures.empty)
+
+pub returns-clause-list : goal.returns-clause-list
+returns-clause-list c =
+    let counted : length c.items-variables.result.now + 1 ≡ suc (length c.args.f.now.vars) = omega (arith, ap length c.items-variables.ensures) in
+    op_done c.args.types.now c.args.o.0 c.args.level (resolved_of c.args.f.now) (size (length c.items-variables.result.now + 1) (length c.args.types.now)) c.add_op_groups.new.c.clauses c.deny.new.c
+    (ap (λ (n : ℕ). size n (length c.args.types.now)) counted)
+    (c.in_ok-add_op_groups.ensures.clauses
+    ∙ ap (λ (p : List (List Lit)). p ++ clauses_of (op_groups c.args.types.now c.args.o.0 c.args.level c.items-variables.result.now (size (length c.items-variables.result.now + 1) (length c.args.types.now)))) c.new-c.ensures.empty
+    ∙ ap (λ (vars : List OpChoice). clauses_of (op_groups c.args.types.now c.args.o.0 c.args.level vars (size (length c.items-variables.result.now + 1) (length c.args.types.now)))) c.items-variables.ensures)
+    c.in_ok-deny.ensures.variables c.in_ok-deny.ensures.clauses
+
+pub returns-clause-sound : goal.returns-clause-sound
+returns-clause-sound c = op_implied c.args.types.now c.args.o.0 c.args.level (resolved_of c.args.f.now) c.deny.new.c c.requires.contract (returns-clause-list c)

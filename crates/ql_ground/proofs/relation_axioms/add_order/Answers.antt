@@ -1,0 +1,19 @@
+use Rattle.std.proofs.Common.{◌≡◌, ◌++◌, [], ◌∷◌}
+use Rattle.std.proofs.lemmas.Result.{on_ok_weaker}
+use Rattle.ql_atoms.specs.Atoms.{size_of}
+use Rattle.ql_atoms.specs.declared.atoms.PairKind.TheVariants.{Hb, Hbo, So, Vis}
+use Rattle.ql_cnf.specs.Circuits.{clauses_of}
+use Rattle.ql_ground.specs.Ground.{instances}
+use Rattle.ql_ground.specs.Rules as rules
+use Rattle.ql_ground.proofs.Growth.{one_rule, then_rule}
+use Rattle.ql_ground.proofs.relation_axioms.add_order.Goals as goal
+
+pub returns-clause-clauses : goal.returns-clause-clauses
+returns-clause-clauses c = on_ok_weaker c.add_irreflexive.result
+    (λ (h : c.add_irreflexive.new.c.clauses ≡ c.add_transitive.new.c.clauses ++ clauses_of (instances (size_of c.args.s) (rules.irreflexive Hb))).
+    then_rule (size_of c.args.s) c.args.c.now.clauses c.add_within.new.c.clauses c.add_irreflexive.new.c.clauses (rules.within Hbo Hb) ((rules.within So Hb) ∷ (rules.within Vis Hb) ∷ (rules.transitive Hb) ∷ (rules.irreflexive Hb) ∷ []) c.in_ok-add_within.ensures.clauses
+    (then_rule (size_of c.args.s) c.add_within.new.c.clauses c.add_within-2.new.c.clauses c.add_irreflexive.new.c.clauses (rules.within So Hb) ((rules.within Vis Hb) ∷ (rules.transitive Hb) ∷ (rules.irreflexive Hb) ∷ []) c.in_ok-add_within-2.ensures.clauses
+    (then_rule (size_of c.args.s) c.add_within-2.new.c.clauses c.add_within-3.new.c.clauses c.add_irreflexive.new.c.clauses (rules.within Vis Hb) ((rules.transitive Hb) ∷ (rules.irreflexive Hb) ∷ []) c.in_ok-add_within-3.ensures.clauses
+    (then_rule (size_of c.args.s) c.add_within-3.new.c.clauses c.add_transitive.new.c.clauses c.add_irreflexive.new.c.clauses (rules.transitive Hb) ((rules.irreflexive Hb) ∷ []) c.in_ok-add_transitive.ensures.clauses
+    (one_rule (size_of c.args.s) c.add_transitive.new.c.clauses c.add_irreflexive.new.c.clauses (rules.irreflexive Hb) h)))))
+    c.add_irreflexive.ensures.clauses
