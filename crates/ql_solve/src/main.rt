@@ -1,0 +1,68 @@
+// Decides the clause lists of files in the DIMACS form, one after another, and checks each answer by
+// the checker or by reading the clauses.
+#![tactic(auto)]
+
+mod dimacs;
+
+use dimacs::clauses;
+use ql_base::NoMemory;
+use ql_cnf::{Clauses, satisfies};
+use ql_refute::{Verdict, check};
+use ql_sat::{Decided, decide};
+use std::alloc::Global;
+use std::env::Env;
+use std::{env, fs, io};
+
+fn main(rt: HostRuntime) -> io::Result<()> {
+    let paths = words(&rt)?;
+    for path in &paths {
+        let text = fs::read_to_string(&rt, path)?;
+        match judge(rt.alloc(), text.as_str()) {
+            Ok(Answer::Model) => println!(rt; "{path}: model")?,
+            Ok(Answer::Refuted(lines)) => println!(rt; "{path}: refuted {lines} lines")?,
+            Ok(Answer::Wrong) => println!(rt; "{path}: wrong answer")?,
+            Ok(Answer::BadFile) => println!(rt; "{path}: not a clause list")?,
+            Err(NoMemory) => println!(rt; "{path}: no memory")?,
+        }
+    }
+    Ok(())
+}
+
+// The words of the command line, without the program's own name.
+fn words<R: Env + AllocGlobal>(rt: &R) -> io::Result<Vec<String>> {
+    let words = env::args(rt)?.skip(1).collect::<Vec<String>>(rt.alloc())?;
+    Ok(words)
+}
+
+// What a file came to.
+#[derive(Clone, Copy)]
+enum Answer {
+    Model,
+    // Refuted with so many lines.
+    Refuted(usize),
+    // The evidence doesn't hold, which the solver's contract rules out.
+    Wrong,
+    BadFile,
+}
+
+fn judge(alloc: Global, text: &str) -> Result<Answer, NoMemory> {
+    match clauses(alloc, text)? {
+        Some(clauses) => decided(alloc, &clauses),
+        None => Ok(Answer::BadFile),
+    }
+}
+
+fn decided(alloc: Global, clauses: &Clauses) -> Result<Answer, NoMemory> {
+    match decide(alloc, clauses)? {
+        Decided::Model(model) if satisfies(&model, clauses) => Ok(Answer::Model),
+        Decided::Model(_) => Ok(Answer::Wrong),
+        Decided::Refuted(refutation) => {
+            let mut marks = vec![in alloc; 0; clauses.variables() as usize + 1]?;
+            if check(clauses, &refutation, &mut marks) == Verdict::Accepted {
+                Ok(Answer::Refuted(refutation.lines.items().len()))
+            } else {
+                Ok(Answer::Wrong)
+            }
+        }
+    }
+}
