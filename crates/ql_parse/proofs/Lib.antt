@@ -2,3 +2,9 @@ pub mod ReaderLemmas
 pub mod RelationRules
 pub mod Spans
 pub mod ContractLemmas
+pub mod Pieces
+pub mod PiecesRead
+pub mod PiecesStand
+pub mod PiecesText
+pub mod OneReading
+pub mod Printing

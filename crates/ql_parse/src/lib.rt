@@ -2,6 +2,9 @@
 // Its one contract: the answer is the tree that the grammar has for the text, and else the first fault.
 #![tactic(auto)]
 
+mod again;
+#[cfg(test)]
+mod again_tests;
 mod contract;
 mod fault;
 mod parse;
@@ -10,5 +13,6 @@ mod relation;
 #[cfg(test)]
 mod tests;
 
+pub use again::{one_answer, printed_again};
 pub use fault::ParseFault;
 pub use parse::parse_contract;

@@ -204,6 +204,7 @@ impl<'a> Reader<'a> {
     }
 
     /// Whether nothing is left.
+    #[tactic(auto, using(crate::proofs::ContractLemmas::ends_here, crate::proofs::ContractLemmas::goes_on))]
     pub(crate) fn end(&self) -> Result<(), Refusal>
         ensures ok { OnOk result (EndsHere self.now) }
         ensures err { IfErr result (EndsNot self.now) }

@@ -117,12 +117,21 @@ fn contracts_or_their_first_fault(rt: HostRuntime) -> Result<(), Fail> {
     Ok(())
 }
 
+// Parts that make 1 MiB, and the first fault of that text.
+const HOSTILE: &[(&[u8], u32, &str)] = &[
+    (b"(", 1_048_576, "deep 64"),
+    (b"not ", 262_144, "unexpected 0"),
+    (b"a", 1_048_576, "word 0"),
+    (b"\"", 1_048_576, "unexpected 0"),
+    (b"<", 1_048_576, "unexpected 0"),
+];
+
 #[test]
 fn long_hostile_texts(rt: HostRuntime) -> Result<(), Fail> {
-    let brackets = vec![in rt.alloc(); b'('; 1_048_576]?;
-    assert_eq!(rt; told(rt.alloc(), &brackets)?.as_str(), "deep 64");
-    let quotes = vec![in rt.alloc(); b'"'; 1_048_576]?;
-    assert_eq!(rt; told(rt.alloc(), &quotes)?.as_str(), "unexpected 0");
+    for (part, count, want) in HOSTILE {
+        let text = repeated(rt.alloc(), part, *count)?;
+        assert_eq!(rt; told(rt.alloc(), &text)?.as_str(), *want);
+    }
     Ok(())
 }
 
@@ -145,6 +154,15 @@ fn nested(rt: HostRuntime) -> Result<(), Fail> {
         "wide 1024"
     );
     Ok(())
+}
+
+/// A part so many times.
+fn repeated(alloc: Global, part: &[u8], count: u32) -> Result<Vec<u8>, AllocError> {
+    let mut text = Vec::new(alloc);
+    for _ in 0..count {
+        text.extend_from_slice(part)?;
+    }
+    Ok(text)
 }
 
 /// `true` in so many brackets.

@@ -1,0 +1,59 @@
+-- A text is one contract or has one first fault.
+use Rattle.std.proofs.Common.{◌≡◌, ℕ, List, [], ◌∷◌, Result, Ok, Err, refl, sym, ap, ◌∙◌, subst, length}
+use Rattle.ql_lang.specs.Trees.{Sentence, sentence_of}
+use Rattle.ql_lang.specs.declared.contract.Contract.{Contract}
+use Rattle.ql_lex.specs.Tokens.{Lexes}
+use Rattle.ql_lex.specs.declared.token.LexFault.{LexFault}
+use Rattle.ql_lex.specs.declared.token.Token.{Token}
+use Rattle.ql_grammar.specs.Limits as limits
+use Rattle.ql_grammar.specs.Tokens.{Lexeme}
+use Rattle.ql_grammar.specs.Texts.{FirstFault, IsContract, Parses}
+use Rattle.ql_parse.specs.Readers.{lexemes_of}
+use Rattle.ql_parse.specs.Parsing.{IsContractAnswer, IsContractFault, IsContractText}
+use Rattle.ql_parse.specs.Printed.{unplaced, IsReadAs}
+use Rattle.ql_parse.specs.declared.fault.ParseFault.{ParseFault}
+use Rattle.ql_parse.specs.declared.fault.ParseFault.TheVariants.{Lex, Unexpected, Deep, Wide, NoMemory}
+
+abbrev pub Answer : Type 0
+Answer = Result (List Token) LexFault
+
+ok_same : (ts us : List Token) → ◌≡◌ {A = Answer} (Ok ts) (Ok us) → ts ≡ us
+ok_same ts us e = cc
+
+ok_or_err : (ts : List Token) (f : LexFault) → ◌≡◌ {A = Answer} (Ok ts) (Err f) → ⊥
+ok_or_err ts f e = cc
+
+-- what the laws of tokens and of the grammar say of bytes
+module _ (one : (text : List ℕ) (r s : Answer) → Lexes 0 text r → Lexes 0 text s → r ≡ s) where
+  same_tokens : (bytes : List ℕ) (ts us : List Token) → Lexes 0 bytes (Ok ts) → Lexes 0 bytes (Ok us) → ts ≡ us
+  same_tokens bytes ts us p q = ok_same ts us (one bytes (Ok ts) (Ok us) p q)
+
+  pub one_tree : ((ts : List Lexeme) (s t : Sentence) → Parses ts s → Parses ts t → s ≡ t) → (bytes : List ℕ) (s t : Sentence) → IsContractText bytes s → IsContractText bytes t → s ≡ t
+  one_tree tree bytes s t p q =
+      let same = same_tokens bytes p.tokens q.tokens p.lexes q.lexes in
+      tree (lexemes_of bytes q.tokens) s t (subst (λ ts. Parses (lexemes_of bytes ts) s) same p.parses) q.parses
+
+  pub one_fault : ((ts : List Lexeme) (end : ℕ) (f g : limits.Fault) → FirstFault IsContract ts end f → FirstFault IsContract ts end g → f ≡ g) → (bytes : List ℕ) (f g : limits.Fault) → IsContractFault bytes f → IsContractFault bytes g → f ≡ g
+  one_fault fault bytes f g p q =
+      let same = same_tokens bytes p.tokens q.tokens p.lexes q.lexes in
+      fault (lexemes_of bytes q.tokens) (length bytes) f g (subst (λ ts. FirstFault IsContract (lexemes_of bytes ts) (length bytes) f) same p.first) q.first
+
+  pub not_both : ((ts : List Lexeme) (end : ℕ) (s : Sentence) (f : limits.Fault) → Parses ts s → FirstFault IsContract ts end f → ⊥) → (bytes : List ℕ) (s : Sentence) (f : limits.Fault) → IsContractText bytes s → IsContractFault bytes f → ⊥
+  not_both apart bytes s f p q =
+      let same = same_tokens bytes p.tokens q.tokens p.lexes q.lexes in
+      apart (lexemes_of bytes q.tokens) (length bytes) s f (subst (λ ts. Parses (lexemes_of bytes ts) s) same p.parses) q.first
+
+  pub no_lexical : (bytes : List ℕ) (s : Sentence) (e : LexFault) → IsContractText bytes s → Lexes 0 bytes (Err e) → ⊥
+  no_lexical bytes s e p q = ok_or_err p.tokens e (one bytes (Ok p.tokens) (Err e) p.lexes q)
+
+  pub no_lexical_fault : (bytes : List ℕ) (f : limits.Fault) (e : LexFault) → IsContractFault bytes f → Lexes 0 bytes (Err e) → ⊥
+  no_lexical_fault bytes f e p q = ok_or_err p.tokens e (one bytes (Ok p.tokens) (Err e) p.lexes q)
+
+-- an answer for bytes that are a contract is this contract, or want of memory
+pub read_as : (bytes : List ℕ) (s t : Sentence) → unplaced t ≡ unplaced s → ((u : Sentence) → IsContractText bytes u → u ≡ t) → ((f : limits.Fault) → IsContractFault bytes f → ⊥) → ((e : LexFault) → Lexes 0 bytes (Err e) → ⊥) → (r : Result Contract ParseFault) → IsContractAnswer bytes r → IsReadAs s r
+read_as bytes s t same only no_fault no_lex (Ok c) answer = ap unplaced (only (sentence_of c) answer) ∙ same
+read_as bytes s t same only no_fault no_lex (Err (Lex e)) answer = absurd (no_lex e answer)
+read_as bytes s t same only no_fault no_lex (Err (Unexpected at)) answer = absurd (no_fault (limits.Unexpected at) answer)
+read_as bytes s t same only no_fault no_lex (Err (Deep at)) answer = absurd (no_fault (limits.Deep at) answer)
+read_as bytes s t same only no_fault no_lex (Err (Wide at)) answer = absurd (no_fault (limits.Wide at) answer)
+read_as bytes s t same only no_fault no_lex (Err NoMemory) answer = refl

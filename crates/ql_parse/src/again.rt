@@ -1,0 +1,35 @@
+ghost use Rattle.std.specs.Prelude.{◌≡◌, Err, List, ℕ, Result};
+ghost use Rattle.ql_grammar.specs.Limits.{Fault};
+ghost use Rattle.ql_lang.specs.declared.contract.Contract.{Contract};
+ghost use Rattle.ql_lang.specs.Spelling.{contract_text};
+ghost use Rattle.ql_lang.specs.Trees.{Sentence};
+ghost use Rattle.ql_lex.specs.declared.token.LexFault.{LexFault};
+ghost use Rattle.ql_lex.specs.Tokens.{Lexes};
+ghost use Rattle.ql_parse.specs.declared.fault.ParseFault.{ParseFault};
+ghost use Rattle.ql_parse.specs.Parsing.{IsContractAnswer, IsContractFault, IsContractText};
+ghost use Rattle.ql_parse.specs.Printed.{Fits, IsInGrammar, IsReadable, IsReadAs, unplaced};
+
+/// A text is one contract, or has one first fault among its tokens, or has no tokens; and it is not two of these.
+pub fn one_answer()
+    ensures tree { (bytes : List ℕ) (s t : Sentence) → IsContractText bytes s → IsContractText bytes t → s ≡ t }
+    ensures fault { (bytes : List ℕ) (f g : Fault) → IsContractFault bytes f → IsContractFault bytes g → f ≡ g }
+    ensures apart { (bytes : List ℕ) (s : Sentence) (f : Fault) → IsContractText bytes s → IsContractFault bytes f → ⊥ }
+    ensures no_lexical { (bytes : List ℕ) (s : Sentence) (e : LexFault) → IsContractText bytes s → Lexes 0 bytes (Err e) → ⊥ }
+    ensures no_lexical_fault { (bytes : List ℕ) (f : Fault) (e : LexFault) → IsContractFault bytes f → Lexes 0 bytes (Err e) → ⊥ }
+{
+    ql_lex::one_answer();
+    ql_grammar::one_answer();
+}
+
+/// What is printed of a contract is that contract again, places aside.
+///
+/// It is in the grammar for each tree whose names are names of the language, and which has no empty group of a
+/// `txn`. It is read again where it is within the limits: it opens few brackets at once, which the text of a long
+/// chain of operators may not do, and the tree has few nodes.
+pub fn printed_again()
+    ensures grammar { (s : Sentence) → Fits s → (t : Sentence) × IsInGrammar (contract_text s) t × (unplaced t ≡ unplaced s) }
+    ensures text { (s : Sentence) → Fits s → IsReadable s → (t : Sentence) × IsContractText (contract_text s) t × (unplaced t ≡ unplaced s) }
+    ensures answer { (s : Sentence) (r : Result Contract ParseFault) → Fits s → IsReadable s → IsContractAnswer (contract_text s) r → IsReadAs s r }
+{
+    one_answer();
+}
