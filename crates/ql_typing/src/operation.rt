@@ -107,8 +107,8 @@ fn bind_names_fault(
 {
     let list = list_binds(alloc, binds)?;
     let all = places_of(alloc, list.as_slice())?;
-    let repeated = meet_after(names, list.as_slice())?;
-    Ok(first(repeated, above_limit(all.as_slice(), MAX_EMITTED)))
+    let twice = meet_after(names, list.as_slice())?;
+    Ok(first(twice, above_limit(all.as_slice(), MAX_EMITTED)))
 }
 
 fn binds_fault(scope: &Scope<'_>, binds: &[Bind]) -> Option<TypeFault>

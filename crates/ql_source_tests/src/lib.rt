@@ -1,0 +1,5 @@
+// Tests of typing on texts: what is answered for contracts as the parser reads them.
+#![tactic(auto)]
+
+#[cfg(test)]
+mod contracts;
