@@ -26,7 +26,7 @@ pub struct Signature {
 }
 
 /// The function of a name.
-pub(crate) fn find_function(word: &[u8]) -> Option<Function>
+pub fn find_function(word: &[u8]) -> Option<Function>
     ensures { result ≡ function_named word.now }
 {
     if word == b"has".as_slice() {

@@ -20,6 +20,6 @@ mod typed;
 
 pub use build::resolve;
 pub use fault::TypeFault;
-pub use function::{Function, Signature};
+pub use function::{Function, Signature, find_function};
 pub use scope::{Known, Scope, Table};
 pub use typed::{Typed, typecheck};

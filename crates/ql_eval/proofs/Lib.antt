@@ -1,0 +1,3 @@
+mod CallValues
+mod Preserved
+pub mod NeverStuck

@@ -1,0 +1,40 @@
+use Rattle.std.proofs.Common.{◌≡◌, ◌≤◌, ◌<◌, ◌+◌, ℕ, suc, Bool, true, false, List, [], ◌∷◌, Option, Some, None, length, drop, get_or, refl, sym, subst, ◌∙◌, ap, add-one}
+use Rattle.std.specs.Str.{bytes_eq}
+use Rattle.std.proofs.Math.Seq.{drop-cons}
+use Rattle.std.proofs.lemmas.List.{drop_all}
+use Rattle.ql_value.specs.declared.value.Value.{Value}
+use Rattle.ql_eval.specs.Evaluation.{Bindings, value_in}
+use Rattle.ql_eval.proofs.env.find.Goals as goal
+
+value_here : (p : List ℕ × Value) (ps : Bindings) (w : List ℕ) → bytes_eq p.0 w ≡ true → value_in (p ∷ ps) w ≡ Some p.1
+unfolding value_in
+value_here p ps w e = rw e refl
+
+value_after : (p : List ℕ × Value) (ps : Bindings) (w : List ℕ) → bytes_eq p.0 w ≡ false → value_in (p ∷ ps) w ≡ value_in ps w
+unfolding value_in
+value_after p ps w e = rw e refl
+
+value_nowhere : (w : List ℕ) → None ≡ value_in [] w
+unfolding value_in
+value_nowhere w = refl
+
+next_pair : (xs : Bindings) (i : ℕ) (x : List ℕ × Value) → i < length xs → x ≡ get_or xs i x → drop i xs ≡ x ∷ drop (i + 1) xs
+next_pair xs i x lt is = drop-cons xs i x lt ∙ rw (← is, add-one i) refl
+
+pub returns-then-eq : goal.returns-then-eq
+returns-then-eq c =
+    let here = next_pair c.args.pairs.now c.loop-pair.pair-index c.pair-item.result c.loop-pair-test.true c.pair-item.is in
+    let same : bytes_eq c.pair-item.result.0 c.args.word.now ≡ true =
+    rw (← c.bytes.ensures.same, ← c.bytes-in-loop-pair.ensures.same) (sym c.eq.ensures ∙ c.if-eq.true) in
+    sym (c.loop-pair.invariant ∙ ap (λ ps. value_in ps c.args.word.now) here ∙ value_here c.pair-item.result _ c.args.word.now same)
+
+pub loop-pair-preserved : goal.loop-pair-preserved
+loop-pair-preserved c =
+    let here = next_pair c.args.pairs.now c.loop-pair.pair-index c.pair-item.result c.loop-pair-test.true c.pair-item.is in
+    let other : bytes_eq c.pair-item.result.0 c.args.word.now ≡ false =
+    rw (← c.bytes.ensures.same, ← c.bytes-in-loop-pair.ensures.same) (sym c.eq.ensures ∙ c.if-eq.false) in
+    c.loop-pair.invariant ∙ ap (λ ps. value_in ps c.args.word.now) here ∙ value_after c.pair-item.result _ c.args.word.now other
+
+pub returns : goal.returns
+returns c =
+    value_nowhere c.args.word.now ∙ sym (c.loop-pair.invariant ∙ ap (λ ps. value_in ps c.args.word.now) (drop_all c.loop-pair.pair-index c.args.pairs.now c.loop-pair-test.false))

@@ -1,0 +1,106 @@
+ghost use Rattle.std.specs.Prelude.{◌≡◌, IfOk, drop};
+ghost use Rattle.std.specs.Option.{option_copied};
+ghost use Rattle.ql_lang.specs.Expressions.{expression_of, operands_in, operands_of};
+ghost use Rattle.ql_eval.specs.Evaluation.{call_value, called_on, value_in, value_of, values_of};
+
+use crate::call::{with_one, with_three, with_two};
+use crate::env::find;
+use crate::operator::{combine, deny, negate};
+use crate::scalar::literal;
+use ql_base::{NoMemory, Word};
+use ql_lang::{Expr, ExprNode, Exprs, Name};
+use ql_typing::{Function, find_function};
+use ql_value::{Value, copy};
+use std::alloc::Global;
+
+/// The value of an expression, where it has one.
+#[cycle(evaluate)]
+#[tactic(auto, unfolding(ql_lang::specs::Expressions::node_of, crate::specs::Evaluation::value_of))]
+pub(crate) fn evaluate(
+    alloc: Global,
+    pairs: &[(Word, Value)],
+    e: &Expr,
+) -> Result<Option<Value>, NoMemory>
+    ensures { IfOk result (λ value. value ≡ value_of pairs.now (expression_of e.now)) }
+{
+    match &e.node {
+        ExprNode::Int(n) => Ok(Some(Value::Int(*n))),
+        ExprNode::Text(text) => Ok(Some(Value::Text(literal(alloc, text)?))),
+        ExprNode::Bool(b) => Ok(Some(Value::Bool(*b))),
+        ExprNode::Unit => Ok(Some(Value::Unit)),
+        ExprNode::Var(name) => read(alloc, pairs, &name.word),
+        ExprNode::Call(name, args) => call(alloc, pairs, name, args),
+        ExprNode::If(test, left, right) => match evaluate(alloc, pairs, test)? {
+            Some(Value::Bool(true)) => evaluate(alloc, pairs, left),
+            Some(Value::Bool(false)) => evaluate(alloc, pairs, right),
+            _ => Ok(None),
+        },
+        ExprNode::Binary(op, left, right) => {
+            let left = evaluate(alloc, pairs, left)?;
+            let right = evaluate(alloc, pairs, right)?;
+            Ok(combine(*op, left, right))
+        }
+        ExprNode::Not(operand) => Ok(deny(evaluate(alloc, pairs, operand)?)),
+        ExprNode::Neg(operand) => Ok(negate(evaluate(alloc, pairs, operand)?)),
+    }
+}
+
+// The value of a name, for keeping.
+fn read(alloc: Global, pairs: &[(Word, Value)], word: &Word) -> Result<Option<Value>, NoMemory>
+    ensures { IfOk result (λ value. value ≡ value_in pairs.now word.now) }
+{
+    match find(pairs, word) {
+        Some(value) => Ok(Some(copy(alloc, value)?)),
+        None => Ok(None),
+    }
+}
+
+// The value of a call. Its first argument, which may be a large collection, is only lent where it is a name.
+#[cycle(evaluate)]
+fn call(
+    alloc: Global,
+    pairs: &[(Word, Value)],
+    name: &Name,
+    args: &Exprs,
+) -> Result<Option<Value>, NoMemory>
+    ensures { IfOk result (λ value. value ≡ call_value pairs.now name.now.word (operands_in args.now)) }
+{
+    let function = find_function(name.word.bytes());
+    let items = args.items();
+    if items.is_empty() {
+        return Ok(None);
+    }
+    if let ExprNode::Var(name) = &items[0].node {
+        return call_on(alloc, pairs, function, find(pairs, &name.word), items);
+    }
+    let first = evaluate(alloc, pairs, &items[0])?;
+    call_on(alloc, pairs, function, first.as_ref(), items)
+}
+
+// The value of a call by the value of its first argument.
+#[cycle(evaluate)]
+fn call_on(
+    alloc: Global,
+    pairs: &[(Word, Value)],
+    function: Option<Function>,
+    first: Option<&Value>,
+    args: &[Expr],
+) -> Result<Option<Value>, NoMemory>
+    ensures { IfOk result (λ value. value ≡ called_on function (option_copied first.entry) (values_of pairs.now (operands_of (drop 1 args.now)))) }
+{
+    let Some(first) = first else {
+        return Ok(None);
+    };
+    if args.len() <= 1 {
+        Ok(with_one(function, first))
+    } else if args.len() == 2 {
+        let second = evaluate(alloc, pairs, &args[1])?;
+        with_two(alloc, function, first, second)
+    } else if args.len() == 3 {
+        let second = evaluate(alloc, pairs, &args[1])?;
+        let third = evaluate(alloc, pairs, &args[2])?;
+        with_three(alloc, function, first, second, third)
+    } else {
+        Ok(None)
+    }
+}

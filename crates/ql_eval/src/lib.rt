@@ -1,0 +1,11 @@
+// Evaluation: the values of expressions, the statements of operations, and folds of effects.
+// Its one contract: the value of an expression is a definition by recursion on it, and what is well typed has one.
+#![tactic(auto)]
+
+mod call;
+mod env;
+mod evaluation;
+mod operator;
+mod scalar;
+
+pub use env::Env;
