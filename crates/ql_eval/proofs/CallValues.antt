@@ -1,5 +1,5 @@
 -- a call by the values of its arguments
-use Rattle.std.proofs.Common.{◌≡◌, ◌≤◌, ◌<◌, ◌+◌, ℕ, suc, List, [], ◌∷◌, Option, None, Some, Result, Ok, Err, IfOk, length, get_or, drop, refl, sym, ap, ◌∙◌, subst, arith}
+use Rattle.std.proofs.Common.{◌≡◌, ◌≤◌, ◌<◌, ℕ, List, [], ◌∷◌, Option, None, Result, IfOk, length, get_or, drop, refl, sym, ap, ◌∙◌, subst, arith}
 use Rattle.ql_lang.specs.declared.name.Name.{Name}
 use Rattle.ql_lang.specs.declared.expression.Expr.{Expr}
 use Rattle.ql_lang.specs.declared.expression.Exprs.{Exprs}

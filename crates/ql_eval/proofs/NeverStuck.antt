@@ -1,5 +1,5 @@
 -- an expression that has a kind has a value of that kind
-use Rattle.std.proofs.Common.{◌≡◌, ℕ, ℤ, suc, Bool, true, false, ◌&&◌, cond, List, [], ◌∷◌, Option, None, Some, All, refl, sym, ap, ◌∙◌, subst, pos}
+use Rattle.std.proofs.Common.{◌≡◌, ℕ, ℤ, Bool, true, false, ◌&&◌, cond, List, [], ◌∷◌, Option, None, Some, All, refl, ap, ◌∙◌, subst}
 use Rattle.std.specs.Str.{bytes_eq}
 use Rattle.ql_lang.specs.declared.operation.Base.{Base}
 use Rattle.ql_lang.specs.declared.operation.Base.TheVariants as base
@@ -13,14 +13,14 @@ use Rattle.ql_typing.specs.declared.function.Function.{Function}
 use Rattle.ql_typing.specs.declared.function.Function.TheVariants as function
 use Rattle.ql_typing.specs.declared.scope.Known.{Known}
 use Rattle.ql_typing.specs.Functions.{function_named, of_base}
-use Rattle.ql_typing.specs.Kinds.{base_only, chosen_kind, combined_kind, gives_of, is_base, kept_kind, kind_in, kind_of, kind_where, meets, operand_of, result_of, same_base, same_kind, second_of, signature_at, third_of}
+use Rattle.ql_typing.specs.Kinds.{base_only, chosen_kind, combined_kind, gives_of, kept_kind, kind_in, kind_of, kind_where, meets, operand_of, result_of, same_base, same_kind, second_of, signature_at, third_of}
 use Rattle.ql_value.specs.declared.scalar.Scalar.{Scalar}
 use Rattle.ql_value.specs.declared.scalar.Scalar.TheVariants.{Int as IntScalar, Bool as TruthScalar, Text as TextScalar}
 use Rattle.ql_value.specs.declared.value.Value.{Value}
-use Rattle.ql_value.specs.declared.value.Value.TheVariants.{Unit as Nothing, Int as Number, Bool as Truth, Text, Set, Map}
+use Rattle.ql_value.specs.declared.value.Value.TheVariants.{Int as Number, Bool as Truth, Text, Set, Map}
 use Rattle.ql_value.specs.Collections.{added, contains, dropped, keys, put_in, removed, value_at}
-use Rattle.ql_eval.specs.Evaluation.{Bindings, called_on, called_with_three, called_with_two, chosen, combined, denied, negated, scalar_of, single, value_in, value_of}
-use Rattle.ql_eval.specs.ValueKinds.{FitsName, FitsScope, HasBase, HasBases, HasKind, HasValue, IsNeverStuck}
+use Rattle.ql_eval.specs.Evaluation.{Bindings, called_on, called_with_three, called_with_two, chosen, combined, denied, negated, single, value_in, value_of}
+use Rattle.ql_eval.specs.ValueKinds.{FitsScope, HasBase, HasBases, HasKind, HasValue, IsNeverStuck}
 use Rattle.ql_eval.proofs.Preserved.{added_all, dropped_all, found_all, put_all, removed_all, united_all}
 
 -- names

@@ -1,5 +1,5 @@
 -- the collection calls keep kinds
-use Rattle.std.proofs.Common.{◌≡◌, ◌≤◌, ◌<◌, ℕ, suc, Bool, true, false, not, cond, List, [], ◌∷◌, ◌++◌, All, filter, find, fold, nat_lt, length, refl, arith, Some}
+use Rattle.std.proofs.Common.{suc, Bool, true, false, not, cond, List, [], ◌∷◌, ◌++◌, All, find, nat_lt, length, arith, Some}
 use Rattle.std.specs.Option.{option_map_or}
 use Rattle.std.specs.Ordering.{is_lt, is_eq, is_gt}
 use Rattle.std.specs.declared.cmp.Ordering.{Ordering}

@@ -75,7 +75,13 @@ pub(crate) fn with_three(
 {
     match (function, second, third) {
         (Some(function), Some(second), Some(third)) => {
-            with_scalars(alloc, function, first, into_scalar(second), into_scalar(third))
+            with_scalars(
+                alloc,
+                function,
+                first,
+                into_scalar(second),
+                into_scalar(third),
+            )
         }
         _ => Ok(None),
     }

@@ -1,10 +1,11 @@
-ghost use Rattle.std.specs.Prelude.{◌≡◌, IfOk, drop};
+ghost use Rattle.std.specs.Prelude.{◌≡◌, IfOk, IsSome, Some, drop};
 ghost use Rattle.std.specs.Option.{option_copied};
 ghost use Rattle.ql_lang.specs.Expressions.{expression_of, operands_in, operands_of};
+ghost use Rattle.ql_eval.specs.ValueKinds.{IsNeverStuck};
 ghost use Rattle.ql_eval.specs.Evaluation.{call_value, called_on, value_in, value_of, values_of};
 
 use crate::call::{with_one, with_three, with_two};
-use crate::env::find;
+use crate::env::{Env, find};
 use crate::operator::{combine, deny, negate};
 use crate::scalar::literal;
 use ql_base::{NoMemory, Word};
@@ -12,6 +13,19 @@ use ql_lang::{Expr, ExprNode, Exprs, Name};
 use ql_typing::{Function, find_function};
 use ql_value::{Value, copy};
 use std::alloc::Global;
+
+/// The value of an expression, which has one. It has one of its kind where it is well typed and the names in scope have
+/// values of theirs.
+pub fn eval(alloc: Global, e: &Expr, env: &Env) -> Result<Value, NoMemory>
+    requires { IsSome (value_of env.now (expression_of e.now)) }
+    ensures value { IfOk result (λ value. value_of env.now (expression_of e.now) ≡ Some value) }
+    ensures never_stuck { IsNeverStuck (expression_of e.now) }
+{
+    match evaluate(alloc, env.items(), e)? {
+        Some(value) => Ok(value),
+        None => unreachable!(),
+    }
+}
 
 /// The value of an expression, where it has one.
 #[cycle(evaluate)]

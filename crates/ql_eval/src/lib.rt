@@ -9,3 +9,4 @@ mod operator;
 mod scalar;
 
 pub use env::Env;
+pub use evaluation::eval;
