@@ -8,3 +8,5 @@ pub mod PiecesStand
 pub mod PiecesText
 pub mod OneReading
 pub mod Printing
+pub mod ReadFits
+pub mod ReadNodes

@@ -1,5 +1,5 @@
 -- A text is one contract or has one first fault.
-use Rattle.std.proofs.Common.{◌≡◌, ℕ, List, [], ◌∷◌, Result, Ok, Err, refl, sym, ap, ◌∙◌, subst, length}
+use Rattle.std.proofs.Common.{◌≡◌, ℕ, List, [], ◌∷◌, Result, Ok, Err, ◌⊎◌, inl, inr, refl, sym, ap, ◌∙◌, subst, length}
 use Rattle.ql_lang.specs.Trees.{Sentence, sentence_of}
 use Rattle.ql_lang.specs.declared.contract.Contract.{Contract}
 use Rattle.ql_lex.specs.Tokens.{Lexes}
@@ -8,6 +8,11 @@ use Rattle.ql_lex.specs.declared.token.Token.{Token}
 use Rattle.ql_grammar.specs.Limits as limits
 use Rattle.ql_grammar.specs.Tokens.{Lexeme}
 use Rattle.ql_grammar.specs.Texts.{FirstFault, IsContract, Parses}
+use Rattle.ql_grammar.specs.Limits.{nothing_yet}
+use Rattle.ql_grammar.specs.Table.{Value}
+use Rattle.ql_grammar.specs.Machine.{run}
+use Rattle.ql_grammar.proofs.Told.{Told, run_told}
+use Rattle.ql_grammar.proofs.Laws.{start, text_of, fault_found}
 use Rattle.ql_parse.specs.Readers.{lexemes_of}
 use Rattle.ql_parse.specs.Parsing.{IsContractAnswer, IsContractFault, IsContractText}
 use Rattle.ql_parse.specs.Printed.{unplaced, IsReadAs}
@@ -57,3 +62,28 @@ read_as bytes s t same only no_fault no_lex (Err (Unexpected at)) answer = absur
 read_as bytes s t same only no_fault no_lex (Err (Deep at)) answer = absurd (no_fault (limits.Deep at) answer)
 read_as bytes s t same only no_fault no_lex (Err (Wide at)) answer = absurd (no_fault (limits.Wide at) answer)
 read_as bytes s t same only no_fault no_lex (Err NoMemory) answer = refl
+
+-- each list of tokens is a contract or has a first fault
+abbrev HasAnswer : List Lexeme → ℕ → Type 0
+HasAnswer ts end = ((s : Sentence) × Parses ts s) ⊎ ((f : limits.Fault) × FirstFault IsContract ts end f)
+
+by_run : (ts : List Lexeme) (end : ℕ) (o : Result (List Value) limits.Fault) → run ts start [] nothing_yet end ≡ o → HasAnswer ts end
+by_run ts end (Ok out) is =
+    let told = subst (Told start [] nothing_yet ts end) is (run_told ts start [] nothing_yet end) in
+    let text = text_of told.2 in
+    inl (text.0, record { marks = told.0; are = told.1; within = (told.3, told.4); reads = text.1 })
+by_run ts end (Err f) is = inr (f, fault_found ts end f is)
+
+abbrev pub IsAnswered : List ℕ → Type 0
+IsAnswered bytes = ((s : Sentence) × IsContractText bytes s) ⊎ (((f : limits.Fault) × IsContractFault bytes f) ⊎ ((e : LexFault) × Lexes 0 bytes (Err e)))
+
+with_tokens : (bytes : List ℕ) (ts : List Token) → Lexes 0 bytes (Ok ts) → HasAnswer (lexemes_of bytes ts) (length bytes) → IsAnswered bytes
+with_tokens bytes ts lexes (inl s) = inl (s.0, record { tokens = ts; lexes = lexes; parses = s.1 })
+with_tokens bytes ts lexes (inr f) = inr (inl (f.0, record { tokens = ts; lexes = lexes; first = f.1 }))
+
+of_tokens : (bytes : List ℕ) (r : Answer) → Lexes 0 bytes r → IsAnswered bytes
+of_tokens bytes (Ok ts) lexes = with_tokens bytes ts lexes (by_run (lexemes_of bytes ts) (length bytes) (run (lexemes_of bytes ts) start [] nothing_yet (length bytes)) refl)
+of_tokens bytes (Err e) lexes = inr (inr (e, lexes))
+
+pub some_answer : ((text : List ℕ) → (r : Answer) × Lexes 0 text r) → (bytes : List ℕ) → IsAnswered bytes
+some_answer some bytes = let r = some bytes in of_tokens bytes r.0 r.1
