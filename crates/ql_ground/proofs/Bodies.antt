@@ -19,7 +19,7 @@ use Rattle.ql_lang.specs.declared.formula.Term.{Term}
 use Rattle.ql_ground.specs.Effects.{Effect}
 use Rattle.ql_ground.specs.Relations.{so, sametxn}
 use Rattle.ql_ground.specs.Truth.{named, related, in_one_txn, place_of, statement_true}
-use Rattle.ql_ground.specs.Implication.{IsTermOf, AreTermsOf, IsBodyOf}
+use Rattle.ql_typing.specs.WellFormed.{IsTermOf, AreTermsOf, IsBodyOf}
 use Rattle.ql_ground.specs.Bodies.{constant_of, holds, fails, named_circuit, relation_circuit, grouped, all_of, other_circuits, txn_circuit, body_circuit}
 use Rattle.ql_ground.proofs.Laws.{sametxn-refl, sametxn-sym}
 use Rattle.ql_ground.proofs.ReadOff.{ReadsOff}

@@ -7,7 +7,7 @@ use Rattle.ql_lang.specs.Formulas.{Statement, Always, Related, BothOf, OneOf, If
 use Rattle.ql_lang.specs.declared.formula.Term.{Term}
 use Rattle.ql_lang.specs.declared.formula.Term.TheVariants.{Cur, Var}
 use Rattle.ql_ground.specs.Bodies.{constant_of, body_circuit}
-use Rattle.ql_ground.specs.Implication.{IsTermOf, AreTermsOf, IsBodyOf}
+use Rattle.ql_typing.specs.WellFormed.{IsTermOf, AreTermsOf, IsBodyOf}
 use Rattle.ql_ground.specs.Parts.{OverConstants}
 use Rattle.ql_ground.proofs.Inputs.{body-in}
 

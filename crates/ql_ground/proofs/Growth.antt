@@ -8,7 +8,7 @@ use Rattle.ql_cnf.specs.declared.lit.Lit.{Lit}
 use Rattle.ql_cnf.specs.Circuits.{Circuit, Input, Both, clauses_of}
 use Rattle.ql_cnf.proofs.CircuitLemmas.{clauses_of-append}
 use Rattle.ql_ground.specs.Bodies.{grouped}
-use Rattle.ql_ground.specs.Implication.{AreBelow}
+use Rattle.ql_typing.specs.WellFormed.{AreBelow}
 use Rattle.ql_ground.specs.Rules.{Rule}
 use Rattle.ql_ground.specs.Ground.{upto, choices, instances, all_instances}
 

@@ -11,7 +11,7 @@ use Rattle.ql_lang.specs.Formulas.{Statement, Always, Related, BothOf, OneOf, If
 use Rattle.ql_lang.specs.declared.relation.RelName.{RelName}
 use Rattle.ql_lang.specs.declared.relation.RelName.TheVariants.{Vis, So, Soo, SameObj, Eq, Hb, Hbo}
 use Rattle.ql_lang.specs.declared.formula.Term.{Term}
-use Rattle.ql_ground.specs.Implication.{IsTermOf, AreTermsOf, IsBodyOf}
+use Rattle.ql_typing.specs.WellFormed.{IsTermOf, AreTermsOf, IsBodyOf}
 use Rattle.ql_ground.specs.Bodies.{constant_of, holds, fails, named_circuit, relation_circuit, grouped, all_of, other_circuits, body_circuit}
 
 module _ (s : Size) where

@@ -13,3 +13,4 @@ pub mod Growth
 pub mod Constants
 pub mod Members
 pub mod Problems
+pub mod Typing

@@ -13,7 +13,8 @@ use Rattle.ql_lang.specs.declared.formula.OpChoice.TheVariants.{Any, OneOf}
 use Rattle.ql_ground.specs.Effects.{Effect, effect_at}
 use Rattle.ql_ground.specs.Relations.{is_op}
 use Rattle.ql_ground.specs.Truth.{Chosen}
-use Rattle.ql_ground.specs.Implication.{FitsProgram, AreBelow, AreChoicesOf}
+use Rattle.ql_ground.specs.Implication.{FitsProgram}
+use Rattle.ql_typing.specs.WellFormed.{AreBelow, AreChoicesOf}
 use Rattle.ql_ground.specs.Ground.{upto, op, implication, some_operation, one_operation, one_type, all_variable_operations}
 use Rattle.ql_ground.proofs.Laws.{is_op-one, one-found, found-one}
 use Rattle.ql_ground.proofs.Upto.{all-append, upto-all, upto-any}

@@ -25,7 +25,8 @@ use Rattle.ql_ground.specs.Rules.{equality_rules, alike_current, transaction_rul
 use Rattle.ql_ground.specs.Bodies.{current_effect, constant_of, body_circuit}
 use Rattle.ql_ground.specs.Ground.{op, implication, instances, all_instances, alike_operations, some_operation, one_operation, one_type, axioms, all_variable_operations, op_size, op_ground, txn_size, txn_ground, problem_of, op_problem, txn_problem}
 use Rattle.ql_ground.specs.Truth.{in_range, Chosen, Holds, HoldsTxn, place_of, statement_true}
-use Rattle.ql_ground.specs.Implication.{IsTermOf, AreChoicesOf, IsContractOf, FitsProgram, Implies, ImpliesTxn}
+use Rattle.ql_ground.specs.Implication.{IsContractOf, FitsProgram, Implies, ImpliesTxn}
+use Rattle.ql_typing.specs.WellFormed.{IsTermOf, AreChoicesOf}
 use Rattle.ql_ground.proofs.Laws.{one-found, inside-sametxn, inside-closed}
 use Rattle.ql_ground.proofs.Upto.{all-append}
 use Rattle.ql_ground.proofs.ReadOff.{ReadsOff, read_off, reads_off, length-read_off}

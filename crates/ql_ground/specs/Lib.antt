@@ -8,3 +8,4 @@ pub mod Implication
 pub mod Worked
 pub mod Least
 pub mod Parts
+pub mod OfPrograms

@@ -4,9 +4,11 @@
 #![tactic(auto)]
 
 mod body;
+mod contract_problem;
+mod goal;
+mod goal_groups;
 mod literal;
 mod operation_axioms;
-mod problem;
 mod promises;
 mod relation_axioms;
 mod rule;
@@ -14,6 +16,6 @@ mod soundness;
 mod transaction_axioms;
 mod worked;
 
-pub use problem::{op_problem, txn_problem};
+pub use goal::{Goal, problem};
 pub use soundness::{refuted_op_is_implied, refuted_txn_is_implied};
 pub use worked::problems_of_one_operation;

@@ -7,7 +7,7 @@ ghost use Rattle.ql_ground.specs.Ground.{op, implication, upto};
 ghost use Rattle.ql_ground.specs.Ground as groups;
 ghost use Rattle.ql_ground.specs.Bodies.{current_effect};
 ghost use Rattle.ql_ground.specs.Parts.{not_both, not_another, one_operation_of, other_type, other_types, one_type_between, one_type_from};
-ghost use Rattle.ql_ground.specs.Implication.{AreBelow, AreChoicesOf};
+ghost use Rattle.ql_typing.specs.WellFormed.{AreBelow, AreChoicesOf};
 
 use crate::literal::{add_clause, literal};
 use crate::rule::{I, J, Rule, add_rule};

@@ -5,7 +5,7 @@ use Rattle.ql_cnf.specs.Circuits.{clauses_of}
 use Rattle.ql_ground.specs.Ground.{instances, all_instances, alike_operations, axioms, all_variable_operations}
 use Rattle.ql_ground.specs.Rules.{equality_rules, alike_current, transaction_rules, txn_level_rules}
 use Rattle.ql_ground.proofs.Growth.{then}
-use Rattle.ql_ground.proofs.problem.add_txn_groups.Goals as goal
+use Rattle.ql_ground.proofs.goal_groups.add_txn_groups.Goals as goal
 
 pub returns-clause-clauses : goal.returns-clause-clauses
 returns-clause-clauses c = on_ok_weaker c.add_variables.result

@@ -5,7 +5,7 @@ use Rattle.ql_cnf.specs.Circuits.{clauses_of}
 use Rattle.ql_ground.specs.Ground.{all_instances}
 use Rattle.ql_ground.specs.Rules.{session_rules, object_rules, object_order_rules, order_rules}
 use Rattle.ql_ground.proofs.Growth.{then}
-use Rattle.ql_ground.proofs.problem.add_relations.Goals as goal
+use Rattle.ql_ground.proofs.goal_groups.add_relations.Goals as goal
 
 pub returns-clause-clauses : goal.returns-clause-clauses
 returns-clause-clauses c = on_ok_weaker c.add_order.result

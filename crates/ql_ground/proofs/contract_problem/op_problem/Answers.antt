@@ -7,7 +7,7 @@ use Rattle.ql_ground.specs.Bodies.{body_circuit}
 use Rattle.ql_ground.specs.Parts.{op_groups}
 use Rattle.ql_ground.proofs.Constants.{op_over, op_inputs}
 use Rattle.ql_ground.proofs.Problems.{size, op_done, op_implied}
-use Rattle.ql_ground.proofs.problem.op_problem.Goals as goal
+use Rattle.ql_ground.proofs.contract_problem.op_problem.Goals as goal
 
 pub deny-requires-clause-terms : goal.deny-requires-clause-terms
 deny-requires-clause-terms c =
@@ -16,11 +16,6 @@ deny-requires-clause-terms c =
 pub deny-requires-clause-leaves : goal.deny-requires-clause-leaves
 deny-requires-clause-leaves c =
     op_inputs (size (length c.items-variables.result.now + 1) (length c.args.types.now)) (length c.args.f.now.vars) (omega (arith, ap length c.items-variables.ensures)) (statement_of c.args.f.now.body) c.requires.contract.body
-
-pub deny-requires-clause-small : goal.deny-requires-clause-small
-deny-requires-clause-small c =
-    let counted : suc (length c.args.f.now.vars) ≡ length c.items-variables.result.now + 1 = omega (arith, ap length c.items-variables.ensures) in
-    subst (λ (n : ℕ). gates (body_circuit (size n (length c.args.types.now)) (statement_of c.args.f.now.body)) ≤ 256) counted c.requires.small
 
 pub deny-requires-clause-room : goal.deny-requires-clause-room
 deny-requires-clause-room c = omega (arith, c.in_ok-add_op_groups.ensures.counted, ap length c.new-c.ensures.empty)

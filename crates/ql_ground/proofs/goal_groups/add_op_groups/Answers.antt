@@ -7,7 +7,7 @@ use Rattle.ql_ground.specs.Bodies.{current_effect}
 use Rattle.ql_ground.specs.Ground.{op, implication, instances, all_instances, alike_operations, axioms, all_variable_operations}
 use Rattle.ql_ground.specs.Rules.{equality_rules, level_rule}
 use Rattle.ql_ground.proofs.Growth.{then}
-use Rattle.ql_ground.proofs.problem.add_op_groups.Goals as goal
+use Rattle.ql_ground.proofs.goal_groups.add_op_groups.Goals as goal
 
 pub returns-clause-clauses : goal.returns-clause-clauses
 returns-clause-clauses c = on_ok_weaker c.add_variables.result
