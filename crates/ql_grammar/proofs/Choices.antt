@@ -1,12 +1,14 @@
-use Rattle.std.proofs.Common.{◌≡◌, ℕ, List, [], ◌∷◌, Option, Some, None, Bool, true, false, Result, Ok, Err, refl, sym, ap, ◌∙◌, cond}
+use Rattle.std.proofs.Common.{◌≡◌, ℕ, List, [], ◌∷◌, Option, Some, None, Bool, true, false, Result, Ok, Err, refl, sym, ap, ◌∙◌, cond, is_some}
 use Rattle.ql_grammar.specs.declared.terminal.Terminal.{Terminal}
 use Rattle.ql_grammar.specs.declared.terminal.Terminal.TheVariants.{NameToken}
 use Rattle.ql_grammar.specs.Terminals.{is_same}
 use Rattle.ql_grammar.specs.declared.role.Role.{Role}
 use Rattle.ql_grammar.specs.Tokens.{Lexeme}
 use Rattle.ql_grammar.specs.Limits.{Fault, Unexpected, Counts, counted, if_within}
-use Rattle.ql_grammar.specs.Table.{Value, APlace, AName, Sym, Word, Placed, ANameOf, Do, APart, Then, Part, Rest, ways, way_on}
-use Rattle.ql_grammar.specs.Machine.{Taken, or_else, lead, first_fit, step, finish, go_on, Reading, run, read, is_ahead, place_ahead, is_begun, chosen}
+use Rattle.ql_lang.specs.declared.expression.BinOp.{BinOp}
+use Rattle.ql_grammar.specs.Table.{ASpelling, AnOperator, Kept, Operator, operator_at, Value, APlace, AName, Sym, Word, Placed, ANameOf, Do, APart, Then, Part, Rest, ways, way_on}
+use Rattle.ql_grammar.proofs.Operators.{ahead_is, none_ahead}
+use Rattle.ql_grammar.specs.Machine.{operator_taken, operator_ahead, Taken, or_else, lead, first_fit, step, finish, go_on, Reading, run, read, is_ahead, place_ahead, is_begun, chosen}
 
 -- A reading chooses among the ways of a part by the next token.
 
@@ -21,12 +23,18 @@ module _ (t : Lexeme) (ts : List Lexeme) (c : Counts) (end : ℕ) where
   test_way true some other = refl
   test_way false some other = refl
 
+  test_operator : (o : Option BinOp) (below : List Sym) (vs : List Value) (other : Option Taken) → go_on (or_else (operator_taken o below vs) other) c t.at later ≡ cond (is_some o) (go_on (operator_taken o below vs) c t.at later) (go_on other c t.at later)
+  test_operator (Some o) below vs other = refl
+  test_operator None below vs other = refl
+
   way_chosen : (way : List Sym) (vs : List Value) (other : Option Taken) → go_on (or_else (lead way vs t.what t.text t.at) other) c t.at later ≡ cond (is_begun way (t ∷ ts)) (read at_token way vs) (go_on other c t.at later)
   unfolding lead step run read is_ahead at_token later
   way_chosen [] vs other = refl
   way_chosen (Word k r ∷ below) vs other = test_way (is_same t.what k) (record { role = r; stack = below; values = vs }) other
   way_chosen (Placed k r ∷ below) vs other = test_way (is_same t.what k) (record { role = r; stack = below; values = APlace t.at ∷ vs }) other
   way_chosen (ANameOf r ∷ below) vs other = test_way (is_same t.what NameToken) (record { role = r; stack = below; values = AName (record { word = t.text; at = t.at }) ∷ vs }) other
+  way_chosen (Kept k r ∷ below) vs other = test_way (is_same t.what k) (record { role = r; stack = below; values = ASpelling t.at t.text ∷ vs }) other
+  way_chosen (Operator l ∷ below) vs other = rw (ahead_is l t ts) (test_operator (operator_at l t.what) below vs other)
   way_chosen (Do f ∷ below) vs other = refl
   way_chosen (APart p ∷ below) vs other = refl
   way_chosen (Then l ∷ below) vs other = refl
@@ -44,6 +52,8 @@ none_chosen c end ([] ∷ others) vs = none_chosen c end others vs
 none_chosen c end ((Word k r ∷ below) ∷ others) vs = none_chosen c end others vs
 none_chosen c end ((Placed k r ∷ below) ∷ others) vs = none_chosen c end others vs
 none_chosen c end ((ANameOf r ∷ below) ∷ others) vs = none_chosen c end others vs
+none_chosen c end ((Kept k r ∷ below) ∷ others) vs = none_chosen c end others vs
+none_chosen c end ((Operator l ∷ below) ∷ others) vs = rw (none_ahead l) (none_chosen c end others vs)
 none_chosen c end ((Do f ∷ below) ∷ others) vs = none_chosen c end others vs
 none_chosen c end ((APart p ∷ below) ∷ others) vs = none_chosen c end others vs
 none_chosen c end ((Then l ∷ below) ∷ others) vs = none_chosen c end others vs
@@ -64,6 +74,8 @@ not_begun [] = refl
 not_begun (Word k r ∷ below) = refl
 not_begun (Placed k r ∷ below) = refl
 not_begun (ANameOf r ∷ below) = refl
+not_begun (Kept k r ∷ below) = refl
+not_begun (Operator l ∷ below) = rw (none_ahead l) refl
 not_begun (Do f ∷ below) = refl
 not_begun (APart p ∷ below) = refl
 not_begun (Then l ∷ below) = refl

@@ -1,10 +1,16 @@
 pub mod TerminalLemmas
 pub mod Wanted
+pub mod Leading
+pub mod Operators
+pub mod ExpressionSound
+pub mod ProgramSound
 pub mod Sound
 pub mod Steps
 pub mod Told
 pub mod Paths
+pub mod ExpressionAgain
 pub mod Again
+pub mod ProgramAgain
 pub mod Laws
 pub mod Choices
 pub mod Taking

@@ -1,11 +1,13 @@
 use Rattle.std.proofs.Common.{◌≡◌, ℕ, List, [], ◌∷◌, ◌++◌, Option, Some, None, Bool, true, false, Result, Ok, Err, refl, sym, ap, subst, ◌∙◌}
 use Rattle.ql_grammar.specs.declared.terminal.Terminal.{Terminal}
-use Rattle.ql_grammar.specs.declared.terminal.Terminal.TheVariants.{Comma, Ampersand, Bar, AndMark, OrMark, Arrow, Colon}
+use Rattle.ql_grammar.specs.declared.terminal.Terminal.TheVariants.{NameToken, StateWord, EmitWord, OpWord, TypeWord, TransactionWord, OpenParen, NoTerminal, Comma, Ampersand, Bar, AndMark, OrMark, Arrow, Colon}
 use Rattle.ql_grammar.specs.Terminals.{is_same}
 use Rattle.ql_grammar.specs.declared.role.Role.{Role}
 use Rattle.ql_grammar.specs.Tokens.{Lexeme, Marked, marked, lexemes}
 use Rattle.ql_grammar.specs.Limits.{Fault, Counts, counted, counted_all, if_within}
-use Rattle.ql_grammar.specs.Table.{Value, Sym, Do, APart, Then, Part, Rest, ways, way_on, MoreTerms, MoreFactors, MoreSummands, MoreAnds, MoreOrs, MoreImplied, MoreNames, Operations, MoreVars}
+use Rattle.ql_grammar.specs.Table.{Value, Sym, Do, APart, Then, Part, Rest, ways, way_on, MoreTerms, MoreFactors, MoreSummands, MoreAnds, MoreOrs, MoreImplied, MoreNames, Operations, MoreVars, MoreTimes, MorePlus, Comparison, MoreConjoined, MoreDisjoined, Called, MoreArguments, MoreFields, SomeParams, MoreParams, MoreListed, MoreBindings, MoreAssignments, Effect, MoreOperations, MoreTypes, MoreTransactions, operator_at}
+use Rattle.ql_grammar.specs.declared.level.Level.{Level}
+use Rattle.ql_grammar.specs.declared.level.Level.TheVariants as level
 use Rattle.ql_grammar.specs.Machine.{Taken, lead, first_fit, step, finish, run, go_on, or_else}
 
 -- the first token, or the end, is the same to both stacks
@@ -56,26 +58,70 @@ mark_of MoreImplied = Arrow
 mark_of MoreNames = Bar
 mark_of Operations = Colon
 mark_of MoreVars = Comma
+mark_of Called = OpenParen
+mark_of MoreArguments = Comma
+mark_of MoreFields = StateWord
+mark_of SomeParams = NameToken
+mark_of MoreParams = Comma
+mark_of MoreListed = Comma
+mark_of MoreBindings = Comma
+mark_of MoreAssignments = NameToken
+mark_of Effect = EmitWord
+mark_of MoreOperations = OpWord
+mark_of MoreTypes = TypeWord
+mark_of MoreTransactions = TransactionWord
+mark_of _ = NoTerminal
 
-no_lead : (l : Rest) (below : List Sym) (vs : List Value) (k : Terminal) (x : List ℕ) (n : ℕ) → is_same k (mark_of l) ≡ false → lead (way_on l below) vs k x n ≡ None
+-- the first token, if any, is no operator of this level
+abbrev pub IsNoOperator : Level → List Marked → Type 0
+IsNoOperator l [] = Unit {0}
+IsNoOperator l (m ∷ ms) = operator_at l m.lexeme.what ≡ None
+
+-- nothing more follows
+abbrev pub IsOver : Rest → List Marked → Type 0
+IsOver MoreTimes ts = IsNoOperator level.Product ts
+IsOver MorePlus ts = IsNoOperator level.Sum ts
+IsOver Comparison ts = IsNoOperator level.Comparison ts
+IsOver MoreConjoined ts = IsNoOperator level.Conjunction ts
+IsOver MoreDisjoined ts = IsNoOperator level.Disjunction ts
+IsOver l ts = IsClear (mark_of l) ts
+
+no_lead : (l : Rest) (below : List Sym) (vs : List Value) (m : Marked) (ms : List Marked) → IsOver l (m ∷ ms) → lead (way_on l below) vs m.lexeme.what m.lexeme.text m.lexeme.at ≡ None
 unfolding lead
-no_lead MoreTerms below vs k x n clear = rw clear refl
-no_lead MoreFactors below vs k x n clear = rw clear refl
-no_lead MoreSummands below vs k x n clear = rw clear refl
-no_lead MoreAnds below vs k x n clear = rw clear refl
-no_lead MoreOrs below vs k x n clear = rw clear refl
-no_lead MoreImplied below vs k x n clear = rw clear refl
-no_lead MoreNames below vs k x n clear = rw clear refl
-no_lead Operations below vs k x n clear = rw clear refl
-no_lead MoreVars below vs k x n clear = rw clear refl
+no_lead MoreTerms below vs m ms clear = rw clear refl
+no_lead MoreFactors below vs m ms clear = rw clear refl
+no_lead MoreSummands below vs m ms clear = rw clear refl
+no_lead MoreAnds below vs m ms clear = rw clear refl
+no_lead MoreOrs below vs m ms clear = rw clear refl
+no_lead MoreImplied below vs m ms clear = rw clear refl
+no_lead MoreNames below vs m ms clear = rw clear refl
+no_lead Operations below vs m ms clear = rw clear refl
+no_lead MoreVars below vs m ms clear = rw clear refl
+no_lead MoreTimes below vs m ms clear = rw clear refl
+no_lead MorePlus below vs m ms clear = rw clear refl
+no_lead Comparison below vs m ms clear = rw clear refl
+no_lead MoreConjoined below vs m ms clear = rw clear refl
+no_lead MoreDisjoined below vs m ms clear = rw clear refl
+no_lead Called below vs m ms clear = rw clear refl
+no_lead MoreArguments below vs m ms clear = rw clear refl
+no_lead MoreFields below vs m ms clear = rw clear refl
+no_lead SomeParams below vs m ms clear = rw clear refl
+no_lead MoreParams below vs m ms clear = rw clear refl
+no_lead MoreListed below vs m ms clear = rw clear refl
+no_lead MoreBindings below vs m ms clear = rw clear refl
+no_lead MoreAssignments below vs m ms clear = rw clear refl
+no_lead Effect below vs m ms clear = rw clear refl
+no_lead MoreOperations below vs m ms clear = rw clear refl
+no_lead MoreTypes below vs m ms clear = rw clear refl
+no_lead MoreTransactions below vs m ms clear = rw clear refl
 
-pass_head : (l : Rest) (below : List Sym) (vs : List Value) (ts : List Marked) → IsClear (mark_of l) ts → SameHead (Then l ∷ below) vs below vs ts
+pass_head : (l : Rest) (below : List Sym) (vs : List Value) (ts : List Marked) → IsOver l ts → SameHead (Then l ∷ below) vs below vs ts
 unfolding step finish
 pass_head l below vs [] clear = λ end. refl
-pass_head l below vs (m ∷ ms) clear = rw (no_lead l below vs m.lexeme.what m.lexeme.text m.lexeme.at clear) refl
+pass_head l below vs (m ∷ ms) clear = rw (no_lead l below vs m ms clear) refl
 
 -- where its mark doesn't stand, nothing follows
-pub pass : (l : Rest) {below : List Sym} {vs : List Value} {ts : List Marked} → IsClear (mark_of l) ts → Path (Then l ∷ below) vs ts below vs ts
+pub pass : (l : Rest) {below : List Sym} {vs : List Value} {ts : List Marked} → IsOver l ts → Path (Then l ∷ below) vs ts below vs ts
 pass l {below = below} {vs = vs} {ts = ts} clear = via (pass_head l below vs ts clear) here
 
 part_head : (p q : Part) (below under : List Sym) (vs : List Value) → ways p below ≡ ways q under → (ts : List Marked) → SameHead (APart p ∷ below) vs (APart q ∷ under) vs ts

@@ -11,8 +11,12 @@ use Rattle.ql_grammar.specs.declared.role.Role.{Role}
 use Rattle.ql_grammar.specs.declared.role.Role.TheVariants.{Plain, Makes, Opens, Closes}
 use Rattle.ql_grammar.specs.Tokens.{Marked, marked}
 use Rattle.ql_grammar.specs.ContractGrammar.{IsRelationWord, vis, so, soo, sameobj, eq, hb, hbo, ReadsTerm, current, variable, ReadsTerms, one, more, ReadsRelation, RelationPart, Applied, Single, Product, Sum, applied_named, applied_bracket, named, bracket, single, both, product, either, ReadsProp, PropPart, Atom, Both, Either, Whole, truth, group, equal, applied, txn, atom, and, or, implies, ReadsNames, ReadsVar, free, over, ReadsVars, ReadsContract, plain, forall}
-use Rattle.ql_grammar.specs.Table.{Value, APlace, AName, ATerm, TheTerms, ARelation, AProp, TheNames, AVar, TheVars, ASentence, Sym, Word, Placed, ANameOf, Do, APart, Then, Part, Term, TermList, RelationAt, PropAt, BarredNames, Variable, VarList, WholeContract, Rest, ways, way_on, term_ways, relation_ways, atom_ways, MoreTerms, MoreFactors, MoreSummands, MoreAnds, MoreOrs, MoreImplied, MoreNames, Operations, MoreVars, to_cur, to_variable, to_terms, to_basic, add_truth, to_equality, to_application, to_txn, to_names, to_free, to_vars, to_plain, to_forall}
+use Rattle.ql_grammar.specs.ExpressionGrammar.{Unary, Multiplied, Added, Compared, Conjoined, Disjoined, Chosen}
+use Rattle.ql_grammar.specs.Table.{ExprAt, Arguments, BaseKind, AnyKind, Beginning, ListedNames, WholeSource, Value, APlace, AName, ATerm, TheTerms, ARelation, AProp, TheNames, AVar, TheVars, ASentence, Sym, Word, Placed, ANameOf, Do, APart, Then, Part, Term, TermList, RelationAt, PropAt, BarredNames, Variable, VarList, WholeContract, Rest, ways, way_on, term_ways, relation_ways, atom_ways, MoreTerms, MoreFactors, MoreSummands, MoreAnds, MoreOrs, MoreImplied, MoreNames, Operations, MoreVars, to_cur, to_variable, to_terms, to_basic, add_truth, to_equality, to_application, to_txn, to_names, to_free, to_vars, to_plain, to_forall}
 use Rattle.ql_grammar.proofs.Wanted.{Has, Widens, none, word, placed, name, change, term, terms, relation, prop, names, variable, vars, contract, stop, go}
+use Rattle.ql_grammar.proofs.Leading.{Leads, lead_on, both_lead}
+use Rattle.ql_grammar.proofs.ExpressionSound.{unary_leads, multiplied_leads, added_leads, compared_leads, conjoined_leads, disjoined_leads, chosen_leads, arguments_leads}
+use Rattle.ql_grammar.proofs.ProgramSound.{base_leads, kind_leads, beginning_leads, listed_leads, source_leads}
 
 -- What follows a part, on a text of that part, is a text of the part above.
 
@@ -51,19 +55,6 @@ absorb_operations (go (word (names reads (change h)))) = variable (over reads) h
 absorb_vars : {ts rest : List Marked} {us : List Var} {below : List Sym} {vs out : List Value} → ReadsVars ts rest us → Has (Then MoreVars ∷ below) (TheVars us ∷ vs) rest out → Has (APart VarList ∷ below) vs ts out
 absorb_vars reads (stop h) = vars reads h
 absorb_vars reads (go (word (variable next (change h)))) = absorb_vars (more reads next) h
-
--- each of the ways leads to a text of the stack
-abbrev pub Leads : List Sym → List (List Sym) → Type 0
-Leads to [] = Unit {0}
-Leads to (way ∷ others) = Widens way to × Leads to others
-
-lead_on : (mid to : List Sym) (ways : List (List Sym)) → Widens mid to → Leads mid ways → Leads to ways
-lead_on mid to [] w leads = tt
-lead_on mid to (way ∷ others) w leads = (λ vs out ts h. w vs out ts (leads.0 vs out ts h), lead_on mid to others w leads.1)
-
-both_lead : (to : List Sym) (some others : List (List Sym)) → Leads to some → Leads to others → Leads to (some ++ others)
-both_lead to [] bs a b = b
-both_lead to (way ∷ ways) bs a b = (a.0, both_lead to ways bs a.1 b)
 
 -- terms
 
@@ -196,3 +187,16 @@ leads BarredNames below = (names_way, tt)
 leads Variable below = (variable_name_way, tt)
 leads VarList below = lead_on (APart Variable ∷ Do to_vars ∷ Then MoreVars ∷ below) (APart VarList ∷ below) ((ANameOf Plain ∷ Do to_free ∷ Then Operations ∷ Do to_vars ∷ Then MoreVars ∷ below) ∷ []) vars_on ((variable_name_way, tt))
 leads WholeContract below = (forall_way, lead_on (APart (PropAt Whole) ∷ Do to_plain ∷ below) (APart WholeContract ∷ below) (atom_ways (Then MoreAnds ∷ Then MoreOrs ∷ Then MoreImplied ∷ Do to_plain ∷ below)) plain_on (whole_leads (Do to_plain ∷ below)))
+leads (ExprAt Unary) below = unary_leads below
+leads (ExprAt Multiplied) below = multiplied_leads below
+leads (ExprAt Added) below = added_leads below
+leads (ExprAt Compared) below = compared_leads below
+leads (ExprAt Conjoined) below = conjoined_leads below
+leads (ExprAt Disjoined) below = disjoined_leads below
+leads (ExprAt Chosen) below = chosen_leads below
+leads Arguments below = arguments_leads below
+leads BaseKind below = base_leads below
+leads AnyKind below = kind_leads below
+leads Beginning below = beginning_leads below
+leads ListedNames below = listed_leads below
+leads WholeSource below = source_leads below

@@ -2,18 +2,25 @@ use Rattle.std.proofs.Common.{◌≡◌, ℕ, List, [], ◌∷◌, ◌++◌, Opt
 use Rattle.ql_lang.specs.Trees.{Relation, Proposition, Sentence, Truth}
 use Rattle.ql_lang.specs.declared.relation.RelName.TheVariants.{Vis}
 use Rattle.ql_grammar.specs.declared.terminal.Terminal.{Terminal}
-use Rattle.ql_grammar.specs.declared.terminal.Terminal.TheVariants.{NameToken, CurWord, TrueWord, VisWord}
+use Rattle.ql_grammar.specs.declared.terminal.Terminal.TheVariants.{NameToken, CurWord, TrueWord, VisWord, UnitWord, IntWord, TypeWord, OpenBrace, CloseBrace, OpWord, OpenParen, CloseParen, Colon, ContractWord, AnswerWord, Semicolon}
 use Rattle.ql_grammar.specs.Terminals.{is_same}
 use Rattle.ql_grammar.specs.declared.role.Role.{Role}
-use Rattle.ql_grammar.specs.declared.role.Role.TheVariants.{Plain, Makes, Opens, Closes}
+use Rattle.ql_grammar.specs.declared.role.Role.TheVariants.{Plain, Makes, Opens, Closes, Before}
 use Rattle.ql_grammar.specs.Tokens.{Marked, marked}
 use Rattle.ql_grammar.specs.ContractGrammar.{vis, current, variable, one, Applied, Single, Product, Sum, applied_named, named, single, product, Atom, Both, Either, Whole, truth, atom, both, either, free, plain}
 use Rattle.ql_grammar.specs.Limits.{Fault, Unexpected}
-use Rattle.ql_grammar.specs.Table.{Value, APlace, AName, Sym, Word, Placed, ANameOf, Do, APart, Then, Part, Term, TermList, RelationAt, PropAt, BarredNames, Variable, VarList, WholeContract, Rest, ways, way_on}
-use Rattle.ql_grammar.specs.Machine.{Taken, or_else, lead, first_fit, step, finish}
+use Rattle.ql_lang.specs.declared.expression.BinOp.{BinOp}
+use Rattle.ql_grammar.specs.declared.level.Level.{Level}
+use Rattle.ql_grammar.specs.ExpressionGrammar as expression
+use Rattle.ql_grammar.specs.ExpressionGrammar.{IsOperator, Unary, Multiplied, Added, Compared, Conjoined, Disjoined, Chosen}
+use Rattle.ql_grammar.specs.ProgramGrammar as program
+use Rattle.ql_grammar.specs.Table.{ASpelling, AnOperator, AnExpr, ABase, Kept, Operator, operator_at, ExprAt, Arguments, BaseKind, AnyKind, Beginning, ListedNames, WholeSource, Value, APlace, AName, Sym, Word, Placed, ANameOf, Do, APart, Then, Part, Term, TermList, RelationAt, PropAt, BarredNames, Variable, VarList, WholeContract, Rest, ways, way_on}
+use Rattle.ql_grammar.specs.Machine.{operator_taken, Taken, or_else, lead, first_fit, step, finish}
 use Rattle.ql_grammar.proofs.TerminalLemmas.{same_terminal}
-use Rattle.ql_grammar.proofs.Wanted.{Has, Widens, none, word, placed, name, change, term, terms, relation, prop, names, variable, vars, contract, stop, go}
-use Rattle.ql_grammar.proofs.Sound.{Leads, leads}
+use Rattle.ql_grammar.proofs.Operators.{Found, is_operator, some_operator}
+use Rattle.ql_grammar.proofs.Wanted.{kept, operator, expr, arguments, base, kind, init, listed, source, Has, Widens, none, word, placed, name, change, term, terms, relation, prop, names, variable, vars, contract, stop, go}
+use Rattle.ql_grammar.proofs.Leading.{Leads}
+use Rattle.ql_grammar.proofs.Sound.{leads}
 
 -- what the stacks behind a token want, the stack before it wants with that token before
 abbrev pub IsSound : List Sym → List Value → Terminal → List ℕ → ℕ → Option Taken → Type 0
@@ -32,12 +39,22 @@ name_sound : (k : Terminal) (r : Role) (below : List Sym) (vs : List Value) (x :
 name_sound k r below vs x n true same = λ out ts h. subst (λ i. Has (ANameOf r ∷ below) vs (marked r i x n ∷ ts) out) (sym (same refl)) (name h)
 name_sound k r below vs x n false same = tt
 
+kept_sound : (j k : Terminal) (r : Role) (below : List Sym) (vs : List Value) (x : List ℕ) (n : ℕ) (b : Bool) → (b ≡ true → k ≡ j) → IsSound (Kept j r ∷ below) vs k x n (cond b (Some (record { role = r; stack = below; values = ASpelling n x ∷ vs })) None)
+kept_sound j k r below vs x n true same = λ out ts h. subst (λ i. Has (Kept i r ∷ below) vs (marked r k x n ∷ ts) out) (same refl) (kept h)
+kept_sound j k r below vs x n false same = tt
+
+operator_sound : (p : Level) (k : Terminal) (below : List Sym) (vs : List Value) (x : List ℕ) (n : ℕ) (o : Option BinOp) → Found p k o → IsSound (Operator p ∷ below) vs k x n (operator_taken o below vs)
+operator_sound p k below vs x n (Some o) is = λ out ts h. operator is h
+operator_sound p k below vs x n None is = tt
+
 lead_sound : (st : List Sym) (vs : List Value) (k : Terminal) (x : List ℕ) (n : ℕ) → IsSound st vs k x n (lead st vs k x n)
 unfolding lead
 lead_sound [] vs k x n = tt
 lead_sound (Word j r ∷ below) vs k x n = word_sound j k r below vs x n (is_same k j) (same_terminal k j)
 lead_sound (Placed j r ∷ below) vs k x n = placed_sound j k r below vs x n (is_same k j) (same_terminal k j)
 lead_sound (ANameOf r ∷ below) vs k x n = name_sound k r below vs x n (is_same k NameToken) (same_terminal k NameToken)
+lead_sound (Kept j r ∷ below) vs k x n = kept_sound j k r below vs x n (is_same k j) (same_terminal k j)
+lead_sound (Operator p ∷ below) vs k x n = operator_sound p k below vs x n (operator_at p k) (is_operator p k)
 lead_sound (Do f ∷ below) vs k x n = tt
 lead_sound (APart p ∷ below) vs k x n = tt
 lead_sound (Then l ∷ below) vs k x n = tt
@@ -52,9 +69,9 @@ widened from to vs k x n (Some t) w h = λ out ts wanted. w vs out (marked t.rol
 
 fit_sound : (st : List Sym) (all : List (List Sym)) (vs : List Value) (k : Terminal) (x : List ℕ) (n : ℕ) → Leads st all → IsSound st vs k x n (first_fit all vs k x n)
 unfolding first_fit
-fit_sound st [] vs k x n leads = tt
-fit_sound st (way ∷ others) vs k x n leads =
-    or_sound st vs k x n (lead way vs k x n) (first_fit others vs k x n) (widened way st vs k x n (lead way vs k x n) leads.0 (lead_sound way vs k x n)) (fit_sound st others vs k x n leads.1)
+fit_sound st [] vs k x n lead_all = tt
+fit_sound st (way ∷ others) vs k x n lead_all =
+    or_sound st vs k x n (lead way vs k x n) (first_fit others vs k x n) (widened way st vs k x n (lead way vs k x n) lead_all.0 (lead_sound way vs k x n)) (fit_sound st others vs k x n lead_all.1)
 
 changed : (f : List Value → List Value) (below : List Sym) (vs : List Value) (k : Terminal) (x : List ℕ) (n : ℕ) (o : Option Taken) → IsSound below (f vs) k x n o → IsSound (Do f ∷ below) vs k x n o
 changed f below vs k x n None h = tt
@@ -72,6 +89,8 @@ step_sound (Then l ∷ below) vs k x n =
 step_sound (Word j r ∷ below) vs k x n = lead_sound (Word j r ∷ below) vs k x n
 step_sound (Placed j r ∷ below) vs k x n = lead_sound (Placed j r ∷ below) vs k x n
 step_sound (ANameOf r ∷ below) vs k x n = lead_sound (ANameOf r ∷ below) vs k x n
+step_sound (Kept j r ∷ below) vs k x n = lead_sound (Kept j r ∷ below) vs k x n
+step_sound (Operator p ∷ below) vs k x n = lead_sound (Operator p ∷ below) vs k x n
 
 -- where the end of the text is no fault, the stack wants nothing more
 abbrev pub EndsSoundly : List Sym → List Value → ℕ → Result (List Value) Fault → Type 0
@@ -95,6 +114,8 @@ finish_sound (APart p ∷ below) vs end = refl
 finish_sound (Word j r ∷ below) vs end = refl
 finish_sound (Placed j r ∷ below) vs end = refl
 finish_sound (ANameOf r ∷ below) vs end = refl
+finish_sound (Kept j r ∷ below) vs end = refl
+finish_sound (Operator p ∷ below) vs end = refl
 
 -- some text that a stack wants
 abbrev pub Wish : List Sym → List Value → Type 0
@@ -118,12 +139,37 @@ part_wish BarredNames below rest vs = let h = rest _ in (marked Plain NameToken 
 part_wish Variable below rest vs = let h = rest _ in (marked Plain NameToken [] 0 ∷ h.0, h.1, variable free h.2)
 part_wish VarList below rest vs = let h = rest _ in (marked Plain NameToken [] 0 ∷ h.0, h.1, vars (one free) h.2)
 part_wish WholeContract below rest vs = let h = rest _ in (marked (Makes 1) TrueWord [] 0 ∷ h.0, h.1, contract (plain (either (both (atom truth)))) h.2)
+part_wish (ExprAt Unary) below rest vs = let h = rest _ in (marked (Makes 1) UnitWord [] 0 ∷ h.0, h.1, expr expression.unit_value h.2)
+part_wish (ExprAt Multiplied) below rest vs = let h = rest _ in (marked (Makes 1) UnitWord [] 0 ∷ h.0, h.1, expr (expression.unary expression.unit_value) h.2)
+part_wish (ExprAt Added) below rest vs = let h = rest _ in (marked (Makes 1) UnitWord [] 0 ∷ h.0, h.1, expr (expression.multiplied (expression.unary expression.unit_value)) h.2)
+part_wish (ExprAt Compared) below rest vs = let h = rest _ in (marked (Makes 1) UnitWord [] 0 ∷ h.0, h.1, expr (expression.added (expression.multiplied (expression.unary expression.unit_value))) h.2)
+part_wish (ExprAt Conjoined) below rest vs = let h = rest _ in (marked (Makes 1) UnitWord [] 0 ∷ h.0, h.1, expr (expression.compared (expression.added (expression.multiplied (expression.unary expression.unit_value)))) h.2)
+part_wish (ExprAt Disjoined) below rest vs = let h = rest _ in (marked (Makes 1) UnitWord [] 0 ∷ h.0, h.1, expr (expression.conjoined (expression.compared (expression.added (expression.multiplied (expression.unary expression.unit_value))))) h.2)
+part_wish (ExprAt Chosen) below rest vs = let h = rest _ in (marked (Makes 1) UnitWord [] 0 ∷ h.0, h.1, expr (expression.disjoined (expression.conjoined (expression.compared (expression.added (expression.multiplied (expression.unary expression.unit_value)))))) h.2)
+part_wish Arguments below rest vs = let h = rest _ in (marked (Makes 1) UnitWord [] 0 ∷ h.0, h.1, arguments (expression.one (expression.disjoined (expression.conjoined (expression.compared (expression.added (expression.multiplied (expression.unary expression.unit_value))))))) h.2)
+part_wish BaseKind below rest vs = let h = rest _ in (marked Plain IntWord [] 0 ∷ h.0, h.1, base program.int h.2)
+part_wish AnyKind below rest vs = let h = rest _ in (marked Plain IntWord [] 0 ∷ h.0, h.1, kind program.int h.2)
+part_wish Beginning below rest vs = let h = rest _ in (marked Plain UnitWord [] 0 ∷ h.0, h.1, init program.unit_value h.2)
+part_wish ListedNames below rest vs = let h = rest _ in (marked Plain NameToken [] 0 ∷ h.0, h.1, listed one h.2)
+part_wish WholeSource below rest vs =
+    let h = rest _ in
+    let w : Terminal → Role → Marked = λ k r. marked r k [] 0 in
+    (w TypeWord Plain ∷ w NameToken Plain ∷ w OpenBrace Plain ∷ w OpWord Plain ∷ w NameToken Plain ∷ w OpenParen Plain
+    ∷ w CloseParen Plain ∷ w Colon Plain ∷ w IntWord Plain ∷ w OpenBrace Plain ∷ w ContractWord Before
+    ∷ w TrueWord (Makes 1) ∷ w Semicolon Plain ∷ w AnswerWord Before ∷ w UnitWord (Makes 1) ∷ w Semicolon Plain
+    ∷ w CloseBrace Plain ∷ w CloseBrace Plain ∷ h.0, h.1,
+    source (program.program (program.one (program.replicated program.none (program.one (program.operation program.none program.int (plain (either (both (atom truth)))) (expression.disjoined (expression.conjoined (expression.compared (expression.added (expression.multiplied (expression.unary expression.unit_value)))))) program.none)))) program.none) h.2)
 
 pub wish : (st : List Sym) (vs : List Value) → Wish st vs
 wish [] vs = ([], vs, none)
 wish (Word k r ∷ below) vs = let h = wish below vs in (marked r k [] 0 ∷ h.0, h.1, word h.2)
 wish (Placed k r ∷ below) vs = let h = wish below (APlace 0 ∷ vs) in (marked r k [] 0 ∷ h.0, h.1, placed h.2)
 wish (ANameOf r ∷ below) vs = let h = wish below (AName (record { word = []; at = 0 }) ∷ vs) in (marked r NameToken [] 0 ∷ h.0, h.1, name h.2)
+wish (Kept k r ∷ below) vs = let h = wish below (ASpelling 0 [] ∷ vs) in (marked r k [] 0 ∷ h.0, h.1, kept h.2)
+wish (Operator p ∷ below) vs = 
+    let f = some_operator p in
+    let h = wish below (AnOperator f.1 ∷ vs) in
+    (marked (Makes 1) f.0 [] 0 ∷ h.0, h.1, operator f.2 h.2)
 wish (Do f ∷ below) vs = let h = wish below (f vs) in (h.0, h.1, change h.2)
 wish (APart p ∷ below) vs = part_wish p below (wish below) vs
 wish (Then l ∷ below) vs = let h = wish below vs in (h.0, h.1, stop h.2)

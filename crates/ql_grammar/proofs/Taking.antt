@@ -1,12 +1,16 @@
-use Rattle.std.proofs.Common.{◌≡◌, ℕ, List, [], ◌∷◌, Bool, true, false, Result, Ok, Err, refl, sym, ap, ◌∙◌, cond, drop}
+use Rattle.std.proofs.Common.{◌≡◌, ℕ, List, [], ◌∷◌, Option, Some, None, Bool, true, false, Result, Ok, Err, refl, sym, ap, ◌∙◌, cond, drop}
 use Rattle.ql_grammar.specs.declared.terminal.Terminal.{Terminal}
 use Rattle.ql_grammar.specs.declared.terminal.Terminal.TheVariants.{NameToken}
 use Rattle.ql_grammar.specs.declared.role.Role.{Role}
 use Rattle.ql_grammar.specs.Terminals.{is_same}
 use Rattle.ql_grammar.specs.Tokens.{Lexeme}
 use Rattle.ql_grammar.specs.Limits.{Fault, Unexpected, Counts, counted, if_within}
-use Rattle.ql_grammar.specs.Table.{Value, APlace, AName, Sym, Word, Placed, ANameOf}
-use Rattle.ql_grammar.specs.Machine.{lead, step, finish, go_on, Reading, run, read, is_ahead, place_ahead}
+use Rattle.ql_lang.specs.declared.expression.BinOp.{BinOp}
+use Rattle.ql_grammar.specs.declared.level.Level.{Level}
+use Rattle.ql_grammar.specs.declared.role.Role.TheVariants.{Makes}
+use Rattle.ql_grammar.specs.Table.{ASpelling, AnOperator, Kept, Operator, operator_at, Value, APlace, AName, Sym, Word, Placed, ANameOf}
+use Rattle.ql_grammar.proofs.Operators.{ahead_is, none_ahead}
+use Rattle.ql_grammar.specs.Machine.{operator_taken, operator_ahead, lead, step, finish, go_on, Reading, run, read, is_ahead, place_ahead}
 
 -- What a reading does at a word or a name.
 
@@ -48,6 +52,33 @@ name_not_at : (ts : List Lexeme) (c : Counts) (end : ℕ) (role : Role) (below :
 unfolding run step lead is_ahead finish
 name_not_at [] c end role below vs sees = refl
 name_not_at (t ∷ ts) c end role below vs sees = rw sees refl
+
+kept_at : (ts : List Lexeme) (c : Counts) (end : ℕ) (k : Terminal) (role : Role) (below : List Sym) (vs : List Value) → is_ahead k ts ≡ true → run ts (Kept k role ∷ below) vs c end ≡ if_within (counted c role (place_ahead ts end)) (λ d. run (drop 1 ts) below (ASpelling (place_ahead ts end) (text_ahead ts) ∷ vs) d end)
+unfolding run step lead is_ahead
+kept_at [] c end k role below vs sees = cc
+kept_at (t ∷ ts) c end k role below vs sees = rw sees refl
+
+kept_not_at : (ts : List Lexeme) (c : Counts) (end : ℕ) (k : Terminal) (role : Role) (below : List Sym) (vs : List Value) → is_ahead k ts ≡ false → run ts (Kept k role ∷ below) vs c end ≡ Err (Unexpected (place_ahead ts end))
+unfolding run step lead is_ahead finish
+kept_not_at [] c end k role below vs sees = refl
+kept_not_at (t ∷ ts) c end k role below vs sees = rw sees refl
+
+operator_found_at : (ts : List Lexeme) (c : Counts) (end : ℕ) (l : Level) (o : BinOp) (below : List Sym) (vs : List Value) → operator_ahead l ts ≡ Some o → run ts (Operator l ∷ below) vs c end ≡ if_within (counted c (Makes 1) (place_ahead ts end)) (λ d. run (drop 1 ts) below (AnOperator o ∷ vs) d end)
+unfolding run step lead
+operator_found_at [] c end l o below vs sees = let e : None ≡ Some o = sym (none_ahead l) ∙ sees in cc
+operator_found_at (t ∷ ts) c end l o below vs sees = let e : operator_at l t.what ≡ Some o = sym (ahead_is l t ts) ∙ sees in rw e refl
+
+pub kept_taken : (r : Reading) (k : Terminal) (role : Role) (below : List Sym) (vs : List Value) → is_ahead k r.tokens ≡ true → read r (Kept k role ∷ below) vs ≡ if_within (counted r.counts role (place_ahead r.tokens r.end)) (λ d. read (behind r d) below (ASpelling (place_ahead r.tokens r.end) (text_ahead r.tokens) ∷ vs))
+unfolding read
+kept_taken r k role below vs sees = kept_at r.tokens r.counts r.end k role below vs sees
+
+pub kept_missing : (r : Reading) (k : Terminal) (role : Role) (below : List Sym) (vs : List Value) → is_ahead k r.tokens ≡ false → read r (Kept k role ∷ below) vs ≡ Err (Unexpected (place_ahead r.tokens r.end))
+unfolding read
+kept_missing r k role below vs sees = kept_not_at r.tokens r.counts r.end k role below vs sees
+
+pub operator_counted : (r : Reading) (l : Level) (o : BinOp) (below : List Sym) (vs : List Value) → operator_ahead l r.tokens ≡ Some o → read r (Operator l ∷ below) vs ≡ if_within (counted r.counts (Makes 1) (place_ahead r.tokens r.end)) (λ d. read (behind r d) below (AnOperator o ∷ vs))
+unfolding read
+operator_counted r l o below vs sees = operator_found_at r.tokens r.counts r.end l o below vs sees
 
 pub word_taken : (r : Reading) (k : Terminal) (role : Role) (below : List Sym) (vs : List Value) → is_ahead k r.tokens ≡ true → read r (Word k role ∷ below) vs ≡ if_within (counted r.counts role (place_ahead r.tokens r.end)) (λ d. read (behind r d) below vs)
 unfolding read

@@ -1,18 +1,15 @@
 use Rattle.std.proofs.Common.{◌≡◌, ℕ, List, [], ◌∷◌, ◌++◌, Option, Some, None, Result, Ok, Err, refl, sym, ap, subst, ◌∙◌, append_assoc, append-nil}
-use Rattle.ql_lang.specs.Trees.{Sentence}
 use Rattle.ql_grammar.specs.declared.terminal.Terminal.{Terminal}
 use Rattle.ql_grammar.specs.declared.role.Role.{Role}
 use Rattle.ql_grammar.specs.Tokens.{Lexeme, Marked, marked, lexemes}
-use Rattle.ql_grammar.specs.ContractGrammar.{ReadsContract}
 use Rattle.ql_grammar.specs.Limits.{Fault, Unexpected, Counts, counted, counted_all, if_within, nothing_yet}
-use Rattle.ql_grammar.specs.Table.{Value, Sym, ASentence}
+use Rattle.ql_grammar.specs.Table.{Value, Sym, Part}
 use Rattle.ql_grammar.specs.Machine.{Taken, step, finish, run, go_on}
-use Rattle.ql_grammar.specs.Texts.{IsContract, Begins, Parses, FirstFault, unexpected, ended, past}
+use Rattle.ql_grammar.specs.Texts.{IsTextOf, Begins, ParsesAs, FirstFault, unexpected, ended, past}
 use Rattle.ql_grammar.proofs.Wanted.{Has}
 use Rattle.ql_grammar.proofs.Steps.{IsSound, step_sound, EndsSoundly, finish_sound, Wish, wish}
 use Rattle.ql_grammar.proofs.Paths.{Path, SameHead, here, take, via, take_run, within_then}
-use Rattle.ql_grammar.proofs.Again.{again_contract}
-use Rattle.ql_grammar.proofs.Laws.{start, text_of, contract_runs, lexemes_append}
+use Rattle.ql_grammar.proofs.Laws.{IsWhole, start, text_runs, lexemes_append}
 
 -- The machine takes these tokens, each in its role, and comes from the first stacks to the others.
 data Walk : List Sym → List Value → List Marked → List Sym → List Value → Type 0 where
@@ -49,31 +46,9 @@ walk_has {st = st} {vs = vs} {end = end} {ms = m ∷ ms} {ts = ts} (walk {s = s}
     let sound : IsSound st vs m.lexeme.what m.lexeme.text m.lexeme.at (Some (record { role = m.role; stack = s; values = w })) = subst (IsSound st vs m.lexeme.what m.lexeme.text m.lexeme.at) e (step_sound st vs m.lexeme.what m.lexeme.text m.lexeme.at) in
     sound end (ms ++ ts) (walk_has next h)
 
--- the machine walks along what some contract begins with
-begun : (ms more : List Marked) (s : Sentence) → ReadsContract (ms ++ more) [] s → Walks start [] ms
-begun ms more s reads = walk_of (again_contract reads [] [] (record { no_and = tt; no_or = tt; no_arrow = tt })) refl ms more refl
-
-is_contract : {ms : List Marked} {out : List Value} → Has start [] ms out → IsContract ms
-is_contract h = let text = text_of h in (text.0, text.1)
-
-no_step : (before : List Marked) (t : Lexeme) (to : List Sym) (out : List Value) → Walk start [] before to out → ((ms : List Marked) → lexemes ms ≡ lexemes before ++ t ∷ [] → Begins IsContract ms → ⊥) → (o : Option Taken) → step to out t.what t.text t.at ≡ o → o ≡ None
-no_step before t to out walks none None is = refl
-no_step before t to out walks none (Some taken) is =
-    let m : Marked = marked taken.role t.what t.text t.at in
-    let sound : IsSound to out t.what t.text t.at (Some taken) = subst (IsSound to out t.what t.text t.at) is (step_sound to out t.what t.text t.at) in
-    let more : Wish taken.stack taken.values = wish taken.stack taken.values in
-    let text : IsContract (before ++ m ∷ more.0) = is_contract (walk_has walks (sound more.1 more.0 more.2)) in
-    absurd (none (before ++ m ∷ []) (lexemes_append before (m ∷ [])) (more.0, subst IsContract (sym (append_assoc before (m ∷ []) more.0)) text))
-
 stops : (t : Lexeme) (rest : List Lexeme) (to : List Sym) (out : List Value) (c : Counts) (end : ℕ) → step to out t.what t.text t.at ≡ None → run (t ∷ rest) to out c end ≡ Err (Unexpected t.at)
 unfolding run
 stops t rest to out c end none = rw none refl
-
-no_end : (before : List Marked) (to : List Sym) (out : List Value) (end : ℕ) → Walk start [] before to out → ((ms : List Marked) → lexemes ms ≡ lexemes before → IsContract ms → ⊥) → (o : Result (List Value) Fault) → EndsSoundly to out end o → o ≡ Err (Unexpected end)
-no_end before to out end walks none (Err f) sound = ap Err sound
-no_end before to out end walks none (Ok last) sound =
-    let text : IsContract (before ++ []) = is_contract (walk_has walks sound) in
-    absurd (none before refl (subst IsContract (append-nil before) text))
 
 finishes : (to : List Sym) (out : List Value) (c : Counts) (end : ℕ) → run [] to out c end ≡ finish to out end
 unfolding run
@@ -92,41 +67,64 @@ counted_one : (c : Counts) (m : Marked) (f : Fault) → counted c m.role m.lexem
 unfolding counted_all
 counted_one c m f over = rw over refl
 
--- the first fault is what the machine answers
-pub fault_runs : {ts : List Lexeme} {end : ℕ} {f : Fault} → FirstFault IsContract ts end f → run ts start [] nothing_yet end ≡ Err f
-fault_runs {end = end} (unexpected before t rest within begins none) =
-    let w = begun before begins.0 begins.1.0 begins.1.1 in
-    walk_run w.2 (t ∷ rest) nothing_yet end
-    ∙ ap (λ (o : Result Counts Fault). if_within o (λ d. run (t ∷ rest) w.0 w.1 d end)) within.1
-    ∙ stops t rest w.0 w.1 within.0 end (no_step before t w.0 w.1 w.2 none (step w.0 w.1 t.what t.text t.at) refl)
-fault_runs {end = end} (ended before within begins none) =
-    let w = begun before begins.0 begins.1.0 begins.1.1 in
-    ap (λ ts. run ts start [] nothing_yet end) (sym (append-nil (lexemes before)))
-    ∙ walk_run w.2 [] nothing_yet end
-    ∙ ap (λ (o : Result Counts Fault). if_within o (λ d. run [] w.0 w.1 d end)) within.1
-    ∙ finishes w.0 w.1 within.0 end
-    ∙ no_end before w.0 w.1 end w.2 none (finish w.0 w.1 end) (finish_sound w.0 w.1 end)
-fault_runs {end = end} {f = f} (past before m rest {c = c} within begins over) =
-    let w = begun (before ++ m ∷ []) begins.0 begins.1.0 begins.1.1 in
-    let are : lexemes before ++ m.lexeme ∷ rest ≡ lexemes (before ++ m ∷ []) ++ rest =
-    sym (ap (λ l. l ++ rest) (lexemes_append before (m ∷ [])) ∙ append_assoc (lexemes before) (m.lexeme ∷ []) rest) in
-    let counts : counted_all nothing_yet (before ++ m ∷ []) ≡ Err f =
-    counted_append nothing_yet before (m ∷ []) ∙ ap (λ (o : Result Counts Fault). if_within o (λ d. counted_all d (m ∷ []))) within ∙ counted_one c m f over in
-    ap (λ ts. run ts start [] nothing_yet end) are
-    ∙ walk_run w.2 rest nothing_yet end
-    ∙ ap (λ (o : Result Counts Fault). if_within o (λ d. run rest w.0 w.1 d end)) counts
+module _ {A : Type 0} {p : Part} {value : A → Value} {Reads : List Marked → List Marked → A → Type 0} (w : IsWhole p value Reads) where
+  -- the machine walks along what some text begins with
+  begun : (ms more : List Marked) (a : A) → Reads (ms ++ more) [] a → Walks (start w) [] ms
+  begun ms more a reads = walk_of (w.again reads) refl ms more refl
 
--- the tree of a contract is what the machine answers
-pub contract_answers : {ts : List Lexeme} {s : Sentence} → Parses ts s → (end : ℕ) → run ts start [] nothing_yet end ≡ Ok (ASentence s ∷ [])
-contract_answers {s = s} p end =
-    ap (λ ts. run ts start [] nothing_yet end) (sym p.are) ∙ contract_runs p.reads end
-    ∙ ap (λ (o : Result Counts Fault). if_within o (λ d. Ok (ASentence s ∷ []))) p.within.1
+  is_text : {ms : List Marked} {out : List Value} → Has (start w) [] ms out → IsTextOf Reads ms
+  is_text h = let text = w.text h in (text.0, text.1)
 
-pub one_tree : (ts : List Lexeme) (s t : Sentence) → Parses ts s → Parses ts t → s ≡ t
-one_tree ts s t p q = let e : ◌≡◌ {A = Result (List Value) Fault} (Ok (ASentence s ∷ [])) (Ok (ASentence t ∷ [])) = sym (contract_answers p 0) ∙ contract_answers q 0 in cc
+  no_step : (before : List Marked) (t : Lexeme) (to : List Sym) (out : List Value) → Walk (start w) [] before to out → ((ms : List Marked) → lexemes ms ≡ lexemes before ++ t ∷ [] → Begins (IsTextOf Reads) ms → ⊥) → (o : Option Taken) → step to out t.what t.text t.at ≡ o → o ≡ None
+  no_step before t to out walks none None is = refl
+  no_step before t to out walks none (Some taken) is =
+      let m : Marked = marked taken.role t.what t.text t.at in
+      let sound : IsSound to out t.what t.text t.at (Some taken) = subst (IsSound to out t.what t.text t.at) is (step_sound to out t.what t.text t.at) in
+      let more : Wish taken.stack taken.values = wish taken.stack taken.values in
+      let text : (IsTextOf Reads) (before ++ m ∷ more.0) = is_text (walk_has walks (sound more.1 more.0 more.2)) in
+      absurd (none (before ++ m ∷ []) (lexemes_append before (m ∷ [])) (more.0, subst (IsTextOf Reads) (sym (append_assoc before (m ∷ []) more.0)) text))
 
-pub one_fault : (ts : List Lexeme) (end : ℕ) (f g : Fault) → FirstFault IsContract ts end f → FirstFault IsContract ts end g → f ≡ g
-one_fault ts end f g p q = let e : ◌≡◌ {A = Result (List Value) Fault} (Err f) (Err g) = sym (fault_runs p) ∙ fault_runs q in cc
+  no_end : (before : List Marked) (to : List Sym) (out : List Value) (end : ℕ) → Walk (start w) [] before to out → ((ms : List Marked) → lexemes ms ≡ lexemes before → (IsTextOf Reads) ms → ⊥) → (o : Result (List Value) Fault) → EndsSoundly to out end o → o ≡ Err (Unexpected end)
+  no_end before to out end walks none (Err f) sound = ap Err sound
+  no_end before to out end walks none (Ok last) sound =
+      let text : (IsTextOf Reads) (before ++ []) = is_text (walk_has walks sound) in
+      absurd (none before refl (subst (IsTextOf Reads) (append-nil before) text))
 
-pub not_both : (ts : List Lexeme) (end : ℕ) (s : Sentence) (f : Fault) → Parses ts s → FirstFault IsContract ts end f → ⊥
-not_both ts end s f p q = let e : Ok (ASentence s ∷ []) ≡ Err f = sym (contract_answers p end) ∙ fault_runs q in cc
+  -- the first fault is what the machine answers
+  pub fault_runs : {ts : List Lexeme} {end : ℕ} {f : Fault} → FirstFault (IsTextOf Reads) ts end f → run ts (start w) [] nothing_yet end ≡ Err f
+  fault_runs {end = end} (unexpected before t rest within begins none) =
+      let b = begun before begins.0 begins.1.0 begins.1.1 in
+      walk_run b.2 (t ∷ rest) nothing_yet end
+      ∙ ap (λ (o : Result Counts Fault). if_within o (λ d. run (t ∷ rest) b.0 b.1 d end)) within.1
+      ∙ stops t rest b.0 b.1 within.0 end (no_step before t b.0 b.1 b.2 none (step b.0 b.1 t.what t.text t.at) refl)
+  fault_runs {end = end} (ended before within begins none) =
+      let b = begun before begins.0 begins.1.0 begins.1.1 in
+      ap (λ ts. run ts (start w) [] nothing_yet end) (sym (append-nil (lexemes before)))
+      ∙ walk_run b.2 [] nothing_yet end
+      ∙ ap (λ (o : Result Counts Fault). if_within o (λ d. run [] b.0 b.1 d end)) within.1
+      ∙ finishes b.0 b.1 within.0 end
+      ∙ no_end before b.0 b.1 end b.2 none (finish b.0 b.1 end) (finish_sound b.0 b.1 end)
+  fault_runs {end = end} {f = f} (past before m rest {c = c} within begins over) =
+      let b = begun (before ++ m ∷ []) begins.0 begins.1.0 begins.1.1 in
+      let are : lexemes before ++ m.lexeme ∷ rest ≡ lexemes (before ++ m ∷ []) ++ rest =
+      sym (ap (λ l. l ++ rest) (lexemes_append before (m ∷ [])) ∙ append_assoc (lexemes before) (m.lexeme ∷ []) rest) in
+      let counts : counted_all nothing_yet (before ++ m ∷ []) ≡ Err f =
+      counted_append nothing_yet before (m ∷ []) ∙ ap (λ (o : Result Counts Fault). if_within o (λ d. counted_all d (m ∷ []))) within ∙ counted_one c m f over in
+      ap (λ ts. run ts (start w) [] nothing_yet end) are
+      ∙ walk_run b.2 rest nothing_yet end
+      ∙ ap (λ (o : Result Counts Fault). if_within o (λ d. run rest b.0 b.1 d end)) counts
+
+  -- the tree of a text is what the machine answers
+  pub text_answers : {ts : List Lexeme} {a : A} → ParsesAs Reads ts a → (end : ℕ) → run ts (start w) [] nothing_yet end ≡ Ok (value a ∷ [])
+  text_answers {a = a} p end =
+      ap (λ ts. run ts (start w) [] nothing_yet end) (sym p.are) ∙ text_runs w p.reads end
+      ∙ ap (λ (o : Result Counts Fault). if_within o (λ d. Ok (value a ∷ []))) p.within.1
+
+  pub one_tree : (ts : List Lexeme) (a b : A) → ParsesAs Reads ts a → ParsesAs Reads ts b → a ≡ b
+  one_tree ts a b p q = let e : ◌≡◌ {A = Result (List Value) Fault} (Ok (value a ∷ [])) (Ok (value b ∷ [])) = sym (text_answers p 0) ∙ text_answers q 0 in w.one (cc)
+
+  pub one_fault : (ts : List Lexeme) (end : ℕ) (f g : Fault) → FirstFault (IsTextOf Reads) ts end f → FirstFault (IsTextOf Reads) ts end g → f ≡ g
+  one_fault ts end f g p q = let e : ◌≡◌ {A = Result (List Value) Fault} (Err f) (Err g) = sym (fault_runs p) ∙ fault_runs q in cc
+
+  pub not_both : (ts : List Lexeme) (end : ℕ) (a : A) (f : Fault) → ParsesAs Reads ts a → FirstFault (IsTextOf Reads) ts end f → ⊥
+  not_both ts end a f p q = let e : Ok (value a ∷ []) ≡ Err f = sym (text_answers p end) ∙ fault_runs q in cc

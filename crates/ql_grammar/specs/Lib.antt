@@ -2,6 +2,8 @@ pub mod Terminals
 pub mod Tokens
 pub mod Limits
 pub mod ContractGrammar
+pub mod ExpressionGrammar
+pub mod ProgramGrammar
 pub mod Table
 pub mod Machine
 pub mod Texts

@@ -1,11 +1,14 @@
-use Rattle.std.specs.Prelude.{ℕ, Bool, true, false, List, [], ◌∷◌, Option, Some, None, Result, Ok, Err, if◌then◌else◌}
+use Rattle.std.specs.Prelude.{ℕ, Bool, true, false, List, [], ◌∷◌, Option, Some, None, Result, Ok, Err, if◌then◌else◌, is_some}
+use Rattle.ql_lang.specs.declared.expression.BinOp.{BinOp}
+use Rattle.ql_grammar.specs.declared.level.Level.{Level}
 use Rattle.ql_grammar.specs.declared.terminal.Terminal.{Terminal}
 use Rattle.ql_grammar.specs.declared.terminal.Terminal.TheVariants.{NameToken}
 use Rattle.ql_grammar.specs.Terminals.{is_same}
 use Rattle.ql_grammar.specs.declared.role.Role.{Role}
+use Rattle.ql_grammar.specs.declared.role.Role.TheVariants.{Makes}
 use Rattle.ql_grammar.specs.Tokens.{Lexeme}
 use Rattle.ql_grammar.specs.Limits.{Fault, Unexpected, Counts, counted, if_within}
-use Rattle.ql_grammar.specs.Table.{Value, APlace, AName, Sym, Word, Placed, ANameOf, Do, APart, Then, Part, Rest, ways, way_on}
+use Rattle.ql_grammar.specs.Table.{Value, APlace, AName, ASpelling, AnOperator, Sym, Word, Placed, ANameOf, Kept, Operator, Do, APart, Then, Part, Rest, operator_at, operators, ways, way_on}
 
 -- what a token does: its role, and the stacks behind it
 pub record Taken : Type 0 where
@@ -17,11 +20,18 @@ abbrev pub or_else : Option Taken → Option Taken → Option Taken
 or_else (Some t) other = Some t
 or_else None other = other
 
+-- the stacks behind an operator
+abbrev pub operator_taken : Option BinOp → List Sym → List Value → Option Taken
+operator_taken (Some o) below vs = Some (record { role = Makes 1; stack = below; values = AnOperator o ∷ vs })
+operator_taken None below vs = None
+
 -- a token as the first of a stack that begins with a word or a name
 unfoldable pub lead : List Sym → List Value → Terminal → List ℕ → ℕ → Option Taken
 lead (Word j r ∷ below) vs k x n = if is_same k j then Some (record { role = r; stack = below; values = vs }) else None
 lead (Placed j r ∷ below) vs k x n = if is_same k j then Some (record { role = r; stack = below; values = APlace n ∷ vs }) else None
 lead (ANameOf r ∷ below) vs k x n = if is_same k NameToken then Some (record { role = r; stack = below; values = AName (record { word = x; at = n }) ∷ vs }) else None
+lead (Kept j r ∷ below) vs k x n = if is_same k j then Some (record { role = r; stack = below; values = ASpelling n x ∷ vs }) else None
+lead (Operator p ∷ below) vs k x n = operator_taken (operator_at p k) below vs
 lead _ vs k x n = None
 
 -- a token as the first of one of these
@@ -38,6 +48,8 @@ step (Then l ∷ below) vs k x n = or_else (lead (way_on l below) vs k x n) (ste
 step (Word j r ∷ below) vs k x n = lead (Word j r ∷ below) vs k x n
 step (Placed j r ∷ below) vs k x n = lead (Placed j r ∷ below) vs k x n
 step (ANameOf r ∷ below) vs k x n = lead (ANameOf r ∷ below) vs k x n
+step (Kept j r ∷ below) vs k x n = lead (Kept j r ∷ below) vs k x n
+step (Operator p ∷ below) vs k x n = lead (Operator p ∷ below) vs k x n
 
 -- the values at the end of the text, where nothing more is wanted
 unfoldable pub finish : List Sym → List Value → ℕ → Result (List Value) Fault
@@ -48,6 +60,8 @@ finish (APart p ∷ below) vs end = Err (Unexpected end)
 finish (Word j r ∷ below) vs end = Err (Unexpected end)
 finish (Placed j r ∷ below) vs end = Err (Unexpected end)
 finish (ANameOf r ∷ below) vs end = Err (Unexpected end)
+finish (Kept j r ∷ below) vs end = Err (Unexpected end)
+finish (Operator p ∷ below) vs end = Err (Unexpected end)
 
 -- go on behind a token, or tell the fault that stands at it
 abbrev pub go_on : Option Taken → Counts → ℕ → (List Sym → List Value → Counts → Result (List Value) Fault) → Result (List Value) Fault
@@ -73,6 +87,14 @@ unfoldable pub is_ahead : Terminal → List Lexeme → Bool
 is_ahead k [] = false
 is_ahead k (t ∷ ts) = is_same t.what k
 
+abbrev pub operator_of : List (Terminal × BinOp) → List Lexeme → Option BinOp
+operator_of [] ts = None
+operator_of (row ∷ rows) ts = if is_ahead row.0 ts then Some row.1 else operator_of rows ts
+
+-- the operator of this level that comes next
+abbrev pub operator_ahead : Level → List Lexeme → Option BinOp
+operator_ahead p ts = operator_of (operators p) ts
+
 -- where the next token stands, or the end
 abbrev pub place_ahead : List Lexeme → ℕ → ℕ
 place_ahead [] end = end
@@ -83,6 +105,8 @@ abbrev pub is_begun : List Sym → List Lexeme → Bool
 is_begun (Word k r ∷ below) ts = is_ahead k ts
 is_begun (Placed k r ∷ below) ts = is_ahead k ts
 is_begun (ANameOf r ∷ below) ts = is_ahead NameToken ts
+is_begun (Kept k r ∷ below) ts = is_ahead k ts
+is_begun (Operator p ∷ below) ts = is_some (operator_ahead p ts)
 is_begun _ ts = false
 
 -- the way that the next token begins

@@ -1,12 +1,20 @@
 use Rattle.std.specs.Prelude.{◌≡◌, ℕ, List, [], ◌∷◌, ◌++◌, Ok, Err}
 use Rattle.ql_lang.specs.Trees.{Sentence}
+use Rattle.ql_lang.specs.Programs.{Source}
 use Rattle.ql_grammar.specs.Tokens.{Lexeme, Marked, lexemes}
 use Rattle.ql_grammar.specs.Limits.{Fault, Unexpected, Counts, counted, counted_all, nothing_yet}
 use Rattle.ql_grammar.specs.ContractGrammar.{ReadsContract}
+use Rattle.ql_grammar.specs.ProgramGrammar.{ReadsProgram}
 
--- the tokens, in their roles, are a contract
+-- the tokens, in their roles, are a whole text
+abbrev pub IsTextOf : {A : Type 0} → (List Marked → List Marked → A → Type 0) → List Marked → Type 0
+IsTextOf {A = A} Reads ms = (a : A) × Reads ms [] a
+
 abbrev pub IsContract : List Marked → Type 0
-IsContract ms = (s : Sentence) × ReadsContract ms [] s
+IsContract = IsTextOf ReadsContract
+
+abbrev pub IsProgram : List Marked → Type 0
+IsProgram = IsTextOf ReadsProgram
 
 -- some text begins so
 abbrev pub Begins : (List Marked → Type 0) → List Marked → Type 0
@@ -26,9 +34,15 @@ pub data FirstFault (IsText : List Marked → Type 0) : List Lexeme → ℕ → 
   -- some text begins so, with this token, which goes past a limit
   past : (before : List Marked) (m : Marked) (rest : List Lexeme) {end : ℕ} {c : Counts} {f : Fault} → counted_all nothing_yet before ≡ Ok c → Begins IsText (before ++ m ∷ []) → counted c m.role m.lexeme.at ≡ Err f → FirstFault IsText (lexemes before ++ m.lexeme ∷ rest) end f
 
--- the tokens read as this contract, within the limits
-pub record Parses (ts : List Lexeme) (s : Sentence) : Type 0 where
+-- the tokens read as this tree, within the limits
+pub record ParsesAs {A : Type 0} (Reads : List Marked → List Marked → A → Type 0) (ts : List Lexeme) (a : A) : Type 0 where
   pub marks : List Marked
   pub are : lexemes marks ≡ ts
   pub within : IsWithin marks
-  pub reads : ReadsContract marks [] s
+  pub reads : Reads marks [] a
+
+abbrev pub Parses : List Lexeme → Sentence → Type 0
+Parses = ParsesAs ReadsContract
+
+abbrev pub ParsesProgram : List Lexeme → Source → Type 0
+ParsesProgram = ParsesAs ReadsProgram

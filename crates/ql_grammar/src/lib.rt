@@ -1,11 +1,13 @@
-// The grammar of the contract language, as relations between tokens and trees.
+// The grammar of the source language, as relations between tokens and trees.
 // It has the terminals that the grammar speaks of, and no reader: its definitions say what a reader must answer.
 #![tactic(auto)]
 
+mod level;
 mod role;
 mod terminal;
 mod unique;
 
+pub use level::Level;
 pub use role::Role;
 pub use terminal::{Terminal, is_same, terminal_of};
-pub use unique::one_answer;
+pub use unique::{one_answer, one_program_answer};

@@ -3,3 +3,4 @@ pub mod Formulas
 pub mod Arguments
 pub mod Expressions
 pub mod Spelling
+pub mod Programs
