@@ -70,7 +70,7 @@ negation_way : {below : List Sym} → Widens (Placed Minus (Makes 1) ∷ APart (
 negation_way vs out ts (placed (expr reads (change h))) = expr (negation reads) h
 
 pub unary_leads : (below : List Sym) → Leads (APart (ExprAt Unary) ∷ below) (unary_ways below)
-unary_leads below = (number_way, (text_way, (true_way, (false_way, (unit_way, (name_way, (group_way, (denial_way, (negation_way, tt)))))))))
+unary_leads below = (number_way, (text_way, (name_way, (group_way, (denial_way, (negation_way, (true_way, (false_way, (unit_way, tt)))))))))
 
 -- the other parts, each by the one before it
 

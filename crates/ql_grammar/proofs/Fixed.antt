@@ -57,3 +57,21 @@ name_token Int text is = cc
 name_token Text text is = cc
 name_token Mark text is = absurd (subst IsFixed is (mark_fixed text))
 name_token Keyword text is = absurd (subst IsFixed is (keyword_fixed text))
+
+-- only numbers are read as numbers
+pub int_token : (what : TokenKind) (text : List ℕ) → terminal_of what text ≡ IntToken → what ≡ Int
+unfolding terminal_of
+int_token Name text is = cc
+int_token Int text is = refl
+int_token Text text is = cc
+int_token Mark text is = absurd (subst IsFixed is (mark_fixed text))
+int_token Keyword text is = absurd (subst IsFixed is (keyword_fixed text))
+
+-- only texts are read as texts
+pub text_token : (what : TokenKind) (text : List ℕ) → terminal_of what text ≡ TextToken → what ≡ Text
+unfolding terminal_of
+text_token Name text is = cc
+text_token Int text is = cc
+text_token Text text is = refl
+text_token Mark text is = absurd (subst IsFixed is (mark_fixed text))
+text_token Keyword text is = absurd (subst IsFixed is (keyword_fixed text))

@@ -17,3 +17,4 @@ pub mod Taking
 pub mod Fixed
 pub mod Rules
 pub mod Uniqueness
+pub mod ByToken

@@ -35,7 +35,7 @@ base_leads below = (int_way, (bool_way, (text_way, tt)))
     text_way vs out ts (word (change h)) = base grammar.text h
 
 pub kind_leads : (below : List Sym) → Leads (APart AnyKind ∷ below) (kind_ways below)
-kind_leads below = (unit_way, (int_way, (bool_way, (text_way, (set_way, (map_way, tt))))))
+kind_leads below = (set_way, (map_way, (unit_way, (int_way, (bool_way, (text_way, tt))))))
   where
     unit_way : Widens (Word UnitWord Plain ∷ Do (add_kind any_kind.Unit) ∷ below) (APart AnyKind ∷ below)
     unit_way vs out ts (word (change h)) = kind grammar.unit h

@@ -449,17 +449,21 @@ atom_ways below =
     (Word OpenParen (Opens 0) ∷ APart (Term Plain) ∷ Word Comma Plain ∷ APart (Term Plain)
     ∷ Word CloseParen Closes ∷ Do to_application ∷ below)
 
+abbrev pub constant_ways : List Sym → List (List Sym)
+constant_ways below =
+    (Placed TrueWord (Makes 1) ∷ Do (to_truth true) ∷ below)
+    ∷ (Placed FalseWord (Makes 1) ∷ Do (to_truth false) ∷ below)
+    ∷ (Placed UnitWord (Makes 1) ∷ Do to_nothing ∷ below) ∷ []
+
 abbrev pub unary_ways : List Sym → List (List Sym)
 unary_ways below =
     (Kept IntToken (Makes 1) ∷ Do to_number ∷ below)
     ∷ (Kept TextToken (Makes 1) ∷ Do to_literal ∷ below)
-    ∷ (Placed TrueWord (Makes 1) ∷ Do (to_truth true) ∷ below)
-    ∷ (Placed FalseWord (Makes 1) ∷ Do (to_truth false) ∷ below)
-    ∷ (Placed UnitWord (Makes 1) ∷ Do to_nothing ∷ below)
     ∷ (ANameOf (Makes 1) ∷ Do to_reading ∷ Then Called ∷ below)
     ∷ (Placed OpenParen (Opens 0) ∷ APart (ExprAt Chosen) ∷ Word CloseParen Closes ∷ Do to_group ∷ below)
     ∷ (Placed NotWord (Makes 1) ∷ APart (ExprAt Unary) ∷ Do to_denial ∷ below)
-    ∷ (Placed Minus (Makes 1) ∷ APart (ExprAt Unary) ∷ Do to_negation ∷ below) ∷ []
+    ∷ (Placed Minus (Makes 1) ∷ APart (ExprAt Unary) ∷ Do to_negation ∷ below)
+    ∷ constant_ways below
 
 abbrev pub disjoined_ways : List Sym → List (List Sym)
 disjoined_ways below = unary_ways (Then MoreTimes ∷ Then MorePlus ∷ Then Comparison ∷ Then MoreConjoined ∷ Then MoreDisjoined ∷ below)
@@ -477,22 +481,26 @@ base_ways below =
 
 abbrev pub kind_ways : List Sym → List (List Sym)
 kind_ways below =
-    (Word UnitWord Plain ∷ Do (add_kind kind.Unit) ∷ below)
+    (Word SetWord Plain ∷ Word OpenParen Plain ∷ APart BaseKind ∷ Word CloseParen Plain ∷ Do to_set ∷ below)
+    ∷ (Word MapWord Plain ∷ Word OpenParen Plain ∷ APart BaseKind ∷ Word Comma Plain ∷ APart BaseKind ∷ Word CloseParen Plain ∷ Do to_map ∷ below)
+    ∷ (Word UnitWord Plain ∷ Do (add_kind kind.Unit) ∷ below)
     ∷ (Word IntWord Plain ∷ Do (add_kind kind.Int) ∷ below)
     ∷ (Word BoolWord Plain ∷ Do (add_kind kind.Bool) ∷ below)
-    ∷ (Word TextWord Plain ∷ Do (add_kind kind.Text) ∷ below)
-    ∷ (Word SetWord Plain ∷ Word OpenParen Plain ∷ APart BaseKind ∷ Word CloseParen Plain ∷ Do to_set ∷ below)
-    ∷ (Word MapWord Plain ∷ Word OpenParen Plain ∷ APart BaseKind ∷ Word Comma Plain ∷ APart BaseKind ∷ Word CloseParen Plain ∷ Do to_map ∷ below) ∷ []
+    ∷ (Word TextWord Plain ∷ Do (add_kind kind.Text) ∷ below) ∷ []
+
+abbrev pub plain_ways : List Sym → List (List Sym)
+plain_ways below =
+    (Placed TrueWord Plain ∷ Do (begin_with (init.Bool true)) ∷ below)
+    ∷ (Placed FalseWord Plain ∷ Do (begin_with (init.Bool false)) ∷ below)
+    ∷ (Placed UnitWord Plain ∷ Do (begin_with init.Unit) ∷ below)
+    ∷ (Placed EmptyWord Plain ∷ Do (begin_with init.Empty) ∷ below) ∷ []
 
 abbrev pub beginning_ways : List Sym → List (List Sym)
 beginning_ways below =
     (Kept IntToken Plain ∷ Do begin_number ∷ below)
     ∷ (Placed Minus Plain ∷ Kept IntToken Plain ∷ Do begin_negative ∷ below)
     ∷ (Kept TextToken Plain ∷ Do begin_text ∷ below)
-    ∷ (Placed TrueWord Plain ∷ Do (begin_with (init.Bool true)) ∷ below)
-    ∷ (Placed FalseWord Plain ∷ Do (begin_with (init.Bool false)) ∷ below)
-    ∷ (Placed UnitWord Plain ∷ Do (begin_with init.Unit) ∷ below)
-    ∷ (Placed EmptyWord Plain ∷ Do (begin_with init.Empty) ∷ below) ∷ []
+    ∷ plain_ways below
 
 -- the symbols of declarations
 
