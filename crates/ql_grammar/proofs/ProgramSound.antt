@@ -29,8 +29,10 @@ base_leads below = (int_way, (bool_way, (text_way, tt)))
   where
     int_way : Widens (Word IntWord Plain ∷ Do (add_base base_kind.Int) ∷ below) (APart BaseKind ∷ below)
     int_way vs out ts (word (change h)) = base grammar.int h
+
     bool_way : Widens (Word BoolWord Plain ∷ Do (add_base base_kind.Bool) ∷ below) (APart BaseKind ∷ below)
     bool_way vs out ts (word (change h)) = base grammar.bool h
+
     text_way : Widens (Word TextWord Plain ∷ Do (add_base base_kind.Text) ∷ below) (APart BaseKind ∷ below)
     text_way vs out ts (word (change h)) = base grammar.text h
 
@@ -39,14 +41,19 @@ kind_leads below = (set_way, (map_way, (unit_way, (int_way, (bool_way, (text_way
   where
     unit_way : Widens (Word UnitWord Plain ∷ Do (add_kind any_kind.Unit) ∷ below) (APart AnyKind ∷ below)
     unit_way vs out ts (word (change h)) = kind grammar.unit h
+
     int_way : Widens (Word IntWord Plain ∷ Do (add_kind any_kind.Int) ∷ below) (APart AnyKind ∷ below)
     int_way vs out ts (word (change h)) = kind grammar.int h
+
     bool_way : Widens (Word BoolWord Plain ∷ Do (add_kind any_kind.Bool) ∷ below) (APart AnyKind ∷ below)
     bool_way vs out ts (word (change h)) = kind grammar.bool h
+
     text_way : Widens (Word TextWord Plain ∷ Do (add_kind any_kind.Text) ∷ below) (APart AnyKind ∷ below)
     text_way vs out ts (word (change h)) = kind grammar.text h
+
     set_way : Widens (Word SetWord Plain ∷ Word OpenParen Plain ∷ APart BaseKind ∷ Word CloseParen Plain ∷ Do to_set ∷ below) (APart AnyKind ∷ below)
     set_way vs out ts (word (word (base b (word (change h))))) = kind (grammar.set b) h
+
     map_way : Widens (Word MapWord Plain ∷ Word OpenParen Plain ∷ APart BaseKind ∷ Word Comma Plain ∷ APart BaseKind ∷ Word CloseParen Plain ∷ Do to_map ∷ below) (APart AnyKind ∷ below)
     map_way vs out ts (word (word (base b (word (base c (word (change h))))))) = kind (grammar.map b c) h
 
@@ -57,16 +64,22 @@ beginning_leads below = (number_way, (negative_way, (text_way, (true_way, (false
   where
     number_way : Widens (Kept IntToken Plain ∷ Do begin_number ∷ below) (APart Beginning ∷ below)
     number_way vs out ts (kept (change h)) = init grammar.number h
+
     negative_way : Widens (Placed Minus Plain ∷ Kept IntToken Plain ∷ Do begin_negative ∷ below) (APart Beginning ∷ below)
     negative_way vs out ts (placed (kept (change h))) = init grammar.negative h
+
     text_way : Widens (Kept TextToken Plain ∷ Do begin_text ∷ below) (APart Beginning ∷ below)
     text_way vs out ts (kept (change h)) = init grammar.text h
+
     true_way : Widens (Placed TrueWord Plain ∷ Do (begin_with (init_node.Bool true)) ∷ below) (APart Beginning ∷ below)
     true_way vs out ts (placed (change h)) = init grammar.true_value h
+
     false_way : Widens (Placed FalseWord Plain ∷ Do (begin_with (init_node.Bool false)) ∷ below) (APart Beginning ∷ below)
     false_way vs out ts (placed (change h)) = init grammar.false_value h
+
     unit_way : Widens (Placed UnitWord Plain ∷ Do (begin_with init_node.Unit) ∷ below) (APart Beginning ∷ below)
     unit_way vs out ts (placed (change h)) = init grammar.unit_value h
+
     empty_way : Widens (Placed EmptyWord Plain ∷ Do (begin_with init_node.Empty) ∷ below) (APart Beginning ∷ below)
     empty_way vs out ts (placed (change h)) = init grammar.empty h
 

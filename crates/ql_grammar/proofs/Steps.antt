@@ -153,12 +153,14 @@ part_wish Beginning below rest vs = let h = rest _ in (marked Plain UnitWord [] 
 part_wish ListedNames below rest vs = let h = rest _ in (marked Plain NameToken [] 0 ∷ h.0, h.1, listed one h.2)
 part_wish WholeSource below rest vs =
     let h = rest _ in
-    let w : Terminal → Role → Marked = λ k r. marked r k [] 0 in
-    (w TypeWord Plain ∷ w NameToken Plain ∷ w OpenBrace Plain ∷ w OpWord Plain ∷ w NameToken Plain ∷ w OpenParen Plain
-    ∷ w CloseParen Plain ∷ w Colon Plain ∷ w IntWord Plain ∷ w OpenBrace Plain ∷ w ContractWord Before
-    ∷ w TrueWord (Makes 1) ∷ w Semicolon Plain ∷ w AnswerWord Before ∷ w UnitWord (Makes 1) ∷ w Semicolon Plain
-    ∷ w CloseBrace Plain ∷ w CloseBrace Plain ∷ h.0, h.1,
-    source (program.program (program.one (program.replicated program.none (program.one (program.operation program.none program.int (plain (either (both (atom truth)))) (expression.disjoined (expression.conjoined (expression.compared (expression.added (expression.multiplied (expression.unary expression.unit_value)))))) program.none)))) program.none) h.2)
+    let w : Terminal → Role → Marked = λ k r. marked r k [] 0 in (
+      w TypeWord Plain ∷ w NameToken Plain ∷ w OpenBrace Plain ∷ w OpWord Plain ∷ w NameToken Plain ∷ w OpenParen Plain
+          ∷ w CloseParen Plain ∷ w Colon Plain ∷ w IntWord Plain ∷ w OpenBrace Plain ∷ w ContractWord Before
+          ∷ w TrueWord (Makes 1) ∷ w Semicolon Plain ∷ w AnswerWord Before ∷ w UnitWord (Makes 1) ∷ w Semicolon Plain
+          ∷ w CloseBrace Plain ∷ w CloseBrace Plain ∷ h.0,
+      h.1,
+      source (program.program (program.one (program.replicated program.none (program.one (program.operation program.none program.int (plain (either (both (atom truth)))) (expression.disjoined (expression.conjoined (expression.compared (expression.added (expression.multiplied (expression.unary expression.unit_value)))))) program.none)))) program.none) h.2,
+    )
 
 pub wish : (st : List Sym) (vs : List Value) → Wish st vs
 wish [] vs = ([], vs, none)
@@ -166,7 +168,7 @@ wish (Word k r ∷ below) vs = let h = wish below vs in (marked r k [] 0 ∷ h.0
 wish (Placed k r ∷ below) vs = let h = wish below (APlace 0 ∷ vs) in (marked r k [] 0 ∷ h.0, h.1, placed h.2)
 wish (ANameOf r ∷ below) vs = let h = wish below (AName (record { word = []; at = 0 }) ∷ vs) in (marked r NameToken [] 0 ∷ h.0, h.1, name h.2)
 wish (Kept k r ∷ below) vs = let h = wish below (ASpelling 0 [] ∷ vs) in (marked r k [] 0 ∷ h.0, h.1, kept h.2)
-wish (Operator p ∷ below) vs = 
+wish (Operator p ∷ below) vs =
     let f = some_operator p in
     let h = wish below (AnOperator f.1 ∷ vs) in
     (marked (Makes 1) f.0 [] 0 ∷ h.0, h.1, operator f.2 h.2)

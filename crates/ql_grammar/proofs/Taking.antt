@@ -68,6 +68,20 @@ unfolding run step lead
 operator_found_at [] c end l o below vs sees = let e : None ≡ Some o = sym (none_ahead l) ∙ sees in cc
 operator_found_at (t ∷ ts) c end l o below vs sees = let e : operator_at l t.what ≡ Some o = sym (ahead_is l t ts) ∙ sees in rw e refl
 
+operator_not_at : (ts : List Lexeme) (c : Counts) (end : ℕ) (l : Level) (below : List Sym) (vs : List Value) → operator_ahead l ts ≡ None → run ts (Operator l ∷ below) vs c end ≡ Err (Unexpected (place_ahead ts end))
+unfolding run step lead finish
+operator_not_at [] c end l below vs misses = refl
+operator_not_at (t ∷ ts) c end l below vs misses = let e : operator_at l t.what ≡ None = sym (ahead_is l t ts) ∙ misses in rw e refl
+
+pub operator_missing : (r : Reading) (l : Level) (below : List Sym) (vs : List Value) → operator_ahead l r.tokens ≡ None → read r (Operator l ∷ below) vs ≡ Err (Unexpected (place_ahead r.tokens r.end))
+unfolding read
+operator_missing r l below vs misses = operator_not_at r.tokens r.counts r.end l below vs misses
+
+-- where an operator comes next, there is a token
+pub some_operator_ahead : (l : Level) (o : BinOp) (ts : List Lexeme) → operator_ahead l ts ≡ Some o → (t : Lexeme) × (us : List Lexeme) × (ts ≡ t ∷ us)
+some_operator_ahead l o [] sees = let e : None ≡ Some o = sym (none_ahead l) ∙ sees in cc
+some_operator_ahead l o (t ∷ ts) sees = (t, ts, refl)
+
 pub kept_taken : (r : Reading) (k : Terminal) (role : Role) (below : List Sym) (vs : List Value) → is_ahead k r.tokens ≡ true → read r (Kept k role ∷ below) vs ≡ if_within (counted r.counts role (place_ahead r.tokens r.end)) (λ d. read (behind r d) below (ASpelling (place_ahead r.tokens r.end) (text_ahead r.tokens) ∷ vs))
 unfolding read
 kept_taken r k role below vs sees = kept_at r.tokens r.counts r.end k role below vs sees

@@ -1,7 +1,6 @@
 pub mod ReaderLemmas
 pub mod RelationRules
 pub mod Spans
-pub mod ContractLemmas
 pub mod Pieces
 pub mod PiecesRead
 pub mod PiecesStand
@@ -10,3 +9,5 @@ pub mod OneReading
 pub mod Printing
 pub mod ReadFits
 pub mod ReadNodes
+pub mod Answering
+pub mod ArgumentLemmas

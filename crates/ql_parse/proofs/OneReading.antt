@@ -12,7 +12,7 @@ use Rattle.ql_grammar.specs.Limits.{nothing_yet}
 use Rattle.ql_grammar.specs.Table.{Value}
 use Rattle.ql_grammar.specs.Machine.{run}
 use Rattle.ql_grammar.proofs.Told.{Told, run_told}
-use Rattle.ql_grammar.proofs.Laws.{start, text_of, fault_found}
+use Rattle.ql_grammar.proofs.Laws.{a_contract, start, fault_found}
 use Rattle.ql_parse.specs.Readers.{lexemes_of}
 use Rattle.ql_parse.specs.Parsing.{IsContractAnswer, IsContractFault, IsContractText}
 use Rattle.ql_parse.specs.Printed.{unplaced, IsReadAs}
@@ -67,12 +67,12 @@ read_as bytes s t same only no_fault no_lex (Err NoMemory) answer = refl
 abbrev HasAnswer : List Lexeme → ℕ → Type 0
 HasAnswer ts end = ((s : Sentence) × Parses ts s) ⊎ ((f : limits.Fault) × FirstFault IsContract ts end f)
 
-by_run : (ts : List Lexeme) (end : ℕ) (o : Result (List Value) limits.Fault) → run ts start [] nothing_yet end ≡ o → HasAnswer ts end
+by_run : (ts : List Lexeme) (end : ℕ) (o : Result (List Value) limits.Fault) → run ts (start a_contract) [] nothing_yet end ≡ o → HasAnswer ts end
 by_run ts end (Ok out) is =
-    let told = subst (Told start [] nothing_yet ts end) is (run_told ts start [] nothing_yet end) in
-    let text = text_of told.2 in
+    let told = subst (Told (start a_contract) [] nothing_yet ts end) is (run_told ts (start a_contract) [] nothing_yet end) in
+    let text = a_contract.text told.2 in
     inl (text.0, record { marks = told.0; are = told.1; within = (told.3, told.4); reads = text.1 })
-by_run ts end (Err f) is = inr (f, fault_found ts end f is)
+by_run ts end (Err f) is = inr (f, fault_found a_contract ts end f is)
 
 abbrev pub IsAnswered : List ℕ → Type 0
 IsAnswered bytes = ((s : Sentence) × IsContractText bytes s) ⊎ (((f : limits.Fault) × IsContractFault bytes f) ⊎ ((e : LexFault) × Lexes 0 bytes (Err e)))
@@ -82,7 +82,7 @@ with_tokens bytes ts lexes (inl s) = inl (s.0, record { tokens = ts; lexes = lex
 with_tokens bytes ts lexes (inr f) = inr (inl (f.0, record { tokens = ts; lexes = lexes; first = f.1 }))
 
 of_tokens : (bytes : List ℕ) (r : Answer) → Lexes 0 bytes r → IsAnswered bytes
-of_tokens bytes (Ok ts) lexes = with_tokens bytes ts lexes (by_run (lexemes_of bytes ts) (length bytes) (run (lexemes_of bytes ts) start [] nothing_yet (length bytes)) refl)
+of_tokens bytes (Ok ts) lexes = with_tokens bytes ts lexes (by_run (lexemes_of bytes ts) (length bytes) (run (lexemes_of bytes ts) (start a_contract) [] nothing_yet (length bytes)) refl)
 of_tokens bytes (Err e) lexes = inr (inr (e, lexes))
 
 pub some_answer : ((text : List ℕ) → (r : Answer) × Lexes 0 text r) → (bytes : List ℕ) → IsAnswered bytes

@@ -9,8 +9,9 @@ use Rattle.ql_grammar.specs.declared.role.Role.TheVariants.{Plain, Makes, Opens,
 use Rattle.ql_grammar.specs.Tokens.{Lexeme}
 use Rattle.ql_grammar.specs.ContractGrammar.{Applied}
 use Rattle.ql_lang.specs.Trees.{Relation}
-use Rattle.ql_grammar.specs.Table.{Sym, Value, ARelation, APart, Do, Placed, RelationAt, Rest, Term, TermList, Then, Word, to_application, to_equality, to_txn}
-use Rattle.ql_grammar.specs.Machine.{Reading, read, is_ahead}
+use Rattle.ql_grammar.specs.ExpressionGrammar.{Chosen}
+use Rattle.ql_grammar.specs.Table.{Arguments, ExprAt, Sym, Value, ARelation, APart, Do, Placed, RelationAt, Rest, Term, TermList, Then, Word, to_application, to_equality, to_txn}
+use Rattle.ql_grammar.specs.Machine.{Reading, chosen, read, is_ahead}
 use Rattle.ql_parse.specs.declared.fault.Refusal.{Refusal}
 use Rattle.ql_parse.specs.declared.fault.Refusal.TheVariants.{Unexpected, Deep, Wide, NoMemory}
 
@@ -99,3 +100,17 @@ EndsHere r = (vs : List Value) → read r [] vs ≡ Ok vs
 
 abbrev pub EndsNot : Reading → Refusal → Type 0
 EndsNot r e = (f : limits.Fault) → fault_of e ≡ Some f → (vs : List Value) → read r [] vs ≡ Err f
+
+-- The next token began one of these ways, and it gave this value.
+abbrev pub GaveOneOf : (List Sym → List (List Sym)) → Value → Reading → Reading → Type 0
+GaveOneOf ways v old new = (below : List Sym) (vs : List Value) → chosen old (ways below) vs ≡ read new below (v ∷ vs)
+
+abbrev pub IsOneOfRefused : (List Sym → List (List Sym)) → Reading → Refusal → Type 0
+IsOneOfRefused ways old e = (f : limits.Fault) → fault_of e ≡ Some f → (below : List Sym) (vs : List Value) → chosen old (ways below) vs ≡ Err f
+
+-- the arguments of a call in their brackets, and an expression behind a word
+abbrev pub bracketed_arguments : List Sym → List Sym
+bracketed_arguments below = Word OpenParen (Opens 0) ∷ APart Arguments ∷ Word CloseParen Closes ∷ below
+
+abbrev pub branch_symbols : Terminal → List Sym → List Sym
+branch_symbols k below = Word k Plain ∷ APart (ExprAt Chosen) ∷ below

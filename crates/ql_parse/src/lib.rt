@@ -6,6 +6,7 @@ mod again;
 #[cfg(test)]
 mod again_tests;
 mod contract;
+mod expression;
 mod fault;
 mod parse;
 mod reader;

@@ -10,23 +10,32 @@ ghost use Rattle.std.specs.Prelude.{
   OnOk,
   [],
   drop,
+  Err,
+  None,
+  Ok,
+  Some,
   false,
+  if◌then◌else◌,
+  is_some,
   length,
+  pos,
   true,
 };
-ghost use Rattle.ql_grammar.specs.declared.terminal.Terminal.TheVariants.{NameToken};
+ghost use Rattle.ql_grammar.specs.declared.terminal.Terminal.TheVariants.{IntToken, NameToken, TextToken};
+ghost use Rattle.ql_grammar.specs.ExpressionGrammar.{between_quotes, number_of as number_in};
 ghost use Rattle.ql_grammar.specs.Limits.{Wide, counted, with_nodes};
-ghost use Rattle.ql_grammar.specs.Table.{ANameOf, AName, APlace, Placed, Word};
-ghost use Rattle.ql_grammar.specs.Machine.{is_ahead, place_ahead};
+ghost use Rattle.ql_grammar.specs.Table.{ANameOf, AName, AnOperator, APlace, ASpelling, Kept, Operator, Placed, Word};
+ghost use Rattle.ql_grammar.specs.Machine.{is_ahead, operator_ahead, place_ahead};
 ghost use Rattle.ql_grammar.proofs.Taking.{text_ahead};
 ghost use Rattle.ql_parse.specs.Readers.{AreSpans, lexemes_of, terminal_ahead};
 ghost use Rattle.ql_parse.specs.Readings.{EndsHere, EndsNot, Gave, IsPast, IsRefused, Took};
 
 use crate::fault::Refusal;
-use ql_base::{MAX_BRACKETS, MAX_NODES};
-use ql_grammar::{Role, Terminal, is_same, terminal_of};
-use ql_lang::Name;
+use ql_base::{MAX_BRACKETS, MAX_NODES, number_of};
+use ql_grammar::{Level, Role, Terminal, is_same, terminal_of};
+use ql_lang::{BinOp, Name, TextLit};
 use ql_lex::Token;
+use std::alloc::Global;
 use std::marker::Model;
 
 /// What is left to read of a source, and the counts of the expression or contract that is being read.
@@ -53,7 +62,7 @@ impl<'a> Model for Reader<'a> {
 
 /// The terminal of the first token.
 fn terminal_ahead(bytes: &[u8], rest: &[Token]) -> Option<Terminal>
-    requires { AreSpans (length bytes.now) rest.now }
+    requires { AreSpans bytes.now rest.now }
     ensures { result ≡ terminal_ahead (lexemes_of bytes.now rest.now) }
 {
     let token = rest.first()?;
@@ -66,7 +75,7 @@ impl<'a> Reader<'a> {
     /// A reader of the tokens of `bytes`.
     pub(crate) fn new(bytes: &'a [u8], tokens: &'a [Token]) -> Reader<'a>
         requires small { length bytes.now < 2 ^ 32 }
-        requires spans { AreSpans (length bytes.now) tokens.now }
+        requires spans { AreSpans bytes.now tokens.now }
         ensures { result ≡ record { tokens = lexemes_of bytes.now tokens.now; counts = nothing_yet; end = length bytes.now } }
     {
         Reader {
@@ -203,8 +212,143 @@ impl<'a> Reader<'a> {
         Ok(Name { word, at })
     }
 
+    /// The number that the next token spells.
+    fn value_ahead(&self) -> i64
+        requires { is_ahead IntToken self.now.tokens ≡ true }
+        ensures { result ≡ pos (number_in (text_ahead self.now.tokens)) }
+    {
+        let token = self.rest[0];
+        let digits = &self.bytes[token.from as usize..token.to as usize];
+        match number_of(digits, i64::MAX as u64) {
+            Some(value) => value as i64,
+            None => 0,
+        }
+    }
+
+    /// Takes the next token, which has to be a number, in this role.
+    pub(crate) fn number(&mut self, role: Role) -> Result<i64, Refusal>
+        ensures gave { OnOk result (Gave (Kept IntToken role) (ASpelling (place_ahead self.old.tokens self.old.end) (text_ahead self.old.tokens)) self.old self.new) }
+        ensures value { IfOk result (λ n. n ≡ pos (number_in (text_ahead self.old.tokens))) }
+        ensures shorter { OnOk result (length self.new.tokens < length self.old.tokens) }
+        ensures refused { IfErr result (IsRefused (Kept IntToken role) self.old) }
+    {
+        let at = self.expect(Terminal::IntToken)?;
+        let value = self.value_ahead();
+        self.count(role, at)?;
+        self.advance();
+        Ok(value)
+    }
+
+    /// The bytes between the quotes of the next token, which is a text.
+    fn quoted_ahead(&self) -> &[u8]
+        requires { is_ahead TextToken self.now.tokens ≡ true }
+        ensures { result.now ≡ between_quotes (text_ahead self.now.tokens) }
+    {
+        let token = self.rest[0];
+        let text = &self.bytes[token.from as usize..token.to as usize];
+        &text[1..text.len() - 1]
+    }
+
+    /// Takes the next token, which has to be a text, in this role.
+    pub(crate) fn text(&mut self, alloc: Global, role: Role) -> Result<TextLit, Refusal>
+        ensures gave { OnOk result (Gave (Kept TextToken role) (ASpelling (place_ahead self.old.tokens self.old.end) (text_ahead self.old.tokens)) self.old self.new) }
+        ensures bytes { IfOk result (λ text. text ≡ between_quotes (text_ahead self.old.tokens)) }
+        ensures shorter { OnOk result (length self.new.tokens < length self.old.tokens) }
+        ensures refused { IfErr result (IsRefused (Kept TextToken role) self.old) }
+    {
+        let at = self.expect(Terminal::TextToken)?;
+        let bytes = self.quoted_ahead().to_vec(alloc)?;
+        self.count(role, at)?;
+        self.advance();
+        Ok(TextLit::of(bytes))
+    }
+
+    /// The comparison that comes next.
+    fn comparison_ahead(&self) -> Option<BinOp>
+        ensures { result ≡ operator_ahead Level.Comparison self.now.tokens }
+    {
+        if self.sees(Terminal::IsEqual) {
+            Some(BinOp::Eq)
+        } else if self.sees(Terminal::NotEqual) {
+            Some(BinOp::Ne)
+        } else if self.sees(Terminal::Less) {
+            Some(BinOp::Lt)
+        } else if self.sees(Terminal::LessEqual) {
+            Some(BinOp::Le)
+        } else if self.sees(Terminal::Greater) {
+            Some(BinOp::Gt)
+        } else if self.sees(Terminal::GreaterEqual) {
+            Some(BinOp::Ge)
+        } else {
+            None
+        }
+    }
+
+    /// This operator, where this token comes next.
+    fn operator_if(&self, terminal: Terminal, op: BinOp) -> Option<BinOp>
+        ensures { result ≡ (if is_ahead terminal self.now.tokens then Some op else None) }
+    {
+        if self.sees(terminal) { Some(op) } else { None }
+    }
+
+    /// The `+` or `-` that comes next.
+    fn sum_ahead(&self) -> Option<BinOp>
+        ensures { result ≡ operator_ahead Level.Sum self.now.tokens }
+    {
+        if self.sees(Terminal::Plus) {
+            Some(BinOp::Add)
+        } else {
+            self.operator_if(Terminal::Minus, BinOp::Sub)
+        }
+    }
+
+    /// The operator of this level that comes next.
+    fn operator_ahead(&self, level: Level) -> Option<BinOp>
+        ensures { result ≡ operator_ahead level self.now.tokens }
+    {
+        match level {
+            Level::Product => self.operator_if(Terminal::Times, BinOp::Mul),
+            Level::Sum => self.sum_ahead(),
+            Level::Comparison => self.comparison_ahead(),
+            Level::Conjunction => self.operator_if(Terminal::AndWord, BinOp::And),
+            Level::Disjunction => self.operator_if(Terminal::OrWord, BinOp::Or),
+        }
+    }
+
+    /// Whether an operator of this level comes next.
+    pub(crate) fn sees_operator(&self, level: Level) -> bool
+        ensures { result ≡ is_some (operator_ahead level self.now.tokens) }
+    {
+        self.operator_ahead(level).is_some()
+    }
+
+    /// The operator of this level that comes next, which has to be one, with its place.
+    fn expect_operator(&self, level: Level) -> Result<BinOp, Refusal>
+        ensures sees { IfOk result (λ op. operator_ahead level self.now.tokens ≡ Some op) }
+        ensures err { IfErr result (λ e. e ≡ Refusal.Unexpected (place_ahead self.now.tokens self.now.end)) }
+        ensures misses { OnErr result (operator_ahead level self.now.tokens ≡ None) }
+    {
+        match self.operator_ahead(level) {
+            Some(op) => Ok(op),
+            None => Err(Refusal::Unexpected(self.place())),
+        }
+    }
+
+    /// Takes the next token, which has to be an operator of this level.
+    pub(crate) fn operator(&mut self, level: Level) -> Result<BinOp, Refusal>
+        ensures gave { IfOk result (λ op. Gave (Operator level) (AnOperator op) self.old self.new) }
+        ensures shorter { OnOk result (length self.new.tokens < length self.old.tokens) }
+        ensures refused { IfErr result (IsRefused (Operator level) self.old) }
+    {
+        let op = self.expect_operator(level)?;
+        let at = self.place();
+        self.count(Role::Makes(1), at)?;
+        self.advance();
+        Ok(op)
+    }
+
     /// Whether nothing is left.
-    #[tactic(auto, using(crate::proofs::ContractLemmas::ends_here, crate::proofs::ContractLemmas::goes_on))]
+    #[tactic(auto, using(crate::proofs::Answering::ends_here, crate::proofs::Answering::goes_on))]
     pub(crate) fn end(&self) -> Result<(), Refusal>
         ensures ok { OnOk result (EndsHere self.now) }
         ensures err { IfErr result (EndsNot self.now) }

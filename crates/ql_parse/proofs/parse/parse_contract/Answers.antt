@@ -1,7 +1,9 @@
 use Rattle.std.proofs.Common.{sym, ◌∙◌, ap}
 use Rattle.std.proofs.lemmas.Result.{err_from_is_err_and}
 use Rattle.ql_parse.proofs.Spans.{spans_fit}
-use Rattle.ql_parse.proofs.ContractLemmas.{whole, contract_read, contract_refused, contract_goes_on}
+use Rattle.ql_lang.specs.Trees.{sentence_of}
+use Rattle.ql_grammar.proofs.Laws.{a_contract}
+use Rattle.ql_parse.proofs.Answering.{whole, text_read, text_refused, text_goes_on}
 use Rattle.ql_parse.proofs.parse.parse_contract.Goals as goal
 
 pub new-reader-requires-clause-spans : goal.new-reader-requires-clause-spans
@@ -11,13 +13,13 @@ new-reader-requires-clause-spans c =
 pub returns-in_err-contract : goal.returns-in_err-contract
 returns-in_err-contract c =
     let p = err_from_is_err_and c.from_residual-in_err-contract.result c.from_residual-in_err-contract.ensures.1 in
-    rw (p.1, p.2) (contract_refused c.args.bytes.now c.in_ok-found.found.items c.new-reader.result c.in_ok-found.ensures.exact (c.new-reader.ensures ∙ ap (λ ts. whole c.args.bytes.now ts) c.as_slice.ensures.value) _ c.in_err-contract.ensures.refused)
+    rw (p.1, p.2) (text_refused a_contract sentence_of c.args.bytes.now c.in_ok-found.found.items c.new-reader.result c.in_ok-found.ensures.exact (c.new-reader.ensures ∙ ap (λ ts. whole c.args.bytes.now ts) c.as_slice.ensures.value) _ c.in_err-contract.ensures.refused)
 
 pub returns-in_err-end : goal.returns-in_err-end
 returns-in_err-end c =
     let p = err_from_is_err_and c.from_residual-in_err-end.result c.from_residual-in_err-end.ensures.1 in
-    rw (p.1, p.2) (contract_goes_on c.args.bytes.now c.in_ok-found.found.items c.new-reader.result c.in_ok-found.ensures.exact (c.new-reader.ensures ∙ ap (λ ts. whole c.args.bytes.now ts) c.as_slice.ensures.value) c.contract.new.self _ _ c.in_ok-contract.ensures.gave c.in_err-end.ensures.err)
+    rw (p.1, p.2) (text_goes_on a_contract sentence_of c.args.bytes.now c.in_ok-found.found.items c.new-reader.result c.in_ok-found.ensures.exact (c.new-reader.ensures ∙ ap (λ ts. whole c.args.bytes.now ts) c.as_slice.ensures.value) c.contract.new.self _ _ c.in_ok-contract.ensures.gave c.in_err-end.ensures.err)
 
 pub returns : goal.returns
 returns c =
-    contract_read c.args.bytes.now c.in_ok-found.found.items c.new-reader.result c.in_ok-found.ensures.exact (c.new-reader.ensures ∙ ap (λ ts. whole c.args.bytes.now ts) c.as_slice.ensures.value) c.contract.new.self c.in_ok-contract.contract c.in_ok-contract.ensures.gave c.in_ok-end.ensures.ok
+    text_read a_contract sentence_of c.args.bytes.now c.in_ok-found.found.items c.new-reader.result c.in_ok-found.ensures.exact (c.new-reader.ensures ∙ ap (λ ts. whole c.args.bytes.now ts) c.as_slice.ensures.value) c.contract.new.self c.in_ok-contract.contract c.in_ok-contract.ensures.gave c.in_ok-end.ensures.ok

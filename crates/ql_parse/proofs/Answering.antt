@@ -1,20 +1,18 @@
 use Rattle.std.proofs.Common.{◌≡◌, ℕ, List, [], ◌∷◌, Option, Some, None, Result, Ok, Err, refl, sym, ◌∙◌, length, ap}
-use Rattle.ql_lang.specs.declared.contract.Contract.{Contract}
-use Rattle.ql_lang.specs.Trees.{Sentence, sentence_of}
 use Rattle.ql_lex.specs.Tokens.{Lexes, IsFirstFault}
 use Rattle.ql_lex.specs.declared.token.LexFault.{LexFault}
 use Rattle.ql_lex.specs.declared.token.LexFault.TheVariants.{BadChar, LongWord, BadNumber, NoMemory}
 use Rattle.ql_lex.specs.declared.token.Token.{Token}
 use Rattle.ql_grammar.specs.Limits as limits
 use Rattle.ql_grammar.specs.Limits.{nothing_yet}
-use Rattle.ql_grammar.specs.Tokens.{Lexeme}
-use Rattle.ql_grammar.specs.Table.{Value, Sym, APart, WholeContract, ASentence}
+use Rattle.ql_grammar.specs.Tokens.{Lexeme, Marked}
+use Rattle.ql_grammar.specs.Table.{Value, Sym, APart, Part}
 use Rattle.ql_grammar.specs.Machine.{Reading, read, run, step, finish, place_ahead}
-use Rattle.ql_grammar.proofs.Laws.{contract_found, fault_found}
+use Rattle.ql_grammar.proofs.Laws.{IsWhole, text_found, fault_found}
 use Rattle.ql_grammar.specs.declared.terminal.Terminal.{Terminal}
 use Rattle.ql_parse.specs.Readers.{lexemes_of, terminal_ahead}
 use Rattle.ql_parse.specs.Readings.{Gave, IsRefused, fault_of, EndsHere, EndsNot}
-use Rattle.ql_parse.specs.Parsing.{IsContractAnswer, IsContractFault, IsContractText, of_lex, of_refusal}
+use Rattle.ql_parse.specs.Parsing.{IsAnswer, IsFaultAs, IsTextAs, of_lex, of_refusal}
 use Rattle.ql_parse.specs.declared.fault.Refusal.{Refusal}
 use Rattle.ql_parse.specs.declared.fault.Refusal.TheVariants as refused
 
@@ -38,37 +36,38 @@ goes_on r k some = goes_run r.tokens r k refl some
 abbrev pub whole : List ℕ → List Token → Reading
 whole bytes ts = record { tokens = lexemes_of bytes ts; counts = nothing_yet; end = length bytes }
 
-module _ (bytes : List ℕ) (ts : List Token) (r : Reading) (lexes : Lexes 0 bytes (Ok ts)) (is : r ≡ whole bytes ts) where
-  pub contract_read : (after : Reading) (c : Contract) → Gave (APart WholeContract) (ASentence (sentence_of c)) r after → EndsHere after → IsContractText bytes (sentence_of c)
+-- a whole source, read as one part
+module _ {A T : Type 0} {p : Part} {value : A → Value} {Reads : List Marked → List Marked → A → Type 0} (w : IsWhole p value Reads) (tree_of : T → A) (bytes : List ℕ) (ts : List Token) (r : Reading) (lexes : Lexes 0 bytes (Ok ts)) (is : r ≡ whole bytes ts) where
+  pub text_read : (after : Reading) (t : T) → Gave (APart p) (value (tree_of t)) r after → EndsHere after → IsTextAs Reads bytes (tree_of t)
   unfolding read
-  contract_read after c gave ends = record {
+  text_read after t gave ends = record {
     tokens = ts;
     lexes = lexes;
-    parses = contract_found (lexemes_of bytes ts) (length bytes) (sentence_of c) (ap (λ (a : Reading). read a (APart WholeContract ∷ []) []) (sym is) ∙ gave [] [] ∙ ends (ASentence (sentence_of c) ∷ []));
+    parses = text_found w (lexemes_of bytes ts) (length bytes) (tree_of t) (ap (λ (a : Reading). read a (APart p ∷ []) []) (sym is) ∙ gave [] [] ∙ ends (value (tree_of t) ∷ []));
   }
 
-  fault_read : (f : limits.Fault) → read r (APart WholeContract ∷ []) [] ≡ Err f → IsContractFault bytes f
+  fault_read : (f : limits.Fault) → read r (APart p ∷ []) [] ≡ Err f → IsFaultAs Reads bytes f
   unfolding read
   fault_read f says = record {
     tokens = ts;
     lexes = lexes;
-    first = fault_found (lexemes_of bytes ts) (length bytes) f (ap (λ (a : Reading). read a (APart WholeContract ∷ []) []) (sym is) ∙ says);
+    first = fault_found w (lexemes_of bytes ts) (length bytes) f (ap (λ (a : Reading). read a (APart p ∷ []) []) (sym is) ∙ says);
   }
 
-  answer_of : (e : Refusal) → ((f : limits.Fault) → fault_of e ≡ Some f → read r (APart WholeContract ∷ []) [] ≡ Err f) → IsContractAnswer bytes (Err (of_refusal e))
+  answer_of : (e : Refusal) → ((f : limits.Fault) → fault_of e ≡ Some f → read r (APart p ∷ []) [] ≡ Err f) → IsAnswer Reads tree_of bytes (Err (of_refusal e))
   answer_of (refused.Unexpected at) says = fault_read (limits.Unexpected at) (says (limits.Unexpected at) refl)
   answer_of (refused.Deep at) says = fault_read (limits.Deep at) (says (limits.Deep at) refl)
   answer_of (refused.Wide at) says = fault_read (limits.Wide at) (says (limits.Wide at) refl)
   answer_of refused.NoMemory says = tt
 
-  pub contract_refused : (e : Refusal) → IsRefused (APart WholeContract) r e → IsContractAnswer bytes (Err (of_refusal e))
-  contract_refused e refused = answer_of e (λ f is. refused f is [] [])
+  pub text_refused : (e : Refusal) → IsRefused (APart p) r e → IsAnswer Reads tree_of bytes (Err (of_refusal e))
+  text_refused e refused = answer_of e (λ f is. refused f is [] [])
 
-  pub contract_goes_on : (after : Reading) (v : Value) (e : Refusal) → Gave (APart WholeContract) v r after → EndsNot after e → IsContractAnswer bytes (Err (of_refusal e))
-  contract_goes_on after v e gave goes = answer_of e (λ f is. gave [] [] ∙ goes f is (v ∷ []))
+  pub text_goes_on : (after : Reading) (v : Value) (e : Refusal) → Gave (APart p) v r after → EndsNot after e → IsAnswer Reads tree_of bytes (Err (of_refusal e))
+  text_goes_on after v e gave goes = answer_of e (λ f is. gave [] [] ∙ goes f is (v ∷ []))
 
-pub lex_refused : (bytes : List ℕ) (f : LexFault) → IsFirstFault bytes f → IsContractAnswer bytes (Err (of_lex f))
-lex_refused bytes (BadChar at) first = first
-lex_refused bytes (LongWord at) first = first
-lex_refused bytes (BadNumber at) first = first
-lex_refused bytes NoMemory first = tt
+pub lex_refused : {A T : Type 0} (Reads : List Marked → List Marked → A → Type 0) (tree_of : T → A) (bytes : List ℕ) (f : LexFault) → IsFirstFault bytes f → IsAnswer Reads tree_of bytes (Err (of_lex f))
+lex_refused Reads tree_of bytes (BadChar at) first = first
+lex_refused Reads tree_of bytes (LongWord at) first = first
+lex_refused Reads tree_of bytes (BadNumber at) first = first
+lex_refused Reads tree_of bytes NoMemory first = tt

@@ -1,0 +1,7 @@
+use Rattle.std.proofs.Common.{refl}
+use Rattle.ql_lang.specs.Expressions.{node_of}
+use Rattle.ql_parse.proofs.expression.choosing.Goals as goal
+
+pub returns-clause-tree : goal.returns-clause-tree
+unfolding node_of
+returns-clause-tree c = rw (c.in_ok-new.ensures.ok, c.in_ok-new-2.ensures.ok, c.in_ok-new-3.ensures.ok) refl

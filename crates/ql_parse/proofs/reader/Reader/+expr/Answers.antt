@@ -1,0 +1,306 @@
+use Rattle.std.proofs.Common.{◌≡◌, sym, ◌∙◌, ap, refl, ◌∷◌, [], ◌++◌, arith}
+use Rattle.std.proofs.lemmas.Result.{err_from_is_err_and}
+use Rattle.ql_lang.specs.Expressions.{expression_of, node_of}
+use Rattle.ql_grammar.specs.ExpressionGrammar.{Unary, Multiplied, Added, Compared, Conjoined, Disjoined, Chosen}
+use Rattle.ql_grammar.specs.Table.{Do, Then, Arguments, ExprAt, Called, Comparison, MoreArguments, MoreTimes, MorePlus, MoreConjoined, MoreDisjoined, to_arguments}
+use Rattle.ql_grammar.proofs.Choices.{read-do}
+use Rattle.ql_grammar.proofs.Rules.{read-as, then-on, then-past}
+use Rattle.ql_grammar.proofs.ByToken.{unary-name, unary-group, unary-not, unary-minus, unary-constant, chosen-if, chosen-plain}
+use Rattle.ql_parse.proofs.ArgumentLemmas.{called, map_more}
+use Rattle.ql_parse.proofs.reader.Reader.+expr.Goals as goal
+
+pub named-returns-in_err-name-clause-refused : goal.named-returns-in_err-name-clause-refused
+named-returns-in_err-name-clause-refused t c =
+    let p = err_from_is_err_and c.from_residual.result c.from_residual.ensures.1 in
+    rw (p.1, p.2) (λ f is below vs. unary-name c.args.self.now below vs c.requires ∙ c.in_err-name.ensures.refused f is _ _)
+
+pub named-returns-in_err-args-clause-refused : goal.named-returns-in_err-args-clause-refused
+named-returns-in_err-args-clause-refused t c =
+    let p = err_from_is_err_and c.from_residual-in_err-args.result c.from_residual-in_err-args.ensures.1 in
+    rw (p.1, p.2) (λ f is below vs. unary-name c.args.self.now below vs c.requires ∙ c.in_ok-name.ensures.gave _ _ ∙ read-do _ _ _ _ ∙ then-on _ Called below _ (sym c.sees.ensures ∙ c.if-sees.true) ∙ c.in_err-args.ensures.refused f is _ _)
+
+pub named-returns-then-sees-clause-gave : goal.named-returns-then-sees-clause-gave
+unfolding node_of
+named-returns-then-sees-clause-gave t c = λ below vs. rw (← called c.of.result c.in_ok-args.args.items c.of.ensures) (unary-name c.args.self.now below vs c.requires ∙ c.in_ok-name.ensures.gave _ _ ∙ read-do _ _ _ _ ∙ then-on _ Called below _ (sym c.sees.ensures ∙ c.if-sees.true) ∙ c.in_ok-args.ensures.gave _ _ ∙ read-do _ _ _ _)
+
+pub named-returns-clause-gave : goal.named-returns-clause-gave
+unfolding node_of
+named-returns-clause-gave t c = λ below vs. unary-name c.args.self.now below vs c.requires ∙ c.in_ok-name.ensures.gave _ _ ∙ read-do _ _ _ _ ∙ then-past _ Called below _ (sym c.sees.ensures ∙ c.if-sees.false)
+
+pub bracketed-returns-in_err-take-clause-refused : goal.bracketed-returns-in_err-take-clause-refused
+bracketed-returns-in_err-take-clause-refused t c =
+    let p = err_from_is_err_and c.from_residual.result c.from_residual.ensures.1 in
+    rw (p.1, p.2) (λ f is below vs. c.in_err-take.ensures.refused f is _ _)
+
+pub bracketed-returns-in_err-args-clause-refused : goal.bracketed-returns-in_err-args-clause-refused
+bracketed-returns-in_err-args-clause-refused t c =
+    let p = err_from_is_err_and c.from_residual-in_err-args.result c.from_residual-in_err-args.ensures.1 in
+    rw (p.1, p.2) (λ f is below vs. c.in_ok-take.ensures.took _ _ ∙ c.in_err-args.ensures.refused f is _ _)
+
+pub bracketed-returns-in_err-take-2-clause-refused : goal.bracketed-returns-in_err-take-2-clause-refused
+bracketed-returns-in_err-take-2-clause-refused t c =
+    let p = err_from_is_err_and c.from_residual-in_err-take-2.result c.from_residual-in_err-take-2.ensures.1 in
+    rw (p.1, p.2) (λ f is below vs. c.in_ok-take.ensures.took _ _ ∙ c.in_ok-args.ensures.gave _ _ ∙ c.in_err-take-2.ensures.refused f is _ _)
+
+pub bracketed-returns-clause-gave : goal.bracketed-returns-clause-gave
+bracketed-returns-clause-gave t c = λ below vs. c.in_ok-take.ensures.took _ _ ∙ c.in_ok-args.ensures.gave _ _ ∙ c.in_ok-take-2.ensures.took _ _
+
+pub arguments_of_call-returns-in_err-first-clause-refused : goal.arguments_of_call-returns-in_err-first-clause-refused
+arguments_of_call-returns-in_err-first-clause-refused t c =
+    let p = err_from_is_err_and c.from_residual.result c.from_residual.ensures.1 in
+    rw (p.1, p.2) (λ f is below vs. read-as c.args.self.now Arguments (ExprAt Chosen) below (Do to_arguments ∷ Then MoreArguments ∷ below) vs refl ∙ c.in_err-first.ensures.refused f is _ _)
+
+pub arguments_of_call-more-init : goal.arguments_of_call-more-init
+arguments_of_call-more-init t c =
+    let e : c.push.new.self.items ≡ c.in_ok-first.first.expr ∷ [] = c.in_ok-push.ensures.items ∙ ap (λ l. l ++ c.in_ok-first.first.expr ∷ []) c.new-found.ensures.items in
+    rw e (record {
+      so_far = λ below vs. read-as c.args.self.now Arguments (ExprAt Chosen) below (Do to_arguments ∷ Then MoreArguments ∷ below) vs refl ∙ c.in_ok-first.ensures.gave _ _ ∙ read-do _ _ _ _;
+      shorter = c.in_ok-first.ensures.shorter;
+    })
+
+pub arguments_of_call-returns-in_err-take-clause-refused : goal.arguments_of_call-returns-in_err-take-clause-refused
+arguments_of_call-returns-in_err-take-clause-refused t c =
+    let p = err_from_is_err_and c.from_residual-in_err-take.result c.from_residual-in_err-take.ensures.1 in
+    rw (p.1, p.2) (λ f is below vs. c.more.invariant.so_far below vs ∙ then-on c.more.self MoreArguments below _ (sym c.sees.ensures ∙ c.more-test.true) ∙ c.in_err-take.ensures.refused f is _ _)
+
+pub arguments_of_call-returns-in_err-arg-clause-refused : goal.arguments_of_call-returns-in_err-arg-clause-refused
+arguments_of_call-returns-in_err-arg-clause-refused t c =
+    let p = err_from_is_err_and c.from_residual-in_err-arg.result c.from_residual-in_err-arg.ensures.1 in
+    rw (p.1, p.2) (λ f is below vs. c.more.invariant.so_far below vs ∙ then-on c.more.self MoreArguments below _ (sym c.sees.ensures ∙ c.more-test.true) ∙ c.in_ok-take.ensures.took _ _ ∙ c.in_err-arg.ensures.refused f is _ _)
+
+pub arguments_of_call-more-preserved : goal.arguments_of_call-more-preserved
+arguments_of_call-more-preserved t c =
+    rw (c.in_ok-push-2.ensures.items, map_more expression_of c.more.found.items c.in_ok-arg.arg.expr) (record {
+      so_far = λ below vs. c.more.invariant.so_far below vs ∙ then-on c.more.self MoreArguments below _ (sym c.sees.ensures ∙ c.more-test.true) ∙ c.in_ok-take.ensures.took _ _ ∙ c.in_ok-arg.ensures.gave _ _ ∙ read-do _ _ _ _;
+      shorter = omega (arith, c.in_ok-arg.ensures.shorter, c.in_ok-take.ensures.shorter, c.more.invariant.shorter);
+    })
+
+pub arguments_of_call-returns-clause-gave : goal.arguments_of_call-returns-clause-gave
+arguments_of_call-returns-clause-gave t c = λ below vs. c.more.invariant.so_far below vs ∙ then-past c.more.self MoreArguments below _ (sym c.sees.ensures ∙ c.more-test.false)
+
+pub group-returns-in_err-at-clause-refused : goal.group-returns-in_err-at-clause-refused
+group-returns-in_err-at-clause-refused t c =
+    let p = err_from_is_err_and c.from_residual.result c.from_residual.ensures.1 in
+    rw (p.1, p.2) (λ f is below vs. unary-group c.args.self.now below vs c.requires ∙ c.in_err-at.ensures.refused_placed f is _ _)
+
+pub group-returns-in_err-inside-clause-refused : goal.group-returns-in_err-inside-clause-refused
+group-returns-in_err-inside-clause-refused t c =
+    let p = err_from_is_err_and c.from_residual-in_err-inside.result c.from_residual-in_err-inside.ensures.1 in
+    rw (p.1, p.2) (λ f is below vs. unary-group c.args.self.now below vs c.requires ∙ c.in_ok-at.ensures.gave _ _ ∙ c.in_err-inside.ensures.refused f is _ _)
+
+pub group-returns-in_err-take-clause-refused : goal.group-returns-in_err-take-clause-refused
+group-returns-in_err-take-clause-refused t c =
+    let p = err_from_is_err_and c.from_residual-in_err-take.result c.from_residual-in_err-take.ensures.1 in
+    rw (p.1, p.2) (λ f is below vs. unary-group c.args.self.now below vs c.requires ∙ c.in_ok-at.ensures.gave _ _ ∙ c.in_ok-inside.ensures.gave _ _ ∙ c.in_err-take.ensures.refused f is _ _)
+
+pub group-returns-clause-gave : goal.group-returns-clause-gave
+group-returns-clause-gave t c = λ below vs. unary-group c.args.self.now below vs c.requires ∙ c.in_ok-at.ensures.gave _ _ ∙ c.in_ok-inside.ensures.gave _ _ ∙ c.in_ok-take.ensures.took _ _ ∙ read-do _ _ _ _
+
+pub denial-returns-in_err-at-clause-refused : goal.denial-returns-in_err-at-clause-refused
+denial-returns-in_err-at-clause-refused t c =
+    let p = err_from_is_err_and c.from_residual.result c.from_residual.ensures.1 in
+    rw (p.1, p.2) (λ f is below vs. unary-not c.args.self.now below vs c.requires ∙ c.in_err-at.ensures.refused_placed f is _ _)
+
+pub denial-returns-in_err-denied-clause-refused : goal.denial-returns-in_err-denied-clause-refused
+denial-returns-in_err-denied-clause-refused t c =
+    let p = err_from_is_err_and c.from_residual-in_err-denied.result c.from_residual-in_err-denied.ensures.1 in
+    rw (p.1, p.2) (λ f is below vs. unary-not c.args.self.now below vs c.requires ∙ c.in_ok-at.ensures.gave _ _ ∙ c.in_err-denied.ensures.refused f is _ _)
+
+pub denial-returns-clause-gave : goal.denial-returns-clause-gave
+unfolding node_of
+denial-returns-clause-gave t c = λ below vs. rw (c.in_ok-new.ensures.ok) (unary-not c.args.self.now below vs c.requires ∙ c.in_ok-at.ensures.gave _ _ ∙ c.in_ok-denied.ensures.gave _ _ ∙ read-do _ _ _ _)
+
+pub negation-returns-in_err-at-clause-refused : goal.negation-returns-in_err-at-clause-refused
+negation-returns-in_err-at-clause-refused t c =
+    let p = err_from_is_err_and c.from_residual.result c.from_residual.ensures.1 in
+    rw (p.1, p.2) (λ f is below vs. unary-minus c.args.self.now below vs c.requires ∙ c.in_err-at.ensures.refused_placed f is _ _)
+
+pub negation-returns-in_err-negated-clause-refused : goal.negation-returns-in_err-negated-clause-refused
+negation-returns-in_err-negated-clause-refused t c =
+    let p = err_from_is_err_and c.from_residual-in_err-negated.result c.from_residual-in_err-negated.ensures.1 in
+    rw (p.1, p.2) (λ f is below vs. unary-minus c.args.self.now below vs c.requires ∙ c.in_ok-at.ensures.gave _ _ ∙ c.in_err-negated.ensures.refused f is _ _)
+
+pub negation-returns-clause-gave : goal.negation-returns-clause-gave
+unfolding node_of
+negation-returns-clause-gave t c = λ below vs. rw (c.in_ok-new.ensures.ok) (unary-minus c.args.self.now below vs c.requires ∙ c.in_ok-at.ensures.gave _ _ ∙ c.in_ok-negated.ensures.gave _ _ ∙ read-do _ _ _ _)
+
+pub unary-returns-in_err-value-clause-refused : goal.unary-returns-in_err-value-clause-refused
+unary-returns-in_err-value-clause-refused t c =
+    let p = err_from_is_err_and c.from_residual.result c.from_residual.ensures.1 in
+    rw (p.1, p.2) (λ f is below vs. unary-constant c.args.self.now below vs (sym c.sees.ensures ∙ c.if-sees.false) (sym c.sees-2.ensures ∙ c.if-sees-2.false) (sym c.sees-3.ensures ∙ c.if-sees-3.false) (sym c.sees-4.ensures ∙ c.if-sees-4.false) (sym c.sees-5.ensures ∙ c.if-sees-5.false) (sym c.sees-6.ensures ∙ c.if-sees-6.false) ∙ c.in_err-value.ensures.refused f is _ _)
+
+pub unary-returns-clause-gave : goal.unary-returns-clause-gave
+unary-returns-clause-gave t c = λ below vs. unary-constant c.args.self.now below vs (sym c.sees.ensures ∙ c.if-sees.false) (sym c.sees-2.ensures ∙ c.if-sees-2.false) (sym c.sees-3.ensures ∙ c.if-sees-3.false) (sym c.sees-4.ensures ∙ c.if-sees-4.false) (sym c.sees-5.ensures ∙ c.if-sees-5.false) (sym c.sees-6.ensures ∙ c.if-sees-6.false) ∙ c.in_ok-value.ensures.gave _ _
+
+pub multiplied-returns-in_err-left-clause-refused : goal.multiplied-returns-in_err-left-clause-refused
+multiplied-returns-in_err-left-clause-refused t c =
+    let p = err_from_is_err_and c.from_residual.result c.from_residual.ensures.1 in
+    rw (p.1, p.2) (λ f is below vs. read-as c.args.self.now (ExprAt Multiplied) (ExprAt Unary) below (Then MoreTimes ∷ below) vs refl ∙ c.in_err-left.ensures.refused f is _ _)
+
+pub multiplied-times-init : goal.multiplied-times-init
+multiplied-times-init t c = record {
+  so_far = λ below vs. read-as c.args.self.now (ExprAt Multiplied) (ExprAt Unary) below (Then MoreTimes ∷ below) vs refl ∙ c.in_ok-left.ensures.gave _ _;
+  shorter = c.in_ok-left.ensures.shorter;
+}
+
+pub multiplied-returns-clause-gave : goal.multiplied-returns-clause-gave
+multiplied-returns-clause-gave t c = λ below vs. c.times.invariant.so_far below vs ∙ then-past c.times.self MoreTimes below _ (sym c.sees_operator.ensures ∙ c.times-test.false)
+
+pub more_times-returns-in_err-op-clause-refused : goal.more_times-returns-in_err-op-clause-refused
+more_times-returns-in_err-op-clause-refused t c =
+    let p = err_from_is_err_and c.from_residual.result c.from_residual.ensures.1 in
+    rw (p.1, p.2) (λ f is below vs. then-on c.args.self.now MoreTimes below _ c.requires ∙ c.in_err-op.ensures.refused f is _ _)
+
+pub more_times-returns-in_err-right-clause-refused : goal.more_times-returns-in_err-right-clause-refused
+more_times-returns-in_err-right-clause-refused t c =
+    let p = err_from_is_err_and c.from_residual-in_err-right.result c.from_residual-in_err-right.ensures.1 in
+    rw (p.1, p.2) (λ f is below vs. then-on c.args.self.now MoreTimes below _ c.requires ∙ c.in_ok-op.ensures.gave _ _ ∙ c.in_err-right.ensures.refused f is _ _)
+
+pub more_times-returns-clause-turned : goal.more_times-returns-clause-turned
+more_times-returns-clause-turned t c = λ below vs. rw (c.in_ok-both.ensures.start, c.in_ok-both.ensures.tree) (then-on c.args.self.now MoreTimes below _ c.requires ∙ c.in_ok-op.ensures.gave _ _ ∙ c.in_ok-right.ensures.gave _ _ ∙ read-do _ _ _ _)
+
+pub added-returns-in_err-left-clause-refused : goal.added-returns-in_err-left-clause-refused
+added-returns-in_err-left-clause-refused t c =
+    let p = err_from_is_err_and c.from_residual.result c.from_residual.ensures.1 in
+    rw (p.1, p.2) (λ f is below vs. read-as c.args.self.now (ExprAt Added) (ExprAt Multiplied) below (Then MorePlus ∷ below) vs refl ∙ c.in_err-left.ensures.refused f is _ _)
+
+pub added-plus-init : goal.added-plus-init
+added-plus-init t c = record {
+  so_far = λ below vs. read-as c.args.self.now (ExprAt Added) (ExprAt Multiplied) below (Then MorePlus ∷ below) vs refl ∙ c.in_ok-left.ensures.gave _ _;
+  shorter = c.in_ok-left.ensures.shorter;
+}
+
+pub added-returns-clause-gave : goal.added-returns-clause-gave
+added-returns-clause-gave t c = λ below vs. c.plus.invariant.so_far below vs ∙ then-past c.plus.self MorePlus below _ (sym c.sees_operator.ensures ∙ c.plus-test.false)
+
+pub more_plus-returns-in_err-op-clause-refused : goal.more_plus-returns-in_err-op-clause-refused
+more_plus-returns-in_err-op-clause-refused t c =
+    let p = err_from_is_err_and c.from_residual.result c.from_residual.ensures.1 in
+    rw (p.1, p.2) (λ f is below vs. then-on c.args.self.now MorePlus below _ c.requires ∙ c.in_err-op.ensures.refused f is _ _)
+
+pub more_plus-returns-in_err-right-clause-refused : goal.more_plus-returns-in_err-right-clause-refused
+more_plus-returns-in_err-right-clause-refused t c =
+    let p = err_from_is_err_and c.from_residual-in_err-right.result c.from_residual-in_err-right.ensures.1 in
+    rw (p.1, p.2) (λ f is below vs. then-on c.args.self.now MorePlus below _ c.requires ∙ c.in_ok-op.ensures.gave _ _ ∙ c.in_err-right.ensures.refused f is _ _)
+
+pub more_plus-returns-clause-turned : goal.more_plus-returns-clause-turned
+more_plus-returns-clause-turned t c = λ below vs. rw (c.in_ok-both.ensures.start, c.in_ok-both.ensures.tree) (then-on c.args.self.now MorePlus below _ c.requires ∙ c.in_ok-op.ensures.gave _ _ ∙ c.in_ok-right.ensures.gave _ _ ∙ read-do _ _ _ _)
+
+pub conjoined-returns-in_err-left-clause-refused : goal.conjoined-returns-in_err-left-clause-refused
+conjoined-returns-in_err-left-clause-refused t c =
+    let p = err_from_is_err_and c.from_residual.result c.from_residual.ensures.1 in
+    rw (p.1, p.2) (λ f is below vs. read-as c.args.self.now (ExprAt Conjoined) (ExprAt Compared) below (Then MoreConjoined ∷ below) vs refl ∙ c.in_err-left.ensures.refused f is _ _)
+
+pub conjoined-ands-init : goal.conjoined-ands-init
+conjoined-ands-init t c = record {
+  so_far = λ below vs. read-as c.args.self.now (ExprAt Conjoined) (ExprAt Compared) below (Then MoreConjoined ∷ below) vs refl ∙ c.in_ok-left.ensures.gave _ _;
+  shorter = c.in_ok-left.ensures.shorter;
+}
+
+pub conjoined-returns-clause-gave : goal.conjoined-returns-clause-gave
+conjoined-returns-clause-gave t c = λ below vs. c.ands.invariant.so_far below vs ∙ then-past c.ands.self MoreConjoined below _ (sym c.sees_operator.ensures ∙ c.ands-test.false)
+
+pub more_conjoined-returns-in_err-op-clause-refused : goal.more_conjoined-returns-in_err-op-clause-refused
+more_conjoined-returns-in_err-op-clause-refused t c =
+    let p = err_from_is_err_and c.from_residual.result c.from_residual.ensures.1 in
+    rw (p.1, p.2) (λ f is below vs. then-on c.args.self.now MoreConjoined below _ c.requires ∙ c.in_err-op.ensures.refused f is _ _)
+
+pub more_conjoined-returns-in_err-right-clause-refused : goal.more_conjoined-returns-in_err-right-clause-refused
+more_conjoined-returns-in_err-right-clause-refused t c =
+    let p = err_from_is_err_and c.from_residual-in_err-right.result c.from_residual-in_err-right.ensures.1 in
+    rw (p.1, p.2) (λ f is below vs. then-on c.args.self.now MoreConjoined below _ c.requires ∙ c.in_ok-op.ensures.gave _ _ ∙ c.in_err-right.ensures.refused f is _ _)
+
+pub more_conjoined-returns-clause-turned : goal.more_conjoined-returns-clause-turned
+more_conjoined-returns-clause-turned t c = λ below vs. rw (c.in_ok-both.ensures.start, c.in_ok-both.ensures.tree) (then-on c.args.self.now MoreConjoined below _ c.requires ∙ c.in_ok-op.ensures.gave _ _ ∙ c.in_ok-right.ensures.gave _ _ ∙ read-do _ _ _ _)
+
+pub disjoined-returns-in_err-left-clause-refused : goal.disjoined-returns-in_err-left-clause-refused
+disjoined-returns-in_err-left-clause-refused t c =
+    let p = err_from_is_err_and c.from_residual.result c.from_residual.ensures.1 in
+    rw (p.1, p.2) (λ f is below vs. read-as c.args.self.now (ExprAt Disjoined) (ExprAt Conjoined) below (Then MoreDisjoined ∷ below) vs refl ∙ c.in_err-left.ensures.refused f is _ _)
+
+pub disjoined-ors-init : goal.disjoined-ors-init
+disjoined-ors-init t c = record {
+  so_far = λ below vs. read-as c.args.self.now (ExprAt Disjoined) (ExprAt Conjoined) below (Then MoreDisjoined ∷ below) vs refl ∙ c.in_ok-left.ensures.gave _ _;
+  shorter = c.in_ok-left.ensures.shorter;
+}
+
+pub disjoined-returns-clause-gave : goal.disjoined-returns-clause-gave
+disjoined-returns-clause-gave t c = λ below vs. c.ors.invariant.so_far below vs ∙ then-past c.ors.self MoreDisjoined below _ (sym c.sees_operator.ensures ∙ c.ors-test.false)
+
+pub more_disjoined-returns-in_err-op-clause-refused : goal.more_disjoined-returns-in_err-op-clause-refused
+more_disjoined-returns-in_err-op-clause-refused t c =
+    let p = err_from_is_err_and c.from_residual.result c.from_residual.ensures.1 in
+    rw (p.1, p.2) (λ f is below vs. then-on c.args.self.now MoreDisjoined below _ c.requires ∙ c.in_err-op.ensures.refused f is _ _)
+
+pub more_disjoined-returns-in_err-right-clause-refused : goal.more_disjoined-returns-in_err-right-clause-refused
+more_disjoined-returns-in_err-right-clause-refused t c =
+    let p = err_from_is_err_and c.from_residual-in_err-right.result c.from_residual-in_err-right.ensures.1 in
+    rw (p.1, p.2) (λ f is below vs. then-on c.args.self.now MoreDisjoined below _ c.requires ∙ c.in_ok-op.ensures.gave _ _ ∙ c.in_err-right.ensures.refused f is _ _)
+
+pub more_disjoined-returns-clause-turned : goal.more_disjoined-returns-clause-turned
+more_disjoined-returns-clause-turned t c = λ below vs. rw (c.in_ok-both.ensures.start, c.in_ok-both.ensures.tree) (then-on c.args.self.now MoreDisjoined below _ c.requires ∙ c.in_ok-op.ensures.gave _ _ ∙ c.in_ok-right.ensures.gave _ _ ∙ read-do _ _ _ _)
+
+pub compared-returns-in_err-left-clause-refused : goal.compared-returns-in_err-left-clause-refused
+compared-returns-in_err-left-clause-refused t c =
+    let p = err_from_is_err_and c.from_residual.result c.from_residual.ensures.1 in
+    rw (p.1, p.2) (λ f is below vs. read-as c.args.self.now (ExprAt Compared) (ExprAt Added) below (Then Comparison ∷ below) vs refl ∙ c.in_err-left.ensures.refused f is _ _)
+
+pub compared-returns-in_err-op-clause-refused : goal.compared-returns-in_err-op-clause-refused
+compared-returns-in_err-op-clause-refused t c =
+    let p = err_from_is_err_and c.from_residual-in_err-op.result c.from_residual-in_err-op.ensures.1 in
+    rw (p.1, p.2) (λ f is below vs. read-as c.args.self.now (ExprAt Compared) (ExprAt Added) below (Then Comparison ∷ below) vs refl ∙ c.in_ok-left.ensures.gave _ _ ∙ then-on _ Comparison below _ (sym c.sees_operator.ensures ∙ c.if-sees_operator.true) ∙ c.in_err-op.ensures.refused f is _ _)
+
+pub compared-returns-in_err-right-clause-refused : goal.compared-returns-in_err-right-clause-refused
+compared-returns-in_err-right-clause-refused t c =
+    let p = err_from_is_err_and c.from_residual-in_err-right.result c.from_residual-in_err-right.ensures.1 in
+    rw (p.1, p.2) (λ f is below vs. read-as c.args.self.now (ExprAt Compared) (ExprAt Added) below (Then Comparison ∷ below) vs refl ∙ c.in_ok-left.ensures.gave _ _ ∙ then-on _ Comparison below _ (sym c.sees_operator.ensures ∙ c.if-sees_operator.true) ∙ c.in_ok-op.ensures.gave _ _ ∙ c.in_err-right.ensures.refused f is _ _)
+
+pub compared-returns-then-sees_operator-clause-gave : goal.compared-returns-then-sees_operator-clause-gave
+compared-returns-then-sees_operator-clause-gave t c = λ below vs. rw (c.in_ok-both.ensures.start, c.in_ok-both.ensures.tree) (read-as c.args.self.now (ExprAt Compared) (ExprAt Added) below (Then Comparison ∷ below) vs refl ∙ c.in_ok-left.ensures.gave _ _ ∙ then-on _ Comparison below _ (sym c.sees_operator.ensures ∙ c.if-sees_operator.true) ∙ c.in_ok-op.ensures.gave _ _ ∙ c.in_ok-right.ensures.gave _ _ ∙ read-do _ _ _ _)
+
+pub compared-returns-clause-gave : goal.compared-returns-clause-gave
+compared-returns-clause-gave t c = λ below vs. read-as c.args.self.now (ExprAt Compared) (ExprAt Added) below (Then Comparison ∷ below) vs refl ∙ c.in_ok-left.ensures.gave _ _ ∙ then-past _ Comparison below _ (sym c.sees_operator.ensures ∙ c.if-sees_operator.false)
+
+pub branch-returns-in_err-take-clause-refused : goal.branch-returns-in_err-take-clause-refused
+branch-returns-in_err-take-clause-refused t c =
+    let p = err_from_is_err_and c.from_residual.result c.from_residual.ensures.1 in
+    rw (p.1, p.2) (λ f is below vs. c.in_err-take.ensures.refused f is _ _)
+
+pub branch-returns-in_err-value-clause-refused : goal.branch-returns-in_err-value-clause-refused
+branch-returns-in_err-value-clause-refused t c =
+    let p = err_from_is_err_and c.from_residual-in_err-value.result c.from_residual-in_err-value.ensures.1 in
+    rw (p.1, p.2) (λ f is below vs. c.in_ok-take.ensures.took _ _ ∙ c.in_err-value.ensures.refused f is _ _)
+
+pub branch-returns-clause-gave : goal.branch-returns-clause-gave
+branch-returns-clause-gave t c = λ below vs. c.in_ok-take.ensures.took _ _ ∙ c.in_ok-value.ensures.gave _ _
+
+pub choice-returns-in_err-at-clause-refused : goal.choice-returns-in_err-at-clause-refused
+choice-returns-in_err-at-clause-refused t c =
+    let p = err_from_is_err_and c.from_residual.result c.from_residual.ensures.1 in
+    rw (p.1, p.2) (λ f is below vs. chosen-if c.args.self.now below vs c.requires ∙ c.in_err-at.ensures.refused_placed f is _ _)
+
+pub choice-returns-in_err-test-clause-refused : goal.choice-returns-in_err-test-clause-refused
+choice-returns-in_err-test-clause-refused t c =
+    let p = err_from_is_err_and c.from_residual-in_err-test.result c.from_residual-in_err-test.ensures.1 in
+    rw (p.1, p.2) (λ f is below vs. chosen-if c.args.self.now below vs c.requires ∙ c.in_ok-at.ensures.gave _ _ ∙ c.in_err-test.ensures.refused f is _ _)
+
+pub choice-returns-in_err-then-clause-refused : goal.choice-returns-in_err-then-clause-refused
+choice-returns-in_err-then-clause-refused t c =
+    let p = err_from_is_err_and c.from_residual-in_err-then.result c.from_residual-in_err-then.ensures.1 in
+    rw (p.1, p.2) (λ f is below vs. chosen-if c.args.self.now below vs c.requires ∙ c.in_ok-at.ensures.gave _ _ ∙ c.in_ok-test.ensures.gave _ _ ∙ c.in_err-then.ensures.refused f is _ _)
+
+pub choice-returns-in_err-other-clause-refused : goal.choice-returns-in_err-other-clause-refused
+choice-returns-in_err-other-clause-refused t c =
+    let p = err_from_is_err_and c.from_residual-in_err-other.result c.from_residual-in_err-other.ensures.1 in
+    rw (p.1, p.2) (λ f is below vs. chosen-if c.args.self.now below vs c.requires ∙ c.in_ok-at.ensures.gave _ _ ∙ c.in_ok-test.ensures.gave _ _ ∙ c.in_ok-then.ensures.gave _ _ ∙ c.in_err-other.ensures.refused f is _ _)
+
+pub choice-returns-clause-gave : goal.choice-returns-clause-gave
+choice-returns-clause-gave t c = λ below vs. rw (c.in_ok-choice.ensures.start, c.in_ok-choice.ensures.tree) (chosen-if c.args.self.now below vs c.requires ∙ c.in_ok-at.ensures.gave _ _ ∙ c.in_ok-test.ensures.gave _ _ ∙ c.in_ok-then.ensures.gave _ _ ∙ c.in_ok-other.ensures.gave _ _ ∙ read-do _ _ _ _)
+
+pub chosen-returns-in_err-value-clause-refused : goal.chosen-returns-in_err-value-clause-refused
+chosen-returns-in_err-value-clause-refused t c =
+    let p = err_from_is_err_and c.from_residual.result c.from_residual.ensures.1 in
+    rw (p.1, p.2) (λ f is below vs. chosen-plain c.args.self.now below vs (sym c.sees.ensures ∙ c.if-sees.false) ∙ c.in_err-value.ensures.refused f is _ _)
+
+pub chosen-returns-clause-gave : goal.chosen-returns-clause-gave
+chosen-returns-clause-gave t c = λ below vs. chosen-plain c.args.self.now below vs (sym c.sees.ensures ∙ c.if-sees.false) ∙ c.in_ok-value.ensures.gave _ _

@@ -1,0 +1,93 @@
+use Rattle.std.proofs.Common.{◌≡◌, ◌∷◌, ◌<◌, List, length, map, ℕ, ◌+◌, ◌*◌}
+use Rattle.ql_lang.specs.Expressions.{expression_of}
+use Rattle.ql_grammar.specs.ExpressionGrammar.{Multiplied, Added, Conjoined, Disjoined}
+use Rattle.ql_grammar.specs.Table.{APart, AnExpr, TheExprs, Arguments, ExprAt, MoreArguments, MoreTimes, MorePlus, MoreConjoined, MoreDisjoined}
+use Rattle.ql_parse.specs.Readings.{Started}
+use Rattle.ql_parse.proofs.reader.Reader.+expr.Given as goal
+
+abbrev pub decreases-named : goal.decreases-named
+decreases-named l = 9 * length l.self.now.tokens
+
+abbrev pub decreases-bracketed : goal.decreases-bracketed
+decreases-bracketed l = 9 * length l.self.now.tokens
+
+abbrev pub decreases-arguments_of_call : goal.decreases-arguments_of_call
+decreases-arguments_of_call l = 9 * length l.self.now.tokens + 8
+
+abbrev pub decreases-group : goal.decreases-group
+decreases-group l = 9 * length l.self.now.tokens
+
+abbrev pub decreases-denial : goal.decreases-denial
+decreases-denial l = 9 * length l.self.now.tokens
+
+abbrev pub decreases-negation : goal.decreases-negation
+decreases-negation l = 9 * length l.self.now.tokens
+
+abbrev pub decreases-unary : goal.decreases-unary
+decreases-unary l = 9 * length l.self.now.tokens + 1
+
+abbrev pub decreases-multiplied : goal.decreases-multiplied
+decreases-multiplied l = 9 * length l.self.now.tokens + 2
+
+abbrev pub decreases-more_times : goal.decreases-more_times
+decreases-more_times l = 9 * length l.self.now.tokens
+
+abbrev pub decreases-added : goal.decreases-added
+decreases-added l = 9 * length l.self.now.tokens + 3
+
+abbrev pub decreases-more_plus : goal.decreases-more_plus
+decreases-more_plus l = 9 * length l.self.now.tokens
+
+abbrev pub decreases-compared : goal.decreases-compared
+decreases-compared l = 9 * length l.self.now.tokens + 4
+
+abbrev pub decreases-conjoined : goal.decreases-conjoined
+decreases-conjoined l = 9 * length l.self.now.tokens + 5
+
+abbrev pub decreases-more_conjoined : goal.decreases-more_conjoined
+decreases-more_conjoined l = 9 * length l.self.now.tokens
+
+abbrev pub decreases-disjoined : goal.decreases-disjoined
+decreases-disjoined l = 9 * length l.self.now.tokens + 6
+
+abbrev pub decreases-more_disjoined : goal.decreases-more_disjoined
+decreases-more_disjoined l = 9 * length l.self.now.tokens
+
+abbrev pub decreases-branch : goal.decreases-branch
+decreases-branch l = 9 * length l.self.now.tokens
+
+abbrev pub decreases-choice : goal.decreases-choice
+decreases-choice l = 9 * length l.self.now.tokens
+
+abbrev pub decreases-chosen : goal.decreases-chosen
+decreases-chosen l = 9 * length l.self.now.tokens + 7
+
+abbrev pub invariant-multiplied-times : goal.invariant-multiplied-times
+invariant-multiplied-times l = Started (APart (ExprAt Multiplied)) MoreTimes (AnExpr l.left.start (expression_of l.left.expr)) l.fn.self l.self
+
+abbrev pub decreases-multiplied-times : goal.decreases-multiplied-times
+decreases-multiplied-times l = length l.self.tokens
+
+abbrev pub invariant-added-plus : goal.invariant-added-plus
+invariant-added-plus l = Started (APart (ExprAt Added)) MorePlus (AnExpr l.left.start (expression_of l.left.expr)) l.fn.self l.self
+
+abbrev pub decreases-added-plus : goal.decreases-added-plus
+decreases-added-plus l = length l.self.tokens
+
+abbrev pub invariant-conjoined-ands : goal.invariant-conjoined-ands
+invariant-conjoined-ands l = Started (APart (ExprAt Conjoined)) MoreConjoined (AnExpr l.left.start (expression_of l.left.expr)) l.fn.self l.self
+
+abbrev pub decreases-conjoined-ands : goal.decreases-conjoined-ands
+decreases-conjoined-ands l = length l.self.tokens
+
+abbrev pub invariant-disjoined-ors : goal.invariant-disjoined-ors
+invariant-disjoined-ors l = Started (APart (ExprAt Disjoined)) MoreDisjoined (AnExpr l.left.start (expression_of l.left.expr)) l.fn.self l.self
+
+abbrev pub decreases-disjoined-ors : goal.decreases-disjoined-ors
+decreases-disjoined-ors l = length l.self.tokens
+
+abbrev pub invariant-arguments_of_call-more : goal.invariant-arguments_of_call-more
+invariant-arguments_of_call-more l = Started (APart Arguments) MoreArguments (TheExprs (map expression_of l.found.items)) l.fn.self l.self
+
+abbrev pub decreases-arguments_of_call-more : goal.decreases-arguments_of_call-more
+decreases-arguments_of_call-more l = length l.self.tokens

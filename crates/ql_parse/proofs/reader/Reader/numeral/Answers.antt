@@ -1,0 +1,19 @@
+use Rattle.std.proofs.Common.{◌≡◌, sym, ◌∙◌, rules, w64}
+use mir.Val.{SFits}
+use Rattle.std.proofs.lemmas.Int.{to_z-of_z}
+use Rattle.std.proofs.lemmas.Result.{err_from_is_err_and}
+use Rattle.ql_lang.specs.Expressions.{node_of}
+use Rattle.ql_grammar.proofs.Choices.{read-do}
+use Rattle.ql_grammar.proofs.ByToken.{unary-number}
+use Rattle.ql_parse.proofs.reader.Reader.numeral.Goals as goal
+
+pub returns-in_err-value-clause-refused : goal.returns-in_err-value-clause-refused
+returns-in_err-value-clause-refused c =
+    let p = err_from_is_err_and c.from_residual.result c.from_residual.ensures.1 in
+    rw (p.1, p.2) (λ f is below vs. unary-number c.args.self.now below vs c.requires ∙ c.in_err-value.ensures.refused f is _ _)
+
+pub returns-clause-gave : goal.returns-clause-gave
+unfolding node_of
+returns-clause-gave c = λ below vs.
+    let fits : SFits w64 c.in_ok-value.value = search rules in
+    rw (to_z-of_z w64 c.in_ok-value.value fits, c.place-at.ensures, c.in_ok-value.ensures.value) (unary-number c.args.self.now below vs c.requires ∙ c.in_ok-value.ensures.gave _ _ ∙ read-do _ _ _ _)

@@ -1,0 +1,473 @@
+ghost use Rattle.std.specs.Prelude.{◌≡◌, ◌<◌, IfErr, IfOk, OnOk, is_some, length, map, true};
+ghost use Rattle.ql_grammar.specs.declared.terminal.Terminal.TheVariants.{
+  IfWord,
+  IntToken,
+  Minus,
+  NameToken,
+  NotWord,
+  OpenParen,
+  TextToken,
+};
+ghost use Rattle.ql_grammar.specs.ExpressionGrammar.{
+  Added,
+  Chosen,
+  Compared,
+  Conjoined,
+  Disjoined,
+  Multiplied,
+  Unary,
+};
+ghost use Rattle.ql_grammar.specs.Machine.{is_ahead, operator_ahead};
+ghost use Rattle.ql_grammar.specs.Table.{
+  APart,
+  AnExpr,
+  Arguments,
+  Comparison,
+  ExprAt,
+  MoreConjoined,
+  MoreDisjoined,
+  MorePlus,
+  MoreTimes,
+  TheExprs,
+  constant_ways,
+};
+ghost use Rattle.ql_lang.specs.Expressions.{Choosing, Combining, expression_of};
+ghost use Rattle.ql_parse.specs.Readings.{
+  AreRefused,
+  Gave,
+  GaveAll,
+  GaveOneOf,
+  IsOneOfRefused,
+  IsRefused,
+  IsTurnRefused,
+  Turned,
+  bracketed_arguments,
+  branch_symbols,
+};
+
+use crate::fault::Refusal;
+use crate::reader::Reader;
+use ql_grammar::{Level, Role, Terminal};
+use ql_lang::{BinOp, Expr, ExprNode, Exprs};
+use std::alloc::Global;
+
+/// An expression that was read, and where it starts: at its own place, or at a bracket round it.
+#[derive(Drop)]
+pub(crate) struct Operand {
+    pub(crate) start: u32,
+    pub(crate) expr: Expr,
+}
+
+/// The operator with its two operands, which starts where the first one does.
+fn combined(alloc: Global, left: Operand, op: BinOp, right: Operand) -> Result<Operand, Refusal>
+    ensures start { IfOk result (λ o. o.start ≡ left.start) }
+    ensures tree { IfOk result (λ o. expression_of o.expr ≡ Combining left.start op (expression_of left.expr) (expression_of right.expr)) }
+    ensures full { IfErr result (λ e. e ≡ Refusal.NoMemory) }
+{
+    let start = left.start;
+    let node = ExprNode::Binary(
+        op,
+        Box::new(alloc, left.expr)?,
+        Box::new(alloc, right.expr)?,
+    );
+    Ok(Operand {
+        start,
+        expr: Expr { at: start, node },
+    })
+}
+
+/// The choice that the word `if` at `at` begins.
+fn choosing(alloc: Global, at: u32, test: Expr, then: Expr, other: Expr) -> Result<Operand, Refusal>
+    ensures start { IfOk result (λ o. o.start ≡ at) }
+    ensures tree { IfOk result (λ o. expression_of o.expr ≡ Choosing at (expression_of test) (expression_of then) (expression_of other)) }
+    ensures full { IfErr result (λ e. e ≡ Refusal.NoMemory) }
+{
+    let node = ExprNode::If(
+        Box::new(alloc, test)?,
+        Box::new(alloc, then)?,
+        Box::new(alloc, other)?,
+    );
+    Ok(Operand {
+        start: at,
+        expr: Expr { at, node },
+    })
+}
+
+impl Reader<'_> {
+    /// A truth value or the unit.
+    fn constant(&mut self) -> Result<Operand, Refusal>
+        ensures gave { IfOk result (λ o. GaveOneOf constant_ways (AnExpr o.start (expression_of o.expr)) self.old self.new) }
+        ensures shorter { OnOk result (length self.new.tokens < length self.old.tokens) }
+        ensures refused { IfErr result (IsOneOfRefused constant_ways self.old) }
+    {
+        if self.sees(Terminal::TrueWord) {
+            let at = self.take(Terminal::TrueWord, Role::Makes(1))?;
+            return Ok(Operand {
+                start: at,
+                expr: Expr {
+                    at,
+                    node: ExprNode::Bool(true),
+                },
+            });
+        }
+        if self.sees(Terminal::FalseWord) {
+            let at = self.take(Terminal::FalseWord, Role::Makes(1))?;
+            return Ok(Operand {
+                start: at,
+                expr: Expr {
+                    at,
+                    node: ExprNode::Bool(false),
+                },
+            });
+        }
+        let at = self.take(Terminal::UnitWord, Role::Makes(1))?;
+        Ok(Operand {
+            start: at,
+            expr: Expr {
+                at,
+                node: ExprNode::Unit,
+            },
+        })
+    }
+
+    /// A number.
+    fn numeral(&mut self) -> Result<Operand, Refusal>
+        requires { is_ahead IntToken self.old.tokens ≡ true }
+        ensures gave { IfOk result (λ o. Gave (APart (ExprAt Unary)) (AnExpr o.start (expression_of o.expr)) self.old self.new) }
+        ensures shorter { OnOk result (length self.new.tokens < length self.old.tokens) }
+        ensures refused { IfErr result (IsRefused (APart (ExprAt Unary)) self.old) }
+    {
+        let at = self.place();
+        let value = self.number(Role::Makes(1))?;
+        Ok(Operand {
+            start: at,
+            expr: Expr {
+                at,
+                node: ExprNode::Int(value),
+            },
+        })
+    }
+
+    /// A text.
+    fn literal(&mut self, alloc: Global) -> Result<Operand, Refusal>
+        requires { is_ahead TextToken self.old.tokens ≡ true }
+        ensures gave { IfOk result (λ o. Gave (APart (ExprAt Unary)) (AnExpr o.start (expression_of o.expr)) self.old self.new) }
+        ensures shorter { OnOk result (length self.new.tokens < length self.old.tokens) }
+        ensures refused { IfErr result (IsRefused (APart (ExprAt Unary)) self.old) }
+    {
+        let at = self.place();
+        let text = self.text(alloc, Role::Makes(1))?;
+        Ok(Operand {
+            start: at,
+            expr: Expr {
+                at,
+                node: ExprNode::Text(text),
+            },
+        })
+    }
+
+    /// A variable, or a call with its arguments.
+    #[cycle(expr)]
+    fn named(&mut self, alloc: Global) -> Result<Operand, Refusal>
+        requires { is_ahead NameToken self.old.tokens ≡ true }
+        ensures gave { IfOk result (λ o. Gave (APart (ExprAt Unary)) (AnExpr o.start (expression_of o.expr)) self.old self.new) }
+        ensures shorter { OnOk result (length self.new.tokens < length self.old.tokens) }
+        ensures refused { IfErr result (IsRefused (APart (ExprAt Unary)) self.old) }
+    {
+        let name = self.name(Role::Makes(1))?;
+        let at = name.at;
+        if self.sees(Terminal::OpenParen) {
+            let args = self.bracketed(alloc)?;
+            let node = ExprNode::Call(name, Exprs::of(args));
+            return Ok(Operand {
+                start: at,
+                expr: Expr { at, node },
+            });
+        }
+        Ok(Operand {
+            start: at,
+            expr: Expr {
+                at,
+                node: ExprNode::Var(name),
+            },
+        })
+    }
+
+    /// The arguments of a call in their brackets.
+    #[cycle(expr)]
+    fn bracketed(&mut self, alloc: Global) -> Result<Vec<Expr>, Refusal>
+        ensures gave { IfOk result (λ es. GaveAll bracketed_arguments (TheExprs (map expression_of es.items)) self.old self.new) }
+        ensures shorter { OnOk result (length self.new.tokens < length self.old.tokens) }
+        ensures refused { IfErr result (AreRefused bracketed_arguments self.old) }
+    {
+        self.take(Terminal::OpenParen, Role::Opens(0))?;
+        let args = self.arguments_of_call(alloc)?;
+        self.take(Terminal::CloseParen, Role::Closes)?;
+        Ok(args)
+    }
+
+    /// Expressions with commas between them.
+    #[cycle(expr)]
+    fn arguments_of_call(&mut self, alloc: Global) -> Result<Vec<Expr>, Refusal>
+        ensures gave { IfOk result (λ es. Gave (APart Arguments) (TheExprs (map expression_of es.items)) self.old self.new) }
+        ensures shorter { OnOk result (length self.new.tokens < length self.old.tokens) }
+        ensures refused { IfErr result (IsRefused (APart Arguments) self.old) }
+    {
+        let first = self.chosen(alloc)?;
+        let mut found = Vec::new(alloc);
+        found.push(first.expr)?;
+        'more: while self.sees(Terminal::Comma) {
+            self.take(Terminal::Comma, Role::Plain)?;
+            let arg = self.chosen(alloc)?;
+            found.push(arg.expr)?;
+        }
+        Ok(found)
+    }
+
+    /// An expression in brackets.
+    #[cycle(expr)]
+    fn group(&mut self, alloc: Global) -> Result<Operand, Refusal>
+        requires { is_ahead OpenParen self.old.tokens ≡ true }
+        ensures gave { IfOk result (λ o. Gave (APart (ExprAt Unary)) (AnExpr o.start (expression_of o.expr)) self.old self.new) }
+        ensures shorter { OnOk result (length self.new.tokens < length self.old.tokens) }
+        ensures refused { IfErr result (IsRefused (APart (ExprAt Unary)) self.old) }
+    {
+        let at = self.take(Terminal::OpenParen, Role::Opens(0))?;
+        let inside = self.chosen(alloc)?;
+        self.take(Terminal::CloseParen, Role::Closes)?;
+        Ok(Operand {
+            start: at,
+            expr: inside.expr,
+        })
+    }
+
+    /// The word `not` and what it denies.
+    #[cycle(expr)]
+    fn denial(&mut self, alloc: Global) -> Result<Operand, Refusal>
+        requires { is_ahead NotWord self.old.tokens ≡ true }
+        ensures gave { IfOk result (λ o. Gave (APart (ExprAt Unary)) (AnExpr o.start (expression_of o.expr)) self.old self.new) }
+        ensures shorter { OnOk result (length self.new.tokens < length self.old.tokens) }
+        ensures refused { IfErr result (IsRefused (APart (ExprAt Unary)) self.old) }
+    {
+        let at = self.take(Terminal::NotWord, Role::Makes(1))?;
+        let denied = self.unary(alloc)?;
+        let node = ExprNode::Not(Box::new(alloc, denied.expr)?);
+        Ok(Operand {
+            start: at,
+            expr: Expr { at, node },
+        })
+    }
+
+    /// A `-` and what it negates.
+    #[cycle(expr)]
+    fn negation(&mut self, alloc: Global) -> Result<Operand, Refusal>
+        requires { is_ahead Minus self.old.tokens ≡ true }
+        ensures gave { IfOk result (λ o. Gave (APart (ExprAt Unary)) (AnExpr o.start (expression_of o.expr)) self.old self.new) }
+        ensures shorter { OnOk result (length self.new.tokens < length self.old.tokens) }
+        ensures refused { IfErr result (IsRefused (APart (ExprAt Unary)) self.old) }
+    {
+        let at = self.take(Terminal::Minus, Role::Makes(1))?;
+        let negated = self.unary(alloc)?;
+        let node = ExprNode::Neg(Box::new(alloc, negated.expr)?);
+        Ok(Operand {
+            start: at,
+            expr: Expr { at, node },
+        })
+    }
+
+    /// A value, name, call or expression in brackets, with `not` and `-` before it.
+    #[cycle(expr)]
+    fn unary(&mut self, alloc: Global) -> Result<Operand, Refusal>
+        ensures gave { IfOk result (λ o. Gave (APart (ExprAt Unary)) (AnExpr o.start (expression_of o.expr)) self.old self.new) }
+        ensures shorter { OnOk result (length self.new.tokens < length self.old.tokens) }
+        ensures refused { IfErr result (IsRefused (APart (ExprAt Unary)) self.old) }
+    {
+        if self.sees(Terminal::IntToken) {
+            return self.numeral();
+        }
+        if self.sees(Terminal::TextToken) {
+            return self.literal(alloc);
+        }
+        if self.sees(Terminal::NameToken) {
+            return self.named(alloc);
+        }
+        if self.sees(Terminal::OpenParen) {
+            return self.group(alloc);
+        }
+        if self.sees(Terminal::NotWord) {
+            return self.denial(alloc);
+        }
+        if self.sees(Terminal::Minus) {
+            return self.negation(alloc);
+        }
+        let value = self.constant()?;
+        Ok(value)
+    }
+
+    /// Expressions with `*` between them.
+    #[cycle(expr)]
+    fn multiplied(&mut self, alloc: Global) -> Result<Operand, Refusal>
+        ensures gave { IfOk result (λ o. Gave (APart (ExprAt Multiplied)) (AnExpr o.start (expression_of o.expr)) self.old self.new) }
+        ensures shorter { OnOk result (length self.new.tokens < length self.old.tokens) }
+        ensures refused { IfErr result (IsRefused (APart (ExprAt Multiplied)) self.old) }
+    {
+        let mut left = self.unary(alloc)?;
+        'times: while self.sees_operator(Level::Product) {
+            left = self.more_times(alloc, left)?;
+        }
+        Ok(left)
+    }
+
+    #[cycle(expr)]
+    fn more_times(&mut self, alloc: Global, left: Operand) -> Result<Operand, Refusal>
+        requires { is_some (operator_ahead Level.Product self.old.tokens) ≡ true }
+        ensures turned { IfOk result (λ o. Turned MoreTimes (AnExpr left.start (expression_of left.expr)) (AnExpr o.start (expression_of o.expr)) self.old self.new) }
+        ensures shorter { OnOk result (length self.new.tokens < length self.old.tokens) }
+        ensures refused { IfErr result (IsTurnRefused MoreTimes (AnExpr left.start (expression_of left.expr)) self.old) }
+    {
+        let op = self.operator(Level::Product)?;
+        let right = self.unary(alloc)?;
+        let both = combined(alloc, left, op, right)?;
+        Ok(both)
+    }
+
+    /// Expressions with `+` and `-` between them.
+    #[cycle(expr)]
+    fn added(&mut self, alloc: Global) -> Result<Operand, Refusal>
+        ensures gave { IfOk result (λ o. Gave (APart (ExprAt Added)) (AnExpr o.start (expression_of o.expr)) self.old self.new) }
+        ensures shorter { OnOk result (length self.new.tokens < length self.old.tokens) }
+        ensures refused { IfErr result (IsRefused (APart (ExprAt Added)) self.old) }
+    {
+        let mut left = self.multiplied(alloc)?;
+        'plus: while self.sees_operator(Level::Sum) {
+            left = self.more_plus(alloc, left)?;
+        }
+        Ok(left)
+    }
+
+    #[cycle(expr)]
+    fn more_plus(&mut self, alloc: Global, left: Operand) -> Result<Operand, Refusal>
+        requires { is_some (operator_ahead Level.Sum self.old.tokens) ≡ true }
+        ensures turned { IfOk result (λ o. Turned MorePlus (AnExpr left.start (expression_of left.expr)) (AnExpr o.start (expression_of o.expr)) self.old self.new) }
+        ensures shorter { OnOk result (length self.new.tokens < length self.old.tokens) }
+        ensures refused { IfErr result (IsTurnRefused MorePlus (AnExpr left.start (expression_of left.expr)) self.old) }
+    {
+        let op = self.operator(Level::Sum)?;
+        let right = self.multiplied(alloc)?;
+        let both = combined(alloc, left, op, right)?;
+        Ok(both)
+    }
+
+    /// Expressions with `and` between them.
+    #[cycle(expr)]
+    fn conjoined(&mut self, alloc: Global) -> Result<Operand, Refusal>
+        ensures gave { IfOk result (λ o. Gave (APart (ExprAt Conjoined)) (AnExpr o.start (expression_of o.expr)) self.old self.new) }
+        ensures shorter { OnOk result (length self.new.tokens < length self.old.tokens) }
+        ensures refused { IfErr result (IsRefused (APart (ExprAt Conjoined)) self.old) }
+    {
+        let mut left = self.compared(alloc)?;
+        'ands: while self.sees_operator(Level::Conjunction) {
+            left = self.more_conjoined(alloc, left)?;
+        }
+        Ok(left)
+    }
+
+    #[cycle(expr)]
+    fn more_conjoined(&mut self, alloc: Global, left: Operand) -> Result<Operand, Refusal>
+        requires { is_some (operator_ahead Level.Conjunction self.old.tokens) ≡ true }
+        ensures turned { IfOk result (λ o. Turned MoreConjoined (AnExpr left.start (expression_of left.expr)) (AnExpr o.start (expression_of o.expr)) self.old self.new) }
+        ensures shorter { OnOk result (length self.new.tokens < length self.old.tokens) }
+        ensures refused { IfErr result (IsTurnRefused MoreConjoined (AnExpr left.start (expression_of left.expr)) self.old) }
+    {
+        let op = self.operator(Level::Conjunction)?;
+        let right = self.compared(alloc)?;
+        let both = combined(alloc, left, op, right)?;
+        Ok(both)
+    }
+
+    /// Expressions with `or` between them.
+    #[cycle(expr)]
+    fn disjoined(&mut self, alloc: Global) -> Result<Operand, Refusal>
+        ensures gave { IfOk result (λ o. Gave (APart (ExprAt Disjoined)) (AnExpr o.start (expression_of o.expr)) self.old self.new) }
+        ensures shorter { OnOk result (length self.new.tokens < length self.old.tokens) }
+        ensures refused { IfErr result (IsRefused (APart (ExprAt Disjoined)) self.old) }
+    {
+        let mut left = self.conjoined(alloc)?;
+        'ors: while self.sees_operator(Level::Disjunction) {
+            left = self.more_disjoined(alloc, left)?;
+        }
+        Ok(left)
+    }
+
+    #[cycle(expr)]
+    fn more_disjoined(&mut self, alloc: Global, left: Operand) -> Result<Operand, Refusal>
+        requires { is_some (operator_ahead Level.Disjunction self.old.tokens) ≡ true }
+        ensures turned { IfOk result (λ o. Turned MoreDisjoined (AnExpr left.start (expression_of left.expr)) (AnExpr o.start (expression_of o.expr)) self.old self.new) }
+        ensures shorter { OnOk result (length self.new.tokens < length self.old.tokens) }
+        ensures refused { IfErr result (IsTurnRefused MoreDisjoined (AnExpr left.start (expression_of left.expr)) self.old) }
+    {
+        let op = self.operator(Level::Disjunction)?;
+        let right = self.conjoined(alloc)?;
+        let both = combined(alloc, left, op, right)?;
+        Ok(both)
+    }
+
+    /// Two expressions that are compared, or one.
+    #[cycle(expr)]
+    fn compared(&mut self, alloc: Global) -> Result<Operand, Refusal>
+        ensures gave { IfOk result (λ o. Gave (APart (ExprAt Compared)) (AnExpr o.start (expression_of o.expr)) self.old self.new) }
+        ensures shorter { OnOk result (length self.new.tokens < length self.old.tokens) }
+        ensures refused { IfErr result (IsRefused (APart (ExprAt Compared)) self.old) }
+    {
+        let left = self.added(alloc)?;
+        if self.sees_operator(Level::Comparison) {
+            let op = self.operator(Level::Comparison)?;
+            let right = self.added(alloc)?;
+            let both = combined(alloc, left, op, right)?;
+            return Ok(both);
+        }
+        Ok(left)
+    }
+
+    /// A word and the expression behind it.
+    #[cycle(expr)]
+    fn branch(&mut self, alloc: Global, word: Terminal) -> Result<Operand, Refusal>
+        ensures gave { IfOk result (λ o. GaveAll (branch_symbols word) (AnExpr o.start (expression_of o.expr)) self.old self.new) }
+        ensures shorter { OnOk result (length self.new.tokens < length self.old.tokens) }
+        ensures refused { IfErr result (AreRefused (branch_symbols word) self.old) }
+    {
+        self.take(word, Role::Plain)?;
+        let value = self.chosen(alloc)?;
+        Ok(value)
+    }
+
+    /// A test and the two expressions between which it chooses.
+    #[cycle(expr)]
+    fn choice(&mut self, alloc: Global) -> Result<Operand, Refusal>
+        requires { is_ahead IfWord self.old.tokens ≡ true }
+        ensures gave { IfOk result (λ o. Gave (APart (ExprAt Chosen)) (AnExpr o.start (expression_of o.expr)) self.old self.new) }
+        ensures shorter { OnOk result (length self.new.tokens < length self.old.tokens) }
+        ensures refused { IfErr result (IsRefused (APart (ExprAt Chosen)) self.old) }
+    {
+        let at = self.take(Terminal::IfWord, Role::Makes(1))?;
+        let test = self.chosen(alloc)?;
+        let then = self.branch(alloc, Terminal::ThenWord)?;
+        let other = self.branch(alloc, Terminal::ElseWord)?;
+        let choice = choosing(alloc, at, test.expr, then.expr, other.expr)?;
+        Ok(choice)
+    }
+
+    /// A whole expression.
+    #[cycle(expr)]
+    pub(crate) fn chosen(&mut self, alloc: Global) -> Result<Operand, Refusal>
+        ensures gave { IfOk result (λ o. Gave (APart (ExprAt Chosen)) (AnExpr o.start (expression_of o.expr)) self.old self.new) }
+        ensures shorter { OnOk result (length self.new.tokens < length self.old.tokens) }
+        ensures refused { IfErr result (IsRefused (APart (ExprAt Chosen)) self.old) }
+    {
+        if self.sees(Terminal::IfWord) {
+            return self.choice(alloc);
+        }
+        let value = self.disjoined(alloc)?;
+        Ok(value)
+    }
+}
