@@ -1,0 +1,4 @@
+pub mod Closures
+pub mod RowLaws
+pub mod SearchLaws
+pub mod TableLaws

@@ -1,0 +1,102 @@
+-- Tables of the relations of an execution, and what one that is being made has so far.
+use Rattle.std.specs.Prelude.{◌≡◌, ◌⊎◌, ◌↔◌, ℕ, zero, suc, ◌<◌, Bool, true, false, ◌&&◌, ◌||◌, nat_eq, nat_lt, slice_get, slice_index_or, List, [], length, Option, Some, None}
+use Rattle.ql_lang.specs.Trees.{Relation, Basic, Union, Intersection}
+use Rattle.ql_lang.specs.declared.relation.RelName.{RelName}
+use Rattle.ql_lang.specs.declared.relation.RelName.TheVariants.{Vis, So, Soo, SameObj, Eq, Hb, Hbo}
+use Rattle.ql_exec.specs.declared.effect.Effect.{Effect}
+use Rattle.ql_exec.specs.Relations.{hbo_step, hb_step, leads}
+use Rattle.ql_formula.specs.Truth.{named}
+use Rattle.ql_formula.specs.declared.rows.Key.{Key}
+use Rattle.ql_formula.specs.declared.rows.Closure.{Closure}
+use Rattle.ql_formula.specs.declared.rows.Closure.TheVariants.{OnOneObject, Across}
+
+-- ---- how it is kept
+
+-- object and session of an effect
+abbrev pub key_of : Effect → Key
+key_of e = record { object = e.object; session = e.session }
+
+abbrev pub key_at : List Key → ℕ → Option Key
+key_at keys zero = None
+key_at keys (suc k) = slice_get keys k
+
+abbrev pub both_keys : (Key → Key → Bool) → Option Key → Option Key → Bool
+both_keys test None b = false
+both_keys test (Some a) None = false
+both_keys test (Some a) (Some b) = test a b
+
+abbrev pub so_in : List Key → ℕ → ℕ → Bool
+so_in keys a b = both_keys (λ e f. nat_eq e.session.0 f.session.0 && nat_lt a b) (key_at keys a) (key_at keys b)
+
+abbrev pub sameobj_in : List Key → ℕ → ℕ → Bool
+sameobj_in keys a b = both_keys (λ e f. nat_eq e.object.0 f.object.0) (key_at keys a) (key_at keys b)
+
+-- a row, and whether it has the earlier effect of an id
+abbrev pub row_has : List Bool → ℕ → Bool
+row_has row zero = false
+row_has row (suc k) = slice_index_or row k false
+
+-- rows of effects from the first on: whether the row of b has a
+abbrev pub cell : List (List Bool) → ℕ → ℕ → Bool
+cell rows a zero = false
+cell rows a (suc m) = row_has (slice_index_or rows m []) a
+
+-- ---- what it tells
+
+-- Objects and sessions of the effects in order, and for each effect in order which earlier ones it sees, and which
+-- happen before it within its object and at all.
+pub record Table : Type 0 where
+  pub keys : List Key
+  pub seen : List (List Bool)
+  pub before_on_object : List (List Bool)
+  pub before : List (List Bool)
+
+abbrev pub named_in : Table → RelName → ℕ → ℕ → Bool
+named_in t Vis a b = cell t.seen a b
+named_in t So a b = so_in t.keys a b
+named_in t Soo a b = so_in t.keys a b && sameobj_in t.keys a b
+named_in t SameObj a b = sameobj_in t.keys a b
+named_in t Eq a b = nat_eq a b
+named_in t Hb a b = cell t.before a b
+named_in t Hbo a b = cell t.before_on_object a b
+
+abbrev pub related_in : Table → Relation → ℕ → ℕ → Bool
+related_in t (Basic name at) a b = named_in t name a b
+related_in t (Union r s) a b = related_in t r a b || related_in t s a b
+related_in t (Intersection r s) a b = related_in t r a b && related_in t s a b
+
+-- the table tells the relations of the execution
+abbrev pub IsTableOf : Table → List Effect → Type 0
+IsTableOf t x = (name : RelName) (a b : ℕ) → named_in t name a b ≡ named x name a b
+
+-- ---- how it is made
+
+-- the row of b tells which earlier effects are related to b
+abbrev pub IsRow : (ℕ → ℕ → Bool) → ℕ → List Bool → Type 0
+IsRow rel b row = (suc (length row) ≡ b) × ((k : ℕ) → slice_index_or row k false ≡ rel (suc k) b)
+
+-- these are the rows of the first effects
+abbrev pub AreRows : (ℕ → ℕ → Bool) → List (List Bool) → Type 0
+AreRows rel rows = (m : ℕ) → m < length rows → IsRow rel (suc m) (slice_index_or rows m [])
+
+abbrev pub step_of : Closure → List Effect → ℕ → ℕ → Bool
+step_of OnOneObject x a b = hbo_step x a b
+step_of Across x a b = hb_step x a b
+
+-- b is reached from a by an effect above m that steps to b
+pub record Reached (step : ℕ → ℕ → Bool) (a b m : ℕ) : Type 0 where
+  pub from : ℕ
+  pub above : m < from
+  pub below : from < b
+  pub steps : step from b ≡ true
+  pub reaches : (a ≡ from) ⊎ (leads step a from ≡ true)
+
+-- the row of b has what is reached by effects above m
+abbrev pub HasReached : (ℕ → ℕ → Bool) → ℕ → ℕ → List Bool → Type 0
+HasReached step b m row =
+    (suc (length row) ≡ b) × ((k : ℕ) → k < length row → (slice_index_or row k false ≡ true) ↔ Reached step (suc k) b m)
+
+-- of two effects, the first of which is earlier: session order, or that within one object
+abbrev pub follows : Closure → Effect → Effect → Bool
+follows OnOneObject e f = nat_eq e.session.0 f.session.0 && nat_eq e.object.0 f.object.0
+follows Across e f = nat_eq e.session.0 f.session.0 && true

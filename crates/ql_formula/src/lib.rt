@@ -1,0 +1,14 @@
+// The truth of contracts in an execution.
+// The one contract: the tables are the relations of the execution, and a formula is told to hold
+// exactly where its body is true at every choice of places; else the first false choice is told.
+#![tactic(auto)]
+
+mod places;
+mod relations;
+mod rows;
+mod search;
+mod truth;
+
+pub use places::Places;
+pub use relations::Relations;
+pub use truth::{holds_at, holds_txn};
