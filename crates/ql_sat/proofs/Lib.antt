@@ -1,6 +1,7 @@
 mod Analysis
 mod Asserting
 mod Learned
+mod Listing
 mod Measure
 mod Models
 mod Reaching

@@ -1,5 +1,6 @@
-// What guides the search, of which no contract speaks.
+// What guides the search; no contract of the solver speaks of it.
 use crate::order::Order;
+use crate::queue::Queue;
 use crate::watches::Watches;
 use ql_base::NoMemory;
 use ql_cnf::Clauses;
@@ -7,6 +8,7 @@ use std::alloc::Global;
 
 #[derive(Drop)]
 pub(crate) struct Guide {
+    pub queue: Queue,
     pub watches: Watches,
     pub order: Order,
 }
@@ -14,6 +16,7 @@ pub(crate) struct Guide {
 impl Guide {
     pub fn new(alloc: Global, c: &Clauses) -> Result<Guide, NoMemory> {
         Ok(Guide {
+            queue: Queue::new(alloc, c)?,
             watches: Watches::new(alloc, c)?,
             order: Order::new(alloc, c.variables())?,
         })

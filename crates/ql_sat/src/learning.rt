@@ -56,7 +56,7 @@ pub(crate) fn learn(
     };
     go_back(c, lines, to, trail, marks, &mut guide.order);
     propagate_clause(c, lines, Hint::Earlier(number), trail, marks)?;
-    guide.watches.done = to;
+    guide.queue.done = to;
     watch(&mut guide.watches, trail, seen, to)?;
     Ok(Turn::More)
 }

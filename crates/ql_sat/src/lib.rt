@@ -8,9 +8,11 @@ mod learning;
 mod order;
 pub mod plain;
 mod propagation;
+mod queue;
 mod search;
 mod trail;
 mod turn;
+mod watchers;
 mod watches;
 
 pub use decided::Decided;

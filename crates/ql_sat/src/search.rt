@@ -68,7 +68,14 @@ fn take_turn(
     ensures turn { IfOk result (IsTurn c.now lines.new.items marks.new) }
     ensures number { IfOk result (λ turn. turn ≡ Turn.More → trail_number (c.now.variables + 1) trail.old.items < trail_number (c.now.variables + 1) trail.new.items) }
 {
-    if let Some(conflict) = propagate(alloc, c, lines, trail, marks, &mut guide.watches)? {
+    if let Some(conflict) = propagate(
+        c,
+        lines,
+        trail,
+        marks,
+        &mut guide.queue,
+        &mut guide.watches,
+    )? {
         return learn(alloc, c, conflict, lines, trail, marks, seen, guide);
     }
     if let Some(var) = guide.order.next(c.variables(), marks) {

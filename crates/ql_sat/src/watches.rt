@@ -1,9 +1,14 @@
 // Two watched literals for each clause: while neither is false, the clause forces nothing.
+ghost use Rattle.std.specs.Prelude.{◌≡◌, ◌≢◌, ℕ, ◌+◌, ◌^◌, ◌<◌, [], length, IfSome, OnOk, slice_index};
+ghost use Rattle.std.specs.List.{slice_index_or};
+ghost use Rattle.ql_cnf.specs.declared.lit.Lit.{Lit};
+ghost use Rattle.ql_sat.specs.Watch.{AreListed, IsAway, IsListed, IsThere, index_of, pair_at, replaced, replaced_literal};
+
+use crate::watchers::Watchers;
 use ql_base::NoMemory;
 use ql_cnf::{Clauses, Lit};
 use ql_refute::Hint;
 use std::alloc::Global;
-use std::mem;
 
 // The watched literals of a clause.
 #[derive(Clone, Copy)]
@@ -24,16 +29,13 @@ pub(crate) enum Look {
 }
 
 // Clauses are numbered from 0, first the given ones and then the lines. A clause of fewer than two
-// literals watches nothing.
+// literals watches what no clause has.
 #[derive(Drop)]
 pub(crate) struct Watches {
     // The clauses that watch a literal, for each literal.
-    lists: Vec<Vec<usize>>,
+    lists: Vec<Watchers>,
     pairs: Vec<Pair>,
-    // The given clauses of fewer than two literals that weren't read yet.
-    pub units: Vec<u32>,
-    // The steps of the trail before this place are propagated.
-    pub done: usize,
+    ghost listed: { AreListed lists.items pairs.items },
 }
 
 impl Watches {
@@ -41,17 +43,12 @@ impl Watches {
     pub fn new(alloc: Global, c: &Clauses) -> Result<Watches, NoMemory> {
         let mut watches = Watches {
             lists: empty_lists(alloc, c.variables())?,
-            pairs: Vec::with_capacity(alloc, c.len() as usize)?,
-            units: Vec::new(alloc),
-            done: 0,
+            pairs: Vec::new(alloc),
         };
         for k in 0..c.len() {
             match c.clause(k + 1).items() {
                 [first, second, ..] => watches.attach(*first, *second)?,
-                _ => {
-                    watches.units.push(k + 1)?;
-                    watches.attach_none()?;
-                }
+                _ => watches.attach_none()?,
             }
         }
         Ok(watches)
@@ -60,9 +57,10 @@ impl Watches {
     // The next clause watches these literals.
     pub fn attach(&mut self, first: Lit, second: Lit) -> Result<(), NoMemory> {
         let clause = self.pairs.len();
+        enter(&mut self.lists, first, clause)?;
+        enter(&mut self.lists, second, clause)?;
         self.pairs.push(Pair { first, second })?;
-        self.enter(first, clause)?;
-        self.enter(second, clause)
+        Ok(())
     }
 
     // The next clause watches nothing.
@@ -71,11 +69,20 @@ impl Watches {
             var: 0,
             positive: false,
         };
-        self.pairs.push(Pair {
-            first: nothing,
-            second: nothing,
-        })?;
-        Ok(())
+        self.attach(nothing, nothing)
+    }
+
+    // The clause at a place of a literal's list.
+    pub fn watcher(&self, lit: Lit, at: usize) -> Option<usize>
+        ensures there { IfSome result (λ clause. IsThere self.now.lists.items lit at clause) }
+        ensures fits { IfSome result (λ clause. at + 1 < 2 ^ 64) }
+    {
+        let from = index(lit);
+        if from < self.lists.len() {
+            self.lists[from].get(at)
+        } else {
+            None
+        }
     }
 
     // The other watched literal of a clause that watches this one.
@@ -84,62 +91,84 @@ impl Watches {
             return lit;
         }
         let pair = self.pairs[clause];
-        if pair.first == lit {
+        if index(pair.first) == index(lit) {
             pair.second
         } else {
             pair.first
         }
     }
 
-    // The clause watches another literal in place of this one.
-    pub fn change(&mut self, clause: usize, other: Lit, lit: Lit) -> Result<(), NoMemory> {
-        if clause < self.pairs.len() {
-            self.pairs[clause] = Pair {
-                first: other,
-                second: lit,
-            };
-        }
-        self.enter(lit, clause)
-    }
-
-    // Takes out the clauses that watch the literal.
-    pub fn take(&mut self, alloc: Global, lit: Lit) -> Vec<usize> {
-        let at = index(lit);
-        let nothing = Vec::new(alloc);
-        if at < self.lists.len() {
-            mem::replace(&mut self.lists[at], nothing)
-        } else {
-            nothing
-        }
-    }
-
-    // Puts them back.
-    pub fn put(&mut self, lit: Lit, list: Vec<usize>) {
-        let at = index(lit);
-        if at < self.lists.len() {
-            self.lists[at] = list;
-        }
-    }
-
-    fn enter(&mut self, lit: Lit, clause: usize) -> Result<(), NoMemory> {
-        let at = index(lit);
-        if at < self.lists.len() {
-            self.lists[at].push(clause)?;
-        }
+    // The clause at a place of a literal's list watches another in its place.
+    pub fn change(&mut self, from: Lit, at: usize, clause: usize, to: Lit) -> Result<(), NoMemory>
+        requires other { index_of to ≡ index_of from → ⊥ }
+        requires there { IsThere self.old.lists.items from at clause }
+        ensures { OnOk result (length (slice_index_or self.new.lists.items (index_of from) []) + 1 ≡ length (slice_index_or self.old.lists.items (index_of from) [])) }
+    {
+        enter(&mut self.lists, to, clause)?;
+        replace(&mut self.pairs, clause, from, to);
+        leave(&mut self.lists, from, at);
         Ok(())
     }
 }
 
-fn empty_lists(alloc: Global, variables: u32) -> Result<Vec<Vec<usize>>, NoMemory> {
+// Puts the clause into the literal's list.
+fn enter(lists: &mut Vec<Watchers>, lit: Lit, clause: usize) -> Result<(), NoMemory>
+    ensures listed { OnOk result (IsListed lists.new.items lit clause) }
+    ensures stays { (x : Lit) (k : ℕ) → IsListed lists.old.items x k → IsListed lists.new.items x k }
+    ensures other { (x : Lit) → (index_of x ≡ index_of lit → ⊥) → slice_index_or lists.new.items (index_of x) [] ≡ slice_index_or lists.old.items (index_of x) [] }
+{
+    let at = index(lit);
+    if at < lists.len() {
+        lists[at].push(clause)?;
+    }
+    Ok(())
+}
+
+// Takes the clause at a place out of the literal's list.
+fn leave(lists: &mut Vec<Watchers>, lit: Lit, at: usize)
+    requires { at < length (slice_index_or lists.old.items (index_of lit) []) }
+    ensures shorter { length (slice_index_or lists.new.items (index_of lit) []) + 1 ≡ length (slice_index_or lists.old.items (index_of lit) []) }
+    ensures stays { (x : Lit) (k : ℕ) → (index_of x ≡ index_of lit → k ≢ slice_index (slice_index_or lists.old.items (index_of lit) []) at) → IsListed lists.old.items x k → IsListed lists.new.items x k }
+{
+    let list = index(lit);
+    if list < lists.len() {
+        lists[list].take_out(at);
+    }
+}
+
+// Watches another literal in place of one.
+fn replace(pairs: &mut Vec<Pair>, clause: usize, from: Lit, to: Lit)
+    ensures len { length pairs.new.items ≡ length pairs.old.items }
+    ensures others { (k : ℕ) → k ≢ clause → pair_at pairs.new.items k ≡ pair_at pairs.old.items k }
+    ensures pair { clause < length pairs.old.items → pair_at pairs.new.items clause ≡ replaced (pair_at pairs.old.items clause) from to }
+{
+    if clause < pairs.len() {
+        let pair = pairs[clause];
+        pairs[clause] = Pair {
+            first: replaced(pair.first, from, to),
+            second: replaced(pair.second, from, to),
+        };
+    }
+}
+
+fn replaced(lit: Lit, from: Lit, to: Lit) -> Lit
+    ensures { result ≡ replaced_literal lit from to }
+{
+    if index(lit) == index(from) { to } else { lit }
+}
+
+fn empty_lists(alloc: Global, variables: u32) -> Result<Vec<Watchers>, NoMemory> {
     let len = 2 * (variables as usize + 1);
     let mut lists = Vec::with_capacity(alloc, len)?;
     for _ in 0..len {
-        lists.push(Vec::new(alloc))?;
+        lists.push(Watchers::new(alloc))?;
     }
     Ok(lists)
 }
 
-fn index(lit: Lit) -> usize {
+fn index(lit: Lit) -> usize
+    ensures { result ≡ index_of lit }
+{
     2 * lit.var as usize + usize::from(lit.positive)
 }
 
@@ -152,13 +181,16 @@ pub(crate) fn hint_of(c: &Clauses, clause: usize) -> Hint {
     }
 }
 
-// What becomes of a clause of which the other watched literal is this one.
-pub(crate) fn inspect(clause: &[Lit], other: Lit, marks: &[u8]) -> Look {
+// What becomes of a clause that watches a false literal and this other one.
+pub(crate) fn inspect(clause: &[Lit], falsified: Lit, other: Lit, marks: &[u8]) -> Look
+    ensures { IsAway falsified result }
+{
     if is_value(marks, other.var, other.positive) {
         return Look::Keep;
     }
     for lit in clause {
-        if *lit != other && !is_value(marks, lit.var, !lit.positive) {
+        let is_watched = *lit == other || index(*lit) == index(falsified);
+        if !is_watched && !is_value(marks, lit.var, !lit.positive) {
             return Look::Move(*lit);
         }
     }

@@ -9,4 +9,4 @@ invariant-loop-number l = record {
 }
 
 abbrev pub decreases-loop-number : goal.decreases-loop-number
-decreases-loop-number l = vec_len l.watches.units
+decreases-loop-number l = vec_len l.queue.units
