@@ -1,16 +1,20 @@
-use Rattle.std.specs.Prelude.{◌≡◌, ℕ, List, [], ◌∷◌, Err, Ok, Option, Some, None, if◌then◌else◌, length, ◌<◌}
+use Rattle.std.specs.Prelude.{◌≡◌, ℕ, List, [], ◌∷◌, ◌++◌, ◌≤◌, Err, Ok, Option, Some, None, if◌then◌else◌, length, ◌<◌}
 use Rattle.ql_grammar.specs.Limits as limits
 use Rattle.ql_lang.specs.declared.relation.RelName.{RelName}
 use Rattle.ql_lang.specs.declared.relation.RelName.TheVariants.{Vis, So, Soo, SameObj, Eq, Hb, Hbo}
 use Rattle.ql_grammar.specs.declared.terminal.Terminal.{Terminal}
-use Rattle.ql_grammar.specs.declared.terminal.Terminal.TheVariants.{VisWord, SoWord, SooWord, SameObjWord, EqWord, HbWord, HboWord, CloseBrace, CloseParen, Comma, Equals, OpenBrace, OpenParen, TxnWord}
+use Rattle.ql_grammar.specs.declared.terminal.Terminal.TheVariants.{VisWord, SoWord, SooWord, SameObjWord, EqWord, HbWord, HboWord, CloseBrace, CloseParen, Colon, Comma, Equals, IntToken, MapWord, Minus, OpWord, OpenBrace, OpenParen, Semicolon, SetWord, TextToken, TxnWord}
 use Rattle.ql_grammar.specs.declared.role.Role.{Role}
-use Rattle.ql_grammar.specs.declared.role.Role.TheVariants.{Plain, Makes, Opens, Closes}
+use Rattle.ql_grammar.specs.declared.role.Role.TheVariants.{Plain, Makes, Opens, Closes, Before}
 use Rattle.ql_grammar.specs.Tokens.{Lexeme}
 use Rattle.ql_grammar.specs.ContractGrammar.{Applied}
 use Rattle.ql_lang.specs.Trees.{Relation}
 use Rattle.ql_grammar.specs.ExpressionGrammar.{Chosen}
-use Rattle.ql_grammar.specs.Table.{Arguments, ExprAt, Sym, Value, ARelation, APart, Do, Placed, RelationAt, Rest, Term, TermList, Then, Word, to_application, to_equality, to_txn}
+use Rattle.ql_lang.specs.declared.name.Name.{Name}
+use Rattle.ql_lang.specs.declared.operation.Kind.{Kind}
+use Rattle.ql_lang.specs.declared.operation.Param.{Param}
+use Rattle.ql_lang.specs.Programs.{Emission, Operation, Replicated, Transaction}
+use Rattle.ql_grammar.specs.Table.{AKind, AName, APlace, ANameOf, AnEffect, AnOperation, ATransaction, AType, TheParams, AnyKind, BaseKind, Beginning, Effect, Kept, MoreFields, MoreTypes, begin_negative, begin_number, begin_text, body_symbols, contract_symbols, effect_symbols, no_effect, no_fields, operations_symbols, params_symbols, to_map, to_operation, to_set, to_transaction, to_type, to_types, type_symbols, uses_symbols, Arguments, ExprAt, Sym, Value, ARelation, APart, Do, Placed, RelationAt, Rest, Term, TermList, Then, Word, to_application, to_equality, to_txn}
 use Rattle.ql_grammar.specs.Machine.{Reading, chosen, read, is_ahead}
 use Rattle.ql_parse.specs.declared.fault.Refusal.{Refusal}
 use Rattle.ql_parse.specs.declared.fault.Refusal.TheVariants.{Unexpected, Deep, Wide, NoMemory}
@@ -114,3 +118,114 @@ bracketed_arguments below = Word OpenParen (Opens 0) ∷ APart Arguments ∷ Wor
 
 abbrev pub branch_symbols : Terminal → List Sym → List Sym
 branch_symbols k below = Word k Plain ∷ APart (ExprAt Chosen) ∷ below
+
+-- what may follow was read wholly, and what was found so far became another value
+abbrev pub GaveRest : Rest → Value → Value → Reading → Reading → Type 0
+GaveRest l a b old new = (below : List Sym) (vs : List Value) → read old (Then l ∷ below) (a ∷ vs) ≡ read new below (b ∷ vs)
+
+abbrev pub IsRestRefused : Rest → Value → Reading → Refusal → Type 0
+IsRestRefused = IsTurnRefused
+
+-- symbols were read, and gave one item more of a list
+abbrev pub Added : {A : Type 0} → (List Sym → List Sym) → (List A → Value) → A → Reading → Reading → Type 0
+Added {A = A} want value a old new = (below : List Sym) (vs : List Value) (items : List A) → read old (want below) (value items ∷ vs) ≡ read new below (value (items ++ a ∷ []) ∷ vs)
+
+abbrev pub IsAddedRefused : {A : Type 0} → (List Sym → List Sym) → (List A → Value) → Reading → Refusal → Type 0
+IsAddedRefused {A = A} want value old e = (f : limits.Fault) → fault_of e ≡ Some f → (below : List Sym) (vs : List Value) (items : List A) → read old (want below) (value items ∷ vs) ≡ Err f
+
+-- a list that is being read: some of what may follow was read, which has turned one value into another
+pub record Collecting (l : Rest) (a b : Value) (old new : Reading) : Type 0 where
+  pub so_far : Turned l a b old new
+  pub within : length new.tokens ≤ length old.tokens
+
+-- the same, where something else may follow behind the first item
+pub record Gathering (l : Rest) (a : Value) (m : Rest) (b : Value) (old new : Reading) : Type 0 where
+  pub so_far : (below : List Sym) (vs : List Value) → read old (Then l ∷ below) (a ∷ vs) ≡ read new (Then m ∷ below) (b ∷ vs)
+  pub within : length new.tokens ≤ length old.tokens
+
+-- symbols were begun and gave a value so far; something may follow
+pub record StartedAll (want : List Sym → List Sym) (l : Rest) (v : Value) (old new : Reading) : Type 0 where
+  pub so_far : (below : List Sym) (vs : List Value) → read old (want below) vs ≡ read new (Then l ∷ below) (v ∷ vs)
+  pub shorter : length new.tokens < length old.tokens
+
+-- symbols of kinds and of what fields begin with
+
+abbrev pub set_symbols : List Sym → List Sym
+set_symbols below = Word SetWord Plain ∷ Word OpenParen Plain ∷ APart BaseKind ∷ Word CloseParen Plain ∷ Do to_set ∷ below
+
+abbrev pub map_values_symbols : List Sym → List Sym
+map_values_symbols below = Word Comma Plain ∷ APart BaseKind ∷ Word CloseParen Plain ∷ below
+
+abbrev pub map_symbols : List Sym → List Sym
+map_symbols below = Word MapWord Plain ∷ Word OpenParen Plain ∷ APart BaseKind ∷ map_values_symbols (Do to_map ∷ below)
+
+abbrev pub negative_symbols : List Sym → List Sym
+negative_symbols below = Placed Minus Plain ∷ Kept IntToken Plain ∷ Do begin_negative ∷ below
+
+abbrev pub number_symbols : List Sym → List Sym
+number_symbols below = Kept IntToken Plain ∷ Do begin_number ∷ below
+
+abbrev pub text_symbols : List Sym → List Sym
+text_symbols below = Kept TextToken Plain ∷ Do begin_text ∷ below
+
+-- symbols of declarations
+
+abbrev pub typed_symbols : List Sym → List Sym
+typed_symbols below = Word Colon Plain ∷ APart AnyKind ∷ below
+
+abbrev pub based_symbols : List Sym → List Sym
+based_symbols below = Word Colon Plain ∷ APart BaseKind ∷ below
+
+abbrev pub initial_symbols : List Sym → List Sym
+initial_symbols below = Word Equals Plain ∷ APart Beginning ∷ Word Semicolon Plain ∷ below
+
+abbrev pub value_symbols : Terminal → List Sym → List Sym
+value_symbols k below = Word k Before ∷ APart (ExprAt Chosen) ∷ below
+
+abbrev pub closed_symbols : Terminal → List Sym → List Sym
+closed_symbols k below = value_symbols k (Word Semicolon Plain ∷ below)
+
+abbrev pub heading_symbols : List Sym → List Sym
+heading_symbols below = Placed OpWord Plain ∷ ANameOf Plain ∷ params_symbols (typed_symbols below)
+
+abbrev pub ending_symbols : List Sym → List Sym
+ending_symbols below = Do no_effect ∷ Then Effect ∷ Word CloseBrace Plain ∷ below
+
+abbrev pub types_symbols : List Sym → List Sym
+types_symbols below = type_symbols (Do to_types ∷ Then MoreTypes ∷ below)
+
+-- what is emitted, in place of nothing
+abbrev pub GaveEmission : Emission → Reading → Reading → Type 0
+GaveEmission e old new = (below : List Sym) (vs : List Value) → read old (effect_symbols below) (AnEffect None ∷ vs) ≡ read new below (AnEffect (Some e) ∷ vs)
+
+abbrev pub AreEmissionsRefused : Reading → Refusal → Type 0
+AreEmissionsRefused old e = (f : limits.Fault) → fault_of e ≡ Some f → (below : List Sym) (vs : List Value) → read old (effect_symbols below) (AnEffect None ∷ vs) ≡ Err f
+
+-- the heading of an operation, and the operation behind it
+abbrev pub GaveHeading : ℕ → Name → List Param → Kind → Reading → Reading → Type 0
+GaveHeading n name ps k old new = (below : List Sym) (vs : List Value) → read old (heading_symbols below) vs ≡ read new below (AKind k ∷ TheParams ps ∷ AName name ∷ APlace n ∷ vs)
+
+abbrev pub GaveBody : ℕ → Name → List Param → Kind → Operation → Reading → Reading → Type 0
+GaveBody n name ps k o old new = (below : List Sym) (vs : List Value) → read old (body_symbols (Do to_operation ∷ below)) (AKind k ∷ TheParams ps ∷ AName name ∷ APlace n ∷ vs) ≡ read new below (AnOperation o ∷ vs)
+
+abbrev pub IsBodyRefused : ℕ → Name → List Param → Kind → Reading → Refusal → Type 0
+IsBodyRefused n name ps k old e = (f : limits.Fault) → fault_of e ≡ Some f → (below : List Sym) (vs : List Value) → read old (body_symbols (Do to_operation ∷ below)) (AKind k ∷ TheParams ps ∷ AName name ∷ APlace n ∷ vs) ≡ Err f
+
+-- what stands in the braces of a type or a transaction whose name was read
+abbrev pub members_symbols : List Sym → List Sym
+members_symbols below = Word OpenBrace Plain ∷ Do no_fields ∷ Then MoreFields ∷ operations_symbols (Word CloseBrace Plain ∷ Do to_type ∷ below)
+
+abbrev pub GaveMembers : ℕ → Name → Replicated → Reading → Reading → Type 0
+GaveMembers n name t old new = (below : List Sym) (vs : List Value) → read old (members_symbols below) (AName name ∷ APlace n ∷ vs) ≡ read new below (AType t ∷ vs)
+
+abbrev pub AreMembersRefused : ℕ → Name → Reading → Refusal → Type 0
+AreMembersRefused n name old e = (f : limits.Fault) → fault_of e ≡ Some f → (below : List Sym) (vs : List Value) → read old (members_symbols below) (AName name ∷ APlace n ∷ vs) ≡ Err f
+
+abbrev pub terms_symbols : List Sym → List Sym
+terms_symbols below = Word OpenBrace Plain ∷ uses_symbols (contract_symbols (Word CloseBrace Plain ∷ Do to_transaction ∷ below))
+
+abbrev pub GaveTerms : ℕ → Name → Transaction → Reading → Reading → Type 0
+GaveTerms n name t old new = (below : List Sym) (vs : List Value) → read old (terms_symbols below) (AName name ∷ APlace n ∷ vs) ≡ read new below (ATransaction t ∷ vs)
+
+abbrev pub AreTermsRefused : ℕ → Name → Reading → Refusal → Type 0
+AreTermsRefused n name old e = (f : limits.Fault) → fault_of e ≡ Some f → (below : List Sym) (vs : List Value) → read old (terms_symbols below) (AName name ∷ APlace n ∷ vs) ≡ Err f

@@ -305,6 +305,7 @@ impl Reader<'_> {
     /// A whole contract.
     pub(crate) fn contract(&mut self, alloc: Global) -> Result<Contract, Refusal>
         ensures gave { IfOk result (λ c. Gave (APart WholeContract) (ASentence (sentence_of c)) self.old self.new) }
+        ensures shorter { OnOk result (length self.new.tokens < length self.old.tokens) }
         ensures refused { IfErr result (IsRefused (APart WholeContract) self.old) }
     {
         if self.sees(Terminal::ForallWord) {

@@ -1,4 +1,4 @@
-// Reads contracts, and says where the first fault of a text stands that isn't one.
+// Reads contracts and whole sources, and says where the first fault of a text stands that isn't one.
 // Its one contract: the answer is the tree that the grammar has for the text, and else the first fault.
 #![tactic(auto)]
 
@@ -6,8 +6,10 @@ mod again;
 #[cfg(test)]
 mod again_tests;
 mod contract;
+mod declaration;
 mod expression;
 mod fault;
+mod kind;
 mod parse;
 mod reader;
 mod relation;
@@ -16,4 +18,4 @@ mod tests;
 
 pub use again::{one_answer, printed_again};
 pub use fault::ParseFault;
-pub use parse::parse_contract;
+pub use parse::{parse_contract, parse_program};

@@ -1,0 +1,29 @@
+use Rattle.std.proofs.Common.{◌≡◌, sym, ◌∙◌, ap, refl, ◌∷◌, [], ◌++◌, arith, map, rules, w64, Option, Some, None}
+use mir.Val.{SFits}
+use Rattle.std.proofs.lemmas.Int.{to_z-of_z}
+use Rattle.std.proofs.lemmas.Result.{err_from_is_err_and}
+use Rattle.ql_lang.specs.Programs.{binding_of, assignment_of, emission_of, operation_of, replicated_of, transaction_of}
+use Rattle.ql_grammar.specs.Table.{Do, Then, MoreFields, SomeParams, MoreParams, MoreListed, MoreBindings, MoreAssignments, Effect, MoreOperations, MoreTypes, MoreTransactions}
+use Rattle.ql_grammar.proofs.Choices.{read-do}
+use Rattle.ql_grammar.proofs.Rules.{then-on, then-past}
+use Rattle.ql_grammar.proofs.ByToken.{base-int, base-bool, base-text, kind-set, kind-map, kind-unit, kind-int, kind-bool, kind-text, beginning-number, beginning-negative, beginning-text, beginning-plain, plain-true, plain-false, plain-unit, plain-empty, listed-start, source-start}
+use Rattle.ql_parse.proofs.ArgumentLemmas.{map_more}
+use Rattle.ql_parse.proofs.reader.Reader.fields.Goals as goal
+
+pub more-init : goal.more-init
+more-init c = rw c.new-found.ensures.items (record { so_far = λ below vs. refl; within = omega arith })
+
+pub returns-in_err-item-clause-refused : goal.returns-in_err-item-clause-refused
+returns-in_err-item-clause-refused c =
+    let p = err_from_is_err_and c.from_residual.result c.from_residual.ensures.1 in
+    rw (p.1, p.2) (λ f is below vs. c.more.invariant.so_far below vs ∙ then-on c.more.self MoreFields below _ (sym c.sees.ensures ∙ c.more-test.true) ∙ c.in_err-item.ensures.refused f is _ _ _)
+
+pub more-preserved : goal.more-preserved
+more-preserved c =
+    rw (c.in_ok-push.ensures.items) (record {
+      so_far = λ below vs. c.more.invariant.so_far below vs ∙ then-on c.more.self MoreFields below _ (sym c.sees.ensures ∙ c.more-test.true) ∙ c.in_ok-item.ensures.gave _ _ _;
+      within = omega (arith, c.in_ok-item.ensures.shorter, c.more.invariant.within);
+    })
+
+pub returns-clause-gave : goal.returns-clause-gave
+returns-clause-gave c = λ below vs. rw (c.of.ensures) (c.more.invariant.so_far below vs ∙ then-past c.more.self MoreFields below _ (sym c.sees.ensures ∙ c.more-test.false))

@@ -1,0 +1,29 @@
+use Rattle.std.proofs.Common.{◌≡◌, sym, ◌∙◌, ap, refl, ◌∷◌, [], ◌++◌, arith, map, rules, w64, Option, Some, None}
+use mir.Val.{SFits}
+use Rattle.std.proofs.lemmas.Int.{to_z-of_z}
+use Rattle.std.proofs.lemmas.Result.{err_from_is_err_and}
+use Rattle.ql_lang.specs.Programs.{binding_of, assignment_of, emission_of, operation_of, replicated_of, transaction_of}
+use Rattle.ql_grammar.specs.Table.{Do, Then, MoreFields, SomeParams, MoreParams, MoreListed, MoreBindings, MoreAssignments, Effect, MoreOperations, MoreTypes, MoreTransactions}
+use Rattle.ql_grammar.proofs.Choices.{read-do}
+use Rattle.ql_grammar.proofs.Rules.{then-on, then-past}
+use Rattle.ql_grammar.proofs.ByToken.{base-int, base-bool, base-text, kind-set, kind-map, kind-unit, kind-int, kind-bool, kind-text, beginning-number, beginning-negative, beginning-text, beginning-plain, plain-true, plain-false, plain-unit, plain-empty, listed-start, source-start}
+use Rattle.ql_parse.proofs.ArgumentLemmas.{map_more}
+use Rattle.ql_parse.proofs.reader.Reader.transaction.Goals as goal
+
+pub returns-in_err-at-clause-refused : goal.returns-in_err-at-clause-refused
+returns-in_err-at-clause-refused c =
+    let p = err_from_is_err_and c.from_residual.result c.from_residual.ensures.1 in
+    rw (p.1, p.2) (λ f is below vs. c.in_err-at.ensures.refused_placed f is _ _)
+
+pub returns-in_err-name-clause-refused : goal.returns-in_err-name-clause-refused
+returns-in_err-name-clause-refused c =
+    let p = err_from_is_err_and c.from_residual-in_err-name.result c.from_residual-in_err-name.ensures.1 in
+    rw (p.1, p.2) (λ f is below vs. c.in_ok-at.ensures.gave _ _ ∙ c.in_err-name.ensures.refused f is _ _)
+
+pub returns-in_err-decl-clause-refused : goal.returns-in_err-decl-clause-refused
+returns-in_err-decl-clause-refused c =
+    let p = err_from_is_err_and c.from_residual-in_err-decl.result c.from_residual-in_err-decl.ensures.1 in
+    rw (p.1, p.2) (λ f is below vs. c.in_ok-at.ensures.gave _ _ ∙ c.in_ok-name.ensures.gave _ _ ∙ c.in_err-decl.ensures.refused f is _ _)
+
+pub returns-clause-gave : goal.returns-clause-gave
+returns-clause-gave c = λ below vs. c.in_ok-at.ensures.gave _ _ ∙ c.in_ok-name.ensures.gave _ _ ∙ c.in_ok-decl.ensures.gave _ _

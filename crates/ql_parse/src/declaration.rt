@@ -1,0 +1,571 @@
+ghost use Rattle.std.specs.Prelude.{◌≡◌, ◌<◌, ◌≤◌, IfErr, IfOk, None, OnOk, Some, [], length, map, option_map, true};
+ghost use Rattle.ql_grammar.specs.declared.terminal.Terminal.TheVariants.{NameToken};
+ghost use Rattle.ql_grammar.specs.Machine.{is_ahead};
+ghost use Rattle.ql_grammar.specs.Table.{
+  ABase,
+  ABinding,
+  AKind,
+  APart,
+  ASentence,
+  ASource,
+  ATransaction,
+  AType,
+  AnEffect,
+  AnExpr,
+  AnInit,
+  AnOperation,
+  Effect,
+  ListedNames,
+  MoreAssignments,
+  MoreFields,
+  MoreTransactions,
+  SomeParams,
+  TheAssignments,
+  TheBindings,
+  TheFields,
+  TheNames,
+  TheOperations,
+  TheParams,
+  TheTransactions,
+  TheTypes,
+  WholeSource,
+  assignment_symbols,
+  assignments_symbols,
+  binding_symbols,
+  bindings_symbols,
+  contract_symbols,
+  field_symbols,
+  operation_symbols,
+  operations_symbols,
+  param_symbols,
+  params_symbols,
+  transaction_symbols,
+  type_symbols,
+  uses_symbols,
+};
+ghost use Rattle.ql_lang.specs.Expressions.{expression_of};
+ghost use Rattle.ql_lang.specs.Programs.{
+  assignment_of,
+  binding_of,
+  emission_of,
+  operation_of,
+  replicated_of,
+  source_of,
+  transaction_of,
+};
+ghost use Rattle.ql_lang.specs.Trees.{sentence_of};
+ghost use Rattle.ql_parse.specs.Readings.{
+  Added,
+  AreEmissionsRefused,
+  AreMembersRefused,
+  AreRefused,
+  AreTermsRefused,
+  Gave,
+  GaveAll,
+  GaveBody,
+  GaveEmission,
+  GaveHeading,
+  GaveMembers,
+  GaveRest,
+  GaveTerms,
+  IsAddedRefused,
+  IsBodyRefused,
+  IsRefused,
+  IsRestRefused,
+  based_symbols,
+  closed_symbols,
+  ending_symbols,
+  heading_symbols,
+  initial_symbols,
+  typed_symbols,
+  types_symbols,
+  value_symbols,
+};
+
+use crate::expression::Operand;
+use crate::fault::Refusal;
+use crate::reader::Reader;
+use ql_grammar::{Role, Terminal};
+use ql_lang::{
+    Base, Bind, Binds, Contract, EmitDecl, Field, Fields, Init, Kind, Name, NameList, OpDecl,
+    OpDecls, Param, Params, Program, Stmt, Stmts, TxnDecl, TxnDecls, TypeDecl, TypeDecls,
+};
+use std::alloc::Global;
+
+/// What stands before the braces of an operation.
+#[derive(Drop)]
+struct Heading {
+    at: u32,
+    name: Name,
+    params: Params,
+    kind: Kind,
+}
+
+impl Reader<'_> {
+    /// Names with commas between them.
+    fn listed(&mut self, alloc: Global) -> Result<NameList, Refusal>
+        ensures gave { IfOk result (λ names. Gave (APart ListedNames) (TheNames names) self.old self.new) }
+        ensures shorter { OnOk result (length self.new.tokens < length self.old.tokens) }
+        ensures refused { IfErr result (IsRefused (APart ListedNames) self.old) }
+    {
+        let first = self.name(Role::Plain)?;
+        let mut names = Vec::new(alloc);
+        names.push(first)?;
+        'more: while self.sees(Terminal::Comma) {
+            self.take(Terminal::Comma, Role::Plain)?;
+            let name = self.name(Role::Plain)?;
+            names.push(name)?;
+        }
+        Ok(NameList::of(names))
+    }
+
+    /// A colon and a kind.
+    fn typed(&mut self) -> Result<Kind, Refusal>
+        ensures gave { IfOk result (λ k. GaveAll typed_symbols (AKind k) self.old self.new) }
+        ensures shorter { OnOk result (length self.new.tokens < length self.old.tokens) }
+        ensures refused { IfErr result (AreRefused typed_symbols self.old) }
+    {
+        self.take(Terminal::Colon, Role::Plain)?;
+        let kind = self.kind()?;
+        Ok(kind)
+    }
+
+    /// A colon and the kind of a single value.
+    fn based(&mut self) -> Result<Base, Refusal>
+        ensures gave { IfOk result (λ b. GaveAll based_symbols (ABase b) self.old self.new) }
+        ensures shorter { OnOk result (length self.new.tokens < length self.old.tokens) }
+        ensures refused { IfErr result (AreRefused based_symbols self.old) }
+    {
+        self.take(Terminal::Colon, Role::Plain)?;
+        let base = self.base()?;
+        Ok(base)
+    }
+
+    /// An `=` and what a field begins with, up to the semicolon.
+    fn initial(&mut self, alloc: Global) -> Result<Init, Refusal>
+        ensures gave { IfOk result (λ i. GaveAll initial_symbols (AnInit i) self.old self.new) }
+        ensures shorter { OnOk result (length self.new.tokens < length self.old.tokens) }
+        ensures refused { IfErr result (AreRefused initial_symbols self.old) }
+    {
+        self.take(Terminal::Equals, Role::Plain)?;
+        let init = self.beginning(alloc)?;
+        self.take(Terminal::Semicolon, Role::Plain)?;
+        Ok(init)
+    }
+
+    /// A state field.
+    fn field(&mut self, alloc: Global) -> Result<Field, Refusal>
+        ensures gave { IfOk result (λ f. Added field_symbols TheFields f self.old self.new) }
+        ensures shorter { OnOk result (length self.new.tokens < length self.old.tokens) }
+        ensures refused { IfErr result (IsAddedRefused field_symbols TheFields self.old) }
+    {
+        let at = self.take(Terminal::StateWord, Role::Plain)?;
+        let name = self.name(Role::Plain)?;
+        let kind = self.typed()?;
+        let init = self.initial(alloc)?;
+        Ok(Field {
+            at,
+            name,
+            kind,
+            init,
+        })
+    }
+
+    /// The state fields of a type.
+    fn fields(&mut self, alloc: Global) -> Result<Fields, Refusal>
+        ensures gave { IfOk result (λ found. GaveRest MoreFields (TheFields []) (TheFields found) self.old self.new) }
+        ensures within { OnOk result (length self.new.tokens ≤ length self.old.tokens) }
+        ensures refused { IfErr result (IsRestRefused MoreFields (TheFields []) self.old) }
+    {
+        let mut found = Vec::new(alloc);
+        'more: while self.sees(Terminal::StateWord) {
+            let item = self.field(alloc)?;
+            found.push(item)?;
+        }
+        Ok(Fields::of(found))
+    }
+
+    /// A parameter.
+    fn param(&mut self) -> Result<Param, Refusal>
+        ensures gave { IfOk result (λ p. Added param_symbols TheParams p self.old self.new) }
+        ensures shorter { OnOk result (length self.new.tokens < length self.old.tokens) }
+        ensures refused { IfErr result (IsAddedRefused param_symbols TheParams self.old) }
+    {
+        let name = self.name(Role::Plain)?;
+        let base = self.based()?;
+        Ok(Param { name, base })
+    }
+
+    /// Parameters with commas between them, of which one comes next.
+    fn some_params(&mut self, alloc: Global) -> Result<Vec<Param>, Refusal>
+        requires { is_ahead NameToken self.old.tokens ≡ true }
+        ensures gave { IfOk result (λ found. GaveRest SomeParams (TheParams []) (TheParams found.items) self.old self.new) }
+        ensures within { OnOk result (length self.new.tokens ≤ length self.old.tokens) }
+        ensures refused { IfErr result (IsRestRefused SomeParams (TheParams []) self.old) }
+    {
+        let first = self.param()?;
+        let mut found = Vec::new(alloc);
+        found.push(first)?;
+        'more: while self.sees(Terminal::Comma) {
+            self.take(Terminal::Comma, Role::Plain)?;
+            let param = self.param()?;
+            found.push(param)?;
+        }
+        Ok(found)
+    }
+
+    /// Parameters, or none.
+    fn any_params(&mut self, alloc: Global) -> Result<Params, Refusal>
+        ensures gave { IfOk result (λ found. GaveRest SomeParams (TheParams []) (TheParams found) self.old self.new) }
+        ensures within { OnOk result (length self.new.tokens ≤ length self.old.tokens) }
+        ensures refused { IfErr result (IsRestRefused SomeParams (TheParams []) self.old) }
+    {
+        if self.sees(Terminal::NameToken) {
+            let found = self.some_params(alloc)?;
+            let some = Params::of(found);
+            return Ok(some);
+        }
+        let none = Vec::new(alloc);
+        let params = Params::of(none);
+        Ok(params)
+    }
+
+    /// An operation's parameters in their brackets.
+    fn params(&mut self, alloc: Global) -> Result<Params, Refusal>
+        ensures gave { IfOk result (λ found. GaveAll params_symbols (TheParams found) self.old self.new) }
+        ensures shorter { OnOk result (length self.new.tokens < length self.old.tokens) }
+        ensures refused { IfErr result (AreRefused params_symbols self.old) }
+    {
+        self.take(Terminal::OpenParen, Role::Plain)?;
+        let found = self.any_params(alloc)?;
+        self.take(Terminal::CloseParen, Role::Plain)?;
+        Ok(found)
+    }
+
+    /// The expression behind a word that stands before one.
+    fn value_behind(&mut self, alloc: Global, word: Terminal) -> Result<Operand, Refusal>
+        ensures gave { IfOk result (λ o. GaveAll (value_symbols word) (AnExpr o.start (expression_of o.expr)) self.old self.new) }
+        ensures shorter { OnOk result (length self.new.tokens < length self.old.tokens) }
+        ensures refused { IfErr result (AreRefused (value_symbols word) self.old) }
+    {
+        self.take(word, Role::Before)?;
+        let value = self.chosen(alloc)?;
+        Ok(value)
+    }
+
+    /// The same, up to a semicolon.
+    fn closed_value(&mut self, alloc: Global, word: Terminal) -> Result<Operand, Refusal>
+        ensures gave { IfOk result (λ o. GaveAll (closed_symbols word) (AnExpr o.start (expression_of o.expr)) self.old self.new) }
+        ensures shorter { OnOk result (length self.new.tokens < length self.old.tokens) }
+        ensures refused { IfErr result (AreRefused (closed_symbols word) self.old) }
+    {
+        let value = self.value_behind(alloc, word)?;
+        self.take(Terminal::Semicolon, Role::Plain)?;
+        Ok(value)
+    }
+
+    /// The contract behind its word, up to a semicolon.
+    fn closed_contract(&mut self, alloc: Global) -> Result<Contract, Refusal>
+        ensures gave { IfOk result (λ k. GaveAll contract_symbols (ASentence (sentence_of k)) self.old self.new) }
+        ensures shorter { OnOk result (length self.new.tokens < length self.old.tokens) }
+        ensures refused { IfErr result (AreRefused contract_symbols self.old) }
+    {
+        self.take(Terminal::ContractWord, Role::Before)?;
+        let contract = self.contract(alloc)?;
+        self.take(Terminal::Semicolon, Role::Plain)?;
+        Ok(contract)
+    }
+
+    /// A value that is emitted.
+    fn binding(&mut self, alloc: Global) -> Result<Bind, Refusal>
+        ensures gave { IfOk result (λ b. GaveAll binding_symbols (ABinding (binding_of b)) self.old self.new) }
+        ensures shorter { OnOk result (length self.new.tokens < length self.old.tokens) }
+        ensures refused { IfErr result (AreRefused binding_symbols self.old) }
+    {
+        let name = self.name(Role::Plain)?;
+        let base = self.based()?;
+        let value = self.value_behind(alloc, Terminal::Equals)?;
+        Ok(Bind {
+            name,
+            base,
+            value: value.expr,
+        })
+    }
+
+    /// The values that are emitted.
+    fn bindings(&mut self, alloc: Global) -> Result<Binds, Refusal>
+        ensures gave { IfOk result (λ found. GaveAll bindings_symbols (TheBindings (map binding_of found)) self.old self.new) }
+        ensures shorter { OnOk result (length self.new.tokens < length self.old.tokens) }
+        ensures refused { IfErr result (AreRefused bindings_symbols self.old) }
+    {
+        self.take(Terminal::EmitWord, Role::Plain)?;
+        let first = self.binding(alloc)?;
+        let mut found = Vec::new(alloc);
+        found.push(first)?;
+        'more: while self.sees(Terminal::Comma) {
+            self.take(Terminal::Comma, Role::Plain)?;
+            let binding = self.binding(alloc)?;
+            found.push(binding)?;
+        }
+        Ok(Binds::of(found))
+    }
+
+    /// A statement.
+    fn assignment(&mut self, alloc: Global) -> Result<Stmt, Refusal>
+        ensures gave { IfOk result (λ s. Added assignment_symbols TheAssignments (assignment_of s) self.old self.new) }
+        ensures shorter { OnOk result (length self.new.tokens < length self.old.tokens) }
+        ensures refused { IfErr result (IsAddedRefused assignment_symbols TheAssignments self.old) }
+    {
+        let target = self.name(Role::Plain)?;
+        let value = self.closed_value(alloc, Terminal::Assign)?;
+        Ok(Stmt {
+            target,
+            value: value.expr,
+        })
+    }
+
+    /// The statements of an operation.
+    fn statements(&mut self, alloc: Global) -> Result<Stmts, Refusal>
+        ensures gave { IfOk result (λ found. GaveRest MoreAssignments (TheAssignments []) (TheAssignments (map assignment_of found)) self.old self.new) }
+        ensures within { OnOk result (length self.new.tokens ≤ length self.old.tokens) }
+        ensures refused { IfErr result (IsRestRefused MoreAssignments (TheAssignments []) self.old) }
+    {
+        let mut found = Vec::new(alloc);
+        'more: while self.sees(Terminal::NameToken) {
+            let item = self.assignment(alloc)?;
+            found.push(item)?;
+        }
+        Ok(Stmts::of(found))
+    }
+
+    /// The statements in their braces.
+    fn applied_statements(&mut self, alloc: Global) -> Result<Stmts, Refusal>
+        ensures gave { IfOk result (λ found. GaveAll assignments_symbols (TheAssignments (map assignment_of found)) self.old self.new) }
+        ensures shorter { OnOk result (length self.new.tokens < length self.old.tokens) }
+        ensures refused { IfErr result (AreRefused assignments_symbols self.old) }
+    {
+        self.take(Terminal::ApplyWord, Role::Plain)?;
+        self.take(Terminal::OpenBrace, Role::Plain)?;
+        let found = self.statements(alloc)?;
+        self.take(Terminal::CloseBrace, Role::Plain)?;
+        Ok(found)
+    }
+
+    /// What an operation emits and how that is applied.
+    fn emission(&mut self, alloc: Global) -> Result<EmitDecl, Refusal>
+        ensures gave { IfOk result (λ e. GaveEmission (emission_of e) self.old self.new) }
+        ensures shorter { OnOk result (length self.new.tokens < length self.old.tokens) }
+        ensures refused { IfErr result (AreEmissionsRefused self.old) }
+    {
+        let binds = self.bindings(alloc)?;
+        let test = self.closed_value(alloc, Terminal::WhenWord)?;
+        let stmts = self.applied_statements(alloc)?;
+        Ok(EmitDecl {
+            binds,
+            test: test.expr,
+            stmts,
+        })
+    }
+
+    /// What an operation emits, or nothing.
+    fn effect(&mut self, alloc: Global) -> Result<Option<EmitDecl>, Refusal>
+        ensures gave { IfOk result (λ e. GaveRest Effect (AnEffect None) (AnEffect (option_map emission_of e)) self.old self.new) }
+        ensures within { OnOk result (length self.new.tokens ≤ length self.old.tokens) }
+        ensures refused { IfErr result (IsRestRefused Effect (AnEffect None) self.old) }
+    {
+        if self.sees(Terminal::EmitWord) {
+            let emission = self.emission(alloc)?;
+            return Ok(Some(emission));
+        }
+        Ok(None)
+    }
+
+    /// The word `op`, a name, the parameters and the kind of the answer.
+    fn heading(&mut self, alloc: Global) -> Result<Heading, Refusal>
+        ensures gave { IfOk result (λ h. GaveHeading h.at h.name h.params h.kind self.old self.new) }
+        ensures shorter { OnOk result (length self.new.tokens < length self.old.tokens) }
+        ensures refused { IfErr result (AreRefused heading_symbols self.old) }
+    {
+        let at = self.take(Terminal::OpWord, Role::Plain)?;
+        let name = self.name(Role::Plain)?;
+        let params = self.params(alloc)?;
+        let kind = self.typed()?;
+        Ok(Heading {
+            at,
+            name,
+            params,
+            kind,
+        })
+    }
+
+    /// The effect of an operation and its last brace.
+    fn ending(&mut self, alloc: Global) -> Result<Option<EmitDecl>, Refusal>
+        ensures gave { IfOk result (λ e. GaveAll ending_symbols (AnEffect (option_map emission_of e)) self.old self.new) }
+        ensures shorter { OnOk result (length self.new.tokens < length self.old.tokens) }
+        ensures refused { IfErr result (AreRefused ending_symbols self.old) }
+    {
+        let effect = self.effect(alloc)?;
+        self.take(Terminal::CloseBrace, Role::Plain)?;
+        Ok(effect)
+    }
+
+    /// An operation behind its heading.
+    fn body(&mut self, alloc: Global, heading: Heading) -> Result<OpDecl, Refusal>
+        ensures gave { IfOk result (λ o. GaveBody heading.at heading.name heading.params heading.kind (operation_of o) self.old self.new) }
+        ensures shorter { OnOk result (length self.new.tokens < length self.old.tokens) }
+        ensures refused { IfErr result (IsBodyRefused heading.at heading.name heading.params heading.kind self.old) }
+    {
+        self.take(Terminal::OpenBrace, Role::Plain)?;
+        let contract = self.closed_contract(alloc)?;
+        let answer = self.closed_value(alloc, Terminal::AnswerWord)?;
+        let effect = self.ending(alloc)?;
+        Ok(OpDecl {
+            at: heading.at,
+            name: heading.name,
+            params: heading.params,
+            kind: heading.kind,
+            contract,
+            answer: answer.expr,
+            effect,
+        })
+    }
+
+    /// An operation.
+    fn operation(&mut self, alloc: Global) -> Result<OpDecl, Refusal>
+        ensures gave { IfOk result (λ o. GaveAll operation_symbols (AnOperation (operation_of o)) self.old self.new) }
+        ensures shorter { OnOk result (length self.new.tokens < length self.old.tokens) }
+        ensures refused { IfErr result (AreRefused operation_symbols self.old) }
+    {
+        let heading = self.heading(alloc)?;
+        let operation = self.body(alloc, heading)?;
+        Ok(operation)
+    }
+
+    /// The operations of a type.
+    fn operations_of_type(&mut self, alloc: Global) -> Result<OpDecls, Refusal>
+        ensures gave { IfOk result (λ found. GaveAll operations_symbols (TheOperations (map operation_of found)) self.old self.new) }
+        ensures shorter { OnOk result (length self.new.tokens < length self.old.tokens) }
+        ensures refused { IfErr result (AreRefused operations_symbols self.old) }
+    {
+        let first = self.operation(alloc)?;
+        let mut found = Vec::new(alloc);
+        found.push(first)?;
+        'more: while self.sees(Terminal::OpWord) {
+            let item = self.operation(alloc)?;
+            found.push(item)?;
+        }
+        Ok(OpDecls::of(found))
+    }
+
+    /// The members of a type, whose name was read.
+    fn members(&mut self, alloc: Global, at: u32, name: Name) -> Result<TypeDecl, Refusal>
+        ensures gave { IfOk result (λ t. GaveMembers at name (replicated_of t) self.old self.new) }
+        ensures shorter { OnOk result (length self.new.tokens < length self.old.tokens) }
+        ensures refused { IfErr result (AreMembersRefused at name self.old) }
+    {
+        self.take(Terminal::OpenBrace, Role::Plain)?;
+        let fields = self.fields(alloc)?;
+        let ops = self.operations_of_type(alloc)?;
+        self.take(Terminal::CloseBrace, Role::Plain)?;
+        Ok(TypeDecl {
+            at,
+            name,
+            fields,
+            ops,
+        })
+    }
+
+    /// A type.
+    fn type_decl(&mut self, alloc: Global) -> Result<TypeDecl, Refusal>
+        ensures gave { IfOk result (λ t. GaveAll type_symbols (AType (replicated_of t)) self.old self.new) }
+        ensures shorter { OnOk result (length self.new.tokens < length self.old.tokens) }
+        ensures refused { IfErr result (AreRefused type_symbols self.old) }
+    {
+        let at = self.take(Terminal::TypeWord, Role::Plain)?;
+        let name = self.name(Role::Plain)?;
+        let decl = self.members(alloc, at, name)?;
+        Ok(decl)
+    }
+
+    /// The types of a source.
+    fn types(&mut self, alloc: Global) -> Result<TypeDecls, Refusal>
+        ensures gave { IfOk result (λ found. GaveAll types_symbols (TheTypes (map replicated_of found)) self.old self.new) }
+        ensures shorter { OnOk result (length self.new.tokens < length self.old.tokens) }
+        ensures refused { IfErr result (AreRefused types_symbols self.old) }
+    {
+        let first = self.type_decl(alloc)?;
+        let mut found = Vec::new(alloc);
+        found.push(first)?;
+        'more: while self.sees(Terminal::TypeWord) {
+            let item = self.type_decl(alloc)?;
+            found.push(item)?;
+        }
+        Ok(TypeDecls::of(found))
+    }
+
+    /// The operations that a transaction uses.
+    fn uses(&mut self, alloc: Global) -> Result<NameList, Refusal>
+        ensures gave { IfOk result (λ names. GaveAll uses_symbols (TheNames names) self.old self.new) }
+        ensures shorter { OnOk result (length self.new.tokens < length self.old.tokens) }
+        ensures refused { IfErr result (AreRefused uses_symbols self.old) }
+    {
+        self.take(Terminal::UsesWord, Role::Plain)?;
+        let names = self.listed(alloc)?;
+        self.take(Terminal::Semicolon, Role::Plain)?;
+        Ok(names)
+    }
+
+    /// A transaction behind its name.
+    fn terms_of_use(&mut self, alloc: Global, at: u32, name: Name) -> Result<TxnDecl, Refusal>
+        ensures gave { IfOk result (λ t. GaveTerms at name (transaction_of t) self.old self.new) }
+        ensures shorter { OnOk result (length self.new.tokens < length self.old.tokens) }
+        ensures refused { IfErr result (AreTermsRefused at name self.old) }
+    {
+        self.take(Terminal::OpenBrace, Role::Plain)?;
+        let uses = self.uses(alloc)?;
+        let contract = self.closed_contract(alloc)?;
+        self.take(Terminal::CloseBrace, Role::Plain)?;
+        Ok(TxnDecl {
+            at,
+            name,
+            uses,
+            contract,
+        })
+    }
+
+    /// A transaction.
+    fn transaction(&mut self, alloc: Global) -> Result<TxnDecl, Refusal>
+        ensures gave { IfOk result (λ t. GaveAll transaction_symbols (ATransaction (transaction_of t)) self.old self.new) }
+        ensures shorter { OnOk result (length self.new.tokens < length self.old.tokens) }
+        ensures refused { IfErr result (AreRefused transaction_symbols self.old) }
+    {
+        let at = self.take(Terminal::TransactionWord, Role::Plain)?;
+        let name = self.name(Role::Plain)?;
+        let decl = self.terms_of_use(alloc, at, name)?;
+        Ok(decl)
+    }
+
+    /// The transactions of a source.
+    fn transactions(&mut self, alloc: Global) -> Result<TxnDecls, Refusal>
+        ensures gave { IfOk result (λ found. GaveRest MoreTransactions (TheTransactions []) (TheTransactions (map transaction_of found)) self.old self.new) }
+        ensures within { OnOk result (length self.new.tokens ≤ length self.old.tokens) }
+        ensures refused { IfErr result (IsRestRefused MoreTransactions (TheTransactions []) self.old) }
+    {
+        let mut found = Vec::new(alloc);
+        'more: while self.sees(Terminal::TransactionWord) {
+            let item = self.transaction(alloc)?;
+            found.push(item)?;
+        }
+        Ok(TxnDecls::of(found))
+    }
+
+    /// A whole source.
+    pub(crate) fn program(&mut self, alloc: Global) -> Result<Program, Refusal>
+        ensures gave { IfOk result (λ p. Gave (APart WholeSource) (ASource (source_of p)) self.old self.new) }
+        ensures refused { IfErr result (IsRefused (APart WholeSource) self.old) }
+    {
+        let types = self.types(alloc)?;
+        let txns = self.transactions(alloc)?;
+        Ok(Program { types, txns })
+    }
+}
