@@ -1,3 +1,4 @@
 mod CallValues
 mod Preserved
 pub mod NeverStuck
+mod FoldSteps

@@ -1,2 +1,4 @@
 pub mod Evaluation
 pub mod ValueKinds
+pub mod Folds
+pub mod Able

@@ -1,8 +1,11 @@
-ghost use Rattle.std.specs.Prelude.{◌≡◌, ◌≤◌, length, IfSome, None};
+ghost use Rattle.std.specs.Prelude.{◌≡◌, ◌∷◌, ◌++◌, [], OnOk, length, not, take};
+ghost use Rattle.std.specs.List.{prefix_len};
+ghost use Rattle.std.specs.Str.{bytes_eq};
 ghost use Rattle.std.specs.Option.{option_copied};
 ghost use Rattle.ql_eval.specs.Evaluation.{value_in};
+ghost use Rattle.ql_eval.specs.Folds.{assigned};
 
-use ql_base::Word;
+use ql_base::{NoMemory, Word};
 use ql_value::Value;
 use std::marker::Model;
 
@@ -42,6 +45,56 @@ impl Env {
     {
         self.pairs
     }
+}
+
+impl Env {
+    /// How many names there are.
+    pub(crate) fn len(&self) -> usize
+        ensures { result ≡ length self.now }
+    {
+        self.pairs.len()
+    }
+
+    /// Adds a name with its value at the end.
+    pub(crate) fn push(&mut self, word: Word, value: Value) -> Result<(), NoMemory>
+        ensures { OnOk result (self.new ≡ self.old ++ (word, value) ∷ []) }
+    {
+        self.pairs.push((word, value))?;
+        Ok(())
+    }
+
+    /// Drops all but the first names.
+    pub(crate) fn truncate(&mut self, len: usize)
+        ensures { self.new ≡ take len self.old }
+    {
+        self.pairs.truncate(len);
+    }
+
+    /// Gives a name another value.
+    pub(crate) fn assign(&mut self, word: &Word, value: Value)
+        ensures { self.new ≡ assigned self.old word.now value }
+    {
+        assign_in(&mut self.pairs, word, value);
+    }
+}
+
+fn assign_in(pairs: &mut [(Word, Value)], word: &Word, value: Value)
+    ensures { pairs.new ≡ assigned pairs.old word.now value }
+{
+    let place = count_others(pairs, word);
+    if place < pairs.len() {
+        pairs[place] = (*word, value);
+    }
+}
+
+// How many pairs at the front have another name.
+fn count_others(pairs: &[(Word, Value)], word: &Word) -> usize
+    ensures { result ≡ prefix_len (λ pair. not (bytes_eq pair.0 word.now)) pairs.now }
+{
+    pairs
+        .iter()
+        .take_while(|pair| pair.0.bytes() != word.bytes())
+        .count()
 }
 
 /// The value of a name.

@@ -5,8 +5,14 @@
 mod call;
 mod env;
 mod evaluation;
+mod folder;
+mod folding;
 mod operator;
+mod order;
 mod scalar;
+mod statement;
 
 pub use env::Env;
 pub use evaluation::eval;
+pub use folder::TypedFolder;
+pub use folding::{apply, fold};

@@ -1,0 +1,7 @@
+use Rattle.std.proofs.Common.{◌∙◌, arith, sym}
+use Rattle.ql_eval.specs.Folds.{param_word}
+use Rattle.ql_eval.proofs.FoldSteps.{no_under}
+use Rattle.ql_eval.proofs.statement.with_args.Goals as goal
+
+pub returns : goal.returns
+returns c = sym (c.loop-k.invariant ∙ no_under param_word c.loop-k.env c.args.params.now c.args.values.now c.loop-k.k (omega arith))
