@@ -34,7 +34,7 @@ beq-false true = refl
 beq-false false = refl
 
 -- effects of one transaction: the first isn't current, or none is
-others-law : (x : List Effect) (current : ℕ → Bool) → ((a b : ℕ) → current a ≡ true → sametxn x a b ≡ true → current b ≡ true) → (c : ℕ) (ds : List ℕ) → (not (current c) && list_all (sametxn x c) ds) ≡ (list_all (λ d. not (current d)) (c ∷ ds) && list_all (sametxn x c) (c ∷ ds))
+pub others-law : (x : List Effect) (current : ℕ → Bool) → ((a b : ℕ) → current a ≡ true → sametxn x a b ≡ true → current b ≡ true) → (c : ℕ) (ds : List ℕ) → (not (current c) && list_all (sametxn x c) ds) ≡ (list_all (λ d. not (current d)) (c ∷ ds) && list_all (sametxn x c) (c ∷ ds))
 others-law x current closed c ds = step (current c) refl (list_all (sametxn x c) ds) refl
   where
     none : (ds : List ℕ) → current c ≡ false → list_all (sametxn x c) ds ≡ true → list_all (λ d. not (current d)) ds ≡ true

@@ -16,7 +16,7 @@ use Rattle.ql_ground.proofs.Upto.{ForEach, AllBelow, each-at, choices-all}
 use Rattle.ql_ground.proofs.ReadOff.{ReadsOff}
 
 -- where all hypotheses are true, one of the conclusions is
-pub implied : List Bool → List Bool → Bool
+unfoldable pub implied : List Bool → List Bool → Bool
 implied hs cs = list_any not hs || list_any (λ b. b) cs
 
 abbrev pub AllTrue : List Bool → Type 0

@@ -14,3 +14,4 @@ pub mod Constants
 pub mod Members
 pub mod Problems
 pub mod Typing
+pub mod Lower

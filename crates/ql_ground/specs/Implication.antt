@@ -1,5 +1,5 @@
 -- Valid implication: what a level gives in every execution, of any length, that fits a program; and least levels.
-use Rattle.std.specs.Prelude.{ℕ, ◌≡◌, ◌<◌, Bool, true, List, [], ◌∷◌, length, slice_index}
+use Rattle.std.specs.Prelude.{ℕ, ◌≡◌, ◌<◌, Bool, true, List, length, slice_index}
 use Rattle.ql_lang.specs.Formulas.{Resolved}
 use Rattle.ql_levels.specs.declared.level.Level.{Level}
 use Rattle.ql_levels.specs.declared.level.TxnLevel.{TxnLevel}

@@ -9,3 +9,4 @@ pub mod Worked
 pub mod Least
 pub mod Parts
 pub mod OfPrograms
+pub mod Order

@@ -1,5 +1,5 @@
 -- Goals of a program: an operation or a declared transaction at a level.
-use Rattle.std.specs.Prelude.{ℕ, ◌≡◌, ◌<◌, Some, length, slice_get}
+use Rattle.std.specs.Prelude.{◌≡◌, ◌<◌, Some, length, slice_get}
 use Rattle.ql_cnf.specs.Satisfaction.{ClauseList}
 use Rattle.ql_lang.specs.Formulas.{Resolved}
 use Rattle.ql_lang.specs.declared.program.Program.{Program}

@@ -7,6 +7,7 @@ mod body;
 mod contract_problem;
 mod goal;
 mod goal_groups;
+mod level_laws;
 mod literal;
 mod operation_axioms;
 mod promises;
@@ -17,5 +18,6 @@ mod transaction_axioms;
 mod worked;
 
 pub use goal::{Goal, problem};
+pub use level_laws::{first_other_decides, higher_levels_ask_more};
 pub use soundness::{refuted_op_is_implied, refuted_txn_is_implied};
 pub use worked::problems_of_one_operation;

@@ -59,10 +59,11 @@ fn add_causal(alloc: Global, s: Shape, c: &mut Clauses) -> Result<(), NoMemory>
     ensures clauses { OnOk result (c.new.clauses ≡ c.old.clauses ++ clauses_of (instances (size_of s) (rules.level_rule Causal))) }
     ensures counted { OnOk result (length c.new.clauses ≤ length c.old.clauses + 1296) }
 {
+    let seen = Atom::Pair(PairKind::Vis, I, CUR);
     let rule = Rule {
         places: 1,
         hypotheses: &[Atom::Pair(PairKind::Hbo, I, CUR)],
-        conclusions: &[Atom::Pair(PairKind::Vis, I, CUR)],
+        conclusions: &[seen],
     };
     add_rule(alloc, &rule, s, c)
 }

@@ -219,12 +219,12 @@ fn add_irreflexive(alloc: Global, kind: PairKind, s: Shape, c: &mut Clauses) -> 
     ensures clauses { OnOk result (c.new.clauses ≡ c.old.clauses ++ clauses_of (instances (size_of s) (rules.irreflexive kind))) }
     ensures counted { OnOk result (length c.new.clauses ≤ length c.old.clauses + 1296) }
 {
-    let rule = Rule {
+    let never = Rule {
         places: 1,
         hypotheses: &[Atom::Pair(kind, I, I)],
         conclusions: &[],
     };
-    add_rule(alloc, &rule, s, c)
+    add_rule(alloc, &never, s, c)
 }
 
 // The first relation is within the second.

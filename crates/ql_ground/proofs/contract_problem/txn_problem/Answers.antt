@@ -1,9 +1,8 @@
-use Rattle.std.proofs.Common.{◌≡◌, ℕ, ◌≤◌, ◌++◌, List, length, arith, ap, subst, ◌∙◌}
-use Rattle.ql_cnf.specs.Circuits.{gates, clauses_of}
+use Rattle.std.proofs.Common.{◌≡◌, ℕ, ◌++◌, List, length, arith, ap, ◌∙◌}
+use Rattle.ql_cnf.specs.Circuits.{clauses_of}
 use Rattle.ql_cnf.specs.declared.lit.Lit.{Lit}
 use Rattle.ql_lang.specs.Formulas.{resolved_of, statement_of}
 use Rattle.ql_lang.specs.declared.formula.OpChoice.{OpChoice}
-use Rattle.ql_ground.specs.Bodies.{body_circuit}
 use Rattle.ql_ground.specs.Parts.{txn_groups}
 use Rattle.ql_ground.proofs.Constants.{txn_over, txn_inputs}
 use Rattle.ql_ground.proofs.Problems.{size, txn_done, txn_implied}

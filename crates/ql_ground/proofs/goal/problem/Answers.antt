@@ -1,9 +1,9 @@
-use Rattle.std.proofs.Common.{◌≡◌, ◌<◌, ◌≤◌, true, false, List, length, arith, sym, subst, ap, ◌∙◌}
+use Rattle.std.proofs.Common.{◌≡◌, ◌<◌, length, arith, sym, subst, ap, ◌∙◌}
 use Rattle.std.specs.Result.{IfOk}
 use Rattle.std.proofs.lemmas.Result.{IfOk-weaker}
 use Rattle.ql_cnf.specs.Satisfaction.{ClauseList, IsUnsatisfiable}
 use Rattle.ql_lang.specs.Formulas.{resolved_of}
-use Rattle.ql_typing.specs.Operations.{all_ops, op_kinds}
+use Rattle.ql_typing.specs.Operations.{all_ops}
 use Rattle.ql_ground.specs.Ground.{op_problem, txn_problem}
 use Rattle.ql_ground.specs.Implication.{Implies, ImpliesTxn}
 use Rattle.ql_ground.specs.OfPrograms.{IsGoalOf, IsProblemOf, IsImplied}
