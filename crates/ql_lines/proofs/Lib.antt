@@ -1,3 +1,4 @@
 mod Splits
 pub mod FieldLaws
 pub mod LineLaws
+pub mod TextLaws

@@ -1,0 +1,9 @@
+mod Conses
+mod Numerals
+mod FieldLaws
+mod LineLaws
+mod Walks
+mod States
+mod Refusals
+mod Printing
+mod Plainness

@@ -1,0 +1,123 @@
+-- what stands behind a line's number is read in one way
+use Rattle.std.proofs.Common.{◌≡◌, ℕ, suc, ◌-◌, None, get_or, ◌<◌, List, [], ◌∷◌, ◌++◌, map, length, arith, refl, ap, sym, subst, ◌∙◌, append_assoc}
+use Rattle.std.specs.List.{AllByRecursion}
+use Rattle.std.proofs.lemmas.List.{append-nil}
+use Rattle.ql_cnf.specs.declared.lit.Lit.{Lit}
+use Rattle.ql_cnf.specs.Literals.{AllAbove, IsAscending}
+use Rattle.ql_refute.specs.declared.refutation.Hint.{Hint}
+use Rattle.ql_refute.specs.declared.refutation.Line.{Line}
+use Rattle.ql_cert.specs.Spelling.{Fields, IsHint, IsLine, IsLit, body_fields, clause_fields, colon, hint_field, lit_field}
+use Rattle.ql_cert.specs.Readings.{IsClauseBefore, IsNext, IsRead, before_colon}
+use Rattle.ql_cert.proofs.Conses.{both, heads, tails}
+use Rattle.ql_cert.proofs.FieldLaws.{no_colon, one_hint, reads_on}
+
+-- of literals that are ascending the first ones are, and one more
+above_front : (n : ℕ) (xs ys : List Lit) → AllAbove n (xs ++ ys) → AllAbove n xs
+above_front n [] ys h = tt
+above_front n (x ∷ xs) ys h = (h.0, above_front n xs ys h.1)
+
+-- above a smaller variable stands what stands above a greater one
+above_all : (n m : ℕ) (xs : List Lit) → n < m → AllAbove m xs → AllAbove n xs
+above_all n m [] lt h = tt
+above_all n m (x ∷ xs) lt h = (omega (arith, lt, h.0), above_all n m xs lt h.1)
+
+pub ascending_front : (xs ys : List Lit) → IsAscending (xs ++ ys) → IsAscending xs
+ascending_front [] ys h = tt
+ascending_front (x ∷ xs) ys h = (above_front x.var xs ys h.0, ascending_front xs ys h.1)
+
+pub all_last : {X : Type 0} (P : X → Type 0) (xs : List X) (y : X) (ys : List X) → AllByRecursion P (xs ++ y ∷ ys) → P y
+all_last P [] y ys h = h.0
+all_last P (x ∷ xs) y ys h = all_last P xs y ys h.1
+
+pub all_more : {X : Type 0} (P : X → Type 0) (xs : List X) (y : X) → AllByRecursion P xs → P y → AllByRecursion P (xs ++ y ∷ [])
+all_more P [] y h p = (p, tt)
+all_more P (x ∷ xs) y h p = (h.0, all_more P xs y h.1 p)
+
+-- where the next field spells no further literal, the fields begin with no clause before a colon
+pub no_clause : (read : List Lit) (field : List ℕ) (fields : Fields) (all : Fields) → all ≡ clause_fields read ++ field ∷ fields
+    → AllByRecursion IsLit read → (field ≡ colon → ⊥) → IsRead (IsNext read) lit_field field None → IsRead IsClauseBefore before_colon all None
+no_clause read field fields all e lits other none = λ x fits is.
+    let on = reads_on read x.0 (field ∷ fields) x.1 lits fits.lits (sym e ∙ sym is) in
+    let P : List Lit → Type 0 = λ more. x.0 ≡ read ++ more → field ∷ fields ≡ clause_fields more ++ colon ∷ x.1 → ⊥ in
+    elim on.0 as P [
+      | [] ↦ λ p q. other (heads field colon fields x.1 q)
+      | y ∷ ys ↦ λ p q.
+          let all_lits : AllByRecursion IsLit (read ++ y ∷ ys) = subst (AllByRecursion IsLit) p fits.lits in
+          let order : IsAscending (read ++ y ∷ ys) = subst IsAscending p fits.ascending in
+          let front : IsAscending ((read ++ y ∷ []) ++ ys) = subst IsAscending (sym (append_assoc read (y ∷ []) ys)) order in
+          none y (all_last IsLit read y ys all_lits, ascending_front (read ++ y ∷ []) ys front) (sym (heads field (lit_field y) fields (clause_fields ys ++ colon ∷ x.1) q))
+    ] on.1 on.2
+
+-- nor where no field is left
+pub no_colon_left : (read : List Lit) (all : Fields) → all ≡ clause_fields read ++ [] → AllByRecursion IsLit read → IsRead IsClauseBefore before_colon all None
+no_colon_left read all e lits = λ x fits is.
+    let on = reads_on read x.0 [] x.1 lits fits.lits (sym e ∙ sym is) in
+    let P : List Lit → Type 0 = λ more. [] ≡ clause_fields more ++ colon ∷ x.1 → ⊥ in
+    elim on.0 as P [ [] ↦ λ q. omega (arith, ap length q) | y ∷ ys ↦ λ q. omega (arith, ap length q) ] on.2
+
+-- the last place of a list that has another element before it
+index : {X : Type 0} (x z : X) (zs : List X) → length (x ∷ z ∷ zs) - 1 ≡ suc (length (z ∷ zs) - 1)
+index x z zs = omega arith
+
+-- ascending literals stay so where the last one's variable is smaller than that of one more
+pub last_decides : (xs : List Lit) (d y : Lit) → 0 < length xs → IsAscending xs → (get_or xs (length xs - 1) d).var < y.var → IsAscending (xs ++ y ∷ [])
+last_decides [] d y some h lt = absurd (omega (arith, some))
+last_decides (x ∷ []) d y some h lt = ((lt, tt), (tt, tt))
+last_decides (x ∷ z ∷ zs) d y some h lt =
+    let last : get_or (x ∷ z ∷ zs) (length (x ∷ z ∷ zs) - 1) d ≡ get_or (z ∷ zs) (length (z ∷ zs) - 1) d = ap (λ n. get_or (x ∷ z ∷ zs) n d) (index x z zs) in
+    let rest = last_decides (z ∷ zs) d y (omega arith) h.1 (omega (arith, lt, ap (λ (l : Lit). l.var) last)) in
+    ((h.0.0, above_all x.var z.var (zs ++ y ∷ []) h.0.0 rest.0), rest)
+
+pub last_is_below : (xs : List Lit) (d y : Lit) → 0 < length xs → IsAscending (xs ++ y ∷ []) → (get_or xs (length xs - 1) d).var < y.var
+last_is_below [] d y some h = absurd (omega (arith, some))
+last_is_below (x ∷ []) d y some h = h.0.0
+last_is_below (x ∷ z ∷ zs) d y some h =
+    let last : get_or (x ∷ z ∷ zs) (length (x ∷ z ∷ zs) - 1) d ≡ get_or (z ∷ zs) (length (z ∷ zs) - 1) d = ap (λ n. get_or (x ∷ z ∷ zs) n d) (index x z zs) in
+    let rest = last_is_below (z ∷ zs) d y (omega arith) h.1 in
+    let var : (get_or (x ∷ z ∷ zs) (length (x ∷ z ∷ zs) - 1) d).var ≡ (get_or (z ∷ zs) (length (z ∷ zs) - 1) d).var = ap (λ (l : Lit). l.var) last in
+    omega (arith, rest, var)
+
+-- hints that were read are the first of all
+hints_on : (read xs : List Hint) (rest : Fields) → AllByRecursion IsHint read → AllByRecursion IsHint xs → map hint_field read ++ rest ≡ map hint_field xs
+    → (more : List Hint) × (xs ≡ read ++ more) × (rest ≡ map hint_field more)
+hints_on [] xs rest f g e = (xs, refl, e)
+hints_on (x ∷ read) [] rest f g e = absurd (omega (arith, ap length e))
+hints_on (x ∷ read) (y ∷ xs) rest f g e =
+    let first = one_hint x y f.0 g.0 (heads (hint_field x) (hint_field y) (map hint_field read ++ rest) (map hint_field xs) e) in
+    let others = hints_on read xs rest f.1 g.1 (tails (hint_field x) (hint_field y) (map hint_field read ++ rest) (map hint_field xs) e) in
+    (others.0, both y x xs (read ++ others.0) (sym first) others.1, others.2)
+
+-- where the next field spells no hint, the fields spell no hints
+pub no_hints : (read : List Hint) (field : List ℕ) (fields all : Fields) → all ≡ map hint_field read ++ field ∷ fields → AllByRecursion IsHint read
+    → IsRead IsHint hint_field field None → IsRead (AllByRecursion IsHint) (map hint_field) all None
+no_hints read field fields all e hints none = λ xs fits is.
+    let on = hints_on read xs (field ∷ fields) hints fits (sym e ∙ sym is) in
+    let P : List Hint → Type 0 = λ more. xs ≡ read ++ more → field ∷ fields ≡ map hint_field more → ⊥ in
+    elim on.0 as P [
+      | [] ↦ λ p q. omega (arith, ap length q)
+      | y ∷ ys ↦ λ p q. none y (all_last IsHint read y ys (subst (AllByRecursion IsHint) p fits)) (sym (heads field (hint_field y) fields (map hint_field ys) q))
+    ] on.1 on.2
+
+-- a line's clause stands before the colon
+pub clause_behind : (clause : List Lit) (rest : Fields) (l : Line) → AllByRecursion IsLit clause → IsLine l → clause_fields clause ++ colon ∷ rest ≡ body_fields l → l.clause ≡ clause
+clause_behind clause rest l lits fits e =
+    let on = reads_on clause l.clause (colon ∷ rest) (map hint_field l.hints) lits fits.clause.lits e in
+    let P : List Lit → Type 0 = λ more. l.clause ≡ clause ++ more → colon ∷ rest ≡ clause_fields more ++ colon ∷ map hint_field l.hints → l.clause ≡ clause in
+    elim on.0 as P [
+      | [] ↦ λ p q. p ∙ append-nil clause
+      | y ∷ ys ↦ λ p q.
+          let lit : IsLit y = all_last IsLit clause y ys (subst (AllByRecursion IsLit) p fits.clause.lits) in
+          absurd (no_colon y lit (sym (heads colon (lit_field y) rest (clause_fields ys ++ colon ∷ map hint_field l.hints) q)))
+    ] on.1 on.2
+
+-- a line's hints stand behind the colon that ends its clause
+pub hints_behind : (clause : List Lit) (rest : Fields) (l : Line) → AllByRecursion IsLit clause → IsLine l → clause_fields clause ++ colon ∷ rest ≡ body_fields l → rest ≡ map hint_field l.hints
+hints_behind clause rest l lits fits e =
+    let on = reads_on clause l.clause (colon ∷ rest) (map hint_field l.hints) lits fits.clause.lits e in
+    let P : List Lit → Type 0 = λ more. l.clause ≡ clause ++ more → colon ∷ rest ≡ clause_fields more ++ colon ∷ map hint_field l.hints → rest ≡ map hint_field l.hints in
+    elim on.0 as P [
+      | [] ↦ λ p q. tails colon colon rest (map hint_field l.hints) q
+      | y ∷ ys ↦ λ p q.
+          let lit : IsLit y = all_last IsLit clause y ys (subst (AllByRecursion IsLit) p fits.clause.lits) in
+          absurd (no_colon y lit (sym (heads colon (lit_field y) rest (clause_fields ys ++ colon ∷ map hint_field l.hints) q)))
+    ] on.1 on.2

@@ -1,0 +1,96 @@
+-- what is printed of a list is printed item by item
+use Rattle.std.proofs.Common.{◌≡◌, ℕ, ◌<◌, ◌+◌, List, [], ◌∷◌, ◌++◌, map, take, length, decimal, get_or, arith, refl, ap, sym, ◌∙◌, append_assoc, add-one}
+use Rattle.std.specs.Prelude.{codes}
+use Rattle.std.proofs.lemmas.List.{append-nil, get_or_default, length-take-le, map-append}
+use Rattle.std.proofs.Math.Seq.{take-suc}
+use Rattle.ql_lines.specs.Texts.{behind, file_text, joined}
+use Rattle.ql_lines.proofs.TextLaws.{behind-append, file_text-append, joined_behind}
+use Rattle.ql_refute.specs.declared.refutation.Line.{Line}
+use Rattle.ql_cert.specs.declared.cert.Section.{Section}
+use Rattle.ql_cert.specs.Spelling.{Fields, body_fields, clause_fields, colon, hint_field, line_fields, numbered}
+use Rattle.ql_cert.specs.CertFile.{cert_lines, end_line, section_lines, sections_lines}
+use Rattle.ql_cert.proofs.States.{numbered_more}
+use Rattle.ql_cert.proofs.Walks.{sections_more}
+
+pub one_behind : {X : Type 0} (field : X → List ℕ) (xs : List X) (x : X) → behind (map field (xs ++ x ∷ [])) ≡ behind (map field xs) ++ 32 ∷ field x
+unfolding behind
+one_behind field xs x =
+    ap behind (map-append field xs (x ∷ [])) ∙ behind-append (map field xs) (field x ∷ []) ∙ ap (λ r. behind (map field xs) ++ 32 ∷ r) (append-nil (field x))
+
+-- one item more of a list's front
+pub one_more_behind : {X : Type 0} (field : X → List ℕ) (xs : List X) (i : ℕ) (x : X) (out : List ℕ) → i < length xs → x ≡ get_or xs i x
+    → ((out ++ behind (map field (take i xs))) ++ 32 ∷ []) ++ field x ≡ out ++ behind (map field (take (i + 1) xs))
+one_more_behind field xs i x out lt is =
+    let front = take i xs in
+    let more : take (i + 1) xs ≡ front ++ x ∷ [] = ap (λ n. take n xs) (add-one i) ∙ take-suc xs i x lt ∙ ap (λ y. front ++ y ∷ []) (sym is) in
+    append_assoc (out ++ behind (map field front)) (32 ∷ []) (field x) ∙ append_assoc out (behind (map field front)) (32 ∷ field x)
+    ∙ ap (λ r. out ++ r) (sym (one_behind field front x) ∙ ap (λ ys. behind (map field ys)) (sym more))
+
+-- the same of an item told by its place
+pub one_more_at : {X : Type 0} (field : X → List ℕ) (xs : List X) (i : ℕ) (d : X) (out : List ℕ) → i < length xs
+    → ((out ++ behind (map field (take i xs))) ++ 32 ∷ []) ++ field (get_or xs i d) ≡ out ++ behind (map field (take (i + 1) xs))
+one_more_at field xs i d out lt = one_more_behind field xs i (get_or xs i d) out lt (get_or_default xs i d (get_or xs i d) lt)
+
+one_line : (l : Line) (n : ℕ) → file_text (line_fields n l ∷ []) ≡ joined (line_fields n l) ++ 10 ∷ []
+unfolding file_text
+one_line l n = refl
+
+pub one_more_line : (ls : List Line) (i n : ℕ) (l : Line) (out : List ℕ) → i < length ls → l ≡ get_or ls i l → n ≡ i + 1
+    → (out ++ file_text (numbered 1 (take i ls))) ++ (joined (line_fields n l) ++ 10 ∷ []) ≡ out ++ file_text (numbered 1 (take (i + 1) ls))
+one_more_line ls i n l out lt is number =
+    let front = take i ls in
+    let more : take (i + 1) ls ≡ front ++ l ∷ [] = ap (λ n. take n ls) (add-one i) ∙ take-suc ls i l lt ∙ ap (λ y. front ++ y ∷ []) (sym is) in
+    let count : n ≡ 1 + length front = omega (arith, number, length-take-le i ls (omega (arith, lt))) in
+    let text : file_text (numbered 1 (front ++ l ∷ [])) ≡ file_text (numbered 1 front) ++ (joined (line_fields (1 + length front) l) ++ 10 ∷ []) =
+    ap file_text (numbered_more 1 front l) ∙ file_text-append (numbered 1 front) (line_fields (1 + length front) l ∷ []) ∙ ap (λ r. file_text (numbered 1 front) ++ r) (one_line l (1 + length front)) in
+    append_assoc out (file_text (numbered 1 front)) (joined (line_fields n l) ++ 10 ∷ [])
+    ∙ ap (λ r. out ++ r) (ap (λ k. file_text (numbered 1 front) ++ (joined (line_fields k l) ++ 10 ∷ [])) count ∙ sym text ∙ ap (λ ms. file_text (numbered 1 ms)) (sym more))
+
+pub one_more_section : (ss : List Section) (i : ℕ) (s : Section) (out : List ℕ) → i < length ss → s ≡ get_or ss i s
+    → (out ++ file_text (sections_lines (take i ss))) ++ file_text (section_lines s) ≡ out ++ file_text (sections_lines (take (i + 1) ss))
+one_more_section ss i s out lt is =
+    let front = take i ss in
+    let more : take (i + 1) ss ≡ front ++ s ∷ [] = ap (λ n. take n ss) (add-one i) ∙ take-suc ss i s lt ∙ ap (λ y. front ++ y ∷ []) (sym is) in
+    append_assoc out (file_text (sections_lines front)) (file_text (section_lines s))
+    ∙ ap (λ r. out ++ r) (sym (file_text-append (sections_lines front) (section_lines s)) ∙ ap file_text (sym (sections_more front s)) ∙ ap (λ ts. file_text (sections_lines ts)) (sym more))
+
+-- a line, piece by piece
+pub line_pieces : (out : List ℕ) (n : ℕ) (l : Line)
+    → ((((out ++ decimal n) ++ behind (clause_fields l.clause)) ++ 32 ∷ colon) ++ behind (map hint_field l.hints)) ++ 10 ∷ [] ≡ out ++ (joined (line_fields n l) ++ 10 ∷ [])
+unfolding behind
+line_pieces out n l =
+    let lits = behind (clause_fields l.clause) in
+    let hints = behind (map hint_field l.hints) in
+    let body : behind (body_fields l) ≡ lits ++ (32 ∷ colon ++ hints) = behind-append (clause_fields l.clause) (colon ∷ map hint_field l.hints) in
+    append_assoc (((out ++ decimal n) ++ lits) ++ 32 ∷ colon) hints (10 ∷ [])
+    ∙ append_assoc ((out ++ decimal n) ++ lits) (32 ∷ colon) (hints ++ 10 ∷ [])
+    ∙ append_assoc (out ++ decimal n) lits (32 ∷ colon ++ (hints ++ 10 ∷ []))
+    ∙ append_assoc out (decimal n) (lits ++ (32 ∷ colon ++ (hints ++ 10 ∷ [])))
+    ∙ ap (λ r. out ++ (decimal n ++ r)) (sym (append_assoc lits (32 ∷ colon ++ hints) (10 ∷ [])))
+    ∙ ap (λ r. out ++ r) (sym (append_assoc (decimal n) (lits ++ (32 ∷ colon ++ hints)) (10 ∷ [])))
+    ∙ ap (λ r. out ++ ((decimal n ++ r) ++ 10 ∷ [])) (sym body)
+    ∙ ap (λ r. out ++ (r ++ 10 ∷ [])) (sym (joined_behind (decimal n) (body_fields l)))
+
+-- a heading and the lines behind it
+pub section_pieces : (out kind name level rest : List ℕ) (lines : List Fields)
+    → rest ≡ file_text lines → ((((((out ++ kind) ++ 32 ∷ []) ++ name) ++ 32 ∷ []) ++ level) ++ 10 ∷ []) ++ rest ≡ out ++ file_text ((kind ∷ name ∷ level ∷ []) ∷ lines)
+unfolding file_text
+section_pieces out kind name level rest lines e = simp (append_assoc, e)
+
+-- a whole certificate
+pub cert_pieces : (ss : List Section) → ((codes "quelea certificate 1\n") ++ file_text (sections_lines ss)) ++ codes "end\n" ≡ file_text (cert_lines ss)
+unfolding file_text
+cert_pieces ss = append_assoc (codes "quelea certificate 1\n") (file_text (sections_lines ss)) (codes "end\n") ∙ ap (λ r. codes "quelea certificate 1\n" ++ r) (sym (file_text-append (sections_lines ss) (end_line ∷ [])))
+
+-- nothing is printed of no item
+pub nothing_behind : (out : List ℕ) → out ≡ out ++ behind []
+unfolding behind
+nothing_behind out = sym (append-nil out)
+
+pub no_lines : (out : List ℕ) → out ≡ out ++ file_text []
+unfolding file_text
+no_lines out = sym (append-nil out)
+
+pub no_numbered : (out : List ℕ) → out ≡ out ++ file_text (numbered 1 [])
+unfolding file_text numbered
+no_numbered out = sym (append-nil out)

@@ -1,0 +1,121 @@
+-- The files of certificates: for each target its level and a refutation of the ground problem there.
+use Rattle.std.specs.Prelude.{ℕ, suc, ◌≡◌, ◌<◌, ◌^◌, ◌⊎◌, Option, None, Some, List, [], ◌∷◌, ◌++◌, length, codes}
+use Rattle.std.specs.List.{AllByRecursion, flat_map}
+use Rattle.ql_base.specs.Names.{IsName}
+use Rattle.ql_levels.specs.Words.{word_of, txn_word_of}
+use Rattle.ql_refute.specs.declared.refutation.Line.{Line}
+use Rattle.ql_cert.specs.declared.cert.SectionLevel.{SectionLevel}
+use Rattle.ql_cert.specs.declared.cert.SectionLevel.TheVariants.{Op, Txn}
+use Rattle.ql_cert.specs.declared.cert.Section.{Section}
+use Rattle.ql_cert.specs.Spelling.{Fields, IsLine, line_fields, numbered}
+
+abbrev pub title : Fields
+title = codes "quelea" ∷ codes "certificate" ∷ codes "1" ∷ []
+
+abbrev pub end_line : Fields
+end_line = codes "end" ∷ []
+
+-- the word of a target's kind, and that of its level
+unfoldable pub kind_word : SectionLevel → List ℕ
+kind_word (Op l) = codes "op"
+kind_word (Txn l) = codes "txn"
+
+unfoldable pub level_word : SectionLevel → List ℕ
+level_word (Op l) = word_of l
+level_word (Txn l) = txn_word_of l
+
+abbrev pub heading : List ℕ → SectionLevel → Fields
+heading name l = kind_word l ∷ name ∷ level_word l ∷ []
+
+-- a section: its heading, then its lines, numbered from 1
+abbrev pub section_lines : Section → List Fields
+section_lines s = heading s.name s.level ∷ numbered 1 s.refutation.lines
+
+abbrev pub sections_lines : List Section → List Fields
+sections_lines ss = flat_map section_lines ss
+
+abbrev pub cert_lines : List Section → List Fields
+cert_lines ss = title ∷ (sections_lines ss ++ end_line ∷ [])
+
+-- ---- what has a spelling
+
+pub record IsSection (s : Section) : Type 0 where
+  pub name : IsName s.name
+  pub lines : AllByRecursion IsLine s.refutation.lines
+  pub few : length s.refutation.lines < 2 ^ 64
+
+pub record IsCertOf (ss : List Section) (lines : List Fields) : Type 0 where
+  pub sections : AllByRecursion IsSection ss
+  pub are : lines ≡ cert_lines ss
+
+-- the lines are a certificate
+abbrev pub IsCertFile : List Fields → Type 0
+IsCertFile lines = (ss : List Section) × IsCertOf ss lines
+
+-- ---- line after line
+
+-- What was read: nothing; sections, the last of which may go on; all up to the end.
+pub data State : Type 0 where
+  Untitled : State
+  Within : List Section → Option Section → State
+  Ended : List Section → State
+
+abbrev pub with_last : List Section → Option Section → List Section
+with_last done None = done
+with_last done (Some s) = done ++ s ∷ []
+
+-- a section without lines
+abbrev pub opened : List ℕ → SectionLevel → Section
+opened name level = record { name = name; level = level; refutation = record { lines = [] } }
+
+abbrev pub with_line : Section → Line → Section
+with_line s l = record { name = s.name; level = s.level; refutation = record { lines = s.refutation.lines ++ l ∷ [] } }
+
+-- the next line is a heading
+pub record Opens (done : List Section) (last : Option Section) (line : Fields) (after : State) : Type 0 where
+  pub name : List ℕ
+  pub level : SectionLevel
+  pub is_name : IsName name
+  pub is : line ≡ heading name level
+  pub to : after ≡ Within (with_last done last) (Some (opened name level))
+
+-- the next line is one of a refutation
+pub record GoesOn (done : List Section) (last : Option Section) (line : Fields) (after : State) : Type 0 where
+  pub section : Section
+  pub in_it : last ≡ Some section
+  pub next : Line
+  pub fits : IsLine next
+  pub few : suc (length section.refutation.lines) < 2 ^ 64
+  pub is : line ≡ line_fields (suc (length section.refutation.lines)) next
+  pub to : after ≡ Within done (Some (with_line section next))
+
+-- the next line is the last
+pub record Ends (done : List Section) (last : Option Section) (line : Fields) (after : State) : Type 0 where
+  pub is : line ≡ end_line
+  pub to : after ≡ Ended (with_last done last)
+
+-- what a line makes of what was read before it
+abbrev pub Takes : State → Fields → State → Type 0
+Takes Untitled line after = (line ≡ title) × (after ≡ Within [] None)
+Takes (Within done last) line after = Opens done last line after ⊎ (GoesOn done last line after ⊎ Ends done last line after)
+Takes (Ended ss) line after = ⊥
+
+-- some line may follow so
+abbrev pub Follows : State → Fields → Type 0
+Follows before line = (after : State) × Takes before line after
+
+-- the lines that were read
+abbrev pub lines_so_far : State → List Fields
+lines_so_far Untitled = []
+lines_so_far (Within done last) = title ∷ sections_lines (with_last done last)
+lines_so_far (Ended ss) = cert_lines ss
+
+abbrev pub MayBeLast : List Section → Option Section → Type 0
+MayBeLast done None = done ≡ []
+MayBeLast done (Some s) = Unit {0}
+
+-- what is read has a spelling
+abbrev pub IsState : State → Type 0
+IsState Untitled = Unit {0}
+IsState (Within done last) = AllByRecursion IsSection (with_last done last) × MayBeLast done last
+IsState (Ended ss) = AllByRecursion IsSection ss

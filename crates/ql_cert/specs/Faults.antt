@@ -1,0 +1,59 @@
+-- The first fault of a line file: the first line that, behind those before it, begins no file of the grammar.
+use Rattle.std.specs.Prelude.{◌≡◌, ℕ, ◌<◌, ◌^◌, List, [], ◌∷◌, ◌++◌, map, decimal}
+use Rattle.ql_lines.specs.Fields.{fields_of}
+use Rattle.ql_lines.specs.Lines.{Ahead, Numbered}
+use Rattle.ql_cert.specs.declared.fault.CertFault.{CertFault}
+use Rattle.ql_cert.specs.declared.fault.CertFault.TheVariants as fault
+use Rattle.ql_cert.specs.declared.fault.LineFault.{LineFault}
+use Rattle.ql_cert.specs.declared.fault.LineFault.TheVariants.{Unexpected, Number, NoMemory}
+use Rattle.ql_cert.specs.Spelling.{Fields}
+
+-- the fields of lines
+abbrev pub fields_in : List Numbered → List Fields
+fields_in ls = map (λ (l : Numbered). fields_of l.text) ls
+
+-- some file of the grammar begins so
+abbrev pub Begins : (List Fields → Type 0) → List Fields → Type 0
+Begins IsFile before = (more : List Fields) × IsFile (before ++ more)
+
+-- with another number at its front the line would go on
+pub record IsMisnumbered (GoesOn : Fields → Type 0) (line : Fields) : Type 0 where
+  pub number : ℕ
+  pub small : number < 2 ^ 64
+  pub body : Fields
+  pub is : line ≡ decimal number ∷ body
+  pub other : ℕ
+  pub other_small : other < 2 ^ 64
+  pub goes_on : GoesOn (decimal other ∷ body)
+
+-- the lines that may follow others
+abbrev pub MayFollow : (List Fields → Type 0) → List Fields → Fields → Type 0
+MayFollow IsFile before line = Begins IsFile (before ++ line ∷ [])
+
+-- The first fault of lines that are no file of the grammar. A line has the fault `Number` where only its number is wrong.
+pub data FirstFault (IsFile : List Fields → Type 0) (file : Ahead) : CertFault → Type 0 where
+  unexpected : (before : List Numbered) (l : Numbered) (rest : List Numbered) → file.lines ≡ before ++ l ∷ rest → Begins IsFile (fields_in before)
+      → (MayFollow IsFile (fields_in before) (fields_of l.text) → ⊥) → (IsMisnumbered (MayFollow IsFile (fields_in before)) (fields_of l.text) → ⊥)
+      → FirstFault IsFile file (fault.Unexpected l.number)
+  number : (before : List Numbered) (l : Numbered) (rest : List Numbered) → file.lines ≡ before ++ l ∷ rest → Begins IsFile (fields_in before)
+      → (MayFollow IsFile (fields_in before) (fields_of l.text) → ⊥) → IsMisnumbered (MayFollow IsFile (fields_in before)) (fields_of l.text)
+      → FirstFault IsFile file (fault.Number l.number)
+  ended : Begins IsFile (fields_in file.lines) → (IsFile (fields_in file.lines) → ⊥) → FirstFault IsFile file (fault.Unexpected file.end)
+
+-- a refusal is the first fault, or want of memory
+abbrev pub IsRefusal : (List Fields → Type 0) → Ahead → CertFault → Type 0
+IsRefusal IsFile file fault.NoMemory = Unit {0}
+IsRefusal IsFile file f = FirstFault IsFile file f
+
+-- ---- one line
+
+-- a line that may not follow what was read, and whether with another number it may
+abbrev pub IsRefusedBy : (Fields → Type 0) → Fields → LineFault → Type 0
+IsRefusedBy Follows line Unexpected = (Follows line → ⊥) × (IsMisnumbered Follows line → ⊥)
+IsRefusedBy Follows line Number = (Follows line → ⊥) × IsMisnumbered Follows line
+IsRefusedBy Follows line NoMemory = Unit {0}
+
+abbrev pub fault_at : LineFault → ℕ → CertFault
+fault_at Unexpected line = fault.Unexpected line
+fault_at Number line = fault.Number line
+fault_at NoMemory line = fault.NoMemory

@@ -1,0 +1,66 @@
+ghost use Rattle.std.specs.Prelude.{◌≡◌};
+
+use ql_base::Word;
+use ql_levels::{Level, TxnLevel};
+use ql_refute::Refutation;
+use std::marker::Model;
+
+/// The level of an operation or of a declared transaction.
+#[derive(Clone, Copy, Debug, PartialEq, Eq)]
+pub enum SectionLevel {
+    Op(Level),
+    Txn(TxnLevel),
+}
+
+/// What a certificate tells of one target: its name, a level, and a refutation of the ground problem
+/// of the target at that level.
+#[derive(Debug, Drop)]
+pub struct Section {
+    pub name: Word,
+    pub level: SectionLevel,
+    pub refutation: Refutation,
+}
+
+/// Sections in order.
+#[derive(Debug, Drop)]
+pub struct Sections {
+    items: Vec<Section>,
+}
+
+impl Model for Sections {
+    ghost use Rattle.std.specs.Prelude.{List};
+    ghost use Rattle.ql_cert.specs.declared.cert.Section.{Section};
+
+    ghost Value = { List Section };
+
+    ghost view = { λ s. s.items.items };
+}
+
+impl Sections {
+    /// These sections.
+    pub fn of(items: Vec<Section>) -> Sections
+        ensures { result ≡ items.items }
+    {
+        Sections { items }
+    }
+
+    /// The sections.
+    pub fn items(&self) -> &[Section]
+        ensures { result.now ≡ self.now }
+    {
+        &self.items
+    }
+
+    /// The sections.
+    pub fn into_items(self) -> Vec<Section>
+        ensures { result.items ≡ self }
+    {
+        self.items
+    }
+}
+
+/// A certificate: a section for each target, in order.
+#[derive(Debug, Drop)]
+pub struct Cert {
+    pub sections: Sections,
+}

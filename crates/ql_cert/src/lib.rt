@@ -1,0 +1,19 @@
+// Certificates and proofs as texts. Its one contract: what is printed is in the grammar, and what is
+// read is what the text spells, or the text's first fault.
+#![tactic(auto)]
+
+mod cert;
+mod cert_reader;
+mod fault;
+mod fields;
+mod line;
+mod parse;
+mod print;
+
+pub use cert::{Cert, Section, SectionLevel, Sections};
+pub use fault::CertFault;
+pub use parse::parse_cert;
+pub use print::print_cert;
+
+#[cfg(test)]
+mod tests;

@@ -1,0 +1,132 @@
+ghost use Rattle.std.specs.Prelude.{◌≡◌, ◌++◌, ◌∷◌, [], IfOk, OnOk, map};
+ghost use Rattle.std.specs.List.{AllByRecursion};
+ghost use Rattle.ql_lines.specs.Lines.{ahead_from};
+ghost use Rattle.ql_lines.specs.Texts.{behind, file_text, joined};
+ghost use Rattle.ql_cert.specs.CertFile.{IsCertOf, IsSection, cert_lines, kind_word, level_word, section_lines, sections_lines};
+ghost use Rattle.ql_cert.specs.Faults.{fields_in};
+ghost use Rattle.ql_cert.specs.Spelling.{hint_field, line_fields, lit_field, numbered};
+
+use crate::cert::{Cert, Section, SectionLevel};
+use ql_base::{NoMemory, push_bytes, push_number};
+use ql_cnf::Lit;
+use ql_levels::{level_word, txn_word};
+use ql_refute::{Hint, Line};
+use std::alloc::Global;
+
+#[tactic(auto, using(crate::proofs::Plainness::again, crate::proofs::Printing::cert_pieces))]
+/// The text of a certificate: its lines in order, with one space between fields. Where its sections
+/// have a spelling, they are read of it again.
+pub fn print_cert(alloc: Global, c: &Cert) -> Result<Vec<u8>, NoMemory>
+    ensures text { IfOk result (λ text. text.items ≡ file_text (cert_lines c.now.sections)) }
+    ensures again { IfOk result (λ text. AllByRecursion IsSection c.now.sections → IsCertOf c.now.sections (fields_in (ahead_from 1 text.items).lines)) }
+{
+    let mut text = Vec::new(alloc);
+    push_bytes(&mut text, b"quelea certificate 1\n")?;
+    push_sections(&mut text, c.sections.items())?;
+    push_bytes(&mut text, b"end\n")?;
+    Ok(text)
+}
+
+fn push_sections(out: &mut Vec<u8>, sections: &[Section]) -> Result<(), NoMemory>
+    ensures { OnOk result (out.new.items ≡ out.old.items ++ file_text (sections_lines sections.now)) }
+{
+    for section in sections {
+        push_section(out, section)?;
+    }
+    Ok(())
+}
+
+#[tactic(auto, using(crate::proofs::Printing::section_pieces))]
+fn push_section(out: &mut Vec<u8>, section: &Section) -> Result<(), NoMemory>
+    ensures { OnOk result (out.new.items ≡ out.old.items ++ file_text (section_lines section.now)) }
+{
+    let (kind, level) = words(section.level);
+    push_bytes(out, kind.as_bytes())?;
+    push_bytes(out, b" ")?;
+    push_bytes(out, section.name.bytes())?;
+    push_bytes(out, b" ")?;
+    push_bytes(out, level.as_bytes())?;
+    push_bytes(out, b"\n")?;
+    push_lines(out, section.refutation.lines.items())
+}
+
+// The words of a target's kind and of its level.
+#[tactic(auto, unfolding(crate::specs::CertFile::kind_word, crate::specs::CertFile::level_word))]
+fn words(level: SectionLevel) -> (&'static str, &'static str)
+    ensures kind { result.0.now ≡ kind_word level }
+    ensures level { result.1.now ≡ level_word level }
+{
+    match level {
+        SectionLevel::Op(level) => ("op", level_word(level)),
+        SectionLevel::Txn(level) => ("txn", txn_word(level)),
+    }
+}
+
+// Lines with their numbers, from 1.
+fn push_lines(out: &mut Vec<u8>, lines: &[Line]) -> Result<(), NoMemory>
+    ensures { OnOk result (out.new.items ≡ out.old.items ++ file_text (numbered 1 lines.now)) }
+{
+    let mut number = 1;
+    for line in lines {
+        push_line(out, number, line)?;
+        number += 1;
+    }
+    Ok(())
+}
+
+#[tactic(auto, using(crate::proofs::Printing::line_pieces))]
+fn push_line(out: &mut Vec<u8>, number: u64, line: &Line) -> Result<(), NoMemory>
+    ensures { OnOk result (out.new.items ≡ out.old.items ++ (joined (line_fields number line.now) ++ 10 ∷ [])) }
+{
+    push_number(out, number)?;
+    push_literals(out, line.clause.items())?;
+    push_bytes(out, b" :")?;
+    push_hints(out, line.hints.items())?;
+    push_bytes(out, b"\n")
+}
+
+fn push_literals(out: &mut Vec<u8>, literals: &[Lit]) -> Result<(), NoMemory>
+    ensures { OnOk result (out.new.items ≡ out.old.items ++ behind (map lit_field literals.now)) }
+{
+    for literal in literals {
+        push_bytes(out, b" ")?;
+        push_literal(out, *literal)?;
+    }
+    Ok(())
+}
+
+#[tactic(auto, unfolding(crate::specs::Spelling::signed_field))]
+fn push_literal(out: &mut Vec<u8>, literal: Lit) -> Result<(), NoMemory>
+    ensures { OnOk result (out.new.items ≡ out.old.items ++ lit_field literal) }
+{
+    if !literal.positive {
+        push_bytes(out, b"-")?;
+    }
+    push_number(out, literal.var)
+}
+
+fn push_hints(out: &mut Vec<u8>, hints: &[Hint]) -> Result<(), NoMemory>
+    ensures { OnOk result (out.new.items ≡ out.old.items ++ behind (map hint_field hints.now)) }
+{
+    for hint in hints {
+        push_bytes(out, b" ")?;
+        push_hint(out, *hint)?;
+    }
+    Ok(())
+}
+
+#[tactic(auto, unfolding(crate::specs::Spelling::hint_field))]
+fn push_hint(out: &mut Vec<u8>, hint: Hint) -> Result<(), NoMemory>
+    ensures { OnOk result (out.new.items ≡ out.old.items ++ hint_field hint) }
+{
+    match hint {
+        Hint::Given(number) => {
+            push_bytes(out, b"c")?;
+            push_number(out, number)
+        }
+        Hint::Earlier(number) => {
+            push_bytes(out, b"l")?;
+            push_number(out, number)
+        }
+    }
+}

@@ -1,0 +1,36 @@
+-- How lines of fields are written: fields with one space between them, each line ended by a line feed.
+use Rattle.std.specs.Prelude.{◌≡◌, ℕ, ◌<◌, Bool, false, ◌||◌, ◌==◌, List, [], ◌∷◌, ◌++◌, length}
+use Rattle.std.specs.List.{AllByRecursion}
+use Rattle.ql_lines.specs.Lines.{tell_nothing}
+
+abbrev pub joined : List (List ℕ) → List ℕ
+joined [] = []
+joined (f ∷ []) = f
+joined (f ∷ g ∷ fs) = f ++ 32 ∷ joined (g ∷ fs)
+
+-- each field behind a space
+unfoldable pub behind : List (List ℕ) → List ℕ
+behind [] = []
+behind (f ∷ fs) = 32 ∷ f ++ behind fs
+
+unfoldable pub file_text : List (List (List ℕ)) → List ℕ
+file_text [] = []
+file_text (l ∷ ls) = joined l ++ 10 ∷ file_text ls
+
+-- a byte that may stand in a field that is written: no space and no line's end
+abbrev pub is_ender : ℕ → Bool
+is_ender b = (b == 32) || (b == 10) || (b == 13)
+
+abbrev pub EndsNothing : List ℕ → Type 0
+EndsNothing [] = Unit {0}
+EndsNothing (b ∷ bs) = (is_ender b ≡ false) × EndsNothing bs
+
+-- a field that is read as it is written
+pub record IsPlain (f : List ℕ) : Type 0 where
+  pub some : 0 < length f
+  pub plain : EndsNothing f
+
+-- fields that are read as they are written, and tell something
+pub record IsPlainLine (fields : List (List ℕ)) : Type 0 where
+  pub plain : AllByRecursion IsPlain fields
+  pub told : tell_nothing fields ≡ false
