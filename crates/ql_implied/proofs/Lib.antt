@@ -1,0 +1,3 @@
+pub mod Plain
+pub mod Chains
+pub mod Same

@@ -1,0 +1,8 @@
+use Rattle.ql_implied.proofs.Same.{op_implied, txn_implied}
+use Rattle.ql_implied.proofs.transfer.implied_in_executions.Goals as goal
+
+pub returns-clause-op : goal.returns-clause-op
+returns-clause-op c = op_implied
+
+pub returns-clause-txn : goal.returns-clause-txn
+returns-clause-txn c = txn_implied
