@@ -11,6 +11,8 @@ mod expression;
 mod fault;
 mod kind;
 mod parse;
+#[cfg(test)]
+mod program_tests;
 mod reader;
 mod relation;
 #[cfg(test)]
