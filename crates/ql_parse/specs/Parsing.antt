@@ -2,7 +2,7 @@ use Rattle.std.specs.Prelude.{ℕ, List, length, Result, Ok, Err}
 use Rattle.ql_lang.specs.declared.contract.Contract.{Contract}
 use Rattle.ql_lang.specs.declared.program.Program.{Program}
 use Rattle.ql_lang.specs.Trees.{Sentence, sentence_of}
-use Rattle.ql_lang.specs.Programs.{source_of}
+use Rattle.ql_lang.specs.Programs.{Source, source_of}
 use Rattle.ql_lex.specs.Tokens.{Lexes}
 use Rattle.ql_lex.specs.declared.token.LexFault.{LexFault}
 use Rattle.ql_lex.specs.declared.token.LexFault.TheVariants.{BadChar, LongWord, BadNumber, NoMemory as NoLexMemory}
@@ -47,6 +47,12 @@ IsContractFault = IsFaultAs ReadsContract
 
 abbrev pub IsContractAnswer : List ℕ → Result Contract ParseFault → Type 0
 IsContractAnswer = IsAnswer ReadsContract sentence_of
+
+abbrev pub IsProgramText : List ℕ → Source → Type 0
+IsProgramText = IsTextAs ReadsProgram
+
+abbrev pub IsProgramFault : List ℕ → limits.Fault → Type 0
+IsProgramFault = IsFaultAs ReadsProgram
 
 abbrev pub IsProgramAnswer : List ℕ → Result Program ParseFault → Type 0
 IsProgramAnswer = IsAnswer ReadsProgram source_of

@@ -7,7 +7,14 @@ ghost use Rattle.ql_lang.specs.Trees.{Sentence};
 ghost use Rattle.ql_lex.specs.declared.token.LexFault.{LexFault};
 ghost use Rattle.ql_lex.specs.Tokens.{Lexes};
 ghost use Rattle.ql_parse.specs.declared.fault.ParseFault.{ParseFault};
-ghost use Rattle.ql_parse.specs.Parsing.{IsContractAnswer, IsContractFault, IsContractText};
+ghost use Rattle.ql_lang.specs.Programs.{Source};
+ghost use Rattle.ql_parse.specs.Parsing.{
+  IsContractAnswer,
+  IsContractFault,
+  IsContractText,
+  IsProgramFault,
+  IsProgramText,
+};
 ghost use Rattle.ql_parse.specs.Printed.{Fits, IsInGrammar, IsReadable, IsReadAs, OpensAtMost, prop_nodes, unplaced};
 
 /// A text is one contract, or has one first fault among its tokens, or has no tokens; and it is not two of these.
@@ -21,6 +28,19 @@ pub fn one_answer()
 {
     ql_lex::one_answer();
     ql_grammar::one_answer();
+}
+
+/// A text is one source, or has one first fault among its tokens, or has no tokens; and it is not two of these.
+pub fn one_program_answer()
+    ensures some { (bytes : List ℕ) → ((s : Source) × IsProgramText bytes s) ⊎ (((f : Fault) × IsProgramFault bytes f) ⊎ ((e : LexFault) × Lexes 0 bytes (Err e))) }
+    ensures tree { (bytes : List ℕ) (s t : Source) → IsProgramText bytes s → IsProgramText bytes t → s ≡ t }
+    ensures fault { (bytes : List ℕ) (f g : Fault) → IsProgramFault bytes f → IsProgramFault bytes g → f ≡ g }
+    ensures apart { (bytes : List ℕ) (s : Source) (f : Fault) → IsProgramText bytes s → IsProgramFault bytes f → ⊥ }
+    ensures no_lexical { (bytes : List ℕ) (s : Source) (e : LexFault) → IsProgramText bytes s → Lexes 0 bytes (Err e) → ⊥ }
+    ensures no_lexical_fault { (bytes : List ℕ) (f : Fault) (e : LexFault) → IsProgramFault bytes f → Lexes 0 bytes (Err e) → ⊥ }
+{
+    ql_lex::one_answer();
+    ql_grammar::one_program_answer();
 }
 
 /// What is printed of a contract is that contract again, places aside.

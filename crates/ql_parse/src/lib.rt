@@ -18,6 +18,6 @@ mod relation;
 #[cfg(test)]
 mod tests;
 
-pub use again::{one_answer, printed_again};
+pub use again::{one_answer, one_program_answer, printed_again};
 pub use fault::ParseFault;
 pub use parse::{parse_contract, parse_program};

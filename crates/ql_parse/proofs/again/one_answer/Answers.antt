@@ -1,3 +1,4 @@
+use Rattle.ql_grammar.proofs.Laws.{a_contract}
 use Rattle.ql_parse.proofs.OneReading.{some_answer, one_tree, one_fault, not_both, no_lexical, no_lexical_fault}
 use Rattle.ql_parse.proofs.again.one_answer.Goals as goal
 
@@ -17,4 +18,4 @@ pub returns-clause-no_lexical_fault : goal.returns-clause-no_lexical_fault
 returns-clause-no_lexical_fault c = no_lexical_fault c.one_answer.ensures.one
 
 pub returns-clause-some : goal.returns-clause-some
-returns-clause-some c = some_answer c.one_answer.ensures.some
+returns-clause-some c = some_answer a_contract c.one_answer.ensures.some
