@@ -2,3 +2,4 @@ mod CallValues
 mod Preserved
 pub mod NeverStuck
 mod FoldSteps
+pub mod Accepted

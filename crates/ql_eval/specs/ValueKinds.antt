@@ -5,7 +5,7 @@ use Rattle.ql_lang.specs.declared.operation.Kind.{Kind}
 use Rattle.ql_lang.specs.declared.operation.Kind.TheVariants as kind
 use Rattle.ql_lang.specs.Expressions.{Expression}
 use Rattle.ql_typing.specs.declared.scope.Known.{Known}
-use Rattle.ql_typing.specs.Kinds.{kind_of}
+use Rattle.ql_typing.specs.Kinds.{faults_as, kind_of}
 use Rattle.ql_value.specs.declared.scalar.Scalar.{Scalar}
 use Rattle.ql_value.specs.declared.scalar.Scalar.TheVariants.{Int as IntScalar, Bool as TruthScalar, Text as TextScalar}
 use Rattle.ql_value.specs.declared.value.Value.{Value}
@@ -54,3 +54,7 @@ FitsScope _ _ = ⊥
 -- an expression that has a kind has a value of that kind, whatever the names in scope have
 abbrev pub IsNeverStuck : Expression → Type 0
 IsNeverStuck e = (scope : List Known) (env : Bindings) → FitsScope scope env → HasValue (kind_of scope e) (value_of env e)
+
+-- an expression in which nothing is wrong, where a kind is wanted, has a value of that kind
+abbrev pub IsAccepted : Expression → Type 0
+IsAccepted e = (scope : List Known) (env : Bindings) (wanted : Kind) → FitsScope scope env → faults_as scope (Some wanted) e ≡ [] → HasValue (Some wanted) (value_of env e)

@@ -1,7 +1,7 @@
 ghost use Rattle.std.specs.Prelude.{◌≡◌, IfOk, IsSome, Some, drop};
 ghost use Rattle.std.specs.Option.{option_copied};
 ghost use Rattle.ql_lang.specs.Expressions.{expression_of, operands_in, operands_of};
-ghost use Rattle.ql_eval.specs.ValueKinds.{IsNeverStuck};
+ghost use Rattle.ql_eval.specs.ValueKinds.{IsAccepted, IsNeverStuck};
 ghost use Rattle.ql_eval.specs.Evaluation.{call_value, called_on, value_in, value_of, values_of};
 
 use crate::call::{with_one, with_three, with_two};
@@ -20,6 +20,7 @@ pub fn eval(alloc: Global, e: &Expr, env: &Env) -> Result<Value, NoMemory>
     requires { IsSome (value_of env.now (expression_of e.now)) }
     ensures value { IfOk result (λ value. value_of env.now (expression_of e.now) ≡ Some value) }
     ensures never_stuck { IsNeverStuck (expression_of e.now) }
+    ensures accepted { IsAccepted (expression_of e.now) }
 {
     match evaluate(alloc, env.items(), e)? {
         Some(value) => Ok(value),
@@ -28,6 +29,13 @@ pub fn eval(alloc: Global, e: &Expr, env: &Env) -> Result<Value, NoMemory>
 }
 
 /// The value of an expression, where it has one.
+pub fn try_eval(alloc: Global, e: &Expr, env: &Env) -> Result<Option<Value>, NoMemory>
+    ensures { IfOk result (λ value. value ≡ value_of env.now (expression_of e.now)) }
+{
+    evaluate(alloc, env.items(), e)
+}
+
+// The value of an expression, where it has one.
 #[cycle(evaluate)]
 #[tactic(auto, unfolding(ql_lang::specs::Expressions::node_of, crate::specs::Evaluation::value_of))]
 pub(crate) fn evaluate(

@@ -13,6 +13,6 @@ mod scalar;
 mod statement;
 
 pub use env::Env;
-pub use evaluation::eval;
+pub use evaluation::{eval, try_eval};
 pub use folder::TypedFolder;
 pub use folding::{apply, fold};
