@@ -1,10 +1,10 @@
 -- Texts as pieces: blanks, and tokens in their roles. What stands in pieces has these tokens, and they are within
 -- the limits where the text opens few brackets and the tokens make few nodes.
-use Rattle.std.proofs.Common.{◌≡◌, ℕ, zero, suc, ◌+◌, ◌-◌, ◌≤◌, ◌<◌, ◌==◌, ◌||◌, Bool, true, false, List, [], ◌∷◌, ◌++◌, Result, Ok, Err, length, take, drop, map, slice_range, nat_lt, refl, sym, ap, ◌∙◌, subst, arith, append_assoc, codes, length-append, if◌then◌else◌}
+use Rattle.std.proofs.Common.{◌≡◌, ℕ, ◌+◌, ◌-◌, ◌≤◌, ◌==◌, true, false, List, [], ◌∷◌, ◌++◌, Ok, length, slice_range, nat_lt, refl, sym, ap, ◌∙◌, subst, arith, append_assoc, codes, length-append}
 use Rattle.std.specs.List.{AllPass, list_any}
 use Rattle.std.proofs.Math.Seq.{take-append_seam, drop-append_seam}
 use Rattle.std.proofs.lemmas.Bool.Decides.{nat_tests}
-use Rattle.ql_base.specs.Bytes.{is_blank, is_lower, is_name_byte, StopsBefore}
+use Rattle.ql_base.specs.Bytes.{is_blank, is_name_byte, StopsBefore}
 use Rattle.ql_base.specs.Names.{IsWord, IsName, is_keyword}
 use Rattle.ql_base.proofs.Fronts.{passes_head, passes_tail}
 use Rattle.ql_lex.specs.Fronts.{IsFront}
@@ -20,8 +20,8 @@ use Rattle.ql_grammar.specs.declared.terminal.Terminal.{Terminal}
 use Rattle.ql_grammar.specs.declared.terminal.Terminal.TheVariants.{NameToken}
 use Rattle.ql_grammar.specs.declared.role.Role.{Role}
 use Rattle.ql_grammar.specs.declared.role.Role.TheVariants.{Plain, Makes, Opens, Closes, Before}
-use Rattle.ql_grammar.specs.Limits.{Counts, Fault, counted, counted_all, with_nodes, if_within, nothing_yet}
-use Rattle.ql_grammar.specs.Tokens.{Lexeme as ALexeme, Marked, marked, lexemes, lexeme_of, terminal_of}
+use Rattle.ql_grammar.specs.Limits.{Counts, counted, counted_all, with_nodes, nothing_yet}
+use Rattle.ql_grammar.specs.Tokens.{Marked, marked, lexemes, lexeme_of, terminal_of}
 use Rattle.ql_parse.specs.Readers.{lexemes_of}
 use Rattle.ql_parse.specs.Printed.{open_after, OpensAtMost}
 

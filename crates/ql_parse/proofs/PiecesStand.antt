@@ -1,12 +1,11 @@
 -- The pieces of a contract: they stand, spell its text, and make its nodes.
-use Rattle.std.proofs.Common.{◌≡◌, ℕ, ◌+◌, ◌*◌, ◌<◌, Bool, true, false, List, [], ◌∷◌, ◌++◌, map, length, codes, slice_index, refl, sym, ap, ◌∙◌, subst, arith, append_assoc}
-use Rattle.std.specs.List.{AllByRecursion, concat, prefix_len}
-use Rattle.std.proofs.lemmas.List.{append-nil}
+use Rattle.std.proofs.Common.{◌≡◌, ℕ, ◌<◌, Bool, true, false, List, [], ◌∷◌, length, codes, slice_index, refl, arith}
+use Rattle.std.specs.List.{AllByRecursion, prefix_len}
 use Rattle.ql_base.specs.Bytes.{is_lower, is_name_byte, StopsBefore}
-use Rattle.ql_base.specs.Names.{IsWord, IsName, is_keyword, keywords}
+use Rattle.ql_base.specs.Names.{IsWord, is_keyword, keywords}
 use Rattle.ql_base.proofs.Fronts.{all_front}
 use Rattle.ql_lex.specs.Marks.{is_mark_byte, is_mark_pair}
-use Rattle.ql_lex.specs.declared.token.TokenKind.TheVariants.{Name as NameKind, Mark, Keyword}
+use Rattle.ql_lex.specs.declared.token.TokenKind.TheVariants.{Mark, Keyword}
 use Rattle.ql_lang.specs.declared.name.Name.{Name}
 use Rattle.ql_lang.specs.declared.relation.RelName.{RelName}
 use Rattle.ql_lang.specs.declared.relation.RelName.TheVariants.{Vis, So, Soo, SameObj, Eq, Hb, Hbo}
@@ -14,16 +13,16 @@ use Rattle.ql_lang.specs.declared.contract.Point.{Point}
 use Rattle.ql_lang.specs.declared.contract.Point.TheVariants.{CurAt, Named}
 use Rattle.ql_lang.specs.declared.contract.Var.{Var}
 use Rattle.ql_lang.specs.Trees.{Relation, Basic, Union, Intersection, Proposition, Truth, Application, Conjunction, Disjunction, Implication, InTxn, Sentence}
-use Rattle.ql_lang.specs.Spelling.{listed, relation_word, is_joined, in_brackets, term_text, terms_text, relation_text, application_text, prop_text, word_of, operations_text, var_text, vars_text, contract_text}
+use Rattle.ql_lang.specs.Spelling.{relation_word, is_joined}
 use Rattle.ql_grammar.specs.Terminals.{keyword, expression_word, logic_word, relation_word as relation_terminal_of, mark, operator}
 use Rattle.ql_grammar.specs.Tokens.{terminal_of}
 use Rattle.ql_grammar.specs.declared.terminal.Terminal.{Terminal}
-use Rattle.ql_grammar.specs.declared.terminal.Terminal.TheVariants.{NameToken, CurWord, ForallWord, TrueWord, TxnWord, VisWord, SoWord, SooWord, SameObjWord, EqWord, HbWord, HboWord, OpenBrace, CloseBrace, OpenParen, CloseParen, OpenBracket, CloseBracket, Comma, Colon, Dot, Equals, Arrow, AndMark, OrMark, Bar, Ampersand}
+use Rattle.ql_grammar.specs.declared.terminal.Terminal.TheVariants.{CurWord, ForallWord, TrueWord, TxnWord, VisWord, SoWord, SooWord, SameObjWord, EqWord, HbWord, HboWord, OpenBrace, CloseBrace, OpenParen, CloseParen, OpenBracket, CloseBracket, Comma, Colon, Dot, Equals, Arrow, AndMark, OrMark, Bar, Ampersand}
 use Rattle.ql_grammar.specs.declared.role.Role.{Role}
 use Rattle.ql_grammar.specs.declared.role.Role.TheVariants.{Plain, Makes, Opens, Closes}
-use Rattle.ql_parse.specs.Printed.{TermFits, PropFits, NameFits, VarFits, Fits, relation_nodes, prop_nodes}
-use Rattle.ql_parse.proofs.Pieces.{Piece, Blank, Said, IsSaid, Stands, text_of, nodes_of, IsQuiet, plain, makes, said_word, said_name, said_mark, said_pair, lone}
-use Rattle.ql_parse.proofs.PiecesRead.{term_pieces, relation_terminal, between, comma, relation_pieces, argument_pieces, equality_pieces, application_pieces, items_behind, items_pieces, terms_pieces, txn_pieces, in_parens, prop_pieces, operand_pieces, name_pieces, operation_pieces, var_pieces, quantifier_pieces, contract_pieces}
+use Rattle.ql_parse.specs.Printed.{TermFits, PropFits, NameFits, VarFits, Fits}
+use Rattle.ql_parse.proofs.Pieces.{Piece, Said, IsSaid, Stands, text_of, IsQuiet, plain, makes, said_word, said_name, said_mark, said_pair, lone}
+use Rattle.ql_parse.proofs.PiecesRead.{term_pieces, relation_terminal, between, comma, relation_pieces, argument_pieces, application_pieces, items_behind, items_pieces, terms_pieces, txn_pieces, in_parens, prop_pieces, name_pieces, operation_pieces, var_pieces, quantifier_pieces, contract_pieces}
 
 -- the fixed words
 

@@ -1,22 +1,21 @@
 -- The pieces of a contract spell its text, and make its nodes.
-use Rattle.std.proofs.Common.{◌≡◌, ℕ, ◌+◌, ◌*◌, ◌<◌, Bool, true, false, List, [], ◌∷◌, ◌++◌, map, length, codes, refl, sym, ap, ◌∙◌, subst, arith, append_assoc}
+use Rattle.std.proofs.Common.{◌≡◌, ℕ, ◌+◌, Bool, true, false, List, [], ◌∷◌, ◌++◌, map, length, codes, refl, sym, ap, ◌∙◌, arith, append_assoc}
 use Rattle.std.specs.List.{concat}
 use Rattle.std.proofs.lemmas.List.{append-nil}
-use Rattle.ql_lex.specs.declared.token.TokenKind.TheVariants.{Name as NameKind, Mark, Keyword}
+use Rattle.ql_lex.specs.declared.token.TokenKind.TheVariants.{Mark}
 use Rattle.ql_lang.specs.declared.name.Name.{Name}
-use Rattle.ql_lang.specs.declared.relation.RelName.{RelName}
 use Rattle.ql_lang.specs.declared.relation.RelName.TheVariants.{Vis, So, Soo, SameObj, Eq, Hb, Hbo}
 use Rattle.ql_lang.specs.declared.contract.Point.{Point}
 use Rattle.ql_lang.specs.declared.contract.Point.TheVariants.{CurAt, Named}
 use Rattle.ql_lang.specs.declared.contract.Var.{Var}
 use Rattle.ql_lang.specs.Trees.{Relation, Basic, Union, Intersection, Proposition, Truth, Application, Conjunction, Disjunction, Implication, InTxn, Sentence}
-use Rattle.ql_lang.specs.Spelling.{listed, relation_word, is_joined, in_brackets, term_text, terms_text, relation_text, application_text, prop_text, word_of, operations_text, var_text, vars_text, contract_text}
-use Rattle.ql_grammar.specs.declared.terminal.Terminal.TheVariants.{AndMark, OrMark, Arrow, Bar, Ampersand, CloseBracket, CloseParen, Comma, Dot, Equals, CloseBrace, OpenBrace}
+use Rattle.ql_lang.specs.Spelling.{listed, is_joined, in_brackets, term_text, terms_text, relation_text, application_text, prop_text, word_of, operations_text, var_text, vars_text, contract_text}
+use Rattle.ql_grammar.specs.declared.terminal.Terminal.TheVariants.{AndMark, OrMark, Arrow, Bar, Ampersand, CloseBracket, CloseParen, Dot, Equals, CloseBrace, OpenBrace}
 use Rattle.ql_grammar.specs.declared.role.Role.{Role}
 use Rattle.ql_grammar.specs.declared.role.Role.TheVariants.{Plain, Makes, Opens, Closes}
 use Rattle.ql_parse.specs.Printed.{relation_nodes, prop_nodes}
 use Rattle.ql_parse.proofs.Pieces.{Piece, Blank, Said, text_of, nodes_of, made_by}
-use Rattle.ql_parse.proofs.PiecesRead.{term_pieces, relation_terminal, between, comma, relation_pieces, argument_pieces, equality_pieces, application_pieces, items_behind, items_pieces, terms_pieces, txn_pieces, in_parens, prop_pieces, operand_pieces, name_pieces, operation_pieces, var_pieces, quantifier_pieces, contract_pieces}
+use Rattle.ql_parse.proofs.PiecesRead.{term_pieces, between, comma, relation_pieces, argument_pieces, application_pieces, items_behind, items_pieces, terms_pieces, txn_pieces, in_parens, prop_pieces, operand_pieces, name_pieces, operation_pieces, var_pieces, quantifier_pieces, contract_pieces}
 
 -- texts that stand one behind another
 

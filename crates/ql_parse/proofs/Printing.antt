@@ -1,12 +1,12 @@
 -- What is printed of a contract is that contract, places aside.
-use Rattle.std.proofs.Common.{◌≡◌, ℕ, ◌+◌, ◌≤◌, List, [], ◌∷◌, Result, Ok, Err, refl, sym, ap, ◌∙◌, subst, arith}
+use Rattle.std.proofs.Common.{◌≡◌, ◌≤◌, [], refl, sym, subst, arith}
 use Rattle.ql_base.specs.declared.limits.TheConstants.{MAX_BRACKETS, MAX_NODES}
 use Rattle.ql_lang.specs.Trees.{Sentence}
 use Rattle.ql_lang.specs.Spelling.{contract_text}
 use Rattle.ql_grammar.specs.Limits.{nothing_yet}
 use Rattle.ql_parse.specs.Parsing.{IsContractText}
 use Rattle.ql_parse.specs.Printed.{unplaced, Fits, IsReadable, IsInGrammar, OpensAtMost, prop_nodes}
-use Rattle.ql_parse.proofs.Pieces.{Piece, text_of, tokens_of, marks_of, nodes_of, Stands, pieces_lex, pieces_lexemes, pieces_within}
+use Rattle.ql_parse.proofs.Pieces.{text_of, tokens_of, marks_of, Stands, pieces_lex, pieces_lexemes, pieces_within}
 use Rattle.ql_parse.proofs.PiecesRead.{contract_pieces, contract_reads}
 use Rattle.ql_parse.proofs.PiecesStand.{contract_stands}
 use Rattle.ql_parse.proofs.PiecesText.{contract_spells, contract_nodes}

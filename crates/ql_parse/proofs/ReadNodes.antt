@@ -1,5 +1,5 @@
 -- What is read within the limits has few nodes: its tokens make as many as it has.
-use Rattle.std.proofs.Common.{◌≡◌, ℕ, ◌+◌, ◌-◌, ◌≤◌, Bool, true, false, cond, List, [], ◌∷◌, ◌++◌, Result, Ok, Err, length, nat_lt, refl, sym, ap, ◌∙◌, subst, arith, length-append}
+use Rattle.std.proofs.Common.{◌≡◌, ℕ, ◌+◌, ◌-◌, ◌≤◌, Bool, true, false, List, [], ◌∷◌, Result, Ok, Err, length, nat_lt, refl, arith, length-append}
 use Rattle.std.proofs.lemmas.Bool.Decides.{nat_tests}
 use Rattle.ql_base.specs.declared.limits.TheConstants.{MAX_BRACKETS, MAX_NODES}
 use Rattle.ql_lang.specs.declared.name.Name.{Name}
@@ -11,7 +11,7 @@ use Rattle.ql_grammar.specs.declared.role.Role.{Role}
 use Rattle.ql_grammar.specs.declared.role.Role.TheVariants.{Plain, Makes, Opens, Closes, Before}
 use Rattle.ql_grammar.specs.Limits.{Counts, Fault, Wide, Deep, counted, counted_all, with_nodes, if_within, nothing_yet}
 use Rattle.ql_grammar.specs.Tokens.{Marked, marked}
-use Rattle.ql_grammar.specs.ContractGrammar.{ReadsTerm, current, variable, ReadsTerms, one, more, ReadsRelation, RelationPart, Applied, Single, Product, Sum, applied_named, applied_bracket, named, bracket, single, both, product, either, ReadsProp, PropPart, truth, group, equal, applied, txn, atom, and, or, implies, ReadsNames, ReadsVar, free, over, ReadsVars, ReadsContract, plain, forall}
+use Rattle.ql_grammar.specs.ContractGrammar.{ReadsTerm, current, variable, ReadsTerms, one, more, ReadsRelation, RelationPart, Applied, applied_named, applied_bracket, named, bracket, single, both, product, either, ReadsProp, PropPart, truth, group, equal, applied, txn, atom, and, or, implies, ReadsNames, ReadsVar, free, over, ReadsVars, ReadsContract, plain, forall}
 use Rattle.ql_parse.specs.Parsing.{IsContractText}
 use Rattle.ql_parse.specs.Printed.{relation_nodes, prop_nodes}
 use Rattle.ql_parse.proofs.Pieces.{made_by}

@@ -3,7 +3,6 @@ use Rattle.std.specs.List.{AllByRecursion}
 use Rattle.ql_base.specs.Names.{IsName}
 use Rattle.ql_base.specs.declared.limits.TheConstants.{MAX_BRACKETS, MAX_NODES}
 use Rattle.ql_lang.specs.declared.name.Name.{Name}
-use Rattle.ql_lang.specs.declared.relation.RelName.{RelName}
 use Rattle.ql_lang.specs.declared.contract.Point.{Point}
 use Rattle.ql_lang.specs.declared.contract.Point.TheVariants.{CurAt, Named}
 use Rattle.ql_lang.specs.declared.contract.Var.{Var}

@@ -1,4 +1,4 @@
-use Rattle.std.proofs.Common.{◌≡◌, List, ℕ, Result}
+use Rattle.std.proofs.Common.{Result}
 use Rattle.ql_lang.specs.Spelling.{contract_text}
 use Rattle.ql_lang.specs.Trees.{Sentence}
 use Rattle.ql_lang.specs.declared.contract.Contract.{Contract}
