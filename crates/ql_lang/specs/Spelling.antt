@@ -9,8 +9,8 @@ use Rattle.ql_lang.specs.declared.contract.Var.{Var}
 use Rattle.ql_lang.specs.Trees.{Relation, Basic, Union, Intersection, Proposition, Truth, Application, Conjunction, Disjunction, Implication, InTxn, Sentence}
 
 -- How contracts are spelled: one text for each tree, whatever its places. A blank stands on both sides of an
--- operator and behind a comma, a colon and the dot. Brackets stand round each operand that is made by an
--- operator itself, and nowhere else.
+-- operator and behind a comma, a colon and the dot. Round brackets stand round each operand of a connective that
+-- a connective makes itself, square brackets round each union and each intersection, and no others.
 
 -- texts with a mark between them
 abbrev pub listed : List ℕ → List (List ℕ) → List ℕ

@@ -1,4 +1,4 @@
--- The words of the levels: names of Sivaramakrishnan, Kaki and Jagannathan (PLDI 2015), sections 4 and 5.
+-- The words of the levels: names of Sivaramakrishnan, Kaki and Jagannathan (PLDI 2015).
 use Rattle.std.specs.Prelude.{ℕ, List, codes}
 use Rattle.ql_levels.specs.declared.level.Level.{Level}
 use Rattle.ql_levels.specs.declared.level.Level.TheVariants.{Eventual, Causal, Strong}
