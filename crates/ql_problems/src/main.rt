@@ -1,15 +1,19 @@
-// Prints the ground problem of each goal of a program: its variables, its clauses, and a checksum over
-// all literals in their order. With `--clauses` as its first word it prints the clauses themselves.
+// Prints the ground problem of each goal of a source: its variables, its clauses, and a checksum over all
+// literals in their order. With `--clauses` as its first word it prints the clauses themselves.
 #![tactic(auto)]
 
 mod listing;
-mod outline;
 
 use listing::list_goals;
-use outline::{Fault, program};
+use ql_base::NoMemory;
+use ql_parse::{ParseFault, parse_program};
+use ql_typing::{TypeFault, Typed, typecheck};
 use std::alloc::Global;
 use std::env::Env;
 use std::{env, fs, io};
+
+// How long a source may be.
+const MOST_BYTES: usize = 1 << 20;
 
 fn main(rt: HostRuntime) -> io::Result<()> {
     let words = words(&rt)?;
@@ -19,10 +23,9 @@ fn main(rt: HostRuntime) -> io::Result<()> {
     for path in words.iter().skip(whole as usize) {
         let text = fs::read_to_string(&rt, path)?;
         match text_of(rt.alloc(), text.as_str(), whole) {
-            Ok(listing) => print!(rt; "{path}\n{listing}")?,
-            Err(Fault::Outline) => println!(rt; "{path}: not an outline")?,
-            Err(Fault::Type) => println!(rt; "{path}: not well typed")?,
-            Err(Fault::NoMemory) => println!(rt; "{path}: no memory")?,
+            Ok(Some(listing)) => print!(rt; "{path}\n{listing}")?,
+            Ok(None) => println!(rt; "{path}: no source")?,
+            Err(NoMemory) => println!(rt; "{path}: no memory")?,
         }
     }
     Ok(())
@@ -34,9 +37,28 @@ fn words<R: Env + AllocGlobal>(rt: &R) -> io::Result<Vec<String>> {
     Ok(words)
 }
 
-fn text_of(alloc: Global, text: &str, whole: bool) -> Result<String, Fault> {
-    let typed = program(alloc, text)?;
+fn text_of(alloc: Global, text: &str, whole: bool) -> Result<Option<String>, NoMemory> {
+    let Some(typed) = typed(alloc, text)? else {
+        return Ok(None);
+    };
     let mut out = String::new(alloc);
     list_goals(alloc, &typed, whole, &mut out)?;
-    Ok(out)
+    Ok(Some(out))
+}
+
+// The program of a source; none where the text isn't one.
+fn typed(alloc: Global, text: &str) -> Result<Option<Typed>, NoMemory> {
+    if text.len() > MOST_BYTES {
+        return Ok(None);
+    }
+    let program = match parse_program(alloc, text.as_bytes()) {
+        Ok(program) => program,
+        Err(ParseFault::NoMemory) => return Err(NoMemory),
+        Err(_) => return Ok(None),
+    };
+    match typecheck(alloc, program) {
+        Ok(typed) => Ok(Some(typed)),
+        Err(TypeFault::NoMemory) => Err(NoMemory),
+        Err(_) => Ok(None),
+    }
 }
