@@ -1,7 +1,5 @@
+use crate::told::contract_text;
 use ql_base::Names;
-use ql_parse::parse_contract;
-use ql_typing::{TypeFault, resolve};
-use std::alloc::{AllocError, Global};
 use std::test::Fail;
 
 // Contracts, whether each is a transaction's, and their first fault or how many operations they name, from an
@@ -72,7 +70,7 @@ const CASES: &[(&[u8], bool, &str)] = &[
 fn resolved_or_their_first_fault(rt: HostRuntime) -> Result<(), Fail> {
     for (text, for_txn, want) in CASES {
         let mut ops = Names::new(rt.alloc());
-        let found = told(rt.alloc(), text, *for_txn, &mut ops)?;
+        let found = contract_text(rt.alloc(), text, *for_txn, &mut ops)?;
         assert_eq!(rt; found.as_str(), *want);
     }
     Ok(())
@@ -81,10 +79,10 @@ fn resolved_or_their_first_fault(rt: HostRuntime) -> Result<(), Fail> {
 #[test]
 fn operations_are_numbered_by_their_first_occurrence(rt: HostRuntime) -> Result<(), Fail> {
     let mut ops = Names::new(rt.alloc());
-    let first = told(rt.alloc(), b"forall a: x. true", false, &mut ops)?;
+    let first = contract_text(rt.alloc(), b"forall a: x. true", false, &mut ops)?;
     assert_eq!(rt; first.as_str(), "resolved 1");
     let text = b"forall a: g | x | f, b: f, c. [vis | eq](a, cur) => b = c";
-    let second = told(rt.alloc(), text, false, &mut ops)?;
+    let second = contract_text(rt.alloc(), text, false, &mut ops)?;
     assert_eq!(rt; second.as_str(), "resolved 3");
     assert_eq!(rt; ops.find(b"x"), Some(0));
     assert_eq!(rt; ops.find(b"g"), Some(1));
@@ -95,35 +93,8 @@ fn operations_are_numbered_by_their_first_occurrence(rt: HostRuntime) -> Result<
 #[test]
 fn a_refusal_leaves_the_operations(rt: HostRuntime) -> Result<(), Fail> {
     let mut ops = Names::new(rt.alloc());
-    let found = told(rt.alloc(), b"forall a: q. vis(b, cur)", false, &mut ops)?;
+    let found = contract_text(rt.alloc(), b"forall a: q. vis(b, cur)", false, &mut ops)?;
     assert_eq!(rt; found.as_str(), "unknown 17");
     assert_eq!(rt; ops.len(), 0);
     Ok(())
-}
-
-/// What is told of a contract.
-fn told(alloc: Global, text: &[u8], for_txn: bool, ops: &mut Names) -> Result<String, AllocError> {
-    if text.len() > 1_048_576 {
-        return String::from_str(alloc, "too long");
-    }
-    let Ok(contract) = parse_contract(alloc, text) else {
-        return String::from_str(alloc, "not a contract");
-    };
-    match resolve(alloc, &contract, ops, for_txn) {
-        Ok(_) => format!(in alloc; "resolved {}", ops.len()),
-        Err(fault) => fault_text(alloc, fault),
-    }
-}
-
-fn fault_text(alloc: Global, fault: TypeFault) -> Result<String, AllocError> {
-    match fault {
-        TypeFault::Unknown(at) => format!(in alloc; "unknown {at}"),
-        TypeFault::Twice(at) => format!(in alloc; "twice {at}"),
-        TypeFault::Kind(at) => format!(in alloc; "kind {at}"),
-        TypeFault::TooMany(at) => format!(in alloc; "many {at}"),
-        TypeFault::TxnClosure(at) => format!(in alloc; "closure {at}"),
-        TypeFault::Variables(at) => format!(in alloc; "variables {at}"),
-        TypeFault::TxnAtom(at) => format!(in alloc; "txn {at}"),
-        TypeFault::NoMemory => Err(AllocError),
-    }
 }

@@ -1,5 +1,9 @@
-// Tests of typing on texts: what is answered for contracts as the parser reads them.
+// Tests of typing on texts: what is answered for contracts and sources as the parser reads them.
 #![tactic(auto)]
 
 #[cfg(test)]
 mod contracts;
+#[cfg(test)]
+mod programs;
+#[cfg(test)]
+mod told;
