@@ -2,8 +2,12 @@ mod Conses
 mod Numerals
 mod FieldLaws
 mod LineLaws
+mod Walking
+mod FirstFaults
 mod Walks
 mod States
 mod Refusals
+mod ProofStates
+mod ProofRefusals
 mod Printing
 mod Plainness

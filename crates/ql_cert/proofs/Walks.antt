@@ -17,6 +17,7 @@ use Rattle.ql_cert.specs.CertFile.{State, Untitled, Within, Ended, Opens, GoesOn
 use Rattle.ql_cert.proofs.FieldLaws.{same_hints}
 use Rattle.ql_cert.proofs.LineLaws.{all_last, clause_behind, hints_behind}
 use Rattle.ql_cert.proofs.Numerals.{no_number}
+use Rattle.ql_cert.proofs.Walking.{Walks, joined}
 
 -- ---- a line is of one form
 
@@ -67,7 +68,7 @@ no_end : (n : List ℕ) (l : SectionLevel) → heading n l ≡ end_line → ⊥
 no_end n l e = omega (arith, ap length e)
 
 -- and that is no numbered line
-end_no_line : (number : ℕ) (next : Line) → number < 2 ^ 64 → end_line ≡ line_fields number next → ⊥
+pub end_no_line : (number : ℕ) (next : Line) → number < 2 ^ 64 → end_line ≡ line_fields number next → ⊥
 end_no_line number next small e = no_number number small 101 (110 ∷ 100 ∷ []) (inr (omega arith)) (sym (ap (λ (f : Fields). get_or f 0 []) e))
 
 -- a line is told by its fields
@@ -115,34 +116,11 @@ one_after (Ended ss) line a b p q = absurd p
 
 -- ---- walks from line to line
 
-pub Walks : State → List Fields → State → Type 0
-Walks s [] t = s ≡ t
-Walks s (f ∷ fs) t = (u : State) × Takes s f u × Walks u fs t
-
-joined : (fs gs : List Fields) (s u t : State) → Walks s fs u → Walks u gs t → Walks s (fs ++ gs) t
-unfolding Walks
-joined [] gs s u t p q = subst (λ v. Walks v gs t) (sym p) q
-joined (f ∷ fs) gs s u t p q = (p.0, p.1, joined fs gs p.0 u t p.2 q)
-
-pub parted : (fs gs : List Fields) (s t : State) → Walks s (fs ++ gs) t → (u : State) × Walks s fs u × Walks u gs t
-unfolding Walks
-parted [] gs s t p = (s, refl, p)
-parted (f ∷ fs) gs s t p = let rest = parted fs gs p.0 t p.2 in (rest.0, (p.0, p.1, rest.1), rest.2)
-
-pub next_state : (s : State) (f : Fields) (fs : List Fields) (t : State) → Walks s (f ∷ fs) t → (u : State) × Takes s f u
-unfolding Walks
-next_state s f fs t p = (p.0, p.1)
-
-pub one_walk : (fs : List Fields) (s a b : State) → Walks s fs a → Walks s fs b → a ≡ b
-unfolding Walks
-one_walk [] s a b p q = sym p ∙ q
-one_walk (f ∷ fs) s a b p q = one_walk fs p.0 a b p.2 (subst (λ u. Walks u fs b) (one_after s f q.0 p.0 q.1 p.1) q.2)
-
 abbrev with_lines : Section → List Line → Section
 with_lines s ls = record { name = s.name; level = s.level; refutation = record { lines = s.refutation.lines ++ ls } }
 
 numbered_walk : (done : List Section) (ls : List Line) (s : Section) → AllByRecursion IsLine ls → length s.refutation.lines + length ls < 2 ^ 64
-    → Walks (Within done (Some s)) (numbered (suc (length s.refutation.lines)) ls) (Within done (Some (with_lines s ls)))
+    → Walks Takes (Within done (Some s)) (numbered (suc (length s.refutation.lines)) ls) (Within done (Some (with_lines s ls)))
 unfolding Walks numbered
 numbered_walk done [] s fits few =
     ap (λ (ms : List Line). Within done (Some (record { name = s.name; level = s.level; refutation = record { lines = ms } }))) (sym (append-nil s.refutation.lines))
@@ -152,13 +130,13 @@ numbered_walk done (l ∷ ls) s fits few =
     let count : length (before ++ l ∷ []) ≡ suc (length before) = length-append before (l ∷ []) ∙ omega arith in
     let step : GoesOn done (Some s) (line_fields (suc (length before)) l) (Within done (Some next)) = record { section = s; in_it = refl; next = l; fits = fits.0; few = omega (arith, few); is = refl; to = refl } in
     let rest = numbered_walk done ls next fits.1 (omega (arith, few, count)) in
-    let moved = subst (λ n. Walks (Within done (Some next)) (numbered (suc n) ls) (Within done (Some (with_lines next ls)))) count rest in (
+    let moved = subst (λ n. Walks Takes (Within done (Some next)) (numbered (suc n) ls) (Within done (Some (with_lines next ls)))) count rest in (
       Within done (Some next),
       inr (inl step),
-      subst (λ (ms : List Line). Walks (Within done (Some next)) (numbered (suc (suc (length before))) ls) (Within done (Some (record { name = s.name; level = s.level; refutation = record { lines = ms } })))) (append_assoc before (l ∷ []) ls) moved,
+      subst (λ (ms : List Line). Walks Takes (Within done (Some next)) (numbered (suc (suc (length before))) ls) (Within done (Some (record { name = s.name; level = s.level; refutation = record { lines = ms } })))) (append_assoc before (l ∷ []) ls) moved,
     )
 
-section_walk : (done : List Section) (last : Option Section) (s : Section) → IsSection s → Walks (Within done last) (section_lines s) (Within (with_last done last) (Some s))
+section_walk : (done : List Section) (last : Option Section) (s : Section) → IsSection s → Walks Takes (Within done last) (section_lines s) (Within (with_last done last) (Some s))
 unfolding Walks
 section_walk done last s fits =
     let opening : Opens done last (heading s.name s.level) (Within (with_last done last) (Some (opened s.name s.level))) = record { name = s.name; level = s.level; is_name = fits.name; is = refl; to = refl } in
@@ -169,7 +147,7 @@ pub record Reached (done : List Section) (last : Option Section) (ss : List Sect
   pub done' : List Section
   pub last' : Option Section
   pub all : with_last done' last' ≡ with_last done last ++ ss
-  pub walk : Walks (Within done last) (sections_lines ss) (Within done' last')
+  pub walk : Walks Takes (Within done last) (sections_lines ss) (Within done' last')
 
 sections_walk : (ss : List Section) (done : List Section) (last : Option Section) → AllByRecursion IsSection ss → Reached done last ss
 unfolding Walks
@@ -180,17 +158,17 @@ sections_walk (s ∷ ss) done last fits =
       done' = rest.done';
       last' = rest.last';
       all = rest.all ∙ append_assoc (with_last done last) (s ∷ []) ss;
-      walk = joined (section_lines s) (sections_lines ss) (Within done last) (Within (with_last done last) (Some s)) (Within rest.done' rest.last') (section_walk done last s fits.0) rest.walk;
+      walk = joined Takes (section_lines s) (sections_lines ss) (Within done last) (Within (with_last done last) (Some s)) (Within rest.done' rest.last') (section_walk done last s fits.0) rest.walk;
     }
 
-pub cert_walk : (ss : List Section) → AllByRecursion IsSection ss → Walks Untitled (cert_lines ss) (Ended ss)
+pub cert_walk : (ss : List Section) → AllByRecursion IsSection ss → Walks Takes Untitled (cert_lines ss) (Ended ss)
 unfolding Walks
 cert_walk ss fits =
     let r = sections_walk ss [] None fits in
     let last : Ends r.done' r.last' end_line (Ended ss) = record { is = refl; to = ap Ended (sym r.all) } in (
       Within [] None,
       (refl, refl),
-      joined (sections_lines ss) (end_line ∷ []) (Within [] None) (Within r.done' r.last') (Ended ss) r.walk (Ended ss, inr (inr last), refl),
+      joined Takes (sections_lines ss) (end_line ∷ []) (Within [] None) (Within r.done' r.last') (Ended ss) r.walk (Ended ss, inr (inr last), refl),
     )
 
 pub all_front : (xs : List Section) (y : Section) → AllByRecursion IsSection (xs ++ y ∷ []) → AllByRecursion IsSection xs
@@ -203,16 +181,16 @@ sections_more [] s = append-nil (section_lines s)
 sections_more (t ∷ ss) s = ap (λ r. section_lines t ++ r) (sections_more ss s) ∙ sym (append_assoc (section_lines t) (sections_lines ss) (section_lines s))
 
 -- what was read is where its lines lead
-pub state_walk : (s : State) → IsState s → Walks Untitled (lines_so_far s) s
+pub state_walk : (s : State) → IsState s → Walks Takes Untitled (lines_so_far s) s
 unfolding Walks
 state_walk Untitled is = refl
 state_walk (Ended ss) is = cert_walk ss is
 state_walk (Within done None) is =
     let none : Within [] None ≡ Within done None = ap (λ ss. Within ss None) (sym is.1) in
-    (Within [] None, (refl, refl), subst (λ ss. Walks (Within [] None) (sections_lines ss) (Within ss None)) (sym is.1) refl)
+    (Within [] None, (refl, refl), subst (λ ss. Walks Takes (Within [] None) (sections_lines ss) (Within ss None)) (sym is.1) refl)
 state_walk (Within done (Some s)) is =
     let r = sections_walk done [] None (all_front done s is.0) in
     let here = section_walk r.done' r.last' s (all_last IsSection done s [] is.0) in
-    let there : Walks (Within r.done' r.last') (section_lines s) (Within done (Some s)) = subst (λ ss. Walks (Within r.done' r.last') (section_lines s) (Within ss (Some s))) r.all here in
-    let walk = joined (sections_lines done) (section_lines s) (Within [] None) (Within r.done' r.last') (Within done (Some s)) r.walk there in
-    (Within [] None, (refl, refl), subst (λ fs. Walks (Within [] None) fs (Within done (Some s))) (sym (sections_more done s)) walk)
+    let there : Walks Takes (Within r.done' r.last') (section_lines s) (Within done (Some s)) = subst (λ ss. Walks Takes (Within r.done' r.last') (section_lines s) (Within ss (Some s))) r.all here in
+    let walk = joined Takes (sections_lines done) (section_lines s) (Within [] None) (Within r.done' r.last') (Within done (Some s)) r.walk there in
+    (Within [] None, (refl, refl), subst (λ fs. Walks Takes (Within [] None) fs (Within done (Some s))) (sym (sections_more done s)) walk)

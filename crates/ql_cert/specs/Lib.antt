@@ -1,5 +1,7 @@
 pub mod Spelling
 pub mod Faults
 pub mod CertFile
+pub mod ProofFile
 pub mod Readings
 pub mod Reader
+pub mod ProofReader

@@ -22,6 +22,9 @@ before_colon x = clause_fields x.0 ++ colon ∷ x.1
 abbrev pub IsClauseBefore : (List Lit × Fields) → Type 0
 IsClauseBefore x = IsClause x.0
 
+abbrev pub two : (List ℕ × List ℕ) → Fields
+two x = x.0 ∷ x.1 ∷ []
+
 abbrev pub three : (List ℕ × List ℕ × List ℕ) → Fields
 three x = x.0 ∷ x.1 ∷ x.2 ∷ []
 

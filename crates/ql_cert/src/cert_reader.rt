@@ -77,8 +77,8 @@ fn is_title(text: &[u8]) -> bool
     }
 }
 
-// The last line of a certificate or a proof.
-fn is_end(text: &[u8]) -> bool
+/// Whether a line is the last one of a certificate or a proof.
+pub(crate) fn is_end(text: &[u8]) -> bool
     ensures { IsTrue result ↔ (fields_of text.now ≡ end_line) }
 {
     match first_field(text) {

@@ -9,11 +9,14 @@ mod fields;
 mod line;
 mod parse;
 mod print;
+mod proof;
+mod proof_reader;
 
 pub use cert::{Cert, Section, SectionLevel, Sections};
 pub use fault::CertFault;
 pub use parse::parse_cert;
 pub use print::print_cert;
+pub use proof::parse_proof;
 
 #[cfg(test)]
 mod tests;

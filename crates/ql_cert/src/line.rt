@@ -3,7 +3,7 @@ ghost use Rattle.std.specs.List.{AllByRecursion};
 ghost use Rattle.std.specs.Option.{option_map};
 ghost use Rattle.ql_lines.specs.Fields.{fields_of};
 ghost use Rattle.ql_cnf.specs.Literals.{IsAscending};
-ghost use Rattle.ql_cert.specs.Spelling.{IsHint, IsLine, body_fields, colon, hint_field, lit_field};
+ghost use Rattle.ql_cert.specs.Spelling.{IsClause, IsHint, IsLine, body_fields, clause_fields, colon, hint_field, lit_field};
 ghost use Rattle.ql_cert.specs.Readings.{IsClauseBefore, IsNext, IsRead, before_colon};
 
 use crate::fields::{hint, literal};
@@ -76,6 +76,22 @@ fn goes_on(before: &[Lit], next: Lit) -> bool
     ensures { IsTrue result ↔ IsAscending (before.now ++ next ∷ []) }
 {
     before.is_empty() || before[before.len() - 1].var < next.var
+}
+
+/// All literals of a line.
+pub(crate) fn literals(alloc: Global, text: &[u8]) -> Result<Option<Vec<Lit>>, NoMemory>
+    ensures { IfOk result (λ found. IsRead IsClause clause_fields (fields_of text.now) (option_map (λ c. c.items) found)) }
+{
+    let mut literals = Vec::new(alloc);
+    let mut rest = text;
+    while let Some((field, behind)) = first_field(rest) {
+        let Some(next) = next_literal(field, literals.as_slice()) else {
+            return Ok(None);
+        };
+        literals.push(next)?;
+        rest = behind;
+    }
+    Ok(Some(literals))
 }
 
 // All hints of a line.

@@ -1,4 +1,4 @@
-use crate::{CertFault, parse_cert, print_cert};
+use crate::{CertFault, parse_cert, parse_proof, print_cert};
 use std::alloc::{AllocError, Global};
 use std::test::Fail;
 
@@ -261,8 +261,172 @@ fn told(alloc: Global, file: &[u8]) -> Result<String, AllocError> {
             let sections = cert.sections.items().len();
             format!(in alloc; "sections {sections}")
         }
-        Err(CertFault::Unexpected(line)) => format!(in alloc; "unexpected {line}"),
-        Err(CertFault::Number(line)) => format!(in alloc; "number {line}"),
-        Err(CertFault::NoMemory) => Err(AllocError),
+        Err(fault) => told_of_fault(alloc, fault),
+    }
+}
+
+// Proofs with what they have, or their first fault and its line, from an independent implementation.
+const PROOFS: &[(&[u8], &str)] = &[
+    (
+        b"variables 2\nc 1 2\nc 1 -2\nc -1\n1 1 : c1 c2\n2 : l1 c3\nend\n",
+        "2 variables, 3 clauses, 2 lines",
+    ),
+    (b"", "unexpected 1"),
+    (b"variables 0\nend", "0 variables, 0 clauses, 0 lines"),
+    (b"variables 1000\nend", "1000 variables, 0 clauses, 0 lines"),
+    (b"variables 1001\nend", "unexpected 1"),
+    (b"variables 01\nend", "unexpected 1"),
+    (b"variables\nend", "unexpected 1"),
+    (b"variables 1 1\nend", "unexpected 1"),
+    (b"variable 1\nend", "unexpected 1"),
+    (
+        b"# x\n\n  variables   2  \r\n c\r\nend\n\n#\n",
+        "2 variables, 1 clauses, 0 lines",
+    ),
+    (
+        b"c 1 2\nc 1 -2\nc -1\n1 1 : c1 c2\n2 : l1 c3\nend\n",
+        "unexpected 1",
+    ),
+    (
+        b"variables 2\nc 1 -2\nc -1\n1 1 : c1 c2\n2 : l1 c3\nend\n",
+        "2 variables, 2 clauses, 2 lines",
+    ),
+    (
+        b"variables 2\nc 1 2\nc -1\n1 1 : c1 c2\n2 : l1 c3\nend\n",
+        "2 variables, 2 clauses, 2 lines",
+    ),
+    (
+        b"variables 2\nc 1 2\nc 1 -2\n1 1 : c1 c2\n2 : l1 c3\nend\n",
+        "2 variables, 2 clauses, 2 lines",
+    ),
+    (
+        b"variables 2\nc 1 2\nc 1 -2\nc -1\n2 : l1 c3\nend\n",
+        "number 5",
+    ),
+    (
+        b"variables 2\nc 1 2\nc 1 -2\nc -1\n1 1 : c1 c2\nend\n",
+        "2 variables, 3 clauses, 1 lines",
+    ),
+    (
+        b"variables 2\nc 1 2\nc 1 -2\nc -1\n1 1 : c1 c2\n2 : l1 c3\n",
+        "unexpected 7",
+    ),
+    (b"", "unexpected 1"),
+    (b"variables 2", "unexpected 2"),
+    (b"variables 2\nc 1 2", "unexpected 3"),
+    (b"variables 2\nc 1 2\nc 1 -2", "unexpected 4"),
+    (b"variables 2\nc 1 2\nc 1 -2\nc -1", "unexpected 5"),
+    (
+        b"variables 2\nc 1 2\nc 1 -2\nc -1\n1 1 : c1 c2",
+        "unexpected 6",
+    ),
+    (
+        b"variables 2\nc 1 2\nc 1 -2\nc -1\n1 1 : c1 c2\n2 : l1 c3",
+        "unexpected 7",
+    ),
+    (
+        b"variables 2\nc 1 3\nc 1 -2\nc -1\n1 1 : c1 c2\n2 : l1 c3\nend\n",
+        "unexpected 2",
+    ),
+    (
+        b"variables 2\nc 2 1\nc 1 -2\nc -1\n1 1 : c1 c2\n2 : l1 c3\nend\n",
+        "unexpected 2",
+    ),
+    (
+        b"variables 2\nc 1 1\nc 1 -2\nc -1\n1 1 : c1 c2\n2 : l1 c3\nend\n",
+        "unexpected 2",
+    ),
+    (
+        b"variables 2\nc 1 -1\nc 1 -2\nc -1\n1 1 : c1 c2\n2 : l1 c3\nend\n",
+        "unexpected 2",
+    ),
+    (
+        b"variables 2\nc 0\nc 1 -2\nc -1\n1 1 : c1 c2\n2 : l1 c3\nend\n",
+        "unexpected 2",
+    ),
+    (
+        b"variables 2\nc 1 x\nc 1 -2\nc -1\n1 1 : c1 c2\n2 : l1 c3\nend\n",
+        "unexpected 2",
+    ),
+    (
+        b"variables 2\nC 1 2\nc 1 -2\nc -1\n1 1 : c1 c2\n2 : l1 c3\nend\n",
+        "unexpected 2",
+    ),
+    (
+        b"variables 2\nc1 2\nc 1 -2\nc -1\n1 1 : c1 c2\n2 : l1 c3\nend\n",
+        "unexpected 2",
+    ),
+    (
+        b"variables 2\ncc 1 2\nc 1 -2\nc -1\n1 1 : c1 c2\n2 : l1 c3\nend\n",
+        "unexpected 2",
+    ),
+    (
+        b"variables 2\nc 1 2\nc 1 -2\nc -1\n1 1 : c1 c2\n1 : l1 c3\nend\n",
+        "number 6",
+    ),
+    (
+        b"variables 2\nc 1 2\nc 1 -2\nc -1\n1 1 : c1 c2\n2 : l1\nc 1\n3 : l1 c3\nend\n",
+        "unexpected 7",
+    ),
+    (
+        b"variables 2\nc 1 2\nc 1 -2\nc -1\n1 9 : c1 c2\n2 : l1 c3\nend\n",
+        "2 variables, 3 clauses, 2 lines",
+    ),
+    (
+        b"variables 2\nc 1 2\nc 1 -2\nc -1\n2 1 : c1 c2\n2 : l1 c3\nend\n",
+        "number 5",
+    ),
+    (
+        b"variables 2\nc 1 2\nc 1 -2\nc -1\n18446744073709551616 1 : c1 c2\n2 : l1 c3\nend\n",
+        "unexpected 5",
+    ),
+    (
+        b"variables 2\nc 1 2\nc 1 -2\nc -1\n1 1 :: c1 c2\n2 : l1 c3\nend\n",
+        "unexpected 5",
+    ),
+    (
+        b"variables 2\nc 1 2\nc 1 -2\nc -1\n1 1 : c1 c2\n2 : l1 c3\nend\nend\n",
+        "unexpected 8",
+    ),
+    (
+        b"variables 2\nc 1 2\nc 1 -2\nc -1\n1 1 : c1 c2\n2 : l1 c3\nend 1\n",
+        "unexpected 7",
+    ),
+    (
+        b"variables 2\nvariables 2\nc 1 2\nc 1 -2\nc -1\n1 1 : c1 c2\n2 : l1 c3\nend\n",
+        "unexpected 2",
+    ),
+    (
+        b"variables 2\nc 1 2\nc 1 -2\nc -1\nend\n1 1 : c1 c2\n2 : l1 c3\nend\n",
+        "unexpected 6",
+    ),
+];
+
+#[test]
+fn proofs_and_their_first_faults(rt: HostRuntime) -> Result<(), Fail> {
+    for (file, want) in PROOFS {
+        let found = told_of_proof(rt.alloc(), file)?;
+        assert_eq!(rt; found.as_str(), *want);
+    }
+    Ok(())
+}
+
+fn told_of_proof(alloc: Global, file: &[u8]) -> Result<String, AllocError> {
+    match parse_proof(alloc, file) {
+        Ok((clauses, refutation)) => {
+            let variables = clauses.variables();
+            let count = clauses.len();
+            let lines = refutation.lines.items().len();
+            format!(in alloc; "{variables} variables, {count} clauses, {lines} lines")
+        }
+        Err(fault) => told_of_fault(alloc, fault),
+    }
+}
+
+fn told_of_fault(alloc: Global, fault: CertFault) -> Result<String, AllocError> {
+    match fault {
+        CertFault::Unexpected(line) => format!(in alloc; "unexpected {line}"),
+        CertFault::Number(line) => format!(in alloc; "number {line}"),
+        CertFault::NoMemory => Err(AllocError),
     }
 }
