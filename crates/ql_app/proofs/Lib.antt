@@ -4,5 +4,4 @@ pub mod EffectLaws
 pub mod QuestionLaws
 pub mod SearchLaws
 pub mod OutcomeLaws
-pub mod LitLaws
 pub mod ProofLaws

@@ -10,7 +10,6 @@ mod holds;
 mod outcome;
 mod program;
 mod proof;
-mod proof_text;
 mod question;
 mod question_text;
 mod status;

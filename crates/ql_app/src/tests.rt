@@ -172,7 +172,13 @@ fn answers_words_over_memory(rt: HostRuntime) -> Result<(), Fail> {
             Status::No,
             b"refused 2 NotUnit\n",
         ),
-        (&["proof", "twice"], &[], &[], Status::Bad, b"bad proof\n"),
+        (
+            &["proof", "twice"],
+            &[],
+            &[],
+            Status::Bad,
+            b"bad proof at 6: Number\n",
+        ),
         (
             &["proof", "ends"],
             &[],

@@ -3,6 +3,7 @@ use Rattle.std.proofs.Common.{◌≡◌, ℕ, List, [], ◌∷◌, ◌++◌, dec
 use Rattle.std.proofs.lemmas.List.{map-append}
 use Rattle.ql_lines.specs.Fields.{fields_of}
 use Rattle.ql_lines.specs.Lines.{Ahead, Numbered}
+use Rattle.ql_cert.specs.declared.fault.CertFault.{CertFault}
 use Rattle.ql_cert.specs.declared.fault.CertFault.TheVariants.{Unexpected, Number}
 use Rattle.ql_cert.specs.declared.fault.LineFault.{LineFault}
 use Rattle.ql_cert.specs.declared.fault.LineFault.TheVariants as refusal
@@ -85,3 +86,17 @@ module _ {State : Type 0} (first : State) (Takes : State → Fields → State �
       map-append (λ (n : Numbered). fields_of n.text) before (l ∷ []) ∙ ap (λ fs. fs ++ fields_of l.text ∷ []) read ∙ sym (r.takes s (fields_of l.text) t is p),
       r.stays s (fields_of l.text) t is p,
     )
+
+-- each front of a file may go on with its next line
+goes_on : (IsFile : List Fields → Type 0) (file : Ahead) (before : List Numbered) (l : Numbered) (rest : List Numbered) → file.lines ≡ before ++ l ∷ rest → IsFile (fields_in file.lines)
+    → MayFollow IsFile (fields_in before) (fields_of l.text)
+goes_on IsFile file before l rest are is =
+    let whole : fields_in file.lines ≡ (fields_in before ++ fields_of l.text ∷ []) ++ fields_in rest =
+    ap fields_in are ∙ map-append (λ (n : Numbered). fields_of n.text) before (l ∷ rest) ∙ sym (append_assoc (fields_in before) (fields_of l.text ∷ []) (fields_in rest)) in
+    (fields_in rest, subst IsFile whole is)
+
+-- a file with a first fault is none of the grammar
+pub no_file : (IsFile : List Fields → Type 0) (file : Ahead) (f : CertFault) → FirstFault IsFile file f → IsFile (fields_in file.lines) → ⊥
+no_file IsFile file f (unexpected before l rest are begun none no_number) is = none (goes_on IsFile file before l rest are is)
+no_file IsFile file f (number before l rest are begun none other) is = none (goes_on IsFile file before l rest are is)
+no_file IsFile file f (ended begun none) is = none is

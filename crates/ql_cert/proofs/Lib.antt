@@ -2,8 +2,8 @@ mod Conses
 mod Numerals
 mod FieldLaws
 mod LineLaws
-mod Walking
-mod FirstFaults
+pub mod Walking
+pub mod FirstFaults
 mod Walks
 mod States
 mod Refusals
