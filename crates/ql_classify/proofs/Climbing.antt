@@ -1,5 +1,5 @@
 -- Going up through goals: what satisfied the first ones, and what the next is.
-use Rattle.std.proofs.Common.{◌≡◌, ℕ, zero, suc, ◌+◌, ◌<◌, Bool, List, [], ◌∷◌, ◌++◌, length, take, get_or, Option, None, Some, ◌≤◌, refl, sym, subst, ◌∙◌, ap, arith, add-one}
+use Rattle.std.proofs.Common.{◌≡◌, ℕ, zero, suc, ◌+◌, ◌<◌, Bool, List, [], ◌∷◌, ◌++◌, length, take, get_or, Option, Some, ◌≤◌, sym, subst, ◌∙◌, ap, arith, add-one}
 use Rattle.std.specs.List.{AllZip}
 use Rattle.ql_ground.specs.declared.goal.Goal.{Goal}
 use Rattle.ql_lang.specs.declared.program.Program.{Program}

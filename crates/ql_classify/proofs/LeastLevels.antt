@@ -1,5 +1,5 @@
 -- From evidence to least levels.
-use Rattle.std.proofs.Common.{◌≡◌, ℕ, zero, suc, Bool, List, [], ◌∷◌, length, Some, refl, sym, subst, ◌∙◌, ap}
+use Rattle.std.proofs.Common.{◌≡◌, ℕ, Bool, List, [], ◌∷◌, length, Some, sym, subst, ◌∙◌}
 use Rattle.std.specs.List.{AllZip, slice_get}
 use Rattle.ql_base.specs.declared.ids.OpId.{OpId}
 use Rattle.ql_base.specs.declared.ids.DeclId.{DeclId}
@@ -17,8 +17,8 @@ use Rattle.ql_ground.specs.Ground.{op_problem, txn_problem}
 use Rattle.ql_ground.specs.Least.{IsLeast, IsLeastTxn}
 use Rattle.ql_refute.specs.declared.refutation.Line.{Line}
 use Rattle.ql_refute.proofs.Soundness.{accepted_is_unsatisfiable}
-use Rattle.ql_classify.specs.Goals.{IsSatisfiedBy, IsRefutedBy, IsEnough, IsFirstRefuted}
-use Rattle.ql_classify.specs.Targets.{op_at, txn_at, op_goals, txn_goals, goals_below, step_level, step_txn_level, IsOpLevel, IsTxnLevel, IsLeastLevel, IsEvidence}
+use Rattle.ql_classify.specs.Goals.{IsSatisfiedBy, IsEnough, IsFirstRefuted}
+use Rattle.ql_classify.specs.Targets.{op_at, txn_at, op_goals, txn_goals, goals_below, step_level, step_txn_level, IsLeastLevel, IsEvidence}
 use Rattle.ql_classify.specs.declared.evidence.Evidence.{Evidence}
 
 module _ (p : Program) where

@@ -1,6 +1,6 @@
 -- A test doesn't both pass and fail, and a target has at most one least level.
 use Rattle.std.proofs.Common.{◌≡◌, ℕ, Bool, inl, inr, List, [], ◌∷◌, Some, refl, sym, subst, ◌∙◌}
-use Rattle.std.specs.List.{All, slice_get}
+use Rattle.std.specs.List.{All}
 use Rattle.std.proofs.lemmas.List.Elements.{All-head, All-tail}
 use Rattle.ql_cnf.specs.Satisfaction.{Satisfies}
 use Rattle.ql_lang.specs.Formulas.{Resolved}
@@ -9,12 +9,12 @@ use Rattle.ql_levels.specs.declared.level.Level.{Level}
 use Rattle.ql_levels.specs.declared.level.Level.TheVariants.{Eventual, Causal, Strong}
 use Rattle.ql_levels.specs.declared.level.TxnLevel.{TxnLevel}
 use Rattle.ql_levels.specs.declared.level.TxnLevel.TheVariants.{Rc, Mav, Rr}
-use Rattle.ql_typing.specs.Operations.{op_kinds, op_contracts, txn_contracts}
+use Rattle.ql_typing.specs.Operations.{op_kinds}
 use Rattle.ql_ground.specs.Ground.{op_problem, txn_problem}
 use Rattle.ql_ground.specs.Least.{IsLeast, IsLeastTxn}
 use Rattle.ql_ground.proofs.Lower.{strong_gives_causal, causal_gives_eventual, rr_gives_mav, mav_gives_rc}
 use Rattle.ql_classify.specs.Outcome.{Test, OpHasLevel, UseIsWeak, TxnHasLevel, Passes, Fails, FirstFails}
-use Rattle.ql_classify.specs.Targets.{op_at, txn_at, IsOpLevel, IsTxnLevel}
+use Rattle.ql_classify.specs.Targets.{IsOpLevel, IsTxnLevel}
 use Rattle.ql_classify.specs.declared.classless.Classless.{Classless}
 use Rattle.ql_classify.specs.declared.classless.Classless.TheVariants.{NoLevel, StrongInTxn, NoMemory}
 use Rattle.ql_classify.proofs.LeastLevels.{op_satisfied, txn_satisfied}

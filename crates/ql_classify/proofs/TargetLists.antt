@@ -2,7 +2,6 @@
 use Rattle.std.proofs.Common.{◌≡◌, ℕ, zero, suc, ◌+◌, ◌<◌, Bool, List, [], ◌∷◌, ◌++◌, length, Some, refl, sym, subst, ◌∙◌, ap, arith, length-append}
 use Rattle.std.specs.List.{All, AllZip, slice_get}
 use Rattle.std.proofs.lemmas.List.Elements.{All-nil, All-cons}
-use Rattle.std.proofs.lemmas.Option.{slice_get_within}
 use Rattle.ql_lang.specs.declared.program.Program.{Program}
 use Rattle.ql_levels.specs.Lists.{LevelLists}
 use Rattle.ql_levels.specs.declared.level.Level.{Level}
@@ -10,7 +9,6 @@ use Rattle.ql_levels.specs.declared.level.TxnLevel.{TxnLevel}
 use Rattle.ql_typing.specs.Operations.{all_ops}
 use Rattle.ql_ground.specs.declared.goal.Goal.{Goal}
 use Rattle.ql_ground.specs.OfPrograms.{IsImplied}
-use Rattle.ql_cnf.specs.Satisfaction.{Satisfies}
 use Rattle.ql_classify.specs.Classification.{Classification}
 use Rattle.ql_classify.specs.Goals.{IsSatisfiedBy}
 use Rattle.ql_classify.specs.Kept.{IsClassified}

@@ -1,5 +1,5 @@
 -- The first test that fails, in lists of tests that are longer, and which tests pass.
-use Rattle.std.proofs.Common.{◌≡◌, ℕ, zero, suc, ◌+◌, ◌<◌, inl, inr, List, [], ◌∷◌, ◌++◌, map, length, take, drop, Option, add-one, ◌≤◌, get_or, Some, refl, sym, subst, ◌∙◌, ap, arith}
+use Rattle.std.proofs.Common.{◌≡◌, ℕ, zero, suc, ◌+◌, ◌<◌, inl, inr, List, [], ◌∷◌, ◌++◌, map, length, take, add-one, ◌≤◌, get_or, Some, refl, sym, subst, ◌∙◌, ap, arith}
 use Rattle.std.specs.List.{All, slice_get}
 use Rattle.std.proofs.lemmas.Bool.{cases_lt}
 use Rattle.std.proofs.lemmas.List.Elements.{All-nil, All-cons, All-head, All-tail, All-append}
@@ -14,8 +14,7 @@ use Rattle.ql_base.specs.declared.ids.DeclId.{DeclId}
 use Rattle.ql_levels.specs.declared.level.Level.{Level}
 use Rattle.ql_levels.specs.declared.level.Level.TheVariants.{Eventual}
 use Rattle.ql_levels.specs.declared.level.TxnLevel.{TxnLevel}
-use Rattle.ql_typing.specs.Operations.{all_ops}
-use Rattle.ql_classify.specs.Outcome.{Test, OpHasLevel, UseIsWeak, TxnHasLevel, Passes, Fails, FirstFails, IsRefusal, IsAccepted, op_tests, use_tests, txn_tests, every_txn_tests, all_tests, names_used}
+use Rattle.ql_classify.specs.Outcome.{Test, OpHasLevel, UseIsWeak, TxnHasLevel, Passes, Fails, FirstFails, IsRefusal, IsAccepted, op_tests, use_tests, txn_tests, every_txn_tests, names_used}
 use Rattle.ql_classify.specs.Targets.{IsOpLevel, IsTxnLevel, IsWeakUse, IsStrongUse}
 use Rattle.ql_classify.specs.declared.classless.Classless.{Classless}
 use Rattle.ql_classify.specs.declared.classless.Classless.TheVariants.{NoLevel, StrongInTxn, NoMemory}

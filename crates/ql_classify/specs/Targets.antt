@@ -1,8 +1,6 @@
 -- The targets of a program, its operations and then its declared transactions, with their levels.
 use Rattle.std.specs.Prelude.{ℕ, zero, suc, ◌+◌, ◌≡◌, ◌≢◌, Bool, Option, None, List, [], ◌∷◌, ◌++◌, length, slice_get, Some}
 use Rattle.std.specs.List.{AllZip}
-use Rattle.ql_base.specs.declared.ids.OpId.{OpId}
-use Rattle.ql_base.specs.declared.ids.DeclId.{DeclId}
 use Rattle.ql_lang.specs.Formulas.{Resolved}
 use Rattle.ql_lang.specs.declared.program.Program.{Program}
 use Rattle.ql_levels.specs.Lists.{LevelLists}

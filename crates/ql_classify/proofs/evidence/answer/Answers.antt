@@ -1,13 +1,8 @@
-use Rattle.std.proofs.Common.{◌≡◌}
-use Rattle.std.specs.Result.{IfOk}
 use Rattle.std.proofs.lemmas.Result.{IfOk-weaker}
 use Rattle.ql_sat.specs.Answer.{IsRight}
 use Rattle.ql_sat.specs.declared.decided.Decided.{Decided}
 use Rattle.ql_classify.specs.Found.{IsAnswer}
 use Rattle.ql_classify.proofs.Climbing.{answered}
-use Rattle.ql_classify.proofs.LeastLevels.{least}
-use Rattle.ql_classify.proofs.TargetLists.{all_least}
-use Rattle.ql_classify.proofs.TestOrder.{ops_pass}
 use Rattle.ql_classify.proofs.evidence.answer.Goals as goal
 
 pub returns : goal.returns

@@ -1,4 +1,4 @@
-use Rattle.std.proofs.Common.{◌≡◌, length, ap, ◌∙◌}
+use Rattle.std.proofs.Common.{length, ap, ◌∙◌}
 use Rattle.ql_classify.specs.Targets.{op_goals, step_level}
 use Rattle.ql_classify.proofs.Climbing.{search_refuted}
 use Rattle.ql_classify.proofs.LeastLevels.{op_evidence}

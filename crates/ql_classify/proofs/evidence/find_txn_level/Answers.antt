@@ -1,4 +1,4 @@
-use Rattle.std.proofs.Common.{◌≡◌, length, ap, ◌∙◌, arith}
+use Rattle.std.proofs.Common.{length, ap, ◌∙◌, arith}
 use Rattle.ql_classify.specs.Targets.{txn_goals, step_txn_level}
 use Rattle.ql_classify.proofs.Climbing.{search_refuted}
 use Rattle.ql_classify.proofs.LeastLevels.{txn_evidence}

@@ -1,9 +1,7 @@
-use Rattle.std.proofs.Common.{◌≡◌, refl, length, sym, subst}
-use Rattle.std.specs.List.{All}
+use Rattle.std.proofs.Common.{refl, length, sym, subst}
 use Rattle.std.proofs.lemmas.Result.{err_from_is_err_and}
 use Rattle.ql_typing.specs.Operations.{all_ops}
-use Rattle.ql_levels.specs.declared.level.Level.{Level}
-use Rattle.ql_classify.specs.Outcome.{IsAccepted, Passes, op_tests, every_txn_tests}
+use Rattle.ql_classify.specs.Outcome.{op_tests, every_txn_tests}
 use Rattle.ql_classify.specs.Targets.{AreOpLevels}
 use Rattle.ql_classify.proofs.TargetLists.{op_levels, classified}
 use Rattle.ql_classify.proofs.TestOrder.{refusal_longer, refusal_after, ops_pass, all_pass}

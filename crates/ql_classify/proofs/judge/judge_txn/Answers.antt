@@ -1,9 +1,8 @@
-use Rattle.std.proofs.Common.{◌≡◌, List, [], ◌∷◌}
+use Rattle.std.proofs.Common.{[], ◌∷◌}
 use Rattle.std.specs.List.{All}
-use Rattle.std.specs.Result.{IfErr, IfOk}
 use Rattle.std.proofs.lemmas.Result.{IfErr-weaker, IfOk-weaker, err_from_is_err_and}
 use Rattle.ql_classify.specs.Outcome.{IsRefusal, Passes, TxnHasLevel, use_tests, txn_tests}
-use Rattle.ql_classify.specs.Targets.{IsEvidence, txn_at}
+use Rattle.ql_classify.specs.Targets.{txn_at}
 use Rattle.ql_classify.proofs.LeastLevels.{least}
 use Rattle.ql_classify.proofs.TestOrder.{refusal_longer, refusal_after, txn_passes}
 use Rattle.ql_classify.proofs.judge.judge_txn.Goals as goal

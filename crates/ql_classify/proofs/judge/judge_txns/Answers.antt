@@ -1,4 +1,4 @@
-use Rattle.std.proofs.Common.{◌≡◌, ◌+◌, ◌<◌, List, [], ◌∷◌, length, arith, length-append, ◌∙◌, ap, subst}
+use Rattle.std.proofs.Common.{◌<◌, [], ◌∷◌, length, arith, length-append, ap}
 use Rattle.std.proofs.lemmas.Result.{err_from_is_err_and}
 use Rattle.ql_classify.specs.Outcome.{txn_tests}
 use Rattle.ql_classify.proofs.TargetLists.{txns_more}

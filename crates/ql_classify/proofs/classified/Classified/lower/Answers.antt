@@ -1,4 +1,4 @@
-use Rattle.std.proofs.Common.{◌≡◌, sym, subst, ap, ◌∙◌}
+use Rattle.std.proofs.Common.{sym, subst, ap, ◌∙◌}
 use Rattle.std.specs.List.{slice_get}
 use Rattle.ql_classify.specs.Targets.{IsLowerAnswer, goals_below}
 use Rattle.ql_classify.proofs.TargetLists.{target_within, evidence_at, lower_at}
