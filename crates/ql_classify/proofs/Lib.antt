@@ -1,0 +1,5 @@
+pub mod Climbing
+pub mod LeastLevels
+pub mod TargetLists
+pub mod TestOrder
+pub mod OneOutcome

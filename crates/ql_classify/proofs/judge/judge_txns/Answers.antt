@@ -1,0 +1,19 @@
+use Rattle.std.proofs.Common.{◌<◌, [], ◌∷◌, length, arith, length-append, ap}
+use Rattle.std.proofs.lemmas.Result.{err_from_is_err_and}
+use Rattle.ql_classify.specs.Outcome.{txn_tests}
+use Rattle.ql_classify.proofs.TargetLists.{txns_more}
+use Rattle.ql_classify.proofs.TestOrder.{refusal_upto, upto_more}
+use Rattle.ql_classify.proofs.judge.judge_txns.Goals as goal
+
+pub returns-in_err-level-clause-refused : goal.returns-in_err-level-clause-refused
+returns-in_err-level-clause-refused c =
+    let p = err_from_is_err_and c.from_residual.result c.from_residual.ensures.1 in
+    let within : c.loop-d.d < length c.args.t.now.program.txns = omega (arith, c.loop-d-test.true, c.txns-d-end.ensures.count) in
+    rw (p.1, p.2) (refusal_upto c.args.t.now.program (length c.args.t.now.program.txns) c.loop-d.d (txn_tests c.args.t.now.program) _ within c.loop-d.invariant.2 c.in_err-level.ensures.refused)
+
+pub loop-d-preserved : goal.loop-d-preserved
+loop-d-preserved c = (
+  omega (arith, ap length c.in_ok-push.ensures.items, length-append c.loop-d.levels.items (c.in_ok-level.level ∷ []), c.loop-d.invariant.0),
+  txns_more c.args.t.now.program c.loop-d.levels.items c.push.new.self.items c.loop-d.evidence.items c.push-in-loop-d.new.self.items c.loop-d.d c.in_ok-level.level c.in_ok-level.found c.loop-d.invariant.0 c.in_ok-push.ensures.items c.in_ok-push-2.ensures.items c.loop-d.invariant.1 c.in_ok-level.ensures.evidence,
+  upto_more c.args.t.now.program c.loop-d.d (txn_tests c.args.t.now.program) c.loop-d.invariant.2 c.in_ok-level.ensures.passed,
+)

@@ -1,0 +1,6 @@
+pub mod Goals
+pub mod Targets
+pub mod Outcome
+pub mod Found
+pub mod Classification
+pub mod Kept
