@@ -1,15 +1,15 @@
 -- One clause more that watches its literals.
-use Rattle.std.proofs.Common.{◌≡◌, ◌≢◌, ℕ, zero, suc, ◌+◌, ◌-◌, ◌<◌, ◌≤◌, Bool, true, false, List, [], ◌∷◌, ◌++◌, Some, length, get_or, refl, sym, ◌∙◌, ap, subst, arith}
+use Rattle.std.proofs.Common.{◌≡◌, ◌≢◌, ℕ, ◌+◌, ◌-◌, ◌<◌, ◌≤◌, Bool, true, false, List, [], ◌∷◌, ◌++◌, Some, length, get_or, refl, sym, ◌∙◌, subst, arith}
 use Rattle.std.proofs.lemmas.Bool.Decides.{nat_tests}
 use Rattle.std.proofs.lemmas.List.{get_or_append_left, length_push}
 use Rattle.std.specs.Prelude.{◌==◌, slice_get}
 use Rattle.ql_cnf.specs.Literals.{IsAscending}
 use Rattle.ql_cnf.specs.Satisfaction.{ClauseList}
 use Rattle.ql_cnf.specs.declared.lit.Lit.{Lit}
-use Rattle.ql_sat.specs.Settled.{WatchesOwn, AtDecisions, AreSettled, IsGuarded, IsWatched, values_to}
+use Rattle.ql_sat.specs.Settled.{WatchesOwn, AtDecisions, AreSettled, IsWatched, values_to}
 use Rattle.ql_sat.specs.Trail.{assigned_from}
 use Rattle.ql_refute.specs.Partial.{Partial, nothing, with_true}
-use Rattle.ql_sat.specs.Settled.{IsSettled, IsSettledTo}
+use Rattle.ql_sat.specs.Settled.{IsSettled}
 use Rattle.ql_sat.specs.Watch.{pair_at}
 use Rattle.ql_sat.specs.declared.trail.Step.{Step}
 use Rattle.ql_sat.specs.declared.watches.Pair.{Pair}

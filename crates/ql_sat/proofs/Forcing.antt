@@ -1,8 +1,8 @@
 -- A clause whose literals are all false but one that it watches forces that one, or is false.
-use Rattle.std.proofs.Common.{◌≡◌, ◌≢◌, ◌⊎◌, ℕ, zero, suc, ◌+◌, ◌-◌, ◌<◌, ◌≤◌, Bool, true, false, not, ◌||◌, ◌&&◌, cond, List, [], ◌∷◌, ◌++◌, Option, Some, None, length, get_or, refl, sym, ◌∙◌, ap, subst, inl, inr, arith}
+use Rattle.std.proofs.Common.{◌≡◌, ◌⊎◌, ℕ, zero, suc, ◌+◌, ◌-◌, ◌<◌, ◌≤◌, Bool, true, false, not, ◌||◌, ◌&&◌, cond, List, [], ◌∷◌, Option, Some, None, length, get_or, refl, sym, ◌∙◌, ap, subst, inl, inr, arith}
 use Rattle.std.proofs.lemmas.Bool.Decides.{nat_tests}
 use Rattle.std.proofs.lemmas.Option.{slice_get-get_or}
-use Rattle.std.specs.Prelude.{◌==◌, is_some, slice_get, slice_set}
+use Rattle.std.specs.Prelude.{◌==◌, is_some, slice_set}
 use Rattle.std.specs.Bool.{beq}
 use Rattle.std.specs.List.{All, filter, list_any}
 use Rattle.ql_cnf.specs.Literals.{AllAbove, IsAscending, same_literal, has_literal}
@@ -10,21 +10,20 @@ use Rattle.ql_cnf.specs.Satisfaction.{ClauseList}
 use Rattle.ql_cnf.specs.declared.lit.Lit.{Lit}
 use Rattle.ql_refute.specs.Marks.{marked, mark_of}
 use Rattle.ql_refute.specs.Partial.{Partial, is_value, is_open, reading_of, reading}
-use Rattle.ql_refute.specs.Verdict.{numbered, hinted}
-use Rattle.ql_refute.specs.declared.marks.Reading.TheVariants.{AllFalse, Forces, Neither}
+use Rattle.ql_refute.specs.Verdict.{hinted}
+use Rattle.ql_refute.specs.declared.marks.Reading.TheVariants.{AllFalse, Forces}
 use Rattle.ql_refute.specs.declared.refutation.Hint.TheVariants.{Given}
 use Rattle.ql_refute.specs.declared.refutation.Hint.{Hint}
 use Rattle.ql_refute.specs.declared.refutation.Line.{Line}
 use Rattle.ql_refute.proofs.Marking.{marked-set}
 use Rattle.ql_sat.specs.Settled.{IsLook}
 use Rattle.ql_sat.specs.Trail.{IsLonger, trail_number}
-use Rattle.ql_sat.specs.Watch.{index_of}
 use Rattle.ql_sat.specs.declared.trail.Step.{Step}
 use Rattle.ql_sat.specs.declared.trail.Visit.{Visit}
 use Rattle.ql_sat.specs.declared.trail.Visit.TheVariants.{Conflict, Forced, Nothing}
 use Rattle.ql_sat.specs.declared.watches.Look.TheVariants.{Read}
 use Rattle.ql_sat.proofs.Rounds.{numbered_next}
-use Rattle.ql_sat.proofs.Settling.{IsFalse, IsTrueIn, open_not_false, false_at_index}
+use Rattle.ql_sat.proofs.Settling.{IsFalse, open_not_false, false_at_index}
 use Rattle.ql_sat.proofs.Trails.{set_here}
 
 -- the literals of a list that pass are all this one

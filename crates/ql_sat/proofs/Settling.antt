@@ -1,18 +1,18 @@
 -- What keeps watched literals settled.
-use Rattle.std.proofs.Common.{◌≡◌, ◌≢◌, ◌⊎◌, ℕ, zero, suc, ◌+◌, ◌*◌, ◌<◌, ◌≤◌, Bool, true, false, not, cond, List, [], ◌∷◌, ◌++◌, Option, Some, None, length, get_or, take, drop, refl, sym, ◌∙◌, ap, subst, inl, inr, arith}
+use Rattle.std.proofs.Common.{◌≡◌, ◌≢◌, ◌⊎◌, ℕ, ◌+◌, ◌*◌, Bool, true, false, not, cond, List, [], ◌∷◌, ◌++◌, Option, Some, refl, sym, ◌∙◌, ap, inl, inr, arith}
 use Rattle.std.proofs.lemmas.Bool.Decides.{nat_tests}
 use Rattle.std.specs.Prelude.{◌==◌, is_some}
 use Rattle.ql_cnf.specs.Literals.{negated}
 use Rattle.ql_cnf.specs.Satisfaction.{ClauseList}
 use Rattle.ql_cnf.specs.declared.lit.Lit.{Lit}
-use Rattle.ql_refute.specs.Partial.{Partial, nothing, with_true, is_value, is_open}
+use Rattle.ql_refute.specs.Partial.{Partial, with_true, is_value, is_open}
 use Rattle.ql_refute.specs.declared.refutation.Line.{Line}
-use Rattle.ql_sat.specs.Settled.{Gives, IsSettled, AreSettled, AtDecisions}
+use Rattle.ql_sat.specs.Settled.{Gives, IsSettled, AtDecisions}
 use Rattle.ql_sat.specs.Trail.{assigned_from, IsTrail}
 use Rattle.ql_sat.specs.Watch.{index_of, replaced_literal, replaced}
 use Rattle.ql_sat.specs.declared.trail.Step.{Step}
 use Rattle.ql_sat.specs.declared.watches.Pair.{Pair}
-use Rattle.ql_sat.proofs.Trails.{grows, set_here}
+use Rattle.ql_sat.proofs.Trails.{grows}
 
 is_same : (a b : ℕ) → (a == b) ≡ true → a ≡ b
 is_same a b h = grind (arith, nat_tests)

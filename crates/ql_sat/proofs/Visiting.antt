@@ -1,19 +1,19 @@
 -- The visit of one watcher keeps what holds between visits.
-use Rattle.std.proofs.Common.{◌≡◌, ◌≢◌, ◌⊎◌, ℕ, zero, suc, ◌+◌, ◌-◌, ◌*◌, ◌<◌, ◌≤◌, Bool, true, false, not, cond, List, [], ◌∷◌, ◌++◌, Option, Some, None, length, get_or, take, drop, refl, sym, ◌∙◌, ap, subst, inl, inr, arith, add-one}
+use Rattle.std.proofs.Common.{◌≡◌, ◌≢◌, ◌⊎◌, ℕ, ◌+◌, ◌*◌, ◌<◌, ◌≤◌, Bool, true, false, not, cond, List, [], ◌∷◌, ◌++◌, Some, None, length, get_or, take, drop, refl, sym, ◌∙◌, ap, subst, inl, inr, arith, add-one}
 use Rattle.std.proofs.Math.Seq.{take-suc}
 use Rattle.std.proofs.lemmas.Bool.Decides.{nat_tests}
 use Rattle.std.proofs.lemmas.List.{length_push, take-append-drop, take-append-le, take_all, get_or_append_left}
 use Rattle.std.proofs.lemmas.List.Sums.{sum_by_push}
-use Rattle.std.specs.Prelude.{◌==◌, is_some, slice_get}
-use Rattle.ql_cnf.specs.Literals.{negated, has_literal, IsAscending}
+use Rattle.std.specs.Prelude.{◌==◌, is_some}
+use Rattle.ql_cnf.specs.Literals.{negated, has_literal}
 use Rattle.ql_cnf.specs.Satisfaction.{ClauseList}
 use Rattle.ql_cnf.specs.declared.lit.Lit.{Lit}
 use Rattle.ql_refute.specs.Marks.{marked}
 use Rattle.ql_refute.specs.Partial.{Partial, nothing, with_true, is_open}
 use Rattle.ql_refute.specs.declared.refutation.Line.{Line}
-use Rattle.ql_sat.specs.Settled.{IsSettled, AreSettled, AtDecisions, WatchesOwn, IsGuarded, IsWatched, values_to, IsSettledTo, falsified_at, IsWaiting, IsVisiting}
+use Rattle.ql_sat.specs.Settled.{IsSettled, AreSettled, WatchesOwn, IsGuarded, IsWatched, values_to, IsSettledTo, falsified_at, IsWaiting, IsVisiting}
 use Rattle.ql_sat.specs.Trail.{assigned_from, IsTrail, IsSearching, IsLonger}
-use Rattle.ql_sat.specs.Watch.{count_of, index_of, IsListed, AreListed, IsThere, pair_at, replaced_literal, replaced}
+use Rattle.ql_sat.specs.Watch.{count_of, index_of, IsListed, AreListed, IsThere, pair_at, replaced}
 use Rattle.ql_sat.specs.declared.trail.Step.{Step}
 use Rattle.ql_sat.specs.declared.trail.Visit.{Visit}
 use Rattle.ql_sat.specs.declared.trail.Visit.TheVariants.{Conflict, Forced, Nothing}

@@ -1,5 +1,5 @@
 -- What the two watched literals of a clause say of its truth, while literals are made true.
-use Rattle.std.specs.Prelude.{ℕ, ◌+◌, ◌*◌, ◌<◌, ◌≤◌, ◌⊎◌, ◌≡◌, Bool, true, false, not, is_some, take, List, [], ◌∷◌, length, None, Some}
+use Rattle.std.specs.Prelude.{ℕ, ◌+◌, ◌*◌, ◌<◌, ◌≤◌, ◌⊎◌, ◌≡◌, true, false, not, is_some, take, List, [], ◌∷◌, length, None, Some}
 use Rattle.std.specs.List.{All, slice_index_or}
 use Rattle.ql_cnf.specs.Literals.{has_literal, negated, IsAscending}
 use Rattle.ql_cnf.specs.Satisfaction.{ClauseList}

@@ -8,12 +8,12 @@ ghost use Rattle.ql_refute.specs.Partial.{nothing, with_all_false};
 ghost use Rattle.ql_refute.specs.Verdict.{hinted, hints_fault};
 ghost use Rattle.ql_sat.specs.Settled.{IsGuarded, IsWatched};
 ghost use Rattle.ql_sat.specs.declared.watches.Pair.{Pair};
-ghost use Rattle.ql_sat.specs.Trail.{IsAnalysis, IsAsserting, IsFalseClause, IsOneSeen, IsSearching, IsTurn, NoneSeen, NothingSeen, is_seen, learned_to, trail_number};
+ghost use Rattle.ql_sat.specs.Trail.{IsAnalysis, IsAsserting, IsFalseClause, IsLonger, IsOneSeen, IsSearching, IsTurn, IsUnitClause, NoneSeen, NothingSeen, is_seen, learned_to, trail_number};
 
 use crate::guide::Guide;
 use crate::order::Order;
 use crate::plain::push_line;
-use crate::trail::{Step, go_back, propagate_clause};
+use crate::trail::{Step, Visit, go_back, propagate_clause};
 use crate::turn::Turn;
 use crate::watches::Watches;
 use ql_base::NoMemory;
@@ -59,10 +59,27 @@ pub(crate) fn learn(
         return Ok(Turn::Refuted(number));
     };
     go_back(c, lines, to, trail, marks, &mut guide.order);
-    propagate_clause(c, lines, Hint::Earlier(number), trail, marks)?;
+    read_learned(c, lines, number, trail, marks)?;
     guide.queue.done = to;
     watch(&mut guide.watches, trail, seen, to)?;
     Ok(Turn::More)
+}
+
+// Reads the learned clause where it forces a literal.
+fn read_learned(
+    c: &Clauses,
+    lines: &[Line],
+    number: u64,
+    trail: &mut Vec<Step>,
+    marks: &mut [u8],
+) -> Result<(), NoMemory>
+    requires searching { IsSearching c.now lines.now trail.old.items marks.old }
+    requires unit { IsUnitClause c.now lines.now (Hint.Earlier number) marks.old }
+    ensures searching { OnOk result (IsSearching c.now lines.now trail.new.items marks.new) }
+    ensures forced { OnOk result (IsLonger Visit.Forced (c.now.variables + 1) trail.old.items trail.new.items) }
+{
+    propagate_clause(c, lines, Hint::Earlier(number), trail, marks)?;
+    Ok(())
 }
 
 // The learned clause watches the literal that it forces and the latest of its false ones.

@@ -96,9 +96,7 @@ fn visit_watchers(
     let mut at = 0;
     while let Some(clause) = watches.watcher(falsified, at) {
         let hint = hint_of(c, clause);
-        match visit(
-            c, lines, falsified, at, clause, hint, trail, marks, watches,
-        )? {
+        match visit(c, lines, falsified, at, clause, hint, trail, marks, watches)? {
             Some(next) => at = next,
             None => return Ok(Some(hint)),
         }
