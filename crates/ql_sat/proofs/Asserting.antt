@@ -10,14 +10,12 @@ use Rattle.ql_cnf.specs.declared.lit.Lit.{Lit}
 use Rattle.ql_refute.specs.Marks.{marked}
 use Rattle.ql_refute.specs.Partial.{Partial, nothing, is_value, is_open, reading_of, reading}
 use Rattle.ql_refute.specs.Verdict.{hinted}
-use Rattle.ql_refute.specs.declared.marks.Reading.{Reading}
-use Rattle.ql_refute.specs.declared.marks.Reading.TheVariants.{AllFalse, Forces, Neither}
+use Rattle.ql_refute.specs.declared.marks.Reading.TheVariants.{Forces}
 use Rattle.ql_refute.specs.declared.refutation.Hint.{Hint}
 use Rattle.ql_refute.specs.declared.refutation.Line.{Line}
-use Rattle.ql_sat.specs.Trail.{assigned_from, IsTrail, is_seen, NoneSeen, IsOneSeen, IsAsserting, IsSearching, IsAnalysis, IsLonger, learned_to, trail_number, visit_of}
+use Rattle.ql_sat.specs.Trail.{assigned_from, IsTrail, is_seen, NoneSeen, IsOneSeen, IsAsserting, IsSearching, IsAnalysis, IsLonger, IsUnitClause, learned_to, trail_number}
 use Rattle.ql_sat.specs.declared.trail.Step.{Step}
-use Rattle.ql_sat.specs.declared.trail.Visit.{Visit}
-use Rattle.ql_sat.specs.declared.trail.Visit.TheVariants.{Conflict, Forced}
+use Rattle.ql_sat.specs.declared.trail.Visit.TheVariants.{Forced}
 use Rattle.ql_sat.proofs.Analysis.{none_absent, split_at}
 use Rattle.ql_sat.proofs.Learned.{some_value}
 use Rattle.ql_sat.proofs.Measure.{number_back}
@@ -140,21 +138,17 @@ greater_after n to trail now f seen asserting most forced is =
     let greater : trail_number n (take to trail ++ get_or trail to e ∷ drop (suc to) trail) < trail_number n (take to trail ++ f ∷ []) = number_back n (take to trail) (drop (suc to) trail) (get_or trail to e) f (omega (arith, asserting.within, long, most)) asserting.decision forced in
     subst (λ (t : List Step). trail_number n t < trail_number n now) (sym (split_at trail to e asserting.within)) (subst (λ (t : List Step). trail_number n (take to trail ++ get_or trail to e ∷ drop (suc to) trail) < trail_number n t) (sym is) greater)
 
--- so the turn that learns a clause makes the trail greater
-pub learned_greater : (c : ClauseList) (lines more : List Line) (trail now : List Step) (m n : List ℕ) (i to : ℕ) (seen : List Bool) (hints : List Hint) (clause : List Lit) (h : Hint) (v : Visit) → IsSearching c lines trail m → IsAnalysis c lines trail i seen hints → IsAsserting trail to seen → clause ≡ learned_to m seen c.variables → marked n ≡ assigned_from nothing (take to trail) → hinted c more h ≡ Some clause → ((d : List Lit) → hinted c more h ≡ Some d → v ≡ visit_of (reading (marked n) d)) → IsLonger v (c.variables + 1) (take to trail) now → trail_number (c.variables + 1) trail < trail_number (c.variables + 1) now
-learned_greater c lines more trail now m n i to seen hints clause h v searching analysis asserting is values names visits longer =
+-- so it does once the search has gone back
+pub learned_unit : (c : ClauseList) (lines more : List Line) (trail : List Step) (m n : List ℕ) (i to : ℕ) (seen : List Bool) (hints : List Hint) (clause : List Lit) (h : Hint) → IsSearching c lines trail m → IsAnalysis c lines trail i seen hints → IsAsserting trail to seen → clause ≡ learned_to m seen c.variables → marked n ≡ assigned_from nothing (take to trail) → hinted c more h ≡ Some clause → IsUnitClause c more h n
+learned_unit c lines more trail m n i to seen hints clause h searching analysis asserting is values names =
     let forces = forces_there c lines trail m i to seen hints searching analysis asserting in
     let read : reading (marked n) clause ≡ Forces forces.0 = rw (values, is) forces.1 in
-    let forced : v ≡ Forced = visits clause names ∙ ap visit_of read in
-    let one : IsLonger Forced (c.variables + 1) (take to trail) now = subst (λ (w : Visit). IsLonger w (c.variables + 1) (take to trail) now) forced longer in
-    greater_after (c.variables + 1) to trail now one.0 seen asserting (at_most c lines trail m searching) one.1 one.2
+    (clause, forces.0, names, read)
 
--- a clause that says something makes the trail greater or is false
-pub said_greater : (v : Visit) (r : Reading) (n : ℕ) (xs ys : List Step) → v ≡ visit_of r → r ≢ Neither → v ≢ Conflict → IsLonger v n xs ys → trail_number n xs < trail_number n ys
-said_greater v AllFalse n xs ys is says other longer = absurd (other is)
-said_greater v (Forces x) n xs ys is says other longer =
-    let one : IsLonger Forced n xs ys = subst (λ (w : Visit). IsLonger w n xs ys) is longer in one.3
-said_greater v Neither n xs ys is says other longer = absurd (says refl)
+-- and the turn that learns it makes the trail greater
+pub learned_greater : (c : ClauseList) (lines : List Line) (trail now : List Step) (m : List ℕ) (to : ℕ) (seen : List Bool) → IsSearching c lines trail m → IsAsserting trail to seen → IsLonger Forced (c.variables + 1) (take to trail) now → trail_number (c.variables + 1) trail < trail_number (c.variables + 1) now
+learned_greater c lines trail now m to seen searching asserting one =
+    greater_after (c.variables + 1) to trail now one.0 seen asserting (at_most c lines trail m searching) one.1 one.2
 
 -- the walk back over the steps
 pub one_here : (trail : List Step) (seen : List Bool) (i : ℕ) (e : Step) → i < length trail → is_seen seen (get_or trail i e).lit.var ≡ true → NoneSeen seen (drop (i + 1) trail) → IsOneSeen seen (drop i trail)

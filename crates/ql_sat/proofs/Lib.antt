@@ -1,5 +1,7 @@
 mod Analysis
 mod Asserting
+mod Building
+mod Forcing
 mod Learned
 mod Listing
 mod Measure
@@ -7,5 +9,8 @@ mod Models
 mod Reaching
 mod Rounds
 mod Searching
+mod Settling
 mod Splitting
 mod Trails
+mod Visiting
+mod Watching

@@ -64,13 +64,17 @@ any_true p q (x ∷ xs) all h = step (p x) refl h (any_true p q xs (λ k e l. al
     step true e g ih = rw (all zero x (omega arith) e) refl
     step false e g ih = rw (ih g) (or_true (q x))
 
--- the assignment of such marks satisfies the clauses
-pub is_model : (c : ClauseList) (m : List ℕ) (a : List Bool) → ClausesInRange c.variables c.clauses → IsQuiet c.clauses m → IsTotal c.variables m → AgreesWith c.variables m a → Satisfies a c
-is_model c m a inside quiet total agrees =
-    (agrees.0, list_all-from_AllPass (clause_true a) c.clauses (λ k d l. each (get_or c.clauses k d) (inside k d l) (quiet k d l)))
+-- where each clause has a literal that isn't false, the assignment of such marks satisfies them
+pub is_model_open : (c : ClauseList) (m : List ℕ) (a : List Bool) → ClausesInRange c.variables c.clauses → All (λ d. list_any (is_open (marked m)) d ≡ true) c.clauses → IsTotal c.variables m → AgreesWith c.variables m a → Satisfies a c
+is_model_open c m a inside opens total agrees =
+    (agrees.0, list_all-from_AllPass (clause_true a) c.clauses (λ k d l. each (get_or c.clauses k d) (inside k d l) (opens k d l)))
   where
-    each : (d : List Lit) → AreInRange c.variables d → reading (marked m) d ≡ Neither → clause_true a d ≡ true
-    each d ranges neither =
+    each : (d : List Lit) → AreInRange c.variables d → list_any (is_open (marked m)) d ≡ true → clause_true a d ≡ true
+    each d ranges some =
         any_true (is_open (marked m)) (literal_true a) d
         (λ k e l opened. literal_is_true c.variables m a (get_or d k e) total agrees (ranges k e l).0 (ranges k e l).1 opened)
-        (has_open (marked m) d neither)
+        some
+
+-- the same where nothing can be propagated
+pub is_model : (c : ClauseList) (m : List ℕ) (a : List Bool) → ClausesInRange c.variables c.clauses → IsQuiet c.clauses m → IsTotal c.variables m → AgreesWith c.variables m a → Satisfies a c
+is_model c m a inside quiet total agrees = is_model_open c m a inside (λ k d l. has_open (marked m) (get_or c.clauses k d) (quiet k d l)) total agrees

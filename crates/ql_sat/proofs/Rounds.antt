@@ -14,7 +14,7 @@ use Rattle.ql_refute.specs.declared.marks.Reading.TheVariants.{Forces, Neither}
 use Rattle.ql_refute.proofs.Steps.{forced_passes}
 use Rattle.ql_sat.specs.Search.{IsQuiet, unset_count}
 
-get_of : {X : Type 0} → (xs : List X) (k : ℕ) (x e : X) → slice_get xs k ≡ Some x → (k < length xs) × (get_or xs k e ≡ x)
+pub get_of : {X : Type 0} → (xs : List X) (k : ℕ) (x e : X) → slice_get xs k ≡ Some x → (k < length xs) × (get_or xs k e ≡ x)
 get_of [] k x e h = absurd (cc)
 get_of (y ∷ ys) zero x e h = (omega arith, cc)
 get_of (y ∷ ys) (suc k) x e h = let rest = get_of ys k x e h in (omega (arith, rest.0), rest.1)

@@ -38,7 +38,7 @@ fresh c lines p s h = by_reason s.reason h
     by_reason None g = g
     by_reason (Some x) g = none_of (p s.lit.var) (forced_unset p g.0 s.lit g.2)
 
-set_here : (p : Partial) (x : Lit) → with_true p x x.var ≡ Some x.positive
+pub set_here : (p : Partial) (x : Lit) → with_true p x x.var ≡ Some x.positive
 set_here p x = rw (same_refl x.var) refl
 
 -- a value stays

@@ -1,4 +1,5 @@
 pub mod Answer
 pub mod Search
+pub mod Settled
 pub mod Trail
 pub mod Watch

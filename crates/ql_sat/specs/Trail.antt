@@ -66,6 +66,10 @@ IsLonger Nothing n xs ys = ys ≡ xs
 abbrev pub IsFalseClause : ClauseList → List Line → Hint → List ℕ → Type 0
 IsFalseClause c lines h marks = (d : List Lit) × (hinted c lines h ≡ Some d) × (reading (marked marks) d ≡ AllFalse)
 
+-- the clause of the hint forces a literal
+abbrev pub IsUnitClause : ClauseList → List Line → Hint → List ℕ → Type 0
+IsUnitClause c lines h marks = (d : List Lit) × (x : Lit) × (hinted c lines h ≡ Some d) × (reading (marked marks) d ≡ Forces x)
+
 abbrev pub is_seen : List Bool → ℕ → Bool
 is_seen seen v = slice_index_or seen v false
 

@@ -1,5 +1,5 @@
 -- In which lists the clauses stand that watch a literal.
-use Rattle.std.specs.Prelude.{ℕ, ◌+◌, ◌*◌, ◌<◌, ◌≡◌, ◌==◌, if◌then◌else◌, false, List, [], length, slice_index}
+use Rattle.std.specs.Prelude.{ℕ, ◌+◌, ◌*◌, ◌<◌, ◌≡◌, ◌≢◌, ◌==◌, if◌then◌else◌, false, List, [], length, slice_index, take}
 use Rattle.std.specs.List.{slice_index_or, sum_by}
 use Rattle.ql_cnf.specs.declared.lit.Lit.{Lit}
 use Rattle.ql_sat.specs.declared.watches.Look.{Look}
@@ -41,3 +41,12 @@ abbrev pub IsAway : Lit → Look → Type 0
 IsAway falsified Keep = Unit {0}
 IsAway falsified (Move x) = index_of x ≡ index_of falsified → ⊥
 IsAway falsified Read = Unit {0}
+
+-- a clause at a place of a literal's list left it, and watches another literal in its place
+pub record IsMoved (lists now : List (List ℕ)) (pairs after : List Pair) (from to : Lit) (clause at : ℕ) : Type 0 where
+  pub size : length now ≡ length lists
+  pub front : take at (slice_index_or now (index_of from) []) ≡ take at (slice_index_or lists (index_of from) [])
+  pub counts : (k : ℕ) → k ≢ clause → count_of k (slice_index_or now (index_of from) []) ≡ count_of k (slice_index_or lists (index_of from) [])
+  pub long : length after ≡ length pairs
+  pub others : (k : ℕ) → k ≢ clause → pair_at after k ≡ pair_at pairs k
+  pub pair : clause < length pairs → pair_at after clause ≡ replaced (pair_at pairs clause) from to

@@ -1,4 +1,7 @@
 // What guides the search; no contract of the solver speaks of it.
+ghost use Rattle.std.specs.Prelude.{[], IfOk};
+ghost use Rattle.ql_sat.specs.Settled.{IsWatched};
+
 use crate::order::Order;
 use crate::queue::Queue;
 use crate::watches::Watches;
@@ -14,7 +17,9 @@ pub(crate) struct Guide {
 }
 
 impl Guide {
-    pub fn new(alloc: Global, c: &Clauses) -> Result<Guide, NoMemory> {
+    pub fn new(alloc: Global, c: &Clauses) -> Result<Guide, NoMemory>
+        ensures { IfOk result (λ guide. IsWatched c.now [] guide.watches.lists.items guide.watches.pairs.items guide.queue.done) }
+    {
         Ok(Guide {
             queue: Queue::new(alloc, c)?,
             watches: Watches::new(alloc, c)?,

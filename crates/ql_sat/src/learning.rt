@@ -1,17 +1,19 @@
 // From each conflict a learned clause, resolved backwards along the trail to one literal of the last
 // decisions.
 ghost use Rattle.std.specs.List.{slice_index_or};
-ghost use Rattle.std.specs.Prelude.{◌≡◌, ◌||◌, is_some, ℕ, ◌+◌, ◌<◌, drop, [], false, length, IfNone, IfOk, IfSome, if◌then◌else◌, ◌==◌, MatchOption, OnOk, None, Some, true};
+ghost use Rattle.std.specs.Prelude.{◌≡◌, ◌++◌, ◌∷◌, ◌||◌, is_some, ℕ, ◌+◌, ◌<◌, drop, [], false, length, IfNone, IfOk, IfSome, if◌then◌else◌, ◌==◌, MatchOption, OnOk, None, Some, true};
 ghost use Rattle.ql_cnf.specs.Satisfaction.{AreInRange};
 ghost use Rattle.ql_refute.specs.Marks.{AllBelow, has_variable};
 ghost use Rattle.ql_refute.specs.Partial.{nothing, with_all_false};
 ghost use Rattle.ql_refute.specs.Verdict.{hinted, hints_fault};
-ghost use Rattle.ql_sat.specs.Trail.{IsAnalysis, IsAsserting, IsFalseClause, IsOneSeen, IsSearching, IsTurn, NoneSeen, NothingSeen, is_seen, learned_to, trail_number};
+ghost use Rattle.ql_sat.specs.Settled.{IsGuarded, IsWatched};
+ghost use Rattle.ql_sat.specs.declared.watches.Pair.{Pair};
+ghost use Rattle.ql_sat.specs.Trail.{IsAnalysis, IsAsserting, IsFalseClause, IsLonger, IsOneSeen, IsSearching, IsTurn, IsUnitClause, NoneSeen, NothingSeen, is_seen, learned_to, trail_number};
 
 use crate::guide::Guide;
 use crate::order::Order;
 use crate::plain::push_line;
-use crate::trail::{Step, go_back, propagate_clause};
+use crate::trail::{Step, Visit, go_back, propagate_clause};
 use crate::turn::Turn;
 use crate::watches::Watches;
 use ql_base::NoMemory;
@@ -33,7 +35,9 @@ pub(crate) fn learn(
     requires searching { IsSearching c.now lines.old.items trail.old.items marks.old }
     requires seen { length seen.old ≡ c.now.variables + 1 }
     requires conflict { IsFalseClause c.now lines.old.items conflict marks.old }
+    requires guarded { IsGuarded c.now trail.old.items guide.old.watches.lists.items guide.old.watches.pairs.items }
     ensures searching { OnOk result (IsSearching c.now lines.new.items trail.new.items marks.new) }
+    ensures watched { IfOk result (λ turn. turn ≡ Turn.More → IsWatched c.now trail.new.items guide.new.watches.lists.items guide.new.watches.pairs.items guide.new.queue.done) }
     ensures turn { IfOk result (IsTurn c.now lines.new.items marks.new) }
     ensures number { IfOk result (λ turn. turn ≡ Turn.More → trail_number (c.now.variables + 1) trail.old.items < trail_number (c.now.variables + 1) trail.new.items) }
 {
@@ -55,24 +59,50 @@ pub(crate) fn learn(
         return Ok(Turn::Refuted(number));
     };
     go_back(c, lines, to, trail, marks, &mut guide.order);
-    propagate_clause(c, lines, Hint::Earlier(number), trail, marks)?;
+    read_learned(c, lines, number, trail, marks)?;
     guide.queue.done = to;
     watch(&mut guide.watches, trail, seen, to)?;
     Ok(Turn::More)
 }
 
+// Reads the learned clause where it forces a literal.
+fn read_learned(
+    c: &Clauses,
+    lines: &[Line],
+    number: u64,
+    trail: &mut Vec<Step>,
+    marks: &mut [u8],
+) -> Result<(), NoMemory>
+    requires searching { IsSearching c.now lines.now trail.old.items marks.old }
+    requires unit { IsUnitClause c.now lines.now (Hint.Earlier number) marks.old }
+    ensures searching { OnOk result (IsSearching c.now lines.now trail.new.items marks.new) }
+    ensures forced { OnOk result (IsLonger Visit.Forced (c.now.variables + 1) trail.old.items trail.new.items) }
+{
+    propagate_clause(c, lines, Hint::Earlier(number), trail, marks)?;
+    Ok(())
+}
+
 // The learned clause watches the literal that it forces and the latest of its false ones.
-fn watch(watches: &mut Watches, trail: &[Step], seen: &[bool], to: usize) -> Result<(), NoMemory> {
-    if to < trail.len() {
-        let mut place = to;
-        while place > 0 {
-            place -= 1;
-            if is_seen(seen, trail[place].lit.var) {
-                return watches.attach(trail[to].lit, trail[place].lit.negated());
-            }
+fn watch(watches: &mut Watches, trail: &[Step], seen: &[bool], to: usize) -> Result<(), NoMemory>
+    ensures pair { OnOk result ((w : Pair) × (watches.new.pairs.items ≡ watches.old.pairs.items ++ w ∷ [])) }
+    ensures len { OnOk result (length watches.new.lists.items ≡ length watches.old.lists.items) }
+{
+    match (trail.get(to), latest_seen(trail, seen, to)) {
+        (Some(forced), Some(latest)) => watches.attach(forced.lit, latest.negated()),
+        _ => watches.attach_none(),
+    }
+}
+
+// The literal of the last step before a place whose variable is seen.
+fn latest_seen(trail: &[Step], seen: &[bool], before: usize) -> Option<Lit> {
+    let mut place = before.min(trail.len());
+    while place > 0 {
+        place -= 1;
+        if is_seen(seen, trail[place].lit.var) {
+            return Some(trail[place].lit);
         }
     }
-    watches.attach_none()
+    None
 }
 
 // Appends a good line, and gives its number.

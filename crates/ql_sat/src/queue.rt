@@ -1,4 +1,6 @@
 // What is still to be propagated.
+ghost use Rattle.std.specs.Prelude.{◌≡◌, IfOk};
+
 use ql_base::NoMemory;
 use ql_cnf::Clauses;
 use std::alloc::Global;
@@ -12,7 +14,9 @@ pub(crate) struct Queue {
 }
 
 impl Queue {
-    pub fn new(alloc: Global, c: &Clauses) -> Result<Queue, NoMemory> {
+    pub fn new(alloc: Global, c: &Clauses) -> Result<Queue, NoMemory>
+        ensures { IfOk result (λ queue. queue.done ≡ 0) }
+    {
         let mut units = Vec::new(alloc);
         for k in 0..c.len() {
             if c.clause(k + 1).items().len() < 2 {

@@ -1,24 +1,21 @@
 // The solver: unit propagation and decisions on a trail, and from each conflict a learned clause.
-ghost use Rattle.std.specs.Prelude.{◌≡◌, ◌≢◌, ◌+◌, ◌<◌, [], length, IfNone, IfOk, IfSome, List, OnOk, None, Some};
+ghost use Rattle.std.specs.Prelude.{◌≡◌, ◌≢◌, ℕ, ◌+◌, ◌<◌, [], length, IfNone, IfOk, IfSome, OnOk, Some};
+ghost use Rattle.std.specs.List.{slice_index_or};
 ghost use Rattle.ql_cnf.specs.Satisfaction.{ClausesInRange};
-ghost use Rattle.ql_cnf.specs.declared.lit.Lit.{Lit};
-ghost use Rattle.ql_refute.specs.Marks.{marked};
-ghost use Rattle.ql_refute.specs.Partial.{reading};
 ghost use Rattle.ql_refute.specs.Verdict.{hinted};
 ghost use Rattle.ql_sat.specs.Answer.{IsRight};
-ghost use Rattle.ql_sat.specs.Search.{IsQuiet, IsTotal};
-ghost use Rattle.ql_sat.specs.Trail.{IsFalseClause, IsSearching, IsTurn, trail_number};
+ghost use Rattle.ql_sat.specs.Settled.{IsWatched};
+ghost use Rattle.ql_sat.specs.Trail.{IsSearching, IsTurn, trail_number};
 
 use crate::Decided;
 use crate::guide::Guide;
 use crate::learning::learn;
 use crate::plain::{assignment, greatest_unset};
 use crate::propagation::propagate;
-use crate::trail::{Step, Visit, decide_on, propagate_clause};
+use crate::trail::{Step, decide_on};
 use crate::turn::Turn;
 use ql_base::NoMemory;
 use ql_cnf::{Clauses, Lit};
-use ql_refute::marks::{Reading, read};
 use ql_refute::{Hint, Line, Lines, Refutation};
 use std::alloc::Global;
 
@@ -63,8 +60,10 @@ fn take_turn(
     guide: &mut Guide,
 ) -> Result<Turn, NoMemory>
     requires searching { IsSearching c.now lines.old.items trail.old.items marks.old }
+    requires watched { IsWatched c.now trail.old.items guide.old.watches.lists.items guide.old.watches.pairs.items guide.old.queue.done }
     requires seen { length seen.old ≡ c.now.variables + 1 }
     ensures searching { OnOk result (IsSearching c.now lines.new.items trail.new.items marks.new) }
+    ensures watched { IfOk result (λ turn. turn ≡ Turn.More → IsWatched c.now trail.new.items guide.new.watches.lists.items guide.new.watches.pairs.items guide.new.queue.done) }
     ensures turn { IfOk result (IsTurn c.now lines.new.items marks.new) }
     ensures number { IfOk result (λ turn. turn ≡ Turn.More → trail_number (c.now.variables + 1) trail.old.items < trail_number (c.now.variables + 1) trail.new.items) }
 {
@@ -86,7 +85,7 @@ fn take_turn(
     finish(alloc, c, lines, trail, marks, seen, guide)
 }
 
-// Reads all once more when no variable is left to decide on.
+// All is propagated, and no variable is left to decide on.
 fn finish(
     alloc: Global,
     c: &Clauses,
@@ -97,8 +96,11 @@ fn finish(
     guide: &mut Guide,
 ) -> Result<Turn, NoMemory>
     requires searching { IsSearching c.now lines.old.items trail.old.items marks.old }
+    requires watched { IsWatched c.now trail.old.items guide.old.watches.lists.items guide.old.watches.pairs.items guide.old.queue.done }
+    requires all { guide.old.queue.done ≡ length trail.old.items }
     requires seen { length seen.old ≡ c.now.variables + 1 }
     ensures searching { OnOk result (IsSearching c.now lines.new.items trail.new.items marks.new) }
+    ensures watched { IfOk result (λ turn. turn ≡ Turn.More → IsWatched c.now trail.new.items guide.new.watches.lists.items guide.new.watches.pairs.items guide.new.queue.done) }
     ensures turn { IfOk result (IsTurn c.now lines.new.items marks.new) }
     ensures number { IfOk result (λ turn. turn ≡ Turn.More → trail_number (c.now.variables + 1) trail.old.items < trail_number (c.now.variables + 1) trail.new.items) }
 {
@@ -107,29 +109,30 @@ fn finish(
         decide_on(c, lines, Lit { var, positive }, trail, marks)?;
         return Ok(Turn::More);
     }
-    match first_not_quiet(c, marks) {
+    match first_empty(c) {
         None => Ok(Turn::Model),
-        Some(number) => {
-            let hint = Hint::Given(number);
-            match propagate_clause(c, lines, hint, trail, marks)? {
-                Visit::Conflict => learn(alloc, c, hint, lines, trail, marks, seen, guide),
-                _ => Ok(Turn::More),
-            }
-        }
+        Some(number) => learn(
+            alloc,
+            c,
+            Hint::Given(number),
+            lines,
+            trail,
+            marks,
+            seen,
+            guide,
+        ),
     }
 }
 
-// The first clause that the marks don't make true.
-fn first_not_quiet(c: &Clauses, marks: &[u8]) -> Option<u32>
-    requires { c.now.variables < length marks.now }
-    ensures quiet { IfNone result (IsQuiet c.now.clauses marks.now) }
-    ensures other { IfSome result (λ k. (d : List Lit) × (hinted c.now [] (Hint.Given k) ≡ Some d) × (reading (marked marks.now) d ≢ Reading.Neither)) }
+// The first clause without literals, which watches nothing.
+fn first_empty(c: &Clauses) -> Option<u32>
+    ensures none { IfNone result ((k : ℕ) → k < length c.now.clauses → slice_index_or c.now.clauses k [] ≢ []) }
+    ensures empty { IfSome result (λ number. hinted c.now [] (Hint.Given number) ≡ Some []) }
     ensures in_range { ClausesInRange c.now.variables c.now.clauses }
 {
     for k in 0..c.len() {
-        match read(c.clause(k + 1).items(), marks) {
-            Reading::Neither => {}
-            _ => return Some(k + 1),
+        if c.clause(k + 1).items().is_empty() {
+            return Some(k + 1);
         }
     }
     None

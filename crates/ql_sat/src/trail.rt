@@ -1,5 +1,5 @@
 // The trail of a search: the literals that were made true, in their order.
-ghost use Rattle.std.specs.Prelude.{◌≡◌, ◌+◌, ◌<◌, ◌≤◌, IfOk, List, OnOk, None, Some, length, slice_set, take};
+ghost use Rattle.std.specs.Prelude.{◌≡◌, ◌+◌, ◌<◌, ◌≤◌, ◌++◌, ◌∷◌, [], IfOk, List, OnOk, None, Some, length, slice_set, take};
 ghost use Rattle.ql_cnf.specs.declared.lit.Lit.{Lit};
 ghost use Rattle.ql_refute.specs.Marks.{marked};
 ghost use Rattle.ql_refute.specs.Partial.{reading};
@@ -39,6 +39,7 @@ pub(crate) fn propagate_clause(
     ensures searching { OnOk result (IsSearching c.now lines.now trail.new.items marks.new) }
     ensures conflict { IfOk result (λ visit. visit ≡ Visit.Conflict → IsFalseClause c.now lines.now hint marks.new) }
     ensures visit { IfOk result (λ visit. (d : List Lit) → hinted c.now lines.now hint ≡ Some d → visit ≡ visit_of (reading (marked marks.old) d)) }
+    ensures forced { OnOk result ((d : List Lit) (x : Lit) → hinted c.now lines.now hint ≡ Some d → reading (marked marks.old) d ≡ Reading.Forces x → marked marks.new x.var ≡ Some x.positive) }
     ensures number { IfOk result (λ visit. IsLonger visit (c.now.variables + 1) trail.old.items trail.new.items) }
 {
     let Some(clause) = hinted(c, lines, hint) else {
@@ -70,6 +71,7 @@ pub(crate) fn decide_on(
     requires in_range { lit.var ≤ c.now.variables }
     requires unset { marked marks.old lit.var ≡ None }
     ensures searching { OnOk result (IsSearching c.now lines.now trail.new.items marks.new) }
+    ensures pushed { OnOk result (trail.new.items ≡ trail.old.items ++ record { lit = lit; reason = None } ∷ []) }
     ensures number { OnOk result (trail_number (c.now.variables + 1) trail.old.items < trail_number (c.now.variables + 1) trail.new.items) }
 {
     trail.push(Step { lit, reason: None })?;

@@ -1,5 +1,5 @@
 // The clauses that watch one literal, by their numbers.
-ghost use Rattle.std.specs.Prelude.{◌≡◌, ◌≢◌, ℕ, ◌+◌, ◌<◌, ◌≤◌, ◌^◌, ◌++◌, ◌∷◌, [], length, MatchOption, OnErr, OnOk, slice_index};
+ghost use Rattle.std.specs.Prelude.{◌≡◌, ◌≢◌, ℕ, ◌+◌, ◌<◌, ◌≤◌, ◌^◌, ◌++◌, ◌∷◌, [], length, MatchOption, OnErr, OnOk, slice_index, take};
 ghost use Rattle.ql_sat.specs.Watch.{count_of};
 
 use ql_base::NoMemory;
@@ -51,6 +51,7 @@ impl Watchers {
     pub fn take_out(&mut self, at: usize)
         requires { at < length self.old }
         ensures len { length self.new + 1 ≡ length self.old }
+        ensures front { take at self.new ≡ take at self.old }
         ensures others { (k : ℕ) → k ≢ slice_index self.old at → count_of k self.new ≡ count_of k self.old }
     {
         self.clauses.swap_remove(at);

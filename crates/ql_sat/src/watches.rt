@@ -1,8 +1,11 @@
 // Two watched literals for each clause: while neither is false, the clause forces nothing.
-ghost use Rattle.std.specs.Prelude.{◌≡◌, ◌≢◌, ℕ, ◌+◌, ◌^◌, ◌<◌, [], length, IfSome, OnOk, slice_index};
+ghost use Rattle.std.specs.Prelude.{◌≡◌, ◌≢◌, ◌⊎◌, ℕ, ◌+◌, ◌*◌, ◌^◌, ◌<◌, ◌≤◌, ◌++◌, ◌∷◌, [], length, IfNone, IfOk, IfSome, OnOk, false, slice_index, take, true};
 ghost use Rattle.std.specs.List.{slice_index_or};
 ghost use Rattle.ql_cnf.specs.declared.lit.Lit.{Lit};
-ghost use Rattle.ql_sat.specs.Watch.{AreListed, IsAway, IsListed, IsThere, index_of, pair_at, replaced, replaced_literal};
+ghost use Rattle.ql_refute.specs.Marks.{marked};
+ghost use Rattle.ql_refute.specs.Partial.{is_open, is_value};
+ghost use Rattle.ql_sat.specs.Settled.{IsGuarded, IsLook, WatchesOwn};
+ghost use Rattle.ql_sat.specs.Watch.{AreListed, IsAway, IsListed, IsMoved, IsThere, count_of, index_of, pair_at, replaced, replaced_literal};
 
 use crate::watchers::Watchers;
 use ql_base::NoMemory;
@@ -16,6 +19,12 @@ pub(crate) struct Pair {
     pub first: Lit,
     pub second: Lit,
 }
+
+// What no clause has.
+const NO_LITERAL: Lit = Lit {
+    var: 0,
+    positive: false,
+};
 
 // What becomes of a clause when one of its watched literals is false.
 #[derive(Clone, Copy)]
@@ -39,23 +48,26 @@ pub(crate) struct Watches {
 }
 
 impl Watches {
-    // Each given clause watches its first two literals.
-    pub fn new(alloc: Global, c: &Clauses) -> Result<Watches, NoMemory> {
+    // Each given clause watches its first two literals, or its only one twice.
+    pub fn new(alloc: Global, c: &Clauses) -> Result<Watches, NoMemory>
+        ensures { IfOk result (λ watches. IsGuarded c.now [] watches.lists.items watches.pairs.items) }
+    {
         let mut watches = Watches {
             lists: empty_lists(alloc, c.variables())?,
             pairs: Vec::new(alloc),
         };
         for k in 0..c.len() {
-            match c.clause(k + 1).items() {
-                [first, second, ..] => watches.attach(*first, *second)?,
-                _ => watches.attach_none()?,
-            }
+            let pair = first_pair(c.clause(k + 1).items());
+            watches.attach(pair.first, pair.second)?;
         }
         Ok(watches)
     }
 
     // The next clause watches these literals.
-    pub fn attach(&mut self, first: Lit, second: Lit) -> Result<(), NoMemory> {
+    pub fn attach(&mut self, first: Lit, second: Lit) -> Result<(), NoMemory>
+        ensures pair { OnOk result (self.new.pairs.items ≡ self.old.pairs.items ++ record { first = first; second = second } ∷ []) }
+        ensures len { OnOk result (length self.new.lists.items ≡ length self.old.lists.items) }
+    {
         let clause = self.pairs.len();
         enter(&mut self.lists, first, clause)?;
         enter(&mut self.lists, second, clause)?;
@@ -64,16 +76,16 @@ impl Watches {
     }
 
     // The next clause watches nothing.
-    pub fn attach_none(&mut self) -> Result<(), NoMemory> {
-        let nothing = Lit {
-            var: 0,
-            positive: false,
-        };
-        self.attach(nothing, nothing)
+    pub fn attach_none(&mut self) -> Result<(), NoMemory>
+        ensures pair { OnOk result ((w : Pair) × (self.new.pairs.items ≡ self.old.pairs.items ++ w ∷ [])) }
+        ensures len { OnOk result (length self.new.lists.items ≡ length self.old.lists.items) }
+    {
+        self.attach(NO_LITERAL, NO_LITERAL)
     }
 
     // The clause at a place of a literal's list.
     pub fn watcher(&self, lit: Lit, at: usize) -> Option<usize>
+        ensures none { IfNone result (length (slice_index_or self.now.lists.items (index_of lit) []) ≤ at) }
         ensures there { IfSome result (λ clause. IsThere self.now.lists.items lit at clause) }
         ensures fits { IfSome result (λ clause. at + 1 < 2 ^ 64) }
     {
@@ -86,7 +98,9 @@ impl Watches {
     }
 
     // The other watched literal of a clause that watches this one.
-    pub fn other(&self, clause: usize, lit: Lit) -> Lit {
+    pub fn other(&self, clause: usize, lit: Lit) -> Lit
+        ensures { clause < length self.now.pairs.items → (result ≡ (pair_at self.now.pairs.items clause).first) ⊎ (result ≡ (pair_at self.now.pairs.items clause).second) }
+    {
         if clause >= self.pairs.len() {
             return lit;
         }
@@ -102,7 +116,8 @@ impl Watches {
     pub fn change(&mut self, from: Lit, at: usize, clause: usize, to: Lit) -> Result<(), NoMemory>
         requires other { index_of to ≡ index_of from → ⊥ }
         requires there { IsThere self.old.lists.items from at clause }
-        ensures { OnOk result (length (slice_index_or self.new.lists.items (index_of from) []) + 1 ≡ length (slice_index_or self.old.lists.items (index_of from) [])) }
+        ensures shorter { OnOk result (length (slice_index_or self.new.lists.items (index_of from) []) + 1 ≡ length (slice_index_or self.old.lists.items (index_of from) [])) }
+        ensures moved { OnOk result (IsMoved self.old.lists.items self.new.lists.items self.old.pairs.items self.new.pairs.items from to clause at) }
     {
         enter(&mut self.lists, to, clause)?;
         replace(&mut self.pairs, clause, from, to);
@@ -111,8 +126,29 @@ impl Watches {
     }
 }
 
+// The first two literals of a clause, or its only one twice.
+fn first_pair(clause: &[Lit]) -> Pair
+    ensures { WatchesOwn clause.now result }
+{
+    match clause {
+        [first, second, ..] => Pair {
+            first: *first,
+            second: *second,
+        },
+        [only] => Pair {
+            first: *only,
+            second: *only,
+        },
+        [] => Pair {
+            first: NO_LITERAL,
+            second: NO_LITERAL,
+        },
+    }
+}
+
 // Puts the clause into the literal's list.
 fn enter(lists: &mut Vec<Watchers>, lit: Lit, clause: usize) -> Result<(), NoMemory>
+    ensures len { OnOk result (length lists.new.items ≡ length lists.old.items) }
     ensures listed { OnOk result (IsListed lists.new.items lit clause) }
     ensures stays { (x : Lit) (k : ℕ) → IsListed lists.old.items x k → IsListed lists.new.items x k }
     ensures other { (x : Lit) → (index_of x ≡ index_of lit → ⊥) → slice_index_or lists.new.items (index_of x) [] ≡ slice_index_or lists.old.items (index_of x) [] }
@@ -127,7 +163,10 @@ fn enter(lists: &mut Vec<Watchers>, lit: Lit, clause: usize) -> Result<(), NoMem
 // Takes the clause at a place out of the literal's list.
 fn leave(lists: &mut Vec<Watchers>, lit: Lit, at: usize)
     requires { at < length (slice_index_or lists.old.items (index_of lit) []) }
+    ensures len { length lists.new.items ≡ length lists.old.items }
     ensures shorter { length (slice_index_or lists.new.items (index_of lit) []) + 1 ≡ length (slice_index_or lists.old.items (index_of lit) []) }
+    ensures front { take at (slice_index_or lists.new.items (index_of lit) []) ≡ take at (slice_index_or lists.old.items (index_of lit) []) }
+    ensures counts { (k : ℕ) → k ≢ slice_index (slice_index_or lists.old.items (index_of lit) []) at → count_of k (slice_index_or lists.new.items (index_of lit) []) ≡ count_of k (slice_index_or lists.old.items (index_of lit) []) }
     ensures stays { (x : Lit) (k : ℕ) → (index_of x ≡ index_of lit → k ≢ slice_index (slice_index_or lists.old.items (index_of lit) []) at) → IsListed lists.old.items x k → IsListed lists.new.items x k }
 {
     let list = index(lit);
@@ -157,7 +196,9 @@ fn replaced(lit: Lit, from: Lit, to: Lit) -> Lit
     if index(lit) == index(from) { to } else { lit }
 }
 
-fn empty_lists(alloc: Global, variables: u32) -> Result<Vec<Watchers>, NoMemory> {
+fn empty_lists(alloc: Global, variables: u32) -> Result<Vec<Watchers>, NoMemory>
+    ensures { IfOk result (λ lists. length lists.items ≡ 2 * (variables + 1)) }
+{
     let len = 2 * (variables as usize + 1);
     let mut lists = Vec::with_capacity(alloc, len)?;
     for _ in 0..len {
@@ -173,7 +214,9 @@ fn index(lit: Lit) -> usize
 }
 
 // The clause's name in a line of a refutation.
-pub(crate) fn hint_of(c: &Clauses, clause: usize) -> Hint {
+pub(crate) fn hint_of(c: &Clauses, clause: usize) -> Hint
+    ensures { clause < length c.now.clauses → result ≡ Hint.Given (clause + 1) }
+{
     if clause < c.len() as usize {
         Hint::Given(clause as u32 + 1)
     } else {
@@ -183,22 +226,35 @@ pub(crate) fn hint_of(c: &Clauses, clause: usize) -> Hint {
 
 // What becomes of a clause that watches a false literal and this other one.
 pub(crate) fn inspect(clause: &[Lit], falsified: Lit, other: Lit, marks: &[u8]) -> Look
-    ensures { IsAway falsified result }
+    ensures away { IsAway falsified result }
+    ensures look { IsLook clause.now falsified other (marked marks.now) result }
 {
     if is_value(marks, other.var, other.positive) {
         return Look::Keep;
     }
     for lit in clause {
-        let is_watched = *lit == other || index(*lit) == index(falsified);
-        if !is_watched && !is_value(marks, lit.var, !lit.positive) {
+        if is_free(*lit, falsified, other, marks) {
             return Look::Move(*lit);
         }
     }
     Look::Read
 }
 
+// Whether the literal is neither false nor one of the two.
+fn is_free(lit: Lit, falsified: Lit, other: Lit, marks: &[u8]) -> bool
+    ensures free { result ≡ true → (is_open (marked marks.now) lit ≡ true) × (index_of lit ≡ index_of falsified → ⊥) }
+    ensures others { result ≡ false → is_open (marked marks.now) lit ≡ true → (lit ≡ other) ⊎ (index_of lit ≡ index_of falsified) }
+{
+    if lit == other || index(lit) == index(falsified) {
+        return false;
+    }
+    !is_value(marks, lit.var, !lit.positive)
+}
+
 // Whether the variable has the value.
-fn is_value(marks: &[u8], var: u32, value: bool) -> bool {
+fn is_value(marks: &[u8], var: u32, value: bool) -> bool
+    ensures { result ≡ is_value (marked marks.now var) value }
+{
     let mark = if value { 1 } else { 2 };
     (var as usize) < marks.len() && marks[var as usize] == mark
 }

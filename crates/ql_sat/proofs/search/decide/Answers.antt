@@ -16,6 +16,7 @@ turns-init c =
     let long : length c.in_ok-marks.marks.items ≡ c.args.c.now.variables + 1 = ap length zeros ∙ length-replicate (c.variables.result + 1) 0 ∙ ap (λ n. n + 1) c.variables.ensures in
     record {
       searching = rw (c.new-lines.ensures.items, c.new-trail.ensures.items) (searching_start c.args.c.now c.in_ok-marks.marks.items clear long);
+      watched = rw c.new-trail.ensures.items c.in_ok-guide.ensures;
       seen = omega (arith, c.in_ok-seen.ensures.len, c.in_ok-seen.seen.ok.0, c.variables-2.ensures);
     }
 

@@ -1,15 +1,12 @@
 use Rattle.ql_sat.specs.Search.{IsTotal}
-use Rattle.ql_sat.proofs.Asserting.{said_greater}
-use Rattle.ql_sat.proofs.Models.{is_model}
+use Rattle.ql_sat.proofs.Watching.{watched_decided, watched_model}
 use Rattle.ql_sat.proofs.search.finish.Goals as goal
+
+pub returns-in-Some-clause-watched : goal.returns-in-Some-clause-watched
+returns-in-Some-clause-watched c =
+    λ e. watched_decided c.args.c.now c.deref.result.now c.args.trail.now.items c.decide_on.new.trail.items c.args.guide.now.watches.lists.items c.args.guide.now.watches.pairs.items c.args.guide.now.queue.done _ c.in_ok-decide_on.ensures.pushed c.in_ok-decide_on.ensures.searching.steps c.requires.all c.requires.watched
 
 pub returns-in-None-clause-turn : goal.returns-in-None-clause-turn
 returns-in-None-clause-turn c =
     let total : IsTotal c.args.c.now.variables c.args.marks.now = rw c.variables.ensures at c.in_default.ensures in
-    λ a agrees. is_model c.args.c.now c.args.marks.now a c.in-None.ensures.in_range c.in-None.ensures.quiet total agrees
-
-pub returns-in_default-2-clause-number : goal.returns-in_default-2-clause-number
-returns-in_default-2-clause-number c =
-    let said = c.in-Some-first_not_quiet.ensures.other in
-    let visits = c.in_ok-propagate_clause-in-Some-first_not_quiet.ensures.visit said.0 said.1 in
-    λ e. said_greater _ _ _ _ _ visits said.2 c.in_default-2.not-Conflict c.in_ok-propagate_clause-in-Some-first_not_quiet.ensures.number
+    λ a agrees. watched_model c.args.c.now c.args.trail.now.items c.args.marks.now c.args.guide.now.watches.lists.items c.args.guide.now.watches.pairs.items c.args.guide.now.queue.done a c.requires.searching.values c.requires.watched c.requires.all c.in-None.ensures.none c.in-None.ensures.in_range total agrees

@@ -1,0 +1,75 @@
+-- One clause more that watches its literals.
+use Rattle.std.proofs.Common.{◌≡◌, ◌≢◌, ℕ, ◌+◌, ◌-◌, ◌<◌, ◌≤◌, Bool, true, false, List, [], ◌∷◌, ◌++◌, Some, length, get_or, refl, sym, ◌∙◌, subst, arith}
+use Rattle.std.proofs.lemmas.Bool.Decides.{nat_tests}
+use Rattle.std.proofs.lemmas.List.{get_or_append_left, length_push}
+use Rattle.std.specs.Prelude.{◌==◌, slice_get}
+use Rattle.ql_cnf.specs.Literals.{IsAscending}
+use Rattle.ql_cnf.specs.Satisfaction.{ClauseList}
+use Rattle.ql_cnf.specs.declared.lit.Lit.{Lit}
+use Rattle.ql_sat.specs.Settled.{WatchesOwn, AtDecisions, AreSettled, IsWatched, values_to}
+use Rattle.ql_sat.specs.Trail.{assigned_from}
+use Rattle.ql_refute.specs.Partial.{Partial, nothing, with_true}
+use Rattle.ql_sat.specs.Settled.{IsSettled}
+use Rattle.ql_sat.specs.Watch.{pair_at}
+use Rattle.ql_sat.specs.declared.trail.Step.{Step}
+use Rattle.ql_sat.specs.declared.watches.Pair.{Pair}
+use Rattle.ql_sat.proofs.Rounds.{get_of}
+
+is_same : (a b : ℕ) → (a == b) ≡ true → a ≡ b
+is_same a b h = grind (arith, nat_tests)
+
+other_number : (a b : ℕ) → (a == b) ≡ false → a ≢ b
+other_number a b h = grind (arith, nat_tests)
+
+each_more : (Q : ℕ → Type 0) (k : ℕ) → ((j : ℕ) → j < k → Q j) → Q k → (j : ℕ) → j < k + 1 → Q j
+each_more Q k before here j l = step (j == k) refl
+  where
+    step : (b : Bool) → (j == k) ≡ b → Q j
+    step true e = subst Q (sym (is_same j k e)) here
+    step false e = before j (omega (arith, l, other_number j k e))
+
+abbrev no_pair : Pair
+no_pair = record { first = record { var = 0; positive = false }; second = record { var = 0; positive = false } }
+
+at_end : (ps : List Pair) (p : Pair) → pair_at (ps ++ p ∷ []) (length ps) ≡ p
+at_end [] p = refl
+at_end (q ∷ ps) p = at_end ps p
+
+pub pair_stays : (pairs : List Pair) (w : Pair) (k : ℕ) → k < length pairs → pair_at (pairs ++ w ∷ []) k ≡ pair_at pairs k
+pair_stays pairs w k l = get_or_append_left pairs (w ∷ []) no_pair k l
+
+clause_there : (cs : List (List Lit)) (k : ℕ) (d : List Lit) → slice_get cs (k + 1 - 1) ≡ Some d → get_or cs k [] ≡ d
+clause_there cs k d h =
+    let same : k + 1 - 1 ≡ k = omega arith in
+    (get_of cs k d [] (rw same at h)).1
+
+pub own_more : (cs : List (List Lit)) (pairs : List Pair) (w : Pair) (k : ℕ) (d : List Lit) → length pairs ≡ k → slice_get cs (k + 1 - 1) ≡ Some d → WatchesOwn d w → ((j : ℕ) → j < k → WatchesOwn (get_or cs j []) (pair_at pairs j)) → (j : ℕ) → j < k + 1 → WatchesOwn (get_or cs j []) (pair_at (pairs ++ w ∷ []) j)
+own_more cs pairs w k d long there own before =
+    each_more (λ j. WatchesOwn (get_or cs j []) (pair_at (pairs ++ w ∷ []) j)) k
+    (λ j l. subst (λ (p : Pair). WatchesOwn (get_or cs j []) p) (sym (pair_stays pairs w j (omega (arith, l, long)))) (before j l))
+    (subst (λ (e : List Lit). WatchesOwn e (pair_at (pairs ++ w ∷ []) k)) (sym (clause_there cs k d there)) (subst (λ (n : ℕ). WatchesOwn d (pair_at (pairs ++ w ∷ []) n)) long (subst (λ (p : Pair). WatchesOwn d p) (sym (at_end pairs w)) own)))
+
+pub ascending_more : (cs : List (List Lit)) (k : ℕ) (d : List Lit) → slice_get cs (k + 1 - 1) ≡ Some d → IsAscending d → ((j : ℕ) → j < k → IsAscending (get_or cs j [])) → (j : ℕ) → j < k + 1 → IsAscending (get_or cs j [])
+ascending_more cs k d there ascending before =
+    each_more (λ j. IsAscending (get_or cs j [])) k before (subst (λ (e : List Lit). IsAscending e) (sym (clause_there cs k d there)) ascending)
+
+settled_more : (n : ℕ) (p r : Partial) (pairs : List Pair) (w : Pair) → n ≤ length pairs → AreSettled n p r pairs → AreSettled n p r (pairs ++ w ∷ [])
+settled_more n p r pairs w l h k given = subst (λ (q : Pair). IsSettled p r q) (sym (pair_stays pairs w k (omega (arith, l, given)))) (h k given)
+
+decided_more : (n : ℕ) (pairs : List Pair) (w : Pair) (p : Partial) (ss : List Step) → n ≤ length pairs → AtDecisions (λ r. AreSettled n r r pairs) p ss → AtDecisions (λ r. AreSettled n r r (pairs ++ w ∷ [])) p ss
+decided_more n pairs w p [] l h = tt
+decided_more n pairs w p (s ∷ ss) l h = ((λ e. settled_more n p p pairs w l (h.0 e)), decided_more n pairs w (with_true p s.lit) ss l h.1)
+
+-- a learned clause is none of the given ones
+pub watched_more : (c : ClauseList) (trail : List Step) (lists now : List (List ℕ)) (pairs : List Pair) (w : Pair) (done : ℕ) → length now ≡ length lists → IsWatched c trail lists pairs done → IsWatched c trail now (pairs ++ w ∷ []) done
+watched_more c trail lists now pairs w done size h = record {
+  guarded = record {
+    counted = let long : length (pairs ++ w ∷ []) ≡ length pairs + 1 = length_push pairs w in omega (arith, long, h.guarded.counted);
+    room = size ∙ h.guarded.room;
+    ascending = h.guarded.ascending;
+    own = λ k given. subst (λ (q : Pair). WatchesOwn (get_or c.clauses k []) q) (sym (pair_stays pairs w k (omega (arith, given, h.guarded.counted)))) (h.guarded.own k given);
+    decided = decided_more (length c.clauses) pairs w nothing trail h.guarded.counted h.guarded.decided;
+  };
+  within = h.within;
+  settled = settled_more (length c.clauses) (values_to trail done) (assigned_from nothing trail) pairs w h.guarded.counted h.settled;
+}

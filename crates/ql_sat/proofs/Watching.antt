@@ -1,0 +1,82 @@
+-- What the watched literals say at a decision, on the way back from a conflict, and in the end.
+use Rattle.std.proofs.Common.{◌≡◌, ◌≢◌, ℕ, suc, ◌+◌, ◌<◌, Bool, true, false, not, List, [], ◌∷◌, ◌++◌, Option, Some, length, get_or, take, drop, refl, sym, ap, subst, arith}
+use Rattle.std.proofs.lemmas.List.{get_or_default, length-take-le, length_push, take-append-drop, take-take, take_all}
+use Rattle.std.specs.Prelude.{is_some}
+use Rattle.std.specs.List.{list_any}
+use Rattle.ql_cnf.specs.Satisfaction.{ClauseList, ClausesInRange, Satisfies}
+use Rattle.ql_cnf.specs.declared.lit.Lit.{Lit}
+use Rattle.ql_refute.specs.Marks.{marked}
+use Rattle.ql_refute.specs.Partial.{Partial, nothing, is_value, is_open}
+use Rattle.ql_refute.specs.declared.refutation.Line.{Line}
+use Rattle.ql_sat.specs.Search.{AgreesWith, IsTotal}
+use Rattle.ql_sat.specs.Settled.{IsSettled, AreSettled, AtDecisions, WatchesOwn, IsGuarded, IsWatched, values_to, IsSettledTo}
+use Rattle.ql_sat.specs.Trail.{assigned_from, IsTrail}
+use Rattle.ql_sat.specs.Watch.{pair_at}
+use Rattle.ql_sat.specs.declared.trail.Step.{Step}
+use Rattle.ql_sat.specs.declared.watches.Pair.{Pair}
+use Rattle.ql_sat.proofs.Analysis.{split_at}
+use Rattle.ql_sat.proofs.Forcing.{some_passes}
+use Rattle.ql_sat.proofs.Models.{is_model_open}
+use Rattle.ql_sat.proofs.Settling.{at_front, at_there}
+use Rattle.ql_sat.proofs.Trails.{closed_value}
+use Rattle.ql_sat.proofs.Visiting.{guarded_push, settled_push}
+
+-- all steps are propagated
+settled_whole : (c : ClauseList) (trail : List Step) (pairs : List Pair) (done : ℕ) → done ≡ length trail → IsSettledTo c trail done pairs → AreSettled (length c.clauses) (assigned_from nothing trail) (assigned_from nothing trail) pairs
+settled_whole c trail pairs done all h =
+    let whole : values_to trail done ≡ assigned_from nothing trail = ap (λ (t : List Step). assigned_from nothing t) (take_all done trail (omega (arith, all))) in
+    subst (λ (p : Partial). AreSettled (length c.clauses) p (assigned_from nothing trail) pairs) whole h
+
+-- then a decision can be made
+pub watched_decide : (c : ClauseList) (lines : List Line) (trail : List Step) (lists : List (List ℕ)) (pairs : List Pair) (done : ℕ) (s : Step) → IsTrail c lines nothing (trail ++ s ∷ []) → done ≡ length trail → IsWatched c trail lists pairs done → IsWatched c (trail ++ s ∷ []) lists pairs done
+watched_decide c lines trail lists pairs done s steps all h = record {
+  guarded = guarded_push c trail lists pairs s (λ e. settled_whole c trail pairs done all h.settled) h.guarded;
+  within = let long : length (trail ++ s ∷ []) ≡ length trail + 1 = length_push trail s in omega (arith, long, h.within);
+  settled = settled_push c lines trail pairs s done steps h.within h.settled;
+}
+
+-- and it can be taken back
+pub watched_back : (c : ClauseList) (trail : List Step) (lists : List (List ℕ)) (pairs : List Pair) (to : ℕ) (e : Step) → to < length trail → is_some (get_or trail to e).reason ≡ false → IsGuarded c trail lists pairs → IsWatched c (take to trail) lists pairs to
+watched_back c trail lists pairs to e l decision h = record {
+  guarded = record {
+    counted = h.counted;
+    room = h.room;
+    ascending = h.ascending;
+    own = h.own;
+    decided = at_front (λ r. AreSettled (length c.clauses) r r pairs) nothing (take to trail) (drop to trail) (subst (λ (t : List Step). AtDecisions (λ r. AreSettled (length c.clauses) r r pairs) nothing t) (sym (take-append-drop to trail)) h.decided);
+  };
+  within = let long : length (take to trail) ≡ to = length-take-le to trail (omega (arith, l)) in omega (arith, long);
+  settled = settled;
+}
+  where
+    settled : IsSettledTo c (take to trail) to pairs
+    settled =
+        let there : AreSettled (length c.clauses) (assigned_from nothing (take to trail)) (assigned_from nothing (take to trail)) pairs = at_there (λ r. AreSettled (length c.clauses) r r pairs) nothing (take to trail) (drop (suc to) trail) (get_or trail to e) (subst (λ (t : List Step). AtDecisions (λ r. AreSettled (length c.clauses) r r pairs) nothing t) (split_at trail to e l) h.decided) decision in
+        let same : values_to (take to trail) to ≡ assigned_from nothing (take to trail) = ap (λ (t : List Step). assigned_from nothing t) (take-take to to trail (omega arith)) in
+        subst (λ (p : Partial). AreSettled (length c.clauses) p (assigned_from nothing (take to trail)) pairs) (sym same) there
+
+true_open : (o : Option Bool) (b : Bool) → o ≡ Some b → not (is_value o (not b)) ≡ true
+true_open o true h = rw h refl
+true_open o false h = rw h refl
+
+-- a clause with a watched literal that is false has one that is true
+opened : (p : Partial) (d : List Lit) (w : Pair) → WatchesOwn d w → d ≢ [] → IsSettled p p w → list_any (is_open p) d ≡ true
+opened p [] w own some settled = absurd (some refl)
+opened p (x ∷ xs) w own some settled = step (is_open p w.first) refl
+  where
+    step : (b : Bool) → is_open p w.first ≡ b → list_any (is_open p) (x ∷ xs) ≡ true
+    step true e = some_passes (is_open p) (x ∷ xs) w.first own.0 e
+    step false e = some_passes (is_open p) (x ∷ xs) w.second own.1 (true_open (p w.second.var) w.second.positive (settled.0 (closed_value (p w.first.var) w.first.positive e)))
+
+-- where all is propagated and each variable has a value, the values are a model
+pub watched_model : (c : ClauseList) (trail : List Step) (m : List ℕ) (lists : List (List ℕ)) (pairs : List Pair) (done : ℕ) (a : List Bool) → marked m ≡ assigned_from nothing trail → IsWatched c trail lists pairs done → done ≡ length trail → ((k : ℕ) → k < length c.clauses → get_or c.clauses k [] ≢ []) → ClausesInRange c.variables c.clauses → IsTotal c.variables m → AgreesWith c.variables m a → Satisfies a c
+watched_model c trail m lists pairs done a values h all some inside total agrees =
+    is_model_open c m a inside
+    (λ k d l. subst (λ (e : List Lit). list_any (is_open (marked m)) e ≡ true) (get_or_default c.clauses k [] d l)
+    (opened (marked m) (get_or c.clauses k []) (pair_at pairs k) (h.guarded.own k l) (some k l)
+    (subst (λ (p : Partial). IsSettled p p (pair_at pairs k)) (sym values) (settled_whole c trail pairs done all h.settled k l))))
+    total agrees
+
+pub watched_decided : (c : ClauseList) (lines : List Line) (trail now : List Step) (lists : List (List ℕ)) (pairs : List Pair) (done : ℕ) (s : Step) → now ≡ trail ++ s ∷ [] → IsTrail c lines nothing now → done ≡ length trail → IsWatched c trail lists pairs done → IsWatched c now lists pairs done
+watched_decided c lines trail now lists pairs done s pushed steps all h =
+    subst (λ (t : List Step). IsWatched c t lists pairs done) (sym pushed) (watched_decide c lines trail lists pairs done s (subst (λ (t : List Step). IsTrail c lines nothing t) pushed steps) all h)

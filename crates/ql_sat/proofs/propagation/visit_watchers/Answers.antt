@@ -1,0 +1,29 @@
+use Rattle.std.proofs.Common.{◌≡◌, ◌<◌, ◌+◌, ◌*◌, length, sym, ◌∙◌, ap, subst, arith}
+use Rattle.std.proofs.lemmas.List.{get_or_default}
+use Rattle.ql_cnf.specs.Literals.{negated}
+use Rattle.ql_cnf.specs.declared.lit.Lit.{Lit}
+use Rattle.ql_sat.specs.Settled.{falsified_at}
+use Rattle.ql_sat.specs.Watch.{index_of}
+use Rattle.ql_sat.specs.declared.trail.Step.{Step}
+use Rattle.ql_sat.proofs.Visiting.{falsified_has_list, visiting_end, visiting_start}
+use Rattle.ql_sat.proofs.propagation.visit_watchers.Goals as goal
+
+pub loop-clause-init : goal.loop-clause-init
+loop-clause-init c =
+    let literal : c.negated-falsified.result ≡ falsified_at c.args.trail.now.items c.args.place = c.negated-falsified.ensures ∙ ap (λ (s : Step). negated s.lit) (c.index.ensures ∙ get_or_default c.args.trail.now.items c.args.place c.index.result.now _ c.requires.within) in
+    let inside : index_of (falsified_at c.args.trail.now.items c.args.place) < 2 * (c.args.c.now.variables + 1) = falsified_has_list c.args.c.now c.args.lines.now c.args.trail.now.items c.args.marks.now c.args.place c.requires.searching c.requires.within in
+    let there : index_of (falsified_at c.args.trail.now.items c.args.place) < length c.args.watches.now.lists.items = omega (arith, inside, c.requires.watched.guarded.room) in
+    record {
+      searching = c.requires.searching;
+      visiting = visiting_start c.args.c.now c.args.trail.now.items c.args.watches.now.lists.items c.args.watches.now.pairs.items c.args.place c.negated-falsified.result c.requires.watched.guarded c.requires.within literal c.requires.watched.settled c.args.watches.now.listed (subst (λ (x : Lit). index_of x < length c.args.watches.now.lists.items) (sym literal) there);
+      number = omega arith;
+    }
+
+pub returns-clause-watched : goal.returns-clause-watched
+returns-clause-watched c =
+    let visiting = c.loop-clause.invariant.visiting in
+    record {
+      guarded = visiting.guarded;
+      within = omega (arith, visiting.within);
+      settled = visiting_end c.args.c.now c.loop-clause.trail.items c.loop-clause.watches.lists.items c.loop-clause.watches.pairs.items c.args.place c.loop-clause.at c.negated-falsified.result c.in_default.ensures.none visiting;
+    }

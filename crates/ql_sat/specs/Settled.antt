@@ -1,0 +1,81 @@
+-- What the two watched literals of a clause say of its truth, while literals are made true.
+use Rattle.std.specs.Prelude.{ℕ, ◌+◌, ◌*◌, ◌<◌, ◌≤◌, ◌⊎◌, ◌≡◌, true, false, not, is_some, take, List, [], ◌∷◌, length, None, Some}
+use Rattle.std.specs.List.{All, slice_index_or}
+use Rattle.ql_cnf.specs.Literals.{has_literal, negated, IsAscending}
+use Rattle.ql_cnf.specs.Satisfaction.{ClauseList}
+use Rattle.ql_cnf.specs.declared.lit.Lit.{Lit}
+use Rattle.ql_refute.specs.Partial.{Partial, nothing, with_true, is_open}
+use Rattle.ql_sat.specs.Trail.{assigned_from}
+use Rattle.ql_sat.specs.Watch.{count_of, index_of, pair_at}
+use Rattle.ql_sat.specs.declared.trail.Step.{Step}
+use Rattle.ql_sat.specs.declared.watches.Look.{Look}
+use Rattle.ql_sat.specs.declared.watches.Look.TheVariants.{Keep, Move, Read}
+use Rattle.ql_sat.specs.declared.watches.Pair.{Pair}
+
+-- where x is false in p, y is true in r
+abbrev pub Gives : Partial → Partial → Lit → Lit → Type 0
+Gives p r x y = p x.var ≡ Some (not x.positive) → r y.var ≡ Some y.positive
+
+-- where one of the two watched literals is false in p, the other is true in r
+abbrev pub IsSettled : Partial → Partial → Pair → Type 0
+IsSettled p r w = Gives p r w.first w.second × Gives p r w.second w.first
+
+-- the same of each of the first n clauses
+abbrev pub AreSettled : ℕ → Partial → Partial → List Pair → Type 0
+AreSettled n p r pairs = (k : ℕ) → k < n → IsSettled p r (pair_at pairs k)
+
+-- q holds of the values before each decision
+abbrev pub AtDecisions : (Partial → Type 0) → Partial → List Step → Type 0
+AtDecisions q p [] = Unit {0}
+AtDecisions q p (s ∷ ss) = (is_some s.reason ≡ false → q p) × AtDecisions q (with_true p s.lit) ss
+
+-- a clause that has literals watches two of them, or its only one twice
+abbrev pub WatchesOwn : List Lit → Pair → Type 0
+WatchesOwn [] w = Unit {0}
+WatchesOwn (x ∷ xs) w = (has_literal (x ∷ xs) w.first ≡ true) × (has_literal (x ∷ xs) w.second ≡ true)
+
+-- each given clause watches literals of its own, and at each decision no clause had a false one beside one that
+-- wasn't true
+pub record IsGuarded (c : ClauseList) (trail : List Step) (lists : List (List ℕ)) (pairs : List Pair) : Type 0 where
+  pub counted : length c.clauses ≤ length pairs
+  pub room : length lists ≡ 2 * (c.variables + 1)
+  pub ascending : (k : ℕ) → k < length c.clauses → IsAscending (slice_index_or c.clauses k [])
+  pub own : (k : ℕ) → k < length c.clauses → WatchesOwn (slice_index_or c.clauses k []) (pair_at pairs k)
+  pub decided : AtDecisions (λ r. AreSettled (length c.clauses) r r pairs) nothing trail
+
+-- the values after the first steps
+abbrev pub values_to : List Step → ℕ → Partial
+values_to trail n = assigned_from nothing (take n trail)
+
+-- no given clause has a watched literal that the first steps made false beside one that isn't true
+abbrev pub IsSettledTo : ClauseList → List Step → ℕ → List Pair → Type 0
+IsSettledTo c trail n pairs = AreSettled (length c.clauses) (values_to trail n) (assigned_from nothing trail) pairs
+
+-- and the steps before this place are propagated
+pub record IsWatched (c : ClauseList) (trail : List Step) (lists : List (List ℕ)) (pairs : List Pair) (done : ℕ) : Type 0 where
+  pub guarded : IsGuarded c trail lists pairs
+  pub within : done ≤ length trail
+  pub settled : IsSettledTo c trail done pairs
+
+-- the literal that the step at a place made false
+abbrev pub falsified_at : List Step → ℕ → Lit
+falsified_at trail place = negated (slice_index_or trail place (record { lit = record { var = 0; positive = false }; reason = None })).lit
+
+-- the clause stands in the list from this place on
+abbrev pub IsWaiting : ℕ → List ℕ → ℕ → Type 0
+IsWaiting at list k = count_of k (take at list) < count_of k list
+
+-- what holds when the watchers of the literal that a step made false are visited, up to a place of their list
+pub record IsVisiting (c : ClauseList) (trail : List Step) (lists : List (List ℕ)) (pairs : List Pair) (place at : ℕ) (falsified : Lit) : Type 0 where
+  pub guarded : IsGuarded c trail lists pairs
+  pub within : place < length trail
+  pub literal : falsified ≡ falsified_at trail place
+  pub before : IsSettledTo c trail place pairs
+  pub rest : (k : ℕ) → k < length c.clauses → IsWaiting at (slice_index_or lists (index_of falsified) []) k ⊎ IsSettled (values_to trail (place + 1)) (assigned_from nothing trail) (pair_at pairs k)
+
+-- the other watched literal is true; or x is one of the clause and isn't false; or the other isn't true, and of the
+-- clause's literals only the two that it watches may be other than false
+abbrev pub IsLook : List Lit → Lit → Lit → Partial → Look → Type 0
+IsLook d falsified other p Keep = p other.var ≡ Some other.positive
+IsLook d falsified other p (Move x) = (has_literal d x ≡ true) × (is_open p x ≡ true)
+IsLook d falsified other p Read = (p other.var ≡ Some other.positive → ⊥) × All (λ x. is_open p x ≡ true → (x ≡ other) ⊎ (index_of x ≡ index_of falsified)) d
