@@ -5,50 +5,10 @@ use std::alloc::{AllocError, Global};
 use std::test::Fail;
 
 // Sources and their first fault of typing, from an independent implementation.
-const CASES: &[(&[u8], &str)] = &[
+const UNKNOWN_FIRST: &[(&[u8], &str)] = &[
     (
         b"type t { op touch(): unit { contract forall a. vis(b, cur); answer unit; } }",
         "unknown 51",
-    ),
-    (
-        b"type t { op touch(): unit { contract forall a, b, c, d, e, f. true; answer unit; } }",
-        "variables 59",
-    ),
-    (
-        b"type t { op touch(): unit { contract forall a, b, c, d, e. true; answer unit; } }",
-        "typed",
-    ),
-    (
-        b"type t { op touch(): unit { contract forall a. soo(a, cur) => vis(a, cur); answer unit; } }",
-        "typed",
-    ),
-    (
-        b"type t { op f(): unit { contract true; answer unit; } } type t { op g(): unit { contract true; answer unit; } }",
-        "twice 61",
-    ),
-    (
-        b"type t { op f(): unit { contract true; answer unit; } op f(): unit { contract true; answer unit; } }",
-        "twice 57",
-    ),
-    (
-        b"type t { op f(): unit { contract true; answer unit; } } type u { op f(): unit { contract true; answer unit; } }",
-        "twice 68",
-    ),
-    (
-        b"type t { op f(): unit { contract true; answer unit; } op f(): unit { contract true; answer unit; } op f(): unit { contract true; answer unit; } }",
-        "twice 57",
-    ),
-    (
-        b"type t { op f(): unit { contract true; answer unit; } } transaction a { uses f; contract true; } transaction a { uses f; contract true; }",
-        "twice 109",
-    ),
-    (
-        b"type t { op t(): unit { contract true; answer unit; } op u(): unit { contract true; answer unit; } } type u { op a(): unit { contract true; answer unit; } } transaction t { uses t, u, a; contract true; }",
-        "typed",
-    ),
-    (
-        b"type t { op f(): unit { contract true; answer unit; } op g(): unit { contract true; answer unit; } } transaction a { uses f, g, f; contract true; }",
-        "twice 128",
     ),
     (
         b"type t { op f(): unit { contract true; answer unit; } op g(): unit { contract true; answer unit; } } transaction a { uses f, h, f; contract true; }",
@@ -63,16 +23,150 @@ const CASES: &[(&[u8], &str)] = &[
         "unknown 77",
     ),
     (
-        b"type t { state a: int = 0; state a: bool = 0; op f(): int { contract true; answer zz; } }",
-        "twice 33",
+        b"type t { state i: int = 0; state l: set(int) = empty; state m: map(text, int) = empty; op f(n: int, v: bool, w: text): int { contract true; answer zz; } }",
+        "unknown 147",
     ),
     (
-        b"type t { state a: int = 0; op f(a: int): int { contract true; answer zz; } }",
-        "twice 32",
+        b"type t { state i: int = 0; state l: set(int) = empty; state m: map(text, int) = empty; op f(n: int, v: bool, w: text): int { contract true; answer t; } }",
+        "unknown 147",
     ),
     (
-        b"type t { op f(a: int, a: int): int { contract true; answer zz; } }",
-        "twice 22",
+        b"type t { state i: int = 0; state l: set(int) = empty; state m: map(text, int) = empty; op f(n: int, v: bool, w: text): int { contract true; answer f; } }",
+        "unknown 147",
+    ),
+    (
+        b"type t { state i: int = 0; state l: set(int) = empty; state m: map(text, int) = empty; op f(n: int, v: bool, w: text): bool { contract true; answer i + zz; } }",
+        "unknown 152",
+    ),
+    (
+        b"type t { state i: int = 0; state l: set(int) = empty; state m: map(text, int) = empty; op f(n: int, v: bool, w: text): int { contract true; answer zz(zz); } }",
+        "unknown 147",
+    ),
+    (
+        b"type t { state i: int = 0; state l: set(int) = empty; state m: map(text, int) = empty; op f(n: int, v: bool, w: text): int { contract true; answer i(l); } }",
+        "unknown 147",
+    ),
+    (
+        b"type t { state i: int = 0; state l: set(int) = empty; state m: map(text, int) = empty; op f(n: int, v: bool, w: text): int { contract true; answer size + 1; } }",
+        "unknown 147",
+    ),
+    (
+        b"type t { state i: int = 0; state l: set(int) = empty; state m: map(text, int) = empty; op f(n: int, v: bool, w: text): bool { contract true; answer has(l, zz); } }",
+        "unknown 155",
+    ),
+    (
+        b"type t { state i: int = 0; state l: set(int) = empty; state m: map(text, int) = empty; op f(n: int, v: bool, w: text): text { contract true; answer if v then i else zz; } }",
+        "unknown 165",
+    ),
+    (
+        b"type t { state i: int = 0; state l: set(int) = empty; state m: map(text, int) = empty; op f(n: int, v: bool, w: text): text { contract true; answer if v then zz else i; } }",
+        "unknown 158",
+    ),
+    (
+        b"type t { state i: int = 0; state l: set(int) = empty; state m: map(text, int) = empty; op f(n: int, v: bool, w: text): int { contract true; answer if zz then i else v; } }",
+        "unknown 150",
+    ),
+    (
+        b"type t { state i: int = 0; state l: set(int) = empty; state m: map(text, int) = empty; op f(n: int, v: bool, w: text): bool { contract true; answer zz == i; } }",
+        "unknown 148",
+    ),
+    (
+        b"type t { state i: int = 0; state l: set(int) = empty; state m: map(text, int) = empty; op f(n: int, v: bool, w: text): text { contract true; answer put(m, w, zz); } }",
+        "unknown 158",
+    ),
+    (
+        b"type t { state i: int = 0; state b: bool = true; op f(n: int, w: text): int { contract true; answer 0; emit p: int = n, r: int = p when b; apply { } } }",
+        "unknown 129",
+    ),
+    (
+        b"type t { state i: int = 0; state b: bool = true; op f(n: int, w: text): int { contract true; answer 0; emit p: int = n when p == 0; apply { } } }",
+        "unknown 124",
+    ),
+    (
+        b"type t { state i: int = 0; state b: bool = true; op f(n: int, w: text): int { contract true; answer 0; emit p: int = n when b; apply { i := n; } } }",
+        "unknown 140",
+    ),
+    (
+        b"type t { state i: int = 0; state b: bool = true; op f(n: int, w: text): int { contract true; answer 0; emit p: int = n when b; apply { p := 1; } } }",
+        "unknown 135",
+    ),
+    (
+        b"type t { state i: int = 0; state b: bool = true; op f(n: int, w: text): int { contract true; answer 0; emit p: int = n when b; apply { zz := zz; } } }",
+        "unknown 135",
+    ),
+    (
+        b"type t { op f(): unit { contract vis(a, cur); answer unit; } op g(): unit { contract true; answer unit; } }",
+        "unknown 37",
+    ),
+    (
+        b"type t { op f(): unit { contract vis(cur, a); answer unit; } op g(): unit { contract true; answer unit; } }",
+        "unknown 42",
+    ),
+    (
+        b"type t { op f(): unit { contract cur = f; answer unit; } op g(): unit { contract true; answer unit; } }",
+        "unknown 39",
+    ),
+    (
+        b"type t { op f(): unit { contract forall a. vis(a, b) => vis(c, cur); answer unit; } op g(): unit { contract true; answer unit; } }",
+        "unknown 50",
+    ),
+    (
+        b"type t { op f(): unit { contract forall a: h. true; answer unit; } op g(): unit { contract true; answer unit; } }",
+        "unknown 43",
+    ),
+    (
+        b"type t { op f(): unit { contract forall a: f | a. true; answer unit; } op g(): unit { contract true; answer unit; } }",
+        "unknown 47",
+    ),
+];
+
+const UNKNOWN_SECOND: &[(&[u8], &str)] = &[
+    (
+        b"type t { op f(): unit { contract forall a: t. true; answer unit; } op g(): unit { contract true; answer unit; } }",
+        "unknown 43",
+    ),
+    (
+        b"type t { op f(): unit { contract forall a: h, b, c, d, e, g. true; answer unit; } op g(): unit { contract true; answer unit; } }",
+        "unknown 43",
+    ),
+    (
+        b"type t { op f(): unit { contract vis(a, cur) /\\ txn{a}{b}; answer unit; } op g(): unit { contract true; answer unit; } }",
+        "unknown 37",
+    ),
+    (
+        b"type t { op f(): unit { contract true; answer unit; } op g(): unit { contract true; answer unit; } } transaction x { uses f; contract forall a. vis(a, cur); }",
+        "unknown 151",
+    ),
+    (
+        b"type t { op f(): unit { contract true; answer unit; } op g(): unit { contract true; answer unit; } } transaction x { uses f; contract forall a. cur = a; }",
+        "unknown 144",
+    ),
+    (
+        b"type t { op f(): unit { contract true; answer unit; } op g(): unit { contract true; answer unit; } } transaction x { uses f; contract forall a. txn{cur}{a}; }",
+        "unknown 148",
+    ),
+    (
+        b"type t { op f(): unit { contract true; answer unit; } op g(): unit { contract true; answer unit; } } transaction x { uses f; contract forall a. txn{a}{a, b}; }",
+        "unknown 154",
+    ),
+    (
+        b"type t { op f(): unit { contract true; answer unit; } op g(): unit { contract true; answer unit; } } transaction x { uses f; contract vis(a, a) /\\ hb(a, a); }",
+        "unknown 138",
+    ),
+];
+
+const TYPED: &[(&[u8], &str)] = &[
+    (
+        b"type t { op touch(): unit { contract forall a, b, c, d, e. true; answer unit; } }",
+        "typed",
+    ),
+    (
+        b"type t { op touch(): unit { contract forall a. soo(a, cur) => vis(a, cur); answer unit; } }",
+        "typed",
+    ),
+    (
+        b"type t { op t(): unit { contract true; answer unit; } op u(): unit { contract true; answer unit; } } type u { op a(): unit { contract true; answer unit; } } transaction t { uses t, u, a; contract true; }",
+        "typed",
     ),
     (
         b"type t { state a: int = 0; op f(b: int): int { contract true; answer a + b; } op g(b: int): int { contract true; answer b; } }",
@@ -83,56 +177,24 @@ const CASES: &[(&[u8], &str)] = &[
         "typed",
     ),
     (
-        b"type t { state a: int = true; op f(): unit { contract true; answer unit; } }",
-        "kind 24",
-    ),
-    (
-        b"type t { state a: int = empty; op f(): unit { contract true; answer unit; } }",
-        "kind 24",
-    ),
-    (
-        b"type t { state a: int = unit; op f(): unit { contract true; answer unit; } }",
-        "kind 24",
-    ),
-    (
         b"type t { state a: bool = false; op f(): unit { contract true; answer unit; } }",
         "typed",
-    ),
-    (
-        b"type t { state a: bool = -1; op f(): unit { contract true; answer unit; } }",
-        "kind 25",
     ),
     (
         b"type t { state a: text = \"\"; op f(): unit { contract true; answer unit; } }",
         "typed",
     ),
     (
-        b"type t { state a: text = 1; op f(): unit { contract true; answer unit; } }",
-        "kind 25",
-    ),
-    (
         b"type t { state a: unit = unit; op f(): unit { contract true; answer unit; } }",
         "typed",
-    ),
-    (
-        b"type t { state a: unit = \"x\"; op f(): unit { contract true; answer unit; } }",
-        "kind 25",
     ),
     (
         b"type t { state a: set(bool) = empty; op f(): unit { contract true; answer unit; } }",
         "typed",
     ),
     (
-        b"type t { state a: set(bool) = true; op f(): unit { contract true; answer unit; } }",
-        "kind 30",
-    ),
-    (
         b"type t { state a: map(int, int) = empty; op f(): unit { contract true; answer unit; } }",
         "typed",
-    ),
-    (
-        b"type t { state a: map(int, int) = -1; op f(): unit { contract true; answer unit; } }",
-        "kind 34",
     ),
     (
         b"type t { state i: int = 0; state l: set(int) = empty; state m: map(text, int) = empty; op f(n: int, v: bool, w: text): int { contract true; answer i + n * -2 - 3; } }",
@@ -169,6 +231,152 @@ const CASES: &[(&[u8], &str)] = &[
     (
         b"type t { state i: int = 0; state l: set(int) = empty; state m: map(text, int) = empty; op f(n: int, v: bool, w: text): int { contract true; answer sum(m); } }",
         "typed",
+    ),
+    (
+        b"type t { state i: int = 0; state b: bool = true; op f(n: int, w: text): int { contract true; answer 0; emit p: int = n + i, r: text = w when b; apply { i := p; b := i == p; i := i + 1; } } }",
+        "typed",
+    ),
+    (
+        b"type t { state i: int = 0; state b: bool = true; op f(n: int, w: text): int { contract true; answer 0; emit n: text = w, w: int = n when true; apply { i := w; b := n == \"\"; } } }",
+        "typed",
+    ),
+    (
+        b"type t { state i: int = 0; state b: bool = true; op f(n: int, w: text): int { contract true; answer 0; emit p: int = n, q: int = n, r: int = n, s: int = n when b; apply { i := s; } } }",
+        "typed",
+    ),
+    (
+        b"type t { op f(): unit { contract forall a: f | g, b: g. [vis | so & soo | hb | hbo](a, b) => a = cur \\/ eq(cur, cur); answer unit; } op g(): unit { contract true; answer unit; } }",
+        "typed",
+    ),
+    (
+        b"type t { op f(): unit { contract forall f: f. vis(f, f); answer unit; } op g(): unit { contract true; answer unit; } }",
+        "typed",
+    ),
+    (
+        b"type t { op f(): unit { contract true; answer unit; } op g(): unit { contract true; answer unit; } } transaction x { uses f; contract forall a: f | g, b: g. [vis | so & soo | sameobj | eq](a, b) => a = a; }",
+        "typed",
+    ),
+    (
+        b"type t { op f(): unit { contract true; answer unit; } op g(): unit { contract true; answer unit; } } transaction x { uses f; contract forall a, b. txn{a, a}{b, b} => txn{b}{a}; }",
+        "typed",
+    ),
+];
+
+const TWICE: &[(&[u8], &str)] = &[
+    (
+        b"type t { op f(): unit { contract true; answer unit; } } type t { op g(): unit { contract true; answer unit; } }",
+        "twice 61",
+    ),
+    (
+        b"type t { op f(): unit { contract true; answer unit; } op f(): unit { contract true; answer unit; } }",
+        "twice 57",
+    ),
+    (
+        b"type t { op f(): unit { contract true; answer unit; } } type u { op f(): unit { contract true; answer unit; } }",
+        "twice 68",
+    ),
+    (
+        b"type t { op f(): unit { contract true; answer unit; } op f(): unit { contract true; answer unit; } op f(): unit { contract true; answer unit; } }",
+        "twice 57",
+    ),
+    (
+        b"type t { op f(): unit { contract true; answer unit; } } transaction a { uses f; contract true; } transaction a { uses f; contract true; }",
+        "twice 109",
+    ),
+    (
+        b"type t { op f(): unit { contract true; answer unit; } op g(): unit { contract true; answer unit; } } transaction a { uses f, g, f; contract true; }",
+        "twice 128",
+    ),
+    (
+        b"type t { state a: int = 0; state a: bool = 0; op f(): int { contract true; answer zz; } }",
+        "twice 33",
+    ),
+    (
+        b"type t { state a: int = 0; op f(a: int): int { contract true; answer zz; } }",
+        "twice 32",
+    ),
+    (
+        b"type t { op f(a: int, a: int): int { contract true; answer zz; } }",
+        "twice 22",
+    ),
+    (
+        b"type t { state i: int = 0; state b: bool = true; op f(n: int, w: text): int { contract true; answer 0; emit p: int = n, p: int = n when b; apply { } } }",
+        "twice 120",
+    ),
+    (
+        b"type t { state i: int = 0; state b: bool = true; op f(n: int, w: text): int { contract true; answer 0; emit i: int = n when b; apply { } } }",
+        "twice 108",
+    ),
+    (
+        b"type t { state i: int = 0; state b: bool = true; op f(n: int, w: text): int { contract true; answer 0; emit p: int = n, q: int = n, r: int = n, s: int = n, q: int = n when b; apply { } } }",
+        "twice 156",
+    ),
+    (
+        b"type t { op f(): unit { contract forall a, a. true; answer unit; } op g(): unit { contract true; answer unit; } }",
+        "twice 43",
+    ),
+    (
+        b"type t { op f(): unit { contract forall a: f | f. true; answer unit; } op g(): unit { contract true; answer unit; } }",
+        "twice 47",
+    ),
+    (
+        b"type t { op f(): unit { contract forall a: f, a: g. true; answer unit; } op g(): unit { contract true; answer unit; } }",
+        "twice 46",
+    ),
+    (
+        b"type t { op f(): unit { contract forall a: f | g | f, a. vis(b, cur); answer unit; } op g(): unit { contract true; answer unit; } }",
+        "twice 51",
+    ),
+    (
+        b"type t { op f(): unit { contract forall a, b, c, d, e, a. true; answer unit; } op g(): unit { contract true; answer unit; } }",
+        "twice 55",
+    ),
+    (
+        b"type t { op f(): unit { contract true; answer unit; } op g(): unit { contract true; answer unit; } } transaction x { uses f; contract forall a, a. hb(a, a); }",
+        "twice 144",
+    ),
+    (
+        b"type t { state a: int = 0; op f(a: int): bool { contract true; answer a; } op f(): unit { contract hb(zz, cur); answer 1; } }",
+        "twice 32",
+    ),
+    (
+        b"type t { op f(): unit { contract forall a, b, c, d, e, a. vis(zz, cur); answer zz; } }",
+        "twice 55",
+    ),
+];
+
+const KIND_FIRST: &[(&[u8], &str)] = &[
+    (
+        b"type t { state a: int = true; op f(): unit { contract true; answer unit; } }",
+        "kind 24",
+    ),
+    (
+        b"type t { state a: int = empty; op f(): unit { contract true; answer unit; } }",
+        "kind 24",
+    ),
+    (
+        b"type t { state a: int = unit; op f(): unit { contract true; answer unit; } }",
+        "kind 24",
+    ),
+    (
+        b"type t { state a: bool = -1; op f(): unit { contract true; answer unit; } }",
+        "kind 25",
+    ),
+    (
+        b"type t { state a: text = 1; op f(): unit { contract true; answer unit; } }",
+        "kind 25",
+    ),
+    (
+        b"type t { state a: unit = \"x\"; op f(): unit { contract true; answer unit; } }",
+        "kind 25",
+    ),
+    (
+        b"type t { state a: set(bool) = true; op f(): unit { contract true; answer unit; } }",
+        "kind 30",
+    ),
+    (
+        b"type t { state a: map(int, int) = -1; op f(): unit { contract true; answer unit; } }",
+        "kind 34",
     ),
     (
         b"type t { state i: int = 0; state l: set(int) = empty; state m: map(text, int) = empty; op f(n: int, v: bool, w: text): int { contract true; answer v; } }",
@@ -250,6 +458,9 @@ const CASES: &[(&[u8], &str)] = &[
         b"type t { state i: int = 0; state l: set(int) = empty; state m: map(text, int) = empty; op f(n: int, v: bool, w: text): int { contract true; answer if i then i else n; } }",
         "kind 150",
     ),
+];
+
+const KIND_SECOND: &[(&[u8], &str)] = &[
     (
         b"type t { state i: int = 0; state l: set(int) = empty; state m: map(text, int) = empty; op f(n: int, v: bool, w: text): int { contract true; answer if v then i else v; } }",
         "kind 164",
@@ -359,69 +570,12 @@ const CASES: &[(&[u8], &str)] = &[
         "kind 151",
     ),
     (
-        b"type t { state i: int = 0; state l: set(int) = empty; state m: map(text, int) = empty; op f(n: int, v: bool, w: text): int { contract true; answer zz; } }",
-        "unknown 147",
-    ),
-    (
-        b"type t { state i: int = 0; state l: set(int) = empty; state m: map(text, int) = empty; op f(n: int, v: bool, w: text): int { contract true; answer t; } }",
-        "unknown 147",
-    ),
-    (
-        b"type t { state i: int = 0; state l: set(int) = empty; state m: map(text, int) = empty; op f(n: int, v: bool, w: text): int { contract true; answer f; } }",
-        "unknown 147",
-    ),
-    (
-        b"type t { state i: int = 0; state l: set(int) = empty; state m: map(text, int) = empty; op f(n: int, v: bool, w: text): bool { contract true; answer i + zz; } }",
-        "unknown 152",
-    ),
-    (
-        b"type t { state i: int = 0; state l: set(int) = empty; state m: map(text, int) = empty; op f(n: int, v: bool, w: text): int { contract true; answer zz(zz); } }",
-        "unknown 147",
-    ),
-    (
-        b"type t { state i: int = 0; state l: set(int) = empty; state m: map(text, int) = empty; op f(n: int, v: bool, w: text): int { contract true; answer i(l); } }",
-        "unknown 147",
-    ),
-    (
-        b"type t { state i: int = 0; state l: set(int) = empty; state m: map(text, int) = empty; op f(n: int, v: bool, w: text): int { contract true; answer size + 1; } }",
-        "unknown 147",
-    ),
-    (
-        b"type t { state i: int = 0; state l: set(int) = empty; state m: map(text, int) = empty; op f(n: int, v: bool, w: text): bool { contract true; answer has(l, zz); } }",
-        "unknown 155",
-    ),
-    (
-        b"type t { state i: int = 0; state l: set(int) = empty; state m: map(text, int) = empty; op f(n: int, v: bool, w: text): text { contract true; answer if v then i else zz; } }",
-        "unknown 165",
-    ),
-    (
-        b"type t { state i: int = 0; state l: set(int) = empty; state m: map(text, int) = empty; op f(n: int, v: bool, w: text): text { contract true; answer if v then zz else i; } }",
-        "unknown 158",
-    ),
-    (
-        b"type t { state i: int = 0; state l: set(int) = empty; state m: map(text, int) = empty; op f(n: int, v: bool, w: text): int { contract true; answer if zz then i else v; } }",
-        "unknown 150",
-    ),
-    (
-        b"type t { state i: int = 0; state l: set(int) = empty; state m: map(text, int) = empty; op f(n: int, v: bool, w: text): bool { contract true; answer zz == i; } }",
-        "unknown 148",
-    ),
-    (
-        b"type t { state i: int = 0; state l: set(int) = empty; state m: map(text, int) = empty; op f(n: int, v: bool, w: text): text { contract true; answer put(m, w, zz); } }",
-        "unknown 158",
-    ),
-    (
-        b"type t { state i: int = 0; state b: bool = true; op f(n: int, w: text): int { contract true; answer 0; emit p: int = n + i, r: text = w when b; apply { i := p; b := i == p; i := i + 1; } } }",
-        "typed",
-    ),
-    (
-        b"type t { state i: int = 0; state b: bool = true; op f(n: int, w: text): int { contract true; answer 0; emit n: text = w, w: int = n when true; apply { i := w; b := n == \"\"; } } }",
-        "typed",
-    ),
-    (
         b"type t { state i: int = 0; state b: bool = true; op f(n: int, w: text): int { contract true; answer 0; emit p: int = w when b; apply { } } }",
         "kind 117",
     ),
+];
+
+const KIND_THIRD: &[(&[u8], &str)] = &[
     (
         b"type t { state i: int = 0; state b: bool = true; op f(n: int, w: text): int { contract true; answer 0; emit p: bool = n when b; apply { } } }",
         "kind 118",
@@ -438,145 +592,32 @@ const CASES: &[(&[u8], &str)] = &[
         b"type t { state i: int = 0; state b: bool = true; op f(n: int, w: text): int { contract true; answer 0; emit p: int = n when b; apply { b := i + p; } } }",
         "kind 140",
     ),
+];
+
+const OTHER_RULES: &[(&[u8], &str)] = &[
     (
-        b"type t { state i: int = 0; state b: bool = true; op f(n: int, w: text): int { contract true; answer 0; emit p: int = n, r: int = p when b; apply { } } }",
-        "unknown 129",
-    ),
-    (
-        b"type t { state i: int = 0; state b: bool = true; op f(n: int, w: text): int { contract true; answer 0; emit p: int = n when p == 0; apply { } } }",
-        "unknown 124",
-    ),
-    (
-        b"type t { state i: int = 0; state b: bool = true; op f(n: int, w: text): int { contract true; answer 0; emit p: int = n when b; apply { i := n; } } }",
-        "unknown 140",
-    ),
-    (
-        b"type t { state i: int = 0; state b: bool = true; op f(n: int, w: text): int { contract true; answer 0; emit p: int = n when b; apply { p := 1; } } }",
-        "unknown 135",
-    ),
-    (
-        b"type t { state i: int = 0; state b: bool = true; op f(n: int, w: text): int { contract true; answer 0; emit p: int = n when b; apply { zz := zz; } } }",
-        "unknown 135",
-    ),
-    (
-        b"type t { state i: int = 0; state b: bool = true; op f(n: int, w: text): int { contract true; answer 0; emit p: int = n, p: int = n when b; apply { } } }",
-        "twice 120",
-    ),
-    (
-        b"type t { state i: int = 0; state b: bool = true; op f(n: int, w: text): int { contract true; answer 0; emit i: int = n when b; apply { } } }",
-        "twice 108",
-    ),
-    (
-        b"type t { state i: int = 0; state b: bool = true; op f(n: int, w: text): int { contract true; answer 0; emit p: int = n, q: int = n, r: int = n, s: int = n, t: int = n when b; apply { } } }",
-        "many 156",
-    ),
-    (
-        b"type t { state i: int = 0; state b: bool = true; op f(n: int, w: text): int { contract true; answer 0; emit p: int = n, q: int = n, r: int = n, s: int = n, q: int = n when b; apply { } } }",
-        "twice 156",
-    ),
-    (
-        b"type t { state i: int = 0; state b: bool = true; op f(n: int, w: text): int { contract true; answer 0; emit p: int = n, q: int = n, r: int = n, s: int = n when b; apply { i := s; } } }",
-        "typed",
-    ),
-    (
-        b"type t { op f(): unit { contract forall a: f | g, b: g. [vis | so & soo | hb | hbo](a, b) => a = cur \\/ eq(cur, cur); answer unit; } op g(): unit { contract true; answer unit; } }",
-        "typed",
-    ),
-    (
-        b"type t { op f(): unit { contract forall f: f. vis(f, f); answer unit; } op g(): unit { contract true; answer unit; } }",
-        "typed",
-    ),
-    (
-        b"type t { op f(): unit { contract vis(a, cur); answer unit; } op g(): unit { contract true; answer unit; } }",
-        "unknown 37",
-    ),
-    (
-        b"type t { op f(): unit { contract vis(cur, a); answer unit; } op g(): unit { contract true; answer unit; } }",
-        "unknown 42",
-    ),
-    (
-        b"type t { op f(): unit { contract cur = f; answer unit; } op g(): unit { contract true; answer unit; } }",
-        "unknown 39",
-    ),
-    (
-        b"type t { op f(): unit { contract forall a. vis(a, b) => vis(c, cur); answer unit; } op g(): unit { contract true; answer unit; } }",
-        "unknown 50",
-    ),
-    (
-        b"type t { op f(): unit { contract forall a: h. true; answer unit; } op g(): unit { contract true; answer unit; } }",
-        "unknown 43",
-    ),
-    (
-        b"type t { op f(): unit { contract forall a: f | a. true; answer unit; } op g(): unit { contract true; answer unit; } }",
-        "unknown 47",
-    ),
-    (
-        b"type t { op f(): unit { contract forall a: t. true; answer unit; } op g(): unit { contract true; answer unit; } }",
-        "unknown 43",
-    ),
-    (
-        b"type t { op f(): unit { contract forall a, a. true; answer unit; } op g(): unit { contract true; answer unit; } }",
-        "twice 43",
-    ),
-    (
-        b"type t { op f(): unit { contract forall a: f | f. true; answer unit; } op g(): unit { contract true; answer unit; } }",
-        "twice 47",
-    ),
-    (
-        b"type t { op f(): unit { contract forall a: f, a: g. true; answer unit; } op g(): unit { contract true; answer unit; } }",
-        "twice 46",
-    ),
-    (
-        b"type t { op f(): unit { contract forall a: f | g | f, a. vis(b, cur); answer unit; } op g(): unit { contract true; answer unit; } }",
-        "twice 51",
-    ),
-    (
-        b"type t { op f(): unit { contract forall a, b, c, d, e, a. true; answer unit; } op g(): unit { contract true; answer unit; } }",
-        "twice 55",
+        b"type t { op touch(): unit { contract forall a, b, c, d, e, f. true; answer unit; } }",
+        "variables 59",
     ),
     (
         b"type t { op f(): unit { contract forall a, b, c, d, e, g: h. vis(zz, cur); answer unit; } op g(): unit { contract true; answer unit; } }",
         "variables 55",
     ),
     (
-        b"type t { op f(): unit { contract forall a: h, b, c, d, e, g. true; answer unit; } op g(): unit { contract true; answer unit; } }",
-        "unknown 43",
+        b"type t { op f(): unit { contract true; answer unit; } op g(): unit { contract true; answer unit; } } transaction x { uses f; contract forall a, b, c, d, e, g. hb(a, a); }",
+        "variables 156",
+    ),
+    (
+        b"type t { state i: int = 0; state b: bool = true; op f(n: int, w: text): int { contract true; answer 0; emit p: int = n, q: int = n, r: int = n, s: int = n, t: int = n when b; apply { } } }",
+        "many 156",
     ),
     (
         b"type t { op f(): unit { contract forall a, b. txn{a}{b}; answer unit; } op g(): unit { contract true; answer unit; } }",
         "txn 46",
     ),
     (
-        b"type t { op f(): unit { contract vis(a, cur) /\\ txn{a}{b}; answer unit; } op g(): unit { contract true; answer unit; } }",
-        "unknown 37",
-    ),
-    (
         b"type t { op f(): unit { contract true \\/ (true => txn{cur}{cur}); answer unit; } op g(): unit { contract true; answer unit; } }",
         "txn 50",
-    ),
-    (
-        b"type t { op f(): unit { contract true; answer unit; } op g(): unit { contract true; answer unit; } } transaction x { uses f; contract forall a: f | g, b: g. [vis | so & soo | sameobj | eq](a, b) => a = a; }",
-        "typed",
-    ),
-    (
-        b"type t { op f(): unit { contract true; answer unit; } op g(): unit { contract true; answer unit; } } transaction x { uses f; contract forall a, b. txn{a, a}{b, b} => txn{b}{a}; }",
-        "typed",
-    ),
-    (
-        b"type t { op f(): unit { contract true; answer unit; } op g(): unit { contract true; answer unit; } } transaction x { uses f; contract forall a. vis(a, cur); }",
-        "unknown 151",
-    ),
-    (
-        b"type t { op f(): unit { contract true; answer unit; } op g(): unit { contract true; answer unit; } } transaction x { uses f; contract forall a. cur = a; }",
-        "unknown 144",
-    ),
-    (
-        b"type t { op f(): unit { contract true; answer unit; } op g(): unit { contract true; answer unit; } } transaction x { uses f; contract forall a. txn{cur}{a}; }",
-        "unknown 148",
-    ),
-    (
-        b"type t { op f(): unit { contract true; answer unit; } op g(): unit { contract true; answer unit; } } transaction x { uses f; contract forall a. txn{a}{a, b}; }",
-        "unknown 154",
     ),
     (
         b"type t { op f(): unit { contract true; answer unit; } op g(): unit { contract true; answer unit; } } transaction x { uses f; contract forall a. hb(a, a); }",
@@ -591,38 +632,68 @@ const CASES: &[(&[u8], &str)] = &[
         "closure 152",
     ),
     (
-        b"type t { op f(): unit { contract true; answer unit; } op g(): unit { contract true; answer unit; } } transaction x { uses f; contract vis(a, a) /\\ hb(a, a); }",
-        "unknown 138",
-    ),
-    (
         b"type t { op f(): unit { contract true; answer unit; } op g(): unit { contract true; answer unit; } } transaction x { uses f; contract hb(a, a); }",
         "closure 134",
-    ),
-    (
-        b"type t { op f(): unit { contract true; answer unit; } op g(): unit { contract true; answer unit; } } transaction x { uses f; contract forall a, b, c, d, e, g. hb(a, a); }",
-        "variables 156",
-    ),
-    (
-        b"type t { op f(): unit { contract true; answer unit; } op g(): unit { contract true; answer unit; } } transaction x { uses f; contract forall a, a. hb(a, a); }",
-        "twice 144",
-    ),
-    (
-        b"type t { state a: int = 0; op f(a: int): bool { contract true; answer a; } op f(): unit { contract hb(zz, cur); answer 1; } }",
-        "twice 32",
-    ),
-    (
-        b"type t { op f(): unit { contract forall a, b, c, d, e, a. vis(zz, cur); answer zz; } }",
-        "twice 55",
     ),
 ];
 
 #[test]
-fn typed_or_their_first_fault(rt: HostRuntime) -> Result<(), Fail> {
-    for (text, want) in CASES {
-        let found = told(rt.alloc(), text)?;
-        assert_eq!(rt; found.as_str(), *want);
-    }
+fn unknown_names_first(rt: HostRuntime) -> Result<(), Fail> {
+    assert_eq!(rt; first_difference(rt.alloc(), UNKNOWN_FIRST)?.as_str(), "");
     Ok(())
+}
+
+#[test]
+fn unknown_names_second(rt: HostRuntime) -> Result<(), Fail> {
+    assert_eq!(rt; first_difference(rt.alloc(), UNKNOWN_SECOND)?.as_str(), "");
+    Ok(())
+}
+
+#[test]
+fn well_typed_sources(rt: HostRuntime) -> Result<(), Fail> {
+    assert_eq!(rt; first_difference(rt.alloc(), TYPED)?.as_str(), "");
+    Ok(())
+}
+
+#[test]
+fn repeated_names(rt: HostRuntime) -> Result<(), Fail> {
+    assert_eq!(rt; first_difference(rt.alloc(), TWICE)?.as_str(), "");
+    Ok(())
+}
+
+#[test]
+fn other_kinds_first(rt: HostRuntime) -> Result<(), Fail> {
+    assert_eq!(rt; first_difference(rt.alloc(), KIND_FIRST)?.as_str(), "");
+    Ok(())
+}
+
+#[test]
+fn other_kinds_second(rt: HostRuntime) -> Result<(), Fail> {
+    assert_eq!(rt; first_difference(rt.alloc(), KIND_SECOND)?.as_str(), "");
+    Ok(())
+}
+
+#[test]
+fn other_kinds_third(rt: HostRuntime) -> Result<(), Fail> {
+    assert_eq!(rt; first_difference(rt.alloc(), KIND_THIRD)?.as_str(), "");
+    Ok(())
+}
+
+#[test]
+fn other_rules(rt: HostRuntime) -> Result<(), Fail> {
+    assert_eq!(rt; first_difference(rt.alloc(), OTHER_RULES)?.as_str(), "");
+    Ok(())
+}
+
+/// What is told of the first source of which something else is wanted, and nothing where there is none.
+fn first_difference(alloc: Global, cases: &[(&[u8], &str)]) -> Result<String, AllocError> {
+    for (text, want) in cases {
+        let found = told(alloc, text)?;
+        if found.as_str() != *want {
+            return Ok(found);
+        }
+    }
+    Ok(String::new(alloc))
 }
 
 /// What is told of a source.
