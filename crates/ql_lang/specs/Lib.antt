@@ -4,3 +4,5 @@ pub mod Arguments
 pub mod Expressions
 pub mod Spelling
 pub mod Programs
+pub mod ExpressionSpelling
+pub mod ProgramSpelling

@@ -9,6 +9,8 @@ mod formula;
 mod name;
 mod operation;
 mod print;
+mod print_expressions;
+mod print_programs;
 mod program;
 mod relation;
 
@@ -20,5 +22,6 @@ pub use operation::{
     Base, Bind, Binds, EmitDecl, Kind, OpDecl, OpDecls, Param, Params, Stmt, Stmts,
 };
 pub use print::print_contract;
+pub use print_programs::print_program;
 pub use program::{Field, Fields, Init, InitNode, Program, TxnDecl, TxnDecls, TypeDecl, TypeDecls};
 pub use relation::{Rel, RelName};

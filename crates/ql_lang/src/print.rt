@@ -28,9 +28,16 @@ pub fn print_contract(alloc: Global, contract: &Contract) -> Result<Vec<u8>, NoM
     ensures { IfOk result (λ text. text.items ≡ contract_text (sentence_of contract.now)) }
 {
     let mut out = Vec::new(alloc);
-    push_quantifier(&mut out, contract.vars.items())?;
-    push_prop(&mut out, &contract.body)?;
+    push_contract(&mut out, contract)?;
     Ok(out)
+}
+
+// Appends the text of a contract.
+pub(crate) fn push_contract(out: &mut Vec<u8>, contract: &Contract) -> Result<(), NoMemory>
+    ensures { OnOk result (out.new.items ≡ out.old.items ++ contract_text (sentence_of contract.now)) }
+{
+    push_quantifier(out, contract.vars.items())?;
+    push_prop(out, &contract.body)
 }
 
 // The word `forall` and the variables, where there are any.

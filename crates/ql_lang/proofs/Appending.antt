@@ -1,0 +1,17 @@
+use Rattle.std.proofs.Common.{◌≡◌, ℕ, ◌<◌, ◌+◌, List, ◌∷◌, ◌++◌, ◌∙◌, ap, sym, append_assoc, drop, length, map}
+use Rattle.std.proofs.Math.ListN.{get_or}
+use Rattle.std.proofs.lemmas.List.{drop_more}
+use Rattle.std.specs.List.{concat}
+
+-- a text behind which two more were put
+pub behind : {a b : List ℕ} (old x y : List ℕ) → a ≡ old ++ x → b ≡ a ++ y → b ≡ old ++ (x ++ y)
+behind old x y first second = second ∙ ap (λ t. t ++ y) first ∙ append_assoc old x y
+
+-- the texts that are left, when one more was put
+pub one_fewer : {T U : Type 0} (F : U → List ℕ) (G : T → U) (xs : List T) (i : ℕ) (x : T) (a b all : List ℕ) → i < length xs → x ≡ get_or xs i x → a ++ concat (map F (map G (drop i xs))) ≡ all → b ≡ a ++ F (G x) → b ++ concat (map F (map G (drop (i + 1) xs))) ≡ all
+one_fewer F G xs i x a b all below is so_far put =
+    ap (λ t. t ++ concat (map F (map G (drop (i + 1) xs)))) put
+    ∙ append_assoc a (F (G x)) (concat (map F (map G (drop (i + 1) xs))))
+    ∙ ap (λ y. a ++ concat (map F (map G (y ∷ drop (i + 1) xs)))) is
+    ∙ ap (λ ys. a ++ concat (map F (map G ys))) (sym (drop_more xs i x below))
+    ∙ so_far
