@@ -3,7 +3,7 @@ use Rattle.std.proofs.Common.{◌≡◌, ◌≢◌, ℕ, zero, suc, ◌+◌, ◌
 use Rattle.std.proofs.lemmas.List.{append-nil, take-append-drop, length-take-le}
 use Rattle.std.proofs.lemmas.Bool.Decides.{nat_tests}
 use Rattle.std.proofs.lemmas.List.Elements.{filter-append}
-use Rattle.std.specs.Prelude.{◌==◌, is_some, slice_index}
+use Rattle.std.specs.Prelude.{◌==◌, nat_le, is_some, slice_index, MatchOption}
 use Rattle.std.specs.List.{filter}
 use Rattle.ql_cnf.specs.Satisfaction.{ClauseList}
 use Rattle.ql_cnf.specs.declared.lit.Lit.{Lit}
@@ -13,7 +13,7 @@ use Rattle.ql_refute.specs.Verdict.{hinted}
 use Rattle.ql_refute.specs.declared.marks.Reading.TheVariants.{Forces}
 use Rattle.ql_refute.specs.declared.refutation.Hint.{Hint}
 use Rattle.ql_refute.specs.declared.refutation.Line.{Line}
-use Rattle.ql_sat.specs.Trail.{assigned_from, IsTrail, is_seen, NoneSeen, IsOneSeen, IsAsserting, IsSearching, IsAnalysis, IsLonger, IsUnitClause, learned_to, trail_number}
+use Rattle.ql_sat.specs.Trail.{assigned_from, IsTrail, is_seen, NoneSeen, IsOneSeen, IsAsserting, IsFirstAsserting, IsFirstFrom, IsSearching, IsAnalysis, IsLonger, IsUnitClause, learned_to, trail_number}
 use Rattle.ql_sat.specs.declared.trail.Step.{Step}
 use Rattle.ql_sat.specs.declared.trail.Visit.TheVariants.{Forced}
 use Rattle.ql_sat.proofs.Analysis.{none_absent, split_at}
@@ -156,3 +156,49 @@ one_here trail seen i e l sees none = subst (λ (zs : List Step). IsOneSeen seen
 
 pub one_before : (trail : List Step) (seen : List Bool) (i : ℕ) (e : Step) → i < length trail → is_seen seen (get_or trail i e).lit.var ≡ false → IsOneSeen seen (drop (suc i) trail) → IsOneSeen seen (drop i trail)
 one_before trail seen i e l unseen one = subst (λ (zs : List Step). IsOneSeen seen zs) (sym (drop-cons trail i e l)) (inr (unseen, one))
+
+none_one : (seen : List Bool) (ss : List Step) → NoneSeen seen ss → IsOneSeen seen ss → ⊥
+none_one seen [] none one = one
+none_one seen (s ∷ ss) none (inl g) = absurd (let no = none.0 in let yes = g.0 in cc)
+none_one seen (s ∷ ss) none (inr g) = none_one seen ss none.1 g.1
+
+none_later : (seen : List Bool) (ss : List Step) (n k : ℕ) → n ≤ k → NoneSeen seen (drop n ss) → NoneSeen seen (drop k ss)
+none_later seen ss zero zero l h = h
+none_later seen [] zero (suc k) l h = tt
+none_later seen (s ∷ ss) zero (suc k) l h = none_later seen ss zero k (omega arith) h.1
+none_later seen ss (suc n) zero l h = absurd (omega (arith, l))
+none_later seen [] (suc n) (suc k) l h = tt
+none_later seen (s ∷ ss) (suc n) (suc k) l h = none_later seen ss n k (omega (arith, l)) h
+
+-- a seen step before others of which one is seen
+two_seen : (seen : List Bool) (ss : List Step) (k i : ℕ) (e : Step) → k ≤ i → is_seen seen (get_or ss i e).lit.var ≡ true → IsOneSeen seen (drop (suc i) ss) → IsOneSeen seen (drop k ss) → ⊥
+two_seen seen [] k i e l sees one h = one
+two_seen seen (s ∷ ss) zero zero e l sees one (inl g) = none_one seen ss g.1 one
+two_seen seen (s ∷ ss) zero zero e l sees one (inr g) = absurd (let no = g.0 in cc)
+two_seen seen (s ∷ ss) zero (suc i) e l sees one (inl g) = none_one seen (drop (suc i) ss) (none_later seen ss zero (suc i) (omega arith) g.1) one
+two_seen seen (s ∷ ss) zero (suc i) e l sees one (inr g) = two_seen seen ss zero i e (omega arith) sees one g.1
+two_seen seen (s ∷ ss) (suc k) zero e l sees one h = absurd (omega (arith, l))
+two_seen seen (s ∷ ss) (suc k) (suc i) e l sees one h = two_seen seen ss k i e (omega (arith, l)) sees one h
+
+-- after a place from which on no step is seen nothing is found
+pub first_none : (trail : List Step) (seen : List Bool) (place : ℕ) → NoneSeen seen (drop place trail) → IsFirstFrom trail seen place None
+first_none trail seen place none k l asserting = none_one seen (drop k trail) (none_later seen trail place k l none) asserting.one
+
+-- before a place that follows a seen step there is none either
+pub first_of_all : (trail : List Step) (seen : List Bool) (place : ℕ) (found : Option ℕ) (e : Step) (A : Type 0) → ((i : ℕ) → place ≡ suc i → is_seen seen (get_or trail i e).lit.var ≡ true) → IsOneSeen seen (drop place trail) → IsFirstFrom trail seen place found → MatchOption found A (λ i. IsAsserting trail i seen) → MatchOption found A (λ i. IsFirstAsserting trail i seen)
+first_of_all trail seen place None e A sees one first h = h
+first_of_all trail seen place (Some to) e A sees one first h = record {
+  asserting = h;
+  first = λ k asserting. step place refl k asserting (nat_le place k) refl;
+}
+  where
+    least : (a b : ℕ) → nat_le a b ≡ true → a ≤ b
+    least a b f = grind (arith, nat_tests)
+
+    below : (a b : ℕ) → nat_le a b ≡ false → b < a
+    below a b f = grind (arith, nat_tests)
+
+    step : (n : ℕ) → place ≡ n → (k : ℕ) → IsAsserting trail k seen → (b : Bool) → nat_le place k ≡ b → to ≤ k
+    step n same k asserting true f = first k (least place k f) asserting
+    step zero same k asserting false f = absurd (omega (arith, same, below place k f))
+    step (suc i) same k asserting false f = absurd (two_seen seen trail k i e (omega (arith, same, below place k f)) (sees i same) (subst (λ (j : ℕ). IsOneSeen seen (drop j trail)) same one) asserting.one)

@@ -1,10 +1,10 @@
 -- One clause more that watches its literals.
-use Rattle.std.proofs.Common.{◌≡◌, ◌≢◌, ℕ, ◌+◌, ◌-◌, ◌<◌, ◌≤◌, Bool, true, false, List, [], ◌∷◌, ◌++◌, Some, length, get_or, refl, sym, ◌∙◌, subst, arith}
+use Rattle.std.proofs.Common.{◌≡◌, ◌≢◌, ℕ, zero, suc, ◌+◌, ◌-◌, ◌<◌, Bool, true, false, List, [], ◌∷◌, ◌++◌, Some, length, get_or, refl, sym, ◌∙◌, subst, arith}
 use Rattle.std.proofs.lemmas.Bool.Decides.{nat_tests}
 use Rattle.std.proofs.lemmas.List.{get_or_append_left, length_push}
 use Rattle.std.specs.Prelude.{◌==◌, slice_get}
 use Rattle.ql_cnf.specs.Literals.{IsAscending}
-use Rattle.ql_cnf.specs.Satisfaction.{ClauseList}
+use Rattle.ql_cnf.specs.Satisfaction.{ClauseList, with_clause}
 use Rattle.ql_cnf.specs.declared.lit.Lit.{Lit}
 use Rattle.ql_sat.specs.Settled.{WatchesOwn, AtDecisions, AreSettled, IsWatched, values_to}
 use Rattle.ql_sat.specs.Trail.{assigned_from}
@@ -53,23 +53,32 @@ pub ascending_more : (cs : List (List Lit)) (k : ℕ) (d : List Lit) → slice_g
 ascending_more cs k d there ascending before =
     each_more (λ j. IsAscending (get_or cs j [])) k before (subst (λ (e : List Lit). IsAscending e) (sym (clause_there cs k d there)) ascending)
 
-settled_more : (n : ℕ) (p r : Partial) (pairs : List Pair) (w : Pair) → n ≤ length pairs → AreSettled n p r pairs → AreSettled n p r (pairs ++ w ∷ [])
-settled_more n p r pairs w l h k given = subst (λ (q : Pair). IsSettled p r q) (sym (pair_stays pairs w k (omega (arith, l, given)))) (h k given)
+-- one clause more and its pair
+each_pushed : (Q : List Lit → Pair → Type 0) (cs : List (List Lit)) (d : List Lit) (pairs : List Pair) (w : Pair) → length pairs ≡ length cs → ((k : ℕ) → k < length cs → Q (get_or cs k []) (pair_at pairs k)) → Q d w → (k : ℕ) → k < length (cs ++ d ∷ []) → Q (get_or (cs ++ d ∷ []) k []) (pair_at (pairs ++ w ∷ []) k)
+each_pushed Q [] d [] w long each here zero l = here
+each_pushed Q [] d [] w long each here (suc k) l = absurd (omega (arith, l))
+each_pushed Q [] d (p ∷ ps) w long each here k l = absurd (omega (arith, long))
+each_pushed Q (e ∷ cs) d [] w long each here k l = absurd (omega (arith, long))
+each_pushed Q (e ∷ cs) d (p ∷ ps) w long each here zero l = each zero (omega arith)
+each_pushed Q (e ∷ cs) d (p ∷ ps) w long each here (suc k) l = each_pushed Q cs d ps w (omega (arith, long)) (λ j m. each (suc j) (omega (arith, m))) here k (omega (arith, l))
 
-decided_more : (n : ℕ) (pairs : List Pair) (w : Pair) (p : Partial) (ss : List Step) → n ≤ length pairs → AtDecisions (λ r. AreSettled n r r pairs) p ss → AtDecisions (λ r. AreSettled n r r (pairs ++ w ∷ [])) p ss
-decided_more n pairs w p [] l h = tt
-decided_more n pairs w p (s ∷ ss) l h = ((λ e. settled_more n p p pairs w l (h.0 e)), decided_more n pairs w (with_true p s.lit) ss l h.1)
+decided_more : (cs : List (List Lit)) (d : List Lit) (pairs : List Pair) (w : Pair) (p : Partial) (ss : List Step) → length pairs ≡ length cs → AtDecisions (λ r. AreSettled (length cs) r r pairs) p ss → AtDecisions (λ r. IsSettled r r w) p ss → AtDecisions (λ r. AreSettled (length (cs ++ d ∷ [])) r r (pairs ++ w ∷ [])) p ss
+decided_more cs d pairs w p [] long h here = tt
+decided_more cs d pairs w p (s ∷ ss) long h here =
+    ((λ e. each_pushed (λ d w. IsSettled p p w) cs d pairs w long (h.0 e) (here.0 e)), decided_more cs d pairs w (with_true p s.lit) ss long h.1 here.1)
 
--- a learned clause is none of the given ones
-pub watched_more : (c : ClauseList) (trail : List Step) (lists now : List (List ℕ)) (pairs : List Pair) (w : Pair) (done : ℕ) → length now ≡ length lists → IsWatched c trail lists pairs done → IsWatched c trail now (pairs ++ w ∷ []) done
-watched_more c trail lists now pairs w done size h = record {
+pub watched_more : (c : ClauseList) (d : List Lit) (trail : List Step) (lists now : List (List ℕ)) (pairs : List Pair) (w : Pair) (done : ℕ) → length now ≡ length lists → IsAscending d → WatchesOwn d w → AtDecisions (λ r. IsSettled r r w) nothing trail → IsSettled (values_to trail done) (assigned_from nothing trail) w → IsWatched c trail lists pairs done → IsWatched (with_clause c (Some d)) trail now (pairs ++ w ∷ []) done
+watched_more c d trail lists now pairs w done size ascending own decided settled h = record {
   guarded = record {
-    counted = let long : length (pairs ++ w ∷ []) ≡ length pairs + 1 = length_push pairs w in omega (arith, long, h.guarded.counted);
+    counted =
+        let long : length (pairs ++ w ∷ []) ≡ length pairs + 1 = length_push pairs w in
+        let more : length (c.clauses ++ d ∷ []) ≡ length c.clauses + 1 = length_push c.clauses d in
+        omega (arith, long, more, h.guarded.counted);
     room = size ∙ h.guarded.room;
-    ascending = h.guarded.ascending;
-    own = λ k given. subst (λ (q : Pair). WatchesOwn (get_or c.clauses k []) q) (sym (pair_stays pairs w k (omega (arith, given, h.guarded.counted)))) (h.guarded.own k given);
-    decided = decided_more (length c.clauses) pairs w nothing trail h.guarded.counted h.guarded.decided;
+    ascending = each_pushed (λ e p. IsAscending e) c.clauses d pairs w h.guarded.counted h.guarded.ascending ascending;
+    own = each_pushed (λ e p. WatchesOwn e p) c.clauses d pairs w h.guarded.counted h.guarded.own own;
+    decided = decided_more c.clauses d pairs w nothing trail h.guarded.counted h.guarded.decided decided;
   };
   within = h.within;
-  settled = settled_more (length c.clauses) (values_to trail done) (assigned_from nothing trail) pairs w h.guarded.counted h.settled;
+  settled = each_pushed (λ e p. IsSettled (values_to trail done) (assigned_from nothing trail) p) c.clauses d pairs w h.guarded.counted h.settled settled;
 }

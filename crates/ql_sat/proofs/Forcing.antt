@@ -136,10 +136,6 @@ value_not (Some false) false h e = absurd (cc)
 value_not (Some true) false h e = absurd (cc)
 value_not (Some false) true h e = absurd (cc)
 
--- the clause of a given clause's hint
-pub given_hint : (c : ClauseList) (lines : List Line) (k : ℕ) (h : Hint) → (k < length c.clauses → h ≡ Given (k + 1)) → k < length c.clauses → hinted c lines h ≡ Some (get_or c.clauses k [])
-given_hint c lines k h named given = rw (named given) (given_named c lines k given)
-
 pub longer_least : (visit : Visit) (n : ℕ) (xs ys : List Step) → IsLonger visit n xs ys → trail_number n xs ≤ trail_number n ys
 longer_least Forced n xs ys h = let less : trail_number n xs < trail_number n ys = h.3 in omega (arith, less)
 longer_least Conflict n xs ys h = rw h (omega arith)

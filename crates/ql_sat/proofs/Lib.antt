@@ -2,10 +2,12 @@ mod Analysis
 mod Asserting
 mod Building
 mod Forcing
+mod Latest
 mod Learned
 mod Listing
 mod Measure
 mod Models
+mod Naming
 mod Reaching
 mod Rounds
 mod Searching

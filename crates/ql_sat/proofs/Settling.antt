@@ -1,5 +1,5 @@
 -- What keeps watched literals settled.
-use Rattle.std.proofs.Common.{◌≡◌, ◌≢◌, ◌⊎◌, ℕ, ◌+◌, ◌*◌, Bool, true, false, not, cond, List, [], ◌∷◌, ◌++◌, Option, Some, refl, sym, ◌∙◌, ap, inl, inr, arith}
+use Rattle.std.proofs.Common.{◌≡◌, ◌≢◌, ◌⊎◌, ℕ, ◌+◌, ◌*◌, Bool, true, false, not, cond, List, [], ◌∷◌, ◌++◌, Option, None, Some, refl, sym, ◌∙◌, ap, inl, inr, arith}
 use Rattle.std.proofs.lemmas.Bool.Decides.{nat_tests}
 use Rattle.std.specs.Prelude.{◌==◌, is_some}
 use Rattle.ql_cnf.specs.Literals.{negated}
@@ -126,3 +126,18 @@ at_there q p (x ∷ xs) ys d h e = at_there q (with_true p x.lit) xs ys d h.1 e
 pub at_map : (f g : Partial → Type 0) (c : ClauseList) (lines : List Line) (p : Partial) (ss : List Step) → IsTrail c lines p ss → ((r : Partial) → Grows r (assigned_from p ss) → f r → g r) → AtDecisions f p ss → AtDecisions g p ss
 at_map f g c lines p [] steps each h = tt
 at_map f g c lines p (s ∷ ss) steps each h = ((λ e. each p (λ v b set. grows c lines p (s ∷ ss) v b steps set) (h.0 e)), at_map f g c lines (with_true p s.lit) ss steps.1 each h.1)
+
+pub at_each : (q : Partial → Type 0) (c : ClauseList) (lines : List Line) (p : Partial) (ss : List Step) → IsTrail c lines p ss → ((r : Partial) → Grows r (assigned_from p ss) → q r) → AtDecisions q p ss
+at_each q c lines p [] steps each = tt
+at_each q c lines p (s ∷ ss) steps each = ((λ e. each p (λ v b set. grows c lines p (s ∷ ss) v b steps set)), at_each q c lines (with_true p s.lit) ss steps.1 each)
+
+pub at_append : (q : Partial → Type 0) (p : Partial) (xs ys : List Step) → AtDecisions q p xs → AtDecisions q (assigned_from p xs) ys → AtDecisions q p (xs ++ ys)
+at_append q p [] ys h g = g
+at_append q p (x ∷ xs) ys h g = (h.0, at_append q (with_true p x.lit) xs ys h.1 g)
+
+-- both watched literals are unset later, and so they are now
+pub settled_unset : (p r t : Partial) (w : Pair) → Grows p t → t w.first.var ≡ None → t w.second.var ≡ None → IsSettled p r w
+settled_unset p r t w grow first second = ((λ f. absurd (no w.first first f)), (λ f. absurd (no w.second second f)))
+  where
+    no : (x : Lit) → t x.var ≡ None → IsFalse p x → ⊥
+    no x unset f = absurd (let set : t x.var ≡ Some (not x.positive) = grow x.var (not x.positive) f in cc)

@@ -87,17 +87,17 @@ guarded_push c trail lists pairs s decides h = record {
   decided = at_push (λ r. AreSettled (length c.clauses) r r pairs) nothing trail s h.decided decides;
 }
 
-pub settled_push : (c : ClauseList) (lines : List Line) (trail : List Step) (pairs : List Pair) (s : Step) (n : ℕ) → IsTrail c lines nothing (trail ++ s ∷ []) → n ≤ length trail → IsSettledTo c trail n pairs → IsSettledTo c (trail ++ s ∷ []) n pairs
-settled_push c lines trail pairs s n steps l h k within =
+pub settled_push : (c all : ClauseList) (lines : List Line) (trail : List Step) (pairs : List Pair) (s : Step) (n : ℕ) → IsTrail c lines nothing (trail ++ s ∷ []) → n ≤ length trail → IsSettledTo all trail n pairs → IsSettledTo all (trail ++ s ∷ []) n pairs
+settled_push c all lines trail pairs s n steps l h k within =
     subst (λ (p : Partial). IsSettled p (assigned_from nothing (trail ++ s ∷ [])) (pair_at pairs k)) (sym (values_push trail s n l))
     (settled_grows (values_to trail n) (assigned_from nothing trail) (assigned_from nothing (trail ++ s ∷ [])) (pair_at pairs k) (grow_push c lines trail s steps) (h k within))
 
-pub visiting_grow : (c : ClauseList) (lines : List Line) (trail : List Step) (lists : List (List ℕ)) (pairs : List Pair) (s : Step) (place at : ℕ) (x : Lit) → IsTrail c lines nothing (trail ++ s ∷ []) → is_some s.reason ≡ true → IsVisiting c trail lists pairs place at x → IsVisiting c (trail ++ s ∷ []) lists pairs place at x
-visiting_grow c lines trail lists pairs s place at x steps reason h = record {
-  guarded = guarded_push c trail lists pairs s (λ e. absurd (cc)) h.guarded;
+pub visiting_grow : (c all : ClauseList) (lines : List Line) (trail : List Step) (lists : List (List ℕ)) (pairs : List Pair) (s : Step) (place at : ℕ) (x : Lit) → IsTrail c lines nothing (trail ++ s ∷ []) → is_some s.reason ≡ true → IsVisiting all trail lists pairs place at x → IsVisiting all (trail ++ s ∷ []) lists pairs place at x
+visiting_grow c all lines trail lists pairs s place at x steps reason h = record {
+  guarded = guarded_push all trail lists pairs s (λ e. absurd (cc)) h.guarded;
   within = let long : length (trail ++ s ∷ []) ≡ length trail + 1 = length_push trail s in omega (arith, long, h.within);
   literal = h.literal ∙ ap (λ (t : Step). negated t.lit) (sym (get_or_append_left trail (s ∷ []) no_step place h.within));
-  before = settled_push c lines trail pairs s place steps (omega (arith, h.within)) h.before;
+  before = settled_push c all lines trail pairs s place steps (omega (arith, h.within)) h.before;
   rest = λ k l. elim (h.rest k l) [ inl w ↦ inl w | inr w ↦ inr (subst (λ (p : Partial). IsSettled p (assigned_from nothing (trail ++ s ∷ [])) (pair_at pairs k)) (sym (values_push trail s (place + 1) (omega (arith, h.within)))) (settled_grows (values_to trail (place + 1)) (assigned_from nothing trail) (assigned_from nothing (trail ++ s ∷ [])) (pair_at pairs k) (grow_push c lines trail s steps) w)) ];
 }
 
@@ -133,7 +133,7 @@ own_moved (y ∷ ys) w x to has h = (step (index_of w.first == index_of x) w.fir
     step true a f = has
     step false a f = f
 
--- what a change of a watched literal does to what pairs say of the given clauses
+-- what a change of a watched literal does to what pairs say of the clauses
 moved_at : (Q : ℕ → Pair → Type 0) (pairs after : List Pair) (clause n : ℕ) (x to : Lit) → n ≤ length pairs → ((k : ℕ) → k ≢ clause → pair_at after k ≡ pair_at pairs k) → (clause < length pairs → pair_at after clause ≡ replaced (pair_at pairs clause) x to) → (clause < n → Q clause (replaced (pair_at pairs clause) x to)) → ((k : ℕ) → k < n → k ≢ clause → Q k (pair_at pairs k)) → (k : ℕ) → k < n → Q k (pair_at after k)
 moved_at Q pairs after clause n x to counted others pair here there k l = step (k == clause) refl
   where
@@ -148,34 +148,37 @@ moved_at Q pairs after clause n x to counted others pair here there k l = step (
         subst (λ (w : Pair). Q k w) (sym (others k other)) (there k l other)
 
 -- the clause watches another literal, and leaves the list
-pub visiting_move : (c : ClauseList) (lines : List Line) (trail : List Step) (lists now : List (List ℕ)) (pairs after : List Pair) (place at clause : ℕ) (x to : Lit) → IsTrail c lines nothing trail → length now ≡ length lists → take at (get_or now (index_of x) []) ≡ take at (get_or lists (index_of x) []) → ((k : ℕ) → k ≢ clause → count_of k (get_or now (index_of x) []) ≡ count_of k (get_or lists (index_of x) [])) → length after ≡ length pairs → ((k : ℕ) → k ≢ clause → pair_at after k ≡ pair_at pairs k) → (clause < length pairs → pair_at after clause ≡ replaced (pair_at pairs clause) x to) → (index_of to ≡ index_of x → ⊥) → (clause < length c.clauses → (has_literal (get_or c.clauses clause []) to ≡ true) × (is_open (assigned_from nothing trail) to ≡ true)) → IsVisiting c trail lists pairs place at x → IsVisiting c trail now after place at x
-visiting_move c lines trail lists now pairs after place at clause x to steps size front counts long others pair away fits h = record {
+pub visiting_move : (c all : ClauseList) (lines : List Line) (trail : List Step) (lists now : List (List ℕ)) (pairs after : List Pair) (place at clause : ℕ) (x to : Lit) → IsTrail c lines nothing trail → length now ≡ length lists → take at (get_or now (index_of x) []) ≡ take at (get_or lists (index_of x) []) → ((k : ℕ) → k ≢ clause → count_of k (get_or now (index_of x) []) ≡ count_of k (get_or lists (index_of x) [])) → length after ≡ length pairs → ((k : ℕ) → k ≢ clause → pair_at after k ≡ pair_at pairs k) → (clause < length pairs → pair_at after clause ≡ replaced (pair_at pairs clause) x to) → (index_of to ≡ index_of x → ⊥) → (clause < length all.clauses → (has_literal (get_or all.clauses clause []) to ≡ true) × (is_open (assigned_from nothing trail) to ≡ true)) → IsVisiting all trail lists pairs place at x → IsVisiting all trail now after place at x
+visiting_move c all lines trail lists now pairs after place at clause x to steps size front counts long others pair away fits h = record {
   guarded = record {
-    counted = omega (arith, long, h.guarded.counted);
+    counted = long ∙ h.guarded.counted;
     room = size ∙ h.guarded.room;
     ascending = h.guarded.ascending;
-    own = moved_at (λ k w. WatchesOwn (get_or c.clauses k []) w) pairs after clause (length c.clauses) x to h.guarded.counted others pair (λ given. own_moved (get_or c.clauses clause []) (pair_at pairs clause) x to (fits given).0 (h.guarded.own clause given)) (λ k l other. h.guarded.own k l);
-    decided = at_map (λ r. AreSettled (length c.clauses) r r pairs) (λ r. AreSettled (length c.clauses) r r after) c lines nothing trail steps (λ r grow settled. all_moved r r grow grow settled) h.guarded.decided;
+    own = moved_at (λ k w. WatchesOwn (get_or all.clauses k []) w) pairs after clause (length all.clauses) x to most others pair (λ given. own_moved (get_or all.clauses clause []) (pair_at pairs clause) x to (fits given).0 (h.guarded.own clause given)) (λ k l other. h.guarded.own k l);
+    decided = at_map (λ r. AreSettled (length all.clauses) r r pairs) (λ r. AreSettled (length all.clauses) r r after) c lines nothing trail steps (λ r grow settled. all_moved r r grow grow settled) h.guarded.decided;
   };
   within = h.within;
   literal = h.literal;
   before = moved_before;
-  rest = moved_at (λ k w. IsWaiting at (get_or now (index_of x) []) k ⊎ IsSettled (values_to trail (place + 1)) (assigned_from nothing trail) w) pairs after clause (length c.clauses) x to h.guarded.counted others pair (λ given. inr (here given)) (λ k l other. elim (h.rest k l) [ inl w ↦ inl (still k other w) | inr w ↦ inr w ]);
+  rest = moved_at (λ k w. IsWaiting at (get_or now (index_of x) []) k ⊎ IsSettled (values_to trail (place + 1)) (assigned_from nothing trail) w) pairs after clause (length all.clauses) x to most others pair (λ given. inr (here given)) (λ k l other. elim (h.rest k l) [ inl w ↦ inl (still k other w) | inr w ↦ inr w ]);
 }
   where
+    most : length all.clauses ≤ length pairs
+    most = omega (arith, h.guarded.counted)
+
     closed : IsFalse (assigned_from nothing trail) x
     closed = subst (λ (y : Lit). IsFalse (assigned_from nothing trail) y) (sym h.literal) (falsified_false c lines trail place steps h.within)
 
-    all_moved : (p r : Partial) → Grows p (assigned_from nothing trail) → Grows r (assigned_from nothing trail) → AreSettled (length c.clauses) p r pairs → AreSettled (length c.clauses) p r after
-    all_moved p r grow_p grow_r settled = moved_at (λ k w. IsSettled p r w) pairs after clause (length c.clauses) x to h.guarded.counted others pair (λ given. settled_moved p r (assigned_from nothing trail) (pair_at pairs clause) x to grow_p grow_r closed (open_not_false (assigned_from nothing trail) to (fits given).1) (settled clause given)) (λ k l other. settled k l)
+    all_moved : (p r : Partial) → Grows p (assigned_from nothing trail) → Grows r (assigned_from nothing trail) → AreSettled (length all.clauses) p r pairs → AreSettled (length all.clauses) p r after
+    all_moved p r grow_p grow_r settled = moved_at (λ k w. IsSettled p r w) pairs after clause (length all.clauses) x to most others pair (λ given. settled_moved p r (assigned_from nothing trail) (pair_at pairs clause) x to grow_p grow_r closed (open_not_false (assigned_from nothing trail) to (fits given).1) (settled clause given)) (λ k l other. settled k l)
 
-    moved_before : IsSettledTo c trail place after
+    moved_before : IsSettledTo all trail place after
     moved_before = all_moved (values_to trail place) (assigned_from nothing trail) (values_grow c lines trail place steps) (λ v b e. e) h.before
 
     still : (k : ℕ) → k ≢ clause → IsWaiting at (get_or lists (index_of x) []) k → IsWaiting at (get_or now (index_of x) []) k
     still k other w = rw (front, counts k other) w
 
-    here : clause < length c.clauses → IsSettled (values_to trail (place + 1)) (assigned_from nothing trail) (replaced (pair_at pairs clause) x to)
+    here : clause < length all.clauses → IsSettled (values_to trail (place + 1)) (assigned_from nothing trail) (replaced (pair_at pairs clause) x to)
     here given =
         let literal : x ≡ negated (get_or trail place no_step).lit = h.literal in
         let settled : IsSettled (values_to trail place) (assigned_from nothing trail) (replaced (pair_at pairs clause) x to) = settled_moved (values_to trail place) (assigned_from nothing trail) (assigned_from nothing trail) (pair_at pairs clause) x to (values_grow c lines trail place steps) (λ v b e. e) closed (open_not_false (assigned_from nothing trail) to (fits given).1) (h.before clause given) in
@@ -227,29 +230,29 @@ visiting_end c trail lists pairs place at x most h k given = elim (h.rest k give
     over ns l w = let whole : take at ns ≡ ns = take_all at ns l in let less : count_of k ns < count_of k ns = rw whole at w in absurd (omega arith)
 
 -- reading a clause makes at most a forced step
-pub watched_push : (c : ClauseList) (lines : List Line) (trail : List Step) (lists : List (List ℕ)) (pairs : List Pair) (done : ℕ) (s : Step) → IsTrail c lines nothing (trail ++ s ∷ []) → is_some s.reason ≡ true → IsWatched c trail lists pairs done → IsWatched c (trail ++ s ∷ []) lists pairs done
-watched_push c lines trail lists pairs done s steps reason h = record {
-  guarded = guarded_push c trail lists pairs s (λ e. absurd (cc)) h.guarded;
+pub watched_push : (c all : ClauseList) (lines : List Line) (trail : List Step) (lists : List (List ℕ)) (pairs : List Pair) (done : ℕ) (s : Step) → IsTrail c lines nothing (trail ++ s ∷ []) → is_some s.reason ≡ true → IsWatched all trail lists pairs done → IsWatched all (trail ++ s ∷ []) lists pairs done
+watched_push c all lines trail lists pairs done s steps reason h = record {
+  guarded = guarded_push all trail lists pairs s (λ e. absurd (cc)) h.guarded;
   within = let long : length (trail ++ s ∷ []) ≡ length trail + 1 = length_push trail s in omega (arith, long, h.within);
-  settled = settled_push c lines trail pairs s done steps h.within h.settled;
+  settled = settled_push c all lines trail pairs s done steps h.within h.settled;
 }
 
-pub watched_read : (c : ClauseList) (lines : List Line) (trail now : List Step) (lists : List (List ℕ)) (pairs : List Pair) (done n : ℕ) (visit : Visit) → IsTrail c lines nothing now → IsLonger visit n trail now → IsWatched c trail lists pairs done → IsWatched c now lists pairs done
-watched_read c lines trail now lists pairs done n Forced steps longer h = subst (λ (t : List Step). IsWatched c t lists pairs done) (sym longer.2) (watched_push c lines trail lists pairs done longer.0 (subst (λ (t : List Step). IsTrail c lines nothing t) longer.2 steps) longer.1 h)
-watched_read c lines trail now lists pairs done n Conflict steps longer h = subst (λ (t : List Step). IsWatched c t lists pairs done) (sym longer) h
-watched_read c lines trail now lists pairs done n Nothing steps longer h = subst (λ (t : List Step). IsWatched c t lists pairs done) (sym longer) h
+pub watched_read : (c all : ClauseList) (lines : List Line) (trail now : List Step) (lists : List (List ℕ)) (pairs : List Pair) (done n : ℕ) (visit : Visit) → IsTrail c lines nothing now → IsLonger visit n trail now → IsWatched all trail lists pairs done → IsWatched all now lists pairs done
+watched_read c all lines trail now lists pairs done n Forced steps longer h = subst (λ (t : List Step). IsWatched all t lists pairs done) (sym longer.2) (watched_push c all lines trail lists pairs done longer.0 (subst (λ (t : List Step). IsTrail c lines nothing t) longer.2 steps) longer.1 h)
+watched_read c all lines trail now lists pairs done n Conflict steps longer h = subst (λ (t : List Step). IsWatched all t lists pairs done) (sym longer) h
+watched_read c all lines trail now lists pairs done n Nothing steps longer h = subst (λ (t : List Step). IsWatched all t lists pairs done) (sym longer) h
 
-pub visiting_longer : (c : ClauseList) (lines : List Line) (trail now : List Step) (lists : List (List ℕ)) (pairs : List Pair) (place at n : ℕ) (x : Lit) (visit : Visit) → IsTrail c lines nothing now → IsLonger visit n trail now → IsVisiting c trail lists pairs place at x → IsVisiting c now lists pairs place at x
-visiting_longer c lines trail now lists pairs place at n x Forced steps longer h = subst (λ (t : List Step). IsVisiting c t lists pairs place at x) (sym longer.2) (visiting_grow c lines trail lists pairs longer.0 place at x (subst (λ (t : List Step). IsTrail c lines nothing t) longer.2 steps) longer.1 h)
-visiting_longer c lines trail now lists pairs place at n x Conflict steps longer h = subst (λ (t : List Step). IsVisiting c t lists pairs place at x) (sym longer) h
-visiting_longer c lines trail now lists pairs place at n x Nothing steps longer h = subst (λ (t : List Step). IsVisiting c t lists pairs place at x) (sym longer) h
+pub visiting_longer : (c all : ClauseList) (lines : List Line) (trail now : List Step) (lists : List (List ℕ)) (pairs : List Pair) (place at n : ℕ) (x : Lit) (visit : Visit) → IsTrail c lines nothing now → IsLonger visit n trail now → IsVisiting all trail lists pairs place at x → IsVisiting all now lists pairs place at x
+visiting_longer c all lines trail now lists pairs place at n x Forced steps longer h = subst (λ (t : List Step). IsVisiting all t lists pairs place at x) (sym longer.2) (visiting_grow c all lines trail lists pairs longer.0 place at x (subst (λ (t : List Step). IsTrail c lines nothing t) longer.2 steps) longer.1 h)
+visiting_longer c all lines trail now lists pairs place at n x Conflict steps longer h = subst (λ (t : List Step). IsVisiting all t lists pairs place at x) (sym longer) h
+visiting_longer c all lines trail now lists pairs place at n x Nothing steps longer h = subst (λ (t : List Step). IsVisiting all t lists pairs place at x) (sym longer) h
 
 -- a clause of which a watched literal is true needs no more
-pub visiting_true : (c : ClauseList) (lines : List Line) (trail : List Step) (lists : List (List ℕ)) (pairs : List Pair) (place at clause : ℕ) (x other : Lit) → IsTrail c lines nothing trail → IsThere lists x at clause → (clause < length pairs → (other ≡ (pair_at pairs clause).first) ⊎ (other ≡ (pair_at pairs clause).second)) → (clause < length c.clauses → IsTrueIn (assigned_from nothing trail) other) → IsVisiting c trail lists pairs place at x → IsVisiting c trail lists pairs place (at + 1) x
-visiting_true c lines trail lists pairs place at clause x other steps there watched holds h =
-    visiting_next c trail lists pairs place at clause x there.0 there.1 (λ given. settled_true (values_to trail (place + 1)) (assigned_from nothing trail) (pair_at pairs clause) (values_grow c lines trail (place + 1) steps) (either given)) h
+pub visiting_true : (c all : ClauseList) (lines : List Line) (trail : List Step) (lists : List (List ℕ)) (pairs : List Pair) (place at clause : ℕ) (x other : Lit) → IsTrail c lines nothing trail → IsThere lists x at clause → (clause < length pairs → (other ≡ (pair_at pairs clause).first) ⊎ (other ≡ (pair_at pairs clause).second)) → (clause < length all.clauses → IsTrueIn (assigned_from nothing trail) other) → IsVisiting all trail lists pairs place at x → IsVisiting all trail lists pairs place (at + 1) x
+visiting_true c all lines trail lists pairs place at clause x other steps there watched holds h =
+    visiting_next all trail lists pairs place at clause x there.0 there.1 (λ given. settled_true (values_to trail (place + 1)) (assigned_from nothing trail) (pair_at pairs clause) (values_grow c lines trail (place + 1) steps) (either given)) h
   where
-    either : clause < length c.clauses → IsTrueIn (assigned_from nothing trail) (pair_at pairs clause).first ⊎ IsTrueIn (assigned_from nothing trail) (pair_at pairs clause).second
+    either : clause < length all.clauses → IsTrueIn (assigned_from nothing trail) (pair_at pairs clause).first ⊎ IsTrueIn (assigned_from nothing trail) (pair_at pairs clause).second
     either given = elim (watched (omega (arith, given, h.guarded.counted))) [
       | inl e ↦ inl (subst (λ (y : Lit). IsTrueIn (assigned_from nothing trail) y) e (holds given))
       | inr e ↦ inr (subst (λ (y : Lit). IsTrueIn (assigned_from nothing trail) y) e (holds given))

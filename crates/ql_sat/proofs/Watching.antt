@@ -9,12 +9,13 @@ use Rattle.ql_refute.specs.Marks.{marked}
 use Rattle.ql_refute.specs.Partial.{Partial, nothing, is_value, is_open}
 use Rattle.ql_refute.specs.declared.refutation.Line.{Line}
 use Rattle.ql_sat.specs.Search.{AgreesWith, IsTotal}
-use Rattle.ql_sat.specs.Settled.{IsSettled, AreSettled, AtDecisions, WatchesOwn, IsGuarded, IsWatched, values_to, IsSettledTo}
+use Rattle.ql_sat.specs.Settled.{with_lines, IsSettled, AreSettled, AtDecisions, WatchesOwn, IsGuarded, IsWatched, values_to, IsSettledTo}
 use Rattle.ql_sat.specs.Trail.{assigned_from, IsTrail}
 use Rattle.ql_sat.specs.Watch.{pair_at}
 use Rattle.ql_sat.specs.declared.trail.Step.{Step}
 use Rattle.ql_sat.specs.declared.watches.Pair.{Pair}
 use Rattle.ql_sat.proofs.Analysis.{split_at}
+use Rattle.ql_sat.proofs.Naming.{given_stays, given_within}
 use Rattle.ql_sat.proofs.Forcing.{some_passes}
 use Rattle.ql_sat.proofs.Models.{is_model_open}
 use Rattle.ql_sat.proofs.Settling.{at_front, at_there}
@@ -28,11 +29,11 @@ settled_whole c trail pairs done all h =
     subst (λ (p : Partial). AreSettled (length c.clauses) p (assigned_from nothing trail) pairs) whole h
 
 -- then a decision can be made
-pub watched_decide : (c : ClauseList) (lines : List Line) (trail : List Step) (lists : List (List ℕ)) (pairs : List Pair) (done : ℕ) (s : Step) → IsTrail c lines nothing (trail ++ s ∷ []) → done ≡ length trail → IsWatched c trail lists pairs done → IsWatched c (trail ++ s ∷ []) lists pairs done
-watched_decide c lines trail lists pairs done s steps all h = record {
-  guarded = guarded_push c trail lists pairs s (λ e. settled_whole c trail pairs done all h.settled) h.guarded;
+pub watched_decide : (c all : ClauseList) (lines : List Line) (trail : List Step) (lists : List (List ℕ)) (pairs : List Pair) (done : ℕ) (s : Step) → IsTrail c lines nothing (trail ++ s ∷ []) → done ≡ length trail → IsWatched all trail lists pairs done → IsWatched all (trail ++ s ∷ []) lists pairs done
+watched_decide c all lines trail lists pairs done s steps whole h = record {
+  guarded = guarded_push all trail lists pairs s (λ e. settled_whole all trail pairs done whole h.settled) h.guarded;
   within = let long : length (trail ++ s ∷ []) ≡ length trail + 1 = length_push trail s in omega (arith, long, h.within);
-  settled = settled_push c lines trail pairs s done steps h.within h.settled;
+  settled = settled_push c all lines trail pairs s done steps h.within h.settled;
 }
 
 -- and it can be taken back
@@ -69,14 +70,14 @@ opened p (x ∷ xs) w own some settled = step (is_open p w.first) refl
     step false e = some_passes (is_open p) (x ∷ xs) w.second own.1 (true_open (p w.second.var) w.second.positive (settled.0 (closed_value (p w.first.var) w.first.positive e)))
 
 -- where all is propagated and each variable has a value, the values are a model
-pub watched_model : (c : ClauseList) (trail : List Step) (m : List ℕ) (lists : List (List ℕ)) (pairs : List Pair) (done : ℕ) (a : List Bool) → marked m ≡ assigned_from nothing trail → IsWatched c trail lists pairs done → done ≡ length trail → ((k : ℕ) → k < length c.clauses → get_or c.clauses k [] ≢ []) → ClausesInRange c.variables c.clauses → IsTotal c.variables m → AgreesWith c.variables m a → Satisfies a c
-watched_model c trail m lists pairs done a values h all some inside total agrees =
+pub watched_model : (c : ClauseList) (lines : List Line) (trail : List Step) (m : List ℕ) (lists : List (List ℕ)) (pairs : List Pair) (done : ℕ) (a : List Bool) → marked m ≡ assigned_from nothing trail → IsWatched (with_lines c lines) trail lists pairs done → done ≡ length trail → ((k : ℕ) → k < length c.clauses → get_or c.clauses k [] ≢ []) → ClausesInRange c.variables c.clauses → IsTotal c.variables m → AgreesWith c.variables m a → Satisfies a c
+watched_model c lines trail m lists pairs done a values h all some inside total agrees =
     is_model_open c m a inside
     (λ k d l. subst (λ (e : List Lit). list_any (is_open (marked m)) e ≡ true) (get_or_default c.clauses k [] d l)
-    (opened (marked m) (get_or c.clauses k []) (pair_at pairs k) (h.guarded.own k l) (some k l)
-    (subst (λ (p : Partial). IsSettled p p (pair_at pairs k)) (sym values) (settled_whole c trail pairs done all h.settled k l))))
+    (opened (marked m) (get_or c.clauses k []) (pair_at pairs k) (subst (λ (e : List Lit). WatchesOwn e (pair_at pairs k)) (given_stays c lines k l) (h.guarded.own k (given_within c lines k l))) (some k l)
+    (subst (λ (p : Partial). IsSettled p p (pair_at pairs k)) (sym values) (settled_whole (with_lines c lines) trail pairs done all h.settled k (given_within c lines k l)))))
     total agrees
 
-pub watched_decided : (c : ClauseList) (lines : List Line) (trail now : List Step) (lists : List (List ℕ)) (pairs : List Pair) (done : ℕ) (s : Step) → now ≡ trail ++ s ∷ [] → IsTrail c lines nothing now → done ≡ length trail → IsWatched c trail lists pairs done → IsWatched c now lists pairs done
-watched_decided c lines trail now lists pairs done s pushed steps all h =
-    subst (λ (t : List Step). IsWatched c t lists pairs done) (sym pushed) (watched_decide c lines trail lists pairs done s (subst (λ (t : List Step). IsTrail c lines nothing t) pushed steps) all h)
+pub watched_decided : (c all : ClauseList) (lines : List Line) (trail now : List Step) (lists : List (List ℕ)) (pairs : List Pair) (done : ℕ) (s : Step) → now ≡ trail ++ s ∷ [] → IsTrail c lines nothing now → done ≡ length trail → IsWatched all trail lists pairs done → IsWatched all now lists pairs done
+watched_decided c all lines trail now lists pairs done s pushed steps whole h =
+    subst (λ (t : List Step). IsWatched all t lists pairs done) (sym pushed) (watched_decide c all lines trail lists pairs done s (subst (λ (t : List Step). IsTrail c lines nothing t) pushed steps) whole h)

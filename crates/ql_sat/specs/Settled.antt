@@ -1,16 +1,21 @@
 -- What the two watched literals of a clause say of its truth, while literals are made true.
-use Rattle.std.specs.Prelude.{ℕ, ◌+◌, ◌*◌, ◌<◌, ◌≤◌, ◌⊎◌, ◌≡◌, true, false, not, is_some, take, List, [], ◌∷◌, length, None, Some}
+use Rattle.std.specs.Prelude.{ℕ, ◌+◌, ◌*◌, ◌<◌, ◌≤◌, ◌⊎◌, ◌≡◌, Bool, true, false, not, is_some, take, List, [], ◌∷◌, ◌++◌, length, map, None, Some}
 use Rattle.std.specs.List.{All, slice_index_or}
 use Rattle.ql_cnf.specs.Literals.{has_literal, negated, IsAscending}
 use Rattle.ql_cnf.specs.Satisfaction.{ClauseList}
 use Rattle.ql_cnf.specs.declared.lit.Lit.{Lit}
 use Rattle.ql_refute.specs.Partial.{Partial, nothing, with_true, is_open}
-use Rattle.ql_sat.specs.Trail.{assigned_from}
+use Rattle.ql_refute.specs.declared.refutation.Line.{Line}
+use Rattle.ql_sat.specs.Trail.{assigned_from, is_seen, NoneSeen}
 use Rattle.ql_sat.specs.Watch.{count_of, index_of, pair_at}
 use Rattle.ql_sat.specs.declared.trail.Step.{Step}
 use Rattle.ql_sat.specs.declared.watches.Look.{Look}
 use Rattle.ql_sat.specs.declared.watches.Look.TheVariants.{Keep, Move, Read}
 use Rattle.ql_sat.specs.declared.watches.Pair.{Pair}
+
+-- the clause list with the clauses of the lines at its end
+abbrev pub with_lines : ClauseList → List Line → ClauseList
+with_lines c lines = record { variables = c.variables; clauses = c.clauses ++ map (λ line. line.clause) lines }
 
 -- where x is false in p, y is true in r
 abbrev pub Gives : Partial → Partial → Lit → Lit → Type 0
@@ -34,10 +39,10 @@ abbrev pub WatchesOwn : List Lit → Pair → Type 0
 WatchesOwn [] w = Unit {0}
 WatchesOwn (x ∷ xs) w = (has_literal (x ∷ xs) w.first ≡ true) × (has_literal (x ∷ xs) w.second ≡ true)
 
--- each given clause watches literals of its own, and at each decision no clause had a false one beside one that
--- wasn't true
+-- each clause watches literals of its own, and at each decision no clause had a false one beside one that wasn't
+-- true
 pub record IsGuarded (c : ClauseList) (trail : List Step) (lists : List (List ℕ)) (pairs : List Pair) : Type 0 where
-  pub counted : length c.clauses ≤ length pairs
+  pub counted : length pairs ≡ length c.clauses
   pub room : length lists ≡ 2 * (c.variables + 1)
   pub ascending : (k : ℕ) → k < length c.clauses → IsAscending (slice_index_or c.clauses k [])
   pub own : (k : ℕ) → k < length c.clauses → WatchesOwn (slice_index_or c.clauses k []) (pair_at pairs k)
@@ -47,7 +52,7 @@ pub record IsGuarded (c : ClauseList) (trail : List Step) (lists : List (List �
 abbrev pub values_to : List Step → ℕ → Partial
 values_to trail n = assigned_from nothing (take n trail)
 
--- no given clause has a watched literal that the first steps made false beside one that isn't true
+-- no clause has a watched literal that the first steps made false beside one that isn't true
 abbrev pub IsSettledTo : ClauseList → List Step → ℕ → List Pair → Type 0
 IsSettledTo c trail n pairs = AreSettled (length c.clauses) (values_to trail n) (assigned_from nothing trail) pairs
 
@@ -79,3 +84,17 @@ abbrev pub IsLook : List Lit → Lit → Lit → Partial → Look → Type 0
 IsLook d falsified other p Keep = p other.var ≡ Some other.positive
 IsLook d falsified other p (Move x) = (has_literal d x ≡ true) × (is_open p x ≡ true)
 IsLook d falsified other p Read = (p other.var ≡ Some other.positive → ⊥) × All (λ x. is_open p x ≡ true → (x ≡ other) ⊎ (index_of x ≡ index_of falsified)) d
+
+-- x is the literal of the last of these steps whose variable is seen
+pub record IsLastSeen (seen : List Bool) (steps : List Step) (x : Lit) : Type 0 where
+  pub before : List Step
+  pub step : Step
+  pub after : List Step
+  pub whole : steps ≡ before ++ step ∷ after
+  pub literal : x ≡ step.lit
+  pub sees : is_seen seen x.var ≡ true
+  pub none : NoneSeen seen after
+
+-- a clause that forces x after these steps watches x and what the last seen step made false, or x twice
+abbrev pub WatchesForced : List Bool → List Step → Lit → Pair → Type 0
+WatchesForced seen steps x w = (w.first ≡ x) × ((w.second ≡ x) ⊎ ((y : Lit) × IsLastSeen seen steps y × (w.second ≡ negated y)))

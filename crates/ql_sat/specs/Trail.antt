@@ -1,5 +1,5 @@
 -- The trail of a search with learned clauses: what was assigned in what order, and why.
-use Rattle.std.specs.Prelude.{ℕ, zero, suc, ◌+◌, ◌*◌, ◌^◌, ◌<◌, ◌≤◌, ◌⊎◌, ◌≡◌, ◌==◌, if◌then◌else◌, is_some, slice_index, drop, Bool, true, false, not, List, [], ◌∷◌, ◌++◌, length, None, Some, reverse, MatchOption}
+use Rattle.std.specs.Prelude.{ℕ, zero, suc, ◌+◌, ◌*◌, ◌^◌, ◌<◌, ◌≤◌, ◌⊎◌, ◌≡◌, ◌==◌, if◌then◌else◌, is_some, slice_index, drop, Bool, true, false, not, List, [], ◌∷◌, ◌++◌, length, Option, None, Some, reverse, MatchOption}
 use Rattle.std.specs.List.{slice_index_or}
 use Rattle.ql_cnf.specs.Satisfaction.{ClauseList, Satisfies}
 use Rattle.ql_cnf.specs.declared.lit.Lit.{Lit}
@@ -93,6 +93,15 @@ pub record IsAsserting (trail : List Step) (i : ℕ) (seen : List Bool) : Type 0
   pub within : i < length trail
   pub decision : is_some (slice_index_or trail i (record { lit = record { var = 0; positive = false }; reason = None })).reason ≡ false
   pub one : IsOneSeen seen (drop i trail)
+
+-- and at no earlier place is a decision such
+pub record IsFirstAsserting (trail : List Step) (i : ℕ) (seen : List Bool) : Type 0 where
+  pub asserting : IsAsserting trail i seen
+  pub first : (k : ℕ) → IsAsserting trail k seen → i ≤ k
+
+-- no place from this one on is such and before the one that was found
+abbrev pub IsFirstFrom : List Step → List Bool → ℕ → Option ℕ → Type 0
+IsFirstFrom trail seen place found = (k : ℕ) → place ≤ k → IsAsserting trail k seen → MatchOption found ⊥ (λ i. i ≤ k)
 
 -- from any values that have those of the seen variables, and none of the later steps' variables, the hints in
 -- reverse come to a conflict

@@ -1,14 +1,16 @@
 // From each conflict a learned clause, resolved backwards along the trail to one literal of the last
 // decisions.
 ghost use Rattle.std.specs.List.{slice_index_or};
-ghost use Rattle.std.specs.Prelude.{◌≡◌, ◌++◌, ◌∷◌, ◌||◌, is_some, ℕ, ◌+◌, ◌<◌, drop, [], false, length, IfNone, IfOk, IfSome, if◌then◌else◌, ◌==◌, MatchOption, OnOk, None, Some, true};
+ghost use Rattle.std.specs.Prelude.{◌≡◌, ◌++◌, ◌∷◌, ◌||◌, is_some, ℕ, ◌+◌, ◌<◌, drop, [], false, length, IfNone, IfOk, IfSome, if◌then◌else◌, ◌==◌, List, MatchOption, OnOk, None, Some, take, true};
 ghost use Rattle.ql_cnf.specs.Satisfaction.{AreInRange};
-ghost use Rattle.ql_refute.specs.Marks.{AllBelow, has_variable};
-ghost use Rattle.ql_refute.specs.Partial.{nothing, with_all_false};
+ghost use Rattle.ql_cnf.specs.declared.lit.Lit.{Lit};
+ghost use Rattle.ql_refute.specs.Marks.{AllBelow, has_variable, marked};
+ghost use Rattle.ql_refute.specs.Partial.{nothing, reading, with_all_false};
 ghost use Rattle.ql_refute.specs.Verdict.{hinted, hints_fault};
-ghost use Rattle.ql_sat.specs.Settled.{IsGuarded, IsWatched};
+ghost use Rattle.ql_refute.specs.declared.marks.Reading.{Reading};
+ghost use Rattle.ql_sat.specs.Settled.{IsGuarded, IsLastSeen, IsWatched, WatchesForced, with_lines};
 ghost use Rattle.ql_sat.specs.declared.watches.Pair.{Pair};
-ghost use Rattle.ql_sat.specs.Trail.{IsAnalysis, IsAsserting, IsFalseClause, IsLonger, IsOneSeen, IsSearching, IsTurn, IsUnitClause, NoneSeen, NothingSeen, is_seen, learned_to, trail_number};
+ghost use Rattle.ql_sat.specs.Trail.{IsAnalysis, IsAsserting, IsFalseClause, IsFirstAsserting, IsFirstFrom, IsLonger, IsOneSeen, IsSearching, IsTurn, IsUnitClause, NoneSeen, NothingSeen, is_seen, learned_to, trail_number};
 
 use crate::guide::Guide;
 use crate::order::Order;
@@ -35,9 +37,9 @@ pub(crate) fn learn(
     requires searching { IsSearching c.now lines.old.items trail.old.items marks.old }
     requires seen { length seen.old ≡ c.now.variables + 1 }
     requires conflict { IsFalseClause c.now lines.old.items conflict marks.old }
-    requires guarded { IsGuarded c.now trail.old.items guide.old.watches.lists.items guide.old.watches.pairs.items }
+    requires guarded { IsGuarded (with_lines c.now lines.old.items) trail.old.items guide.old.watches.lists.items guide.old.watches.pairs.items }
     ensures searching { OnOk result (IsSearching c.now lines.new.items trail.new.items marks.new) }
-    ensures watched { IfOk result (λ turn. turn ≡ Turn.More → IsWatched c.now trail.new.items guide.new.watches.lists.items guide.new.watches.pairs.items guide.new.queue.done) }
+    ensures watched { IfOk result (λ turn. turn ≡ Turn.More → IsWatched (with_lines c.now lines.new.items) trail.new.items guide.new.watches.lists.items guide.new.watches.pairs.items guide.new.queue.done) }
     ensures turn { IfOk result (IsTurn c.now lines.new.items marks.new) }
     ensures number { IfOk result (λ turn. turn ≡ Turn.More → trail_number (c.now.variables + 1) trail.old.items < trail_number (c.now.variables + 1) trail.new.items) }
 {
@@ -77,29 +79,35 @@ fn read_learned(
     requires unit { IsUnitClause c.now lines.now (Hint.Earlier number) marks.old }
     ensures searching { OnOk result (IsSearching c.now lines.now trail.new.items marks.new) }
     ensures forced { OnOk result (IsLonger Visit.Forced (c.now.variables + 1) trail.old.items trail.new.items) }
+    ensures literal { OnOk result ((d : List Lit) (x : Lit) → hinted c.now lines.now (Hint.Earlier number) ≡ Some d → reading (marked marks.old) d ≡ Reading.Forces x → marked marks.new x.var ≡ Some x.positive) }
 {
     propagate_clause(c, lines, Hint::Earlier(number), trail, marks)?;
     Ok(())
 }
 
-// The learned clause watches the literal that it forces and the latest of its false ones.
+// The learned clause watches the literal that it forces at a place and the latest of its false ones; the
+// forced one twice where it has no other.
 fn watch(watches: &mut Watches, trail: &[Step], seen: &[bool], to: usize) -> Result<(), NoMemory>
-    ensures pair { OnOk result ((w : Pair) × (watches.new.pairs.items ≡ watches.old.pairs.items ++ w ∷ [])) }
+    requires { to < length trail.now }
+    ensures pair { OnOk result ((w : Pair) × (watches.new.pairs.items ≡ watches.old.pairs.items ++ w ∷ []) × WatchesForced seen.now (take to trail.now) (slice_index_or trail.now to (record { lit = record { var = 0; positive = false }; reason = None })).lit w) }
     ensures len { OnOk result (length watches.new.lists.items ≡ length watches.old.lists.items) }
 {
-    match (trail.get(to), latest_seen(trail, seen, to)) {
-        (Some(forced), Some(latest)) => watches.attach(forced.lit, latest.negated()),
-        _ => watches.attach_none(),
+    let forced = trail[to].lit;
+    match last_seen(&trail[..to], seen) {
+        Some(latest) => watches.attach(forced, latest.negated()),
+        None => watches.attach(forced, forced),
     }
 }
 
-// The literal of the last step before a place whose variable is seen.
-fn latest_seen(trail: &[Step], seen: &[bool], before: usize) -> Option<Lit> {
-    let mut place = before.min(trail.len());
+// The literal of the last step whose variable is seen.
+fn last_seen(steps: &[Step], seen: &[bool]) -> Option<Lit>
+    ensures { IfSome result (IsLastSeen seen.now steps.now) }
+{
+    let mut place = steps.len();
     while place > 0 {
         place -= 1;
-        if is_seen(seen, trail[place].lit.var) {
-            return Some(trail[place].lit);
+        if is_seen(seen, steps[place].lit.var) {
+            return Some(steps[place].lit);
         }
     }
     None
@@ -120,6 +128,7 @@ fn keep(
     requires conflict { (k : ℕ) → hints_fault c.now lines.old.items k hints.items (with_all_false nothing clause.now) ≡ None }
     ensures searching { OnOk result (IsSearching c.now lines.new.items trail.now marks.now) }
     ensures number { IfOk result (λ number. hinted c.now lines.new.items (Hint.Earlier number) ≡ Some clause.now) }
+    ensures pushed { OnOk result (lines.new.items ≡ lines.old.items ++ record { clause = clause.now; hints = hints.items } ∷ []) }
 {
     let number = push_line(alloc, clause, hints, lines)?;
     Ok(number)
@@ -142,7 +151,7 @@ fn analyze(
     requires conflict { IsFalseClause c.now lines.now conflict marks.now }
     requires none { hints.old.items ≡ [] }
     ensures analysis { OnOk result ((i : ℕ) × IsAnalysis c.now lines.now trail.now i seen.new hints.new.items) }
-    ensures found { IfOk result (λ found. MatchOption found (IsAnalysis c.now lines.now trail.now 0 seen.new hints.new.items) (λ to. IsAsserting trail.now to seen.new)) }
+    ensures found { IfOk result (λ found. MatchOption found (IsAnalysis c.now lines.now trail.now 0 seen.new hints.new.items) (λ to. IsFirstAsserting trail.now to seen.new)) }
 {
     begin(c, lines, conflict, trail, marks, seen, hints, order)?;
     order.decay();
@@ -241,7 +250,7 @@ fn asserting(trail: &[Step], seen: &[bool], at: usize) -> Option<usize>
     requires at { at < length trail.now }
     requires seen { is_seen seen.now (slice_index_or trail.now at (record { lit = record { var = 0; positive = false }; reason = None })).lit.var ≡ true }
     requires later { NoneSeen seen.now (drop (at + 1) trail.now) }
-    ensures { MatchOption result (is_some (slice_index_or trail.now at (record { lit = record { var = 0; positive = false }; reason = None })).reason ≡ true) (λ to. IsAsserting trail.now to seen.now) }
+    ensures { MatchOption result (is_some (slice_index_or trail.now at (record { lit = record { var = 0; positive = false }; reason = None })).reason ≡ true) (λ to. IsFirstAsserting trail.now to seen.now) }
 {
     let mut to = decision(trail, seen, at, None);
     let mut place = at;
@@ -257,7 +266,9 @@ fn decision(trail: &[Step], seen: &[bool], place: usize, later: Option<usize>) -
     requires within { place < length trail.now }
     requires one { IsOneSeen seen.now (drop place trail.now) }
     requires later { IfSome later (λ to. IsAsserting trail.now to seen.now) }
+    requires first { IsFirstFrom trail.now seen.now (place + 1) later }
     ensures asserting { IfSome result (λ to. IsAsserting trail.now to seen.now) }
+    ensures first { IsFirstFrom trail.now seen.now place result }
     ensures later { IfNone result (later ≡ None) }
     ensures none { IfNone result (is_some (slice_index_or trail.now place (record { lit = record { var = 0; positive = false }; reason = None })).reason ≡ true) }
 {

@@ -10,9 +10,10 @@
 // 75 variables, 2369 for 7539 on ten of 100, and as many on 50 ground problems.
 //
 // By the type of the watches each clause stands in the lists of the two literals that it watches. When
-// nothing more can be propagated, no given clause has a false watched literal beside one that isn't true;
-// that carries the model. The same stood at each decision of the trail, so going back restores it. Of
-// learned clauses it isn't proved; no model rests on them.
+// nothing more can be propagated, no clause, given or learned, has a false watched literal beside one that
+// isn't true; the model follows from the given ones. The same stood at each decision of the trail, so going
+// back restores it. A learned clause watches the literal that it forces and the one that became false last;
+// no decision that is left stands after that one.
 #![tactic(auto)]
 
 mod decided;

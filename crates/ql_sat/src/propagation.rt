@@ -4,7 +4,7 @@ ghost use Rattle.std.specs.List.{slice_index_or};
 ghost use Rattle.ql_cnf.specs.declared.lit.Lit.{Lit};
 ghost use Rattle.ql_refute.specs.Marks.{LinesInRange, marked};
 ghost use Rattle.ql_refute.specs.Verdict.{hinted};
-ghost use Rattle.ql_sat.specs.Settled.{IsGuarded, IsLook, IsVisiting, IsWatched};
+ghost use Rattle.ql_sat.specs.Settled.{IsGuarded, IsLook, IsVisiting, IsWatched, with_lines};
 ghost use Rattle.ql_sat.specs.Trail.{IsFalseClause, IsSearching, trail_number};
 ghost use Rattle.ql_sat.specs.Watch.{IsAway, IsThere, index_of};
 ghost use Rattle.ql_sat.specs.declared.watches.Pair.{Pair};
@@ -26,10 +26,10 @@ pub(crate) fn propagate(
     watches: &mut Watches,
 ) -> Result<Option<Hint>, NoMemory>
     requires searching { IsSearching c.now lines.now trail.old.items marks.old }
-    requires watched { IsWatched c.now trail.old.items watches.old.lists.items watches.old.pairs.items queue.old.done }
+    requires watched { IsWatched (with_lines c.now lines.now) trail.old.items watches.old.lists.items watches.old.pairs.items queue.old.done }
     ensures searching { OnOk result (IsSearching c.now lines.now trail.new.items marks.new) }
-    ensures guarded { OnOk result (IsGuarded c.now trail.new.items watches.new.lists.items watches.new.pairs.items) }
-    ensures watched { IfOk result (λ found. IfNone found (IsWatched c.now trail.new.items watches.new.lists.items watches.new.pairs.items queue.new.done)) }
+    ensures guarded { OnOk result (IsGuarded (with_lines c.now lines.now) trail.new.items watches.new.lists.items watches.new.pairs.items) }
+    ensures watched { IfOk result (λ found. IfNone found (IsWatched (with_lines c.now lines.now) trail.new.items watches.new.lists.items watches.new.pairs.items queue.new.done)) }
     ensures all { IfOk result (λ found. IfNone found (queue.new.done ≡ length trail.new.items)) }
     ensures conflict { IfOk result (λ found. IfSome found (λ hint. IsFalseClause c.now lines.now hint marks.new)) }
     ensures number { OnOk result (trail_number (c.now.variables + 1) trail.old.items ≤ trail_number (c.now.variables + 1) trail.new.items) }
@@ -60,7 +60,7 @@ fn read_units(
 ) -> Result<Option<Hint>, NoMemory>
     requires { IsSearching c.now lines.now trail.old.items marks.old }
     ensures searching { OnOk result (IsSearching c.now lines.now trail.new.items marks.new) }
-    ensures watched { OnOk result ((lists : List (List ℕ)) (pairs : List Pair) (done : ℕ) → IsWatched c.now trail.old.items lists pairs done → IsWatched c.now trail.new.items lists pairs done) }
+    ensures watched { OnOk result ((lists : List (List ℕ)) (pairs : List Pair) (done : ℕ) → IsWatched (with_lines c.now lines.now) trail.old.items lists pairs done → IsWatched (with_lines c.now lines.now) trail.new.items lists pairs done) }
     ensures done { queue.new.done ≡ queue.old.done }
     ensures conflict { IfOk result (λ found. IfSome found (λ hint. IsFalseClause c.now lines.now hint marks.new)) }
     ensures number { OnOk result (trail_number (c.now.variables + 1) trail.old.items ≤ trail_number (c.now.variables + 1) trail.new.items) }
@@ -85,10 +85,10 @@ fn visit_watchers(
 ) -> Result<Option<Hint>, NoMemory>
     requires searching { IsSearching c.now lines.now trail.old.items marks.old }
     requires within { place < length trail.old.items }
-    requires watched { IsWatched c.now trail.old.items watches.old.lists.items watches.old.pairs.items place }
+    requires watched { IsWatched (with_lines c.now lines.now) trail.old.items watches.old.lists.items watches.old.pairs.items place }
     ensures searching { OnOk result (IsSearching c.now lines.now trail.new.items marks.new) }
-    ensures guarded { OnOk result (IsGuarded c.now trail.new.items watches.new.lists.items watches.new.pairs.items) }
-    ensures watched { IfOk result (λ found. IfNone found (IsWatched c.now trail.new.items watches.new.lists.items watches.new.pairs.items (place + 1))) }
+    ensures guarded { OnOk result (IsGuarded (with_lines c.now lines.now) trail.new.items watches.new.lists.items watches.new.pairs.items) }
+    ensures watched { IfOk result (λ found. IfNone found (IsWatched (with_lines c.now lines.now) trail.new.items watches.new.lists.items watches.new.pairs.items (place + 1))) }
     ensures conflict { IfOk result (λ found. IfSome found (λ hint. IsFalseClause c.now lines.now hint marks.new)) }
     ensures number { OnOk result (trail_number (c.now.variables + 1) trail.old.items ≤ trail_number (c.now.variables + 1) trail.new.items) }
 {
@@ -119,9 +119,9 @@ fn visit(
     requires searching { IsSearching c.now lines.now trail.old.items marks.old }
     requires there { IsThere watches.old.lists.items falsified at clause }
     requires fits { at + 1 < 2 ^ 64 }
-    requires hint { clause < length c.now.clauses → hint ≡ Hint.Given (clause + 1) }
+    requires hint { clause < length (with_lines c.now lines.now).clauses → hinted c.now lines.now hint ≡ Some (slice_index_or (with_lines c.now lines.now).clauses clause []) }
     ensures searching { OnOk result (IsSearching c.now lines.now trail.new.items marks.new) }
-    ensures visiting { IfOk result (λ next. (place : ℕ) → IsVisiting c.now trail.old.items watches.old.lists.items watches.old.pairs.items place at falsified → MatchOption next (IsGuarded c.now trail.new.items watches.new.lists.items watches.new.pairs.items) (λ to. IsVisiting c.now trail.new.items watches.new.lists.items watches.new.pairs.items place to falsified)) }
+    ensures visiting { IfOk result (λ next. (place : ℕ) → IsVisiting (with_lines c.now lines.now) trail.old.items watches.old.lists.items watches.old.pairs.items place at falsified → MatchOption next (IsGuarded (with_lines c.now lines.now) trail.new.items watches.new.lists.items watches.new.pairs.items) (λ to. IsVisiting (with_lines c.now lines.now) trail.new.items watches.new.lists.items watches.new.pairs.items place to falsified)) }
     ensures fewer { IfOk result (λ next. IfSome next (λ to. length (slice_index_or watches.new.lists.items (index_of falsified) []) - to < length (slice_index_or watches.old.lists.items (index_of falsified) []) - at)) }
     ensures conflict { IfOk result (λ next. IfNone next (IsFalseClause c.now lines.now hint marks.new)) }
     ensures number { OnOk result (trail_number (c.now.variables + 1) trail.old.items ≤ trail_number (c.now.variables + 1) trail.new.items) }

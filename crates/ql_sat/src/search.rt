@@ -4,7 +4,7 @@ ghost use Rattle.std.specs.List.{slice_index_or};
 ghost use Rattle.ql_cnf.specs.Satisfaction.{ClausesInRange};
 ghost use Rattle.ql_refute.specs.Verdict.{hinted};
 ghost use Rattle.ql_sat.specs.Answer.{IsRight};
-ghost use Rattle.ql_sat.specs.Settled.{IsWatched};
+ghost use Rattle.ql_sat.specs.Settled.{IsWatched, with_lines};
 ghost use Rattle.ql_sat.specs.Trail.{IsSearching, IsTurn, trail_number};
 
 use crate::Decided;
@@ -60,10 +60,10 @@ fn take_turn(
     guide: &mut Guide,
 ) -> Result<Turn, NoMemory>
     requires searching { IsSearching c.now lines.old.items trail.old.items marks.old }
-    requires watched { IsWatched c.now trail.old.items guide.old.watches.lists.items guide.old.watches.pairs.items guide.old.queue.done }
+    requires watched { IsWatched (with_lines c.now lines.old.items) trail.old.items guide.old.watches.lists.items guide.old.watches.pairs.items guide.old.queue.done }
     requires seen { length seen.old ≡ c.now.variables + 1 }
     ensures searching { OnOk result (IsSearching c.now lines.new.items trail.new.items marks.new) }
-    ensures watched { IfOk result (λ turn. turn ≡ Turn.More → IsWatched c.now trail.new.items guide.new.watches.lists.items guide.new.watches.pairs.items guide.new.queue.done) }
+    ensures watched { IfOk result (λ turn. turn ≡ Turn.More → IsWatched (with_lines c.now lines.new.items) trail.new.items guide.new.watches.lists.items guide.new.watches.pairs.items guide.new.queue.done) }
     ensures turn { IfOk result (IsTurn c.now lines.new.items marks.new) }
     ensures number { IfOk result (λ turn. turn ≡ Turn.More → trail_number (c.now.variables + 1) trail.old.items < trail_number (c.now.variables + 1) trail.new.items) }
 {
@@ -96,11 +96,11 @@ fn finish(
     guide: &mut Guide,
 ) -> Result<Turn, NoMemory>
     requires searching { IsSearching c.now lines.old.items trail.old.items marks.old }
-    requires watched { IsWatched c.now trail.old.items guide.old.watches.lists.items guide.old.watches.pairs.items guide.old.queue.done }
+    requires watched { IsWatched (with_lines c.now lines.old.items) trail.old.items guide.old.watches.lists.items guide.old.watches.pairs.items guide.old.queue.done }
     requires all { guide.old.queue.done ≡ length trail.old.items }
     requires seen { length seen.old ≡ c.now.variables + 1 }
     ensures searching { OnOk result (IsSearching c.now lines.new.items trail.new.items marks.new) }
-    ensures watched { IfOk result (λ turn. turn ≡ Turn.More → IsWatched c.now trail.new.items guide.new.watches.lists.items guide.new.watches.pairs.items guide.new.queue.done) }
+    ensures watched { IfOk result (λ turn. turn ≡ Turn.More → IsWatched (with_lines c.now lines.new.items) trail.new.items guide.new.watches.lists.items guide.new.watches.pairs.items guide.new.queue.done) }
     ensures turn { IfOk result (IsTurn c.now lines.new.items marks.new) }
     ensures number { IfOk result (λ turn. turn ≡ Turn.More → trail_number (c.now.variables + 1) trail.old.items < trail_number (c.now.variables + 1) trail.new.items) }
 {

@@ -1,5 +1,5 @@
 // Two watched literals for each clause: while neither is false, the clause forces nothing.
-ghost use Rattle.std.specs.Prelude.{◌≡◌, ◌≢◌, ◌⊎◌, ℕ, ◌+◌, ◌*◌, ◌^◌, ◌<◌, ◌≤◌, ◌++◌, ◌∷◌, [], length, IfNone, IfOk, IfSome, OnOk, false, slice_index, take, true};
+ghost use Rattle.std.specs.Prelude.{◌≡◌, ◌≢◌, ◌⊎◌, ℕ, ◌+◌, ◌-◌, ◌*◌, ◌^◌, ◌<◌, ◌≤◌, ◌++◌, ◌∷◌, [], length, IfNone, IfOk, IfSome, OnOk, false, slice_index, take, true};
 ghost use Rattle.std.specs.List.{slice_index_or};
 ghost use Rattle.ql_cnf.specs.declared.lit.Lit.{Lit};
 ghost use Rattle.ql_refute.specs.Marks.{marked};
@@ -37,8 +37,8 @@ pub(crate) enum Look {
     Read,
 }
 
-// Clauses are numbered from 0, first the given ones and then the lines. A clause of fewer than two
-// literals watches what no clause has.
+// Clauses are numbered from 0, first the given ones and then the lines. A clause without literals watches
+// what no clause has.
 #[derive(Drop)]
 pub(crate) struct Watches {
     // The clauses that watch a literal, for each literal.
@@ -73,14 +73,6 @@ impl Watches {
         enter(&mut self.lists, second, clause)?;
         self.pairs.push(Pair { first, second })?;
         Ok(())
-    }
-
-    // The next clause watches nothing.
-    pub fn attach_none(&mut self) -> Result<(), NoMemory>
-        ensures pair { OnOk result ((w : Pair) × (self.new.pairs.items ≡ self.old.pairs.items ++ w ∷ [])) }
-        ensures len { OnOk result (length self.new.lists.items ≡ length self.old.lists.items) }
-    {
-        self.attach(NO_LITERAL, NO_LITERAL)
     }
 
     // The clause at a place of a literal's list.
@@ -215,7 +207,8 @@ fn index(lit: Lit) -> usize
 
 // The clause's name in a line of a refutation.
 pub(crate) fn hint_of(c: &Clauses, clause: usize) -> Hint
-    ensures { clause < length c.now.clauses → result ≡ Hint.Given (clause + 1) }
+    ensures given { clause < length c.now.clauses → result ≡ Hint.Given (clause + 1) }
+    ensures learned { length c.now.clauses ≤ clause → clause - length c.now.clauses + 1 < 2 ^ 64 → result ≡ Hint.Earlier (clause - length c.now.clauses + 1) }
 {
     if clause < c.len() as usize {
         Hint::Given(clause as u32 + 1)

@@ -1,10 +1,11 @@
-use Rattle.std.proofs.Common.{◌≡◌, ◌<◌, ◌+◌, ◌*◌, length, sym, ◌∙◌, ap, subst, arith}
+use Rattle.std.proofs.Common.{◌≡◌, ◌<◌, ◌+◌, ◌*◌, ◌^◌, length, sym, ◌∙◌, ap, subst, arith}
 use Rattle.std.proofs.lemmas.List.{get_or_default}
 use Rattle.ql_cnf.specs.Literals.{negated}
 use Rattle.ql_cnf.specs.declared.lit.Lit.{Lit}
-use Rattle.ql_sat.specs.Settled.{falsified_at}
+use Rattle.ql_sat.specs.Settled.{with_lines, falsified_at}
 use Rattle.ql_sat.specs.Watch.{index_of}
 use Rattle.ql_sat.specs.declared.trail.Step.{Step}
+use Rattle.ql_sat.proofs.Naming.{hint_names}
 use Rattle.ql_sat.proofs.Visiting.{falsified_has_list, visiting_end, visiting_start}
 use Rattle.ql_sat.proofs.propagation.visit_watchers.Goals as goal
 
@@ -15,9 +16,13 @@ loop-clause-init c =
     let there : index_of (falsified_at c.args.trail.now.items c.args.place) < length c.args.watches.now.lists.items = omega (arith, inside, c.requires.watched.guarded.room) in
     record {
       searching = c.requires.searching;
-      visiting = visiting_start c.args.c.now c.args.trail.now.items c.args.watches.now.lists.items c.args.watches.now.pairs.items c.args.place c.negated-falsified.result c.requires.watched.guarded c.requires.within literal c.requires.watched.settled c.args.watches.now.listed (subst (λ (x : Lit). index_of x < length c.args.watches.now.lists.items) (sym literal) there);
+      visiting = visiting_start (with_lines c.args.c.now c.args.lines.now) c.args.trail.now.items c.args.watches.now.lists.items c.args.watches.now.pairs.items c.args.place c.negated-falsified.result c.requires.watched.guarded c.requires.within literal c.requires.watched.settled c.args.watches.now.listed (subst (λ (x : Lit). index_of x < length c.args.watches.now.lists.items) (sym literal) there);
       number = omega arith;
     }
+
+pub visit-requires-clause-hint : goal.visit-requires-clause-hint
+visit-requires-clause-hint c =
+    λ l. hint_names c.args.c.now c.args.lines.now c.in-Some.clause (2 ^ 64) c.hint_of-hint.result (omega (arith, l, c.loop-clause.invariant.visiting.guarded.counted, c.loop-clause.watches.pairs.ok.0, c.loop-clause.watches.pairs.small)) c.hint_of-hint.ensures.given c.hint_of-hint.ensures.learned l
 
 pub returns-clause-watched : goal.returns-clause-watched
 returns-clause-watched c =
@@ -25,5 +30,5 @@ returns-clause-watched c =
     record {
       guarded = visiting.guarded;
       within = omega (arith, visiting.within);
-      settled = visiting_end c.args.c.now c.loop-clause.trail.items c.loop-clause.watches.lists.items c.loop-clause.watches.pairs.items c.args.place c.loop-clause.at c.negated-falsified.result c.in_default.ensures.none visiting;
+      settled = visiting_end (with_lines c.args.c.now c.args.lines.now) c.loop-clause.trail.items c.loop-clause.watches.lists.items c.loop-clause.watches.pairs.items c.args.place c.loop-clause.at c.negated-falsified.result c.in_default.ensures.none visiting;
     }

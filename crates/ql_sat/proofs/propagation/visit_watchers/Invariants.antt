@@ -1,6 +1,6 @@
 use Rattle.std.proofs.Common.{◌+◌, ◌-◌, ◌≤◌, [], length}
 use Rattle.std.specs.List.{slice_index_or}
-use Rattle.ql_sat.specs.Settled.{IsVisiting}
+use Rattle.ql_sat.specs.Settled.{with_lines, IsVisiting}
 use Rattle.ql_sat.specs.Trail.{IsSearching, trail_number}
 use Rattle.ql_sat.specs.Watch.{index_of}
 use Rattle.ql_sat.proofs.propagation.visit_watchers.Given as goal
@@ -8,7 +8,7 @@ use Rattle.ql_sat.proofs.propagation.visit_watchers.Given as goal
 abbrev pub invariant-loop-clause : goal.invariant-loop-clause
 invariant-loop-clause l = record {
   searching : IsSearching l.c l.lines l.trail.items l.marks;
-  visiting : IsVisiting l.c l.trail.items l.watches.lists.items l.watches.pairs.items l.place l.at l.falsified;
+  visiting : IsVisiting (with_lines l.c l.lines) l.trail.items l.watches.lists.items l.watches.pairs.items l.place l.at l.falsified;
   number : trail_number (l.c.variables + 1) l.fn.trail.items ≤ trail_number (l.c.variables + 1) l.trail.items;
 }
 

@@ -5,6 +5,7 @@ use Rattle.ql_refute.specs.Marks.{IsClear}
 use Rattle.ql_sat.specs.Search.{AgreesWith}
 use Rattle.ql_sat.specs.Trail.{trail_number}
 use Rattle.ql_sat.proofs.Measure.{number-below}
+use Rattle.ql_sat.proofs.Naming.{no_lines}
 use Rattle.ql_sat.proofs.Searching.{clear_zeros, searching_start}
 use Rattle.ql_sat.proofs.Splitting.{accepted}
 use Rattle.ql_sat.proofs.search.decide.Goals as goal
@@ -16,7 +17,7 @@ turns-init c =
     let long : length c.in_ok-marks.marks.items ≡ c.args.c.now.variables + 1 = ap length zeros ∙ length-replicate (c.variables.result + 1) 0 ∙ ap (λ n. n + 1) c.variables.ensures in
     record {
       searching = rw (c.new-lines.ensures.items, c.new-trail.ensures.items) (searching_start c.args.c.now c.in_ok-marks.marks.items clear long);
-      watched = rw c.new-trail.ensures.items c.in_ok-guide.ensures;
+      watched = rw (c.new-lines.ensures.items, c.new-trail.ensures.items, no_lines c.args.c.now) c.in_ok-guide.ensures;
       seen = omega (arith, c.in_ok-seen.ensures.len, c.in_ok-seen.seen.ok.0, c.variables-2.ensures);
     }
 
