@@ -4,6 +4,7 @@ use Rattle.std.proofs.Common.{◌≡◌, ℕ, zero, suc, ◌+◌, ◌<◌, ◌�
 use Rattle.std.proofs.Math.Seq.{drop-append_seam, get_or-append_seam}
 use Rattle.std.proofs.lemmas.Bool.Decides.{nat_tests}
 use Rattle.std.proofs.lemmas.List.{length-append, length-take-le, length_push, take-append-drop, take-append-le, take_all}
+use Rattle.std.proofs.lemmas.List.Elements.{filter-append}
 use Rattle.std.proofs.lemmas.List.Folds.{list_any-append}
 use Rattle.std.specs.Prelude.{◌==◌, is_some, slice_index}
 use Rattle.std.specs.List.{filter}
@@ -20,6 +21,7 @@ use Rattle.ql_sat.specs.Trail.{assigned_from, IsTrail, is_seen, NoneSeen, IsOneS
 use Rattle.ql_sat.specs.declared.trail.Step.{Step}
 use Rattle.ql_sat.specs.declared.trail.Visit.TheVariants.{Forced}
 use Rattle.ql_sat.specs.declared.watches.Pair.{Pair}
+use Rattle.ql_sat.proofs.Analysis.{none_absent}
 use Rattle.ql_sat.proofs.Asserting.{forces_there}
 use Rattle.ql_sat.proofs.Building.{watched_more}
 use Rattle.ql_sat.proofs.Forcing.{literal_refl}
@@ -27,7 +29,7 @@ use Rattle.ql_sat.proofs.Learned.{learned_ascending, some_value}
 use Rattle.ql_sat.proofs.Naming.{line_more}
 use Rattle.ql_sat.proofs.Reaching.{forced_unset}
 use Rattle.ql_sat.proofs.Settling.{Grows, IsTrueIn, settled_true, settled_unset, at_push, at_each, at_append}
-use Rattle.ql_sat.proofs.Trails.{assigned-append, fresh, grows, head_alone, set_here, trail-back, trail-front}
+use Rattle.ql_sat.proofs.Trails.{assigned-append, fresh, grows, head_alone, set_here, trail-back, trail-front, untouched}
 use Rattle.ql_sat.proofs.Visiting.{values_grow, watched_read}
 use Rattle.ql_sat.proofs.Watching.{watched_back}
 
@@ -93,7 +95,7 @@ grow_append c lines xs ys steps v b set =
 -- at each decision that is left neither watched literal is false
 pair_decided : (c : ClauseList) (lines : List Line) (trail : List Step) (seen : List Bool) (to : ℕ) (x : Lit) (w : Pair) → IsTrail c lines nothing (take to trail) → IsFirstAsserting trail to seen → assigned_from nothing (take to trail) x.var ≡ None → WatchesForced seen (take to trail) x w → AtDecisions (λ r. IsSettled r r w) nothing (take to trail)
 pair_decided c lines trail seen to x w steps first none watches = elim watches.1 [
-  | inl twice ↦ at_each (λ r. IsSettled r r w) c lines nothing (take to trail) steps (λ r grow. settled_unset r r (assigned_from nothing (take to trail)) w grow (unset w.first watches.0) (unset w.second twice))
+  | inl twice ↦ at_each (λ r. IsSettled r r w) c lines nothing (take to trail) steps (λ r grow. settled_unset r r (assigned_from nothing (take to trail)) w grow (unset w.first watches.0) (unset w.second twice.0))
   | inr last ↦ with_last last.0 last.1 last.2
 ]
   where
@@ -161,35 +163,65 @@ learned_has m seen (suc n) v sees low high =
         rw (last (is_seen seen (suc n)) (subst (λ (u : ℕ). is_seen seen u ≡ true) same sees) same) (or_true (has_literal (learned_to m seen n) (lit_of m v)))
     step false e before = rw (before (smaller v n high e)) refl
 
-own_both : (d : List Lit) (w : Pair) → has_literal d w.first ≡ true → has_literal d w.second ≡ true → WatchesOwn d w
-own_both [] w first second = tt
-own_both (x ∷ xs) w first second = (first, second)
+own_both : (d : List Lit) (w : Pair) → has_literal d w.first ≡ true → has_literal d w.second ≡ true → (w.first ≡ w.second → length d ≤ 1) → WatchesOwn d w
+own_both [] w first second short = tt
+own_both (x ∷ xs) w first second short = (first, second, λ same. none xs (omega (arith, short same)))
+  where
+    none : (ys : List Lit) → length ys ≤ 0 → ys ≡ []
+    none [] h = refl
+    none (y ∷ ys) h = absurd (omega (arith, h))
+
+-- where no step before is seen all literals of the learned clause are open
+all_open : (p : Partial) (m : List ℕ) (seen : List Bool) (n : ℕ) → ((v : ℕ) → is_seen seen v ≡ true → p v ≡ None) → filter (is_open p) (learned_to m seen n) ≡ learned_to m seen n
+all_open p m seen zero none = refl
+all_open p m seen (suc n) none =
+    filter-append (is_open p) (learned_to m seen n) (cond (is_seen seen (suc n)) (lit_of m (suc n) ∷ []) [])
+    ∙ ap (λ (zs : List Lit). zs ++ filter (is_open p) (cond (is_seen seen (suc n)) (lit_of m (suc n) ∷ []) [])) (all_open p m seen n none)
+    ∙ ap (λ (zs : List Lit). learned_to m seen n ++ zs) (step (is_seen seen (suc n)) refl)
+  where
+    step : (b : Bool) → is_seen seen (suc n) ≡ b → filter (is_open p) (cond b (lit_of m (suc n) ∷ []) []) ≡ cond b (lit_of m (suc n) ∷ []) []
+    step true e = let unset : p (suc n) ≡ None = none (suc n) e in rw unset refl
+    step false e = refl
 
 -- the pair is of the learned clause
 pair_own : (c : ClauseList) (lines : List Line) (trail : List Step) (m : List ℕ) (i to : ℕ) (seen : List Bool) (hints : List Hint) (x : Lit) (w : Pair) → IsSearching c lines trail m → IsAnalysis c lines trail i seen hints → reading (assigned_from nothing (take to trail)) (learned_to m seen c.variables) ≡ Forces x → WatchesForced seen (take to trail) x w → WatchesOwn (learned_to m seen c.variables) w
 pair_own c lines trail m i to seen hints x w searching analysis forces watches =
-    own_both (learned_to m seen c.variables) w (of_forced w.first watches.0) (elim watches.1 [ inl twice ↦ of_forced w.second twice | inr last ↦ subst (λ (z : Lit). has_literal (learned_to m seen c.variables) z ≡ true) (sym last.2) (of_last last.0 last.1) ])
+    own_both (learned_to m seen c.variables) w (of_forced w.first watches.0) (elim watches.1 [ inl twice ↦ of_forced w.second twice.0 | inr last ↦ subst (λ (z : Lit). has_literal (learned_to m seen c.variables) z ≡ true) (sym last.2) (of_last last.0 last.1) ]) short
   where
     of_forced : (y : Lit) → y ≡ x → has_literal (learned_to m seen c.variables) y ≡ true
     of_forced y same = subst (λ (z : Lit). has_literal (learned_to m seen c.variables) z ≡ true) (sym same) (has_alone (is_open (assigned_from nothing (take to trail))) x (learned_to m seen c.variables) (from_reading (assigned_from nothing (take to trail)) (filter (is_open (assigned_from nothing (take to trail))) (learned_to m seen c.variables)) x forces))
 
-    value : (y : Lit) → IsLastSeen seen (take to trail) y → assigned_from nothing trail y.var ≡ Some y.positive
+    value : (y : Lit) → IsLastSeen seen (take to trail) y → assigned_from nothing (take to trail) y.var ≡ Some y.positive
     value y last =
         let all : IsTrail c lines nothing (take to trail ++ drop to trail) = subst (λ (t : List Step). IsTrail c lines nothing t) (sym (take-append-drop to trail)) searching.steps in
         let parts : IsTrail c lines nothing (last.before ++ last.step ∷ last.after) = subst (λ (t : List Step). IsTrail c lines nothing t) last.whole (trail-front c lines nothing (take to trail) (drop to trail) all) in
         let there : assigned_from nothing (take to trail) last.step.lit.var ≡ Some last.step.lit.positive = ap (λ (t : List Step). assigned_from nothing t last.step.lit.var) last.whole
         ∙ ap (λ (p : Partial). p last.step.lit.var) (assigned-append nothing last.before (last.step ∷ last.after))
         ∙ grows c lines (with_true (assigned_from nothing last.before) last.step.lit) last.after last.step.lit.var last.step.lit.positive (trail-back c lines nothing last.before (last.step ∷ last.after) parts).1 (set_here (assigned_from nothing last.before) last.step.lit) in
-        subst (λ (z : Lit). assigned_from nothing trail z.var ≡ Some z.positive) (sym last.literal) (values_grow c lines trail to searching.steps last.step.lit.var last.step.lit.positive there)
+        subst (λ (z : Lit). assigned_from nothing (take to trail) z.var ≡ Some z.positive) (sym last.literal) there
 
     some_same : (a b : Bool) → Some a ≡ Some b → a ≡ b
     some_same a b h = cc
+
+    alone : filter (is_open (assigned_from nothing (take to trail))) (learned_to m seen c.variables) ≡ x ∷ []
+    alone = from_reading (assigned_from nothing (take to trail)) (filter (is_open (assigned_from nothing (take to trail))) (learned_to m seen c.variables)) x forces
+
+    unset : assigned_from nothing (take to trail) x.var ≡ None
+    unset = none_of (assigned_from nothing (take to trail) x.var) (forced_unset (assigned_from nothing (take to trail)) (learned_to m seen c.variables) x forces)
+
+    short : w.first ≡ w.second → length (learned_to m seen c.variables) ≤ 1
+    short same = elim watches.1 [
+      | inl twice ↦ (let all : learned_to m seen c.variables ≡ x ∷ [] = sym (all_open (assigned_from nothing (take to trail)) m seen c.variables (λ v sees. untouched nothing (take to trail) v (none_absent seen (take to trail) v twice.1 sees))) ∙ alone in omega (arith, ap length all))
+      | inr last ↦ absurd (let one : x ≡ negated last.0 = sym watches.0 ∙ same ∙ last.2 in
+          let here : assigned_from nothing (take to trail) last.0.var ≡ None = subst (λ (z : Lit). assigned_from nothing (take to trail) z.var ≡ None) one unset in
+          let there : assigned_from nothing (take to trail) last.0.var ≡ Some last.0.positive = value last.0 last.1 in cc)
+    ]
 
     of_last : (y : Lit) → IsLastSeen seen (take to trail) y → has_literal (learned_to m seen c.variables) (negated y) ≡ true
     of_last y last =
         let known = analysis.values y.var last.sees in
         let marked_so : Some (slice_index m y.var == 1) ≡ assigned_from nothing trail y.var = some_value (assigned_from nothing trail y.var) (slice_index m y.var) (ap (λ (p : Partial). p y.var) searching.values) known.2 in
-        let sign : (slice_index m y.var == 1) ≡ y.positive = some_same (slice_index m y.var == 1) y.positive (marked_so ∙ value y last) in
+        let sign : (slice_index m y.var == 1) ≡ y.positive = some_same (slice_index m y.var == 1) y.positive (marked_so ∙ values_grow c lines trail to searching.steps y.var y.positive (value y last)) in
         let same : lit_of m y.var ≡ negated y = ap (λ (b : Bool). record { var = y.var; positive = not b }) sign in
         subst (λ (z : Lit). has_literal (learned_to m seen c.variables) z ≡ true) same (learned_has m seen c.variables y.var last.sees known.0 known.1)
 

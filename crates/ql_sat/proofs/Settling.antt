@@ -33,6 +33,12 @@ same_index x y h = by_signs x.positive y.positive refl refl h
     by_signs false true e f g = absurd (omega arith)
     by_signs false false e f g = (omega arith, e ∙ sym f)
 
+pub literal_at : (x y : Lit) → index_of x ≡ index_of y → x ≡ y
+literal_at x y h = let both = same_index x y h in make x.var y.var x.positive y.positive both.0 both.1
+  where
+    make : (v n : ℕ) (a b : Bool) → v ≡ n → a ≡ b → ◌≡◌ {A = Lit} (record { var = v; positive = a }) (record { var = n; positive = b })
+    make v n a b e f = rw (e, f) refl
+
 not_both : (o : Option Bool) (b : Bool) → o ≡ Some b → o ≡ Some (not b) → ⊥
 not_both o true e f = absurd (cc)
 not_both o false e f = absurd (cc)

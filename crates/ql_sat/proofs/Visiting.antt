@@ -13,13 +13,13 @@ use Rattle.ql_refute.specs.Partial.{Partial, nothing, with_true, is_open}
 use Rattle.ql_refute.specs.declared.refutation.Line.{Line}
 use Rattle.ql_sat.specs.Settled.{IsSettled, AreSettled, WatchesOwn, IsGuarded, IsWatched, values_to, IsSettledTo, falsified_at, IsWaiting, IsVisiting}
 use Rattle.ql_sat.specs.Trail.{assigned_from, IsTrail, IsSearching, IsLonger}
-use Rattle.ql_sat.specs.Watch.{count_of, index_of, IsListed, AreListed, IsThere, pair_at, replaced}
+use Rattle.ql_sat.specs.Watch.{count_of, index_of, IsListed, AreListed, IsThere, pair_at, beside, replaced}
 use Rattle.ql_sat.specs.declared.trail.Step.{Step}
 use Rattle.ql_sat.specs.declared.trail.Visit.{Visit}
 use Rattle.ql_sat.specs.declared.trail.Visit.TheVariants.{Conflict, Forced, Nothing}
 use Rattle.ql_sat.specs.declared.watches.Pair.{Pair}
 use Rattle.ql_sat.proofs.Reaching.{valued_below}
-use Rattle.ql_sat.proofs.Settling.{Grows, IsFalse, IsTrueIn, open_not_false, settled_grows, settled_moved, settled_next, settled_true, moved_away, at_push, at_map}
+use Rattle.ql_sat.proofs.Settling.{Grows, IsFalse, IsTrueIn, literal_at, open_not_false, settled_grows, settled_moved, settled_next, settled_true, moved_away, at_push, at_map}
 use Rattle.ql_sat.proofs.Trails.{assigned-append, grows, set_here, trail-back}
 
 is_same : (a b : ℕ) → (a == b) ≡ true → a ≡ b
@@ -125,10 +125,16 @@ visiting_next c trail lists pairs place at clause x l there settled h = record {
         inr (subst (λ (n : ℕ). IsSettled (values_to trail (place + 1)) (assigned_from nothing trail) (pair_at pairs n)) same (settled (subst (λ (n : ℕ). n < length c.clauses) (sym same) given)))
     step k given false e = elim (h.rest k given) [ inl w ↦ inl (waiting_next (get_or lists (index_of x) []) at k l (λ f. other_number k clause e (f ∙ sym there)) w) | inr w ↦ inr w ]
 
-own_moved : (d : List Lit) (w : Pair) (x to : Lit) → has_literal d to ≡ true → WatchesOwn d w → WatchesOwn d (replaced w x to)
-own_moved [] w x to has h = tt
-own_moved (y ∷ ys) w x to has h = (step (index_of w.first == index_of x) w.first h.0, step (index_of w.second == index_of x) w.second h.1)
+own_moved : (d : List Lit) (w : Pair) (x to : Lit) → has_literal d to ≡ true → to ≢ beside w x → WatchesOwn d w → WatchesOwn d (replaced w x to)
+own_moved [] w x to has other h = tt
+own_moved (y ∷ ys) w x to has other h = (step (index_of w.first == index_of x) w.first h.0, step (index_of w.second == index_of x) w.second h.1, differ (index_of w.first == index_of x) (index_of w.second == index_of x) refl refl other)
   where
+    differ : (a b : Bool) → (index_of w.first == index_of x) ≡ a → (index_of w.second == index_of x) ≡ b → to ≢ cond a w.second w.first → cond a to w.first ≡ cond b to w.second → ys ≡ []
+    differ true true e f ne same = h.2 (literal_at w.first w.second (is_same (index_of w.first) (index_of x) e ∙ sym (is_same (index_of w.second) (index_of x) f)))
+    differ true false e f ne same = absurd (ne same)
+    differ false true e f ne same = absurd (ne (sym same))
+    differ false false e f ne same = h.2 same
+
     step : (b : Bool) (a : Lit) → has_literal (y ∷ ys) a ≡ true → has_literal (y ∷ ys) (cond b to a) ≡ true
     step true a f = has
     step false a f = f
@@ -148,13 +154,13 @@ moved_at Q pairs after clause n x to counted others pair here there k l = step (
         subst (λ (w : Pair). Q k w) (sym (others k other)) (there k l other)
 
 -- the clause watches another literal, and leaves the list
-pub visiting_move : (c all : ClauseList) (lines : List Line) (trail : List Step) (lists now : List (List ℕ)) (pairs after : List Pair) (place at clause : ℕ) (x to : Lit) → IsTrail c lines nothing trail → length now ≡ length lists → take at (get_or now (index_of x) []) ≡ take at (get_or lists (index_of x) []) → ((k : ℕ) → k ≢ clause → count_of k (get_or now (index_of x) []) ≡ count_of k (get_or lists (index_of x) [])) → length after ≡ length pairs → ((k : ℕ) → k ≢ clause → pair_at after k ≡ pair_at pairs k) → (clause < length pairs → pair_at after clause ≡ replaced (pair_at pairs clause) x to) → (index_of to ≡ index_of x → ⊥) → (clause < length all.clauses → (has_literal (get_or all.clauses clause []) to ≡ true) × (is_open (assigned_from nothing trail) to ≡ true)) → IsVisiting all trail lists pairs place at x → IsVisiting all trail now after place at x
+pub visiting_move : (c all : ClauseList) (lines : List Line) (trail : List Step) (lists now : List (List ℕ)) (pairs after : List Pair) (place at clause : ℕ) (x to : Lit) → IsTrail c lines nothing trail → length now ≡ length lists → take at (get_or now (index_of x) []) ≡ take at (get_or lists (index_of x) []) → ((k : ℕ) → k ≢ clause → count_of k (get_or now (index_of x) []) ≡ count_of k (get_or lists (index_of x) [])) → length after ≡ length pairs → ((k : ℕ) → k ≢ clause → pair_at after k ≡ pair_at pairs k) → (clause < length pairs → pair_at after clause ≡ replaced (pair_at pairs clause) x to) → (index_of to ≡ index_of x → ⊥) → (clause < length all.clauses → (has_literal (get_or all.clauses clause []) to ≡ true) × (is_open (assigned_from nothing trail) to ≡ true) × (to ≢ beside (pair_at pairs clause) x)) → IsVisiting all trail lists pairs place at x → IsVisiting all trail now after place at x
 visiting_move c all lines trail lists now pairs after place at clause x to steps size front counts long others pair away fits h = record {
   guarded = record {
     counted = long ∙ h.guarded.counted;
     room = size ∙ h.guarded.room;
     ascending = h.guarded.ascending;
-    own = moved_at (λ k w. WatchesOwn (get_or all.clauses k []) w) pairs after clause (length all.clauses) x to most others pair (λ given. own_moved (get_or all.clauses clause []) (pair_at pairs clause) x to (fits given).0 (h.guarded.own clause given)) (λ k l other. h.guarded.own k l);
+    own = moved_at (λ k w. WatchesOwn (get_or all.clauses k []) w) pairs after clause (length all.clauses) x to most others pair (λ given. own_moved (get_or all.clauses clause []) (pair_at pairs clause) x to (fits given).0 (fits given).2 (h.guarded.own clause given)) (λ k l other. h.guarded.own k l);
     decided = at_map (λ r. AreSettled (length all.clauses) r r pairs) (λ r. AreSettled (length all.clauses) r r after) c lines nothing trail steps (λ r grow settled. all_moved r r grow grow settled) h.guarded.decided;
   };
   within = h.within;
@@ -248,12 +254,13 @@ visiting_longer c all lines trail now lists pairs place at n x Conflict steps lo
 visiting_longer c all lines trail now lists pairs place at n x Nothing steps longer h = subst (λ (t : List Step). IsVisiting all t lists pairs place at x) (sym longer) h
 
 -- a clause of which a watched literal is true needs no more
-pub visiting_true : (c all : ClauseList) (lines : List Line) (trail : List Step) (lists : List (List ℕ)) (pairs : List Pair) (place at clause : ℕ) (x other : Lit) → IsTrail c lines nothing trail → IsThere lists x at clause → (clause < length pairs → (other ≡ (pair_at pairs clause).first) ⊎ (other ≡ (pair_at pairs clause).second)) → (clause < length all.clauses → IsTrueIn (assigned_from nothing trail) other) → IsVisiting all trail lists pairs place at x → IsVisiting all trail lists pairs place (at + 1) x
+pub visiting_true : (c all : ClauseList) (lines : List Line) (trail : List Step) (lists : List (List ℕ)) (pairs : List Pair) (place at clause : ℕ) (x other : Lit) → IsTrail c lines nothing trail → IsThere lists x at clause → (clause < length pairs → other ≡ beside (pair_at pairs clause) x) → (clause < length all.clauses → IsTrueIn (assigned_from nothing trail) other) → IsVisiting all trail lists pairs place at x → IsVisiting all trail lists pairs place (at + 1) x
 visiting_true c all lines trail lists pairs place at clause x other steps there watched holds h =
     visiting_next all trail lists pairs place at clause x there.0 there.1 (λ given. settled_true (values_to trail (place + 1)) (assigned_from nothing trail) (pair_at pairs clause) (values_grow c lines trail (place + 1) steps) (either given)) h
   where
+    which : (b : Bool) → IsTrueIn (assigned_from nothing trail) (cond b (pair_at pairs clause).second (pair_at pairs clause).first) → IsTrueIn (assigned_from nothing trail) (pair_at pairs clause).first ⊎ IsTrueIn (assigned_from nothing trail) (pair_at pairs clause).second
+    which true t = inr t
+    which false t = inl t
+
     either : clause < length all.clauses → IsTrueIn (assigned_from nothing trail) (pair_at pairs clause).first ⊎ IsTrueIn (assigned_from nothing trail) (pair_at pairs clause).second
-    either given = elim (watched (omega (arith, given, h.guarded.counted))) [
-      | inl e ↦ inl (subst (λ (y : Lit). IsTrueIn (assigned_from nothing trail) y) e (holds given))
-      | inr e ↦ inr (subst (λ (y : Lit). IsTrueIn (assigned_from nothing trail) y) e (holds given))
-    ]
+    either given = which (index_of (pair_at pairs clause).first == index_of x) (subst (λ (y : Lit). IsTrueIn (assigned_from nothing trail) y) (watched (omega (arith, given, h.guarded.counted))) (holds given))

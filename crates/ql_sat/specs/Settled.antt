@@ -1,5 +1,5 @@
 -- What the two watched literals of a clause say of its truth, while literals are made true.
-use Rattle.std.specs.Prelude.{ℕ, ◌+◌, ◌*◌, ◌<◌, ◌≤◌, ◌⊎◌, ◌≡◌, Bool, true, false, not, is_some, take, List, [], ◌∷◌, ◌++◌, length, map, None, Some}
+use Rattle.std.specs.Prelude.{ℕ, ◌+◌, ◌*◌, ◌<◌, ◌≤◌, ◌⊎◌, ◌≡◌, ◌≢◌, Bool, true, false, not, is_some, take, List, [], ◌∷◌, ◌++◌, length, map, None, Some}
 use Rattle.std.specs.List.{All, slice_index_or}
 use Rattle.ql_cnf.specs.Literals.{has_literal, negated, IsAscending}
 use Rattle.ql_cnf.specs.Satisfaction.{ClauseList}
@@ -37,7 +37,7 @@ AtDecisions q p (s ∷ ss) = (is_some s.reason ≡ false → q p) × AtDecisions
 -- a clause that has literals watches two of them, or its only one twice
 abbrev pub WatchesOwn : List Lit → Pair → Type 0
 WatchesOwn [] w = Unit {0}
-WatchesOwn (x ∷ xs) w = (has_literal (x ∷ xs) w.first ≡ true) × (has_literal (x ∷ xs) w.second ≡ true)
+WatchesOwn (x ∷ xs) w = (has_literal (x ∷ xs) w.first ≡ true) × (has_literal (x ∷ xs) w.second ≡ true) × (w.first ≡ w.second → xs ≡ [])
 
 -- each clause watches literals of its own, and at each decision no clause had a false one beside one that wasn't
 -- true
@@ -78,11 +78,11 @@ pub record IsVisiting (c : ClauseList) (trail : List Step) (lists : List (List �
   pub before : IsSettledTo c trail place pairs
   pub rest : (k : ℕ) → k < length c.clauses → IsWaiting at (slice_index_or lists (index_of falsified) []) k ⊎ IsSettled (values_to trail (place + 1)) (assigned_from nothing trail) (pair_at pairs k)
 
--- the other watched literal is true; or x is one of the clause and isn't false; or the other isn't true, and of the
--- clause's literals only the two that it watches may be other than false
+-- the other watched literal is true; or x is one of the clause, not the other, and isn't false; or the other isn't
+-- true, and of the clause's literals only the two that it watches may be other than false
 abbrev pub IsLook : List Lit → Lit → Lit → Partial → Look → Type 0
 IsLook d falsified other p Keep = p other.var ≡ Some other.positive
-IsLook d falsified other p (Move x) = (has_literal d x ≡ true) × (is_open p x ≡ true)
+IsLook d falsified other p (Move x) = (has_literal d x ≡ true) × (is_open p x ≡ true) × (x ≢ other)
 IsLook d falsified other p Read = (p other.var ≡ Some other.positive → ⊥) × All (λ x. is_open p x ≡ true → (x ≡ other) ⊎ (index_of x ≡ index_of falsified)) d
 
 -- x is the literal of the last of these steps whose variable is seen
@@ -95,6 +95,7 @@ pub record IsLastSeen (seen : List Bool) (steps : List Step) (x : Lit) : Type 0 
   pub sees : is_seen seen x.var ≡ true
   pub none : NoneSeen seen after
 
--- a clause that forces x after these steps watches x and what the last seen step made false, or x twice
+-- a clause that forces x after these steps watches x and what the last seen step made false; where none is seen, x
+-- twice
 abbrev pub WatchesForced : List Bool → List Step → Lit → Pair → Type 0
-WatchesForced seen steps x w = (w.first ≡ x) × ((w.second ≡ x) ⊎ ((y : Lit) × IsLastSeen seen steps y × (w.second ≡ negated y)))
+WatchesForced seen steps x w = (w.first ≡ x) × (((w.second ≡ x) × NoneSeen seen steps) ⊎ ((y : Lit) × IsLastSeen seen steps y × (w.second ≡ negated y)))

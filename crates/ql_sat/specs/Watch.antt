@@ -29,6 +29,10 @@ AreListed lists pairs = (k : ℕ) → k < length pairs → IsListed lists (pair_
 abbrev pub IsThere : List (List ℕ) → Lit → ℕ → ℕ → Type 0
 IsThere lists x i k = (i < length (slice_index_or lists (index_of x) [])) × (k ≡ slice_index (slice_index_or lists (index_of x) []) i)
 
+-- the watched literal beside this one
+abbrev pub beside : Pair → Lit → Lit
+beside p x = if index_of p.first == index_of x then p.second else p.first
+
 -- one literal in place of another
 abbrev pub replaced_literal : Lit → Lit → Lit → Lit
 replaced_literal x from to = if index_of x == index_of from then to else x

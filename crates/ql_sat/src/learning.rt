@@ -101,7 +101,7 @@ fn watch(watches: &mut Watches, trail: &[Step], seen: &[bool], to: usize) -> Res
 
 // The literal of the last step whose variable is seen.
 fn last_seen(steps: &[Step], seen: &[bool]) -> Option<Lit>
-    ensures { IfSome result (IsLastSeen seen.now steps.now) }
+    ensures { MatchOption result (NoneSeen seen.now steps.now) (IsLastSeen seen.now steps.now) }
 {
     let mut place = steps.len();
     while place > 0 {

@@ -1,11 +1,12 @@
 // Two watched literals for each clause: while neither is false, the clause forces nothing.
 ghost use Rattle.std.specs.Prelude.{◌≡◌, ◌≢◌, ◌⊎◌, ℕ, ◌+◌, ◌-◌, ◌*◌, ◌^◌, ◌<◌, ◌≤◌, ◌++◌, ◌∷◌, [], length, IfNone, IfOk, IfSome, OnOk, false, slice_index, take, true};
 ghost use Rattle.std.specs.List.{slice_index_or};
+ghost use Rattle.ql_cnf.specs.Literals.{IsAscending};
 ghost use Rattle.ql_cnf.specs.declared.lit.Lit.{Lit};
 ghost use Rattle.ql_refute.specs.Marks.{marked};
 ghost use Rattle.ql_refute.specs.Partial.{is_open, is_value};
 ghost use Rattle.ql_sat.specs.Settled.{IsGuarded, IsLook, WatchesOwn};
-ghost use Rattle.ql_sat.specs.Watch.{AreListed, IsAway, IsListed, IsMoved, IsThere, count_of, index_of, pair_at, replaced, replaced_literal};
+ghost use Rattle.ql_sat.specs.Watch.{AreListed, IsAway, IsListed, IsMoved, IsThere, beside, count_of, index_of, pair_at, replaced, replaced_literal};
 
 use crate::watchers::Watchers;
 use ql_base::NoMemory;
@@ -91,7 +92,7 @@ impl Watches {
 
     // The other watched literal of a clause that watches this one.
     pub fn other(&self, clause: usize, lit: Lit) -> Lit
-        ensures { clause < length self.now.pairs.items → (result ≡ (pair_at self.now.pairs.items clause).first) ⊎ (result ≡ (pair_at self.now.pairs.items clause).second) }
+        ensures { clause < length self.now.pairs.items → result ≡ beside (pair_at self.now.pairs.items clause) lit }
     {
         if clause >= self.pairs.len() {
             return lit;
@@ -120,6 +121,7 @@ impl Watches {
 
 // The first two literals of a clause, or its only one twice.
 fn first_pair(clause: &[Lit]) -> Pair
+    requires { IsAscending clause.now }
     ensures { WatchesOwn clause.now result }
 {
     match clause {
@@ -235,7 +237,7 @@ pub(crate) fn inspect(clause: &[Lit], falsified: Lit, other: Lit, marks: &[u8]) 
 
 // Whether the literal is neither false nor one of the two.
 fn is_free(lit: Lit, falsified: Lit, other: Lit, marks: &[u8]) -> bool
-    ensures free { result ≡ true → (is_open (marked marks.now) lit ≡ true) × (index_of lit ≡ index_of falsified → ⊥) }
+    ensures free { result ≡ true → (is_open (marked marks.now) lit ≡ true) × (lit ≢ other) × (index_of lit ≡ index_of falsified → ⊥) }
     ensures others { result ≡ false → is_open (marked marks.now) lit ≡ true → (lit ≡ other) ⊎ (index_of lit ≡ index_of falsified) }
 {
     if lit == other || index(lit) == index(falsified) {

@@ -1,4 +1,4 @@
-use Rattle.std.proofs.Common.{◌≡◌, ◌+◌, Some, [], get_or, inl, inr, true, sym, ◌∙◌, ap, subst, arith}
+use Rattle.std.proofs.Common.{◌≡◌, ◌≢◌, ◌+◌, Some, [], get_or, inl, inr, true, sym, ◌∙◌, ap, subst, arith}
 use Rattle.ql_cnf.specs.declared.lit.Lit.{Lit}
 use Rattle.ql_refute.specs.Marks.{marked}
 use Rattle.ql_refute.specs.Partial.{Partial, is_open}
@@ -20,7 +20,7 @@ pub returns-in_ok-change-in-Move-clause-visiting : goal.returns-in_ok-change-in-
 returns-in_ok-change-in-Move-clause-visiting c =
     let moved = c.in_ok-change-in-Move.ensures.moved in
     λ place h. visiting_move c.args.c.now (with_lines c.args.c.now c.args.lines.now) c.args.lines.now c.args.trail.now.items c.args.watches.now.lists.items c.change.new.self.lists.items c.args.watches.now.pairs.items c.change.new.self.pairs.items place c.args.at c.args.clause c.args.falsified c.in-Move.lit c.requires.searching.steps moved.size moved.front moved.counts moved.long moved.others moved.pair c.in-Move.ensures.away
-    (λ given. let look = c.in-Move.ensures.look (get_or (with_lines c.args.c.now c.args.lines.now).clauses c.args.clause []) (c.requires.hint given) in (look.0, subst (λ (p : Partial). is_open p c.in-Move.lit ≡ true) c.requires.searching.values look.1)) h
+    (λ given. let look = c.in-Move.ensures.look (get_or (with_lines c.args.c.now c.args.lines.now).clauses c.args.clause []) (c.requires.hint given) in (look.0, subst (λ (p : Partial). is_open p c.in-Move.lit ≡ true) c.requires.searching.values look.1, subst (λ (x : Lit). c.in-Move.lit ≢ x) (c.other-other.ensures (omega (arith, given, h.guarded.counted))) look.2)) h
 
 pub returns-in_default : goal.returns-in_default
 returns-in_default c =
