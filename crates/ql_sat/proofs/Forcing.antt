@@ -96,7 +96,7 @@ beq_refl false = refl
 pub literal_refl : (x : Lit) → same_literal x x ≡ true
 literal_refl x = rw (same_refl x.var, beq_refl x.positive) refl
 
-literal_same : (x y : Lit) → same_literal x y ≡ true → x ≡ y
+pub literal_same : (x y : Lit) → same_literal x y ≡ true → x ≡ y
 literal_same x y h = step (x.var == y.var) (beq x.positive y.positive) refl refl h
   where
     make : (v w : ℕ) (a b : Bool) → v ≡ w → a ≡ b → ◌≡◌ {A = Lit} (record { var = v; positive = a }) (record { var = w; positive = b })

@@ -29,6 +29,10 @@ HasValuesOf clause marks = (v : ℕ) → has_variable clause v ≡ true → is_s
 abbrev pub IsQuiet : List (List Lit) → List ℕ → Type 0
 IsQuiet clauses marks = All (λ d. reading (marked marks) d ≡ Neither) clauses
 
+-- the same of the clauses of two literals or more
+abbrev pub IsQuietOnNonUnits : List (List Lit) → List ℕ → Type 0
+IsQuietOnNonUnits clauses marks = All (λ d. 2 ≤ length d → reading (marked marks) d ≡ Neither) clauses
+
 -- each variable has a value
 abbrev pub IsTotal : ℕ → List ℕ → Type 0
 IsTotal n marks = (v : ℕ) → 1 ≤ v → v ≤ n → is_some (marked marks v) ≡ true

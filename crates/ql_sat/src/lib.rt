@@ -11,9 +11,10 @@
 //
 // By the type of the watches each clause stands in the lists of the two literals that it watches. When
 // nothing more can be propagated, no clause, given or learned, has a false watched literal beside one that
-// isn't true; the model follows from the given ones. The same stood at each decision of the trail, so going
-// back restores it. A learned clause watches the literal that it forces and the one that became false last;
-// no decision that is left stands after that one.
+// isn't true; so none of two literals or more is false or forces a literal, and the model follows from the
+// given ones. The same stood at each decision of the trail, so going back restores it. A learned clause
+// watches the literal that it forces and the one that became false last; no decision that is left stands
+// after that one.
 #![tactic(auto)]
 
 mod decided;

@@ -4,6 +4,7 @@ ghost use Rattle.std.specs.List.{slice_index_or};
 ghost use Rattle.ql_cnf.specs.declared.lit.Lit.{Lit};
 ghost use Rattle.ql_refute.specs.Marks.{LinesInRange, marked};
 ghost use Rattle.ql_refute.specs.Verdict.{hinted};
+ghost use Rattle.ql_sat.specs.Search.{IsQuietOnNonUnits};
 ghost use Rattle.ql_sat.specs.Settled.{IsGuarded, IsLook, IsVisiting, IsWatched, with_lines};
 ghost use Rattle.ql_sat.specs.Trail.{IsFalseClause, IsSearching, trail_number};
 ghost use Rattle.ql_sat.specs.Watch.{IsAway, IsThere, index_of};
@@ -31,6 +32,7 @@ pub(crate) fn propagate(
     ensures guarded { OnOk result (IsGuarded (with_lines c.now lines.now) trail.new.items watches.new.lists.items watches.new.pairs.items) }
     ensures watched { IfOk result (λ found. IfNone found (IsWatched (with_lines c.now lines.now) trail.new.items watches.new.lists.items watches.new.pairs.items queue.new.done)) }
     ensures all { IfOk result (λ found. IfNone found (queue.new.done ≡ length trail.new.items)) }
+    ensures quiet { IfOk result (λ found. IfNone found (IsQuietOnNonUnits (with_lines c.now lines.now).clauses marks.new)) }
     ensures conflict { IfOk result (λ found. IfSome found (λ hint. IsFalseClause c.now lines.now hint marks.new)) }
     ensures number { OnOk result (trail_number (c.now.variables + 1) trail.old.items ≤ trail_number (c.now.variables + 1) trail.new.items) }
 {
