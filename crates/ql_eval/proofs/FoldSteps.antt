@@ -1,6 +1,6 @@
 -- one more step of a fold, of statements and of names with values
-use Rattle.std.proofs.Common.{◌≡◌, ◌≤◌, ◌<◌, ◌+◌, ◌-◌, ℕ, zero, suc, Bool, true, false, not, cond, List, [], ◌∷◌, ◌++◌, Option, Some, None, length, get_or, set, take, drop, map, min, refl, sym, ap, ◌∙◌, arith, append_assoc, add-one, one-add}
-use Rattle.std.specs.List.{filter_map, insert, prefix_len}
+use Rattle.std.proofs.Common.{◌≡◌, ◌≤◌, ◌<◌, ◌+◌, ℕ, zero, suc, Bool, true, false, not, cond, List, [], ◌∷◌, ◌++◌, Option, Some, None, length, get_or, set, take, drop, map, min, refl, sym, ap, ◌∙◌, arith, append_assoc, add-one, one-add}
+use Rattle.std.specs.List.{prefix_len}
 use Rattle.std.specs.Option.{option_and_then, option_map}
 use Rattle.std.specs.Str.{bytes_eq}
 use Rattle.std.proofs.Math.Seq.{drop-cons}
@@ -11,7 +11,6 @@ use Rattle.ql_lang.specs.declared.operation.OpDecl.{OpDecl}
 use Rattle.ql_lang.specs.Expressions.{expression_of}
 use Rattle.ql_value.specs.declared.value.Value.{Value}
 use Rattle.ql_exec.specs.declared.effect.Effect.{Effect}
-use Rattle.ql_exec.specs.Folding.{comes_before, in_order, with_effect}
 use Rattle.ql_eval.specs.Evaluation.{Bindings, value_of}
 use Rattle.ql_eval.specs.Folds.{after_payload, after_stmt, after_stmts, assigned, bound_values, folded, under}
 
@@ -121,32 +120,3 @@ stuck_value env binds values i b lt is e =
 pub no_values : (env : Bindings) (binds : List Bind) (values : List Value) (i : ℕ) → length binds ≤ i → option_map (λ vs. values ++ vs) (bound_values env (drop i binds)) ≡ Some values
 unfolding bound_values
 no_values env binds values i past = ap (λ bs. option_map (λ vs. values ++ vs) (bound_values env bs)) (drop_all i binds past) ∙ ap Some (append-nil values)
-
--- the order of effects
-pub inserted : {X : Type 0} (f : X → Effect) (x : X) (xs : List X) → map f (insert xs (prefix_len (λ y. not (comes_before (f x) (f y))) xs) x) ≡ with_effect (f x) (map f xs)
-inserted f x [] = refl
-inserted f x (y ∷ ys) = by_test (comes_before (f x) (f y)) (inserted f x ys) where
-  by_test : (b : Bool) → map f (insert ys (prefix_len (λ z. not (comes_before (f x) (f z))) ys) x) ≡ with_effect (f x) (map f ys)
-      → map f (insert (y ∷ ys) (cond (not b) (1 + prefix_len (λ z. not (comes_before (f x) (f z))) ys) 0) x) ≡ cond b (f x ∷ f y ∷ map f ys) (f y ∷ with_effect (f x) (map f ys))
-  by_test true rest = refl
-  by_test false rest = rw (one-add (prefix_len (λ z. not (comes_before (f x) (f z))) ys)) (ap (λ es. f y ∷ es) rest)
-
-earlier_id : (ids : List ℕ) (k : ℕ) (id : ℕ) → k < length ids → id ≡ get_or ids (length ids - 1 - k) id → drop (length ids - (k + 1)) ids ≡ id ∷ drop (length ids - k) ids
-earlier_id ids k id lt is =
-    let same : length ids - (k + 1) ≡ length ids - 1 - k = omega arith in
-    let next : suc (length ids - 1 - k) ≡ length ids - k = omega arith in
-    rw same (drop-cons ids (length ids - 1 - k) id (omega arith) ∙ rw (← is, next) refl)
-
-pub more_order : (g : ℕ → Option Effect) (ids : List ℕ) (k id : ℕ) (e : Effect) (order next : List Effect) → k < length ids → id ≡ get_or ids (length ids - 1 - k) id → g id ≡ Some e
-    → order ≡ in_order (filter_map g (drop (length ids - k) ids)) → next ≡ with_effect e order → next ≡ in_order (filter_map g (drop (length ids - (k + 1)) ids))
-more_order g ids k id e order next lt is found h step = rw (earlier_id ids k id lt is, found) (step ∙ ap (with_effect e) h)
-
-pub same_order : (g : ℕ → Option Effect) (ids : List ℕ) (k id : ℕ) (order : List Effect) → k < length ids → id ≡ get_or ids (length ids - 1 - k) id → g id ≡ None
-    → order ≡ in_order (filter_map g (drop (length ids - k) ids)) → order ≡ in_order (filter_map g (drop (length ids - (k + 1)) ids))
-same_order g ids k id order lt is found h = rw (earlier_id ids k id lt is, found) h
-
-pub no_order : (g : ℕ → Option Effect) (ids : List ℕ) → [] ≡ in_order (filter_map g (drop (length ids - 0) ids))
-no_order g ids = let past : length ids ≤ length ids - 0 = omega arith in rw (drop_all (length ids - 0) ids past) refl
-
-pub whole_order : (g : ℕ → Option Effect) (ids : List ℕ) (k : ℕ) (order : List Effect) → length ids ≤ k → order ≡ in_order (filter_map g (drop (length ids - k) ids)) → order ≡ in_order (filter_map g ids)
-whole_order g ids k order past h = let none : length ids - k ≡ 0 = omega arith in rw none at h

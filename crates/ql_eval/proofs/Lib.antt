@@ -3,3 +3,7 @@ mod Preserved
 pub mod NeverStuck
 mod FoldSteps
 pub mod Accepted
+mod StableOrder
+mod EffectOrder
+mod Fitting
+pub mod Answering

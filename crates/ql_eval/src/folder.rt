@@ -6,7 +6,7 @@ ghost use Rattle.ql_exec.specs.declared.effect.Effect.{Effect};
 ghost use Rattle.ql_exec.specs.declared.folder.Answered.{Answered};
 ghost use Rattle.ql_exec.specs.Folding.{AreOnOneObject, seen_in_order};
 ghost use Rattle.ql_eval.specs.Folds.{answer_of, answer_over, answer_with, answered_of, bound_values, emitted};
-ghost use Rattle.ql_eval.specs.Able.{IsAble};
+ghost use Rattle.ql_eval.specs.Able.{AnswersAll, AnswersFit, IsAble};
 
 use crate::env::Env;
 use crate::evaluation::evaluate;
@@ -19,15 +19,21 @@ use ql_typing::Typed;
 use ql_value::{Value, Values};
 use std::alloc::Global;
 
-/// Answers calls of a typed program's operations by folding what they see.
+/// Answers calls of a typed program's operations by folding what they see. It is able to answer where the operation is
+/// in range, its arguments have the kinds of its parameters, and each effect is of an operation of its type and emitted
+/// nothing or values of that operation's kinds.
 pub struct TypedFolder<'a> {
     alloc: Global,
     pub typed: &'a Typed,
 }
 
 impl<'a> TypedFolder<'a> {
+    /// A folder of this program. Each call that it is able to answer has an answer by the definition, and that answer
+    /// and its payload have the kinds that the operation declares.
     pub fn new(alloc: Global, typed: &'a Typed) -> TypedFolder<'a>
-        ensures { result.typed ≡ typed.entry }
+        ensures same { result.typed ≡ typed.entry }
+        ensures answers { AnswersAll typed.now.program.types }
+        ensures kinds { AnswersFit typed.now.program.types }
     {
         TypedFolder { alloc, typed }
     }
@@ -45,18 +51,15 @@ impl Folder for TypedFolder<'_> {
         execution: &Execution,
         seen: &IdSet,
     ) -> Result<Answered, NoMemory> {
-        match answer_call(self.alloc, self.typed, op, args, execution, seen)? {
+        match try_answer(self.alloc, self.typed, op, args, execution, seen)? {
             Some(answered) => Ok(answered),
-            None => Ok(Answered {
-                answer: Value::Unit,
-                payload: Payload::Nothing,
-            }),
+            None => unreachable!(),
         }
     }
 }
 
-// The answer and payload of a call, where its expressions have values.
-fn answer_call(
+/// The answer and payload of a call, where its expressions have values.
+pub fn try_answer(
     alloc: Global,
     t: &Typed,
     o: OpId,

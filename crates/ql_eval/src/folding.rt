@@ -1,7 +1,8 @@
-ghost use Rattle.std.specs.Prelude.{◌≡◌, ◌<◌, ◌++◌, IfOk, IsSome, Some, length, map, slice_get};
+ghost use Rattle.std.specs.Prelude.{◌≡◌, ◌<◌, ◌++◌, All, IfOk, Some, length, map, slice_get};
 ghost use Rattle.std.specs.Option.{option_map};
 ghost use Rattle.ql_exec.specs.Folding.{seen_in_order};
 ghost use Rattle.ql_typing.specs.Operations.{all_ops};
+ghost use Rattle.ql_eval.specs.Able.{AreFields, FitsOp, IsOfType, type_of_op};
 ghost use Rattle.ql_eval.specs.Folds.{after_op, after_payload, applied, begun, begun_value, field_word, fold_of, folded, under, values_in};
 
 use crate::env::Env;
@@ -110,18 +111,37 @@ pub fn apply(
     alloc: Global,
     t: &Typed,
     o: OpId,
-    state: &Values,
+    state: Values,
     payload: &Values,
 ) -> Result<Values, NoMemory>
     requires within { o.0 < length (all_ops t.now.program.types) }
-    requires value { IsSome (applied t.now.program.types o.0 state.now payload.now) }
-    ensures { IfOk result (λ after. applied t.now.program.types o.0 state.now payload.now ≡ Some after) }
+    requires state { AreFields (type_of_op t.now.program.types o.0) state }
+    requires payload { FitsOp (slice_get (all_ops t.now.program.types) o.0) (Payload.Emitted payload.now) }
+    ensures value { IfOk result (λ after. applied t.now.program.types o.0 state payload.now ≡ Some after) }
+    ensures kinds { IfOk result (AreFields (type_of_op t.now.program.types o.0)) }
+{
+    match try_apply(alloc, t, o, &state, payload)? {
+        Some(after) => Ok(after),
+        None => unreachable!(),
+    }
+}
+
+// The same, where each statement's expression has a value.
+fn try_apply(
+    alloc: Global,
+    t: &Typed,
+    o: OpId,
+    state: &Values,
+    payload: &Values,
+) -> Result<Option<Values>, NoMemory>
+    requires { o.0 < length (all_ops t.now.program.types) }
+    ensures { IfOk result (λ after. after ≡ applied t.now.program.types o.0 state.now payload.now) }
 {
     let fields = t.type_decl(t.kind_of(o)).fields.items();
     let env = with_fields(alloc, Env::of(Vec::new(alloc)), fields, state.items())?;
     match apply_op(alloc, t, o, env, payload)? {
-        Some(env) => values_of(alloc, env.items()),
-        None => unreachable!(),
+        Some(env) => Ok(Some(values_of(alloc, env.items())?)),
+        None => Ok(None),
     }
 }
 
@@ -147,7 +167,8 @@ fn values_of(alloc: Global, pairs: &[(Word, Value)]) -> Result<Values, NoMemory>
     Ok(Values::of(values))
 }
 
-/// The values of an object's state after the effects of some ids, in order of stamp and session.
+/// The values of an object's state after the effects of some ids, in order of stamp and session. The effects are of the
+/// object's type, and each emitted nothing or values of its operation's kinds.
 pub fn fold(
     alloc: Global,
     t: &Typed,
@@ -156,11 +177,29 @@ pub fn fold(
     seen: &IdSet,
 ) -> Result<Values, NoMemory>
     requires within { kind.0 < length t.now.program.types }
-    requires value { IsSome (fold_of t.now.program.types kind.0 (seen_in_order execution.now seen.now)) }
-    ensures { IfOk result (λ state. option_map values_in (fold_of t.now.program.types kind.0 (seen_in_order execution.now seen.now)) ≡ Some state) }
+    requires own { All (IsOfType t.now.program.types (Some kind.0)) (seen_in_order execution.now seen.now) }
+    ensures value { IfOk result (λ state. option_map values_in (fold_of t.now.program.types kind.0 (seen_in_order execution.now seen.now)) ≡ Some state) }
+    ensures kinds { IfOk result (AreFields (slice_get t.now.program.types kind.0)) }
+{
+    match try_fold(alloc, t, kind, execution, seen)? {
+        Some(state) => Ok(state),
+        None => unreachable!(),
+    }
+}
+
+// The same, where each expression has a value.
+fn try_fold(
+    alloc: Global,
+    t: &Typed,
+    kind: TypeId,
+    execution: &Execution,
+    seen: &IdSet,
+) -> Result<Option<Values>, NoMemory>
+    requires { kind.0 < length t.now.program.types }
+    ensures { IfOk result (λ state. state ≡ option_map values_in (fold_of t.now.program.types kind.0 (seen_in_order execution.now seen.now))) }
 {
     match state_after(alloc, t, kind, execution, seen)? {
-        Some(state) => values_of(alloc, state.items()),
-        None => unreachable!(),
+        Some(state) => Ok(Some(values_of(alloc, state.items())?)),
+        None => Ok(None),
     }
 }

@@ -14,5 +14,5 @@ mod statement;
 
 pub use env::Env;
 pub use evaluation::{eval, try_eval};
-pub use folder::TypedFolder;
+pub use folder::{TypedFolder, try_answer};
 pub use folding::{apply, fold};

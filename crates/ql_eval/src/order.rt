@@ -1,12 +1,14 @@
-ghost use Rattle.std.specs.Prelude.{◌≡◌, IfOk, OnOk, map, not};
-ghost use Rattle.std.specs.List.{prefix_len};
+ghost use Rattle.std.specs.Prelude.{◌≡◌, IfOk, map, reverse};
+ghost use Rattle.std.specs.List.{filter_map};
 ghost use Rattle.std.specs.Option.{option_copied};
+ghost use Rattle.std.specs.Ordering.{is_lt};
 ghost use Rattle.ql_exec.specs.Effects.{effect_at};
-ghost use Rattle.ql_exec.specs.Folding.{comes_before, seen_in_order, with_effect};
+ghost use Rattle.ql_exec.specs.Folding.{comes_before, seen_in_order};
 
 use ql_base::{IdSet, NoMemory};
 use ql_exec::{Effect, Execution};
 use std::alloc::Global;
+use std::cmp::Ordering;
 
 /// The effects of some ids, in order of stamp and session.
 pub(crate) fn in_order<'a>(
@@ -16,15 +18,26 @@ pub(crate) fn in_order<'a>(
 ) -> Result<Vec<&'a Effect>, NoMemory>
     ensures { IfOk result (λ order. map (λ e. e.now) order.items ≡ seen_in_order execution.now seen.now) }
 {
-    let effects = execution.effects();
-    let ids = seen.items();
-    let mut order = Vec::with_capacity(alloc, ids.len())?;
+    let mut order = found_backwards(alloc, execution.effects(), seen.items())?;
+    order.sort_by(|a, b| compare(a, b))?;
+    Ok(order)
+}
+
+// The effects of some ids, that of the last id first.
+fn found_backwards<'a>(
+    alloc: Global,
+    effects: &'a [Effect],
+    ids: &[u32],
+) -> Result<Vec<&'a Effect>, NoMemory>
+    ensures { IfOk result (λ found. map (λ e. e.now) found.items ≡ reverse (filter_map (effect_at effects.now) ids.now)) }
+{
+    let mut found = Vec::with_capacity(alloc, ids.len())?;
     for k in 0..ids.len() {
         if let Some(effect) = find(effects, ids[ids.len() - 1 - k]) {
-            insert(&mut order, effect)?;
+            found.push(effect)?;
         }
     }
-    Ok(order)
+    Ok(found)
 }
 
 // The effect of an id, counted from 1.
@@ -37,28 +50,9 @@ fn find(effects: &[Effect], id: u32) -> Option<&Effect>
     effects.get(id as usize - 1)
 }
 
-// Puts an effect in its place among others that are in order. Later effects mostly stand behind it.
-fn insert<'a>(order: &mut Vec<&'a Effect>, effect: &'a Effect) -> Result<(), NoMemory>
-    ensures { OnOk result (map (λ e. e.now) order.new.items ≡ with_effect effect.now (map (λ e. e.now) order.old.items)) }
+// By stamp, and at one stamp by session.
+fn compare(a: &Effect, b: &Effect) -> Ordering
+    ensures { is_lt result ≡ comes_before a.now b.now }
 {
-    let place = place_for(order, effect);
-    order.insert(place, effect)?;
-    Ok(())
-}
-
-// How many effects at the front the effect isn't before.
-fn place_for(order: &[&Effect], effect: &Effect) -> usize
-    ensures { result ≡ prefix_len (λ e. not (comes_before effect.now e.now)) order.now }
-{
-    order
-        .iter()
-        .take_while(|other| !comes_before(effect, other))
-        .count()
-}
-
-// A lower stamp, or the same and a lower session.
-fn comes_before(a: &Effect, b: &Effect) -> bool
-    ensures { result ≡ comes_before a.now b.now }
-{
-    a.stamp < b.stamp || a.stamp == b.stamp && a.session.0 < b.session.0
+    a.stamp.cmp(&b.stamp).then(a.session.0.cmp(&b.session.0))
 }

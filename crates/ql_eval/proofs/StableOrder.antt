@@ -1,0 +1,160 @@
+-- A list that is sorted stably is the one that insertion makes.
+use Rattle.std.proofs.Common.{◌≡◌, ◌+◌, suc, Bool, true, false, not, ◌&&◌, cond, List, [], ◌∷◌, ◌++◌, All, filter, get_or, refl, sym, ap, ◌∙◌, subst, append_assoc, arith}
+use Rattle.std.specs.Cmp.{IsStrictWeakOrder}
+use Rattle.std.specs.List.Sorted.{IsSortedBy, IsStableBy, ties}
+use Rattle.std.proofs.lemmas.List.{append-nil}
+use Rattle.std.proofs.lemmas.List.Elements.{All-cons, All-filter, All-head, All-tail, filter-append}
+use Rattle.std.proofs.lemmas.List.Sorted.{sorted_far}
+
+both : (a b : Bool) → (a && b) ≡ true → (a ≡ true) × (b ≡ true)
+both true true h = (refl, refl)
+both true false h = cc
+both false b h = cc
+
+denied : (b : Bool) → not b ≡ true → b ≡ false
+denied true h = cc
+denied false h = refl
+
+module _ {X : Type 0} where
+  none_pass : (p : X → Bool) (ys : List X) → All (λ z. p z ≡ false) ys → filter p ys ≡ []
+  none_pass p [] h = refl
+  none_pass p (y ∷ ys) h = rw (All-head (λ z. p z ≡ false) y ys h) (none_pass p ys (All-tail (λ z. p z ≡ false) y ys h))
+
+  first_is : (x y : X) (xs ys : List X) → x ∷ xs ≡ y ∷ ys → x ≡ y
+  first_is x y xs ys e = cc
+
+  others_are : (x y : X) (xs ys : List X) → x ∷ xs ≡ y ∷ ys → xs ≡ ys
+  others_are x y xs ys e = cc
+
+  filter_rest : (b : Bool) (y : X) (us vs : List X) → cond b (y ∷ us) us ≡ cond b (y ∷ vs) vs → us ≡ vs
+  filter_rest true y us vs e = others_are y y us vs e
+  filter_rest false y us vs e = e
+
+module _ {X : Type 0} (lt : X → X → Bool) where
+  -- each element stands before no lesser one
+  abbrev pub Rises : List X → Type 0
+  Rises [] = Unit {0}
+  Rises (y ∷ ys) = All (λ z. lt z y ≡ false) ys × Rises ys
+
+  -- x in its place, behind those that tie with it
+  abbrev pub put : X → List X → List X
+  put x [] = x ∷ []
+  put x (y ∷ ys) = cond (lt x y) (x ∷ y ∷ ys) (y ∷ put x ys)
+
+  abbrev pub placed : List X → List X → List X
+  placed acc [] = acc
+  placed acc (x ∷ xs) = placed (put x acc) xs
+
+  pub placed_push : (acc xs : List X) (x : X) → placed acc (xs ++ x ∷ []) ≡ put x (placed acc xs)
+  placed_push acc [] x = refl
+  placed_push acc (y ∷ ys) x = placed_push (put y acc) ys x
+
+module _ {X : Type 0} (lt : X → X → Bool) (o : IsStrictWeakOrder lt) where
+  itself : (x : X) → lt x x ≡ false
+  itself x = by (lt x x) refl
+    where
+      by : (b : Bool) → lt x x ≡ b → b ≡ false
+      by true e = sym e ∙ o.one_way x x e
+      by false e = refl
+
+  tied_itself : (x : X) → ties lt x x ≡ true
+  tied_itself x = rw (itself x) refl
+
+  rises : (ys : List X) → IsSortedBy lt ys → Rises lt ys
+  rises [] up = tt
+  rises (y ∷ ys) up = (
+    λ k d below. sorted_far lt o (y ∷ ys) up 0 (suc k) d (omega arith) (omega arith),
+    rises ys (λ k d low below.
+        let next : suc k + 1 ≡ suc (k + 1) = omega arith in
+        subst (λ n. lt (get_or (y ∷ ys) n d) (get_or ys k d) ≡ false) next (up (suc k) d (omega arith) (omega arith))),
+  )
+
+  put_all : (P : X → Type 0) (x : X) (ys : List X) → P x → All P ys → All P (put lt x ys)
+  put_all P x [] here all = All-cons P x [] here all
+  put_all P x (y ∷ ys) here all = by (lt x y) (put_all P x ys here (All-tail P y ys all))
+    where
+      by : (b : Bool) → All P (put lt x ys) → All P (cond b (x ∷ y ∷ ys) (y ∷ put lt x ys))
+      by true rest = All-cons P x (y ∷ ys) here all
+      by false rest = All-cons P y (put lt x ys) (All-head P y ys all) rest
+
+  put_rises : (x : X) (ys : List X) → Rises lt ys → Rises lt (put lt x ys)
+  put_rises x [] up = (λ k d below. absurd (omega arith), tt)
+  put_rises x (y ∷ ys) up = by (lt x y) refl (put_rises x ys up.1)
+    where
+      by : (b : Bool) → lt x y ≡ b → Rises lt (put lt x ys) → Rises lt (cond b (x ∷ y ∷ ys) (y ∷ put lt x ys))
+      by true e rest = (All-cons (λ z. lt z x ≡ false) y ys (o.one_way x y e) (λ k d below. o.chain (get_or ys k d) y x (up.0 k d below) (o.one_way x y e)), up)
+      by false e rest = (put_all (λ z. lt z y ≡ false) x ys e up.0, rest)
+
+  -- what isn't below something above x is above x and what ties with it
+  above_ties : (w x y z : X) → ties lt w x ≡ true → lt x y ≡ true → lt z y ≡ false → ties lt w z ≡ false
+  above_ties w x y z tie e low = by (lt w z) refl
+    where
+      back : lt x w ≡ false
+      back = denied (lt x w) (both (not (lt w x)) (not (lt x w)) tie).1
+
+      by : (b : Bool) → lt w z ≡ b → ties lt w z ≡ false
+      by true h = rw h refl
+      by false h =
+          let no : true ≡ false = sym e ∙ o.chain x z y (o.chain x w z back h) low in
+          absurd cc
+
+  put_ties : (w x : X) (ys : List X) → Rises lt ys → filter (ties lt w) (put lt x ys) ≡ filter (ties lt w) ys ++ filter (ties lt w) (x ∷ [])
+  put_ties w x [] up = refl
+  put_ties w x (y ∷ ys) up = by (lt x y) refl (put_ties w x ys up.1)
+    where
+      later : (b : Bool) → filter (ties lt w) (put lt x ys) ≡ filter (ties lt w) ys ++ filter (ties lt w) (x ∷ [])
+          → cond b (y ∷ filter (ties lt w) (put lt x ys)) (filter (ties lt w) (put lt x ys)) ≡ cond b (y ∷ filter (ties lt w) ys) (filter (ties lt w) ys) ++ filter (ties lt w) (x ∷ [])
+      later true rest = ap (λ zs. y ∷ zs) rest
+      later false rest = rest
+
+      here : (b : Bool) → ties lt w x ≡ b → lt x y ≡ true → cond b (x ∷ filter (ties lt w) (y ∷ ys)) (filter (ties lt w) (y ∷ ys)) ≡ filter (ties lt w) (y ∷ ys) ++ cond b (x ∷ []) []
+      here false h e = sym (append-nil (filter (ties lt w) (y ∷ ys)))
+      here true h e =
+          let none : filter (ties lt w) (y ∷ ys) ≡ [] =
+          none_pass (ties lt w) (y ∷ ys) (All-cons (λ z. ties lt w z ≡ false) y ys (above_ties w x y y h e (itself y)) (λ k d below. above_ties w x y (get_or ys k d) h e (up.0 k d below))) in
+          rw none refl
+
+      by : (b : Bool) → lt x y ≡ b → filter (ties lt w) (put lt x ys) ≡ filter (ties lt w) ys ++ filter (ties lt w) (x ∷ [])
+          → filter (ties lt w) (cond b (x ∷ y ∷ ys) (y ∷ put lt x ys)) ≡ filter (ties lt w) (y ∷ ys) ++ filter (ties lt w) (x ∷ [])
+      by true e rest = here (ties lt w x) refl e
+      by false e rest = later (ties lt w y) rest
+
+  placed_rises : (acc xs : List X) → Rises lt acc → Rises lt (placed lt acc xs)
+  placed_rises acc [] up = up
+  placed_rises acc (x ∷ xs) up = placed_rises (put lt x acc) xs (put_rises x acc up)
+
+  placed_ties : (w : X) (acc xs : List X) → Rises lt acc → filter (ties lt w) (placed lt acc xs) ≡ filter (ties lt w) acc ++ filter (ties lt w) xs
+  placed_ties w acc [] up = sym (append-nil (filter (ties lt w) acc))
+  placed_ties w acc (x ∷ xs) up =
+      placed_ties w (put lt x acc) xs (put_rises x acc up) ∙ ap (λ ys. ys ++ filter (ties lt w) xs) (put_ties w x acc up)
+      ∙ append_assoc (filter (ties lt w) acc) (filter (ties lt w) (x ∷ [])) (filter (ties lt w) xs)
+      ∙ ap (λ ys. filter (ties lt w) acc ++ ys) (sym (filter-append (ties lt w) (x ∷ []) xs))
+
+  filter_first : (y : X) (ys : List X) → filter (ties lt y) (y ∷ ys) ≡ y ∷ filter (ties lt y) ys
+  filter_first y ys = rw (tied_itself y) refl
+
+  -- y stands among what z doesn't follow
+  not_below : (y z : X) (ys zs : List X) → All (λ u. lt u z ≡ false) zs → filter (ties lt y) (y ∷ ys) ≡ filter (ties lt y) (z ∷ zs) → lt y z ≡ false
+  not_below y z ys zs up same =
+      let all : All (λ u. lt u z ≡ false) (z ∷ zs) = All-cons (λ u. lt u z ≡ false) z zs (itself z) up in
+      let some = subst (All (λ u. lt u z ≡ false)) (sym same ∙ filter_first y ys) (All-filter (ties lt y) (λ u. lt u z ≡ false) (z ∷ zs) all) in
+      All-head (λ u. lt u z ≡ false) y (filter (ties lt y) ys) some
+
+  -- two lists in order that agree on what ties are one
+  one_order : (ys zs : List X) → Rises lt ys → Rises lt zs → ((w : X) → filter (ties lt w) ys ≡ filter (ties lt w) zs) → ys ≡ zs
+  one_order [] [] up vp same = refl
+  one_order [] (z ∷ zs) up vp same =
+      let no : [] ≡ z ∷ filter (ties lt z) zs = same z ∙ filter_first z zs in
+      cc
+  one_order (y ∷ ys) [] up vp same =
+      let no : [] ≡ y ∷ filter (ties lt y) ys = sym (same y) ∙ filter_first y ys in
+      cc
+  one_order (y ∷ ys) (z ∷ zs) up vp same =
+      let tie : ties lt y z ≡ true = rw (not_below y z ys zs vp.0 (same y), not_below z y zs ys up.0 (sym (same z))) refl in
+      let heads : y ∷ filter (ties lt y) ys ≡ z ∷ filter (ties lt y) zs = sym (filter_first y ys) ∙ same y ∙ rw tie refl in
+      let first = first_is y z _ _ heads in
+      let rest = one_order ys zs up.1 vp.1 (λ w. filter_rest (ties lt w y) y (filter (ties lt w) ys) (filter (ties lt w) zs) (same w ∙ ap (λ u. filter (ties lt w) (u ∷ zs)) (sym first))) in
+      ap (λ u. u ∷ ys) first ∙ ap (λ us. z ∷ us) rest
+
+  pub sorted_is : (zs ws : List X) → IsSortedBy lt ws → IsStableBy lt zs ws → ws ≡ placed lt [] zs
+  sorted_is zs ws up stable = one_order ws (placed lt [] zs) (rises ws up) (placed_rises [] zs tt) (λ w. stable w ∙ sym (placed_ties w [] zs tt))
