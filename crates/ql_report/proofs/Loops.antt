@@ -1,0 +1,14 @@
+-- One more text of a range of them.
+use Rattle.std.proofs.Common.{◌≡◌, ℕ, ◌+◌, List, ◌++◌, add-one, sym, ap, ◌∙◌, append_assoc}
+use Rattle.std.proofs.lemmas.List.{append-nil}
+use Rattle.ql_ground.specs.Ground.{upto}
+
+pub none_yet : (out : List ℕ) (f : ℕ → List ℕ) → out ≡ out ++ upto 0 f
+none_yet out f = sym (append-nil out)
+
+pub one_more : (out : List ℕ) (k : ℕ) (f : ℕ → List ℕ) → (out ++ upto k f) ++ f k ≡ out ++ upto (k + 1) f
+one_more out k f = append_assoc out (upto k f) (f k) ∙ ap (λ n. out ++ upto n f) (sym (add-one k))
+
+-- the pieces of the line of atoms
+pub line_pieces : (out a r c o e : List ℕ) → ((((out ++ a) ++ r) ++ c) ++ o) ++ e ≡ out ++ ((((a ++ r) ++ c) ++ o) ++ e)
+line_pieces out a r c o e = simp append_assoc

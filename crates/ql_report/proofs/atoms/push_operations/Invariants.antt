@@ -1,0 +1,8 @@
+use Rattle.std.proofs.Common.{◌≡◌, ◌++◌}
+use Rattle.ql_ground.specs.Ground.{upto}
+use Rattle.ql_report.specs.Atoms.{operation_text}
+use Rattle.ql_report.specs.Telling.{told_of}
+use Rattle.ql_report.proofs.atoms.push_operations.Given as goal
+
+abbrev pub invariant-loop-o : goal.invariant-loop-o
+invariant-loop-o l = l.out.items ≡ l.initial.out.items ++ upto l.o (operation_text (told_of l.told))

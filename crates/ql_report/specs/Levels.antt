@@ -1,0 +1,27 @@
+-- The lines that tell the levels of a program's operations and declared transactions.
+use Rattle.std.specs.Prelude.{ℕ, List, [], ◌++◌, length, slice_get, codes}
+use Rattle.std.specs.Option.{option_map_or}
+use Rattle.ql_ground.specs.Ground.{upto}
+use Rattle.ql_lang.specs.declared.program.Program.{Program}
+use Rattle.ql_levels.specs.Lists.{LevelLists}
+use Rattle.ql_levels.specs.Words.{word_of, txn_word_of}
+use Rattle.ql_typing.specs.Operations.{all_ops}
+
+-- the name of the operation and of the declared transaction of a number
+abbrev pub op_name : Program → ℕ → List ℕ
+op_name p o = option_map_or (λ op. op.name.word) (slice_get (all_ops p.types) o) []
+
+abbrev pub txn_name : Program → ℕ → List ℕ
+txn_name p d = option_map_or (λ txn. txn.name.word) (slice_get p.txns d) []
+
+-- op F LEVEL
+abbrev pub op_line : Program → LevelLists → ℕ → List ℕ
+op_line p levels o = codes "op " ++ op_name p o ++ codes " " ++ option_map_or word_of (slice_get levels.ops o) [] ++ codes "\n"
+
+-- txn F LEVEL
+abbrev pub txn_line : Program → LevelLists → ℕ → List ℕ
+txn_line p levels d = codes "txn " ++ txn_name p d ++ codes " " ++ option_map_or txn_word_of (slice_get levels.txns d) [] ++ codes "\n"
+
+-- each operation in order, and then each declared transaction
+abbrev pub levels_text : Program → LevelLists → List ℕ
+levels_text p levels = upto (length (all_ops p.types)) (op_line p levels) ++ upto (length p.txns) (txn_line p levels)

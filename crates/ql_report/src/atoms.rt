@@ -1,0 +1,176 @@
+// The true atoms of an assignment.
+ghost use Rattle.std.specs.Prelude.{◌≡◌, ◌<◌, ◌≤◌, ◌++◌, false, length, slice_get, unwrap_or, OnOk};
+ghost use Rattle.ql_atoms.specs.Atoms.{Fits, place_of, size_of};
+ghost use Rattle.ql_typing.specs.Operations.{all_ops};
+ghost use Rattle.ql_report.specs.Atoms.{atom_text, atoms_line, constant_word, currents_text, kind_word, operation_text, operations_text, relation_text, relations_text, row_text, told_atom};
+ghost use Rattle.ql_report.specs.Telling.{told_of};
+
+use crate::levels::op_name;
+use ql_atoms::{Atom, PairKind, Shape, number};
+use ql_base::{NoMemory, OpId, push_bytes};
+use ql_lang::Var;
+use ql_typing::Typed;
+
+/// The ground problem of a contract, with an assignment of its atoms.
+#[derive(Drop)]
+pub(crate) struct Telling<'a> {
+    pub(crate) typed: &'a Typed,
+    pub(crate) vars: &'a [Var],
+    pub(crate) shape: Shape,
+    pub(crate) values: &'a [bool],
+}
+
+/// Appends the line of the true atoms.
+pub(crate) fn push_atoms(out: &mut Vec<u8>, told: &Telling) -> Result<(), NoMemory>
+    requires { told.now.shape.operations ≡ length (all_ops told.now.typed.now.program.types) }
+    ensures { OnOk result (out.new.items ≡ out.old.items ++ atoms_line (told_of told.now)) }
+{
+    push_bytes(out, b"atoms")?;
+    push_relations(out, told)?;
+    push_currents(out, told)?;
+    push_operations(out, told)?;
+    push_bytes(out, b"\n")
+}
+
+#[tactic(auto, unfolding(crate::specs::Atoms::relations_text))]
+fn push_relations(out: &mut Vec<u8>, told: &Telling) -> Result<(), NoMemory>
+    requires { told.now.shape.operations ≡ length (all_ops told.now.typed.now.program.types) }
+    ensures { OnOk result (out.new.items ≡ out.old.items ++ relations_text (told_of told.now)) }
+{
+    push_relation(out, told, PairKind::Eq)?;
+    push_relation(out, told, PairKind::So)?;
+    push_relation(out, told, PairKind::SameObj)?;
+    push_relation(out, told, PairKind::Vis)?;
+    push_relation(out, told, PairKind::Hbo)?;
+    push_relation(out, told, PairKind::Hb)?;
+    push_relation(out, told, PairKind::SameTxn)
+}
+
+fn push_relation(out: &mut Vec<u8>, told: &Telling, kind: PairKind) -> Result<(), NoMemory>
+    requires { told.now.shape.operations ≡ length (all_ops told.now.typed.now.program.types) }
+    ensures { OnOk result (out.new.items ≡ out.old.items ++ relation_text (told_of told.now) kind) }
+{
+    for i in 0..told.shape.constants {
+        push_row(out, told, kind, i)?;
+    }
+    Ok(())
+}
+
+fn push_row(out: &mut Vec<u8>, told: &Telling, kind: PairKind, i: u32) -> Result<(), NoMemory>
+    requires operations { told.now.shape.operations ≡ length (all_ops told.now.typed.now.program.types) }
+    requires row { i < told.now.shape.constants }
+    ensures { OnOk result (out.new.items ≡ out.old.items ++ row_text (told_of told.now) kind i) }
+{
+    for j in 0..told.shape.constants {
+        push_if_true(out, told, Atom::Pair(kind, i, j))?;
+    }
+    Ok(())
+}
+
+#[tactic(auto, unfolding(crate::specs::Atoms::currents_text))]
+fn push_currents(out: &mut Vec<u8>, told: &Telling) -> Result<(), NoMemory>
+    requires { told.now.shape.operations ≡ length (all_ops told.now.typed.now.program.types) }
+    ensures { OnOk result (out.new.items ≡ out.old.items ++ currents_text (told_of told.now)) }
+{
+    for i in 0..told.shape.constants {
+        push_if_true(out, told, Atom::Current(i))?;
+    }
+    Ok(())
+}
+
+#[tactic(auto, unfolding(crate::specs::Atoms::operations_text))]
+fn push_operations(out: &mut Vec<u8>, told: &Telling) -> Result<(), NoMemory>
+    requires { told.now.shape.operations ≡ length (all_ops told.now.typed.now.program.types) }
+    ensures { OnOk result (out.new.items ≡ out.old.items ++ operations_text (told_of told.now)) }
+{
+    for o in 0..told.shape.operations {
+        push_operation(out, told, OpId(o))?;
+    }
+    Ok(())
+}
+
+fn push_operation(out: &mut Vec<u8>, told: &Telling, o: OpId) -> Result<(), NoMemory>
+    requires operations { told.now.shape.operations ≡ length (all_ops told.now.typed.now.program.types) }
+    requires op { o.0 < told.now.shape.operations }
+    ensures { OnOk result (out.new.items ≡ out.old.items ++ operation_text (told_of told.now) o.0) }
+{
+    for i in 0..told.shape.constants {
+        push_if_true(out, told, Atom::Is(o, i))?;
+    }
+    Ok(())
+}
+
+// Appends an atom after a space, where it is true.
+fn push_if_true(out: &mut Vec<u8>, told: &Telling, atom: Atom) -> Result<(), NoMemory>
+    requires operations { told.now.shape.operations ≡ length (all_ops told.now.typed.now.program.types) }
+    requires atom { Fits (size_of told.now.shape) atom }
+    ensures { OnOk result (out.new.items ≡ out.old.items ++ told_atom (told_of told.now) atom) }
+{
+    if !is_true(told.values, atom, told.shape) {
+        return Ok(());
+    }
+    push_bytes(out, b" ")?;
+    push_atom(out, told, atom)
+}
+
+// Whether an atom is true; one that has no value isn't.
+fn is_true(values: &[bool], atom: Atom, shape: Shape) -> bool
+    requires { Fits (size_of shape) atom }
+    ensures { result ≡ unwrap_or (slice_get values.now (place_of (size_of shape) atom)) false }
+{
+    match values.get(number(atom, shape) as usize - 1) {
+        Some(value) => *value,
+        None => false,
+    }
+}
+
+fn push_atom(out: &mut Vec<u8>, told: &Telling, atom: Atom) -> Result<(), NoMemory>
+    requires operations { told.now.shape.operations ≡ length (all_ops told.now.typed.now.program.types) }
+    requires atom { Fits (size_of told.now.shape) atom }
+    ensures { OnOk result (out.new.items ≡ out.old.items ++ atom_text told.now.typed.now.program told.now.vars.now atom) }
+{
+    match atom {
+        Atom::Pair(kind, i, j) => {
+            push_bytes(out, relation_word(kind))?;
+            push_bytes(out, b"(")?;
+            push_bytes(out, constant_word(told.vars, i))?;
+            push_bytes(out, b",")?;
+            push_bytes(out, constant_word(told.vars, j))?;
+        }
+        Atom::Current(i) => {
+            push_bytes(out, b"current(")?;
+            push_bytes(out, constant_word(told.vars, i))?;
+        }
+        Atom::Is(o, i) => {
+            push_bytes(out, b"is(")?;
+            push_bytes(out, op_name(told.typed, o))?;
+            push_bytes(out, b",")?;
+            push_bytes(out, constant_word(told.vars, i))?;
+        }
+    }
+    push_bytes(out, b")")
+}
+
+fn relation_word(kind: PairKind) -> &'static [u8]
+    ensures { result.now ≡ kind_word kind }
+{
+    match kind {
+        PairKind::Eq => b"eq",
+        PairKind::So => b"so",
+        PairKind::SameObj => b"sameobj",
+        PairKind::Vis => b"vis",
+        PairKind::Hbo => b"hbo",
+        PairKind::Hb => b"hb",
+        PairKind::SameTxn => b"sametxn",
+    }
+}
+
+// The name of a constant.
+fn constant_word(vars: &[Var], i: u32) -> &[u8]
+    ensures { result.now ≡ constant_word vars.now i }
+{
+    match vars.get(i as usize) {
+        Some(var) => var.name.word.bytes(),
+        None => b"cur",
+    }
+}
