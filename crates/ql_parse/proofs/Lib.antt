@@ -1,13 +1,6 @@
 pub mod ReaderLemmas
 pub mod RelationRules
 pub mod Spans
-pub mod Pieces
-pub mod PiecesRead
-pub mod PiecesStand
-pub mod PiecesText
 pub mod OneReading
-pub mod Printing
-pub mod ReadFits
-pub mod ReadNodes
 pub mod Answering
 pub mod ArgumentLemmas

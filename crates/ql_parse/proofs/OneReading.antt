@@ -1,7 +1,5 @@
 -- A text is one contract, or one source, or has one first fault.
 use Rattle.std.proofs.Common.{◌≡◌, ℕ, List, [], ◌∷◌, Result, Ok, Err, ◌⊎◌, inl, inr, refl, sym, ap, ◌∙◌, subst, length}
-use Rattle.ql_lang.specs.Trees.{Sentence, sentence_of}
-use Rattle.ql_lang.specs.declared.contract.Contract.{Contract}
 use Rattle.ql_lex.specs.Tokens.{Lexes}
 use Rattle.ql_lex.specs.declared.token.LexFault.{LexFault}
 use Rattle.ql_lex.specs.declared.token.Token.{Token}
@@ -14,10 +12,7 @@ use Rattle.ql_grammar.specs.Machine.{run}
 use Rattle.ql_grammar.proofs.Told.{Told, run_told}
 use Rattle.ql_grammar.proofs.Laws.{IsWhole, start, fault_found}
 use Rattle.ql_parse.specs.Readers.{lexemes_of}
-use Rattle.ql_parse.specs.Parsing.{IsContractAnswer, IsContractFault, IsContractText, IsFaultAs, IsTextAs}
-use Rattle.ql_parse.specs.Printed.{unplaced, IsReadAs}
-use Rattle.ql_parse.specs.declared.fault.ParseFault.{ParseFault}
-use Rattle.ql_parse.specs.declared.fault.ParseFault.TheVariants.{Lex, Unexpected, Deep, Wide, NoMemory}
+use Rattle.ql_parse.specs.Parsing.{IsFaultAs, IsTextAs}
 
 abbrev pub Answer : Type 0
 Answer = Result (List Token) LexFault
@@ -53,15 +48,6 @@ module _ {A : Type 0} {Reads : List Marked → List Marked → A → Type 0} (on
 
   pub no_lexical_fault : (bytes : List ℕ) (f : limits.Fault) (e : LexFault) → IsFaultAs Reads bytes f → Lexes 0 bytes (Err e) → ⊥
   no_lexical_fault bytes f e p q = ok_or_err p.tokens e (one bytes (Ok p.tokens) (Err e) p.lexes q)
-
--- an answer for bytes that are a contract is this contract, or want of memory
-pub read_as : (bytes : List ℕ) (s t : Sentence) → unplaced t ≡ unplaced s → ((u : Sentence) → IsContractText bytes u → u ≡ t) → ((f : limits.Fault) → IsContractFault bytes f → ⊥) → ((e : LexFault) → Lexes 0 bytes (Err e) → ⊥) → (r : Result Contract ParseFault) → IsContractAnswer bytes r → IsReadAs s r
-read_as bytes s t same only no_fault no_lex (Ok c) answer = ap unplaced (only (sentence_of c) answer) ∙ same
-read_as bytes s t same only no_fault no_lex (Err (Lex e)) answer = absurd (no_lex e answer)
-read_as bytes s t same only no_fault no_lex (Err (Unexpected at)) answer = absurd (no_fault (limits.Unexpected at) answer)
-read_as bytes s t same only no_fault no_lex (Err (Deep at)) answer = absurd (no_fault (limits.Deep at) answer)
-read_as bytes s t same only no_fault no_lex (Err (Wide at)) answer = absurd (no_fault (limits.Wide at) answer)
-read_as bytes s t same only no_fault no_lex (Err NoMemory) answer = refl
 
 -- each list of tokens is a text of the grammar or has a first fault
 module _ {A : Type 0} {p : Part} {value : A → Value} {Reads : List Marked → List Marked → A → Type 0} (w : IsWhole p value Reads) where

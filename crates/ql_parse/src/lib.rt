@@ -3,21 +3,15 @@
 #![tactic(auto)]
 
 mod again;
-#[cfg(test)]
-mod again_tests;
 mod contract;
 mod declaration;
 mod expression;
 mod fault;
 mod kind;
 mod parse;
-#[cfg(test)]
-mod program_tests;
 mod reader;
 mod relation;
-#[cfg(test)]
-mod tests;
 
-pub use again::{one_answer, one_program_answer, printed_again};
+pub use again::{one_answer, one_program_answer};
 pub use fault::ParseFault;
 pub use parse::{parse_contract, parse_program};

@@ -1,7 +1,6 @@
 -- The pieces of a contract spell its text, and make its nodes.
 use Rattle.std.proofs.Common.{◌≡◌, ℕ, ◌+◌, Bool, true, false, List, [], ◌∷◌, ◌++◌, map, length, codes, refl, sym, ap, ◌∙◌, arith, append_assoc}
 use Rattle.std.specs.List.{concat}
-use Rattle.std.proofs.lemmas.List.{append-nil}
 use Rattle.ql_lex.specs.declared.token.TokenKind.TheVariants.{Mark}
 use Rattle.ql_lang.specs.declared.name.Name.{Name}
 use Rattle.ql_lang.specs.declared.relation.RelName.TheVariants.{Vis, So, Soo, SameObj, Eq, Hb, Hbo}
@@ -13,25 +12,25 @@ use Rattle.ql_lang.specs.Spelling.{listed, is_joined, in_brackets, term_text, te
 use Rattle.ql_grammar.specs.declared.terminal.Terminal.TheVariants.{AndMark, OrMark, Arrow, Bar, Ampersand, CloseBracket, CloseParen, Dot, Equals, CloseBrace, OpenBrace}
 use Rattle.ql_grammar.specs.declared.role.Role.{Role}
 use Rattle.ql_grammar.specs.declared.role.Role.TheVariants.{Plain, Makes, Opens, Closes}
-use Rattle.ql_parse.specs.Printed.{relation_nodes, prop_nodes}
-use Rattle.ql_parse.proofs.Pieces.{Piece, Blank, Said, text_of, nodes_of, made_by}
-use Rattle.ql_parse.proofs.PiecesRead.{term_pieces, between, comma, relation_pieces, argument_pieces, application_pieces, items_behind, items_pieces, terms_pieces, txn_pieces, in_parens, prop_pieces, operand_pieces, name_pieces, operation_pieces, var_pieces, quantifier_pieces, contract_pieces}
+use Rattle.ql_printed.specs.Printed.{relation_nodes, prop_nodes}
+use Rattle.ql_printed.proofs.Pieces.{Piece, Blank, Said, text_of, nodes_of, made_by}
+use Rattle.ql_printed.proofs.PiecesRead.{term_pieces, between, comma, relation_pieces, argument_pieces, application_pieces, items_behind, items_pieces, terms_pieces, txn_pieces, in_parens, prop_pieces, operand_pieces, name_pieces, operation_pieces, var_pieces, quantifier_pieces, contract_pieces}
 
 -- texts that stand one behind another
 
-two : (a b x : List ℕ) → a ++ (b ++ x) ≡ (a ++ b) ++ x
+pub two : (a b x : List ℕ) → a ++ (b ++ x) ≡ (a ++ b) ++ x
 two a b x = sym (append_assoc a b x)
 
-three : (a b c x : List ℕ) → a ++ (b ++ (c ++ x)) ≡ ((a ++ b) ++ c) ++ x
+pub three : (a b c x : List ℕ) → a ++ (b ++ (c ++ x)) ≡ ((a ++ b) ++ c) ++ x
 three a b c x = two a b (c ++ x) ∙ two (a ++ b) c x
 
-four : (a b c d x : List ℕ) → a ++ (b ++ (c ++ (d ++ x))) ≡ (((a ++ b) ++ c) ++ d) ++ x
+pub four : (a b c d x : List ℕ) → a ++ (b ++ (c ++ (d ++ x))) ≡ (((a ++ b) ++ c) ++ d) ++ x
 four a b c d x = two a b (c ++ (d ++ x)) ∙ three (a ++ b) c d x
 
-five : (a b c d e x : List ℕ) → a ++ (b ++ (c ++ (d ++ (e ++ x)))) ≡ ((((a ++ b) ++ c) ++ d) ++ e) ++ x
+pub five : (a b c d e x : List ℕ) → a ++ (b ++ (c ++ (d ++ (e ++ x)))) ≡ ((((a ++ b) ++ c) ++ d) ++ e) ++ x
 five a b c d e x = two a b (c ++ (d ++ (e ++ x))) ∙ four (a ++ b) c d e x
 
-six : (a b c d e f x : List ℕ) → a ++ (b ++ (c ++ (d ++ (e ++ (f ++ x))))) ≡ (((((a ++ b) ++ c) ++ d) ++ e) ++ f) ++ x
+pub six : (a b c d e f x : List ℕ) → a ++ (b ++ (c ++ (d ++ (e ++ (f ++ x))))) ≡ (((((a ++ b) ++ c) ++ d) ++ e) ++ f) ++ x
 six a b c d e f x = two a b (c ++ (d ++ (e ++ (f ++ x)))) ∙ five (a ++ b) c d e f x
 
 -- the text
@@ -85,7 +84,7 @@ module _ (T : Type 0) (pieces : T → List Piece → List Piece) (mark : List Pi
       ∙ two between_text (text t) (concat (map (λ u. between_text ++ u) (map text ts)) ++ text_of below)
       ∙ two (between_text ++ text t) (concat (map (λ u. between_text ++ u) (map text ts))) (text_of below)
 
-  items_spell : (ts : List T) (below : List Piece) → text_of (items_pieces mark pieces ts below) ≡ listed between_text (map text ts) ++ text_of below
+  pub items_spell : (ts : List T) (below : List Piece) → text_of (items_pieces mark pieces ts below) ≡ listed between_text (map text ts) ++ text_of below
   items_spell [] below = refl
   items_spell (t ∷ ts) below =
       item_spells t (items_behind mark pieces ts below) ∙ ap (λ u. text t ++ u) (behind_spells ts below)
@@ -100,7 +99,7 @@ txn_spells ps qs below =
     ∙ ap (λ t. codes "txn{" ++ (terms_text ps ++ (codes "}{" ++ t))) (terms_spell qs (Said Mark CloseBrace Plain (codes "}") ∷ below))
     ∙ five (codes "txn{") (terms_text ps) (codes "}{") (terms_text qs) (codes "}") (text_of below)
 
-in_parens_spells : (b : Bool) (pieces : List Piece → List Piece) (text : List ℕ) → ((below : List Piece) → text_of (pieces below) ≡ text ++ text_of below) → (below : List Piece) → text_of (in_parens b pieces below) ≡ in_brackets b text ++ text_of below
+pub in_parens_spells : (b : Bool) (pieces : List Piece → List Piece) (text : List ℕ) → ((below : List Piece) → text_of (pieces below) ≡ text ++ text_of below) → (below : List Piece) → text_of (in_parens b pieces below) ≡ in_brackets b text ++ text_of below
 in_parens_spells true pieces text inside below = ap (λ t. codes "(" ++ t) (inside (Said Mark CloseParen Closes (codes ")") ∷ below)) ∙ three (codes "(") text (codes ")") (text_of below)
 in_parens_spells false pieces text inside below = inside below
 
@@ -136,9 +135,9 @@ quantifier_spells (v ∷ vs) below =
     ap (λ t. codes "forall " ++ t) (items_spell Var var_pieces comma var_text (codes ", ") (λ us. refl) var_spells (v ∷ vs) (Said Mark Dot Plain (codes ".") ∷ Blank ∷ below))
     ∙ three (codes "forall ") (listed (codes ", ") (map var_text (v ∷ vs))) (codes ". ") (text_of below)
 
-pub contract_spells : (s : Sentence) → text_of (contract_pieces s []) ≡ contract_text s
-contract_spells s =
-    quantifier_spells s.vars (prop_pieces s.body []) ∙ ap (λ t. vars_text s.vars ++ t) (prop_spells s.body [] ∙ append-nil (prop_text s.body))
+pub contract_spells : (s : Sentence) (below : List Piece) → text_of (contract_pieces s below) ≡ contract_text s ++ text_of below
+contract_spells s below =
+    quantifier_spells s.vars (prop_pieces s.body below) ∙ ap (λ t. vars_text s.vars ++ t) (prop_spells s.body below) ∙ two (vars_text s.vars) (prop_text s.body) (text_of below)
 
 -- the nodes
 
@@ -193,7 +192,7 @@ txn_nodes ps qs below =
     let last = Said Mark CloseBrace Plain (codes "}") ∷ below in
     omega (arith, terms_nodes ps (Said Mark CloseBrace Plain (codes "}") ∷ Said Mark OpenBrace Plain (codes "{") ∷ terms_pieces qs last), terms_nodes qs last)
 
-in_parens_nodes : (b : Bool) (pieces : List Piece → List Piece) (n : ℕ) → ((below : List Piece) → nodes_of (pieces below) ≡ n + nodes_of below) → (below : List Piece) → nodes_of (in_parens b pieces below) ≡ n + nodes_of below
+pub in_parens_nodes : (b : Bool) (pieces : List Piece → List Piece) (n : ℕ) → ((below : List Piece) → nodes_of (pieces below) ≡ n + nodes_of below) → (below : List Piece) → nodes_of (in_parens b pieces below) ≡ n + nodes_of below
 in_parens_nodes true pieces n inside below = omega (arith, inside (Said Mark CloseParen Closes (codes ")") ∷ below))
 in_parens_nodes false pieces n inside below = inside below
 
@@ -225,7 +224,7 @@ module _ (T : Type 0) (pieces : T → List Piece → List Piece) (mark : List Pi
   items_no_nodes [] below = refl
   items_no_nodes (t ∷ ts) below = item_nodes t (items_behind mark pieces ts below) ∙ behind_no_nodes ts below
 
-no_more : {a b : ℕ} → a ≡ b → 0 + a ≡ b
+pub no_more : {a b : ℕ} → a ≡ b → 0 + a ≡ b
 no_more e = omega (arith, e)
 
 operations_no_nodes : (ops : List Name) (below : List Piece) → nodes_of (operation_pieces ops below) ≡ nodes_of below

@@ -13,8 +13,8 @@ use Rattle.ql_grammar.specs.Limits.{Counts, Fault, Wide, Deep, counted, counted_
 use Rattle.ql_grammar.specs.Tokens.{Marked, marked}
 use Rattle.ql_grammar.specs.ContractGrammar.{ReadsTerm, current, variable, ReadsTerms, one, more, ReadsRelation, RelationPart, Applied, applied_named, applied_bracket, named, bracket, single, both, product, either, ReadsProp, PropPart, truth, group, equal, applied, txn, atom, and, or, implies, ReadsNames, ReadsVar, free, over, ReadsVars, ReadsContract, plain, forall}
 use Rattle.ql_parse.specs.Parsing.{IsContractText}
-use Rattle.ql_parse.specs.Printed.{relation_nodes, prop_nodes}
-use Rattle.ql_parse.proofs.Pieces.{made_by}
+use Rattle.ql_printed.specs.Printed.{relation_nodes, prop_nodes}
+use Rattle.ql_printed.proofs.Pieces.{made_by}
 
 -- counted so far: with `more` nodes behind, the tokens that are left are within the limits too
 record Left (c : Counts) (most : ℕ) (rest : List Marked) (end : Counts) : Type 0 where

@@ -3,13 +3,13 @@ use Rattle.ql_lang.specs.Spelling.{contract_text}
 use Rattle.ql_lang.specs.Trees.{Sentence}
 use Rattle.ql_lang.specs.declared.contract.Contract.{Contract}
 use Rattle.ql_parse.specs.Parsing.{IsContractAnswer}
-use Rattle.ql_parse.specs.Printed.{Fits, IsReadable, IsReadAs}
+use Rattle.ql_printed.specs.Printed.{Fits, IsReadable, IsReadAs}
 use Rattle.ql_parse.specs.declared.fault.ParseFault.{ParseFault}
-use Rattle.ql_parse.proofs.OneReading.{read_as}
-use Rattle.ql_parse.proofs.Printing.{printed_grammar, printed_text}
-use Rattle.ql_parse.proofs.ReadFits.{read_fits}
-use Rattle.ql_parse.proofs.ReadNodes.{read_few}
-use Rattle.ql_parse.proofs.again.printed_again.Goals as goal
+use Rattle.ql_printed.proofs.ReadAs.{read_as}
+use Rattle.ql_printed.proofs.Printing.{printed_grammar, printed_text}
+use Rattle.ql_printed.proofs.ReadFits.{read_fits}
+use Rattle.ql_printed.proofs.ReadNodes.{read_few}
+use Rattle.ql_printed.proofs.again.printed_again.Goals as goal
 
 answered : goal.After-one_answer → (s : Sentence) (r : Result Contract ParseFault) → Fits s → IsReadable s → IsContractAnswer (contract_text s) r → IsReadAs s r
 answered c s r fits readable answer =

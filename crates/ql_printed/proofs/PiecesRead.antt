@@ -1,5 +1,6 @@
 -- What the pieces of a contract read as: the contract, with other places.
 use Rattle.std.proofs.Common.{◌≡◌, ℕ, ◌+◌, ◌<◌, arith, Bool, true, false, List, [], ◌∷◌, ◌++◌, map, length, codes, refl, sym, ap, ◌∙◌, subst, append_assoc}
+use Rattle.std.specs.List.{AllByRecursion}
 use Rattle.std.proofs.lemmas.List.{append-nil}
 use Rattle.ql_lex.specs.declared.token.TokenKind.TheVariants.{Name as NameKind, Mark, Keyword}
 use Rattle.ql_lang.specs.declared.name.Name.{Name}
@@ -17,8 +18,8 @@ use Rattle.ql_grammar.specs.declared.role.Role.TheVariants.{Plain, Makes, Opens,
 use Rattle.ql_grammar.specs.Tokens.{Marked, marked}
 use Rattle.ql_grammar.specs.ContractGrammar
 use Rattle.ql_grammar.specs.ContractGrammar.{IsRelationWord, ReadsTerm, ReadsTerms, ReadsRelation, RelationPart, Applied, Single, Product, Sum, ReadsProp, PropPart, Atom, Both, Either, Whole, ReadsNames, ReadsVar, ReadsVars, ReadsContract}
-use Rattle.ql_parse.specs.Printed.{unplaced_name, unplaced_term, unplaced_relation, unplaced_prop, unplaced_var, unplaced, PropFits, Fits}
-use Rattle.ql_parse.proofs.Pieces.{Piece, Blank, Said, marks_of}
+use Rattle.ql_printed.specs.Printed.{unplaced_name, unplaced_term, unplaced_relation, unplaced_prop, unplaced_var, unplaced, PropFits, Fits}
+use Rattle.ql_printed.proofs.Pieces.{Piece, Blank, Said, marks_of}
 
 -- The pieces, each function with what follows.
 
@@ -121,7 +122,7 @@ contract_pieces s below = quantifier_pieces s.vars (prop_pieces s.body below)
 
 -- What they read as.
 
-same_parts : {A B C : Type 0} (f : A → B → C) {a c : A} {b d : B} → a ≡ c → b ≡ d → f a b ≡ f c d
+pub same_parts : {A B C : Type 0} (f : A → B → C) {a c : A} {b d : B} → a ≡ c → b ≡ d → f a b ≡ f c d
 same_parts f {a} {c} {b} {d} e g = ap (λ x. f x b) e ∙ ap (f c) g
 
 -- the tokens at a place begin with this tree, places aside, and those of what follows come behind it
@@ -227,15 +228,15 @@ pub record Listed (T : Type 0) (Items : List Marked → List Marked → List T �
   pub reads : Items ts (marks_of next below) (done ++ trees)
   pub same : map bare trees ≡ map bare wanted
 
-module _ (T : Type 0) (Item : List Marked → List Marked → T → Type 0) (Items : List Marked → List Marked → List T → Type 0) (bare : T → T) (pieces : T → List Piece → List Piece) (mark : List Piece → List Piece) (step : ℕ → ℕ)
-    (item : (t : T) (at : ℕ) (below : List Piece) → Reads T Item bare at (pieces t below) below t)
+module _ (T : Type 0) (ItemFits : T → Type 0) (Item : List Marked → List Marked → T → Type 0) (Items : List Marked → List Marked → List T → Type 0) (bare : T → T) (pieces : T → List Piece → List Piece) (mark : List Piece → List Piece) (step : ℕ → ℕ)
+    (item : (t : T) → ItemFits t → (at : ℕ) (below : List Piece) → Reads T Item bare at (pieces t below) below t)
     (one : (ts rest : List Marked) (t : T) → Item ts rest t → Items ts rest (t ∷ []))
     (more : (ts : List Marked) (at : ℕ) (us : List Piece) (rest : List Marked) (done : List T) (t : T) → Items ts (marks_of at (mark us)) done → Item (marks_of (step at) us) rest t → Items ts rest (done ++ t ∷ [])) where
-  behind : (ts : List Marked) (done wanted : List T) (at : ℕ) (below : List Piece) → Items ts (marks_of at (items_behind mark pieces wanted below)) done → Listed T Items bare ts below done wanted
-  behind ts done [] at below so_far = record { next = at; trees = []; reads = subst (Items ts (marks_of at below)) (sym (append-nil done)) so_far; same = refl }
-  behind ts done (t ∷ wanted) at below so_far =
-      let first = item t (step at) (items_behind mark pieces wanted below) in
-      let others = behind ts (done ++ first.tree ∷ []) wanted first.next below (more ts at (pieces t (items_behind mark pieces wanted below)) (marks_of first.next (items_behind mark pieces wanted below)) done first.tree so_far first.reads) in
+  pub items_behind_read : (ts : List Marked) (done wanted : List T) → AllByRecursion ItemFits wanted → (at : ℕ) (below : List Piece) → Items ts (marks_of at (items_behind mark pieces wanted below)) done → Listed T Items bare ts below done wanted
+  items_behind_read ts done [] fits at below so_far = record { next = at; trees = []; reads = subst (Items ts (marks_of at below)) (sym (append-nil done)) so_far; same = refl }
+  items_behind_read ts done (t ∷ wanted) fits at below so_far =
+      let first = item t fits.0 (step at) (items_behind mark pieces wanted below) in
+      let others = items_behind_read ts (done ++ first.tree ∷ []) wanted fits.1 first.next below (more ts at (pieces t (items_behind mark pieces wanted below)) (marks_of first.next (items_behind mark pieces wanted below)) done first.tree so_far first.reads) in
       record {
         next = others.next;
         trees = first.tree ∷ others.trees;
@@ -243,24 +244,29 @@ module _ (T : Type 0) (Item : List Marked → List Marked → T → Type 0) (Ite
         same = same_parts (λ (a : T) b. a ∷ b) first.same others.same;
       }
 
-  pub items_read : (t : T) (wanted : List T) (at : ℕ) (below : List Piece) → Reads (List T) Items (map bare) at (items_pieces mark pieces (t ∷ wanted) below) below (t ∷ wanted)
-  items_read t wanted at below =
-      let first = item t at (items_behind mark pieces wanted below) in
+  pub items_read : (t : T) (wanted : List T) → ItemFits t → AllByRecursion ItemFits wanted → (at : ℕ) (below : List Piece) → Reads (List T) Items (map bare) at (items_pieces mark pieces (t ∷ wanted) below) below (t ∷ wanted)
+  items_read t wanted fits all at below =
+      let first = item t fits at (items_behind mark pieces wanted below) in
       let ts = marks_of at (items_pieces mark pieces (t ∷ wanted) below) in
-      let others = behind ts (first.tree ∷ []) wanted first.next below (one ts (marks_of first.next (items_behind mark pieces wanted below)) first.tree first.reads) in
+      let others = items_behind_read ts (first.tree ∷ []) wanted all first.next below (one ts (marks_of first.next (items_behind mark pieces wanted below)) first.tree first.reads) in
       record { next = others.next; tree = first.tree ∷ others.trees; reads = others.reads; same = same_parts (λ (a : T) b. a ∷ b) first.same others.same }
+
+-- where nothing is asked of an item
+pub every : {T : Type 0} (ts : List T) → AllByRecursion (λ (t : T). Unit {0}) ts
+every [] = tt
+every (t ∷ ts) = (tt, every ts)
 
 terms_read : (p : Point) (ps : List Point) (at : ℕ) (below : List Piece) → Reads (List Point) ReadsTerms (map unplaced_term) at (terms_pieces (p ∷ ps) below) below (p ∷ ps)
 terms_read p ps at below =
-    items_read Point (ReadsTerm (Makes 1)) ReadsTerms unplaced_term (term_pieces (Makes 1)) comma (λ at. at + 1 + 1) (term_reads (Makes 1))
-    (λ ts rest t reads. ReadsTerms.one reads) (λ ts at us rest done t so_far reads. ReadsTerms.more so_far reads) p ps at below
+    items_read Point (λ p. Unit {0}) (ReadsTerm (Makes 1)) ReadsTerms unplaced_term (term_pieces (Makes 1)) comma (λ at. at + 1 + 1) (λ p fits. term_reads (Makes 1) p)
+    (λ ts rest t reads. ReadsTerms.one reads) (λ ts at us rest done t so_far reads. ReadsTerms.more so_far reads) p ps tt (every ps) at below
 
 names_read : (n : Name) (ns : List Name) (at : ℕ) (below : List Piece) → Reads (List Name) (ReadsNames Bar) (map unplaced_name) at (items_pieces (between Bar Plain (codes "|")) name_pieces (n ∷ ns) below) below (n ∷ ns)
 names_read n ns at below =
-    items_read Name (λ ts rest name. ts ≡ marked Plain NameToken name.word name.at ∷ rest) (ReadsNames Bar) unplaced_name name_pieces (between Bar Plain (codes "|")) (λ at. at + 1 + 1 + 1)
-    (λ name at below. record { next = at + length name.word; tree = record { word = name.word; at = at }; reads = refl; same = refl })
+    items_read Name (λ name. Unit {0}) (λ ts rest name. ts ≡ marked Plain NameToken name.word name.at ∷ rest) (ReadsNames Bar) unplaced_name name_pieces (between Bar Plain (codes "|")) (λ at. at + 1 + 1 + 1)
+    (λ name fits at below. record { next = at + length name.word; tree = record { word = name.word; at = at }; reads = refl; same = refl })
     (λ ts rest name is. subst (λ us. ReadsNames Bar us rest (name ∷ [])) (sym is) ReadsNames.one)
-    (λ ts at us rest done name so_far is. ReadsNames.more (subst (λ ms. ReadsNames Bar ts (marked Plain Bar (codes "|") (at + 1) ∷ ms) done) is so_far)) n ns at below
+    (λ ts at us rest done name so_far is. ReadsNames.more (subst (λ ms. ReadsNames Bar ts (marked Plain Bar (codes "|") (at + 1) ∷ ms) done) is so_far)) n ns tt (every ns) at below
 
 named_var : (name : Name) (ops : List Name) (at : ℕ) (below : List Piece) → Reads Var ReadsVar unplaced_var at (name_pieces name (operation_pieces ops below)) below (record { name = name; ops = ops })
 named_var name [] at below = record { next = at + length name.word; tree = record { name = record { word = name.word; at = at }; ops = [] }; reads = ContractGrammar.free; same = refl }
@@ -275,8 +281,8 @@ named_var name (op ∷ ops) at below =
 
 vars_read : (v : Var) (vs : List Var) (at : ℕ) (below : List Piece) → Reads (List Var) ReadsVars (map unplaced_var) at (items_pieces comma var_pieces (v ∷ vs) below) below (v ∷ vs)
 vars_read v vs at below =
-    items_read Var ReadsVar ReadsVars unplaced_var var_pieces comma (λ at. at + 1 + 1) (λ v at below. named_var v.name v.ops at below)
-    (λ ts rest t reads. ReadsVars.one reads) (λ ts at us rest done t so_far reads. ReadsVars.more so_far reads) v vs at below
+    items_read Var (λ v. Unit {0}) ReadsVar ReadsVars unplaced_var var_pieces comma (λ at. at + 1 + 1) (λ v fits at below. named_var v.name v.ops at below)
+    (λ ts rest t reads. ReadsVars.one reads) (λ ts at us rest done t so_far reads. ReadsVars.more so_far reads) v vs tt (every vs) at below
 
 txn_reads : (n : ℕ) (ps qs : List Point) (at : ℕ) (below : List Piece) → 0 < length ps → 0 < length qs → Reads Proposition (ReadsProp Atom) unplaced_prop at (txn_pieces ps qs below) below (InTxn n ps qs)
 txn_reads n [] qs at below some more = absurd (omega arith)
@@ -373,5 +379,5 @@ sentence_reads (v ∷ vs) p fits at below =
     }
 
 -- the pieces of a contract read as it, places aside
-pub contract_reads : (s : Sentence) → Fits s → (at : ℕ) → Reads Sentence ReadsContract unplaced at (contract_pieces s []) [] s
-contract_reads s fits at = sentence_reads s.vars s.body fits.1 at []
+pub contract_reads : (s : Sentence) → Fits s → (at : ℕ) (below : List Piece) → Reads Sentence ReadsContract unplaced at (contract_pieces s below) below s
+contract_reads s fits at below = sentence_reads s.vars s.body fits.1 at below

@@ -1,4 +1,4 @@
-use Rattle.std.specs.Prelude.{◌≡◌, ℕ, ◌+◌, ◌-◌, ◌≤◌, ◌<◌, ◌||◌, ◌==◌, List, [], ◌∷◌, map, length, if◌then◌else◌, Result, Ok, Err}
+use Rattle.std.specs.Prelude.{◌≡◌, ℕ, ◌+◌, ◌-◌, ◌≤◌, ◌<◌, ◌||◌, ◌==◌, Bool, true, false, not, List, [], ◌∷◌, map, length, if◌then◌else◌, Result, Ok, Err}
 use Rattle.std.specs.List.{AllByRecursion}
 use Rattle.ql_base.specs.Names.{IsName}
 use Rattle.ql_base.specs.declared.limits.TheConstants.{MAX_BRACKETS, MAX_NODES}
@@ -96,21 +96,30 @@ pub record IsInGrammar (bytes : List ℕ) (s : Sentence) : Type 0 where
   pub are : lexemes marks ≡ lexemes_of bytes tokens
   pub reads : ReadsContract marks [] s
 
--- how many brackets are open after a byte, where so many were before it
-abbrev pub open_after : ℕ → ℕ → ℕ
-open_after before byte =
+-- whether a text goes on inside quotes after a byte
+abbrev pub quoted_after : Bool → ℕ → Bool
+quoted_after quoted byte = if byte == 34 then not quoted else quoted
+
+-- how many brackets are open after a byte, where so many were before it; inside quotes none opens or closes
+abbrev pub open_after : Bool → ℕ → ℕ → ℕ
+open_after true before byte = before
+open_after false before byte =
     if (byte == 40) || (byte == 91) then before + 1 else (
     if (byte == 41) || (byte == 93) then before - 1 else before)
 
 -- a text never has more than `most` brackets open, where so many are open before it
-abbrev pub OpensAtMost : ℕ → ℕ → List ℕ → Type 0
-OpensAtMost most before [] = before ≤ most
-OpensAtMost most before (b ∷ bs) = (before ≤ most) × OpensAtMost most (open_after before b) bs
+abbrev pub OpensAtMost : ℕ → Bool → ℕ → List ℕ → Type 0
+OpensAtMost most quoted before [] = before ≤ most
+OpensAtMost most quoted before (b ∷ bs) = (before ≤ most) × OpensAtMost most (quoted_after quoted b) (open_after quoted before b) bs
+
+-- a text opens few brackets at once
+abbrev pub OpensFew : List ℕ → Type 0
+OpensFew text = OpensAtMost MAX_BRACKETS false 0 text
 
 -- the printed text is within the limits
 pub record IsReadable (s : Sentence) : Type 0 where
   pub few_nodes : prop_nodes s.body ≤ MAX_NODES
-  pub few_brackets : OpensAtMost MAX_BRACKETS 0 (contract_text s)
+  pub few_brackets : OpensFew (contract_text s)
 
 -- an answer is this tree, places aside, or want of memory
 abbrev pub IsReadAs : Sentence → Result Contract ParseFault → Type 0

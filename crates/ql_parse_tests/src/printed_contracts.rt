@@ -1,6 +1,6 @@
-use crate::{ParseFault, parse_contract};
 use ql_base::NoMemory;
 use ql_lang::print_contract;
+use ql_parse::{ParseFault, parse_contract};
 use std::alloc::{AllocError, Global};
 use std::test::Fail;
 

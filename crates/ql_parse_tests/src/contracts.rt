@@ -1,5 +1,5 @@
-use crate::{ParseFault, parse_contract};
 use ql_lex::LexFault;
+use ql_parse::{ParseFault, parse_contract};
 use std::alloc::{AllocError, Global};
 use std::test::Fail;
 

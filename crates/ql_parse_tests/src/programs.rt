@@ -1,5 +1,5 @@
-use crate::{ParseFault, parse_program};
 use ql_lex::LexFault;
+use ql_parse::{ParseFault, parse_program};
 use std::alloc::{AllocError, Global};
 use std::test::Fail;
 

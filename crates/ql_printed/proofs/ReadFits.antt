@@ -25,7 +25,7 @@ use Rattle.ql_grammar.specs.Tokens.{Lexeme as ALexeme, Marked, lexemes, lexeme_o
 use Rattle.ql_grammar.specs.ContractGrammar.{ReadsTerm, current, variable, ReadsTerms, one, more, ReadsRelation, RelationPart, applied_named, applied_bracket, named, bracket, single, both, product, either, ReadsProp, PropPart, truth, group, equal, applied, txn, atom, and, or, implies, ReadsNames, ReadsVar, free, over, ReadsVars, ReadsContract, plain, forall}
 use Rattle.ql_parse.specs.Readers.{lexemes_of}
 use Rattle.ql_parse.specs.Parsing.{IsContractText}
-use Rattle.ql_parse.specs.Printed.{TermFits, PropFits, NameFits, VarFits, Fits}
+use Rattle.ql_printed.specs.Printed.{TermFits, PropFits, NameFits, VarFits, Fits}
 
 -- the names among tokens are names
 

@@ -1,0 +1,17 @@
+mod Pieces
+mod PiecesRead
+mod PiecesStand
+mod PiecesText
+mod ReadAs
+mod Printing
+mod ReadFits
+mod ReadNodes
+mod ExpressionPieces
+mod Carrying
+mod ExpressionText
+mod ExpressionStand
+mod ProgramPieces
+mod ProgramRead
+mod ProgramText
+mod ProgramStand
+mod ProgramCounts
