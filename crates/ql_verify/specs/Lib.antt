@@ -1,0 +1,3 @@
+pub mod Work
+pub mod Verdicts
+pub mod Firsts

@@ -1,0 +1,30 @@
+use ql_base::{EffId, NoMemory, RunId};
+use ql_formula::Places;
+
+/// Where a contract is false, and the places of its variables.
+#[derive(Debug, Drop)]
+pub enum Breach {
+    /// That of an effect's operation, at the effect.
+    AtOp(EffId, Places),
+    /// That of a begun transaction.
+    AtTxn(RunId, Places),
+}
+
+/// Why an execution wasn't judged.
+#[derive(Clone, Copy, Debug, PartialEq, Eq)]
+pub enum VerifyWhy {
+    /// The work, which is above its limit.
+    TooMuch(u128),
+    NoMemory,
+}
+
+impl From<NoMemory> for VerifyWhy {
+    ghost use Rattle.std.specs.Prelude.{◌≡◌};
+    ghost use Rattle.ql_verify.specs.declared.breach.VerifyWhy.TheVariants.{NoMemory};
+
+    ghost from_gives = { λ _ why. why ≡ NoMemory };
+
+    fn from(_error: ql_base::NoMemory) -> VerifyWhy {
+        VerifyWhy::NoMemory
+    }
+}
