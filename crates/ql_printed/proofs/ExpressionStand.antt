@@ -134,7 +134,7 @@ run_quoted [] rest most before all h = h.1
 run_quoted (b ∷ bs) rest most before all h =
     run_quoted bs rest most before (passes_tail is_text_byte b bs all) (subst (λ q. OpensAtMost most q before (bs ++ 34 ∷ rest)) (text_unquoted b (passes_head is_text_byte b bs all)) h.1)
 
-quoted_behind : (text rest : List ℕ) → quoted text ++ rest ≡ 34 ∷ (text ++ 34 ∷ rest)
+pub quoted_behind : (text rest : List ℕ) → quoted text ++ rest ≡ 34 ∷ (text ++ 34 ∷ rest)
 quoted_behind text rest = ap (λ t. 34 ∷ t) (append_assoc text (34 ∷ []) rest)
 
 text_is_front : (text rest : List ℕ) → TextFits text → IsFront (quoted text ++ rest) (Lexeme TextKind (length (quoted text)))

@@ -17,14 +17,14 @@ use Rattle.ql_printed.specs.Printed.{relation_nodes, prop_nodes}
 use Rattle.ql_printed.proofs.Pieces.{made_by}
 
 -- counted so far: with `more` nodes behind, the tokens that are left are within the limits too
-record Left (c : Counts) (most : ℕ) (rest : List Marked) (end : Counts) : Type 0 where
-  counts : Counts
-  are : counted_all counts rest ≡ Ok end
-  nodes : counts.nodes ≡ c.nodes + most
-  few : counts.nodes ≤ MAX_NODES
+pub record Left (c : Counts) (most : ℕ) (rest : List Marked) (end : Counts) : Type 0 where
+  pub counts : Counts
+  pub are : counted_all counts rest ≡ Ok end
+  pub nodes : counts.nodes ≡ c.nodes + most
+  pub few : counts.nodes ≤ MAX_NODES
 
 -- a role of contracts
-abbrev IsInside : Role → Type 0
+abbrev pub IsInside : Role → Type 0
 IsInside Before = ⊥
 IsInside _ = Unit {0}
 
@@ -58,10 +58,10 @@ next (Opens n) inside c at go end few h =
     record { after = record opened { nodes = opened.nodes + n }; on = p.1; nodes = refl; few = p.0 }
 
 -- a part reads on, with so many nodes
-record MakesNodes (ts rest : List Marked) (n : ℕ) : Type 0 where
-  left : (c end : Counts) → c.nodes ≤ MAX_NODES → counted_all c ts ≡ Ok end → Left c n rest end
+pub record MakesNodes (ts rest : List Marked) (n : ℕ) : Type 0 where
+  pub left : (c end : Counts) → c.nodes ≤ MAX_NODES → counted_all c ts ≡ Ok end → Left c n rest end
 
-said : (r : Role) → IsInside r → {k : Terminal} {x : List ℕ} {n : ℕ} {rest : List Marked} → MakesNodes (marked r k x n ∷ rest) rest (made_by r)
+pub said : (r : Role) → IsInside r → {k : Terminal} {x : List ℕ} {n : ℕ} {rest : List Marked} → MakesNodes (marked r k x n ∷ rest) rest (made_by r)
 unfolding counted_all
 said r inside {n = n} {rest = rest} = record {
   left = λ c end few h.
@@ -69,7 +69,7 @@ said r inside {n = n} {rest = rest} = record {
       record { counts = p.after; are = p.on; nodes = p.nodes; few = p.few };
 }
 
-joined : {ts us rest : List Marked} {a b : ℕ} → MakesNodes ts us a → MakesNodes us rest b → MakesNodes ts rest (a + b)
+pub joined : {ts us rest : List Marked} {a b : ℕ} → MakesNodes ts us a → MakesNodes us rest b → MakesNodes ts rest (a + b)
 joined f g = record {
   left = λ c end few h.
       let p = f.left c end few h in
@@ -77,7 +77,7 @@ joined f g = record {
       record { counts = q.counts; are = q.are; nodes = omega (arith, p.nodes, q.nodes); few = q.few };
 }
 
-as_many : {ts rest : List Marked} {a b : ℕ} → a ≡ b → MakesNodes ts rest a → MakesNodes ts rest b
+pub as_many : {ts rest : List Marked} {a b : ℕ} → a ≡ b → MakesNodes ts rest a → MakesNodes ts rest b
 as_many e f = record { left = λ c end few h. let p = f.left c end few h in record { counts = p.counts; are = p.are; nodes = omega (arith, p.nodes, e); few = p.few } }
 
 term_nodes : {r : Role} {ts rest : List Marked} {p : Point} → IsInside r → ReadsTerm r ts rest p → MakesNodes ts rest (made_by r)
@@ -130,7 +130,7 @@ vars_read : {ts rest : List Marked} {vs : List Var} → ReadsVars ts rest vs →
 vars_read (one v) = var_reads v
 vars_read (more us t) = as_many (omega arith) (joined (vars_read us) (joined (said Plain tt) (var_reads t)))
 
-contract_reads : {ts rest : List Marked} {s : Sentence} → ReadsContract ts rest s → MakesNodes ts rest (prop_nodes s.body)
+pub contract_reads : {ts rest : List Marked} {s : Sentence} → ReadsContract ts rest s → MakesNodes ts rest (prop_nodes s.body)
 contract_reads (plain p) = prop_reads p
 contract_reads (forall us p) = as_many (omega arith) (joined (said Plain tt) (joined (vars_read us) (joined (said Plain tt) (prop_reads p))))
 

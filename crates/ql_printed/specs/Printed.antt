@@ -88,13 +88,16 @@ prop_nodes (Disjunction p q) = prop_nodes p + 1 + prop_nodes q
 prop_nodes (Implication p q) = prop_nodes p + 1 + prop_nodes q
 prop_nodes (InTxn at ps qs) = 1 + length ps + length qs
 
--- the bytes have tokens that the grammar reads as this contract, limits aside
-pub record IsInGrammar (bytes : List ℕ) (s : Sentence) : Type 0 where
+-- the bytes have tokens that the grammar reads as this tree, limits aside
+pub record IsInGrammarAs {A : Type 0} (Reads : List Marked → List Marked → A → Type 0) (bytes : List ℕ) (a : A) : Type 0 where
   pub tokens : List Token
   pub lexes : Lexes 0 bytes (Ok tokens)
   pub marks : List Marked
   pub are : lexemes marks ≡ lexemes_of bytes tokens
-  pub reads : ReadsContract marks [] s
+  pub reads : Reads marks [] a
+
+abbrev pub IsInGrammar : List ℕ → Sentence → Type 0
+IsInGrammar = IsInGrammarAs ReadsContract
 
 -- whether a text goes on inside quotes after a byte
 abbrev pub quoted_after : Bool → ℕ → Bool
@@ -122,6 +125,9 @@ pub record IsReadable (s : Sentence) : Type 0 where
   pub few_brackets : OpensFew (contract_text s)
 
 -- an answer is this tree, places aside, or want of memory
+abbrev pub IsTreeAgain : {A T : Type 0} → (T → A) → (A → A) → A → Result T ParseFault → Type 0
+IsTreeAgain tree_of bare a (Ok t) = bare (tree_of t) ≡ bare a
+IsTreeAgain tree_of bare a (Err e) = e ≡ NoMemory
+
 abbrev pub IsReadAs : Sentence → Result Contract ParseFault → Type 0
-IsReadAs s (Ok c) = unplaced (sentence_of c) ≡ unplaced s
-IsReadAs s (Err e) = e ≡ NoMemory
+IsReadAs = IsTreeAgain sentence_of unplaced

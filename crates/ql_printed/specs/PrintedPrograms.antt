@@ -21,7 +21,7 @@ use Rattle.ql_grammar.specs.ProgramGrammar.{ReadsProgram}
 use Rattle.ql_parse.specs.Readers.{lexemes_of}
 use Rattle.ql_parse.specs.declared.fault.ParseFault.{ParseFault}
 use Rattle.ql_parse.specs.declared.fault.ParseFault.TheVariants.{NoMemory}
-use Rattle.ql_printed.specs.Printed.{unplaced, unplaced_name, Fits, NameFits, prop_nodes, OpensFew}
+use Rattle.ql_printed.specs.Printed.{unplaced, unplaced_name, Fits, NameFits, prop_nodes, OpensFew, IsInGrammarAs, IsTreeAgain}
 
 -- What is printed of a source, and read again.
 
@@ -194,15 +194,8 @@ HasFewNodes = EachOf (λ c. prop_nodes c.body ≤ MAX_NODES) (λ e. expression_n
 abbrev pub HasFewBrackets : Source → Type 0
 HasFewBrackets = EachOf (λ c. OpensFew (contract_text c)) (λ e. OpensFew (expression_text e))
 
--- the bytes have tokens that the grammar reads as this source, limits aside
-pub record IsSourceInGrammar (bytes : List ℕ) (p : Source) : Type 0 where
-  pub tokens : List Token
-  pub lexes : Lexes 0 bytes (Ok tokens)
-  pub marks : List Marked
-  pub are : lexemes marks ≡ lexemes_of bytes tokens
-  pub reads : ReadsProgram marks [] p
+abbrev pub IsSourceInGrammar : List ℕ → Source → Type 0
+IsSourceInGrammar = IsInGrammarAs ReadsProgram
 
--- an answer is this source, places aside, or want of memory
 abbrev pub IsSourceReadAs : Source → Result Program ParseFault → Type 0
-IsSourceReadAs p (Ok program) = unplaced_source (source_of program) ≡ unplaced_source p
-IsSourceReadAs p (Err e) = e ≡ NoMemory
+IsSourceReadAs = IsTreeAgain source_of unplaced_source

@@ -1,9 +1,10 @@
 use Rattle.std.proofs.Common.{Result}
 use Rattle.ql_lang.specs.Spelling.{contract_text}
-use Rattle.ql_lang.specs.Trees.{Sentence}
+use Rattle.ql_lang.specs.Trees.{Sentence, sentence_of}
+use Rattle.ql_grammar.specs.ContractGrammar.{ReadsContract}
 use Rattle.ql_lang.specs.declared.contract.Contract.{Contract}
 use Rattle.ql_parse.specs.Parsing.{IsContractAnswer}
-use Rattle.ql_printed.specs.Printed.{Fits, IsReadable, IsReadAs}
+use Rattle.ql_printed.specs.Printed.{Fits, IsReadable, IsReadAs, unplaced}
 use Rattle.ql_parse.specs.declared.fault.ParseFault.{ParseFault}
 use Rattle.ql_printed.proofs.ReadAs.{read_as}
 use Rattle.ql_printed.proofs.Printing.{printed_grammar, printed_text}
@@ -15,7 +16,7 @@ answered : goal.After-one_answer → (s : Sentence) (r : Result Contract ParseFa
 answered c s r fits readable answer =
     let again = printed_text s fits readable in
     let laws = c.one_answer.ensures in
-    read_as (contract_text s) s again.0 again.2
+    read_as ReadsContract sentence_of unplaced (contract_text s) s again.0 again.2
     (λ u p. laws.tree (contract_text s) u again.0 p again.1)
     (λ f p. laws.apart (contract_text s) again.0 f again.1 p)
     (λ e p. laws.no_lexical (contract_text s) again.0 e again.1 p) r answer
