@@ -15,3 +15,5 @@ mod ProgramRead
 mod ProgramText
 mod ProgramStand
 mod ProgramCounts
+mod ReadSources
+mod ProgramPrinting

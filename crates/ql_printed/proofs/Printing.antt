@@ -1,5 +1,5 @@
 -- What is printed of a contract is that contract, places aside.
-use Rattle.std.proofs.Common.{◌≡◌, ◌≤◌, ℕ, Bool, List, [], ◌++◌, true, refl, sym, subst, ◌∙◌, arith}
+use Rattle.std.proofs.Common.{◌≡◌, ◌≤◌, Bool, List, [], true, refl, sym, subst, ◌∙◌, arith}
 use Rattle.std.proofs.lemmas.List.{append-nil}
 use Rattle.ql_base.specs.declared.limits.TheConstants.{MAX_NODES}
 use Rattle.ql_lang.specs.Trees.{Sentence}

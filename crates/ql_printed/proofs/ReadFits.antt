@@ -209,12 +209,12 @@ vars_fit (more {vs = vs} {v = v} us t) names =
     let last = var_fits t before.1.1 in
     (each_more VarFits vs v before.0 last.0, last.1)
 
-pub contract_fits : {ts rest : List Marked} {s : Sentence} → ReadsContract ts rest s → Named ts → Fits s
-contract_fits (plain p) names = let body = prop_fits p names in (tt, body.0)
-contract_fits (forall us p) names = let vars = vars_fit us names.1 in let body = prop_fits p vars.1.1 in (vars.0, body.0)
+pub contract_fits_more : {ts rest : List Marked} {s : Sentence} → ReadsContract ts rest s → Named ts → Fits s × Named rest
+contract_fits_more (plain p) names = let body = prop_fits p names in ((tt, body.0), body.1)
+contract_fits_more (forall us p) names = let vars = vars_fit us names.1 in let body = prop_fits p vars.1.1 in ((vars.0, body.0), body.1)
 
 -- what is read has a text
 pub read_fits : (bytes : List ℕ) (s : Sentence) → IsContractText bytes s → Fits s
 read_fits bytes s text =
     let names : AreKindly (lexemes_of bytes text.tokens) = lexes_kindly bytes refl text.lexes in
-    contract_fits text.parses.reads (subst AreKindly (sym text.parses.are) names)
+    (contract_fits_more text.parses.reads (subst AreKindly (sym text.parses.are) names)).0

@@ -1,4 +1,4 @@
-use Rattle.std.specs.Prelude.{◌≡◌, ℕ, ℤ, pos, negsuc, ◌+◌, ◌≤◌, ◌<◌, List, [], map, length, Option, None, Some, option_map, Result, Ok, Err}
+use Rattle.std.specs.Prelude.{ℕ, ℤ, pos, negsuc, ◌+◌, ◌≤◌, ◌<◌, List, map, length, Option, None, Some, option_map, Result}
 use Rattle.std.specs.List.{AllByRecursion, AllPass}
 use Rattle.ql_base.specs.Bytes.{is_text_byte}
 use Rattle.ql_base.specs.declared.limits.TheConstants.{MAX_NODES, MAX_TEXT_BYTES}
@@ -13,14 +13,9 @@ use Rattle.ql_lang.specs.Expressions.{Expression, Number, Literal, Truth, Nothin
 use Rattle.ql_lang.specs.Programs.{Binding, Assignment, Emission, Operation, Replicated, Transaction, Source, source_of}
 use Rattle.ql_lang.specs.Spelling.{contract_text}
 use Rattle.ql_lang.specs.ExpressionSpelling.{expression_text}
-use Rattle.ql_lex.specs.Tokens.{Lexes}
 use Rattle.ql_lex.specs.Fronts.{most_number}
-use Rattle.ql_lex.specs.declared.token.Token.{Token}
-use Rattle.ql_grammar.specs.Tokens.{Marked, lexemes}
 use Rattle.ql_grammar.specs.ProgramGrammar.{ReadsProgram}
-use Rattle.ql_parse.specs.Readers.{lexemes_of}
 use Rattle.ql_parse.specs.declared.fault.ParseFault.{ParseFault}
-use Rattle.ql_parse.specs.declared.fault.ParseFault.TheVariants.{NoMemory}
 use Rattle.ql_printed.specs.Printed.{unplaced, unplaced_name, Fits, NameFits, prop_nodes, OpensFew, IsInGrammarAs, IsTreeAgain}
 
 -- What is printed of a source, and read again.

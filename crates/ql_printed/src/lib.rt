@@ -3,6 +3,8 @@
 // limits.
 #![tactic(auto)]
 
-mod again;
+mod contracts;
+mod sources;
 
-pub use again::printed_again;
+pub use contracts::printed_again;
+pub use sources::source_printed_again;

@@ -10,7 +10,7 @@ use Rattle.ql_printed.proofs.ReadAs.{read_as}
 use Rattle.ql_printed.proofs.Printing.{printed_grammar, printed_text}
 use Rattle.ql_printed.proofs.ReadFits.{read_fits}
 use Rattle.ql_printed.proofs.ReadNodes.{read_few}
-use Rattle.ql_printed.proofs.again.printed_again.Goals as goal
+use Rattle.ql_printed.proofs.contracts.printed_again.Goals as goal
 
 answered : goal.After-one_answer → (s : Sentence) (r : Result Contract ParseFault) → Fits s → IsReadable s → IsContractAnswer (contract_text s) r → IsReadAs s r
 answered c s r fits readable answer =

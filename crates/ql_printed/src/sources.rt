@@ -1,0 +1,32 @@
+ghost use Rattle.std.specs.Prelude.{◌≡◌, List, ℕ, Result};
+ghost use Rattle.ql_lang.specs.declared.program.Program.{Program};
+ghost use Rattle.ql_lang.specs.Programs.{Source};
+ghost use Rattle.ql_lang.specs.ProgramSpelling.{program_text};
+ghost use Rattle.ql_parse.specs.declared.fault.ParseFault.{ParseFault};
+ghost use Rattle.ql_parse.specs.Parsing.{IsProgramAnswer, IsProgramText};
+ghost use Rattle.ql_printed.specs.PrintedPrograms.{
+  HasFewBrackets,
+  HasFewNodes,
+  IsSourceInGrammar,
+  IsSourceReadAs,
+  SourceFits,
+  unplaced_source,
+};
+
+/// What is printed of a source is that source again, places aside.
+///
+/// It is in the grammar for each tree that has a text (`grammar`), as the trees that are read have, with few nodes in
+/// each contract and each expression (`fits`, `few`). It is read again where it is within the limits (`text`,
+/// `answer`). So what is printed of a source that was read is read as the same one where the printed text opens few
+/// brackets at once within each contract and each expression, which that of a long chain of operators may not do
+/// (`again`).
+pub fn source_printed_again()
+    ensures grammar { (p : Source) → SourceFits p → (q : Source) × IsSourceInGrammar (program_text p) q × (unplaced_source q ≡ unplaced_source p) }
+    ensures fits { (bytes : List ℕ) (p : Source) → IsProgramText bytes p → SourceFits p }
+    ensures few { (bytes : List ℕ) (p : Source) → IsProgramText bytes p → HasFewNodes p }
+    ensures text { (p : Source) → SourceFits p → HasFewNodes p → HasFewBrackets p → (q : Source) × IsProgramText (program_text p) q × (unplaced_source q ≡ unplaced_source p) }
+    ensures answer { (p : Source) (r : Result Program ParseFault) → SourceFits p → HasFewNodes p → HasFewBrackets p → IsProgramAnswer (program_text p) r → IsSourceReadAs p r }
+    ensures again { (bytes : List ℕ) (p : Source) (r : Result Program ParseFault) → IsProgramText bytes p → HasFewBrackets p → IsProgramAnswer (program_text p) r → IsSourceReadAs p r }
+{
+    ql_parse::one_program_answer();
+}
