@@ -1,2 +1,13 @@
 pub mod Loops
 pub mod Sizes
+pub mod Conses
+pub mod ShortLines
+pub mod FirstFields
+pub mod ContractRules
+pub mod Ids
+pub mod EffectLines
+pub mod Effects
+pub mod OneStage
+pub mod Leading
+pub mod OneFault
+pub mod LineRefusals
