@@ -1,0 +1,3 @@
+pub mod NamedTargets
+pub mod SameSource
+pub mod Faults
