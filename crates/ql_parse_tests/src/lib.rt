@@ -6,4 +6,6 @@ mod contracts;
 #[cfg(test)]
 mod printed_contracts;
 #[cfg(test)]
+mod printed_sources;
+#[cfg(test)]
 mod programs;
