@@ -1,7 +1,4 @@
-pub mod ContractLaws
-pub mod SeenLaws
-pub mod EffectLaws
-pub mod QuestionLaws
-pub mod SearchLaws
+pub mod Powers
+pub mod HoldsLaws
 pub mod OutcomeLaws
 pub mod ProofLaws

@@ -1,5 +1,5 @@
 -- What a command says of its file is what may be said of the words.
-use Rattle.std.proofs.Common.{◌≡◌, ℕ, ◌≤◌, List, length, Option, Some, None, Result, Ok, Err, subst}
+use Rattle.std.proofs.Common.{◌≡◌, inl, ℕ, ◌≤◌, List, length, Option, Some, None, Result, Ok, Err, subst}
 use Rattle.std.specs.Prelude.{IfSome, IfOk}
 use Rattle.std.specs.Global.{Vec}
 use Rattle.ql_base.specs.declared.no_memory.NoMemory.{NoMemory}
@@ -31,8 +31,7 @@ command_says limit words held before after Holds name bytes WriteFault text asks
 command_says limit words held before after Proof name bytes WriteFault text asks same short says = absurd says
 command_says limit words held before after Holds name bytes Usage text asks same short says = absurd says
 command_says limit words held before after Proof name bytes Usage text asks same short says = absurd says
-command_says limit words held before after Holds name bytes TooLarge text asks same short says = absurd says
-command_says limit words held before after Proof name bytes TooLarge text asks same short says = absurd says
+command_says limit words held before after command name bytes TooLarge text asks same short says = inl (judges limit words held command name bytes TooLarge text asks same short says)
 
 -- the answer of a command is an answer to the words
 pub answer_says : (limit : ℕ) (words : List (List ℕ)) (held : List ℕ → Option (List ℕ)) (before after : List ℕ → ℕ) (command : Command) (name bytes : List ℕ) (answer : Result (Status × Vec ℕ) NoMemory)

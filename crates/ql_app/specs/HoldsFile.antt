@@ -1,58 +1,81 @@
--- The files of `holds`: a contract, an effect, and an execution; and what is said of them.
-use Rattle.std.specs.Prelude.{◌≡◌, ℕ, ◌≤◌, List, [], ◌∷◌, ◌++◌, length, ◌&&◌, ◌==◌, Option, Some, None, nat_le, if◌then◌else◌, codes, decimal}
-use Rattle.ql_text.specs.Reading.{◌>>=◌, literal_at, number_at, before_text}
-use Rattle.ql_text.specs.Items.{more_items, EachMayFollow}
-use Rattle.ql_app.specs.declared.contract.Contract.{Contract}
-use Rattle.ql_app.specs.declared.question.Question.{Question}
+-- What is said of the files of `holds`. Their grammar and their first faults are those of ql_report, and truth is that of
+-- ql_formula.
+use Rattle.std.specs.Prelude.{◌≡◌, ℕ, zero, suc, ◌<◌, ◌≤◌, ◌*◌, List, [], ◌∷◌, ◌++◌, length, codes, decimal}
+use Rattle.ql_base.specs.declared.limits.TheConstants.{MAX_WORK}
+use Rattle.ql_lines.specs.Lines.{ahead_from}
+use Rattle.ql_formula.specs.Truth.{Holds, IsFirstFalse, none_inside}
+use Rattle.ql_report.specs.declared.holds_fault.HoldsFault.{HoldsFault}
+use Rattle.ql_report.specs.declared.holds_fault.HoldsFault.TheVariants.{Unexpected, Unknown, Twice, TxnAtom, Variables, Range, NotForward, OtherObject, TooMany, NoMemory}
+use Rattle.ql_report.specs.HoldsFile.{Asked, FirstFault, IsHolding}
 use Rattle.ql_app.specs.declared.status.Status.{Status}
 use Rattle.ql_app.specs.declared.status.Status.TheVariants.{Done, No, Bad, ReadFault, WriteFault, Usage, TooLarge}
-use Rattle.ql_app.specs.Contract as contracts
-use Rattle.ql_app.specs.Contract.{contract_text, contract_at}
-use Rattle.ql_app.specs.EffectLine.{effects_text, MayFollow, effect_line_at}
-use Rattle.ql_app.specs.Truth.{Holds, IsFirstFalse}
 
-abbrev pub question_text : Question → List ℕ
-question_text q = codes "contract " ++ contract_text q.contract ++ codes "\nat " ++ decimal q.at.0 ++ codes "\n" ++ effects_text q.execution ++ codes "end\n"
-
-pub record Fits (q : Question) : Type 0 where
-  pub contract : contracts.Fits q.contract
-  pub effects : EachMayFollow MayFollow [] q.execution
-  pub at : (1 ≤ q.at.0) × (q.at.0 ≤ length q.execution)
-
--- the bytes ask the question
-abbrev pub Asks : List ℕ → Question → Type 0
-Asks bytes q = Fits q × (bytes ≡ question_text q)
-
--- the line of the contract, and the word of the next one
-unfoldable pub asked_contract_at : List ℕ → Option (Contract × List ℕ)
-asked_contract_at bytes = literal_at (codes "contract ") bytes >>= λ start. before_text contract_at (codes "\nat ") start
-
-unfoldable pub question_at : List ℕ → Option Question
-question_at bytes = do
-  contract ← asked_contract_at bytes
-  at ← before_text (number_at 200) (codes "\n") contract.1
-  effects ← before_text (more_items (codes "effect ") effect_line_at []) (codes "end\n") at.1
-  if nat_le 1 at.0 && nat_le at.0 (length effects.0) && (length effects.1 == 0)
-      then Some (record { contract = contract.0; at = record { 0 = at.0 }; execution = effects.0 }) else None
-
--- the places of the variables, as ` a=1`
-abbrev pub places_text : List ℕ → List ℕ → List ℕ
-places_text [] places = []
-places_text (v ∷ variables) [] = []
-places_text (v ∷ variables) (p ∷ places) = 32 ∷ v ∷ 61 ∷ decimal p ++ places_text variables places
+-- the bytes ask this
+abbrev pub Asks : List ℕ → Asked → Type 0
+Asks bytes asked = IsHolding (ahead_from 1 bytes) asked
 
 -- the file is in the grammar
 abbrev pub IsHoldsFile : List ℕ → Type 0
-IsHoldsFile bytes = (q : Question) × Asks bytes q
+IsHoldsFile bytes = (asked : Asked) × Asks bytes asked
+
+-- the number with itself as a factor so often
+unfoldable pub power : ℕ → ℕ → ℕ
+power n zero = 1
+power n (suc k) = power n k * n
+
+-- how many choices of effects there are for all variables
+abbrev pub work : Asked → ℕ
+work asked = power (length asked.execution) (length asked.named.formula.vars)
+
+-- the file is in the grammar, and doesn't ask for too much work
+abbrev pub IsAnswerable : List ℕ → Type 0
+IsAnswerable bytes = (asked : Asked) × Asks bytes asked × (work asked ≤ MAX_WORK)
+
+-- the places of the variables, as ` a=1`
+abbrev pub places_text : List (List ℕ) → List ℕ → List ℕ
+places_text [] places = []
+places_text (name ∷ names) [] = []
+places_text (name ∷ names) (p ∷ places) = 32 ∷ name ++ 61 ∷ decimal p ++ places_text names places
+
+abbrev pub told_at : ℕ → List ℕ → List ℕ
+told_at line rule = codes "bad holds at " ++ decimal line ++ rule
+
+-- the line that tells of the file's first fault
+abbrev pub fault_text : HoldsFault → List ℕ
+fault_text (Unexpected line) = told_at line (codes ": Unexpected\n")
+fault_text (Unknown line) = told_at line (codes ": Unknown\n")
+fault_text (Twice line) = told_at line (codes ": Twice\n")
+fault_text (TxnAtom line) = told_at line (codes ": TxnAtom\n")
+fault_text (Variables line) = told_at line (codes ": Variables\n")
+fault_text (Range line) = told_at line (codes ": Range\n")
+fault_text (NotForward line) = told_at line (codes ": NotForward\n")
+fault_text (OtherObject line) = told_at line (codes ": OtherObject\n")
+fault_text (TooMany line) = told_at line (codes ": TooMany\n")
+fault_text NoMemory = codes ""
+
+-- this line tells of the fault, which isn't want of memory
+abbrev pub IsToldAs : HoldsFault → List ℕ → Type 0
+IsToldAs NoMemory text = ⊥
+IsToldAs fault text = text ≡ fault_text fault
+
+-- what is said where this is asked
+abbrev pub HoldsTells : Asked → Status → List ℕ → Type 0
+HoldsTells asked Done text = (work asked ≤ MAX_WORK) × Holds asked.execution asked.named.formula asked.cur × (text ≡ codes "holds\n")
+HoldsTells asked No text =
+    (work asked ≤ MAX_WORK) × (places : List ℕ) × IsFirstFalse asked.execution none_inside asked.cur asked.named.formula places
+    × (text ≡ codes "fails" ++ places_text asked.named.names places ++ codes "\n")
+HoldsTells asked TooLarge text = (MAX_WORK < work asked) × (text ≡ codes "too much " ++ decimal (work asked) ++ codes "\n")
+HoldsTells asked Bad text = ⊥
+HoldsTells asked ReadFault text = ⊥
+HoldsTells asked WriteFault text = ⊥
+HoldsTells asked Usage text = ⊥
 
 -- what is said of a file
 abbrev pub HoldsSays : List ℕ → Status → List ℕ → Type 0
-HoldsSays bytes Done text = (q : Question) × Asks bytes q × Holds q.execution q.contract q.at.0 × (text ≡ codes "holds\n")
-HoldsSays bytes No text =
-    (q : Question) × Asks bytes q × (places : List ℕ) × IsFirstFalse q.execution q.contract q.at.0 places
-    × (text ≡ codes "fails" ++ places_text q.contract.variables places ++ codes "\n")
-HoldsSays bytes Bad text = (IsHoldsFile bytes → ⊥) × (text ≡ codes "bad holds\n")
+HoldsSays bytes Bad text = (IsHoldsFile bytes → ⊥) × (f : HoldsFault) × FirstFault (ahead_from 1 bytes) f × (text ≡ fault_text f)
+HoldsSays bytes Done text = (asked : Asked) × Asks bytes asked × HoldsTells asked Done text
+HoldsSays bytes No text = (asked : Asked) × Asks bytes asked × HoldsTells asked No text
+HoldsSays bytes TooLarge text = (IsAnswerable bytes → ⊥) × (asked : Asked) × Asks bytes asked × HoldsTells asked TooLarge text
 HoldsSays bytes ReadFault text = ⊥
 HoldsSays bytes WriteFault text = ⊥
 HoldsSays bytes Usage text = ⊥
-HoldsSays bytes TooLarge text = ⊥

@@ -1,5 +1,5 @@
 -- What may be printed: for the words, the bytes of the named file and a status.
-use Rattle.std.specs.Prelude.{◌≡◌, ℕ, ◌<◌, ◌≤◌, List, ◌++◌, length, Option, Result, Ok, Err, IfSome, codes}
+use Rattle.std.specs.Prelude.{◌≡◌, ◌⊎◌, ℕ, ◌<◌, ◌≤◌, List, ◌++◌, length, Option, Result, Ok, Err, IfSome, codes}
 use Rattle.ql_base.specs.declared.no_memory.NoMemory.{NoMemory}
 use Rattle.ql_ports.specs.Faults.{Rose}
 use Rattle.ql_ports.specs.Written.{appended, AppendsFront}
@@ -8,7 +8,8 @@ use Rattle.ql_app.specs.declared.status.Status.TheVariants.{Done, No, Bad, ReadF
 use Rattle.ql_app.specs.declared.words.Command.{Command}
 use Rattle.ql_app.specs.declared.words.Command.TheVariants.{Holds, Proof}
 use Rattle.ql_app.specs.Words.{IsRequest}
-use Rattle.ql_app.specs.HoldsFile.{HoldsSays, IsHoldsFile}
+use Rattle.ql_app.specs.HoldsFile as holds
+use Rattle.ql_app.specs.HoldsFile.{HoldsSays}
 use Rattle.ql_app.specs.ProofFile.{ProofSays, IsProofFile}
 
 -- what a command says of its file's bytes
@@ -16,10 +17,10 @@ abbrev pub CommandSays : Command → List ℕ → Status → List ℕ → Type 0
 CommandSays Holds bytes status text = HoldsSays bytes status text
 CommandSays Proof bytes status text = ProofSays bytes status text
 
--- the file's bytes are in the grammar of the command's files
-abbrev pub IsInGrammar : Command → List ℕ → Type 0
-IsInGrammar Holds bytes = IsHoldsFile bytes
-IsInGrammar Proof bytes = IsProofFile bytes
+-- the file's bytes are in the grammar of the command's files, and don't ask for too much work
+abbrev pub IsAnswerable : Command → List ℕ → Type 0
+IsAnswerable Holds bytes = holds.IsAnswerable bytes
+IsAnswerable Proof bytes = IsProofFile bytes
 
 -- the words ask for a command on a file, of which more is said
 abbrev pub ForRequest : List (List ℕ) → (Command → List ℕ → Type 0) → Type 0
@@ -41,7 +42,8 @@ Says limit words held before after ReadFault text =
 Says limit words held before after WriteFault text = ⊥
 Says limit words held before after Usage text = (ForRequest words (λ _ _. Unit {0}) → ⊥) × (text ≡ codes "usage\n")
 Says limit words held before after TooLarge text =
-    ForRequest words (λ _ name. IfSome (held name) (λ bytes. limit < length bytes) × (text ≡ codes "too large " ++ name ++ codes "\n"))
+    Judges limit words held TooLarge text
+    ⊎ ForRequest words (λ _ name. IfSome (held name) (λ bytes. limit < length bytes) × (text ≡ codes "too large " ++ name ++ codes "\n"))
 
 -- the text was appended
 abbrev pub Appends : (Status → List ℕ → Type 0) → Option (List ℕ) → Option (List ℕ) → Status → Type 0

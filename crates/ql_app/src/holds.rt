@@ -1,53 +1,104 @@
-ghost use Rattle.std.specs.Prelude.{◌≡◌, ◌++◌, IfOk, OnOk, codes};
-ghost use Rattle.ql_app.specs.HoldsFile.{places_text, HoldsSays};
+ghost use Rattle.std.specs.Prelude.{◌≡◌, ◌≤◌, ◌<◌, ◌^◌, ◌++◌, IfOk, OnOk, codes, decimal, length, map};
+ghost use Rattle.ql_report.specs.Readings.{asked_of};
+ghost use Rattle.ql_app.specs.HoldsFile.{HoldsSays, HoldsTells, IsToldAs, places_text, power};
 
-use crate::question_text::question;
 use crate::status::Status;
-use crate::truth::first_false;
-use ql_base::{NoMemory, push_bytes, push_number};
-use ql_text::ParseError;
+use crate::text::at_line;
+use ql_base::{EffId, MAX_WORK, NoMemory, Word, push_bytes, push_number};
+use ql_formula::{Relations, holds_at};
+use ql_report::{Holding, HoldsFault, parse_holds};
 use std::alloc::Global;
 
 /// Whether the contract in a holds file is true of its effect.
 pub fn holds(alloc: Global, bytes: &[u8]) -> Result<(Status, Vec<u8>), NoMemory>
+    requires { length bytes.now < 2 ^ 32 }
     ensures { IfOk result (λ answer. HoldsSays bytes.now answer.0 answer.1.items) }
 {
-    let question = match question(alloc, bytes) {
-        Ok(question) => question,
-        Err(ParseError::Malformed) => {
-            return Ok((Status::Bad, Vec::from_slice(alloc, b"bad holds\n")?));
-        }
-        Err(ParseError::NoMemory) => return Err(NoMemory),
-    };
-    match first_false(alloc, &question)? {
+    ql_report::one_holding();
+    match parse_holds(alloc, bytes) {
+        Ok(holding) => truth_of(alloc, &holding),
+        Err(fault) => Ok((Status::Bad, bad_line(alloc, fault)?)),
+    }
+}
+
+// The line that tells of a file's first fault.
+fn bad_line(alloc: Global, fault: HoldsFault) -> Result<Vec<u8>, NoMemory>
+    ensures { IfOk result (λ line. IsToldAs fault line.items) }
+{
+    match fault {
+        HoldsFault::Unexpected(line) => at_line(alloc, b"bad holds at ", line, b": Unexpected\n"),
+        HoldsFault::Unknown(line) => at_line(alloc, b"bad holds at ", line, b": Unknown\n"),
+        HoldsFault::Twice(line) => at_line(alloc, b"bad holds at ", line, b": Twice\n"),
+        HoldsFault::TxnAtom(line) => at_line(alloc, b"bad holds at ", line, b": TxnAtom\n"),
+        HoldsFault::Variables(line) => at_line(alloc, b"bad holds at ", line, b": Variables\n"),
+        HoldsFault::Range(line) => at_line(alloc, b"bad holds at ", line, b": Range\n"),
+        HoldsFault::NotForward(line) => at_line(alloc, b"bad holds at ", line, b": NotForward\n"),
+        HoldsFault::OtherObject(line) => at_line(alloc, b"bad holds at ", line, b": OtherObject\n"),
+        HoldsFault::TooMany(line) => at_line(alloc, b"bad holds at ", line, b": TooMany\n"),
+        HoldsFault::NoMemory => Err(NoMemory),
+    }
+}
+
+// Whether a formula is true, where that isn't too much work.
+fn truth_of(alloc: Global, holding: &Holding) -> Result<(Status, Vec<u8>), NoMemory>
+    requires few { length holding.now.formula.vars ≤ 5 }
+    requires few_effects { length holding.now.execution ≤ 4000 }
+    ensures { IfOk result (λ answer. HoldsTells (asked_of holding.now) answer.0 answer.1.items) }
+{
+    let variables = holding.formula.vars.items().len();
+    let work = power(u64::from(holding.execution.len()), variables);
+    if u128::from(work) > MAX_WORK {
+        return Ok((Status::TooLarge, at_line(alloc, b"too much ", work, b"\n")?));
+    }
+    let relations = Relations::build(alloc, &holding.execution)?;
+    match holds_at(
+        &holding.formula,
+        &holding.execution,
+        &relations,
+        holding.cur,
+    ) {
         None => Ok((Status::Done, Vec::from_slice(alloc, b"holds\n")?)),
         Some(places) => {
-            let variables = question.contract.variables.items();
-            Ok((Status::No, fails_line(alloc, variables, places.as_slice())?))
+            let line = fails_line(alloc, holding.names.items(), places.items())?;
+            Ok((Status::No, line))
         }
     }
 }
 
-fn fails_line(alloc: Global, variables: &[u8], places: &[u32]) -> Result<Vec<u8>, NoMemory>
-    ensures { IfOk result (λ line. line.items ≡ codes "fails" ++ places_text variables.now places.now ++ codes "\n") }
+// The product of up to five factors that are a number up to 4,000. It is at most 2^60.
+fn power(number: u64, factors: usize) -> u64
+    requires small { number ≤ 4000 }
+    requires few { factors ≤ 5 }
+    ensures { result ≡ power number factors }
+{
+    if factors == 0 {
+        return 1;
+    }
+    power(number, factors - 1) * number
+}
+
+fn fails_line(alloc: Global, names: &[Word], places: &[EffId]) -> Result<Vec<u8>, NoMemory>
+    ensures { IfOk result (λ line. line.items ≡ codes "fails" ++ places_text names.now (map (λ id. id.0) places.now) ++ codes "\n") }
 {
     let mut line = Vec::from_slice(alloc, b"fails")?;
-    push_places(&mut line, variables, places)?;
+    push_places(&mut line, names, places)?;
     line.push(b'\n')?;
     Ok(line)
 }
 
 // Appends each variable with its place.
-fn push_places(line: &mut Vec<u8>, variables: &[u8], places: &[u32]) -> Result<(), NoMemory>
-    ensures { OnOk result (line.new.items ≡ line.old.items ++ places_text variables.now places.now) }
+fn push_places(line: &mut Vec<u8>, names: &[Word], places: &[EffId]) -> Result<(), NoMemory>
+    ensures { OnOk result (line.new.items ≡ line.old.items ++ places_text names.now (map (λ id. id.0) places.now)) }
 {
-    let Some((variable, other_variables)) = variables.split_first() else {
+    let Some((name, other_names)) = names.split_first() else {
         return Ok(());
     };
     let Some((place, other_places)) = places.split_first() else {
         return Ok(());
     };
-    push_bytes(line, &[b' ', *variable, b'='])?;
-    push_number(line, *place)?;
-    push_places(line, other_variables, other_places)
+    line.push(b' ')?;
+    push_bytes(line, name.bytes())?;
+    line.push(b'=')?;
+    push_number(line, place.0)?;
+    push_places(line, other_names, other_places)
 }

@@ -3,19 +3,16 @@
 // allow with its status, and each status comes only for its cause.
 #![tactic(auto)]
 
-mod contract;
-mod contract_text;
-mod effect_line;
 mod holds;
+#[cfg(test)]
+mod holds_tests;
 mod outcome;
 mod program;
 mod proof;
-mod question;
-mod question_text;
 mod status;
 #[cfg(test)]
 mod tests;
-mod truth;
+mod text;
 mod words;
 
 pub use program::{MAX_FILE_BYTES, quelea};

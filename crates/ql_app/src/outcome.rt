@@ -1,4 +1,4 @@
-ghost use Rattle.std.specs.Prelude.{◌≡◌, ◌++◌, IfOk, codes};
+ghost use Rattle.std.specs.Prelude.{◌≡◌, ◌<◌, ◌^◌, ◌++◌, IfOk, codes, length};
 ghost use Rattle.ql_app.specs.Words.{word_texts};
 ghost use Rattle.ql_app.specs.Outcome.{Says, CommandSays};
 
@@ -18,6 +18,7 @@ pub fn outcome<S: Shelf>(
     shelf: &mut S,
     limit: usize,
 ) -> Result<(Status, Vec<u8>), NoMemory>
+    requires { limit < 2 ^ 32 }
     ensures { IfOk result (λ answer. Says limit (word_texts words.now) (S.held shelf.old)
         (S.faults shelf.old) (S.faults shelf.new) answer.0 answer.1.items) }
 {
@@ -43,6 +44,7 @@ fn named(alloc: Global, text: &[u8], name: &str) -> Result<Vec<u8>, NoMemory>
 }
 
 fn judged(alloc: Global, command: Command, bytes: &[u8]) -> Result<(Status, Vec<u8>), NoMemory>
+    requires { length bytes.now < 2 ^ 32 }
     ensures { IfOk result (λ answer. CommandSays command bytes.now answer.0 answer.1.items) }
 {
     match command {

@@ -2,7 +2,7 @@ ghost use Rattle.std.specs.Prelude.{◌≡◌, ◌≤◌, ℕ, List, Some, lengt
 ghost use Rattle.ql_ports.specs.Faults.{Rose};
 ghost use Rattle.ql_app.specs.declared.words.Command.{Command};
 ghost use Rattle.ql_app.specs.Words.{IsRequest, word_texts};
-ghost use Rattle.ql_app.specs.Outcome.{Says, Wrote, IsInGrammar, IsAnswered};
+ghost use Rattle.ql_app.specs.Outcome.{Says, Wrote, IsAnswerable, IsAnswered};
 
 use crate::outcome::outcome;
 use crate::status::Status;
@@ -29,9 +29,9 @@ pub fn quelea<S: Shelf, K: Sink>(
         (K.written sink.old) (K.written sink.new) (K.faults sink.old) (K.faults sink.new)) }
     ensures no_memory { OnErr result (K.written sink.new ≡ K.written sink.old) }
 
-    // Nothing failed, and the file is in its grammar: the answer is yes or no.
+    // Nothing failed, and the file is in its grammar and asks for no more work than the most: the answer is yes or no.
     ensures complete { (command : Command) (name bytes : List ℕ) → IsRequest (word_texts words.now) command name
-        → S.held shelf.old name ≡ Some bytes → length bytes ≤ MAX_FILE_BYTES → IsInGrammar command bytes
+        → S.held shelf.old name ≡ Some bytes → length bytes ≤ MAX_FILE_BYTES → IsAnswerable command bytes
         → (Rose (S.faults shelf.old name) (S.faults shelf.new name) → ⊥) → (Rose (K.faults sink.old) (K.faults sink.new) → ⊥)
         → IsAnswered result }
 {

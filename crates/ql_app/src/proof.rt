@@ -4,7 +4,8 @@ ghost use Rattle.ql_cert.specs.declared.fault.CertFault.TheVariants.{Unexpected,
 ghost use Rattle.ql_app.specs.ProofFile.{ProofSays, ProofTells, fault_text, refusal_of};
 
 use crate::status::Status;
-use ql_base::{NoMemory, push_bytes, push_number};
+use crate::text::at_line;
+use ql_base::NoMemory;
 use ql_cert::{CertFault, parse_proof};
 use ql_cnf::Clauses;
 use ql_refute::{Refutation, Verdict, check};
@@ -62,13 +63,4 @@ fn refusal(alloc: Global, verdict: Verdict) -> Result<Option<Vec<u8>>, NoMemory>
         Verdict::BadVariable(line) => at_line(alloc, b"refused ", line, b" BadVariable\n")?,
     };
     Ok(Some(line))
-}
-
-fn at_line(alloc: Global, before: &[u8], line: u64, behind: &[u8]) -> Result<Vec<u8>, NoMemory>
-    ensures { IfOk result (λ text. text.items ≡ before.now ++ decimal line ++ behind.now) }
-{
-    let mut text = Vec::from_slice(alloc, before)?;
-    push_number(&mut text, line)?;
-    push_bytes(&mut text, behind)?;
-    Ok(text)
 }

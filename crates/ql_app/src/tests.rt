@@ -125,8 +125,20 @@ fn answers_words_over_memory(rt: HostRuntime) -> Result<(), Fail> {
             Status::No,
             b"fails c=3 a=1 b=2\n",
         ),
-        (&["holds", "later"], &[], &[], Status::Bad, b"bad holds\n"),
-        (&["holds", "empty"], &[], &[], Status::Bad, b"bad holds\n"),
+        (
+            &["holds", "later"],
+            &[],
+            &[],
+            Status::Bad,
+            b"bad holds at 4: NotForward\n",
+        ),
+        (
+            &["holds", "empty"],
+            &[],
+            &[],
+            Status::Bad,
+            b"bad holds at 1: Unexpected\n",
+        ),
         (&[], &[], &[], Status::Usage, b"usage\n"),
         (&["holds", "-own"], &[], &[], Status::Usage, b"usage\n"),
         (

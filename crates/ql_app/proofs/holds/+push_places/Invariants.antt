@@ -2,4 +2,4 @@ use Rattle.std.proofs.Common.{length}
 use Rattle.ql_app.proofs.holds.+push_places.Given as goal
 
 abbrev pub decreases-push_places : goal.decreases-push_places
-decreases-push_places l = length l.variables.now
+decreases-push_places l = length l.names.now

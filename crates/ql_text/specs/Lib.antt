@@ -1,4 +1,0 @@
-pub mod Reading
-pub mod Items
-pub mod Answers
-pub mod LineEnds
