@@ -17,3 +17,4 @@ mod ProgramStand
 mod ProgramCounts
 mod ReadSources
 mod ProgramPrinting
+mod SameText

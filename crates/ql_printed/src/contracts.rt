@@ -9,12 +9,14 @@ ghost use Rattle.ql_printed.specs.Printed.{Fits, IsInGrammar, IsReadable, IsRead
 
 /// What is printed of a contract is that contract again, places aside.
 ///
+/// The places of a tree don't change its text (`places`).
 /// It is in the grammar for each tree whose names are names of the language and in which no group of a `txn` is
 /// empty (`grammar`), as are the trees that are read (`fits`, `few`). It is read again where it is within the limits
 /// (`text`, `answer`): the tree has few nodes, and the text opens few brackets at once, which that of a long chain
 /// of operators may not do. So what is printed of a contract that was read is read as the same one where it opens
 /// few brackets at once (`again`).
 pub fn printed_again()
+    ensures places { (s : Sentence) → contract_text (unplaced s) ≡ contract_text s }
     ensures grammar { (s : Sentence) → Fits s → (t : Sentence) × IsInGrammar (contract_text s) t × (unplaced t ≡ unplaced s) }
     ensures fits { (bytes : List ℕ) (s : Sentence) → IsContractText bytes s → Fits s }
     ensures few { (bytes : List ℕ) (s : Sentence) → IsContractText bytes s → prop_nodes s.body ≤ MAX_NODES }

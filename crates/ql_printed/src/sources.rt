@@ -15,12 +15,14 @@ ghost use Rattle.ql_printed.specs.PrintedPrograms.{
 
 /// What is printed of a source is that source again, places aside.
 ///
+/// The places of a tree don't change its text (`places`).
 /// It is in the grammar for each tree that has a text (`grammar`), as the trees that are read have, with few nodes in
 /// each contract and each expression (`fits`, `few`). It is read again where it is within the limits (`text`,
 /// `answer`). So what is printed of a source that was read is read as the same one where the printed text opens few
 /// brackets at once within each contract and each expression, which that of a long chain of operators may not do
 /// (`again`).
 pub fn source_printed_again()
+    ensures places { (p : Source) → program_text (unplaced_source p) ≡ program_text p }
     ensures grammar { (p : Source) → SourceFits p → (q : Source) × IsSourceInGrammar (program_text p) q × (unplaced_source q ≡ unplaced_source p) }
     ensures fits { (bytes : List ℕ) (p : Source) → IsProgramText bytes p → SourceFits p }
     ensures few { (bytes : List ℕ) (p : Source) → IsProgramText bytes p → HasFewNodes p }

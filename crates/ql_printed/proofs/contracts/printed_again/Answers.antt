@@ -10,6 +10,7 @@ use Rattle.ql_printed.proofs.ReadAs.{read_as}
 use Rattle.ql_printed.proofs.Printing.{printed_grammar, printed_text}
 use Rattle.ql_printed.proofs.ReadFits.{read_fits}
 use Rattle.ql_printed.proofs.ReadNodes.{read_few}
+use Rattle.ql_printed.proofs.SameText.{contract_same}
 use Rattle.ql_printed.proofs.contracts.printed_again.Goals as goal
 
 answered : goal.After-one_answer → (s : Sentence) (r : Result Contract ParseFault) → Fits s → IsReadable s → IsContractAnswer (contract_text s) r → IsReadAs s r
@@ -20,6 +21,9 @@ answered c s r fits readable answer =
     (λ u p. laws.tree (contract_text s) u again.0 p again.1)
     (λ f p. laws.apart (contract_text s) again.0 f again.1 p)
     (λ e p. laws.no_lexical (contract_text s) again.0 e again.1 p) r answer
+
+pub returns-clause-places : goal.returns-clause-places
+returns-clause-places c = contract_same
 
 pub returns-clause-grammar : goal.returns-clause-grammar
 returns-clause-grammar c = printed_grammar

@@ -9,6 +9,7 @@ use Rattle.ql_printed.specs.PrintedPrograms.{SourceFits, HasFewNodes, HasFewBrac
 use Rattle.ql_printed.proofs.ReadAs.{read_as}
 use Rattle.ql_printed.proofs.ProgramPrinting.{source_grammar, source_text}
 use Rattle.ql_printed.proofs.ReadSources.{source_read_fits, source_read_few}
+use Rattle.ql_printed.proofs.SameText.{source_same}
 use Rattle.ql_printed.proofs.sources.source_printed_again.Goals as goal
 
 answered : goal.After-one_program_answer → (p : Source) (r : Result Program ParseFault) → SourceFits p → HasFewNodes p → HasFewBrackets p → IsProgramAnswer (program_text p) r → IsSourceReadAs p r
@@ -19,6 +20,9 @@ answered c p r fits nodes brackets answer =
     (λ u q. laws.tree (program_text p) u again.0 q again.1)
     (λ f q. laws.apart (program_text p) again.0 f again.1 q)
     (λ e q. laws.no_lexical (program_text p) again.0 e again.1 q) r answer
+
+pub returns-clause-places : goal.returns-clause-places
+returns-clause-places c = source_same
 
 pub returns-clause-grammar : goal.returns-clause-grammar
 returns-clause-grammar c = source_grammar
