@@ -2,3 +2,4 @@ pub mod Powers
 pub mod HoldsLaws
 pub mod OutcomeLaws
 pub mod ProofLaws
+pub mod Statuses

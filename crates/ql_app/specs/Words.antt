@@ -4,7 +4,7 @@ use Rattle.std.specs.Global.{Global, Vec}
 use Rattle.std.specs.declared.string.String.{String}
 use Rattle.std.specs.String.{string_bytes}
 use Rattle.ql_app.specs.declared.words.Command.{Command}
-use Rattle.ql_app.specs.declared.words.Command.TheVariants.{Holds, Proof}
+use Rattle.ql_app.specs.declared.words.Command.TheVariants.{Holds, Proof, Classify}
 
 -- the words' bytes
 abbrev pub word_texts : Vec (String Global) → List (List ℕ)
@@ -18,6 +18,7 @@ IsName name = (1 ≤ length name) × (length name ≤ 255) × (slice_index name 
 abbrev pub command_word : Command → List ℕ
 command_word Holds = codes "holds"
 command_word Proof = codes "proof"
+command_word Classify = codes "classify"
 
 -- the words ask for a command on the file of a name
 abbrev pub IsRequest : List (List ℕ) → Command → List ℕ → Type 0

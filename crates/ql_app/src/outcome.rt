@@ -1,12 +1,15 @@
 ghost use Rattle.std.specs.Prelude.{◌≡◌, ◌<◌, ◌^◌, ◌++◌, IfOk, codes, length};
 ghost use Rattle.ql_app.specs.Words.{word_texts};
+ghost use Rattle.ql_app.specs.Answers.{AnswerSays, status_of};
 ghost use Rattle.ql_app.specs.Outcome.{Says, CommandSays};
+ghost use Rattle.ql_commands.specs.Classify.{ClassifySays};
 
 use crate::holds::holds;
 use crate::proof::judge;
 use crate::status::Status;
 use crate::words::{Command, request};
 use ql_base::NoMemory;
+use ql_commands::{Answer, classify};
 use ql_ports::{ReadError, Shelf, read_whole};
 use std::alloc::Global;
 
@@ -50,5 +53,25 @@ fn judged(alloc: Global, command: Command, bytes: &[u8]) -> Result<(Status, Vec<
     match command {
         Command::Holds => holds(alloc, bytes),
         Command::Proof => judge(alloc, bytes),
+        Command::Classify => classify_file(alloc, bytes),
+    }
+}
+
+fn classify_file(alloc: Global, source: &[u8]) -> Result<(Status, Vec<u8>), NoMemory>
+    requires { length source.now < 2 ^ 32 }
+    ensures { IfOk result (λ answer. AnswerSays (ClassifySays source.now) answer.0 answer.1.items) }
+{
+    let (answer, text) = classify(alloc, source)?;
+    Ok((status_of(answer), text))
+}
+
+// The status of an answer.
+fn status_of(answer: Answer) -> Status
+    ensures { result ≡ status_of answer }
+{
+    match answer {
+        Answer::Done => Status::Done,
+        Answer::No => Status::No,
+        Answer::Bad => Status::Bad,
     }
 }

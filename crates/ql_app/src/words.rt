@@ -9,6 +9,8 @@ pub enum Command {
     Holds,
     /// Whether a refutation shows that no assignment satisfies some clauses.
     Proof,
+    /// The least levels of a source's operations and transactions.
+    Classify,
 }
 
 /// The command and the name of its file, where the words are those of a command.
@@ -37,6 +39,7 @@ fn command_named(word: &str) -> Option<Command>
     match word {
         "holds" => Some(Command::Holds),
         "proof" => Some(Command::Proof),
+        "classify" => Some(Command::Classify),
         _ => None,
     }
 }
