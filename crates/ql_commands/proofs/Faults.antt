@@ -1,19 +1,16 @@
 -- A source of a typed program has no fault.
-use Rattle.std.proofs.Common.{◌≡◌, ℕ, List, [], Some, Err, arith, sym, subst, ◌∙◌}
-use Rattle.std.specs.List.{Contains}
+use Rattle.std.proofs.Common.{◌≡◌, ℕ, List, [], Some, Err, arith, subst, ◌∙◌}
 use Rattle.ql_grammar.specs.Limits as limits
-use Rattle.ql_lang.specs.declared.program.Program.{Program}
 use Rattle.ql_lang.specs.Programs.{Source, source_of}
 use Rattle.ql_lex.specs.Tokens.{Lexes}
 use Rattle.ql_lex.specs.declared.token.LexFault.{LexFault}
 use Rattle.ql_parse.specs.Parsing.{IsProgramText, IsProgramFault}
-use Rattle.ql_parse.specs.declared.fault.ParseFault.{ParseFault}
 use Rattle.ql_parse.specs.declared.fault.ParseFault.TheVariants.{Lex, Unexpected, Deep, Wide, NoMemory as NoParseMemory}
 use Rattle.ql_typing.specs.Faults.{IsFirstOf, TellsFirst}
 use Rattle.ql_typing.specs.Programs.{program_faults}
 use Rattle.ql_typing.specs.declared.fault.TypeFault.{TypeFault}
 use Rattle.ql_typing.specs.declared.fault.TypeFault.TheVariants.{Unknown, Twice, Kind, TooMany, TxnClosure, Variables, TxnAtom, NoMemory as NoTypeMemory}
-use Rattle.ql_commands.specs.Sources.{IsSource, IsSourceFault, DeniesSource, fault_text, typing_fault}
+use Rattle.ql_commands.specs.Sources.{IsSourceFault, DeniesSource, fault_text}
 use Rattle.ql_commands.specs.declared.source_fault.SourceFault.{SourceFault}
 use Rattle.ql_commands.specs.declared.source_fault.SourceFault.TheVariants.{Parse, Typing}
 use Rattle.ql_commands.proofs.SameSource.{same_faults}

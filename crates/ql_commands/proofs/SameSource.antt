@@ -1,10 +1,8 @@
 -- Programs that are read as one source have the same faults and the same contracts, wherever their parts are kept.
-use Rattle.std.proofs.Common.{◌≡◌, ℕ, List, [], ◌∷◌, ◌++◌, map, length, true, false, Option, Some, None, refl, sym, ap, ◌∙◌}
+use Rattle.std.proofs.Common.{◌≡◌, ℕ, List, [], ◌∷◌, ◌++◌, map, true, false, Option, Some, None, refl, ap, ◌∙◌}
 use Rattle.std.specs.List.{flat_map}
 use Rattle.std.specs.Option.{option_map}
 use Rattle.ql_lang.specs.declared.name.Name.{Name}
-use Rattle.ql_lang.specs.declared.operation.Kind.{Kind}
-use Rattle.ql_lang.specs.declared.operation.Kind.TheVariants as kind
 use Rattle.ql_lang.specs.declared.operation.Bind.{Bind}
 use Rattle.ql_lang.specs.declared.operation.Stmt.{Stmt}
 use Rattle.ql_lang.specs.declared.operation.EmitDecl.{EmitDecl}
@@ -14,7 +12,6 @@ use Rattle.ql_lang.specs.declared.program.TypeDecl.{TypeDecl}
 use Rattle.ql_lang.specs.declared.program.TxnDecl.{TxnDecl}
 use Rattle.ql_lang.specs.declared.program.Program.{Program}
 use Rattle.ql_lang.specs.Expressions.{expression_of}
-use Rattle.ql_lang.specs.Trees.{sentence_of}
 use Rattle.ql_lang.specs.Programs.{Binding, Assignment, Emission, Operation, Replicated, Transaction, Source, binding_of, assignment_of, emission_of, operation_of, replicated_of, transaction_of, source_of}
 use Rattle.ql_typing.specs.declared.fault.TypeFault.{TypeFault}
 use Rattle.ql_typing.specs.declared.scope.Known.{Known}

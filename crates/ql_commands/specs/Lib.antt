@@ -1,3 +1,6 @@
 pub mod Sources
 pub mod Levels
 pub mod Classify
+pub mod Certificates
+pub mod Prove
+pub mod Spellable

@@ -3,11 +3,14 @@
 #![tactic(auto)]
 
 mod answer;
+mod certificate;
 mod classification;
 mod refusal;
 mod source;
 mod source_fault;
+mod spellable;
 
 pub use answer::Answer;
+pub use certificate::prove;
 pub use classification::classify;
 pub use source_fault::SourceFault;

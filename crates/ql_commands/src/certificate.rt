@@ -1,0 +1,110 @@
+ghost use Rattle.std.specs.Prelude.{◌≡◌, ◌<◌, ◌^◌, ◌+◌, length, slice_get, IfOk, OnOk, Some};
+ghost use Rattle.std.specs.List.{AllByRecursion, AllZip};
+ghost use Rattle.ql_base.specs.Names.{IsName};
+ghost use Rattle.ql_cert.specs.CertFile.{IsSection};
+ghost use Rattle.ql_classify.specs.Targets.{goals_at, targets};
+ghost use Rattle.ql_ground.specs.declared.goal.Goal.{Goal};
+ghost use Rattle.ql_typing.specs.Operations.{all_ops};
+ghost use Rattle.ql_commands.specs.Levels.{AreLevelsOf};
+ghost use Rattle.ql_commands.specs.Prove.{IsCertificateFor, IsSectionOf, ProveSays, level_of, name_of};
+ghost use Rattle.ql_commands.specs.Spellable.{HasNames};
+
+use crate::answer::Answer;
+use crate::refusal::refusal;
+use crate::source::read_source;
+use crate::source_fault::bad_source;
+use crate::spellable::spellable;
+use ql_base::{DeclId, NoMemory, OpId, Word};
+use ql_cert::{Cert, Section, SectionLevel, Sections, print_cert};
+use ql_classify::Classified;
+use ql_levels::Levels;
+use ql_typing::Typed;
+use std::alloc::Global;
+
+/// The certificate of a source's least levels, or what fails first.
+pub fn prove(alloc: Global, source: &[u8]) -> Result<(Answer, Vec<u8>), NoMemory>
+    requires { length source.now < 2 ^ 32 }
+    ensures { IfOk result (λ answer. ProveSays source.now answer.0 answer.1.items) }
+{
+    let typed = match read_source(alloc, source) {
+        Ok(typed) => typed,
+        Err(fault) => return Ok((Answer::Bad, bad_source(alloc, fault)?)),
+    };
+    match ql_classify::classify(alloc, &typed) {
+        Ok(classified) => Ok((Answer::Done, certificate(alloc, &classified)?)),
+        Err(why) => Ok((Answer::No, refusal(alloc, &typed, why)?)),
+    }
+}
+
+// The text of the certificate of a program's levels.
+fn certificate(alloc: Global, classified: &Classified) -> Result<Vec<u8>, NoMemory>
+    requires { HasNames classified.now.program }
+    ensures levels { OnOk result (AreLevelsOf classified.now.program classified.now.levels) }
+    ensures text { IfOk result (λ text. IsCertificateFor classified.now.program classified.now.levels text.items) }
+{
+    let cert = Cert {
+        sections: Sections::of(sections(alloc, classified)?),
+    };
+    print_cert(alloc, &cert)
+}
+
+// A section for each target at its level.
+fn sections(alloc: Global, classified: &Classified) -> Result<Vec<Section>, NoMemory>
+    requires { HasNames classified.now.program }
+    ensures levels { OnOk result (AreLevelsOf classified.now.program classified.now.levels) }
+    ensures targets { IfOk result (λ sections. AllZip (IsSectionOf classified.now.program) (goals_at classified.now.levels) sections.items) }
+    ensures spelled { IfOk result (λ sections. AllByRecursion IsSection sections.items) }
+{
+    let typed = classified.typed();
+    let levels = classified.levels();
+    let mut sections = Vec::new(alloc);
+    for target in 0..typed.ops() + typed.txns() {
+        let (name, level) = heading(typed, levels, target);
+        let refutation = spellable(alloc, classified.refutation(target))?;
+        sections.push(Section {
+            name,
+            level,
+            refutation,
+        })?;
+    }
+    Ok(sections)
+}
+
+// The name of a target, and its level.
+fn heading(t: &Typed, levels: &Levels, target: u32) -> (Word, SectionLevel)
+    requires names { HasNames t.now.program }
+    requires ops { length levels.now.ops ≡ length (all_ops t.now.program.types) }
+    requires txns { length levels.now.txns ≡ length t.now.program.txns }
+    requires target { target < targets t.now.program }
+    ensures is_name { IsName result.0 }
+    ensures name { (g : Goal) → slice_get (goals_at levels.now) target ≡ Some g → result.0 ≡ name_of t.now.program g }
+    ensures level { (g : Goal) → slice_get (goals_at levels.now) target ≡ Some g → result.1 ≡ level_of g }
+{
+    if target < t.ops() {
+        op_heading(t, levels, OpId(target))
+    } else {
+        txn_heading(t, levels, DeclId(target - t.ops()))
+    }
+}
+
+fn op_heading(t: &Typed, levels: &Levels, o: OpId) -> (Word, SectionLevel)
+    requires names { HasNames t.now.program }
+    requires level { o.0 < length levels.now.ops }
+    requires op { o.0 < length (all_ops t.now.program.types) }
+    ensures is_name { IsName result.0 }
+    ensures name { (g : Goal) → slice_get (goals_at levels.now) o.0 ≡ Some g → result.0 ≡ name_of t.now.program g }
+    ensures level { (g : Goal) → slice_get (goals_at levels.now) o.0 ≡ Some g → result.1 ≡ level_of g }
+{
+    (t.op(o).name.word, SectionLevel::Op(levels.op(o)))
+}
+
+fn txn_heading(t: &Typed, levels: &Levels, d: DeclId) -> (Word, SectionLevel)
+    requires names { HasNames t.now.program }
+    requires level { d.0 < length levels.now.txns }
+    requires txn { d.0 < length t.now.program.txns }
+    ensures is_name { IsName result.0 }
+    ensures name { (g : Goal) → slice_get (goals_at levels.now) (length levels.now.ops + d.0) ≡ Some g → result.0 ≡ name_of t.now.program g }
+    ensures level { (g : Goal) → slice_get (goals_at levels.now) (length levels.now.ops + d.0) ≡ Some g → result.1 ≡ level_of g }
+{
+    (t.txn(d).name.word, SectionLevel::Txn(levels.txn(d)))
+}
