@@ -1,4 +1,4 @@
-use Rattle.std.proofs.Common.{◌≡◌, ℕ, List, [], ◌∷◌, Option, Some, None, Result, Ok, Err, refl, sym, ◌∙◌, length, ap}
+use Rattle.std.proofs.Common.{◌≡◌, ℕ, List, [], ◌∷◌, Some, None, Ok, Err, refl, sym, ◌∙◌, length, ap}
 use Rattle.ql_lex.specs.Tokens.{Lexes, IsFirstFault}
 use Rattle.ql_lex.specs.declared.token.LexFault.{LexFault}
 use Rattle.ql_lex.specs.declared.token.LexFault.TheVariants.{BadChar, LongWord, BadNumber, NoMemory}
@@ -6,7 +6,7 @@ use Rattle.ql_lex.specs.declared.token.Token.{Token}
 use Rattle.ql_grammar.specs.Limits as limits
 use Rattle.ql_grammar.specs.Limits.{nothing_yet}
 use Rattle.ql_grammar.specs.Tokens.{Lexeme, Marked}
-use Rattle.ql_grammar.specs.Table.{Value, Sym, APart, Part}
+use Rattle.ql_grammar.specs.Table.{Value, APart, Part}
 use Rattle.ql_grammar.specs.Machine.{Reading, read, run, step, finish, place_ahead}
 use Rattle.ql_grammar.proofs.Laws.{IsWhole, text_found, fault_found}
 use Rattle.ql_grammar.specs.declared.terminal.Terminal.{Terminal}

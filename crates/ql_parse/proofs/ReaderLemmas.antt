@@ -1,4 +1,4 @@
-use Rattle.std.proofs.Common.{◌≡◌, ℕ, ◌+◌, ◌≤◌, ◌<◌, List, [], ◌∷◌, Bool, true, false, Option, Some, None, Result, Ok, Err, refl, sym, ap, subst, ◌∙◌, length, drop, take, arith, slice_index_or, slice_range, ◌-◌, length-take, length-drop, decimal, ◌^◌}
+use Rattle.std.proofs.Common.{◌≡◌, ℕ, ◌+◌, ◌≤◌, ◌<◌, List, [], ◌∷◌, true, false, Some, None, Ok, Err, refl, sym, ap, ◌∙◌, length, drop, take, arith, slice_index_or, slice_range, ◌-◌, length-take, length-drop}
 use Rattle.ql_lex.specs.declared.token.Token.{Token}
 use Rattle.ql_lex.specs.declared.token.TokenKind.TheVariants.{Name, Int, Text}
 use Rattle.ql_grammar.specs.declared.terminal.Terminal.{Terminal}
@@ -6,7 +6,7 @@ use Rattle.ql_grammar.specs.declared.terminal.Terminal.TheVariants.{NameToken, I
 use Rattle.ql_grammar.specs.declared.role.Role.{Role}
 use Rattle.ql_grammar.specs.Terminals.{is_same}
 use Rattle.ql_grammar.specs.Tokens.{Lexeme, terminal_of}
-use Rattle.ql_base.specs.Numbers.{Spells, IsNumberOf}
+use Rattle.ql_base.specs.Numbers.{Spells}
 use Rattle.std.specs.Str.Parse.{digits_value}
 use Rattle.std.proofs.lemmas.Fmt.{decimal_is_IsNumeral}
 use Rattle.ql_lang.specs.declared.expression.BinOp.{BinOp}
@@ -17,7 +17,7 @@ use Rattle.ql_grammar.proofs.Fixed.{name_token, int_token, text_token}
 use Rattle.ql_grammar.proofs.TerminalLemmas.{same_terminal}
 use Rattle.ql_grammar.specs.Limits as limits
 use Rattle.ql_grammar.specs.Limits.{Counts, counted, if_within}
-use Rattle.ql_grammar.specs.Table.{Value, APlace, AName, ASpelling, AnOperator, Sym, Word, Placed, ANameOf, Kept, Operator}
+use Rattle.ql_grammar.specs.Table.{Value, APlace, AName, ASpelling, AnOperator, Word, Placed, ANameOf, Kept, Operator}
 use Rattle.ql_grammar.specs.Machine.{Reading, read, is_ahead, operator_ahead, place_ahead}
 use Rattle.ql_grammar.proofs.Taking.{behind, text_ahead, word_taken, word_missing, placed_taken, placed_missing, name_taken, name_missing, kept_taken, kept_missing, operator_counted, operator_missing, some_ahead, some_operator_ahead}
 use Rattle.ql_parse.specs.declared.fault.Refusal.{Refusal}

@@ -1,4 +1,4 @@
-use Rattle.std.proofs.Common.{◌≡◌, ℕ, ◌+◌, ◌≤◌, ◌<◌, List, [], ◌∷◌, ◌++◌, Result, Ok, Err, refl, sym, subst, arith, length, take, drop, slice_range, ◌-◌, ap, ◌∙◌, drop-drop}
+use Rattle.std.proofs.Common.{◌≡◌, ℕ, ◌+◌, ◌≤◌, ◌<◌, List, [], ◌∷◌, Result, Ok, Err, refl, subst, arith, length, take, drop, slice_range, ◌-◌, ap, ◌∙◌, drop-drop}
 use Rattle.std.proofs.Math.Seq.{take-append_seam}
 use Rattle.ql_base.specs.Numbers.{Spells}
 use Rattle.ql_lex.specs.Fronts.{IsFront, name, text as quoted_text, number, most_number}
@@ -8,7 +8,7 @@ use Rattle.ql_lex.specs.declared.token.LexFault.{LexFault}
 use Rattle.ql_lex.specs.declared.token.Token.{Token}
 use Rattle.ql_lex.specs.declared.token.TokenKind.{TokenKind}
 use Rattle.ql_lex.specs.declared.token.TokenKind.TheVariants.{Name, Int, Text}
-use Rattle.ql_parse.specs.Readers.{AreSpans, IsSpan}
+use Rattle.ql_parse.specs.Readers.{AreSpans}
 
 -- the bytes of a token are what its kind may be
 record IsKindly (bytes : List ℕ) (t : Token) : Type 0 where

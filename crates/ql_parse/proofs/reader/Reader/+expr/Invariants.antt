@@ -1,4 +1,4 @@
-use Rattle.std.proofs.Common.{◌≡◌, ◌∷◌, ◌<◌, List, length, map, ℕ, ◌+◌, ◌*◌}
+use Rattle.std.proofs.Common.{length, map, ◌+◌, ◌*◌}
 use Rattle.ql_lang.specs.Expressions.{expression_of}
 use Rattle.ql_grammar.specs.ExpressionGrammar.{Multiplied, Added, Conjoined, Disjoined}
 use Rattle.ql_grammar.specs.Table.{APart, AnExpr, TheExprs, Arguments, ExprAt, MoreArguments, MoreTimes, MorePlus, MoreConjoined, MoreDisjoined}

@@ -1,4 +1,4 @@
-use Rattle.std.proofs.Common.{◌≡◌, ◌∷◌, ◌<◌, List, length, ℕ, ◌+◌, ◌*◌}
+use Rattle.std.proofs.Common.{length, ◌+◌, ◌*◌}
 use Rattle.ql_grammar.specs.ContractGrammar.{Both, Either}
 use Rattle.ql_grammar.specs.Table.{APart, AProp, MoreAnds, MoreOrs, PropAt}
 use Rattle.ql_lang.specs.Trees.{proposition_of}

@@ -5,8 +5,8 @@ use Rattle.ql_grammar.specs.ContractGrammar.{Single, Product, Sum}
 use Rattle.ql_grammar.specs.Table.{Placed, Do, Then, RelationAt, MoreFactors, MoreSummands, to_basic}
 use Rattle.ql_grammar.specs.Machine.{read}
 use Rattle.ql_grammar.proofs.Choices.{read-do}
-use Rattle.ql_grammar.proofs.Rules.{single-bracket, applied-bracket, read-as, then-on, then-past}
-use Rattle.ql_parse.proofs.RelationRules.{single-named, applied-named}
+use Rattle.ql_grammar.proofs.Rules.{single-bracket, read-as, then-on, then-past}
+use Rattle.ql_parse.proofs.RelationRules.{single-named}
 use Rattle.ql_parse.proofs.reader.Reader.+relation.Goals as goal
 
 pub single-returns-in_err-take-clause-refused : goal.single-returns-in_err-take-clause-refused

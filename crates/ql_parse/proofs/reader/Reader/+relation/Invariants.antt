@@ -1,4 +1,4 @@
-use Rattle.std.proofs.Common.{◌≡◌, ◌∷◌, ◌<◌, List, length, ℕ, ◌+◌, ◌*◌}
+use Rattle.std.proofs.Common.{length, ◌+◌, ◌*◌}
 use Rattle.ql_grammar.specs.ContractGrammar.{Product, Sum}
 use Rattle.ql_grammar.specs.Table.{APart, ARelation, MoreFactors, MoreSummands, RelationAt}
 use Rattle.ql_lang.specs.Trees.{relation_of}

@@ -1,12 +1,11 @@
-use Rattle.std.proofs.Common.{sym, ◌∙◌, ap, refl, ◌∷◌}
+use Rattle.std.proofs.Common.{sym, ◌∙◌, ap, ◌∷◌}
 use Rattle.std.proofs.lemmas.Result.{err_from_is_err_and}
 use Rattle.ql_grammar.specs.declared.role.Role.TheVariants.{Makes}
-use Rattle.ql_grammar.specs.ContractGrammar.{Single, Product, Sum}
-use Rattle.ql_grammar.specs.Table.{Placed, Do, Then, RelationAt, MoreFactors, MoreSummands, to_basic}
+use Rattle.ql_grammar.specs.Table.{Placed, Do, to_basic}
 use Rattle.ql_grammar.specs.Machine.{read}
 use Rattle.ql_grammar.proofs.Choices.{read-do}
-use Rattle.ql_grammar.proofs.Rules.{single-bracket, applied-bracket, read-as, then-on, then-past}
-use Rattle.ql_parse.proofs.RelationRules.{single-named, applied-named}
+use Rattle.ql_grammar.proofs.Rules.{applied-bracket}
+use Rattle.ql_parse.proofs.RelationRules.{applied-named}
 use Rattle.ql_parse.proofs.reader.Reader.applied.Goals as goal
 
 pub returns-in_err-take-clause-refused : goal.returns-in_err-take-clause-refused

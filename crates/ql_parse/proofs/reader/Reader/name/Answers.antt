@@ -1,4 +1,3 @@
-use Rattle.std.proofs.Common.{sym, ◌∙◌}
 use Rattle.std.proofs.lemmas.Result.{err_from_is_err_and}
 use Rattle.ql_parse.proofs.ReaderLemmas.{name_past, name_refused, takes_name, counted_ahead}
 use Rattle.ql_parse.proofs.reader.Reader.name.Goals as goal

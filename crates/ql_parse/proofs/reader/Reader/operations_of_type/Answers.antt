@@ -1,12 +1,9 @@
-use Rattle.std.proofs.Common.{◌≡◌, sym, ◌∙◌, ap, refl, ◌∷◌, [], ◌++◌, arith, map, rules, w64, Option, Some, None}
-use mir.Val.{SFits}
-use Rattle.std.proofs.lemmas.Int.{to_z-of_z}
+use Rattle.std.proofs.Common.{◌≡◌, sym, ◌∙◌, ap, ◌∷◌, [], ◌++◌, arith}
 use Rattle.std.proofs.lemmas.Result.{err_from_is_err_and}
-use Rattle.ql_lang.specs.Programs.{binding_of, assignment_of, emission_of, operation_of, replicated_of, transaction_of}
-use Rattle.ql_grammar.specs.Table.{Do, Then, MoreFields, SomeParams, MoreParams, MoreListed, MoreBindings, MoreAssignments, Effect, MoreOperations, MoreTypes, MoreTransactions}
+use Rattle.ql_lang.specs.Programs.{operation_of}
+use Rattle.ql_grammar.specs.Table.{MoreOperations}
 use Rattle.ql_grammar.proofs.Choices.{read-do}
 use Rattle.ql_grammar.proofs.Rules.{then-on, then-past}
-use Rattle.ql_grammar.proofs.ByToken.{base-int, base-bool, base-text, kind-set, kind-map, kind-unit, kind-int, kind-bool, kind-text, beginning-number, beginning-negative, beginning-text, beginning-plain, plain-true, plain-false, plain-unit, plain-empty, listed-start, source-start}
 use Rattle.ql_parse.proofs.ArgumentLemmas.{map_more}
 use Rattle.ql_parse.proofs.reader.Reader.operations_of_type.Goals as goal
 

@@ -1,4 +1,3 @@
-use Rattle.std.proofs.Common.{sym, ◌∙◌}
 use Rattle.std.proofs.lemmas.Result.{err_from_is_err_and}
 use Rattle.ql_parse.proofs.ReaderLemmas.{operator_past, operator_refused, operator_passed, operator_not_empty, operator_shorter, takes_operator}
 use Rattle.ql_parse.proofs.reader.Reader.operator.Goals as goal

@@ -1,4 +1,4 @@
-use Rattle.std.proofs.Common.{sym, ap, ◌∙◌, ◌≤◌, arith}
+use Rattle.std.proofs.Common.{sym, ap, arith}
 use Rattle.ql_lex.specs.declared.token.TokenKind.TheVariants.{Name}
 use Rattle.ql_grammar.specs.Machine.{Reading}
 use Rattle.ql_parse.proofs.ReaderLemmas.{text_ahead_fits}

@@ -1,4 +1,3 @@
-use Rattle.std.proofs.Common.{sym, ◌∙◌}
 use Rattle.std.proofs.lemmas.Result.{err_from_is_err_and}
 use Rattle.ql_parse.proofs.ReaderLemmas.{word_past, word_refused, takes_word, placed_past, placed_refused, takes_placed, counted_ahead, not_empty, shorter_behind}
 use Rattle.ql_parse.proofs.reader.Reader.take.Goals as goal

@@ -1,4 +1,3 @@
-use Rattle.std.proofs.Common.{sym, ◌∙◌}
 use Rattle.std.proofs.lemmas.Result.{err_from_is_err_and}
 use Rattle.ql_grammar.specs.declared.terminal.Terminal.TheVariants.{TextToken}
 use Rattle.ql_parse.proofs.ReaderLemmas.{kept_past, kept_refused, takes_kept, counted_ahead, not_empty, shorter_behind}

@@ -1,7 +1,7 @@
-use Rattle.std.proofs.Common.{length, map, [], ◌∷◌, ◌≤◌, Option, None}
-use Rattle.ql_lang.specs.Programs.{binding_of, assignment_of, operation_of, replicated_of, transaction_of}
-use Rattle.ql_grammar.specs.Table.{APart, ListedNames, MoreListed, TheNames, MoreFields, TheFields, SomeParams, MoreParams, TheParams, MoreBindings, TheBindings, MoreAssignments, TheAssignments, MoreOperations, TheOperations, MoreTypes, TheTypes, MoreTransactions, TheTransactions, bindings_symbols, operations_symbols}
-use Rattle.ql_parse.specs.Readings.{Started, Collecting, Gathering, StartedAll, types_symbols}
+use Rattle.std.proofs.Common.{length, map, []}
+use Rattle.ql_lang.specs.Programs.{transaction_of}
+use Rattle.ql_grammar.specs.Table.{MoreTransactions, TheTransactions}
+use Rattle.ql_parse.specs.Readings.{Collecting}
 use Rattle.ql_parse.proofs.reader.Reader.transactions.Given as goal
 
 abbrev pub invariant-more : goal.invariant-more

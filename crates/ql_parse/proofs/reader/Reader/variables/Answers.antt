@@ -1,11 +1,8 @@
 use Rattle.std.proofs.Common.{◌≡◌, sym, ◌∙◌, ap, refl, ◌∷◌, [], ◌++◌, arith}
-use Rattle.std.proofs.lemmas.Result.{err_from_is_err_and, MatchResult-weaker, IfOk-weaker}
-use Rattle.ql_grammar.specs.declared.role.Role.TheVariants.{Makes, Plain}
-use Rattle.ql_grammar.specs.ContractGrammar.{Atom, Both, Either, Whole}
-use Rattle.ql_grammar.specs.Table.{Placed, Do, Then, PropAt, Term, TermList, BarredNames, Variable, VarList, MoreAnds, MoreOrs, MoreImplied, MoreTerms, MoreNames, MoreVars, Operations, to_terms, to_names, to_vars, to_free}
-use Rattle.ql_grammar.specs.Machine.{read}
+use Rattle.std.proofs.lemmas.Result.{err_from_is_err_and}
+use Rattle.ql_grammar.specs.Table.{Do, Then, Variable, VarList, MoreVars, to_vars}
 use Rattle.ql_grammar.proofs.Choices.{read-do}
-use Rattle.ql_grammar.proofs.Rules.{term-cur, term-name, atom-truth, atom-group, atom-txn, atom-term, atom-relation, contract-forall, contract-plain, names-start, variable-start, read-as, then-on, then-past}
+use Rattle.ql_grammar.proofs.Rules.{read-as, then-on, then-past}
 use Rattle.ql_parse.proofs.reader.Reader.variables.Goals as goal
 
 pub returns-in_err-first-clause-refused : goal.returns-in_err-first-clause-refused
