@@ -1,19 +1,18 @@
-use Rattle.std.proofs.Common.{◌≡◌, ℕ, List, [], ◌∷◌, ◌++◌, Option, Some, None, Bool, true, false, Result, Ok, Err, refl, sym, ap, ◌∙◌}
+use Rattle.std.proofs.Common.{◌≡◌, ℕ, List, [], ◌∷◌, Some, refl}
 use Rattle.ql_lang.specs.declared.name.Name.{Name}
 use Rattle.ql_lang.specs.declared.relation.RelName.{RelName}
 use Rattle.ql_lang.specs.declared.contract.Point.{Point}
 use Rattle.ql_lang.specs.declared.contract.Var.{Var}
 use Rattle.ql_lang.specs.Trees.{Relation, Proposition, Sentence}
 use Rattle.ql_grammar.specs.declared.terminal.Terminal.{Terminal}
-use Rattle.ql_grammar.specs.declared.terminal.Terminal.TheVariants.{NameToken, ForallWord, Ampersand, AndMark, OrMark, Arrow, Bar, Colon, Comma, Dot, OpenParen, CloseParen, Equals}
+use Rattle.ql_grammar.specs.declared.terminal.Terminal.TheVariants.{ForallWord, Ampersand, AndMark, OrMark, Arrow, Bar, Colon, Comma, OpenParen, CloseParen, Equals}
 use Rattle.ql_grammar.specs.Terminals.{is_same, number}
 use Rattle.ql_grammar.specs.declared.role.Role.{Role}
 use Rattle.ql_grammar.specs.declared.role.Role.TheVariants.{Plain, Makes, Opens, Closes}
-use Rattle.ql_grammar.specs.Tokens.{Marked, marked, lexemes}
+use Rattle.ql_grammar.specs.Tokens.{Marked}
 use Rattle.ql_grammar.specs.ContractGrammar.{IsRelationWord, vis, so, soo, sameobj, eq, hb, hbo, ReadsTerm, current, variable, ReadsTerms, one, more, ReadsRelation, RelationPart, Applied, Single, Product, Sum, applied_named, applied_bracket, named, bracket, single, both, product, either, ReadsProp, PropPart, Atom, Both, Either, Whole, truth, group, equal, applied, txn, atom, and, or, implies, ReadsNames, ReadsVar, free, over, ReadsVars, ReadsContract, plain, forall}
-use Rattle.ql_grammar.specs.Limits.{Counts}
-use Rattle.ql_grammar.specs.Table.{Value, APlace, AName, ATerm, TheTerms, ARelation, AProp, TheNames, AVar, TheVars, ASentence, Sym, Word, Placed, ANameOf, Do, APart, Then, Part, Term, TermList, RelationAt, PropAt, BarredNames, Variable, VarList, WholeContract, MoreTerms, MoreFactors, MoreSummands, MoreAnds, MoreOrs, MoreImplied, MoreNames, Operations, MoreVars, to_cur, to_variable, to_terms, add_term, to_basic, intersect, unite, to_equality, to_application, to_txn, conjoin, disjoin, imply, to_names, add_name, to_free, set_operations, to_vars, add_var, to_plain, to_forall}
-use Rattle.ql_grammar.specs.Machine.{lead, first_fit, step, finish, run}
+use Rattle.ql_grammar.specs.Table.{Value, APlace, ATerm, TheTerms, ARelation, AProp, TheNames, AVar, TheVars, ASentence, Sym, Word, Placed, Do, APart, Then, Term, TermList, RelationAt, PropAt, BarredNames, Variable, VarList, WholeContract, MoreTerms, MoreFactors, MoreSummands, MoreAnds, MoreOrs, MoreImplied, MoreNames, Operations, MoreVars, to_terms, add_term, to_basic, intersect, unite, to_equality, to_application, conjoin, disjoin, imply, set_operations, to_vars, add_var, to_plain, to_forall}
+use Rattle.ql_grammar.specs.Machine.{lead, first_fit, step, finish}
 use Rattle.ql_grammar.proofs.Paths.{Path, SameHead, here, take, via, then, doing, IsClear, pass, as_part}
 
 -- What the grammar reads, the machine reads too: to the same tree, each token in the same role.

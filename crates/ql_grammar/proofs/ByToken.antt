@@ -1,4 +1,4 @@
-use Rattle.std.proofs.Common.{◌≡◌, ℕ, List, [], ◌∷◌, Bool, true, false, cond, Result, Ok, Err, refl, sym, ap, subst, ◌∙◌}
+use Rattle.std.proofs.Common.{◌≡◌, ℕ, List, [], ◌∷◌, Bool, true, false, cond, Err, refl, sym, ap, subst, ◌∙◌}
 use Rattle.ql_lang.specs.declared.operation.Base.TheVariants as base
 use Rattle.ql_lang.specs.declared.operation.Kind.TheVariants as kind
 use Rattle.ql_lang.specs.declared.program.InitNode.TheVariants as init
@@ -8,11 +8,11 @@ use Rattle.ql_grammar.specs.declared.role.Role.TheVariants.{Plain, Makes, Opens,
 use Rattle.ql_grammar.specs.Terminals.{is_same, number}
 use Rattle.ql_grammar.specs.Tokens.{Lexeme}
 use Rattle.ql_grammar.specs.ExpressionGrammar.{Unary, Disjoined, Chosen}
-use Rattle.ql_grammar.specs.Limits.{Fault, Unexpected, Counts}
+use Rattle.ql_grammar.specs.Limits.{Unexpected, Counts}
 use Rattle.ql_grammar.specs.Table.{Value, Sym, Word, Placed, ANameOf, Kept, Do, APart, Then, ExprAt, Called, BaseKind, AnyKind, Beginning, ListedNames, WholeSource, MoreListed, MoreTypes, MoreTransactions, constant_ways, plain_ways, type_symbols, to_number, to_literal, to_truth, to_nothing, to_reading, to_group, to_denial, to_negation, to_choice, add_base, add_kind, to_set, to_map, begin_number, begin_negative, begin_text, begin_with, to_names, to_types, no_transactions, to_source}
-use Rattle.ql_grammar.specs.Machine.{Reading, lead, first_fit, step, finish, go_on, run, read, is_ahead, place_ahead, chosen}
+use Rattle.ql_grammar.specs.Machine.{Reading, lead, first_fit, step, go_on, run, read, is_ahead, place_ahead, chosen}
 use Rattle.ql_grammar.proofs.TerminalLemmas.{same_terminal}
-use Rattle.ql_grammar.proofs.Taking.{word_missing, name_missing}
+use Rattle.ql_grammar.proofs.Taking.{word_missing}
 use Rattle.ql_grammar.proofs.Choices.{read-part}
 use Rattle.ql_grammar.proofs.Rules.{last_placed, last_name}
 

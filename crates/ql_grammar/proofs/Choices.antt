@@ -1,14 +1,12 @@
-use Rattle.std.proofs.Common.{◌≡◌, ℕ, List, [], ◌∷◌, Option, Some, None, Bool, true, false, Result, Ok, Err, refl, sym, ap, ◌∙◌, cond, is_some}
-use Rattle.ql_grammar.specs.declared.terminal.Terminal.{Terminal}
+use Rattle.std.proofs.Common.{◌≡◌, ℕ, List, [], ◌∷◌, Option, Some, None, Bool, true, false, Result, Err, refl, sym, ap, ◌∙◌, cond, is_some}
 use Rattle.ql_grammar.specs.declared.terminal.Terminal.TheVariants.{NameToken}
 use Rattle.ql_grammar.specs.Terminals.{is_same}
-use Rattle.ql_grammar.specs.declared.role.Role.{Role}
 use Rattle.ql_grammar.specs.Tokens.{Lexeme}
-use Rattle.ql_grammar.specs.Limits.{Fault, Unexpected, Counts, counted, if_within}
+use Rattle.ql_grammar.specs.Limits.{Fault, Unexpected, Counts}
 use Rattle.ql_lang.specs.declared.expression.BinOp.{BinOp}
-use Rattle.ql_grammar.specs.Table.{ASpelling, AnOperator, Kept, Operator, operator_at, Value, APlace, AName, Sym, Word, Placed, ANameOf, Do, APart, Then, Part, Rest, ways, way_on}
+use Rattle.ql_grammar.specs.Table.{ASpelling, Kept, Operator, operator_at, Value, APlace, AName, Sym, Word, Placed, ANameOf, Do, APart, Then, Part, Rest, ways, way_on}
 use Rattle.ql_grammar.proofs.Operators.{ahead_is, none_ahead}
-use Rattle.ql_grammar.specs.Machine.{operator_taken, operator_ahead, Taken, or_else, lead, first_fit, step, finish, go_on, Reading, run, read, is_ahead, place_ahead, is_begun, chosen}
+use Rattle.ql_grammar.specs.Machine.{operator_taken, Taken, or_else, lead, first_fit, step, finish, go_on, Reading, run, read, is_ahead, is_begun, chosen}
 
 -- A reading chooses among the ways of a part by the next token.
 

@@ -1,18 +1,17 @@
-use Rattle.std.proofs.Common.{◌≡◌, ℕ, List, [], ◌∷◌, ◌++◌, Option, Some, None, Bool, true, false, Result, Ok, Err, refl, sym, ap, ◌∙◌}
+use Rattle.std.proofs.Common.{◌≡◌, ℕ, List, [], ◌∷◌, Some, None, false, refl}
 use Rattle.ql_lang.specs.declared.expression.BinOp.{BinOp}
 use Rattle.ql_lang.specs.Expressions.{Expression}
 use Rattle.ql_grammar.specs.declared.level.Level.TheVariants.{Product, Sum, Comparison as Compare, Conjunction, Disjunction}
 use Rattle.ql_grammar.specs.declared.terminal.Terminal.{Terminal}
 use Rattle.ql_grammar.specs.declared.terminal.Terminal.TheVariants.{IfWord, ThenWord, ElseWord, WhenWord, OpenParen, CloseParen, Comma, Semicolon}
 use Rattle.ql_grammar.specs.Terminals.{is_same, number as number_in}
-use Rattle.ql_grammar.specs.declared.role.Role.{Role}
-use Rattle.ql_grammar.specs.declared.role.Role.TheVariants.{Plain, Makes, Opens, Closes}
-use Rattle.ql_grammar.specs.Tokens.{Marked, marked}
+use Rattle.ql_grammar.specs.declared.role.Role.TheVariants.{Makes, Closes}
+use Rattle.ql_grammar.specs.Tokens.{Marked}
 use Rattle.ql_grammar.specs.ExpressionGrammar.{ExprPart, Unary, Multiplied, Added, Compared, Conjoined, Disjoined, Chosen, IsOperator, times, plus, minus, equal, unequal, less, at_most, greater, at_least, and, or, ReadsExpr, ReadsArguments, number, text, true_value, false_value, unit_value, variable, call, group, denial, negation, unary, product, multiplied, sum, added, comparison, compared, both, conjoined, either, disjoined, choice, one, more}
 use Rattle.ql_grammar.specs.Table.{Value, AnOperator, AnExpr, TheExprs, Sym, Word, Do, APart, Then, ExprAt, Arguments, MoreTimes, MorePlus, Comparison, MoreConjoined, MoreDisjoined, Called, MoreArguments, operator_at, combine, to_group, to_call, to_denial, to_negation, to_choice, to_arguments, add_argument}
 use Rattle.ql_grammar.specs.Machine.{lead, first_fit, step, finish}
 use Rattle.ql_grammar.proofs.Operators.{operator_found}
-use Rattle.ql_grammar.proofs.Paths.{Path, SameHead, here, take, via, then, doing, IsClear, IsNoOperator, pass, as_part}
+use Rattle.ql_grammar.proofs.Paths.{Path, SameHead, take, via, then, doing, IsClear, IsNoOperator, pass, as_part}
 
 -- What the grammar of expressions reads, the machine reads too: to the same tree, each token in the same role.
 

@@ -1,12 +1,10 @@
-use Rattle.std.proofs.Common.{ℕ, List, [], ◌∷◌, ◌++◌, true, false}
-use Rattle.ql_lang.specs.declared.name.Name.{Name}
+use Rattle.std.proofs.Common.{ℕ, List, ◌∷◌, true, false}
 use Rattle.ql_lang.specs.Expressions.{Expression, Reading}
-use Rattle.ql_grammar.specs.declared.level.Level.TheVariants as level
 use Rattle.ql_grammar.specs.declared.terminal.Terminal.TheVariants.{NameToken, IntToken, TextToken, TrueWord, FalseWord, UnitWord, IfWord, ThenWord, ElseWord, NotWord, OpenParen, CloseParen, Minus}
 use Rattle.ql_grammar.specs.declared.role.Role.TheVariants.{Plain, Makes, Opens, Closes}
 use Rattle.ql_grammar.specs.Tokens.{Marked, marked}
 use Rattle.ql_grammar.specs.ExpressionGrammar.{Unary, Multiplied, Added, Compared, Conjoined, Disjoined, Chosen, ReadsExpr, ReadsArguments, number, text, true_value, false_value, unit_value, variable, call, group, denial, negation, unary, product, multiplied, sum, added, comparison, compared, both, conjoined, either, disjoined, choice, one, more}
-use Rattle.ql_grammar.specs.Table.{Value, AnExpr, TheExprs, Sym, Word, Placed, ANameOf, Kept, Operator, Do, APart, Then, ExprAt, Arguments, MoreTimes, MorePlus, Comparison, MoreConjoined, MoreDisjoined, Called, MoreArguments, unary_ways, disjoined_ways, chosen_ways, to_number, to_literal, to_truth, to_nothing, to_reading, to_group, to_denial, to_negation, to_choice, to_arguments}
+use Rattle.ql_grammar.specs.Table.{Value, AnExpr, TheExprs, Sym, Word, Placed, ANameOf, Kept, Do, APart, Then, ExprAt, Arguments, MoreTimes, MorePlus, Comparison, MoreConjoined, MoreDisjoined, Called, MoreArguments, unary_ways, disjoined_ways, chosen_ways, to_number, to_literal, to_truth, to_nothing, to_reading, to_group, to_denial, to_negation, to_choice, to_arguments}
 use Rattle.ql_grammar.proofs.Wanted.{Has, Widens, word, placed, name, kept, operator, change, expr, arguments, stop, go}
 use Rattle.ql_grammar.proofs.Leading.{Leads, lead_on}
 

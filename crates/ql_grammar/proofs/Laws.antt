@@ -1,19 +1,19 @@
-use Rattle.std.proofs.Common.{◌≡◌, ℕ, List, [], ◌∷◌, ◌++◌, Option, Some, None, Bool, true, false, Result, Ok, Err, refl, sym, ap, subst, ◌∙◌, append_assoc, append-nil, cond, nat_lt, ◌+◌}
+use Rattle.std.proofs.Common.{◌≡◌, ℕ, List, [], ◌∷◌, ◌++◌, Bool, true, false, Result, Ok, Err, refl, sym, ap, subst, ◌∙◌, append_assoc, append-nil, cond, nat_lt, ◌+◌}
 use Rattle.ql_base.specs.declared.limits.TheConstants.{MAX_BRACKETS, MAX_NODES}
 use Rattle.ql_lang.specs.Trees.{Sentence}
 use Rattle.ql_lang.specs.Programs.{Source}
 use Rattle.ql_grammar.specs.declared.role.Role.{Role}
 use Rattle.ql_grammar.specs.declared.role.Role.TheVariants.{Plain, Makes, Opens, Closes, Before}
-use Rattle.ql_grammar.specs.Tokens.{Lexeme, Marked, marked, lexemes}
+use Rattle.ql_grammar.specs.Tokens.{Lexeme, Marked, lexemes}
 use Rattle.ql_grammar.specs.ContractGrammar.{ReadsContract}
 use Rattle.ql_grammar.specs.ProgramGrammar.{ReadsProgram}
 use Rattle.ql_grammar.specs.Limits.{Fault, Unexpected, Deep, Wide, Counts, counted, counted_all, with_nodes, if_within, nothing_yet}
 use Rattle.ql_grammar.specs.Table.{Value, Sym, APart, Part, WholeContract, WholeSource, ASentence, ASource}
 use Rattle.ql_grammar.specs.Machine.{run, finish}
-use Rattle.ql_grammar.specs.Texts.{IsTextOf, Begins, IsWithin, ParsesAs, FirstFault, unexpected, ended, past}
+use Rattle.ql_grammar.specs.Texts.{IsTextOf, Begins, ParsesAs, FirstFault, unexpected, ended, past}
 use Rattle.ql_grammar.proofs.Wanted.{Has, none, contract, source}
 use Rattle.ql_grammar.proofs.Told.{Reaches, Explained, stuck, ended as too_early, past as over, Told, run_told}
-use Rattle.ql_grammar.proofs.Paths.{Path, path_runs, Runs}
+use Rattle.ql_grammar.proofs.Paths.{Path, path_runs}
 use Rattle.ql_grammar.proofs.Again.{again_contract}
 use Rattle.ql_grammar.proofs.ProgramAgain.{again_program}
 

@@ -1,4 +1,4 @@
-use Rattle.std.proofs.Common.{◌≡◌, ℕ, List, [], ◌∷◌, Option, Some, None, Bool, true, false, refl, sym, ap, subst, cond, is_some}
+use Rattle.std.proofs.Common.{◌≡◌, List, [], ◌∷◌, Option, Some, None, Bool, true, false, refl, sym, ap, subst, cond}
 use Rattle.ql_lang.specs.declared.expression.BinOp.{BinOp}
 use Rattle.ql_grammar.specs.declared.level.Level.{Level}
 use Rattle.ql_grammar.specs.declared.level.Level.TheVariants.{Product, Sum, Comparison, Conjunction, Disjunction}

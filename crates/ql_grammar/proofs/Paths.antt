@@ -1,4 +1,4 @@
-use Rattle.std.proofs.Common.{◌≡◌, ℕ, List, [], ◌∷◌, ◌++◌, Option, Some, None, Bool, true, false, Result, Ok, Err, refl, sym, ap, subst, ◌∙◌}
+use Rattle.std.proofs.Common.{◌≡◌, ℕ, List, [], ◌∷◌, ◌++◌, Some, None, false, Result, Ok, Err, refl, ap, ◌∙◌}
 use Rattle.ql_grammar.specs.declared.terminal.Terminal.{Terminal}
 use Rattle.ql_grammar.specs.declared.terminal.Terminal.TheVariants.{NameToken, StateWord, EmitWord, OpWord, TypeWord, TransactionWord, OpenParen, NoTerminal, Comma, Ampersand, Bar, AndMark, OrMark, Arrow, Colon}
 use Rattle.ql_grammar.specs.Terminals.{is_same}
@@ -8,7 +8,7 @@ use Rattle.ql_grammar.specs.Limits.{Fault, Counts, counted, counted_all, if_with
 use Rattle.ql_grammar.specs.Table.{Value, Sym, Do, APart, Then, Part, Rest, ways, way_on, MoreTerms, MoreFactors, MoreSummands, MoreAnds, MoreOrs, MoreImplied, MoreNames, Operations, MoreVars, MoreTimes, MorePlus, Comparison, MoreConjoined, MoreDisjoined, Called, MoreArguments, MoreFields, SomeParams, MoreParams, MoreListed, MoreBindings, MoreAssignments, Effect, MoreOperations, MoreTypes, MoreTransactions, operator_at}
 use Rattle.ql_grammar.specs.declared.level.Level.{Level}
 use Rattle.ql_grammar.specs.declared.level.Level.TheVariants as level
-use Rattle.ql_grammar.specs.Machine.{Taken, lead, first_fit, step, finish, run, go_on, or_else}
+use Rattle.ql_grammar.specs.Machine.{lead, first_fit, step, finish, run, go_on}
 
 -- the first token, or the end, is the same to both stacks
 abbrev pub SameHead : List Sym → List Value → List Sym → List Value → List Marked → Type 0

@@ -1,4 +1,4 @@
-use Rattle.std.proofs.Common.{◌≡◌, ℕ, List, [], ◌∷◌, ◌++◌, Option, Some, None, Bool, true, false, refl}
+use Rattle.std.proofs.Common.{◌≡◌, ℕ, List, [], ◌∷◌, ◌++◌, Option, Some, None, refl}
 use Rattle.ql_lang.specs.declared.name.Name.{Name}
 use Rattle.ql_lang.specs.declared.operation.Base.{Base}
 use Rattle.ql_lang.specs.declared.operation.Kind.{Kind}
@@ -14,10 +14,10 @@ use Rattle.ql_grammar.specs.declared.role.Role.TheVariants.{Plain}
 use Rattle.ql_grammar.specs.Tokens.{Marked, marked}
 use Rattle.ql_grammar.specs.ContractGrammar.{ReadsNames}
 use Rattle.ql_grammar.specs.ContractGrammar as contracts
-use Rattle.ql_grammar.specs.ProgramGrammar.{ReadsBase, ReadsKind, ReadsInit, ReadsField, ReadsFields, ReadsParam, ReadsParams, ReadsAnyParams, ReadsBinding, ReadsBindings, ReadsAssignment, ReadsAssignments, ReadsEffect, ReadsOperation, ReadsOperations, ReadsReplicated, ReadsTypes, ReadsTransaction, ReadsTransactions, ReadsProgram, int, bool, text, unit, set, map, number, negative, true_value, false_value, unit_value, empty, field, none, more, param, one, some, binding, assignment, emission, operation, replicated, transaction, program}
-use Rattle.ql_grammar.specs.Table.{Value, APlace, AName, TheNames, TheFields, TheParams, TheBindings, TheAssignments, ABase, AKind, AnInit, ABinding, AnEffect, AnOperation, TheOperations, AType, TheTypes, ATransaction, TheTransactions, ASource, Sym, Word, ANameOf, Do, APart, Then, operator_at, BaseKind, AnyKind, Beginning, ListedNames, WholeSource, MoreFields, SomeParams, MoreParams, MoreListed, MoreBindings, MoreAssignments, Effect, MoreOperations, MoreTypes, MoreTransactions, param_symbols, params_symbols, binding_symbols, body_symbols, operations_symbols, no_fields, to_bindings, to_operation, add_operation, to_type, to_types, add_type}
-use Rattle.ql_grammar.specs.Machine.{lead, first_fit, step, finish}
-use Rattle.ql_grammar.proofs.Paths.{Path, SameHead, here, take, via, then, doing, IsClear, pass, as_part}
+use Rattle.ql_grammar.specs.ProgramGrammar.{ReadsBase, ReadsKind, ReadsInit, ReadsFields, ReadsParam, ReadsParams, ReadsAnyParams, ReadsBinding, ReadsBindings, ReadsAssignments, ReadsEffect, ReadsOperation, ReadsOperations, ReadsReplicated, ReadsTypes, ReadsTransactions, ReadsProgram, int, bool, text, unit, set, map, number, negative, true_value, false_value, unit_value, empty, field, none, more, param, one, some, binding, assignment, emission, operation, replicated, transaction, program}
+use Rattle.ql_grammar.specs.Table.{Value, APlace, TheNames, TheFields, TheParams, TheBindings, TheAssignments, ABase, AKind, AnInit, ABinding, AnEffect, AnOperation, TheOperations, AType, TheTypes, TheTransactions, ASource, Sym, Word, ANameOf, Do, APart, Then, BaseKind, AnyKind, Beginning, ListedNames, WholeSource, MoreFields, SomeParams, MoreParams, MoreListed, MoreBindings, MoreAssignments, Effect, MoreOperations, MoreTypes, MoreTransactions, param_symbols, params_symbols, binding_symbols, body_symbols, operations_symbols, no_fields, to_bindings, to_operation, add_operation, to_type, to_types, add_type}
+use Rattle.ql_grammar.specs.Machine.{lead, first_fit, step}
+use Rattle.ql_grammar.proofs.Paths.{Path, here, take, then, doing, IsClear, pass}
 use Rattle.ql_grammar.proofs.Again.{again_contract, Unjoined}
 use Rattle.ql_grammar.proofs.ExpressionAgain.{NoOr, again_expr, at_comma, at_when, at_semicolon}
 

@@ -1,24 +1,22 @@
-use Rattle.std.proofs.Common.{ℕ, ◌+◌, ◌≤◌, zero, suc, List, [], ◌∷◌, ◌++◌, Option, Some, None, true, false, arith}
+use Rattle.std.proofs.Common.{ℕ, ◌≤◌, zero, suc, List, [], ◌∷◌, Option, None, true, false, arith}
 use Rattle.ql_lang.specs.declared.name.Name.{Name}
-use Rattle.ql_lang.specs.declared.operation.Base.{Base}
 use Rattle.ql_lang.specs.declared.operation.Base.TheVariants as base_kind
 use Rattle.ql_lang.specs.declared.operation.Kind.{Kind}
 use Rattle.ql_lang.specs.declared.operation.Kind.TheVariants as any_kind
 use Rattle.ql_lang.specs.declared.operation.Param.{Param}
 use Rattle.ql_lang.specs.declared.program.Field.{Field}
-use Rattle.ql_lang.specs.declared.program.InitNode.{InitNode}
 use Rattle.ql_lang.specs.declared.program.InitNode.TheVariants as init_node
 use Rattle.ql_lang.specs.Expressions.{Expression}
 use Rattle.ql_lang.specs.Trees.{Sentence}
-use Rattle.ql_lang.specs.Programs.{Binding, Assignment, Emission, Operation, Replicated, Transaction, Source}
-use Rattle.ql_grammar.specs.declared.terminal.Terminal.TheVariants.{NameToken, IntToken, TextToken, TypeWord, StateWord, OpWord, ContractWord, AnswerWord, EmitWord, WhenWord, ApplyWord, TransactionWord, UsesWord, TrueWord, FalseWord, UnitWord, EmptyWord, IntWord, BoolWord, TextWord, SetWord, MapWord, OpenBrace, CloseBrace, OpenParen, CloseParen, Comma, Semicolon, Colon, Equals, Assign, Minus}
+use Rattle.ql_lang.specs.Programs.{Binding, Assignment, Emission, Operation, Replicated, Transaction}
+use Rattle.ql_grammar.specs.declared.terminal.Terminal.TheVariants.{NameToken, IntToken, TextToken, TypeWord, OpWord, ContractWord, AnswerWord, EmitWord, WhenWord, ApplyWord, TrueWord, FalseWord, UnitWord, EmptyWord, IntWord, BoolWord, TextWord, SetWord, MapWord, OpenBrace, CloseBrace, OpenParen, CloseParen, Comma, Semicolon, Colon, Minus}
 use Rattle.ql_grammar.specs.declared.role.Role.TheVariants.{Plain, Before}
 use Rattle.ql_grammar.specs.Tokens.{Marked, marked}
 use Rattle.ql_grammar.specs.ContractGrammar.{ReadsContract, ReadsNames}
 use Rattle.ql_grammar.specs.ContractGrammar as contracts
 use Rattle.ql_grammar.specs.ExpressionGrammar.{Chosen, ReadsExpr}
 use Rattle.ql_grammar.specs.ProgramGrammar as grammar
-use Rattle.ql_grammar.specs.Table.{Value, APlace, AName, TheNames, TheFields, TheParams, TheBindings, TheAssignments, AnExpr, AnEffect, ABase, AKind, ASentence, AnOperation, TheOperations, AType, TheTypes, ATransaction, TheTransactions, Sym, Word, Placed, ANameOf, Kept, Do, APart, Then, BaseKind, AnyKind, Beginning, ListedNames, WholeSource, MoreFields, SomeParams, MoreParams, MoreListed, MoreBindings, MoreAssignments, Effect, MoreOperations, MoreTypes, MoreTransactions, base_ways, kind_ways, beginning_ways, field_symbols, params_symbols, test_symbols, assignments_symbols, effect_symbols, body_symbols, operation_symbols, operations_symbols, type_symbols, transaction_symbols, add_base, add_kind, to_set, to_map, begin_number, begin_negative, begin_text, begin_with, to_names, no_fields, to_types, no_transactions, to_source, set_effect, to_operation, to_type, add_type, add_operation, to_operations, add_transaction}
+use Rattle.ql_grammar.specs.Table.{Value, APlace, AName, TheNames, TheFields, TheParams, TheBindings, TheAssignments, AnExpr, AnEffect, AKind, ASentence, AnOperation, TheOperations, AType, TheTypes, TheTransactions, Sym, Word, Placed, ANameOf, Kept, Do, APart, Then, BaseKind, AnyKind, Beginning, ListedNames, WholeSource, MoreFields, SomeParams, MoreParams, MoreListed, MoreBindings, MoreAssignments, Effect, MoreOperations, MoreTypes, MoreTransactions, base_ways, kind_ways, beginning_ways, test_symbols, assignments_symbols, body_symbols, operation_symbols, operations_symbols, type_symbols, add_base, add_kind, to_set, to_map, begin_number, begin_negative, begin_text, begin_with, to_names, to_types, no_transactions, to_source, set_effect, to_operation, to_type}
 use Rattle.ql_grammar.proofs.Wanted.{Has, Widens, none, word, placed, name, kept, operator, change, term, terms, relation, prop, names, variable, vars, contract, expr, arguments, base, kind, init, listed, source, stop, go}
 use Rattle.ql_grammar.proofs.Leading.{Leads}
 

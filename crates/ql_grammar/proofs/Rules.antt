@@ -1,15 +1,13 @@
-use Rattle.std.proofs.Common.{◌≡◌, ℕ, List, [], ◌∷◌, Bool, true, false, Result, Ok, Err, refl, sym, ap, ◌∙◌, cond, ◌||◌}
-use Rattle.ql_lang.specs.declared.relation.RelName.{RelName}
-use Rattle.ql_lang.specs.declared.relation.RelName.TheVariants.{Vis, So, Soo, SameObj, Eq, Hb, Hbo}
+use Rattle.std.proofs.Common.{◌≡◌, List, ◌∷◌, Bool, true, false, Result, Err, refl, sym, ap, ◌∙◌, cond, ◌||◌}
 use Rattle.ql_grammar.specs.declared.terminal.Terminal.{Terminal}
-use Rattle.ql_grammar.specs.declared.terminal.Terminal.TheVariants.{NameToken, CurWord, ForallWord, TrueWord, TxnWord, VisWord, SoWord, SooWord, SameObjWord, EqWord, HbWord, HboWord, OpenBrace, CloseBrace, OpenParen, CloseParen, OpenBracket, CloseBracket, Comma, Dot, Equals}
+use Rattle.ql_grammar.specs.declared.terminal.Terminal.TheVariants.{NameToken, CurWord, ForallWord, TrueWord, TxnWord, OpenBrace, CloseBrace, OpenParen, CloseParen, OpenBracket, CloseBracket, Comma, Dot, Equals}
 use Rattle.ql_grammar.specs.declared.role.Role.{Role}
 use Rattle.ql_grammar.specs.declared.role.Role.TheVariants.{Plain, Makes, Opens, Closes}
-use Rattle.ql_grammar.specs.ContractGrammar.{RelationPart, Applied, Single, Sum, PropPart, Atom, Whole}
+use Rattle.ql_grammar.specs.ContractGrammar.{Applied, Single, Sum, Atom, Whole}
 use Rattle.ql_grammar.specs.Limits.{Fault, Unexpected}
-use Rattle.ql_grammar.specs.Table.{Value, Sym, Word, Placed, ANameOf, Do, APart, Then, Part, Term, TermList, RelationAt, PropAt, BarredNames, Variable, VarList, WholeContract, Rest, ways, way_on, term_ways, relation_ways, atom_ways, to_cur, to_variable, to_basic, add_truth, to_equality, to_application, to_txn, to_names, to_free, to_plain, to_forall, MoreAnds, MoreOrs, MoreImplied, MoreNames, Operations}
+use Rattle.ql_grammar.specs.Table.{Value, Sym, Word, Placed, ANameOf, Do, APart, Then, Part, Term, TermList, RelationAt, PropAt, BarredNames, Variable, VarList, WholeContract, Rest, ways, way_on, to_cur, to_variable, add_truth, to_equality, to_application, to_txn, to_names, to_free, to_plain, to_forall, MoreNames, Operations}
 use Rattle.ql_grammar.specs.Machine.{Reading, read, is_ahead, place_ahead, is_begun, chosen}
-use Rattle.ql_grammar.proofs.Taking.{word_missing, placed_missing, name_missing}
+use Rattle.ql_grammar.proofs.Taking.{placed_missing, name_missing}
 use Rattle.ql_grammar.proofs.Choices.{read-part, read-then}
 
 -- How a reader that looks at the next token goes on: each law is a line of the table.

@@ -1,19 +1,18 @@
-use Rattle.std.proofs.Common.{◌≡◌, ℕ, List, [], ◌∷◌, ◌++◌}
+use Rattle.std.proofs.Common.{ℕ, List, [], ◌∷◌}
 use Rattle.ql_lang.specs.declared.name.Name.{Name}
 use Rattle.ql_lang.specs.declared.relation.RelName.{RelName}
-use Rattle.ql_lang.specs.declared.relation.RelName.TheVariants.{Vis, So, Soo, SameObj, Eq, Hb, Hbo}
 use Rattle.ql_lang.specs.declared.contract.Point.{Point}
 use Rattle.ql_lang.specs.declared.contract.Var.{Var}
-use Rattle.ql_lang.specs.Trees.{Relation, Proposition, Sentence}
+use Rattle.ql_lang.specs.Trees.{Relation, Proposition}
 use Rattle.ql_grammar.specs.declared.terminal.Terminal.{Terminal}
-use Rattle.ql_grammar.specs.declared.terminal.Terminal.TheVariants.{NameToken, CurWord, ForallWord, TrueWord, TxnWord, VisWord, SoWord, SooWord, SameObjWord, EqWord, HbWord, HboWord, OpenBrace, CloseBrace, OpenParen, CloseParen, OpenBracket, CloseBracket, Comma, Colon, Dot, Equals, Arrow, AndMark, OrMark, Bar, Ampersand}
+use Rattle.ql_grammar.specs.declared.terminal.Terminal.TheVariants.{NameToken, CurWord, ForallWord, TrueWord, TxnWord, OpenBrace, CloseBrace, OpenParen, CloseParen, OpenBracket, CloseBracket, Comma, Dot, Equals, Bar}
 use Rattle.ql_grammar.specs.declared.role.Role.{Role}
 use Rattle.ql_grammar.specs.declared.role.Role.TheVariants.{Plain, Makes, Opens, Closes}
 use Rattle.ql_grammar.specs.Tokens.{Marked, marked}
-use Rattle.ql_grammar.specs.ContractGrammar.{IsRelationWord, vis, so, soo, sameobj, eq, hb, hbo, ReadsTerm, current, variable, ReadsTerms, one, more, ReadsRelation, RelationPart, Applied, Single, Product, Sum, applied_named, applied_bracket, named, bracket, single, both, product, either, ReadsProp, PropPart, Atom, Both, Either, Whole, truth, group, equal, applied, txn, atom, and, or, implies, ReadsNames, ReadsVar, free, over, ReadsVars, ReadsContract, plain, forall}
+use Rattle.ql_grammar.specs.ContractGrammar.{IsRelationWord, vis, so, soo, sameobj, eq, hb, hbo, current, variable, ReadsTerms, one, more, ReadsRelation, Applied, Single, Product, Sum, applied_named, applied_bracket, named, bracket, single, both, product, either, ReadsProp, Atom, Both, Either, Whole, truth, group, equal, applied, txn, atom, and, or, implies, ReadsNames, free, over, ReadsVars, plain, forall}
 use Rattle.ql_grammar.specs.ExpressionGrammar.{Unary, Multiplied, Added, Compared, Conjoined, Disjoined, Chosen}
-use Rattle.ql_grammar.specs.Table.{ExprAt, Arguments, BaseKind, AnyKind, Beginning, ListedNames, WholeSource, Value, APlace, AName, ATerm, TheTerms, ARelation, AProp, TheNames, AVar, TheVars, ASentence, Sym, Word, Placed, ANameOf, Do, APart, Then, Part, Term, TermList, RelationAt, PropAt, BarredNames, Variable, VarList, WholeContract, Rest, ways, way_on, term_ways, relation_ways, atom_ways, MoreTerms, MoreFactors, MoreSummands, MoreAnds, MoreOrs, MoreImplied, MoreNames, Operations, MoreVars, to_cur, to_variable, to_terms, to_basic, add_truth, to_equality, to_application, to_txn, to_names, to_free, to_vars, to_plain, to_forall}
-use Rattle.ql_grammar.proofs.Wanted.{Has, Widens, none, word, placed, name, change, term, terms, relation, prop, names, variable, vars, contract, stop, go}
+use Rattle.ql_grammar.specs.Table.{ExprAt, Arguments, BaseKind, AnyKind, Beginning, ListedNames, WholeSource, Value, TheTerms, ARelation, AProp, TheNames, AVar, TheVars, Sym, Word, Placed, ANameOf, Do, APart, Then, Part, Term, TermList, RelationAt, PropAt, BarredNames, Variable, VarList, WholeContract, ways, term_ways, relation_ways, atom_ways, MoreTerms, MoreFactors, MoreSummands, MoreAnds, MoreOrs, MoreImplied, MoreNames, Operations, MoreVars, to_cur, to_variable, to_terms, to_basic, add_truth, to_equality, to_application, to_txn, to_names, to_free, to_vars, to_plain, to_forall}
+use Rattle.ql_grammar.proofs.Wanted.{Has, Widens, word, placed, name, change, term, terms, relation, prop, names, variable, vars, contract, stop, go}
 use Rattle.ql_grammar.proofs.Leading.{Leads, lead_on, both_lead}
 use Rattle.ql_grammar.proofs.ExpressionSound.{unary_leads, multiplied_leads, added_leads, compared_leads, conjoined_leads, disjoined_leads, chosen_leads, arguments_leads}
 use Rattle.ql_grammar.proofs.ProgramSound.{base_leads, kind_leads, beginning_leads, listed_leads, source_leads}

@@ -1,11 +1,9 @@
-use Rattle.std.proofs.Common.{◌≡◌, ℕ, List, [], ◌∷◌, ◌++◌, Option, Some, None, Bool, true, false, Result, Ok, Err, refl, sym, subst, cond}
-use Rattle.ql_lang.specs.Trees.{Relation, Proposition, Sentence, Truth}
-use Rattle.ql_lang.specs.declared.relation.RelName.TheVariants.{Vis}
+use Rattle.std.proofs.Common.{◌≡◌, ℕ, List, [], ◌∷◌, Option, Some, None, Bool, true, false, Result, Ok, Err, refl, sym, subst, cond}
 use Rattle.ql_grammar.specs.declared.terminal.Terminal.{Terminal}
 use Rattle.ql_grammar.specs.declared.terminal.Terminal.TheVariants.{NameToken, CurWord, TrueWord, VisWord, UnitWord, IntWord, TypeWord, OpenBrace, CloseBrace, OpWord, OpenParen, CloseParen, Colon, ContractWord, AnswerWord, Semicolon}
 use Rattle.ql_grammar.specs.Terminals.{is_same}
 use Rattle.ql_grammar.specs.declared.role.Role.{Role}
-use Rattle.ql_grammar.specs.declared.role.Role.TheVariants.{Plain, Makes, Opens, Closes, Before}
+use Rattle.ql_grammar.specs.declared.role.Role.TheVariants.{Plain, Makes, Before}
 use Rattle.ql_grammar.specs.Tokens.{Marked, marked}
 use Rattle.ql_grammar.specs.ContractGrammar.{vis, current, variable, one, Applied, Single, Product, Sum, applied_named, named, single, product, Atom, Both, Either, Whole, truth, atom, both, either, free, plain}
 use Rattle.ql_grammar.specs.Limits.{Fault, Unexpected}
@@ -14,7 +12,7 @@ use Rattle.ql_grammar.specs.declared.level.Level.{Level}
 use Rattle.ql_grammar.specs.ExpressionGrammar as expression
 use Rattle.ql_grammar.specs.ExpressionGrammar.{IsOperator, Unary, Multiplied, Added, Compared, Conjoined, Disjoined, Chosen}
 use Rattle.ql_grammar.specs.ProgramGrammar as program
-use Rattle.ql_grammar.specs.Table.{ASpelling, AnOperator, AnExpr, ABase, Kept, Operator, operator_at, ExprAt, Arguments, BaseKind, AnyKind, Beginning, ListedNames, WholeSource, Value, APlace, AName, Sym, Word, Placed, ANameOf, Do, APart, Then, Part, Term, TermList, RelationAt, PropAt, BarredNames, Variable, VarList, WholeContract, Rest, ways, way_on}
+use Rattle.ql_grammar.specs.Table.{ASpelling, AnOperator, Kept, Operator, operator_at, ExprAt, Arguments, BaseKind, AnyKind, Beginning, ListedNames, WholeSource, Value, APlace, AName, Sym, Word, Placed, ANameOf, Do, APart, Then, Part, Term, TermList, RelationAt, PropAt, BarredNames, Variable, VarList, WholeContract, Rest, ways, way_on}
 use Rattle.ql_grammar.specs.Machine.{operator_taken, Taken, or_else, lead, first_fit, step, finish}
 use Rattle.ql_grammar.proofs.TerminalLemmas.{same_terminal}
 use Rattle.ql_grammar.proofs.Operators.{Found, is_operator, some_operator}

@@ -1,16 +1,15 @@
-use Rattle.std.proofs.Common.{◌≡◌, ℕ, List, [], ◌∷◌, Option, Some, None, Bool, true, false, Result, Ok, Err, refl, sym, ap, ◌∙◌, cond, drop}
+use Rattle.std.proofs.Common.{◌≡◌, ℕ, List, [], ◌∷◌, Some, None, true, false, Err, refl, sym, ◌∙◌, drop}
 use Rattle.ql_grammar.specs.declared.terminal.Terminal.{Terminal}
 use Rattle.ql_grammar.specs.declared.terminal.Terminal.TheVariants.{NameToken}
 use Rattle.ql_grammar.specs.declared.role.Role.{Role}
-use Rattle.ql_grammar.specs.Terminals.{is_same}
 use Rattle.ql_grammar.specs.Tokens.{Lexeme}
-use Rattle.ql_grammar.specs.Limits.{Fault, Unexpected, Counts, counted, if_within}
+use Rattle.ql_grammar.specs.Limits.{Unexpected, Counts, counted, if_within}
 use Rattle.ql_lang.specs.declared.expression.BinOp.{BinOp}
 use Rattle.ql_grammar.specs.declared.level.Level.{Level}
 use Rattle.ql_grammar.specs.declared.role.Role.TheVariants.{Makes}
 use Rattle.ql_grammar.specs.Table.{ASpelling, AnOperator, Kept, Operator, operator_at, Value, APlace, AName, Sym, Word, Placed, ANameOf}
 use Rattle.ql_grammar.proofs.Operators.{ahead_is, none_ahead}
-use Rattle.ql_grammar.specs.Machine.{operator_taken, operator_ahead, lead, step, finish, go_on, Reading, run, read, is_ahead, place_ahead}
+use Rattle.ql_grammar.specs.Machine.{operator_ahead, lead, step, finish, Reading, run, read, is_ahead, place_ahead}
 
 -- What a reading does at a word or a name.
 

@@ -1,6 +1,5 @@
-use Rattle.std.proofs.Common.{◌≡◌, ℕ, List, [], ◌∷◌, ◌++◌, Option, Some, None, Bool, true, false, Result, Ok, Err, refl, sym, ap, subst, ◌∙◌}
+use Rattle.std.proofs.Common.{◌≡◌, ℕ, List, [], ◌∷◌, ◌++◌, Option, Some, None, Result, Ok, Err, refl, sym, ap, subst, ◌∙◌}
 use Rattle.ql_grammar.specs.declared.terminal.Terminal.{Terminal}
-use Rattle.ql_grammar.specs.declared.role.Role.{Role}
 use Rattle.ql_grammar.specs.Tokens.{Lexeme, Marked, marked, lexemes}
 use Rattle.ql_grammar.specs.Limits.{Fault, Unexpected, Counts, counted, counted_all, if_within}
 use Rattle.ql_grammar.specs.Table.{Value, Sym}

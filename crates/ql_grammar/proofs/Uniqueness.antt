@@ -1,10 +1,8 @@
 use Rattle.std.proofs.Common.{◌≡◌, ℕ, List, [], ◌∷◌, ◌++◌, Option, Some, None, Result, Ok, Err, refl, sym, ap, subst, ◌∙◌, append_assoc, append-nil}
-use Rattle.ql_grammar.specs.declared.terminal.Terminal.{Terminal}
-use Rattle.ql_grammar.specs.declared.role.Role.{Role}
 use Rattle.ql_grammar.specs.Tokens.{Lexeme, Marked, marked, lexemes}
 use Rattle.ql_grammar.specs.Limits.{Fault, Unexpected, Counts, counted, counted_all, if_within, nothing_yet}
 use Rattle.ql_grammar.specs.Table.{Value, Sym, Part}
-use Rattle.ql_grammar.specs.Machine.{Taken, step, finish, run, go_on}
+use Rattle.ql_grammar.specs.Machine.{Taken, step, finish, run}
 use Rattle.ql_grammar.specs.Texts.{IsTextOf, Begins, ParsesAs, FirstFault, unexpected, ended, past}
 use Rattle.ql_grammar.proofs.Wanted.{Has}
 use Rattle.ql_grammar.proofs.Steps.{IsSound, step_sound, EndsSoundly, finish_sound, Wish, wish}

@@ -1,11 +1,8 @@
-use Rattle.std.proofs.Common.{◌≡◌, ℕ, List, [], ◌∷◌, Option, Some, None, Bool, true, false, refl, cond, sym, ◌++◌}
+use Rattle.std.proofs.Common.{ℕ, List, [], ◌∷◌}
 use Rattle.ql_lang.specs.declared.name.Name.{Name}
-use Rattle.ql_lang.specs.declared.relation.RelName.{RelName}
-use Rattle.ql_lang.specs.declared.relation.RelName.TheVariants.{Eq}
 use Rattle.ql_lang.specs.declared.contract.Point.{Point}
-use Rattle.ql_lang.specs.declared.contract.Point.TheVariants.{CurAt, Named}
 use Rattle.ql_lang.specs.declared.contract.Var.{Var}
-use Rattle.ql_lang.specs.Trees.{Relation, Basic, Union, Intersection, Proposition, Truth, Application, Conjunction, Disjunction, Implication, InTxn, Sentence}
+use Rattle.ql_lang.specs.Trees.{Relation, Proposition, Sentence}
 use Rattle.ql_lang.specs.declared.expression.BinOp.{BinOp}
 use Rattle.ql_lang.specs.declared.operation.Base.{Base}
 use Rattle.ql_lang.specs.declared.operation.Kind.{Kind}
@@ -14,18 +11,14 @@ use Rattle.ql_lang.specs.Expressions.{Expression}
 use Rattle.ql_lang.specs.Programs.{Source}
 use Rattle.ql_grammar.specs.declared.level.Level.{Level}
 use Rattle.ql_grammar.specs.declared.terminal.Terminal.{Terminal}
-use Rattle.ql_grammar.specs.declared.terminal.Terminal.TheVariants.{NameToken, CurWord, ForallWord, TrueWord, TxnWord, VisWord, SoWord, SooWord, SameObjWord, EqWord, HbWord, HboWord, OpenBrace, CloseBrace, OpenParen, CloseParen, OpenBracket, CloseBracket, Comma, Colon, Dot, Equals, Arrow, AndMark, OrMark, Bar, Ampersand}
-use Rattle.ql_grammar.specs.Terminals.{is_same}
+use Rattle.ql_grammar.specs.declared.terminal.Terminal.TheVariants.{NameToken, Comma, Bar}
 use Rattle.ql_grammar.specs.declared.role.Role.{Role}
-use Rattle.ql_grammar.specs.declared.role.Role.TheVariants.{Plain, Makes, Opens, Closes}
+use Rattle.ql_grammar.specs.declared.role.Role.TheVariants.{Makes}
 use Rattle.ql_grammar.specs.Tokens.{Marked, marked}
-use Rattle.ql_grammar.specs.ContractGrammar
-use Rattle.ql_grammar.specs.ContractGrammar.{ReadsTerm, ReadsTerms, ReadsRelation, RelationPart, Applied, Single, Product, Sum, ReadsProp, PropPart, Atom, Both, Either, Whole, ReadsNames, ReadsVar, ReadsVars, ReadsContract}
+use Rattle.ql_grammar.specs.ContractGrammar.{ReadsTerm, ReadsTerms, ReadsRelation, RelationPart, ReadsProp, PropPart, ReadsNames, ReadsVar, ReadsVars, ReadsContract}
 use Rattle.ql_grammar.specs.ExpressionGrammar.{ExprPart, IsOperator, ReadsExpr, ReadsArguments}
 use Rattle.ql_grammar.specs.ProgramGrammar.{ReadsBase, ReadsKind, ReadsInit, ReadsProgram}
-use Rattle.ql_grammar.specs.Table.{ASpelling, AnOperator, AnExpr, TheExprs, ABase, AKind, AnInit, ASource, Kept, Operator, ExprAt, Arguments, BaseKind, AnyKind, Beginning, ListedNames, WholeSource, Value, APlace, AName, ATerm, TheTerms, ARelation, AProp, TheNames, AVar, TheVars, ASentence, Sym, Word, Placed, ANameOf, Do, APart, Then, Part, Term, TermList, RelationAt, PropAt, BarredNames, Variable, VarList, WholeContract, Rest, ways, way_on, MoreTerms, MoreFactors, MoreSummands, MoreAnds, MoreOrs, MoreImplied, MoreNames, Operations, MoreVars, add_name, set_operations, add_var, add_term, intersect, unite, conjoin, disjoin, imply, to_variable, to_free}
-use Rattle.ql_grammar.specs.Machine.{Taken, or_else, lead, first_fit, step}
-use Rattle.ql_grammar.proofs.TerminalLemmas.{same_terminal}
+use Rattle.ql_grammar.specs.Table.{ASpelling, AnOperator, AnExpr, TheExprs, ABase, AKind, AnInit, ASource, Kept, Operator, ExprAt, Arguments, BaseKind, AnyKind, Beginning, ListedNames, WholeSource, Value, APlace, AName, ATerm, TheTerms, ARelation, AProp, TheNames, AVar, TheVars, ASentence, Sym, Word, Placed, ANameOf, Do, APart, Then, Term, TermList, RelationAt, PropAt, BarredNames, Variable, VarList, WholeContract, Rest, way_on}
 
 -- The text that a stack wants: `Has stack values ts out` says that `ts` is such a text, and that the values
 -- become `out` at its end.

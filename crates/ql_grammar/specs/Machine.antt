@@ -1,4 +1,4 @@
-use Rattle.std.specs.Prelude.{ℕ, Bool, true, false, List, [], ◌∷◌, Option, Some, None, Result, Ok, Err, if◌then◌else◌, is_some}
+use Rattle.std.specs.Prelude.{ℕ, Bool, false, List, [], ◌∷◌, Option, Some, None, Result, Ok, Err, if◌then◌else◌, is_some}
 use Rattle.ql_lang.specs.declared.expression.BinOp.{BinOp}
 use Rattle.ql_grammar.specs.declared.level.Level.{Level}
 use Rattle.ql_grammar.specs.declared.terminal.Terminal.{Terminal}
@@ -8,7 +8,7 @@ use Rattle.ql_grammar.specs.declared.role.Role.{Role}
 use Rattle.ql_grammar.specs.declared.role.Role.TheVariants.{Makes}
 use Rattle.ql_grammar.specs.Tokens.{Lexeme}
 use Rattle.ql_grammar.specs.Limits.{Fault, Unexpected, Counts, counted, if_within}
-use Rattle.ql_grammar.specs.Table.{Value, APlace, AName, ASpelling, AnOperator, Sym, Word, Placed, ANameOf, Kept, Operator, Do, APart, Then, Part, Rest, operator_at, operators, ways, way_on}
+use Rattle.ql_grammar.specs.Table.{Value, APlace, AName, ASpelling, AnOperator, Sym, Word, Placed, ANameOf, Kept, Operator, Do, APart, Then, operator_at, operators, ways, way_on}
 
 -- what a token does: its role, and the stacks behind it
 pub record Taken : Type 0 where

@@ -1,4 +1,4 @@
-use Rattle.std.specs.Prelude.{ℕ, List, [], ◌∷◌, map, slice_range}
+use Rattle.std.specs.Prelude.{ℕ, List, [], ◌∷◌, slice_range}
 use Rattle.ql_lex.specs.declared.token.TokenKind.{TokenKind}
 use Rattle.ql_lex.specs.declared.token.TokenKind.TheVariants.{Name, Int, Text, Mark, Keyword}
 use Rattle.ql_lex.specs.declared.token.Token.{Token}

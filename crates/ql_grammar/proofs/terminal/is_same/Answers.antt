@@ -1,4 +1,4 @@
-use Rattle.std.proofs.Common.{◌≡◌, ℕ, nat_eq, refl}
+use Rattle.std.proofs.Common.{◌≡◌, refl}
 use denote.Enum.Declared.{tag_of}
 use Rattle.ql_grammar.specs.contracts.terminal.Terminal.{the_type}
 use Rattle.ql_grammar.specs.declared.terminal.Terminal.{Terminal}
