@@ -6,7 +6,7 @@ use Rattle.ql_base.specs.declared.no_memory.NoMemory.{NoMemory}
 use Rattle.ql_app.specs.declared.status.Status.{Status}
 use Rattle.ql_app.specs.declared.status.Status.TheVariants.{Done, No, Bad, ReadFault, WriteFault, Usage, TooLarge}
 use Rattle.ql_app.specs.declared.words.Command.{Command}
-use Rattle.ql_app.specs.declared.words.Command.TheVariants.{Holds, Proof, Classify}
+use Rattle.ql_app.specs.declared.words.Command.TheVariants.{Holds, Proof, Classify, Prove}
 use Rattle.ql_app.specs.Words.{IsRequest}
 use Rattle.ql_app.specs.Outcome.{Says, Judges, CommandSays}
 
@@ -28,12 +28,15 @@ command_says limit words held before after command name bytes Bad text asks same
 command_says limit words held before after Holds name bytes ReadFault text asks same short says = absurd says
 command_says limit words held before after Proof name bytes ReadFault text asks same short says = absurd says
 command_says limit words held before after Classify name bytes ReadFault text asks same short says = absurd says
+command_says limit words held before after Prove name bytes ReadFault text asks same short says = absurd says
 command_says limit words held before after Holds name bytes WriteFault text asks same short says = absurd says
 command_says limit words held before after Proof name bytes WriteFault text asks same short says = absurd says
 command_says limit words held before after Classify name bytes WriteFault text asks same short says = absurd says
+command_says limit words held before after Prove name bytes WriteFault text asks same short says = absurd says
 command_says limit words held before after Holds name bytes Usage text asks same short says = absurd says
 command_says limit words held before after Proof name bytes Usage text asks same short says = absurd says
 command_says limit words held before after Classify name bytes Usage text asks same short says = absurd says
+command_says limit words held before after Prove name bytes Usage text asks same short says = absurd says
 command_says limit words held before after command name bytes TooLarge text asks same short says = inl (judges limit words held command name bytes TooLarge text asks same short says)
 
 -- the answer of a command is an answer to the words

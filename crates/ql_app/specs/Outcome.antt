@@ -6,13 +6,14 @@ use Rattle.ql_ports.specs.Written.{appended, AppendsFront}
 use Rattle.ql_app.specs.declared.status.Status.{Status}
 use Rattle.ql_app.specs.declared.status.Status.TheVariants.{Done, No, Bad, ReadFault, WriteFault, Usage, TooLarge}
 use Rattle.ql_app.specs.declared.words.Command.{Command}
-use Rattle.ql_app.specs.declared.words.Command.TheVariants.{Holds, Proof, Classify}
+use Rattle.ql_app.specs.declared.words.Command.TheVariants.{Holds, Proof, Classify, Prove}
 use Rattle.ql_app.specs.Words.{IsRequest}
 use Rattle.ql_app.specs.HoldsFile as holds
 use Rattle.ql_app.specs.HoldsFile.{HoldsSays}
 use Rattle.ql_app.specs.ProofFile.{ProofSays, IsProofFile}
 use Rattle.ql_app.specs.Answers.{AnswerSays}
 use Rattle.ql_commands.specs.Classify.{ClassifySays}
+use Rattle.ql_commands.specs.Prove.{ProveSays}
 use Rattle.ql_commands.specs.Sources.{IsSource}
 
 -- what a command says of its file's bytes
@@ -20,12 +21,14 @@ abbrev pub CommandSays : Command → List ℕ → Status → List ℕ → Type 0
 CommandSays Holds bytes status text = HoldsSays bytes status text
 CommandSays Proof bytes status text = ProofSays bytes status text
 CommandSays Classify bytes status text = AnswerSays (ClassifySays bytes) status text
+CommandSays Prove bytes status text = AnswerSays (ProveSays bytes) status text
 
 -- the file's bytes are in the grammar of the command's files, and don't ask for too much work
 abbrev pub IsAnswerable : Command → List ℕ → Type 0
 IsAnswerable Holds bytes = holds.IsAnswerable bytes
 IsAnswerable Proof bytes = IsProofFile bytes
 IsAnswerable Classify bytes = IsSource bytes
+IsAnswerable Prove bytes = IsSource bytes
 
 -- the words ask for a command on a file, of which more is said
 abbrev pub ForRequest : List (List ℕ) → (Command → List ℕ → Type 0) → Type 0

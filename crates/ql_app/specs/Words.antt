@@ -4,7 +4,7 @@ use Rattle.std.specs.Global.{Global, Vec}
 use Rattle.std.specs.declared.string.String.{String}
 use Rattle.std.specs.String.{string_bytes}
 use Rattle.ql_app.specs.declared.words.Command.{Command}
-use Rattle.ql_app.specs.declared.words.Command.TheVariants.{Holds, Proof, Classify}
+use Rattle.ql_app.specs.declared.words.Command.TheVariants.{Holds, Proof, Classify, Prove}
 
 -- the words' bytes
 abbrev pub word_texts : Vec (String Global) → List (List ℕ)
@@ -19,6 +19,7 @@ abbrev pub command_word : Command → List ℕ
 command_word Holds = codes "holds"
 command_word Proof = codes "proof"
 command_word Classify = codes "classify"
+command_word Prove = codes "prove"
 
 -- the words ask for a command on the file of a name
 abbrev pub IsRequest : List (List ℕ) → Command → List ℕ → Type 0

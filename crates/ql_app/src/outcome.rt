@@ -3,13 +3,14 @@ ghost use Rattle.ql_app.specs.Words.{word_texts};
 ghost use Rattle.ql_app.specs.Answers.{AnswerSays, status_of};
 ghost use Rattle.ql_app.specs.Outcome.{Says, CommandSays};
 ghost use Rattle.ql_commands.specs.Classify.{ClassifySays};
+ghost use Rattle.ql_commands.specs.Prove.{ProveSays};
 
 use crate::holds::holds;
 use crate::proof::judge;
 use crate::status::Status;
 use crate::words::{Command, request};
 use ql_base::NoMemory;
-use ql_commands::{Answer, classify};
+use ql_commands::{Answer, classify, prove};
 use ql_ports::{ReadError, Shelf, read_whole};
 use std::alloc::Global;
 
@@ -54,6 +55,7 @@ fn judged(alloc: Global, command: Command, bytes: &[u8]) -> Result<(Status, Vec<
         Command::Holds => holds(alloc, bytes),
         Command::Proof => judge(alloc, bytes),
         Command::Classify => classify_file(alloc, bytes),
+        Command::Prove => prove_file(alloc, bytes),
     }
 }
 
@@ -62,6 +64,14 @@ fn classify_file(alloc: Global, source: &[u8]) -> Result<(Status, Vec<u8>), NoMe
     ensures { IfOk result (λ answer. AnswerSays (ClassifySays source.now) answer.0 answer.1.items) }
 {
     let (answer, text) = classify(alloc, source)?;
+    Ok((status_of(answer), text))
+}
+
+fn prove_file(alloc: Global, source: &[u8]) -> Result<(Status, Vec<u8>), NoMemory>
+    requires { length source.now < 2 ^ 32 }
+    ensures { IfOk result (λ answer. AnswerSays (ProveSays source.now) answer.0 answer.1.items) }
+{
+    let (answer, text) = prove(alloc, source)?;
     Ok((status_of(answer), text))
 }
 

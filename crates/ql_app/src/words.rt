@@ -11,6 +11,8 @@ pub enum Command {
     Proof,
     /// The least levels of a source's operations and transactions.
     Classify,
+    /// The certificate of these levels.
+    Prove,
 }
 
 /// The command and the name of its file, where the words are those of a command.
@@ -40,6 +42,7 @@ fn command_named(word: &str) -> Option<Command>
         "holds" => Some(Command::Holds),
         "proof" => Some(Command::Proof),
         "classify" => Some(Command::Classify),
+        "prove" => Some(Command::Prove),
         _ => None,
     }
 }
