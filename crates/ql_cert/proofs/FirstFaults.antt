@@ -1,10 +1,10 @@
 -- The first fault of a file that is read line by line, once for all grammars of such files.
-use Rattle.std.proofs.Common.{◌≡◌, ℕ, List, [], ◌∷◌, ◌++◌, decimal, refl, ap, sym, subst, ◌∙◌, append_assoc}
+use Rattle.std.proofs.Common.{◌≡◌, List, [], ◌∷◌, ◌++◌, decimal, ap, sym, subst, ◌∙◌, append_assoc}
 use Rattle.std.proofs.lemmas.List.{map-append}
 use Rattle.ql_lines.specs.Fields.{fields_of}
 use Rattle.ql_lines.specs.Lines.{Ahead, Numbered}
 use Rattle.ql_cert.specs.declared.fault.CertFault.{CertFault}
-use Rattle.ql_cert.specs.declared.fault.CertFault.TheVariants.{Unexpected, Number}
+use Rattle.ql_cert.specs.declared.fault.CertFault.TheVariants.{Unexpected}
 use Rattle.ql_cert.specs.declared.fault.LineFault.{LineFault}
 use Rattle.ql_cert.specs.declared.fault.LineFault.TheVariants as refusal
 use Rattle.ql_cert.specs.Spelling.{Fields}

@@ -1,8 +1,7 @@
 -- which lines may not follow what was read of a proof
-use Rattle.std.proofs.Common.{◌≡◌, ◌⊎◌, inl, inr, ℕ, suc, Option, Some, None, Vec, Global, get_or, ◌<◌, ◌≤◌, ◌^◌, Bool, true, false, List, [], ◌∷◌, ◌++◌, All, length, drop, decimal, arith, refl, ap, sym, subst, ◌∙◌, append_assoc}
+use Rattle.std.proofs.Common.{◌≡◌, inl, inr, ℕ, suc, Some, None, Vec, Global, ◌<◌, ◌≤◌, ◌^◌, List, [], ◌∷◌, ◌++◌, length, drop, decimal, arith, refl, ap, sym, subst, ◌∙◌, append_assoc}
 use Rattle.std.specs.Prelude.{codes}
 use Rattle.std.specs.List.{AllByRecursion}
-use Rattle.std.specs.Option.{option_map}
 use Rattle.std.proofs.lemmas.Bool.{le-ltb, ne_eqb}
 use Rattle.std.proofs.lemmas.Fmt.{decimal_injective}
 use Rattle.std.proofs.lemmas.List.{append-nil}
@@ -15,10 +14,10 @@ use Rattle.ql_refute.specs.declared.refutation.Line.{Line}
 use Rattle.ql_cert.specs.declared.fault.LineFault.TheVariants.{Unexpected, Number}
 use Rattle.ql_cert.specs.declared.proof_reader.ProofReading.{ProofReading}
 use Rattle.ql_cert.specs.declared.proof_reader.ProofReading.TheVariants as reading
-use Rattle.ql_cert.specs.Spelling.{Fields, IsClause, IsLine, IsLit, body_fields, clause_fields, line_fields, lit_field}
-use Rattle.ql_cert.specs.Faults.{IsMisnumbered, IsRefusedBy}
+use Rattle.ql_cert.specs.Spelling.{Fields, IsClause, IsLine, IsLit, body_fields, clause_fields, lit_field}
+use Rattle.ql_cert.specs.Faults.{IsRefusedBy}
 use Rattle.ql_cert.specs.CertFile.{end_line}
-use Rattle.ql_cert.specs.ProofFile.{Begins, Ends, Gives, GoesOn, IsGiven, ProofFollows, ProofState, ProofTakes, Ended, Unbegun, Within, given_line, most_variables, variables_line}
+use Rattle.ql_cert.specs.ProofFile.{GoesOn, IsGiven, ProofFollows, ProofState, ProofTakes, Ended, Unbegun, Within, most_variables, variables_line}
 use Rattle.ql_cert.specs.ProofReader.{proof_state_of}
 use Rattle.ql_cert.specs.Readings.{IsNext, IsRead, two}
 use Rattle.ql_cert.proofs.Conses.{heads}

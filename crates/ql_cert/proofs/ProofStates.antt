@@ -1,6 +1,5 @@
 -- Proofs are read line by line.
-use Rattle.std.proofs.Common.{◌≡◌, ◌⊎◌, inl, inr, ℕ, suc, Vec, Global, ◌<◌, ◌≤◌, ◌^◌, ◌+◌, List, [], ◌∷◌, ◌++◌, map, length, get_or, drop, decimal, arith, refl, ap, sym, subst, ◌∙◌, append_assoc, one-add}
-use Rattle.std.specs.Prelude.{codes}
+use Rattle.std.proofs.Common.{◌≡◌, inl, inr, ℕ, suc, ◌<◌, ◌^◌, ◌+◌, List, [], ◌∷◌, ◌++◌, map, length, get_or, drop, arith, refl, ap, sym, subst, ◌∙◌, append_assoc, one-add}
 use Rattle.std.specs.List.{AllByRecursion}
 use Rattle.std.proofs.lemmas.Fmt.{decimal_injective}
 use Rattle.std.proofs.lemmas.List.{append-nil, length-append, map-append}

@@ -1,5 +1,5 @@
 -- What was read of a certificate tells which lines may follow, and where the first fault is.
-use Rattle.std.proofs.Common.{◌≡◌, inl, inr, ℕ, suc, Option, Some, Vec, Global, ◌<◌, ◌^◌, ◌+◌, List, [], ◌∷◌, ◌++◌, length, decimal, arith, refl, ap, sym, subst, ◌∙◌, append_assoc, one-add}
+use Rattle.std.proofs.Common.{◌≡◌, inl, inr, ℕ, suc, Option, Some, Vec, Global, ◌<◌, ◌^◌, ◌+◌, List, [], ◌∷◌, ◌++◌, length, arith, refl, ap, sym, subst, ◌∙◌, append_assoc, one-add}
 use Rattle.std.specs.List.{AllByRecursion}
 use Rattle.std.proofs.lemmas.List.{append-nil, length-append}
 use Rattle.ql_refute.specs.declared.refutation.Line.{Line}
@@ -7,7 +7,7 @@ use Rattle.ql_cert.specs.declared.cert.Section.{Section}
 use Rattle.ql_cert.specs.declared.cert.SectionLevel.{SectionLevel}
 use Rattle.ql_cert.specs.Spelling.{Fields, IsLine, line_fields, numbered}
 use Rattle.ql_cert.specs.Faults.{Begins}
-use Rattle.ql_cert.specs.CertFile.{State, Untitled, Within, Ended, Follows, Takes, IsCertFile, IsCertOf, IsSection, IsState, cert_lines, end_line, heading, lines_so_far, opened, section_lines, sections_lines, title, with_last, with_line}
+use Rattle.ql_cert.specs.CertFile.{State, Untitled, Within, Ended, Takes, IsCertFile, IsSection, IsState, cert_lines, end_line, heading, lines_so_far, opened, section_lines, sections_lines, title, with_last, with_line}
 use Rattle.ql_cert.specs.declared.cert_reader.Reading.{Reading}
 use Rattle.ql_cert.specs.declared.cert_reader.Reading.TheVariants as reading
 use Rattle.ql_cert.specs.Reader.{state_of}

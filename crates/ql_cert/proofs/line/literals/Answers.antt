@@ -1,4 +1,4 @@
-use Rattle.std.proofs.Common.{◌≡◌, ◌++◌, List, None, ap, subst, ◌∙◌}
+use Rattle.std.proofs.Common.{◌++◌, List, None, ap, subst, ◌∙◌}
 use Rattle.ql_lines.specs.Fields.{fields_of}
 use Rattle.ql_cnf.specs.declared.lit.Lit.{Lit}
 use Rattle.ql_cert.specs.Readings.{IsNext, IsRead}

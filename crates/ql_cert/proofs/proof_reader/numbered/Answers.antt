@@ -1,4 +1,4 @@
-use Rattle.std.proofs.Common.{◌≡◌, ◌∷◌, List, arith, decimal, subst}
+use Rattle.std.proofs.Common.{◌∷◌, arith, decimal, subst}
 use Rattle.ql_lines.specs.Fields.{fields_of}
 use Rattle.ql_cert.specs.Spelling.{Fields, IsLine, body_fields}
 use Rattle.ql_cert.specs.declared.fault.LineFault.TheVariants.{Number}
