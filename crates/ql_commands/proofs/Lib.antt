@@ -6,3 +6,5 @@ pub mod ReadNames
 pub mod SpelledVerdicts
 pub mod Copies
 pub mod Headings
+pub mod Due
+pub mod Telling

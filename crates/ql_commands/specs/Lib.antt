@@ -4,3 +4,5 @@ pub mod Classify
 pub mod Certificates
 pub mod Prove
 pub mod Spellable
+pub mod Check
+pub mod Judging

@@ -3,9 +3,13 @@
 #![tactic(auto)]
 
 mod answer;
+mod cert_fault;
 mod certificate;
 mod classification;
+mod judgement;
+mod order;
 mod refusal;
+mod section_lines;
 mod source;
 mod source_fault;
 mod spellable;
@@ -13,4 +17,5 @@ mod spellable;
 pub use answer::Answer;
 pub use certificate::prove;
 pub use classification::classify;
+pub use judgement::check;
 pub use source_fault::SourceFault;

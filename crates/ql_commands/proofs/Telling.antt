@@ -1,0 +1,83 @@
+-- What is told of sections, line by line, and of a whole certificate.
+use Rattle.std.proofs.Common.{◌≡◌, ◌≢◌, inr, ℕ, suc, ◌+◌, List, [], ◌∷◌, ◌++◌, length, Some, refl, sym, ap, subst, ◌∙◌, arith, add-one, append_assoc}
+use Rattle.std.proofs.lemmas.List.{append-nil}
+use Rattle.ql_cert.specs.CertFile.{IsCertFile}
+use Rattle.ql_cert.specs.Faults.{IsRefusal}
+use Rattle.ql_cert.specs.declared.cert.Section.{Section}
+use Rattle.ql_cert.specs.declared.fault.CertFault.{CertFault}
+use Rattle.ql_cert.specs.declared.fault.CertFault.TheVariants.{Unexpected, Number, NoMemory}
+use Rattle.ql_cert.proofs.FirstFaults.{no_file}
+use Rattle.ql_ground.specs.declared.goal.Goal.{Goal}
+use Rattle.ql_lang.specs.declared.program.Program.{Program}
+use Rattle.ql_lines.specs.Lines.{ahead_from}
+use Rattle.ql_refute.specs.Verdict.{verdict}
+use Rattle.ql_refute.specs.declared.verdict.Verdict.{Verdict}
+use Rattle.ql_refute.specs.declared.verdict.Verdict.TheVariants.{Accepted}
+use Rattle.ql_commands.specs.declared.answer.Answer.{Answer}
+use Rattle.ql_commands.specs.declared.answer.Answer.TheVariants.{Done, No, Bad}
+use Rattle.ql_commands.specs.Certificates.{SpellsCert}
+use Rattle.ql_commands.specs.Check.{AreDue, BadCertSays, CheckSays, SectionsSay, Tells, cert_fault_text, goal_of, section_text, verdict_text}
+use Rattle.ql_commands.specs.Check.Tells.{all, accepted, refused}
+use Rattle.ql_commands.specs.Judging.{IsVerdictOn}
+use Rattle.ql_commands.specs.Sources.{IsSourceOf}
+
+-- some text that is told was appended
+abbrev pub IsTold : Program → ℕ → List Section → Answer → List ℕ → List ℕ → Type 0
+IsTold p place ss a out new = (text : List ℕ) × Tells p place ss a text × (new ≡ out ++ text)
+
+pub told_none : (p : Program) (place : ℕ) (ss : List Section) (out : List ℕ) → length ss ≡ 0 → IsTold p place ss Done out out
+told_none p place [] out e = ([], all place, sym (append-nil out))
+told_none p place (s ∷ ss) out e = absurd (omega (arith, e))
+
+pieces : (out a b : List ℕ) (first second : List ℕ) → first ≡ out ++ a → second ≡ first ++ b → second ≡ out ++ (a ++ b)
+pieces out a b first second e f = f ∙ ap (λ (z : List ℕ). z ++ b) e ∙ append_assoc out a b
+
+module _ (p : Program) (place : ℕ) (ss : List Section) (s : Section) (others : List Section) (g : Goal) (v : Verdict) (out first second : List ℕ)
+    (are : ss ≡ s ∷ others) (goal : g ≡ goal_of p place s) (on : IsVerdictOn p g s.refutation.lines v)
+    (told : first ≡ out ++ section_text s) (ended : second ≡ first ++ verdict_text v) where
+  judged : IsVerdictOn p (goal_of p place s) s.refutation.lines v
+  judged = subst (λ h. IsVerdictOn p h s.refutation.lines v) goal on
+
+  -- the section is accepted, and so it goes on
+  pub told_accepted : (a : Answer) (new : List ℕ) → v ≡ Accepted → IsTold p (place + 1) others a second new → IsTold p place ss a out new
+  told_accepted a new sure more =
+      let tells : Tells p (suc place) others a more.0 = subst (λ n. Tells p n others a more.0) (add-one place) more.1 in
+      let whole : Tells p place (s ∷ others) a (section_text s ++ verdict_text Accepted ++ more.0) =
+      accepted place s others a more.0 (judged.clauses, judged.problem, judged.verdict_is ∙ sure) (judged.implied sure) tells in
+      let line : second ≡ out ++ (section_text s ++ verdict_text Accepted) = pieces out (section_text s) (verdict_text Accepted) first second told (ended ∙ ap (λ w. first ++ verdict_text w) sure) in (
+        section_text s ++ verdict_text Accepted ++ more.0,
+        subst (λ ts. Tells p place ts a (section_text s ++ verdict_text Accepted ++ more.0)) (sym are) whole,
+        more.2 ∙ ap (λ (z : List ℕ). z ++ more.0) line ∙ append_assoc out (section_text s ++ verdict_text Accepted) more.0,
+      )
+
+  -- the section is refused, and no more is told
+  pub told_refused : v ≢ Accepted → IsTold p place ss No out second
+  told_refused not =
+      let c = judged.clauses in
+      let refusal : verdict c s.refutation.lines ≢ Accepted = λ sure. not (sym judged.verdict_is ∙ sure) in
+      let whole : Tells p place (s ∷ others) No (section_text s ++ verdict_text (verdict c s.refutation.lines)) = refused place s others c judged.problem refusal in
+      let line : second ≡ out ++ (section_text s ++ verdict_text v) = pieces out (section_text s) (verdict_text v) first second told ended in (
+        section_text s ++ verdict_text (verdict c s.refutation.lines),
+        subst (λ ts. Tells p place ts No (section_text s ++ verdict_text (verdict c s.refutation.lines))) (sym are) whole,
+        line ∙ ap (λ w. out ++ (section_text s ++ verdict_text w)) (sym judged.verdict_is),
+      )
+
+never-bad : (p : Program) (place : ℕ) (ss : List Section) (a : Answer) (text : List ℕ) → Tells p place ss a text → a ≡ Bad → ⊥
+never-bad p place ss a text (all k) is = absurd (cc)
+never-bad p place ss a text (accepted k s more b rest refuted implied tells) is = never-bad p (suc k) more b rest tells is
+never-bad p place ss a text (refused k s more c problem not) is = absurd (cc)
+
+pub sections_say : (p : Program) (ss : List Section) (a : Answer) (start new : List ℕ) → AreDue p ss → start ≡ [] → IsTold p 0 ss a start new → SectionsSay p ss a new
+sections_say p ss Done start new due e told = (due, subst (λ t. Tells p 0 ss Done t) (sym (told.2 ∙ ap (λ (z : List ℕ). z ++ told.0) e)) told.1)
+sections_say p ss No start new due e told = inr (due, subst (λ t. Tells p 0 ss No t) (sym (told.2 ∙ ap (λ (z : List ℕ). z ++ told.0) e)) told.1)
+sections_say p ss Bad start new due e told = absurd (never-bad p 0 ss Bad told.0 told.1 refl)
+
+pub cert_is_bad : (bytes : List ℕ) (f : CertFault) (text : List ℕ) → IsRefusal IsCertFile (ahead_from 1 bytes) f → cert_fault_text f ≡ Some text → BadCertSays bytes text
+cert_is_bad bytes (Unexpected line) text h e = (no_file IsCertFile (ahead_from 1 bytes) (Unexpected line) h, Unexpected line, h, e)
+cert_is_bad bytes (Number line) text h e = (no_file IsCertFile (ahead_from 1 bytes) (Number line) h, Number line, h, e)
+cert_is_bad bytes NoMemory text h e = absurd (cc)
+
+pub check_says : (source cert : List ℕ) (p : Program) (ss : List Section) (a : Answer) (text : List ℕ) → IsSourceOf source p → SpellsCert cert ss → SectionsSay p ss a text → CheckSays source cert a text
+check_says source cert p ss Done text is spells said = (p, is, ss, spells, said)
+check_says source cert p ss No text is spells said = (p, is, ss, spells, said)
+check_says source cert p ss Bad text is spells said = absurd said

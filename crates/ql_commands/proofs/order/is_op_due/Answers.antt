@@ -1,0 +1,12 @@
+use Rattle.std.proofs.Common.{arith}
+use Rattle.ql_commands.proofs.Due.{op_not, op_told}
+use Rattle.ql_commands.proofs.order.is_op_due.Goals as goal
+
+pub returns-then-place-ops : goal.returns-then-place-ops
+returns-then-place-ops c =
+    let count = c.ops.ensures.count in
+    let past = c.if-place-ops.true in
+    op_not c.args.t.now.program c.args.place c.args.name.now (omega (arith, count, past))
+
+pub returns : goal.returns
+returns c = op_told c.args.t.now.program c.args.place c.args.name.now c.same_name.result c.bytes.result.now c.op.result.now c.op.ensures c.bytes.ensures.same c.same_name.ensures

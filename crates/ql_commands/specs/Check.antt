@@ -1,0 +1,132 @@
+-- What `check` says of a source and a certificate.
+use Rattle.std.specs.Prelude.{◌≡◌, ◌≢◌, ◌⊎◌, ℕ, suc, ◌-◌, List, [], ◌∷◌, ◌++◌, map, length, Option, None, Some, codes, decimal}
+use Rattle.ql_cert.specs.declared.cert.Section.{Section}
+use Rattle.ql_cert.specs.declared.cert.SectionLevel.{SectionLevel}
+use Rattle.ql_cert.specs.declared.cert.SectionLevel.TheVariants.{Op, Txn}
+use Rattle.ql_cert.specs.declared.fault.CertFault.{CertFault}
+use Rattle.ql_cert.specs.declared.fault.CertFault.TheVariants.{Unexpected, Number, NoMemory}
+use Rattle.ql_cert.specs.CertFile.{IsCertFile, kind_word, level_word}
+use Rattle.ql_cert.specs.Faults.{FirstFault}
+use Rattle.ql_classify.specs.Goals.{IsRefutedBy}
+use Rattle.ql_classify.specs.Targets.{op_at, txn_at}
+use Rattle.ql_cnf.specs.Satisfaction.{ClauseList}
+use Rattle.ql_ground.specs.OfPrograms.{IsImplied, IsProblemOf}
+use Rattle.ql_ground.specs.declared.goal.Goal.{Goal}
+use Rattle.ql_lang.specs.declared.program.Program.{Program}
+use Rattle.ql_lines.specs.Lines.{ahead_from}
+use Rattle.ql_refute.specs.Verdict.{verdict}
+use Rattle.ql_refute.specs.declared.verdict.Verdict.{Verdict}
+use Rattle.ql_refute.specs.declared.verdict.Verdict.TheVariants.{Accepted, BadHint, NotUnit, NoConflict, NoEmpty, BadVariable}
+use Rattle.ql_typing.specs.Operations.{all_ops}
+use Rattle.ql_commands.specs.declared.answer.Answer.{Answer}
+use Rattle.ql_commands.specs.declared.answer.Answer.TheVariants as answer
+use Rattle.ql_commands.specs.Certificates.{IsCertificate, SpellsCert}
+use Rattle.ql_commands.specs.Sources.{IsSource, IsSourceOf, BadSourceSays}
+
+-- ---- the certificate's text
+
+-- the line that tells a certificate's first fault, and none for want of memory
+abbrev pub cert_fault_line : ℕ → List ℕ → List ℕ
+cert_fault_line line rule = codes "bad certificate at " ++ decimal line ++ codes ": " ++ rule ++ codes "\n"
+
+abbrev pub cert_fault_text : CertFault → Option (List ℕ)
+cert_fault_text (Unexpected line) = Some (cert_fault_line line (codes "Unexpected"))
+cert_fault_text (Number line) = Some (cert_fault_line line (codes "Number"))
+cert_fault_text NoMemory = None
+
+abbrev pub BadCertSays : List ℕ → List ℕ → Type 0
+BadCertSays bytes text = (IsCertificate bytes → ⊥) × (f : CertFault) × FirstFault IsCertFile (ahead_from 1 bytes) f × (cert_fault_text f ≡ Some text)
+
+-- ---- the order of the sections
+
+-- a target by its kind and name
+pub data Target : Type 0 where
+  Operation : List ℕ → Target
+  Transaction : List ℕ → Target
+
+-- the targets of a program, in the order in which a certificate has them
+abbrev pub targets_due : Program → List Target
+targets_due p = map (λ op. Operation op.name.word) (all_ops p.types) ++ map (λ txn. Transaction txn.name.word) p.txns
+
+abbrev pub target_named : List ℕ → SectionLevel → Target
+target_named name (Op level) = Operation name
+target_named name (Txn level) = Transaction name
+
+abbrev pub target_of : Section → Target
+target_of s = target_named s.name s.level
+
+-- the sections are those that are due
+abbrev pub AreDue : Program → List Section → Type 0
+AreDue p ss = map target_of ss ≡ targets_due p
+
+-- two lists begin otherwise, or one of them has ended
+abbrev pub BeginOtherwise : List Target → List Target → Type 0
+BeginOtherwise [] [] = ⊥
+BeginOtherwise [] (u ∷ us) = Unit {0}
+BeginOtherwise (t ∷ ts) [] = Unit {0}
+BeginOtherwise (t ∷ ts) (u ∷ us) = t ≢ u
+
+-- the first place, from 1, at which the sections aren't those that are due
+pub record IsOutOfOrder (p : Program) (ss : List Section) (place : ℕ) : Type 0 where
+  pub before : List Target
+  pub at : place ≡ suc (length before)
+  pub due : List Target
+  pub given : List Target
+  pub are_due : targets_due p ≡ before ++ due
+  pub are_given : map target_of ss ≡ before ++ given
+  pub differ : BeginOtherwise due given
+
+abbrev pub order_text : ℕ → List ℕ
+order_text place = codes "order " ++ decimal place ++ codes "\n"
+
+-- ---- the refutations of the sections
+
+-- the goal of the section at a place, from 0, of a program with so many operations
+abbrev pub goal_at : ℕ → ℕ → SectionLevel → Goal
+goal_at ops place (Op level) = op_at place level
+goal_at ops place (Txn level) = txn_at (place - ops) level
+
+abbrev pub goal_of : Program → ℕ → Section → Goal
+goal_of p place s = goal_at (length (all_ops p.types)) place s.level
+
+-- op F LEVEL, or txn F LEVEL
+abbrev pub section_text : Section → List ℕ
+section_text s = kind_word s.level ++ codes " " ++ s.name ++ codes " " ++ level_word s.level
+
+-- the end of a section's line
+abbrev pub refusal_end : ℕ → List ℕ → List ℕ
+refusal_end line rule = codes " refused " ++ decimal line ++ codes " " ++ rule ++ codes "\n"
+
+abbrev pub verdict_text : Verdict → List ℕ
+verdict_text Accepted = codes " accepted\n"
+verdict_text (BadHint line) = refusal_end line (codes "BadHint")
+verdict_text (NotUnit line) = refusal_end line (codes "NotUnit")
+verdict_text (NoConflict line) = refusal_end line (codes "NoConflict")
+verdict_text (BadVariable line) = refusal_end line (codes "BadVariable")
+verdict_text NoEmpty = codes " refused NoEmpty\n"
+
+-- The lines that tell of the sections from a place on, up to the first that is refused. Where a line ends in `accepted`,
+-- the refutation is one of the section's own ground problem, and the level gives the contract in every execution.
+pub data Tells (p : Program) : ℕ → List Section → Answer → List ℕ → Type 0 where
+  all : (place : ℕ) → Tells p place [] answer.Done []
+  accepted : (place : ℕ) (s : Section) (ss : List Section) (a : Answer) (text : List ℕ)
+      → IsRefutedBy p (goal_of p place s) s.refutation.lines → IsImplied p (goal_of p place s) → Tells p (suc place) ss a text
+      → Tells p place (s ∷ ss) a (section_text s ++ verdict_text Accepted ++ text)
+  refused : (place : ℕ) (s : Section) (ss : List Section) (c : ClauseList)
+      → IsProblemOf p (goal_of p place s) c → verdict c s.refutation.lines ≢ Accepted
+      → Tells p place (s ∷ ss) answer.No (section_text s ++ verdict_text (verdict c s.refutation.lines))
+
+-- what is said of a program and of sections
+abbrev pub SectionsSay : Program → List Section → Answer → List ℕ → Type 0
+SectionsSay p ss answer.Done text = AreDue p ss × Tells p 0 ss answer.Done text
+SectionsSay p ss answer.No text =
+    ((place : ℕ) × IsOutOfOrder p ss place × (text ≡ order_text place)) ⊎ (AreDue p ss × Tells p 0 ss answer.No text)
+SectionsSay p ss answer.Bad text = ⊥
+
+abbrev pub CheckTells : List ℕ → List ℕ → Answer → List ℕ → Type 0
+CheckTells source cert a text = (p : Program) × IsSourceOf source p × (ss : List Section) × SpellsCert cert ss × SectionsSay p ss a text
+
+abbrev pub CheckSays : List ℕ → List ℕ → Answer → List ℕ → Type 0
+CheckSays source cert answer.Done text = CheckTells source cert answer.Done text
+CheckSays source cert answer.No text = CheckTells source cert answer.No text
+CheckSays source cert answer.Bad text = BadSourceSays source text ⊎ (IsSource source × BadCertSays cert text)

@@ -1,0 +1,80 @@
+// Whether the sections of a certificate are those that are due.
+ghost use Rattle.std.specs.Prelude.{◌≡◌, ◌↔◌, ◌<◌, ◌≤◌, IfNone, IsTrue, MatchOption, Some, IfOk, length, map, slice_get};
+ghost use Rattle.ql_commands.specs.Check.{AreDue, IsOutOfOrder, Operation, Transaction, order_text, target_of, targets_due};
+
+use ql_base::{DeclId, NoMemory, OpId, push_bytes, push_number};
+use ql_cert::{Section, SectionLevel};
+use ql_typing::Typed;
+use std::alloc::Global;
+
+/// The first place, from 1, at which the sections aren't those that are due.
+pub(crate) fn first_out_of_order(t: &Typed, sections: &[Section]) -> Option<u32>
+    ensures order { MatchOption result (AreDue t.now.program sections.now) (IsOutOfOrder t.now.program sections.now) }
+    ensures few { IfNone result (length sections.now ≤ 48) }
+{
+    let targets = t.ops() + t.txns();
+    for place in 0..targets {
+        if !is_due(t, place, sections) {
+            return Some(place + 1);
+        }
+    }
+    if sections.len() > targets as usize {
+        Some(targets + 1)
+    } else {
+        None
+    }
+}
+
+// Whether the section at a place, from 0, is of the target that is due there.
+fn is_due(t: &Typed, place: u32, sections: &[Section]) -> bool
+    requires { place < length (targets_due t.now.program) }
+    ensures { IsTrue result ↔ (slice_get (targets_due t.now.program) place ≡ slice_get (map target_of sections.now) place) }
+{
+    let Some(section) = sections.get(place as usize) else {
+        return false;
+    };
+    match section.level {
+        SectionLevel::Op(_) => is_op_due(t, place, section.name.bytes()),
+        SectionLevel::Txn(_) => is_txn_due(t, place, section.name.bytes()),
+    }
+}
+
+// Whether the operation of a name is due.
+fn is_op_due(t: &Typed, place: u32, name: &[u8]) -> bool
+    ensures { IsTrue result ↔ (slice_get (targets_due t.now.program) place ≡ Some (Operation name.now)) }
+{
+    if place >= t.ops() {
+        return false;
+    }
+    same_name(t.op(OpId(place)).name.word.bytes(), name)
+}
+
+// Whether the transaction of a name is due.
+fn is_txn_due(t: &Typed, place: u32, name: &[u8]) -> bool
+    ensures { IsTrue result ↔ (slice_get (targets_due t.now.program) place ≡ Some (Transaction name.now)) }
+{
+    if place < t.ops() {
+        return false;
+    }
+    let number = place - t.ops();
+    if number >= t.txns() {
+        return false;
+    }
+    same_name(t.txn(DeclId(number)).name.word.bytes(), name)
+}
+
+fn same_name(a: &[u8], b: &[u8]) -> bool
+    ensures { IsTrue result ↔ (a.now ≡ b.now) }
+{
+    a == b
+}
+
+/// The line that tells the first place out of order.
+pub(crate) fn order_line(alloc: Global, place: u32) -> Result<Vec<u8>, NoMemory>
+    ensures { IfOk result (λ text. text.items ≡ order_text place) }
+{
+    let mut text = Vec::from_slice(alloc, b"order ")?;
+    push_number(&mut text, place)?;
+    push_bytes(&mut text, b"\n")?;
+    Ok(text)
+}
