@@ -1,47 +1,108 @@
--- What a command says of its file is what may be said of the words.
-use Rattle.std.proofs.Common.{◌≡◌, inl, ℕ, ◌≤◌, List, length, Option, Some, None, Result, Ok, Err, subst}
+-- What is said of the bytes that were read is what is told of the request.
+use Rattle.std.proofs.Common.{◌≡◌, inl, inr, ℕ, ◌≤◌, ◌<◌, List, length, Option, Some, None, Result, Ok, Err, refl, subst}
 use Rattle.std.specs.Prelude.{IfSome, IfOk}
 use Rattle.std.specs.Global.{Vec}
 use Rattle.ql_base.specs.declared.no_memory.NoMemory.{NoMemory}
+use Rattle.ql_ports.specs.Faults.{Rose}
+use Rattle.ql_ports.specs.declared.whole.ReadError.{ReadError}
+use Rattle.ql_ports.specs.declared.whole.ReadError.TheVariants.{Failed, TooLong, NoMemory as NoReadMemory}
+use Rattle.ql_app.specs.declared.outcome.Limits.{Limits}
 use Rattle.ql_app.specs.declared.status.Status.{Status}
 use Rattle.ql_app.specs.declared.status.Status.TheVariants.{Done, No, Bad, ReadFault, WriteFault, Usage, TooLarge}
 use Rattle.ql_app.specs.declared.words.Command.{Command}
 use Rattle.ql_app.specs.declared.words.Command.TheVariants.{Holds, Proof, Classify, Prove}
-use Rattle.ql_app.specs.Words.{IsRequest}
-use Rattle.ql_app.specs.Outcome.{Says, Judges, CommandSays}
+use Rattle.ql_app.specs.declared.words.PairCommand.{PairCommand}
+use Rattle.ql_app.specs.declared.words.PairCommand.TheVariants.{Check}
+use Rattle.ql_app.specs.Words.{OneFile, TwoFiles}
+use Rattle.ql_app.specs.Outcome.{CommandSays, IsRead, IsUnread, PairSays, Tells}
 
 -- what is said of the bytes that were read is said of the bytes that are held
 of_held : (bytes : List ℕ) (held : Option (List ℕ)) (P : List ℕ → Type 0) → IfSome held (λ whole. bytes ≡ whole) → P bytes → IfSome held P
 of_held bytes None P same p = tt
 of_held bytes (Some whole) P same p = subst P same p
 
-judges : (limit : ℕ) (words : List (List ℕ)) (held : List ℕ → Option (List ℕ)) (command : Command) (name bytes : List ℕ) (status : Status) (text : List ℕ)
-    → IsRequest words command name → IfSome (held name) (λ whole. bytes ≡ whole) → length bytes ≤ limit → CommandSays command bytes status text → Judges limit words held status text
-judges limit words held command name bytes status text asks same short says =
-    (command, name, asks, of_held bytes (held name) (λ whole. (length whole ≤ limit) × CommandSays command whole status text) same (short, says))
+read : (limit : ℕ) (bytes : List ℕ) (held : Option (List ℕ)) (P : List ℕ → Type 0) → IfSome held (λ whole. bytes ≡ whole) → length bytes ≤ limit → P bytes → IsRead limit held P
+read limit bytes held P same short p = of_held bytes held (λ whole. (length whole ≤ limit) × P whole) same (short, p)
 
-command_says : (limit : ℕ) (words : List (List ℕ)) (held : List ℕ → Option (List ℕ)) (before after : List ℕ → ℕ) (command : Command) (name bytes : List ℕ) (status : Status) (text : List ℕ)
-    → IsRequest words command name → IfSome (held name) (λ whole. bytes ≡ whole) → length bytes ≤ limit → CommandSays command bytes status text → Says limit words held before after status text
-command_says limit words held before after command name bytes Done text asks same short says = judges limit words held command name bytes Done text asks same short says
-command_says limit words held before after command name bytes No text asks same short says = judges limit words held command name bytes No text asks same short says
-command_says limit words held before after command name bytes Bad text asks same short says = judges limit words held command name bytes Bad text asks same short says
-command_says limit words held before after Holds name bytes ReadFault text asks same short says = absurd says
-command_says limit words held before after Proof name bytes ReadFault text asks same short says = absurd says
-command_says limit words held before after Classify name bytes ReadFault text asks same short says = absurd says
-command_says limit words held before after Prove name bytes ReadFault text asks same short says = absurd says
-command_says limit words held before after Holds name bytes WriteFault text asks same short says = absurd says
-command_says limit words held before after Proof name bytes WriteFault text asks same short says = absurd says
-command_says limit words held before after Classify name bytes WriteFault text asks same short says = absurd says
-command_says limit words held before after Prove name bytes WriteFault text asks same short says = absurd says
-command_says limit words held before after Holds name bytes Usage text asks same short says = absurd says
-command_says limit words held before after Proof name bytes Usage text asks same short says = absurd says
-command_says limit words held before after Classify name bytes Usage text asks same short says = absurd says
-command_says limit words held before after Prove name bytes Usage text asks same short says = absurd says
-command_says limit words held before after command name bytes TooLarge text asks same short says = inl (judges limit words held command name bytes TooLarge text asks same short says)
+module _ (limits : Limits) (held : List ℕ → Option (List ℕ)) (before after : List ℕ → ℕ) where
+  one : (command : Command) (name bytes : List ℕ) (status : Status) (text : List ℕ)
+      → IfSome (held name) (λ whole. bytes ≡ whole) → length bytes ≤ limits.file → CommandSays command bytes status text → Tells limits held before after (OneFile command name) status text
+  one command name bytes Done text same short says = read limits.file bytes (held name) (λ b. CommandSays command b Done text) same short says
+  one command name bytes No text same short says = read limits.file bytes (held name) (λ b. CommandSays command b No text) same short says
+  one command name bytes Bad text same short says = read limits.file bytes (held name) (λ b. CommandSays command b Bad text) same short says
+  one Holds name bytes ReadFault text same short says = absurd says
+  one Proof name bytes ReadFault text same short says = absurd says
+  one Classify name bytes ReadFault text same short says = absurd says
+  one Prove name bytes ReadFault text same short says = absurd says
+  one Holds name bytes WriteFault text same short says = absurd says
+  one Proof name bytes WriteFault text same short says = absurd says
+  one Classify name bytes WriteFault text same short says = absurd says
+  one Prove name bytes WriteFault text same short says = absurd says
+  one Holds name bytes Usage text same short says = absurd says
+  one Proof name bytes Usage text same short says = absurd says
+  one Classify name bytes Usage text same short says = absurd says
+  one Prove name bytes Usage text same short says = absurd says
+  one command name bytes TooLarge text same short says = inl (read limits.file bytes (held name) (λ b. CommandSays command b TooLarge text) same short says)
 
--- the answer of a command is an answer to the words
-pub answer_says : (limit : ℕ) (words : List (List ℕ)) (held : List ℕ → Option (List ℕ)) (before after : List ℕ → ℕ) (command : Command) (name bytes : List ℕ) (answer : Result (Status × Vec ℕ) NoMemory)
-    → IsRequest words command name → IfSome (held name) (λ whole. bytes ≡ whole) → length bytes ≤ limit → IfOk answer (λ a. CommandSays command bytes a.0 a.1.items)
-    → IfOk answer (λ a. Says limit words held before after a.0 a.1.items)
-answer_says limit words held before after command name bytes (Ok a) asks same short says = command_says limit words held before after command name bytes a.0 a.1.items asks same short says
-answer_says limit words held before after command name bytes (Err e) asks same short says = tt
+  -- the answer of a command on one file
+  pub one_answer : (command : Command) (name bytes : List ℕ) (answer : Result (Status × Vec ℕ) NoMemory)
+      → IfSome (held name) (λ whole. bytes ≡ whole) → length bytes ≤ limits.file → IfOk answer (λ a. CommandSays command bytes a.0 a.1.items)
+      → IfOk answer (λ a. Tells limits held before after (OneFile command name) a.0 a.1.items)
+  one_answer command name bytes (Ok a) same short says = one command name bytes a.0 a.1.items same short says
+  one_answer command name bytes (Err e) same short says = tt
+
+  both : (command : PairCommand) (name other bytes more : List ℕ) (status : Status) (text : List ℕ)
+      → IfSome (held name) (λ whole. bytes ≡ whole) → length bytes ≤ limits.file → IfSome (held other) (λ whole. more ≡ whole) → length more ≤ limits.second
+      → PairSays command bytes more status text → IsRead limits.file (held name) (λ b. IsRead limits.second (held other) (λ m. PairSays command b m status text))
+  both command name other bytes more status text same short also few says =
+      read limits.file bytes (held name) (λ b. IsRead limits.second (held other) (λ m. PairSays command b m status text)) same short
+      (read limits.second more (held other) (λ m. PairSays command bytes m status text) also few says)
+
+  two : (command : PairCommand) (name other bytes more : List ℕ) (status : Status) (text : List ℕ)
+      → IfSome (held name) (λ whole. bytes ≡ whole) → length bytes ≤ limits.file → IfSome (held other) (λ whole. more ≡ whole) → length more ≤ limits.second
+      → PairSays command bytes more status text → Tells limits held before after (TwoFiles command name other) status text
+  two command name other bytes more Done text same short also few says = both command name other bytes more Done text same short also few says
+  two command name other bytes more No text same short also few says = both command name other bytes more No text same short also few says
+  two command name other bytes more Bad text same short also few says = both command name other bytes more Bad text same short also few says
+  two Check name other bytes more ReadFault text same short also few says = absurd says
+  two Check name other bytes more WriteFault text same short also few says = absurd says
+  two Check name other bytes more Usage text same short also few says = absurd says
+  two command name other bytes more TooLarge text same short also few says = inl (both command name other bytes more TooLarge text same short also few says)
+
+  -- and on two
+  pub two_answers : (command : PairCommand) (name other bytes more : List ℕ) (answer : Result (Status × Vec ℕ) NoMemory)
+      → IfSome (held name) (λ whole. bytes ≡ whole) → length bytes ≤ limits.file → IfSome (held other) (λ whole. more ≡ whole) → length more ≤ limits.second
+      → IfOk answer (λ a. PairSays command bytes more a.0 a.1.items) → IfOk answer (λ a. Tells limits held before after (TwoFiles command name other) a.0 a.1.items)
+  two_answers command name other bytes more (Ok a) same short also few says = two command name other bytes more a.0 a.1.items same short also few says
+  two_answers command name other bytes more (Err e) same short also few says = tt
+
+  unread-one : (command : Command) (name : List ℕ) (error : ReadError) (status : Status) (text : List ℕ) → IsUnread error name status text
+      → (error ≡ Failed → Rose (before name) (after name)) → (error ≡ TooLong → IfSome (held name) (λ bytes. limits.file < length bytes)) → Tells limits held before after (OneFile command name) status text
+  unread-one command name Failed Done text is f l = absurd is
+  unread-one command name Failed No text is f l = absurd is
+  unread-one command name Failed Bad text is f l = absurd is
+  unread-one command name Failed ReadFault text is f l = (f refl, is)
+  unread-one command name Failed WriteFault text is f l = absurd is
+  unread-one command name Failed Usage text is f l = absurd is
+  unread-one command name Failed TooLarge text is f l = absurd is
+  unread-one command name TooLong Done text is f l = absurd is
+  unread-one command name TooLong No text is f l = absurd is
+  unread-one command name TooLong Bad text is f l = absurd is
+  unread-one command name TooLong ReadFault text is f l = absurd is
+  unread-one command name TooLong WriteFault text is f l = absurd is
+  unread-one command name TooLong Usage text is f l = absurd is
+  unread-one command name TooLong TooLarge text is f l = inr (l refl, is)
+  unread-one command name NoReadMemory Done text is f l = absurd is
+  unread-one command name NoReadMemory No text is f l = absurd is
+  unread-one command name NoReadMemory Bad text is f l = absurd is
+  unread-one command name NoReadMemory ReadFault text is f l = absurd is
+  unread-one command name NoReadMemory WriteFault text is f l = absurd is
+  unread-one command name NoReadMemory Usage text is f l = absurd is
+  unread-one command name NoReadMemory TooLarge text is f l = absurd is
+
+  -- a file that couldn't be read whole
+  pub one_unread : (command : Command) (name : List ℕ) (error : ReadError) (answer : Result (Status × Vec ℕ) NoMemory) → IfOk answer (λ a. IsUnread error name a.0 a.1.items)
+      → (error ≡ Failed → Rose (before name) (after name)) → (error ≡ TooLong → IfSome (held name) (λ bytes. limits.file < length bytes))
+      → IfOk answer (λ a. Tells limits held before after (OneFile command name) a.0 a.1.items)
+  one_unread command name error (Ok a) is f l = unread-one command name error a.0 a.1.items is f l
+  one_unread command name error (Err e) is f l = tt

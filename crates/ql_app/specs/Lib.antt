@@ -1,4 +1,5 @@
 pub mod Words
+pub mod Requests
 pub mod HoldsFile
 pub mod ProofFile
 pub mod Answers

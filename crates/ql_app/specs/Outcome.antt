@@ -1,17 +1,24 @@
--- What may be printed: for the words, the bytes of the named file and a status.
-use Rattle.std.specs.Prelude.{◌≡◌, ◌⊎◌, ℕ, ◌<◌, ◌≤◌, List, ◌++◌, length, Option, Result, Ok, Err, IfSome, codes}
+-- What may be printed: for the words, the bytes of the named files and a status.
+use Rattle.std.specs.Prelude.{◌≡◌, ◌⊎◌, ℕ, ◌<◌, ◌≤◌, List, ◌++◌, length, Option, Some, Result, Ok, Err, IfSome, codes}
 use Rattle.ql_base.specs.declared.no_memory.NoMemory.{NoMemory}
 use Rattle.ql_ports.specs.Faults.{Rose}
+use Rattle.ql_ports.specs.declared.whole.ReadError.{ReadError}
+use Rattle.ql_ports.specs.declared.whole.ReadError.TheVariants.{Failed, TooLong}
 use Rattle.ql_ports.specs.Written.{appended, AppendsFront}
+use Rattle.ql_app.specs.declared.outcome.Limits.{Limits}
 use Rattle.ql_app.specs.declared.status.Status.{Status}
 use Rattle.ql_app.specs.declared.status.Status.TheVariants.{Done, No, Bad, ReadFault, WriteFault, Usage, TooLarge}
 use Rattle.ql_app.specs.declared.words.Command.{Command}
 use Rattle.ql_app.specs.declared.words.Command.TheVariants.{Holds, Proof, Classify, Prove}
-use Rattle.ql_app.specs.Words.{IsRequest}
+use Rattle.ql_app.specs.declared.words.PairCommand.{PairCommand}
+use Rattle.ql_app.specs.declared.words.PairCommand.TheVariants.{Check}
+use Rattle.ql_app.specs.Words.{Call, OneFile, TwoFiles, IsRequest}
 use Rattle.ql_app.specs.HoldsFile as holds
 use Rattle.ql_app.specs.HoldsFile.{HoldsSays}
 use Rattle.ql_app.specs.ProofFile.{ProofSays, IsProofFile}
 use Rattle.ql_app.specs.Answers.{AnswerSays}
+use Rattle.ql_commands.specs.Certificates.{IsCertificate}
+use Rattle.ql_commands.specs.Check.{CheckSays}
 use Rattle.ql_commands.specs.Classify.{ClassifySays}
 use Rattle.ql_commands.specs.Prove.{ProveSays}
 use Rattle.ql_commands.specs.Sources.{IsSource}
@@ -23,35 +30,89 @@ CommandSays Proof bytes status text = ProofSays bytes status text
 CommandSays Classify bytes status text = AnswerSays (ClassifySays bytes) status text
 CommandSays Prove bytes status text = AnswerSays (ProveSays bytes) status text
 
--- the file's bytes are in the grammar of the command's files, and don't ask for too much work
+-- and of the bytes of two files
+abbrev pub PairSays : PairCommand → List ℕ → List ℕ → Status → List ℕ → Type 0
+PairSays Check bytes more status text = AnswerSays (CheckSays bytes more) status text
+
+-- the bytes are in the grammar of the command's files, and don't ask for too much work
 abbrev pub IsAnswerable : Command → List ℕ → Type 0
 IsAnswerable Holds bytes = holds.IsAnswerable bytes
 IsAnswerable Proof bytes = IsProofFile bytes
 IsAnswerable Classify bytes = IsSource bytes
 IsAnswerable Prove bytes = IsSource bytes
 
--- the words ask for a command on a file, of which more is said
-abbrev pub ForRequest : List (List ℕ) → (Command → List ℕ → Type 0) → Type 0
-ForRequest words P = (command : Command) × (name : List ℕ) × IsRequest words command name × P command name
+abbrev pub AreAnswerable : PairCommand → List ℕ → List ℕ → Type 0
+AreAnswerable Check bytes more = IsSource bytes × IsCertificate more
 
--- the file was read whole and judged
-abbrev pub Judges : ℕ → List (List ℕ) → (List ℕ → Option (List ℕ)) → Status → List ℕ → Type 0
-Judges limit words held status text =
-    ForRequest words (λ command name. IfSome (held name) (λ bytes. (length bytes ≤ limit) × CommandSays command bytes status text))
+-- a file was read whole: what the shelf tells of it is within a limit, and this is so of it
+abbrev pub IsRead : ℕ → Option (List ℕ) → (List ℕ → Type 0) → Type 0
+IsRead limit held P = IfSome held (λ bytes. (length bytes ≤ limit) × P bytes)
+
+-- the files were read whole, in the order of the words, and judged
+abbrev pub Judges : Limits → (List ℕ → Option (List ℕ)) → Call → Status → List ℕ → Type 0
+Judges limits held (OneFile command name) status text = IsRead limits.file (held name) (λ bytes. CommandSays command bytes status text)
+Judges limits held (TwoFiles command name other) status text =
+    IsRead limits.file (held name) (λ bytes. IsRead limits.second (held other) (λ more. PairSays command bytes more status text))
+
+-- the answer where a file couldn't be read whole
+abbrev pub IsUnread : ReadError → List ℕ → Status → List ℕ → Type 0
+IsUnread Failed name ReadFault text = text ≡ codes "read fault " ++ name ++ codes "\n"
+IsUnread TooLong name TooLarge text = text ≡ codes "too large " ++ name ++ codes "\n"
+IsUnread _ _ _ _ = ⊥
+
+-- a file couldn't be read
+abbrev pub Fails : (List ℕ → ℕ) → (List ℕ → ℕ) → List ℕ → List ℕ → Type 0
+Fails before after name text = Rose (before name) (after name) × (text ≡ codes "read fault " ++ name ++ codes "\n")
+
+-- the first file that couldn't be read, after those that were
+abbrev pub MeetsFault : Limits → (List ℕ → Option (List ℕ)) → (List ℕ → ℕ) → (List ℕ → ℕ) → Call → List ℕ → Type 0
+MeetsFault limits held before after (OneFile command name) text = Fails before after name text
+MeetsFault limits held before after (TwoFiles command name other) text =
+    Fails before after name text ⊎ (IsRead limits.file (held name) (λ _. Unit {0}) × Fails before after other text)
+
+-- a file has more bytes than its limit
+abbrev pub IsOver : ℕ → (List ℕ → Option (List ℕ)) → List ℕ → List ℕ → Type 0
+IsOver limit held name text = IfSome (held name) (λ bytes. limit < length bytes) × (text ≡ codes "too large " ++ name ++ codes "\n")
+
+abbrev pub MeetsLimit : Limits → (List ℕ → Option (List ℕ)) → Call → List ℕ → Type 0
+MeetsLimit limits held (OneFile command name) text = IsOver limits.file held name text
+MeetsLimit limits held (TwoFiles command name other) text =
+    IsOver limits.file held name text ⊎ (IsRead limits.file (held name) (λ _. Unit {0}) × IsOver limits.second held other text)
+
+-- what is said of a call
+abbrev pub Tells : Limits → (List ℕ → Option (List ℕ)) → (List ℕ → ℕ) → (List ℕ → ℕ) → Call → Status → List ℕ → Type 0
+Tells limits held before after call Done text = Judges limits held call Done text
+Tells limits held before after call No text = Judges limits held call No text
+Tells limits held before after call Bad text = Judges limits held call Bad text
+Tells limits held before after call ReadFault text = MeetsFault limits held before after call text
+Tells limits held before after call WriteFault text = ⊥
+Tells limits held before after call Usage text = ⊥
+Tells limits held before after call TooLarge text = Judges limits held call TooLarge text ⊎ MeetsLimit limits held call text
+
+-- the words ask for something, of which this is said
+abbrev pub ForRequest : List (List ℕ) → (Call → Type 0) → Type 0
+ForRequest words P = (call : Call) × IsRequest words call × P call
 
 -- The text that is to be written with a status. `held` is what the shelf holds under each name, where it tells, and the
 -- counts are those of the shelf's faults at each name, before the call and after it.
-abbrev pub Says : ℕ → List (List ℕ) → (List ℕ → Option (List ℕ)) → (List ℕ → ℕ) → (List ℕ → ℕ) → Status → List ℕ → Type 0
-Says limit words held before after Done text = Judges limit words held Done text
-Says limit words held before after No text = Judges limit words held No text
-Says limit words held before after Bad text = Judges limit words held Bad text
-Says limit words held before after ReadFault text =
-    ForRequest words (λ _ name. Rose (before name) (after name) × (text ≡ codes "read fault " ++ name ++ codes "\n"))
-Says limit words held before after WriteFault text = ⊥
-Says limit words held before after Usage text = (ForRequest words (λ _ _. Unit {0}) → ⊥) × (text ≡ codes "usage\n")
-Says limit words held before after TooLarge text =
-    Judges limit words held TooLarge text
-    ⊎ ForRequest words (λ _ name. IfSome (held name) (λ bytes. limit < length bytes) × (text ≡ codes "too large " ++ name ++ codes "\n"))
+abbrev pub Says : Limits → List (List ℕ) → (List ℕ → Option (List ℕ)) → (List ℕ → ℕ) → (List ℕ → ℕ) → Status → List ℕ → Type 0
+Says limits words held before after status text =
+    ForRequest words (λ call. Tells limits held before after call status text)
+    ⊎ ((status ≡ Usage) × (ForRequest words (λ _. Unit {0}) → ⊥) × (text ≡ codes "usage\n"))
+
+-- the files are held whole, within their limits and in their grammars
+abbrev pub IsHeld : ℕ → Option (List ℕ) → (List ℕ → Type 0) → Type 0
+IsHeld limit held P = (bytes : List ℕ) × (held ≡ Some bytes) × (length bytes ≤ limit) × P bytes
+
+abbrev pub AreHeld : Limits → (List ℕ → Option (List ℕ)) → Call → Type 0
+AreHeld limits held (OneFile command name) = IsHeld limits.file (held name) (IsAnswerable command)
+AreHeld limits held (TwoFiles command name other) =
+    IsHeld limits.file (held name) (λ bytes. IsHeld limits.second (held other) (λ more. AreAnswerable command bytes more))
+
+-- no file's count rose
+abbrev pub NoneRose : (List ℕ → ℕ) → (List ℕ → ℕ) → Call → Type 0
+NoneRose before after (OneFile command name) = Rose (before name) (after name) → ⊥
+NoneRose before after (TwoFiles command name other) = (Rose (before name) (after name) → ⊥) × (Rose (before other) (after other) → ⊥)
 
 -- the text was appended
 abbrev pub Appends : (Status → List ℕ → Type 0) → Option (List ℕ) → Option (List ℕ) → Status → Type 0

@@ -5,6 +5,8 @@ use Rattle.std.specs.declared.string.String.{String}
 use Rattle.std.specs.String.{string_bytes}
 use Rattle.ql_app.specs.declared.words.Command.{Command}
 use Rattle.ql_app.specs.declared.words.Command.TheVariants.{Holds, Proof, Classify, Prove}
+use Rattle.ql_app.specs.declared.words.PairCommand.{PairCommand}
+use Rattle.ql_app.specs.declared.words.PairCommand.TheVariants.{Check}
 
 -- the words' bytes
 abbrev pub word_texts : Vec (String Global) → List (List ℕ)
@@ -21,6 +23,15 @@ command_word Proof = codes "proof"
 command_word Classify = codes "classify"
 command_word Prove = codes "prove"
 
--- the words ask for a command on the file of a name
-abbrev pub IsRequest : List (List ℕ) → Command → List ℕ → Type 0
-IsRequest words command name = (words ≡ command_word command ∷ name ∷ []) × IsName name
+abbrev pub pair_word : PairCommand → List ℕ
+pair_word Check = codes "check"
+
+-- what can be asked for: a command on one file, or on two, by their names
+pub data Call : Type 0 where
+  OneFile : Command → List ℕ → Call
+  TwoFiles : PairCommand → List ℕ → List ℕ → Call
+
+-- the words ask for this
+abbrev pub IsRequest : List (List ℕ) → Call → Type 0
+IsRequest words (OneFile command name) = (words ≡ command_word command ∷ name ∷ []) × IsName name
+IsRequest words (TwoFiles command name other) = (words ≡ pair_word command ∷ name ∷ other ∷ []) × IsName name × IsName other

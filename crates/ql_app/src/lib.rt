@@ -15,5 +15,6 @@ mod tests;
 mod text;
 mod words;
 
-pub use program::{MAX_FILE_BYTES, quelea};
+pub use outcome::Limits;
+pub use program::{MAX_CERTIFICATE_BYTES, MAX_FILE_BYTES, quelea};
 pub use status::Status;

@@ -1,39 +1,93 @@
-ghost use Rattle.std.specs.Prelude.{◌≡◌, ◌<◌, ◌^◌, ◌++◌, IfOk, codes, length};
-ghost use Rattle.ql_app.specs.Words.{word_texts};
+ghost use Rattle.std.specs.Prelude.{◌≡◌, ◌++◌, ◌<◌, ◌^◌, IfOk, codes, length};
 ghost use Rattle.ql_app.specs.Answers.{AnswerSays, status_of};
-ghost use Rattle.ql_app.specs.Outcome.{Says, CommandSays};
+ghost use Rattle.ql_app.specs.Outcome.{CommandSays, IsUnread, PairSays, Says, Tells};
+ghost use Rattle.ql_app.specs.Words.{OneFile, TwoFiles, word_texts};
+ghost use Rattle.ql_commands.specs.Check.{CheckSays};
 ghost use Rattle.ql_commands.specs.Classify.{ClassifySays};
 ghost use Rattle.ql_commands.specs.Prove.{ProveSays};
 
 use crate::holds::holds;
 use crate::proof::judge;
 use crate::status::Status;
-use crate::words::{Command, request};
+use crate::words::{Command, PairCommand, Request, parse_words};
 use ql_base::NoMemory;
-use ql_commands::{Answer, classify, prove};
+use ql_commands::{Answer, check, classify, prove};
 use ql_ports::{ReadError, Shelf, read_whole};
 use std::alloc::Global;
 
-/// The status and the text that answer the words. The named file is read once, to its end, and has
-/// at most `limit` bytes.
+/// The greatest lengths of files in bytes: of the first file that the words name, and of the second.
+#[derive(Clone, Copy, Debug, PartialEq, Eq)]
+pub struct Limits {
+    pub file: u32,
+    pub second: u32,
+}
+
+/// The status and the text that answer the words. The named files are read once, to their ends, in
+/// the order of the words.
 pub fn outcome<S: Shelf>(
     alloc: Global,
     words: &Vec<String>,
     shelf: &mut S,
-    limit: usize,
+    limits: Limits,
 ) -> Result<(Status, Vec<u8>), NoMemory>
-    requires { limit < 2 ^ 32 }
-    ensures { IfOk result (λ answer. Says limit (word_texts words.now) (S.held shelf.old)
+    ensures { IfOk result (λ answer. Says limits (word_texts words.now) (S.held shelf.old)
         (S.faults shelf.old) (S.faults shelf.new) answer.0 answer.1.items) }
 {
-    let Some((command, name)) = request(words) else {
-        return Ok((Status::Usage, Vec::from_slice(alloc, b"usage\n")?));
-    };
-    match read_whole(alloc, shelf, name, limit) {
+    match parse_words(words) {
+        None => Ok((Status::Usage, Vec::from_slice(alloc, b"usage\n")?)),
+        Some(Request::OneFile(command, name)) => of_file(alloc, command, shelf, name, limits),
+        Some(Request::TwoFiles(command, name, other)) => {
+            of_files(alloc, command, shelf, name, other, limits)
+        }
+    }
+}
+
+fn of_file<S: Shelf>(
+    alloc: Global,
+    command: Command,
+    shelf: &mut S,
+    name: &str,
+    limits: Limits,
+) -> Result<(Status, Vec<u8>), NoMemory>
+    ensures { IfOk result (λ answer. Tells limits (S.held shelf.old) (S.faults shelf.old) (S.faults shelf.new)
+        (OneFile command name.now) answer.0 answer.1.items) }
+{
+    match read_whole(alloc, shelf, name, limits.file as usize) {
         Ok(bytes) => judged(alloc, command, bytes.as_slice()),
-        Err(ReadError::Failed) => { Ok((Status::ReadFault, named(alloc, b"read fault ", name)?)) }
-        Err(ReadError::TooLong) => { Ok((Status::TooLarge, named(alloc, b"too large ", name)?)) }
-        Err(ReadError::NoMemory) => Err(NoMemory),
+        Err(error) => unread(alloc, error, name),
+    }
+}
+
+fn of_files<S: Shelf>(
+    alloc: Global,
+    command: PairCommand,
+    shelf: &mut S,
+    name: &str,
+    other: &str,
+    limits: Limits,
+) -> Result<(Status, Vec<u8>), NoMemory>
+    ensures { IfOk result (λ answer. Tells limits (S.held shelf.old) (S.faults shelf.old) (S.faults shelf.new)
+        (TwoFiles command name.now other.now) answer.0 answer.1.items) }
+{
+    let bytes = match read_whole(alloc, shelf, name, limits.file as usize) {
+        Ok(bytes) => bytes,
+        Err(error) => return unread(alloc, error, name),
+    };
+    let more = match read_whole(alloc, shelf, other, limits.second as usize) {
+        Ok(more) => more,
+        Err(error) => return unread(alloc, error, other),
+    };
+    judged_pair(alloc, command, bytes.as_slice(), more.as_slice())
+}
+
+// The answer where a file couldn't be read whole.
+fn unread(alloc: Global, error: ReadError, name: &str) -> Result<(Status, Vec<u8>), NoMemory>
+    ensures { IfOk result (λ answer. IsUnread error name.now answer.0 answer.1.items) }
+{
+    match error {
+        ReadError::Failed => Ok((Status::ReadFault, named(alloc, b"read fault ", name)?)),
+        ReadError::TooLong => Ok((Status::TooLarge, named(alloc, b"too large ", name)?)),
+        ReadError::NoMemory => Err(NoMemory),
     }
 }
 
@@ -72,6 +126,32 @@ fn prove_file(alloc: Global, source: &[u8]) -> Result<(Status, Vec<u8>), NoMemor
     ensures { IfOk result (λ answer. AnswerSays (ProveSays source.now) answer.0 answer.1.items) }
 {
     let (answer, text) = prove(alloc, source)?;
+    Ok((status_of(answer), text))
+}
+
+fn judged_pair(
+    alloc: Global,
+    command: PairCommand,
+    bytes: &[u8],
+    more: &[u8],
+) -> Result<(Status, Vec<u8>), NoMemory>
+    requires { length bytes.now < 2 ^ 32 }
+    ensures { IfOk result (λ answer. PairSays command bytes.now more.now answer.0 answer.1.items) }
+{
+    match command {
+        PairCommand::Check => check_files(alloc, bytes, more),
+    }
+}
+
+fn check_files(
+    alloc: Global,
+    source: &[u8],
+    certificate: &[u8],
+) -> Result<(Status, Vec<u8>), NoMemory>
+    requires { length source.now < 2 ^ 32 }
+    ensures { IfOk result (λ answer. AnswerSays (CheckSays source.now certificate.now) answer.0 answer.1.items) }
+{
+    let (answer, text) = check(alloc, source, certificate)?;
     Ok((status_of(answer), text))
 }
 

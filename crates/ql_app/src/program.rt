@@ -1,20 +1,27 @@
-ghost use Rattle.std.specs.Prelude.{◌≡◌, ◌≤◌, ℕ, List, Some, length, IfOk, OnErr};
+ghost use Rattle.std.specs.Prelude.{◌≡◌, IfOk, OnErr};
 ghost use Rattle.ql_ports.specs.Faults.{Rose};
-ghost use Rattle.ql_app.specs.declared.words.Command.{Command};
-ghost use Rattle.ql_app.specs.Words.{IsRequest, word_texts};
-ghost use Rattle.ql_app.specs.Outcome.{Says, Wrote, IsAnswerable, IsAnswered};
+ghost use Rattle.ql_app.specs.Words.{Call, IsRequest, word_texts};
+ghost use Rattle.ql_app.specs.Outcome.{AreHeld, IsAnswered, NoneRose, Says, Wrote};
 
-use crate::outcome::outcome;
+use crate::outcome::{Limits, outcome};
 use crate::status::Status;
 use ql_base::NoMemory;
 use ql_ports::{Failed, Shelf, Sink, write_whole};
 use std::alloc::Global;
 
-/// The greatest length of a file that is read.
-pub const MAX_FILE_BYTES: usize = 1_048_576;
+/// The greatest length of a source and of the files of `holds` and `proof`, in bytes.
+pub const MAX_FILE_BYTES: u32 = 1_048_576;
+
+/// That of a certificate.
+pub const MAX_CERTIFICATE_BYTES: u32 = 67_108_864;
+
+const LIMITS: Limits = Limits {
+    file: MAX_FILE_BYTES,
+    second: MAX_CERTIFICATE_BYTES,
+};
 
 /// Answers the words, which are those of the command line without the program's own name: reads the
-/// file that they name from the shelf, and writes one text to the sink.
+/// files that they name from the shelf, and writes one text to the sink.
 ///
 /// The whole text is made first and then written, and writing takes no memory.
 pub fn quelea<S: Shelf, K: Sink>(
@@ -25,17 +32,17 @@ pub fn quelea<S: Shelf, K: Sink>(
 ) -> Result<Status, NoMemory>
     // What was written is a text that the words and the file's bytes allow with this status.
     ensures wrote { IfOk result (Wrote
-        (Says MAX_FILE_BYTES (word_texts words.now) (S.held shelf.old) (S.faults shelf.old) (S.faults shelf.new))
+        (Says (record { file = MAX_FILE_BYTES; second = MAX_CERTIFICATE_BYTES }) (word_texts words.now) (S.held shelf.old) (S.faults shelf.old) (S.faults shelf.new))
         (K.written sink.old) (K.written sink.new) (K.faults sink.old) (K.faults sink.new)) }
     ensures no_memory { OnErr result (K.written sink.new ≡ K.written sink.old) }
 
-    // Nothing failed, and the file is in its grammar and asks for no more work than the most: the answer is yes or no.
-    ensures complete { (command : Command) (name bytes : List ℕ) → IsRequest (word_texts words.now) command name
-        → S.held shelf.old name ≡ Some bytes → length bytes ≤ MAX_FILE_BYTES → IsAnswerable command bytes
-        → (Rose (S.faults shelf.old name) (S.faults shelf.new name) → ⊥) → (Rose (K.faults sink.old) (K.faults sink.new) → ⊥)
+    // Nothing failed, and the files are in their grammars: the answer is yes or no.
+    ensures complete { (call : Call) → IsRequest (word_texts words.now) call
+        → AreHeld (record { file = MAX_FILE_BYTES; second = MAX_CERTIFICATE_BYTES }) (S.held shelf.old) call
+        → NoneRose (S.faults shelf.old) (S.faults shelf.new) call → (Rose (K.faults sink.old) (K.faults sink.new) → ⊥)
         → IsAnswered result }
 {
-    let (status, text) = outcome(alloc, words, shelf, MAX_FILE_BYTES)?;
+    let (status, text) = outcome(alloc, words, shelf, LIMITS)?;
     match write_whole(sink, text.as_slice()) {
         Ok(()) => Ok(status),
         Err(Failed) => Ok(Status::WriteFault),
