@@ -5,7 +5,7 @@ mod LineLaws
 pub mod Walking
 pub mod FirstFaults
 mod Walks
-mod States
+pub mod States
 mod Refusals
 mod ProofStates
 mod ProofRefusals

@@ -8,3 +8,5 @@ pub mod Copies
 pub mod Headings
 pub mod Due
 pub mod Telling
+pub mod SameProblems
+pub mod Accepted
