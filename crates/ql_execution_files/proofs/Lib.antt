@@ -5,3 +5,5 @@ pub mod FirstFields
 pub mod Parts
 pub mod Txns
 pub mod Lines
+pub mod Lawful
+pub mod Stages

@@ -1,2 +1,5 @@
 pub mod Parts
 pub mod EffectLine
+pub mod Effects
+pub mod ExecutionFile
+pub mod Readings

@@ -4,5 +4,14 @@
 
 mod effect_line;
 mod fields;
+mod law;
+mod parse;
 mod part;
+mod reader;
+mod report_fault;
 mod setting;
+mod told;
+
+pub use law::one_execution;
+pub use parse::parse_execution;
+pub use report_fault::ReportFault;

@@ -1,4 +1,4 @@
-use Rattle.std.proofs.Common.{◌≡◌, ◌∙◌, ℕ, List, codes, sym, ap, subst}
+use Rattle.std.proofs.Common.{◌∙◌, ℕ, List, codes, sym, ap, subst}
 use Rattle.std.proofs.lemmas.Option.{MatchOption-at_none, MatchOption-at_some}
 use Rattle.ql_lines.specs.Fields.{FirstField, fields_of}
 use Rattle.ql_value.specs.declared.value.Value.{Value}

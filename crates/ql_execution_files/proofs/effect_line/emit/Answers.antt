@@ -1,4 +1,4 @@
-use Rattle.std.proofs.Common.{ℕ, List, codes, sym, subst}
+use Rattle.std.proofs.Common.{ℕ, List, codes, subst}
 use Rattle.ql_exec.specs.declared.effect.Payload.{Payload}
 use Rattle.ql_execution_files.specs.EffectLine.{EmitAt, PayloadAt}
 use Rattle.ql_execution_files.proofs.FirstFields.{one_first}

@@ -1,4 +1,4 @@
-use Rattle.std.proofs.Common.{◌≡◌, ℕ, List}
+use Rattle.std.proofs.Common.{ℕ, List}
 use Rattle.std.proofs.lemmas.Option.{MatchOption-at_some}
 use Rattle.ql_value.specs.declared.value.Value.{Value}
 use Rattle.ql_exec.specs.declared.effect.Payload.{Payload}

@@ -1,0 +1,41 @@
+use Rattle.std.proofs.Common.{◌≡◌, ℕ, suc, ◌+◌, inl, length, arith, refl, sym, subst, ◌∙◌}
+use Rattle.std.proofs.lemmas.Bool.{false≢true}
+use Rattle.std.proofs.lemmas.Option.{MatchOption-at_some}
+use Rattle.ql_execution_files.specs.declared.effect_line.EffectLine.{EffectLine}
+use Rattle.ql_execution_files.specs.EffectLine.{IsEffectLine}
+use Rattle.ql_execution_files.specs.Readings.{line_of}
+use Rattle.ql_execution_files.proofs.Options.{unread}
+use Rattle.ql_execution_files.proofs.Stages.{effect_refused}
+use Rattle.ql_execution_files.proofs.reader.one_more.Goals as goal
+
+pub returns-in_default-clause-refused : goal.returns-in_default-clause-refused
+returns-in_default-clause-refused c =
+    let text = c.args.line.text.now in
+    let id = c.len-id.result + 1 in
+    let number : id ≡ suc (length c.args.told.effects) = omega (arith, c.len-id.ensures.length) in
+    let none = unread c.in_ok-effect.field-0 ((e : EffectLine) → IsEffectLine text id e → ⊥) (λ e. IsEffectLine text id e) c.in_ok-effect.ensures c.in_default.not-Some in (
+      λ e is. none e (subst (λ (n : ℕ). IsEffectLine text n e) (sym number) is),
+      λ end. false≢true (sym c.if-is_word.false ∙ c.is_word.ensures.1 end),
+    )
+
+pub returns-in-Ok-clause-taken : goal.returns-in-Ok-clause-taken
+returns-in-Ok-clause-taken c =
+    let text = c.args.line.text.now in
+    let id = c.len-id.result + 1 in
+    let number : id ≡ suc (length c.args.told.effects) = omega (arith, c.len-id.ensures.length) in
+    let read = MatchOption-at_some ((e : EffectLine) → IsEffectLine text id e → ⊥) (λ e. IsEffectLine text id e) c.in-Some.effect c.in-Some.is c.in_ok-effect.ensures in
+    inl (record {
+      effect = c.in-Some.effect;
+      more = c.in-Ok.more;
+      is = subst (λ (n : ℕ). IsEffectLine text n c.in-Some.effect) number read;
+      lawful = c.in-Ok.ensures;
+      to = refl;
+    })
+
+pub returns-in-Err-clause-refused : goal.returns-in-Err-clause-refused
+returns-in-Err-clause-refused c =
+    let text = c.args.line.text.now in
+    let id = c.len-id.result + 1 in
+    let number : id ≡ suc (length c.args.told.effects) = omega (arith, c.len-id.ensures.length) in
+    let read = MatchOption-at_some ((e : EffectLine) → IsEffectLine text id e → ⊥) (λ e. IsEffectLine text id e) c.in-Some.effect c.in-Some.is c.in_ok-effect.ensures in
+    effect_refused c.args.t.now.program c.args.told (line_of c.args.line) c.in-Some.effect c.in-Err.fault (subst (λ (n : ℕ). IsEffectLine text n c.in-Some.effect) number read) c.in-Err.ensures
