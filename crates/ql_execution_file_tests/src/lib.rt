@@ -1,0 +1,5 @@
+// Tests of execution files over texts, with answers from outside.
+#![tactic(auto)]
+
+#[cfg(test)]
+mod files;
