@@ -12,7 +12,7 @@ use Rattle.ql_app.specs.declared.status.Status.TheVariants.{Done, No, Bad, ReadF
 use Rattle.ql_app.specs.declared.words.Command.{Command}
 use Rattle.ql_app.specs.declared.words.Command.TheVariants.{Holds, Proof, Classify, Prove}
 use Rattle.ql_app.specs.declared.words.PairCommand.{PairCommand}
-use Rattle.ql_app.specs.declared.words.PairCommand.TheVariants.{Check}
+use Rattle.ql_app.specs.declared.words.PairCommand.TheVariants.{Check, Verify}
 use Rattle.ql_app.specs.Words.{OneFile, TwoFiles}
 use Rattle.ql_app.specs.Outcome.{CommandSays, IsRead, IsUnread, PairSays, Tells}
 
@@ -67,6 +67,9 @@ module _ (limits : Limits) (held : List ℕ → Option (List ℕ)) (before after
   two Check name other bytes more ReadFault text same short also few says = absurd says
   two Check name other bytes more WriteFault text same short also few says = absurd says
   two Check name other bytes more Usage text same short also few says = absurd says
+  two Verify name other bytes more ReadFault text same short also few says = absurd says
+  two Verify name other bytes more WriteFault text same short also few says = absurd says
+  two Verify name other bytes more Usage text same short also few says = absurd says
   two command name other bytes more TooLarge text same short also few says = inl (both command name other bytes more TooLarge text same short also few says)
 
   -- and on two

@@ -11,17 +11,18 @@ use Rattle.ql_app.specs.declared.status.Status.TheVariants.{Done, No, Bad, ReadF
 use Rattle.ql_app.specs.declared.words.Command.{Command}
 use Rattle.ql_app.specs.declared.words.Command.TheVariants.{Holds, Proof, Classify, Prove}
 use Rattle.ql_app.specs.declared.words.PairCommand.{PairCommand}
-use Rattle.ql_app.specs.declared.words.PairCommand.TheVariants.{Check}
+use Rattle.ql_app.specs.declared.words.PairCommand.TheVariants.{Check, Verify}
 use Rattle.ql_app.specs.Words.{Call, OneFile, TwoFiles, IsRequest}
 use Rattle.ql_app.specs.HoldsFile as holds
 use Rattle.ql_app.specs.HoldsFile.{HoldsSays}
 use Rattle.ql_app.specs.ProofFile.{ProofSays, IsProofFile}
-use Rattle.ql_app.specs.Answers.{AnswerSays}
+use Rattle.ql_app.specs.Answers.{AnswerSays, JudgedSays}
 use Rattle.ql_commands.specs.Certificates.{IsCertificate}
 use Rattle.ql_commands.specs.Check.{CheckSays}
 use Rattle.ql_commands.specs.Classify.{ClassifySays}
 use Rattle.ql_commands.specs.Prove.{ProveSays}
 use Rattle.ql_commands.specs.Sources.{IsSource}
+use Rattle.ql_judging.specs.Verify.{AreJudgeable, VerifySays}
 
 -- what a command says of its file's bytes
 abbrev pub CommandSays : Command → List ℕ → Status → List ℕ → Type 0
@@ -33,6 +34,7 @@ CommandSays Prove bytes status text = AnswerSays (ProveSays bytes) status text
 -- and of the bytes of two files
 abbrev pub PairSays : PairCommand → List ℕ → List ℕ → Status → List ℕ → Type 0
 PairSays Check bytes more status text = AnswerSays (CheckSays bytes more) status text
+PairSays Verify bytes more status text = JudgedSays (VerifySays bytes more) status text
 
 -- the bytes are in the grammar of the command's files, and don't ask for too much work
 abbrev pub IsAnswerable : Command → List ℕ → Type 0
@@ -41,8 +43,10 @@ IsAnswerable Proof bytes = IsProofFile bytes
 IsAnswerable Classify bytes = IsSource bytes
 IsAnswerable Prove bytes = IsSource bytes
 
+-- and those of two files
 abbrev pub AreAnswerable : PairCommand → List ℕ → List ℕ → Type 0
 AreAnswerable Check bytes more = IsSource bytes × IsCertificate more
+AreAnswerable Verify bytes more = AreJudgeable bytes more
 
 -- a file was read whole: what the shelf tells of it is within a limit, and this is so of it
 abbrev pub IsRead : ℕ → Option (List ℕ) → (List ℕ → Type 0) → Type 0

@@ -1,10 +1,11 @@
 ghost use Rattle.std.specs.Prelude.{◌≡◌, ◌++◌, ◌<◌, ◌^◌, IfOk, codes, length};
-ghost use Rattle.ql_app.specs.Answers.{AnswerSays, status_of};
+ghost use Rattle.ql_app.specs.Answers.{AnswerSays, JudgedSays, judged_status, status_of};
 ghost use Rattle.ql_app.specs.Outcome.{CommandSays, IsUnread, PairSays, Says, Tells};
 ghost use Rattle.ql_app.specs.Words.{OneFile, TwoFiles, word_texts};
 ghost use Rattle.ql_commands.specs.Check.{CheckSays};
 ghost use Rattle.ql_commands.specs.Classify.{ClassifySays};
 ghost use Rattle.ql_commands.specs.Prove.{ProveSays};
+ghost use Rattle.ql_judging.specs.Verify.{VerifySays};
 
 use crate::holds::holds;
 use crate::proof::judge;
@@ -12,6 +13,7 @@ use crate::status::Status;
 use crate::words::{Command, PairCommand, Request, parse_words};
 use ql_base::NoMemory;
 use ql_commands::{Answer, check, classify, prove};
+use ql_judging::{Judged, verify};
 use ql_ports::{ReadError, Shelf, read_whole};
 use std::alloc::Global;
 
@@ -140,6 +142,7 @@ fn judged_pair(
 {
     match command {
         PairCommand::Check => check_files(alloc, bytes, more),
+        PairCommand::Verify => verify_files(alloc, bytes, more),
     }
 }
 
@@ -155,6 +158,18 @@ fn check_files(
     Ok((status_of(answer), text))
 }
 
+fn verify_files(
+    alloc: Global,
+    source: &[u8],
+    execution: &[u8],
+) -> Result<(Status, Vec<u8>), NoMemory>
+    requires { length source.now < 2 ^ 32 }
+    ensures { IfOk result (λ answer. JudgedSays (VerifySays source.now execution.now) answer.0 answer.1.items) }
+{
+    let (judged, text) = verify(alloc, source, execution)?;
+    Ok((judged_status(judged), text))
+}
+
 // The status of an answer.
 fn status_of(answer: Answer) -> Status
     ensures { result ≡ status_of answer }
@@ -163,5 +178,17 @@ fn status_of(answer: Answer) -> Status
         Answer::Done => Status::Done,
         Answer::No => Status::No,
         Answer::Bad => Status::Bad,
+    }
+}
+
+// The status of a judgement.
+fn judged_status(judged: Judged) -> Status
+    ensures { result ≡ judged_status judged }
+{
+    match judged {
+        Judged::Holds => Status::Done,
+        Judged::Fails => Status::No,
+        Judged::Bad => Status::Bad,
+        Judged::TooMuch => Status::TooLarge,
     }
 }

@@ -12,7 +12,7 @@ use std::alloc::Global;
 /// The greatest length of a source and of the files of `holds` and `proof`, in bytes.
 pub const MAX_FILE_BYTES: u32 = 1_048_576;
 
-/// That of a certificate.
+/// That of a certificate and of an execution.
 pub const MAX_CERTIFICATE_BYTES: u32 = 67_108_864;
 
 const LIMITS: Limits = Limits {

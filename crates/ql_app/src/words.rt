@@ -22,6 +22,8 @@ pub enum Command {
 pub enum PairCommand {
     /// Whether a certificate shows that levels are enough for a source.
     Check,
+    /// Whether a source's contracts hold in an execution.
+    Verify,
 }
 
 /// A command with the names of its files.
@@ -93,6 +95,7 @@ fn pair_command_named(word: &str) -> Option<PairCommand>
 {
     match word {
         "check" => Some(PairCommand::Check),
+        "verify" => Some(PairCommand::Verify),
         _ => None,
     }
 }

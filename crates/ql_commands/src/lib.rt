@@ -20,4 +20,5 @@ pub use certificate::prove;
 pub use classification::classify;
 pub use judgement::check;
 pub use laws::what_is_proved_is_accepted;
-pub use source_fault::SourceFault;
+pub use source::read_source;
+pub use source_fault::{SourceFault, bad_source};

@@ -8,7 +8,7 @@ use ql_typing::{Typed, typecheck};
 use std::alloc::Global;
 
 /// The typed program of a source, or the source's first fault.
-pub(crate) fn read_source(alloc: Global, bytes: &[u8]) -> Result<Typed, SourceFault>
+pub fn read_source(alloc: Global, bytes: &[u8]) -> Result<Typed, SourceFault>
     requires { length bytes.now < 2 ^ 32 }
     ensures source { IfOk result (λ t. IsSourceOf bytes.now t.program) }
     ensures fault { IfErr result (IsSourceFault bytes.now) }

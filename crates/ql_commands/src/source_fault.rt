@@ -19,7 +19,7 @@ pub enum SourceFault {
 }
 
 /// The line that tells a source's first fault.
-pub(crate) fn bad_source(alloc: Global, fault: SourceFault) -> Result<Vec<u8>, NoMemory>
+pub fn bad_source(alloc: Global, fault: SourceFault) -> Result<Vec<u8>, NoMemory>
     ensures { IfOk result (λ text. fault_text fault ≡ Some text.items) }
 {
     match place_and_rule(fault) {
