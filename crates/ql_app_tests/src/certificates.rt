@@ -157,27 +157,6 @@ fn checks_certificates(rt: HostRuntime) -> Result<(), Fail> {
     Ok(())
 }
 
-#[test]
-fn accepts_what_it_proves(rt: HostRuntime) -> Result<(), Fail> {
-    let alloc = rt.alloc();
-    for source in [TOUCH, BANK, REGISTER, SHOP, GUARANTEES, TWO_TYPES] {
-        let (_, levels) = answer(alloc, "classify", &[source])?;
-        let (status, certificate) = answer(alloc, "prove", &[source])?;
-        assert_eq!(rt; status, Status::Done);
-        let (status, told) = answer(alloc, "check", &[source, &certificate])?;
-        assert_eq!(rt; status, Status::Done);
-        let mut want = Vec::new(alloc);
-        for byte in &levels {
-            if *byte == b'\n' {
-                want.extend_from_slice(b" accepted")?;
-            }
-            want.push(*byte)?;
-        }
-        assert_eq!(rt; told, want);
-    }
-    Ok(())
-}
-
 // The last line feed may be missing.
 #[test]
 fn refuses_a_certificate_that_is_cut(rt: HostRuntime) -> Result<(), Fail> {
