@@ -4,8 +4,6 @@
 #![tactic(auto)]
 
 mod holds;
-#[cfg(test)]
-mod holds_tests;
 mod outcome;
 mod program;
 mod proof;
