@@ -1,5 +1,5 @@
 /// What the store promises a call of an operation, in ascending order.
-#[derive(Clone, Copy, Debug, PartialEq, Eq, PartialOrd, Ord)]
+#[derive(Clone, Copy, Debug, PartialEq, Eq)]
 pub enum Level {
     Eventual,
     Causal,
@@ -8,7 +8,7 @@ pub enum Level {
 
 /// What the store promises a transaction, in ascending order: read committed, monotonic atomic view,
 /// repeatable read.
-#[derive(Clone, Copy, Debug, PartialEq, Eq, PartialOrd, Ord)]
+#[derive(Clone, Copy, Debug, PartialEq, Eq)]
 pub enum TxnLevel {
     Rc,
     Mav,
