@@ -1,4 +1,6 @@
-// What every other crate shares: the numbers that name things, and the answer for want of memory.
+// What every other crate shares: limits, names and the numbers given to them, sets of ids, decimal
+// numbers, and the answer for want of memory. The one contract: a set of ids is its ascending list,
+// names are the list of their first occurrences, and a number is written and read as its decimal.
 #![tactic(auto)]
 
 mod bytes;
@@ -21,6 +23,7 @@ pub use limits::{
     MAX_HOLDS_BYTES, MAX_NAME_BYTES, MAX_NODES, MAX_OBJECTS, MAX_OPERATIONS, MAX_PARAMETERS,
     MAX_PROOF_BYTES, MAX_REPLICAS, MAX_SCHEDULE_BYTES, MAX_SESSIONS, MAX_SOURCE_BYTES,
     MAX_STATEMENTS, MAX_TEXT_BYTES, MAX_TRANSACTIONS, MAX_TYPES, MAX_VARIABLES, MAX_WORK,
+    limits_in_figures,
 };
 pub use name::{is_keyword, is_name, name_bytes};
 pub use no_memory::NoMemory;

@@ -1,3 +1,5 @@
+ghost use Rattle.std.specs.Prelude.{◌≡◌};
+
 /// Most bytes of a source file.
 pub const MAX_SOURCE_BYTES: u64 = 1_048_576;
 
@@ -81,3 +83,18 @@ pub const MAX_BODY_VARIABLES: u32 = 256;
 
 /// Most evaluations of a contract's body that one request may ask for.
 pub const MAX_WORK: u128 = 20_000_000;
+
+/// The limits in figures, so that a definition that cites one by its name says a number.
+pub fn limits_in_figures()
+    ensures small_files { (MAX_SOURCE_BYTES ≡ 1048576) × (MAX_SCHEDULE_BYTES ≡ 1048576)
+        × (MAX_HOLDS_BYTES ≡ 1048576) × (MAX_PROOF_BYTES ≡ 1048576) }
+    ensures large_files { (MAX_CERTIFICATE_BYTES ≡ 67108864) × (MAX_EXECUTION_BYTES ≡ 67108864) }
+    ensures programs { (MAX_TYPES ≡ 16) × (MAX_OPERATIONS ≡ 32) × (MAX_TRANSACTIONS ≡ 16) }
+    ensures types { (MAX_FIELDS ≡ 16) × (MAX_PARAMETERS ≡ 8) × (MAX_EMITTED ≡ 4) × (MAX_STATEMENTS ≡ 64) }
+    ensures expressions { (MAX_VARIABLES ≡ 5) × (MAX_BRACKETS ≡ 64) × (MAX_NODES ≡ 256) }
+    ensures values { (MAX_NAME_BYTES ≡ 32) × (MAX_TEXT_BYTES ≡ 64) × (MAX_ENTRIES ≡ 256) }
+    ensures schedules { (MAX_REPLICAS ≡ 16) × (MAX_SESSIONS ≡ 256) × (MAX_OBJECTS ≡ 1024)
+        × (MAX_EVENTS ≡ 4000) × (MAX_DECLARED_OBJECTS ≡ 16) }
+    ensures problems { (MAX_EFFECTS ≡ 4000) × (MAX_ATOMS ≡ 450) × (MAX_BODY_VARIABLES ≡ 256)
+        × (MAX_WORK ≡ 20000000) }
+{}

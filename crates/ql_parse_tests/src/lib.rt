@@ -1,4 +1,5 @@
 // Tests of the parsers on texts: trees, first faults, and what is printed of what was read.
+// The trees and faults are from outside, and nothing stands on this crate.
 #![tactic(auto)]
 
 #[cfg(test)]
