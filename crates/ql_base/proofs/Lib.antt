@@ -1,5 +1,5 @@
 mod Filled
 pub mod Fronts
-mod Numerals
+pub mod Numerals
 mod Numbered
 pub mod IdLemmas

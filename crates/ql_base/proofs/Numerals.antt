@@ -30,8 +30,9 @@ tells = record {
   more = λ c cs h hs. All-cons (λ b. is_digit b ≡ true) c cs (in_range_digit c h) hs;
 }
 
-own : IsNumeralModel (AllPass is_digit) (digits_value 10)
-own = numerals_by_value (AllPass is_digit) tells
+-- decimal texts are the texts of digits, by their value
+pub digits_model : IsNumeralModel (AllPass is_digit) (digits_value 10)
+digits_model = numerals_by_value (AllPass is_digit) tells
 
 -- the value of one digit more
 pub value_more : (ds : List ℕ) (i : ℕ) → AllPass is_digit ds → i < length ds → digits_value 10 (take (i + 1) ds) ≡ digits_value 10 (take i ds) * 10 + (get_or ds i 0 - 48)
@@ -45,7 +46,7 @@ first_zero (suc n) small e = absurd (omega (arith, first_decimal (suc n) (omega 
 -- the decimal text of a number is a numeral
 decimal_is : (n : ℕ) → n < 2 ^ 64 → IsNumeral (decimal n)
 decimal_is n small = record {
-  digits = digits_decimal own n small;
+  digits = digits_decimal digits_model n small;
   some = decimal_nonempty n small;
   first = first_zero n small;
 }
@@ -56,8 +57,8 @@ no_number most text small other n s = other (subst IsNumeral s.spelled (decimal_
 
 -- a numeral spells its value
 pub number_is : (most : ℕ) (text : List ℕ) (r : Option ℕ) → most < 2 ^ 64 → IsNumeral text → MatchOption r (most < digits_value 10 text) (λ n. (n ≤ most) × (n ≡ digits_value 10 text)) → IsNumberOf most text r
-number_is most text None small numeral h = λ n s. let e : digits_value 10 text ≡ n = ap (digits_value 10) (sym s.spelled) ∙ digits_value-decimal own n (omega (arith, s.bounded)) in omega (arith, s.bounded)
+number_is most text None small numeral h = λ n s. let e : digits_value 10 text ≡ n = ap (digits_value 10) (sym s.spelled) ∙ digits_value-decimal digits_model n (omega (arith, s.bounded)) in omega (arith, s.bounded)
 number_is most text (Some n) small numeral h = record {
   bounded = h.0;
-  spelled = ap decimal h.1 ∙ decimal-digits_value own text numeral.digits numeral.some numeral.first (omega (arith, h.0, h.1));
+  spelled = ap decimal h.1 ∙ decimal-digits_value digits_model text numeral.digits numeral.some numeral.first (omega (arith, h.0, h.1));
 }

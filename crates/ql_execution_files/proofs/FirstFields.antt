@@ -3,9 +3,9 @@ use Rattle.std.proofs.Common.{◌≡◌, ℕ, zero, suc, Bool, true, false, cond
 use Rattle.std.specs.List.{AllByRecursion, filter, onto_first, slice_split}
 use Rattle.std.proofs.lemmas.List.{append_cancel_left}
 use Rattle.std.proofs.lemmas.List.Splits.{slice_split-cons_no, slice_split-cons_yes}
-use Rattle.ql_lines.specs.Fields.{FirstField, fields_of, is_space, isn't_empty}
-use Rattle.ql_execution_files.specs.Parts.{Fields, FieldsAt}
-use Rattle.ql_execution_files.proofs.Conses.{both, heads, tails}
+use Rattle.ql_lines.specs.Fields.{FirstField, fields_of, is_space, isn't_empty, Fields}
+use Rattle.ql_execution_files.specs.Parts.{FieldsAt}
+use Rattle.ql_lines.proofs.Conses.{both, heads, tails}
 
 -- a text without spaces
 abbrev IsClean : List ℕ → Type 0

@@ -1,5 +1,3 @@
-pub mod Conses
-pub mod Ids
 pub mod Options
 pub mod FirstFields
 pub mod Parts

@@ -2,16 +2,16 @@
 use Rattle.std.proofs.Common.{◌≡◌, ℕ, List, [], ◌∷◌, ◌++◌, length, map, get_or, drop, decimal, codes, arith, refl, sym, ap, subst, ◌∙◌, append_assoc, replicate}
 use Rattle.std.specs.List.{AllByRecursion}
 use Rattle.std.proofs.lemmas.Fmt.{decimal_injective}
-use Rattle.ql_lines.specs.Fields.{FirstField, fields_of}
+use Rattle.ql_lines.specs.Fields.{FirstField, fields_of, Fields, IsId}
 use Rattle.ql_value.specs.declared.value.Value.{Value}
 use Rattle.ql_value.specs.Reading.{after_spaces}
 use Rattle.ql_exec.specs.declared.effect.Payload.{Payload}
 use Rattle.ql_exec.specs.declared.effect.Payload.TheVariants.{Nothing, Emitted}
 use Rattle.ql_execution_files.specs.declared.effect_line.EffectLine.{EffectLine}
 use Rattle.ql_execution_files.specs.declared.setting.Setting.{Setting}
-use Rattle.ql_execution_files.specs.Parts.{FieldAt, Fields, FieldsAt, ValueAt, ValuesAt}
-use Rattle.ql_execution_files.specs.EffectLine.{CallAt, EmitAt, IsEffectLine, IsId, IsSetting, PayloadAt, setting_fields}
-use Rattle.ql_execution_files.proofs.Conses.{both, heads, tails}
+use Rattle.ql_execution_files.specs.Parts.{FieldAt, FieldsAt, ValueAt, ValuesAt}
+use Rattle.ql_execution_files.specs.EffectLine.{CallAt, EmitAt, IsEffectLine, IsSetting, PayloadAt, setting_fields}
+use Rattle.ql_lines.proofs.Conses.{both, heads, tails}
 use Rattle.ql_execution_files.proofs.FirstFields.{fields_at, one_first, one_row}
 use Rattle.ql_execution_files.proofs.Parts.{gap_gone, list_starts, no_list, one_field, one_list, one_value, part_of, value_starts}
 use Rattle.ql_execution_files.proofs.Txns.{one_txn}

@@ -9,7 +9,7 @@ use Rattle.ql_value.specs.Reading.{after_spaces, is_byte, scalar_at, value_at}
 use Rattle.ql_value.specs.ValueGrammar.{ReadsMore}
 use Rattle.ql_value.proofs.ScalarGrammar.{are_parts}
 use Rattle.ql_execution_files.specs.Parts.{FieldAt, ItemsAt, ValueAt, ValuesAt, ends_field}
-use Rattle.ql_execution_files.proofs.Conses.{both, heads, tails}
+use Rattle.ql_lines.proofs.Conses.{both, heads, tails}
 
 -- ---- spaces
 

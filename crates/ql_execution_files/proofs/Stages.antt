@@ -3,7 +3,7 @@
 use Rattle.std.proofs.Common.{◌≡◌, ◌⊎◌, inl, inr, ℕ, suc, List, [], ◌∷◌, ◌++◌, Result, Ok, Err, length, codes, ◌<◌, arith, refl, ap, sym, subst, ◌∙◌}
 use Rattle.std.proofs.lemmas.List.Elements.{All-nil}
 use Rattle.ql_typing.specs.Operations.{all_ops}
-use Rattle.ql_lines.specs.Fields.{fields_of}
+use Rattle.ql_lines.specs.Fields.{fields_of, Fields}
 use Rattle.ql_lines.specs.Lines.{Ahead, Numbered}
 use Rattle.ql_lang.specs.declared.program.Program.{Program}
 use Rattle.ql_exec.specs.declared.effect.Effect.{Effect}
@@ -14,13 +14,12 @@ use Rattle.ql_execution_files.specs.declared.report_fault.ReportFault.{ReportFau
 use Rattle.ql_execution_files.specs.declared.told.Told.{Told}
 use Rattle.ql_execution_files.specs.declared.reader.Reading.{Reading}
 use Rattle.ql_execution_files.specs.declared.reader.Reading.TheVariants as reading
-use Rattle.ql_execution_files.specs.Parts.{Fields}
 use Rattle.ql_execution_files.specs.EffectLine.{IsEffectLine}
 use Rattle.ql_execution_files.specs.Effects.{after_effect, IsAnswer}
 use Rattle.ql_execution_files.specs.ExecutionFile.FirstFault.{broken, ended}
 use Rattle.ql_execution_files.specs.ExecutionFile.{Breaks, BreaksEffects, BreaksEnd, FirstFault, IsEnded, IsExecutionFile, IsRefusal, IsRefusedBy, Leads, Stage, Takes, TakesAny, TakesEffect, TakesEnd, Unbegun, WithEffects, Ended, fault_at}
 use Rattle.ql_execution_files.specs.Readings.{AreSound, stage_of}
-use Rattle.ql_execution_files.proofs.Conses.{heads, tails}
+use Rattle.ql_lines.proofs.Conses.{heads, tails}
 use Rattle.ql_execution_files.proofs.Lawful.{never_unexpected, stays_sound}
 use Rattle.ql_execution_files.proofs.Lines.{no_effect_ends, one_effect}
 

@@ -1,37 +1,16 @@
 -- the field of a transaction tells one transaction
 use Rattle.std.proofs.Common.{◌≡◌, ℕ, suc, ◌≤◌, true, false, List, ◌∷◌, ◌++◌, Option, None, Some, length, take, drop, decimal, codes, arith, refl, sym, ap, ◌∙◌}
 use Rattle.std.specs.List.{AllPass, prefix_len}
-use Rattle.std.specs.Int.{IsInRange}
-use Rattle.std.specs.Str.Parse.{digits_value}
-use Rattle.std.proofs.lemmas.Str.Parse.{IsDigitsTest, IsNumeralModel, numerals_by_value}
 use Rattle.std.proofs.lemmas.Fmt.{decimal_injective, digits_decimal}
-use Rattle.std.proofs.lemmas.Bool.Decides.{nat_tests}
 use Rattle.std.proofs.lemmas.List.{length-append}
-use Rattle.std.proofs.lemmas.List.Elements.{All-cons, All-nil}
 use Rattle.std.proofs.Math.Seq.{drop-append_seam, take-append_seam}
 use Rattle.ql_base.specs.Bytes.{is_digit}
 use Rattle.ql_base.proofs.Fronts.{front-append}
+use Rattle.ql_base.proofs.Numerals.{digits_model}
 use Rattle.ql_execution_files.specs.declared.setting.Begun.{Begun}
-use Rattle.ql_execution_files.specs.EffectLine.{FitsTxn, IsId, txn_text}
-use Rattle.ql_execution_files.proofs.Conses.{tails}
-
-digit_range : (b : ℕ) → is_digit b ≡ true → IsInRange 48 57 b
-unfolding is_digit
-digit_range b h = grind (arith, nat_tests)
-
-in_range_digit : (b : ℕ) → IsInRange 48 57 b → is_digit b ≡ true
-unfolding is_digit
-in_range_digit b h = grind (arith, nat_tests)
-
-tells : IsDigitsTest (AllPass is_digit)
-tells = record {
-  empty = All-nil (λ b. is_digit b ≡ true);
-  parts = λ c cs h. (digit_range c (h 0 0 (omega arith)), λ k d lt. h (suc k) d (omega arith));
-  more = λ c cs h hs. All-cons (λ b. is_digit b ≡ true) c cs (in_range_digit c h) hs;
-}
-
-own : IsNumeralModel (AllPass is_digit) (digits_value 10)
-own = numerals_by_value (AllPass is_digit) tells
+use Rattle.ql_execution_files.specs.EffectLine.{FitsTxn, txn_text}
+use Rattle.ql_lines.specs.Fields.{IsId}
+use Rattle.ql_lines.proofs.Conses.{tails}
 
 colon_is_none : is_digit 58 ≡ false
 unfolding is_digit
@@ -40,7 +19,7 @@ colon_is_none = refl
 module _ (n k : ℕ) (w field : List ℕ) (small : IsId n) (is : field ≡ decimal n ++ 58 ∷ w) (front : k ≡ prefix_len is_digit field) where
   -- the number stands before the first byte that is no digit
   digits_end : k ≡ length (decimal n)
-  digits_end = front ∙ ap (prefix_len is_digit) is ∙ front-append is_digit (decimal n) (58 ∷ w) (digits_decimal own n (omega (arith, small))) colon_is_none
+  digits_end = front ∙ ap (prefix_len is_digit) is ∙ front-append is_digit (decimal n) (58 ∷ w) (digits_decimal digits_model n (omega (arith, small))) colon_is_none
 
   pub number_before : (digits : List ℕ) → digits ≡ take k field → digits ≡ decimal n
   number_before digits e = e ∙ ap (λ (j : ℕ). take j field) digits_end ∙ ap (take (length (decimal n))) is ∙ take-append_seam (decimal n) (58 ∷ w)

@@ -4,19 +4,16 @@ use Rattle.std.specs.Prelude.{◌≡◌, ℕ, ◌<◌, ◌≤◌, ◌^◌, List,
 use Rattle.std.specs.List.{AllByRecursion}
 use Rattle.ql_base.specs.IdLists.{IsAscending}
 use Rattle.ql_base.specs.Names.{IsName}
-use Rattle.ql_lines.specs.Fields.{FirstField, fields_of}
+use Rattle.ql_lines.specs.Fields.{Fields, FirstField, IsId, fields_of}
 use Rattle.ql_value.specs.declared.value.Value.{Value}
 use Rattle.ql_exec.specs.declared.effect.Payload.{Payload}
 use Rattle.ql_exec.specs.declared.effect.Payload.TheVariants.{Nothing, Emitted}
 use Rattle.ql_execution_files.specs.declared.effect_line.EffectLine.{EffectLine}
 use Rattle.ql_execution_files.specs.declared.setting.Begun.{Begun}
 use Rattle.ql_execution_files.specs.declared.setting.Setting.{Setting}
-use Rattle.ql_execution_files.specs.Parts.{FieldAt, Fields, FieldsAt, ValueAt, ValuesAt}
+use Rattle.ql_execution_files.specs.Parts.{FieldAt, FieldsAt, ValueAt, ValuesAt}
 
 -- ---- the session, the transaction, the stamp and what is seen
-
-abbrev pub IsId : ℕ → Type 0
-IsId n = n < 2 ^ 32
 
 -- a begun transaction with its declared name, or none
 abbrev pub txn_text : Option Begun → List ℕ

@@ -1,6 +1,6 @@
 -- The files of executions: what one tells, or its first fault.
 use Rattle.std.specs.Prelude.{◌≡◌, ◌⊎◌, ℕ, suc, List, [], ◌∷◌, ◌++◌, length, codes, Ok, Err}
-use Rattle.ql_lines.specs.Fields.{fields_of}
+use Rattle.ql_lines.specs.Fields.{fields_of, Fields}
 use Rattle.ql_lines.specs.Lines.{Ahead, Numbered}
 use Rattle.ql_lang.specs.declared.program.Program.{Program}
 use Rattle.ql_exec.specs.declared.effect.Effect.{Effect}
@@ -10,7 +10,6 @@ use Rattle.ql_execution_files.specs.declared.report_fault.LineFault.TheVariants.
 use Rattle.ql_execution_files.specs.declared.report_fault.ReportFault.{ReportFault}
 use Rattle.ql_execution_files.specs.declared.report_fault.ReportFault.TheVariants as fault
 use Rattle.ql_execution_files.specs.declared.told.Told.{Told}
-use Rattle.ql_execution_files.specs.Parts.{Fields}
 use Rattle.ql_execution_files.specs.EffectLine.{IsEffectLine}
 use Rattle.ql_execution_files.specs.Effects.{after_effect}
 

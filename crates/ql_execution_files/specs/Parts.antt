@@ -1,14 +1,10 @@
 -- The parts of an effect's line: fields, values, and values in round brackets. `XAt x text rest` says that `x` stands at
 -- the front of `text`, and that `rest` follows it.
 use Rattle.std.specs.Prelude.{◌≡◌, ℕ, Bool, true, Ok, List, [], ◌∷◌, ◌++◌, replicate, codes}
-use Rattle.ql_lines.specs.Fields.{FirstField, is_space}
+use Rattle.ql_lines.specs.Fields.{Fields, FirstField, is_space}
 use Rattle.ql_value.specs.declared.value.Value.{Value}
 use Rattle.ql_value.specs.Reading.{value_at}
 use Rattle.ql_value.specs.ValueGrammar.{ReadsMore}
-
--- a line: its fields
-abbrev pub Fields : Type 0
-Fields = List (List ℕ)
 
 -- fields, each behind any number of spaces
 abbrev pub FieldsAt : Fields → List ℕ → List ℕ → Type 0

@@ -1,16 +1,16 @@
 ghost use Rattle.std.specs.Prelude.{◌≡◌, ◌∷◌, [], List, ℕ, IfOk, MatchOption, codes, decimal};
 ghost use Rattle.ql_base.specs.Names.{IsName};
-ghost use Rattle.ql_lines.specs.Fields.{fields_of};
+ghost use Rattle.ql_lines.specs.Fields.{fields_of, Fields};
 ghost use Rattle.ql_value.specs.declared.value.Value.{Value};
 ghost use Rattle.ql_exec.specs.declared.effect.Payload.{Payload};
-ghost use Rattle.ql_execution_files.specs.Parts.{Fields, FieldsAt};
+ghost use Rattle.ql_execution_files.specs.Parts.{FieldsAt};
 ghost use Rattle.ql_execution_files.specs.EffectLine.{CallAt, EmitAt, IsEffectLine, PayloadAt};
 
-use crate::fields::{after_name, after_number, after_word};
 use crate::part::{value_field, values_field};
 use crate::setting::{Setting, read_setting};
 use ql_base::{NoMemory, Word};
 use ql_exec::Payload;
+use ql_lines::{after_name, after_number, after_word};
 use ql_value::{Value, Values};
 use std::alloc::Global;
 

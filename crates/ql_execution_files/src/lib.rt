@@ -3,7 +3,6 @@
 #![tactic(auto)]
 
 mod effect_line;
-mod fields;
 mod law;
 mod parse;
 mod part;

@@ -5,12 +5,11 @@ ghost use Rattle.ql_execution_files.specs.ExecutionFile.{IsRefusedBy, Takes, Unb
 ghost use Rattle.ql_execution_files.specs.Readings.{AreSound, IsSound, line_of, stage_of};
 
 use crate::effect_line::read_line;
-use crate::fields::after_word;
 use crate::report_fault::LineFault;
 use crate::told::Told;
 use ql_base::Names;
 use ql_exec::Execution;
-use ql_lines::{Line, first_field};
+use ql_lines::{Line, after_word, first_field};
 use ql_typing::Typed;
 use std::alloc::Global;
 

@@ -1,14 +1,12 @@
 ghost use Rattle.std.specs.Prelude.{◌≡◌, ◌≤◌, ◌↔◌, ◌∷◌, ◌++◌, ◌^◌, ◌<◌, [], List, ℕ, IfOk, IsTrue, MatchOption, Option, codes, decimal, map};
 ghost use Rattle.std.specs.List.{AllByRecursion};
 ghost use Rattle.ql_base.specs.IdLists.{IsAscending};
-ghost use Rattle.ql_lines.specs.Fields.{FirstField, fields_of};
-ghost use Rattle.ql_execution_files.specs.Parts.{Fields};
-ghost use Rattle.ql_execution_files.specs.EffectLine.{FitsTxn, IsId, IsSetting, txn_text};
+ghost use Rattle.ql_lines.specs.Fields.{FirstField, fields_of, Fields, IsId};
+ghost use Rattle.ql_execution_files.specs.EffectLine.{FitsTxn, IsSetting, txn_text};
 
-use crate::fields::{after_number, after_word};
 use crate::part::after_byte;
 use ql_base::{IdSet, NoMemory, Word, digit_bytes, is_name, number_of};
-use ql_lines::first_field;
+use ql_lines::{after_number, after_word, ascending_ids, first_field};
 use std::alloc::Global;
 
 /// A begun transaction, by its number and its declared name.
@@ -40,7 +38,7 @@ pub(crate) fn read_setting(alloc: Global, text: &[u8]) -> Result<Option<Setting>
     let Some((stamp, rest)) = stamp(rest) else {
         return Ok(None);
     };
-    match ids(alloc, rest)? {
+    match ascending_ids(alloc, rest)? {
         Some(seen) => Ok(Some(Setting {
             session,
             txn,
@@ -121,35 +119,4 @@ fn stamp(text: &[u8]) -> Option<(u32, &[u8])>
     let (stamp, rest) = after_number(numbered, u32::MAX)?;
     let behind = after_word(rest, b"vis")?;
     Some((stamp, behind))
-}
-
-// Ascending ids up to the end of a line.
-fn ids(alloc: Global, text: &[u8]) -> Result<Option<IdSet>, NoMemory>
-    ensures { IfOk result (λ ids. MatchOption ids ((seen : List ℕ) → AllByRecursion IsId seen → IsAscending seen → fields_of text.now ≡ map decimal seen → ⊥)
-        (λ seen. AllByRecursion IsId seen × IsAscending seen × (fields_of text.now ≡ map decimal seen))) }
-{
-    let mut ids = IdSet::new(alloc);
-    let mut rest = text;
-    while let Some((id, behind)) = after_number(rest, u32::MAX) {
-        if !is_above(ids.items(), id) {
-            return Ok(None);
-        }
-        ids.insert(id)?;
-        rest = behind;
-    }
-    match first_field(rest) {
-        Some(_) => Ok(None),
-        None => Ok(Some(ids)),
-    }
-}
-
-// Whether an id is greater than the last of ascending ids, where there are any.
-fn is_above(ids: &[u32], id: u32) -> bool
-    requires { IsAscending ids.now }
-    ensures { IsTrue result ↔ IsAscending (ids.now ++ id ∷ []) }
-{
-    match ids.last() {
-        Some(last) => *last < id,
-        None => true,
-    }
 }

@@ -5,14 +5,13 @@ use Rattle.std.specs.Str.Parse.{digits_value}
 use Rattle.std.proofs.Math.Seq.{take-append_seam, drop-append_seam}
 use Rattle.std.proofs.lemmas.Bool.Decides.{nat_tests}
 use Rattle.std.proofs.lemmas.Bool.{false≢true, false_from_ne_true}
-use Rattle.std.proofs.lemmas.List.Elements.{All-cons, All-nil}
-use Rattle.std.proofs.lemmas.Str.Parse.{IsDigitsTest, IsNumeralModel, numerals_by_value}
 use Rattle.std.proofs.lemmas.Fmt.{digits_decimal, digits_value-decimal, decimal_nonempty}
 use Rattle.std.proofs.lemmas.Slice.Eq.{bytes_eq-Decides}
 use Rattle.ql_base.specs.Bytes.{begins, StopsBefore, is_blank, is_digit, is_lower, is_name_byte, is_word_byte, is_text_byte}
 use Rattle.ql_base.specs.Names.{IsWord, is_keyword, keywords}
 use Rattle.ql_base.specs.Numbers.{Spells}
 use Rattle.ql_base.proofs.Fronts.{front-append, passes_head, passes_tail, front_next}
+use Rattle.ql_base.proofs.Numerals.{digits_model}
 use Rattle.ql_lex.specs.Bytes.{is_in_line, is_quote}
 use Rattle.ql_lex.specs.Marks.{is_mark_byte, is_mark_pair}
 use Rattle.ql_lex.specs.Fronts.{IsFront, BeginsNothing, most_number}
@@ -144,20 +143,9 @@ short_name w free short =
 
 -- numbers
 
-tells : IsDigitsTest (AllPass is_digit)
-unfolding is_digit
-tells = record {
-  empty = All-nil (λ b. is_digit b ≡ true);
-  parts = λ c cs h. (let first : is_digit c ≡ true = h 0 0 (omega arith) in grind (arith, nat_tests), λ k d lt. h (suc k) d (omega arith));
-  more = λ c cs h hs. All-cons (λ b. is_digit b ≡ true) c cs (grind (arith, nat_tests)) hs;
-}
-
-own : IsNumeralModel (AllPass is_digit) (digits_value 10)
-own = numerals_by_value (AllPass is_digit) tells
-
 pub spells_of : (w : List ℕ) (n : ℕ) → Spells most_number n w → spells w ≡ true
 spells_of w n s =
-    let v : digits_value 10 w ≡ n = ap (digits_value 10) (sym s.spelled) ∙ digits_value-decimal own n (omega (arith, s.bounded)) in
+    let v : digits_value 10 w ≡ n = ap (digits_value 10) (sym s.spelled) ∙ digits_value-decimal digits_model n (omega (arith, s.bounded)) in
     let bounded : n ≤ most_number = s.bounded in
     let le : nat_le n most_number ≡ true = grind (arith, nat_tests) in
     let eq : bytes_eq (decimal n) w ≡ true = subst (λ u. bytes_eq (decimal n) u ≡ true) s.spelled (same_bytes (decimal n)) in
@@ -180,7 +168,7 @@ no_spells : (w : List ℕ) → ((n : ℕ) → ¬ Spells most_number n w) → spe
 no_spells w none = false_from_ne_true (spells w) (λ h. none (digits_value 10 w) (of_spells w h))
 
 spelled_digits : (w : List ℕ) (n : ℕ) → Spells most_number n w → AllPass is_digit w
-spelled_digits w n s = subst (AllPass is_digit) s.spelled (digits_decimal own n (omega (arith, s.bounded)))
+spelled_digits w n s = subst (AllPass is_digit) s.spelled (digits_decimal digits_model n (omega (arith, s.bounded)))
 
 spelled_some : (w : List ℕ) (n : ℕ) → Spells most_number n w → 0 < length w
 spelled_some w n s = rw (← s.spelled) (decimal_nonempty n (omega (arith, s.bounded)))

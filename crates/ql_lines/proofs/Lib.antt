@@ -1,3 +1,5 @@
+pub mod Conses
+mod AscendingIds
 mod Splits
 pub mod FieldLaws
 pub mod LineLaws

@@ -1,12 +1,17 @@
 // The lines of a line file, with their numbers, and the fields of a line.
 // Its one contract: `Lines` gives the lines that tell something, in order and each with its number,
-// and `first_field` the parts of a line that stand between spaces.
+// and `first_field` the parts of a line that stand between spaces; words, names, numbers and ids are
+// read from a line's front.
 #![tactic(auto)]
 
 mod fields;
+mod ids;
+mod leading;
 mod lines;
 
 pub use fields::first_field;
+pub use ids::ascending_ids;
+pub use leading::{after_name, after_number, after_word};
 pub use lines::{Line, Lines};
 
 #[cfg(test)]

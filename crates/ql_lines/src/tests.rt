@@ -1,4 +1,4 @@
-use crate::{Lines, first_field};
+use crate::{Lines, after_name, after_number, after_word, ascending_ids, first_field};
 use std::alloc::{AllocError, Global};
 use std::test::Fail;
 
@@ -44,4 +44,41 @@ fn told(alloc: Global, file: &[u8]) -> Result<Vec<u8>, AllocError> {
     let end = lines.end();
     text.extend_from_slice(format!(in alloc; "end {end}")?.as_bytes())?;
     Ok(text)
+}
+
+// Texts with the ids that they spell.
+const IDS: &[(&[u8], Option<&[u32]>)] = &[
+    (b"", Some(&[])),
+    (b"  1 2   10", Some(&[1, 2, 10])),
+    (b"0 4294967295", Some(&[0, 4294967295])),
+    (b"4294967296", None),
+    (b"1 1", None),
+    (b"2 1", None),
+    (b"01", None),
+    (b"1 x", None),
+    (b"1 2 # 3", None),
+];
+
+#[test]
+fn ids_of_a_text(rt: HostRuntime) -> Result<(), Fail> {
+    for (text, want) in IDS {
+        let found = ascending_ids(rt.alloc(), text)?;
+        assert_eq!(rt; found.as_ref().map(|ids| ids.items()), *want);
+    }
+    Ok(())
+}
+
+#[test]
+fn what_stands_at_the_front(rt: HostRuntime) -> Result<(), Fail> {
+    assert_eq!(rt; after_word(b"  vis 1", b"vis"), Some(b" 1".as_slice()));
+    assert_eq!(rt; after_word(b"visit 1", b"vis"), None);
+    assert_eq!(rt; after_word(b"", b"vis"), None);
+    assert_eq!(rt;
+        after_name(b"x y"),
+        Some((b"x".as_slice(), b" y".as_slice()))
+    );
+    assert_eq!(rt; after_name(b"forall y"), None);
+    assert_eq!(rt; after_number(b"255 x", 255), Some((255, b" x".as_slice())));
+    assert_eq!(rt; after_number(b"256 x", 255), None);
+    Ok(())
 }

@@ -1,15 +1,12 @@
 -- The pieces of an expression stand.
 use Rattle.std.proofs.Common.{◌≡◌, ℕ, suc, ◌+◌, ◌≤◌, ◌==◌, Bool, true, false, List, [], ◌∷◌, ◌++◌, length, codes, decimal, pos, negsuc, refl, sym, ap, subst, arith, append_assoc, length-append}
 use Rattle.std.specs.List.{AllPass}
-use Rattle.std.specs.Int.{IsInRange}
-use Rattle.std.specs.Str.Parse.{digits_value}
 use Rattle.std.proofs.lemmas.Bool.Decides.{nat_tests}
-use Rattle.std.proofs.lemmas.List.Elements.{All-cons, All-nil}
-use Rattle.std.proofs.lemmas.Str.Parse.{IsDigitsTest, IsNumeralModel, numerals_by_value}
 use Rattle.std.proofs.lemmas.Fmt.{digits_decimal}
 use Rattle.ql_base.specs.Bytes.{is_digit, is_lower, is_name_byte, is_text_byte, is_word_byte, StopsBefore}
 use Rattle.ql_base.specs.Names.{is_keyword, keywords}
 use Rattle.ql_base.proofs.Fronts.{passes_head, passes_tail}
+use Rattle.ql_base.proofs.Numerals.{digits_model}
 use Rattle.ql_lex.specs.Fronts.{IsFront, number as number_front, text as text_front, most_number}
 use Rattle.ql_lex.specs.Marks.{is_mark_byte, is_mark_pair}
 use Rattle.ql_lex.specs.declared.front.Front.TheVariants.{Lexeme}
@@ -90,30 +87,12 @@ op_said Mul rest = said_mark 42 (32 ∷ rest) refl refl refl (λ before. refl) r
 
 -- numbers
 
-digit_range : (b : ℕ) → is_digit b ≡ true → IsInRange 48 57 b
-unfolding is_digit
-digit_range b h = grind (arith, nat_tests)
-
-in_range_digit : (b : ℕ) → IsInRange 48 57 b → is_digit b ≡ true
-unfolding is_digit
-in_range_digit b h = grind (arith, nat_tests)
-
-tells : IsDigitsTest (AllPass is_digit)
-tells = record {
-  empty = All-nil (λ b. is_digit b ≡ true);
-  parts = λ c cs h. (digit_range c (h 0 0 (omega arith)), λ k d lt. h (suc k) d (omega arith));
-  more = λ c cs h hs. All-cons (λ b. is_digit b ≡ true) c cs (in_range_digit c h) hs;
-}
-
-own : IsNumeralModel (AllPass is_digit) (digits_value 10)
-own = numerals_by_value (AllPass is_digit) tells
-
 digit_is_name : (b : ℕ) → is_digit b ≡ true → is_name_byte b ≡ true
 unfolding is_digit is_name_byte
 digit_is_name b h = grind (arith, nat_tests)
 
 decimal_names : (n : ℕ) → n ≤ most_number → AllPass is_name_byte (decimal n)
-decimal_names n few = λ k d lt. digit_is_name _ (digits_decimal own n (omega arith) k d lt)
+decimal_names n few = λ k d lt. digit_is_name _ (digits_decimal digits_model n (omega arith) k d lt)
 
 pub said_number : {counts : Bool} {r : Role} (n : ℕ) → n ≤ most_number → IsQuiet r → (rest : List ℕ) → StopsBefore is_word_byte rest → IsSaid counts IntKind IntToken r (decimal n) rest
 unfolding terminal_of

@@ -3,8 +3,9 @@ use Rattle.std.proofs.Common.{◌≡◌, ℕ, List, [], ◌∷◌, map, length, 
 use Rattle.std.specs.List.{AllByRecursion}
 use Rattle.std.proofs.lemmas.Fmt.{decimal_injective}
 use Rattle.ql_report.specs.declared.effect_line.EffectLine.{EffectLine}
-use Rattle.ql_report.specs.EffectLine.{Fields, IsEffectLine, IsId, at_fields, effect_fields, end_fields}
-use Rattle.ql_report.proofs.Conses.{both, heads, tails}
+use Rattle.ql_report.specs.EffectLine.{IsEffectLine, at_fields, effect_fields, end_fields}
+use Rattle.ql_lines.specs.Fields.{Fields, IsId}
+use Rattle.ql_lines.proofs.Conses.{both, heads, tails}
 
 same_ids : (xs ys : List ℕ) → AllByRecursion IsId xs → AllByRecursion IsId ys → map decimal xs ≡ map decimal ys → xs ≡ ys
 same_ids [] [] f g e = refl

@@ -6,7 +6,7 @@ use Rattle.ql_lines.specs.Fields.{FirstField}
 use Rattle.ql_lang.specs.Trees.{Sentence}
 use Rattle.ql_parse.specs.Parsing.{IsContractText}
 use Rattle.ql_report.specs.ContractLine.{IsContractLine}
-use Rattle.ql_report.proofs.Conses.{heads, tails}
+use Rattle.ql_lines.proofs.Conses.{heads, tails}
 
 module _ (b : ℕ) (w r q : List ℕ) (no_space : (b ≡ 32) → ⊥) where
   same_rest : (m n : ℕ) → replicate m 32 ++ (b ∷ w) ++ r ≡ replicate n 32 ++ (b ∷ w) ++ q → r ≡ q

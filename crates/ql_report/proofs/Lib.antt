@@ -1,10 +1,8 @@
 pub mod Loops
 pub mod Sizes
-pub mod Conses
 pub mod ShortLines
 pub mod FirstFields
 pub mod ContractRules
-pub mod Ids
 pub mod EffectLines
 pub mod Effects
 pub mod OneStage

@@ -1,6 +1,6 @@
 -- what the readers of lines refuse is refused as a line
 use Rattle.std.proofs.Common.{◌≡◌, ◌∷◌, ℕ, suc, List, Err, length, codes, subst}
-use Rattle.ql_lines.specs.Fields.{FirstField, fields_of}
+use Rattle.ql_lines.specs.Fields.{FirstField, fields_of, Fields}
 use Rattle.ql_lines.specs.Lines.{Numbered}
 use Rattle.ql_lang.specs.Trees.{Sentence}
 use Rattle.ql_lex.specs.declared.token.LexFault.{LexFault}
@@ -14,7 +14,7 @@ use Rattle.ql_report.specs.declared.told.Told.{Told}
 use Rattle.ql_report.specs.declared.holds_fault.LineFault.{LineFault}
 use Rattle.ql_report.specs.declared.holds_fault.LineFault.TheVariants.{Unexpected, Unknown, Twice, TxnAtom, Variables, NotForward, OtherObject, TooMany, NoMemory}
 use Rattle.ql_report.specs.ContractLine.{IsContractLine, IsContractRefusal, faults_of, lowest_rule}
-use Rattle.ql_report.specs.EffectLine.{Fields, IsEffectLine, effect_rule}
+use Rattle.ql_report.specs.EffectLine.{IsEffectLine, effect_rule}
 use Rattle.ql_report.specs.HoldsFile.{IsRefusedBy, NamedFormula, Unbegun, WithEffects}
 use Rattle.ql_report.specs.Readings.{IsRule, parse_rule}
 use Rattle.ql_report.proofs.FirstFields.{one_rest}

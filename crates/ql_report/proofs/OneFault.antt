@@ -1,7 +1,7 @@
 -- A file has one first fault.
 use Rattle.std.proofs.Common.{◌≡◌, ◌⊎◌, inl, inr, ℕ, suc, List, [], ◌∷◌, ◌++◌, Some, length, refl, ap, sym, subst, ◌∙◌}
 use Rattle.std.proofs.lemmas.Option.{same_Some}
-use Rattle.ql_lines.specs.Fields.{fields_of}
+use Rattle.ql_lines.specs.Fields.{fields_of, Fields}
 use Rattle.ql_lines.specs.Lines.{Ahead, Numbered}
 use Rattle.ql_lang.specs.Trees.{Sentence}
 use Rattle.ql_report.specs.declared.effect_line.EffectLine.{EffectLine}
@@ -11,10 +11,10 @@ use Rattle.ql_report.specs.declared.holds_fault.LineFault.TheVariants.{Unexpecte
 use Rattle.ql_report.specs.declared.holds_fault.HoldsFault.{HoldsFault}
 use Rattle.ql_report.specs.declared.holds_fault.HoldsFault.TheVariants.{Range}
 use Rattle.ql_report.specs.ContractLine.{BreaksContract, IsContractLine, faults_of, lowest_rule}
-use Rattle.ql_report.specs.EffectLine.{Fields, IsEffectLine, effect_rule}
+use Rattle.ql_report.specs.EffectLine.{IsEffectLine, effect_rule}
 use Rattle.ql_report.specs.HoldsFile.FirstFault.{absent, broken, ended}
 use Rattle.ql_report.specs.HoldsFile.{Breaks, BreaksCurrent, BreaksEffects, BreaksEnd, FirstFault, IsEnded, Leads, Stage, Takes, Unbegun, WithContract, WithEffects, Ended, fault_at}
-use Rattle.ql_report.proofs.Conses.{heads, tails}
+use Rattle.ql_lines.proofs.Conses.{heads, tails}
 use Rattle.ql_report.proofs.EffectLines.{one_effect}
 use Rattle.ql_report.proofs.FirstFields.{one_contract}
 use Rattle.ql_report.proofs.Leading.{breaks_off, one_stage}

@@ -1,6 +1,6 @@
 -- A line is taken, or breaks one rule, and not both.
 use Rattle.std.proofs.Common.{◌≡◌, ◌⊎◌, inl, inr, ℕ, suc, List, [], None, Some, length, ap, sym, ◌∙◌}
-use Rattle.ql_lines.specs.Fields.{fields_of}
+use Rattle.ql_lines.specs.Fields.{fields_of, Fields}
 use Rattle.ql_lines.specs.Lines.{Numbered}
 use Rattle.ql_lang.specs.Trees.{Sentence}
 use Rattle.ql_parse.specs.Parsing.{IsContractText}
@@ -9,7 +9,7 @@ use Rattle.ql_report.specs.declared.told.Told.{Told}
 use Rattle.ql_report.specs.declared.holds_fault.LineFault.{LineFault}
 use Rattle.ql_report.specs.declared.holds_fault.LineFault.TheVariants.{Unexpected, Unknown, Twice, TxnAtom, Variables, NotForward, OtherObject, TooMany, NoMemory}
 use Rattle.ql_report.specs.ContractLine.{BreaksContract, IsContractLine, faults_of, lowest_rule}
-use Rattle.ql_report.specs.EffectLine.{Fields, IsEffectLine, effect_rule, told_with}
+use Rattle.ql_report.specs.EffectLine.{IsEffectLine, effect_rule, told_with}
 use Rattle.ql_report.specs.HoldsFile.{Breaks, BreaksCurrent, BreaksEffects, NamedFormula, Stage, Takes, TakesContract, TakesCurrent, TakesEffect, TakesEnd, Unbegun, WithContract, WithEffects, Ended, formula_of, nothing_told}
 use Rattle.ql_report.proofs.EffectLines.{no_end, one_current, one_effect}
 use Rattle.ql_report.proofs.FirstFields.{one_contract}

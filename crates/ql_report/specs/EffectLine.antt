@@ -6,6 +6,7 @@ use Rattle.ql_base.specs.Names.{IsName}
 use Rattle.ql_base.specs.Numbering.{with_name}
 use Rattle.ql_base.specs.declared.ids.ObjId.{ObjId}
 use Rattle.ql_base.specs.declared.ids.OpId.{OpId}
+use Rattle.ql_lines.specs.Fields.{Fields, IsId}
 use Rattle.ql_value.specs.declared.value.Value.TheVariants.{Unit as UnitValue}
 use Rattle.ql_exec.specs.declared.effect.Draft.{Draft}
 use Rattle.ql_exec.specs.declared.effect.Payload.TheVariants.{Nothing}
@@ -17,10 +18,6 @@ use Rattle.ql_report.specs.declared.effect_line.EffectLine.{EffectLine}
 use Rattle.ql_report.specs.declared.holds_fault.LineFault.{LineFault}
 use Rattle.ql_report.specs.declared.holds_fault.LineFault.TheVariants.{NotForward, OtherObject, TooMany}
 use Rattle.ql_report.specs.declared.told.Told.{Told}
-
--- a line: its fields
-abbrev pub Fields : Type 0
-Fields = List (List ℕ)
 
 -- ---- how lines are spelled
 
@@ -36,9 +33,6 @@ abbrev pub end_fields : Fields
 end_fields = codes "end" ∷ []
 
 -- ---- what has a spelling
-
-abbrev pub IsId : ℕ → Type 0
-IsId n = n < 2 ^ 32
 
 pub record Fits (e : EffectLine) : Type 0 where
   pub object : IsName e.object

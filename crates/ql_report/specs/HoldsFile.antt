@@ -1,6 +1,6 @@
 -- The holds files: what one asks, or its first fault.
 use Rattle.std.specs.Prelude.{◌≡◌, ◌⊎◌, ℕ, suc, ◌≤◌, List, [], ◌∷◌, ◌++◌, map, length, None, Some}
-use Rattle.ql_lines.specs.Fields.{fields_of}
+use Rattle.ql_lines.specs.Fields.{fields_of, Fields, IsId}
 use Rattle.ql_lines.specs.Lines.{Ahead, Numbered}
 use Rattle.ql_lang.specs.Trees.{Sentence}
 use Rattle.ql_lang.specs.Formulas.{Resolved}
@@ -13,7 +13,7 @@ use Rattle.ql_report.specs.declared.holds_fault.HoldsFault.TheVariants as fault
 use Rattle.ql_report.specs.ContractLine.{BreaksContract, IsContractLine, faults_of}
 use Rattle.ql_report.specs.declared.effect_line.EffectLine.{EffectLine}
 use Rattle.ql_report.specs.declared.told.Told.{Told}
-use Rattle.ql_report.specs.EffectLine.{Fields, IsEffectLine, IsId, at_fields, effect_rule, end_fields, told_with}
+use Rattle.ql_report.specs.EffectLine.{IsEffectLine, at_fields, effect_rule, end_fields, told_with}
 
 -- ---- what a file asks
 

@@ -7,11 +7,11 @@ ghost use Rattle.ql_report.specs.HoldsFile.{formula_of};
 ghost use Rattle.ql_report.specs.Readings.{IsRule, named_of, parse_rule};
 
 use crate::contract_rule::lowest_rule;
-use crate::fields::after_word;
 use crate::holding::Words;
 use crate::holds_fault::LineFault;
 use ql_base::{Names, NoMemory, Word};
 use ql_lang::{Contract, Formula, Var};
+use ql_lines::after_word;
 use ql_parse::{ParseFault, parse_contract};
 use ql_typing::{TypeFault, resolve};
 use std::alloc::Global;

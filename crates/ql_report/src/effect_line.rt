@@ -2,12 +2,11 @@ ghost use Rattle.std.specs.Prelude.{◌≡◌, ◌≤◌, ◌↔◌, ◌∷◌, 
 ghost use Rattle.std.specs.List.{AllByRecursion};
 ghost use Rattle.ql_base.specs.IdLists.{IsAscending};
 ghost use Rattle.ql_base.specs.Names.{IsName};
-ghost use Rattle.ql_lines.specs.Fields.{fields_of};
-ghost use Rattle.ql_report.specs.EffectLine.{Fields, IsEffectLine, IsId, Fits, at_fields};
+ghost use Rattle.ql_lines.specs.Fields.{fields_of, Fields, IsId};
+ghost use Rattle.ql_report.specs.EffectLine.{Fits, IsEffectLine, at_fields, end_fields};
 
-use crate::fields::{after_name, after_number, after_word};
 use ql_base::{IdSet, NoMemory, Word};
-use ql_lines::first_field;
+use ql_lines::{after_name, after_number, after_word, ascending_ids, first_field};
 use std::alloc::Global;
 
 /// What the line of an effect tells, apart from its number.
@@ -36,7 +35,7 @@ pub(crate) fn effect_line(
     let Some((session, rest)) = session(rest) else {
         return Ok(None);
     };
-    match ids(alloc, rest)? {
+    match ascending_ids(alloc, rest)? {
         Some(seen) => Ok(Some(EffectLine {
             object: Word::of(object),
             op: Word::of(op),
@@ -78,37 +77,6 @@ fn session(text: &[u8]) -> Option<(u32, &[u8])>
     Some((session, behind))
 }
 
-// Ascending ids up to the end of a line.
-fn ids(alloc: Global, text: &[u8]) -> Result<Option<IdSet>, NoMemory>
-    ensures { IfOk result (λ ids. MatchOption ids ((seen : List ℕ) → AllByRecursion IsId seen → IsAscending seen → fields_of text.now ≡ map decimal seen → ⊥)
-        (λ seen. AllByRecursion IsId seen × IsAscending seen × (fields_of text.now ≡ map decimal seen))) }
-{
-    let mut ids = IdSet::new(alloc);
-    let mut rest = text;
-    while let Some((id, behind)) = after_number(rest, u32::MAX) {
-        if !is_above(ids.items(), id) {
-            return Ok(None);
-        }
-        ids.insert(id)?;
-        rest = behind;
-    }
-    match first_field(rest) {
-        Some(_) => Ok(None),
-        None => Ok(Some(ids)),
-    }
-}
-
-// Whether an id is greater than the last of ascending ids, where there are any.
-fn is_above(ids: &[u32], id: u32) -> bool
-    requires { IsAscending ids.now }
-    ensures { IsTrue result ↔ IsAscending (ids.now ++ id ∷ []) }
-{
-    match ids.last() {
-        Some(last) => *last < id,
-        None => true,
-    }
-}
-
 /// The effect that a line tells to be the current one.
 pub(crate) fn current(text: &[u8]) -> Option<u32>
     ensures { MatchOption result ((cur : ℕ) → IsId cur → fields_of text.now ≡ at_fields cur → ⊥) (λ cur. IsId cur × (fields_of text.now ≡ at_fields cur)) }
@@ -118,5 +86,15 @@ pub(crate) fn current(text: &[u8]) -> Option<u32>
     match first_field(behind) {
         Some(_) => None,
         None => Some(cur),
+    }
+}
+
+/// Whether a line is the last one.
+pub(crate) fn is_end(text: &[u8]) -> bool
+    ensures { IsTrue result ↔ (fields_of text.now ≡ end_fields) }
+{
+    match after_word(text, b"end") {
+        Some(behind) => first_field(behind).is_none(),
+        None => false,
     }
 }

@@ -5,8 +5,7 @@ ghost use Rattle.ql_report.specs.HoldsFile.{IsRefusedBy, Takes, Unbegun, WithCon
 ghost use Rattle.ql_report.specs.Readings.{AreFew, line_of, named_of, stage_of};
 
 use crate::contract_line::{ReadContract, contract_line};
-use crate::effect_line::{current, effect_line};
-use crate::fields::is_end;
+use crate::effect_line::{current, effect_line, is_end};
 use crate::holds_fault::LineFault;
 use crate::told::Told;
 use ql_base::Names;

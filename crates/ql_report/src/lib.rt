@@ -8,7 +8,6 @@ mod atoms;
 mod contract_line;
 mod contract_rule;
 mod effect_line;
-mod fields;
 mod holding;
 mod holds_fault;
 mod holds_reader;

@@ -2,18 +2,16 @@
 use Rattle.std.proofs.Common.{◌≡◌, ◌≢◌, ◌≤◌, ◌<◌, ◌^◌, ℕ, zero, suc, pos, negsuc, neg_ℤ, Bool, true, false, Option, Some, None, Result, Ok, Err, List, [], ◌∷◌, ◌++◌, length, take, drop, arith, refl, sym, ap, ◌∙◌, decimal, bytes_eq, nat_le, nat_lt, ◌&&◌, cond, eqb, append_assoc, codes}
 use Rattle.std.specs.List.{prefix_len, AllPass}
 use Rattle.std.specs.Fmt.{signed_decimal}
-use Rattle.std.specs.Int.{IsInRange}
 use Rattle.std.specs.Str.Parse.{digits_value}
 use Rattle.std.specs.Option.{option_map_or}
-use Rattle.std.proofs.lemmas.Str.Parse.{IsDigitsTest, IsNumeralModel, numerals_by_value}
 use Rattle.std.proofs.lemmas.Fmt.{digits_decimal, decimal_nonempty}
 use Rattle.std.proofs.lemmas.List.{take-append-drop}
-use Rattle.std.proofs.lemmas.List.Elements.{All-cons, All-nil}
 use Rattle.std.proofs.Math.Seq.{take-append_seam, drop-append_seam}
 use Rattle.std.proofs.lemmas.Slice.Eq.{bytes_eq-Decides}
 use Rattle.std.proofs.lemmas.Bool.Decides.{nat_tests}
 use Rattle.ql_base.specs.Bytes.{begins, is_digit, is_text_byte}
 use Rattle.ql_base.proofs.Fronts.{front-append}
+use Rattle.ql_base.proofs.Numerals.{digits_model}
 use Rattle.ql_value.specs.declared.scalar.Scalar.{Scalar}
 use Rattle.ql_value.specs.declared.scalar.Scalar.TheVariants.{Int, Bool as Truth, Text}
 use Rattle.ql_value.specs.Texts.{IsText}
@@ -147,26 +145,8 @@ scalar_takes text rest s h =
     (λ g m. cc)))))
 
 -- digits of a number
-digit_range : (b : ℕ) → is_digit b ≡ true → IsInRange 48 57 b
-unfolding is_digit
-digit_range b h = grind (arith, nat_tests)
-
-in_range_digit : (b : ℕ) → IsInRange 48 57 b → is_digit b ≡ true
-unfolding is_digit
-in_range_digit b h = grind (arith, nat_tests)
-
-tells : IsDigitsTest (AllPass is_digit)
-tells = record {
-  empty = All-nil (λ b. is_digit b ≡ true);
-  parts = λ c cs h. (digit_range c (h 0 0 (omega arith)), λ k d lt. h (suc k) d (omega arith));
-  more = λ c cs h hs. All-cons (λ b. is_digit b ≡ true) c cs (in_range_digit c h) hs;
-}
-
-own : IsNumeralModel (AllPass is_digit) (digits_value 10)
-own = numerals_by_value (AllPass is_digit) tells
-
 digits_are : (n : ℕ) → n < 2 ^ 64 → AllPass is_digit (decimal n)
-digits_are n small = digits_decimal own n small
+digits_are n small = digits_decimal digits_model n small
 
 other_digit : (b c : ℕ) → is_digit b ≡ true → is_digit c ≡ false → eqb b c ≡ false
 other_digit b c h i = by_test (eqb b c) refl where

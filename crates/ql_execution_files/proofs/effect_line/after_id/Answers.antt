@@ -1,7 +1,7 @@
 use Rattle.std.proofs.Common.{◌≡◌, ◌∷◌, codes, decimal, arith, sym, ◌∙◌}
 use Rattle.std.proofs.lemmas.Fmt.{decimal_injective}
 use Rattle.ql_lines.specs.Fields.{fields_of}
-use Rattle.ql_execution_files.proofs.Conses.{heads, tails}
+use Rattle.ql_lines.proofs.Conses.{heads, tails}
 use Rattle.ql_execution_files.proofs.effect_line.after_id.Goals as goal
 
 pub returns-else-number-id : goal.returns-else-number-id

@@ -4,7 +4,7 @@ use Rattle.std.proofs.lemmas.List.Sums.{prefix_len-le-length}
 use Rattle.ql_base.specs.Bytes.{begins, is_digit}
 use Rattle.ql_base.specs.Names.{IsName}
 use Rattle.ql_value.specs.Reading.{is_byte}
-use Rattle.ql_execution_files.proofs.Conses.{tails}
+use Rattle.ql_lines.proofs.Conses.{tails}
 use Rattle.ql_execution_files.proofs.Txns.{name_behind, number_before}
 use Rattle.ql_execution_files.proofs.setting.begun_of.Goals as goal
 

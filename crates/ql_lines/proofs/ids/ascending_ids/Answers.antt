@@ -3,11 +3,9 @@ use Rattle.std.specs.List.{AllByRecursion}
 use Rattle.std.proofs.lemmas.Bool.{false≢true}
 use Rattle.std.proofs.lemmas.List.{map-append}
 use Rattle.ql_base.specs.IdLists.{IsAscending}
-use Rattle.ql_lines.specs.Fields.{fields_of}
-use Rattle.ql_execution_files.specs.Parts.{Fields}
-use Rattle.ql_execution_files.specs.EffectLine.{IsId}
-use Rattle.ql_execution_files.proofs.Ids.{ids_more, no_descent, no_other_field, with_id-end}
-use Rattle.ql_execution_files.proofs.setting.ids.Goals as goal
+use Rattle.ql_lines.specs.Fields.{Fields, IsId, fields_of}
+use Rattle.ql_lines.proofs.AscendingIds.{ids_more, no_descent, no_other_field, with_id-end}
+use Rattle.ql_lines.proofs.ids.ascending_ids.Goals as goal
 
 pub returns-then-not-is_above : goal.returns-then-not-is_above
 returns-then-not-is_above c =

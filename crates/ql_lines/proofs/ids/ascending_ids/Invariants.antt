@@ -1,9 +1,8 @@
 use Rattle.std.proofs.Common.{◌≡◌, ◌++◌, length, map, decimal}
 use Rattle.std.specs.List.{AllByRecursion}
 use Rattle.ql_base.specs.IdLists.{IsAscending}
-use Rattle.ql_lines.specs.Fields.{fields_of}
-use Rattle.ql_execution_files.specs.EffectLine.{IsId}
-use Rattle.ql_execution_files.proofs.setting.ids.Given as goal
+use Rattle.ql_lines.specs.Fields.{IsId, fields_of}
+use Rattle.ql_lines.proofs.ids.ascending_ids.Given as goal
 
 abbrev pub invariant-loop-id : goal.invariant-loop-id
 invariant-loop-id l = (fields_of l.text ≡ map decimal l.ids ++ fields_of l.rest) × AllByRecursion IsId l.ids × IsAscending l.ids

@@ -1,13 +1,13 @@
-ghost use Rattle.std.specs.Prelude.{◌≡◌, ◌≤◌, ◌↔◌, ◌∷◌, ◌^◌, ◌<◌, List, ℕ, IsTrue, MatchOption, decimal, codes};
+ghost use Rattle.std.specs.Prelude.{◌≡◌, ◌≤◌, ◌∷◌, ◌^◌, ◌<◌, List, ℕ, MatchOption, decimal};
 ghost use Rattle.ql_base.specs.Names.{IsName};
-ghost use Rattle.ql_lines.specs.Fields.{FirstField, fields_of};
-ghost use Rattle.ql_execution_files.specs.Parts.{Fields};
+ghost use Rattle.ql_lines.specs.Fields.{Fields, FirstField, fields_of};
 
+use crate::fields::first_field;
 use ql_base::{is_name, number_of};
-use ql_lines::first_field;
 
-/// What stands behind a first field that is this word.
-pub(crate) fn after_word<'a>(text: &'a [u8], word: &[u8]) -> Option<&'a [u8]>
+/// What stands behind a first field that is this word; `None` where another field comes first, or
+/// none.
+pub fn after_word<'a>(text: &'a [u8], word: &[u8]) -> Option<&'a [u8]>
     ensures { MatchOption result ((rest : Fields) → fields_of text.now ≡ word.now ∷ rest → ⊥) (λ behind. FirstField text.now word.now behind.now) }
 {
     let (first, behind) = first_field(text)?;
@@ -15,7 +15,7 @@ pub(crate) fn after_word<'a>(text: &'a [u8], word: &[u8]) -> Option<&'a [u8]>
 }
 
 /// A first field that is a name, and what stands behind it.
-pub(crate) fn after_name(text: &[u8]) -> Option<(&[u8], &[u8])>
+pub fn after_name(text: &[u8]) -> Option<(&[u8], &[u8])>
     ensures { MatchOption result ((name : List ℕ) (rest : Fields) → IsName name → fields_of text.now ≡ name ∷ rest → ⊥)
         (λ x. IsName x.0.now × FirstField text.now x.0.now x.1.now) }
 {
@@ -27,8 +27,8 @@ pub(crate) fn after_name(text: &[u8]) -> Option<(&[u8], &[u8])>
     }
 }
 
-/// A first field that is a number up to `most`, and what stands behind it.
-pub(crate) fn after_number(text: &[u8], most: u32) -> Option<(u32, &[u8])>
+/// A first field that spells a number of at most `most`, and what stands behind it.
+pub fn after_number(text: &[u8], most: u32) -> Option<(u32, &[u8])>
     ensures { MatchOption result ((n : ℕ) (rest : Fields) → n ≤ most → fields_of text.now ≡ decimal n ∷ rest → ⊥)
         (λ x. (x.0 ≤ most) × FirstField text.now (decimal x.0) x.1.now) }
 {

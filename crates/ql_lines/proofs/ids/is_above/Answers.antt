@@ -1,6 +1,6 @@
 use Rattle.std.proofs.Common.{arith, sym}
-use Rattle.ql_execution_files.proofs.Ids.{above_last, under_last}
-use Rattle.ql_execution_files.proofs.setting.is_above.Goals as goal
+use Rattle.ql_lines.proofs.AscendingIds.{above_last, under_last}
+use Rattle.ql_lines.proofs.ids.is_above.Goals as goal
 
 pub returns-in-Some : goal.returns-in-Some
 returns-in-Some c =

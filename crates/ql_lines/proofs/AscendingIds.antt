@@ -5,9 +5,8 @@ use Rattle.std.proofs.lemmas.Bool.{lt-ltb, le-ltb}
 use Rattle.std.proofs.lemmas.Fmt.{decimal_injective}
 use Rattle.std.proofs.lemmas.Option.{same_Some}
 use Rattle.ql_base.specs.IdLists.{IsBelowAll, IsAscending, with_id}
-use Rattle.ql_execution_files.specs.Parts.{Fields}
-use Rattle.ql_execution_files.specs.EffectLine.{IsId}
-use Rattle.ql_execution_files.proofs.Conses.{both, heads, tails}
+use Rattle.ql_lines.specs.Fields.{Fields, IsId}
+use Rattle.ql_lines.proofs.Conses.{both, heads, tails}
 
 -- an id is below each item of a list that it is below
 below_item : (i : ℕ) (ids : List ℕ) (k y : ℕ) → IsBelowAll i ids → slice_get ids k ≡ Some y → i < y
