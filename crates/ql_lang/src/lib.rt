@@ -1,6 +1,7 @@
 // The trees of the contract language, as the parser makes them and the later passes read them.
 // Each tree follows the grammar node for node, and each list of trees is seen as a list.
-// The one contract: what is printed of a tree is in the grammar, and means that tree.
+// The one contract: trees and lists are seen as plain data, and what is printed of a contract or of a
+// source is its one spelling.
 #![tactic(auto)]
 
 mod contract;
