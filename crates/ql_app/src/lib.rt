@@ -1,6 +1,7 @@
-// The program behind its words: it reads the named file from a shelf, judges it, and writes the
-// answer to a sink. The one contract: what `quelea` writes is what the words and the file's bytes
-// allow with its status, and each status comes only for its cause.
+// The program behind its words: it reads the named files from a shelf, judges them, and writes the
+// answer to a sink.
+// The one contract: what `quelea` writes is what the words and the files' bytes allow with its
+// status, and each status comes only for its cause.
 #![tactic(auto)]
 
 mod holds;

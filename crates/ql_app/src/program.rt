@@ -30,7 +30,7 @@ pub fn quelea<S: Shelf, K: Sink>(
     shelf: &mut S,
     sink: &mut K,
 ) -> Result<Status, NoMemory>
-    // What was written is a text that the words and the file's bytes allow with this status.
+    // What was written is a text that the words and the files' bytes allow with this status.
     ensures wrote { IfOk result (Wrote
         (Says (record { file = MAX_FILE_BYTES; second = MAX_CERTIFICATE_BYTES }) (word_texts words.now) (S.held shelf.old) (S.faults shelf.old) (S.faults shelf.new))
         (K.written sink.old) (K.written sink.new) (K.faults sink.old) (K.faults sink.new)) }

@@ -5,7 +5,7 @@ pub enum Status {
     Done = 0,
     /// The question was answered with no.
     No = 1,
-    /// The file isn't in its grammar.
+    /// A file isn't in its grammar.
     Bad = 2,
     /// The shelf failed.
     ReadFault = 3,
@@ -13,6 +13,6 @@ pub enum Status {
     WriteFault = 4,
     /// The words aren't those of a command.
     Usage = 5,
-    /// The file has more bytes than its limit.
+    /// A file has more bytes than its limit, or the work is above its bound.
     TooLarge = 7,
 }
