@@ -1,5 +1,5 @@
 -- Truth and executions are the same of both, and so is valid implication.
-use Rattle.std.proofs.Common.{◌≡◌, ℕ, zero, suc, ◌<◌, Bool, true, false, not, ◌&&◌, ◌||◌, ◌==◌, nat_eq, List, [], ◌∷◌, map, length, Option, Some, None, refl, sym, subst, ◌∙◌, ap, slice_index}
+use Rattle.std.proofs.Common.{◌≡◌, ℕ, ◌<◌, Bool, true, false, not, ◌&&◌, ◌||◌, ◌==◌, nat_eq, List, [], ◌∷◌, map, length, Option, Some, None, refl, sym, subst, ◌∙◌, ap, slice_index}
 use Rattle.std.proofs.lemmas.Bool.{both_ways, eqb-true, eq-eqb}
 use Rattle.std.proofs.lemmas.List.Folds.{list_all-map}
 use Rattle.std.specs.List.{list_all, list_any}
@@ -21,12 +21,11 @@ use Rattle.ql_exec.specs.Effects as exec
 use Rattle.ql_exec.specs.Relations as relation
 use Rattle.ql_exec.specs.Execution as execution
 use Rattle.ql_formula.specs.Truth as truth
-use Rattle.ql_ground.specs.Effects as plain
 use Rattle.ql_ground.specs.Relations as ground
 use Rattle.ql_ground.specs.Truth as plainly
 use Rattle.ql_ground.specs.Implication as implication
 use Rattle.ql_implied.specs.Executions.{FitsProgram, IsImplied, IsImpliedTxn}
-use Rattle.ql_implied.proofs.Plain.{plain_effect, plain_all, plain_at, eq-sym, one_at, both_at, so-same, vis-same, sameobj-same, soo-same, sametxn-same, inside-same}
+use Rattle.ql_implied.proofs.Plain.{plain_all, eq-sym, one_at, so-same, vis-same, sameobj-same, soo-same, sametxn-same, inside-same}
 use Rattle.ql_implied.proofs.Chains.{hb-same, hbo-same}
 
 named-same : (x : List Effect) (name : RelName) (a b : ℕ) → plainly.named (plain_all x) name a b ≡ truth.named x name a b

@@ -1,8 +1,12 @@
-// What a refuted ground problem gives in executions as the store keeps them.
-// The one contract: a level that implies a contract over the effects of ground problems implies it over
-// those of executions, whose relations and truth are the same.
+// What the commands on levels say, in executions as the store keeps them.
+// The one contract: a level that `classify` or `prove` tells, or that `check` accepts, gives its contract in every
+// execution of the program, with the relations and the truth of whole contracts.
 #![tactic(auto)]
 
+mod commands;
 mod transfer;
+mod uses;
 
+pub use commands::{accepted_lines_give_contracts, told_levels_give_contracts};
 pub use transfer::implied_in_executions;
+pub use uses::{strong_uses_are_told, uses_are_operations};

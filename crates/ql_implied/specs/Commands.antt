@@ -1,0 +1,69 @@
+-- What the commands on levels say of a source, in the store's executions.
+use Rattle.std.specs.Prelude.{◌≡◌, ◌≢◌, ℕ, suc, List, [], ◌∷◌, ◌++◌, Some, length, slice_get}
+use Rattle.std.specs.List.{All}
+use Rattle.ql_cert.specs.declared.cert.Section.{Section}
+use Rattle.ql_classify.specs.Targets.{goals_at}
+use Rattle.ql_ground.specs.declared.goal.Goal.{Goal}
+use Rattle.ql_ground.specs.declared.goal.Goal.TheVariants.{OpAt, TxnAt}
+use Rattle.ql_lang.specs.Formulas.{Resolved}
+use Rattle.ql_lang.specs.declared.program.Program.{Program}
+use Rattle.ql_levels.specs.Lists.{LevelLists}
+use Rattle.ql_refute.specs.declared.verdict.Verdict.{Verdict}
+use Rattle.ql_refute.specs.declared.verdict.Verdict.TheVariants.{Accepted}
+use Rattle.ql_typing.specs.Operations.{all_ops, op_contracts, op_kinds, txn_contracts}
+use Rattle.ql_report.specs.Levels.{levels_text}
+use Rattle.ql_commands.specs.declared.answer.Answer.{Answer}
+use Rattle.ql_commands.specs.declared.answer.Answer.TheVariants.{Done, No}
+use Rattle.ql_commands.specs.Certificates.{SpellsCert}
+use Rattle.ql_commands.specs.Check.{AreDue, goal_of, section_text, verdict_text}
+use Rattle.ql_commands.specs.Sources.{IsSourceOf}
+use Rattle.ql_implied.specs.Executions.{IsImplied, IsImpliedTxn}
+
+-- The target has a contract, and its level gives it: in every execution of the program, at each effect of the operation,
+-- or for each begun transaction.
+abbrev pub GivesContract : Program → Goal → Type 0
+GivesContract p (OpAt o level) = (f : Resolved) × (slice_get (op_contracts p.types) o.0 ≡ Some f) × IsImplied (op_kinds p.types) o.0 level f
+GivesContract p (TxnAt d level) = (f : Resolved) × (slice_get (txn_contracts p) d.0 ≡ Some f) × IsImpliedTxn (op_kinds p.types) level f
+
+-- a level for each operation and each declared transaction, that gives its contract
+pub record AreEnough (p : Program) (levels : LevelLists) : Type 0 where
+  pub ops : length levels.ops ≡ length (all_ops p.types)
+  pub txns : length levels.txns ≡ length p.txns
+  pub each : All (GivesContract p) (goals_at levels)
+
+-- the text tells such levels of the source
+abbrev pub TellsLevels : List ℕ → List ℕ → Type 0
+TellsLevels source text = (p : Program) × IsSourceOf source p × (levels : LevelLists) × AreEnough p levels × (text ≡ levels_text p levels)
+
+-- the sections from a place on, each with a level that gives the contract of the target at that place
+abbrev pub EachGives : Program → ℕ → List Section → Type 0
+EachGives p place [] = Unit {0}
+EachGives p place (s ∷ ss) = GivesContract p (goal_of p place s) × EachGives p (suc place) ss
+
+-- a line for each section, which ends in `accepted`
+unfoldable pub accepted_lines : List Section → List ℕ
+accepted_lines [] = []
+accepted_lines (s ∷ ss) = section_text s ++ verdict_text Accepted ++ accepted_lines ss
+
+-- what stands behind the accepted lines: nothing where no section is left and the answer is yes, and else the line of
+-- the next section, with another verdict
+abbrev pub EndsWith : List Section → Answer → List ℕ → Type 0
+EndsWith [] Done end = end ≡ []
+EndsWith (s ∷ ss) No end = (v : Verdict) × (v ≢ Accepted) × (end ≡ section_text s ++ verdict_text v)
+EndsWith _ _ end = ⊥
+
+-- The text has a line for each of the first sections from a place on, whose levels give their contracts, and then an end.
+pub record AcceptsFront (p : Program) (place : ℕ) (ss : List Section) (a : Answer) (text : List ℕ) : Type 0 where
+  pub front : List Section
+  pub others : List Section
+  pub end : List ℕ
+  pub sections : ss ≡ front ++ others
+  pub lines : text ≡ accepted_lines front ++ end
+  pub each : EachGives p place front
+  pub ends : EndsWith others a end
+
+-- The certificate has the sections that are due of the source's program, and the text is as above: each line that ends in
+-- `accepted` states an implication that is valid in the store's executions.
+abbrev pub TellsAccepted : List ℕ → List ℕ → Answer → List ℕ → Type 0
+TellsAccepted source cert a text =
+    (p : Program) × IsSourceOf source p × (ss : List Section) × SpellsCert cert ss × AreDue p ss × AcceptsFront p 0 ss a text
