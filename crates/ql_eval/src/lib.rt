@@ -1,5 +1,6 @@
 // Evaluation: the values of expressions, the statements of operations, and folds of effects.
-// Its one contract: the value of an expression is a definition by recursion on it, and what is well typed has one.
+// Its one contract: a value is that of a recursion on the expression, an answer that of a fold over the seen effects
+// in order of stamp and session; and what is well typed is never stuck.
 #![tactic(auto)]
 
 mod call;
