@@ -5,3 +5,4 @@ pub mod Told
 mod Lists
 mod Distinct
 mod StrongUses
+mod Promises

@@ -122,7 +122,7 @@ on-one x a b e f i j h =
     ∙ ap (λ o. exec.both (λ u v. nat_eq u.object.0 v.object.0) (Some e) o) j
     ∙ eq-eqb e.object.0 f.object.0 (ap (λ o. o.0) there)
 
-execution-same : (x : List Effect) → execution.IsExecution x → ground.IsExecution (plain_all x)
+pub execution-same : (x : List Effect) → execution.IsExecution x → ground.IsExecution (plain_all x)
 execution-same x law = record {
   sees_earlier = λ a b h.
       let t = both-there (λ e f. has_id f.seen a) (exec.effect_at x a) (exec.effect_at x b) (sym (vis-same x a b) ∙ h) in

@@ -4,9 +4,11 @@
 #![tactic(auto)]
 
 mod commands;
+mod levels;
 mod transfer;
 mod uses;
 
 pub use commands::{accepted_lines_give_contracts, told_levels_give_contracts};
+pub use levels::higher_levels_promise_more;
 pub use transfer::implied_in_executions;
 pub use uses::{strong_uses_are_told, uses_are_operations};
