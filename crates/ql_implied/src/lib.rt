@@ -1,5 +1,5 @@
 // What the commands on levels say, in executions as the store keeps them.
-// The one contract: a level that `classify` or `prove` tells, or that `check` accepts, gives its contract in every
+// The one contract: a level that `classify` tells, or that `check` accepts, gives its contract in every
 // execution of the program, with the relations and the truth of whole contracts.
 #![tactic(auto)]
 
