@@ -1,4 +1,5 @@
-// Tests of the program's commands over files in memory.
+// Tests of the program's commands over files in memory, with answers from outside.
+// It has no contract of its own: each question goes through `quelea`.
 #![tactic(auto)]
 
 #[cfg(test)]
