@@ -1,6 +1,6 @@
 -- What is said of the files of `holds`. Their grammar and their first faults are those of ql_report, and truth is that of
 -- ql_formula.
-use Rattle.std.specs.Prelude.{◌≡◌, ℕ, zero, suc, ◌<◌, ◌≤◌, ◌*◌, List, [], ◌∷◌, ◌++◌, length, codes, decimal}
+use Rattle.std.specs.Prelude.{◌≡◌, ℕ, ◌<◌, ◌≤◌, ◌^◌, List, [], ◌∷◌, ◌++◌, length, codes, decimal}
 use Rattle.ql_base.specs.declared.limits.TheConstants.{MAX_WORK}
 use Rattle.ql_lines.specs.Lines.{ahead_from}
 use Rattle.ql_formula.specs.Truth.{Holds, IsFirstFalse, none_inside}
@@ -18,14 +18,9 @@ Asks bytes asked = IsHolding (ahead_from 1 bytes) asked
 abbrev pub IsHoldsFile : List ℕ → Type 0
 IsHoldsFile bytes = (asked : Asked) × Asks bytes asked
 
--- the number with itself as a factor so often
-unfoldable pub power : ℕ → ℕ → ℕ
-power n zero = 1
-power n (suc k) = power n k * n
-
 -- how many choices of effects there are for all variables
 abbrev pub work : Asked → ℕ
-work asked = power (length asked.execution) (length asked.named.formula.vars)
+work asked = length asked.execution ^ length asked.named.formula.vars
 
 -- the file is in the grammar, and doesn't ask for too much work
 abbrev pub IsAnswerable : List ℕ → Type 0

@@ -1,6 +1,6 @@
 ghost use Rattle.std.specs.Prelude.{◌≡◌, ◌≤◌, ◌<◌, ◌^◌, ◌++◌, IfOk, OnOk, codes, decimal, length, map};
 ghost use Rattle.ql_report.specs.Readings.{asked_of};
-ghost use Rattle.ql_app.specs.HoldsFile.{HoldsSays, HoldsTells, IsToldAs, places_text, power};
+ghost use Rattle.ql_app.specs.HoldsFile.{HoldsSays, HoldsTells, IsToldAs, places_text};
 
 use crate::status::Status;
 use crate::text::at_line;
@@ -40,13 +40,14 @@ fn bad_line(alloc: Global, fault: HoldsFault) -> Result<Vec<u8>, NoMemory>
 }
 
 // Whether a formula is true, where that isn't too much work.
+#[tactic(auto, using(crate::proofs::Powers::power_small))]
 fn truth_of(alloc: Global, holding: &Holding) -> Result<(Status, Vec<u8>), NoMemory>
     requires few { length holding.now.formula.vars ≤ 5 }
     requires few_effects { length holding.now.execution ≤ 4000 }
     ensures { IfOk result (λ answer. HoldsTells (asked_of holding.now) answer.0 answer.1.items) }
 {
-    let variables = holding.formula.vars.items().len();
-    let work = power(u64::from(holding.execution.len()), variables);
+    let variables = holding.formula.vars.items().len() as u32;
+    let work = u64::from(holding.execution.len()).pow(variables);
     if u128::from(work) > MAX_WORK {
         return Ok((Status::TooLarge, at_line(alloc, b"too much ", work, b"\n")?));
     }
@@ -63,18 +64,6 @@ fn truth_of(alloc: Global, holding: &Holding) -> Result<(Status, Vec<u8>), NoMem
             Ok((Status::No, line))
         }
     }
-}
-
-// The product of up to five factors that are a number up to 4,000. It is at most 2^60.
-fn power(number: u64, factors: usize) -> u64
-    requires small { number ≤ 4000 }
-    requires few { factors ≤ 5 }
-    ensures { result ≡ power number factors }
-{
-    if factors == 0 {
-        return 1;
-    }
-    power(number, factors - 1) * number
 }
 
 fn fails_line(alloc: Global, names: &[Word], places: &[EffId]) -> Result<Vec<u8>, NoMemory>

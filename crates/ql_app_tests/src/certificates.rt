@@ -1,6 +1,8 @@
 use crate::asking::answer;
 use crate::sources::*;
 use ql_app::Status;
+use ql_base::NoMemory;
+use std::alloc::Global;
 use std::test::Fail;
 
 // A source and a certificate, and what is said of them.
@@ -153,6 +155,41 @@ fn checks_certificates(rt: HostRuntime) -> Result<(), Fail> {
         let (got, told) = answer(rt.alloc(), "check", files)?;
         assert_eq!(rt; got, *status);
         assert_eq!(rt; told.as_slice(), *text);
+    }
+    Ok(())
+}
+
+// What is said of a certificate of a source. Both stand in one list of files, so they live as long.
+fn checked<'a>(
+    alloc: Global,
+    source: &'a [u8],
+    certificate: &'a [u8],
+) -> Result<(Status, Vec<u8>), NoMemory> {
+    answer(alloc, "check", &[source, certificate])
+}
+
+// The lines of levels, each marked as accepted.
+fn all_accepted(alloc: Global, levels: &[u8]) -> Result<Vec<u8>, NoMemory> {
+    let mut lines = Vec::new(alloc);
+    for byte in levels {
+        if *byte == b'\n' {
+            lines.extend_from_slice(b" accepted")?;
+        }
+        lines.push(*byte)?;
+    }
+    Ok(lines)
+}
+
+#[test]
+fn accepts_what_it_proves(rt: HostRuntime) -> Result<(), Fail> {
+    let alloc = rt.alloc();
+    for source in [BANK, REGISTER, SHOP] {
+        let (_, levels) = answer(alloc, "classify", &[source])?;
+        let (status, certificate) = answer(alloc, "prove", &[source])?;
+        assert_eq!(rt; status, Status::Done);
+        let (status, told) = checked(alloc, source, certificate.as_slice())?;
+        assert_eq!(rt; status, Status::Done);
+        assert_eq!(rt; told, all_accepted(alloc, levels.as_slice())?);
     }
     Ok(())
 }

@@ -1,10 +1,13 @@
-// Tests of the program's commands on sources, over files in memory.
+// Tests of the program's commands over files in memory, with answers from outside.
+// It has no contract of its own: each question goes through `quelea`.
 #![tactic(auto)]
 
 #[cfg(test)]
 mod asking;
 #[cfg(test)]
 mod certificates;
+#[cfg(test)]
+mod holds;
 #[cfg(test)]
 mod levels;
 #[cfg(test)]
