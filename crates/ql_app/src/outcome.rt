@@ -1,4 +1,4 @@
-ghost use Rattle.std.specs.Prelude.{◌≡◌, ◌++◌, ◌<◌, ◌^◌, IfOk, codes, length};
+ghost use Rattle.std.specs.Prelude.{◌≡◌, ◌++◌, ◌<◌, ◌≤◌, ◌^◌, ℕ, List, IfOk, codes, length};
 ghost use Rattle.ql_app.specs.Answers.{AnswerSays, JudgedSays, judged_status, status_of};
 ghost use Rattle.ql_app.specs.Outcome.{CommandSays, IsUnread, PairSays, Says, Tells};
 ghost use Rattle.ql_app.specs.Words.{OneFile, TwoFiles, word_texts};
@@ -32,8 +32,10 @@ pub fn outcome<S: Shelf>(
     shelf: &mut S,
     limits: Limits,
 ) -> Result<(Status, Vec<u8>), NoMemory>
-    ensures { IfOk result (λ answer. Says limits (word_texts words.now) (S.held shelf.old)
+    ensures says { IfOk result (λ answer. Says limits (word_texts words.now) (S.held shelf.old)
         (S.faults shelf.old) (S.faults shelf.new) answer.0 answer.1.items) }
+    ensures same_contents { (other : List ℕ) → S.held shelf.new other ≡ S.held shelf.old other }
+    ensures counts_stay { (other : List ℕ) → S.faults shelf.old other ≤ S.faults shelf.new other }
 {
     match parse_words(words) {
         None => Ok((Status::Usage, Vec::from_slice(alloc, b"usage\n")?)),
@@ -51,8 +53,10 @@ fn of_file<S: Shelf>(
     name: &str,
     limits: Limits,
 ) -> Result<(Status, Vec<u8>), NoMemory>
-    ensures { IfOk result (λ answer. Tells limits (S.held shelf.old) (S.faults shelf.old) (S.faults shelf.new)
+    ensures says { IfOk result (λ answer. Tells limits (S.held shelf.old) (S.faults shelf.old) (S.faults shelf.new)
         (OneFile command name.now) answer.0 answer.1.items) }
+    ensures same_contents { (other : List ℕ) → S.held shelf.new other ≡ S.held shelf.old other }
+    ensures counts_stay { (other : List ℕ) → S.faults shelf.old other ≤ S.faults shelf.new other }
 {
     match read_whole(alloc, shelf, name, limits.file as usize) {
         Ok(bytes) => judged(alloc, command, bytes.as_slice()),
@@ -68,8 +72,10 @@ fn of_files<S: Shelf>(
     other: &str,
     limits: Limits,
 ) -> Result<(Status, Vec<u8>), NoMemory>
-    ensures { IfOk result (λ answer. Tells limits (S.held shelf.old) (S.faults shelf.old) (S.faults shelf.new)
+    ensures says { IfOk result (λ answer. Tells limits (S.held shelf.old) (S.faults shelf.old) (S.faults shelf.new)
         (TwoFiles command name.now other.now) answer.0 answer.1.items) }
+    ensures same_contents { (third : List ℕ) → S.held shelf.new third ≡ S.held shelf.old third }
+    ensures counts_stay { (third : List ℕ) → S.faults shelf.old third ≤ S.faults shelf.new third }
 {
     let bytes = match read_whole(alloc, shelf, name, limits.file as usize) {
         Ok(bytes) => bytes,

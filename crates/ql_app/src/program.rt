@@ -1,4 +1,4 @@
-ghost use Rattle.std.specs.Prelude.{◌≡◌, IfOk, OnErr};
+ghost use Rattle.std.specs.Prelude.{◌≡◌, ◌≤◌, ℕ, List, IfOk, OnErr};
 ghost use Rattle.ql_ports.specs.Faults.{Rose};
 ghost use Rattle.ql_app.specs.Words.{Call, IsRequest, word_texts};
 ghost use Rattle.ql_app.specs.Outcome.{AreHeld, IsAnswered, NoneRose, Says, Wrote};
@@ -32,13 +32,18 @@ pub fn quelea<S: Shelf, K: Sink>(
 ) -> Result<Status, NoMemory>
     // What was written is a text that the words and the files' bytes allow with this status.
     ensures wrote { IfOk result (Wrote
-        (Says (record { file = MAX_FILE_BYTES; second = MAX_CERTIFICATE_BYTES }) (word_texts words.now) (S.held shelf.old) (S.faults shelf.old) (S.faults shelf.new))
+        (Says (record { file = 1048576; second = 67108864 }) (word_texts words.now) (S.held shelf.old) (S.faults shelf.old) (S.faults shelf.new))
         (K.written sink.old) (K.written sink.new) (K.faults sink.old) (K.faults sink.new)) }
     ensures no_memory { OnErr result (K.written sink.new ≡ K.written sink.old) }
 
+    // The files are as they were, and no count of faults falls.
+    ensures same_contents { (other : List ℕ) → S.held shelf.new other ≡ S.held shelf.old other }
+    ensures counts_stay { (other : List ℕ) → S.faults shelf.old other ≤ S.faults shelf.new other }
+    ensures sink_count_stays { K.faults sink.old ≤ K.faults sink.new }
+
     // Nothing failed, and the files are in their grammars: the answer is yes or no.
     ensures complete { (call : Call) → IsRequest (word_texts words.now) call
-        → AreHeld (record { file = MAX_FILE_BYTES; second = MAX_CERTIFICATE_BYTES }) (S.held shelf.old) call
+        → AreHeld (record { file = 1048576; second = 67108864 }) (S.held shelf.old) call
         → NoneRose (S.faults shelf.old) (S.faults shelf.new) call → (Rose (K.faults sink.old) (K.faults sink.new) → ⊥)
         → IsAnswered result }
 {

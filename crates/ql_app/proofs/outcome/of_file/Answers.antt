@@ -2,12 +2,12 @@ use Rattle.std.proofs.Common.{Err, ap, arith}
 use Rattle.ql_app.proofs.OutcomeLaws.{one_answer, one_unread}
 use Rattle.ql_app.proofs.outcome.of_file.Goals as goal
 
-pub returns-in-Ok : goal.returns-in-Ok
-returns-in-Ok g c =
+pub returns-in-Ok-clause-says : goal.returns-in-Ok-clause-says
+returns-in-Ok-clause-says g c =
     one_answer c.args.limits (g.S.Shelf.held c.args.shelf.now) (g.S.Shelf.faults c.args.shelf.now) (g.S.Shelf.faults c.read_whole.new.shelf)
     c.args.command c.args.name.now c.in-Ok.bytes.items c.judged.result c.in-Ok.ensures.whole (omega (arith, c.in-Ok.bytes.ok.0, c.in-Ok.ensures.in_limit)) (rw c.as_slice.ensures.value at c.judged.ensures)
 
-pub returns-in-Err : goal.returns-in-Err
-returns-in-Err g c =
+pub returns-in-Err-clause-says : goal.returns-in-Err-clause-says
+returns-in-Err-clause-says g c =
     one_unread c.args.limits (g.S.Shelf.held c.args.shelf.now) (g.S.Shelf.faults c.args.shelf.now) (g.S.Shelf.faults c.read_whole.new.shelf)
     c.args.command c.args.name.now c.in-Err.error c.unread.result c.unread.ensures (λ is. c.in-Err.ensures.failed (ap Err is)) (λ is. c.in-Err.ensures.too_long (ap Err is))

@@ -3,8 +3,8 @@ use Rattle.std.specs.Prelude.{IfSome}
 use Rattle.ql_app.proofs.OutcomeLaws.{two_answers}
 use Rattle.ql_app.proofs.outcome.of_files.Goals as goal
 
-pub returns : goal.returns
-returns g c =
+pub returns-clause-says : goal.returns-clause-says
+returns-clause-says g c =
     let more = c.in-Ok-read_whole.more.items in
     let same : IfSome (g.S.Shelf.held c.args.shelf.now c.args.other.now) (λ whole. more ≡ whole) =
     subst (λ (held : Option (List ℕ)). IfSome held (λ whole. more ≡ whole)) (c.in-Ok.ensures.same_contents c.args.other.now) c.in-Ok-read_whole.ensures.whole in
