@@ -9,11 +9,9 @@ mod outcome;
 mod program;
 mod proof;
 mod status;
-#[cfg(test)]
-mod tests;
 mod text;
 mod words;
 
 pub use outcome::Limits;
-pub use program::{MAX_CERTIFICATE_BYTES, MAX_FILE_BYTES, quelea};
+pub use program::quelea;
 pub use status::Status;

@@ -5,19 +5,14 @@ ghost use Rattle.ql_app.specs.Outcome.{AreHeld, IsAnswered, NoneRose, Says, Wrot
 
 use crate::outcome::{Limits, outcome};
 use crate::status::Status;
-use ql_base::NoMemory;
+use ql_base::{MAX_EXECUTION_BYTES, MAX_SOURCE_BYTES, NoMemory};
 use ql_ports::{Failed, Shelf, Sink, write_whole};
 use std::alloc::Global;
 
-/// The greatest length of a source and of the files of `holds` and `proof`, in bytes.
-pub const MAX_FILE_BYTES: u32 = 1_048_576;
-
-/// That of a certificate and of an execution.
-pub const MAX_CERTIFICATE_BYTES: u32 = 67_108_864;
-
+// Sources and the files of `holds` and `proof` have one limit, certificates and executions another.
 const LIMITS: Limits = Limits {
-    file: MAX_FILE_BYTES,
-    second: MAX_CERTIFICATE_BYTES,
+    file: MAX_SOURCE_BYTES as u32,
+    second: MAX_EXECUTION_BYTES as u32,
 };
 
 /// Answers the words, which are those of the command line without the program's own name: reads the

@@ -7,6 +7,8 @@ mod asking;
 #[cfg(test)]
 mod certificates;
 #[cfg(test)]
+mod commands;
+#[cfg(test)]
 mod holds;
 #[cfg(test)]
 mod levels;

@@ -17,6 +17,3 @@ pub use fault::CertFault;
 pub use parse::parse_cert;
 pub use print::print_cert;
 pub use proof::parse_proof;
-
-#[cfg(test)]
-mod tests;

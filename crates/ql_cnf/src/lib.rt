@@ -16,6 +16,3 @@ pub use clauses::Clauses;
 pub use ground::Ground;
 pub use lit::{Lit, are_in_range};
 pub use tseitin::clausify;
-
-#[cfg(test)]
-mod tests;

@@ -16,6 +16,3 @@ pub use effect::{Draft, Effect, Member, Payload};
 pub use execution::Execution;
 pub use fault::ExecFault;
 pub use folder::{Answered, Folder};
-
-#[cfg(test)]
-mod tests;

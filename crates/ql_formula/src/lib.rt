@@ -12,6 +12,3 @@ mod truth;
 pub use places::Places;
 pub use relations::Relations;
 pub use truth::{holds_at, holds_txn};
-
-#[cfg(test)]
-mod tests;

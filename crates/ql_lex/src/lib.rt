@@ -12,6 +12,3 @@ mod unique;
 pub use scan::tokens;
 pub use token::{LexFault, Token, TokenKind};
 pub use unique::one_answer;
-
-#[cfg(test)]
-mod tests;

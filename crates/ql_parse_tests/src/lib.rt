@@ -1,4 +1,4 @@
-// Tests of the parsers on texts: trees, first faults, and what is printed of what was read.
+// Tests of tokens and of the parsers on texts: trees, first faults, and what is printed of what was read.
 // The trees and faults are from outside, and nothing stands on this crate.
 #![tactic(auto)]
 
@@ -10,3 +10,5 @@ mod printed_contracts;
 mod printed_sources;
 #[cfg(test)]
 mod programs;
+#[cfg(test)]
+mod tokens;

@@ -10,6 +10,3 @@ mod verdict;
 pub use checker::{check, hinted};
 pub use refutation::{Hint, Hints, Line, Lines, Refutation};
 pub use verdict::Verdict;
-
-#[cfg(test)]
-mod tests;

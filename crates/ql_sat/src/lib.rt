@@ -32,8 +32,3 @@ mod watches;
 
 pub use decided::Decided;
 pub use search::decide;
-
-#[cfg(test)]
-mod goals;
-#[cfg(test)]
-mod tests;

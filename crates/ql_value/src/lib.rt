@@ -27,6 +27,3 @@ pub use saturating::{sat_add, sat_mul, sat_neg, sat_sub};
 pub use scalar::{Scalar, TextVal};
 pub use sets::{add, remove, union};
 pub use value::{MapVal, SetVal, Value, Values};
-
-#[cfg(test)]
-mod tests;

@@ -1,6 +1,6 @@
-use crate::{Relations, holds_at, holds_txn};
 use ql_base::{DeclId, EffId, IdSet, NoMemory, ObjId, OpId, RunId, SessId};
 use ql_exec::{Draft, ExecFault, Execution, Member, Payload};
+use ql_formula::{Relations, holds_at, holds_txn};
 use ql_lang::{Body, Choices, Formula, OpChoice, Rel, RelName, Term, Terms};
 use ql_value::{Value, Values};
 use std::alloc::Global;

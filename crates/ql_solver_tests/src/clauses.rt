@@ -1,7 +1,7 @@
 ghost use Rattle.std.specs.Prelude.{◌≡◌, ◌+◌, ◌^◌, ◌<◌, length, IfOk};
 
-use crate::{Assignment, Clauses, Lit, are_in_range, satisfies};
 use ql_base::NoMemory;
+use ql_cnf::{Assignment, Clauses, Lit, are_in_range, satisfies};
 use std::alloc::Global;
 
 fn lit(var: u32, positive: bool) -> Lit {

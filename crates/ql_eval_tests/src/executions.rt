@@ -1,5 +1,5 @@
-use crate::{Draft, ExecFault, Execution, Member, Payload};
 use ql_base::{DeclId, EffId, IdSet, NoMemory, ObjId, OpId, RunId, SessId};
+use ql_exec::{Draft, ExecFault, Execution, Member, Payload};
 use ql_value::{Value, Values};
 use std::alloc::Global;
 use std::test::Fail;

@@ -1,4 +1,4 @@
-use crate::{CertFault, parse_cert, parse_proof, print_cert};
+use ql_cert::{CertFault, parse_cert, parse_proof, print_cert};
 use std::alloc::{AllocError, Global};
 use std::test::Fail;
 

@@ -1,4 +1,4 @@
-use crate::{Status, quelea};
+use ql_app::{Status, quelea};
 use ql_base::NoMemory;
 use ql_ports::{MemShelf, MemSink};
 use std::alloc::{AllocError, Global};

@@ -1,6 +1,6 @@
-use crate::{Hint, Hints, Line, Lines, Refutation, Verdict, check};
 use ql_base::NoMemory;
 use ql_cnf::{Clause, Clauses, Lit, are_in_range};
+use ql_refute::{Hint, Hints, Line, Lines, Refutation, Verdict, check};
 use std::alloc::Global;
 
 const A: Lit = Lit {

@@ -1,14 +1,8 @@
-use crate::contents::size;
-use crate::fault::ValueFault;
-use crate::maps::put;
-use crate::ordering::order;
-use crate::printing::print_value;
-use crate::reading::parse_value;
-use crate::saturating::{sat_add, sat_mul, sat_neg, sat_sub};
-use crate::scalar::{Scalar, TextVal};
-use crate::sets::add;
-use crate::value::{MapVal, SetVal, Value};
 use ql_base::NoMemory;
+use ql_value::{
+    MapVal, Scalar, SetVal, TextVal, Value, ValueFault, add, order, parse_value, print_value, put,
+    sat_add, sat_mul, sat_neg, sat_sub, size,
+};
 use std::alloc::{AllocError, Global};
 use std::cmp::Ordering;
 use std::test::Fail;

@@ -1,5 +1,4 @@
-use crate::scan::tokens;
-use crate::token::{LexFault, Token, TokenKind};
+use ql_lex::{LexFault, Token, TokenKind, tokens};
 use std::alloc::{AllocError, Global};
 use std::test::Fail;
 

@@ -2,10 +2,10 @@ ghost use Rattle.std.specs.Prelude.{pos, ◌≤ℤ◌};
 ghost use Rattle.ql_sat.specs.Answer.{IsRight};
 
 use crate::goals::{BALANCE_EVENTUAL, TOUCH_EVENTUAL, WITHDRAW_CAUSAL};
-use crate::{Decided, decide, plain};
 use ql_base::NoMemory;
 use ql_cnf::{Clauses, Lit, are_in_range, satisfies};
 use ql_refute::{Verdict, check};
+use ql_sat::{Decided, decide, plain};
 use std::alloc::Global;
 
 // Three pairs, and from each at most one of the first and one of the second.

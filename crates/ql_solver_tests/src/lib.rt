@@ -1,0 +1,16 @@
+// Tests of clause lists, the solver, refutations and the files that hold them, with answers from outside.
+// Nothing stands on this crate.
+#![tactic(auto)]
+
+#[cfg(test)]
+mod certificates;
+#[cfg(test)]
+mod clauses;
+#[cfg(test)]
+mod gates;
+#[cfg(test)]
+mod goals;
+#[cfg(test)]
+mod refutations;
+#[cfg(test)]
+mod solver;
