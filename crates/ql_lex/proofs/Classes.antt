@@ -61,9 +61,12 @@ module _ (t : List ℕ) (n : ℕ) (some : 0 < length t) (first : is_lower (get_o
   word_some : 0 < n
   word_some = rw front (some_front is_name_byte t some (lower_name _ first))
 
+  pub word_begins : 0 < length (take n t)
+  word_begins = rw word_len word_some
+
   word_is : IsWord (take n t)
   word_is = record {
-    some = rw word_len word_some;
+    some = word_begins;
     first = rw (get_or-take n t 0 0 word_some) first;
     all = rw front (front_passes is_name_byte t);
   }

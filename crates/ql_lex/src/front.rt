@@ -1,13 +1,13 @@
 ghost use Rattle.std.specs.Prelude.{◌≡◌, ◌<◌, ◌≤◌, true, length, slice_index};
 ghost use Rattle.std.specs.List.{prefix_len};
-ghost use Rattle.ql_base.specs.Bytes.{is_blank, is_digit, is_lower, is_text_byte, is_word_byte, begins};
+ghost use Rattle.ql_base.specs.Bytes.{is_digit, is_lower, is_text_byte, is_word_byte, begins};
 ghost use Rattle.ql_lex.specs.Bytes.{is_in_line, is_quote};
 
+use crate::keyword::is_keyword;
 use crate::marks::{is_mark_byte, is_mark_pair};
 use crate::token::TokenKind;
 use ql_base::{
-    MAX_NAME_BYTES, MAX_TEXT_BYTES, digit_bytes, is_blank, is_digit, is_keyword, is_lower,
-    is_text_byte, is_word_byte, name_bytes, number_of,
+    MAX_NAME_BYTES, MAX_TEXT_BYTES, digit_bytes, is_text_byte, is_word_byte, name_bytes, number_of,
 };
 
 const HASH: u8 = b'#';
@@ -31,25 +31,19 @@ impl Front {
     ghost use Rattle.ql_lex.specs.Tokens.{FitsIn};
 
     // The front of a text that isn't at its end.
-    #[tactic(auto, using(crate::proofs::Classes::blank_is, crate::proofs::Within::front_within))]
+    #[tactic(auto, using(crate::proofs::Classes::blank_is, crate::proofs::Within::front_within), unfolding(ql_base::specs::Bytes::is_blank, ql_base::specs::Bytes::is_lower, ql_base::specs::Bytes::is_digit))]
     pub(crate) fn of(text: &[u8]) -> Front
         requires { 0 < length text.now }
         ensures kind { IsFront text.now result }
         ensures within { FitsIn (length text.now) result }
     {
-        let first = text[0];
-        if is_blank(first) {
-            Front::Gap(1)
-        } else if first == HASH {
-            Front::comment(text)
-        } else if is_lower(first) {
-            Front::word(text)
-        } else if is_digit(first) {
-            Front::number(text)
-        } else if first == QUOTE {
-            Front::quoted(text)
-        } else {
-            Front::mark(text)
+        match text[0] {
+            b' ' | b'\t' | b'\n' | b'\r' => Front::Gap(1),
+            HASH => Front::comment(text),
+            b'a'..=b'z' => Front::word(text),
+            b'0'..=b'9' => Front::number(text),
+            QUOTE => Front::quoted(text),
+            _ => Front::mark(text),
         }
     }
 
@@ -62,7 +56,7 @@ impl Front {
         Front::Gap(line_bytes(&text[1..]) + 1)
     }
 
-    #[tactic(auto, using(crate::proofs::Classes::name_is, crate::proofs::Classes::keyword_is, crate::proofs::Classes::long_name_is))]
+    #[tactic(auto, using(crate::proofs::Classes::word_begins, crate::proofs::Classes::name_is, crate::proofs::Classes::keyword_is, crate::proofs::Classes::long_name_is))]
     fn word(text: &[u8]) -> Front
         requires some { 0 < length text.now }
         requires first { is_lower (slice_index text.now 0) ≡ true }

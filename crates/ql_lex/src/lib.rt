@@ -4,6 +4,7 @@
 #![tactic(auto)]
 
 mod front;
+mod keyword;
 mod marks;
 mod scan;
 mod token;

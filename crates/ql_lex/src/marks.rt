@@ -6,7 +6,26 @@ ghost use Rattle.ql_lex.specs.Marks.{is_mark_byte, is_mark_pair};
 pub(crate) fn is_mark_byte(b: u8) -> bool
     ensures { result ≡ is_mark_byte b }
 {
-    b"{}()[],;:.=<>+-*|&".contains(&b)
+    matches!(
+        b,
+        b'{' | b'}'
+            | b'('
+            | b')'
+            | b'['
+            | b']'
+            | b','
+            | b';'
+            | b':'
+            | b'.'
+            | b'='
+            | b'<'
+            | b'>'
+            | b'+'
+            | b'-'
+            | b'*'
+            | b'|'
+            | b'&'
+    )
 }
 
 // The marks of two bytes.
