@@ -3,3 +3,4 @@ pub mod Law
 pub mod Stamps
 pub mod LatestLaws
 pub mod Making
+pub mod StampOrder

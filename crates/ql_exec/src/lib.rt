@@ -4,6 +4,7 @@
 // stamp; and `push` refuses exactly what would break that.
 #![tactic(auto)]
 
+mod clocks;
 mod copying;
 mod effect;
 mod execution;
@@ -12,6 +13,7 @@ mod folder;
 mod judging;
 mod latest;
 
+pub use clocks::stamps_ascend;
 pub use effect::{Draft, Effect, Member, Payload};
 pub use execution::Execution;
 pub use fault::ExecFault;

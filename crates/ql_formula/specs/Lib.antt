@@ -1,3 +1,4 @@
 pub mod Truth
 pub mod Tables
 pub mod Search
+pub mod TransitiveClosures

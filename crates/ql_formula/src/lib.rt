@@ -7,8 +7,10 @@ mod places;
 mod relations;
 mod rows;
 mod search;
+mod transitive;
 mod truth;
 
 pub use places::Places;
 pub use relations::Relations;
+pub use transitive::closures_are_transitive;
 pub use truth::{holds_at, holds_txn};
