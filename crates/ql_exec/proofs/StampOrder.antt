@@ -1,5 +1,5 @@
 -- Stamps ascend along session order and visibility.
-use Rattle.std.proofs.Common.{◌≡◌, ℕ, zero, suc, ◌<◌, ◌≤◌, ◌⊎◌, max, true, false, ◌||◌, nat_eq, List, [], ◌∷◌, ◌++◌, length, Option, Some, None, refl, ap, sym, ◌∙◌, inl, inr, arith, length-append}
+use Rattle.std.proofs.Common.{◌≡◌, ℕ, zero, suc, ◌<◌, ◌≤◌, ◌⊎◌, max, true, false, nat_eq, List, [], ◌∷◌, ◌++◌, length, Option, Some, None, refl, ap, sym, ◌∙◌, inl, inr, arith}
 use Rattle.std.specs.Option.{option_map_or}
 use Rattle.std.proofs.lemmas.Option.{same_Some}
 use Rattle.std.proofs.lemmas.Bool.{false≢true, or_cases, or_left, eq-eqb, eqb-true, cases_order}
@@ -9,7 +9,7 @@ use Rattle.ql_exec.specs.declared.effect.Effect.{Effect}
 use Rattle.ql_exec.specs.Effects.{effect_at}
 use Rattle.ql_exec.specs.Relations.{so, vis, hb_step}
 use Rattle.ql_exec.specs.Execution.{stamp_at, session_stamp, seen_stamp, stamp_of, IsExecution}
-use Rattle.ql_exec.proofs.Finding.{grown, effect_at-within, effect_at-append, effect_at-last, cases_pushed, both-found, so_parts, so_from}
+use Rattle.ql_exec.proofs.Finding.{grown, effect_at-within, effect_at-append, cases_pushed, both-found, so_parts, so_from}
 use Rattle.ql_exec.proofs.Law.{IsExecution-front}
 
 at_stamp : (x : List Effect) (id : ℕ) (e : Effect) → effect_at x id ≡ Some e → stamp_at x id ≡ e.stamp
