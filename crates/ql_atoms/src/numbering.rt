@@ -6,11 +6,12 @@ use crate::atoms::{Atom, PairKind};
 use crate::shapes::Shape;
 use ql_base::OpId;
 
-/// The number of an atom, from 1.
+/// The number of an atom, from 1. There are at most 450.
 pub fn number(a: Atom, s: Shape) -> u32
     requires { Fits (size_of s) a }
     ensures value { result ≡ number_of (size_of s) a }
     ensures counted { result ≤ count_of (size_of s) }
+    ensures few { count_of (size_of s) ≤ 450 }
 {
     let n = s.constants;
     match a {
