@@ -2,6 +2,7 @@
 use Rattle.std.proofs.Common.{◌≡◌, ◌⊎◌, ℕ, zero, suc, ◌<◌, Bool, true, ◌&&◌, ◌||◌, refl, sym, ap, ◌∙◌, inl, inr, arith}
 use Rattle.std.proofs.lemmas.Bool.{false≢true, or_cases, or_left, or_right, and_parts, and_from, cases_eq}
 use Rattle.ql_exec.specs.Relations.{some_below, leads_in, leads}
+use Rattle.ql_formula.specs.Tables.{GoesForward}
 
 some_below-same : (n : ℕ) (f g : ℕ → Bool) → ((c : ℕ) → c < n → f c ≡ g c) → some_below n f ≡ some_below n g
 some_below-same zero f g same = refl
@@ -56,9 +57,6 @@ leads-more step a b c less first last =
     (some_below-from b (λ d. leads_in step b a d && step d b) c less (and_from (leads_in step b a c) (step c b) (shorter step a b c less ∙ first) last))
 
 -- ---- where steps go forward
-abbrev pub GoesForward : (ℕ → ℕ → Bool) → Type 0
-GoesForward step = (a b : ℕ) → step a b ≡ true → a < b
-
 less_below : (step : ℕ → ℕ → Bool) → GoesForward step → (bound a b : ℕ) → b < bound → leads step a b ≡ true → a < b
 less_below step forward zero a b within is = absurd (omega (arith, within))
 less_below step forward (suc bound) a b within is = elim (leads-cases step a b is) [

@@ -1,3 +1,4 @@
+pub mod BitLaws
 pub mod Closures
 pub mod RowLaws
 pub mod SearchLaws

@@ -1,8 +1,9 @@
 -- Rows of truth values: marking, uniting, and the rows of the relations.
-use Rattle.std.proofs.Common.{◌≡◌, ◌⊎◌, ℕ, zero, suc, ◌+◌, ◌-◌, ◌<◌, ◌≤◌, Bool, true, false, ◌&&◌, ◌||◌, nat_eq, slice_get, List, [], ◌∷◌, ◌++◌, length, get_or, set, take, replicate, Option, Some, None, refl, sym, ap, subst, ◌∙◌, inl, inr, arith, length-append, append-nil, drop, drop_of_length-le}
-use Rattle.std.proofs.lemmas.Bool.{both_ways, or_cases, or_left, or_right, and_parts, cases_eq, cases_lt, eq-eqb, eqb-true, ne_eqb, lt-ltb, false_from_ne_true}
-use Rattle.std.proofs.lemmas.List.{get_or-set_same, get_or-set_other, get_or_past, get_or_append_left, get_or_push, take_more, take_all}
+use Rattle.std.proofs.Common.{◌≡◌, ◌⊎◌, ℕ, zero, suc, ◌+◌, ◌-◌, ◌<◌, ◌≤◌, Bool, true, false, ◌&&◌, ◌||◌, nat_eq, slice_get, List, [], ◌∷◌, ◌++◌, length, get_or, take, replicate, Option, Some, None, refl, sym, ap, subst, ◌∙◌, inl, inr, arith, length-append, map}
+use Rattle.std.proofs.lemmas.Bool.{both_ways, or_cases, or_left, or_right, and_parts, and_from, cases_eq, cases_lt, eq-eqb, eqb-true, lt-ltb, false_from_ne_true}
+use Rattle.std.proofs.lemmas.List.{get_or_past, get_or_append_left, get_or_push, take_more, get_or-take, get_or_default, length-take-le, length-map}
 use Rattle.std.proofs.lemmas.Option.{same_Some}
+use Rattle.std.specs.Prelude.{IfSome}
 use Rattle.ql_base.specs.declared.ids.ObjId.{ObjId}
 use Rattle.ql_base.specs.IdLists.{has_id}
 use Rattle.ql_exec.specs.declared.effect.Effect.{Effect}
@@ -12,8 +13,9 @@ use Rattle.ql_exec.specs.Execution.{IsOn, SeesEarlier, IsExecution}
 use Rattle.ql_exec.proofs.Finding.{effect_at-within, both-found, so_parts}
 use Rattle.ql_formula.specs.declared.rows.Closure.{Closure}
 use Rattle.ql_formula.specs.declared.rows.Closure.TheVariants.{OnOneObject, Across}
-use Rattle.ql_formula.specs.Tables.{row_has, cell, IsRow, AreRows, step_of, Reached, HasReached, follows}
-use Rattle.ql_formula.proofs.Closures.{leads-cases, leads-step, leads-more, GoesForward, leads-less, leads-join, leads-last, leads-first}
+use Rattle.ql_formula.specs.declared.rows.Key.{Key}
+use Rattle.ql_formula.specs.Tables.{row_has, cell, IsRow, AreRows, GoesForward, IsClosedPart, IsLastBefore, step_of, key_of, follows}
+use Rattle.ql_formula.proofs.Closures.{leads-cases, leads-step, leads-more, leads-less, leads-join, leads-last, leads-first}
 
 pub same_Bool : (a b : Bool) → (a ≡ true → b ≡ true) → (b ≡ true → a ≡ true) → a ≡ b
 same_Bool true b to from = sym (to refl)
@@ -25,19 +27,6 @@ pub none_marked : (n k : ℕ) → get_or (replicate n false) k false ≡ false
 none_marked zero k = refl
 none_marked (suc n) zero = refl
 none_marked (suc n) (suc k) = none_marked n k
-
-pub set_marks : (cells : List Bool) (j k : ℕ) → j < length cells → get_or (set cells j true) k false ≡ (get_or cells k false || nat_eq k j)
-set_marks cells j k inside = elim (cases_eq k j) [
-  | inl same ↦
-      let marked : get_or (set cells j true) k false ≡ true = ap (λ (n : ℕ). get_or (set cells j true) n false) same ∙ get_or-set_same cells j true false inside in
-      marked ∙ sym (or_right (get_or cells k false) (nat_eq k j) (eq-eqb k j same))
-  | inr other ↦
-      get_or-set_other cells j k true false other ∙ no_more (get_or cells k false) (nat_eq k j) (ne_eqb k j other)
-]
-  where
-    no_more : (a b : Bool) → b ≡ false → a ≡ (a || b)
-    no_more true b is = refl
-    no_more false b is = sym is
 
 has_id-append : (ids : List ℕ) (id a : ℕ) → has_id (ids ++ id ∷ []) a ≡ (has_id ids a || nat_eq id a)
 has_id-append [] id a = no_end (nat_eq id a)
@@ -51,28 +40,22 @@ has_id-append (other ∷ ids) id a = ap (λ (t : Bool). nat_eq other a || t) (ha
     assoc true b c = refl
     assoc false b c = refl
 
-pub mark_step : (old now : List Bool) (ids : List ℕ) (i : ℕ) → i < length ids → 1 ≤ get_or ids i 0 → get_or ids i 0 ≤ length now
+pub mark_step : (old now new : List Bool) (ids : List ℕ) (i : ℕ) → i < length ids → 1 ≤ get_or ids i 0
     → ((k : ℕ) → get_or now k false ≡ (get_or old k false || has_id (take i ids) (suc k)))
-    → (k : ℕ) → get_or (set now (get_or ids i 0 - 1) true) k false ≡ (get_or old k false || has_id (take (i + 1) ids) (suc k))
-mark_step old now ids i inside low high known k =
+    → ((k : ℕ) → get_or new k false ≡ (get_or now k false || nat_eq k (get_or ids i 0 - 1)))
+    → (k : ℕ) → get_or new k false ≡ (get_or old k false || has_id (take (i + 1) ids) (suc k))
+mark_step old now new ids i inside low known added k =
     let id = get_or ids i 0 in
     let here : nat_eq k (id - 1) ≡ nat_eq id (suc k) = same_Bool (nat_eq k (id - 1)) (nat_eq id (suc k))
     (λ is. let e = eqb-true k (id - 1) is in eq-eqb id (suc k) (omega (arith, e, low)))
     (λ is. let e = eqb-true id (suc k) is in eq-eqb k (id - 1) (omega (arith, e, low))) in
     let more : has_id (take (i + 1) ids) (suc k) ≡ (has_id (take i ids) (suc k) || nat_eq id (suc k)) =
     ap (λ (l : List ℕ). has_id l (suc k)) (take_more ids i 0 inside) ∙ has_id-append (take i ids) id (suc k) in
-    set_marks now (id - 1) k (omega (arith, low, high)) ∙ rw (known k, here, more) (assoc (get_or old k false) (has_id (take i ids) (suc k)) (nat_eq id (suc k)))
+    added k ∙ rw (known k, here, more) (assoc (get_or old k false) (has_id (take i ids) (suc k)) (nat_eq id (suc k)))
   where
     assoc : (a b c : Bool) → ((a || b) || c) ≡ (a || (b || c))
     assoc true b c = refl
     assoc false b c = refl
-
--- what a lent slice leaves in its vector
-pub written_back : (old new : List Bool) (len : ℕ) → length new ≡ length old → len ≡ length old → take len (new ++ drop (length new) old) ≡ new
-written_back old new len same is =
-    let none : drop (length new) old ≡ [] = drop_of_length-le old (omega (arith, same)) in
-    let all : take len (new ++ []) ≡ new = ap (take len) (append-nil new) ∙ take_all len new (omega (arith, same, is)) in
-    ap (λ (rest : List Bool). take len (new ++ rest)) none ∙ all
 
 -- ---- what an effect sees
 sees_of : (x : List Effect) (k : ℕ) (e : Effect) → IsExecution x → slice_get x k ≡ Some e → SeesEarlier x (suc k) e.object e.seen
@@ -129,142 +112,194 @@ step_within x law Across a b is = elim (or_cases (so x a b) (vis x a b) is) [
 pub step_forward : (x : List Effect) → IsExecution x → (closure : Closure) → GoesForward (step_of closure x)
 step_forward x law closure a b is = (step_within x law closure a b is).1
 
-pub steps_are : (x : List Effect) (closure : Closure) (k n : ℕ) (e f : Effect) → slice_get x k ≡ Some e → slice_get x n ≡ Some f → k < n
-    → step_of closure x (suc k) (suc n) ≡ (follows closure e f || vis x (suc k) (suc n))
-steps_are x OnOneObject k n e f at_k at_n less =
-    ap (λ (t : Bool). t || vis x (suc k) (suc n))
-    (rw (at_k, at_n, lt-ltb (suc k) (suc n) (omega (arith, less))) (drop_true (nat_eq e.session.0 f.session.0) (nat_eq e.object.0 f.object.0)))
+-- ---- steps within a session
+abbrev session_step : Closure → List Effect → ℕ → ℕ → Bool
+session_step OnOneObject x a b = soo x a b
+session_step Across x a b = so x a b
+
+step_cases : (x : List Effect) (closure : Closure) (a b : ℕ) → step_of closure x a b ≡ true → (session_step closure x a b ≡ true) ⊎ (vis x a b ≡ true)
+step_cases x OnOneObject a b is = or_cases (soo x a b) (vis x a b) is
+step_cases x Across a b is = or_cases (so x a b) (vis x a b) is
+
+step_of_session : (x : List Effect) (closure : Closure) (a b : ℕ) → session_step closure x a b ≡ true → step_of closure x a b ≡ true
+step_of_session x OnOneObject a b is = or_left (soo x a b) (vis x a b) is
+step_of_session x Across a b is = or_left (so x a b) (vis x a b) is
+
+pub step_of_seen : (x : List Effect) (closure : Closure) (a b : ℕ) → vis x a b ≡ true → step_of closure x a b ≡ true
+step_of_seen x OnOneObject a b is = or_right (soo x a b) (vis x a b) is
+step_of_seen x Across a b is = or_right (so x a b) (vis x a b) is
+
+session_steps_are : (x : List Effect) (closure : Closure) (k n : ℕ) (e f : Effect) → slice_get x k ≡ Some e → slice_get x n ≡ Some f → k < n
+    → session_step closure x (suc k) (suc n) ≡ follows closure (key_of e) (key_of f)
+session_steps_are x OnOneObject k n e f at_k at_n less =
+    rw (at_k, at_n, lt-ltb (suc k) (suc n) (omega (arith, less))) (drop_true (nat_eq e.session.0 f.session.0) (nat_eq e.object.0 f.object.0))
   where
     drop_true : (a b : Bool) → ((a && true) && b) ≡ (a && b)
     drop_true true b = refl
     drop_true false b = refl
-steps_are x Across k n e f at_k at_n less =
-    ap (λ (t : Bool). t || vis x (suc k) (suc n)) (rw (at_k, at_n, lt-ltb (suc k) (suc n) (omega (arith, less))) refl)
+session_steps_are x Across k n e f at_k at_n less = rw (at_k, at_n, lt-ltb (suc k) (suc n) (omega (arith, less))) refl
+
+session_steps : (x : List Effect) (closure : Closure) (k n : ℕ) (d : Key) → k < n → n < length x
+    → session_step closure x (suc k) (suc n) ≡ follows closure (get_or (map key_of x) k d) (get_or (map key_of x) n d)
+session_steps x closure k n d less within =
+    let e = some_at x k (omega (arith, less, within)) in
+    let f = some_at x n within in
+    session_steps_are x closure k n e.0 f.0 e.1 f.1 less ∙ sym (rw (key_there x k e.0 d e.1, key_there x n f.0 d f.1) refl)
+  where
+    some_at : (l : List Effect) (i : ℕ) → i < length l → (e : Effect) × (slice_get l i ≡ Some e)
+    some_at [] i inside = absurd (omega (arith, inside))
+    some_at (e ∷ l) zero inside = (e, refl)
+    some_at (e ∷ l) (suc i) inside = some_at l i (omega (arith, inside))
+
+    key_there : (l : List Effect) (i : ℕ) (e : Effect) (d : Key) → slice_get l i ≡ Some e → get_or (map key_of l) i d ≡ key_of e
+    key_there [] i e d is = absurd (let never : None ≡ Some e = is in cc)
+    key_there (f ∷ l) zero e d is = ap key_of (same_Some f e is)
+    key_there (f ∷ l) (suc i) e d is = key_there l i e d is
+
+both_equal : (a b c : ℕ) → nat_eq a c ≡ true → nat_eq b c ≡ true → nat_eq a b ≡ true
+both_equal a b c first second = eq-eqb a b (eqb-true a c first ∙ sym (eqb-true b c second))
+
+-- effects before one effect in its session are in that order themselves
+follows-first : (closure : Closure) (e f g : Key) → follows closure e g ≡ true → follows closure f g ≡ true → follows closure e f ≡ true
+follows-first OnOneObject e f g first second =
+    let a = and_parts (nat_eq e.session.0 g.session.0) (nat_eq e.object.0 g.object.0) first in
+    let b = and_parts (nat_eq f.session.0 g.session.0) (nat_eq f.object.0 g.object.0) second in
+    and_from (nat_eq e.session.0 f.session.0) (nat_eq e.object.0 f.object.0) (both_equal e.session.0 f.session.0 g.session.0 a.0 b.0) (both_equal e.object.0 f.object.0 g.object.0 a.1 b.1)
+follows-first Across e f g first second =
+    let a = and_parts (nat_eq e.session.0 g.session.0) true first in
+    let b = and_parts (nat_eq f.session.0 g.session.0) true second in
+    and_from (nat_eq e.session.0 f.session.0) true (both_equal e.session.0 f.session.0 g.session.0 a.0 b.0) refl
 
 -- ---- what is reached so far
-lower : (step : ℕ → ℕ → Bool) (a b k : ℕ) → Reached step a b (suc k) → Reached step a b k
-lower step a b k r = let above = r.above in record { from = r.from; above = omega (arith, above); below = r.below; steps = r.steps; reaches = r.reaches }
+pub none_yet : (step : ℕ → ℕ → Bool) (n : ℕ) → IsClosedPart step (replicate n false)
+none_yet step n = record {
+  reached = λ k is. absurd (both_ways (get_or (replicate n false) k false) (none_marked n k) is);
+  closed = λ j k chain is. absurd (both_ways (get_or (replicate n false) k false) (none_marked n k) is);
+}
 
-one_lower : (step : ℕ → ℕ → Bool) (a b k : ℕ) → Reached step a b k → (Reached step a b (suc k)) ⊎ ((step (suc k) b ≡ true) × ((a ≡ suc k) ⊎ (leads step a (suc k) ≡ true)))
-one_lower step a b k r = elim (cases_eq r.from (suc k)) [
-  | inl same ↦ inr (subst (λ (n : ℕ). (step n b ≡ true) × ((a ≡ n) ⊎ (leads step a n ≡ true))) same (r.steps, r.reaches))
-  | inr other ↦ let above = r.above in inl (record { from = r.from; above = omega (arith, above, other); below = r.below; steps = r.steps; reaches = r.reaches })
-]
-
-pub nothing_reached : (step : ℕ → ℕ → Bool) (n : ℕ) → HasReached step (suc n) n (replicate n false)
-nothing_reached step n = (
-  ap suc (length-false n),
-  λ k inside. (
-    (λ is. absurd (both_ways (get_or (replicate n false) k false) (none_marked n k) is)),
-    (λ r. absurd (let above = r.above in let below = r.below in omega (arith, above, below))),
-  ),
-)
+pub part_with : (step : ℕ → ℕ → Bool) → GoesForward step → (old new earlier : List Bool) → IsRow (leads step) (suc (length earlier)) earlier
+    → step (suc (length earlier)) (suc (length old)) ≡ true → length new ≡ length old
+    → ((k : ℕ) → get_or new k false ≡ (get_or old k false || (nat_eq k (length earlier) || get_or earlier k false)))
+    → IsClosedPart step old → IsClosedPart step new
+part_with step forward old new earlier row is_step same_length united known = record {
+  reached = λ k is. subst (λ (n : ℕ). leads step (suc k) (suc n) ≡ true) (sym same_length) (reached k (cases k is));
+  closed = λ j k chain is. closed j k chain (cases k is);
+}
   where
-    length-false : (m : ℕ) → length (replicate m false) ≡ m
-    length-false zero = refl
-    length-false (suc m) = ap suc (length-false m)
+    n : ℕ
+    n = length earlier
 
-pub visit_nothing : (step : ℕ → ℕ → Bool) (b k : ℕ) (row : List Bool) → step (suc k) b ≡ false → HasReached step b (suc k) row → HasReached step b k row
-visit_nothing step b k row no_step known = (
-  known.0,
-  λ j inside. (
-    (λ is. lower step (suc j) b k ((known.1 j inside).0 is)),
-    (λ r. elim (one_lower step (suc j) b k r) [
-      | inl before ↦ (known.1 j inside).1 before
-      | inr here ↦ absurd (both_ways (step (suc k) b) no_step here.0)
-    ]),
-  ),
-)
+    Has : ℕ → Type 0
+    Has k = (get_or old k false ≡ true) ⊎ ((k ≡ n) ⊎ (leads step (suc k) (suc n) ≡ true))
 
-pub visit_again : (step : ℕ → ℕ → Bool) → GoesForward step → (b k : ℕ) (row : List Bool) → k < length row → get_or row k false ≡ true → HasReached step b (suc k) row → HasReached step b k row
-visit_again step forward b k row within marked known = (
-  known.0,
-  λ j inside. (
-    (λ is. lower step (suc j) b k ((known.1 j inside).0 is)),
-    (λ r. elim (one_lower step (suc j) b k r) [
-      | inl before ↦ (known.1 j inside).1 before
-      | inr here ↦ through j inside here.1
-    ]),
-  ),
-)
-  where
-    by_it : Reached step (suc k) b (suc k)
-    by_it = (known.1 k within).0 marked
-
-    beyond : (j : ℕ) → leads step (suc j) (suc k) ≡ true → Reached step (suc j) b (suc k)
-    beyond j first = record {
-      from = by_it.from;
-      above = by_it.above;
-      below = by_it.below;
-      steps = by_it.steps;
-      reaches = inr (elim by_it.reaches [
-        | inl same ↦ absurd (let above = by_it.above in omega (arith, above, same))
-        | inr second ↦ leads-join step forward (suc j) (suc k) by_it.from first second
-      ]);
-    }
-
-    through : (j : ℕ) → j < length row → (suc j ≡ suc k) ⊎ (leads step (suc j) (suc k) ≡ true) → get_or row j false ≡ true
-    through j inside (inl same) = let is : k ≡ j = omega (arith, same) in subst (λ (n : ℕ). get_or row n false ≡ true) is marked
-    through j inside (inr first) = (known.1 j inside).1 (beyond j first)
-
-pub visit_new : (step : ℕ → ℕ → Bool) (b k : ℕ) (old new earlier : List Bool) → step (suc k) b ≡ true → IsRow (leads step) (suc k) earlier → k < length old
-    → length new ≡ length old
-    → ((j : ℕ) → get_or new j false ≡ (get_or old j false || (nat_eq j (length earlier) || get_or earlier j false)))
-    → HasReached step b (suc k) old → HasReached step b k new
-visit_new step b k old new earlier is_step row within same_length united known = (ap suc same_length ∙ known.0, λ j inside. (to j (omega (arith, inside, same_length)), from j (omega (arith, inside, same_length))))
-  where
-    whole : suc (length old) ≡ b
-    whole = known.0
-
-    len : suc (length earlier) ≡ suc k
-    len = row.0
-
-    here : (j : ℕ) → (suc j ≡ suc k) ⊎ (leads step (suc j) (suc k) ≡ true) → Reached step (suc j) b k
-    here j how = record { from = suc k; above = omega arith; below = omega (arith, within, whole); steps = is_step; reaches = how }
-
-    to : (j : ℕ) → j < length old → get_or new j false ≡ true → Reached step (suc j) b k
-    to j inside is = elim (or_cases (get_or old j false) (nat_eq j (length earlier) || get_or earlier j false) (sym (united j) ∙ is)) [
-      | inl before ↦ lower step (suc j) b k ((known.1 j inside).0 before)
-      | inr added ↦ elim (or_cases (nat_eq j (length earlier)) (get_or earlier j false) added) [
-        | inl itself ↦ let same = eqb-true j (length earlier) itself in here j (inl (omega (arith, same, len)))
-        | inr reached ↦ here j (inr (sym (row.1 j) ∙ reached))
+    cases : (k : ℕ) → get_or new k false ≡ true → Has k
+    cases k is = elim (or_cases (get_or old k false) (nat_eq k n || get_or earlier k false) (sym (united k) ∙ is)) [
+      | inl before ↦ inl before
+      | inr added ↦ elim (or_cases (nat_eq k n) (get_or earlier k false) added) [
+        | inl itself ↦ inr (inl (eqb-true k n itself))
+        | inr more ↦ inr (inr (sym (row.1 k) ∙ more))
       ]
     ]
 
-    from : (j : ℕ) → j < length old → Reached step (suc j) b k → get_or new j false ≡ true
-    from j inside r = united j ∙ elim (one_lower step (suc j) b k r) [
-      | inl before ↦ or_left (get_or old j false) (nat_eq j (length earlier) || get_or earlier j false) ((known.1 j inside).1 before)
-      | inr found ↦ or_right (get_or old j false) (nat_eq j (length earlier) || get_or earlier j false) (elim found.1 [
-        | inl same ↦ or_left (nat_eq j (length earlier)) (get_or earlier j false) (eq-eqb j (length earlier) (omega (arith, same, len)))
-        | inr reached ↦ or_right (nat_eq j (length earlier)) (get_or earlier j false) (row.1 j ∙ reached)
-      ])
-    ]
+    back : (k : ℕ) → Has k → get_or new k false ≡ true
+    back k (inl before) = united k ∙ or_left (get_or old k false) (nat_eq k n || get_or earlier k false) before
+    back k (inr (inl itself)) =
+        united k ∙ or_right (get_or old k false) (nat_eq k n || get_or earlier k false) (or_left (nat_eq k n) (get_or earlier k false) (eq-eqb k n itself))
+    back k (inr (inr more)) =
+        united k ∙ or_right (get_or old k false) (nat_eq k n || get_or earlier k false) (or_right (nat_eq k n) (get_or earlier k false) (row.1 k ∙ more))
 
-pub row_done : (step : ℕ → ℕ → Bool) → GoesForward step → (b : ℕ) (row : List Bool) → HasReached step b 0 row → IsRow (leads step) b row
-row_done step forward b row known = (
-  known.0,
-  λ k. elim (cases_lt k (length row)) [
-    | inl inside ↦ same_Bool (get_or row k false) (leads step (suc k) b) (λ is. to k ((known.1 k inside).0 is)) (λ is. (known.1 k inside).1 (from k is))
-    | inr past ↦ get_or_past row k false past ∙ sym (false_from_ne_true (leads step (suc k) b) (λ is.
-        let less = leads-less step forward (suc k) b is in
-        let whole = known.0 in
-        omega (arith, less, whole, past)))
-  ],
-)
+    reached : (k : ℕ) → Has k → leads step (suc k) (suc (length old)) ≡ true
+    reached k (inl before) = known.reached k before
+    reached k (inr (inl itself)) = leads-step step (suc k) (suc (length old)) (subst (λ (m : ℕ). step (suc m) (suc (length old)) ≡ true) (sym itself) is_step)
+    reached k (inr (inr more)) = leads-more step (suc k) (suc (length old)) (suc n) (forward (suc n) (suc (length old)) is_step) more is_step
+
+    closed : (j k : ℕ) → leads step (suc j) (suc k) ≡ true → Has k → get_or new j false ≡ true
+    closed j k chain (inl before) = back j (inl (known.closed j k chain before))
+    closed j k chain (inr (inl itself)) = back j (inr (inr (subst (λ (m : ℕ). leads step (suc j) (suc m) ≡ true) itself chain)))
+    closed j k chain (inr (inr more)) = back j (inr (inr (leads-join step forward (suc j) (suc k) (suc n) chain more)))
+
+pub row_done : (step : ℕ → ℕ → Bool) → GoesForward step → (row : List Bool) → IsClosedPart step row
+    → ((k : ℕ) → step (suc k) (suc (length row)) ≡ true → get_or row k false ≡ true) → IsRow (leads step) (suc (length row)) row
+row_done step forward row known all = (refl, λ k. same_Bool (get_or row k false) (leads step (suc k) (suc (length row))) (known.reached k) (from k))
   where
-    to : (k : ℕ) → Reached step (suc k) b 0 → leads step (suc k) b ≡ true
-    to k r = elim r.reaches [
-      | inl same ↦ leads-step step (suc k) b (subst (λ (n : ℕ). step n b ≡ true) (sym same) r.steps)
-      | inr chain ↦ leads-more step (suc k) b r.from r.below chain r.steps
+    from : (k : ℕ) → leads step (suc k) (suc (length row)) ≡ true → get_or row k false ≡ true
+    from k is = elim (leads-cases step (suc k) (suc (length row)) is) [
+      | inl one ↦ all k one
+      | inr more ↦ through k more.0 more.2 more.3
+    ]
+      where
+        through : (k c : ℕ) → leads step (suc k) c ≡ true → step c (suc (length row)) ≡ true → get_or row k false ≡ true
+        through k zero chain last = absurd (let less = leads-less step forward (suc k) zero chain in omega (arith, less))
+        through k (suc c) chain last = known.closed k c chain (all c last)
+
+-- all steps to an effect lead by the last one before it in its session and by those that it sees
+pub all_steps : (x : List Effect) → IsExecution x → (closure : Closure) (keys : List Key) (d : Key) (n : ℕ) (row : List Bool) (last : Option ℕ)
+    → keys ≡ map key_of x → n < length x → length row ≡ n → IsClosedPart (step_of closure x) row → IsLastBefore closure (take n keys) (get_or keys n d) last
+    → IfSome last (λ k. get_or row k false ≡ true) → ((k : ℕ) → vis x (suc k) (suc n) ≡ true → get_or row k false ≡ true)
+    → (k : ℕ) → step_of closure x (suc k) (suc n) ≡ true → get_or row k false ≡ true
+all_steps x law closure keys d n row last are within count known is_last has seen k is = elim (step_cases x closure (suc k) (suc n) is) [
+  | inl mate ↦ by_last last is_last has (let less = step_forward x law closure (suc k) (suc n) is in omega (arith, less)) mate
+  | inr sees ↦ seen k sees
+]
+  where
+    key : Key
+    key = get_or keys n d
+
+    long : length keys ≡ length x
+    long = ap length are ∙ length-map x key_of
+
+    count_keys : length (take n keys) ≡ n
+    count_keys = length-take-le n keys (omega (arith, within, long))
+
+    read : (j : ℕ) → j < n → get_or (take n keys) j key ≡ get_or keys j key
+    read j less = get_or-take n keys j key less
+
+    key_is : key ≡ get_or keys n key
+    key_is = get_or_default keys n d key (omega (arith, within, long))
+
+    steps_in : (j m : ℕ) → j < m → m < length x → session_step closure x (suc j) (suc m) ≡ follows closure (get_or keys j key) (get_or keys m key)
+    steps_in j m less inside =
+        session_steps x closure j m key less inside ∙ ap (λ (l : List Key). follows closure (get_or l j key) (get_or l m key)) (sym are)
+
+    mates : (j : ℕ) → j < n → session_step closure x (suc j) (suc n) ≡ follows closure (get_or (take n keys) j key) key
+    mates j less =
+        steps_in j n less within ∙ ap (follows closure (get_or keys j key)) (sym key_is) ∙ ap (λ (e : Key). follows closure e key) (sym (read j less))
+
+    by_last : (o : Option ℕ) → IsLastBefore closure (take n keys) key o → IfSome o (λ j. get_or row j false ≡ true) → k < n
+        → session_step closure x (suc k) (suc n) ≡ true → get_or row k false ≡ true
+    by_last None no_last h less mate = absurd (both_ways (follows closure (get_or (take n keys) k key) key) (no_last k (omega (arith, less, count_keys))) (sym (mates k less) ∙ mate))
+    by_last (Some j) found h less mate = elim (cases_lt j k) [
+      | inl later ↦ absurd (both_ways (follows closure (get_or (take n keys) k key) key) (found.2 k later (omega (arith, less, count_keys))) (sym (mates k less) ∙ mate))
+      | inr before ↦ elim (cases_eq k j) [
+        | inl same ↦ subst (λ (i : ℕ). get_or row i false ≡ true) (sym same) h
+        | inr other ↦
+            let inside = found.0 in
+            let j_less : j < n = omega (arith, inside, count_keys) in
+            let k_less : k < j = omega (arith, before, other) in
+            known.closed k j (leads-step (step_of closure x) (suc k) (suc j) (step_of_session x closure (suc k) (suc j)
+            (steps_in k j k_less (omega (arith, j_less, within)) ∙ subst (λ (e : Key). follows closure e (get_or keys j key) ≡ true) (read k less)
+            (subst (λ (e : Key). follows closure (get_or (take n keys) k key) e ≡ true) (read j j_less)
+            (follows-first closure (get_or (take n keys) k key) (get_or (take n keys) j key) key (sym (mates k less) ∙ mate) found.1))))) h
+      ]
     ]
 
-    from : (k : ℕ) → leads step (suc k) b ≡ true → Reached step (suc k) b 0
-    from k is = elim (leads-cases step (suc k) b is) [
-      | inl one ↦ record { from = suc k; above = omega arith; below = forward (suc k) b one; steps = one; reaches = inl refl }
-      | inr more ↦
-          let less = leads-less step forward (suc k) more.0 more.2 in
-          record { from = more.0; above = omega (arith, less); below = more.1; steps = more.3; reaches = inr more.2 }
-    ]
+-- the last one before it in its session steps to the effect
+pub last_steps : (x : List Effect) (closure : Closure) (keys : List Key) (d : Key) (n : ℕ) (last : Option ℕ) → keys ≡ map key_of x → n < length x
+    → IsLastBefore closure (take n keys) (get_or keys n d) last → IfSome last (λ k. step_of closure x (suc k) (suc n) ≡ true)
+last_steps x closure keys d n None are within is_last = tt
+last_steps x closure keys d n (Some k) are within is_last =
+    let key : Key = get_or keys n d in
+    let long : length keys ≡ length x = ap length are ∙ length-map x key_of in
+    let inside = is_last.0 in
+    let less : k < n = omega (arith, inside, within, long, length-take-le n keys (omega (arith, within, long))) in
+    let same : get_or keys n d ≡ get_or keys n key = get_or_default keys n d key (omega (arith, within, long)) in
+    step_of_session x closure (suc k) (suc n)
+    (session_steps x closure k n key less within ∙ ap (λ (l : List Key). follows closure (get_or l k key) (get_or l n key)) (sym are)
+    ∙ ap (follows closure (get_or keys k key)) (sym same) ∙ ap (λ (e : Key). follows closure e key) (sym (get_or-take n keys k key less)) ∙ is_last.1)
+
+pub some_too : (o : Option ℕ) (P Q : ℕ → Type 0) → ((k : ℕ) → P k → Q k) → IfSome o P → IfSome o Q
+some_too None P Q each is = is
+some_too (Some k) P Q each is = each k is
 
 -- ---- rows of a relation
 pub rows_push : (rel : ℕ → ℕ → Bool) (rows : List (List Bool)) (row : List Bool) → AreRows rel rows → IsRow rel (suc (length rows)) row → AreRows rel (rows ++ row ∷ [])

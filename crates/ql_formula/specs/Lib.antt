@@ -1,4 +1,5 @@
 pub mod Truth
+pub mod Bits
 pub mod Tables
 pub mod Search
 pub mod TransitiveClosures

@@ -1,5 +1,5 @@
 -- Tables of the relations of an execution, and what one that is being made has so far.
-use Rattle.std.specs.Prelude.{◌≡◌, ◌⊎◌, ◌↔◌, ℕ, zero, suc, ◌<◌, Bool, true, false, ◌&&◌, ◌||◌, nat_eq, nat_lt, slice_get, slice_index_or, List, [], length, Option, Some, None}
+use Rattle.std.specs.Prelude.{◌≡◌, ℕ, zero, suc, ◌<◌, Bool, true, false, ◌&&◌, ◌||◌, nat_eq, nat_lt, slice_get, slice_index_or, List, [], length, Option, Some, None}
 use Rattle.ql_lang.specs.Trees.{Relation, Basic, Union, Intersection}
 use Rattle.ql_lang.specs.declared.relation.RelName.{RelName}
 use Rattle.ql_lang.specs.declared.relation.RelName.TheVariants.{Vis, So, Soo, SameObj, Eq, Hb, Hbo}
@@ -83,20 +83,23 @@ abbrev pub step_of : Closure → List Effect → ℕ → ℕ → Bool
 step_of OnOneObject x a b = hbo_step x a b
 step_of Across x a b = hb_step x a b
 
--- b is reached from a by an effect above m that steps to b
-pub record Reached (step : ℕ → ℕ → Bool) (a b m : ℕ) : Type 0 where
-  pub from : ℕ
-  pub above : m < from
-  pub below : from < b
-  pub steps : step from b ≡ true
-  pub reaches : (a ≡ from) ⊎ (leads step a from ≡ true)
+abbrev pub GoesForward : (ℕ → ℕ → Bool) → Type 0
+GoesForward step = (a b : ℕ) → step a b ≡ true → a < b
 
--- the row of b has what is reached by effects above m
-abbrev pub HasReached : (ℕ → ℕ → Bool) → ℕ → ℕ → List Bool → Type 0
-HasReached step b m row =
-    (suc (length row) ≡ b) × ((k : ℕ) → k < length row → (slice_index_or row k false ≡ true) ↔ Reached step (suc k) b m)
+-- A row of the effect that has the next id after those of the row: the effect is reached from each that the row has,
+-- and the row has all from which one of these is reached.
+pub record IsClosedPart (step : ℕ → ℕ → Bool) (row : List Bool) : Type 0 where
+  pub reached : (k : ℕ) → slice_index_or row k false ≡ true → leads step (suc k) (suc (length row)) ≡ true
+  pub closed : (j k : ℕ) → leads step (suc j) (suc k) ≡ true → slice_index_or row k false ≡ true → slice_index_or row j false ≡ true
 
 -- of two effects, the first of which is earlier: session order, or that within one object
-abbrev pub follows : Closure → Effect → Effect → Bool
+abbrev pub follows : Closure → Key → Key → Bool
 follows OnOneObject e f = nat_eq e.session.0 f.session.0 && nat_eq e.object.0 f.object.0
 follows Across e f = nat_eq e.session.0 f.session.0 && true
+
+-- the last of these effects that is before one of this key in its session, or within its object
+abbrev pub IsLastBefore : Closure → List Key → Key → Option ℕ → Type 0
+IsLastBefore closure keys key None = (k : ℕ) → k < length keys → follows closure (slice_index_or keys k key) key ≡ false
+IsLastBefore closure keys key (Some last) =
+    (last < length keys) × (follows closure (slice_index_or keys last key) key ≡ true)
+    × ((k : ℕ) → last < k → k < length keys → follows closure (slice_index_or keys k key) key ≡ false)

@@ -5,6 +5,7 @@
 
 mod places;
 mod relations;
+mod row;
 mod rows;
 mod search;
 mod transitive;

@@ -5,7 +5,8 @@ ghost use Rattle.ql_exec.specs.declared.effect.Effect.{Effect};
 ghost use Rattle.ql_formula.specs.Tables.{IsTableOf, named_in, related_in, so_in, sameobj_in, key_at, cell};
 ghost use Rattle.ql_formula.specs.Truth.{related};
 
-use crate::rows::{Closure, Key, Row, closure_rows, keys_of, vis_rows};
+use crate::row::Row;
+use crate::rows::{Closure, Key, closure_rows, keys_of, vis_rows};
 use ql_base::{EffId, NoMemory};
 use ql_exec::Execution;
 use ql_lang::{Rel, RelName};
@@ -14,7 +15,7 @@ use std::marker::Model;
 
 /// The relations of an execution as tables.
 ///
-/// Visibility and each of the two closures take a byte for each effect and each earlier one: 24 MB
+/// Visibility and each of the two closures take a bit for each effect and each earlier one: 3 MB
 /// for 4,000 effects.
 #[derive(Debug, Drop)]
 pub struct Relations {
@@ -43,12 +44,12 @@ impl Relations {
         ensures { IfOk result (λ relations. IsTableOf relations execution.now) }
     {
         let effects = execution.effects();
-        let vis = vis_rows(alloc, effects)?;
+        let keys = keys_of(alloc, effects)?;
         Ok(Relations {
-            keys: keys_of(alloc, effects)?,
-            hbo: closure_rows(alloc, effects, &vis, Closure::OnOneObject)?,
-            hb: closure_rows(alloc, effects, &vis, Closure::Across)?,
-            vis,
+            vis: vis_rows(alloc, effects)?,
+            hbo: closure_rows(alloc, effects, &keys, Closure::OnOneObject)?,
+            hb: closure_rows(alloc, effects, &keys, Closure::Across)?,
+            keys,
         })
     }
 

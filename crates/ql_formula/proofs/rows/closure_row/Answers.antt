@@ -1,25 +1,51 @@
-use Rattle.std.proofs.Common.{◌≡◌, suc, sym, ap, subst, List, Bool, length, arith, ◌∙◌}
-use Rattle.ql_exec.specs.Relations.{leads}
-use Rattle.ql_formula.specs.Tables.{IsRow, HasReached, step_of}
-use Rattle.ql_formula.proofs.RowLaws.{written_back, nothing_reached, row_done, step_forward}
+use Rattle.std.proofs.Common.{◌≡◌, ◌∙◌, ℕ, suc, List, Bool, true, false, length, get_or, sym, ap, subst, refl, arith}
+use Rattle.std.proofs.lemmas.Option.{slice_get_read}
+use Rattle.std.proofs.lemmas.List.{length-replicate}
+use Rattle.ql_base.specs.IdLists.{has_id}
+use Rattle.ql_exec.specs.declared.effect.Effect.{Effect}
+use Rattle.ql_exec.specs.Relations.{vis, leads}
+use Rattle.ql_formula.specs.Tables.{IsRow, IsClosedPart, step_of}
+use Rattle.ql_formula.proofs.RowLaws.{seen_within, vis_cell, none_yet, last_steps, some_too, all_steps, row_done, step_forward, step_of_seen}
 use Rattle.ql_formula.proofs.rows.closure_row.Goals as goal
 
-pub fill-requires-clause-empty : goal.fill-requires-clause-empty
-fill-requires-clause-empty c =
-    let step = step_of c.args.closure c.args.effects.now in
+pub visit_seen-requires-clause-within : goal.visit_seen-requires-clause-within
+visit_seen-requires-clause-within c =
+    let x = c.args.effects.now in
     let n = length c.args.rows.now in
-    subst (λ (l : List Bool). HasReached step (suc n) n l) (sym (c.as_mut_slice.ensures.value ∙ c.in_ok-cells.ensures)) (nothing_reached step n)
+    let e = c.index-effects-n.result in
+    let at = slice_get_read x (length x) n e refl c.requires.within c.index-effects-n.is in
+    let seen : c.items.result.now ≡ e.seen = c.items.ensures.same ∙ ap (λ (f : Effect). f.seen) (sym c.index-effects-n.is) in
+    let count : length c.visit_last.new.row ≡ n = c.visit_last.ensures.length ∙ ap length c.in_ok-row.ensures ∙ length-replicate n false in
+    λ a has.
+    let within = seen_within x n e c.requires.execution at a (subst (λ (l : List ℕ). has_id l a ≡ true) seen has) in
+    let high = within.1 in
+    (within.0, within.1, omega (arith, high, count))
 
 pub returns : goal.returns
 returns c =
-    let step = step_of c.args.closure c.args.effects.now in
+    let x = c.args.effects.now in
     let n = length c.args.rows.now in
-    let new = c.fill.new.cells in
-    let known = c.fill.ensures in
-    let whole = known.0 in
-    let old = ap length c.in_ok-cells.ensures in
-    let start = nothing_reached step n in
-    let first = start.0 in
-    let same : length new ≡ length c.in_ok-cells.cells.items = omega (arith, whole, old, first) in
-    let back = written_back c.in_ok-cells.cells.items new c.in_ok-cells.cells.len same (let h = c.in_ok-cells.cells.ok.0 in omega (arith, h)) in
-    subst (λ (l : List Bool). IsRow (leads step) (suc n) l) (sym back) (row_done step (step_forward c.args.effects.now c.requires.execution c.args.closure) (suc n) new known)
+    let law = c.requires.execution in
+    let closure = c.args.closure in
+    let step = step_of closure x in
+    let forward = step_forward x law closure in
+    let e = c.index-effects-n.result in
+    let at = slice_get_read x (length x) n e refl c.requires.within c.index-effects-n.is in
+    let seen : c.items.result.now ≡ e.seen = c.items.ensures.same ∙ ap (λ (f : Effect). f.seen) (sym c.index-effects-n.is) in
+    let sees : (a : ℕ) → has_id c.items.result.now a ≡ vis x a (suc n) = λ a. ap (λ (l : List ℕ). has_id l a) seen ∙ vis_cell x n e law at a in
+    let last = c.last_before.result in
+    let row = c.visit_seen.new.row in
+    let first : length c.in_ok-row.row ≡ n = ap length c.in_ok-row.ensures ∙ length-replicate n false in
+    let second : length c.visit_last.new.row ≡ n = c.visit_last.ensures.length ∙ first in
+    let count : length row ≡ n = c.visit_seen.ensures.length ∙ second in
+    let start : IsClosedPart step c.in_ok-row.row = subst (λ (l : List Bool). IsClosedPart step l) (sym c.in_ok-row.ensures) (none_yet step n) in
+    let before : IsClosedPart step c.visit_last.new.row = c.visit_last.ensures.closed step forward c.requires.rows
+    (some_too last (λ k. step (suc k) (suc n) ≡ true) (λ k. step (suc k) (suc (length c.in_ok-row.row)) ≡ true)
+    (λ k is. subst (λ (m : ℕ). step (suc k) (suc m) ≡ true) (sym first) is) (last_steps x closure c.args.keys.now _ n last c.requires.keys c.requires.within c.last_before.ensures)) start in
+    let whole : IsClosedPart step row = c.visit_seen.ensures.closed step forward c.requires.rows
+    (λ a has. subst (λ (m : ℕ). step a (suc m) ≡ true) (sym second) (step_of_seen x closure a (suc n) (sym (sees a) ∙ has))) before in
+    let all = all_steps x law closure c.args.keys.now _ n row last c.requires.keys c.requires.within count whole c.last_before.ensures
+    (some_too last (λ k. get_or c.visit_last.new.row k false ≡ true) (λ k. get_or row k false ≡ true) c.visit_seen.ensures.kept c.visit_last.ensures.has)
+    (λ k is. c.visit_seen.ensures.has k (sees (suc k) ∙ is)) in
+    subst (λ (m : ℕ). IsRow (leads step) (suc m) row) count
+    (row_done step forward row whole (λ k is. all k (subst (λ (m : ℕ). step (suc k) (suc m) ≡ true) count is)))

@@ -4,4 +4,4 @@ use Rattle.ql_formula.specs.Tables.{AreRows, step_of}
 use Rattle.ql_formula.proofs.rows.closure_rows.Given as goal
 
 abbrev pub invariant-loop-k : goal.invariant-loop-k
-invariant-loop-k l = (length l.rows.items ≡ l.k) × AreRows (leads (step_of l.fn.closure l.effects)) l.rows.items
+invariant-loop-k l = (length l.rows.items ≡ l._k) × AreRows (leads (step_of l.fn.closure l.effects)) l.rows.items

@@ -4,5 +4,5 @@ use Rattle.ql_formula.proofs.rows.mark.Given as goal
 
 abbrev pub invariant-loop-id : goal.invariant-loop-id
 invariant-loop-id l =
-    (length l.cells ≡ length l.initial.cells)
-    × ((k : ℕ) → get_or l.cells k false ≡ (get_or l.initial.cells k false || has_id (take l.id-index l.ids) (suc k)))
+    (length l.row ≡ length l.initial.row)
+    × ((k : ℕ) → get_or l.row k false ≡ (get_or l.initial.row k false || has_id (take l.id-index l.ids) (suc k)))

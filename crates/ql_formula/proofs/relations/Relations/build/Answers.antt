@@ -8,10 +8,10 @@ use Rattle.ql_formula.proofs.relations.Relations.build.Goals as goal
 pub returns : goal.returns
 returns c =
     let x = c.effects-effects.result.now in
-    let table : Table = record { keys = c.in_ok-keys_of.field-0.items; seen = c.in_ok-vis.vis.items; before_on_object = c.in_ok-closure_rows.field-0.items; before = c.in_ok-closure_rows-2.field-0.items } in
+    let table : Table = record { keys = c.in_ok-keys.keys.items; seen = c.in_ok-vis_rows.field-0.items; before_on_object = c.in_ok-closure_rows.field-0.items; before = c.in_ok-closure_rows-2.field-0.items } in
     subst (λ (y : List Effect). IsTableOf table y) c.effects-effects.ensures.same
     (table_of x table (subst IsExecution (sym c.effects-effects.ensures.same) c.effects-effects.ensures.execution)
-    c.in_ok-keys_of.ensures
-    c.in_ok-vis.ensures.count c.in_ok-vis.ensures.rows
+    c.in_ok-keys.ensures
+    c.in_ok-vis_rows.ensures.count c.in_ok-vis_rows.ensures.rows
     c.in_ok-closure_rows.ensures.count c.in_ok-closure_rows.ensures.rows
     c.in_ok-closure_rows-2.ensures.count c.in_ok-closure_rows-2.ensures.rows)
