@@ -1,6 +1,6 @@
 -- The first fault of a file that is read line by line, once for all grammars of such files.
 use Rattle.std.proofs.Common.{◌≡◌, List, [], ◌∷◌, ◌++◌, decimal, ap, sym, subst, ◌∙◌, append_assoc}
-use Rattle.std.proofs.lemmas.List.{map-append}
+use Rattle.std.proofs.lemmas.List.{append-nil, map-append}
 use Rattle.ql_lines.specs.Fields.{fields_of}
 use Rattle.ql_lines.specs.Lines.{Ahead, Numbered}
 use Rattle.ql_cert.specs.declared.fault.CertFault.{CertFault}
@@ -87,16 +87,20 @@ module _ {State : Type 0} (first : State) (Takes : State → Fields → State �
       r.stays s (fields_of l.text) t is p,
     )
 
--- each front of a file may go on with its next line
-goes_on : (IsFile : List Fields → Type 0) (file : Ahead) (before : List Numbered) (l : Numbered) (rest : List Numbered) → file.lines ≡ before ++ l ∷ rest → IsFile (fields_in file.lines)
-    → MayFollow IsFile (fields_in before) (fields_of l.text)
-goes_on IsFile file before l rest are is =
-    let whole : fields_in file.lines ≡ (fields_in before ++ fields_of l.text ∷ []) ++ fields_in rest =
-    ap fields_in are ∙ map-append (λ (n : Numbered). fields_of n.text) before (l ∷ rest) ∙ sym (append_assoc (fields_in before) (fields_of l.text ∷ []) (fields_in rest)) in
-    (fields_in rest, subst IsFile whole is)
+-- each front of lines that begin a file may go on with its next line
+pub goes_on : (IsFile : List Fields → Type 0) (before : List Numbered) (l : Numbered) (rest : List Numbered) → Begins IsFile (fields_in (before ++ l ∷ rest)) → MayFollow IsFile (fields_in before) (fields_of l.text)
+goes_on IsFile before l rest begun =
+    let whole : fields_in (before ++ l ∷ rest) ++ begun.0 ≡ (fields_in before ++ fields_of l.text ∷ []) ++ (fields_in rest ++ begun.0) =
+    ap (λ fs. fs ++ begun.0) (map-append (λ (n : Numbered). fields_of n.text) before (l ∷ rest)) ∙ append_assoc (fields_in before) (fields_of l.text ∷ fields_in rest) begun.0
+    ∙ sym (append_assoc (fields_in before) (fields_of l.text ∷ []) (fields_in rest ++ begun.0)) in
+    (fields_in rest ++ begun.0, subst IsFile whole begun.1)
+
+-- a file begins itself
+whole_begins : (IsFile : List Fields → Type 0) (lines : List Fields) → IsFile lines → Begins IsFile lines
+whole_begins IsFile lines is = ([], subst IsFile (sym (append-nil lines)) is)
 
 -- a file with a first fault is none of the grammar
 pub no_file : (IsFile : List Fields → Type 0) (file : Ahead) (f : CertFault) → FirstFault IsFile file f → IsFile (fields_in file.lines) → ⊥
-no_file IsFile file f (unexpected before l rest are begun none no_number) is = none (goes_on IsFile file before l rest are is)
-no_file IsFile file f (number before l rest are begun none other) is = none (goes_on IsFile file before l rest are is)
+no_file IsFile file f (unexpected before l rest are begun none no_number) is = none (goes_on IsFile before l rest (subst (λ ls. Begins IsFile (fields_in ls)) are (whole_begins IsFile (fields_in file.lines) is)))
+no_file IsFile file f (number before l rest are begun none other) is = none (goes_on IsFile before l rest (subst (λ ls. Begins IsFile (fields_in ls)) are (whole_begins IsFile (fields_in file.lines) is)))
 no_file IsFile file f (ended begun none) is = none is

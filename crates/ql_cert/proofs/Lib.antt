@@ -11,3 +11,4 @@ mod ProofStates
 mod ProofRefusals
 mod Printing
 mod Plainness
+pub mod OneReading

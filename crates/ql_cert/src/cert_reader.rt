@@ -1,4 +1,4 @@
-ghost use Rattle.std.specs.Prelude.{◌≡◌, ◌↔◌, ◌∷◌, ◌<◌, ◌^◌, IfOk, IfErr, IsTrue, codes, decimal};
+ghost use Rattle.std.specs.Prelude.{◌≡◌, ◌↔◌, ◌∷◌, ◌<◌, IfOk, IfErr, IsTrue, codes, decimal};
 ghost use Rattle.std.specs.Option.{option_map};
 ghost use Rattle.ql_base.specs.Names.{IsName};
 ghost use Rattle.ql_lines.specs.Fields.{fields_of};

@@ -1,5 +1,5 @@
 // Certificates and proofs as texts. Its one contract: what is printed is in the grammar, and what is
-// read is what the text spells, or the text's first fault.
+// read is what the text spells, or the first fault of the text; no text has both, or two of either.
 #![tactic(auto)]
 
 mod cert;
@@ -11,9 +11,11 @@ mod parse;
 mod print;
 mod proof;
 mod proof_reader;
+mod unique;
 
 pub use cert::{Cert, Section, SectionLevel, Sections};
 pub use fault::CertFault;
 pub use parse::parse_cert;
 pub use print::print_cert;
 pub use proof::parse_proof;
+pub use unique::{one_certificate, one_proof};
