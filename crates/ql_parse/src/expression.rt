@@ -306,6 +306,7 @@ impl Reader<'_> {
 
     /// Expressions with `*` between them.
     #[cycle(expr)]
+    #[inline(always)]
     fn multiplied(&mut self, alloc: Global) -> Result<Operand, Refusal>
         ensures gave { IfOk result (λ o. Gave (APart (ExprAt Multiplied)) (AnExpr o.start (expression_of o.expr)) self.old self.new) }
         ensures shorter { OnOk result (length self.new.tokens < length self.old.tokens) }
@@ -333,6 +334,7 @@ impl Reader<'_> {
 
     /// Expressions with `+` and `-` between them.
     #[cycle(expr)]
+    #[inline(always)]
     fn added(&mut self, alloc: Global) -> Result<Operand, Refusal>
         ensures gave { IfOk result (λ o. Gave (APart (ExprAt Added)) (AnExpr o.start (expression_of o.expr)) self.old self.new) }
         ensures shorter { OnOk result (length self.new.tokens < length self.old.tokens) }
@@ -360,6 +362,7 @@ impl Reader<'_> {
 
     /// Expressions with `and` between them.
     #[cycle(expr)]
+    #[inline(always)]
     fn conjoined(&mut self, alloc: Global) -> Result<Operand, Refusal>
         ensures gave { IfOk result (λ o. Gave (APart (ExprAt Conjoined)) (AnExpr o.start (expression_of o.expr)) self.old self.new) }
         ensures shorter { OnOk result (length self.new.tokens < length self.old.tokens) }
@@ -387,6 +390,7 @@ impl Reader<'_> {
 
     /// Expressions with `or` between them.
     #[cycle(expr)]
+    #[inline(always)]
     fn disjoined(&mut self, alloc: Global) -> Result<Operand, Refusal>
         ensures gave { IfOk result (λ o. Gave (APart (ExprAt Disjoined)) (AnExpr o.start (expression_of o.expr)) self.old self.new) }
         ensures shorter { OnOk result (length self.new.tokens < length self.old.tokens) }
@@ -414,6 +418,7 @@ impl Reader<'_> {
 
     /// Two expressions that are compared, or one.
     #[cycle(expr)]
+    #[inline(always)]
     fn compared(&mut self, alloc: Global) -> Result<Operand, Refusal>
         ensures gave { IfOk result (λ o. Gave (APart (ExprAt Compared)) (AnExpr o.start (expression_of o.expr)) self.old self.new) }
         ensures shorter { OnOk result (length self.new.tokens < length self.old.tokens) }
