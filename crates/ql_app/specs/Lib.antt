@@ -4,3 +4,4 @@ pub mod HoldsFile
 pub mod ProofFile
 pub mod Answers
 pub mod Outcome
+pub mod ExitNumbers

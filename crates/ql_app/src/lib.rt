@@ -5,6 +5,7 @@
 #![tactic(auto)]
 
 mod holds;
+mod laws;
 mod outcome;
 mod program;
 mod proof;
@@ -12,6 +13,7 @@ mod status;
 mod text;
 mod words;
 
+pub use laws::what_is_printed_is_accepted;
 pub use outcome::Limits;
 pub use program::quelea;
 pub use status::Status;

@@ -16,3 +16,15 @@ pub enum Status {
     /// A file has more bytes than its limit, or the work is above its bound.
     TooLarge = 7,
 }
+
+impl Status {
+    ghost use Rattle.std.specs.Prelude.{◌≡◌};
+    ghost use Rattle.ql_app.specs.ExitNumbers.{exit_number};
+
+    /// The exit status of a process that ends so. The number 6 is for want of memory.
+    pub fn number(self) -> u8
+        ensures { result ≡ exit_number self }
+    {
+        self as u8
+    }
+}

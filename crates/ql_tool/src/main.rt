@@ -35,7 +35,7 @@ fn exit_number(rt: HostRuntime, words: &Vec<String>) -> u8 {
     let mut shelf = FileShelf::new(rt.alloc(), rt);
     let mut sink = StdSink::new(rt);
     match quelea(rt.alloc(), words, &mut shelf, &mut sink) {
-        Ok(status) => status as u8,
+        Ok(status) => status.number(),
         Err(NoMemory) => NO_MEMORY,
     }
 }
