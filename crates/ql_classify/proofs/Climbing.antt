@@ -1,13 +1,14 @@
 -- Going up through goals: what satisfied the first ones, and what the next is.
 use Rattle.std.proofs.Common.{◌≡◌, ℕ, zero, suc, ◌+◌, ◌<◌, Bool, List, [], ◌∷◌, ◌++◌, length, take, get_or, Option, Some, ◌≤◌, sym, subst, ◌∙◌, ap, arith, add-one}
 use Rattle.std.specs.List.{AllZip}
+use Rattle.std.specs.Prelude.{IfOk, Result, Ok, Err}
 use Rattle.ql_ground.specs.declared.goal.Goal.{Goal}
 use Rattle.ql_lang.specs.declared.program.Program.{Program}
 use Rattle.ql_refute.specs.declared.refutation.Line.{Line}
 use Rattle.ql_cnf.specs.Satisfaction.{ClauseList, IsUnsatisfiable}
 use Rattle.ql_ground.specs.OfPrograms.{IsProblemOf, IsImplied}
 use Rattle.ql_refute.proofs.Soundness.{accepted_is_unsatisfiable}
-use Rattle.ql_sat.specs.Answer.{IsRight}
+use Rattle.ql_sat.specs.Answer.{HasNumbers, IsRight}
 use Rattle.ql_sat.specs.declared.decided.Decided.{Decided}
 use Rattle.ql_sat.specs.declared.decided.Decided.TheVariants.{Model, Refuted}
 use Rattle.std.specs.Option.{option_to_list}
@@ -52,9 +53,13 @@ module _ (p : Program) where
   satisfied_last (g ∷ next ∷ goals) (b ∷ lower) a h = satisfied_last (next ∷ goals) lower a h.1
 
   -- what the solver answers for a goal's problem
-  pub answered : (g : Goal) (c : ClauseList) (d : Decided) → IsProblemOf p g c → (IsUnsatisfiable c → IsImplied p g) → IsRight c d → IsAnswer p g d
-  answered g c (Model a) is sound h = (c, is, h)
-  answered g c (Refuted r) is sound h = ((c, is, h), sound (accepted_is_unsatisfiable c r.lines h))
+  answered : (g : Goal) (c : ClauseList) (d : Decided) → IsProblemOf p g c → (IsUnsatisfiable c → IsImplied p g) → IsRight c d → HasNumbers d → IsAnswer p g d
+  answered g c (Model a) is sound h numbers = (c, is, h)
+  answered g c (Refuted r) is sound h numbers = ((c, is, h), numbers, sound (accepted_is_unsatisfiable c r.lines h))
+
+  pub all_answered : {E : Type 0} (g : Goal) (c : ClauseList) (found : Result Decided E) → IsProblemOf p g c → (IsUnsatisfiable c → IsImplied p g) → IfOk found (IsRight c) → IfOk found HasNumbers → IfOk found (IsAnswer p g)
+  all_answered g c (Ok d) is sound h numbers = answered g c d is sound h numbers
+  all_answered g c (Err e) is sound h numbers = tt
 
   -- an answer that refutes the next goal's problem
   pub refuted_answer : (goals : List Goal) (lower : List (List Bool)) (i : ℕ) (d g : Goal) (found : Decided) (r : Refutation) → i < length goals → AllZip (IsSatisfiedBy p) (take i goals) lower → g ≡ get_or goals i d → IsAnswer p g found → found ≡ Refuted r → IsFirstRefuted p goals lower r.lines

@@ -105,7 +105,7 @@ module _ (p : Program) where
   all_least levels evidence h = zip-all (IsEvidence p) (IsLeastLevel p) (least p) (goals_at levels) evidence h
 
   pub all_implied : (levels : LevelLists) (evidence : List Evidence) → AllZip (IsEvidence p) (goals_at levels) evidence → All (IsImplied p) (goals_at levels)
-  all_implied levels evidence h = zip-all (IsEvidence p) (IsImplied p) (λ g e v. v.enough.1) (goals_at levels) evidence h
+  all_implied levels evidence h = zip-all (IsEvidence p) (IsImplied p) (λ g e v. v.enough.2) (goals_at levels) evidence h
 
   pub count_evidence : (levels : LevelLists) (evidence : List Evidence) → length levels.ops ≡ length (all_ops p.types) → length levels.txns ≡ length p.txns → AllZip (IsEvidence p) (goals_at levels) evidence → length evidence ≡ targets p
   count_evidence levels evidence n m h = omega (arith, zip-length (IsEvidence p) (goals_at levels) evidence h, length-append (ops_from 0 levels.ops) (txns_from 0 levels.txns), length-ops 0 levels.ops, length-txns 0 levels.txns, n, m)

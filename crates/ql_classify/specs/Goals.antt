@@ -7,6 +7,7 @@ use Rattle.ql_lang.specs.declared.program.Program.{Program}
 use Rattle.ql_refute.specs.Verdict.{verdict}
 use Rattle.ql_refute.specs.declared.refutation.Line.{Line}
 use Rattle.ql_refute.specs.declared.verdict.Verdict.TheVariants.{Accepted}
+use Rattle.ql_sat.specs.Answer.{AreNumbered}
 
 -- the assignment satisfies the goal's problem
 abbrev pub IsSatisfiedBy : Program → Goal → List Bool → Type 0
@@ -16,9 +17,10 @@ IsSatisfiedBy p g a = (c : ClauseList) × IsProblemOf p g c × Satisfies a c
 abbrev pub IsRefutedBy : Program → Goal → List Line → Type 0
 IsRefutedBy p g lines = (c : ClauseList) × IsProblemOf p g c × (verdict c lines ≡ Accepted)
 
--- the goal's level is enough: its problem is refuted, and in every execution the level gives the contract
+-- the goal's level is enough: its problem is refuted, by lines whose hints count from 1, and in every execution the
+-- level gives the contract
 abbrev pub IsEnough : Program → Goal → List Line → Type 0
-IsEnough p g lines = IsRefutedBy p g lines × IsImplied p g
+IsEnough p g lines = IsRefutedBy p g lines × AreNumbered lines × IsImplied p g
 
 -- The assignments satisfy the first goals' problems, one each in order, and the lines refute that of the next.
 abbrev pub IsFirstRefuted : Program → List Goal → List (List Bool) → List Line → Type 0

@@ -3,6 +3,7 @@ ghost use Rattle.std.specs.List.{All};
 ghost use Rattle.ql_ground.specs.OfPrograms.{IsImplied};
 ghost use Rattle.ql_ground.specs.declared.goal.Goal.{Goal};
 ghost use Rattle.ql_typing.specs.Operations.{all_ops};
+ghost use Rattle.ql_sat.specs.Answer.{AreNumbered};
 ghost use Rattle.ql_classify.specs.Goals.{IsRefutedBy};
 ghost use Rattle.ql_classify.specs.Outcome.{IsAccepted};
 ghost use Rattle.ql_classify.specs.Kept.{IsClassified};
@@ -82,7 +83,10 @@ impl<'a> Classified<'a> {
     /// A refutation of the ground problem of a target at its level.
     pub fn refutation(&self, target: u32) -> &Refutation
         requires { target < targets self.now.program }
-        ensures { (g : Goal) × (slice_get (goals_at self.now.levels) target ≡ Some g) × IsRefutedBy self.now.program g result.now.lines }
+        ensures refuted { (g : Goal) × (slice_get (goals_at self.now.levels) target ≡ Some g) × IsRefutedBy self.now.program g result.now.lines }
+
+        // No hint has the number 0.
+        ensures numbered { AreNumbered result.now.lines }
     {
         &evidence_of(&self.evidence, target).refutation
     }

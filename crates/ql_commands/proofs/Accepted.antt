@@ -3,10 +3,7 @@ use Rattle.std.proofs.Common.{◌≡◌, inl, inr, ℕ, suc, ◌+◌, ◌-◌, L
 use Rattle.std.specs.List.{AllZip, slice_get}
 use Rattle.ql_cert.specs.declared.cert.Section.{Section}
 use Rattle.ql_cert.specs.declared.cert.SectionLevel.{SectionLevel}
-use Rattle.ql_cert.specs.CertFile.{IsCertOf, Ended, Takes, Untitled}
-use Rattle.ql_cert.specs.Spelling.{Fields}
-use Rattle.ql_cert.proofs.States.{cert_reader}
-use Rattle.ql_cert.proofs.Walking.{Walks, one_walk}
+use Rattle.ql_cert.proofs.OneReading.{one_cert}
 use Rattle.ql_classify.specs.Goals.{IsRefutedBy}
 use Rattle.ql_classify.specs.Targets.{op_at, txn_at, ops_from, txns_from, goals_at}
 use Rattle.ql_cnf.specs.Satisfaction.{ClauseList}
@@ -32,15 +29,6 @@ use Rattle.ql_commands.specs.Levels.{AreLevelsOf}
 use Rattle.ql_commands.specs.Prove.{IsSectionOf, ProveSays, level_of, name_of}
 use Rattle.std.proofs.lemmas.List.{append_cancel_left, map-append}
 use Rattle.ql_commands.proofs.SameProblems.{same_count, same_due, same_refuted}
-
--- ---- one certificate
-
-pub one_cert : (lines : List Fields) (ss ts : List Section) → IsCertOf ss lines → IsCertOf ts lines → ss ≡ ts
-one_cert lines ss ts h g =
-    let first : Walks Takes Untitled lines (Ended ss) = subst (λ fs. Walks Takes Untitled fs (Ended ss)) (sym h.are) (cert_reader.walk (Ended ss) h.sections) in
-    let second : Walks Takes Untitled lines (Ended ts) = subst (λ fs. Walks Takes Untitled fs (Ended ts)) (sym g.are) (cert_reader.walk (Ended ts) g.sections) in
-    let same : Ended ss ≡ Ended ts = one_walk Takes cert_reader.one lines Untitled (Ended ss) (Ended ts) first second in
-    cc
 
 -- ---- sections in order are judged against the problems that they refute
 

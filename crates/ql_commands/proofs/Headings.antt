@@ -1,5 +1,5 @@
 -- The goal of a target, and the sections of goals.
-use Rattle.std.proofs.Common.{◌≡◌, ℕ, zero, suc, ◌+◌, ◌≤◌, ◌<◌, ◌^◌, List, [], ◌∷◌, ◌++◌, map, length, take, add-one, Some, refl, sym, ap, subst, ◌∙◌, arith}
+use Rattle.std.proofs.Common.{◌≡◌, ℕ, zero, suc, ◌+◌, ◌≤◌, ◌<◌, ◌^◌, List, [], ◌∷◌, ◌++◌, length, take, add-one, Some, refl, sym, ap, subst, ◌∙◌, arith}
 use Rattle.std.specs.List.{AllByRecursion, AllZip, slice_get}
 use Rattle.std.proofs.lemmas.List.{take_all, length-append}
 use Rattle.ql_base.specs.Names.{IsName}
@@ -19,8 +19,8 @@ use Rattle.ql_refute.specs.Verdict.{verdict}
 use Rattle.ql_refute.specs.declared.refutation.Line.{Line}
 use Rattle.ql_typing.specs.Operations.{all_ops}
 use Rattle.ql_commands.specs.Prove.{IsSectionOf, name_of, level_of}
-use Rattle.ql_commands.specs.Spellable.{HasNames, IsNearlyLine, with_numbered_hints}
-use Rattle.ql_commands.proofs.SpelledVerdicts.{have_spelling, still_accepted}
+use Rattle.ql_commands.specs.Spellable.{HasNames, IsNearlyLine}
+use Rattle.ql_commands.proofs.SpelledVerdicts.{have_spelling}
 
 op-goal : (k : ℕ) (levels : List Level) (o : ℕ) (rest : List Goal) (l : Level) → slice_get levels o ≡ Some l → slice_get (ops_from k levels ++ rest) o ≡ Some (op_at (k + o) l)
 op-goal k [] o rest l e = absurd (cc)
@@ -121,16 +121,16 @@ txn_is_named p n d names e = named-at (λ (txn : TxnDecl). IsName txn.name.word)
 
 -- ---- a section
 
-pub section_is : (p : Program) (g : Goal) (s : Section) (lines : List Line) → s.name ≡ name_of p g → s.level ≡ level_of g → s.refutation.lines ≡ map with_numbered_hints lines → IsRefutedBy p g lines → IsSectionOf p g s
+pub section_is : (p : Program) (g : Goal) (s : Section) (lines : List Line) → s.name ≡ name_of p g → s.level ≡ level_of g → s.refutation.lines ≡ lines → IsRefutedBy p g lines → IsSectionOf p g s
 section_is p g s lines name level same refuted = record {
   name = name;
   level = level;
-  refuted = (refuted.0, refuted.1, ap (verdict refuted.0) same ∙ still_accepted refuted.0 lines refuted.2);
+  refuted = subst (IsRefutedBy p g) (sym same) refuted;
 }
 
-pub section_spelled : (p : Program) (g : Goal) (s : Section) (lines : List Line) → IsName s.name → s.refutation.lines ≡ map with_numbered_hints lines → AllByRecursion IsNearlyLine s.refutation.lines → length s.refutation.lines < 2 ^ 64 → IsRefutedBy p g lines → IsSection s
+pub section_spelled : (p : Program) (g : Goal) (s : Section) (lines : List Line) → IsName s.name → s.refutation.lines ≡ lines → AllByRecursion IsNearlyLine s.refutation.lines → length s.refutation.lines < 2 ^ 64 → IsRefutedBy p g lines → IsSection s
 section_spelled p g s lines name same nearly few refuted = record {
   name = name;
-  lines = have_spelling refuted.0 s.refutation.lines (ap (verdict refuted.0) same ∙ still_accepted refuted.0 lines refuted.2) nearly;
+  lines = have_spelling refuted.0 s.refutation.lines (ap (verdict refuted.0) same ∙ refuted.2) nearly;
   few = few;
 }

@@ -1,5 +1,5 @@
 // What is told of a source that is none.
-ghost use Rattle.std.specs.Prelude.{◌≡◌, ◌++◌, IfOk, Some, codes, decimal};
+ghost use Rattle.std.specs.Prelude.{◌≡◌, IfOk, Some};
 ghost use Rattle.std.specs.Option.{option_map};
 ghost use Rattle.ql_commands.specs.Sources.{fault_line, fault_text, lexical_fault, syntax_fault, told_fault, typing_fault};
 

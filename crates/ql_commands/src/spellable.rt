@@ -1,17 +1,19 @@
 // Refutations with a spelling.
-ghost use Rattle.std.specs.Prelude.{◌≡◌, ◌==◌, ◌<◌, ◌^◌, false, IfOk, length, map};
+ghost use Rattle.std.specs.Prelude.{◌≡◌, ◌<◌, ◌^◌, IfOk, length};
 ghost use Rattle.std.specs.List.{AllByRecursion};
 ghost use Rattle.ql_cert.specs.Spelling.{IsHint};
-ghost use Rattle.ql_commands.specs.Spellable.{IsNearlyLine, hint_number, numbered_hints, with_numbered_hints};
+ghost use Rattle.ql_sat.specs.Answer.{AreNumbered, IsNumbered};
+ghost use Rattle.ql_commands.specs.Spellable.{IsNearlyLine};
 
 use ql_base::NoMemory;
 use ql_cnf::{Clause, Lit};
 use ql_refute::{Hint, Hints, Line, Lines, Refutation};
 use std::alloc::Global;
 
-/// The refutation, each line without what stands from its first hint on that names nothing.
+/// An equal refutation, which has a spelling where its variables count from 1.
 pub(crate) fn spellable(alloc: Global, r: &Refutation) -> Result<Refutation, NoMemory>
-    ensures same { IfOk result (λ spelled. spelled.lines ≡ map with_numbered_hints r.now.lines) }
+    requires { AreNumbered r.now.lines }
+    ensures same { IfOk result (λ spelled. spelled.lines ≡ r.now.lines) }
     ensures lines { IfOk result (λ spelled. AllByRecursion IsNearlyLine spelled.lines) }
     ensures few { IfOk result (λ spelled. length spelled.lines < 2 ^ 64) }
 {
@@ -26,11 +28,12 @@ pub(crate) fn spellable(alloc: Global, r: &Refutation) -> Result<Refutation, NoM
 }
 
 fn spellable_line(alloc: Global, line: &Line) -> Result<Line, NoMemory>
-    ensures same { IfOk result (λ spelled. spelled ≡ with_numbered_hints line.now) }
+    requires { AllByRecursion IsNumbered line.now.hints }
+    ensures same { IfOk result (λ spelled. spelled ≡ line.now) }
     ensures nearly { IfOk result IsNearlyLine }
 {
     let literals = copied_literals(alloc, line.clause.items())?;
-    let hints = hints_with_numbers(alloc, line.hints.items())?;
+    let hints = copied_hints(alloc, line.hints.items())?;
     Ok(Line {
         clause: Clause::of(literals),
         hints: Hints::of(hints),
@@ -55,28 +58,26 @@ fn copied(literal: Lit) -> Lit
     literal
 }
 
-// The hints before the first with the number 0.
-fn hints_with_numbers(alloc: Global, hints: &[Hint]) -> Result<Vec<Hint>, NoMemory>
-    ensures same { IfOk result (λ copies. copies.items ≡ numbered_hints hints.now) }
+fn copied_hints(alloc: Global, hints: &[Hint]) -> Result<Vec<Hint>, NoMemory>
+    requires { AllByRecursion IsNumbered hints.now }
+    ensures same { IfOk result (λ copies. copies.items ≡ hints.now) }
     ensures hints { IfOk result (λ copies. AllByRecursion IsHint copies.items) }
 {
     let mut copies = Vec::with_capacity(alloc, hints.len())?;
     for hint in hints {
-        if is_unnumbered(*hint) {
-            return Ok(copies);
-        }
-        copies.push(*hint)?;
+        copies.push(copied_hint(*hint))?;
     }
     Ok(copies)
 }
 
 #[tactic(auto, unfolding(ql_cert::specs::Spelling::IsHint))]
-fn is_unnumbered(hint: Hint) -> bool
-    ensures zero { result ≡ (hint_number hint == 0) }
-    ensures numbered { result ≡ false → IsHint hint }
+fn copied_hint(hint: Hint) -> Hint
+    requires { IsNumbered hint }
+    ensures same { result ≡ hint }
+    ensures hint { IsHint result }
 {
     match hint {
-        Hint::Given(number) => number == 0,
-        Hint::Earlier(number) => number == 0,
+        Hint::Given(number) => Hint::Given(number),
+        Hint::Earlier(number) => Hint::Earlier(number),
     }
 }

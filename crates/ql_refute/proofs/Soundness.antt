@@ -207,14 +207,18 @@ first_refuses c e (line ∷ ls) = step (line_fault c e line) (line_refuses c e l
     step None h g = g
     step (Some v) h g = h
 
--- where the verdict is Accepted, no assignment satisfies the clauses
-pub accepted_is_unsatisfiable : (c : ClauseList) (lines : List Line) → verdict c lines ≡ Accepted → IsUnsatisfiable c
-accepted_is_unsatisfiable c lines h a satisfied = faults (first_fault c [] lines) refl (first_refuses c [] lines) h
+-- where the verdict is Accepted, no line is at fault, and one is empty
+pub accepted_parts : (c : ClauseList) (lines : List Line) → verdict c lines ≡ Accepted → (first_fault c [] lines ≡ None) × (has_empty lines ≡ true)
+accepted_parts c lines h = faults (first_fault c [] lines) (first_refuses c [] lines) refl h
   where
-    empty : (b : Bool) → has_empty lines ≡ b → first_fault c [] lines ≡ None → cond b Accepted NoEmpty ≡ Accepted → ⊥
-    empty true f g e = lines_sound a c [] lines satisfied.1 refl g f
-    empty false f g e = cc
+    empty : (b : Bool) → has_empty lines ≡ b → cond b Accepted NoEmpty ≡ Accepted → has_empty lines ≡ true
+    empty true f e = f
+    empty false f e = absurd (cc)
 
-    faults : (o : Option Verdict) → first_fault c [] lines ≡ o → Refuses o → unwrap_or o (cond (has_empty lines) Accepted NoEmpty) ≡ Accepted → ⊥
-    faults None f g e = empty (has_empty lines) refl f e
-    faults (Some v) f g e = g e
+    faults : (o : Option Verdict) → Refuses o → first_fault c [] lines ≡ o → unwrap_or o (cond (has_empty lines) Accepted NoEmpty) ≡ Accepted → (first_fault c [] lines ≡ None) × (has_empty lines ≡ true)
+    faults None g f e = (f, empty (has_empty lines) refl e)
+    faults (Some v) g f e = absurd (g e)
+
+-- and no assignment satisfies the clauses
+pub accepted_is_unsatisfiable : (c : ClauseList) (lines : List Line) → verdict c lines ≡ Accepted → IsUnsatisfiable c
+accepted_is_unsatisfiable c lines h a satisfied = let parts = accepted_parts c lines h in lines_sound a c [] lines satisfied.1 refl parts.0 parts.1

@@ -1,19 +1,23 @@
 -- What the analysis of a conflict keeps.
+use mathlib.Core.List.{reverse-cons}
 use Rattle.std.proofs.Common.{◌≡◌, ◌≢◌, ℕ, zero, suc, ◌+◌, ◌<◌, ◌≤◌, Bool, true, false, cond, ◌||◌, List, [], ◌∷◌, ◌++◌, Option, Some, None, length, get_or, take, drop, refl, sym, ◌∙◌, ap, subst, ◌⊎◌, inl, inr, arith, drop-cons, add-one}
 use Rattle.std.proofs.lemmas.Bool.Decides.{nat_tests}
 use Rattle.std.proofs.lemmas.List.{drop_all, take-append-drop}
 use Rattle.std.proofs.lemmas.List.Elements.{All-push}
-use Rattle.std.specs.Prelude.{◌==◌, is_some}
-use Rattle.std.specs.List.{filter}
+use Rattle.std.specs.Prelude.{◌==◌, is_some, reverse}
+use Rattle.std.specs.List.{AllByRecursion, filter}
+use Rattle.std.specs.Option.{option_map}
 use Rattle.ql_cnf.specs.Satisfaction.{ClauseList, AreInRange}
 use Rattle.ql_cnf.specs.declared.lit.Lit.{Lit}
 use Rattle.ql_refute.specs.Marks.{marked, has_variable}
 use Rattle.ql_refute.specs.Partial.{Partial, nothing, with_all_false, is_open, reading}
-use Rattle.ql_refute.specs.Verdict.{hinted, hints_fault}
+use Rattle.ql_refute.specs.Verdict.{numbered, hinted, hints_fault}
 use Rattle.ql_refute.specs.declared.marks.Reading.TheVariants.{AllFalse, Forces}
 use Rattle.ql_refute.specs.declared.refutation.Hint.{Hint}
+use Rattle.ql_refute.specs.declared.refutation.Hint.TheVariants.{Given, Earlier}
 use Rattle.ql_refute.specs.declared.refutation.Line.{Line}
 use Rattle.ql_refute.proofs.Steps.{from_reading}
+use Rattle.ql_sat.specs.Answer.{IsNumbered}
 use Rattle.ql_sat.specs.Trail.{assigned_from, IsStep, IsTrail, IsSearching, IsFalseClause, is_seen, NoneSeen, NothingSeen, SeenHaveValues, IsDerived, IsAnalysis}
 use Rattle.ql_sat.specs.declared.trail.Step.{Step}
 use Rattle.ql_sat.proofs.Splitting.{pushed_good}
@@ -79,6 +83,28 @@ or_right : (a b : Bool) → b ≡ true → (a || b) ≡ true
 or_right true b h = refl
 or_right false b h = h
 
+all_push : {A : Type 0} (P : A → Type 0) (xs : List A) (x : A) → AllByRecursion P xs → P x → AllByRecursion P (xs ++ x ∷ [])
+all_push P [] x all h = (h, tt)
+all_push P (y ∷ ys) x all h = (all.0, all_push P ys x all.1 h)
+
+-- the hints of some lines in reverse
+pub all_reverse : {A : Type 0} (P : A → Type 0) (xs : List A) → AllByRecursion P xs → AllByRecursion P (reverse xs)
+all_reverse P [] all = tt
+all_reverse P (x ∷ xs) all = subst (AllByRecursion P) (sym (reverse-cons x xs)) (all_push P (reverse xs) x (all_reverse P xs all.1) all.0)
+
+-- what names a clause has a number from 1
+number_named : {X : Type 0} → (xs : List X) (n : ℕ) (x : X) → numbered xs n ≡ Some x → 1 ≤ n
+number_named xs zero x h = absurd (cc)
+number_named xs (suc n) x h = omega arith
+
+hint_numbered : (c : ClauseList) (lines : List Line) (h : Hint) (d : List Lit) → hinted c lines h ≡ Some d → IsNumbered h
+hint_numbered c lines (Given n) d names = number_named c.clauses n d names
+hint_numbered c lines (Earlier n) d names = line_named (numbered lines n) refl names
+  where
+    line_named : (o : Option Line) → numbered lines n ≡ o → option_map (λ line. line.clause) o ≡ Some d → 1 ≤ n
+    line_named None is g = absurd (cc)
+    line_named (Some line) is g = number_named lines n line is
+
 -- only the variables of the conflict are seen
 pub analysis_begin : (c : ClauseList) (lines : List Line) (trail : List Step) (m : List ℕ) (before seen : List Bool) (h : Hint) (d : List Lit) → IsSearching c lines trail m → hinted c lines h ≡ Some d → reading (marked m) d ≡ AllFalse → AreInRange c.variables d → NothingSeen before → ((v : ℕ) → is_seen seen v ≡ (has_variable d v || is_seen before v)) → IsAnalysis c lines trail (length trail) seen (h ∷ [])
 analysis_begin c lines trail m before seen h d searching names closed inside nothing_seen sees =
@@ -88,6 +114,7 @@ analysis_begin c lines trail m before seen h d searching names closed inside not
       derived = subst (λ (later : List Step). IsDerived c lines trail later seen (h ∷ [])) (sym none_left) (derived_start c lines trail seen h d names closed_there (λ v e. sees v ∙ or_left (has_variable d v) (is_seen before v) e));
       values = λ v e. valued v closed_there (from v (sym (sees v) ∙ e));
       none = subst (λ (later : List Step). NoneSeen seen later) (sym none_left) tt;
+      numbered = (hint_numbered c lines h d names, tt);
     }
   where
     from : (v : ℕ) → (has_variable d v || is_seen before v) ≡ true → has_variable d v ≡ true
@@ -168,6 +195,7 @@ analysis_resolve c lines trail m q e seen mid now hints h d searching l reason n
       derived = subst (λ (later : List Step). IsDerived c lines trail later now (hints ++ h ∷ [])) (sym (drop-cons trail q e l)) parts.0;
       values = parts.1;
       none = subst (λ (later : List Step). NoneSeen now later) (sym (drop-cons trail q e l)) parts.2;
+      numbered = all_push IsNumbered hints h analysis.numbered (hint_numbered c lines h d names);
     }
   where
     whole : (t xs ys : List Step) (s : Step) → t ≡ xs ++ s ∷ ys → s.reason ≡ Some h → IsTrail c lines nothing t → IsDerived c lines t ys seen hints → SeenHaveValues c.variables t seen → NoneSeen seen ys → ((v : ℕ) → is_seen now v ≡ cond (v == s.lit.var) false (is_seen mid v)) → IsDerived c lines t (s ∷ ys) now (hints ++ h ∷ []) × SeenHaveValues c.variables t now × NoneSeen now (s ∷ ys)
@@ -184,13 +212,15 @@ analysis_skip c lines trail q e seen hints l unseen analysis =
       derived = subst (λ (later : List Step). IsDerived c lines trail later seen hints) (sym next) (derived_skip c lines trail (drop (suc q) trail) (get_or trail q e) seen hints (subst (λ (i : ℕ). IsDerived c lines trail (drop i trail) seen hints) one analysis.derived));
       values = analysis.values;
       none = subst (λ (later : List Step). NoneSeen seen later) (sym next) (unseen, subst (λ (i : ℕ). NoneSeen seen (drop i trail)) one analysis.none);
+      numbered = analysis.numbered;
     }
 
 -- a good line more
-pub searching_keep : (c : ClauseList) (lines : List Line) (trail : List Step) (m : List ℕ) (clause : List Lit) (hints : List Hint) → IsSearching c lines trail m → AreInRange c.variables clause → hints_fault c lines (length lines + 1) hints (with_all_false nothing clause) ≡ None → IsSearching c (lines ++ record { clause = clause; hints = hints } ∷ []) trail m
-searching_keep c lines trail m clause hints searching inside none = record {
+pub searching_keep : (c : ClauseList) (lines : List Line) (trail : List Step) (m : List ℕ) (clause : List Lit) (hints : List Hint) → IsSearching c lines trail m → AreInRange c.variables clause → hints_fault c lines (length lines + 1) hints (with_all_false nothing clause) ≡ None → AllByRecursion IsNumbered hints → IsSearching c (lines ++ record { clause = clause; hints = hints } ∷ []) trail m
+searching_keep c lines trail m clause hints searching inside none numbers = record {
   good = pushed_good c lines clause hints searching.good inside none;
   in_range = All-push (λ (line : Line). AreInRange c.variables line.clause) lines (record { clause = clause; hints = hints }) searching.in_range inside;
+  numbered = all_push (λ (line : Line). AllByRecursion IsNumbered line.hints) lines (record { clause = clause; hints = hints }) searching.numbered numbers;
   steps = trail-more c lines (record { clause = clause; hints = hints } ∷ []) nothing trail searching.steps;
   values = searching.values;
   room = searching.room;

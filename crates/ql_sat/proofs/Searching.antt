@@ -22,6 +22,7 @@ pub searching_push : (c : ClauseList) (lines : List Line) (trail : List Step) (m
 searching_push c lines trail marks s h below step = record {
   good = h.good;
   in_range = h.in_range;
+  numbered = h.numbered;
   steps = trail-push c lines nothing trail s h.steps (subst (λ (p : Partial). IsStep c lines p s) h.values step);
   values = marked-set marks s.lit below ∙ ap (λ (p : Partial). with_true p s.lit) h.values ∙ sym (assigned-append nothing trail (s ∷ []));
   room = length-set marks s.lit.var (mark_of s.lit.positive) ∙ h.room;
@@ -51,6 +52,7 @@ pub searching_start : (c : ClauseList) (marks : List ℕ) → IsClear marks → 
 searching_start c marks clear long = record {
   good = refl;
   in_range = λ k d l. absurd (omega arith);
+  numbered = tt;
   steps = tt;
   values = marked-clear marks clear;
   room = long;
@@ -86,6 +88,7 @@ pub searching_pop : (c : ClauseList) (lines : List Line) (trail : List Step) (s 
 searching_pop c lines trail s marks h = record {
   good = h.good;
   in_range = h.in_range;
+  numbered = h.numbered;
   steps = trail-front c lines nothing trail (s ∷ []) h.steps;
   values = marked-unset (assigned_from nothing trail) s.lit marks (h.values ∙ assigned-append nothing trail (s ∷ [])) (fresh c lines (assigned_from nothing trail) s (trail-back c lines nothing trail (s ∷ []) h.steps).0);
   room = length-set marks s.lit.var 0 ∙ h.room;

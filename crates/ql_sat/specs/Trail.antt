@@ -1,6 +1,6 @@
 -- The trail of a search with learned clauses: what was assigned in what order, and why.
 use Rattle.std.specs.Prelude.{ℕ, zero, suc, ◌+◌, ◌*◌, ◌^◌, ◌<◌, ◌≤◌, ◌⊎◌, ◌≡◌, ◌==◌, if◌then◌else◌, is_some, slice_index, drop, Bool, true, false, not, List, [], ◌∷◌, ◌++◌, length, Option, None, Some, reverse, MatchOption}
-use Rattle.std.specs.List.{slice_index_or}
+use Rattle.std.specs.List.{AllByRecursion, slice_index_or}
 use Rattle.ql_cnf.specs.Satisfaction.{ClauseList, Satisfies}
 use Rattle.ql_cnf.specs.declared.lit.Lit.{Lit}
 use Rattle.ql_refute.specs.Marks.{marked, LinesInRange}
@@ -11,6 +11,7 @@ use Rattle.ql_refute.specs.declared.marks.Reading.TheVariants.{AllFalse, Forces,
 use Rattle.ql_refute.specs.declared.refutation.Hint.{Hint}
 use Rattle.ql_refute.specs.declared.refutation.Line.{Line}
 use Rattle.ql_refute.specs.declared.refutation.Hint.TheVariants.{Earlier}
+use Rattle.ql_sat.specs.Answer.{AreNumbered, IsNumbered}
 use Rattle.ql_sat.specs.Search.{AgreesWith, unset_count}
 use Rattle.ql_sat.specs.declared.turn.Turn.{Turn}
 use Rattle.ql_sat.specs.declared.turn.Turn.TheVariants.{More, Model, Refuted}
@@ -35,6 +36,7 @@ IsTrail c lines p (s ∷ ss) = IsStep c lines p s × IsTrail c lines (with_true 
 pub record IsSearching (c : ClauseList) (lines : List Line) (trail : List Step) (marks : List ℕ) : Type 0 where
   pub good : AreGood c lines
   pub in_range : LinesInRange c.variables lines
+  pub numbered : AreNumbered lines
   pub steps : IsTrail c lines nothing trail
   pub values : marked marks ≡ assigned_from nothing trail
   pub room : length marks ≡ c.variables + 1
@@ -126,6 +128,7 @@ pub record IsAnalysis (c : ClauseList) (lines : List Line) (trail : List Step) (
   pub derived : IsDerived c lines trail (drop i trail) seen hints
   pub values : SeenHaveValues c.variables trail seen
   pub none : NoneSeen seen (drop i trail)
+  pub numbered : AllByRecursion IsNumbered hints
 
 -- what a turn came to: the marks are a model, or a line is empty
 abbrev pub IsTurn : ClauseList → List Line → List ℕ → Turn → Type 0

@@ -1,6 +1,6 @@
 // From each conflict a learned clause, resolved backwards along the trail to one literal of the last
 // decisions.
-ghost use Rattle.std.specs.List.{slice_index_or};
+ghost use Rattle.std.specs.List.{AllByRecursion, slice_index_or};
 ghost use Rattle.std.specs.Prelude.{◌≡◌, ◌++◌, ◌∷◌, ◌||◌, is_some, ℕ, ◌+◌, ◌<◌, drop, [], false, length, IfNone, IfOk, IfSome, if◌then◌else◌, ◌==◌, List, MatchOption, OnOk, None, Some, take, true};
 ghost use Rattle.ql_cnf.specs.Satisfaction.{AreInRange};
 ghost use Rattle.ql_cnf.specs.declared.lit.Lit.{Lit};
@@ -8,6 +8,7 @@ ghost use Rattle.ql_refute.specs.Marks.{AllBelow, has_variable, marked};
 ghost use Rattle.ql_refute.specs.Partial.{nothing, reading, with_all_false};
 ghost use Rattle.ql_refute.specs.Verdict.{hinted, hints_fault};
 ghost use Rattle.ql_refute.specs.declared.marks.Reading.{Reading};
+ghost use Rattle.ql_sat.specs.Answer.{IsNumbered};
 ghost use Rattle.ql_sat.specs.Settled.{IsGuarded, IsLastSeen, IsWatched, WatchesForced, with_lines};
 ghost use Rattle.ql_sat.specs.declared.watches.Pair.{Pair};
 ghost use Rattle.ql_sat.specs.Trail.{IsAnalysis, IsAsserting, IsFalseClause, IsFirstAsserting, IsFirstFrom, IsLonger, IsOneSeen, IsSearching, IsTurn, IsUnitClause, NoneSeen, NothingSeen, is_seen, learned_to, trail_number};
@@ -126,6 +127,7 @@ fn keep(
     requires searching { IsSearching c.now lines.old.items trail.now marks.now }
     requires in_range { AreInRange c.now.variables clause.now }
     requires conflict { (k : ℕ) → hints_fault c.now lines.old.items k hints.items (with_all_false nothing clause.now) ≡ None }
+    requires numbered { AllByRecursion IsNumbered hints.items }
     ensures searching { OnOk result (IsSearching c.now lines.new.items trail.now marks.now) }
     ensures number { IfOk result (λ number. hinted c.now lines.new.items (Hint.Earlier number) ≡ Some clause.now) }
     ensures pushed { OnOk result (lines.new.items ≡ lines.old.items ++ record { clause = clause.now; hints = hints.items } ∷ []) }

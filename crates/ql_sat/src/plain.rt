@@ -23,8 +23,8 @@ enum Outcome {
     Refuted(u64),
 }
 
-/// The same contract by a recursion on the variables that are unset, without learning: the plain
-/// program beside which the solver is tested.
+/// An answer that is right too, by a recursion on the variables that are unset, without learning: the
+/// plain program beside which the solver is tested.
 pub fn decide(alloc: Global, c: &Clauses) -> Result<Decided, NoMemory>
     ensures { IfOk result (IsRight c.now) }
 {

@@ -3,7 +3,7 @@ ghost use Rattle.std.specs.Prelude.{◌≡◌, ◌≢◌, ℕ, ◌+◌, ◌<◌,
 ghost use Rattle.std.specs.List.{slice_index_or};
 ghost use Rattle.ql_cnf.specs.Satisfaction.{ClausesInRange};
 ghost use Rattle.ql_refute.specs.Verdict.{hinted};
-ghost use Rattle.ql_sat.specs.Answer.{IsRight};
+ghost use Rattle.ql_sat.specs.Answer.{HasNumbers, IsRight};
 ghost use Rattle.ql_sat.specs.Settled.{IsWatched, with_lines};
 ghost use Rattle.ql_sat.specs.Trail.{IsSearching, IsTurn, trail_number};
 
@@ -27,7 +27,10 @@ use std::alloc::Global;
 /// on, with the value that it had last. There are no restarts. The search ends since each turn makes the
 /// trail greater, read as a number in base 3 in which a decision is the digit 1 and a forced literal 2.
 pub fn decide(alloc: Global, c: &Clauses) -> Result<Decided, NoMemory>
-    ensures { IfOk result (IsRight c.now) }
+    ensures right { IfOk result (IsRight c.now) }
+
+    // No hint of a refutation has the number 0, which names nothing.
+    ensures numbered { IfOk result HasNumbers }
 {
     let mut marks = vec![in alloc; 0; c.variables() as usize + 1]?;
     let mut seen = vec![in alloc; false; c.variables() as usize + 1]?;

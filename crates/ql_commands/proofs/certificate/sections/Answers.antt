@@ -15,16 +15,16 @@ pub loop-target-preserved : goal.loop-target-preserved
 loop-target-preserved c =
     let p = c.args.classified.now.program in
     let goals = goals_at c.args.classified.now.levels in
-    let g = c.refutation.ensures.0 in
-    let at : slice_get goals c.loop-target.target ≡ Some g = c.refutation.ensures.1 in
+    let g = c.refutation.ensures.refuted.0 in
+    let at : slice_get goals c.loop-target.target ≡ Some g = c.refutation.ensures.refuted.1 in
     let here : slice_get (goals_at c.levels-levels.result.now) c.loop-target.target ≡ Some g = subst (λ (l : LevelLists). slice_get (goals_at l) c.loop-target.target ≡ Some g) (sym c.levels-levels.ensures.same) at in
     let s : Section = record { name = c.heading-name.result.0; level = c.heading-name.result.1; refutation = c.in_ok-refutation.refutation } in
     let name : s.name ≡ name_of p g = c.heading-name.ensures.name g here ∙ ap (λ (q : Program). name_of q g) c.typed-typed.ensures in
     let level : s.level ≡ level_of g = c.heading-name.ensures.level g here in (
       one_more_zipped (IsSectionOf p) goals c.loop-target.target g c.loop-target.sections.items c.push.new.self.items s at c.in_ok-push.ensures.items c.loop-target.invariant.0
-          (section_is p g s c.refutation.result.now.lines name level c.in_ok-refutation.ensures.same c.refutation.ensures.2),
+          (section_is p g s c.refutation.result.now.lines name level c.in_ok-refutation.ensures.same c.refutation.ensures.refuted.2),
       all_more IsSection c.loop-target.sections.items c.push.new.self.items s c.in_ok-push.ensures.items c.loop-target.invariant.1
-          (section_spelled p g s c.refutation.result.now.lines c.heading-name.ensures.is_name c.in_ok-refutation.ensures.same c.in_ok-refutation.ensures.lines c.in_ok-refutation.ensures.few c.refutation.ensures.2),
+          (section_spelled p g s c.refutation.result.now.lines c.heading-name.ensures.is_name c.in_ok-refutation.ensures.same c.in_ok-refutation.ensures.lines c.in_ok-refutation.ensures.few c.refutation.ensures.refuted.2),
     )
 
 pub returns-clause-targets : goal.returns-clause-targets

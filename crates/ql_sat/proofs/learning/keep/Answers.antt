@@ -5,7 +5,7 @@ use Rattle.ql_sat.proofs.learning.keep.Goals as goal
 
 pub returns-clause-searching : goal.returns-clause-searching
 returns-clause-searching c =
-    rw c.in_ok-number.ensures.pushed (searching_keep c.args.c.now c.args.lines.now.items c.args.trail.now c.args.marks.now c.args.clause.now c.args.hints.items c.requires.searching c.requires.in_range (c.requires.conflict (length c.args.lines.now.items + 1)))
+    rw c.in_ok-number.ensures.pushed (searching_keep c.args.c.now c.args.lines.now.items c.args.trail.now c.args.marks.now c.args.clause.now c.args.hints.items c.requires.searching c.requires.in_range (c.requires.conflict (length c.args.lines.now.items + 1)) c.requires.numbered)
 
 pub returns-clause-number : goal.returns-clause-number
 returns-clause-number c =

@@ -3,7 +3,9 @@ use Rattle.ql_refute.specs.Marks.{marked}
 use Rattle.ql_refute.specs.Partial.{Partial, nothing}
 use Rattle.ql_refute.specs.Verdict.{hinted}
 use Rattle.ql_refute.specs.declared.refutation.Hint.TheVariants.{Earlier}
+use Rattle.ql_sat.specs.Answer.{IsNumbered}
 use Rattle.ql_sat.specs.Trail.{assigned_from, learned_to}
+use Rattle.ql_sat.proofs.Analysis.{all_reverse}
 use Rattle.ql_sat.proofs.Asserting.{learned_greater, learned_unit, nothing_learned}
 use Rattle.ql_sat.proofs.Latest.{forced_within, learned_watched}
 use Rattle.ql_sat.proofs.Learned.{learned_in_range, learned_conflict}
@@ -17,6 +19,10 @@ pub keep-requires-clause-conflict : goal.keep-requires-clause-conflict
 keep-requires-clause-conflict c =
     let analysis = rw (c.deref.ensures.value, c.deref-2.ensures.value) at c.in_ok-found.ensures.analysis.1 in
     λ k. rw (c.reverse.ensures.items, c.in_ok-clause.ensures, c.variables.ensures) (learned_conflict c.args.c.now c.args.lines.now.items c.args.trail.now.items c.args.marks.now c.in_ok-found.ensures.analysis.0 c.analyze.new.seen c.analyze.new.hints.items c.requires.searching analysis k)
+
+pub keep-requires-clause-numbered : goal.keep-requires-clause-numbered
+keep-requires-clause-numbered c =
+    rw c.reverse.ensures.items (all_reverse IsNumbered c.analyze.new.hints.items c.in_ok-found.ensures.analysis.1.numbered)
 
 pub returns-in_default-clause-turn : goal.returns-in_default-clause-turn
 returns-in_default-clause-turn c =

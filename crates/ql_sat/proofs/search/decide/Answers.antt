@@ -24,16 +24,19 @@ turns-init c =
 take_whole : (n : ℕ) (xs ys : List ℕ) → length xs ≡ n → take n (xs ++ ys) ≡ xs
 take_whole n xs ys h = let least : n ≤ length xs = omega arith in let most : length xs ≤ n = omega arith in take-append-le n xs ys least ∙ take_all n xs most
 
-pub returns-in-Model : goal.returns-in-Model
-returns-in-Model c =
+pub returns-in-Model-clause-right : goal.returns-in-Model-clause-right
+returns-in-Model-clause-right c =
     let model = rw c.in-Model.is at c.in_ok-take_turn.ensures.turn in
     let same : length c.take_turn.new.marks ≡ c.turns.marks.len = omega (arith, c.turns.marks.ok.0, c.turns.invariant.searching.room, c.in_ok-take_turn.ensures.searching.room) in
     let agrees : AgreesWith (length c.take_turn.new.marks - 1) c.take_turn.new.marks c.in_ok-assignment-in-Model.field-0 = rw (c.deref.ensures.value, take_whole) at c.in_ok-assignment-in-Model.ensures in
     let most : length c.take_turn.new.marks - 1 ≡ c.args.c.now.variables = omega (arith, c.in_ok-take_turn.ensures.searching.room) in
     model c.in_ok-assignment-in-Model.field-0 (rw most at agrees)
 
-pub returns-in-Refuted : goal.returns-in-Refuted
-returns-in-Refuted c =
+pub returns-in-Refuted-clause-numbered : goal.returns-in-Refuted-clause-numbered
+returns-in-Refuted-clause-numbered c = rw c.of.ensures c.in_ok-take_turn.ensures.searching.numbered
+
+pub returns-in-Refuted-clause-right : goal.returns-in-Refuted-clause-right
+returns-in-Refuted-clause-right c =
     let outcome = rw c.in-Refuted.is at c.in_ok-take_turn.ensures.turn in
     rw c.of.ensures (accepted c.args.c.now c.take_turn.new.lines.items c.in-Refuted.field-0 c.in_ok-take_turn.ensures.searching.good outcome)
 
