@@ -1,5 +1,5 @@
 -- The other lines of a holds file: that of the current effect, those of effects, and the last one.
-use Rattle.std.specs.Prelude.{◌≡◌, ℕ, ◌<◌, ◌≤◌, ◌^◌, List, [], ◌∷◌, ◌++◌, map, length, codes, decimal, Option, None, Some, is_none, nat_le, if◌then◌else◌}
+use Rattle.std.specs.Prelude.{◌≡◌, ℕ, ◌≤◌, List, [], ◌∷◌, ◌++◌, map, length, codes, decimal, Option, None, Some, is_none, nat_le, if◌then◌else◌}
 use Rattle.std.specs.List.{AllByRecursion, list_any}
 use Rattle.ql_base.specs.IdLists.{IsAscending}
 use Rattle.ql_base.specs.Names.{IsName}

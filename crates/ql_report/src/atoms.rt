@@ -1,5 +1,5 @@
 // The true atoms of an assignment.
-ghost use Rattle.std.specs.Prelude.{◌≡◌, ◌<◌, ◌≤◌, ◌++◌, false, length, slice_get, unwrap_or, OnOk};
+ghost use Rattle.std.specs.Prelude.{◌≡◌, ◌<◌, ◌++◌, false, length, slice_get, unwrap_or, OnOk};
 ghost use Rattle.ql_atoms.specs.Atoms.{Fits, place_of, size_of};
 ghost use Rattle.ql_typing.specs.Operations.{all_ops};
 ghost use Rattle.ql_report.specs.Atoms.{atom_text, atoms_line, constant_word, currents_text, kind_word, operation_text, operations_text, relation_text, relations_text, row_text, told_atom};

@@ -1,9 +1,7 @@
-ghost use Rattle.std.specs.Prelude.{◌≡◌, ◌≤◌, ◌↔◌, ◌∷◌, ◌++◌, ◌^◌, ◌<◌, [], List, ℕ, IfOk, IsTrue, MatchOption, codes, decimal, map};
-ghost use Rattle.std.specs.List.{AllByRecursion};
-ghost use Rattle.ql_base.specs.IdLists.{IsAscending};
+ghost use Rattle.std.specs.Prelude.{◌≡◌, ◌≤◌, ◌↔◌, ◌∷◌, ◌<◌, List, ℕ, IfOk, IsTrue, MatchOption, codes, decimal};
 ghost use Rattle.ql_base.specs.Names.{IsName};
 ghost use Rattle.ql_lines.specs.Fields.{fields_of, Fields, IsId};
-ghost use Rattle.ql_report.specs.EffectLine.{Fits, IsEffectLine, at_fields, end_fields};
+ghost use Rattle.ql_report.specs.EffectLine.{IsEffectLine, at_fields, end_fields};
 
 use ql_base::{IdSet, NoMemory, Word};
 use ql_lines::{after_name, after_number, after_word, ascending_ids, first_field};

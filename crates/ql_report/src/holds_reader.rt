@@ -1,5 +1,4 @@
-ghost use Rattle.std.specs.Prelude.{◌≡◌, ◌≤◌, ◌<◌, ◌^◌, IfErr, IfOk, length};
-ghost use Rattle.ql_lines.specs.Lines.{Numbered};
+ghost use Rattle.std.specs.Prelude.{◌≤◌, ◌<◌, ◌^◌, IfErr, IfOk, length};
 ghost use Rattle.ql_report.specs.EffectLine.{most_effects};
 ghost use Rattle.ql_report.specs.HoldsFile.{IsRefusedBy, Takes, Unbegun, WithContract, WithEffects};
 ghost use Rattle.ql_report.specs.Readings.{AreFew, line_of, named_of, stage_of};

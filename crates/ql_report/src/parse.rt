@@ -1,4 +1,4 @@
-ghost use Rattle.std.specs.Prelude.{◌≡◌, ◌≤◌, ◌<◌, ◌^◌, ◌↔◌, IfOk, IsTrue, MatchResult, length};
+ghost use Rattle.std.specs.Prelude.{◌≤◌, ◌<◌, ◌^◌, ◌↔◌, IfOk, IsTrue, MatchResult, length};
 ghost use Rattle.ql_lines.specs.Lines.{ahead_from};
 ghost use Rattle.ql_report.specs.HoldsFile.{IsHolding, IsRefusal};
 ghost use Rattle.ql_report.specs.Readings.{asked_of};

@@ -1,6 +1,6 @@
-ghost use Rattle.std.specs.Prelude.{◌≡◌, ◌≤◌, ◌+◌, ◌^◌, ◌<◌, IfErr, IfOk, OnErr, None, length};
-ghost use Rattle.ql_base.specs.Numbering.{place, with_name};
-ghost use Rattle.ql_report.specs.EffectLine.{draft_of, effect_rule, most_effects, number_of, plain_draft, told_with};
+ghost use Rattle.std.specs.Prelude.{◌≡◌, ◌≤◌, ◌<◌, IfErr, IfOk, None, length};
+ghost use Rattle.ql_base.specs.Numbering.{with_name};
+ghost use Rattle.ql_report.specs.EffectLine.{effect_rule, most_effects, number_of, plain_draft, told_with};
 ghost use Rattle.ql_report.specs.Readings.{IsRule};
 
 use crate::effect_line::EffectLine;
