@@ -1,4 +1,4 @@
-ghost use Rattle.std.specs.Prelude.{◌≡◌, ◌≤◌, IfOk, MatchResult, length};
+ghost use Rattle.std.specs.Prelude.{◌≤◌, IfOk, MatchResult, length};
 ghost use Rattle.ql_lines.specs.Lines.{ahead_from};
 ghost use Rattle.ql_execution_files.specs.Effects.{AreOfProgram};
 ghost use Rattle.ql_execution_files.specs.ExecutionFile.{IsExecutionFile, IsRefusal};

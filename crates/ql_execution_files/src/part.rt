@@ -1,4 +1,4 @@
-ghost use Rattle.std.specs.Prelude.{◌≡◌, ◌≤◌, ◌∷◌, List, ℕ, IfOk, MatchOption, length, false, true};
+ghost use Rattle.std.specs.Prelude.{◌≡◌, ◌≤◌, ◌∷◌, List, ℕ, IfOk, MatchOption, length, false};
 ghost use Rattle.std.specs.List.{prefix_len};
 ghost use Rattle.ql_base.specs.Bytes.{begins};
 ghost use Rattle.ql_value.specs.declared.value.Value.{Value};

@@ -1,7 +1,5 @@
-ghost use Rattle.std.specs.Prelude.{◌≡◌, ◌≤◌, ◌↔◌, ◌∷◌, ◌++◌, ◌^◌, ◌<◌, [], List, ℕ, IfOk, IsTrue, MatchOption, Option, codes, decimal, map};
-ghost use Rattle.std.specs.List.{AllByRecursion};
-ghost use Rattle.ql_base.specs.IdLists.{IsAscending};
-ghost use Rattle.ql_lines.specs.Fields.{FirstField, fields_of, Fields, IsId};
+ghost use Rattle.std.specs.Prelude.{◌≡◌, ◌≤◌, ◌∷◌, ◌<◌, ℕ, IfOk, MatchOption, Option, codes, decimal};
+ghost use Rattle.ql_lines.specs.Fields.{fields_of, Fields, IsId};
 ghost use Rattle.ql_execution_files.specs.EffectLine.{FitsTxn, IsSetting, txn_text};
 
 use crate::part::after_byte;

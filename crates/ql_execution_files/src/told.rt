@@ -1,4 +1,4 @@
-ghost use Rattle.std.specs.Prelude.{◌≡◌, ◌≤◌, ◌+◌, ◌^◌, ◌<◌, IfOk, IfSome, Option, length};
+ghost use Rattle.std.specs.Prelude.{◌≡◌, ◌≤◌, ◌<◌, IfOk, IfSome, Option, length};
 ghost use Rattle.std.specs.Option.{option_copied};
 ghost use Rattle.ql_base.specs.Numbering.{with_name};
 ghost use Rattle.ql_typing.specs.Operations.{all_ops};

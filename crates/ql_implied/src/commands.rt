@@ -1,5 +1,4 @@
 ghost use Rattle.std.specs.Prelude.{◌≡◌, ◌⊎◌, ℕ, List};
-ghost use Rattle.ql_commands.specs.declared.answer.Answer.{Answer};
 ghost use Rattle.ql_commands.specs.declared.answer.Answer.TheVariants.{Done, No};
 ghost use Rattle.ql_commands.specs.Check.{CheckSays, order_text};
 ghost use Rattle.ql_commands.specs.Classify.{ClassifySays};

@@ -1,5 +1,5 @@
 -- The effects inside a begun transaction are under one declared name, which is that of the first of them.
-use Rattle.std.proofs.Common.{◌≡◌, ◌⊎◌, inl, inr, ◌<◌, ℕ, zero, suc, Bool, true, false, ◌||◌, cond, nat_eq, nat_lt, List, [], ◌∷◌, Option, None, Some, length, refl, sym, ap, subst, ◌∙◌, arith}
+use Rattle.std.proofs.Common.{◌≡◌, ◌⊎◌, inl, inr, ◌<◌, ℕ, zero, suc, Bool, true, false, ◌||◌, cond, nat_eq, nat_lt, List, [], ◌∷◌, Option, None, Some, refl, sym, ap, subst, ◌∙◌, arith}
 use Rattle.std.specs.List.{slice_get}
 use Rattle.std.specs.Prelude.{option_map}
 use Rattle.std.specs.Option.{IsSome}
@@ -12,7 +12,7 @@ use Rattle.ql_exec.specs.declared.effect.Member.TheVariants.{Alone, Inside}
 use Rattle.ql_exec.specs.Effects.{both, effect_at}
 use Rattle.ql_exec.specs.Execution.{IsExecution, same_name}
 use Rattle.ql_exec.specs.Relations.{same_run, sametxn}
-use Rattle.ql_verify.specs.Work.{runs_of, with_run, with_runs}
+use Rattle.ql_verify.specs.Work.{with_run, with_runs}
 use Rattle.ql_judging.specs.Members.{IsBegun, IsBegunOf, first_name, name_if, or_else}
 
 -- an effect inside a begun transaction under a name

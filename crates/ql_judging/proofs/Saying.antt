@@ -1,5 +1,5 @@
 -- What is said of two files.
-use Rattle.std.proofs.Common.{◌≡◌, inr, ℕ, List, Some, ap, arith}
+use Rattle.std.proofs.Common.{◌≡◌, ℕ, List, Some, ap, arith}
 use Rattle.ql_commands.specs.Sources.{IsSourceOf}
 use Rattle.ql_exec.specs.declared.effect.Effect.{Effect}
 use Rattle.ql_execution_files.specs.ExecutionFile.{FirstFault, IsExecutionFile, IsRefusal}

@@ -1,8 +1,5 @@
 // The line that tells the first breach of a contract.
 ghost use Rattle.std.specs.Prelude.{◌≡◌, ◌<◌, ◌++◌, Some, IfOk, OnOk, length};
-ghost use Rattle.ql_exec.specs.declared.effect.Effect.{Effect};
-ghost use Rattle.ql_exec.specs.Effects.{effect_at};
-ghost use Rattle.ql_lang.specs.declared.program.Program.{Program};
 ghost use Rattle.ql_typing.specs.Operations.{all_ops};
 ghost use Rattle.ql_verify.specs.Verdicts.{AreOfProgram, IsVerdict};
 ghost use Rattle.ql_judging.specs.Verify.{TellsBreach, numbers, op_text, places_text, txn_text};
