@@ -5,3 +5,5 @@ pub mod Names
 pub mod Numbers
 pub mod Numbering
 pub mod IdLists
+pub mod Ranges
+pub mod Ids

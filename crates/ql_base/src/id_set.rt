@@ -8,7 +8,7 @@ use std::marker::Model;
 /// A set of ids, seen as their strictly ascending list.
 ///
 /// An id above all others is added in constant time.
-#[derive(Debug, Drop)]
+#[derive(Drop)]
 pub struct IdSet {
     ids: Vec<u32>,
 }

@@ -14,7 +14,7 @@ pub enum SectionLevel {
 
 /// What a certificate tells of one target: its name, a level, and a refutation of the ground problem
 /// of the target at that level.
-#[derive(Debug, Drop)]
+#[derive(Drop)]
 pub struct Section {
     pub name: Word,
     pub level: SectionLevel,
@@ -22,7 +22,7 @@ pub struct Section {
 }
 
 /// Sections in order.
-#[derive(Debug, Drop)]
+#[derive(Drop)]
 pub struct Sections {
     items: Vec<Section>,
 }
@@ -60,7 +60,7 @@ impl Sections {
 }
 
 /// A certificate: a section for each target, in order.
-#[derive(Debug, Drop)]
+#[derive(Drop)]
 pub struct Cert {
     pub sections: Sections,
 }

@@ -3,7 +3,7 @@ use ql_cnf::Assignment;
 use std::alloc::{AllocError, AllocFailed};
 
 /// Why a program isn't accepted: what fails first.
-#[derive(Debug, Drop)]
+#[derive(Drop)]
 pub enum Classless {
     /// No level is enough for the contract of the target, an operation's number or that of a declared
     /// transaction after all operations. The assignment satisfies the ground problem at the top level.

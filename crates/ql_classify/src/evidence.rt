@@ -19,7 +19,7 @@ use std::alloc::Global;
 
 /// What shows that a level is a target's least: for each level below it, the lowest first, an assignment
 /// that satisfies the ground problem there, and a refutation of the problem at it.
-#[derive(Debug, Drop)]
+#[derive(Drop)]
 pub(crate) struct Evidence {
     pub(crate) refutation: Refutation,
     pub(crate) lower: Vec<Assignment>,

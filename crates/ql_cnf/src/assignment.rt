@@ -5,7 +5,7 @@ use crate::{Clause, Clauses, Lit};
 use std::marker::Model;
 
 /// A truth value for each variable, in their order.
-#[derive(Debug, Drop)]
+#[derive(Drop)]
 pub struct Assignment {
     items: Vec<bool>,
 }

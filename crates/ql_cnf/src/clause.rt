@@ -7,7 +7,7 @@ use std::alloc::Global;
 use std::marker::Model;
 
 /// A clause: the disjunction of its literals, which are strictly ascending by variable.
-#[derive(Debug, Drop)]
+#[derive(Drop)]
 pub struct Clause {
     items: Vec<Lit>,
 }

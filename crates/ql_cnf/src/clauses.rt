@@ -10,7 +10,7 @@ use std::alloc::Global;
 use std::marker::Model;
 
 /// Clauses over the variables from 1 to a count: their conjunction.
-#[derive(Debug, Drop)]
+#[derive(Drop)]
 pub struct Clauses {
     variables: u32,
     clauses: Vec<Clause>,

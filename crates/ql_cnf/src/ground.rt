@@ -1,7 +1,7 @@
 use crate::Lit;
 
 /// A formula over literals.
-#[derive(Debug, Drop)]
+#[derive(Drop)]
 pub enum Ground {
     True,
     Leaf(Lit),

@@ -3,7 +3,7 @@ use Rattle.std.proofs.Common.{◌≡◌, ℕ, zero, suc, ◌<◌, ◌⊎◌, inl
 use Rattle.std.specs.List.{slice_get}
 use Rattle.std.proofs.lemmas.List.{length-map}
 use Rattle.std.proofs.lemmas.Option.{slice_get_within}
-use Rattle.ql_ground.specs.Ground.{upto}
+use Rattle.ql_base.specs.Ranges.{upto}
 use Rattle.ql_lang.specs.declared.name.Name.{Name}
 use Rattle.ql_lang.specs.declared.program.Program.{Program}
 use Rattle.ql_classify.specs.Outcome.{Test, OpHasLevel, UseIsWeak, TxnHasLevel, FirstFails, IsRefusal, all_tests, op_tests, use_tests, txn_tests, every_txn_tests, names_used}

@@ -10,7 +10,7 @@ use ql_value::Value;
 use std::marker::Model;
 
 /// Names with their values, one for each name in scope. Of a name that stands again the first value counts.
-#[derive(Debug, Drop)]
+#[derive(Drop)]
 pub struct Env {
     pairs: Vec<(Word, Value)>,
 }

@@ -11,7 +11,7 @@ pub enum Member {
 }
 
 /// What an effect carries to those that see it.
-#[derive(Debug, Drop)]
+#[derive(Drop)]
 pub enum Payload {
     /// It changes nothing.
     Nothing,
@@ -20,7 +20,7 @@ pub enum Payload {
 }
 
 /// What one call of an operation left behind.
-#[derive(Debug, Drop)]
+#[derive(Drop)]
 pub struct Effect {
     pub object: ObjId,
     pub op: OpId,
@@ -37,7 +37,7 @@ pub struct Effect {
 }
 
 /// An effect that isn't in an execution yet, and has no stamp.
-#[derive(Debug, Drop)]
+#[derive(Drop)]
 pub struct Draft {
     pub object: ObjId,
     pub op: OpId,

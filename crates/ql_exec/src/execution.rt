@@ -16,7 +16,7 @@ use std::alloc::Global;
 use std::marker::Model;
 
 /// An execution, seen as the list of its effects. They are numbered from 1.
-#[derive(Debug, Drop)]
+#[derive(Drop)]
 pub struct Execution {
     effects: Vec<Effect>,
     // The last effect of each session.

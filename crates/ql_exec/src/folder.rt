@@ -11,7 +11,7 @@ use ql_base::{IdSet, NoMemory, OpId};
 use ql_value::{Value, Values};
 
 /// What a call gives back, and what its effect carries.
-#[derive(Debug, Drop)]
+#[derive(Drop)]
 pub struct Answered {
     pub answer: Value,
     pub payload: Payload,

@@ -7,14 +7,14 @@ use std::alloc::Global;
 use std::marker::Model;
 
 /// The last effect of a session, by its id. The id is 0 where the session has no effect.
-#[derive(Clone, Copy, Debug)]
+#[derive(Clone, Copy)]
 pub(crate) struct Entry {
     session: SessId,
     last: u32,
 }
 
 /// The last effect of each session, seen as the list of the entries.
-#[derive(Debug, Drop)]
+#[derive(Drop)]
 pub(crate) struct Latest {
     entries: Vec<Entry>,
 }

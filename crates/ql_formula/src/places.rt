@@ -4,7 +4,7 @@ use ql_base::EffId;
 use std::marker::Model;
 
 /// The places of a formula's variables in one choice: at most five ids, seen as their list.
-#[derive(Debug, Drop)]
+#[derive(Drop)]
 pub struct Places {
     row: [EffId; 5],
     count: u8,

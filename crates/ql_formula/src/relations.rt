@@ -17,7 +17,7 @@ use std::marker::Model;
 ///
 /// Visibility and each of the two closures take a bit for each effect and each earlier one: 3 MB
 /// for 4,000 effects.
-#[derive(Debug, Drop)]
+#[derive(Drop)]
 pub struct Relations {
     keys: Vec<Key>,
     vis: Vec<Row>,

@@ -7,7 +7,7 @@ use std::marker::Model;
 
 /// Which earlier effects are related to one effect, seen as a list with a truth value for each of
 /// them in order. It takes a bit for each.
-#[derive(Debug, Drop)]
+#[derive(Drop)]
 pub(crate) struct Row {
     words: Vec<u64>,
     count: usize,

@@ -10,7 +10,7 @@ use ql_exec::Effect;
 use std::alloc::Global;
 
 /// Object and session of an effect.
-#[derive(Clone, Copy, Debug, PartialEq, Eq)]
+#[derive(Clone, Copy, PartialEq, Eq)]
 pub(crate) struct Key {
     pub object: ObjId,
     pub session: SessId,
@@ -18,7 +18,7 @@ pub(crate) struct Key {
 
 /// The two closures: chains of session order within one object and of visibility, and chains of
 /// session order and of visibility.
-#[derive(Clone, Copy, Debug, PartialEq, Eq)]
+#[derive(Clone, Copy, PartialEq, Eq)]
 pub(crate) enum Closure {
     OnOneObject,
     Across,

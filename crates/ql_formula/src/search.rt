@@ -15,7 +15,7 @@ use ql_exec::{Effect, Execution, Member};
 use ql_lang::{Body, OpChoice, Term};
 
 /// Of what a formula speaks: an effect, or a begun transaction.
-#[derive(Clone, Copy, Debug, PartialEq, Eq)]
+#[derive(Clone, Copy, PartialEq, Eq)]
 pub(crate) enum Current {
     AtEffect(EffId),
     OfRun(RunId),

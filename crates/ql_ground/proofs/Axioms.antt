@@ -12,7 +12,8 @@ use Rattle.ql_cnf.specs.Satisfaction.{clause_true}
 use Rattle.ql_ground.specs.Effects.{Effect, effect_at}
 use Rattle.ql_ground.specs.Relations.{so, vis, sameobj, soo, sametxn, hbo, hb, is_op, IsExecution}
 use Rattle.ql_ground.specs.Rules.{Rule, rule, reflexive, symmetric, transitive, irreflexive, within, alike_left, alike_right, equality_rules, alike_op, alike_current, session_rules, object_rules, object_order_rules, order_rules, transaction_rules}
-use Rattle.ql_ground.specs.Ground.{chosen, op, instances, all_instances, alike_operations}
+use Rattle.ql_base.specs.Ids.{op}
+use Rattle.ql_ground.specs.Ground.{chosen, instances, all_instances, alike_operations}
 use Rattle.ql_ground.proofs.Laws.{so-trans, so-forward, so-backward, sameobj-refl, sameobj-sym, sameobj-trans, hb-one, hbo-one, hb-trans, hbo-trans, hb-irreflexive, hbo-sameobj, hbo-hb, sametxn-refl, sametxn-sym, sametxn-trans, sametxn-order}
 use Rattle.ql_ground.proofs.Upto.{all-append, upto-all}
 use Rattle.ql_ground.proofs.ReadOff.{ReadsOff}

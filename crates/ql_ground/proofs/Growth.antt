@@ -10,7 +10,8 @@ use Rattle.ql_cnf.proofs.CircuitLemmas.{clauses_of-append}
 use Rattle.ql_ground.specs.Bodies.{grouped}
 use Rattle.ql_typing.specs.WellFormed.{AreBelow}
 use Rattle.ql_ground.specs.Rules.{Rule}
-use Rattle.ql_ground.specs.Ground.{upto, choices, instances, all_instances}
+use Rattle.ql_base.specs.Ranges.{upto}
+use Rattle.ql_ground.specs.Ground.{choices, instances, all_instances}
 
 pub then : (old mid new a b : List (List Lit)) → mid ≡ old ++ clauses_of a → new ≡ mid ++ clauses_of b → new ≡ old ++ clauses_of (a ++ b)
 then old mid new a b h g =

@@ -21,7 +21,9 @@ use Rattle.ql_levels.specs.declared.level.TxnLevel.{TxnLevel}
 use Rattle.ql_levels.specs.declared.level.TxnLevel.TheVariants.{Rc, Mav, Rr}
 use Rattle.ql_ground.specs.Bodies.{current_effect, body_circuit}
 use Rattle.ql_ground.specs.Rules.{Rule, equality_rules, alike_current, session_rules, object_rules, object_order_rules, order_rules, transaction_rules, level_rule, txn_level_rules, committed_rule, monotonic_rule, repeatable_rule, alike_left, within, transitive, symmetric, irreflexive}
-use Rattle.ql_ground.specs.Ground.{op, upto, choices, chosen, at, implication, instances, all_instances, alike_operations, some_operation, one_operation, one_type, axioms, all_variable_operations, op_size, txn_size, op_ground, txn_ground}
+use Rattle.ql_base.specs.Ranges.{upto}
+use Rattle.ql_base.specs.Ids.{op}
+use Rattle.ql_ground.specs.Ground.{choices, chosen, at, implication, instances, all_instances, alike_operations, some_operation, one_operation, one_type, axioms, all_variable_operations, op_size, txn_size, op_ground, txn_ground}
 use Rattle.ql_ground.specs.Parts.{op_groups, txn_groups}
 use Rattle.ql_ground.specs.Order.{GivesLevel, GivesTxnLevel}
 use Rattle.ql_ground.proofs.Upto.{ForEach, AllBelow, each-at, choices-all}

@@ -15,7 +15,9 @@ use Rattle.ql_ground.specs.Relations.{is_op}
 use Rattle.ql_ground.specs.Truth.{Chosen}
 use Rattle.ql_ground.specs.Implication.{FitsProgram}
 use Rattle.ql_typing.specs.WellFormed.{AreBelow, AreChoicesOf}
-use Rattle.ql_ground.specs.Ground.{upto, op, implication, some_operation, one_operation, one_type, all_variable_operations}
+use Rattle.ql_base.specs.Ranges.{upto}
+use Rattle.ql_base.specs.Ids.{op}
+use Rattle.ql_ground.specs.Ground.{implication, some_operation, one_operation, one_type, all_variable_operations}
 use Rattle.ql_ground.proofs.Laws.{is_op-one, one-found, found-one}
 use Rattle.ql_ground.proofs.Upto.{all-append, upto-all, upto-any}
 use Rattle.ql_ground.proofs.ReadOff.{ReadsOff}

@@ -9,7 +9,8 @@ use Rattle.ql_atoms.specs.declared.atoms.PairKind.TheVariants.{Eq, So, SameObj, 
 use Rattle.ql_atoms.specs.Atoms.{Size, Fits, kind_place, place_of, number_of, count_of, relations_of}
 use Rattle.ql_atoms.proofs.Numbers.{counted}
 use Rattle.ql_cnf.specs.Satisfaction.{value_of}
-use Rattle.ql_ground.specs.Ground.{upto, op}
+use Rattle.ql_base.specs.Ranges.{upto}
+use Rattle.ql_base.specs.Ids.{op}
 use Rattle.ql_ground.proofs.Upto.{length-upto, upto-at}
 
 kind_at : ℕ → PairKind

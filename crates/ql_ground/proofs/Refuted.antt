@@ -23,7 +23,8 @@ use Rattle.ql_ground.specs.Effects.{Effect, effect_at}
 use Rattle.ql_ground.specs.Relations.{IsExecution, is_op, sametxn, inside}
 use Rattle.ql_ground.specs.Rules.{equality_rules, alike_current, transaction_rules, txn_level_rules, session_rules, object_rules, object_order_rules, order_rules, level_rule}
 use Rattle.ql_ground.specs.Bodies.{current_effect, constant_of, body_circuit}
-use Rattle.ql_ground.specs.Ground.{op, implication, instances, all_instances, alike_operations, some_operation, one_operation, one_type, axioms, all_variable_operations, op_size, op_ground, txn_size, txn_ground, problem_of, op_problem, txn_problem}
+use Rattle.ql_base.specs.Ids.{op}
+use Rattle.ql_ground.specs.Ground.{implication, instances, all_instances, alike_operations, some_operation, one_operation, one_type, axioms, all_variable_operations, op_size, op_ground, txn_size, txn_ground, problem_of, op_problem, txn_problem}
 use Rattle.ql_ground.specs.Truth.{in_range, Chosen, Holds, HoldsTxn, place_of, statement_true}
 use Rattle.ql_ground.specs.Implication.{IsContractOf, FitsProgram, Implies, ImpliesTxn}
 use Rattle.ql_typing.specs.WellFormed.{IsTermOf, AreChoicesOf}

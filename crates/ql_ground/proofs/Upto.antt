@@ -5,7 +5,8 @@ use Rattle.std.proofs.lemmas.List.{get_or_append_left, get_or-append-add}
 use Rattle.std.proofs.lemmas.List.Folds.{list_all-append, list_any-append}
 use Rattle.std.proofs.lemmas.Nat.{mul-add-lt}
 use Rattle.std.specs.List.{list_all, list_any}
-use Rattle.ql_ground.specs.Ground.{upto, choices}
+use Rattle.ql_base.specs.Ranges.{upto}
+use Rattle.ql_ground.specs.Ground.{choices}
 
 pub length-upto : {A : Type 0} (n w : ℕ) (f : ℕ → List A) → ((i : ℕ) → length (f i) ≡ w) → length (upto n f) ≡ n * w
 length-upto zero w f h = omega arith

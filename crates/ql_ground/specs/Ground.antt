@@ -2,7 +2,8 @@
 -- problem's clauses are these sorted by variable, without those that hold both signs of one.
 use Rattle.std.specs.Prelude.{ℕ, zero, suc, ◌+◌, ◌==◌, nat_lt, if◌then◌else◌, List, [], ◌∷◌, ◌++◌, map, length, slice_index}
 use Rattle.std.specs.List.{flat_map, slice_index_or}
-use Rattle.ql_base.specs.declared.ids.OpId.{OpId}
+use Rattle.ql_base.specs.Ranges.{upto}
+use Rattle.ql_base.specs.Ids.{op}
 use Rattle.ql_atoms.specs.declared.atoms.Atom.{Atom}
 use Rattle.ql_atoms.specs.declared.atoms.Atom.TheVariants.{Pair, Current, Is}
 use Rattle.ql_atoms.specs.declared.atoms.PairKind.TheVariants.{SameObj}
@@ -18,18 +19,10 @@ use Rattle.ql_levels.specs.declared.level.TxnLevel.{TxnLevel}
 use Rattle.ql_ground.specs.Rules.{Rule, equality_rules, alike_op, alike_current, session_rules, object_rules, object_order_rules, order_rules, transaction_rules, level_rule, txn_level_rules}
 use Rattle.ql_ground.specs.Bodies.{current_effect, body_circuit}
 
--- f of 0, f of 1, and so on below n, one after the other
-abbrev pub upto : {A : Type 0} → ℕ → (ℕ → List A) → List A
-upto zero f = []
-upto (suc n) f = upto n f ++ f n
-
 -- f of every choice of numbers below n for some places, the first slowest
 abbrev pub choices : {A : Type 0} → ℕ → ℕ → (List ℕ → List A) → List A
 choices n zero f = f []
 choices n (suc places) f = upto n (λ first. choices n places (λ rest. f (first ∷ rest)))
-
-abbrev pub op : ℕ → OpId
-op o = record { 0 = o }
 
 -- where all hypotheses hold one of the conclusions does
 abbrev pub implication : Size → List Atom → List Atom → List Lit

@@ -14,7 +14,9 @@ use Rattle.ql_lang.specs.declared.formula.OpChoice.{OpChoice}
 use Rattle.ql_levels.specs.declared.level.Level.{Level}
 use Rattle.ql_levels.specs.declared.level.TxnLevel.{TxnLevel}
 use Rattle.ql_ground.specs.Bodies.{constant_of, current_effect}
-use Rattle.ql_ground.specs.Ground.{op, upto, at, implication, instances, all_instances, alike_operations, axioms, all_variable_operations}
+use Rattle.ql_base.specs.Ranges.{upto}
+use Rattle.ql_base.specs.Ids.{op}
+use Rattle.ql_ground.specs.Ground.{at, implication, instances, all_instances, alike_operations, axioms, all_variable_operations}
 
 -- the literal of an atom, or of its negation
 abbrev pub literal_of : Size → Bool → Atom → Lit

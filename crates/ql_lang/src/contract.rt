@@ -5,21 +5,21 @@ use crate::relation::Rel;
 use std::marker::Model;
 
 /// A contract: its variables, each over all effects, and what holds of them and the current effect.
-#[derive(Debug, Drop)]
+#[derive(Drop)]
 pub struct Contract {
     pub vars: Vars,
     pub body: Prop,
 }
 
 /// A variable. Where it names operations, it ranges over their effects alone.
-#[derive(Debug, Drop)]
+#[derive(Drop)]
 pub struct Var {
     pub name: Name,
     pub ops: NameList,
 }
 
 /// A contract's variables, in order.
-#[derive(Debug, Drop)]
+#[derive(Drop)]
 pub struct Vars {
     items: Vec<Var>,
 }
@@ -54,7 +54,7 @@ impl Vars {
 }
 
 /// What a contract says. `Txn` has the place of the word `txn`.
-#[derive(Debug, Drop)]
+#[derive(Drop)]
 pub enum Prop {
     True,
     Apply(Rel, Point, Point),
@@ -65,14 +65,14 @@ pub enum Prop {
 }
 
 /// A term: the current effect, with its place, or a variable.
-#[derive(Clone, Copy, Debug, PartialEq, Eq)]
+#[derive(Clone, Copy, PartialEq, Eq)]
 pub enum Point {
     CurAt(u32),
     Named(Name),
 }
 
 /// Terms in the order of the source.
-#[derive(Debug, Drop)]
+#[derive(Drop)]
 pub struct Points {
     items: Vec<Point>,
 }

@@ -7,7 +7,7 @@ use std::marker::Model;
 
 /// An expression and the place of its first token, without parentheses round the whole of it.
 #[cycle(expression)]
-#[derive(Debug, Drop)]
+#[derive(Drop)]
 pub struct Expr {
     pub at: u32,
     pub node: ExprNode,
@@ -15,7 +15,7 @@ pub struct Expr {
 
 /// What an expression is made of.
 #[cycle(expression)]
-#[derive(Debug, Drop)]
+#[derive(Drop)]
 pub enum ExprNode {
     Int(i64),
     Text(TextLit),
@@ -31,7 +31,7 @@ pub enum ExprNode {
 
 /// The arguments of a call, in order.
 #[cycle(expression)]
-#[derive(Debug, Drop)]
+#[derive(Drop)]
 pub struct Exprs {
     items: Vec<Expr>,
 }
@@ -58,7 +58,7 @@ impl Exprs {
 }
 
 /// The operators of two operands.
-#[derive(Clone, Copy, Debug, PartialEq, Eq)]
+#[derive(Clone, Copy, PartialEq, Eq)]
 pub enum BinOp {
     Or,
     And,
@@ -74,7 +74,7 @@ pub enum BinOp {
 }
 
 /// The bytes between the quotes of a text.
-#[derive(Debug, Drop)]
+#[derive(Drop)]
 pub struct TextLit {
     bytes: Vec<u8>,
 }

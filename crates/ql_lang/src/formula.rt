@@ -5,21 +5,21 @@ use ql_base::IdSet;
 use std::marker::Model;
 
 /// A contract whose names are resolved.
-#[derive(Debug, Drop)]
+#[derive(Drop)]
 pub struct Formula {
     pub vars: Choices,
     pub body: Body,
 }
 
 /// The operations over whose effects a variable ranges.
-#[derive(Debug, Drop)]
+#[derive(Drop)]
 pub enum OpChoice {
     Any,
     OneOf(IdSet),
 }
 
 /// The choice of each of a formula's variables, in order.
-#[derive(Debug, Drop)]
+#[derive(Drop)]
 pub struct Choices {
     items: Vec<OpChoice>,
 }
@@ -54,7 +54,7 @@ impl Choices {
 }
 
 /// What a formula says.
-#[derive(Debug, Drop)]
+#[derive(Drop)]
 pub enum Body {
     True,
     Apply(Rel, Term, Term),
@@ -65,14 +65,14 @@ pub enum Body {
 }
 
 /// The current effect, or a variable by its number from 0.
-#[derive(Clone, Copy, Debug, PartialEq, Eq)]
+#[derive(Clone, Copy, PartialEq, Eq)]
 pub enum Term {
     Cur,
     Var(u32),
 }
 
 /// Terms in order.
-#[derive(Debug, Drop)]
+#[derive(Drop)]
 pub struct Terms {
     items: Vec<Term>,
 }

@@ -4,14 +4,14 @@ use ql_base::Word;
 use std::marker::Model;
 
 /// A name of the source and the place of its first byte.
-#[derive(Clone, Copy, Debug, PartialEq, Eq)]
+#[derive(Clone, Copy, PartialEq, Eq)]
 pub struct Name {
     pub word: Word,
     pub at: u32,
 }
 
 /// Names in the order of the source.
-#[derive(Debug, Drop)]
+#[derive(Drop)]
 pub struct NameList {
     items: Vec<Name>,
 }

@@ -6,7 +6,7 @@ use crate::name::Name;
 use std::marker::Model;
 
 /// The kinds of single values.
-#[derive(Clone, Copy, Debug, PartialEq, Eq)]
+#[derive(Clone, Copy, PartialEq, Eq)]
 pub enum Base {
     Int,
     Bool,
@@ -14,7 +14,7 @@ pub enum Base {
 }
 
 /// The kinds of values.
-#[derive(Clone, Copy, Debug, PartialEq, Eq)]
+#[derive(Clone, Copy, PartialEq, Eq)]
 pub enum Kind {
     Unit,
     Int,
@@ -25,14 +25,14 @@ pub enum Kind {
 }
 
 /// A parameter of an operation.
-#[derive(Clone, Copy, Debug, PartialEq, Eq)]
+#[derive(Clone, Copy, PartialEq, Eq)]
 pub struct Param {
     pub name: Name,
     pub base: Base,
 }
 
 /// An operation's parameters, in order.
-#[derive(Debug, Drop)]
+#[derive(Drop)]
 pub struct Params {
     items: Vec<Param>,
 }
@@ -67,7 +67,7 @@ impl Params {
 }
 
 /// A value that an operation emits, under a name.
-#[derive(Debug, Drop)]
+#[derive(Drop)]
 pub struct Bind {
     pub name: Name,
     pub base: Base,
@@ -75,7 +75,7 @@ pub struct Bind {
 }
 
 /// An operation's emitted values, in order.
-#[derive(Debug, Drop)]
+#[derive(Drop)]
 pub struct Binds {
     items: Vec<Bind>,
 }
@@ -115,14 +115,14 @@ impl Binds {
 }
 
 /// A statement: the new value of a state field.
-#[derive(Debug, Drop)]
+#[derive(Drop)]
 pub struct Stmt {
     pub target: Name,
     pub value: Expr,
 }
 
 /// An operation's statements, in order.
-#[derive(Debug, Drop)]
+#[derive(Drop)]
 pub struct Stmts {
     items: Vec<Stmt>,
 }
@@ -162,7 +162,7 @@ impl Stmts {
 }
 
 /// What an operation emits, when it does, and the statements that apply it to a state.
-#[derive(Debug, Drop)]
+#[derive(Drop)]
 pub struct EmitDecl {
     pub binds: Binds,
     pub test: Expr,
@@ -170,7 +170,7 @@ pub struct EmitDecl {
 }
 
 /// An operation, and the place of the word `op`.
-#[derive(Debug, Drop)]
+#[derive(Drop)]
 pub struct OpDecl {
     pub at: u32,
     pub name: Name,
@@ -182,7 +182,7 @@ pub struct OpDecl {
 }
 
 /// A type's operations, in order.
-#[derive(Debug, Drop)]
+#[derive(Drop)]
 pub struct OpDecls {
     items: Vec<OpDecl>,
 }

@@ -7,14 +7,14 @@ use crate::operation::{Kind, OpDecls};
 use std::marker::Model;
 
 /// What a state field begins with, and the place of its first token.
-#[derive(Debug, Drop)]
+#[derive(Drop)]
 pub struct Init {
     pub at: u32,
     pub node: InitNode,
 }
 
 /// A value that a field can begin with.
-#[derive(Debug, Drop)]
+#[derive(Drop)]
 pub enum InitNode {
     Int(i64),
     Text(TextLit),
@@ -24,7 +24,7 @@ pub enum InitNode {
 }
 
 /// A state field, and the place of the word `state`.
-#[derive(Debug, Drop)]
+#[derive(Drop)]
 pub struct Field {
     pub at: u32,
     pub name: Name,
@@ -33,7 +33,7 @@ pub struct Field {
 }
 
 /// A type's state fields, in order.
-#[derive(Debug, Drop)]
+#[derive(Drop)]
 pub struct Fields {
     items: Vec<Field>,
 }
@@ -68,7 +68,7 @@ impl Fields {
 }
 
 /// A replicated type, and the place of the word `type`.
-#[derive(Debug, Drop)]
+#[derive(Drop)]
 pub struct TypeDecl {
     pub at: u32,
     pub name: Name,
@@ -77,7 +77,7 @@ pub struct TypeDecl {
 }
 
 /// A program's types, in order.
-#[derive(Debug, Drop)]
+#[derive(Drop)]
 pub struct TypeDecls {
     items: Vec<TypeDecl>,
 }
@@ -119,7 +119,7 @@ impl TypeDecls {
 }
 
 /// A transaction, the operations that it uses, and the place of the word `transaction`.
-#[derive(Debug, Drop)]
+#[derive(Drop)]
 pub struct TxnDecl {
     pub at: u32,
     pub name: Name,
@@ -128,7 +128,7 @@ pub struct TxnDecl {
 }
 
 /// A program's transactions, in order.
-#[derive(Debug, Drop)]
+#[derive(Drop)]
 pub struct TxnDecls {
     items: Vec<TxnDecl>,
 }
@@ -169,7 +169,7 @@ impl TxnDecls {
 }
 
 /// A whole source.
-#[derive(Debug, Drop)]
+#[derive(Drop)]
 pub struct Program {
     pub types: TypeDecls,
     pub txns: TxnDecls,

@@ -1,6 +1,6 @@
 /// A relation between two effects. `Base` has the place of the relation's name, or of the `=` that stands
 /// for equality, and 0 in a formula that comes from no source.
-#[derive(Debug, Drop)]
+#[derive(Drop)]
 pub enum Rel {
     Base(RelName, u32),
     Union(Box<Rel>, Box<Rel>),
@@ -9,7 +9,7 @@ pub enum Rel {
 
 /// The named relations: visibility, session order, session order on one object, one object, equality,
 /// happens-before and happens-before on one object.
-#[derive(Clone, Copy, Debug, PartialEq, Eq)]
+#[derive(Clone, Copy, PartialEq, Eq)]
 pub enum RelName {
     Vis,
     So,

@@ -6,7 +6,7 @@ use std::alloc::Global;
 use std::marker::Model;
 
 /// A level for each operation and each declared transaction of a program.
-#[derive(Debug, Drop)]
+#[derive(Drop)]
 pub struct Levels {
     ops: Vec<Level>,
     txns: Vec<TxnLevel>,

@@ -17,7 +17,7 @@ const QUOTE: u8 = b'"';
 const MOST_NUMBER: u64 = 9_223_372_036_854_775_807;
 
 // What stands at the front of a text, with how many bytes it takes or how far its fault is.
-#[derive(Clone, Copy, Debug, PartialEq, Eq)]
+#[derive(Clone, Copy, PartialEq, Eq)]
 pub enum Front {
     Gap(usize),
     Lexeme(TokenKind, usize),

@@ -7,3 +7,7 @@ Rose before after = (before < after) ⊎ (after ≡ 18446744073709551615)
 -- a count after one more
 abbrev pub next_count_of : ℕ → ℕ
 next_count_of count = min (suc count) 18446744073709551615
+
+-- a count that one more fault would raise
+abbrev pub IsCountable : ℕ → Type 0
+IsCountable count = count < 18446744073709551615

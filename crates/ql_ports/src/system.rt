@@ -69,14 +69,33 @@ impl<R: Files + Drop> FileShelf<R> {
 }
 
 impl<R: Files + Drop> Shelf for FileShelf<R> {
-    ghost use Rattle.std.specs.Prelude.{◌≡◌, ◌≢◌, ◌≤◌, ℕ, List, [], length, take, drop, None, IfOk, OnErr, IfSome};
-    ghost use Rattle.ql_ports.specs.Faults.{Rose};
+    ghost use Rattle.std.specs.Prelude.{◌≡◌, ◌≢◌, ◌≤◌, ℕ, List, [], length, take, drop, None, IfOk, OnOk, OnErr, IfSome};
+    ghost use Rattle.ql_ports.specs.Faults.{Rose, IsCountable, next_count_of};
 
     ghost held = { λ _ _. None };
 
     ghost faults = { λ shelf _. shelf.faults };
 
-    fn fetch(&mut self, name: &str, at: u64, into: &mut [u8]) -> Result<usize, Failed> {
+    fn fetch(&mut self, name: &str, at: u64, into: &mut [u8]) -> Result<usize, Failed>
+        // As for every shelf.
+        ensures within { IfOk result (λ count. count ≤ length into.new) }
+        ensures bytes { IfOk result (λ count. IfSome (None {A = List ℕ})
+            (λ whole. take count into.new ≡ take count (drop at whole))) }
+        ensures end { IfOk result (λ count. IfSome (None {A = List ℕ})
+            (λ whole. count ≡ 0 → into.new ≢ [] → length whole ≤ at)) }
+        ensures failed { OnErr result (Rose self.old.faults self.new.faults) }
+        ensures same_contents { (other : List ℕ) → None {A = List ℕ} ≡ None }
+        ensures counts_stay { (other : List ℕ) → self.old.faults ≤ self.new.faults }
+
+        // What this shelf counts: each fault and nothing else. At the end of its range the count
+        // can't rise, so every fetch fails there.
+        ensures no_fault { OnOk result (self.new.faults ≡ self.old.faults) }
+        ensures counted { OnErr result (self.new.faults ≡ next_count_of self.old.faults) }
+        ensures full { OnOk result (IsCountable self.old.faults) }
+    {
+        if self.faults == u64::MAX {
+            return Err(Failed);
+        }
         match self.read(name, at, into) {
             Ok(count) => Ok(count),
             Err(_) => {
@@ -105,15 +124,33 @@ impl<P: Print + Drop> StdSink<P> {
 }
 
 impl<P: Print + Drop> Sink for StdSink<P> {
-    ghost use Rattle.std.specs.Prelude.{◌≡◌, ◌≢◌, ◌<◌, ◌≤◌, ℕ, List, [], length, take, None, IfOk, OnErr};
-    ghost use Rattle.ql_ports.specs.Faults.{Rose};
+    ghost use Rattle.std.specs.Prelude.{◌≡◌, ◌≢◌, ◌<◌, ◌≤◌, ℕ, List, [], length, take, None, IfOk, OnOk, OnErr};
+    ghost use Rattle.ql_ports.specs.Faults.{Rose, IsCountable, next_count_of};
     ghost use Rattle.ql_ports.specs.Written.{appended};
 
     ghost written = { λ _. None };
 
     ghost faults = { λ sink. sink.faults };
 
-    fn put(&mut self, bytes: &[u8]) -> Result<usize, Failed> {
+    fn put(&mut self, bytes: &[u8]) -> Result<usize, Failed>
+        // As for every sink.
+        ensures within { IfOk result (λ count. count ≤ length bytes.now) }
+        ensures some { IfOk result (λ count. bytes.now ≢ [] → 0 < count) }
+        ensures taken { IfOk result (λ count.
+            None ≡ appended None (take count bytes.now)) }
+        ensures kept { OnErr result (None {A = List ℕ} ≡ None) }
+        ensures failed { OnErr result (Rose self.old.faults self.new.faults) }
+        ensures count_stays { self.old.faults ≤ self.new.faults }
+
+        // What this sink counts: each fault and nothing else. At the end of its range the count
+        // can't rise, so every put fails there.
+        ensures no_fault { OnOk result (self.new.faults ≡ self.old.faults) }
+        ensures counted { OnErr result (self.new.faults ≡ next_count_of self.old.faults) }
+        ensures full { OnOk result (IsCountable self.old.faults) }
+    {
+        if self.faults == u64::MAX {
+            return Err(Failed);
+        }
         match self.system.write_some(bytes) {
             Ok(count) if count > 0 || bytes.is_empty() => Ok(count),
             _ => {

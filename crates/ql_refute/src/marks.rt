@@ -8,7 +8,7 @@ use ql_cnf::Lit;
 const UNSET: u8 = 0;
 
 /// What a clause says under a partial assignment.
-#[derive(Clone, Copy, Debug, PartialEq, Eq)]
+#[derive(Clone, Copy, PartialEq, Eq)]
 pub enum Reading {
     /// All its literals are false.
     AllFalse,

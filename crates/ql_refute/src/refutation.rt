@@ -15,7 +15,7 @@ pub enum Hint {
 }
 
 /// Hints in the order in which the checker takes them.
-#[derive(Debug, Drop)]
+#[derive(Drop)]
 pub struct Hints {
     items: Vec<Hint>,
 }
@@ -53,7 +53,7 @@ impl Hints {
 }
 
 /// A clause, and the clauses from which it follows by unit propagation.
-#[derive(Debug, Drop)]
+#[derive(Drop)]
 pub struct Line {
     pub clause: Clause,
     pub hints: Hints,
@@ -73,7 +73,7 @@ impl Line {
 }
 
 /// The lines of a refutation, in order.
-#[derive(Debug, Drop)]
+#[derive(Drop)]
 pub struct Lines {
     items: Vec<Line>,
 }
@@ -111,7 +111,7 @@ impl Lines {
 }
 
 /// Clauses that each follow from a clause list and those before them, down to the empty one.
-#[derive(Debug, Drop)]
+#[derive(Drop)]
 pub struct Refutation {
     pub lines: Lines,
 }

@@ -1,7 +1,7 @@
 -- One more text of a range of them.
 use Rattle.std.proofs.Common.{◌≡◌, ℕ, ◌+◌, List, ◌++◌, add-one, sym, ap, ◌∙◌, append_assoc}
 use Rattle.std.proofs.lemmas.List.{append-nil}
-use Rattle.ql_ground.specs.Ground.{upto}
+use Rattle.ql_base.specs.Ranges.{upto}
 
 pub none_yet : (out : List ℕ) (f : ℕ → List ℕ) → out ≡ out ++ upto 0 f
 none_yet out f = sym (append-nil out)

@@ -1,7 +1,7 @@
 -- The lines that tell the levels of a program's operations and declared transactions.
 use Rattle.std.specs.Prelude.{ℕ, List, [], ◌++◌, length, slice_get, codes}
 use Rattle.std.specs.Option.{option_map_or}
-use Rattle.ql_ground.specs.Ground.{upto}
+use Rattle.ql_base.specs.Ranges.{upto}
 use Rattle.ql_lang.specs.declared.program.Program.{Program}
 use Rattle.ql_levels.specs.Lists.{LevelLists}
 use Rattle.ql_levels.specs.Words.{word_of, txn_word_of}

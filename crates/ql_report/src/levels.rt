@@ -1,5 +1,5 @@
 ghost use Rattle.std.specs.Prelude.{◌≡◌, ◌<◌, ◌++◌, length, IfOk, OnOk};
-ghost use Rattle.ql_ground.specs.Ground.{upto};
+ghost use Rattle.ql_base.specs.Ranges.{upto};
 ghost use Rattle.ql_typing.specs.Operations.{all_ops};
 ghost use Rattle.ql_report.specs.Levels.{levels_text, op_line, op_name, txn_line, txn_name};
 

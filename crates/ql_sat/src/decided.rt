@@ -2,7 +2,7 @@ use ql_cnf::Assignment;
 use ql_refute::Refutation;
 
 /// What a clause list is, with the evidence.
-#[derive(Debug, Drop)]
+#[derive(Drop)]
 pub enum Decided {
     /// An assignment that satisfies the clauses.
     Model(Assignment),

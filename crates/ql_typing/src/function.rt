@@ -4,7 +4,7 @@ ghost use Rattle.ql_typing.specs.Functions.{arity_of, function_named, of_base, s
 use ql_lang::{Base, Kind};
 
 /// The functions of the language.
-#[derive(Clone, Copy, Debug, PartialEq, Eq)]
+#[derive(Clone, Copy, PartialEq, Eq)]
 pub enum Function {
     Has,
     Size,
@@ -18,7 +18,7 @@ pub enum Function {
 }
 
 /// What a function wants after its first argument, and what it gives.
-#[derive(Clone, Copy, Debug, PartialEq, Eq)]
+#[derive(Clone, Copy, PartialEq, Eq)]
 pub struct Signature {
     pub second: Option<Kind>,
     pub third: Option<Kind>,

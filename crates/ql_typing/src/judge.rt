@@ -13,7 +13,7 @@ use crate::scope::Scope;
 use ql_lang::{BinOp, Expr, ExprNode, Kind, Name};
 
 /// What is known of an expression: its place, its kind where it has one, and its first fault.
-#[derive(Clone, Copy, Debug)]
+#[derive(Clone, Copy)]
 pub(crate) struct Judged {
     pub at: u32,
     pub kind: Option<Kind>,

@@ -4,7 +4,7 @@ ghost use Rattle.ql_value.specs.Texts.{IsText};
 use std::marker::Model;
 
 /// A text: at most 64 bytes, each one that may stand between quotes. Seen as the list of its bytes.
-#[derive(Debug, Drop)]
+#[derive(Drop)]
 pub struct TextVal {
     bytes: Vec<u8>,
 }
@@ -47,7 +47,7 @@ impl TextVal {
 }
 
 /// What may be an argument, an element of a set, or a key or value of a map.
-#[derive(Debug, Drop)]
+#[derive(Drop)]
 pub enum Scalar {
     Int(i64),
     Bool(bool),

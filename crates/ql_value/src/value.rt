@@ -5,7 +5,7 @@ use crate::scalar::{Scalar, TextVal};
 use std::marker::Model;
 
 /// A set: at most 256 scalars, strictly ascending. Seen as the list of its elements.
-#[derive(Debug, Drop)]
+#[derive(Drop)]
 pub struct SetVal {
     elements: Vec<Scalar>,
 }
@@ -51,7 +51,7 @@ impl SetVal {
 
 /// A map: at most 256 pairs of a key and a value, strictly ascending by key. Seen as the list of its
 /// pairs.
-#[derive(Debug, Drop)]
+#[derive(Drop)]
 pub struct MapVal {
     entries: Vec<(Scalar, Scalar)>,
 }
@@ -96,7 +96,7 @@ impl MapVal {
 }
 
 /// What a field, an argument or an answer may be.
-#[derive(Debug, Drop)]
+#[derive(Drop)]
 pub enum Value {
     Unit,
     Int(i64),
@@ -107,7 +107,7 @@ pub enum Value {
 }
 
 /// A list of values.
-#[derive(Debug, Drop)]
+#[derive(Drop)]
 pub struct Values {
     items: Vec<Value>,
 }

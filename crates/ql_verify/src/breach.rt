@@ -2,7 +2,7 @@ use ql_base::{EffId, NoMemory, RunId};
 use ql_formula::Places;
 
 /// Where a contract is false, and the places of its variables.
-#[derive(Debug, Drop)]
+#[derive(Drop)]
 pub enum Breach {
     /// That of an effect's operation, at the effect.
     AtOp(EffId, Places),

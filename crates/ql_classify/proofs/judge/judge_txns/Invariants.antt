@@ -1,6 +1,6 @@
 use Rattle.std.proofs.Common.{◌≡◌, length}
 use Rattle.std.specs.List.{All, AllZip}
-use Rattle.ql_ground.specs.Ground.{upto}
+use Rattle.ql_base.specs.Ranges.{upto}
 use Rattle.ql_classify.specs.Outcome.{Passes, txn_tests}
 use Rattle.ql_classify.specs.Targets.{IsEvidence, txns_from}
 use Rattle.ql_classify.proofs.judge.judge_txns.Given as goal

@@ -4,7 +4,8 @@ use Rattle.ql_atoms.specs.Atoms.{size_of}
 use Rattle.ql_cnf.specs.Circuits.{clauses_of}
 use Rattle.ql_atoms.specs.declared.atoms.Atom.TheVariants.{Is}
 use Rattle.ql_ground.specs.Bodies.{current_effect}
-use Rattle.ql_ground.specs.Ground.{op, implication, instances, all_instances, alike_operations, axioms, all_variable_operations}
+use Rattle.ql_base.specs.Ids.{op}
+use Rattle.ql_ground.specs.Ground.{implication, instances, all_instances, alike_operations, axioms, all_variable_operations}
 use Rattle.ql_ground.specs.Rules.{equality_rules, level_rule}
 use Rattle.ql_ground.proofs.Growth.{then}
 use Rattle.ql_ground.proofs.goal_groups.add_op_groups.Goals as goal

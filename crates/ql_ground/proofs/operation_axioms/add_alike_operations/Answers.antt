@@ -1,6 +1,7 @@
 use Rattle.std.proofs.Common.{arith, ◌∙◌}
 use Rattle.ql_atoms.specs.Atoms.{size_of}
-use Rattle.ql_ground.specs.Ground.{op, instances}
+use Rattle.ql_base.specs.Ids.{op}
+use Rattle.ql_ground.specs.Ground.{instances}
 use Rattle.ql_ground.specs.Rules.{alike_op}
 use Rattle.ql_ground.proofs.Growth.{upto_more, upto_done}
 use Rattle.ql_ground.proofs.operation_axioms.add_alike_operations.Goals as goal

@@ -1,8 +1,9 @@
 use Rattle.std.proofs.Common.{◌≡◌, ◌+◌, ◌*◌, ◌≤◌, ◌++◌, length}
 use Rattle.ql_atoms.specs.Atoms.{size_of}
 use Rattle.ql_cnf.specs.Circuits.{clauses_of}
-use Rattle.ql_ground.specs.Ground.{upto}
-use Rattle.ql_ground.specs.Ground.{op, instances}
+use Rattle.ql_base.specs.Ranges.{upto}
+use Rattle.ql_base.specs.Ids.{op}
+use Rattle.ql_ground.specs.Ground.{instances}
 use Rattle.ql_ground.specs.Rules.{alike_op}
 use Rattle.ql_ground.proofs.operation_axioms.add_alike_operations.Given as goal
 

@@ -1,7 +1,7 @@
 use Rattle.std.proofs.Common.{◌≡◌, ◌+◌, ◌*◌, ◌≤◌, ◌++◌, length}
 use Rattle.ql_atoms.specs.Atoms.{size_of}
 use Rattle.ql_cnf.specs.Circuits.{clauses_of}
-use Rattle.ql_ground.specs.Ground.{upto}
+use Rattle.ql_base.specs.Ranges.{upto}
 use Rattle.ql_ground.specs.Parts.{other_type}
 use Rattle.ql_ground.proofs.operation_axioms.add_other_types.Given as goal
 

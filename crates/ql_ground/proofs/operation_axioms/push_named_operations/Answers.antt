@@ -4,7 +4,7 @@ use Rattle.ql_atoms.specs.Atoms.{size_of, count_of}
 use Rattle.ql_atoms.specs.declared.atoms.Atom.TheVariants.{Is}
 use Rattle.ql_cnf.specs.declared.lit.Lit.{Lit}
 use Rattle.ql_cnf.specs.Satisfaction.{AreInRange}
-use Rattle.ql_ground.specs.Ground.{op}
+use Rattle.ql_base.specs.Ids.{op}
 use Rattle.ql_ground.specs.Parts.{literal_of}
 use Rattle.ql_ground.proofs.Growth.{mapped_more, below_at}
 use Rattle.ql_ground.proofs.operation_axioms.push_named_operations.Goals as goal

@@ -2,7 +2,9 @@ use Rattle.std.proofs.Common.{◌≡◌, [], ◌∷◌}
 use Rattle.ql_atoms.specs.Atoms.{size_of, count_of}
 use Rattle.ql_atoms.specs.declared.atoms.Atom.TheVariants.{Is}
 use Rattle.ql_cnf.specs.Satisfaction.{AreInRange}
-use Rattle.ql_ground.specs.Ground.{op, upto, implication}
+use Rattle.ql_base.specs.Ranges.{upto}
+use Rattle.ql_base.specs.Ids.{op}
+use Rattle.ql_ground.specs.Ground.{implication}
 use Rattle.ql_ground.proofs.operation_axioms.push_operations.Given as goal
 
 abbrev pub invariant-loop-o : goal.invariant-loop-o

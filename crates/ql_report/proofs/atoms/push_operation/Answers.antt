@@ -1,5 +1,5 @@
 use Rattle.ql_atoms.specs.declared.atoms.Atom.TheVariants.{Is}
-use Rattle.ql_ground.specs.Ground.{op}
+use Rattle.ql_base.specs.Ids.{op}
 use Rattle.ql_report.specs.Atoms.{told_atom}
 use Rattle.ql_report.specs.Telling.{told_of}
 use Rattle.ql_report.proofs.Loops.{none_yet, one_more}

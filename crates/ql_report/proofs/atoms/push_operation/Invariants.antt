@@ -1,7 +1,7 @@
 use Rattle.std.proofs.Common.{◌≡◌, ◌++◌}
-use Rattle.ql_ground.specs.Ground.{upto}
+use Rattle.ql_base.specs.Ranges.{upto}
 use Rattle.ql_atoms.specs.declared.atoms.Atom.TheVariants.{Is}
-use Rattle.ql_ground.specs.Ground.{op}
+use Rattle.ql_base.specs.Ids.{op}
 use Rattle.ql_report.specs.Atoms.{told_atom}
 use Rattle.ql_report.specs.Telling.{told_of}
 use Rattle.ql_report.proofs.atoms.push_operation.Given as goal

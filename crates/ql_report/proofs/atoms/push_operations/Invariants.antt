@@ -1,5 +1,5 @@
 use Rattle.std.proofs.Common.{◌≡◌, ◌++◌}
-use Rattle.ql_ground.specs.Ground.{upto}
+use Rattle.ql_base.specs.Ranges.{upto}
 use Rattle.ql_report.specs.Atoms.{operation_text}
 use Rattle.ql_report.specs.Telling.{told_of}
 use Rattle.ql_report.proofs.atoms.push_operations.Given as goal

@@ -1,5 +1,5 @@
 use Rattle.std.proofs.Common.{◌≡◌, ◌++◌}
-use Rattle.ql_ground.specs.Ground.{upto}
+use Rattle.ql_base.specs.Ranges.{upto}
 use Rattle.ql_atoms.specs.declared.atoms.Atom.TheVariants.{Pair}
 use Rattle.ql_report.specs.Atoms.{told_atom}
 use Rattle.ql_report.specs.Telling.{told_of}

@@ -1,5 +1,5 @@
 use Rattle.std.proofs.Common.{◌≡◌, ◌++◌}
-use Rattle.ql_ground.specs.Ground.{upto}
+use Rattle.ql_base.specs.Ranges.{upto}
 use Rattle.ql_report.specs.Levels.{op_line}
 use Rattle.ql_report.proofs.levels.push_ops.Given as goal
 

@@ -1,0 +1,7 @@
+-- Lists over the numbers below another.
+use Rattle.std.specs.Prelude.{ℕ, zero, suc, List, [], ◌++◌}
+
+-- f of 0, f of 1, and so on below n, one after the other
+abbrev pub upto : {A : Type 0} → ℕ → (ℕ → List A) → List A
+upto zero f = []
+upto (suc n) f = upto n f ++ f n
