@@ -5,7 +5,7 @@ use std::marker::Model;
 /// A name of 1 to 32 bytes, seen as the list of its bytes.
 ///
 /// It is kept in place, so making, copying and comparing one takes no memory. Words are ordered by their bytes.
-#[derive(Clone, Copy, Debug, PartialEq, Eq, PartialOrd, Ord, Hash)]
+#[derive(Clone, Copy, PartialEq, Eq, Hash)]
 pub struct Word {
     row: [u8; 32],
     len: u8,

@@ -4,3 +4,4 @@ pub mod Written
 pub mod Memory
 pub mod MemShelf
 pub mod MemSink
+pub mod System

@@ -69,22 +69,23 @@ impl<R: Files + Drop> FileShelf<R> {
 }
 
 impl<R: Files + Drop> Shelf for FileShelf<R> {
-    ghost use Rattle.std.specs.Prelude.{◌≡◌, ◌≢◌, ◌≤◌, ℕ, List, [], length, take, drop, None, IfOk, OnOk, OnErr, IfSome};
+    ghost use Rattle.std.specs.Prelude.{◌≡◌, ◌≢◌, ◌≤◌, ℕ, List, [], length, take, drop, IfOk, OnOk, OnErr, IfSome};
     ghost use Rattle.ql_ports.specs.Faults.{Rose, IsCountable, next_count_of};
+    ghost use Rattle.ql_ports.specs.System.{unreported};
 
-    ghost held = { λ _ _. None };
+    ghost held = { λ _ _. unreported };
 
     ghost faults = { λ shelf _. shelf.faults };
 
     fn fetch(&mut self, name: &str, at: u64, into: &mut [u8]) -> Result<usize, Failed>
         // As for every shelf.
         ensures within { IfOk result (λ count. count ≤ length into.new) }
-        ensures bytes { IfOk result (λ count. IfSome (None {A = List ℕ})
+        ensures bytes { IfOk result (λ count. IfSome unreported
             (λ whole. take count into.new ≡ take count (drop at whole))) }
-        ensures end { IfOk result (λ count. IfSome (None {A = List ℕ})
+        ensures end { IfOk result (λ count. IfSome unreported
             (λ whole. count ≡ 0 → into.new ≢ [] → length whole ≤ at)) }
         ensures failed { OnErr result (Rose self.old.faults self.new.faults) }
-        ensures same_contents { (other : List ℕ) → None {A = List ℕ} ≡ None }
+        ensures same_contents { (other : List ℕ) → unreported ≡ unreported }
         ensures counts_stay { (other : List ℕ) → self.old.faults ≤ self.new.faults }
 
         // What this shelf counts: each fault and nothing else. At the end of its range the count
@@ -124,11 +125,12 @@ impl<P: Print + Drop> StdSink<P> {
 }
 
 impl<P: Print + Drop> Sink for StdSink<P> {
-    ghost use Rattle.std.specs.Prelude.{◌≡◌, ◌≢◌, ◌<◌, ◌≤◌, ℕ, List, [], length, take, None, IfOk, OnOk, OnErr};
+    ghost use Rattle.std.specs.Prelude.{◌≡◌, ◌≢◌, ◌<◌, ◌≤◌, ℕ, List, [], length, take, IfOk, OnOk, OnErr};
     ghost use Rattle.ql_ports.specs.Faults.{Rose, IsCountable, next_count_of};
+    ghost use Rattle.ql_ports.specs.System.{unreported};
     ghost use Rattle.ql_ports.specs.Written.{appended};
 
-    ghost written = { λ _. None };
+    ghost written = { λ _. unreported };
 
     ghost faults = { λ sink. sink.faults };
 
@@ -137,8 +139,8 @@ impl<P: Print + Drop> Sink for StdSink<P> {
         ensures within { IfOk result (λ count. count ≤ length bytes.now) }
         ensures some { IfOk result (λ count. bytes.now ≢ [] → 0 < count) }
         ensures taken { IfOk result (λ count.
-            None ≡ appended None (take count bytes.now)) }
-        ensures kept { OnErr result (None {A = List ℕ} ≡ None) }
+            unreported ≡ appended unreported (take count bytes.now)) }
+        ensures kept { OnErr result (unreported ≡ unreported) }
         ensures failed { OnErr result (Rose self.old.faults self.new.faults) }
         ensures count_stays { self.old.faults ≤ self.new.faults }
 
