@@ -70,38 +70,3 @@ fn pair_kind(place: u32) -> PairKind
         _ => PairKind::SameTxn,
     }
 }
-
-#[cfg(test)]
-mod tests {
-    use super::*;
-
-    #[test]
-    fn atoms_of_a_large_shape(rt: HostRuntime) {
-        let largest = Shape {
-            constants: 6,
-            operations: 32,
-        };
-        let cases = [
-            (1, Some(Atom::Pair(PairKind::Eq, 0, 0))),
-            (124, Some(Atom::Pair(PairKind::Vis, 2, 3))),
-            (252, Some(Atom::Pair(PairKind::SameTxn, 5, 5))),
-            (255, Some(Atom::Current(2))),
-            (450, Some(Atom::Is(OpId(31), 5))),
-            (0, None),
-            (451, None),
-        ];
-        for (number, atom) in cases {
-            assert_eq!(rt; atom_of(number, largest), atom, "at {number}");
-        }
-    }
-
-    #[test]
-    fn numbers_of_a_small_shape(rt: HostRuntime) {
-        let smallest = Shape {
-            constants: 1,
-            operations: 1,
-        };
-        assert_eq!(rt; number(Atom::Pair(PairKind::Hb, 0, 0), smallest), 6);
-        assert_eq!(rt; number(Atom::Is(OpId(0), 0), smallest), 9);
-    }
-}

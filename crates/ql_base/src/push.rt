@@ -20,23 +20,3 @@ pub fn push_number<N: Integer>(out: &mut Vec<u8>, number: N) -> Result<(), NoMem
     let mut buffer = Buffer::new();
     push_bytes(out, buffer.format(number).as_bytes())
 }
-
-#[cfg(test)]
-mod tests {
-    use super::*;
-    use std::test::Fail;
-
-    #[test]
-    fn appends(rt: HostRuntime) -> Result<(), Fail> {
-        let mut out = Vec::new(rt.alloc());
-        push_bytes(&mut out, b"n ")?;
-        push_number(&mut out, 4_294_967_295u32)?;
-        push_bytes(&mut out, b" ")?;
-        push_number(&mut out, -20i64)?;
-        push_bytes(&mut out, b" ")?;
-        push_number(&mut out, i128::MIN)?;
-        let want = b"n 4294967295 -20 -170141183460469231731687303715884105728";
-        assert_eq!(rt; out.as_slice(), want.as_slice());
-        Ok(())
-    }
-}

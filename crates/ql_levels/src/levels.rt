@@ -51,25 +51,3 @@ impl Levels {
         self.txns[d.0 as usize]
     }
 }
-
-#[cfg(test)]
-mod tests {
-    use super::*;
-    use crate::{formula, txn_formula};
-    use ql_lang::Body;
-    use std::test::Fail;
-
-    #[test]
-    fn formulas_and_copies_are_made(rt: HostRuntime) -> Result<(), Fail> {
-        let strong = formula(rt.alloc(), Level::Strong)?;
-        assert_eq!(rt; strong.vars.items().len(), 1);
-        assert!(rt; matches!(strong.body, Body::Implies(_, _)));
-        let mav = txn_formula(rt.alloc(), TxnLevel::Mav)?;
-        assert_eq!(rt; mav.vars.items().len(), 4);
-        assert!(rt; matches!(mav.body, Body::And(_, _)));
-        let ops = [Level::Causal].to_vec(rt.alloc())?;
-        let levels = Levels::of(ops, Vec::new(rt.alloc())).copy(rt.alloc())?;
-        assert_eq!(rt; levels.op(OpId(0)), Level::Causal);
-        Ok(())
-    }
-}

@@ -13,6 +13,3 @@ pub use fields::first_field;
 pub use ids::ascending_ids;
 pub use leading::{after_name, after_number, after_word};
 pub use lines::{Line, Lines};
-
-#[cfg(test)]
-mod tests;

@@ -16,6 +16,3 @@ pub use mem_sink::MemSink;
 pub use ports::{Failed, Shelf, Sink};
 pub use system::{FileShelf, StdSink};
 pub use whole::{ReadError, read_whole, write_whole};
-
-#[cfg(test)]
-mod tests;
