@@ -1,0 +1,3 @@
+pub mod ClosedLaws
+pub mod NeedsLaws
+pub mod IdSets

@@ -1,0 +1,29 @@
+ghost use Rattle.std.specs.Prelude.{◌≡◌, ◌↔◌, ℕ, true, ◌||◌, nat_eq, List, ◌++◌};
+ghost use Rattle.ql_base.specs.IdLists.{IsAscending, has_id, with_id, union_of};
+ghost use Rattle.ql_exec.specs.declared.effect.Effect.{Effect};
+ghost use Rattle.ql_exec.specs.Execution.{IsExecution};
+ghost use Rattle.ql_needs.specs.Closed.{Closed, Has};
+ghost use Rattle.ql_needs.specs.Needs.{AreThere, JoinsNone, Needs};
+
+/// The law of the closed part of a set of effects: it is a part of the set, it has what its members
+/// need, each part of the set that has all that it needs is within it, and it grows with the set.
+pub fn closed_parts()
+    ensures member { (x : List Effect) (ids : List ℕ) (a : ℕ) → Closed (Needs x) (Has ids) a → Has ids a }
+    ensures needed { (x : List Effect) (ids : List ℕ) (a b : ℕ) → Closed (Needs x) (Has ids) a → Needs x a b → Closed (Needs x) (Has ids) b }
+    ensures greatest { (x : List Effect) (ids part : List ℕ) → ((a : ℕ) → Has part a → Has ids a) → ((a b : ℕ) → Has part a → Needs x a b → Has part b) → (a : ℕ) → Has part a → Closed (Needs x) (Has ids) a }
+    ensures larger { (x : List Effect) (ids more : List ℕ) → ((a : ℕ) → Has ids a → Has more a) → (a : ℕ) → Closed (Needs x) (Has ids) a → Closed (Needs x) (Has more) a }
+{}
+
+/// The law that the closed part of a set of effects stays the same in a longer execution, where that
+/// adds no effect to a transaction of one of them.
+pub fn closed_part_stays()
+    ensures { (x more : List Effect) (ids : List ℕ) → IsExecution (x ++ more) → AreThere x ids → JoinsNone x more ids → (a : ℕ) → Closed (Needs x) (Has ids) a ↔ Closed (Needs (x ++ more)) (Has ids) a }
+{}
+
+/// The law of ascending lists of ids as sets: what a list has with one id more, what a union has, and
+/// that two lists that have the same ids are the same.
+pub fn lists_as_sets()
+    ensures inserted { (ids : List ℕ) (id a : ℕ) → has_id (with_id ids id) a ≡ (nat_eq id a || has_id ids a) }
+    ensures union { (ids others : List ℕ) (a : ℕ) → has_id (union_of ids others) a ≡ (has_id ids a || has_id others a) }
+    ensures same { (ids others : List ℕ) → IsAscending ids → IsAscending others → ((a : ℕ) → Has ids a → Has others a) → ((a : ℕ) → Has others a → Has ids a) → ids ≡ others }
+{}
