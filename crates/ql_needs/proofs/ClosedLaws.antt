@@ -1,5 +1,5 @@
 -- The closed part of a set, for any needs and any set.
-use Rattle.std.proofs.Common.{◌≡◌, ℕ}
+use Rattle.std.proofs.Common.{ℕ}
 use Rattle.ql_needs.specs.Closed.{Reaches, here, through, Closed}
 
 -- ---- reaching

@@ -1,8 +1,8 @@
 -- What ascending lists of ids have.
-use Rattle.std.proofs.Common.{◌≡◌, ℕ, zero, suc, ◌<◌, ◌≤◌, ◌⊎◌, Bool, true, false, cond, ◌||◌, nat_eq, nat_lt, List, [], ◌∷◌, ◌++◌, refl, ap, sym, subst, ◌∙◌, inl, inr, arith}
-use Rattle.std.proofs.lemmas.Bool.{false≢true, or_cases, or_left, or_right, eq-eqb, eqb-true, lt-ltb, le-ltb, cases_order, cases_Bool, both_ways}
+use Rattle.std.proofs.Common.{◌≡◌, ℕ, ◌<◌, ◌≤◌, ◌⊎◌, Bool, true, false, ◌||◌, nat_eq, List, [], ◌∷◌, refl, ap, sym, subst, ◌∙◌, inl, inr, arith}
+use Rattle.std.proofs.lemmas.Bool.{false≢true, or_cases, or_left, or_right, eq-eqb, eqb-true, lt-ltb, cases_order}
 use Rattle.ql_base.specs.IdLists.{IsBelowAll, IsAscending, has_id, with_id, union_of}
-use Rattle.ql_base.proofs.IdLemmas.{with_id-later, with_id-first, IsAscending-with_id}
+use Rattle.ql_base.proofs.IdLemmas.{with_id-later, with_id-first}
 
 -- ---- with one id more
 

@@ -1,3 +1,4 @@
 pub mod ClosedLaws
 pub mod NeedsLaws
 pub mod IdSets
+pub mod Packages

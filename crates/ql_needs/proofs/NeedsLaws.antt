@@ -1,28 +1,31 @@
 -- Needs in an execution, and in a longer one.
-use Rattle.std.proofs.Common.{◌≡◌, ◌↔◌, ℕ, zero, suc, ◌<◌, ◌≤◌, ◌⊎◌, Bool, true, false, ◌&&◌, ◌||◌, nat_eq, nat_lt, List, [], ◌∷◌, ◌++◌, length, Option, Some, None, refl, ap, sym, subst, ◌∙◌, inl, inr, arith, length-append}
-use Rattle.std.proofs.lemmas.Option.{same_Some}
-use Rattle.std.proofs.lemmas.Bool.{false≢true, or_cases, or_left, or_right, and_parts, and_from, eq-eqb, eqb-true, both_ways, cases_lt}
+use Rattle.std.proofs.Common.{◌≡◌, ◌↔◌, ℕ, zero, suc, ◌<◌, ◌≤◌, Bool, true, ◌&&◌, nat_eq, nat_lt, List, ◌++◌, length, Some, None, refl, sym, ◌∙◌, inl, inr, arith}
+use Rattle.std.proofs.lemmas.Bool.{or_cases, or_left, or_right, and_parts, and_from, both_ways, cases_lt}
 use Rattle.ql_base.specs.IdLists.{has_id}
 use Rattle.ql_exec.specs.declared.effect.Effect.{Effect}
 use Rattle.ql_exec.specs.Effects.{effect_at, both}
 use Rattle.ql_exec.specs.Execution.{IsExecution}
 use Rattle.ql_exec.specs.Relations.{so, vis, sameobj, soo, hbo_step, sametxn, same_run}
 use Rattle.ql_exec.proofs.Finding.{effect_at-within, effect_at-append, both-found, so_parts}
-use Rattle.ql_needs.specs.Closed.{Reaches, Closed, Has}
-use Rattle.ql_needs.specs.Needs.{NeedsWhen, Needs, AreThere, JoinsNone}
+use Rattle.ql_needs.specs.Closed.{Closed, Has}
+use Rattle.ql_needs.specs.Needs.{Needs, AreThere, JoinsNone}
 use Rattle.ql_needs.proofs.ClosedLaws.{reached-more, closed-along}
 
 -- ---- one step on an object
 
+pub at-first : (x : List Effect) (a : ℕ) (e : Effect) → effect_at x a ≡ Some e → 1 ≤ a
+at-first x zero e is = absurd (let never : None ≡ Some e = is in cc)
+at-first x (suc k) e is = omega arith
+
 -- what is a step before an effect is an earlier effect
-pub step-before : (x : List Effect) → IsExecution x → (a b : ℕ) → hbo_step x b a ≡ true → (b < a) × (a ≤ length x)
+pub step-before : (x : List Effect) → IsExecution x → (a b : ℕ) → hbo_step x b a ≡ true → (1 ≤ b) × (b < a) × (a ≤ length x)
 step-before x law a b is = elim (or_cases (soo x b a) (vis x b a) is) [
   | inl ordered ↦
       let order = so_parts x b a (and_parts (so x b a) (sameobj x b a) ordered).0 in
-      (order.less, effect_at-within x a order.second order.second_at)
+      (at-first x b order.first order.first_at, order.less, effect_at-within x a order.second order.second_at)
   | inr seen ↦
       let found = both-found (λ e f. has_id f.seen b) (effect_at x b) (effect_at x a) seen in
-      ((law.sees a found.1 found.3).0 b found.4 .0, effect_at-within x a found.1 found.3)
+      (at-first x b found.0 found.2, ((law.sees a found.1 found.3).0 b found.4).0, effect_at-within x a found.1 found.3)
 ]
 
 -- effects of a list are found in a longer one
@@ -74,7 +77,7 @@ pub needs-shorter : (x more : List Effect) (ids : List ℕ) → IsExecution (x +
 needs-shorter x more ids law there alone a b is (inl step) =
     let a_there = (there a is).1 in
     let before = step-before (x ++ more) law a b step in
-    inl (sym (step-shorter x more a b a_there (let less = before.0 in omega (arith, less, a_there))) ∙ step)
+    inl (sym (step-shorter x more a b a_there (let less = before.1 in omega (arith, less, a_there))) ∙ step)
 needs-shorter x more ids law there alone a b is (inr txn) =
     let a_there = (there a is).1 in
     elim (cases_lt (length x) b) [

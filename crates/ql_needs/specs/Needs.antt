@@ -1,11 +1,11 @@
 -- What an effect needs: the effects that it sees, those before it in its session on its object, and the others of its
 -- transaction where that is committed. The rules on the order of delivery are ours; the relations are those of
 -- Sivaramakrishnan, Kaki and Jagannathan, 'Declarative Programming over Eventually Consistent Data Stores' (PLDI 2015).
-use Rattle.std.specs.Prelude.{◌≡◌, ◌⊎◌, ◌↔◌, ◌++◌, ◌≤◌, ◌<◌, ℕ, Bool, true, false, ◌||◌, List, length}
+use Rattle.std.specs.Prelude.{◌≡◌, ◌⊎◌, ◌++◌, ◌≤◌, ◌<◌, ℕ, Bool, true, false, List, length}
 use Rattle.ql_base.specs.IdLists.{has_id}
 use Rattle.ql_exec.specs.declared.effect.Effect.{Effect}
 use Rattle.ql_exec.specs.Relations.{hbo_step, sametxn}
-use Rattle.ql_needs.specs.Closed.{Has}
+use Rattle.ql_needs.specs.Closed.{Reaches, Has}
 
 -- effect a needs effect b, where `committed` tells the effects of committed transactions
 abbrev pub NeedsWhen : (ℕ → Bool) → List Effect → ℕ → ℕ → Type 0
@@ -32,6 +32,10 @@ pub record IsPackage (x : List Effect) (ids : List ℕ) : Type 0 where
   pub first : 1 ≤ member
   pub last : member ≤ length x
   pub all : (a : ℕ) → has_id ids a ≡ sametxn x member a
+
+-- an effect is needed by one of these, directly or through others, which needn't be of these themselves
+abbrev pub IsNeeded : List Effect → List ℕ → ℕ → Type 0
+IsNeeded x ids a = (e : ℕ) × Has ids e × Reaches (Needs x) e a
 
 -- no effect that comes behind is of a transaction with one of these
 abbrev pub JoinsNone : List Effect → List Effect → List ℕ → Type 0

@@ -3,7 +3,7 @@ ghost use Rattle.ql_base.specs.IdLists.{IsAscending, has_id, with_id, union_of};
 ghost use Rattle.ql_exec.specs.declared.effect.Effect.{Effect};
 ghost use Rattle.ql_exec.specs.Execution.{IsExecution};
 ghost use Rattle.ql_needs.specs.Closed.{Closed, Has};
-ghost use Rattle.ql_needs.specs.Needs.{AreThere, JoinsNone, Needs};
+ghost use Rattle.ql_needs.specs.Needs.{AreThere, AreWhole, IsPackage, JoinsNone, Needs};
 
 /// The law of the closed part of a set of effects: it is a part of the set, it has what its members
 /// need, each part of the set that has all that it needs is within it, and it grows with the set.
@@ -18,6 +18,16 @@ pub fn closed_parts()
 /// adds no effect to a transaction of one of them.
 pub fn closed_part_stays()
     ensures { (x more : List Effect) (ids : List ℕ) → IsExecution (x ++ more) → AreThere x ids → JoinsNone x more ids → (a : ℕ) → Closed (Needs x) (Has ids) a ↔ Closed (Needs (x ++ more)) (Has ids) a }
+{}
+
+/// The law of packages: of a package all or none is in a set of whole transactions, the set with the
+/// package has whole transactions, and both are what they were in a longer execution that adds no effect
+/// to a transaction of them.
+pub fn packages_are_whole()
+    ensures together { (x : List Effect) (ids set : List ℕ) → IsPackage x ids → AreWhole x set → (a : ℕ) → Has ids a → Has set a → (b : ℕ) → Has ids b → Has set b }
+    ensures added { (x : List Effect) (before ids : List ℕ) → AreWhole x before → IsPackage x ids → AreWhole x (union_of before ids) }
+    ensures longer { (x more : List Effect) (ids : List ℕ) → AreWhole x ids → JoinsNone x more ids → AreWhole (x ++ more) ids }
+    ensures carried { (x more : List Effect) (ids : List ℕ) → IsPackage x ids → JoinsNone x more ids → IsPackage (x ++ more) ids }
 {}
 
 /// The law of ascending lists of ids as sets: what a list has with one id more, what a union has, and

@@ -5,4 +5,4 @@
 
 mod laws;
 
-pub use laws::{closed_part_stays, closed_parts, lists_as_sets};
+pub use laws::{closed_part_stays, closed_parts, lists_as_sets, packages_are_whole};
