@@ -1,0 +1,12 @@
+// Tests of the lowest crates: sets of ids, names, shelves and sinks, lines and atoms, with answers from outside.
+// It has no contract of its own, and nothing stands on this crate.
+#![tactic(auto)]
+
+#[cfg(test)]
+mod atoms;
+#[cfg(test)]
+mod ids;
+#[cfg(test)]
+mod lines;
+#[cfg(test)]
+mod ports;

@@ -1,0 +1,62 @@
+use ql_base::NoMemory;
+use std::alloc::{AllocError, Global};
+use std::test::Fail;
+
+/// Fails at the first row whose question is answered otherwise than stands behind its arrow.
+///
+/// Empty lines are passed over. A control character of a row is written as its picture: `␊` for a line feed.
+pub fn check_table<F: Fn(Global, &str) -> Result<Vec<u8>, NoMemory>>(
+    alloc: Global,
+    table: &str,
+    answer: F,
+) -> Result<(), Fail>
+    requires { F.IsAlwaysCallable answer }
+{
+    for line in table.lines() {
+        if !line.is_empty() {
+            check_row(alloc, line, &answer)?;
+        }
+    }
+    Ok(())
+}
+
+fn check_row<F: Fn(Global, &str) -> Result<Vec<u8>, NoMemory>>(
+    alloc: Global,
+    line: &str,
+    answer: &F,
+) -> Result<(), Fail>
+    requires { F.IsAlwaysCallable answer.now }
+{
+    let row = with_controls(alloc, line)?;
+    let (question, expected) = row.as_str().split_once(" -> ").unwrap_or((line, "?"));
+    let found = answer(alloc, question)?;
+    if found.as_slice() == expected.as_bytes() {
+        Ok(())
+    } else {
+        Err(difference(alloc, line, &found)?)
+    }
+}
+
+fn difference(alloc: Global, line: &str, found: &[u8]) -> Result<Fail, AllocError> {
+    let found = String::from_utf8_lossy(alloc, found)?;
+    Ok(Fail::new(format_args!("{line}\n  but found: {found}")))
+}
+
+fn with_controls(alloc: Global, line: &str) -> Result<String, AllocError> {
+    let mut text = String::new(alloc);
+    for letter in line.chars() {
+        text.push(pictured(letter))?;
+    }
+    Ok(text)
+}
+
+fn pictured(letter: char) -> char {
+    match letter {
+        '␀' => '\0',
+        '␉' => '\t',
+        '␊' => '\n',
+        '␍' => '\r',
+        '␡' => '\x7f',
+        other => other,
+    }
+}
