@@ -1,0 +1,10 @@
+pub mod Sets
+pub mod State
+pub mod Rules
+pub mod Views
+pub mod Blocking
+pub mod Changes
+pub mod Calls
+pub mod Deliveries
+pub mod Steps
+pub mod Runs

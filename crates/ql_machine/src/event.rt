@@ -1,0 +1,44 @@
+use crate::groups::Groups;
+use ql_base::{DeclId, EffId, IdSet, MsgId, ObjId, OpId, ReplicaId, SessId};
+use ql_value::Values;
+
+/// What happens to a store, one step of a schedule.
+#[derive(Drop)]
+pub enum Event {
+    /// A session calls an operation on an object, at a replica.
+    Call {
+        session: SessId,
+        replica: ReplicaId,
+        object: ObjId,
+        op: OpId,
+        args: Values,
+    },
+    /// A session begins a declared transaction on these objects, at a replica.
+    Begin {
+        session: SessId,
+        replica: ReplicaId,
+        decl: DeclId,
+        objects: IdSet,
+    },
+    /// A session commits its open transaction, at a replica.
+    Commit {
+        session: SessId,
+        replica: ReplicaId,
+    },
+    /// A copy of a message arrives.
+    Deliver(MsgId),
+    /// The network makes one more copy of a message.
+    Repeat(MsgId),
+    /// The network loses a copy of a message.
+    Lose(MsgId),
+    /// A replica sends another one an effect that it has received, with its transaction.
+    Resend {
+        effect: EffId,
+        from: ReplicaId,
+        to: ReplicaId,
+    },
+    /// The network falls apart into groups.
+    Partition(Groups),
+    /// The network is whole again.
+    Heal,
+}

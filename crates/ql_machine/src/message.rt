@@ -1,0 +1,12 @@
+use ql_base::{IdSet, ReplicaId};
+
+/// A message from one replica to another.
+#[derive(Drop)]
+pub struct Message {
+    pub sender: ReplicaId,
+    pub receiver: ReplicaId,
+    /// The effects that it carries: one outside any transaction, or all of one transaction.
+    pub carried: IdSet,
+    /// How many copies of it are in flight.
+    pub copies: u32,
+}
