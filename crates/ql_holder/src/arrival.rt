@@ -1,7 +1,7 @@
 use ql_base::{EffId, IdSet};
 
 /// What a receipt of a package came to.
-#[derive(Debug, Drop)]
+#[derive(Drop)]
 pub enum Arrival {
     /// It had been received.
     Again,
