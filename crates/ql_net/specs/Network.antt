@@ -1,0 +1,37 @@
+-- The network's part of the machine's state, and what is done to it.
+use Rattle.std.specs.Prelude.{◌≡◌, ◌≢◌, ℕ, ◌<◌, List, Option, Some, None, length}
+use Rattle.ql_base.specs.declared.ids.ReplicaId.{ReplicaId}
+use Rattle.ql_machine.specs.declared.message.Message.{Message}
+use Rattle.ql_machine.specs.Sets.{IsLeast}
+use Rattle.ql_machine.specs.State.{group_at}
+use Rattle.ql_machine.specs.Changes.{IsGone, IsInFlight, repeated, spent}
+
+pub record Network : Type 0 where
+  -- all messages that were ever sent, in order
+  pub messages : List Message
+  -- the group of each replica
+  pub groups : List ℕ
+
+-- a copy of the message was in flight, and there is one fewer
+abbrev pub IsSpent : Network → Network → ℕ → Type 0
+IsSpent before after m =
+    (message : Message) × IsInFlight before.messages m message × (after ≡ record before { messages = spent before.messages m message })
+
+-- a copy of the message was in flight, and there is one more
+abbrev pub IsRepeated : Network → Network → ℕ → Type 0
+IsRepeated before after m =
+    (message : Message) × IsInFlight before.messages m message × (after ≡ record before { messages = repeated before.messages m message })
+
+-- a replica is outside another's group
+abbrev pub IsOutside : List ℕ → ReplicaId → ℕ → Type 0
+IsOutside groups r q = (q < length groups) × (group_at groups q ≢ group_at groups r.0)
+
+-- the least replica outside another's group, or that every replica is in it
+abbrev pub IsLeastOutside : List ℕ → ReplicaId → Option ReplicaId → Type 0
+IsLeastOutside groups r None = (q : ℕ) → q < length groups → group_at groups q ≡ group_at groups r.0
+IsLeastOutside groups r (Some least) = IsLeast (IsOutside groups r) least.0
+
+-- the message of a number where a copy of it is in flight, and else nothing
+abbrev pub IsFound : List Message → ℕ → Option Message → Type 0
+IsFound messages m None = IsGone messages m
+IsFound messages m (Some message) = IsInFlight messages m message
