@@ -22,6 +22,7 @@ use std::alloc::Global;
 /// Answers calls of a typed program's operations by folding what they see. It is able to answer where the operation is
 /// in range, its arguments have the kinds of its parameters, and each effect is of an operation of its type and emitted
 /// nothing or values of that operation's kinds.
+#[derive(Drop)]
 pub struct TypedFolder<'a> {
     alloc: Global,
     pub typed: &'a Typed,

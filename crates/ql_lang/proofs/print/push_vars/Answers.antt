@@ -6,4 +6,4 @@ use Rattle.ql_lang.proofs.print.push_vars.Goals as goal
 pub loop-var-preserved : goal.loop-var-preserved
 loop-var-preserved c =
     one_fewer (λ (u : List ℕ). codes ", " ++ u) var_text _ c.loop-var.var-index c.var-item.result c.loop-var.out.items c.push_var-in-loop-var.new.out.items _ c.loop-var-test.true c.var-item.is c.loop-var.invariant
-        (behind c.loop-var.out.items (codes ", ") (var_text c.var-item.result) c.in_ok-push_bytes.ensures.ok c.in_ok-push_var-2.ensures)
+    (behind c.loop-var.out.items (codes ", ") (var_text c.var-item.result) c.in_ok-push_bytes.ensures.ok c.in_ok-push_var-2.ensures)
