@@ -69,7 +69,8 @@ impl Net {
         requires room { length self.old.messages + 1 < 2 ^ 32 }
         ensures number { IfOk result (λ m. m ≡ next_message self.old.messages) }
         ensures sent { OnOk result (self.new ≡ record self.old {
-            messages = self.old.messages ++ message_of from to carried ∷ [] }) }
+          messages = self.old.messages ++ message_of from to carried ∷ [];
+        }) }
         ensures err { OnErr result (self.new ≡ self.old) }
     {
         self.messages.push(one_copy(from, to, carried))?;
@@ -80,7 +81,8 @@ impl Net {
     pub fn send_to_others(&mut self, from: ReplicaId, carried: &IdSet) -> Result<(), NoMemory>
         requires room { length self.old.messages + length self.old.groups < 2 ^ 32 }
         ensures sent { OnOk result (self.new ≡ record self.old {
-            messages = self.old.messages ++ package_to_others (length self.old.groups) from carried.now }) }
+          messages = self.old.messages ++ package_to_others (length self.old.groups) from carried.now;
+        }) }
         ensures err { OnErr result (self.new ≡ self.old) }
     {
         if carried.is_empty() {

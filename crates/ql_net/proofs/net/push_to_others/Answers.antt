@@ -1,6 +1,4 @@
-use Rattle.std.proofs.Common.{◌≡◌, ◌++◌, ◌∷◌, [], ap, take, sym, ◌∙◌, add-one, append_assoc}
 use Rattle.std.proofs.Math.Seq.{take-append_seam}
-use Rattle.ql_machine.specs.Changes.{to_others}
 use Rattle.ql_net.proofs.net.push_to_others.Goals as goal
 
 pub returns-in_err-copy-clause-before : goal.returns-in_err-copy-clause-before

@@ -1,0 +1,4 @@
+pub mod Rows
+pub mod Notes
+pub mod Index
+pub mod Executions

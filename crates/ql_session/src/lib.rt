@@ -1,0 +1,15 @@
+// What each session did, in lists by session and object, so that a causal call finds what it misses.
+// The one contract: the notes are a list, and each call answers of that list alone; the notes of an
+// execution tell of it which effects a session made on an object.
+#![tactic(auto)]
+
+mod index;
+mod law;
+mod missing;
+mod note;
+mod rows;
+mod sessions;
+
+pub use law::notes_of_executions;
+pub use note::Note;
+pub use sessions::Sessions;

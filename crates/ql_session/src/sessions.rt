@@ -1,0 +1,101 @@
+ghost use Rattle.std.specs.Prelude.{◌≡◌, ◌-◌, ◌≤◌, ◌∷◌, ◌++◌, [], length, take, OnOk, OnErr};
+ghost use Rattle.ql_session.specs.Notes.{effects_by, effects_on, stamps_of, last_or_zero, IsLeastMissing};
+
+use crate::index::Index;
+use crate::missing::least_missing_of;
+use crate::note::Note;
+use ql_base::{EffId, IdSet, NoMemory, ObjId, SessId};
+use std::alloc::Global;
+use std::marker::Model;
+
+/// What the sessions did, seen as the list of the notes of it.
+///
+/// Beside the list the effects stand by session and object and by object, and the stamps by session, so
+/// no call goes over all notes. The tables take memory in proportion to the greatest session and object
+/// numbers that were noted.
+#[derive(Drop)]
+pub struct Sessions {
+    notes: Vec<Note>,
+    index: Index,
+}
+
+impl Model for Sessions {
+    ghost use Rattle.std.specs.Prelude.{List};
+    ghost use Rattle.ql_session.specs.declared.note.Note.{Note};
+    ghost use Rattle.ql_session.specs.Index.{AreIndexed};
+
+    ghost Value = { List Note };
+
+    ghost view = { λ table. table.notes.items };
+
+    ghost invariant = { λ table. AreIndexed table.notes.items table.index.pairs.items table.index.objects table.index.stamps };
+}
+
+impl Sessions {
+    /// Nothing is noted.
+    pub fn new(alloc: Global) -> Sessions
+        ensures { result ≡ [] }
+    {
+        Sessions {
+            notes: Vec::new(alloc),
+            index: Index::new(alloc),
+        }
+    }
+
+    /// Notes an effect of a session on an object, with its stamp. Takes constant time but for tables
+    /// that grow.
+    pub fn note(&mut self, s: SessId, o: ObjId, e: EffId, stamp: u32) -> Result<(), NoMemory>
+        ensures ok { OnOk result (self.new ≡ self.old ++ record { session = s; object = o; effect = e; stamp = stamp } ∷ []) }
+        ensures err { OnErr result (self.new ≡ self.old) }
+    {
+        let note = Note {
+            session: s,
+            object: o,
+            effect: e,
+            stamp,
+        };
+        self.index.add(note)?;
+        match self.notes.push(note) {
+            Err(_) => {
+                self.index.remove(note);
+                Err(NoMemory)
+            }
+            Ok(()) => Ok(()),
+        }
+    }
+
+    /// Takes the last note away, in constant time.
+    pub fn undo(&mut self)
+        requires { 1 ≤ length self.old }
+        ensures { self.new ≡ take (length self.old - 1) self.old }
+    {
+        if let Some(note) = self.notes.pop() {
+            self.index.remove(note);
+        }
+    }
+
+    /// The stamp of the session's last note, 0 for none, in constant time.
+    pub fn last_stamp(&self, s: SessId) -> u32
+        ensures { result ≡ last_or_zero (stamps_of self.now s) }
+    {
+        match self.index.stamps.row(s.0).last() {
+            None => 0,
+            Some(stamp) => *stamp,
+        }
+    }
+
+    /// The effects on an object in the order of their notes, in constant time.
+    pub fn on(&self, o: ObjId) -> &[u32]
+        ensures { result.now ≡ effects_on self.now o }
+    {
+        self.index.objects.row(o.0)
+    }
+
+    /// The least effect of the session on the object that the view lacks. Looks up each of the
+    /// session's effects on the object once.
+    pub fn least_missing(&self, s: SessId, o: ObjId, view: &IdSet) -> Option<EffId>
+        ensures { IsLeastMissing (effects_by self.now s o) view.now result }
+    {
+        least_missing_of(self.index.pair(s, o), view)
+    }
+}
