@@ -1,171 +1,78 @@
-use crate::asking::answer;
-use crate::sources::*;
+use crate::asking::{answer, asked};
+use crate::sources::source_or_text;
 use ql_app::Status;
-use ql_base::NoMemory;
+use ql_base::{NoMemory, push_bytes, push_number};
+use ql_tables::check_table;
 use std::alloc::Global;
 use std::test::Fail;
 
-// A source and a certificate, and what is said of them.
-type Case = (&'static [&'static [u8]], Status, &'static [u8]);
-
-const CERT: &[u8] = b"quelea certificate 1
-op touch eventual
-1 : c13 c14
-end
+// Sources with certificates, and what is said of them, from an independent implementation. Each verdict is there.
+const CHECKED: &str = r"
+check: type t { op touch(): unit { contract true; answer unit; } } ~ quelea certificate 1␊op touch eventual␊1 : c13 c14␊end␊ -> 0: op touch eventual accepted␊
+check: type t { op touch(): unit { contract true; answer unit; } } ~ quelea certificate 1␊op touch eventual␊1 : c14␊end␊ -> 1: op touch eventual refused 1 NoConflict␊
+check: type t { op touch(): unit { contract true; answer unit; } } ~ quelea certificate 1␊op touch eventual␊end␊ -> 1: op touch eventual refused NoEmpty␊
+check: type t { op touch(): unit { contract true; answer unit; } } ~ quelea certificate 1␊op touch eventual␊1 : c15␊end␊ -> 1: op touch eventual refused 1 BadHint␊
+check: type t { op touch(): unit { contract true; answer unit; } } ~ quelea certificate 1␊op touch eventual␊1 : c13 c14␊ -> 2: bad certificate at 4: Unexpected␊
+check: type t { op touch(): unit { contract true; answer unit; } } ~ quelea certificate 1␊op touch causal␊1 : c14 c15␊end␊ -> 0: op touch causal accepted␊
+check: type t { op touch(): unit { contract true; answer unit; } } ~ quelea certificate 1␊op touch causal␊1 : c13 c14␊end␊ -> 1: op touch causal refused 1 NoConflict␊
+check: type t { op touch(): unit { contract true; answer unit; } } ~ quelea certificate 1␊end␊ -> 1: order 1␊
+check: type t { op touch(): unit { contract true; answer unit; } } ~ quelea certificate 1␊op touch eventual␊1 : c99␊op touch eventual␊1 : c99␊end␊ -> 1: order 2␊
+check: type t { op touch(): unit { contract true; answer unit; } } ~ quelea certificate 1␊op tuch eventual␊1 : c99␊end␊ -> 1: order 1␊
+check: type t { op touch(): unit { contract true; answer unit; } } ~ quelea certificate 1␊txn touch rc␊1 : c99␊end␊ -> 1: order 1␊
+check: type t { op touch(): unit { contract true; answer unit; } } ~ quelea certificate 1␊op touch eventual␊2 : c13 c14␊end␊ -> 2: bad certificate at 3: Number␊
+check: type t { op touch(): unit { contract true; answer unit; } } ~ quelea certificate 1␊op touch eventual␊1 : c1 c13 c14␊end␊ -> 0: op touch eventual accepted␊
+check: type account {␊  state balance: int = 0;␊  op deposit(n: int): unit { contract true; answer unit;␊    emit p: int = n when true; apply { balance := balance + p; } }␊  op withdraw(n: int): bool {␊    contract forall a: withdraw. sameobj(a, cur) => vis(a, cur) \/ vis(cur, a) \/ a = cur;␊    answer balance >= n;␊    emit p: int = n when balance >= n; apply { balance := balance - p; } }␊  op getbalance(): int {␊    contract forall a, b. vis(a, b) /\ vis(b, cur) => vis(a, cur); answer balance; }␊}␊transaction audit { uses deposit, getbalance, withdraw;␊  contract forall a, b, c, d. txn{a, b}{c, d} /\ vis(c, a) /\ sameobj(d, b) => vis(d, b); }␊transaction peek { uses deposit, getbalance;␊  contract forall a, b, c. txn{a}{b, c} /\ sameobj(b, c) /\ vis(b, a) => vis(c, a); }␊transaction trail { uses deposit, getbalance;␊  contract forall a, b, c, d. (txn{a}{b, c} /\ sameobj(b, c) /\ vis(b, a) => vis(c, a))␊    /\ (txn{a, b}{c, d} /\ so(a, b) /\ vis(c, a) /\ sameobj(d, b) => vis(d, b)); }␊ ~ quelea certificate 1␊op touch eventual␊1 : c13 c14␊end␊ -> 1: order 1␊
+check: type t { op touch(): unit { contract forall a. vis(b, cur); answer unit; } } ~ quelea certificate 1␊op touch eventual␊1 : c13 c14␊ -> 2: bad source at 51: Unknown␊
+check: type t { op touch(): unit { contract forall a. sameobj(a, cur) => vis(a, cur); answer unit; } } ~ quelea certificate 1␊op touch eventual␊1 : c13 c14␊end␊ -> 1: op touch eventual refused 1 NotUnit␊
+check: type t { op touch(): unit { contract true; answer unit; } }␊transaction x { uses touch; contract forall a, b. txn{a}{b} => vis(a, b); } ~ quelea certificate 1␊op touch eventual␊1 : c13 c14␊end␊ -> 1: order 2␊
+check: type t { op touch(): unit { contract true; answer unit; } } ~ quelea certificate 1␊op touch eventual␊1 11 : c1␊end␊ -> 1: op touch eventual refused 1 BadVariable␊
+check: type t { op touch(): unit { contract true; answer unit; } } ~ quelea certificate 1␊op touch eventual␊1 10 : c1␊end␊ -> 1: op touch eventual refused 1 NoConflict␊
 ";
-
-const ONE_HINT: &[u8] = b"quelea certificate 1
-op touch eventual
-1 : c14
-end
-";
-
-const NO_LINE: &[u8] = b"quelea certificate 1
-op touch eventual
-end
-";
-
-const BAD_HINT: &[u8] = b"quelea certificate 1
-op touch eventual
-1 : c15
-end
-";
-
-const NO_END: &[u8] = b"quelea certificate 1
-op touch eventual
-1 : c13 c14
-";
-
-const CAUSAL: &[u8] = b"quelea certificate 1
-op touch causal
-1 : c14 c15
-end
-";
-
-const CAUSAL_AS_EVENTUAL: &[u8] = b"quelea certificate 1
-op touch causal
-1 : c13 c14
-end
-";
-
-const NO_SECTION: &[u8] = b"quelea certificate 1
-end
-";
-
-const TWO_SECTIONS: &[u8] = b"quelea certificate 1
-op touch eventual
-1 : c99
-op touch eventual
-1 : c99
-end
-";
-
-const OTHER_NAME: &[u8] = b"quelea certificate 1
-op tuch eventual
-1 : c99
-end
-";
-
-const OTHER_KIND: &[u8] = b"quelea certificate 1
-txn touch rc
-1 : c99
-end
-";
-
-const LATER_NUMBER: &[u8] = b"quelea certificate 1
-op touch eventual
-2 : c13 c14
-end
-";
-
-const UNIT: &[u8] = b"quelea certificate 1
-op touch eventual
-1 : c1 c13 c14
-end
-";
-
-// From an independent implementation.
-const CHECKED: &[Case] = &[
-    (
-        &[TOUCH, CERT],
-        Status::Done,
-        b"op touch eventual accepted\n",
-    ),
-    (
-        &[TOUCH, ONE_HINT],
-        Status::No,
-        b"op touch eventual refused 1 NoConflict\n",
-    ),
-    (
-        &[TOUCH, NO_LINE],
-        Status::No,
-        b"op touch eventual refused NoEmpty\n",
-    ),
-    (
-        &[TOUCH, BAD_HINT],
-        Status::No,
-        b"op touch eventual refused 1 BadHint\n",
-    ),
-    (
-        &[TOUCH, NO_END],
-        Status::Bad,
-        b"bad certificate at 4: Unexpected\n",
-    ),
-    (
-        &[TOUCH, CAUSAL],
-        Status::Done,
-        b"op touch causal accepted\n",
-    ),
-    (
-        &[TOUCH, CAUSAL_AS_EVENTUAL],
-        Status::No,
-        b"op touch causal refused 1 NoConflict\n",
-    ),
-    (&[TOUCH, NO_SECTION], Status::No, b"order 1\n"),
-    (&[TOUCH, TWO_SECTIONS], Status::No, b"order 2\n"),
-    (&[TOUCH, OTHER_NAME], Status::No, b"order 1\n"),
-    (&[TOUCH, OTHER_KIND], Status::No, b"order 1\n"),
-    (
-        &[TOUCH, LATER_NUMBER],
-        Status::Bad,
-        b"bad certificate at 3: Number\n",
-    ),
-    (
-        &[TOUCH, UNIT],
-        Status::Done,
-        b"op touch eventual accepted\n",
-    ),
-    (&[STRONG_IN_AUDIT, CERT], Status::No, b"order 1\n"),
-    (
-        &[UNBOUND, NO_END],
-        Status::Bad,
-        b"bad source at 51: Unknown\n",
-    ),
-    (
-        &[NO_LEVEL, CERT],
-        Status::No,
-        b"op touch eventual refused 1 NotUnit\n",
-    ),
-    (&[NONE_TXN, CERT], Status::No, b"order 2\n"),
-];
 
 #[test]
 fn checks_certificates(rt: HostRuntime) -> Result<(), Fail> {
-    for (files, status, text) in CHECKED {
-        let (got, told) = answer(rt.alloc(), "check", files)?;
-        assert_eq!(rt; got, *status);
-        assert_eq!(rt; told.as_slice(), *text);
-    }
-    Ok(())
+    check_table(rt.alloc(), CHECKED, asked)
 }
 
-// What is said of a certificate of a source. Both stand in one list of files, so they live as long.
-fn checked<'a>(
-    alloc: Global,
-    source: &'a [u8],
-    certificate: &'a [u8],
-) -> Result<(Status, Vec<u8>), NoMemory> {
-    answer(alloc, "check", &[source, certificate])
+// Clauses with proofs, from an independent implementation: a variable out of range, a hint that isn't there, and files
+// that are no proofs.
+const PROOFS: &str = "
+proof: variables 2␊c 1 2␊c 1 -2␊c -1␊1 3 : c1␊end␊ -> 1: refused 1 BadVariable␊
+proof: variables 2␊c 1 2␊c 1 -2␊c -1␊1 1 : c4␊end␊ -> 1: refused 1 BadHint␊
+proof: variables 2␊c 1 2␊c 1 -2␊c -1␊1 1 : c1 c2␊2 : l1 c3␊ -> 2: bad proof at 7: Unexpected␊
+proof: variables 1001␊end␊ -> 2: bad proof at 1: Unexpected␊
+proof: variables 2␊c 3␊end␊ -> 2: bad proof at 2: Unexpected␊
+";
+
+#[test]
+fn checks_proofs(rt: HostRuntime) -> Result<(), Fail> {
+    check_table(rt.alloc(), PROOFS, asked)
+}
+
+// Sources whose levels are proved, and whether each line of the levels is accepted by the proof.
+const PROVED: &str = "
+bank -> all accepted
+register -> all accepted
+shop -> all accepted
+";
+
+#[test]
+fn accepts_what_it_proves(rt: HostRuntime) -> Result<(), Fail> {
+    check_table(rt.alloc(), PROVED, proved_and_checked)
+}
+
+fn proved_and_checked(alloc: Global, name: &str) -> Result<Vec<u8>, NoMemory> {
+    let source = source_or_text(name).as_bytes();
+    let (_, levels) = answer(alloc, "classify", &[source])?;
+    let (_, certificate) = answer(alloc, "prove", &[source])?;
+    let (status, checked) = answer(alloc, "check", &[source, &certificate])?;
+    let expected = all_accepted(alloc, &levels)?;
+    let word = if status == Status::Done && checked.as_slice() == expected.as_slice() {
+        "all accepted"
+    } else {
+        "refused"
+    };
+    Ok(Vec::from_slice(alloc, word.as_bytes())?)
 }
 
 // The lines of levels, each marked as accepted.
@@ -173,35 +80,31 @@ fn all_accepted(alloc: Global, levels: &[u8]) -> Result<Vec<u8>, NoMemory> {
     let mut lines = Vec::new(alloc);
     for byte in levels {
         if *byte == b'\n' {
-            lines.extend_from_slice(b" accepted")?;
+            push_bytes(&mut lines, b" accepted")?;
         }
         lines.push(*byte)?;
     }
     Ok(lines)
 }
 
-#[test]
-fn accepts_what_it_proves(rt: HostRuntime) -> Result<(), Fail> {
-    let alloc = rt.alloc();
-    for source in [BANK, REGISTER, SHOP] {
-        let (_, levels) = answer(alloc, "classify", &[source])?;
-        let (status, certificate) = answer(alloc, "prove", &[source])?;
-        assert_eq!(rt; status, Status::Done);
-        let (status, told) = checked(alloc, source, certificate.as_slice())?;
-        assert_eq!(rt; status, Status::Done);
-        assert_eq!(rt; told, all_accepted(alloc, levels.as_slice())?);
-    }
-    Ok(())
-}
+// A source and a certificate, and the exit statuses for the fronts of it, from the empty one to all but the last byte. The
+// last line feed may be missing.
+const CUT: &str = "
+type t { op touch(): unit { contract true; answer unit; } } ~ quelea certificate 1␊op touch eventual␊1 : c13 c14␊end␊ -> 2222222222222222222222222222222222222222222222222222220
+";
 
-// The last line feed may be missing.
 #[test]
 fn refuses_a_certificate_that_is_cut(rt: HostRuntime) -> Result<(), Fail> {
-    for cut in 0..CERT.len() - 1 {
-        let (status, _) = answer(rt.alloc(), "check", &[TOUCH, &CERT[..cut]])?;
-        assert_eq!(rt; status, Status::Bad, "{cut}");
+    check_table(rt.alloc(), CUT, fronts_checked)
+}
+
+fn fronts_checked(alloc: Global, row: &str) -> Result<Vec<u8>, NoMemory> {
+    let (source, certificate) = row.split_once(" ~ ").unwrap_or((row, ""));
+    let certificate = certificate.as_bytes();
+    let mut statuses = Vec::new(alloc);
+    for cut in 0..certificate.len() {
+        let (status, _) = answer(alloc, "check", &[source.as_bytes(), &certificate[..cut]])?;
+        push_number(&mut statuses, status.number())?;
     }
-    let (status, _) = answer(rt.alloc(), "check", &[TOUCH, &CERT[..CERT.len() - 1]])?;
-    assert_eq!(rt; status, Status::Done);
-    Ok(())
+    Ok(statuses)
 }

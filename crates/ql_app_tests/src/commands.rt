@@ -1,214 +1,76 @@
-use ql_app::{Status, quelea};
-use ql_base::NoMemory;
+ghost use Rattle.std.specs.Prelude.{◌≤◌};
+
+use crate::asking::file;
+use ql_app::quelea;
+use ql_base::{NoMemory, push_bytes, push_number};
 use ql_ports::{MemShelf, MemSink};
-use std::alloc::{AllocError, Global};
+use ql_tables::{check_table, number};
+use std::alloc::Global;
 use std::test::Fail;
 
-// A session's own write: not seen, seen, and seen before it is there.
-const LOST_WRITE: &[u8] = b"contract forall a. soo(a, cur) => vis(a, cur)
-at 2
-effect 1 x w session 1 vis
-effect 2 x w session 1 vis
-end
+// The words; how many bytes a fetch and a put take, which fetch and which put fails (0: none); and a file with its text.
+// The exit status and what was written. Sessions see their own writes, lines end with or without a carriage return, and
+// the last line without a line feed.
+const ANSWERED: &str = r"
+holds own; 1 0 0; own: contract forall a. soo(a, cur) => vis(a, cur)␊at 2␊effect 1 x w session 1 vis␊effect 2 x w session 1 vis 1␊end␊ -> 0: holds␊
+holds lost; 1 0 0; lost: contract forall a. soo(a, cur) => vis(a, cur)␊at 2␊effect 1 x w session 1 vis␊effect 2 x w session 1 vis␊end␊ -> 1: fails a=1␊
+holds three; 1 0 0; three: contract forall c, a, b. vis(a, b) /\ so(b, c) => vis(a, c)␊at 1␊effect 1 x w session 1 vis␊effect 2 x w session 2 vis 1␊effect 3 x w session 2 vis 2␊effect 4 x r session 2 vis 2 3␊end␊ -> 1: fails c=3 a=1 b=2␊
+holds later; 1 0 0; later: contract forall a. soo(a, cur) => vis(a, cur)␊at 2␊effect 1 x w session 1 vis␊effect 2 x w session 1 vis 2␊end␊ -> 2: bad holds at 4: NotForward␊
+holds empty; 1 0 0; empty:  -> 2: bad holds at 1: Unexpected␊
+; 1 0 0; own: contract forall a. soo(a, cur) => vis(a, cur)␊at 2␊effect 1 x w session 1 vis␊effect 2 x w session 1 vis 1␊end␊ -> 5: usage␊
+holds -own; 1 0 0; own: contract forall a. soo(a, cur) => vis(a, cur)␊at 2␊effect 1 x w session 1 vis␊effect 2 x w session 1 vis 1␊end␊ -> 5: usage␊
+holds own own; 1 0 0; own: contract forall a. soo(a, cur) => vis(a, cur)␊at 2␊effect 1 x w session 1 vis␊effect 2 x w session 1 vis 1␊end␊ -> 5: usage␊
+holds other; 1 0 0; own: contract forall a. soo(a, cur) => vis(a, cur)␊at 2␊effect 1 x w session 1 vis␊effect 2 x w session 1 vis 1␊end␊ -> 3: read fault other␊
+holds own; 1 5 0; own: contract forall a. soo(a, cur) => vis(a, cur)␊at 2␊effect 1 x w session 1 vis␊effect 2 x w session 1 vis 1␊end␊ -> 3: read fault own␊
+holds own; 1 0 4; own: contract forall a. soo(a, cur) => vis(a, cur)␊at 2␊effect 1 x w session 1 vis␊effect 2 x w session 1 vis 1␊end␊ -> 4: hol
+proof accepted; 1 0 0; accepted: variables 2␊c 1 2␊c 1 -2␊c -1␊1 1 : c1 c2␊2 : l1 c3␊end␊ -> 0: accepted␊
+proof missing; 1 0 0; missing: variables 2␊c 1 2␊c 1 -2␊c -1␊1 1 : c1␊2 : l1 c3␊end␊ -> 1: refused 1 NoConflict␊
+proof early; 1 0 0; early: variables 2␊c 1 2␊c 1 -2␊c -1␊1 1 : c1 c2␊2 : c1 l1 c3␊end␊ -> 1: refused 2 NotUnit␊
+proof twice; 1 0 0; twice: variables 2␊c 1 2␊c 1 -2␊c -1␊1 1 : c1 c2␊1 : l1 c3␊end␊ -> 2: bad proof at 6: Number␊
+proof ends; 1 0 0; ends: variables 0␍␊c␍␊end -> 1: refused NoEmpty␊
+classify touch; 8 0 2; touch: type t { op touch(): unit { contract true; answer unit; } } -> 4: op touch
+verify touch other; 8 0 0; touch: type t { op touch(): unit { contract true; answer unit; } } -> 3: read fault other␊
+verify touch; 8 0 0; touch: type t { op touch(): unit { contract true; answer unit; } } -> 5: usage␊
 ";
-
-const OWN_WRITE: &[u8] = b"contract forall a. soo(a, cur) => vis(a, cur)
-at 2
-effect 1 x w session 1 vis
-effect 2 x w session 1 vis 1
-end
-";
-
-const LATER_WRITE: &[u8] = b"contract forall a. soo(a, cur) => vis(a, cur)
-at 2
-effect 1 x w session 1 vis
-effect 2 x w session 1 vis 2
-end
-";
-// Visibility isn't handed on within a session.
-const NOT_HANDED_ON: &[u8] = b"contract forall c, a, b. vis(a, b) /\\ so(b, c) => vis(a, c)
-at 1
-effect 1 x w session 1 vis
-effect 2 x w session 2 vis 1
-effect 3 x w session 2 vis 2
-effect 4 x r session 2 vis 2 3
-end
-";
-
-// Two lines down to the empty clause, and three ways to get them wrong.
-const ACCEPTED: &[u8] = b"variables 2
-c 1 2
-c 1 -2
-c -1
-1 1 : c1 c2
-2 : l1 c3
-end
-";
-
-const HINT_MISSING: &[u8] = b"variables 2
-c 1 2
-c 1 -2
-c -1
-1 1 : c1
-2 : l1 c3
-end
-";
-
-const HINT_TOO_EARLY: &[u8] = b"variables 2
-c 1 2
-c 1 -2
-c -1
-1 1 : c1 c2
-2 : c1 l1 c3
-end
-";
-
-const NUMBER_TWICE: &[u8] = b"variables 2
-c 1 2
-c 1 -2
-c -1
-1 1 : c1 c2
-1 : l1 c3
-end
-";
-// Lines may end with a carriage return and a line feed, and the last one with nothing.
-const OTHER_ENDS: &[u8] = b"variables 0\r\nc\r\nend";
-
-// The words, the numbers of the fetches and of the puts that fail, and the answer to them.
-type Case = (
-    &'static [&'static str],
-    &'static [u64],
-    &'static [u64],
-    Status,
-    &'static [u8],
-);
-
-fn texts(alloc: Global, words: &[&str]) -> Result<Vec<String>, AllocError> {
-    let mut texts = Vec::new(alloc);
-    for word in words {
-        texts.push(String::from_str(alloc, word)?)?;
-    }
-    Ok(texts)
-}
-
-fn files(alloc: Global) -> Result<Vec<(String, Vec<u8>)>, AllocError> {
-    let mut files = Vec::new(alloc);
-    for (name, bytes) in [
-        ("lost", LOST_WRITE),
-        ("own", OWN_WRITE),
-        ("later", LATER_WRITE),
-        ("three", NOT_HANDED_ON),
-        ("empty", b""),
-        ("accepted", ACCEPTED),
-        ("missing", HINT_MISSING),
-        ("early", HINT_TOO_EARLY),
-        ("twice", NUMBER_TWICE),
-        ("ends", OTHER_ENDS),
-    ] {
-        files.push((
-            String::from_str(alloc, name)?,
-            Vec::from_slice(alloc, bytes)?,
-        ))?;
-    }
-    Ok(files)
-}
 
 #[test]
 fn answers_words_over_memory(rt: HostRuntime) -> Result<(), Fail> {
-    let cases: [Case; 16] = [
-        (&["holds", "own"], &[], &[], Status::Done, b"holds\n"),
-        (&["holds", "lost"], &[], &[], Status::No, b"fails a=1\n"),
-        (
-            &["holds", "three"],
-            &[],
-            &[],
-            Status::No,
-            b"fails c=3 a=1 b=2\n",
-        ),
-        (
-            &["holds", "later"],
-            &[],
-            &[],
-            Status::Bad,
-            b"bad holds at 4: NotForward\n",
-        ),
-        (
-            &["holds", "empty"],
-            &[],
-            &[],
-            Status::Bad,
-            b"bad holds at 1: Unexpected\n",
-        ),
-        (&[], &[], &[], Status::Usage, b"usage\n"),
-        (&["holds", "-own"], &[], &[], Status::Usage, b"usage\n"),
-        (
-            &["holds", "own", "own"],
-            &[],
-            &[],
-            Status::Usage,
-            b"usage\n",
-        ),
-        (
-            &["holds", "other"],
-            &[],
-            &[],
-            Status::ReadFault,
-            b"read fault other\n",
-        ),
-        (
-            &["holds", "own"],
-            &[5],
-            &[],
-            Status::ReadFault,
-            b"read fault own\n",
-        ),
-        (&["holds", "own"], &[], &[4], Status::WriteFault, b"hol"),
-        (
-            &["proof", "accepted"],
-            &[],
-            &[],
-            Status::Done,
-            b"accepted\n",
-        ),
-        (
-            &["proof", "missing"],
-            &[],
-            &[],
-            Status::No,
-            b"refused 1 NoConflict\n",
-        ),
-        (
-            &["proof", "early"],
-            &[],
-            &[],
-            Status::No,
-            b"refused 2 NotUnit\n",
-        ),
-        (
-            &["proof", "twice"],
-            &[],
-            &[],
-            Status::Bad,
-            b"bad proof at 6: Number\n",
-        ),
-        (
-            &["proof", "ends"],
-            &[],
-            &[],
-            Status::No,
-            b"refused NoEmpty\n",
-        ),
-    ];
-    for (words, failing_fetches, failing_puts, want, text) in cases {
-        let alloc = rt.alloc();
-        let words = texts(alloc, words)?;
-        let fetches = Vec::from_slice(alloc, failing_fetches)?;
-        let mut shelf = MemShelf::new(alloc, files(alloc)?, 1, fetches)?;
-        let puts = Vec::from_slice(alloc, failing_puts)?;
-        let mut sink = MemSink::new(alloc, 100, 1, puts)?;
-        let status = quelea(alloc, &words, &mut shelf, &mut sink)?;
-        assert_eq!(rt; status, want);
-        assert_eq!(rt; sink.bytes(), text);
+    check_table(rt.alloc(), ANSWERED, answered)
+}
+
+fn answered(alloc: Global, row: &str) -> Result<Vec<u8>, NoMemory> {
+    let (words, rest) = row.split_once("; ").unwrap_or((row, ""));
+    let (numbers, file) = rest.split_once("; ").unwrap_or((rest, ""));
+    let words = words_of(alloc, words)?;
+    let mut shelf = shelf(alloc, numbers, file)?;
+    let failing = Vec::from_slice(alloc, &[u64::from(number(numbers, 2))])?;
+    let mut sink = MemSink::new(alloc, 100, piece(numbers), failing)?;
+    let status = quelea(alloc, &words, &mut shelf, &mut sink)?;
+    let mut out = Vec::new(alloc);
+    push_number(&mut out, status.number())?;
+    push_bytes(&mut out, b": ")?;
+    push_bytes(&mut out, sink.bytes())?;
+    Ok(out)
+}
+
+fn words_of(alloc: Global, text: &str) -> Result<Vec<String>, NoMemory> {
+    let mut words = Vec::new(alloc);
+    for word in text.split_whitespace() {
+        words.push(String::from_str(alloc, word)?)?;
     }
-    Ok(())
+    Ok(words)
+}
+
+fn shelf(alloc: Global, numbers: &str, text: &str) -> Result<MemShelf, NoMemory> {
+    let (name, text) = text.split_once(": ").unwrap_or((text, ""));
+    let mut files = Vec::new(alloc);
+    files.push(file(alloc, name, text.as_bytes())?)?;
+    let failing = Vec::from_slice(alloc, &[u64::from(number(numbers, 1))])?;
+    MemShelf::new(alloc, files, piece(numbers), failing)
+}
+
+fn piece(numbers: &str) -> usize
+    ensures { 1 ≤ result }
+{
+    number(numbers, 0).max(1) as usize
 }

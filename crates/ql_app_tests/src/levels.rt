@@ -1,133 +1,76 @@
-use crate::asking::answer;
-use crate::sources::*;
-use ql_app::{Status, quelea};
-use ql_ports::{MemShelf, MemSink};
+use crate::asking::{asked, reported};
+use ql_base::NoMemory;
+use ql_tables::check_table;
+use std::alloc::Global;
 use std::test::Fail;
 
-// Files, and the answer to a command with them.
-type Case = (&'static [&'static [u8]], Status, &'static [u8]);
-
-// The least levels of sources, or their first fault, from an independent implementation.
-const CLASSIFIED: &[Case] = &[
-    (&[TOUCH], Status::Done, b"op touch eventual\n"),
-    (
-        &[BANK],
-        Status::Done,
-        b"op deposit eventual\nop withdraw strong\nop getbalance eventual\ntxn audit rr\ntxn peek rc\ntxn trail mav\n",
-    ),
-    (
-        &[REGISTER],
-        Status::Done,
-        b"op write eventual\nop read causal\n",
-    ),
-    (
-        &[SHOP],
-        Status::Done,
-        b"op restock eventual\nop reserve strong\nop stock_left causal\nop add_item eventual\nop show eventual\ntxn fill rc\ntxn glance rc\ntxn follow mav\ntxn report rr\n",
-    ),
-    (
-        &[GUARANTEES],
-        Status::Done,
-        b"op write causal\nop read causal\nop put eventual\nop get eventual\n",
-    ),
-    (
-        &[TWO_TYPES],
-        Status::Done,
-        b"op touch eventual\nop other eventual\n",
-    ),
-    (&[STRONG], Status::Done, b"op touch strong\n"),
-    (&[FIVE], Status::Done, b"op touch eventual\n"),
-    (
-        &[STRONG_IN_AUDIT],
-        Status::No,
-        b"strong withdraw in audit\n",
-    ),
-    (&[UNBOUND], Status::Bad, b"bad source at 51: Unknown\n"),
-    (&[SIX], Status::Bad, b"bad source at 59: Variables\n"),
-    (&[b""], Status::Bad, b"bad source at 0: Unexpected\n"),
-    (&[CHAR], Status::Bad, b"bad source at 7: BadChar\n"),
-    (&[LONG_WORD], Status::Bad, b"bad source at 5: LongWord\n"),
-    (&[NUMBER], Status::Bad, b"bad source at 24: BadNumber\n"),
-    (&[DEEP], Status::Bad, b"bad source at 109: Deep\n"),
-    (&[TWICE], Status::Bad, b"bad source at 57: Twice\n"),
-    (&[KIND], Status::Bad, b"bad source at 45: Kind\n"),
-    (&[CLOSURE], Status::Bad, b"bad source at 107: TxnClosure\n"),
-    (&[TXN], Status::Bad, b"bad source at 42: TxnAtom\n"),
-];
-
-const UNPROVED: &[Case] = &[
-    (
-        &[STRONG_IN_AUDIT],
-        Status::No,
-        b"strong withdraw in audit\n",
-    ),
-    (&[UNBOUND], Status::Bad, b"bad source at 51: Unknown\n"),
-    (&[KIND], Status::Bad, b"bad source at 45: Kind\n"),
-];
+// The least levels of sources, or their first fault, from an independent implementation. Each rule is there.
+const CLASSIFIED: &str = r"
+classify: type t { op touch(): unit { contract true; answer unit; } } -> 0: op touch eventual␊
+classify: bank -> 0: op deposit eventual␊op withdraw strong␊op getbalance eventual␊txn audit rr␊txn peek rc␊txn trail mav␊
+classify: register -> 0: op write eventual␊op read causal␊
+classify: shop -> 0: op restock eventual␊op reserve strong␊op stock_left causal␊op add_item eventual␊op show eventual␊txn fill rc␊txn glance rc␊txn follow mav␊txn report rr␊
+classify: type t {␊  op write(): unit { contract forall a. soo(a, cur) => vis(a, cur); answer unit; }␊  op read(): unit { contract forall a, b. vis(a, b) /\ soo(b, cur) => vis(a, cur); answer unit; }␊  op put(): unit { contract forall a, b. soo(a, b) /\ vis(b, cur) => vis(a, cur); answer unit; }␊  op get(): unit { contract forall a, b, c. vis(a, b) /\ soo(b, c) /\ vis(c, cur) => vis(a, cur); answer unit; }␊}␊ -> 0: op write causal␊op read causal␊op put eventual␊op get eventual␊
+classify: type t { op touch(): unit { contract forall a: other. sameobj(a, cur) => vis(a, cur); answer unit; } }␊type u { op other(): unit { contract true; answer unit; } }␊ -> 0: op touch eventual␊op other eventual␊
+classify: type t { op touch(): unit { contract forall a. hb(a, cur) /\ sameobj(a, cur) => vis(a, cur); answer unit; } } -> 0: op touch strong␊
+classify: type t { op touch(): unit { contract forall a, b, c, d, e. true; answer unit; } } -> 0: op touch eventual␊
+classify: type account {␊  state balance: int = 0;␊  op deposit(n: int): unit { contract true; answer unit;␊    emit p: int = n when true; apply { balance := balance + p; } }␊  op withdraw(n: int): bool {␊    contract forall a: withdraw. sameobj(a, cur) => vis(a, cur) \/ vis(cur, a) \/ a = cur;␊    answer balance >= n;␊    emit p: int = n when balance >= n; apply { balance := balance - p; } }␊  op getbalance(): int {␊    contract forall a, b. vis(a, b) /\ vis(b, cur) => vis(a, cur); answer balance; }␊}␊transaction audit { uses deposit, getbalance, withdraw;␊  contract forall a, b, c, d. txn{a, b}{c, d} /\ vis(c, a) /\ sameobj(d, b) => vis(d, b); }␊transaction peek { uses deposit, getbalance;␊  contract forall a, b, c. txn{a}{b, c} /\ sameobj(b, c) /\ vis(b, a) => vis(c, a); }␊transaction trail { uses deposit, getbalance;␊  contract forall a, b, c, d. (txn{a}{b, c} /\ sameobj(b, c) /\ vis(b, a) => vis(c, a))␊    /\ (txn{a, b}{c, d} /\ so(a, b) /\ vis(c, a) /\ sameobj(d, b) => vis(d, b)); }␊ -> 1: strong withdraw in audit␊
+classify: type t { op touch(): unit { contract forall a. vis(b, cur); answer unit; } } -> 2: bad source at 51: Unknown␊
+classify: type t { op touch(): unit { contract forall a, b, c, d, e, f. true; answer unit; } } -> 2: bad source at 59: Variables␊
+classify:  -> 2: bad source at 0: Unexpected␊
+classify: type t $ -> 2: bad source at 7: BadChar␊
+classify: type aaaaaaaaaaaaaaaaaaaaaaaaaaaaaaaaa { -> 2: bad source at 5: LongWord␊
+classify: type t { state n: int = 01; -> 2: bad source at 24: BadNumber␊
+classify: type t { op f(): int { contract true; answer ((((((((((((((((((((((((((((((((((((((((((((((((((((((((((((((((( -> 2: bad source at 109: Deep␊
+classify: type t { op f(): unit { contract true; answer unit; } op f(): unit { contract true; answer unit; } } -> 2: bad source at 57: Twice␊
+classify: type t { op f(): int { contract true; answer true; } } -> 2: bad source at 45: Kind␊
+classify: type t { op touch(): unit { contract true; answer unit; } } transaction x { uses touch; contract forall a. hb(a, a); } -> 2: bad source at 107: TxnClosure␊
+classify: type t { op f(): int { contract forall a. txn{a}{a}; answer 1; } } -> 2: bad source at 42: TxnAtom␊
+classify: type t { op f(): unit { contract true; answer not not not not not not not not not not not not not not not not not not not not not not not not not not not not not not not not not not not not not not not not not not not not not not not not not not not not not not not not not not not not not not not not not not not not not not not not not not not not not not not not not not not not not not not not not not not not not not not not not not not not not not not not not not not not not not not not not not not not not not not not not not not not not not not not not not not not not not not not not not not not not not not not not not not not not not not not not not not not not not not not not not not not not not not not not not not not not not not not not not not not not not not not not not not not not not not not not not not not not not not not not not not not not not not not not not not not not not not not not not not not not not not not not not not not not not not not not not not not not not not not not not not not not not not not not not not not not not not not a; } } -> 2: bad source at 1070: Wide␊
+classify: type t { state i: int = 0; state b: bool = true; op f(n: int, w: text): int { contract true; answer 0; emit p: int = n, q: int = n, r: int = n, s: int = n, t: int = n when b; apply { } } } -> 2: bad source at 156: TooMany␊
+prove: type account {␊  state balance: int = 0;␊  op deposit(n: int): unit { contract true; answer unit;␊    emit p: int = n when true; apply { balance := balance + p; } }␊  op withdraw(n: int): bool {␊    contract forall a: withdraw. sameobj(a, cur) => vis(a, cur) \/ vis(cur, a) \/ a = cur;␊    answer balance >= n;␊    emit p: int = n when balance >= n; apply { balance := balance - p; } }␊  op getbalance(): int {␊    contract forall a, b. vis(a, b) /\ vis(b, cur) => vis(a, cur); answer balance; }␊}␊transaction audit { uses deposit, getbalance, withdraw;␊  contract forall a, b, c, d. txn{a, b}{c, d} /\ vis(c, a) /\ sameobj(d, b) => vis(d, b); }␊transaction peek { uses deposit, getbalance;␊  contract forall a, b, c. txn{a}{b, c} /\ sameobj(b, c) /\ vis(b, a) => vis(c, a); }␊transaction trail { uses deposit, getbalance;␊  contract forall a, b, c, d. (txn{a}{b, c} /\ sameobj(b, c) /\ vis(b, a) => vis(c, a))␊    /\ (txn{a, b}{c, d} /\ so(a, b) /\ vis(c, a) /\ sameobj(d, b) => vis(d, b)); }␊ -> 1: strong withdraw in audit␊
+prove: type t { op touch(): unit { contract forall a. vis(b, cur); answer unit; } } -> 2: bad source at 51: Unknown␊
+prove: type t { op f(): int { contract true; answer true; } } -> 2: bad source at 45: Kind␊
+";
 
 #[test]
 fn tells_least_levels_or_the_first_fault(rt: HostRuntime) -> Result<(), Fail> {
-    for (files, status, text) in CLASSIFIED {
-        let (got, told) = answer(rt.alloc(), "classify", files)?;
-        assert_eq!(rt; got, *status);
-        assert_eq!(rt; told.as_slice(), *text);
-    }
-    for (files, status, text) in UNPROVED {
-        let (got, told) = answer(rt.alloc(), "prove", files)?;
-        assert_eq!(rt; got, *status);
-        assert_eq!(rt; told.as_slice(), *text);
-    }
-    Ok(())
+    check_table(rt.alloc(), CLASSIFIED, asked)
 }
 
-// Which assignment is told is open.
+// Sources of which no level is enough, and the front of what is printed. Which assignment is printed is open.
+const NO_LEVEL: &str = "
+classify: type t { op touch(): unit { contract forall a. sameobj(a, cur) => vis(a, cur); answer unit; } } -> 1: none op touch␊atoms eq(a,a) 
+prove: type t { op touch(): unit { contract forall a. sameobj(a, cur) => vis(a, cur); answer unit; } } -> 1: none op touch␊atoms eq(a,a) 
+classify: type t { op touch(): unit { contract true; answer unit; } }␊transaction x { uses touch; contract forall a, b. txn{a}{b} => vis(a, b); } -> 1: none txn x␊atoms eq(a,a) 
+prove: type t { op touch(): unit { contract true; answer unit; } }␊transaction x { uses touch; contract forall a, b. txn{a}{b} => vis(a, b); } -> 1: none txn x␊atoms eq(a,a) 
+";
+
 #[test]
 fn tells_where_no_level_is_enough(rt: HostRuntime) -> Result<(), Fail> {
-    let cases: [(&[u8], &[u8]); 2] = [
-        (NO_LEVEL, b"none op touch\natoms eq(a,a) "),
-        (NONE_TXN, b"none txn x\natoms eq(a,a) "),
-    ];
-    for (source, front) in cases {
-        for command in ["classify", "prove"] {
-            let (status, told) = answer(rt.alloc(), command, &[source])?;
-            assert_eq!(rt; status, Status::No);
-            assert!(rt; told.starts_with(front));
-        }
-    }
-    Ok(())
+    check_table(rt.alloc(), NO_LEVEL, front_of_asked)
 }
+
+// What is printed up to the first atom.
+fn front_of_asked(alloc: Global, row: &str) -> Result<Vec<u8>, NoMemory> {
+    let mut text = asked(alloc, row)?;
+    let atoms = text.iter().take_while(|byte| **byte != b')').count();
+    text.truncate(atoms.saturating_add(2));
+    Ok(text)
+}
+
+// How many spaces a source has, and what is said of it.
+const SPACES: &str = "
+1048577 -> 7: too large source␊
+1048576 -> 2: bad source at 1048576: Unexpected␊
+";
 
 #[test]
 fn refuses_a_source_over_its_limit(rt: HostRuntime) -> Result<(), Fail> {
-    let alloc = rt.alloc();
-    let long = vec![in alloc; b' '; 1_048_577]?;
-    let (status, told) = answer(alloc, "classify", &[&long])?;
-    assert_eq!(rt; status, Status::TooLarge);
-    assert_eq!(rt; told.as_slice(), b"too large source\n".as_slice());
-    let (status, told) = answer(alloc, "classify", &[&long[1..]])?;
-    assert_eq!(rt; status, Status::Bad);
-    assert_eq!(rt;
-        told.as_slice(),
-        b"bad source at 1048576: Unexpected\n".as_slice()
-    );
-    Ok(())
+    check_table(rt.alloc(), SPACES, spaces_asked)
 }
 
-#[test]
-fn writes_a_front_before_a_fault(rt: HostRuntime) -> Result<(), Fail> {
-    let alloc = rt.alloc();
-    let mut words = Vec::new(alloc);
-    words.push(String::from_str(alloc, "classify")?)?;
-    words.push(String::from_str(alloc, "touch")?)?;
-    let mut named = Vec::new(alloc);
-    named.push((
-        String::from_str(alloc, "touch")?,
-        Vec::from_slice(alloc, TOUCH)?,
-    ))?;
-    let mut shelf = MemShelf::new(alloc, named, 8, Vec::new(alloc))?;
-    let mut sink = MemSink::new(alloc, 100, 8, Vec::from_slice(alloc, &[2])?)?;
-    let status = quelea(alloc, &words, &mut shelf, &mut sink)?;
-    assert_eq!(rt; status, Status::WriteFault);
-    assert_eq!(rt; sink.bytes(), b"op touch".as_slice());
-    Ok(())
+fn spaces_asked(alloc: Global, row: &str) -> Result<Vec<u8>, NoMemory> {
+    let spaces = vec![in alloc; b' '; row.parse().unwrap_or(0)]?;
+    reported(alloc, "classify", &[&spaces])
 }

@@ -9,7 +9,7 @@ mod certificates;
 #[cfg(test)]
 mod commands;
 #[cfg(test)]
-mod holds;
+mod judging;
 #[cfg(test)]
 mod levels;
 #[cfg(test)]

@@ -1,93 +1,139 @@
-use ql_base::{DeclId, EffId, IdSet, NoMemory, ObjId, OpId, RunId, SessId};
-use ql_exec::{Draft, ExecFault, Execution, Member, Payload};
+use crate::texts::spelled;
+use ql_base::{
+    DeclId, EffId, IdSet, NoMemory, ObjId, OpId, RunId, SessId, push_bytes, push_number,
+};
+use ql_exec::{Draft, Effect, ExecFault, Execution, Member, Payload};
+use ql_tables::{check_table, field, number};
 use ql_value::{Value, Values};
 use std::alloc::Global;
 use std::test::Fail;
 
-// An object, a session, a begun transaction (0 for none) with its declared name, the seen ids, and
-// the stamp or the fault.
-type Row = (u32, u32, (u32, u32), &'static [u32], Result<u32, ExecFault>);
+// Effects that are pushed one after another: an object, a session, a begun transaction with its declared name (or -),
+// and the seen ids; and the effect, or the fault and its effect.
+const PUSHED: &str = "
+0 0 - sees 1 -> NotForward 1
+0 0 - sees -> effect 1 stamp 1 sees
+1 0 - sees -> effect 2 stamp 2 sees
+0 0 - sees 0 -> NotForward 3
+0 0 - sees 2 -> OtherObject 3
+0 0 - sees 2 3 -> NotForward 3
+0 1 1:5 sees 1 -> effect 3 stamp 2 sees 1
+0 1 1:5 sees 1 3 -> effect 4 stamp 3 sees 1 3
+0 1 1:6 sees -> SplitTxn 5
+0 2 1:5 sees -> SplitTxn 5
+0 2 1:5 sees 2 -> OtherObject 5
+0 2 - sees 4 -> effect 5 stamp 4 sees 4
+1 1 1:5 sees -> effect 6 stamp 4 sees
+1 1 - sees -> effect 7 stamp 5 sees
+1 1 1:5 sees -> SplitTxn 8
+1 3 2:5 sees 6 7 -> effect 8 stamp 6 sees 6 7
+";
 
-fn draft(alloc: Global, row: &Row) -> Result<Draft, NoMemory> {
-    let (object, session, (run, name), seen, _) = *row;
-    let mut ids = IdSet::new(alloc);
-    for id in seen {
-        ids.insert(*id)?;
+#[test]
+fn refuses_what_no_effect_can_be(rt: HostRuntime) -> Result<(), Fail> {
+    let mut execution = Execution::new(rt.alloc());
+    check_table(rt.alloc(), PUSHED, |alloc, row| {
+        pushed(alloc, &mut execution, row)
+    })
+}
+
+fn pushed(alloc: Global, execution: &mut Execution, row: &str) -> Result<Vec<u8>, NoMemory> {
+    if execution.len() >= 100 {
+        return spelled(alloc, "too many");
     }
+    match execution.push(draft(alloc, row)?) {
+        Ok(id) if 1 <= id.0 && id.0 <= execution.len() => {
+            effect_text(alloc, id, execution.get(id))
+        }
+        Ok(_) => spelled(alloc, "no effect"),
+        Err(ExecFault::NotForward(id)) => placed(alloc, "NotForward ", id),
+        Err(ExecFault::OtherObject(id)) => placed(alloc, "OtherObject ", id),
+        Err(ExecFault::SplitTxn(id)) => placed(alloc, "SplitTxn ", id),
+        Err(ExecFault::NoMemory) => Err(NoMemory),
+    }
+}
+
+fn effect_text(alloc: Global, id: EffId, effect: &Effect) -> Result<Vec<u8>, NoMemory> {
+    let mut out = placed(alloc, "effect ", id)?;
+    push_bytes(&mut out, b" stamp ")?;
+    push_number(&mut out, effect.stamp)?;
+    push_bytes(&mut out, b" sees")?;
+    for id in effect.seen.items() {
+        push_bytes(&mut out, b" ")?;
+        push_number(&mut out, *id)?;
+    }
+    Ok(out)
+}
+
+fn placed(alloc: Global, word: &str, id: EffId) -> Result<Vec<u8>, NoMemory> {
+    let mut out = spelled(alloc, word)?;
+    push_number(&mut out, id.0)?;
+    Ok(out)
+}
+
+fn draft(alloc: Global, row: &str) -> Result<Draft, NoMemory> {
+    let (_, seen) = row.split_once("sees").unwrap_or((row, ""));
     Ok(Draft {
-        object: ObjId(object),
+        object: ObjId(number(row, 0)),
         op: OpId(0),
         args: Values::of(Vec::new(alloc)),
         payload: Payload::Nothing,
         answer: Value::Unit,
-        session: SessId(session),
-        member: if run == 0 {
-            Member::Alone
-        } else {
-            Member::Inside(RunId(run), DeclId(name))
-        },
-        seen: ids,
+        session: SessId(number(row, 1)),
+        member: member(field(row, 2)),
+        seen: set_of(alloc, seen)?,
     })
 }
 
-#[test]
-fn refuses_what_no_effect_can_be(rt: HostRuntime) -> Result<(), Fail> {
-    let mut run = Execution::new(rt.alloc());
-    let rows: [Row; 16] = [
-        (0, 0, (0, 0), &[1], Err(ExecFault::NotForward(EffId(1)))),
-        (0, 0, (0, 0), &[], Ok(1)),
-        (1, 0, (0, 0), &[], Ok(2)),
-        (0, 0, (0, 0), &[0], Err(ExecFault::NotForward(EffId(3)))),
-        (0, 0, (0, 0), &[2], Err(ExecFault::OtherObject(EffId(3)))),
-        (0, 0, (0, 0), &[2, 3], Err(ExecFault::NotForward(EffId(3)))),
-        (0, 1, (1, 5), &[1], Ok(2)),
-        (0, 1, (1, 5), &[1, 3], Ok(3)),
-        (0, 1, (1, 6), &[], Err(ExecFault::SplitTxn(EffId(5)))),
-        (0, 2, (1, 5), &[], Err(ExecFault::SplitTxn(EffId(5)))),
-        (0, 2, (1, 5), &[2], Err(ExecFault::OtherObject(EffId(5)))),
-        (0, 2, (0, 0), &[4], Ok(4)),
-        (1, 1, (1, 5), &[], Ok(4)),
-        (1, 1, (0, 0), &[], Ok(5)),
-        (1, 1, (1, 5), &[], Err(ExecFault::SplitTxn(EffId(8)))),
-        (1, 3, (2, 5), &[6, 7], Ok(6)),
-    ];
-    for row in &rows {
-        assert!(rt; run.len() < 100);
-        let got = run.push(draft(rt.alloc(), row)?);
-        let stamp = match got {
-            Ok(id) if 1 <= id.0 && id.0 <= run.len() => Ok(run.get(id).stamp),
-            Ok(_) => Ok(0),
-            Err(fault) => Err(fault),
-        };
-        assert_eq!(rt; stamp, row.4, "session {} sees {:?}", row.1, row.3);
+fn member(text: &str) -> Member {
+    match text.split_once(':') {
+        Some((run, name)) => Member::Inside(RunId(number(run, 0)), DeclId(number(name, 0))),
+        None => Member::Alone,
     }
-    assert_eq!(rt; run.len(), 8);
-    assert_eq!(rt; run.get(EffId(4)).seen.items(), [1, 3].as_slice());
-    Ok(())
 }
+
+fn set_of(alloc: Global, ids: &str) -> Result<IdSet, NoMemory> {
+    let mut set = IdSet::new(alloc);
+    for id in ids.split_whitespace() {
+        set.insert(number(id, 0))?;
+    }
+    Ok(set)
+}
+
+// An execution of which the last effect is taken back, another effect in its place, and how many effects a copy of the
+// first has.
+const STEPS_BACK: &str = "
+0 1 1:5 sees; 0 2 - sees 1; 0 1 - sees 2 then 0 1 1:5 sees 1 -> effect 3 stamp 2 sees 1, copy of 3
+";
 
 #[test]
 fn goes_on_after_a_step_back(rt: HostRuntime) -> Result<(), Fail> {
-    let rows: [Row; 3] = [
-        (0, 1, (1, 5), &[], Ok(1)),
-        (0, 2, (0, 0), &[1], Ok(2)),
-        (0, 1, (0, 0), &[2], Ok(3)),
-    ];
-    let mut drafts = Vec::new(rt.alloc());
-    for row in &rows {
-        drafts.push(draft(rt.alloc(), row)?)?;
+    check_table(rt.alloc(), STEPS_BACK, stepped_back)
+}
+
+fn stepped_back(alloc: Global, row: &str) -> Result<Vec<u8>, NoMemory> {
+    let (first, then) = row.split_once(" then ").unwrap_or((row, ""));
+    let drafts = drafts(alloc, first)?;
+    if drafts.len() > 100 {
+        return spelled(alloc, "too many");
     }
-    assert!(rt; drafts.len() == 3);
-    let Ok(mut run) = Execution::from_effects(rt.alloc(), drafts) else {
-        return Err(Fail::new("these are an execution"));
+    let Ok(mut execution) = Execution::from_effects(alloc, drafts) else {
+        return spelled(alloc, "no execution");
     };
-    let whole = run.copy()?;
-    assert!(rt; run.len() == 3);
-    run.pop();
-    assert!(rt; run.len() == 2);
-    let same_transaction: Row = (0, 1, (1, 5), &[1], Ok(2));
-    let got = run.push(draft(rt.alloc(), &same_transaction)?);
-    assert_eq!(rt; got.map(|id| id.0), Ok(3));
-    assert_eq!(rt; whole.len(), 3);
-    Ok(())
+    let copy = execution.copy()?;
+    if !execution.is_empty() {
+        execution.pop();
+    }
+    let mut out = pushed(alloc, &mut execution, then)?;
+    push_bytes(&mut out, b", copy of ")?;
+    push_number(&mut out, copy.len())?;
+    Ok(out)
+}
+
+fn drafts(alloc: Global, text: &str) -> Result<Vec<Draft>, NoMemory> {
+    let mut drafts = Vec::new(alloc);
+    for row in text.split("; ") {
+        drafts.push(draft(alloc, row)?)?;
+    }
+    Ok(drafts)
 }

@@ -7,6 +7,10 @@ mod executions;
 #[cfg(test)]
 mod expressions;
 #[cfg(test)]
+mod folders;
+#[cfg(test)]
 mod folds;
+#[cfg(test)]
+mod texts;
 #[cfg(test)]
 mod values;

@@ -1,161 +1,193 @@
-use ql_base::NoMemory;
+use crate::texts::{push_value, spelled};
+use ql_base::{NoMemory, push_bytes, push_number};
+use ql_tables::{check_table, field};
 use ql_value::{
-    MapVal, Scalar, SetVal, TextVal, Value, ValueFault, add, order, parse_value, print_value, put,
-    sat_add, sat_mul, sat_neg, sat_sub, size,
+    MapVal, Scalar, SetVal, Value, ValueFault, add, order, parse_value, put, sat_add, sat_mul,
+    sat_neg, sat_sub, size,
 };
-use std::alloc::{AllocError, Global};
+use std::alloc::Global;
 use std::cmp::Ordering;
 use std::test::Fail;
 
-// Texts, and the place behind the value that is read with its text, or the place of the first fault; from an
+// Texts, and the offset behind the value that is read with its text, or the offset of the first fault; from an
 // independent implementation.
-const CASES: &[(&[u8], &str)] = &[
-    (b"unit", "4 unit"),
-    (b"unity", "4 unit"),
-    (b"uni", "fault 3"),
-    (b"un1t", "fault 2"),
-    (b"0", "1 0"),
-    (b"00", "fault 0"),
-    (b"-0", "fault 0"),
-    (b"-", "fault 1"),
-    (b"-1", "2 -1"),
-    (b"--1", "fault 1"),
-    (b"7x", "1 7"),
-    (b"9223372036854775807", "19 9223372036854775807"),
-    (b"9223372036854775808", "fault 0"),
-    (b"-9223372036854775808", "20 -9223372036854775808"),
-    (b"-9223372036854775809", "fault 0"),
-    (b"12345678901234567890123", "fault 0"),
-    (b"true", "4 true"),
-    (b"tru", "fault 3"),
-    (b"trve", "fault 2"),
-    (b"false", "5 false"),
-    (b"", "fault 0"),
-    (b" 1", "fault 0"),
-    (b"+1", "fault 0"),
-    (b"\"\"", "2 \"\""),
-    (b"\"a b\"", "5 \"a b\""),
-    (b"\"a", "fault 2"),
-    (b"\"a\\\"", "fault 2"),
-    (b"\"\x7f\"", "fault 1"),
-    (
-        b"\"xxxxxxxxxxxxxxxxxxxxxxxxxxxxxxxxxxxxxxxxxxxxxxxxxxxxxxxxxxxxxxxx\"",
-        "66 \"xxxxxxxxxxxxxxxxxxxxxxxxxxxxxxxxxxxxxxxxxxxxxxxxxxxxxxxxxxxxxxxx\"",
-    ),
-    (
-        b"\"xxxxxxxxxxxxxxxxxxxxxxxxxxxxxxxxxxxxxxxxxxxxxxxxxxxxxxxxxxxxxxxxx\"",
-        "fault 0",
-    ),
-    (
-        b"\"xxxxxxxxxxxxxxxxxxxxxxxxxxxxxxxxxxxxxxxxxxxxxxxxxxxxxxxxxxxxxxxxx",
-        "fault 0",
-    ),
-    (b"{}", "2 {}"),
-    (b"{:}", "3 {:}"),
-    (b"{:", "fault 2"),
-    (b"{ }", "fault 1"),
-    (b"{1}", "3 {1}"),
-    (b"{1, 2}", "6 {1, 2}"),
-    (b"{1,2}", "5 {1, 2}"),
-    (b"{1,   2}", "8 {1, 2}"),
-    (b"{1 ,2}", "fault 2"),
-    (b"{2, 1}", "fault 4"),
-    (b"{1, 1}", "fault 4"),
-    (b"{1, true, \"a\"}", "14 {1, true, \"a\"}"),
-    (b"{\"a\", 1}", "fault 6"),
-    (b"{false, true}", "13 {false, true}"),
-    (b"{1, }", "fault 4"),
-    (b"{1", "fault 2"),
-    (b"{1,", "fault 3"),
-    (b"{1 2}", "fault 2"),
-    (b"{\"a\": 1}", "8 {\"a\": 1}"),
-    (b"{\"a\":1,\"b\":2}", "13 {\"a\": 1, \"b\": 2}"),
-    (b"{\"a\":   1}", "10 {\"a\": 1}"),
-    (b"{\"b\": 1, \"a\": 2}", "fault 9"),
-    (b"{\"a\": 1, \"a\": 2}", "fault 9"),
-    (b"{\"a\" : 1}", "fault 4"),
-    (b"{1: 2, 3}", "fault 8"),
-    (b"{1, 2: 3}", "fault 5"),
-    (b"{1: }", "fault 4"),
-    (b"{{}}", "fault 1"),
-    (b"{unit}", "fault 1"),
-    (b"{-1: true, \"\": \"x\"}", "19 {-1: true, \"\": \"x\"}"),
-    (b"{\"B\", \"a\"}x", "10 {\"B\", \"a\"}"),
-    (b"{01}", "fault 1"),
-    (b"{1, 9223372036854775808}", "fault 4"),
-    (b"{-5, -4}", "8 {-5, -4}"),
-];
+const READ: &str = r#"
+unit -> 4 unit
+unity -> 4 unit
+uni -> fault 3
+un1t -> fault 2
+0 -> 1 0
+00 -> fault 0
+-0 -> fault 0
+- -> fault 1
+-1 -> 2 -1
+--1 -> fault 1
+7x -> 1 7
+9223372036854775807 -> 19 9223372036854775807
+9223372036854775808 -> fault 0
+-9223372036854775808 -> 20 -9223372036854775808
+-9223372036854775809 -> fault 0
+12345678901234567890123 -> fault 0
+true -> 4 true
+tru -> fault 3
+trve -> fault 2
+false -> 5 false
+ -> fault 0
+ 1 -> fault 0
++1 -> fault 0
+"" -> 2 ""
+"a b" -> 5 "a b"
+"a -> fault 2
+"a\" -> fault 2
+"␡" -> fault 1
+"xxxxxxxxxxxxxxxxxxxxxxxxxxxxxxxxxxxxxxxxxxxxxxxxxxxxxxxxxxxxxxxx" -> 66 "xxxxxxxxxxxxxxxxxxxxxxxxxxxxxxxxxxxxxxxxxxxxxxxxxxxxxxxxxxxxxxxx"
+"xxxxxxxxxxxxxxxxxxxxxxxxxxxxxxxxxxxxxxxxxxxxxxxxxxxxxxxxxxxxxxxxx" -> fault 0
+"xxxxxxxxxxxxxxxxxxxxxxxxxxxxxxxxxxxxxxxxxxxxxxxxxxxxxxxxxxxxxxxxx -> fault 0
+{} -> 2 {}
+{:} -> 3 {:}
+{: -> fault 2
+{ } -> fault 1
+{1} -> 3 {1}
+{1, 2} -> 6 {1, 2}
+{1,2} -> 5 {1, 2}
+{1,   2} -> 8 {1, 2}
+{1 ,2} -> fault 2
+{2, 1} -> fault 4
+{1, 1} -> fault 4
+{1, true, "a"} -> 14 {1, true, "a"}
+{"a", 1} -> fault 6
+{false, true} -> 13 {false, true}
+{1, } -> fault 4
+{1 -> fault 2
+{1, -> fault 3
+{1 2} -> fault 2
+{"a": 1} -> 8 {"a": 1}
+{"a":1,"b":2} -> 13 {"a": 1, "b": 2}
+{"a":   1} -> 10 {"a": 1}
+{"b": 1, "a": 2} -> fault 9
+{"a": 1, "a": 2} -> fault 9
+{"a" : 1} -> fault 4
+{1: 2, 3} -> fault 8
+{1, 2: 3} -> fault 5
+{1: } -> fault 4
+{{}} -> fault 1
+{unit} -> fault 1
+{-1: true, "": "x"} -> 19 {-1: true, "": "x"}
+{"B", "a"}x -> 10 {"B", "a"}
+{01} -> fault 1
+{1, 9223372036854775808} -> fault 4
+{-5, -4} -> 8 {-5, -4}
+"#;
 
 #[test]
 fn values_or_the_first_fault(rt: HostRuntime) -> Result<(), Fail> {
-    for (text, want) in CASES {
-        let found = told(rt.alloc(), text)?;
-        assert_eq!(rt; found.as_str(), *want);
-    }
-    Ok(())
+    check_table(rt.alloc(), READ, read)
 }
 
-fn told(alloc: Global, text: &[u8]) -> Result<String, AllocError> {
-    match parse_value(alloc, text, 0) {
+fn read(alloc: Global, text: &str) -> Result<Vec<u8>, NoMemory> {
+    match parse_value(alloc, text.as_bytes(), 0) {
         Ok((value, to)) => {
             let mut out = Vec::new(alloc);
-            if print_value(&mut out, &value).is_err() {
-                return Err(AllocError);
-            }
-            let printed = String::from_utf8_lossy(alloc, &out)?;
-            format!(in alloc; "{to} {printed}")
+            push_number(&mut out, to)?;
+            push_bytes(&mut out, b" ")?;
+            push_value(&mut out, &value)?;
+            Ok(out)
         }
-        Err(ValueFault::Unexpected(at)) => format!(in alloc; "fault {at}"),
-        Err(ValueFault::NoMemory) => Err(AllocError),
+        Err(ValueFault::Unexpected(at)) => {
+            let mut out = spelled(alloc, "fault ")?;
+            push_number(&mut out, at)?;
+            Ok(out)
+        }
+        Err(ValueFault::NoMemory) => Err(NoMemory),
     }
 }
+
+// Numbers stay at the ends of their range.
+const NUMBERS: &str = "
+sum 9223372036854775807 1 -> 9223372036854775807
+sum -9223372036854775808 -1 -> -9223372036854775808
+difference -9223372036854775808 1 -> -9223372036854775808
+difference 0 -9223372036854775808 -> 9223372036854775807
+product 9223372036854775807 -2 -> -9223372036854775808
+product 4294967296 4294967296 -> 9223372036854775807
+negation -9223372036854775808 -> 9223372036854775807
+";
 
 #[test]
 fn numbers_stay_at_the_ends_of_their_range(rt: HostRuntime) -> Result<(), Fail> {
-    assert_eq!(rt; sat_add(i64::MAX, 1), i64::MAX);
-    assert_eq!(rt; sat_add(i64::MIN, -1), i64::MIN);
-    assert_eq!(rt; sat_sub(i64::MIN, 1), i64::MIN);
-    assert_eq!(rt; sat_sub(0, i64::MIN), i64::MAX);
-    assert_eq!(rt; sat_mul(i64::MAX, -2), i64::MIN);
-    assert_eq!(rt; sat_mul(4_294_967_296, 4_294_967_296), i64::MAX);
-    assert_eq!(rt; sat_neg(i64::MIN), i64::MAX);
-    Ok(())
+    check_table(rt.alloc(), NUMBERS, calculated)
 }
+
+fn calculated(alloc: Global, row: &str) -> Result<Vec<u8>, NoMemory> {
+    let a = field(row, 1).parse::<i64>().unwrap_or(0);
+    let b = field(row, 2).parse::<i64>().unwrap_or(0);
+    let mut out = Vec::new(alloc);
+    push_number(&mut out, by(field(row, 0), a, b))?;
+    Ok(out)
+}
+
+fn by(operator: &str, a: i64, b: i64) -> i64 {
+    match operator {
+        "sum" => sat_add(a, b),
+        "difference" => sat_sub(a, b),
+        "product" => sat_mul(a, b),
+        _ => sat_neg(a),
+    }
+}
+
+// How many entries a set and a map have to which so many are added.
+const FILLED: &str = "
+256 -> 256 256
+300 -> 256 256
+";
 
 #[test]
 fn collections_stop_at_their_limit(rt: HostRuntime) -> Result<(), Fail> {
-    let Ok((set, map)) = filled(rt.alloc(), 300) else {
-        return Err(AllocError.into());
-    };
-    assert_eq!(rt; size(&Value::Set(set)), 256);
-    assert_eq!(rt; size(&Value::Map(map)), 256);
-    Ok(())
+    check_table(rt.alloc(), FILLED, filled)
 }
 
-// A set of the first numbers and a map of them to themselves.
-fn filled(alloc: Global, count: i64) -> Result<(SetVal, MapVal), NoMemory> {
+fn filled(alloc: Global, row: &str) -> Result<Vec<u8>, NoMemory> {
     let mut set = SetVal::of(Vec::new(alloc));
     let mut map = MapVal::of(Vec::new(alloc));
-    for n in 0..count {
+    for n in 0..row.parse::<i64>().unwrap_or(0) {
         set = add(alloc, &set, &Scalar::Int(n))?;
         map = put(alloc, &map, &Scalar::Int(n), &Scalar::Int(n))?;
     }
-    Ok((set, map))
+    let mut out = Vec::new(alloc);
+    push_number(&mut out, size(&Value::Set(set)))?;
+    push_bytes(&mut out, b" ")?;
+    push_number(&mut out, size(&Value::Map(map)))?;
+    Ok(out)
 }
+
+// Values are ordered by kind and content.
+const ORDERED: &str = r#"
+unit ~ -9223372036854775808 -> less
+9223372036854775807 ~ false -> less
+true ~ false -> greater
+true ~ "" -> less
+"" ~ "" -> equal
+"#;
 
 #[test]
 fn values_are_ordered_by_kind_and_content(rt: HostRuntime) -> Result<(), Fail> {
-    let empty = Value::Text(TextVal::of(Vec::new(rt.alloc())));
-    assert_eq!(rt; order(&Value::Unit, &Value::Int(i64::MIN)), Ordering::Less);
-    assert_eq!(rt;
-        order(&Value::Int(i64::MAX), &Value::Bool(false)),
-        Ordering::Less
-    );
-    assert_eq!(rt;
-        order(&Value::Bool(true), &Value::Bool(false)),
-        Ordering::Greater
-    );
-    assert_eq!(rt; order(&Value::Bool(true), &empty), Ordering::Less);
-    assert_eq!(rt; order(&empty, &empty), Ordering::Equal);
-    Ok(())
+    check_table(rt.alloc(), ORDERED, ordered)
+}
+
+fn ordered(alloc: Global, row: &str) -> Result<Vec<u8>, NoMemory> {
+    let (left, right) = row.split_once(" ~ ").unwrap_or((row, ""));
+    let (Ok((left, _)), Ok((right, _))) = (
+        parse_value(alloc, left.as_bytes(), 0),
+        parse_value(alloc, right.as_bytes(), 0),
+    ) else {
+        return spelled(alloc, "no values");
+    };
+    spelled(
+        alloc,
+        match order(&left, &right) {
+            Ordering::Less => "less",
+            Ordering::Equal => "equal",
+            Ordering::Greater => "greater",
+        },
+    )
 }

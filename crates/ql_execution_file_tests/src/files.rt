@@ -2,6 +2,7 @@ use ql_base::{NoMemory, push_bytes, push_number};
 use ql_exec::{Effect, Member, Payload};
 use ql_execution_files::{ReportFault, parse_execution};
 use ql_parse::parse_program;
+use ql_tables::check_table;
 use ql_typing::{Typed, typecheck};
 use ql_value::{Values, print_value};
 use std::alloc::Global;
@@ -15,237 +16,159 @@ transaction q { uses r; contract true; }";
 
 // Files, and what they tell: the object, the operation, the arguments, the answer, the payload, the session, the
 // transaction, the stamp and the seen ids of each effect, or the first fault. From an independent implementation.
-const FILES: &[(&[u8], &str)] = &[
-    (b"", "Unexpected 1"),
-    (b"end\n", "Unexpected 2"),
-    (b"execution\n", "Unexpected 2"),
-    (b"execution\nend", ""),
-    (
-        b"levels\nop w eventual\r\n  execution  \r\n# none\n\n end \n#\n",
-        "",
-    ),
-    (b"execution\nend\nend\n", "Unexpected 3"),
-    (b"execution\nexecution\nend\n", "Unexpected 2"),
-    (b"execution now\nexecution\nend\n", ""),
-    (
-        b"execution\n  effect   1  y  v  (\"a b\",   {1, 2},{\"k\":  -3,\"l\": 4}, {}, {:})   =  {true}   emit  (\"= -\")   session  255  txn  4294967295:q  stamp  1  vis  \nend\n",
-        "0 2 (\"a b\"|{1, 2}|{\"k\": -3, \"l\": 4}|{}|{:}) {true} (\"= -\") 255 4294967295:1 1 []",
-    ),
-    (
-        b"execution\neffect 1 x w ( 1) = unit emit - session 1 txn - stamp 1 vis\nend\n",
-        "Unexpected 2",
-    ),
-    (
-        b"execution\neffect 1 x w (1 , 2) = unit emit - session 1 txn - stamp 1 vis\nend\n",
-        "Unexpected 2",
-    ),
-    (
-        b"execution\neffect 1 x w (1,) = unit emit - session 1 txn - stamp 1 vis\nend\n",
-        "Unexpected 2",
-    ),
-    (
-        b"execution\neffect 1 x w(1) = unit emit - session 1 txn - stamp 1 vis\nend\n",
-        "Unexpected 2",
-    ),
-    (
-        b"execution\neffect 1 x w ()= unit emit - session 1 txn - stamp 1 vis\nend\n",
-        "Unexpected 2",
-    ),
-    (
-        b"execution\neffect 1 x w () = unitemit emit - session 1 txn - stamp 1 vis\nend\n",
-        "Unexpected 2",
-    ),
-    (
-        b"execution\neffect 1 x w () = unit emit () session 1 txn - stamp 1 vis\nend\n",
-        "0 0 () unit () 1 - 1 []",
-    ),
-    (
-        b"execution\neffect 1 x w () = unit emit -1 session 1 txn - stamp 1 vis\nend\n",
-        "Unexpected 2",
-    ),
-    (
-        b"execution\neffect 2 x w () = unit emit - session 1 txn - stamp 1 vis\nend\n",
-        "Unexpected 2",
-    ),
-    (
-        b"execution\neffect 1 x w () = unit emit - session 256 txn - stamp 1 vis\nend\n",
-        "Unexpected 2",
-    ),
-    (
-        b"execution\neffect 1 x w () = unit emit - session 1 txn 0:p stamp 1 vis\nend\n",
-        "Unexpected 2",
-    ),
-    (
-        b"execution\neffect 1 x w () = unit emit - session 1 txn 01:p stamp 1 vis\nend\n",
-        "Unexpected 2",
-    ),
-    (
-        b"execution\neffect 1 x w () = unit emit - session 1 txn 4294967296:p stamp 1 vis\nend\n",
-        "Unexpected 2",
-    ),
-    (
-        b"execution\neffect 1 x w () = unit emit - session 1 txn 1: stamp 1 vis\nend\n",
-        "Unexpected 2",
-    ),
-    (
-        b"execution\neffect 1 type w () = unit emit - session 1 txn - stamp 1 vis\nend\n",
-        "Unexpected 2",
-    ),
-    (
-        b"execution\neffect 1 x w () = unit emit - session 1 txn - stamp 1 vis 2 2\nend\n",
-        "Unexpected 2",
-    ),
-];
-
-// The same of files in which effects break rules, and of two in which one more stamp decides.
-const RULES: &[(&[u8], &str)] = &[
-    (
-        b"execution\neffect 1 x w (7) = unit emit (7) session 2 txn - stamp 1 vis\neffect 2 x r () = 0 emit - session 1 txn 1:p stamp 1 vis\neffect 3 x r () = 7 emit - session 1 txn 1:p stamp 2 vis 1\nend\n",
-        "0 0 (7) unit (7) 2 - 1 []; 0 1 () 0 - 1 1:0 1 []; 0 1 () 7 - 1 1:0 2 [1]",
-    ),
-    (
-        b"execution\neffect 1 x w (7) = unit emit (7) session 2 txn - stamp 1 vis\neffect 2 x r () = 0 emit - session 1 txn 1:p stamp 1 vis\neffect 3 x r () = 7 emit - session 1 txn 1:p stamp 1 vis 1\nend\n",
-        "Stamp 4",
-    ),
-    (
-        b"execution\neffect 1 x z () = unit emit - session 1 txn - stamp 1 vis\nend\n",
-        "Unknown 2",
-    ),
-    (
-        b"execution\neffect 1 x w () = unit emit - session 1 txn 1:z stamp 1 vis\nend\n",
-        "Unknown 2",
-    ),
-    (
-        b"execution\neffect 1 x w () = unit emit - session 1 txn - stamp 1 vis\neffect 2 x v () = unit emit - session 1 txn - stamp 9 vis 0\nend\n",
-        "Mixed 3",
-    ),
-    (
-        b"execution\neffect 1 x w () = unit emit - session 1 txn - stamp 1 vis\neffect 2 x w () = unit emit - session 1 txn - stamp 9 vis 0\nend\n",
-        "NotForward 3",
-    ),
-    (
-        b"execution\neffect 1 x w () = unit emit - session 1 txn - stamp 1 vis\neffect 2 y v () = unit emit - session 1 txn - stamp 9 vis 1\nend\n",
-        "OtherObject 3",
-    ),
-    (
-        b"execution\neffect 1 x w () = unit emit - session 1 txn 1:p stamp 1 vis\neffect 2 x w () = unit emit - session 1 txn 1:q stamp 9 vis\nend\n",
-        "SplitTxn 3",
-    ),
-    (
-        b"execution\neffect 1 x w () = unit emit - session 1 txn 1:p stamp 1 vis\neffect 2 x w () = unit emit - session 1 txn - stamp 2 vis\neffect 3 x w () = unit emit - session 1 txn 1:p stamp 3 vis\nend\n",
-        "SplitTxn 4",
-    ),
-    (
-        b"execution\neffect 1 x w () = unit emit - session 1 txn - stamp 0 vis\nend\n",
-        "Stamp 2",
-    ),
-    (
-        b"execution\neffect 1 x w () = unit emit - session 1 txn - stamp 1 vis\neffect 2 y v () = unit emit - session 2 txn - stamp 1 vis\neffect 3 y w () = unit emit - session 2 txn - stamp 1 vis\nend\n",
-        "Mixed 4",
-    ),
-];
+const FILES: &str = r#"
+ -> Unexpected 1
+end␊ -> Unexpected 2
+execution␊ -> Unexpected 2
+execution␊end -> 
+levels␊op w eventual␍␊  execution  ␍␊# none␊␊ end ␊#␊ -> 
+execution␊end␊end␊ -> Unexpected 3
+execution␊execution␊end␊ -> Unexpected 2
+execution now␊execution␊end␊ -> 
+execution␊  effect   1  y  v  ("a b",   {1, 2},{"k":  -3,"l": 4}, {}, {:})   =  {true}   emit  ("= -")   session  255  txn  4294967295:q  stamp  1  vis  ␊end␊ -> 0 2 ("a b"|{1, 2}|{"k": -3, "l": 4}|{}|{:}) {true} ("= -") 255 4294967295:1 1 []
+execution␊effect 1 x w ( 1) = unit emit - session 1 txn - stamp 1 vis␊end␊ -> Unexpected 2
+execution␊effect 1 x w (1 , 2) = unit emit - session 1 txn - stamp 1 vis␊end␊ -> Unexpected 2
+execution␊effect 1 x w (1,) = unit emit - session 1 txn - stamp 1 vis␊end␊ -> Unexpected 2
+execution␊effect 1 x w(1) = unit emit - session 1 txn - stamp 1 vis␊end␊ -> Unexpected 2
+execution␊effect 1 x w ()= unit emit - session 1 txn - stamp 1 vis␊end␊ -> Unexpected 2
+execution␊effect 1 x w () = unitemit emit - session 1 txn - stamp 1 vis␊end␊ -> Unexpected 2
+execution␊effect 1 x w () = unit emit () session 1 txn - stamp 1 vis␊end␊ -> 0 0 () unit () 1 - 1 []
+execution␊effect 1 x w () = unit emit -1 session 1 txn - stamp 1 vis␊end␊ -> Unexpected 2
+execution␊effect 2 x w () = unit emit - session 1 txn - stamp 1 vis␊end␊ -> Unexpected 2
+execution␊effect 1 x w () = unit emit - session 256 txn - stamp 1 vis␊end␊ -> Unexpected 2
+execution␊effect 1 x w () = unit emit - session 1 txn 0:p stamp 1 vis␊end␊ -> Unexpected 2
+execution␊effect 1 x w () = unit emit - session 1 txn 01:p stamp 1 vis␊end␊ -> Unexpected 2
+execution␊effect 1 x w () = unit emit - session 1 txn 4294967296:p stamp 1 vis␊end␊ -> Unexpected 2
+execution␊effect 1 x w () = unit emit - session 1 txn 1: stamp 1 vis␊end␊ -> Unexpected 2
+execution␊effect 1 type w () = unit emit - session 1 txn - stamp 1 vis␊end␊ -> Unexpected 2
+execution␊effect 1 x w () = unit emit - session 1 txn - stamp 1 vis 2 2␊end␊ -> Unexpected 2
+"#;
 
 #[test]
 fn texts_are_files(rt: HostRuntime) -> Result<(), Fail> {
-    let typed = declared(rt.alloc())?;
-    for (file, want) in FILES {
-        let found = told(rt.alloc(), &typed, file)?;
-        assert_eq!(rt; found.as_str(), *want);
-    }
-    Ok(())
+    check_table(rt.alloc(), FILES, read)
 }
+
+// The same of files in which effects break rules, and of two in which one more stamp decides.
+const RULES: &str = "
+execution␊effect 1 x w (7) = unit emit (7) session 2 txn - stamp 1 vis␊effect 2 x r () = 0 emit - session 1 txn 1:p stamp 1 vis␊effect 3 x r () = 7 emit - session 1 txn 1:p stamp 2 vis 1␊end␊ -> 0 0 (7) unit (7) 2 - 1 []; 0 1 () 0 - 1 1:0 1 []; 0 1 () 7 - 1 1:0 2 [1]
+execution␊effect 1 x w (7) = unit emit (7) session 2 txn - stamp 1 vis␊effect 2 x r () = 0 emit - session 1 txn 1:p stamp 1 vis␊effect 3 x r () = 7 emit - session 1 txn 1:p stamp 1 vis 1␊end␊ -> Stamp 4
+execution␊effect 1 x z () = unit emit - session 1 txn - stamp 1 vis␊end␊ -> Unknown 2
+execution␊effect 1 x w () = unit emit - session 1 txn 1:z stamp 1 vis␊end␊ -> Unknown 2
+execution␊effect 1 x w () = unit emit - session 1 txn - stamp 1 vis␊effect 2 x v () = unit emit - session 1 txn - stamp 9 vis 0␊end␊ -> Mixed 3
+execution␊effect 1 x w () = unit emit - session 1 txn - stamp 1 vis␊effect 2 x w () = unit emit - session 1 txn - stamp 9 vis 0␊end␊ -> NotForward 3
+execution␊effect 1 x w () = unit emit - session 1 txn - stamp 1 vis␊effect 2 y v () = unit emit - session 1 txn - stamp 9 vis 1␊end␊ -> OtherObject 3
+execution␊effect 1 x w () = unit emit - session 1 txn 1:p stamp 1 vis␊effect 2 x w () = unit emit - session 1 txn 1:q stamp 9 vis␊end␊ -> SplitTxn 3
+execution␊effect 1 x w () = unit emit - session 1 txn 1:p stamp 1 vis␊effect 2 x w () = unit emit - session 1 txn - stamp 2 vis␊effect 3 x w () = unit emit - session 1 txn 1:p stamp 3 vis␊end␊ -> SplitTxn 4
+execution␊effect 1 x w () = unit emit - session 1 txn - stamp 0 vis␊end␊ -> Stamp 2
+execution␊effect 1 x w () = unit emit - session 1 txn - stamp 1 vis␊effect 2 y v () = unit emit - session 2 txn - stamp 1 vis␊effect 3 y w () = unit emit - session 2 txn - stamp 1 vis␊end␊ -> Mixed 4
+";
 
 #[test]
 fn effects_keep_rules(rt: HostRuntime) -> Result<(), Fail> {
-    let typed = declared(rt.alloc())?;
-    for (file, want) in RULES {
-        let found = told(rt.alloc(), &typed, file)?;
-        assert_eq!(rt; found.as_str(), *want);
-    }
-    Ok(())
+    check_table(rt.alloc(), RULES, read)
 }
+
+fn read(alloc: Global, file: &str) -> Result<Vec<u8>, NoMemory> {
+    read_bytes(alloc, file.as_bytes())
+}
+
+// How many effects a file has, and its first fault.
+const COUNTED: &str = "
+4001 -> TooMany 4002
+";
 
 #[test]
 fn one_effect_more_is_too_many(rt: HostRuntime) -> Result<(), Fail> {
-    let typed = declared(rt.alloc())?;
-    let mut file = Vec::new(rt.alloc());
-    push_bytes(&mut file, b"execution\n")?;
-    for k in 0..4001 {
+    check_table(rt.alloc(), COUNTED, |alloc, row| {
+        read_bytes(alloc, &with_effects(alloc, row.parse().unwrap_or(0))?)
+    })
+}
+
+fn with_effects(alloc: Global, count: u32) -> Result<Vec<u8>, NoMemory> {
+    let mut file = Vec::from_slice(alloc, b"execution\n")?;
+    for index in 0..count {
         push_bytes(&mut file, b"effect ")?;
-        push_number(&mut file, k + 1)?;
+        push_number(&mut file, index + 1)?;
         push_bytes(&mut file, b" x w () = unit emit - session 1 txn - stamp ")?;
-        push_number(&mut file, k + 1)?;
+        push_number(&mut file, index + 1)?;
         push_bytes(&mut file, b" vis\n")?;
     }
-    let found = told(rt.alloc(), &typed, &file)?;
-    assert_eq!(rt; found.as_str(), "TooMany 4002");
-    Ok(())
+    Ok(file)
 }
 
-fn declared(alloc: Global) -> Result<Typed, Fail> {
-    let Ok(program) = parse_program(alloc, SOURCE.as_bytes()) else {
-        return Err(Fail::new("no source"));
+fn read_bytes(alloc: Global, file: &[u8]) -> Result<Vec<u8>, NoMemory> {
+    let Some(typed) = declared(alloc) else {
+        return Ok(Vec::from_slice(alloc, b"no source")?);
     };
-    match typecheck(alloc, program) {
-        Ok(typed) => Ok(typed),
-        Err(_) => Err(Fail::new("not typed")),
+    match parse_execution(alloc, &typed, file) {
+        Ok(execution) => effects_text(alloc, execution.effects()),
+        Err(why) => fault(alloc, why),
     }
 }
 
-fn told(alloc: Global, typed: &Typed, file: &[u8]) -> Result<String, Fail> {
+fn declared(alloc: Global) -> Option<Typed> {
+    let program = parse_program(alloc, SOURCE.as_bytes()).ok()?;
+    typecheck(alloc, program).ok()
+}
+
+fn effects_text(alloc: Global, effects: &[Effect]) -> Result<Vec<u8>, NoMemory> {
     let mut out = Vec::new(alloc);
-    match parse_execution(alloc, typed, file) {
-        Ok(execution) => {
-            for effect in execution.effects() {
-                if !out.is_empty() {
-                    push_bytes(&mut out, b"; ")?;
-                }
-                tell(&mut out, effect)?;
-            }
+    for effect in effects {
+        if !out.is_empty() {
+            push_bytes(&mut out, b"; ")?;
         }
-        Err(fault) => tell_fault(&mut out, fault)?,
+        push_call(&mut out, effect)?;
+        push_place(&mut out, effect)?;
     }
-    Ok(String::from_utf8_lossy(alloc, &out)?)
+    Ok(out)
 }
 
-fn tell(out: &mut Vec<u8>, effect: &Effect) -> Result<(), NoMemory> {
+fn push_call(out: &mut Vec<u8>, effect: &Effect) -> Result<(), NoMemory> {
     push_number(out, effect.object.0)?;
     push_bytes(out, b" ")?;
     push_number(out, effect.op.0)?;
     push_bytes(out, b" ")?;
-    tell_values(out, &effect.args)?;
+    push_values(out, &effect.args)?;
     push_bytes(out, b" ")?;
-    print_value(out, &effect.answer)?;
-    tell_payload(out, &effect.payload)?;
+    print_value(out, &effect.answer)
+}
+
+fn push_place(out: &mut Vec<u8>, effect: &Effect) -> Result<(), NoMemory> {
+    push_payload(out, &effect.payload)?;
     push_number(out, effect.session.0)?;
-    tell_member(out, effect.member)?;
+    push_member(out, effect.member)?;
     push_number(out, effect.stamp)?;
-    tell_seen(out, effect.seen.items())
+    push_seen(out, effect.seen.items())
 }
 
-fn tell_values(out: &mut Vec<u8>, values: &Values) -> Result<(), NoMemory> {
-    push_bytes(out, b"(")?;
-    let mut first = true;
+fn push_values(out: &mut Vec<u8>, values: &Values) -> Result<(), NoMemory> {
+    let mut mark: &[u8] = b"(";
     for value in values.items() {
-        if !first {
-            push_bytes(out, b"|")?;
-        }
+        push_bytes(out, mark)?;
         print_value(out, value)?;
-        first = false;
+        mark = b"|";
     }
-    push_bytes(out, b")")
+    push_bytes(
+        out,
+        if values.items().is_empty() {
+            b"()"
+        } else {
+            b")"
+        },
+    )
 }
 
-fn tell_payload(out: &mut Vec<u8>, payload: &Payload) -> Result<(), NoMemory> {
+fn push_payload(out: &mut Vec<u8>, payload: &Payload) -> Result<(), NoMemory> {
     push_bytes(out, b" ")?;
     match payload {
         Payload::Nothing => push_bytes(out, b"-")?,
-        Payload::Emitted(values) => tell_values(out, values)?,
+        Payload::Emitted(values) => push_values(out, values)?,
     }
     push_bytes(out, b" ")
 }
 
-fn tell_member(out: &mut Vec<u8>, member: Member) -> Result<(), NoMemory> {
+fn push_member(out: &mut Vec<u8>, member: Member) -> Result<(), NoMemory> {
     match member {
         Member::Alone => push_bytes(out, b" - "),
         Member::Inside(run, name) => {
@@ -258,31 +181,32 @@ fn tell_member(out: &mut Vec<u8>, member: Member) -> Result<(), NoMemory> {
     }
 }
 
-fn tell_seen(out: &mut Vec<u8>, seen: &[u32]) -> Result<(), NoMemory> {
-    push_bytes(out, b" [")?;
-    let mut first = true;
+fn push_seen(out: &mut Vec<u8>, seen: &[u32]) -> Result<(), NoMemory> {
+    let mut mark: &[u8] = b" [";
     for id in seen {
-        if !first {
-            push_bytes(out, b",")?;
-        }
+        push_bytes(out, mark)?;
         push_number(out, *id)?;
-        first = false;
+        mark = b",";
     }
-    push_bytes(out, b"]")
+    push_bytes(out, if seen.is_empty() { b" []" } else { b"]" })
 }
 
-fn tell_fault(out: &mut Vec<u8>, fault: ReportFault) -> Result<(), NoMemory> {
-    let (rule, line) = match fault {
-        ReportFault::Unexpected(line) => ("Unexpected ", line),
-        ReportFault::Unknown(line) => ("Unknown ", line),
-        ReportFault::Mixed(line) => ("Mixed ", line),
-        ReportFault::Stamp(line) => ("Stamp ", line),
-        ReportFault::NotForward(line) => ("NotForward ", line),
-        ReportFault::OtherObject(line) => ("OtherObject ", line),
-        ReportFault::SplitTxn(line) => ("SplitTxn ", line),
-        ReportFault::TooMany(line) => ("TooMany ", line),
-        ReportFault::NoMemory => return Err(NoMemory),
-    };
-    push_bytes(out, rule.as_bytes())?;
-    push_number(out, line)
+fn fault(alloc: Global, fault: ReportFault) -> Result<Vec<u8>, NoMemory> {
+    match fault {
+        ReportFault::Unexpected(line) => placed(alloc, "Unexpected ", line),
+        ReportFault::Unknown(line) => placed(alloc, "Unknown ", line),
+        ReportFault::Mixed(line) => placed(alloc, "Mixed ", line),
+        ReportFault::Stamp(line) => placed(alloc, "Stamp ", line),
+        ReportFault::NotForward(line) => placed(alloc, "NotForward ", line),
+        ReportFault::OtherObject(line) => placed(alloc, "OtherObject ", line),
+        ReportFault::SplitTxn(line) => placed(alloc, "SplitTxn ", line),
+        ReportFault::TooMany(line) => placed(alloc, "TooMany ", line),
+        ReportFault::NoMemory => Err(NoMemory),
+    }
+}
+
+fn placed(alloc: Global, rule: &str, line: u64) -> Result<Vec<u8>, NoMemory> {
+    let mut out = Vec::from_slice(alloc, rule.as_bytes())?;
+    push_number(&mut out, line)?;
+    Ok(out)
 }

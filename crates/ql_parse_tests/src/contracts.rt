@@ -1,207 +1,180 @@
-use ql_lex::LexFault;
-use ql_parse::{ParseFault, parse_contract};
-use std::alloc::{AllocError, Global};
+use crate::texts::{built, parse_fault, spelled};
+use ql_base::NoMemory;
+use ql_lang::print_contract;
+use ql_parse::parse_contract;
+use ql_tables::check_table;
+use std::alloc::Global;
 use std::test::Fail;
 
 // Texts with their first fault, or `contract`, from an independent implementation.
-const CASES: &[(&[u8], &str)] = &[
-    (b"true", "contract"),
-    (
-        b"forall a: f. sameobj(a, cur) => vis(a, cur) \\/ vis(cur, a) \\/ a = cur",
-        "contract",
-    ),
-    (
-        b"forall a, b, c. txn{a}{b, c} /\\ sameobj(b, c) /\\ vis(b, a) => vis(c, a)",
-        "contract",
-    ),
-    (
-        b"forall a: f | g, b. [vis | so & [hb]](a, b) => (a = b => cur = a)",
-        "contract",
-    ),
-    (b"", "unexpected 0"),
-    (b" ", "unexpected 1"),
-    (b"true true", "unexpected 5"),
-    (b"true $", "char 5"),
-    (b"(", "unexpected 1"),
-    (b"()", "unexpected 1"),
-    (b"(true", "unexpected 5"),
-    (b"(true))", "unexpected 6"),
-    (b"true /\\", "unexpected 7"),
-    (b"true /\\ /\\ true", "unexpected 8"),
-    (b"/\\ true", "unexpected 0"),
-    (b"true \\/", "unexpected 7"),
-    (b"true =>", "unexpected 7"),
-    (b"=> true", "unexpected 0"),
-    (b"true => => true", "unexpected 8"),
-    (b"forall", "unexpected 6"),
-    (b"forall a", "unexpected 8"),
-    (b"forall a.", "unexpected 9"),
-    (b"forall a,", "unexpected 9"),
-    (b"forall a, b", "unexpected 11"),
-    (b"forall a b. true", "unexpected 9"),
-    (b"forall a:. true", "unexpected 9"),
-    (b"forall a: f |. true", "unexpected 13"),
-    (b"forall a: f, . true", "unexpected 13"),
-    (b"forall a: f b. true", "unexpected 12"),
-    (b"forall . true", "unexpected 7"),
-    (b"forall forall. true", "unexpected 7"),
-    (b"forall a. forall b. true", "unexpected 10"),
-    (b"forall a. vis(a, cur", "unexpected 20"),
-    (b"forall a. vis(a cur)", "unexpected 16"),
-    (b"forall a. vis(a, )", "unexpected 17"),
-    (b"forall a. vis a, cur)", "unexpected 14"),
-    (b"forall a. vis()", "unexpected 14"),
-    (b"vis", "unexpected 3"),
-    (b"vis(", "unexpected 4"),
-    (b"vis(a", "unexpected 5"),
-    (b"vis(a,", "unexpected 6"),
-    (b"vis(a, b", "unexpected 8"),
-    (b"vis(a, b) vis", "unexpected 10"),
-    (b"a", "unexpected 1"),
-    (b"a =", "unexpected 3"),
-    (b"a = = b", "unexpected 4"),
-    (b"a == b", "unexpected 2"),
-    (b"a = vis", "unexpected 4"),
-    (b"cur", "unexpected 3"),
-    (b"cur = ", "unexpected 6"),
-    (b"txn", "unexpected 3"),
-    (b"txn{", "unexpected 4"),
-    (b"txn{}", "unexpected 4"),
-    (b"txn{a}", "unexpected 6"),
-    (b"txn{a}{", "unexpected 7"),
-    (b"txn{a}{}", "unexpected 7"),
-    (b"txn{a,}{b}", "unexpected 6"),
-    (b"txn{a}{b", "unexpected 8"),
-    (b"txn{a}{b c}", "unexpected 9"),
-    (b"txn(a){b}", "unexpected 3"),
-    (b"[", "unexpected 1"),
-    (b"[]", "unexpected 1"),
-    (b"[vis", "unexpected 4"),
-    (b"[vis]", "unexpected 5"),
-    (b"[vis](a, b", "unexpected 10"),
-    (b"[vis |](a, b)", "unexpected 6"),
-    (b"[vis & ](a, b)", "unexpected 7"),
-    (b"[| vis](a, b)", "unexpected 1"),
-    (b"[vis so](a, b)", "unexpected 5"),
-    (b"[[vis]](a b)", "unexpected 10"),
-    (b"vis | so(a, b)", "unexpected 4"),
-    (b"(vis)(a, b)", "unexpected 4"),
-    (b"not true", "unexpected 0"),
-    (b"true;", "unexpected 4"),
-    (b"true \"x", "char 7"),
-    (b"A", "char 0"),
-    (b"true # so\n$", "char 10"),
-    (b"forall aaaaaaaaaaaaaaaaaaaaaaaaaaaaaaaaa. true", "word 7"),
-    (b"a = 01", "number 4"),
-    (b"true /\\ (a = b", "unexpected 14"),
-    (b"vis(a, b) \\/ soo(b, cur", "unexpected 23"),
-    (b"hb(a, b) => hbo", "unexpected 15"),
-    (b"empty", "unexpected 0"),
-    (b"unit = a", "unexpected 0"),
-    (b"a = b = c", "unexpected 6"),
-    (b"sameobj(cur, cur", "unexpected 16"),
-    (b"eq(a, b, c)", "unexpected 7"),
-    (b"eq(a)", "unexpected 4"),
-    (b"txn{a}{b}{c}", "unexpected 9"),
-    (b"forall a: so. true", "unexpected 10"),
-    (b"forall cur. true", "unexpected 7"),
-    (b"vis(vis, a)", "unexpected 4"),
-];
+const CONTRACTS: &str = r#"
+true -> contract
+forall a: f. sameobj(a, cur) => vis(a, cur) \/ vis(cur, a) \/ a = cur -> contract
+forall a, b, c. txn{a}{b, c} /\ sameobj(b, c) /\ vis(b, a) => vis(c, a) -> contract
+forall a: f | g, b. [vis | so & [hb]](a, b) => (a = b => cur = a) -> contract
+ -> unexpected 0
+  -> unexpected 1
+true true -> unexpected 5
+true $ -> char 5
+( -> unexpected 1
+() -> unexpected 1
+(true -> unexpected 5
+(true)) -> unexpected 6
+true /\ -> unexpected 7
+true /\ /\ true -> unexpected 8
+/\ true -> unexpected 0
+true \/ -> unexpected 7
+true => -> unexpected 7
+=> true -> unexpected 0
+true => => true -> unexpected 8
+forall -> unexpected 6
+forall a -> unexpected 8
+forall a. -> unexpected 9
+forall a, -> unexpected 9
+forall a, b -> unexpected 11
+forall a b. true -> unexpected 9
+forall a:. true -> unexpected 9
+forall a: f |. true -> unexpected 13
+forall a: f, . true -> unexpected 13
+forall a: f b. true -> unexpected 12
+forall . true -> unexpected 7
+forall forall. true -> unexpected 7
+forall a. forall b. true -> unexpected 10
+forall a. vis(a, cur -> unexpected 20
+forall a. vis(a cur) -> unexpected 16
+forall a. vis(a, ) -> unexpected 17
+forall a. vis a, cur) -> unexpected 14
+forall a. vis() -> unexpected 14
+vis -> unexpected 3
+vis( -> unexpected 4
+vis(a -> unexpected 5
+vis(a, -> unexpected 6
+vis(a, b -> unexpected 8
+vis(a, b) vis -> unexpected 10
+a -> unexpected 1
+a = -> unexpected 3
+a = = b -> unexpected 4
+a == b -> unexpected 2
+a = vis -> unexpected 4
+cur -> unexpected 3
+cur =  -> unexpected 6
+txn -> unexpected 3
+txn{ -> unexpected 4
+txn{} -> unexpected 4
+txn{a} -> unexpected 6
+txn{a}{ -> unexpected 7
+txn{a}{} -> unexpected 7
+txn{a,}{b} -> unexpected 6
+txn{a}{b -> unexpected 8
+txn{a}{b c} -> unexpected 9
+txn(a){b} -> unexpected 3
+[ -> unexpected 1
+[] -> unexpected 1
+[vis -> unexpected 4
+[vis] -> unexpected 5
+[vis](a, b -> unexpected 10
+[vis |](a, b) -> unexpected 6
+[vis & ](a, b) -> unexpected 7
+[| vis](a, b) -> unexpected 1
+[vis so](a, b) -> unexpected 5
+[[vis]](a b) -> unexpected 10
+vis | so(a, b) -> unexpected 4
+(vis)(a, b) -> unexpected 4
+not true -> unexpected 0
+true; -> unexpected 4
+true "x -> char 7
+A -> char 0
+true # so␊$ -> char 10
+forall aaaaaaaaaaaaaaaaaaaaaaaaaaaaaaaaa. true -> word 7
+a = 01 -> number 4
+true /\ (a = b -> unexpected 14
+vis(a, b) \/ soo(b, cur -> unexpected 23
+hb(a, b) => hbo -> unexpected 15
+empty -> unexpected 0
+unit = a -> unexpected 0
+a = b = c -> unexpected 6
+sameobj(cur, cur -> unexpected 16
+eq(a, b, c) -> unexpected 7
+eq(a) -> unexpected 4
+txn{a}{b}{c} -> unexpected 9
+forall a: so. true -> unexpected 10
+forall cur. true -> unexpected 7
+vis(vis, a) -> unexpected 4
+1048576 times [(] in ~ -> deep 64
+262144 times [not ] in ~ -> unexpected 0
+1048576 times [a] in ~ -> word 0
+1048576 times ["] in ~ -> unexpected 0
+1048576 times [<] in ~ -> unexpected 0
+64 times [(] in ~true)))))))))))))))))))))))))))))))))))))))))))))))))))))))))))))))) -> contract
+65 times [(] in ~true))))))))))))))))))))))))))))))))))))))))))))))))))))))))))))))))) -> deep 64
+127 times [ /\ true] in true~ -> contract
+128 times [ /\ true] in true~ -> wide 1024
+"#;
 
 #[test]
 fn contracts_or_their_first_fault(rt: HostRuntime) -> Result<(), Fail> {
-    for (text, want) in CASES {
-        let found = told(rt.alloc(), text)?;
-        assert_eq!(rt; found.as_str(), *want);
-    }
-    Ok(())
+    check_table(rt.alloc(), CONTRACTS, parsed)
 }
 
-// Parts that make 1 MiB, and the first fault of that text.
-const HOSTILE: &[(&[u8], u32, &str)] = &[
-    (b"(", 1_048_576, "deep 64"),
-    (b"not ", 262_144, "unexpected 0"),
-    (b"a", 1_048_576, "word 0"),
-    (b"\"", 1_048_576, "unexpected 0"),
-    (b"<", 1_048_576, "unexpected 0"),
-];
-
-#[test]
-fn long_hostile_texts(rt: HostRuntime) -> Result<(), Fail> {
-    for (part, count, want) in HOSTILE {
-        let text = repeated(rt.alloc(), part, *count)?;
-        assert_eq!(rt; told(rt.alloc(), &text)?.as_str(), *want);
-    }
-    Ok(())
-}
-
-#[test]
-fn nested(rt: HostRuntime) -> Result<(), Fail> {
-    assert_eq!(rt;
-        told(rt.alloc(), &bracketed(rt.alloc(), 64)?)?.as_str(),
-        "contract"
-    );
-    assert_eq!(rt;
-        told(rt.alloc(), &bracketed(rt.alloc(), 65)?)?.as_str(),
-        "deep 64"
-    );
-    assert_eq!(rt;
-        told(rt.alloc(), &joined(rt.alloc(), 128)?)?.as_str(),
-        "contract"
-    );
-    assert_eq!(rt;
-        told(rt.alloc(), &joined(rt.alloc(), 129)?)?.as_str(),
-        "wide 1024"
-    );
-    Ok(())
-}
-
-/// A part so many times.
-fn repeated(alloc: Global, part: &[u8], count: u32) -> Result<Vec<u8>, AllocError> {
-    let mut text = Vec::new(alloc);
-    for _ in 0..count {
-        text.extend_from_slice(part)?;
-    }
-    Ok(text)
-}
-
-/// `true` in so many brackets.
-fn bracketed(alloc: Global, depth: u32) -> Result<Vec<u8>, AllocError> {
-    let mut text = Vec::new(alloc);
-    for _ in 0..depth {
-        text.push(b'(')?;
-    }
-    text.extend_from_slice(b"true")?;
-    for _ in 0..depth {
-        text.push(b')')?;
-    }
-    Ok(text)
-}
-
-/// So many `true`, with `/\` between them.
-fn joined(alloc: Global, count: u32) -> Result<Vec<u8>, AllocError> {
-    let mut text = Vec::new(alloc);
-    for index in 0..count {
-        if index > 0 {
-            text.extend_from_slice(b" /\\ ")?;
-        }
-        text.extend_from_slice(b"true")?;
-    }
-    Ok(text)
-}
-
-fn told(alloc: Global, text: &[u8]) -> Result<String, AllocError> {
+fn parsed(alloc: Global, row: &str) -> Result<Vec<u8>, NoMemory> {
+    let text = built(alloc, row)?;
     if text.len() > 1_048_576 {
-        return String::from_str(alloc, "too long");
+        return spelled(alloc, "too long");
+    }
+    match parse_contract(alloc, &text) {
+        Ok(_) => spelled(alloc, "contract"),
+        Err(fault) => parse_fault(alloc, fault),
+    }
+}
+
+// Contracts, and how an independent implementation prints them.
+const PRINTED: &str = r"
+true -> true
+((true)) -> true
+forall a: f. sameobj(a, cur) => vis(a, cur) \/ vis(cur, a) \/ a = cur -> forall a: f. sameobj(a, cur) => ((vis(a, cur) \/ vis(cur, a)) \/ a = cur)
+forall a, b, c. txn{a}{b, c} /\ sameobj(b, c) /\ vis(b, a) => vis(c, a) -> forall a, b, c. ((txn{a}{b, c} /\ sameobj(b, c)) /\ vis(b, a)) => vis(c, a)
+forall a: f | g, b. [vis | so & [hb]](a, b) => (a = b => cur = a) -> forall a: f | g, b. [vis | [so & hb]](a, b) => (a = b => cur = a)
+forall a,b:f|g|h,c.eq(a,b) -> forall a, b: f | g | h, c. a = b
+true=>true=>true -> true => (true => true)
+(true=>true)=>true -> (true => true) => true
+true/\true/\true -> (true /\ true) /\ true
+true/\(true/\true) -> true /\ (true /\ true)
+true\/true/\true -> true \/ (true /\ true)
+(true\/true)/\true -> (true \/ true) /\ true
+[[vis]](a, b) -> vis(a, b)
+[[eq]](a, b) -> a = b
+[vis|so|soo](a,cur) -> [[vis | so] | soo](a, cur)
+[vis|[so|soo]](a,cur) -> [vis | [so | soo]](a, cur)
+[vis&so|hb&hbo](a,cur) -> [[vis & so] | [hb & hbo]](a, cur)
+[[vis|so]&hb](a,cur) -> [[vis | so] & hb](a, cur)
+txn{a,b}{c} -> txn{a, b}{c}
+txn { cur } { cur , a } -> txn{cur}{cur, a}
+hb(a,b)/\hbo(a,b)\/soo(b,a)=>sameobj(cur,cur) -> ((hb(a, b) /\ hbo(a, b)) \/ soo(b, a)) => sameobj(cur, cur)
+eq(cur,cur) -> cur = cur
+# so␊forall a. (a = a) -> forall a. a = a
+";
+
+#[test]
+fn printed_as_elsewhere(rt: HostRuntime) -> Result<(), Fail> {
+    check_table(rt.alloc(), PRINTED, printed_twice)
+}
+
+fn printed_twice(alloc: Global, row: &str) -> Result<Vec<u8>, NoMemory> {
+    let once = printed(alloc, row.as_bytes())?;
+    let twice = printed(alloc, &once)?;
+    if once.as_slice() == twice.as_slice() {
+        Ok(once)
+    } else {
+        spelled(alloc, "another text the second time")
+    }
+}
+
+fn printed(alloc: Global, text: &[u8]) -> Result<Vec<u8>, NoMemory> {
+    if text.len() > 1_048_576 {
+        return spelled(alloc, "too long");
     }
     match parse_contract(alloc, text) {
-        Ok(_) => String::from_str(alloc, "contract"),
-        Err(ParseFault::Lex(LexFault::BadChar(at))) => format!(in alloc; "char {at}"),
-        Err(ParseFault::Lex(LexFault::LongWord(at))) => format!(in alloc; "word {at}"),
-        Err(ParseFault::Lex(LexFault::BadNumber(at))) => format!(in alloc; "number {at}"),
-        Err(ParseFault::Unexpected(at)) => format!(in alloc; "unexpected {at}"),
-        Err(ParseFault::Deep(at)) => format!(in alloc; "deep {at}"),
-        Err(ParseFault::Wide(at)) => format!(in alloc; "wide {at}"),
-        Err(ParseFault::Lex(LexFault::NoMemory) | ParseFault::NoMemory) => Err(AllocError),
+        Ok(contract) => print_contract(alloc, &contract),
+        Err(fault) => parse_fault(alloc, fault),
     }
 }

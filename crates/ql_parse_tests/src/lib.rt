@@ -5,10 +5,8 @@
 #[cfg(test)]
 mod contracts;
 #[cfg(test)]
-mod printed_contracts;
-#[cfg(test)]
-mod printed_sources;
-#[cfg(test)]
 mod programs;
+#[cfg(test)]
+mod texts;
 #[cfg(test)]
 mod tokens;

@@ -1,124 +1,101 @@
-use ql_lex::{LexFault, Token, TokenKind, tokens};
-use std::alloc::{AllocError, Global};
+use crate::texts::{built, lex_fault, spelled};
+use ql_base::{NoMemory, push_bytes, push_number};
+use ql_lex::{Token, TokenKind, tokens};
+use ql_tables::check_table;
+use std::alloc::Global;
 use std::test::Fail;
 
 // Texts with their tokens (the kind's first letter and the span) or their fault, from an
 // independent implementation.
-const CASES: &[(&[u8], &str)] = &[
-    (b"", ""),
-    (b" \t\r\n", ""),
-    (b"a", "n0-1"),
-    (b"a1_b", "n0-4"),
-    (b"_a", "char 0"),
-    (b"A", "char 0"),
-    (b"op", "k0-2"),
-    (b"ops", "n0-3"),
-    (b"forall a. vis", "k0-6 n7-8 m8-9 k10-13"),
-    (b"a<=b", "n0-1 m1-3 n3-4"),
-    (b"a<b", "n0-1 m1-2 n2-3"),
-    (b"a< =b", "n0-1 m1-2 m3-4 n4-5"),
-    (b":=", "m0-2"),
-    (b"=>", "m0-2"),
-    (b"==>", "m0-2 m2-3"),
-    (b"!=", "m0-2"),
-    (b"!", "char 0"),
-    (b"/\\", "m0-2"),
-    (b"\\/", "m0-2"),
-    (b"/", "char 0"),
-    (b"\\", "char 0"),
-    (b"a/", "char 1"),
-    (
-        b"{}()[],;:.+-*|&",
-        "m0-1 m1-2 m2-3 m3-4 m4-5 m5-6 m6-7 m7-8 m8-9 m9-10 m10-11 m11-12 m12-13 m13-14 m14-15",
-    ),
-    (b"0", "i0-1"),
-    (b"00", "number 0"),
-    (b"01", "number 0"),
-    (b"9223372036854775807", "i0-19"),
-    (b"9223372036854775808", "number 0"),
-    (b"12a", "number 0"),
-    (b"12A", "number 0"),
-    (b"12_", "number 0"),
-    (b"12 a", "i0-2 n3-4"),
-    (b"12\xc3", "char 2"),
-    (b"\"\"", "t0-2"),
-    (b"\"a b\"", "t0-5"),
-    (b"\"a", "char 2"),
-    (b"\"a\n\"", "char 2"),
-    (b"\"a\\\"", "char 2"),
-    (
-        b"\"xxxxxxxxxxxxxxxxxxxxxxxxxxxxxxxxxxxxxxxxxxxxxxxxxxxxxxxxxxxxxxxx\"",
-        "t0-66",
-    ),
-    (
-        b"\"xxxxxxxxxxxxxxxxxxxxxxxxxxxxxxxxxxxxxxxxxxxxxxxxxxxxxxxxxxxxxxxxx\"",
-        "word 0",
-    ),
-    (
-        b"\"xxxxxxxxxxxxxxxxxxxxxxxxxxxxxxxxxxxxxxxxxxxxxxxxxxxxxxxxxxxxxxxxx",
-        "word 0",
-    ),
-    (
-        b"\"xxxxxxxxxxxxxxxxxxxxxxxxxxxxxxxxxxxxxxxxxxxxxxxxxxxxxxxxxxxxxxxx",
-        "char 65",
-    ),
-    (b"aaaaaaaaaaaaaaaaaaaaaaaaaaaaaaaa", "n0-32"),
-    (b"aaaaaaaaaaaaaaaaaaaaaaaaaaaaaaaaa", "word 0"),
-    (b"#x\ry\na", "n5-6"),
-    (b"a#\xff", "n0-1"),
-    (b"a $", "char 2"),
-    (b"sameobj", "k0-7"),
-    (b"x:int=0;", "n0-1 m1-2 k2-5 m5-6 i6-7 m7-8"),
-    (b"-5", "m0-1 i1-2"),
-    (b"1.5", "i0-1 m1-2 i2-3"),
-    (b"a\x00", "char 1"),
-    (b"transactiontransaction", "n0-22"),
-];
+const TOKENS: &str = r#"
+ -> 
+ ␉␍␊ -> 
+a -> n0-1
+a1_b -> n0-4
+_a -> char 0
+A -> char 0
+op -> k0-2
+ops -> n0-3
+forall a. vis -> k0-6 n7-8 m8-9 k10-13
+a<=b -> n0-1 m1-3 n3-4
+a<b -> n0-1 m1-2 n2-3
+a< =b -> n0-1 m1-2 m3-4 n4-5
+:= -> m0-2
+=> -> m0-2
+==> -> m0-2 m2-3
+!= -> m0-2
+! -> char 0
+/\ -> m0-2
+\/ -> m0-2
+/ -> char 0
+\ -> char 0
+a/ -> char 1
+{}()[],;:.+-*|& -> m0-1 m1-2 m2-3 m3-4 m4-5 m5-6 m6-7 m7-8 m8-9 m9-10 m10-11 m11-12 m12-13 m13-14 m14-15
+0 -> i0-1
+00 -> number 0
+01 -> number 0
+9223372036854775807 -> i0-19
+9223372036854775808 -> number 0
+12a -> number 0
+12A -> number 0
+12_ -> number 0
+12 a -> i0-2 n3-4
+12é -> char 2
+"" -> t0-2
+"a b" -> t0-5
+"a -> char 2
+"a␊" -> char 2
+"a\" -> char 2
+"xxxxxxxxxxxxxxxxxxxxxxxxxxxxxxxxxxxxxxxxxxxxxxxxxxxxxxxxxxxxxxxx" -> t0-66
+"xxxxxxxxxxxxxxxxxxxxxxxxxxxxxxxxxxxxxxxxxxxxxxxxxxxxxxxxxxxxxxxxx" -> word 0
+"xxxxxxxxxxxxxxxxxxxxxxxxxxxxxxxxxxxxxxxxxxxxxxxxxxxxxxxxxxxxxxxxx -> word 0
+"xxxxxxxxxxxxxxxxxxxxxxxxxxxxxxxxxxxxxxxxxxxxxxxxxxxxxxxxxxxxxxxx -> char 65
+aaaaaaaaaaaaaaaaaaaaaaaaaaaaaaaa -> n0-32
+aaaaaaaaaaaaaaaaaaaaaaaaaaaaaaaaa -> word 0
+#x␍y␊a -> n5-6
+a#ÿ -> n0-1
+a $ -> char 2
+sameobj -> k0-7
+x:int=0; -> n0-1 m1-2 k2-5 m5-6 i6-7 m7-8
+-5 -> m0-1 i1-2
+1.5 -> i0-1 m1-2 i2-3
+a␀ -> char 1
+transactiontransaction -> n0-22
+1048576 times [a] in ~ -> word 0
+1048576 times [0] in ~ -> number 0
+"#;
 
 #[test]
 fn tokens_or_the_first_fault(rt: HostRuntime) -> Result<(), Fail> {
-    for (text, want) in CASES {
-        let found = told(rt.alloc(), text)?;
-        assert_eq!(rt; found.as_str(), *want);
-    }
-    Ok(())
+    check_table(rt.alloc(), TOKENS, tokens_of)
 }
 
-#[test]
-fn long_hostile_texts(rt: HostRuntime) -> Result<(), Fail> {
-    let name = vec![in rt.alloc(); b'a'; 1_048_576]?;
-    assert_eq!(rt; told(rt.alloc(), &name)?.as_str(), "word 0");
-    let zeros = vec![in rt.alloc(); b'0'; 1_048_576]?;
-    assert_eq!(rt; told(rt.alloc(), &zeros)?.as_str(), "number 0");
-    Ok(())
-}
-
-fn told(alloc: Global, text: &[u8]) -> Result<String, AllocError> {
+fn tokens_of(alloc: Global, row: &str) -> Result<Vec<u8>, NoMemory> {
+    let text = built(alloc, row)?;
     if text.len() > 1_048_576 {
-        return String::from_str(alloc, "too long");
+        return spelled(alloc, "too long");
     }
-    match tokens(alloc, text) {
-        Ok(found) => spelled(alloc, &found),
-        Err(LexFault::BadChar(at)) => format!(in alloc; "char {at}"),
-        Err(LexFault::LongWord(at)) => format!(in alloc; "word {at}"),
-        Err(LexFault::BadNumber(at)) => format!(in alloc; "number {at}"),
-        Err(LexFault::NoMemory) => Err(AllocError),
+    match tokens(alloc, &text) {
+        Ok(found) => listed(alloc, &found),
+        Err(fault) => lex_fault(alloc, fault),
     }
 }
 
-fn spelled(alloc: Global, found: &[Token]) -> Result<String, AllocError> {
-    let mut text = String::new(alloc);
+fn listed(alloc: Global, found: &[Token]) -> Result<Vec<u8>, NoMemory> {
+    let mut out = Vec::new(alloc);
     for token in found {
-        if !text.is_empty() {
-            text.push_str(" ")?;
-        }
-        text.push_str(letter(token.what))?;
-        let from = token.from;
-        let to = token.to;
-        let span = format!(in alloc; "{from}-{to}")?;
-        text.push_str(span.as_str())?;
+        push_token(&mut out, token)?;
     }
-    Ok(text)
+    Ok(out)
+}
+
+fn push_token(out: &mut Vec<u8>, token: &Token) -> Result<(), NoMemory> {
+    let between = if out.is_empty() { "" } else { " " };
+    push_bytes(out, between.as_bytes())?;
+    push_bytes(out, letter(token.what).as_bytes())?;
+    push_number(out, token.from)?;
+    push_bytes(out, b"-")?;
+    push_number(out, token.to)
 }
 
 fn letter(kind: TokenKind) -> &'static str {

@@ -1,64 +1,118 @@
-ghost use Rattle.std.specs.Prelude.{◌≡◌, ◌+◌, ◌^◌, ◌<◌, length, IfOk};
+ghost use Rattle.std.specs.Prelude.{◌≡◌, IfOk, length};
 
-use ql_base::NoMemory;
-use ql_cnf::{Assignment, Clauses, Lit, are_in_range, satisfies};
+use crate::texts::{add, clauses_of, literal, literals, push_literals, spelled};
+use ql_base::{NoMemory, push_bytes, push_number};
+use ql_cnf::{Assignment, Clause, Clauses, Ground, clausify, satisfies};
+use ql_tables::check_table;
 use std::alloc::Global;
+use std::test::Fail;
 
-fn lit(var: u32, positive: bool) -> Lit {
-    Lit { var, positive }
-}
+// Literals, and the clause of them over three variables.
+const ADDED: &str = "
+ -> clause
+-3 1 2 -> clause 1 2 -3
+-2 1 -2 -> clause 1 -2
+2 1 -2 -> none
+-1 -1 -> clause -1
+";
 
 #[test]
-fn adds_and_satisfies(rt: HostRuntime) -> Result<(), NoMemory> {
-    let cases: [(&[Lit], bool, &[Lit]); 5] = [
-        (&[], true, &[]),
-        (
-            &[lit(3, false), lit(1, true), lit(2, true)],
-            true,
-            &[lit(1, true), lit(2, true), lit(3, false)],
-        ),
-        (
-            &[lit(2, false), lit(1, true), lit(2, false)],
-            true,
-            &[lit(1, true), lit(2, false)],
-        ),
-        (&[lit(2, true), lit(1, true), lit(2, false)], false, &[]),
-        (&[lit(1, false), lit(1, false)], true, &[lit(1, false)]),
-    ];
-    for (lits, added, clause) in cases {
-        let mut clauses = Clauses::new(rt.alloc(), 3);
-        assert_eq!(rt; add(&mut clauses, lits)?, added);
-        let count = clauses.len();
-        assert_eq!(rt; count == 1, added);
-        if count == 1 {
-            assert!(rt; clauses.clause(1).items() == clause);
-        }
-    }
-    let mut clauses = Clauses::new(rt.alloc(), 2);
-    assert!(rt; add(&mut clauses, &[lit(1, true), lit(2, true)])?);
-    assert!(rt; add(&mut clauses, &[lit(1, false)])?);
-    for (a, b, want) in [
-        (false, true, true),
-        (true, true, false),
-        (false, false, false),
-    ] {
-        let values = assignment(rt.alloc(), a, b)?;
-        assert_eq!(rt; satisfies(&values, &clauses), want);
-    }
-    Ok(())
+fn adds_the_ascending_clause(rt: HostRuntime) -> Result<(), Fail> {
+    check_table(rt.alloc(), ADDED, added)
 }
 
-fn add(clauses: &mut Clauses, lits: &[Lit]) -> Result<bool, NoMemory>
-    ensures { clauses.new.variables ≡ clauses.old.variables }
-{
-    if clauses.len() == u32::MAX || !are_in_range(lits, clauses.variables()) {
-        return Ok(false);
+fn added(alloc: Global, row: &str) -> Result<Vec<u8>, NoMemory> {
+    let mut clauses = Clauses::new(alloc, 3);
+    let is_added = add(&mut clauses, &literals(alloc, row)?)?;
+    if is_added && clauses.len() == 1 {
+        clause_text(alloc, clauses.clause(1))
+    } else {
+        spelled(alloc, "none")
     }
-    clauses.add(lits)
+}
+
+fn clause_text(alloc: Global, clause: &Clause) -> Result<Vec<u8>, NoMemory> {
+    let mut out = spelled(alloc, "clause")?;
+    push_literals(&mut out, clause.items())?;
+    Ok(out)
+}
+
+// A clause, one more literal, and the clause with it.
+const EXTENDED: &str = "
+1 -3 0 with 2 -> clause 1 2 -3
+1 2 0 with 2 -> clause 1 2
+1 2 0 with -2 -> none
+0 with -1 -> clause -1
+";
+
+#[test]
+fn adds_one_literal(rt: HostRuntime) -> Result<(), Fail> {
+    check_table(rt.alloc(), EXTENDED, extended)
+}
+
+fn extended(alloc: Global, row: &str) -> Result<Vec<u8>, NoMemory> {
+    let (text, more) = row.split_once(" with ").unwrap_or((row, ""));
+    let clauses = clauses_of(alloc, 3, text)?;
+    if clauses.len() == 0 {
+        return spelled(alloc, "no clause");
+    }
+    match clauses.clause(1).with(alloc, literal(more))? {
+        Some(clause) => clause_text(alloc, &clause),
+        None => spelled(alloc, "none"),
+    }
+}
+
+// Clauses over two variables, the values of these, and whether each clause has a true literal.
+const SATISFIED: &str = "
+1 2 0 -1 0 under 0 1 -> true
+1 2 0 -1 0 under 1 1 -> false
+1 2 0 -1 0 under 0 0 -> false
+";
+
+#[test]
+fn assignments_satisfy_clauses(rt: HostRuntime) -> Result<(), Fail> {
+    check_table(rt.alloc(), SATISFIED, satisfied)
+}
+
+fn satisfied(alloc: Global, row: &str) -> Result<Vec<u8>, NoMemory> {
+    let (text, values) = row.split_once(" under ").unwrap_or((row, ""));
+    let clauses = clauses_of(alloc, 2, text)?;
+    let assignment = assignment(alloc, values.starts_with("1"), values.ends_with("1"))?;
+    let holds = satisfies(&assignment, &clauses);
+    spelled(alloc, if holds { "true" } else { "false" })
 }
 
 fn assignment(alloc: Global, a: bool, b: bool) -> Result<Assignment, NoMemory>
     ensures { IfOk result (λ values. length values ≡ 2) }
 {
     Ok(Assignment::of(vec![in alloc; a, b]?))
+}
+
+// How many variables there are, and the clauses of a gate that is true and of its denial.
+const DENIED: &str = "
+9 -> 10 variables: 10 0 -10 0
+";
+
+#[test]
+fn one_clause_a_gate_and_the_denial(rt: HostRuntime) -> Result<(), Fail> {
+    check_table(rt.alloc(), DENIED, denied)
+}
+
+fn denied(alloc: Global, row: &str) -> Result<Vec<u8>, NoMemory> {
+    let variables = row.parse::<u32>().unwrap_or(0).min(100);
+    let mut clauses = Clauses::new(alloc, variables);
+    clausify(&Ground::True, &mut clauses)?;
+    let mut out = Vec::new(alloc);
+    push_number(&mut out, clauses.variables())?;
+    push_bytes(&mut out, b" variables:")?;
+    push_clauses(&mut out, &clauses)?;
+    Ok(out)
+}
+
+fn push_clauses(out: &mut Vec<u8>, clauses: &Clauses) -> Result<(), NoMemory> {
+    for number in 0..clauses.len() {
+        push_literals(out, clauses.clause(number + 1).items())?;
+        push_bytes(out, b" 0")?;
+    }
+    Ok(())
 }

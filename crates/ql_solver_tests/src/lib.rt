@@ -1,4 +1,4 @@
-// Tests of clause lists, the solver, refutations and the files that hold them, with answers from outside.
+// Tests of levels, clause lists, the solver, refutations and the files that hold them, with answers from outside.
 // Nothing stands on this crate.
 #![tactic(auto)]
 
@@ -7,10 +7,10 @@ mod certificates;
 #[cfg(test)]
 mod clauses;
 #[cfg(test)]
-mod gates;
-#[cfg(test)]
-mod goals;
+mod levels;
 #[cfg(test)]
 mod refutations;
 #[cfg(test)]
 mod solver;
+#[cfg(test)]
+mod texts;

@@ -1,116 +1,99 @@
-use ql_base::NoMemory;
-use ql_cnf::{Clause, Clauses, Lit, are_in_range};
+use crate::texts::{clauses_of, literal, spelled};
+use ql_base::{NoMemory, push_number};
+use ql_cnf::{Clause, Clauses};
 use ql_refute::{Hint, Hints, Line, Lines, Refutation, Verdict, check};
+use ql_tables::check_table;
 use std::alloc::Global;
+use std::test::Fail;
 
-const A: Lit = Lit {
-    var: 1,
-    positive: true,
-};
+// Two variables, of which each line is a literal or none.
+const CLAUSES: &str = "1 2 0 1 -2 0 -1 0";
 
-const B: Lit = Lit {
-    var: 2,
-    positive: true,
-};
-
-const NOT_A: Lit = Lit {
-    var: 1,
-    positive: false,
-};
-
-const NOT_B: Lit = Lit {
-    var: 2,
-    positive: false,
-};
-
-const FAR: Lit = Lit {
-    var: 3,
-    positive: true,
-};
-
-// A line whose clause has at most one literal.
-#[derive(Clone, Copy)]
-struct Sketch<'a> {
-    literal: Option<Lit>,
-    hints: &'a [Hint],
-}
-
-fn line<'a>(literal: Option<Lit>, hints: &'a [Hint]) -> Sketch<'a> {
-    Sketch { literal, hints }
-}
+// Lines, each its literal and its hints: `c2` is the second clause, `l2` the second line.
+const JUDGED: &str = "
+1 : c1 c2; : l1 c3 -> Accepted
+1 : c1; : l1 c3 -> NoConflict 1
+1 : c1 c2; : c1 l1 c3 -> NotUnit 2
+1 : c1 c2; : l2 c3 -> BadHint 2
+1 : c4 -> BadHint 1
+1 : c0 -> BadHint 1
+3 : c4 -> BadVariable 1
+1 : c1 c2 -> NoEmpty
+ -> NoEmpty
+ : c3 c1 c2 c9 -> Accepted
+";
 
 #[test]
-fn judges_lines(rt: HostRuntime) -> Result<(), NoMemory> {
-    use Hint::{Earlier, Given as C};
-    let clauses = clauses(rt.alloc(), &[&[A, B], &[A, NOT_B], &[NOT_A]])?;
-    let good = line(Some(A), &[C(1), C(2)]);
-    let cases: [(&[Sketch], Verdict); 10] = [
-        (
-            &[
-                line(Some(A), &[C(1), C(2)]),
-                line(None, &[Earlier(1), C(3)]),
-            ],
-            Verdict::Accepted,
-        ),
-        (
-            &[line(Some(A), &[C(1)]), line(None, &[Earlier(1), C(3)])],
-            Verdict::NoConflict(1),
-        ),
-        (
-            &[
-                line(Some(A), &[C(1), C(2)]),
-                line(None, &[C(1), Earlier(1), C(3)]),
-            ],
-            Verdict::NotUnit(2),
-        ),
-        (
-            &[
-                line(Some(A), &[C(1), C(2)]),
-                line(None, &[Earlier(2), C(3)]),
-            ],
-            Verdict::BadHint(2),
-        ),
-        (&[line(Some(A), &[C(4)])], Verdict::BadHint(1)),
-        (&[line(Some(A), &[C(0)])], Verdict::BadHint(1)),
-        (&[line(Some(FAR), &[C(4)])], Verdict::BadVariable(1)),
-        (&[good], Verdict::NoEmpty),
-        (&[], Verdict::NoEmpty),
-        (&[line(None, &[C(3), C(1), C(2), C(9)])], Verdict::Accepted),
-    ];
+fn judges_lines(rt: HostRuntime) -> Result<(), Fail> {
+    check_table(rt.alloc(), JUDGED, judged)
+}
+
+fn judged(alloc: Global, row: &str) -> Result<Vec<u8>, NoMemory> {
+    let clauses = clauses_of(alloc, 2, CLAUSES)?;
+    let refutation = refutation(alloc, row)?;
+    let copy = refutation.copy(alloc)?;
+    let verdict = verdict(&clauses, &refutation);
+    if verdict == self::verdict(&clauses, &copy) {
+        verdict_text(alloc, verdict)
+    } else {
+        spelled(alloc, "two answers")
+    }
+}
+
+fn verdict(clauses: &Clauses, refutation: &Refutation) -> Verdict {
     let mut marks = [7; 3];
-    assert_eq!(rt; clauses.variables(), 2);
-    for (lines, want) in cases {
-        let refutation = refutation(rt.alloc(), lines)?;
-        assert_eq!(rt; check(&clauses, &refutation, &mut marks), want);
-        let copy = refutation.copy(rt.alloc())?;
-        assert_eq!(rt; check(&clauses, &copy, &mut marks), want);
+    if clauses.variables() > 2 {
+        return Verdict::NoEmpty;
     }
-    Ok(())
+    check(clauses, refutation, &mut marks)
 }
 
-fn clauses(alloc: Global, lists: &[&[Lit]]) -> Result<Clauses, NoMemory> {
-    let mut clauses = Clauses::new(alloc, 2);
-    for lits in lists {
-        if are_in_range(lits, clauses.variables()) && clauses.len() < 100 {
-            clauses.add(lits)?;
-        }
+fn verdict_text(alloc: Global, verdict: Verdict) -> Result<Vec<u8>, NoMemory> {
+    match verdict {
+        Verdict::Accepted => spelled(alloc, "Accepted"),
+        Verdict::NoEmpty => spelled(alloc, "NoEmpty"),
+        Verdict::NoConflict(line) => placed(alloc, "NoConflict ", line),
+        Verdict::NotUnit(line) => placed(alloc, "NotUnit ", line),
+        Verdict::BadHint(line) => placed(alloc, "BadHint ", line),
+        Verdict::BadVariable(line) => placed(alloc, "BadVariable ", line),
     }
-    Ok(clauses)
 }
 
-fn refutation(alloc: Global, lines: &[Sketch]) -> Result<Refutation, NoMemory> {
-    let mut made = Vec::new(alloc);
-    for line in lines {
-        let mut literals = Vec::new(alloc);
-        if let Some(literal) = line.literal {
-            literals.push(literal)?;
-        }
-        made.push(Line {
-            clause: Clause::of(literals),
-            hints: Hints::of(Vec::from_slice(alloc, line.hints)?),
-        })?;
+fn placed(alloc: Global, word: &str, line: u64) -> Result<Vec<u8>, NoMemory> {
+    let mut out = spelled(alloc, word)?;
+    push_number(&mut out, line)?;
+    Ok(out)
+}
+
+fn refutation(alloc: Global, row: &str) -> Result<Refutation, NoMemory> {
+    let mut lines = Vec::new(alloc);
+    for line in row.split_terminator(";") {
+        lines.push(line_of(alloc, line)?)?;
     }
     Ok(Refutation {
-        lines: Lines::of(made),
+        lines: Lines::of(lines),
     })
+}
+
+fn line_of(alloc: Global, text: &str) -> Result<Line, NoMemory> {
+    let (word, hints) = text.split_once(':').unwrap_or((text, ""));
+    let mut literals = Vec::new(alloc);
+    if !word.trim().is_empty() {
+        literals.push(literal(word.trim()))?;
+    }
+    Ok(Line {
+        clause: Clause::of(literals),
+        hints: Hints::of(hints_of(alloc, hints)?),
+    })
+}
+
+fn hints_of(alloc: Global, text: &str) -> Result<Vec<Hint>, NoMemory> {
+    let mut hints = Vec::new(alloc);
+    for word in text.split_whitespace() {
+        hints.push(match word.strip_prefix("c") {
+            Some(number) => Hint::Given(number.parse().unwrap_or(0)),
+            None => Hint::Earlier(word.trim_start_matches("l").parse().unwrap_or(0)),
+        })?;
+    }
+    Ok(hints)
 }

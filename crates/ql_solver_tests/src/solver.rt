@@ -1,153 +1,89 @@
-ghost use Rattle.std.specs.Prelude.{pos, ◌≤ℤ◌};
 ghost use Rattle.ql_sat.specs.Answer.{IsRight};
 
-use crate::goals::{BALANCE_EVENTUAL, TOUCH_EVENTUAL, WITHDRAW_CAUSAL};
+use crate::texts::{clauses_of, spelled};
 use ql_base::NoMemory;
-use ql_cnf::{Clauses, Lit, are_in_range, satisfies};
+use ql_cnf::{Clauses, satisfies};
 use ql_refute::{Verdict, check};
 use ql_sat::{Decided, decide, plain};
+use ql_tables::check_table;
 use std::alloc::Global;
+use std::test::Fail;
 
-// Three pairs, and from each at most one of the first and one of the second.
-const PAIRS: [i32; 27] = [
-    1, 2, 0, 3, 4, 0, 5, 6, 0, -1, -3, 0, -1, -5, 0, -3, -5, 0, -2, -4, 0, -2, -6, 0, -4, -6, 0,
-];
+// How many variables there are and clauses, each ended by 0. The third list is of three pairs, with at most one of the
+// first and one of the second of each.
+const SMALL: &str = "
+2:  -> model
+2: 0 -> refuted
+6: 1 2 0 3 4 0 5 6 0 -1 -3 0 -1 -5 0 -3 -5 0 -2 -4 0 -2 -6 0 -4 -6 0 -> refuted
+6: 1 2 0 3 4 0 5 6 0 -1 -3 0 -1 -5 0 -3 -5 0 -2 -4 0 -2 -6 0 -> model
+3: 1 2 0 1 -2 0 -1 3 0 -3 0 -> refuted
+";
 
-// Each list of clauses is one of numbers, and each clause ends with 0.
 #[test]
-fn decides_small_lists(rt: HostRuntime) -> Result<(), NoMemory> {
-    let cases: [(u32, &[i32], bool); 5] = [
-        (2, &[], true),
-        (2, &[0], false),
-        (6, &PAIRS, false),
-        (6, &PAIRS[..24], true),
-        (3, &[1, 2, 0, 1, -2, 0, -1, 3, 0, -3, 0], false),
-    ];
-    for (variables, numbers, satisfiable) in cases {
-        let answer = is_satisfiable(rt.alloc(), variables, numbers)?;
-        assert_eq!(rt; answer, Some(satisfiable));
-        let answer = is_plainly_satisfiable(rt.alloc(), variables, numbers)?;
-        assert_eq!(rt; answer, Some(satisfiable));
-    }
-    Ok(())
+fn decides_small_lists(rt: HostRuntime) -> Result<(), Fail> {
+    check_table(rt.alloc(), SMALL, decided_both_ways)
 }
 
-// The level gives the contract where its problem has no model.
+// Ground problems of operations: the type with one operation and the contract `true`, at eventual; a bank's withdrawal,
+// which all others must see or be seen by, at causal; and its balance, for which sight is transitive, at eventual.
+// The level gives the contract where the problem has no model.
+const GROUND: &str = "
+10: 1 0 3 0 3 -4 0 -4 5 0 -2 -3 5 0 3 -5 0 -5 6 0 -2 6 0 -4 6 0 -6 0 9 0 9 0 10 0 -10 0 -> refuted
+39: 1 0 4 0 -2 3 0 2 -3 0 1 -2 -3 0 -2 -3 4 0 -2 -5 7 0 -2 -6 8 0 -3 5 -7 0 -3 6 -8 0 -2 -5 6 0 -2 -7 8 0 -3 5 -6 0 -3 7 -8 0 -2 -9 11 0 -2 -10 12 0 -3 9 -11 0 -3 10 -12 0 -2 -9 10 0 -2 -11 12 0 -3 9 -10 0 -3 11 -12 0 -2 -13 15 0 -2 -14 16 0 -3 13 -15 0 -3 14 -16 0 -2 -13 14 0 -2 -15 16 0 -3 13 -14 0 -3 15 -16 0 -2 -17 19 0 -2 -18 20 0 -3 17 -19 0 -3 18 -20 0 -2 -17 18 0 -2 -19 20 0 -3 17 -18 0 -3 19 -20 0 -2 -21 23 0 -2 -22 24 0 -3 21 -23 0 -3 22 -24 0 -2 -21 22 0 -2 -23 24 0 -3 21 -22 0 -3 23 -24 0 -2 -25 27 0 -2 -26 28 0 -3 25 -27 0 -3 26 -28 0 -2 -25 26 0 -2 -27 28 0 -3 25 -26 0 -3 27 -28 0 -2 -31 32 0 -3 31 -32 0 -2 -33 34 0 -3 33 -34 0 -2 -35 36 0 -3 35 -36 0 5 -6 -7 0 -6 -7 8 0 4 -6 8 0 1 5 -7 0 1 5 -6 0 4 -7 8 0 9 0 12 0 -10 11 0 10 -11 0 9 -10 -11 0 -10 -11 12 0 9 -13 0 10 -14 0 11 -15 0 12 -16 0 -13 17 0 -14 18 0 -15 19 0 -16 20 0 -5 -9 17 0 -6 -10 18 0 -7 -11 19 0 -8 -12 20 0 17 -18 -19 0 -18 -19 20 0 9 -17 0 10 -18 0 11 -19 0 12 -20 0 -17 21 0 -18 22 0 -19 23 0 -20 24 0 -5 21 0 -6 22 0 -7 23 0 -8 24 0 -13 21 0 -14 22 0 -15 23 0 -16 24 0 21 -22 -23 0 -22 -23 24 0 -21 0 -24 0 31 33 35 0 32 34 36 0 -31 -33 0 -31 -35 0 -33 -35 0 -32 -34 0 -32 -36 0 -34 -36 0 14 -18 0 16 -20 0 34 0 33 0 -14 37 0 -15 37 0 14 15 -37 0 -37 38 0 -2 38 0 2 37 -38 0 10 39 0 -38 39 0 -10 38 -39 0 -39 0 -> model
+77: 1 0 5 0 9 0 -2 4 0 -3 7 0 2 -4 0 -6 8 0 3 -7 0 6 -8 0 1 -2 -4 0 -2 3 -6 0 1 -3 -7 0 2 -3 -8 0 -2 -4 5 0 -3 -4 6 0 4 -6 -7 0 5 -6 -8 0 -2 -7 8 0 -3 -7 9 0 -4 7 -8 0 -6 -8 9 0 -2 -10 13 0 -2 -11 14 0 -2 -12 15 0 -3 -10 16 0 -3 -11 17 0 -3 -12 18 0 -4 10 -13 0 -4 11 -14 0 -4 12 -15 0 -6 -13 16 0 -6 -14 17 0 -6 -15 18 0 -7 10 -16 0 -7 11 -17 0 -7 12 -18 0 -8 13 -16 0 -8 14 -17 0 -8 15 -18 0 -2 -10 11 0 -2 -13 14 0 -2 -16 17 0 -3 -10 12 0 -3 -13 15 0 -3 -16 18 0 -4 10 -11 0 -4 13 -14 0 -4 16 -17 0 -6 -11 12 0 -6 -14 15 0 -6 -17 18 0 -7 10 -12 0 -7 13 -15 0 -7 16 -18 0 -8 11 -12 0 -8 14 -15 0 -8 17 -18 0 -2 -19 22 0 -2 -20 23 0 -2 -21 24 0 -3 -19 25 0 -3 -20 26 0 -3 -21 27 0 -4 19 -22 0 -4 20 -23 0 -4 21 -24 0 -6 -22 25 0 -6 -23 26 0 -6 -24 27 0 -7 19 -25 0 -7 20 -26 0 -7 21 -27 0 -8 22 -25 0 -8 23 -26 0 -8 24 -27 0 -2 -19 20 0 -2 -22 23 0 -2 -25 26 0 -3 -19 21 0 -3 -22 24 0 -3 -25 27 0 -4 19 -20 0 -4 22 -23 0 -4 25 -26 0 -6 -20 21 0 -6 -23 24 0 -6 -26 27 0 -7 19 -21 0 -7 22 -24 0 -7 25 -27 0 -8 20 -21 0 -8 23 -24 0 -8 26 -27 0 -2 -28 31 0 -2 -29 32 0 -2 -30 33 0 -3 -28 34 0 -3 -29 35 0 -3 -30 36 0 -4 28 -31 0 -4 29 -32 0 -4 30 -33 0 -6 -31 34 0 -6 -32 35 0 -6 -33 36 0 -7 28 -34 0 -7 29 -35 0 -7 30 -36 0 -8 31 -34 0 -8 32 -35 0 -8 33 -36 0 -2 -28 29 0 -2 -31 32 0 -2 -34 35 0 -3 -28 30 0 -3 -31 33 0 -3 -34 36 0 -4 28 -29 0 -4 31 -32 0 -4 34 -35 0 -6 -29 30 0 -6 -32 33 0 -6 -35 36 0 -7 28 -30 0 -7 31 -33 0 -7 34 -36 0 -8 29 -30 0 -8 32 -33 0 -8 35 -36 0 -2 -37 40 0 -2 -38 41 0 -2 -39 42 0 -3 -37 43 0 -3 -38 44 0 -3 -39 45 0 -4 37 -40 0 -4 38 -41 0 -4 39 -42 0 -6 -40 43 0 -6 -41 44 0 -6 -42 45 0 -7 37 -43 0 -7 38 -44 0 -7 39 -45 0 -8 40 -43 0 -8 41 -44 0 -8 42 -45 0 -2 -37 38 0 -2 -40 41 0 -2 -43 44 0 -3 -37 39 0 -3 -40 42 0 -3 -43 45 0 -4 37 -38 0 -4 40 -41 0 -4 43 -44 0 -6 -38 39 0 -6 -41 42 0 -6 -44 45 0 -7 37 -39 0 -7 40 -42 0 -7 43 -45 0 -8 38 -39 0 -8 41 -42 0 -8 44 -45 0 -2 -46 49 0 -2 -47 50 0 -2 -48 51 0 -3 -46 52 0 -3 -47 53 0 -3 -48 54 0 -4 46 -49 0 -4 47 -50 0 -4 48 -51 0 -6 -49 52 0 -6 -50 53 0 -6 -51 54 0 -7 46 -52 0 -7 47 -53 0 -7 48 -54 0 -8 49 -52 0 -8 50 -53 0 -8 51 -54 0 -2 -46 47 0 -2 -49 50 0 -2 -52 53 0 -3 -46 48 0 -3 -49 51 0 -3 -52 54 0 -4 46 -47 0 -4 49 -50 0 -4 52 -53 0 -6 -47 48 0 -6 -50 51 0 -6 -53 54 0 -7 46 -48 0 -7 49 -51 0 -7 52 -54 0 -8 47 -48 0 -8 50 -51 0 -8 53 -54 0 -2 -55 58 0 -2 -56 59 0 -2 -57 60 0 -3 -55 61 0 -3 -56 62 0 -3 -57 63 0 -4 55 -58 0 -4 56 -59 0 -4 57 -60 0 -6 -58 61 0 -6 -59 62 0 -6 -60 63 0 -7 55 -61 0 -7 56 -62 0 -7 57 -63 0 -8 58 -61 0 -8 59 -62 0 -8 60 -63 0 -2 -55 56 0 -2 -58 59 0 -2 -61 62 0 -3 -55 57 0 -3 -58 60 0 -3 -61 63 0 -4 55 -56 0 -4 58 -59 0 -4 61 -62 0 -6 -56 57 0 -6 -59 60 0 -6 -62 63 0 -7 55 -57 0 -7 58 -60 0 -7 61 -63 0 -8 56 -57 0 -8 59 -60 0 -8 62 -63 0 -2 -67 68 0 -3 -67 69 0 -4 67 -68 0 -6 -68 69 0 -7 67 -69 0 -8 68 -69 0 -2 -70 71 0 -3 -70 72 0 -4 70 -71 0 -6 -71 72 0 -7 70 -72 0 -8 71 -72 0 -2 -73 74 0 -3 -73 75 0 -4 73 -74 0 -6 -74 75 0 -7 73 -75 0 -8 74 -75 0 10 -11 -13 0 -11 12 -15 0 10 -12 -16 0 11 -12 -17 0 -11 -13 14 0 -12 -13 15 0 13 -15 -16 0 14 -15 -17 0 -11 -16 17 0 -12 -16 18 0 -13 16 -17 0 -15 -17 18 0 5 -11 14 0 6 -11 -12 15 17 0 8 -11 -12 15 17 0 9 -12 18 0 1 10 -13 0 3 12 -13 -15 16 0 7 12 -13 -15 16 0 9 -15 18 0 1 10 -16 0 2 11 13 -16 -17 0 4 11 13 -16 -17 0 5 14 -17 0 1 10 -11 0 1 10 -12 0 2 11 -12 13 -15 0 3 -11 12 16 -17 0 4 11 -12 13 -15 0 5 -13 14 0 5 14 -15 0 6 -13 15 -16 17 0 7 -11 12 16 -17 0 8 -13 15 -16 17 0 9 -16 18 0 9 -17 18 0 19 0 23 0 27 0 -20 22 0 -21 25 0 20 -22 0 -24 26 0 21 -25 0 24 -26 0 19 -20 -22 0 -20 21 -24 0 19 -21 -25 0 20 -21 -26 0 -20 -22 23 0 -21 -22 24 0 22 -24 -25 0 23 -24 -26 0 -20 -25 26 0 -21 -25 27 0 -22 25 -26 0 -24 -26 27 0 19 -28 0 20 -29 0 21 -30 0 22 -31 0 23 -32 0 24 -33 0 25 -34 0 26 -35 0 27 -36 0 -28 37 0 -29 38 0 -30 39 0 -31 40 0 -32 41 0 -33 42 0 -34 43 0 -35 44 0 -36 45 0 -10 -19 37 0 -11 -20 38 0 -12 -21 39 0 -13 -22 40 0 -14 -23 41 0 -15 -24 42 0 -16 -25 43 0 -17 -26 44 0 -18 -27 45 0 37 -38 -40 0 -38 39 -42 0 37 -39 -43 0 38 -39 -44 0 -38 -40 41 0 -39 -40 42 0 40 -42 -43 0 41 -42 -44 0 -38 -43 44 0 -39 -43 45 0 -40 43 -44 0 -42 -44 45 0 19 -37 0 20 -38 0 21 -39 0 22 -40 0 23 -41 0 24 -42 0 25 -43 0 26 -44 0 27 -45 0 -37 46 0 -38 47 0 -39 48 0 -40 49 0 -41 50 0 -42 51 0 -43 52 0 -44 53 0 -45 54 0 -10 46 0 -11 47 0 -12 48 0 -13 49 0 -14 50 0 -15 51 0 -16 52 0 -17 53 0 -18 54 0 -28 46 0 -29 47 0 -30 48 0 -31 49 0 -32 50 0 -33 51 0 -34 52 0 -35 53 0 -36 54 0 46 -47 -49 0 -47 48 -51 0 46 -48 -52 0 47 -48 -53 0 -47 -49 50 0 -48 -49 51 0 49 -51 -52 0 50 -51 -53 0 -47 -52 53 0 -48 -52 54 0 -49 52 -53 0 -51 -53 54 0 -46 0 -50 0 -54 0 67 70 73 0 68 71 74 0 69 72 75 0 -67 -70 0 -67 -73 0 -70 -73 0 -68 -71 0 -68 -74 0 -71 -74 0 -69 -72 0 -69 -75 0 -72 -75 0 30 -33 -38 0 30 -36 -39 0 -30 33 -40 0 33 -36 -42 0 -30 36 -43 0 -33 36 -44 0 75 0 29 -76 0 33 -76 0 -29 -33 76 0 76 77 0 -30 77 0 30 -76 -77 0 -77 0 -> refuted
+";
+
 #[test]
-fn decides_ground_problems(rt: HostRuntime) -> Result<(), NoMemory> {
-    let cases: [(u32, &[i32], bool); 3] = [
-        (10, &TOUCH_EVENTUAL, false),
-        (39, &WITHDRAW_CAUSAL, true),
-        (77, &BALANCE_EVENTUAL, false),
-    ];
-    for (variables, numbers, satisfiable) in cases {
-        let answer = is_satisfiable(rt.alloc(), variables, numbers)?;
-        assert_eq!(rt; answer, Some(satisfiable));
-    }
-    Ok(())
+fn decides_ground_problems(rt: HostRuntime) -> Result<(), Fail> {
+    check_table(rt.alloc(), GROUND, decided)
 }
 
-// Pigeons and holes: each pigeon has a hole, and no two have the same. The last list has a small such
-// problem among the middle variables, and clauses of two before and after it.
+// Pigeons and holes: each pigeon has a hole, and no two have the same. Seven and six, six and six, and four and three
+// among the middle variables, with clauses of two before and behind them.
+const PIGEONS: &str = "
+42: 1 2 3 4 5 6 0 7 8 9 10 11 12 0 13 14 15 16 17 18 0 19 20 21 22 23 24 0 25 26 27 28 29 30 0 31 32 33 34 35 36 0 37 38 39 40 41 42 0 -1 -7 0 -1 -13 0 -7 -13 0 -1 -19 0 -7 -19 0 -13 -19 0 -1 -25 0 -7 -25 0 -13 -25 0 -19 -25 0 -1 -31 0 -7 -31 0 -13 -31 0 -19 -31 0 -25 -31 0 -1 -37 0 -7 -37 0 -13 -37 0 -19 -37 0 -25 -37 0 -31 -37 0 -2 -8 0 -2 -14 0 -8 -14 0 -2 -20 0 -8 -20 0 -14 -20 0 -2 -26 0 -8 -26 0 -14 -26 0 -20 -26 0 -2 -32 0 -8 -32 0 -14 -32 0 -20 -32 0 -26 -32 0 -2 -38 0 -8 -38 0 -14 -38 0 -20 -38 0 -26 -38 0 -32 -38 0 -3 -9 0 -3 -15 0 -9 -15 0 -3 -21 0 -9 -21 0 -15 -21 0 -3 -27 0 -9 -27 0 -15 -27 0 -21 -27 0 -3 -33 0 -9 -33 0 -15 -33 0 -21 -33 0 -27 -33 0 -3 -39 0 -9 -39 0 -15 -39 0 -21 -39 0 -27 -39 0 -33 -39 0 -4 -10 0 -4 -16 0 -10 -16 0 -4 -22 0 -10 -22 0 -16 -22 0 -4 -28 0 -10 -28 0 -16 -28 0 -22 -28 0 -4 -34 0 -10 -34 0 -16 -34 0 -22 -34 0 -28 -34 0 -4 -40 0 -10 -40 0 -16 -40 0 -22 -40 0 -28 -40 0 -34 -40 0 -5 -11 0 -5 -17 0 -11 -17 0 -5 -23 0 -11 -23 0 -17 -23 0 -5 -29 0 -11 -29 0 -17 -29 0 -23 -29 0 -5 -35 0 -11 -35 0 -17 -35 0 -23 -35 0 -29 -35 0 -5 -41 0 -11 -41 0 -17 -41 0 -23 -41 0 -29 -41 0 -35 -41 0 -6 -12 0 -6 -18 0 -12 -18 0 -6 -24 0 -12 -24 0 -18 -24 0 -6 -30 0 -12 -30 0 -18 -30 0 -24 -30 0 -6 -36 0 -12 -36 0 -18 -36 0 -24 -36 0 -30 -36 0 -6 -42 0 -12 -42 0 -18 -42 0 -24 -42 0 -30 -42 0 -36 -42 0 -> refuted
+36: 1 2 3 4 5 6 0 7 8 9 10 11 12 0 13 14 15 16 17 18 0 19 20 21 22 23 24 0 25 26 27 28 29 30 0 31 32 33 34 35 36 0 -1 -7 0 -1 -13 0 -7 -13 0 -1 -19 0 -7 -19 0 -13 -19 0 -1 -25 0 -7 -25 0 -13 -25 0 -19 -25 0 -1 -31 0 -7 -31 0 -13 -31 0 -19 -31 0 -25 -31 0 -2 -8 0 -2 -14 0 -8 -14 0 -2 -20 0 -8 -20 0 -14 -20 0 -2 -26 0 -8 -26 0 -14 -26 0 -20 -26 0 -2 -32 0 -8 -32 0 -14 -32 0 -20 -32 0 -26 -32 0 -3 -9 0 -3 -15 0 -9 -15 0 -3 -21 0 -9 -21 0 -15 -21 0 -3 -27 0 -9 -27 0 -15 -27 0 -21 -27 0 -3 -33 0 -9 -33 0 -15 -33 0 -21 -33 0 -27 -33 0 -4 -10 0 -4 -16 0 -10 -16 0 -4 -22 0 -10 -22 0 -16 -22 0 -4 -28 0 -10 -28 0 -16 -28 0 -22 -28 0 -4 -34 0 -10 -34 0 -16 -34 0 -22 -34 0 -28 -34 0 -5 -11 0 -5 -17 0 -11 -17 0 -5 -23 0 -11 -23 0 -17 -23 0 -5 -29 0 -11 -29 0 -17 -29 0 -23 -29 0 -5 -35 0 -11 -35 0 -17 -35 0 -23 -35 0 -29 -35 0 -6 -12 0 -6 -18 0 -12 -18 0 -6 -24 0 -12 -24 0 -18 -24 0 -6 -30 0 -12 -30 0 -18 -30 0 -24 -30 0 -6 -36 0 -12 -36 0 -18 -36 0 -24 -36 0 -30 -36 0 -> model
+132: 1 2 0 3 4 0 5 6 0 7 8 0 9 10 0 11 12 0 13 14 0 15 16 0 17 18 0 19 20 0 21 22 0 23 24 0 25 26 0 27 28 0 29 30 0 31 32 0 33 34 0 35 36 0 37 38 0 39 40 0 41 42 0 43 44 0 45 46 0 47 48 0 49 50 0 51 52 0 53 54 0 55 56 0 57 58 0 59 60 0 61 62 63 0 64 65 66 0 67 68 69 0 70 71 72 0 -61 -64 0 -61 -67 0 -64 -67 0 -61 -70 0 -64 -70 0 -67 -70 0 -62 -65 0 -62 -68 0 -65 -68 0 -62 -71 0 -65 -71 0 -68 -71 0 -63 -66 0 -63 -69 0 -66 -69 0 -63 -72 0 -66 -72 0 -69 -72 0 73 74 0 75 76 0 77 78 0 79 80 0 81 82 0 83 84 0 85 86 0 87 88 0 89 90 0 91 92 0 93 94 0 95 96 0 97 98 0 99 100 0 101 102 0 103 104 0 105 106 0 107 108 0 109 110 0 111 112 0 113 114 0 115 116 0 117 118 0 119 120 0 121 122 0 123 124 0 125 126 0 127 128 0 129 130 0 131 132 0 -> refuted
+";
+
 #[test]
-fn decides_pigeons(rt: HostRuntime) -> Result<(), NoMemory> {
-    let mut numbers = Vec::new(rt.alloc());
-    pigeons(0, 7, 6, &mut numbers)?;
-    assert_eq!(rt; is_satisfiable(rt.alloc(), 42, &numbers)?, Some(false));
-    numbers.clear();
-    pigeons(0, 6, 6, &mut numbers)?;
-    assert_eq!(rt; is_satisfiable(rt.alloc(), 36, &numbers)?, Some(true));
-    numbers.clear();
-    pairs(1, &mut numbers)?;
-    pigeons(60, 4, 3, &mut numbers)?;
-    pairs(73, &mut numbers)?;
-    assert_eq!(rt; is_satisfiable(rt.alloc(), 132, &numbers)?, Some(false));
-    Ok(())
+fn decides_pigeons(rt: HostRuntime) -> Result<(), Fail> {
+    check_table(rt.alloc(), PIGEONS, decided)
 }
 
-fn pigeons(before: u8, pigeons: u8, holes: u8, numbers: &mut Vec<i32>) -> Result<(), NoMemory> {
-    for pigeon in 0..pigeons {
-        for hole in 0..holes {
-            numbers.push(variable(before, holes, pigeon, hole))?;
-        }
-        numbers.push(0)?;
+fn decided_both_ways(alloc: Global, row: &str) -> Result<Vec<u8>, NoMemory> {
+    let clauses = clauses_in(alloc, row)?;
+    let plainly = judged(alloc, &clauses, &plain::decide(alloc, &clauses)?)?;
+    if plainly == judged(alloc, &clauses, &decide(alloc, &clauses)?)? {
+        spelled(alloc, plainly)
+    } else {
+        spelled(alloc, "two answers")
     }
-    for hole in 0..holes {
-        for pigeon in 0..pigeons {
-            for other in 0..pigeon {
-                numbers.push(-variable(before, holes, other, hole))?;
-                numbers.push(-variable(before, holes, pigeon, hole))?;
-                numbers.push(0)?;
-            }
-        }
-    }
-    Ok(())
 }
 
-fn variable(before: u8, holes: u8, pigeon: u8, hole: u8) -> i32
-    ensures { pos 0 ≤ℤ result }
-{
-    i32::from(before) + i32::from(pigeon) * i32::from(holes) + i32::from(hole) + 1
+fn decided(alloc: Global, row: &str) -> Result<Vec<u8>, NoMemory> {
+    let clauses = clauses_in(alloc, row)?;
+    spelled(alloc, judged(alloc, &clauses, &decide(alloc, &clauses)?)?)
 }
 
-// Thirty clauses of two variables each.
-fn pairs(first: u8, numbers: &mut Vec<i32>) -> Result<(), NoMemory> {
-    for k in 0..30u8 {
-        let number = i32::from(first) + 2 * i32::from(k);
-        numbers.push(number)?;
-        numbers.push(number + 1)?;
-        numbers.push(0)?;
-    }
-    Ok(())
+fn clauses_in(alloc: Global, row: &str) -> Result<Clauses, NoMemory> {
+    let (variables, text) = row.split_once(": ").unwrap_or((row, ""));
+    clauses_of(alloc, variables.parse::<u32>().unwrap_or(0), text)
 }
 
-fn is_satisfiable(
-    alloc: Global,
-    variables: u32,
-    numbers: &[i32],
-) -> Result<Option<bool>, NoMemory> {
-    let clauses = clauses(alloc, variables, numbers)?;
-    let decided = decide(alloc, &clauses)?;
-    is_model(alloc, &clauses, &decided)
-}
-
-fn is_plainly_satisfiable(
-    alloc: Global,
-    variables: u32,
-    numbers: &[i32],
-) -> Result<Option<bool>, NoMemory> {
-    let clauses = clauses(alloc, variables, numbers)?;
-    let decided = plain::decide(alloc, &clauses)?;
-    is_model(alloc, &clauses, &decided)
-}
-
-// Whether the answer is a model; none where it is wrong.
-fn is_model(alloc: Global, clauses: &Clauses, decided: &Decided) -> Result<Option<bool>, NoMemory>
+// What the answer is, where it is right.
+fn judged(alloc: Global, clauses: &Clauses, decided: &Decided) -> Result<&'static str, NoMemory>
     requires { IsRight clauses.now decided.now }
 {
     match decided {
-        Decided::Model(model) => Ok(satisfies(model, clauses).then_some(true)),
+        Decided::Model(model) if satisfies(model, clauses) => Ok("model"),
+        Decided::Model(_) => Ok("no model"),
         Decided::Refuted(refutation) => {
             let mut marks = vec![in alloc; 7; clauses.variables() as usize + 1]?;
-            let verdict = check(clauses, refutation, &mut marks);
-            Ok((verdict == Verdict::Accepted).then_some(false))
+            match check(clauses, refutation, &mut marks) {
+                Verdict::Accepted => Ok("refuted"),
+                _ => Ok("not refuted"),
+            }
         }
     }
-}
-
-fn clauses(alloc: Global, variables: u32, numbers: &[i32]) -> Result<Clauses, NoMemory> {
-    let mut clauses = Clauses::new(alloc, variables);
-    let mut lits = Vec::new(alloc);
-    for number in numbers {
-        if *number != 0 {
-            lits.push(Lit {
-                var: number.unsigned_abs(),
-                positive: *number > 0,
-            })?;
-        } else if are_in_range(&lits, clauses.variables()) && clauses.len() < u32::MAX {
-            clauses.add(&lits)?;
-            lits.clear();
-        }
-    }
-    Ok(clauses)
 }

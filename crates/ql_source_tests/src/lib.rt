@@ -5,6 +5,6 @@
 #[cfg(test)]
 mod contracts;
 #[cfg(test)]
-mod programs;
+mod faults;
 #[cfg(test)]
-mod told;
+mod programs;

@@ -5,27 +5,27 @@ use std::test::Fail;
 /// Fails at the first row whose question is answered otherwise than stands behind its arrow.
 ///
 /// Empty lines are passed over. A control character of a row is written as its picture: `␊` for a line feed.
-pub fn check_table<F: Fn(Global, &str) -> Result<Vec<u8>, NoMemory>>(
+pub fn check_table<F: FnMut(Global, &str) -> Result<Vec<u8>, NoMemory>>(
     alloc: Global,
     table: &str,
-    answer: F,
+    mut answer: F,
 ) -> Result<(), Fail>
-    requires { F.IsAlwaysCallable answer }
+    requires { (state : F) (memory : _) (question : _) → F.pre state memory question }
 {
     for line in table.lines() {
         if !line.is_empty() {
-            check_row(alloc, line, &answer)?;
+            check_row(alloc, line, &mut answer)?;
         }
     }
     Ok(())
 }
 
-fn check_row<F: Fn(Global, &str) -> Result<Vec<u8>, NoMemory>>(
+fn check_row<F: FnMut(Global, &str) -> Result<Vec<u8>, NoMemory>>(
     alloc: Global,
     line: &str,
-    answer: &F,
+    answer: &mut F,
 ) -> Result<(), Fail>
-    requires { F.IsAlwaysCallable answer.now }
+    requires { (state : F) (memory : _) (question : _) → F.pre state memory question }
 {
     let row = with_controls(alloc, line)?;
     let (question, expected) = row.as_str().split_once(" -> ").unwrap_or((line, "?"));

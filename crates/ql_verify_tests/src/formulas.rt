@@ -1,153 +1,157 @@
-use ql_base::{DeclId, EffId, IdSet, NoMemory, ObjId, OpId, RunId, SessId};
-use ql_exec::{Draft, ExecFault, Execution, Member, Payload};
-use ql_formula::{Relations, holds_at, holds_txn};
-use ql_lang::{Body, Choices, Formula, OpChoice, Rel, RelName, Term, Terms};
-use ql_value::{Value, Values};
+ghost use Rattle.std.specs.Prelude.{◌≤◌, IfSome, length};
+
+use crate::texts::{declared, push_places, spelled};
+use ql_base::{EffId, Names, NoMemory, RunId};
+use ql_exec::Execution;
+use ql_execution_files::parse_execution;
+use ql_formula::{Places, Relations, holds_at, holds_txn};
+use ql_lang::{Formula, Rel, RelName};
+use ql_parse::parse_contract;
+use ql_tables::{check_table, field, number};
+use ql_typing::resolve;
 use std::alloc::Global;
 use std::test::Fail;
 
-// An object, an operation, a session, a begun transaction (0 for none) and the seen ids.
-type Row = (u32, u32, u32, u32, &'static [u32]);
-
-fn push(alloc: Global, run: &mut Execution, row: &Row) -> Result<(), ExecFault> {
-    let (object, op, session, transaction, seen) = *row;
-    let mut ids = IdSet::new(alloc);
-    for id in seen {
-        ids.insert(*id)?;
-    }
-    if run.len() > 100 {
-        return Ok(());
-    }
-    run.push(Draft {
-        object: ObjId(object),
-        op: OpId(op),
-        args: Values::of(Vec::new(alloc)),
-        payload: Payload::Nothing,
-        answer: Value::Unit,
-        session: SessId(session),
-        member: if transaction == 0 {
-            Member::Alone
-        } else {
-            Member::Inside(RunId(transaction), DeclId(0))
-        },
-        seen: ids,
-    })?;
-    Ok(())
-}
-
-fn execution(alloc: Global, rows: &[Row]) -> Result<Execution, ExecFault> {
-    let mut run = Execution::new(alloc);
-    for row in rows {
-        push(alloc, &mut run, row)?;
-    }
-    Ok(run)
-}
-
-// A relation of two terms.
-fn apply(alloc: Global, name: RelName, first: Term, second: Term) -> Result<Box<Body>, NoMemory> {
-    Ok(Box::new(alloc, Body::Apply(Rel::Base(name, 0), first, second))?)
-}
-
-// For every effect that is related so to the current one: it is seen.
-fn sees_all(alloc: Global, name: RelName) -> Result<Formula, NoMemory> {
-    let hypothesis = apply(alloc, name, Term::Var(0), Term::Cur)?;
-    let conclusion = apply(alloc, RelName::Vis, Term::Var(0), Term::Cur)?;
-    let mut vars = Vec::new(alloc);
-    vars.push(OpChoice::Any)?;
-    Ok(Formula {
-        vars: Choices::of(vars),
-        body: Body::Implies(hypothesis, conclusion),
-    })
-}
-
-// The first place of the first choice at which not every effect that is related so is seen.
-fn first_unseen(alloc: Global, run: &Execution, name: RelName, cur: u32) -> Result<u32, NoMemory> {
-    let relations = Relations::build(alloc, run)?;
-    let formula = sees_all(alloc, name)?;
-    if formula.vars.items().len() > 5 {
-        return Ok(0);
-    }
-    match holds_at(&formula, run, &relations, EffId(cur)) {
-        Some(places) => Ok(places.items().first().map_or(0, |id| id.0)),
-        None => Ok(0),
-    }
-}
+const SOURCE: &str = "type t { op w(): unit { contract true; answer unit; } }
+transaction p { uses w; contract true; }";
 
 // 1 and 2 in session 1, of which 3 sees one; 4 is on another object of session 2.
-const ROWS: [Row; 4] = [
-    (0, 0, 1, 0, &[]),
-    (0, 0, 1, 0, &[]),
-    (0, 0, 2, 0, &[2]),
-    (1, 0, 2, 0, &[]),
-];
+const SESSIONS: &str = "execution
+effect 1 x w () = unit emit - session 1 txn - stamp 1 vis
+effect 2 x w () = unit emit - session 1 txn - stamp 2 vis
+effect 3 x w () = unit emit - session 2 txn - stamp 3 vis 2
+effect 4 y w () = unit emit - session 2 txn - stamp 4 vis
+end";
+
+// A relation and two effects, and whether it holds between them.
+const RELATED: &str = "
+hbo 1 3 -> true
+vis 1 3 -> false
+hbo 1 4 -> false
+hb 1 4 -> true
+hb 4 1 -> false
+soo 3 4 -> false
+hb 3 3 -> false
+";
 
 #[test]
 fn chains_reach_what_no_step_does(rt: HostRuntime) -> Result<(), Fail> {
-    let Ok(run) = execution(rt.alloc(), &ROWS) else {
-        return Err(Fail::new("these are an execution"));
-    };
-    let relations = Relations::build(rt.alloc(), &run)?;
-    let cases: [(RelName, u32, u32, bool); 7] = [
-        (RelName::Hbo, 1, 3, true),
-        (RelName::Vis, 1, 3, false),
-        (RelName::Hbo, 1, 4, false),
-        (RelName::Hb, 1, 4, true),
-        (RelName::Hb, 4, 1, false),
-        (RelName::Soo, 3, 4, false),
-        (RelName::Hb, 3, 3, false),
-    ];
-    for (name, a, b, want) in cases {
-        let got = relations.test(&Rel::Base(name, 0), EffId(a), EffId(b));
-        assert_eq!(rt; got, want, "{a} and {b}");
-    }
-    Ok(())
+    check_table(rt.alloc(), RELATED, related)
 }
+
+fn related(alloc: Global, row: &str) -> Result<Vec<u8>, NoMemory> {
+    let Some(execution) = execution(alloc, SESSIONS) else {
+        return spelled(alloc, "no execution");
+    };
+    let relations = Relations::build(alloc, &execution)?;
+    let relation = Rel::Base(relation(field(row, 0)), 0);
+    let (a, b) = (number(row, 1), number(row, 2));
+    if a < 1 || a > execution.len() || b < 1 || b > execution.len() {
+        return spelled(alloc, "no effects");
+    }
+    let holds = relations.test(&relation, EffId(a), EffId(b));
+    spelled(alloc, if holds { "true" } else { "false" })
+}
+
+fn relation(word: &str) -> RelName {
+    match word {
+        "vis" => RelName::Vis,
+        "soo" => RelName::Soo,
+        "hb" => RelName::Hb,
+        _ => RelName::Hbo,
+    }
+}
+
+// A contract and a current effect, and the first choice at which the contract fails there.
+const AT_EFFECTS: &str = "
+forall a. hbo(a, cur) => vis(a, cur) at 3 -> fails 1
+forall a. soo(a, cur) => vis(a, cur) at 3 -> holds
+forall a. hb(a, cur) => vis(a, cur) at 4 -> fails 1
+";
 
 #[test]
-fn the_first_false_choice_is_told(rt: HostRuntime) -> Result<(), Fail> {
-    let Ok(run) = execution(rt.alloc(), &ROWS) else {
-        return Err(Fail::new("these are an execution"));
-    };
-    let cases: [(RelName, u32, u32); 3] = [
-        (RelName::Hbo, 3, 1),
-        (RelName::Soo, 3, 0),
-        (RelName::Hb, 4, 1),
-    ];
-    for (name, cur, want) in cases {
-        assert_eq!(rt;
-            first_unseen(rt.alloc(), &run, name, cur)?,
-            want,
-            "at {cur}"
-        );
-    }
-    Ok(())
+fn the_first_false_choice_is_reported(rt: HostRuntime) -> Result<(), Fail> {
+    check_table(rt.alloc(), AT_EFFECTS, judged_at)
 }
 
-// Of a transaction's effect and one outside it: they are one.
-fn apart(alloc: Global) -> Result<Formula, NoMemory> {
-    let members = Terms::of(Vec::from_slice(alloc, &[Term::Var(0)])?);
-    let others = Terms::of(Vec::from_slice(alloc, &[Term::Var(1)])?);
-    let hypothesis = Box::new(alloc, Body::Txn(members, others))?;
-    let conclusion = apply(alloc, RelName::Eq, Term::Var(0), Term::Var(1))?;
-    let mut vars = Vec::new(alloc);
-    vars.push(OpChoice::Any)?;
-    vars.push(OpChoice::Any)?;
-    Ok(Formula {
-        vars: Choices::of(vars),
-        body: Body::Implies(hypothesis, conclusion),
-    })
+fn judged_at(alloc: Global, row: &str) -> Result<Vec<u8>, NoMemory> {
+    let (contract, effect) = row.split_once(" at ").unwrap_or((row, ""));
+    let (Some(execution), Some(formula)) = (
+        execution(alloc, SESSIONS),
+        formula(alloc, contract, false),
+    ) else {
+        return spelled(alloc, "no formula");
+    };
+    let relations = Relations::build(alloc, &execution)?;
+    let current = number(effect, 0);
+    if current < 1 || current > execution.len() {
+        return spelled(alloc, "no effect");
+    }
+    reported(
+        alloc,
+        holds_at(&formula, &execution, &relations, EffId(current)),
+    )
 }
+
+// A transaction of two effects, of which the first is seen by one outside it.
+const TRANSACTION: &str = "execution
+effect 1 x w () = unit emit - session 1 txn 7:p stamp 1 vis
+effect 2 x w () = unit emit - session 1 txn 7:p stamp 2 vis
+effect 3 x w () = unit emit - session 2 txn - stamp 2 vis 1
+end";
+
+// A contract and a transaction, and the first choice at which the contract fails of it. One without effects holds.
+const AT_TRANSACTIONS: &str = "
+forall a, b. txn{a}{b} => a = b at 8 -> holds
+forall a, b. txn{a}{b} => a = b at 7 -> fails 1 3
+";
 
 #[test]
 fn a_transaction_without_effects_holds(rt: HostRuntime) -> Result<(), Fail> {
-    let rows: [Row; 3] = [(0, 0, 1, 7, &[]), (0, 0, 1, 7, &[]), (0, 0, 2, 0, &[1])];
-    let Ok(run) = execution(rt.alloc(), &rows) else {
-        return Err(Fail::new("these are an execution"));
+    check_table(rt.alloc(), AT_TRANSACTIONS, judged_of)
+}
+
+fn judged_of(alloc: Global, row: &str) -> Result<Vec<u8>, NoMemory> {
+    let (contract, run) = row.split_once(" at ").unwrap_or((row, ""));
+    let (Some(execution), Some(formula)) = (
+        execution(alloc, TRANSACTION),
+        formula(alloc, contract, true),
+    ) else {
+        return spelled(alloc, "no formula");
     };
-    let relations = Relations::build(rt.alloc(), &run)?;
-    let formula = apart(rt.alloc())?;
-    assert!(rt; formula.vars.items().len() <= 5);
-    assert!(rt; holds_txn(&formula, &run, &relations, RunId(8)).is_none());
-    assert!(rt; holds_txn(&formula, &run, &relations, RunId(7)).is_some());
-    Ok(())
+    let relations = Relations::build(alloc, &execution)?;
+    let run = RunId(number(run, 0));
+    reported(alloc, holds_txn(&formula, &execution, &relations, run))
+}
+
+fn reported(alloc: Global, failing: Option<Places>) -> Result<Vec<u8>, NoMemory> {
+    match failing {
+        Some(places) => {
+            let mut out = spelled(alloc, "fails")?;
+            push_places(&mut out, &places)?;
+            Ok(out)
+        }
+        None => spelled(alloc, "holds"),
+    }
+}
+
+fn execution(alloc: Global, file: &str) -> Option<Execution> {
+    let typed = declared(alloc, SOURCE)?;
+    parse_execution(alloc, &typed, file.as_bytes()).ok()
+}
+
+fn formula(alloc: Global, contract: &str, for_transaction: bool) -> Option<Formula>
+    ensures { IfSome result (λ f. length f.vars ≤ 5) }
+{
+    if contract.len() > 4096 {
+        return None;
+    }
+    let contract = parse_contract(alloc, contract.as_bytes()).ok()?;
+    let mut operations = Names::new(alloc);
+    let formula = resolve(alloc, &contract, &mut operations, for_transaction).ok()?;
+    if formula.vars.items().len() <= 5 {
+        Some(formula)
+    } else {
+        None
+    }
 }

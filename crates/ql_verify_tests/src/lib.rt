@@ -1,10 +1,10 @@
 // Tests of formulas over small executions, and of judging on texts of sources, with answers from outside.
+// It has no contract of its own, and nothing stands on this crate.
 #![tactic(auto)]
 
 #[cfg(test)]
 mod executions;
 #[cfg(test)]
 mod formulas;
-mod within;
-
-pub use within::are_of_program;
+#[cfg(test)]
+mod texts;
