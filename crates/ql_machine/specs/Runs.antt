@@ -8,7 +8,7 @@ use Rattle.ql_machine.specs.Steps.{IsStep}
 
 -- steps lead from one state to another
 pub data Leads (rules : Rules) : Machine → List Event → List Reply → Machine → Type 0 where
-  done : (s : Machine) → Leads rules s [] [] s
+  stop : (s : Machine) → Leads rules s [] [] s
   step : (s : Machine) (event : Event) (next : Machine) (reply : Reply) (events : List Event) (replies : List Reply) (last : Machine)
       → IsStep rules s event next reply → Leads rules next events replies last → Leads rules s (event ∷ events) (reply ∷ replies) last
 

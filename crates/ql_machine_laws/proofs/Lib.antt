@@ -1,0 +1,12 @@
+pub mod Lists
+pub mod Pushed
+pub mod Made
+pub mod SoundLaws
+pub mod StoredLaws
+pub mod StrongLaws
+pub mod TxnLaws
+pub mod Answering
+pub mod Keeping
+pub mod Formulas
+pub mod Runs
+pub mod OneStep

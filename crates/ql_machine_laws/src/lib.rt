@@ -1,0 +1,14 @@
+// What the runs of the written machine keep, whatever the schedule.
+// The one contract: in every state of every run the effects are an execution in which each operation and
+// each begun transaction has what its level promises.
+#![tactic(auto)]
+
+mod determined;
+mod kept;
+mod levels;
+
+pub use determined::steps_are_determined;
+pub use kept::steps_keep_all;
+pub use levels::{
+    effects_meet_their_levels, strong_effects_are_ordered, transactions_meet_their_levels,
+};
