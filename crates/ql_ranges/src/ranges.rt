@@ -1,0 +1,242 @@
+ghost use Rattle.std.specs.Prelude.{◌≡◌, ◌+◌, ◌<◌, ◌≤◌, ◌&&◌, ◌||◌, ℕ, [], true, nat_le, nat_lt, length, slice_index_or, IfOk, OnOk, OnErr};
+ghost use Rattle.ql_base.specs.IdLists.{IsAscending, has_id, with_id, union_of};
+ghost use Rattle.ql_ranges.specs.Ranges.{ids_of, AreApart};
+ghost use Rattle.ql_ranges.specs.Places.{Adds, IsFree, IsPlace};
+ghost use Rattle.ql_ranges.specs.declared.ranges.IdRange.{IdRange};
+
+use ql_base::{IdSet, NoMemory};
+use std::alloc::Global;
+use std::marker::Model;
+
+/// All ids from one to another, both of them included.
+#[derive(Clone, Copy)]
+pub struct IdRange {
+    pub from: u32,
+    pub to: u32,
+}
+
+/// A set of ids, seen as the list of its ranges. They ascend, none is empty, and between two of them
+/// at least one id is missing.
+///
+/// An id is found in the logarithm of the number of ranges.
+#[derive(Drop)]
+pub struct Ranges {
+    ranges: Vec<IdRange>,
+}
+
+impl Model for Ranges {
+    ghost use Rattle.std.specs.Prelude.{List};
+    ghost use Rattle.ql_ranges.specs.declared.ranges.IdRange.{IdRange};
+
+    ghost Value = { List IdRange };
+
+    ghost use Rattle.ql_ranges.specs.Ranges.{AreApart};
+
+    ghost view = { λ set. set.ranges.items };
+
+    ghost invariant = { λ set. AreApart set.ranges.items };
+}
+
+impl Ranges {
+    /// The empty set.
+    pub fn new(alloc: Global) -> Ranges
+        ensures { result ≡ [] }
+    {
+        Ranges {
+            ranges: Vec::new(alloc),
+        }
+    }
+
+    /// The ranges in ascending order.
+    pub fn items(&self) -> &[IdRange]
+        ensures same { result.now ≡ self.now }
+        ensures apart { AreApart self.now }
+    {
+        &self.ranges
+    }
+
+    pub fn has(&self, id: u32) -> bool
+        ensures { result ≡ has_id (ids_of self.now) id }
+    {
+        has_in(&self.ranges, id)
+    }
+
+    /// An id up to which there are all from 1 on, and 0 where 1 is missing.
+    pub fn whole_to(&self) -> u32
+        ensures { (id : ℕ) → 1 ≤ id → id ≤ result → has_id (ids_of self.now) id ≡ true }
+    {
+        match self.ranges.first() {
+            Some(range) if range.from <= 1 => range.to,
+            _ => 0,
+        }
+    }
+
+    /// Adds an id.
+    pub fn insert(&mut self, id: u32) -> Result<(), NoMemory>
+        ensures added { OnOk result (ids_of self.new ≡ with_id (ids_of self.old) id) }
+        ensures err { OnErr result (self.new ≡ self.old) }
+    {
+        insert_in(&mut self.ranges, id)
+    }
+
+    /// The set with more ids.
+    pub fn union(&self, ids: &IdSet) -> Result<Ranges, NoMemory>
+        ensures { IfOk result (λ both. ids_of both ≡ union_of (ids_of self.now) ids.now) }
+    {
+        let mut both = self.copy()?;
+        insert_each(&mut both, ids.items())?;
+        Ok(both)
+    }
+
+    /// An equal set.
+    pub fn copy(&self) -> Result<Ranges, NoMemory>
+        ensures same { IfOk result (λ copied. copied ≡ self.now) }
+        ensures apart { AreApart self.now }
+    {
+        let ranges = Vec::from_slice(*self.ranges.allocator(), &self.ranges)?;
+        Ok(Ranges { ranges })
+    }
+
+    /// The ids as a list.
+    pub fn to_ids(&self, alloc: Global) -> Result<IdSet, NoMemory>
+        ensures { IfOk result (λ ids. ids ≡ ids_of self.now) }
+    {
+        list_ids(alloc, &self.ranges)
+    }
+}
+
+// Whether a range ends at least 2 below the id.
+fn ends_below(range: IdRange, id: u32) -> bool
+    ensures { result ≡ nat_lt (range.to + 1) id }
+{
+    range.to < id && id - range.to > 1
+}
+
+// The number of ranges that end at least 2 below the id.
+fn place_of(ranges: &[IdRange], id: u32) -> usize
+    requires { AreApart ranges.now }
+    ensures { IsPlace ranges.now id result }
+{
+    ranges.partition_point(|range| ends_below(*range, id))
+}
+
+fn has_in(ranges: &[IdRange], id: u32) -> bool
+    requires { AreApart ranges.now }
+    ensures { result ≡ has_id (ids_of ranges.now) id }
+{
+    match ranges.get(place_of(ranges, id)) {
+        Some(range) => covers(*range, id),
+        None => false,
+    }
+}
+
+fn covers(range: IdRange, id: u32) -> bool
+    ensures { result ≡ (nat_le range.from id && nat_le id range.to) }
+{
+    range.from <= id && id <= range.to
+}
+
+fn insert_in(ranges: &mut Vec<IdRange>, id: u32) -> Result<(), NoMemory>
+    requires { AreApart ranges.old.items }
+    ensures apart { AreApart ranges.new.items }
+    ensures added { OnOk result (ids_of ranges.new.items ≡ with_id (ids_of ranges.old.items) id) }
+    ensures err { OnErr result (ranges.new.items ≡ ranges.old.items) }
+{
+    let at = place_of(ranges, id);
+    if is_free(ranges, at, id) {
+        ranges.insert(at, IdRange { from: id, to: id })?;
+    } else {
+        widen(ranges, at, id);
+    }
+    Ok(())
+}
+
+// Whether no range stands there, or one that begins at least 2 above the id.
+fn is_free(ranges: &[IdRange], at: usize, id: u32) -> bool
+    ensures { IsFree ranges.now at id result }
+{
+    match ranges.get(at) {
+        Some(range) => begins_above(*range, id),
+        None => true,
+    }
+}
+
+fn begins_above(range: IdRange, id: u32) -> bool
+    ensures { result ≡ nat_lt (id + 1) range.from }
+{
+    range.from > id && range.from - id > 1
+}
+
+// Adds an id that the range at its place has, or that is next to that range.
+fn widen(ranges: &mut Vec<IdRange>, at: usize, id: u32)
+    requires apart { AreApart ranges.old.items }
+    requires place { IsPlace ranges.old.items id at }
+    requires inside { at < length ranges.old.items }
+    requires near { (d : IdRange) → (slice_index_or ranges.old.items at d).from ≤ id + 1 }
+    ensures { Adds ranges.old.items id ranges.new.items }
+{
+    let range = ranges[at];
+    if id < range.from {
+        ranges[at] = IdRange {
+            from: id,
+            to: range.to,
+        };
+    } else if id > range.to {
+        raise(ranges, at, id);
+    }
+}
+
+// Adds the id right above the range at its place, which closes the gap to the next range where that
+// begins right above the id.
+fn raise(ranges: &mut Vec<IdRange>, at: usize, id: u32)
+    requires apart { AreApart ranges.old.items }
+    requires place { IsPlace ranges.old.items id at }
+    requires inside { at < length ranges.old.items }
+    requires next { (d : IdRange) → id ≡ (slice_index_or ranges.old.items at d).to + 1 }
+    ensures { Adds ranges.old.items id ranges.new.items }
+{
+    let from = ranges[at].from;
+    let above = at + 1;
+    if is_free(ranges, above, id) {
+        ranges[at] = IdRange { from, to: id };
+    } else {
+        let to = ranges.remove(above).to;
+        ranges[at] = IdRange { from, to };
+    }
+}
+
+// Adds ids.
+fn insert_each(set: &mut Ranges, ids: &[u32]) -> Result<(), NoMemory>
+    requires { IsAscending (ids_of set.old) }
+    ensures ascending { IsAscending (ids_of set.new) }
+    ensures added { OnOk result ((a : ℕ) → has_id (ids_of set.new) a ≡ (has_id (ids_of set.old) a || has_id ids.now a)) }
+{
+    for id in ids {
+        set.insert(*id)?;
+    }
+    Ok(())
+}
+
+fn list_ids(alloc: Global, ranges: &[IdRange]) -> Result<IdSet, NoMemory>
+    requires { AreApart ranges.now }
+    ensures { IfOk result (λ ids. ids ≡ ids_of ranges.now) }
+{
+    let mut ids = IdSet::new(alloc);
+    for range in ranges {
+        push_range(&mut ids, *range)?;
+    }
+    Ok(ids)
+}
+
+// Adds the ids of a range.
+fn push_range(ids: &mut IdSet, range: IdRange) -> Result<(), NoMemory>
+    requires ascending { IsAscending ids.old }
+    requires some { range.from ≤ range.to }
+    ensures ascending { IsAscending ids.new }
+    ensures added { OnOk result ((a : ℕ) → has_id ids.new a ≡ (has_id ids.old a || (nat_le range.from a && nat_le a range.to))) }
+{
+    for id in range.from..=range.to {
+        ids.insert(id)?;
+    }
+    Ok(())
+}
