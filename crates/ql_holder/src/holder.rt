@@ -1,5 +1,5 @@
 ghost use Rattle.std.specs.Prelude.{◌≡◌, ◌↔◌, ◌++◌, [], List, ℕ, true, IfOk};
-ghost use Rattle.ql_base.specs.IdLists.{has_id};
+ghost use Rattle.ql_base.specs.IdLists.{IsAscending, has_id};
 ghost use Rattle.ql_exec.specs.declared.effect.Effect.{Effect};
 ghost use Rattle.ql_exec.specs.Execution.{IsExecution};
 ghost use Rattle.ql_needs.specs.Needs.{AreWhole, IsPackage, JoinsNone};
@@ -19,7 +19,7 @@ use std::alloc::Global;
 ///
 /// Executions grow while a holder stays: it speaks of each execution that it fits.
 pub trait Holder: Drop {
-    // The ascending list of what was received.
+    // The list of what was received.
     ghost received: { Self → List ℕ };
 
     // What the holder keeps is right for an execution.
@@ -50,6 +50,9 @@ pub trait Holder: Drop {
     fn copy(&self) -> Result<Self, NoMemory>
         ensures received { IfOk result (λ copied. received copied ≡ received self.now) }
         ensures fits { IfOk result (λ copied. (x : List Effect) → fits copied x ↔ fits self.now x) };
+
+    // What was received ascends.
+    ghost fits_ascending: { (holder : Self) (x : List Effect) → fits holder x → IsAscending (received holder) };
 
     // What was received is whole transactions of each execution that the holder fits.
     ghost fits_whole: { (holder : Self) (x : List Effect) → fits holder x → AreWhole x (received holder) };

@@ -1,0 +1,222 @@
+-- How a walk goes on.
+use Rattle.std.proofs.Common.{◌≡◌, ℕ, zero, suc, ◌+◌, ◌<◌, ◌≤◌, Bool, true, false, ◌||◌, nat_eq, List, [], ◌∷◌, ◌++◌, length, get_or, take, Result, Ok, Err, OnOk, refl, ap, sym, subst, ◌∙◌, inl, inr, arith, length-append}
+use Rattle.std.proofs.lemmas.Bool.{false≢true, or_cases, or_left, or_right, eq-eqb, eqb-true, cases_Bool, both_ways, cases_lt, lt-ltb}
+use Rattle.ql_base.specs.IdLists.{IsBelowAll, IsAscending, has_id, with_id}
+use Rattle.ql_base.proofs.IdLemmas.{IsAscending-with_id, with_id-later}
+use Rattle.ql_exec.specs.declared.effect.Effect.{Effect}
+use Rattle.ql_needs.specs.Closed.{Has}
+use Rattle.ql_needs.specs.Needs.{Needs}
+use Rattle.ql_needs.proofs.IdSets.{has_id-with}
+use Rattle.ql_needs.proofs.Packages.{needed-need}
+use Rattle.ql_reach.specs.Reach.{InEither}
+use Rattle.ql_reach.specs.Walks.{IsWalk, Grows, Meets, GoesOn}
+
+-- ---- lists
+
+-- ascending ids of so many are no more than these
+pub few : (ids : List ℕ) (low high : ℕ) → IsAscending ids → low ≤ high → ((a : ℕ) → Has ids a → (low < a) × (a ≤ high)) → length ids + low ≤ high
+few [] low high ascending order within = omega arith
+few (id ∷ ids) low high ascending order within =
+    let here = within id (or_left (nat_eq id id) (has_id ids id) (eq-eqb id id refl)) in
+    let rest = few ids id high ascending.1 here.1 (λ a is. (above ids ascending.0 a is, (within a (or_right (nat_eq id a) (has_id ids a) is)).1)) in
+    omega (arith, here, rest)
+  where
+    above : (others : List ℕ) → IsBelowAll id others → (a : ℕ) → Has others a → id < a
+    above [] below a is = absurd (false≢true is)
+    above (other ∷ others) below a is = elim (or_cases (nat_eq other a) (has_id others a) is) [
+      | inl same ↦ (let e = eqb-true other a same in let less : id < other = below.0 in omega (arith, e, less))
+      | inr later ↦ above others below.1 a later
+    ]
+
+pub has_id-push : (ids : List ℕ) (id a : ℕ) → has_id (ids ++ id ∷ []) a ≡ (nat_eq id a || has_id ids a)
+has_id-push [] id a = refl
+has_id-push (other ∷ ids) id a = ap (λ (b : Bool). nat_eq other a || b) (has_id-push ids id a) ∙ swap (nat_eq other a) (nat_eq id a) (has_id ids a)
+  where
+    swap : (p q r : Bool) → (p || (q || r)) ≡ (q || (p || r))
+    swap true true r = refl
+    swap true false r = refl
+    swap false q r = refl
+
+pub has_id-index : (ids : List ℕ) (a : ℕ) → Has ids a → (k : ℕ) × (k < length ids) × (get_or ids k 0 ≡ a)
+has_id-index [] a is = absurd (false≢true is)
+has_id-index (id ∷ ids) a is = elim (or_cases (nat_eq id a) (has_id ids a) is) [
+  | inl here ↦ (0, omega arith, eqb-true id a here)
+  | inr later ↦ (let found = has_id-index ids a later in let inside = found.1 in (suc found.0, omega (arith, inside), found.2))
+]
+
+pub index-has : (ids : List ℕ) (k : ℕ) → k < length ids → Has ids (get_or ids k 0)
+index-has [] k inside = absurd (omega arith)
+index-has (id ∷ ids) zero inside = or_left (nat_eq id id) (has_id ids id) (eq-eqb id id refl)
+index-has (id ∷ ids) (suc k) inside = or_right (nat_eq id (get_or ids k 0)) (has_id ids (get_or ids k 0)) (index-has ids k (omega arith))
+
+get_or-front : (ids : List ℕ) (id k : ℕ) → k < length ids → get_or (ids ++ id ∷ []) k 0 ≡ get_or ids k 0
+get_or-front [] id k inside = absurd (omega arith)
+get_or-front (other ∷ ids) id zero inside = refl
+get_or-front (other ∷ ids) id (suc k) inside = get_or-front ids id k (omega arith)
+
+get_or-end : (ids : List ℕ) (id k : ℕ) → k ≡ length ids → get_or (ids ++ id ∷ []) k 0 ≡ id
+get_or-end [] id zero is = refl
+get_or-end [] id (suc k) is = absurd (omega arith)
+get_or-end (other ∷ ids) id zero is = absurd (omega arith)
+get_or-end (other ∷ ids) id (suc k) is = get_or-end ids id k (omega arith)
+
+length-with_new : (ids : List ℕ) (id : ℕ) → has_id ids id ≡ false → length (with_id ids id) ≡ suc (length ids)
+length-with_new [] id new = refl
+length-with_new (other ∷ ids) id new = elim (cases_lt other id) [
+  | inl more ↦ rw (with_id-later other ids id more) (ap suc (length-with_new ids id (rest new)))
+  | inr less ↦ lower less
+]
+  where
+    rest : has_id (other ∷ ids) id ≡ false → has_id ids id ≡ false
+    rest none = elim (cases_Bool (has_id ids id)) [
+      | inl is ↦ absurd (both_ways (has_id (other ∷ ids) id) none (or_right (nat_eq other id) (has_id ids id) is))
+      | inr is ↦ is
+    ]
+
+    lower : id ≤ other → length (with_id (other ∷ ids) id) ≡ suc (suc (length ids))
+    lower less = elim (cases_lt id other) [
+      | inl below ↦ rw (lt-ltb id other below) refl
+      | inr same ↦ absurd (both_ways (has_id (other ∷ ids) id) new (or_left (nat_eq other id) (has_id ids id) (eq-eqb other id (omega (arith, less, same)))))
+    ]
+
+-- ---- one more
+
+grows-same : (found due : List ℕ) → Grows found due found due
+grows-same found due = record { finds = λ a is. is; keeps = λ k inside. refl; longer = omega arith }
+
+pub grows-along : (f d g e h i : List ℕ) → Grows f d g e → Grows g e h i → Grows f d h i
+grows-along f d g e h i one two =
+    let first = one.longer in
+    let second = two.longer in
+    record {
+      finds = λ a is. two.finds a (one.finds a is);
+      keeps = λ k inside. two.keeps k (omega (arith, inside, first)) ∙ one.keeps k inside;
+      longer = omega (arith, first, second);
+    }
+
+pub either-more : (known found more : List ℕ) → ((a : ℕ) → Has found a → Has more a) → (a : ℕ) → InEither known found a → InEither known more a
+either-more known found more finds a (inl is) = inl is
+either-more known found more finds a (inr is) = inr (finds a is)
+
+one_id : (id a : ℕ) → Has (id ∷ []) a → id ≡ a
+one_id id a is = elim (or_cases (nat_eq id a) false is) [
+  | inl here ↦ eqb-true id a here
+  | inr never ↦ absurd (false≢true never)
+]
+
+-- nothing is taken in
+pub meets-nothing : (known ids found due : List ℕ) → ((a : ℕ) → Has ids a → InEither known found a) → Meets known ids found due found due
+meets-nothing known ids found due there = record { grows = grows-same found due; met = there; walk = λ x asked needed w. w }
+
+pub meets-one : (known found due : List ℕ) (id : ℕ) → InEither known found id → Meets known (id ∷ []) found due found due
+meets-one known found due id is = meets-nothing known (id ∷ []) found due (λ a has. subst (λ (b : ℕ). InEither known found b) (one_id id a has) is)
+
+-- a new id is
+pub meets-new : (known found due more later : List ℕ) (id : ℕ) → has_id found id ≡ false → more ≡ with_id found id → later ≡ due ++ id ∷ [] → Meets known (id ∷ []) found due more later
+meets-new known found due more later id new more_is later_is =
+    subst (λ (m : List ℕ). Meets known (id ∷ []) found due m later) (sym more_is)
+    (subst (λ (l : List ℕ). Meets known (id ∷ []) found due (with_id found id) l) (sym later_is)
+    (record {
+      grows = record {
+        finds = λ a is. has_id-with found id a ∙ or_right (nat_eq id a) (has_id found a) is;
+        keeps = λ k inside. get_or-front due id k inside;
+        longer = omega (arith, length-append due (id ∷ []));
+      };
+      met = λ a is. inr (has_id-with found id a ∙ or_left (nat_eq id a) (has_id found a) (eq-eqb id a (one_id id a is)));
+      walk = λ x asked needed w. record {
+        ascending = IsAscending-with_id found id w.ascending;
+        each = λ k inside. each x asked w k (omega (arith, inside, length-append due (id ∷ [])));
+        all = λ a is. has_id-push due id a ∙ elim (or_cases (nat_eq id a) (has_id found a) (sym (has_id-with found id a) ∙ is)) [
+          | inl here ↦ or_left (nat_eq id a) (has_id due a) here
+          | inr old ↦ or_right (nat_eq id a) (has_id due a) (w.all a old)
+        ];
+        count = (let before = w.count in omega (arith, before, length-append due (id ∷ []), length-with_new found id new));
+        needed = λ a is. elim (or_cases (nat_eq id a) (has_id found a) (sym (has_id-with found id a) ∙ is)) [
+          | inl here ↦ needed a (or_left (nat_eq id a) false here)
+          | inr old ↦ w.needed a old
+        ];
+      };
+    }))
+  where
+    each : (x : List Effect) (asked : List ℕ) → IsWalk x asked found due → (k : ℕ) → k < suc (length due) → Has (with_id found id) (get_or (due ++ id ∷ []) k 0)
+    each x asked w k inside = elim (cases_lt k (length due)) [
+      | inl front ↦
+          subst (λ (b : ℕ). Has (with_id found id) b) (sym (get_or-front due id k front))
+          (has_id-with found id (get_or due k 0) ∙ or_right (nat_eq id (get_or due k 0)) (has_id found (get_or due k 0)) (w.each k front))
+      | inr end ↦
+          subst (λ (b : ℕ). Has (with_id found id) b) (sym (get_or-end due id k (omega (arith, end, inside))))
+          (has_id-with found id id ∙ or_left (nat_eq id id) (has_id found id) (eq-eqb id id refl))
+    ]
+
+-- ids and one more
+pub meets-more : (known ids found due more later last end : List ℕ) (k : ℕ) → k < length ids
+    → Meets known (take k ids) found due more later → Meets known (get_or ids k 0 ∷ []) more later last end → Meets known (take (k + 1) ids) found due last end
+meets-more known ids found due more later last end k inside one two = record {
+  grows = grows-along found due more later last end one.grows two.grows;
+  met = λ a is. elim (or_cases (nat_eq (get_or ids k 0) a) (has_id (take k ids) a) (sym (has_id-take ids k a inside) ∙ is)) [
+    | inl here ↦ two.met a (or_left (nat_eq (get_or ids k 0) a) false here)
+    | inr old ↦ either-more known more last two.grows.finds a (one.met a old)
+  ];
+  walk = λ x asked needed w.
+      two.walk x asked (λ a is. needed a (has_id-take ids k a inside ∙ or_left (nat_eq (get_or ids k 0) a) (has_id (take k ids) a) (eq-eqb (get_or ids k 0) a (one_id (get_or ids k 0) a is))))
+      (one.walk x asked (λ a is. needed a (has_id-take ids k a inside ∙ or_right (nat_eq (get_or ids k 0) a) (has_id (take k ids) a) is)) w);
+}
+  where
+    next : (n : ℕ) → suc n + 1 ≡ suc (n + 1)
+    next n = omega arith
+
+    swap : (p q r : Bool) → (p || (q || r)) ≡ (q || (p || r))
+    swap true true r = refl
+    swap true false r = refl
+    swap false q r = refl
+
+    has_id-take : (xs : List ℕ) (n b : ℕ) → n < length xs → has_id (take (n + 1) xs) b ≡ (nat_eq (get_or xs n 0) b || has_id (take n xs) b)
+    has_id-take [] n b within = absurd (omega arith)
+    has_id-take (id ∷ xs) zero b within = refl
+    has_id-take (id ∷ xs) (suc n) b within =
+        ap (λ (m : ℕ). has_id (take m (id ∷ xs)) b) (next n)
+        ∙ ap (λ (t : Bool). nat_eq id b || t) (has_id-take xs n b (omega arith))
+        ∙ swap (nat_eq id b) (nat_eq (get_or xs n 0) b) (has_id (take n xs) b)
+
+-- ---- with what an effect needs
+
+pub goes-with : (x : List Effect) (known ids found due more later : List ℕ) (e : ℕ) → ((a : ℕ) → Has ids a → Needs x e a) → Meets known ids found due more later → GoesOn x e found due more later
+goes-with x known ids found due more later e each m = record {
+  grows = m.grows;
+  walk = λ asked needed w. m.walk x asked (λ a is. needed-need x asked e a needed (each a is)) w;
+}
+
+pub goes-with-one : (x : List Effect) (known found due more later : List ℕ) (e p : ℕ) → Needs x e p → Meets known (p ∷ []) found due more later → GoesOn x e found due more later
+goes-with-one x known found due more later e p need m =
+    goes-with x known (p ∷ []) found due more later e (λ a is. subst (λ (b : ℕ). Needs x e b) (one_id p a is) need) m
+
+pub goes-nowhere : (x : List Effect) (found due : List ℕ) (e : ℕ) → GoesOn x e found due found due
+goes-nowhere x found due e = record { grows = grows-same found due; walk = λ asked needed w. w }
+
+pub goes-along : (x : List Effect) (a : ℕ) (f d g e h i : List ℕ) → GoesOn x a f d g e → GoesOn x a g e h i → GoesOn x a f d h i
+goes-along x a f d g e h i one two = record {
+  grows = grows-along f d g e h i one.grows two.grows;
+  walk = λ asked needed w. two.walk asked needed (one.walk asked needed w);
+}
+
+pub met-one : (known found due more later : List ℕ) (p : ℕ) → Meets known (p ∷ []) found due more later → InEither known more p
+met-one known found due more later p m = m.met p (or_left (nat_eq p p) false (eq-eqb p p refl))
+
+pub walk-begins : (x : List Effect) (asked : List ℕ) → IsWalk x asked [] []
+walk-begins x asked = record {
+  ascending = tt;
+  each = λ k inside. absurd (omega (arith, inside));
+  all = λ a is. absurd (false≢true is);
+  count = refl;
+  needed = λ a is. absurd (false≢true is);
+}
+
+-- ---- where a call gave Ok
+
+pub on-ok : {A E : Type 0} (r : Result A E) {P Q : Type 0} → (P → Q) → OnOk r P → OnOk r Q
+on-ok (Ok a) go is = go is
+on-ok (Err e) go is = tt
+
+pub on-ok-both : {A E : Type 0} (r : Result A E) {P Q R : Type 0} → (P → Q → R) → OnOk r P → OnOk r Q → OnOk r R
+on-ok-both (Ok a) go one two = go one two
+on-ok-both (Err e) go one two = tt

@@ -1,0 +1,157 @@
+ghost use Rattle.std.specs.Prelude.{◌≡◌, ◌≤◌, ◌<◌, ◌^◌, ◌∷◌, ℕ, List, [], length, IfOk, OnOk};
+ghost use Rattle.ql_exec.specs.declared.effect.Effect.{Effect};
+ghost use Rattle.ql_exec.specs.Execution.{IsExecution};
+ghost use Rattle.ql_needs.specs.Closed.{Has};
+ghost use Rattle.ql_needs.specs.Needs.{AreWhole, Needs};
+ghost use Rattle.ql_ranges.specs.Ranges.{ids_of};
+ghost use Rattle.ql_reach.specs.Reach.{InEither, IsReach};
+ghost use Rattle.ql_reach.specs.Walks.{GoesOn, IsWalk, Meets, MetAbove, MetBefore, MetBelow, Visited};
+
+use crate::neighbours::{effect, last_on_object, member_above, member_below};
+use ql_base::{IdSet, NoMemory};
+use ql_exec::{Effect, Execution};
+use ql_ranges::Ranges;
+use std::alloc::Global;
+
+/// All that some effects need, directly or through others, but for what is needed through known ones
+/// alone. Those asked for are whole transactions, and the known ones have all that they need.
+///
+/// It takes time in proportion to what it finds and what that sees, and to the way back from each to
+/// the effect before it in its session on its object.
+pub fn reach(alloc: Global, x: &Execution, asked: &IdSet, known: &Ranges) -> Result<IdSet, NoMemory>
+    requires asked { AreWhole x.now asked.now }
+    requires known { (a b : ℕ) → Has (ids_of known.now) a → Needs x.now a b → Has (ids_of known.now) b }
+    ensures { IfOk result (λ found. IsReach x.now asked.now (ids_of known.now) found) }
+{
+    let mut walk = begin(alloc, asked, known)?;
+    visit_all(x.effects(), asked, known, &mut walk)?;
+    walk.found.to_ids(alloc)
+}
+
+fn begin(alloc: Global, asked: &IdSet, known: &Ranges) -> Result<Walk, NoMemory>
+    ensures walk { IfOk result (λ walk. (x : List Effect) → IsWalk x asked.now (ids_of walk.found) walk.due.items) }
+    ensures begins { IfOk result (λ walk. (a : ℕ) → Has asked.now a → InEither (ids_of known.now) (ids_of walk.found) a) }
+{
+    let mut walk = Walk {
+        found: Ranges::new(alloc),
+        due: Vec::new(alloc),
+    };
+    meet_each(known, &mut walk, asked.items())?;
+    Ok(walk)
+}
+
+// What was found, and the same in the order in which it is visited.
+#[derive(Drop)]
+struct Walk {
+    found: Ranges,
+    due: Vec<u32>,
+}
+
+fn visit_all(
+    effects: &[Effect],
+    asked: &IdSet,
+    known: &Ranges,
+    walk: &mut Walk,
+) -> Result<(), NoMemory>
+    requires law { IsExecution effects.now }
+    requires few { length effects.now < 2 ^ 32 }
+    requires asked { AreWhole effects.now asked.now }
+    requires known { (a b : ℕ) → Has (ids_of known.now) a → Needs effects.now a b → Has (ids_of known.now) b }
+    requires walk { IsWalk effects.now asked.now (ids_of walk.old.found) walk.old.due.items }
+    requires begins { (a : ℕ) → Has asked.now a → InEither (ids_of known.now) (ids_of walk.old.found) a }
+    ensures { OnOk result (IsReach effects.now asked.now (ids_of known.now) (ids_of walk.new.found)) }
+{
+    let mut visited = 0;
+    while visited < walk.due.len() {
+        let e = walk.due[visited];
+        visit(effects, asked, known, walk, e)?;
+        visited += 1;
+    }
+    Ok(())
+}
+
+// Meets what an effect needs, or enough of it to find the rest from there.
+fn visit(
+    effects: &[Effect],
+    asked: &IdSet,
+    known: &Ranges,
+    walk: &mut Walk,
+    e: u32,
+) -> Result<(), NoMemory>
+    requires law { IsExecution effects.now }
+    requires few { length effects.now < 2 ^ 32 }
+    requires first { 1 ≤ e }
+    requires last { e ≤ length effects.now }
+    ensures on { OnOk result (GoesOn effects.now e (ids_of walk.old.found) walk.old.due.items (ids_of walk.new.found) walk.new.due.items) }
+    ensures visited { OnOk result (Visited effects.now asked.now (ids_of known.now) (ids_of walk.new.found) e) }
+{
+    meet_each(known, walk, effect(effects, e).seen.items())?;
+    meet_before(effects, known, walk, e)?;
+    if asked.has(e) {
+        return Ok(());
+    }
+    meet_below(effects, known, walk, e)?;
+    meet_above(effects, known, walk, e)
+}
+
+fn meet_before(effects: &[Effect], known: &Ranges, walk: &mut Walk, e: u32) -> Result<(), NoMemory>
+    requires law { IsExecution effects.now }
+    requires few { length effects.now < 2 ^ 32 }
+    requires first { 1 ≤ e }
+    requires last { e ≤ length effects.now }
+    ensures on { OnOk result (GoesOn effects.now e (ids_of walk.old.found) walk.old.due.items (ids_of walk.new.found) walk.new.due.items) }
+    ensures met { OnOk result (MetBefore effects.now (ids_of known.now) (ids_of walk.new.found) e) }
+{
+    match last_on_object(effects, e, known.whole_to()) {
+        Some(before) => meet(known, walk, before),
+        None => Ok(()),
+    }
+}
+
+fn meet_below(effects: &[Effect], known: &Ranges, walk: &mut Walk, e: u32) -> Result<(), NoMemory>
+    requires law { IsExecution effects.now }
+    requires few { length effects.now < 2 ^ 32 }
+    requires first { 1 ≤ e }
+    requires last { e ≤ length effects.now }
+    ensures on { OnOk result (GoesOn effects.now e (ids_of walk.old.found) walk.old.due.items (ids_of walk.new.found) walk.new.due.items) }
+    ensures met { OnOk result (MetBelow effects.now (ids_of known.now) (ids_of walk.new.found) e) }
+{
+    match member_below(effects, e) {
+        Some(member) => meet(known, walk, member),
+        None => Ok(()),
+    }
+}
+
+fn meet_above(effects: &[Effect], known: &Ranges, walk: &mut Walk, e: u32) -> Result<(), NoMemory>
+    requires law { IsExecution effects.now }
+    requires few { length effects.now < 2 ^ 32 }
+    requires first { 1 ≤ e }
+    requires last { e ≤ length effects.now }
+    ensures on { OnOk result (GoesOn effects.now e (ids_of walk.old.found) walk.old.due.items (ids_of walk.new.found) walk.new.due.items) }
+    ensures met { OnOk result (MetAbove effects.now (ids_of known.now) (ids_of walk.new.found) e) }
+{
+    match member_above(effects, e) {
+        Some(member) => meet(known, walk, member),
+        None => Ok(()),
+    }
+}
+
+fn meet_each(known: &Ranges, walk: &mut Walk, ids: &[u32]) -> Result<(), NoMemory>
+    ensures { OnOk result (Meets (ids_of known.now) ids.now (ids_of walk.old.found) walk.old.due.items (ids_of walk.new.found) walk.new.due.items) }
+{
+    for id in ids {
+        meet(known, walk, *id)?;
+    }
+    Ok(())
+}
+
+// Takes in an effect that isn't known and wasn't found before.
+fn meet(known: &Ranges, walk: &mut Walk, id: u32) -> Result<(), NoMemory>
+    ensures { OnOk result (Meets (ids_of known.now) (id ∷ []) (ids_of walk.old.found) walk.old.due.items (ids_of walk.new.found) walk.new.due.items) }
+{
+    if !known.has(id) && !walk.found.has(id) {
+        walk.found.insert(id)?;
+        walk.due.push(id)?;
+    }
+    Ok(())
+}
