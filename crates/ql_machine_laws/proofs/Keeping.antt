@@ -55,7 +55,7 @@ same-truth false true there back = back refl
 same-truth false false there back = refl
 
 -- a committed effect has an id
-done-there : (x : List Effect) (o : List OpenTxn) (a : ℕ) → IsDone x o a → (1 ≤ a) × (a ≤ length x)
+pub done-there : (x : List Effect) (o : List OpenTxn) (a : ℕ) → IsDone x o a → (1 ≤ a) × (a ≤ length x)
 done-there x o a is = let found = done-found x o a is in (at-first x a found.0 found.1, done-within x o a is)
 
 has-one : (n a : ℕ) → n ≡ a → Has (n ∷ []) a
@@ -250,7 +250,7 @@ module _ (promises : Promises) (start : ℕ) (s : Machine) (keeps : Keeps promis
     whole = whole-recounts s.effects s.received s.messages keeps.whole m message n is;
   }
 
-  keeps-receipt : (m : ℕ) (message : Message) → message_at s.messages m ≡ Some message → Keeps promises start (after_receipt s m message)
+  pub keeps-receipt : (m : ℕ) (message : Message) → message_at s.messages m ≡ Some message → Keeps promises start (after_receipt s m message)
   keeps-receipt m message is =
       let n = message.copies - 1 in
       let r = message.receiver.0 in
@@ -442,7 +442,7 @@ keeps-leads rules start _ _ _ _ keeps (step s event next reply events replies la
 
 -- ---- before anything happens
 
-nothing-there : (a : ℕ) (e : Effect) → effect_at [] a ≡ Some e → ⊥
+pub nothing-there : (a : ℕ) (e : Effect) → effect_at [] a ≡ Some e → ⊥
 nothing-there zero e is = let never : None ≡ Some e = is in cc
 nothing-there (suc k) e is = let never : None ≡ Some e = is in cc
 

@@ -10,3 +10,7 @@ pub mod Keeping
 pub mod Formulas
 pub mod Runs
 pub mod OneStep
+pub mod Agreeing
+pub mod Alone
+pub mod Growth
+pub mod Written

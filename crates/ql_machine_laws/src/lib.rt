@@ -3,12 +3,20 @@
 // each begun transaction has what its level promises.
 #![tactic(auto)]
 
+mod agreement;
 mod determined;
+mod effects;
+mod example;
 mod kept;
 mod levels;
+mod packages;
 
+pub use agreement::replicas_agree;
 pub use determined::steps_are_determined;
+pub use effects::calls_make_effects;
+pub use example::example_runs;
 pub use kept::steps_keep_all;
 pub use levels::{
     effects_meet_their_levels, strong_effects_are_ordered, transactions_meet_their_levels,
 };
+pub use packages::{packages_are_whole, replicas_judge_alone};
