@@ -1,0 +1,8 @@
+// The first half and the second joined: contracts hold in every run of a program's store.
+// The one contract: at levels that give contracts, as those that `classify` reports, every effect of every
+// run meets its written contract, and every begun transaction its own.
+#![tactic(auto)]
+
+mod headline;
+
+pub use headline::runs_meet_contracts;
