@@ -81,7 +81,8 @@ impl Ranges {
 
     /// The set with more ids.
     pub fn union(&self, ids: &IdSet) -> Result<Ranges, NoMemory>
-        ensures { IfOk result (λ both. ids_of both ≡ union_of (ids_of self.now) ids.now) }
+        ensures united { IfOk result (λ both. ids_of both ≡ union_of (ids_of self.now) ids.now) }
+        ensures ascending { IfOk result (λ both. IsAscending (ids_of both)) }
     {
         let mut both = self.copy()?;
         insert_each(&mut both, ids.items())?;
