@@ -92,11 +92,11 @@ pub data IsCall (rules : Rules) (s : Machine) (c : Call) : Machine → Reply →
   undeclared : (t : OpenTxn) → HasOpen s c.session t → has_id t.objects c.object.0 ≡ false → IsCall rules s c s (Refused Undeclared)
   -- it declares the object, and doesn't use the operation
   unused : (t : OpenTxn) → HasOpen s c.session t → has_id t.objects c.object.0 ≡ true → rules.uses t.decl c.op ≡ false → IsCall rules s c s (Refused Unused)
-  -- strong, and a replica is outside the group of the called one: the least of them is told
+  -- strong, and a replica is outside the group of the called one: the least of them is reported
   unavailable : (q : ReplicaId) → IsAllowed rules s c → rules.level c.op ≡ Strong → IsLeast (IsOutside s c.replica) q.0 → IsCall rules s c s (Unavailable q)
-  -- strong, and an open transaction declares the object: the least session of them is told
+  -- strong, and an open transaction declares the object: the least session of them is reported
   held : (session : SessId) → IsAllowed rules s c → rules.level c.op ≡ Strong → IsConnected s c.replica → IsLeast (IsHeldBy s c.object) session.0 → IsCall rules s c s (Held session)
-  -- something is missing: the least of it is told
+  -- something is missing: the least of it is reported
   blocked : (a : EffId) → MayCall rules s c → IsLeast (IsMissing rules s c) a.0 → IsCall rules s c s (Blocked a)
   -- answered outside a transaction, below strong
   makes : (seen : List ℕ) → MayAnswer rules s c seen → HasNoneOpen s c.session → rules.level c.op ≢ Strong

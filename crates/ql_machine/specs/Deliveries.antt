@@ -54,9 +54,9 @@ pub data IsDelivery (s : Machine) (m : ℕ) : Machine → Reply → Type 0 where
   cut : (message : Message) → IsInFlight s.messages m message → (Passes s message → ⊥) → IsDelivery s m s Cut
   -- the receiver has received it already: the copy is spent
   again : (message : Message) → IsInFlight s.messages m message → Passes s message → IsKnown s message → IsDelivery s m (after_copy s m message) Again
-  -- received, and something that it needs isn't: the least of that is told
+  -- received, and something that it needs isn't: the least of that is reported
   waits : (message : Message) (a : EffId) → IsNew s m message → IsLeast (IsAwaited (after_receipt s m message) message) a.0
       → IsDelivery s m (after_receipt s m message) (Waits a)
-  -- received with all that it needs: what the replica now applies and didn't before is told
+  -- received with all that it needs: what the replica now applies and didn't before is reported
   applies : (message : Message) (ids : List ℕ) → IsNew s m message → ((a : ℕ) → Has message.carried a → Applied (after_receipt s m message) message.receiver.0 a)
       → AreThose (IsGained s (after_receipt s m message) message.receiver.0) ids → IsDelivery s m (after_receipt s m message) (Applies ids)

@@ -1,4 +1,4 @@
--- What a replica can tell with every transaction taken as committed: of committed effects the needs are the same. And views in
+-- What a replica can judge with every transaction taken as committed: of committed effects the needs are the same. And views in
 -- transactions, of others' effects and of own ones.
 use Rattle.std.proofs.Common.{◌≡◌, ◌⊎◌, ◌↔◌, ℕ, true, List, Some, refl, inl, inr}
 use Rattle.ql_base.specs.declared.ids.SessId.{SessId}

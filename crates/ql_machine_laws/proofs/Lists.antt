@@ -22,7 +22,7 @@ use Rattle.ql_machine_laws.specs.Kept.{EachCarries, IsDone, IsNumbered, IsOpen}
 
 -- ---- one list
 
--- an element of a list in which one was replaced is the old one, or the new one at its place
+-- an element of a list in which one was replaced is the old one, or the new one at its index
 pub get_or-set-either : {X : Type 0} (xs : List X) (i k : ℕ) (v d : X) → (get_or (set xs i v) k d ≡ get_or xs k d) ⊎ ((get_or (set xs i v) k d ≡ v) × (k ≡ i) × (i < length xs))
 get_or-set-either [] i k v d = inl refl
 get_or-set-either (x ∷ xs) zero zero v d = inr (refl, refl, omega arith)
@@ -186,8 +186,8 @@ sent-set (first ∷ messages) (suc k) message n r a is = ap (λ (b : Bool). (nat
 pub sent-recounted : (messages : List Message) (m : ℕ) (message : Message) (n r a : ℕ) → message_at messages m ≡ Some message → is_sent (recounted messages m message n) r a ≡ is_sent messages r a
 sent-recounted messages zero message n r a is = absurd (let never : None ≡ Some message = is in cc)
 sent-recounted messages (suc k) message n r a is =
-    let place : suc k - 1 ≡ k = omega arith in
-    ap (λ (i : ℕ). is_sent (set messages i (record message { copies = n })) r a) place ∙ sent-set messages k message n r a is
+    let index : suc k - 1 ≡ k = omega arith in
+    ap (λ (i : ℕ). is_sent (set messages i (record message { copies = n })) r a) index ∙ sent-set messages k message n r a is
 
 pub sent-others : (n : ℕ) (sender : ReplicaId) (ids : List ℕ) (r a : ℕ) → r < n → nat_eq r sender.0 ≡ false → Has ids a → is_sent (to_others n sender ids) r a ≡ true
 sent-others zero sender ids r a less other has = absurd (omega (arith, less))

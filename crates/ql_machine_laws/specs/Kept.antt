@@ -23,7 +23,7 @@ use Rattle.ql_machine.specs.State.{Machine, NeedsNow, committed, open_of, receiv
 use Rattle.ql_machine.specs.Rules.{Promises}
 use Rattle.ql_machine.specs.Changes.{is_sent}
 
--- ---- words
+-- ---- effects, transactions and messages
 
 -- an effect is committed
 abbrev pub IsDone : List Effect → List OpenTxn → ℕ → Type 0

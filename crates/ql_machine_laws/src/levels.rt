@@ -35,7 +35,7 @@ pub fn strong_effects_are_ordered()
 {}
 
 /// The law of transactions: each begun transaction meets the formula of its declared name's level, one
-/// that has no effects too. It is told by its number, and by a name that its effects have, if there are
+/// that has no effects too. It is given by its number, and by a name that its effects have, if there are
 /// any.
 pub fn transactions_meet_their_levels()
     ensures { (rules : Rules) (n : ℕ) (events : List Event) (replies : List Reply) (last : Machine) → IsRun rules n events replies last
