@@ -1,6 +1,8 @@
 -- What a replica can judge with every transaction taken as committed: of committed effects the needs are the same. And views in
 -- transactions, of others' effects and of own ones.
-use Rattle.std.proofs.Common.{◌≡◌, ◌⊎◌, ◌↔◌, ℕ, true, List, Some, refl, inl, inr}
+use Rattle.std.proofs.Common.{◌≡◌, ◌⊎◌, ◌↔◌, ℕ, suc, true, List, [], ◌∷◌, length, replicate, Some, refl, ap, ◌∙◌, inl, inr}
+use Rattle.ql_base.specs.IdLists.{union_of}
+use Rattle.ql_base.proofs.IdLemmas.{IsAscending-union}
 use Rattle.ql_base.specs.declared.ids.SessId.{SessId}
 use Rattle.ql_exec.specs.Relations.{hbo_step, inside}
 use Rattle.ql_needs.specs.Closed.{Closed, Has, Reaches, here, through}
@@ -8,10 +10,13 @@ use Rattle.ql_needs.specs.Needs.{AreWhole, Needs}
 use Rattle.ql_needs.proofs.ClosedLaws.{closed-member, closed-need, reached-more}
 use Rattle.ql_machine.specs.declared.message.Message.{Message}
 use Rattle.ql_machine.specs.declared.open_txn.OpenTxn.{OpenTxn}
-use Rattle.ql_machine.specs.State.{Machine, NeedsNow, message_at, received_at}
+use Rattle.ql_machine.specs.State.{Machine, NeedsNow, committed, message_at, received_at}
 use Rattle.ql_machine.specs.Rules.{Promises}
 use Rattle.ql_machine.specs.Views.{Applied, AppliedWithOwn}
-use Rattle.ql_machine_laws.specs.Kept.{IsDone, IsOpen, IsParcel, Keeps}
+use Rattle.ql_machine.specs.Sets.{AreThose}
+use Rattle.ql_machine.specs.Changes.{received_by_all}
+use Rattle.ql_needs.proofs.IdSets.{in_union-cases, in_union-right, same_ids}
+use Rattle.ql_machine_laws.specs.Kept.{AreDone, IsDone, IsOpen, IsParcel, Keeps}
 use Rattle.ql_machine_laws.proofs.Keeping.{done-there}
 use Rattle.ql_machine_laws.proofs.Lists.{each-at}
 use Rattle.ql_machine_laws.proofs.Pushed.{undone}
@@ -66,6 +71,26 @@ module _ (promises : Promises) (start : ℕ) (s : Machine) (keeps : Keeps promis
       by each b (here _) = inr own
       by each b (through _ c _ (inl step) rest) = each c step b rest
       by each b (through _ c _ (inr txn) rest) = absurd (undone s.effects s.open_txns s.begun keeps.sound.txns session t now a own txn.0)
+
+  -- ---- a strong call
+
+  -- all that each replica had is committed, so where it receives all that is, it has just that
+  pub all-given : (ids : List ℕ) → AreThose (λ a. committed s.effects s.open_txns a ≡ true) ids → received_by_all s.received ids ≡ replicate (length s.received) ids
+  all-given ids are = each s.received keeps.stored.held
+    where
+      one : (had : List ℕ) → AreDone s.effects s.open_txns had → union_of had ids ≡ ids
+      one had done =
+          same_ids (union_of had ids) ids (IsAscending-union had ids are.ascending) are.ascending
+          (λ a has. elim (in_union-cases had ids a has) [
+            | inl old ↦ are.all a (done a old)
+            | inr new ↦ new
+          ])
+          (λ a has. in_union-right had ids a has)
+
+      each : (received : List (List ℕ)) → ((r : ℕ) → AreDone s.effects s.open_txns (received_at received r)) → received_by_all received ids ≡ replicate (length received) ids
+      each [] done = refl
+      each (had ∷ received) done =
+          ap (λ (first : List ℕ). first ∷ received_by_all received ids) (one had (done 0)) ∙ ap (λ (rest : List (List ℕ)). ids ∷ rest) (each received (λ r. done (suc r)))
 
   -- ---- packages
 

@@ -1,6 +1,7 @@
 ghost use Rattle.std.specs.Prelude.{◌≡◌, ◌<◌, ℕ, true, List, Some};
 ghost use Rattle.ql_base.specs.declared.ids.DeclId.{DeclId};
 ghost use Rattle.ql_exec.specs.declared.effect.Effect.{Effect};
+ghost use Rattle.ql_exec.specs.declared.effect.Member.TheVariants.{Alone};
 ghost use Rattle.ql_exec.specs.Effects.{effect_at};
 ghost use Rattle.ql_exec.specs.Execution.{IsExecution};
 ghost use Rattle.ql_exec.specs.Relations.{sameobj, vis};
@@ -26,12 +27,14 @@ pub fn effects_meet_their_levels()
 {}
 
 /// The law of strong operations: a strong effect sees all effects before it on its object (`before`),
-/// and all after it on its object see it (`after`).
+/// all after it on its object see it (`after`), and it is in no transaction (`alone`).
 pub fn strong_effects_are_ordered()
     ensures before { (rules : Rules) (n : ℕ) (events : List Event) (replies : List Reply) (last : Machine) → IsRun rules n events replies last
         → (a b : ℕ) (e : Effect) → effect_at last.effects a ≡ Some e → rules.level e.op ≡ Strong → b < a → sameobj last.effects b a ≡ true → vis last.effects b a ≡ true }
     ensures after { (rules : Rules) (n : ℕ) (events : List Event) (replies : List Reply) (last : Machine) → IsRun rules n events replies last
         → (a b : ℕ) (e : Effect) → effect_at last.effects a ≡ Some e → rules.level e.op ≡ Strong → a < b → sameobj last.effects a b ≡ true → vis last.effects a b ≡ true }
+    ensures alone { (rules : Rules) (n : ℕ) (events : List Event) (replies : List Reply) (last : Machine) → IsRun rules n events replies last
+        → (a : ℕ) (e : Effect) → effect_at last.effects a ≡ Some e → rules.level e.op ≡ Strong → e.member ≡ Alone }
 {}
 
 /// The law of transactions: each begun transaction meets the formula of its declared name's level, one

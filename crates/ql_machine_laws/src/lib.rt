@@ -19,4 +19,4 @@ pub use kept::steps_keep_all;
 pub use levels::{
     effects_meet_their_levels, strong_effects_are_ordered, transactions_meet_their_levels,
 };
-pub use packages::{packages_are_whole, replicas_judge_alone};
+pub use packages::{packages_are_whole, replicas_judge_alone, strong_calls_give_all};

@@ -1,4 +1,4 @@
-ghost use Rattle.std.specs.Prelude.{◌≡◌, ◌↔◌, ℕ, true, List, Some};
+ghost use Rattle.std.specs.Prelude.{◌≡◌, ◌↔◌, ℕ, true, List, length, replicate, Some};
 ghost use Rattle.ql_base.specs.IdLists.{IsAscending};
 ghost use Rattle.ql_base.specs.declared.ids.SessId.{SessId};
 ghost use Rattle.ql_exec.specs.Relations.{hbo_step, inside};
@@ -10,6 +10,8 @@ ghost use Rattle.ql_machine.specs.declared.open_txn.OpenTxn.{OpenTxn};
 ghost use Rattle.ql_machine.specs.declared.reply.Reply.{Reply};
 ghost use Rattle.ql_machine.specs.State.{Machine, NeedsNow, committed, message_at, open_of, received_at};
 ghost use Rattle.ql_machine.specs.Rules.{Promises, Rules};
+ghost use Rattle.ql_machine.specs.Sets.{AreThose};
+ghost use Rattle.ql_machine.specs.Changes.{received_by_all};
 ghost use Rattle.ql_machine.specs.Views.{Applied, AppliedWithOwn};
 ghost use Rattle.ql_machine.specs.Runs.{IsRun};
 ghost use Rattle.ql_machine_laws.specs.Kept.{Keeps};
@@ -39,4 +41,11 @@ pub fn replicas_judge_alone()
         → (ids : List ℕ) (a : ℕ) → committed s.effects s.open_txns a ≡ true → AppliedWithOwn s t ids a ↔ Closed (Needs s.effects) (Has ids) a }
     ensures own { (promises : Promises) (n : ℕ) (s : Machine) → Keeps promises n s → (session : SessId) (t : OpenTxn) → open_of s.open_txns session ≡ Some t
         → (ids : List ℕ) (a : ℕ) → inside s.effects t.run.0 a ≡ true → AppliedWithOwn s t ids a ↔ ((b : ℕ) → hbo_step s.effects b a ≡ true → AppliedWithOwn s t ids b) }
+{}
+
+/// The law of what a strong call gives: where every replica receives all committed effects, each has
+/// just these.
+pub fn strong_calls_give_all()
+    ensures { (promises : Promises) (n : ℕ) (s : Machine) → Keeps promises n s → (ids : List ℕ) → AreThose (λ a. committed s.effects s.open_txns a ≡ true) ids
+        → received_by_all s.received ids ≡ replicate (length s.received) ids }
 {}

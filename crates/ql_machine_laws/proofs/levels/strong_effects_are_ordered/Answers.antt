@@ -1,3 +1,4 @@
+use Rattle.ql_machine_laws.proofs.Growth.{strong-alone}
 use Rattle.ql_machine_laws.proofs.Runs.{kept}
 use Rattle.ql_machine_laws.proofs.levels.strong_effects_are_ordered.Goals as goal
 
@@ -6,3 +7,6 @@ returns-clause-before c = λ rules n events replies last run a b e at level less
 
 pub returns-clause-after : goal.returns-clause-after
 returns-clause-after c = λ rules n events replies last run a b e at level less same. (kept rules n events replies last run).strong.seen a b e (at, level) less same
+
+pub returns-clause-alone : goal.returns-clause-alone
+returns-clause-alone c = strong-alone
