@@ -81,17 +81,8 @@ impl Ranges {
 
     /// The set with more ids.
     pub fn union(&self, ids: &IdSet) -> Result<Ranges, NoMemory>
-<<<<<<< HEAD
-<<<<<<< HEAD
         ensures united { IfOk result (λ both. ids_of both ≡ union_of (ids_of self.now) ids.now) }
         ensures ascending { IfOk result (λ both. IsAscending (ids_of both)) }
-=======
-        ensures { IfOk result (λ both. ids_of both ≡ union_of (ids_of self.now) ids.now) }
->>>>>>> e112c7a (ql_ranges: sets of ids as ranges that lie apart, proved)
-=======
-        ensures united { IfOk result (λ both. ids_of both ≡ union_of (ids_of self.now) ids.now) }
-        ensures ascending { IfOk result (λ both. IsAscending (ids_of both)) }
->>>>>>> 0270566 (ql_replica: a holder by ranges and watched ids, proved with watch_of for every execution)
     {
         let mut both = self.copy()?;
         insert_each(&mut both, ids.items())?;

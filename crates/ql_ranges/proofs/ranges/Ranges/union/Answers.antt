@@ -10,18 +10,8 @@ use Rattle.ql_ranges.proofs.ranges.Ranges.union.Goals as goal
 pub insert_each-requires : goal.insert_each-requires
 insert_each-requires c = subst (λ (rs : List IdRange). IsAscending (ids_of rs)) (sym c.in_ok-both.ensures.same) (ascending_ids _ c.in_ok-both.ensures.apart)
 
-<<<<<<< HEAD
-<<<<<<< HEAD
 pub returns-clause-united : goal.returns-clause-united
 returns-clause-united c =
-=======
-pub returns : goal.returns
-returns c =
->>>>>>> e112c7a (ql_ranges: sets of ids as ranges that lie apart, proved)
-=======
-pub returns-clause-united : goal.returns-clause-united
-returns-clause-united c =
->>>>>>> 0270566 (ql_replica: a holder by ranges and watched ids, proved with watch_of for every execution)
     let before = ids_of c.args.self.now in
     let after = ids_of c.insert_each.new.set in
     let has = λ (a : ℕ). c.in_ok-insert_each.ensures.added a
