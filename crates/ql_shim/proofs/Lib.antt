@@ -1,0 +1,6 @@
+pub mod RunningLaws
+pub mod ChangeLaws
+pub mod HolderLaws
+pub mod JoinedLaws
+pub mod NextLaws
+pub mod ViewLaws

@@ -1,0 +1,47 @@
+use Rattle.std.proofs.Common.{◌≡◌, ◌↔◌, ◌∙◌, sym, subst, ap, ℕ, List}
+use Rattle.ql_needs.specs.Closed.{Closed, Has}
+use Rattle.ql_needs.specs.Needs.{Needs}
+use Rattle.ql_holder.specs.Arrivals.{Applied}
+use Rattle.ql_shim.specs.Viewing.{IsFirstUnapplied}
+use Rattle.ql_shim.proofs.ViewLaws.{seen-are, closed-kept, missing-is, those-others}
+use Rattle.ql_shim.proofs.view.view_of.Goals as goal
+
+pub returns-in_ok-with_own-in-Rc-clause-ids : goal.returns-in_ok-with_own-in-Rc-clause-ids
+returns-in_ok-with_own-in-Rc-clause-ids g c = rw c.in-Rc.is (λ now o asked.
+    let x = c.args.x.now in
+    let on = c.args.on.now in
+    let received = g.H.Holder.received c.args.holder.now in
+    seen-are x now o on received c.args.running.now received c.in_ok-applied_among-in-Rc.field-0 c.in_ok-with_own-in-Rc.field-0
+    c.with_own-in-Rc.ensures.execution asked asked.received_settled
+    (those-others on c.in_ok-applied_among-in-Rc.field-0 (Applied x received) (c.in_ok-applied_among-in-Rc.ensures x c.requires.fits))
+    (c.in_ok-with_own-in-Rc.ensures.joined o asked.on_object (λ a has. asked.known.session a (asked.known.own.only a has))))
+
+pub returns-in_ok-with_own-in-Mav-clause-ids : goal.returns-in_ok-with_own-in-Mav-clause-ids
+returns-in_ok-with_own-in-Mav-clause-ids g c = rw c.in-Mav.is (λ now o asked.
+    let x = c.args.x.now in
+    let on = c.args.on.now in
+    let received = g.H.Holder.received c.args.holder.now in
+    seen-are x now o on received c.args.running.now received c.in_ok-applied_among-in-Mav.field-0 c.in_ok-with_own-in-Mav.field-0
+    c.with_own-in-Mav-2.ensures.execution asked asked.received_settled
+    (those-others on c.in_ok-applied_among-in-Mav.field-0 (Applied x received) (c.in_ok-applied_among-in-Mav.ensures x c.requires.fits))
+    (c.in_ok-with_own-in-Mav.ensures.joined o asked.on_object (λ a has. asked.known.session a (asked.known.own.only a has))))
+
+pub returns-in_ok-with_own-in-Mav-clause-missing : goal.returns-in_ok-with_own-in-Mav-clause-missing
+returns-in_ok-with_own-in-Mav-clause-missing g c = rw c.in-Mav.is (λ now o asked.
+    let x = c.args.x.now in
+    let received = g.H.Holder.received c.args.holder.now in
+    missing-is x now o c.args.on.now received c.args.running.now c.first_unapplied.result asked
+    (subst (λ (saw : List ℕ). IsFirstUnapplied x received saw c.args.running.now.own c.first_unapplied.result) c.items.ensures.same (c.first_unapplied.ensures x c.requires.fits)))
+
+pub returns-in_ok-with_own-in-Rr-clause-ids : goal.returns-in_ok-with_own-in-Rr-clause-ids
+returns-in_ok-with_own-in-Rr-clause-ids g c = rw c.in-Rr.is (λ now o asked.
+    let x = c.args.x.now in
+    let on = c.args.on.now in
+    let snapshot = c.args.running.now.txn.snapshot in
+    seen-are x now o on (g.H.Holder.received c.args.holder.now) c.args.running.now snapshot c.in_ok-kept_among-in-Rr.field-0 c.in_ok-with_own-in-Rr.field-0
+    c.with_own-in-Rr-2.ensures.execution asked asked.snapshot_settled
+    (λ a is_on.
+      let kept = those-others on c.in_ok-kept_among-in-Rr.field-0 (Has snapshot) c.in_ok-kept_among-in-Rr.ensures a is_on in
+      let closed = closed-kept x now snapshot asked.snapshot_settled asked.snapshot_closed a in
+      (λ has. closed.0 (kept.0 has), λ all. kept.1 (closed.1 all)))
+    (c.in_ok-with_own-in-Rr.ensures.joined o asked.on_object (λ a has. asked.known.session a (asked.known.own.only a has))))

@@ -1,0 +1,4 @@
+pub mod Transactions
+pub mod Changed
+pub mod Joined
+pub mod Viewing

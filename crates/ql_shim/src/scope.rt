@@ -1,0 +1,85 @@
+ghost use Rattle.std.specs.Prelude.{◌≡◌, ◌↔◌, ℕ, true, Some, IfOk, OnOk};
+ghost use Rattle.ql_base.specs.IdLists.{IsAscending, has_id};
+ghost use Rattle.ql_base.specs.declared.ids.ObjId.{ObjId};
+ghost use Rattle.ql_exec.specs.Effects.{effect_at};
+ghost use Rattle.ql_exec.specs.Execution.{IsExecution, IsOn};
+ghost use Rattle.ql_needs.specs.Closed.{Has};
+ghost use Rattle.ql_needs.specs.Needs.{AreThere};
+ghost use Rattle.ql_machine.specs.Blocking.{IsOf};
+ghost use Rattle.ql_machine.specs.Sets.{AreThose, has_all};
+ghost use Rattle.ql_shim.specs.Joined.{IsJoined, IsNextJoined};
+
+use crate::running::Running;
+use ql_base::{IdSet, NoMemory};
+use ql_exec::{Effect, Execution};
+use std::alloc::Global;
+
+// Effects of an object that a call sees, gathered in ascending order.
+#[derive(Drop)]
+struct Gathered {
+    ids: IdSet,
+    // All effects of the session that were come to are among them.
+    whole: bool,
+}
+
+/// The effects on an object that a transaction sees: of others these, and each own one where what it
+/// saw and what its session did before on the object is seen.
+///
+/// Goes over the effects on the object once, and over what the own ones among them saw.
+pub(crate) fn with_own(
+    alloc: Global,
+    x: &Execution,
+    running: &Running,
+    others: &IdSet,
+    on: &[u32],
+) -> Result<IdSet, NoMemory>
+    requires { AreThere x.now on.now }
+    ensures execution { IsExecution x.now }
+    ensures joined { IfOk result (λ ids. (o : ObjId) → AreThose (λ a. IsOn o (effect_at x.now a)) on.now
+        → ((a : ℕ) → Has running.now.own a → IsOf running.now.txn.session (effect_at x.now a))
+        → IsJoined x.now running.now.own others.now on.now ids) }
+{
+    let mut gathered = Gathered {
+        ids: IdSet::new(alloc),
+        whole: true,
+    };
+    let effects = x.effects();
+    for a in on {
+        add_next(&mut gathered, &effects[*a as usize - 1], *a, running, others)?;
+    }
+    Ok(gathered.ids)
+}
+
+// Comes to the next effect on the object.
+fn add_next(
+    gathered: &mut Gathered,
+    effect: &Effect,
+    a: u32,
+    running: &Running,
+    others: &IdSet,
+) -> Result<(), NoMemory>
+    ensures { OnOk result (IsNextJoined gathered.old.ids gathered.old.whole effect.now a running.now.txn.session running.now.own others.now gathered.new.ids gathered.new.whole) }
+{
+    let is_seen = if running.own.has(a) {
+        gathered.whole && all_in(effect.seen.items(), &gathered.ids)
+    } else {
+        others.has(a)
+    };
+    if is_seen {
+        gathered.ids.insert(a)?;
+    } else if effect.session.0 == running.txn.session.0 {
+        gathered.whole = false;
+    }
+    Ok(())
+}
+
+fn all_in(ids: &[u32], others: &IdSet) -> bool
+    ensures { result ≡ has_all others.now ids.now }
+{
+    for id in ids {
+        if !others.has(*id) {
+            return false;
+        }
+    }
+    true
+}

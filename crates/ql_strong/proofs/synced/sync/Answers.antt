@@ -1,0 +1,12 @@
+use Rattle.std.proofs.Common.{◌≡◌, ℕ, ◌∙◌, ap, length, replicate, arith}
+use Rattle.ql_strong.proofs.SyncLaws.{all-within}
+use Rattle.ql_strong.proofs.synced.sync.Goals as goal
+
+pub returns-clause-all : goal.returns-clause-all
+returns-clause-all g c =
+    let committed = c.args.committed.now in
+    let at = c.loop-holder.auto.holder-index-end in
+    let past = c.loop-holder-test.false in
+    let count : c.loop-holder.holder-index ≡ length c.args.holders.now = omega (arith, at, past) in
+    c.loop-holder.invariant.1 ∙ ap (λ (n : ℕ). replicate n committed) count
+    ∙ all-within g.H.Holder.received c.args.holders.now committed c.items-ids.ensures.ascending c.requires.within
