@@ -1,10 +1,10 @@
 -- What beginning, noting and finishing make of the open transactions.
-use Rattle.std.proofs.Common.{◌≡◌, ◌≢◌, ◌⊎◌, ℕ, zero, suc, ◌<◌, ◌≤◌, Bool, true, false, cond, nat_eq, List, [], ◌∷◌, ◌++◌, length, get_or, slice_get, map, take, find, Option, Some, None, refl, ap, sym, subst, ◌∙◌, inl, inr, arith}
+use Rattle.std.proofs.Common.{◌≡◌, ◌≢◌, ℕ, zero, suc, ◌<◌, Bool, true, false, nat_eq, List, [], ◌∷◌, ◌++◌, length, get_or, slice_get, map, take, find, Option, Some, None, refl, ap, sym, subst, ◌∙◌, inl, inr, arith}
 use Rattle.std.specs.List.{list_any, remove}
 use Rattle.std.specs.Option.{option_map_or}
 use Rattle.std.proofs.Math.ListN.{set}
 use Rattle.std.proofs.Math.Seq.{take-length}
-use Rattle.std.proofs.lemmas.Bool.{false≢true, eqb-true, eq-eqb, ne_eqb, cases_Bool, both_ways}
+use Rattle.std.proofs.lemmas.Bool.{false≢true, eqb-true, eq-eqb, ne_eqb, cases_Bool}
 use Rattle.std.proofs.lemmas.List.{map-append}
 use Rattle.std.proofs.lemmas.Option.{slice_get_past, slice_get_within, slice_get_read, same_Some}
 use Rattle.ql_base.specs.IdLists.{union_of, with_id}
@@ -12,9 +12,9 @@ use Rattle.ql_base.specs.declared.ids.SessId.{SessId}
 use Rattle.ql_machine.specs.declared.open_txn.OpenTxn.{OpenTxn}
 use Rattle.ql_machine.specs.State.{open_of}
 use Rattle.ql_shim.specs.declared.running.Running.{Running}
-use Rattle.ql_shim.specs.Transactions.{Transactions, AreApart, is_of, own_of, saw_of}
-use Rattle.ql_shim.specs.Changed.{IsBegun, IsFinished, IsNoted, IsPlace, IsSame}
-use Rattle.ql_shim.proofs.RunningLaws.{open_of-running, find-open, find-none, find-set_own, find-set_other, find-remove, without-remove}
+use Rattle.ql_shim.specs.Transactions.{AreApart, is_of}
+use Rattle.ql_shim.specs.Changed.{IsBegun, IsFinished, IsNoted, IsPlace}
+use Rattle.ql_shim.proofs.RunningLaws.{find-open, find-none, find-set_own, find-set_other, find-remove, without-remove}
 
 abbrev the_txns : List Running → List OpenTxn
 the_txns running = map (λ r. r.txn) running
@@ -125,15 +125,15 @@ noted-is running begun s k e seen t was r place here txn own saw =
       open_now = same-txns running k r was here.at txn;
       begun = refl;
       own = ap (λ (o : Option Running). option_map_or (λ (q : Running). q.own) o []) now ∙ own
-        ∙ ap (λ (o : Option Running). with_id (option_map_or (λ (q : Running). q.own) o []) e) (sym here.found);
+          ∙ ap (λ (o : Option Running). with_id (option_map_or (λ (q : Running). q.own) o []) e) (sym here.found);
       saw = ap (λ (o : Option Running). option_map_or (λ (q : Running). q.saw) o []) now ∙ saw
-        ∙ ap (λ (o : Option Running). union_of (option_map_or (λ (q : Running). q.saw) o []) seen) (sym here.found);
+          ∙ ap (λ (o : Option Running). union_of (option_map_or (λ (q : Running). q.saw) o []) seen) (sym here.found);
       others = λ other apart. (
-        let same = find-set_other (is_of other) running k r was here.at (other-not s other was here.own apart) (other-not s other r mine apart) in
-        record {
-          own = ap (λ (o : Option Running). option_map_or (λ (q : Running). q.own) o []) same;
-          saw = ap (λ (o : Option Running). option_map_or (λ (q : Running). q.saw) o []) same;
-        });
+          let same = find-set_other (is_of other) running k r was here.at (other-not s other was here.own apart) (other-not s other r mine apart) in
+          record {
+            own = ap (λ (o : Option Running). option_map_or (λ (q : Running). q.own) o []) same;
+            saw = ap (λ (o : Option Running). option_map_or (λ (q : Running). q.saw) o []) same;
+          });
     }
 
 pub finished-is : (running : List Running) (begun : ℕ) (s : SessId) (k : ℕ) (t : OpenTxn) (was : Running) → AreApart running → IsThere running s k t was
@@ -142,9 +142,9 @@ finished-is running begun s k t was apart here = record {
   open_now = without-remove running s k was apart here.at here.own;
   begun = refl;
   others = λ other differs. (
-    let same = find-remove (is_of other) running k was here.at (other-not s other was here.own differs) in
-    record {
-      own = ap (λ (o : Option Running). option_map_or (λ (q : Running). q.own) o []) same;
-      saw = ap (λ (o : Option Running). option_map_or (λ (q : Running). q.saw) o []) same;
-    });
+      let same = find-remove (is_of other) running k was here.at (other-not s other was here.own differs) in
+      record {
+        own = ap (λ (o : Option Running). option_map_or (λ (q : Running). q.own) o []) same;
+        saw = ap (λ (o : Option Running). option_map_or (λ (q : Running). q.saw) o []) same;
+      });
 }

@@ -1,18 +1,15 @@
 -- The least session whose open transaction declares an object.
-use Rattle.std.proofs.Common.{◌≡◌, ◌⊎◌, ℕ, zero, suc, ◌<◌, ◌≤◌, Bool, true, false, nat_eq, min, List, [], ◌∷◌, length, slice_get, map, find, Option, Some, None, refl, ap, sym, subst, ◌∙◌, inl, inr, arith}
-use Rattle.std.specs.List.{list_any}
-use Rattle.std.specs.Option.{option_map_or}
-use Rattle.std.proofs.lemmas.Bool.{false≢true, eqb-true, eq-eqb, ne_eqb, cases_Bool, both_ways}
+use Rattle.std.proofs.Common.{◌≡◌, ◌⊎◌, ℕ, zero, suc, ◌<◌, ◌≤◌, true, false, nat_eq, min, List, [], ◌∷◌, length, slice_get, map, Option, Some, None, refl, ap, sym, subst, ◌∙◌, inl, inr, arith}
+use Rattle.std.proofs.lemmas.Bool.{eqb-true, eq-eqb, ne_eqb, cases_Bool, both_ways}
 use Rattle.std.proofs.lemmas.Option.{slice_get_within, same_Some}
 use Rattle.ql_base.specs.IdLists.{has_id}
 use Rattle.ql_base.specs.declared.ids.ObjId.{ObjId}
 use Rattle.ql_base.specs.declared.ids.SessId.{SessId}
 use Rattle.ql_machine.specs.declared.open_txn.OpenTxn.{OpenTxn}
-use Rattle.ql_machine.specs.Sets.{IsLeast}
 use Rattle.ql_machine.specs.State.{open_of}
 use Rattle.ql_shim.specs.declared.running.Running.{Running}
 use Rattle.ql_shim.specs.Transactions.{AreApart, is_of}
-use Rattle.ql_shim.specs.Changed.{Holds, IsLeastHolder, least_with}
+use Rattle.ql_shim.specs.Changed.{IsLeastHolder, least_with}
 use Rattle.ql_shim.proofs.RunningLaws.{find-open, at-none}
 use Rattle.ql_shim.proofs.ChangeLaws.{find-index, find-passes}
 
@@ -93,15 +90,15 @@ open-at (q ∷ running) (suc i) r s apart at own =
 
 pub least-all : (running : List Running) (o : ObjId) (least : Option SessId) → AreApart running → IsLeastTo running o (length running) least → IsLeastHolder (map (λ (r : Running). r.txn) running) o least
 least-all running o None apart none = λ session t is. (
-  let found = find-open running session t is in
-  let at = find-index (is_of session) running found.0 found.1 in
-  subst (λ (u : OpenTxn). has_id u.objects o.0 ≡ false) found.2 (none at.0 found.0 (slice_get_within running at.0 found.0 at.1) at.1))
+    let found = find-open running session t is in
+    let at = find-index (is_of session) running found.0 found.1 in
+    subst (λ (u : OpenTxn). has_id u.objects o.0 ≡ false) found.2 (none at.0 found.0 (slice_get_within running at.0 found.0 at.1) at.1))
 least-all running o (Some least) apart is = record {
   fits = (is.0.one.txn, open-at running is.0.index is.0.one (record { 0 = least.0 }) apart is.0.at is.0.session, is.0.holds);
   least = λ b holds. (
-    let found = find-open running (record { 0 = b }) holds.0 holds.1 in
-    let at = find-index (is_of (record { 0 = b })) running found.0 found.1 in
-    let most = is.1 at.0 found.0 (slice_get_within running at.0 found.0 at.1) at.1 (subst (λ (u : OpenTxn). has_id u.objects o.0 ≡ true) (sym found.2) holds.2) in
-    let same = eqb-true found.0.txn.session.0 b (find-passes (is_of (record { 0 = b })) running found.0 found.1) in
-    omega (arith, most, same));
+      let found = find-open running (record { 0 = b }) holds.0 holds.1 in
+      let at = find-index (is_of (record { 0 = b })) running found.0 found.1 in
+      let most = is.1 at.0 found.0 (slice_get_within running at.0 found.0 at.1) at.1 (subst (λ (u : OpenTxn). has_id u.objects o.0 ≡ true) (sym found.2) holds.2) in
+      let same = eqb-true found.0.txn.session.0 b (find-passes (is_of (record { 0 = b })) running found.0 found.1) in
+      omega (arith, most, same));
 }

@@ -1,22 +1,20 @@
 -- The effects on an object that a transaction sees, gathered one after another.
-use Rattle.std.proofs.Common.{◌≡◌, ◌↔◌, ◌⊎◌, ℕ, zero, suc, ◌<◌, ◌≤◌, Bool, true, false, cond, not, ◌&&◌, ◌||◌, nat_eq, List, [], ◌∷◌, ◌++◌, length, get_or, take, Option, Some, None, refl, ap, sym, subst, ◌∙◌, inl, inr, arith}
-use Rattle.std.proofs.lemmas.Bool.{false≢true, or_cases, or_left, or_right, and_parts, and_from, eq-eqb, eqb-true, cases_Bool, cases_eq, both_ways, lt-ltb}
+use Rattle.std.proofs.Common.{◌≡◌, ◌⊎◌, ℕ, zero, suc, ◌<◌, true, false, nat_eq, List, [], ◌∷◌, length, get_or, take, Option, Some, None, refl, ap, sym, subst, ◌∙◌, inl, inr, arith}
+use Rattle.std.proofs.lemmas.Bool.{false≢true, or_cases, or_left, or_right, and_parts, and_from, eq-eqb, eqb-true}
 use Rattle.ql_base.specs.IdLists.{IsBelowAll, IsAscending, has_id, with_id}
 use Rattle.ql_base.proofs.IdLemmas.{IsAscending-with_id}
 use Rattle.ql_base.specs.declared.ids.ObjId.{ObjId}
 use Rattle.ql_base.specs.declared.ids.SessId.{SessId}
 use Rattle.ql_exec.specs.declared.effect.Effect.{Effect}
-use Rattle.ql_exec.specs.Effects.{effect_at, both}
+use Rattle.ql_exec.specs.Effects.{effect_at}
 use Rattle.ql_exec.specs.Execution.{IsExecution, IsOn}
 use Rattle.ql_exec.specs.Relations.{so, soo, sameobj, vis, hbo_step}
-use Rattle.ql_exec.proofs.Finding.{both-found, so_parts, so_from}
+use Rattle.ql_exec.proofs.Finding.{both-found, so_from}
 use Rattle.std.proofs.lemmas.Option.{same_Some}
 use Rattle.ql_needs.specs.Closed.{Has}
-use Rattle.ql_needs.proofs.NeedsLaws.{step-before}
 use Rattle.ql_needs.proofs.IdSets.{has_id-with}
 use Rattle.ql_machine.specs.Blocking.{IsOf}
 use Rattle.ql_machine.specs.Sets.{AreThose, has_all}
-use Rattle.ql_shim.specs.Joined.{IsJoined, IsNextJoined, is_seen_next}
 
 -- ---- lists of ids
 

@@ -1,13 +1,13 @@
 -- One effect more on the object, in order.
-use Rattle.std.proofs.Common.{◌≡◌, ◌↔◌, ◌⊎◌, ℕ, zero, suc, ◌<◌, ◌≤◌, ◌-◌, Bool, true, false, cond, not, ◌&&◌, ◌||◌, nat_eq, if◌then◌else◌, List, [], length, get_or, take, Option, Some, None, refl, ap, sym, subst, ◌∙◌, inl, inr, arith}
-use Rattle.std.proofs.lemmas.Bool.{false≢true, or_cases, or_left, or_right, and_parts, and_from, eq-eqb, eqb-true, cases_Bool, both_ways}
+use Rattle.std.proofs.Common.{◌≡◌, ◌↔◌, ◌⊎◌, ℕ, zero, suc, ◌<◌, ◌≤◌, ◌-◌, Bool, true, false, cond, not, ◌&&◌, ◌||◌, nat_eq, List, [], length, get_or, take, Some, refl, ap, sym, subst, ◌∙◌, inl, inr, arith}
+use Rattle.std.proofs.lemmas.Bool.{false≢true, or_cases, or_left, or_right, and_parts, and_from, eq-eqb, eqb-true, cases_Bool}
 use Rattle.std.proofs.lemmas.Option.{same_Some, slice_get_read}
 use Rattle.ql_base.specs.IdLists.{IsAscending, has_id, with_id}
 use Rattle.ql_base.proofs.IdLemmas.{IsAscending-with_id}
 use Rattle.ql_base.specs.declared.ids.ObjId.{ObjId}
 use Rattle.ql_base.specs.declared.ids.SessId.{SessId}
 use Rattle.ql_exec.specs.declared.effect.Effect.{Effect}
-use Rattle.ql_exec.specs.Effects.{effect_at, both}
+use Rattle.ql_exec.specs.Effects.{effect_at}
 use Rattle.ql_exec.specs.Execution.{IsExecution, IsOn}
 use Rattle.ql_exec.specs.Relations.{so, soo, sameobj, vis, hbo_step}
 use Rattle.ql_exec.proofs.Finding.{both-found, so_parts}
@@ -106,7 +106,7 @@ steps-seen : (x : List Effect) (s : SessId) (o : ObjId) (own others on front mor
 steps-seen x s o own others on front more ids whole a e ordered way next is_own each =
     and_from whole (has_all ids e.seen)
     (way.flag.1 (λ c in_front of_c. each c
-      (step-session x o s a c (ordered.on_object.only a next.on_it) (ordered.on_object.only c (next.front_on c in_front)) (ordered.own_of a is_own) of_c (next.below c in_front))))
+    (step-session x o s a c (ordered.on_object.only a next.on_it) (ordered.on_object.only c (next.front_on c in_front)) (ordered.own_of a is_own) of_c (next.below c in_front))))
     (has-all e.seen ids (λ c seen. each c (step-seen x ordered.law a c e next.at seen)))
 
 -- ---- one more
@@ -144,9 +144,9 @@ next-joined x s o own others on front more ids whole a e t ordered way next test
   ];
   theirs = λ b is_on other. elim (next.cases b is_on) [
     | inl old ↦ (
-        λ has. (way.joined.theirs b old other).0 (still ids a t b (next.below b old) has),
-        λ has. grown-old ids a t b ((way.joined.theirs b old other).1 has),
-      )
+      λ has. (way.joined.theirs b old other).0 (still ids a t b (next.below b old) has),
+      λ has. grown-old ids a t b ((way.joined.theirs b old other).1 has),
+    )
     | inr new ↦
         let apart : has_id own a ≡ false = subst (λ (n : ℕ). has_id own n ≡ false) (sym new) other in
         let is : t ≡ has_id others a = test ∙ tested-other ids whole e a own others apart in
@@ -157,18 +157,18 @@ next-joined x s o own others on front more ids whole a e t ordered way next test
   ];
   ours = λ b is_on is_own. elim (next.cases b is_on) [
     | inl old ↦ (
-        λ has c step. grown-old ids a t c ((way.joined.ours b old is_own).0 (still ids a t b (next.below b old) has) c step),
-        λ each. grown-old ids a t b ((way.joined.ours b old is_own).1 (λ c step.
+      λ has c step. grown-old ids a t c ((way.joined.ours b old is_own).0 (still ids a t b (next.below b old) has) c step),
+      λ each. grown-old ids a t b ((way.joined.ours b old is_own).1 (λ c step.
           still ids a t c (let less = (step-before x ordered.law b c step).1 in let below = next.below b old in omega (arith, less, below)) (each c step))),
-      )
+    )
     | inr new ↦
         let mine : Has own a = subst (λ (n : ℕ). Has own n) (sym new) is_own in
         let is : t ≡ (whole && has_all ids e.seen) = test ∙ tested-own ids whole e a own others mine in
         subst (λ (n : ℕ). Has (cond t (with_id ids a) ids) n ↔ ((c : ℕ) → hbo_step x c n ≡ true → Has (cond t (with_id ids a) ids) c)) new (
           λ has c step. grown-old ids a t c
-            (seen-steps x s o own others on front more ids whole a e ordered way next mine (sym is ∙ new-tested x own others on front more ids a e t next way.joined has) c step),
+              (seen-steps x s o own others on front more ids whole a e ordered way next mine (sym is ∙ new-tested x own others on front more ids a e t next way.joined has) c step),
           λ each. grown-new ids a t (is ∙ steps-seen x s o own others on front more ids whole a e ordered way next mine
-            (λ c step. still ids a t c (step-before x ordered.law a c step).1 (each c step))),
+              (λ c step. still ids a t c (step-before x ordered.law a c step).1 (each c step))),
         )
   ];
 }
@@ -184,8 +184,8 @@ next-flag x s o own others on front more ids whole a e t way next = (
         subst (λ (n : ℕ). Has (cond t (with_id ids a) ids) n) new (grown-new ids a t (passed parts.1 (ap (λ (u : SessId). u.0) of_a)))
   ]),
   λ each. and_from whole (t || not (nat_eq e.session.0 s.0))
-    (way.flag.1 (λ b old of_b. still ids a t b (next.below b old) (each b (next.old b old) of_b)))
-    (by (cases_Bool t) (cases_Bool (nat_eq e.session.0 s.0)) each),
+      (way.flag.1 (λ b old of_b. still ids a t b (next.below b old) (each b (next.old b old) of_b)))
+      (by (cases_Bool t) (cases_Bool (nat_eq e.session.0 s.0)) each),
 )
   where
     passed : (t || not (nat_eq e.session.0 s.0)) ≡ true → e.session.0 ≡ s.0 → t ≡ true
@@ -193,6 +193,7 @@ next-flag x s o own others on front more ids whole a e t way next = (
       | inl yes_it ↦ yes_it
       | inr apart ↦ absurd (false≢true (subst (λ (b : Bool). not b ≡ true) (eq-eqb e.session.0 s.0 same) apart))
     ]
+
     by : (t ≡ true) ⊎ (t ≡ false) → (nat_eq e.session.0 s.0 ≡ true) ⊎ (nat_eq e.session.0 s.0 ≡ false)
         → ((b : ℕ) → Has more b → IsOf s (effect_at x b) → Has (cond t (with_id ids a) ids) b) → (t || not (nat_eq e.session.0 s.0)) ≡ true
     by (inl is) session each = or_left t (not (nat_eq e.session.0 s.0)) is
@@ -200,7 +201,7 @@ next-flag x s o own others on front more ids whole a e t way next = (
     by (inr is) (inl same) each =
         or_left t (not (nat_eq e.session.0 s.0))
         (new-tested x own others on front more ids a e t next way.joined
-          (each a next.new (subst (IsOf s) (sym next.at) (session-same e.session s (eqb-true e.session.0 s.0 same)))))
+        (each a next.new (subst (IsOf s) (sym next.at) (session-same e.session s (eqb-true e.session.0 s.0 same)))))
 
 -- the next effect was come to
 pub way-on : (x : List Effect) (s : SessId) (o : ObjId) (own others on front more ids ids' : List ℕ) (whole whole' : Bool) (a : ℕ) (e : Effect)

@@ -1,16 +1,14 @@
 -- The list of open transactions: finding one, adding, changing and removing one.
-use Rattle.std.proofs.Common.{◌≡◌, ◌≢◌, ◌⊎◌, ℕ, zero, suc, ◌<◌, ◌≤◌, Bool, true, false, cond, not, ◌||◌, nat_eq, List, [], ◌∷◌, ◌++◌, length, get_or, slice_get, map, take, drop, find, filter, Option, Some, None, option_map, refl, ap, sym, subst, ◌∙◌, inl, inr, arith}
+use Rattle.std.proofs.Common.{◌≡◌, ℕ, zero, suc, ◌<◌, Bool, true, false, cond, ◌||◌, nat_eq, List, [], ◌∷◌, ◌++◌, length, slice_get, map, take, find, Option, Some, None, option_map, refl, ap, sym, subst, ◌∙◌, inl, inr, arith}
 use Rattle.std.specs.List.{list_any, remove}
-use Rattle.std.specs.Option.{option_map_or}
 use Rattle.std.proofs.Math.ListN.{set}
-use Rattle.std.proofs.lemmas.Bool.{false≢true, or_cases, or_left, or_right, eq-eqb, eqb-true, ne_eqb, cases_eq, cases_Bool, both_ways}
+use Rattle.std.proofs.lemmas.Bool.{false≢true, eq-eqb, eqb-true, ne_eqb, cases_Bool, both_ways}
 use Rattle.ql_base.specs.declared.ids.SessId.{SessId}
 use Rattle.ql_machine.specs.declared.open_txn.OpenTxn.{OpenTxn}
 use Rattle.ql_machine.specs.State.{open_of}
 use Rattle.ql_machine.specs.Changes.{without}
 use Rattle.ql_shim.specs.declared.running.Running.{Running}
-use Rattle.ql_shim.specs.Transactions.{Transactions, AreApart, is_of, open_txns, own_of, saw_of, running_of}
-use Rattle.ql_shim.specs.Changed.{IsBegun, IsFinished, IsNoted, IsPlace, IsSame}
+use Rattle.ql_shim.specs.Transactions.{AreApart, is_of}
 
 -- ---- as the machine has them
 
@@ -75,10 +73,9 @@ any-append p (first ∷ running) r none other =
 pub apart-push : (running : List Running) (r : Running) → AreApart running → list_any (is_of r.txn.session) running ≡ false → AreApart (running ++ r ∷ [])
 apart-push [] r apart none = (refl, tt)
 apart-push (first ∷ running) r apart none =
-    let parts = or_none (is_of r.txn.session first) (list_any (is_of r.txn.session) running) none in
-    (
+    let parts = or_none (is_of r.txn.session first) (list_any (is_of r.txn.session) running) none in (
       any-append (is_of first.txn.session) running r apart.0
-      (ne_eqb r.txn.session.0 first.txn.session.0 (λ same. both_ways (is_of r.txn.session first) parts.0 (eq-eqb first.txn.session.0 r.txn.session.0 (sym same)))),
+          (ne_eqb r.txn.session.0 first.txn.session.0 (λ same. both_ways (is_of r.txn.session first) parts.0 (eq-eqb first.txn.session.0 r.txn.session.0 (sym same)))),
       apart-push running r apart.1 parts.1,
     )
 

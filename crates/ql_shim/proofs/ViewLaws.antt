@@ -1,6 +1,6 @@
 -- What a transaction sees, by what it needs: of others what has all that it needs in the set, and of its own what has
 -- all that is a step before it.
-use Rattle.std.proofs.Common.{◌≡◌, ◌↔◌, ◌⊎◌, ℕ, zero, suc, ◌<◌, ◌≤◌, Bool, true, false, not, nat_eq, List, [], ◌∷◌, map, Option, Some, None, Result, Ok, Err, IfOk, refl, ap, sym, subst, ◌∙◌, inl, inr, arith}
+use Rattle.std.proofs.Common.{◌≡◌, ◌↔◌, ◌⊎◌, ℕ, zero, suc, ◌<◌, true, false, not, List, [], map, Option, Some, None, Result, Ok, Err, IfOk, refl, ap, sym, subst, ◌∙◌, inl, inr, arith}
 use Rattle.std.proofs.lemmas.Bool.{false≢true, eq-eqb, eqb-true, cases_Bool, both_ways}
 use Rattle.ql_base.specs.IdLists.{has_id}
 use Rattle.ql_base.specs.declared.ids.EffId.{EffId}
@@ -11,18 +11,17 @@ use Rattle.ql_exec.specs.declared.effect.Member.{Member}
 use Rattle.ql_exec.specs.declared.effect.Member.TheVariants.{Alone, Inside}
 use Rattle.ql_exec.specs.Effects.{effect_at, one, in_run}
 use Rattle.ql_exec.specs.Execution.{IsExecution, IsOn}
-use Rattle.ql_exec.specs.Relations.{inside, hbo_step, vis}
+use Rattle.ql_exec.specs.Relations.{inside, hbo_step}
 use Rattle.ql_levels.specs.declared.level.TxnLevel.{TxnLevel}
-use Rattle.ql_levels.specs.declared.level.TxnLevel.TheVariants.{Rc, Mav, Rr}
+use Rattle.ql_levels.specs.declared.level.TxnLevel.TheVariants.{Mav}
 use Rattle.ql_needs.specs.Closed.{Closed, Has, Reaches, here, through}
-use Rattle.ql_needs.specs.Needs.{Needs, NeedsWhen}
+use Rattle.ql_needs.specs.Needs.{Needs}
 use Rattle.ql_needs.proofs.ClosedLaws.{closed-member, closed-need, reached-more}
 use Rattle.ql_needs.proofs.NeedsLaws.{step-before}
 use Rattle.ql_machine.specs.declared.open_txn.OpenTxn.{OpenTxn}
-use Rattle.ql_machine.specs.Blocking.{IsOf, MustHave}
-use Rattle.ql_machine.specs.Sets.{AreThose, IsLeast}
+use Rattle.ql_machine.specs.Blocking.{IsOf}
+use Rattle.ql_machine.specs.Sets.{AreThose}
 use Rattle.ql_machine.specs.State.{NeedsNow, committed, is_done, open_of}
-use Rattle.ql_machine.specs.Views.{AppliedWithOwn}
 use Rattle.ql_shim.specs.declared.running.Running.{Running}
 use Rattle.std.specs.Option.{option_map_or}
 use Rattle.ql_shim.specs.Transactions.{own_of, saw_of}
@@ -104,20 +103,18 @@ scope-at x now o run own others on ids set law those uncommitted on_object settl
     by : ((b : ℕ) → b < n → Has on b → Has ids b ↔ Closed (NeedsNow x now) (λ c. Has set c ⊎ (inside x run c ≡ true)) b)
         → (has_id own a ≡ true) ⊎ (has_id own a ≡ false) → Has ids a ↔ Closed (NeedsNow x now) (λ b. Has set b ⊎ (inside x run b ≡ true)) a
     by before (inr other) =
-        let outside : inside x run a ≡ false = elim (cases_Bool (inside x run a)) [ inl is ↦ absurd (both_ways (has_id own a) other (those.all a is)) | inr is ↦ is ] in
-        (
+        let outside : inside x run a ≡ false = elim (cases_Bool (inside x run a)) [ inl is ↦ absurd (both_ways (has_id own a) other (those.all a is)) | inr is ↦ is ] in (
           λ has. others-from x now run set a ((scope a is_on).0 ((joined.theirs a is_on other).0 has)),
           λ closed. (joined.theirs a is_on other).1 ((scope a is_on).1 (others-to x now run set a uncommitted settled outside closed)),
         )
     by before (inl mine) =
         let own_one = those.only a mine in
         let step_on : (b : ℕ) → hbo_step x b a ≡ true → Has on b = (λ b step. on_object.all b (step-on x law o a b (on_object.only a is_on) step)) in
-        let below : (b : ℕ) → hbo_step x b a ≡ true → b < n = (λ b step. (let earlier = (step-before x law a b step).1 in omega (arith, earlier, less))) in
-        (
+        let below : (b : ℕ) → hbo_step x b a ≡ true → b < n = (λ b step. (let earlier = (step-before x law a b step).1 in omega (arith, earlier, less))) in (
           λ has. own-from x now run set a (uncommitted a own_one) own_one
-            (λ b step. (before b (below b step) (step_on b step)).0 ((joined.ours a is_on mine).0 has b step)),
+              (λ b step. (before b (below b step) (step_on b step)).0 ((joined.ours a is_on mine).0 has b step)),
           λ closed. (joined.ours a is_on mine).1
-            (λ b step. (before b (below b step) (step_on b step)).1
+              (λ b step. (before b (below b step) (step_on b step)).1
               (closed-need (NeedsNow x now) (λ c. Has set c ⊎ (inside x run c ≡ true)) a b closed (inl step))),
         )
 
@@ -167,8 +164,10 @@ missing-is x now o on received running (Some first) asked is = record {
   where
     not_own : (a : ℕ) → inside x running.txn.run.0 a ≡ false → has_id running.own a ≡ false
     not_own a other = elim (cases_Bool (has_id running.own a)) [ inl mine ↦ absurd (both_ways (inside x running.txn.run.0 a) other (asked.known.own.only a mine)) | inr not_it ↦ not_it ]
+
     outside : (a : ℕ) → has_id running.own a ≡ false → inside x running.txn.run.0 a ≡ false
     outside a other = elim (cases_Bool (inside x running.txn.run.0 a)) [ inl mine ↦ absurd (both_ways (has_id running.own a) other (asked.known.own.all a mine)) | inr not_it ↦ not_it ]
+
     uncommitted : (a : ℕ) → inside x running.txn.run.0 a ≡ true → committed x now a ≡ false
     uncommitted a own = own-uncommitted x now running.txn asked.open_now a (asked.known.session a own) own
 
@@ -186,7 +185,7 @@ asked-of running begun x s o on received k t q stands asked =
     record {
       open_now = ap (open_of (map (λ (r : Running). r.txn) running)) session ∙ asked.open_now ∙ ap (λ (u : OpenTxn). let some : Option OpenTxn = Some u in some) (sym stands.txn);
       known = subst (λ (u : OpenTxn). IsKnown x u q.own q.saw) (sym stands.txn)
-        (subst (λ (ids : List ℕ). IsKnown x t q.own ids) saw (subst (λ (ids : List ℕ). IsKnown x t ids (saw_of (record { running = running; begun = begun }) s)) own asked.known));
+          (subst (λ (ids : List ℕ). IsKnown x t q.own ids) saw (subst (λ (ids : List ℕ). IsKnown x t ids (saw_of (record { running = running; begun = begun }) s)) own asked.known));
       on_object = asked.on_object;
       received_settled = asked.received_settled;
       snapshot_settled = subst (λ (u : OpenTxn). AreSettled x (map (λ (r : Running). r.txn) running) u.snapshot) (sym stands.txn) asked.snapshot_settled;

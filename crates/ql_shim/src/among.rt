@@ -27,11 +27,7 @@ pub fn applied_among<H: Holder>(
 }
 
 /// Those of some effects that are in a set. Looks up each once.
-pub(crate) fn kept_among(
-    alloc: Global,
-    set: &IdSet,
-    effects: &[u32],
-) -> Result<IdSet, NoMemory>
+pub(crate) fn kept_among(alloc: Global, set: &IdSet, effects: &[u32]) -> Result<IdSet, NoMemory>
     ensures { IfOk result (λ found. AreThose (λ a. Has effects.now a × Has set.now a) found) }
 {
     let mut found = IdSet::new(alloc);

@@ -45,7 +45,13 @@ pub(crate) fn with_own(
     };
     let effects = x.effects();
     for a in on {
-        add_next(&mut gathered, &effects[*a as usize - 1], *a, running, others)?;
+        add_next(
+            &mut gathered,
+            &effects[*a as usize - 1],
+            *a,
+            running,
+            others,
+        )?;
     }
     Ok(gathered.ids)
 }

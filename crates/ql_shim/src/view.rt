@@ -39,17 +39,26 @@ pub(crate) fn view_of<H: Holder>(
         → IsLeastUnapplied (state_of x.now now (H.received holder.now)) running.now.txn level (H.received holder.now) view.missing) }
 {
     match level {
-        TxnLevel::Rc => Ok(View {
-            ids: with_own(alloc, x, running, &applied_among(alloc, holder, on)?, on)?,
-            missing: None,
-        }),
-        TxnLevel::Mav => Ok(View {
-            ids: with_own(alloc, x, running, &applied_among(alloc, holder, on)?, on)?,
-            missing: first_unapplied(holder, running.saw.items(), &running.own),
-        }),
-        TxnLevel::Rr => Ok(View {
-            ids: with_own(alloc, x, running, &kept_among(alloc, &running.txn.snapshot, on)?, on)?,
-            missing: None,
-        }),
+        TxnLevel::Rc => {
+            let others = applied_among(alloc, holder, on)?;
+            Ok(View {
+                ids: with_own(alloc, x, running, &others, on)?,
+                missing: None,
+            })
+        }
+        TxnLevel::Mav => {
+            let others = applied_among(alloc, holder, on)?;
+            Ok(View {
+                ids: with_own(alloc, x, running, &others, on)?,
+                missing: first_unapplied(holder, running.saw.items(), &running.own),
+            })
+        }
+        TxnLevel::Rr => {
+            let others = kept_among(alloc, &running.txn.snapshot, on)?;
+            Ok(View {
+                ids: with_own(alloc, x, running, &others, on)?,
+                missing: None,
+            })
+        }
     }
 }

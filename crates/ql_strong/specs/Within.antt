@@ -5,10 +5,14 @@ use Rattle.ql_exec.specs.declared.effect.Effect.{Effect}
 use Rattle.ql_exec.specs.Relations.{sametxn}
 use Rattle.ql_needs.specs.Closed.{Has}
 
--- these ascend, and are among others
+-- these are among others
+abbrev pub AreAmong : List ℕ → List ℕ → Type 0
+AreAmong ids others = (a : ℕ) → Has ids a → Has others a
+
+-- and they ascend
 pub record IsWithin (ids others : List ℕ) : Type 0 where
   pub ascending : IsAscending ids
-  pub among : (a : ℕ) → Has ids a → Has others a
+  pub among : AreAmong ids others
 
 -- an effect was received, with the others of its transaction and nothing else
 pub record HasReceived (x : List Effect) (before after : List ℕ) (id : ℕ) : Type 0 where

@@ -4,7 +4,7 @@ ghost use Rattle.ql_exec.specs.Execution.{IsExecution};
 ghost use Rattle.ql_needs.specs.Closed.{Has};
 ghost use Rattle.ql_needs.specs.Needs.{AreWhole};
 ghost use Rattle.ql_machine.specs.Changes.{received_by_all};
-ghost use Rattle.ql_strong.specs.Within.{HasReceived, IsWithin};
+ghost use Rattle.ql_strong.specs.Within.{AreAmong, HasReceived};
 
 use crate::package::package_of;
 use ql_base::{EffId, IdSet, NoMemory};
@@ -23,7 +23,7 @@ pub fn sync<H: Holder>(
     committed: &IdSet,
 ) -> Result<Vec<H>, NoMemory>
     requires fit { All (λ h. H.fits h x.now) holders.now }
-    requires within { All (λ h. IsWithin (H.received h) committed.now) holders.now }
+    requires within { All (λ h. AreAmong (H.received h) committed.now) holders.now }
     requires whole { AreWhole x.now committed.now }
     ensures fit { IfOk result (λ synced. All (λ h. H.fits h x.now) synced.items) }
     ensures exact { IfOk result (λ synced. map H.received synced.items ≡ replicate (length holders.now) committed.now) }
@@ -44,7 +44,7 @@ fn made_whole<H: Holder>(
     committed: &[u32],
 ) -> Result<H, NoMemory>
     requires fits { H.fits holder.now x.now }
-    requires within { IsWithin (H.received holder.now) committed.now }
+    requires within { AreAmong (H.received holder.now) committed.now }
     requires whole { AreWhole x.now committed.now }
     requires ascending { IsAscending committed.now }
     ensures fits { IfOk result (λ whole. H.fits whole x.now) }

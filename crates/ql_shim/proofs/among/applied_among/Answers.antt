@@ -1,6 +1,5 @@
-use Rattle.std.proofs.Common.{◌≡◌, ℕ, List, true, false, ◌∙◌, sym, get_or, add-one}
+use Rattle.std.proofs.Common.{add-one}
 use Rattle.std.proofs.lemmas.Bool.{both_ways}
-use Rattle.ql_exec.specs.declared.effect.Effect.{Effect}
 use Rattle.ql_holder.specs.Arrivals.{Applied}
 use Rattle.ql_shim.proofs.JoinedLaws.{those-more, those-same}
 use Rattle.ql_shim.proofs.among.applied_among.Goals as goal

@@ -1,4 +1,4 @@
-use Rattle.std.proofs.Common.{◌≡◌, ℕ, ◌∙◌, sym, get_or, add-one}
+use Rattle.std.proofs.Common.{◌∙◌, sym, get_or, add-one}
 use Rattle.std.proofs.lemmas.Bool.{both_ways}
 use Rattle.ql_base.specs.IdLists.{has_id}
 use Rattle.ql_needs.specs.Closed.{Has}

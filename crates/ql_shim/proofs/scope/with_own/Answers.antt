@@ -1,8 +1,8 @@
-use Rattle.std.proofs.Common.{◌≡◌, ◌<◌, ◌≤◌, ◌-◌, ◌+◌, ℕ, List, suc, length, get_or, take, ◌∙◌, sym, subst, ap, add-one, arith}
+use Rattle.std.proofs.Common.{◌≡◌, ℕ, List, suc, length, get_or, take, ◌∙◌, subst, ap, add-one, arith}
 use Rattle.std.proofs.Math.Seq.{take-length}
 use Rattle.ql_shim.specs.Joined.{IsJoined}
 use Rattle.ql_shim.proofs.JoinedLaws.{at-has}
-use Rattle.ql_shim.proofs.NextLaws.{IsOrdered, IsUnderWay, effect-read, next-is, way-on}
+use Rattle.ql_shim.proofs.NextLaws.{IsOrdered, effect-read, next-is, way-on}
 use Rattle.ql_shim.proofs.scope.with_own.Goals as goal
 
 pub overflow_sub-a : goal.overflow_sub-a
@@ -28,7 +28,7 @@ loop-a-preserved c = λ o those own_of.
     let at = effect-read x c.effects-effects.result.now (get_or on k 0) c.index-effects-a.result c.effects-effects.ensures.same inside.0 inside.1 c.index-effects-a.is in
     let ordered : IsOrdered x s o own on = record { law = c.effects-effects.ensures.execution; on_object = those; own_of = own_of } in
     rw add-one (way-on x s o own others on (take k on) (take (suc k) on) c.loop-a.gathered.ids c.add_next.new.gathered.ids c.loop-a.gathered.whole c.add_next.new.gathered.whole
-      (get_or on k 0) c.index-effects-a.result ordered (next-is x on k c.index-effects-a.result those.ascending c.loop-a-test.true at) c.in_ok-add_next.ensures (c.loop-a.invariant o those own_of))
+    (get_or on k 0) c.index-effects-a.result ordered (next-is x on k c.index-effects-a.result those.ascending c.loop-a-test.true at) c.in_ok-add_next.ensures (c.loop-a.invariant o those own_of))
 
 pub returns-clause-joined : goal.returns-clause-joined
 returns-clause-joined c = λ o those own_of.

@@ -1,4 +1,4 @@
-use Rattle.std.proofs.Common.{◌≡◌, ◌+◌, ℕ, suc, length, refl, subst, arith, add-one}
+use Rattle.std.proofs.Common.{◌≡◌, ℕ, length, refl, subst, arith, add-one}
 use Rattle.std.proofs.lemmas.Option.{slice_get_read}
 use Rattle.ql_shim.proofs.HolderLaws.{IsLeastTo, least-all, least-next}
 use Rattle.ql_shim.proofs.shim.least_holder.Goals as goal

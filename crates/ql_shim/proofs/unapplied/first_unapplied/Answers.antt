@@ -1,7 +1,6 @@
-use Rattle.std.proofs.Common.{◌≡◌, ◌<◌, ◌≤◌, ◌+◌, ◌⊎◌, ℕ, List, true, false, suc, inl, inr, ◌∙◌, sym, subst, ap, get_or, take, add-one, arith}
+use Rattle.std.proofs.Common.{ℕ, suc, inl, inr, ◌∙◌, sym, subst, ap, get_or, take, add-one}
 use Rattle.std.proofs.lemmas.Bool.{both_ways, cases_lt}
 use Rattle.ql_base.specs.IdLists.{has_id}
-use Rattle.ql_exec.specs.declared.effect.Effect.{Effect}
 use Rattle.ql_needs.specs.Closed.{Closed, Has}
 use Rattle.ql_needs.specs.Needs.{Needs}
 use Rattle.ql_shim.proofs.JoinedLaws.{at-has, below-front, next-has}

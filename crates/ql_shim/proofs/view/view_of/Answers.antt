@@ -1,6 +1,5 @@
-use Rattle.std.proofs.Common.{◌≡◌, ◌↔◌, ◌∙◌, sym, subst, ap, ℕ, List}
-use Rattle.ql_needs.specs.Closed.{Closed, Has}
-use Rattle.ql_needs.specs.Needs.{Needs}
+use Rattle.std.proofs.Common.{subst, ℕ, List}
+use Rattle.ql_needs.specs.Closed.{Has}
 use Rattle.ql_holder.specs.Arrivals.{Applied}
 use Rattle.ql_shim.specs.Viewing.{IsFirstUnapplied}
 use Rattle.ql_shim.proofs.ViewLaws.{seen-are, closed-kept, missing-is, those-others}
@@ -11,9 +10,9 @@ returns-in_ok-with_own-in-Rc-clause-ids g c = rw c.in-Rc.is (λ now o asked.
     let x = c.args.x.now in
     let on = c.args.on.now in
     let received = g.H.Holder.received c.args.holder.now in
-    seen-are x now o on received c.args.running.now received c.in_ok-applied_among-in-Rc.field-0 c.in_ok-with_own-in-Rc.field-0
-    c.with_own-in-Rc.ensures.execution asked asked.received_settled
-    (those-others on c.in_ok-applied_among-in-Rc.field-0 (Applied x received) (c.in_ok-applied_among-in-Rc.ensures x c.requires.fits))
+    seen-are x now o on received c.args.running.now received c.in_ok-others-in-Rc.others c.in_ok-with_own-in-Rc.field-0
+    c.with_own.ensures.execution asked asked.received_settled
+    (those-others on c.in_ok-others-in-Rc.others (Applied x received) (c.in_ok-others-in-Rc.ensures x c.requires.fits))
     (c.in_ok-with_own-in-Rc.ensures.joined o asked.on_object (λ a has. asked.known.session a (asked.known.own.only a has))))
 
 pub returns-in_ok-with_own-in-Mav-clause-ids : goal.returns-in_ok-with_own-in-Mav-clause-ids
@@ -21,9 +20,9 @@ returns-in_ok-with_own-in-Mav-clause-ids g c = rw c.in-Mav.is (λ now o asked.
     let x = c.args.x.now in
     let on = c.args.on.now in
     let received = g.H.Holder.received c.args.holder.now in
-    seen-are x now o on received c.args.running.now received c.in_ok-applied_among-in-Mav.field-0 c.in_ok-with_own-in-Mav.field-0
-    c.with_own-in-Mav-2.ensures.execution asked asked.received_settled
-    (those-others on c.in_ok-applied_among-in-Mav.field-0 (Applied x received) (c.in_ok-applied_among-in-Mav.ensures x c.requires.fits))
+    seen-are x now o on received c.args.running.now received c.in_ok-others-in-Mav.others c.in_ok-with_own-in-Mav.field-0
+    c.with_own-in-Mav.ensures.execution asked asked.received_settled
+    (those-others on c.in_ok-others-in-Mav.others (Applied x received) (c.in_ok-others-in-Mav.ensures x c.requires.fits))
     (c.in_ok-with_own-in-Mav.ensures.joined o asked.on_object (λ a has. asked.known.session a (asked.known.own.only a has))))
 
 pub returns-in_ok-with_own-in-Mav-clause-missing : goal.returns-in_ok-with_own-in-Mav-clause-missing
@@ -38,10 +37,10 @@ returns-in_ok-with_own-in-Rr-clause-ids g c = rw c.in-Rr.is (λ now o asked.
     let x = c.args.x.now in
     let on = c.args.on.now in
     let snapshot = c.args.running.now.txn.snapshot in
-    seen-are x now o on (g.H.Holder.received c.args.holder.now) c.args.running.now snapshot c.in_ok-kept_among-in-Rr.field-0 c.in_ok-with_own-in-Rr.field-0
-    c.with_own-in-Rr-2.ensures.execution asked asked.snapshot_settled
+    seen-are x now o on (g.H.Holder.received c.args.holder.now) c.args.running.now snapshot c.in_ok-others-in-Rr.others c.in_ok-with_own-in-Rr.field-0
+    c.with_own-in-Rr.ensures.execution asked asked.snapshot_settled
     (λ a is_on.
-      let kept = those-others on c.in_ok-kept_among-in-Rr.field-0 (Has snapshot) c.in_ok-kept_among-in-Rr.ensures a is_on in
-      let closed = closed-kept x now snapshot asked.snapshot_settled asked.snapshot_closed a in
-      (λ has. closed.0 (kept.0 has), λ all. kept.1 (closed.1 all)))
+    let kept = those-others on c.in_ok-others-in-Rr.others (Has snapshot) c.in_ok-others-in-Rr.ensures a is_on in
+    let closed = closed-kept x now snapshot asked.snapshot_settled asked.snapshot_closed a in
+    (λ has. closed.0 (kept.0 has), λ all. kept.1 (closed.1 all)))
     (c.in_ok-with_own-in-Rr.ensures.joined o asked.on_object (λ a has. asked.known.session a (asked.known.own.only a has))))

@@ -1,9 +1,6 @@
-use Rattle.std.proofs.Common.{◌≡◌, ◌++◌, ◌∷◌, [], List, ℕ, None, suc, ◌+◌, ◌∙◌, sym, subst, ap, add-one, false}
-use Rattle.std.specs.List.{list_any}
+use Rattle.std.proofs.Common.{◌≡◌, None, sym, subst, add-one}
 use Rattle.ql_machine.specs.State.{open_of}
-use Rattle.ql_shim.specs.declared.running.Running.{Running}
-use Rattle.ql_shim.specs.Transactions.{Transactions, AreApart, is_of, open_txns}
-use Rattle.ql_shim.specs.Changed.{IsBegun}
+use Rattle.ql_shim.specs.Transactions.{Transactions, open_txns}
 use Rattle.ql_shim.proofs.RunningLaws.{apart-push, none-open}
 use Rattle.ql_shim.proofs.ChangeLaws.{begun-is}
 use Rattle.ql_shim.proofs.shim.Shim.begin.Goals as goal

@@ -1,7 +1,4 @@
-use Rattle.std.proofs.Common.{◌≡◌, Option, Some, None, refl, find, ◌∙◌, sym, ap}
-use Rattle.std.specs.Option.{option_map}
-use Rattle.ql_machine.specs.declared.open_txn.OpenTxn.{OpenTxn}
-use Rattle.ql_shim.specs.declared.running.Running.{Running}
+use Rattle.std.proofs.Common.{◌≡◌, Some, None, refl, find, ◌∙◌, sym, ap}
 use Rattle.ql_shim.specs.Transactions.{Transactions, is_of}
 use Rattle.ql_shim.proofs.RunningLaws.{open_of-running}
 use Rattle.ql_shim.proofs.shim.Shim.declares.Goals as goal

@@ -1,4 +1,4 @@
-use Rattle.std.proofs.Common.{◌≡◌, ◌<◌, ℕ, List, Option, Some, refl, ◌∙◌, sym, subst, ap, arith}
+use Rattle.std.proofs.Common.{◌≡◌, List, Some, refl, sym, subst, arith}
 use Rattle.ql_machine.specs.State.{open_of}
 use Rattle.ql_shim.specs.declared.running.Running.{Running}
 use Rattle.ql_shim.specs.Transactions.{Transactions, open_txns}
@@ -31,4 +31,4 @@ returns-clause-noted c =
     let here = there-at items c.args.s c.place-at.result c.requires.0 c.index_mut-running.result.now place open_now c.index_mut-running.ensures.value in
     rw (← c.self.view_is)
     (noted-is items c.self.inside.begun c.args.s c.place-at.result c.args.e.0 c.args.seen.now c.requires.0 c.index_mut-running.result.now
-      (record { txn = c.index_mut-running.result.now.txn; own = c.insert.new.self; saw = c.in_ok-saw.saw }) place here refl c.in_ok-insert.ensures.added c.in_ok-saw.ensures)
+    (record { txn = c.index_mut-running.result.now.txn; own = c.insert.new.self; saw = c.in_ok-saw.saw }) place here refl c.in_ok-insert.ensures.added c.in_ok-saw.ensures)

@@ -1,4 +1,4 @@
-use Rattle.std.proofs.Common.{◌≡◌, ◌<◌, ℕ, [], List, Option, Some, ◌∙◌, sym, subst, ap, arith}
+use Rattle.std.proofs.Common.{◌≡◌, [], List, Option, Some, sym, subst, ap, arith}
 use Rattle.std.specs.Option.{option_map_or}
 use Rattle.ql_machine.specs.State.{open_of}
 use Rattle.ql_shim.specs.declared.running.Running.{Running}

@@ -1,11 +1,10 @@
-use Rattle.std.proofs.Common.{◌≡◌, ◌<◌, ℕ, List, Option, Some, ◌∙◌, sym, subst, ap, map, arith}
+use Rattle.std.proofs.Common.{◌≡◌, List, Some, sym, subst, map, arith}
 use Rattle.ql_machine.specs.declared.open_txn.OpenTxn.{OpenTxn}
-use Rattle.ql_machine.specs.Sets.{AreThose}
 use Rattle.ql_machine.specs.State.{open_of}
 use Rattle.ql_shim.specs.declared.running.Running.{Running}
 use Rattle.ql_shim.specs.Transactions.{Transactions, open_txns}
 use Rattle.ql_shim.specs.Changed.{IsPlace}
-use Rattle.ql_shim.specs.Viewing.{IsAsked, IsLeastUnapplied, IsSeen, state_of}
+use Rattle.ql_shim.specs.Viewing.{IsLeastUnapplied, state_of}
 use Rattle.ql_shim.proofs.ChangeLaws.{there, there-at}
 use Rattle.ql_shim.proofs.ViewLaws.{asked-of, if_ok-more, seen-of}
 use Rattle.ql_shim.proofs.shim.Shim.view_rule.Goals as goal
