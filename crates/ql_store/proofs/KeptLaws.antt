@@ -1,0 +1,80 @@
+-- What a store keeps from one event to the next.
+use Rattle.std.proofs.Common.{◌≡◌, ℕ, ◌≤◌, ◌<◌, List, [], length, replicate, true, refl, sym, subst, ◌∙◌, Some, None}
+use Rattle.std.proofs.lemmas.List.{length-replicate}
+use Rattle.std.proofs.lemmas.List.Elements.{All-nil}
+use Rattle.ql_machine.specs.declared.message.Message.{Message}
+use Rattle.std.specs.Prelude.{Result, Ok, Err, IfOk, OnErr}
+use Rattle.ql_base.specs.declared.no_memory.NoMemory.{NoMemory}
+use Rattle.ql_exec.specs.declared.effect.Effect.{Effect}
+use Rattle.ql_shim.specs.Transactions.{Transactions}
+use Rattle.ql_net.specs.Network.{Network}
+use Rattle.ql_value.specs.declared.value.Value.TheVariants as value
+use Rattle.ql_exec.specs.declared.effect.Payload.TheVariants.{Nothing}
+use Rattle.ql_levels.specs.Lists.{LevelLists}
+use Rattle.ql_machine.specs.declared.event.Event.{Event}
+use Rattle.ql_machine.specs.declared.reply.Reply.{Reply}
+use Rattle.ql_machine.specs.State.{Machine, empty, open_of}
+use Rattle.ql_machine.specs.Rules.{Promises, Rules}
+use Rattle.ql_machine.specs.Steps.{IsStep}
+use Rattle.ql_machine_laws.specs.Kept.{Keeps}
+use Rattle.ql_machine_laws.proofs.Keeping.{keeps-empty, keeps-step}
+use Rattle.ql_session.specs.declared.note.Note.{Note}
+use Rattle.ql_session.specs.Executions.{notes_of}
+use Rattle.ql_shim.specs.Transactions.{own_of, saw_of}
+use Rattle.ql_shim.specs.Viewing.{IsKnown}
+use Rattle.ql_base.specs.declared.ids.SessId.{SessId}
+use Rattle.ql_machine.specs.declared.open_txn.OpenTxn.{OpenTxn}
+use Rattle.ql_store.specs.Events.{IsInRange}
+use Rattle.ql_store.specs.Levels.{promises_of}
+use Rattle.ql_store.specs.State.{GoWithin, IsKept, machine_of}
+use Rattle.ql_store.proofs.Going.{Goes, goes-step}
+
+-- rules that make these promises; how calls are answered makes no difference to what is kept
+abbrev pub some_rules : Promises → Rules
+some_rules promises = record { promises = promises; uses = λ decl op. true; answer = λ op args effects. (record { answer = value.Bool true; payload = Nothing }) }
+
+pub kept-step : (levels : LevelLists) (rules : Rules) (s t : Machine) (notes more : List Note) (shim later : Transactions) (event : Event) (r : Reply) → rules.promises ≡ promises_of levels
+    → IsKept levels s notes shim → IsStep rules s event t r → IsInRange (length s.received) event → more ≡ notes_of t.effects
+    → ((session : SessId) (u : OpenTxn) → open_of t.open_txns session ≡ Some u → IsKnown t.effects u (own_of later session) (saw_of later session)) → IsKept levels t more later
+kept-step levels rules s t notes more shim later event r promises kept step inside noted known =
+    let start : Goes (length s.received) s = record { replicas = refl; groups = kept.grouped; receivers = kept.receivers } in
+    let goes : Goes (length s.received) t = goes-step (length s.received) s start rules event t r step inside in
+    let keeps : Keeps rules.promises (length s.received) s = subst (λ (p : Promises). Keeps p (length s.received) s) (sym promises) kept.keeps in
+    let after : Keeps rules.promises (length s.received) t = keeps-step rules (length s.received) s keeps event t r step in
+    record {
+      keeps = subst (λ (n : ℕ). Keeps (promises_of levels) n t) (sym goes.replicas) (subst (λ (p : Promises). Keeps p (length s.received) t) promises after);
+      grouped = goes.groups ∙ sym goes.replicas;
+      receivers = subst (λ (n : ℕ). GoWithin n t.messages) (sym goes.replicas) goes.receivers;
+      few = subst (λ (n : ℕ). n ≤ 16) (sym goes.replicas) kept.few;
+      noted = noted;
+      known = known;
+    }
+
+-- where nothing changed
+pub machine-same : (x : List Effect) (received lists : List (List ℕ)) (net later : Network) (shim : Transactions) → lists ≡ received → later ≡ net
+    → machine_of x lists later shim ≡ machine_of x received net shim
+machine-same x received lists net later shim same is = λ i. machine_of x (same i) (is i) shim
+
+-- a fact that both answers of a call give
+pub by-result : {A : Type 0} (r : Result A NoMemory) (P : A → Type 0) (Q R : Type 0) → IfOk r P → OnErr r Q → ((a : A) → P a → R) → (Q → R) → R
+by-result (Ok a) P Q R ok err given otherwise = given a ok
+by-result (Err e) P Q R ok err given otherwise = otherwise err
+
+-- before anything happens
+pub kept-empty : (levels : LevelLists) (n : ℕ) (x : List Effect) (received : List (List ℕ)) (net : Network) (notes : List Note) (shim : Transactions) → n ≤ 16
+    → x ≡ [] → received ≡ replicate n [] → net ≡ record { messages = []; groups = replicate n 0 } → notes ≡ [] → shim ≡ record { running = []; begun = 0 } → IsKept levels (machine_of x received net shim) notes shim
+kept-empty levels n x received net notes shim most none nothing quiet unnoted unbegun =
+    let start : empty n ≡ machine_of x received net shim = λ i. machine_of (sym none i) (sym nothing i) (sym quiet i) (sym unbegun i) in
+    let long : length (replicate n []) ≡ n = length-replicate {A = List ℕ} n [] in
+    subst (λ (s : Machine). IsKept levels s notes shim) start (record {
+      keeps = subst (λ (k : ℕ). Keeps (promises_of levels) k (empty n)) (sym long) (keeps-empty (promises_of levels) n);
+      grouped = length-replicate {A = ℕ} n 0 ∙ sym long;
+      receivers = All-nil (λ (message : Message). message.receiver.0 < length (replicate n []));
+      few = subst (λ (k : ℕ). k ≤ 16) (sym long) most;
+      noted = unnoted;
+      known = λ session t is. (let never : None ≡ Some t = is in cc);
+    })
+
+pub both-failed : {A : Type 0} (r : Result A NoMemory) (P Q R : Type 0) → OnErr r P → OnErr r Q → (P → Q → R) → OnErr r R
+both-failed (Ok a) P Q R one two from = tt
+both-failed (Err e) P Q R one two from = from one two

@@ -1,0 +1,4 @@
+pub mod Levels
+pub mod State
+pub mod Receipts
+pub mod Events

@@ -1,0 +1,46 @@
+-- What a store is seen as, and what it keeps.
+use Rattle.std.specs.Prelude.{◌≡◌, ◌≤◌, ◌<◌, ℕ, List, All, Some, length}
+use Rattle.ql_base.specs.declared.ids.SessId.{SessId}
+use Rattle.ql_exec.specs.declared.effect.Effect.{Effect}
+use Rattle.ql_levels.specs.Lists.{LevelLists}
+use Rattle.ql_machine.specs.declared.message.Message.{Message}
+use Rattle.ql_machine.specs.declared.open_txn.OpenTxn.{OpenTxn}
+use Rattle.ql_machine.specs.State.{Machine, open_of}
+use Rattle.ql_machine_laws.specs.Kept.{Keeps}
+use Rattle.ql_net.specs.Network.{Network}
+use Rattle.ql_session.specs.declared.note.Note.{Note}
+use Rattle.ql_session.specs.Executions.{notes_of}
+use Rattle.ql_shim.specs.Transactions.{Transactions, open_txns, own_of, saw_of}
+use Rattle.ql_shim.specs.Viewing.{IsKnown}
+use Rattle.ql_store.specs.Levels.{promises_of}
+
+-- the levels at which a store answers, and its state as the written machine has it
+pub record StoreState : Type 0 where
+  pub levels : LevelLists
+  pub machine : Machine
+
+-- the state that the parts of a store make together
+abbrev pub machine_of : List Effect → List (List ℕ) → Network → Transactions → Machine
+machine_of effects received net shim = record {
+  effects = effects;
+  received = received;
+  groups = net.groups;
+  messages = net.messages;
+  open_txns = open_txns shim;
+  begun = shim.begun;
+}
+
+-- each message goes to one of the first replicas
+abbrev pub GoWithin : ℕ → List Message → Type 0
+GoWithin n messages = All (λ message. message.receiver.0 < n) messages
+
+pub record IsKept (levels : LevelLists) (s : Machine) (notes : List Note) (shim : Transactions) : Type 0 where
+  -- what every run of the machine keeps at these levels
+  pub keeps : Keeps (promises_of levels) (length s.received) s
+  -- each replica has a group, and messages go to replicas
+  pub grouped : length s.groups ≡ length s.received
+  pub receivers : GoWithin (length s.received) s.messages
+  pub few : length s.received ≤ 16
+  -- each effect is noted, and what each open transaction did
+  pub noted : notes ≡ notes_of s.effects
+  pub known : (session : SessId) (t : OpenTxn) → open_of s.open_txns session ≡ Some t → IsKnown s.effects t (own_of shim session) (saw_of shim session)

@@ -1,0 +1,125 @@
+ghost use Rattle.std.specs.Prelude.{◌≡◌, ◌≤◌, ◌<◌, ◌+◌, ◌^◌, ℕ, Some, length, IfOk, OnErr};
+ghost use Rattle.ql_machine.specs.declared.event.Event.TheVariants as event;
+ghost use Rattle.ql_machine.specs.declared.message.Message.{Message};
+ghost use Rattle.ql_machine.specs.State.{empty, message_at};
+ghost use Rattle.ql_machine.specs.Rules.{Rules};
+ghost use Rattle.ql_machine.specs.Steps.{IsStep};
+
+use crate::deliver::deliver;
+use ql_base::{MsgId, NoMemory};
+use ql_exec::Execution;
+use ql_holder::Holder;
+use ql_levels::Levels;
+use ql_machine::{Groups, Reply};
+use ql_net::Net;
+use ql_session::Sessions;
+use ql_shim::Shim;
+use std::alloc::Global;
+use std::marker::Model;
+
+/// A replicated store, seen as its levels and the state of the written machine.
+#[derive(Drop)]
+pub struct Store<H: Holder> {
+    alloc: Global,
+    levels: Levels,
+    execution: Execution,
+    holders: Vec<H>,
+    net: Net,
+    sessions: Sessions,
+    shim: Shim,
+}
+
+impl<H: Holder> Model for Store<H> {
+    ghost use Rattle.std.specs.Prelude.{All, map};
+    ghost use Rattle.ql_store.specs.State.{StoreState, IsKept, machine_of};
+
+    ghost Value = { StoreState };
+
+    ghost view = { λ s. record {
+      levels = s.levels;
+      machine = machine_of s.execution (map H.received s.holders.items) s.net s.shim;
+    } };
+
+    ghost invariant = { λ s. IsKept s.levels (machine_of s.execution (map H.received s.holders.items) s.net s.shim) s.sessions s.shim
+        × All (λ h. H.fits h s.execution) s.holders.items };
+}
+
+impl<H: Holder> Store<H> {
+    /// A store with this many replicas, in which nothing has happened.
+    pub fn new(alloc: Global, replicas: u32, levels: Levels) -> Result<Store<H>, NoMemory>
+        requires { replicas ≤ 16 }
+        ensures { IfOk result (λ store. store ≡ record { levels = levels; machine = empty replicas }) }
+    {
+        let mut holders = Vec::with_capacity(alloc, replicas as usize)?;
+        for _r in 0..replicas {
+            holders.push(H::empty(alloc))?;
+        }
+        Ok(Store {
+            alloc,
+            levels,
+            execution: Execution::new(alloc),
+            holders,
+            net: Net::new(alloc, replicas)?,
+            sessions: Sessions::new(alloc),
+            shim: Shim::new(alloc),
+        })
+    }
+
+    /// The effects of all calls that were answered.
+    pub fn execution(&self) -> &Execution
+        ensures { result.now ≡ self.now.machine.effects }
+    {
+        &self.execution
+    }
+
+    /// The network falls apart into groups.
+    pub fn partition(&mut self, groups: Groups) -> Reply
+        requires { length groups ≡ length self.old.machine.groups }
+        ensures step { (rules : Rules) → IsStep rules self.old.machine (event.Partition groups) self.new.machine result }
+        ensures levels { self.new.levels ≡ self.old.levels }
+    {
+        self.net.partition(groups);
+        Reply::Split
+    }
+
+    /// The network is whole again.
+    pub fn heal(&mut self) -> Reply
+        ensures step { (rules : Rules) → IsStep rules self.old.machine event.Heal self.new.machine result }
+        ensures levels { self.new.levels ≡ self.old.levels }
+    {
+        self.net.heal();
+        Reply::Healed
+    }
+
+    /// The network makes one more copy of a message.
+    pub fn repeat(&mut self, m: MsgId) -> Reply
+        requires room { (message : Message) → message_at self.old.machine.messages m.0 ≡ Some message → message.copies + 1 < 2 ^ 32 }
+        ensures step { (rules : Rules) → IsStep rules self.old.machine (event.Repeat m) self.new.machine result }
+        ensures levels { self.new.levels ≡ self.old.levels }
+    {
+        if !self.net.repeat(m) {
+            return Reply::Gone;
+        }
+        Reply::Sent(m)
+    }
+
+    /// The network loses a copy of a message.
+    pub fn lose(&mut self, m: MsgId) -> Reply
+        ensures step { (rules : Rules) → IsStep rules self.old.machine (event.Lose m) self.new.machine result }
+        ensures levels { self.new.levels ≡ self.old.levels }
+    {
+        if !self.net.lose(m) {
+            return Reply::Gone;
+        }
+        Reply::Lost
+    }
+
+    /// A copy of a message arrives.
+    pub fn deliver(&mut self, m: MsgId) -> Result<Reply, NoMemory>
+        ensures step { IfOk result (λ r. (rules : Rules) → IsStep rules self.old.machine (event.Deliver m) self.new.machine r) }
+        ensures levels { self.new.levels ≡ self.old.levels }
+        ensures err { OnErr result (self.new ≡ self.old) }
+    {
+        deliver(&self.execution, &mut self.holders, &mut self.net, m)
+    }
+}
