@@ -29,17 +29,16 @@ fn check_row<F: FnMut(Global, &str) -> Result<Vec<u8>, NoMemory>>(
 {
     let row = with_controls(alloc, line)?;
     let (question, expected) = row.as_str().split_once(" -> ").unwrap_or((line, "?"));
-    let found = answer(alloc, question)?;
-    if found.as_slice() == expected.as_bytes() {
-        Ok(())
-    } else {
-        Err(difference(alloc, line, &found)?)
+    match answer(alloc, question) {
+        Ok(found) if found.as_slice() == expected.as_bytes() => Ok(()),
+        Ok(found) => Err(difference(alloc, line, &found)?),
+        Err(NoMemory) => Err(Fail::new(format_args!("out of memory\n  for the row {line}"))),
     }
 }
 
 fn difference(alloc: Global, line: &str, found: &[u8]) -> Result<Fail, AllocError> {
     let found = String::from_utf8_lossy(alloc, found)?;
-    Ok(Fail::new(format_args!("{line}\n  but found: {found}")))
+    Ok(Fail::new(format_args!("{found}\n  for the row {line}")))
 }
 
 fn with_controls(alloc: Global, line: &str) -> Result<String, AllocError> {
