@@ -1,6 +1,6 @@
-ghost use Rattle.std.specs.Prelude.{◌<◌, [], IfOk, length, slice_get};
+ghost use Rattle.std.specs.Prelude.{◌<◌, [], IfOk, IsTrue, length, slice_get};
 ghost use Rattle.ql_typing.specs.Operations.{all_ops};
-ghost use Rattle.ql_eval.specs.Able.{AreArgs, IsAnswerOf};
+ghost use Rattle.ql_eval.specs.Able.{AreArgs, AreFields, FitsOp, type_of_op};
 
 use crate::texts::{declared, push_value, push_values, spelled};
 use ql_base::{IdSet, NoMemory, OpId, push_bytes};
@@ -34,18 +34,24 @@ fn called(alloc: Global, name: &str) -> Result<Vec<u8>, NoMemory> {
         return spelled(alloc, "no source");
     };
     match typed.op_named(name.as_bytes()) {
-        Some(op) if typed.op(op).params.items().is_empty() => called_alone(alloc, &typed, op),
+        Some(op) if has_no_parameters(&typed, op) => called_alone(alloc, &typed, op),
         _ => spelled(alloc, "no operation"),
     }
+}
+
+#[tactic(auto, using(crate::proofs::Alone::without_args))]
+fn has_no_parameters(typed: &Typed, op: OpId) -> bool
+    requires { op.0 < length (all_ops typed.now.program.types) }
+    ensures { IsTrue result → AreArgs (slice_get (all_ops typed.now.program.types) op.0) [] }
+{
+    typed.op(op).params.items().is_empty()
 }
 
 fn called_alone(alloc: Global, typed: &Typed, op: OpId) -> Result<Vec<u8>, NoMemory>
     requires within { op.0 < length (all_ops typed.now.program.types) }
     requires alone { AreArgs (slice_get (all_ops typed.now.program.types) op.0) [] }
 {
-    let execution = Execution::new(alloc);
-    let seen = IdSet::new(alloc);
-    let state = fold(alloc, typed, typed.kind_of(op), &execution, &seen)?;
+    let state = first_state(alloc, typed, op)?;
     let mut out = Vec::new(alloc);
     push_values(&mut out, &state)?;
     push_bytes(&mut out, b": ")?;
@@ -63,12 +69,25 @@ fn called_alone(alloc: Global, typed: &Typed, op: OpId) -> Result<Vec<u8>, NoMem
     Ok(out)
 }
 
+#[tactic(auto, using(crate::proofs::Alone::state_fits, crate::proofs::Alone::nothing_seen))]
+fn first_state(alloc: Global, typed: &Typed, op: OpId) -> Result<Values, NoMemory>
+    requires { op.0 < length (all_ops typed.now.program.types) }
+    ensures { IfOk result (AreFields (type_of_op typed.now.program.types op.0)) }
+{
+    let execution = Execution::new(alloc);
+    let seen = IdSet::new(alloc);
+    fold(alloc, typed, typed.kind_of(op), &execution, &seen)
+}
+
+#[tactic(auto, using(crate::proofs::Alone::nothing_on_one_object, crate::proofs::Alone::able_alone))]
 fn answered_alone(alloc: Global, typed: &Typed, op: OpId) -> Result<Answered, NoMemory>
     requires within { op.0 < length (all_ops typed.now.program.types) }
     requires alone { AreArgs (slice_get (all_ops typed.now.program.types) op.0) [] }
-    ensures { IfOk result (IsAnswerOf (slice_get (all_ops typed.now.program.types) op.0)) }
+    ensures { IfOk result (λ given. FitsOp (slice_get (all_ops typed.now.program.types) op.0) given.payload) }
 {
     let folder = TypedFolder::new(alloc, typed);
+    let execution = Execution::new(alloc);
     let none = Values::of(Vec::new(alloc));
-    folder.answer(op, &none, &Execution::new(alloc), &IdSet::new(alloc))
+    let seen = IdSet::new(alloc);
+    folder.answer(op, &none, &execution, &seen)
 }
