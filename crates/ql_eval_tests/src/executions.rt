@@ -121,7 +121,7 @@ fn stepped_back(alloc: Global, row: &str) -> Result<Vec<u8>, NoMemory> {
         return spelled(alloc, "no execution");
     };
     let copy = execution.copy()?;
-    if !execution.is_empty() {
+    if execution.len() >= 1 {
         execution.pop();
     }
     let mut out = pushed(alloc, &mut execution, then)?;

@@ -4,8 +4,9 @@ use ql_eval::{Env, eval, try_eval};
 use ql_lang::Expr;
 use ql_parse::parse_program;
 use ql_tables::check_table;
-use ql_value::{Value, parse_value};
+use ql_value::{Value, order, parse_value};
 use std::alloc::Global;
+use std::cmp::Ordering;
 use std::test::Fail;
 
 // The names in scope and the texts of their values.
@@ -154,9 +155,14 @@ fn evaluated(alloc: Global, env: &Env, text: &str) -> Result<Vec<u8>, NoMemory> 
 }
 
 fn value_text(alloc: Global, env: &Env, expression: &Expr) -> Result<Vec<u8>, NoMemory> {
-    let mut out = Vec::new(alloc);
-    if try_eval(alloc, expression, env)?.is_some() {
-        push_value(&mut out, &eval(alloc, expression, env)?)?;
+    let Some(value) = try_eval(alloc, expression, env)? else {
+        return spelled(alloc, "no value");
+    };
+    let same = eval(alloc, expression, env)?;
+    if order(&value, &same) != Ordering::Equal {
+        return spelled(alloc, "two values");
     }
+    let mut out = Vec::new(alloc);
+    push_value(&mut out, &value)?;
     Ok(out)
 }

@@ -1,4 +1,5 @@
-ghost use Rattle.std.specs.Prelude.{◌≡◌, IfOk, length};
+ghost use Rattle.std.specs.Prelude.{◌≡◌, ◌+◌, ◌*◌, ◌^◌, ◌<◌, IfOk, length};
+ghost use Rattle.ql_cnf.specs.Circuits.{circuit_of, InputsInRange, gates};
 
 use crate::texts::{add, clauses_of, literal, literals, push_literals, spelled};
 use ql_base::{NoMemory, push_bytes, push_number};
@@ -78,6 +79,9 @@ fn satisfied(alloc: Global, row: &str) -> Result<Vec<u8>, NoMemory> {
     let (text, values) = row.split_once(" under ").unwrap_or((row, ""));
     let clauses = clauses_of(alloc, 2, text)?;
     let assignment = assignment(alloc, values.starts_with("1"), values.ends_with("1"))?;
+    if clauses.variables() != 2 {
+        return spelled(alloc, "other variables");
+    }
     let holds = satisfies(&assignment, &clauses);
     spelled(alloc, if holds { "true" } else { "false" })
 }
@@ -88,9 +92,9 @@ fn assignment(alloc: Global, a: bool, b: bool) -> Result<Assignment, NoMemory>
     Ok(Assignment::of(vec![in alloc; a, b]?))
 }
 
-// How many variables there are, and the clauses of a gate that is true and of its denial.
+// A formula over nine variables, and the clauses of its gates and of its denial.
 const DENIED: &str = "
-9 -> 10 variables: 10 0 -10 0
+true -> 10 variables: 10 0 -10 0
 ";
 
 #[test]
@@ -98,15 +102,26 @@ fn one_clause_a_gate_and_the_denial(rt: HostRuntime) -> Result<(), Fail> {
     check_table(rt.alloc(), DENIED, denied)
 }
 
-fn denied(alloc: Global, row: &str) -> Result<Vec<u8>, NoMemory> {
-    let variables = row.parse::<u32>().unwrap_or(0).min(100);
-    let mut clauses = Clauses::new(alloc, variables);
-    clausify(&Ground::True, &mut clauses)?;
+fn denied(alloc: Global, formula: &str) -> Result<Vec<u8>, NoMemory> {
+    if formula != "true" {
+        return spelled(alloc, "no formula");
+    }
+    let clauses = denial(alloc, &Ground::True, 9)?;
     let mut out = Vec::new(alloc);
     push_number(&mut out, clauses.variables())?;
     push_bytes(&mut out, b" variables:")?;
     push_clauses(&mut out, &clauses)?;
     Ok(out)
+}
+
+fn denial(alloc: Global, formula: &Ground, variables: u32) -> Result<Clauses, NoMemory>
+    requires leaves { InputsInRange variables (circuit_of formula.now) }
+    requires variables { variables + gates (circuit_of formula.now) < 2 ^ 32 }
+    requires numbered { 3 * gates (circuit_of formula.now) + 1 < 2 ^ 32 }
+{
+    let mut clauses = Clauses::new(alloc, variables);
+    clausify(formula, &mut clauses)?;
+    Ok(clauses)
 }
 
 fn push_clauses(out: &mut Vec<u8>, clauses: &Clauses) -> Result<(), NoMemory> {

@@ -42,7 +42,7 @@ fn judged(alloc: Global, row: &str) -> Result<Vec<u8>, NoMemory> {
 
 fn verdict(clauses: &Clauses, refutation: &Refutation) -> Verdict {
     let mut marks = [7; 3];
-    if clauses.variables() > 2 {
+    if clauses.variables() != 2 {
         return Verdict::NoEmpty;
     }
     check(clauses, refutation, &mut marks)

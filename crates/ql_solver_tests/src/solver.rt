@@ -53,8 +53,10 @@ fn decides_pigeons(rt: HostRuntime) -> Result<(), Fail> {
 
 fn decided_both_ways(alloc: Global, row: &str) -> Result<Vec<u8>, NoMemory> {
     let clauses = clauses_in(alloc, row)?;
-    let plainly = judged(alloc, &clauses, &plain::decide(alloc, &clauses)?)?;
-    if plainly == judged(alloc, &clauses, &decide(alloc, &clauses)?)? {
+    let decided = plain::decide(alloc, &clauses)?;
+    let plainly = judged(alloc, &clauses, &decided)?;
+    let decided = decide(alloc, &clauses)?;
+    if judged(alloc, &clauses, &decided)? == plainly {
         spelled(alloc, plainly)
     } else {
         spelled(alloc, "two answers")
@@ -63,7 +65,8 @@ fn decided_both_ways(alloc: Global, row: &str) -> Result<Vec<u8>, NoMemory> {
 
 fn decided(alloc: Global, row: &str) -> Result<Vec<u8>, NoMemory> {
     let clauses = clauses_in(alloc, row)?;
-    spelled(alloc, judged(alloc, &clauses, &decide(alloc, &clauses)?)?)
+    let decided = decide(alloc, &clauses)?;
+    spelled(alloc, judged(alloc, &clauses, &decided)?)
 }
 
 fn clauses_in(alloc: Global, row: &str) -> Result<Clauses, NoMemory> {
@@ -76,8 +79,11 @@ fn judged(alloc: Global, clauses: &Clauses, decided: &Decided) -> Result<&'stati
     requires { IsRight clauses.now decided.now }
 {
     match decided {
-        Decided::Model(model) if satisfies(model, clauses) => Ok("model"),
-        Decided::Model(_) => Ok("no model"),
+        Decided::Model(model) => Ok(if satisfies(model, clauses) {
+            "model"
+        } else {
+            "no model"
+        }),
         Decided::Refuted(refutation) => {
             let mut marks = vec![in alloc; 7; clauses.variables() as usize + 1]?;
             match check(clauses, refutation, &mut marks) {

@@ -1,4 +1,4 @@
-ghost use Rattle.std.specs.Prelude.{◌≡◌, IfOk};
+ghost use Rattle.std.specs.Prelude.{◌≡◌};
 
 use ql_base::{NoMemory, push_bytes, push_number};
 use ql_cnf::{Clauses, Lit, are_in_range};
@@ -22,9 +22,7 @@ pub(crate) fn literals(alloc: Global, text: &str) -> Result<Vec<Lit>, NoMemory> 
 }
 
 /// The clauses of a text, each ended by 0, over so many variables. Those that are out of range are left out.
-pub(crate) fn clauses_of(alloc: Global, variables: u32, text: &str) -> Result<Clauses, NoMemory>
-    ensures { IfOk result (λ clauses. clauses.variables ≡ variables) }
-{
+pub(crate) fn clauses_of(alloc: Global, variables: u32, text: &str) -> Result<Clauses, NoMemory> {
     let mut clauses = Clauses::new(alloc, variables);
     let mut lits = Vec::new(alloc);
     for word in text.split_whitespace() {

@@ -76,10 +76,10 @@ fn the_first_false_choice_is_reported(rt: HostRuntime) -> Result<(), Fail> {
 
 fn judged_at(alloc: Global, row: &str) -> Result<Vec<u8>, NoMemory> {
     let (contract, effect) = row.split_once(" at ").unwrap_or((row, ""));
-    let (Some(execution), Some(formula)) = (
-        execution(alloc, SESSIONS),
-        formula(alloc, contract, false),
-    ) else {
+    let Some(execution) = execution(alloc, SESSIONS) else {
+        return spelled(alloc, "no execution");
+    };
+    let Some(formula) = formula(alloc, contract, false) else {
         return spelled(alloc, "no formula");
     };
     let relations = Relations::build(alloc, &execution)?;
@@ -113,10 +113,10 @@ fn a_transaction_without_effects_holds(rt: HostRuntime) -> Result<(), Fail> {
 
 fn judged_of(alloc: Global, row: &str) -> Result<Vec<u8>, NoMemory> {
     let (contract, run) = row.split_once(" at ").unwrap_or((row, ""));
-    let (Some(execution), Some(formula)) = (
-        execution(alloc, TRANSACTION),
-        formula(alloc, contract, true),
-    ) else {
+    let Some(execution) = execution(alloc, TRANSACTION) else {
+        return spelled(alloc, "no execution");
+    };
+    let Some(formula) = formula(alloc, contract, true) else {
         return spelled(alloc, "no formula");
     };
     let relations = Relations::build(alloc, &execution)?;
