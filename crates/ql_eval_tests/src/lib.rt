@@ -7,8 +7,6 @@ mod executions;
 #[cfg(test)]
 mod expressions;
 #[cfg(test)]
-mod folders;
-#[cfg(test)]
 mod folds;
 #[cfg(test)]
 mod texts;
