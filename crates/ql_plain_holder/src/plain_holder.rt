@@ -1,0 +1,93 @@
+ghost use Rattle.std.specs.Prelude.{◌≡◌, IfOk};
+ghost use Rattle.ql_needs.specs.Needs.{IsPackage};
+ghost use Rattle.ql_holder.specs.Arrivals.{ChangesNothing, IsArrival};
+ghost use Rattle.ql_plain_holder.specs.Plain.{FitsPlain};
+
+use crate::closing::{closed_part, first_missing, without};
+use ql_base::{EffId, IdSet, NoMemory};
+use ql_exec::Execution;
+use ql_holder::{Arrival, Holder};
+use ql_ranges::Ranges;
+use ql_reach::reach;
+use std::alloc::Global;
+
+/// A holder that keeps a list of what was received and a list of what is applied.
+#[derive(Drop)]
+pub struct PlainHolder {
+    received: IdSet,
+    applied: IdSet,
+    alloc: Global,
+}
+
+impl Holder for PlainHolder {
+    ghost use Rattle.ql_plain_holder.specs.Plain.{FitsPlain};
+    ghost use Rattle.ql_plain_holder.specs.PlainLaws.{fits-more};
+
+    ghost received = { λ h. h.received };
+
+    ghost fits = { λ h x. FitsPlain h.received h.applied x };
+
+    fn empty(alloc: Global) -> Self {
+        PlainHolder {
+            received: IdSet::new(alloc),
+            applied: IdSet::new(alloc),
+            alloc,
+        }
+    }
+
+    fn receive(&mut self, pack: &IdSet, x: &Execution) -> Result<Arrival, NoMemory> {
+        receive_in(self.alloc, &mut self.received, &mut self.applied, pack, x)
+    }
+
+    fn has(&self, e: EffId) -> bool {
+        self.received.has(e.0)
+    }
+
+    fn applied(&self, e: EffId) -> bool {
+        self.applied.has(e.0)
+    }
+
+    fn copy(&self) -> Result<Self, NoMemory> {
+        Ok(PlainHolder {
+            received: self.received.copy()?,
+            applied: self.applied.copy()?,
+            alloc: self.alloc,
+        })
+    }
+
+    ghost fits_ascending = { λ h x fits. fits.ascending };
+
+    ghost fits_whole = { λ h x fits. fits.whole };
+
+    ghost fits_more = { λ h x more law fits alone. fits-more h.received h.applied x more law fits alone };
+}
+
+fn receive_in(
+    alloc: Global,
+    received: &mut IdSet,
+    applied: &mut IdSet,
+    pack: &IdSet,
+    x: &Execution,
+) -> Result<Arrival, NoMemory>
+    requires fits { FitsPlain received.old applied.old x.now }
+    requires package { IsPackage x.now pack.now }
+    ensures arrival { IfOk result (IsArrival x.now received.old pack.now received.new) }
+    ensures fits { FitsPlain received.new applied.new x.now }
+    ensures received { ChangesNothing result → received.new ≡ received.old }
+    ensures applied { ChangesNothing result → applied.new ≡ applied.old }
+{
+    if received.has(pack.get(0)) {
+        return Ok(Arrival::Again);
+    }
+    let after = received.union(pack)?;
+    let now = closed_part(alloc, x, &after, after.items())?;
+    let gain = without(alloc, now.items(), applied)?;
+    let found = reach(alloc, x, pack, &Ranges::new(alloc))?;
+    let missing = first_missing(found.items(), &after);
+    *received = after;
+    *applied = now;
+    match missing {
+        Some(id) => Ok(Arrival::Waits(EffId(id))),
+        None => Ok(Arrival::Applies(gain)),
+    }
+}
