@@ -3,7 +3,7 @@ use Rattle.std.proofs.Common.{◌≡◌, ℕ, ◌≤◌, ◌<◌, List, [], leng
 use Rattle.std.proofs.lemmas.List.{length-replicate}
 use Rattle.std.proofs.lemmas.List.Elements.{All-nil}
 use Rattle.ql_machine.specs.declared.message.Message.{Message}
-use Rattle.std.specs.Prelude.{Result, Ok, Err, IfOk, OnErr}
+use Rattle.std.specs.Prelude.{Result, Ok, Err, IfOk, OnOk, OnErr}
 use Rattle.ql_base.specs.declared.no_memory.NoMemory.{NoMemory}
 use Rattle.ql_exec.specs.declared.effect.Effect.{Effect}
 use Rattle.ql_shim.specs.Transactions.{Transactions}
@@ -78,3 +78,13 @@ kept-empty levels n x received net notes shim most none nothing quiet unnoted un
 pub both-failed : {A : Type 0} (r : Result A NoMemory) (P Q R : Type 0) → OnErr r P → OnErr r Q → (P → Q → R) → OnErr r R
 both-failed (Ok a) P Q R one two from = tt
 both-failed (Err e) P Q R one two from = from one two
+
+-- a fact of every answer of a call that makes an effect, or leaves all as it was
+pub made-either : (r : Result Reply NoMemory) (P : Reply → Type 0) (A B C D E F G : Type 0) → IfOk r P → OnOk r A → OnOk r B → OnOk r C → OnErr r D → OnErr r E → OnErr r F
+    → ((k : Reply) → P k → A → B → C → G) → (D → E → F → G) → G
+made-either (Ok k) P A B C D E F G p a b d e f h made same = made k p a b d
+made-either (Err k) P A B C D E F G p a b d e f h made same = same e f h
+
+pub made-ok : (r : Result Reply NoMemory) (P Q : Reply → Type 0) (A B C : Type 0) → IfOk r P → OnOk r A → OnOk r B → OnOk r C → ((k : Reply) → P k → A → B → C → Q k) → IfOk r Q
+made-ok (Ok k) P Q A B C p a b d made = made k p a b d
+made-ok (Err k) P Q A B C p a b d made = tt

@@ -4,3 +4,6 @@ pub mod ReceiptLaws
 pub mod Going
 pub mod KeptLaws
 pub mod NetLaws
+pub mod NoteSets
+pub mod MadeLaws
+pub mod CallLaws

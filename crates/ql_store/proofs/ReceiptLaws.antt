@@ -197,3 +197,15 @@ delivered promises n x shim before after net later m sender receiver pack arriva
 pub failed-receipt : (r : Result Arrival NoMemory) (Q : Type 0) → (ChangesNothing r → Q) → OnErr r Q
 failed-receipt (Ok arrival) Q same = tt
 failed-receipt (Err e) Q same = same tt
+
+-- where nothing of a package was received, all of it is received
+pub receipt-new : (x : List Effect) (before : List (List ℕ)) (r : ℕ) (ids : List ℕ) (after : List (List ℕ)) (arrival : Arrival) → IsPackage x ids
+    → ((a : ℕ) → Has ids a → has_id (received_at before r) a ≡ false) → IsReceipt x before r ids after arrival → after ≡ received_by before r ids
+receipt-new x before r ids after Again p none is =
+    absurd (both_ways (has_id (received_at before r) p.member) (none p.member (package-member x ids p)) (is.0 p.member (package-member x ids p)))
+receipt-new x before r ids after (Waits missing) p none is = is.0.added
+receipt-new x before r ids after (Applies gain) p none is = is.0.added
+
+-- what a replica has received is what its holder has
+pub held-at : {A : Type 0} (received : A → List ℕ) (holders : List A) (r : ℕ) (h : A) → r < length holders → h ≡ get_or holders r h → received_at (map received holders) r ≡ received h
+held-at received holders r h inside is = get_or-map received holders r h [] inside ∙ ap received (sym is)

@@ -2,3 +2,4 @@ pub mod Levels
 pub mod State
 pub mod Receipts
 pub mod Events
+pub mod Viewing

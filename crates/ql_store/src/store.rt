@@ -1,19 +1,29 @@
-ghost use Rattle.std.specs.Prelude.{◌≡◌, ◌≤◌, ◌<◌, ◌+◌, ◌^◌, ℕ, Some, length, IfOk, OnErr};
+ghost use Rattle.std.specs.Prelude.{◌≡◌, ◌≢◌, ◌≤◌, ◌<◌, ◌+◌, ◌^◌, ℕ, List, Some, None, length, IfOk, OnErr};
+ghost use Rattle.ql_exec.specs.Effects.{effect_at};
+ghost use Rattle.ql_exec.specs.Execution.{IsOn};
+ghost use Rattle.ql_exec.specs.Folding.{seen_in_order};
+ghost use Rattle.ql_levels.specs.declared.level.Level.TheVariants.{Strong};
+ghost use Rattle.ql_needs.specs.Closed.{Has};
+ghost use Rattle.ql_store.specs.Levels.{promises_of};
 ghost use Rattle.ql_machine.specs.declared.event.Event.TheVariants as event;
 ghost use Rattle.ql_machine.specs.declared.message.Message.{Message};
-ghost use Rattle.ql_machine.specs.State.{empty, message_at};
+ghost use Rattle.ql_machine.specs.State.{empty, message_at, open_of};
 ghost use Rattle.ql_machine.specs.Rules.{Rules};
 ghost use Rattle.ql_machine.specs.Steps.{IsStep};
 
 use crate::deliver::deliver;
-use ql_base::{MsgId, NoMemory};
-use ql_exec::Execution;
+use crate::plain::make_plain;
+use crate::resend::resend;
+use crate::view::plain_view;
+use ql_base::{EffId, MsgId, NoMemory, ObjId, OpId, ReplicaId, SessId};
+use ql_exec::{Draft, Execution, Folder, Member};
 use ql_holder::Holder;
 use ql_levels::Levels;
 use ql_machine::{Groups, Reply};
 use ql_net::Net;
 use ql_session::Sessions;
 use ql_shim::Shim;
+use ql_value::Values;
 use std::alloc::Global;
 use std::marker::Model;
 
@@ -121,5 +131,83 @@ impl<H: Holder> Store<H> {
         ensures err { OnErr result (self.new ≡ self.old) }
     {
         deliver(&self.execution, &mut self.holders, &mut self.net, m)
+    }
+
+    /// A replica sends another one an effect that it has received, with its transaction.
+    pub fn resend(
+        &mut self,
+        effect: EffId,
+        from: ReplicaId,
+        to: ReplicaId,
+    ) -> Result<Reply, NoMemory>
+        requires from { from.0 < length self.old.machine.received }
+        requires to { to.0 < length self.old.machine.received }
+        requires room { length self.old.machine.messages + 1 < 2 ^ 32 }
+        ensures step { IfOk result (λ r. (rules : Rules) → IsStep rules self.old.machine (event.Resend effect from to) self.new.machine r) }
+        ensures levels { self.new.levels ≡ self.old.levels }
+        ensures err { OnErr result (self.new ≡ self.old) }
+    {
+        resend(
+            self.alloc,
+            &self.execution,
+            &self.holders,
+            &mut self.net,
+            effect,
+            from,
+            to,
+        )
+    }
+
+    /// A session with no open transaction calls an operation below strong on an object, at a replica.
+    ///
+    /// Looks up each effect on the object once, and folds those that it sees.
+    pub fn call_plain<F: Folder>(
+        &mut self,
+        session: SessId,
+        replica: ReplicaId,
+        object: ObjId,
+        op: OpId,
+        args: Values,
+        folder: &F,
+    ) -> Result<Reply, NoMemory>
+        requires replica { replica.0 < length self.old.machine.received }
+        requires op { op.0 < length self.old.levels.ops }
+        requires none_open { open_of self.old.machine.open_txns session ≡ None }
+        requires below { (promises_of self.old.levels).level op ≢ Strong }
+        requires room { length self.old.machine.effects + 1 < 2 ^ 32 }
+        requires room_messages { length self.old.machine.messages + length self.old.machine.groups < 2 ^ 32 }
+        requires able { (seen : List ℕ) → ((a : ℕ) → Has seen a → IsOn object (effect_at self.old.machine.effects a))
+            → F.able folder.now op args (seen_in_order self.old.machine.effects seen) }
+        ensures step { IfOk result (λ r. (rules : Rules) → rules.promises ≡ promises_of self.old.levels → rules.answer ≡ F.answered folder.now
+            → IsStep rules self.old.machine (event.Call session replica object op args) self.new.machine r) }
+        ensures levels { self.new.levels ≡ self.old.levels }
+        ensures err { OnErr result (self.new ≡ self.old) }
+    {
+        let level = self.levels.op(op);
+        let holder = &self.holders[replica.0 as usize];
+        let view = plain_view(self.alloc, holder, &self.sessions, level, session, object)?;
+        if let Some(missing) = view.missing {
+            return Ok(Reply::Blocked(missing));
+        }
+        let answered = folder.answer(op, &args, &self.execution, &view.ids)?;
+        let draft = Draft {
+            object,
+            op,
+            args,
+            payload: answered.payload,
+            answer: answered.answer,
+            session,
+            member: Member::Alone,
+            seen: view.ids,
+        };
+        make_plain(
+            self.alloc,
+            &mut self.execution,
+            &mut self.holders,
+            &mut self.net,
+            &mut self.sessions,
+            replica,
+            draft,
+        )
     }
 }

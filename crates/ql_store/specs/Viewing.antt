@@ -1,0 +1,25 @@
+-- What a call misses by the level of its operation.
+use Rattle.std.specs.Prelude.{◌≡◌, ℕ, false, List, Option, Some, None}
+use Rattle.ql_base.specs.IdLists.{has_id}
+use Rattle.ql_base.specs.declared.ids.EffId.{EffId}
+use Rattle.ql_base.specs.declared.ids.ObjId.{ObjId}
+use Rattle.ql_base.specs.declared.ids.SessId.{SessId}
+use Rattle.ql_exec.specs.declared.effect.Effect.{Effect}
+use Rattle.ql_exec.specs.Effects.{effect_at}
+use Rattle.ql_exec.specs.Execution.{IsOn}
+use Rattle.ql_levels.specs.declared.level.Level.{Level}
+use Rattle.ql_levels.specs.declared.level.Level.TheVariants.{Eventual, Causal, Strong}
+use Rattle.ql_needs.specs.Closed.{Has}
+use Rattle.ql_machine.specs.Blocking.{IsOf}
+use Rattle.ql_machine.specs.Sets.{IsLeast}
+
+-- what a view must have: at causal, what the session did before on the object
+abbrev pub IsWanted : List Effect → Level → SessId → ObjId → ℕ → Type 0
+IsWanted x Eventual session object a = ⊥
+IsWanted x Causal session object a = IsOn object (effect_at x a) × IsOf session (effect_at x a)
+IsWanted x Strong session object a = ⊥
+
+-- the least of it that a view lacks, or that it lacks nothing
+abbrev pub IsLeastLacking : List Effect → Level → SessId → ObjId → List ℕ → Option EffId → Type 0
+IsLeastLacking x level session object view None = (a : ℕ) → IsWanted x level session object a → Has view a
+IsLeastLacking x level session object view (Some least) = IsLeast (λ a. IsWanted x level session object a × (has_id view a ≡ false)) least.0
