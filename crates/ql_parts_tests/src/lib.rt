@@ -7,3 +7,5 @@
 mod messages;
 #[cfg(test)]
 mod notes;
+#[cfg(test)]
+mod transactions;

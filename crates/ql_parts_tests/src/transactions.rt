@@ -1,0 +1,139 @@
+ghost use Rattle.std.specs.Prelude.{◌≡◌, ◌≤◌, Some, length, IfOk};
+ghost use Rattle.ql_machine.specs.declared.open_txn.OpenTxn.{OpenTxn};
+ghost use Rattle.ql_machine.specs.State.{open_of};
+ghost use Rattle.ql_shim.specs.Transactions.{open_txns};
+ghost use Rattle.ql_needs.specs.Needs.{AreThere, AreWhole, IsPackage};
+
+use ql_base::{DeclId, EffId, IdSet, NoMemory, ObjId, OpId, RunId, SessId};
+use ql_exec::{Draft, Execution, Member, Payload};
+use ql_holder::Holder;
+use ql_levels::TxnLevel;
+use ql_replica::Replica;
+use ql_shim::Shim;
+use ql_strong::{package_of, sync};
+use ql_value::{Value, Values};
+use std::alloc::Global;
+use std::test::Fail;
+
+fn set(alloc: Global, ids: &[u32]) -> Result<IdSet, NoMemory> {
+    let mut set = IdSet::new(alloc);
+    for id in ids {
+        set.insert(*id)?;
+    }
+    Ok(set)
+}
+
+fn draft(alloc: Global, session: u32, member: Member, seen: IdSet) -> Draft {
+    Draft {
+        object: ObjId(0),
+        op: OpId(0),
+        args: Values::of(Vec::new(alloc)),
+        payload: Payload::Nothing,
+        answer: Value::Unit,
+        session: SessId(session),
+        member,
+        seen,
+    }
+}
+
+// Session 2 made effect 1, and session 1 in a transaction effect 2, which saw these.
+fn execution(alloc: Global, seen: &[u32]) -> Result<Execution, NoMemory>
+    ensures { IfOk result (λ x. length x ≡ 2) }
+{
+    let mut x = Execution::new(alloc);
+    let alone = draft(alloc, 2, Member::Alone, IdSet::new(alloc));
+    let inside = draft(
+        alloc,
+        1,
+        Member::Inside(RunId(1), DeclId(0)),
+        set(alloc, seen)?,
+    );
+    match x.push(alone) {
+        Err(_) => Err(NoMemory),
+        Ok(_) => match x.push(inside) {
+            Err(_) => Err(NoMemory),
+            Ok(_) => Ok(x),
+        },
+    }
+}
+
+fn package_at(alloc: Global, x: &Execution, id: EffId) -> Result<IdSet, NoMemory>
+    requires first { 1 ≤ id.0 }
+    requires last { id.0 ≤ length x.now }
+    ensures one { IfOk result (IsPackage x.now) }
+    ensures whole { IfOk result (AreWhole x.now) }
+{
+    package_of(alloc, x, id)
+}
+
+// Session 1 has a transaction open on object 0, which began with nothing and made effect 2.
+fn opened(alloc: Global, seen: &[u32]) -> Result<Shim, NoMemory>
+    ensures { IfOk result (λ shim. (t : OpenTxn) × (open_of (open_txns shim) (record { 0 = 1 }) ≡ Some t)) }
+{
+    let mut shim = Shim::new(alloc);
+    shim.begin(SessId(1), DeclId(0), set(alloc, &[0])?, IdSet::new(alloc))?;
+    shim.note(SessId(1), EffId(2), &set(alloc, seen)?)?;
+    Ok(shim)
+}
+
+// The ids of the effects on the object.
+fn both(x: &Execution) -> &'static [u32]
+    requires { length x.now ≡ 2 }
+    ensures { AreThere x.now result.now }
+{
+    &[1, 2]
+}
+
+#[test]
+fn an_open_transaction(rt: HostRuntime) -> Result<(), Fail> {
+    let alloc = rt.alloc();
+    let mut shim = Shim::new(alloc);
+    shim.begin(SessId(1), DeclId(4), set(alloc, &[0])?, IdSet::new(alloc))?;
+    shim.note(SessId(1), EffId(2), &IdSet::new(alloc))?;
+    assert!(rt; shim.run_of(SessId(1)) == Some((RunId(1), DeclId(4))));
+    assert!(rt; shim.declares(SessId(1), ObjId(0)) && !shim.declares(SessId(0), ObjId(0)));
+    assert!(rt; shim.holder_of(ObjId(0)) == Some(SessId(1)) && shim.holder_of(ObjId(1)).is_none());
+    assert!(rt; shim.own(SessId(1)).items() == [2].as_slice());
+    assert!(rt; shim.finish(SessId(1)).items() == [2].as_slice());
+    assert!(rt; shim.run_of(SessId(1)).is_none() && shim.holder_of(ObjId(0)).is_none());
+    Ok(())
+}
+
+// Effect 1 arrived after the transaction began and before its second call.
+#[test]
+fn a_view_by_level(rt: HostRuntime) -> Result<(), Fail> {
+    let alloc = rt.alloc();
+    let x = execution(alloc, &[])?;
+    let shim = opened(alloc, &[])?;
+    let mut replica = Replica::empty(alloc);
+    replica.receive(&package_at(alloc, &x, EffId(1))?, &x)?;
+    let repeatable = shim.view_rule(SessId(1), TxnLevel::Rr, &replica, &x, both(&x))?;
+    assert!(rt; repeatable.ids.items() == [2].as_slice() && repeatable.missing.is_none());
+    let committed = shim.view_rule(SessId(1), TxnLevel::Rc, &replica, &x, both(&x))?;
+    assert!(rt; committed.ids.items() == [1, 2].as_slice() && committed.missing.is_none());
+    Ok(())
+}
+
+// The transaction saw effect 1, and goes on at a replica that hasn't received it.
+#[test]
+fn an_effect_that_is_missing(rt: HostRuntime) -> Result<(), Fail> {
+    let alloc = rt.alloc();
+    let x = execution(alloc, &[1])?;
+    let shim = opened(alloc, &[1])?;
+    let replica = Replica::empty(alloc);
+    let monotonic = shim.view_rule(SessId(1), TxnLevel::Mav, &replica, &x, both(&x))?;
+    assert!(rt; monotonic.ids.is_empty() && monotonic.missing == Some(EffId(1)));
+    Ok(())
+}
+
+#[test]
+fn all_receive_what_is_committed(rt: HostRuntime) -> Result<(), Fail> {
+    let alloc = rt.alloc();
+    let x = execution(alloc, &[])?;
+    let committed = package_at(alloc, &x, EffId(1))?;
+    let mut holders = Vec::new(alloc);
+    holders.push(Replica::empty(alloc))?;
+    let synced = sync(alloc, &holders, &x, &committed)?;
+    assert!(rt; synced.len() == 1 && synced[0].has(EffId(1)) && !synced[0].has(EffId(2)));
+    Ok(())
+}
