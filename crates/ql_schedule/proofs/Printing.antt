@@ -1,0 +1,133 @@
+-- what is printed of a list is printed item by item
+use Rattle.std.proofs.Common.{◌≡◌, ℕ, ◌<◌, ◌+◌, List, [], ◌∷◌, ◌++◌, Result, Ok, Err, codes, map, take, length, get_or, arith, refl, ap, sym, subst, ◌∙◌, append_assoc, add-one, length-take}
+use Rattle.std.specs.Prelude.{OnOk}
+use Rattle.ql_base.specs.declared.ids.TypeId.{TypeId}
+use Rattle.ql_lang.specs.declared.program.Program.{Program}
+use Rattle.ql_schedule.specs.Headers.{title}
+use Rattle.ql_schedule.specs.Texts.{object_fields, object_lines}
+use Rattle.std.proofs.lemmas.List.{append-nil, get_or_default, map-append}
+use Rattle.std.proofs.Math.Seq.{take-suc}
+use Rattle.ql_lines.specs.Fields.{Fields}
+use Rattle.ql_lines.specs.Texts.{behind, file_text, joined}
+use Rattle.ql_lines.proofs.TextLaws.{behind-append, file_text-append, joined_behind}
+
+one_behind : {X : Type 0} (field : X → List ℕ) (xs : List X) (x : X) → behind (map field (xs ++ x ∷ [])) ≡ behind (map field xs) ++ 32 ∷ field x
+unfolding behind
+one_behind field xs x =
+    ap behind (map-append field xs (x ∷ [])) ∙ behind-append (map field xs) (field x ∷ []) ∙ ap (λ r. behind (map field xs) ++ 32 ∷ r) (append-nil (field x))
+
+-- one item more of a list's front
+pub one_more_behind : {X : Type 0} (field : X → List ℕ) (xs : List X) (i : ℕ) (d : X) (out : List ℕ) → i < length xs
+    → (out ++ behind (map field (take i xs))) ++ 32 ∷ field (get_or xs i d) ≡ out ++ behind (map field (take (i + 1) xs))
+one_more_behind field xs i d out lt =
+    let front = take i xs in
+    let x = get_or xs i d in
+    let more : take (i + 1) xs ≡ front ++ x ∷ [] = ap (λ n. take n xs) (add-one i) ∙ take-suc xs i d lt in
+    append_assoc out (behind (map field front)) (32 ∷ field x) ∙ ap (λ r. out ++ r) (sym (one_behind field front x) ∙ ap (λ ys. behind (map field ys)) (sym more))
+
+pub nothing_behind : (out : List ℕ) → out ≡ out ++ behind []
+unfolding behind
+nothing_behind out = sym (append-nil out)
+
+pub no_lines : (out : List ℕ) → out ≡ out ++ file_text []
+unfolding file_text
+no_lines out = sym (append-nil out)
+
+-- fields behind others of a line
+pub more_fields : (out w : List ℕ) (fs gs : Fields) → (out ++ joined (w ∷ fs)) ++ behind gs ≡ out ++ joined (w ∷ (fs ++ gs))
+more_fields out w fs gs =
+    append_assoc out (joined (w ∷ fs)) (behind gs)
+    ∙ ap (λ r. out ++ r) (
+    ap (λ r. r ++ behind gs) (joined_behind w fs) ∙ append_assoc w (behind fs) (behind gs) ∙ ap (λ r. w ++ r) (sym (behind-append fs gs)) ∙ sym (joined_behind w (fs ++ gs))
+    )
+
+pub one_field : (out w f : List ℕ) (fs : Fields) → (out ++ joined (w ∷ fs)) ++ 32 ∷ f ≡ out ++ joined (w ∷ (fs ++ f ∷ []))
+unfolding behind
+one_field out w f fs = ap (λ r. (out ++ joined (w ∷ fs)) ++ 32 ∷ r) (sym (append-nil f)) ∙ more_fields out w fs (f ∷ [])
+
+-- one line more
+one_line : (l : Fields) → file_text (l ∷ []) ≡ joined l ++ 10 ∷ []
+unfolding file_text
+one_line l = refl
+
+pub line_more : (out : List ℕ) (ls : List Fields) (l : Fields) → (out ++ file_text ls) ++ (joined l ++ 10 ∷ []) ≡ out ++ file_text (ls ++ l ∷ [])
+line_more out ls l = append_assoc out (file_text ls) (joined l ++ 10 ∷ []) ∙ ap (λ r. out ++ r) (ap (λ r. file_text ls ++ r) (sym (one_line l)) ∙ sym (file_text-append ls (l ∷ [])))
+
+pub one_more_line : {X : Type 0} (line : X → Fields) (xs : List X) (i : ℕ) (d : X) (out : List ℕ) → i < length xs
+    → ((out ++ file_text (map line (take i xs))) ++ joined (line (get_or xs i d))) ++ 10 ∷ [] ≡ out ++ file_text (map line (take (i + 1) xs))
+one_more_line line xs i d out lt =
+    let front = take i xs in
+    let x = get_or xs i d in
+    let more : take (i + 1) xs ≡ front ++ x ∷ [] = ap (λ n. take n xs) (add-one i) ∙ take-suc xs i d lt in
+    append_assoc (out ++ file_text (map line front)) (joined (line x)) (10 ∷ []) ∙ line_more out (map line front) (line x)
+    ∙ ap (λ ls. out ++ file_text ls) (sym (map-append line front (x ∷ []))) ∙ ap (λ ys. out ++ file_text (map line ys)) (sym more)
+
+-- ---- as the loops and the lines of events need it
+
+pub spaced : {X : Type 0} (field : X → List ℕ) (xs : List X) (i : ℕ) (x : X) (out : List ℕ) → i < length xs → x ≡ get_or xs i x
+    → ((out ++ behind (map field (take i xs))) ++ 32 ∷ []) ++ field x ≡ out ++ behind (map field (take (i + 1) xs))
+spaced field xs i x out lt is =
+    append_assoc (out ++ behind (map field (take i xs))) (32 ∷ []) (field x)
+    ∙ ap (λ y. (out ++ behind (map field (take i xs))) ++ 32 ∷ field y) is ∙ one_more_behind field xs i x out lt
+
+-- the same of an item told by its place
+pub spaced_at : {X : Type 0} (field : X → List ℕ) (xs : List X) (i : ℕ) (d : X) (out : List ℕ) → i < length xs
+    → ((out ++ behind (map field (take i xs))) ++ 32 ∷ []) ++ field (get_or xs i d) ≡ out ++ behind (map field (take (i + 1) xs))
+spaced_at field xs i d out lt = spaced field xs i (get_or xs i d) out lt (get_or_default xs i d (get_or xs i d) lt)
+
+pub event_more : {X : Type 0} (line : X → Fields) (xs : List X) (i : ℕ) (x : X) (out : List ℕ) → i < length xs → x ≡ get_or xs i x
+    → ((out ++ file_text (map line (take i xs))) ++ joined (line x)) ++ 10 ∷ [] ≡ out ++ file_text (map line (take (i + 1) xs))
+event_more line xs i x out lt is = ap (λ y. ((out ++ file_text (map line (take i xs))) ++ joined (line y)) ++ 10 ∷ []) is ∙ one_more_line line xs i x out lt
+
+pub call_pieces : (out w name op : List ℕ) (fs vs : Fields) → (((out ++ joined (w ∷ fs)) ++ 32 ∷ name) ++ 32 ∷ op) ++ behind vs ≡ out ++ joined (w ∷ (fs ++ name ∷ op ∷ vs))
+call_pieces out w name op fs vs =
+    ap (λ r. (r ++ 32 ∷ op) ++ behind vs) (one_field out w name fs) ∙ ap (λ r. r ++ behind vs) (one_field out w op (fs ++ name ∷ []))
+    ∙ more_fields out w ((fs ++ name ∷ []) ++ op ∷ []) vs
+    ∙ ap (λ gs. out ++ joined (w ∷ gs)) (append_assoc (fs ++ name ∷ []) (op ∷ []) vs ∙ append_assoc fs (name ∷ []) (op ∷ vs))
+
+pub begin_pieces : (out w txn : List ℕ) (fs vs : Fields) → ((out ++ joined (w ∷ fs)) ++ 32 ∷ txn) ++ behind vs ≡ out ++ joined (w ∷ (fs ++ txn ∷ vs))
+begin_pieces out w txn fs vs =
+    ap (λ r. r ++ behind vs) (one_field out w txn fs) ∙ more_fields out w (fs ++ txn ∷ []) vs ∙ ap (λ gs. out ++ joined (w ∷ gs)) (append_assoc fs (txn ∷ []) vs)
+
+pub partition_pieces : (out w : List ℕ) (vs : Fields) → (out ++ w) ++ behind vs ≡ out ++ joined (w ∷ vs)
+partition_pieces out w vs = append_assoc out w (behind vs) ∙ ap (λ r. out ++ r) (sym (joined_behind w vs))
+
+pub on_ok : {A E B C : Type 0} (r : Result A E) → (B → C) → OnOk r B → OnOk r C
+on_ok (Ok x) f h = f h
+on_ok (Err e) f h = tt
+
+pub schedule_pieces : (n : List ℕ) (os es : List Fields)
+    → (((((codes "quelea schedule 1\nreplicas ") ++ n) ++ codes "\n") ++ file_text os) ++ codes "events\n") ++ file_text es
+    ≡ file_text (title ∷ (codes "replicas" ∷ n ∷ []) ∷ (os ++ (codes "events" ∷ []) ∷ es))
+unfolding file_text
+schedule_pieces n os es = simp (append_assoc, file_text-append os ((codes "events" ∷ []) ∷ es)) refl
+
+pub lines_more : (p : Program) (names : List (List ℕ)) (kinds : List TypeId) (name : List ℕ) (kind : TypeId) → length names ≡ length kinds
+    → object_lines p (names ++ name ∷ []) (kinds ++ kind ∷ []) ≡ object_lines p names kinds ++ object_fields p name kind ∷ []
+unfolding object_lines
+lines_more p [] [] name kind e = refl
+lines_more p [] (k ∷ kinds) name kind e = absurd (omega (arith, e))
+lines_more p (n ∷ names) [] name kind e = absurd (omega (arith, e))
+lines_more p (n ∷ names) (k ∷ kinds) name kind e = ap (λ ls. object_fields p n k ∷ ls) (lines_more p names kinds name kind (omega (arith, e)))
+
+pub object_more : (p : Program) (names : List (List ℕ)) (kinds : List TypeId) (i : ℕ) (d : List ℕ) (e : TypeId) (out : List ℕ) → i < length names → length kinds ≡ length names
+    → (out ++ file_text (object_lines p (take i names) (take i kinds))) ++ (joined (object_fields p (get_or names i d) (get_or kinds i e)) ++ 10 ∷ [])
+    ≡ out ++ file_text (object_lines p (take (i + 1) names) (take (i + 1) kinds))
+object_more p names kinds i d e out lt same =
+    let ns : take (i + 1) names ≡ take i names ++ get_or names i d ∷ [] = ap (λ n. take n names) (add-one i) ∙ take-suc names i d lt in
+    let ks : take (i + 1) kinds ≡ take i kinds ++ get_or kinds i e ∷ [] = ap (λ n. take n kinds) (add-one i) ∙ take-suc kinds i e (omega (arith, lt, same)) in
+    let lens : length (take i names) ≡ length (take i kinds) = omega (arith, length-take i names, length-take i kinds, lt, same) in
+    line_more out (object_lines p (take i names) (take i kinds)) (object_fields p (get_or names i d) (get_or kinds i e))
+    ∙ ap (λ ls. out ++ file_text ls) (sym (lines_more p (take i names) (take i kinds) (get_or names i d) (get_or kinds i e) lens))
+    ∙ ap (λ ms. out ++ file_text (object_lines p ms (take i kinds ++ get_or kinds i e ∷ []))) (sym ns)
+    ∙ ap (λ ms. out ++ file_text (object_lines p (take (i + 1) names) ms)) (sym ks)
+
+pub no_objects : (p : Program) (out : List ℕ) → out ≡ out ++ file_text (object_lines p [] [])
+unfolding object_lines
+no_objects p out = no_lines out
+
+-- the same where the list is told otherwise
+pub event_more_of : {X : Type 0} (line : X → Fields) (ys xs : List X) (i : ℕ) (x : X) (out : List ℕ) → ys ≡ xs → i < length ys → x ≡ get_or ys i x
+    → ((out ++ file_text (map line (take i xs))) ++ joined (line x)) ++ 10 ∷ [] ≡ out ++ file_text (map line (take (i + 1) xs))
+event_more_of line ys xs i x out same lt is =
+    event_more line xs i x out (subst (λ zs. i < length zs) same lt) (subst (λ zs. x ≡ get_or zs i x) same is)

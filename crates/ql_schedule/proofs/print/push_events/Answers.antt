@@ -1,0 +1,11 @@
+use Rattle.ql_schedule.specs.Texts.{event_fields}
+use Rattle.ql_schedule.proofs.Printing.{event_more_of, no_lines}
+use Rattle.ql_schedule.proofs.print.push_events.Goals as goal
+
+pub loop-event-init : goal.loop-event-init
+loop-event-init c = no_lines c.args.out.now.items
+
+pub loop-event-preserved : goal.loop-event-preserved
+loop-event-preserved c =
+    rw (c.in_ok-push_bytes.ensures.ok, c.in_ok-push_event.ensures, c.loop-event.invariant)
+    (event_more_of (event_fields c.args.t.now.program c.args.s.now.objects) c.items-event-items.result.now c.args.s.now.events c.loop-event.event-index c.event-item.result c.args.out.now.items c.items-event-items.ensures c.loop-event-test.true c.event-item.is)

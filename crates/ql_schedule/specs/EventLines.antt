@@ -1,0 +1,97 @@
+-- The lines of events, as they are written. Names may be unknown in them, and numbers out of range.
+use Rattle.std.specs.Prelude.{ℕ, ◌≡◌, ◌<◌, List, [], ◌∷◌, Option, None, Some, codes, length}
+use Rattle.std.specs.List.{AllByRecursion}
+use Rattle.ql_base.specs.Names.{IsName}
+use Rattle.ql_lines.specs.Fields.{Fields}
+use Rattle.ql_schedule.specs.declared.argument.Argument.{Argument}
+use Rattle.ql_schedule.specs.declared.event_line.EventLine.{EventLine}
+use Rattle.ql_schedule.specs.declared.event_line.EventLine.TheVariants.{Call, Begin, Commit, Deliver, Repeat, Lose, Resend, Partition, Heal}
+use Rattle.ql_schedule.specs.declared.event_parts.Caller.{Caller}
+use Rattle.ql_schedule.specs.Arguments.{AreArguments}
+use Rattle.ql_schedule.specs.Numbers.{IsNumber}
+
+-- a caller at the front of parts, `S at R`, and the parts behind it
+pub record CallerAt (c : Caller) (parts rest : Fields) : Type 0 where
+  pub session : List ℕ
+  pub replica : List ℕ
+  pub is_session : IsNumber session c.session
+  pub is_replica : IsNumber replica c.replica
+  pub are : parts ≡ session ∷ codes "at" ∷ replica ∷ rest
+
+-- `S at R OBJECT OP` at the front of parts, and the parts behind it
+pub record IsCalled (parts : Fields) (c : Caller) (object op : List ℕ) (rest : Fields) : Type 0 where
+  pub behind : Fields
+  pub caller : CallerAt c parts behind
+  pub is_object : IsName object
+  pub is_op : IsName op
+  pub are : behind ≡ object ∷ op ∷ rest
+
+-- the same, and arguments behind it
+pub record IsCall (parts : Fields) (c : Caller) (object op : List ℕ) (args : List Argument) : Type 0 where
+  pub rest : Fields
+  pub called : IsCalled parts c object op rest
+  pub arguments : AreArguments rest args
+
+-- `S at R TXN OBJECT..`, with one object at least
+pub record IsBegin (parts : Fields) (c : Caller) (txn : List ℕ) (objects : Fields) : Type 0 where
+  pub behind : Fields
+  pub caller : CallerAt c parts behind
+  pub is_txn : IsName txn
+  pub are : behind ≡ txn ∷ objects
+  pub some : 0 < length objects
+  pub names : AllByRecursion IsName objects
+
+pub record IsOneNumber (parts : Fields) (n : ℕ) : Type 0 where
+  pub field : List ℕ
+  pub number : IsNumber field n
+  pub are : parts ≡ field ∷ []
+
+-- `E from R to R`
+pub record IsResend (parts : Fields) (effect sender receiver : ℕ) : Type 0 where
+  pub first : List ℕ
+  pub second : List ℕ
+  pub third : List ℕ
+  pub is_effect : IsNumber first effect
+  pub is_sender : IsNumber second sender
+  pub is_receiver : IsNumber third receiver
+  pub are : parts ≡ first ∷ codes "from" ∷ second ∷ codes "to" ∷ third ∷ []
+
+abbrev pub AreNumbers : Fields → List ℕ → Type 0
+AreNumbers [] [] = Unit {0}
+AreNumbers (field ∷ fields) (n ∷ ns) = IsNumber field n × AreNumbers fields ns
+AreNumbers _ _ = ⊥
+
+-- the word of an event's kind
+abbrev pub kind_word : EventLine → List ℕ
+kind_word (Call c object op args) = codes "call"
+kind_word (Begin c txn objects) = codes "begin"
+kind_word (Commit c) = codes "commit"
+kind_word (Deliver n) = codes "deliver"
+kind_word (Repeat n) = codes "repeat"
+kind_word (Lose n) = codes "lose"
+kind_word (Resend effect sender receiver) = codes "resend"
+kind_word (Partition groups) = codes "partition"
+kind_word Heal = codes "heal"
+
+-- what stands behind that word
+abbrev pub IsRest : Fields → EventLine → Type 0
+IsRest parts (Call c object op args) = IsCall parts c object op args
+IsRest parts (Begin c txn objects) = IsBegin parts c txn objects
+IsRest parts (Commit c) = CallerAt c parts []
+IsRest parts (Deliver n) = IsOneNumber parts n
+IsRest parts (Repeat n) = IsOneNumber parts n
+IsRest parts (Lose n) = IsOneNumber parts n
+IsRest parts (Resend effect sender receiver) = IsResend parts effect sender receiver
+IsRest parts (Partition groups) = AreNumbers parts groups
+IsRest parts Heal = parts ≡ []
+
+-- the parts of a line are this event
+pub record IsEventLine (parts : Fields) (l : EventLine) : Type 0 where
+  pub rest : Fields
+  pub are : parts ≡ kind_word l ∷ rest
+  pub rest_is : IsRest rest l
+
+-- the event of a kind that parts behind its word are
+abbrev pub IsKindRead : List ℕ → Fields → Option EventLine → Type 0
+IsKindRead word parts None = (l : EventLine) → kind_word l ≡ word → IsRest parts l → ⊥
+IsKindRead word parts (Some l) = (kind_word l ≡ word) × IsRest parts l

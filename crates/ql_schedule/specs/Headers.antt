@@ -1,0 +1,21 @@
+-- The lines of a schedule before its events, as they are written.
+use Rattle.std.specs.Prelude.{ℕ, ◌≡◌, List, [], ◌∷◌, codes}
+use Rattle.ql_base.specs.Names.{IsName}
+use Rattle.ql_lines.specs.Fields.{Fields}
+use Rattle.ql_schedule.specs.declared.header.Declaration.{Declaration}
+use Rattle.ql_schedule.specs.declared.header.Declaration.TheVariants.{Object, Events}
+use Rattle.ql_schedule.specs.Numbers.{IsNumber}
+
+abbrev pub title : Fields
+title = codes "quelea" ∷ codes "schedule" ∷ codes "1" ∷ []
+
+-- `replicas N`
+pub record IsReplicas (parts : Fields) (n : ℕ) : Type 0 where
+  pub field : List ℕ
+  pub number : IsNumber field n
+  pub are : parts ≡ codes "replicas" ∷ field ∷ []
+
+-- `object NAME TYPE`, or `events`
+abbrev pub IsDeclaration : Fields → Declaration → Type 0
+IsDeclaration parts (Object name kind) = IsName name × IsName kind × (parts ≡ codes "object" ∷ name ∷ kind ∷ [])
+IsDeclaration parts Events = parts ≡ codes "events" ∷ []

@@ -1,0 +1,13 @@
+pub mod Parts
+pub mod Numbers
+pub mod Arguments
+pub mod EventLines
+pub mod Headers
+pub mod Rules
+pub mod Judging
+pub mod Makings
+pub mod Outcomes
+pub mod Guarantees
+pub mod Files
+pub mod OneLine
+pub mod Texts

@@ -1,0 +1,79 @@
+-- What one more line makes of a schedule that was read in part, and what a file says that ends behind it.
+use Rattle.std.specs.Prelude.{ℕ, ◌≡◌, Option, Some, None, Result, Ok, Err}
+use Rattle.ql_lang.specs.declared.program.Program.{Program}
+use Rattle.ql_line_files.specs.declared.fault.Broken.{Broken}
+use Rattle.ql_line_files.specs.declared.fault.FileFault.{FileFault}
+use Rattle.ql_line_files.specs.declared.fault.FileFault.TheVariants as file
+use Rattle.ql_lines.specs.Fields.{Fields}
+use Rattle.ql_schedule.specs.declared.event_line.EventLine.{EventLine}
+use Rattle.ql_schedule.specs.declared.fault.SchedFault.{SchedFault}
+use Rattle.ql_schedule.specs.declared.fault.SchedFault.TheVariants as fault
+use Rattle.ql_schedule.specs.declared.header.Declaration.{Declaration}
+use Rattle.ql_schedule.specs.declared.header.Declaration.TheVariants.{Object, Events}
+use Rattle.ql_schedule.specs.declared.reading.Reading.{Reading}
+use Rattle.ql_schedule.specs.declared.reading.Reading.TheVariants.{Untitled, Titled, Declaring, Running}
+use Rattle.ql_schedule.specs.declared.rules.Faults.{Faults}
+use Rattle.ql_schedule.specs.declared.rules.SchedRule.{SchedRule}
+use Rattle.ql_schedule.specs.declared.rules.SchedRule.TheVariants.{Unexpected, Unknown, Kind, Range, TooMany, Twice}
+use Rattle.ql_schedule.specs.declared.schedule.Schedule.{Schedule}
+use Rattle.ql_schedule.specs.EventLines.{IsEventLine}
+use Rattle.ql_schedule.specs.Headers.{IsDeclaration, IsReplicas, title}
+use Rattle.ql_schedule.specs.Judging.{declaration_faults, event_faults, replicas_faults}
+use Rattle.ql_schedule.specs.Makings.{event_of, of_replicas, with_event, with_object}
+use Rattle.ql_schedule.specs.Rules.{lowest, no_faults}
+
+-- ---- one line
+
+-- A line is one thing, and breaks no rule, and makes the next reading; or it is that thing, and this is the lowest rule
+-- that it breaks; or it is no such thing.
+module _ {L : Type 0} (Is : L → Type 0) (faults_of : L → Faults) (next : L → Reading) where
+  pub record Makes (after : Reading) : Type 0 where
+    pub line : L
+    pub is : Is line
+    pub lawful : lowest (faults_of line) ≡ None
+    pub to : after ≡ next line
+
+  pub record Violates (rule : SchedRule) : Type 0 where
+    pub line : L
+    pub is : Is line
+    pub unlawful : lowest (faults_of line) ≡ Some rule
+
+  abbrev pub GivesAs : Result Reading SchedRule → Type 0
+  GivesAs (Ok after) = Makes after
+  GivesAs (Err Unexpected) = (line : L) → Is line → ⊥
+  GivesAs (Err rule) = Violates rule
+
+abbrev pub after_declaration : Program → Schedule → Declaration → Reading
+after_declaration p s (Object name kind) = Declaring (with_object p s name kind)
+after_declaration p s Events = Running s
+
+abbrev pub after_event : Program → Schedule → EventLine → Reading
+after_event p s l = Running (with_event s (event_of p s l))
+
+-- what a line with these parts makes of what was read before it, or the lowest rule that it breaks
+abbrev pub Gives : Program → Reading → Fields → Result Reading SchedRule → Type 0
+Gives p Untitled parts = GivesAs {L = Unit {0}} (λ _. parts ≡ title) (λ _. no_faults) (λ _. Titled)
+Gives p Titled parts = GivesAs (IsReplicas parts) replicas_faults (λ n. Declaring (of_replicas n))
+Gives p (Declaring s) parts = GivesAs (IsDeclaration parts) (declaration_faults p s) (after_declaration p s)
+Gives p (Running s) parts = GivesAs (IsEventLine parts) (event_faults p s) (after_event p s)
+
+-- ---- the end of a file
+
+-- a file may end behind the word `events` or behind an event; else the line after its last one is at fault
+abbrev pub Closes : Reading → ℕ → Result Schedule (Broken SchedRule) → Type 0
+Closes (Running s) end x = x ≡ Ok s
+Closes other end x = x ≡ Err (record { line = end; rule = Unexpected })
+
+-- ---- faults of a file
+
+abbrev pub rule_at : SchedRule → ℕ → SchedFault
+rule_at Unexpected line = fault.Unexpected line
+rule_at Unknown line = fault.Unknown line
+rule_at Kind line = fault.Kind line
+rule_at Range line = fault.Range line
+rule_at TooMany line = fault.TooMany line
+rule_at Twice line = fault.Twice line
+
+abbrev pub fault_of : FileFault SchedRule → SchedFault
+fault_of (file.Broken broken) = rule_at broken.rule broken.line
+fault_of file.NoMemory = fault.NoMemory

@@ -1,0 +1,250 @@
+ghost use Rattle.std.specs.Prelude.{◌≡◌, Some, is_none, nat_le, slice_get};
+ghost use Rattle.std.specs.List.{list_any};
+ghost use Rattle.std.specs.Str.{bytes_eq};
+ghost use Rattle.ql_base.specs.Numbering.{place};
+ghost use Rattle.ql_typing.specs.Operations.{op_place};
+ghost use Rattle.ql_schedule.specs.Arguments.{fit, is_too_great};
+ghost use Rattle.ql_schedule.specs.Judging.{
+  are_groups_out,
+  declaration_faults,
+  declares_too_many,
+  event_faults,
+  has_repeat,
+  is_caller_out,
+  is_misfit,
+  is_number_out,
+  is_out,
+  is_same_type,
+  is_twice,
+  is_unknown,
+  may_call,
+  replicas_faults,
+};
+
+use crate::argument::Argument;
+use crate::event_line::EventLine;
+use crate::event_parts::Caller;
+use crate::header::Declaration;
+use crate::rules::Faults;
+use crate::schedule::Schedule;
+use ql_base::{
+    MAX_DECLARED_OBJECTS, MAX_EVENTS, MAX_OBJECTS, MAX_REPLICAS, MAX_SESSIONS, TypeId, Word,
+};
+use ql_lang::Param;
+use ql_typing::Typed;
+
+/// The rules that a number of replicas breaks.
+pub(crate) fn replicas_faults(number: u64) -> Faults
+    ensures { result ≡ replicas_faults number }
+{
+    Faults {
+        unknown: false,
+        kind: false,
+        range: number == 0 || number > u64::from(MAX_REPLICAS),
+        too_many: false,
+        twice: false,
+    }
+}
+
+/// The rules that a declaration breaks after what was declared before it.
+pub(crate) fn declaration_faults(t: &Typed, so_far: &Schedule, line: &Declaration) -> Faults
+    ensures { result ≡ declaration_faults t.now.program so_far.now line.now }
+{
+    match line {
+        Declaration::Object { name, kind } => Faults {
+            unknown: t.type_named(kind.bytes()).is_none(),
+            kind: false,
+            range: false,
+            too_many: so_far.objects.len() as usize >= MAX_OBJECTS,
+            twice: so_far.objects.find(name.bytes()).is_some(),
+        },
+        Declaration::Events => Faults {
+            unknown: false,
+            kind: false,
+            range: false,
+            too_many: false,
+            twice: false,
+        },
+    }
+}
+
+/// The rules that an event breaks after what was said before it.
+pub(crate) fn event_faults(t: &Typed, so_far: &Schedule, line: &EventLine) -> Faults
+    ensures { result ≡ event_faults t.now.program so_far.now line.now }
+{
+    Faults {
+        unknown: is_unknown(t, so_far, line),
+        kind: is_misfit(t, so_far, line),
+        range: is_out(so_far, line),
+        too_many: so_far.events.items().len() >= MAX_EVENTS || declares_too_many(line),
+        twice: is_twice(line),
+    }
+}
+
+fn is_unknown(t: &Typed, so_far: &Schedule, line: &EventLine) -> bool
+    ensures { result ≡ is_unknown t.now.program so_far.now line.now }
+{
+    match line {
+        EventLine::Call { object, op, .. } => is_no_object(so_far, object)
+            || t.op_named(op.bytes()).is_none(),
+        EventLine::Begin { txn, objects, .. } => t.txn_named(txn.bytes()).is_none()
+            || has_unknown(so_far, objects.items()),
+        _ => false,
+    }
+}
+
+fn is_no_object(so_far: &Schedule, name: &Word) -> bool
+    ensures { result ≡ is_none (place so_far.now.objects name.now) }
+{
+    so_far.objects.find(name.bytes()).is_none()
+}
+
+fn has_unknown(so_far: &Schedule, names: &[Word]) -> bool
+    ensures { result ≡ list_any (λ w. is_none (place so_far.now.objects w)) names.now }
+{
+    names.iter().any(|name| is_no_object(so_far, name))
+}
+
+fn is_misfit(t: &Typed, so_far: &Schedule, line: &EventLine) -> bool
+    ensures { result ≡ is_misfit t.now.program so_far.now line.now }
+{
+    match line {
+        EventLine::Call {
+            object,
+            op,
+            args,
+            ..
+        } => !may_call(t, so_far, object, op, args.items()),
+        _ => false,
+    }
+}
+
+// Whether an operation is of an object's type, and arguments fit it. Nothing is asked of unknown
+// names.
+fn may_call(t: &Typed, so_far: &Schedule, object: &Word, op: &Word, args: &[Argument]) -> bool
+    ensures { result ≡ may_call t.now.program so_far.now (place so_far.now.objects object.now) (op_place t.now.program.types op.now) args.now }
+{
+    match (so_far.objects.find(object.bytes()), t.op_named(op.bytes())) {
+        (Some(object), Some(op)) => {
+            is_of_type(so_far, object, t.kind_of(op)) && fit(t.op(op).params.items(), args)
+        }
+        _ => true,
+    }
+}
+
+// Whether an object is of a type.
+fn is_of_type(so_far: &Schedule, object: u32, kind: TypeId) -> bool
+    ensures { result ≡ is_same_type (slice_get so_far.now.kinds object) (Some kind.0) }
+{
+    match so_far.kinds.items().get(object as usize) {
+        Some(of) => of.0 == kind.0,
+        None => false,
+    }
+}
+
+#[tactic(auto, unfolding(crate::specs::Arguments::fit))]
+// Whether arguments are of the kinds of parameters, one for each.
+fn fit(params: &[Param], args: &[Argument]) -> bool
+    ensures { result ≡ fit params.now args.now }
+{
+    match (params.split_first(), args.split_first()) {
+        (Some((param, params)), Some((arg, args))) => arg.has_base(param.base) && fit(params, args),
+        (None, None) => true,
+        _ => false,
+    }
+}
+
+fn is_out(so_far: &Schedule, line: &EventLine) -> bool
+    ensures { result ≡ is_out so_far.now line.now }
+{
+    let replicas = u64::from(so_far.replicas);
+    match line {
+        EventLine::Call { caller, args, .. } => {
+            is_caller_out(so_far, *caller) || has_too_great(args.items())
+        }
+        EventLine::Begin { caller, .. } | EventLine::Commit(caller) => is_caller_out(
+            so_far, *caller,
+        ),
+        EventLine::Deliver(n) | EventLine::Repeat(n) | EventLine::Lose(n) => is_number_out(*n),
+        EventLine::Resend { effect, from, to } => {
+            is_number_out(*effect) || *from >= replicas || *to >= replicas
+        }
+        EventLine::Partition(groups) => are_groups_out(so_far, groups.items()),
+        EventLine::Heal => false,
+    }
+}
+
+fn is_caller_out(so_far: &Schedule, caller: Caller) -> bool
+    ensures { result ≡ is_caller_out so_far.now caller }
+{
+    caller.session >= u64::from(MAX_SESSIONS) || caller.replica >= u64::from(so_far.replicas)
+}
+
+fn is_number_out(number: u64) -> bool
+    ensures { result ≡ is_number_out number }
+{
+    number > u64::from(u32::MAX)
+}
+
+// Each replica has its group, of which there are 16.
+fn are_groups_out(so_far: &Schedule, groups: &[u64]) -> bool
+    ensures { result ≡ are_groups_out so_far.now groups.now }
+{
+    groups.len() != so_far.replicas as usize || has_great_group(groups)
+}
+
+fn has_great_group(groups: &[u64]) -> bool
+    ensures { result ≡ list_any (λ g. nat_le 16 g) groups.now }
+{
+    groups.iter().any(|group| *group >= 16)
+}
+
+fn has_too_great(arguments: &[Argument]) -> bool
+    ensures { result ≡ list_any is_too_great arguments.now }
+{
+    arguments.iter().any(is_too_great)
+}
+
+fn is_too_great(argument: &Argument) -> bool
+    ensures { result ≡ is_too_great argument.now }
+{
+    matches!(argument, Argument::TooGreat)
+}
+
+fn declares_too_many(line: &EventLine) -> bool
+    ensures { result ≡ declares_too_many line.now }
+{
+    match line {
+        EventLine::Begin { objects, .. } => objects.items().len() > MAX_DECLARED_OBJECTS,
+        _ => false,
+    }
+}
+
+fn is_twice(line: &EventLine) -> bool
+    ensures { result ≡ is_twice line.now }
+{
+    match line {
+        EventLine::Begin { objects, .. } => {
+            objects.items().len() <= MAX_DECLARED_OBJECTS && has_repeat(objects.items())
+        }
+        _ => false,
+    }
+}
+
+#[tactic(auto, unfolding(crate::specs::Judging::has_repeat))]
+// Whether a word stands twice in a short list.
+fn has_repeat(words: &[Word]) -> bool
+    ensures { result ≡ has_repeat words.now }
+{
+    match words.split_first() {
+        Some((word, words)) => { has_word(words, word) || has_repeat(words) }
+        None => false,
+    }
+}
+
+// Whether a word is in a list.
+fn has_word(words: &[Word], word: &Word) -> bool
+    ensures { result ≡ list_any (bytes_eq word.now) words.now }
+{
+    words.iter().any(|other| word.bytes() == other.bytes())
+}

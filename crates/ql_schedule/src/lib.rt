@@ -1,0 +1,26 @@
+// Schedules as texts: how many replicas there are, the objects with their types, and the events.
+// Its one contract: a file is read to the schedule that it says, or to its first fault and never
+// both; what is printed is read again; and a schedule that was read is one that a store can step
+// through.
+#![tactic(auto)]
+
+mod argument;
+mod event_line;
+mod event_parts;
+mod fault;
+mod format;
+mod header;
+mod judging;
+mod lists;
+mod making;
+mod parse;
+mod parts;
+mod print;
+mod reading;
+mod rules;
+mod schedule;
+
+pub use fault::SchedFault;
+pub use parse::parse_schedule;
+pub use print::print_schedule;
+pub use schedule::{Events, Schedule, TypeIds};

@@ -1,0 +1,128 @@
+ghost use Rattle.std.specs.Prelude.{◌≡◌, ◌++◌, OnOk, ◌<◌, ◌^◌, [], IfOk, List, ℕ, None, All, is_some, true};
+ghost use Rattle.ql_base.specs.Numbering.{place};
+ghost use Rattle.ql_schedule.specs.Arguments.{given, values_of};
+ghost use Rattle.ql_schedule.specs.Judging.{event_faults};
+ghost use Rattle.ql_schedule.specs.Makings.{declared_from, event_of, id_of};
+ghost use Rattle.ql_schedule.specs.Rules.{lowest};
+
+use crate::argument::Argument;
+use crate::event_line::EventLine;
+use crate::lists::Arguments;
+use crate::schedule::Schedule;
+use ql_base::{EffId, IdSet, MsgId, NoMemory, ObjId, ReplicaId, SessId, Word};
+use ql_machine::{Event, Groups};
+use ql_typing::Typed;
+use ql_value::{Value, Values};
+use std::alloc::Global;
+
+/// The event of a line that breaks no rule.
+pub(crate) fn event(
+    alloc: Global,
+    t: &Typed,
+    so_far: &Schedule,
+    line: EventLine,
+) -> Result<Event, NoMemory>
+    requires { lowest (event_faults t.now.program so_far.now line) ≡ None }
+    ensures { IfOk result (λ e. e ≡ event_of t.now.program so_far.now line) }
+{
+    match line {
+        EventLine::Call {
+            caller,
+            object,
+            op,
+            args,
+        } => Ok(Event::Call {
+            session: SessId(caller.session as u32),
+            replica: replica(so_far, caller.replica),
+            object: ObjId(object_id(so_far, &object)),
+            op: t.op_named(op.bytes()).unwrap(),
+            args: values(alloc, args)?,
+        }),
+        EventLine::Begin {
+            caller,
+            txn,
+            objects,
+        } => Ok(Event::Begin {
+            session: SessId(caller.session as u32),
+            replica: replica(so_far, caller.replica),
+            decl: t.txn_named(txn.bytes()).unwrap(),
+            objects: declared(alloc, so_far, objects.items())?,
+        }),
+        EventLine::Commit(caller) => Ok(Event::Commit {
+            session: SessId(caller.session as u32),
+            replica: replica(so_far, caller.replica),
+        }),
+        EventLine::Deliver(n) => Ok(Event::Deliver(MsgId(n as u32))),
+        EventLine::Repeat(n) => Ok(Event::Repeat(MsgId(n as u32))),
+        EventLine::Lose(n) => Ok(Event::Lose(MsgId(n as u32))),
+        EventLine::Resend { effect, from, to } => Ok(Event::Resend {
+            effect: EffId(effect as u32),
+            from: replica(so_far, from),
+            to: replica(so_far, to),
+        }),
+        EventLine::Partition(numbers) => Ok(Event::Partition(groups(alloc, numbers.items())?)),
+        EventLine::Heal => Ok(Event::Heal),
+    }
+}
+
+fn replica(so_far: &Schedule, number: u64) -> ReplicaId
+    requires { number < so_far.now.replicas }
+    ensures { result ≡ record { 0 = number } }
+{
+    prove!(number < u64::from(so_far.replicas));
+    ReplicaId(number as u32)
+}
+
+// The number of a declared object.
+fn object_id(so_far: &Schedule, name: &Word) -> u32
+    requires { is_some (place so_far.now.objects name.now) ≡ true }
+    ensures { result ≡ id_of so_far.now.objects name.now }
+{
+    so_far.objects.find(name.bytes()).unwrap()
+}
+
+#[tactic(auto, unfolding(crate::specs::Makings::declared_from))]
+// The numbers of declared objects.
+fn declared(alloc: Global, so_far: &Schedule, names: &[Word]) -> Result<IdSet, NoMemory>
+    requires { All (λ w. is_some (place so_far.now.objects w) ≡ true) names.now }
+    ensures { IfOk result (λ ids. ids ≡ declared_from so_far.now.objects [] names.now) }
+{
+    let mut ids = IdSet::new(alloc);
+    for name in names {
+        ids.insert(object_id(so_far, name))?;
+    }
+    Ok(ids)
+}
+
+// The values that are given as arguments.
+fn values(alloc: Global, args: Arguments) -> Result<Values, NoMemory>
+    ensures { IfOk result (λ values. values ≡ values_of args) }
+{
+    let mut values = Vec::new(alloc);
+    for arg in args.into_items() {
+        push_given(&mut values, arg)?;
+    }
+    Ok(Values::of(values))
+}
+
+fn push_given(values: &mut Vec<Value>, arg: Argument) -> Result<(), NoMemory>
+    ensures { OnOk result (values.new.items ≡ values.old.items ++ given arg) }
+{
+    match arg {
+        Argument::Given(value) => values.push(value)?,
+        Argument::TooGreat => {}
+    }
+    Ok(())
+}
+
+// The groups of the replicas.
+fn groups(alloc: Global, numbers: &[u64]) -> Result<Groups, NoMemory>
+    requires { All (λ n. n < 2 ^ 32) numbers.now }
+    ensures { IfOk result (λ groups. groups ≡ numbers.now) }
+{
+    let mut groups = Vec::new(alloc);
+    for number in numbers {
+        groups.push(*number as u32)?;
+    }
+    Ok(Groups::of(groups))
+}

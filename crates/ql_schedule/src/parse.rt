@@ -1,0 +1,22 @@
+ghost use Rattle.std.specs.Prelude.{IfOk, MatchResult};
+ghost use Rattle.ql_lines.specs.Lines.{ahead_from};
+ghost use Rattle.ql_schedule.specs.Files.{IsRefusal, IsScheduleFile};
+ghost use Rattle.ql_schedule.specs.Guarantees.{IsSchedule};
+
+use crate::fault::{SchedFault, fault_of};
+use crate::format::Format;
+use crate::schedule::Schedule;
+use ql_line_files::read_file;
+use ql_typing::Typed;
+use std::alloc::Global;
+
+/// The schedule that a file says for the stores of a program, or the file's first fault.
+pub fn parse_schedule(alloc: Global, t: &Typed, bytes: &[u8]) -> Result<Schedule, SchedFault>
+    ensures read { MatchResult result (IsScheduleFile t.now.program (ahead_from 1 bytes.now)) (IsRefusal t.now.program (ahead_from 1 bytes.now)) }
+    ensures guarantees { IfOk result (IsSchedule t.now.program) }
+{
+    match read_file(&Format { t, alloc }, bytes) {
+        Ok(schedule) => Ok(schedule),
+        Err(fault) => Err(fault_of(fault)),
+    }
+}

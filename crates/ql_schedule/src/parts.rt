@@ -1,0 +1,145 @@
+ghost use Rattle.std.specs.Prelude.{◌≡◌, ◌≤◌, suc, ◌∷◌, [], List, ℕ, IsTrue, MatchOption, length, ◌↔◌};
+ghost use Rattle.std.specs.List.{prefix_len};
+ghost use Rattle.ql_base.specs.Names.{IsName};
+ghost use Rattle.ql_base.specs.Numbers.{IsNumeral};
+ghost use Rattle.ql_lines.specs.Fields.{Fields, is_space};
+ghost use Rattle.ql_schedule.specs.Numbers.{IsNumber};
+ghost use Rattle.ql_schedule.specs.Parts.{isn't_quote, isn't_space, part_len, parts_of, quoted_len, text_len};
+
+use ql_base::{digit_bytes, is_name, number_of};
+
+/// The first part of a line and what stands behind it.
+pub(crate) fn first_part(text: &[u8]) -> Option<(&[u8], &[u8])>
+    ensures first { MatchOption result (parts_of text.now ≡ []) (λ x. parts_of text.now ≡ x.0.now ∷ parts_of x.1.now) }
+    ensures shorter { MatchOption result (Unit {0}) (λ x. suc (length x.1.now) ≤ length text.now) }
+{
+    let (_, start) = text.split_at(spaces(text));
+    if start.is_empty() {
+        return None;
+    }
+    Some(start.split_at(part_bytes(start)))
+}
+
+// How many spaces stand at the front.
+fn spaces(text: &[u8]) -> usize
+    ensures longest { result ≡ prefix_len is_space text.now }
+    ensures within { result ≤ length text.now }
+{
+    text.iter().take_while(|b| **b == b' ').count()
+}
+
+// How many bytes the part at the front has. Where a quote begins it, it goes up to the next quote at
+// least.
+fn part_bytes(text: &[u8]) -> usize
+    ensures all { result ≡ part_len text.now }
+    ensures within { result ≤ length text.now }
+{
+    let quoted = quoted_bytes(text);
+    quoted + bytes_before_space(&text[quoted..])
+}
+
+// How many bytes stand before the first space.
+fn bytes_before_space(text: &[u8]) -> usize
+    ensures longest { result ≡ prefix_len isn't_space text.now }
+    ensures within { result ≤ length text.now }
+{
+    text.iter().take_while(|b| **b != b' ').count()
+}
+
+// How many bytes at the front are a text: a quote and all up to the next one.
+fn quoted_bytes(text: &[u8]) -> usize
+    ensures all { result ≡ quoted_len text.now }
+    ensures within { result ≤ length text.now }
+{
+    if text.is_empty() || text[0] != b'"' {
+        0
+    } else {
+        text_bytes(&text[1..]) + 1
+    }
+}
+
+// How many bytes go up to the next quote, with it. Without one they are all.
+fn text_bytes(text: &[u8]) -> usize
+    ensures all { result ≡ text_len text.now }
+    ensures within { result ≤ length text.now }
+{
+    let before = bytes_before_quote(text);
+    if before == text.len() {
+        before
+    } else {
+        before + 1
+    }
+}
+
+// How many bytes stand before the first quote.
+fn bytes_before_quote(text: &[u8]) -> usize
+    ensures longest { result ≡ prefix_len isn't_quote text.now }
+    ensures within { result ≤ length text.now }
+{
+    text.iter().take_while(|b| **b != b'"').count()
+}
+
+/// Whether a line has no part.
+pub(crate) fn is_end(text: &[u8]) -> bool
+    ensures { IsTrue result ↔ (parts_of text.now ≡ []) }
+{
+    first_part(text).is_none()
+}
+
+/// What stands behind a first part that is this word.
+pub(crate) fn after_word<'a>(text: &'a [u8], word: &[u8]) -> Option<&'a [u8]>
+    ensures { MatchOption result ((rest : Fields) → parts_of text.now ≡ word.now ∷ rest → ⊥) (λ behind. parts_of text.now ≡ word.now ∷ parts_of behind.now) }
+{
+    let (first, behind) = first_part(text)?;
+    if first == word { Some(behind) } else { None }
+}
+
+/// A first part that is a name, and what stands behind it.
+pub(crate) fn after_name(text: &[u8]) -> Option<(&[u8], &[u8])>
+    ensures { MatchOption result ((name : List ℕ) (rest : Fields) → IsName name → parts_of text.now ≡ name ∷ rest → ⊥)
+        (λ x. IsName x.0.now × (parts_of text.now ≡ x.0.now ∷ parts_of x.1.now)) }
+{
+    let (first, behind) = first_part(text)?;
+    if is_name(first) {
+        Some((first, behind))
+    } else {
+        None
+    }
+}
+
+#[tactic(auto, using(crate::proofs::Fronts::no_other_first))]
+/// A first part that is a number, and what stands behind it.
+pub(crate) fn after_number(text: &[u8]) -> Option<(u64, &[u8])>
+    ensures { MatchOption result ((field : List ℕ) (n : ℕ) (rest : Fields) → IsNumber field n → parts_of text.now ≡ field ∷ rest → ⊥)
+        (λ x. (field : List ℕ) × IsNumber field x.0 × (parts_of text.now ≡ field ∷ parts_of x.1.now)) }
+{
+    let (first, behind) = first_part(text)?;
+    let Some(number) = number(first) else {
+        return None;
+    };
+    Some((number, behind))
+}
+
+/// The number that a part spells. All numbers that 32 bits can't hold are 2^32.
+pub(crate) fn number(field: &[u8]) -> Option<u64>
+    ensures { MatchOption result ((n : ℕ) → IsNumber field.now n → ⊥) (λ n. IsNumber field.now n) }
+{
+    if let Some(small) = number_of(field, u64::from(u32::MAX)) {
+        return Some(small);
+    }
+    if is_numeral(field) {
+        Some(TOO_GREAT)
+    } else {
+        None
+    }
+}
+
+/// What stands for a number that 32 bits can't hold.
+pub(crate) const TOO_GREAT: u64 = 1 << 32;
+
+/// Whether a text is digits without a leading zero.
+pub(crate) fn is_numeral(text: &[u8]) -> bool
+    ensures { IsTrue result ↔ IsNumeral text.now }
+{
+    digit_bytes(text) == text.len() && (text.len() == 1 || text.len() > 1 && text[0] != b'0')
+}

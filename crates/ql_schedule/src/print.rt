@@ -1,0 +1,181 @@
+ghost use Rattle.std.specs.Prelude.{◌≡◌, ◌<◌, ◌++◌, ◌∷◌, [], List, ℕ, IfOk, OnOk, All, Some, codes, decimal, length, map, slice_get};
+ghost use Rattle.ql_lines.specs.Fields.{Fields};
+ghost use Rattle.ql_lines.specs.Texts.{behind, file_text, joined};
+ghost use Rattle.ql_value.specs.Spelling.{value_text};
+ghost use Rattle.ql_schedule.specs.Texts.{
+  AreNamed,
+  IsNamed,
+  caller_fields,
+  event_fields,
+  name_at,
+  object_fields,
+  object_lines,
+  op_name,
+  schedule_lines,
+  txn_name,
+};
+
+use crate::schedule::Schedule;
+use ql_base::{Names, NoMemory, ReplicaId, SessId, TypeId, Word, push_bytes, push_number};
+use ql_machine::Event;
+use ql_typing::Typed;
+use ql_value::{Value, print_value};
+use std::alloc::Global;
+
+/// The text of a schedule of a program.
+pub fn print_schedule(alloc: Global, t: &Typed, s: &Schedule) -> Result<Vec<u8>, NoMemory>
+    requires { AreNamed t.now.program s.now }
+    ensures { IfOk result (λ text. text.items ≡ file_text (schedule_lines t.now.program s.now)) }
+{
+    let mut text = Vec::new(alloc);
+    push_bytes(&mut text, b"quelea schedule 1\nreplicas ")?;
+    push_number(&mut text, s.replicas)?;
+    push_bytes(&mut text, b"\n")?;
+    push_objects(&mut text, t, s)?;
+    push_bytes(&mut text, b"events\n")?;
+    push_events(&mut text, t, s)?;
+    Ok(text)
+}
+
+fn push_objects(out: &mut Vec<u8>, t: &Typed, s: &Schedule) -> Result<(), NoMemory>
+    requires { AreNamed t.now.program s.now }
+    ensures { OnOk result (out.new.items ≡ out.old.items ++ file_text (object_lines t.now.program s.now.objects s.now.kinds)) }
+{
+    for k in 0..s.objects.len() {
+        push_object(out, t, s.objects.name(k), kind_at(s, k))?;
+    }
+    Ok(())
+}
+
+// The type of an object.
+fn kind_at(s: &Schedule, k: u32) -> TypeId
+    requires { k < length s.now.kinds }
+    ensures { slice_get s.now.kinds k ≡ Some result }
+{
+    s.kinds.items()[k as usize]
+}
+
+fn push_object(out: &mut Vec<u8>, t: &Typed, name: &Word, kind: TypeId) -> Result<(), NoMemory>
+    requires { kind.0 < length t.now.program.types }
+    ensures { OnOk result (out.new.items ≡ out.old.items ++ (joined (object_fields t.now.program name.now kind) ++ 10 ∷ [])) }
+{
+    push_bytes(out, b"object")?;
+    push_field(out, name.bytes())?;
+    push_field(out, t.type_decl(kind).name.word.bytes())?;
+    push_bytes(out, b"\n")
+}
+
+fn push_events(out: &mut Vec<u8>, t: &Typed, s: &Schedule) -> Result<(), NoMemory>
+    requires { AreNamed t.now.program s.now }
+    ensures { OnOk result (out.new.items ≡ out.old.items ++ file_text (map (event_fields t.now.program s.now.objects) s.now.events)) }
+{
+    for event in s.events.items() {
+        push_event(out, t, &s.objects, event)?;
+        push_bytes(out, b"\n")?;
+    }
+    Ok(())
+}
+
+fn push_event(out: &mut Vec<u8>, t: &Typed, objects: &Names, event: &Event) -> Result<(), NoMemory>
+    requires { IsNamed t.now.program (length objects.now) event.now }
+    ensures { OnOk result (out.new.items ≡ out.old.items ++ joined (event_fields t.now.program objects.now event.now)) }
+{
+    match event {
+        Event::Call {
+            session,
+            replica,
+            object,
+            op,
+            args,
+        } => {
+            push_caller(out, b"call", *session, *replica)?;
+            push_field(out, objects.name(object.0).bytes())?;
+            push_field(out, t.op(*op).name.word.bytes())?;
+            push_values(out, args.items())
+        }
+        Event::Begin {
+            session,
+            replica,
+            decl,
+            objects: ids,
+        } => {
+            push_caller(out, b"begin", *session, *replica)?;
+            push_field(out, t.txn(*decl).name.word.bytes())?;
+            push_names(out, objects, ids.items())
+        }
+        Event::Commit { session, replica } => push_caller(out, b"commit", *session, *replica),
+        Event::Deliver(m) => push_numbered(out, b"deliver", m.0),
+        Event::Repeat(m) => push_numbered(out, b"repeat", m.0),
+        Event::Lose(m) => push_numbered(out, b"lose", m.0),
+        Event::Resend { effect, from, to } => {
+            push_numbered(out, b"resend", effect.0)?;
+            push_numbered(out, b" from", from.0)?;
+            push_numbered(out, b" to", to.0)
+        }
+        Event::Partition(groups) => {
+            push_bytes(out, b"partition")?;
+            push_numbers(out, groups.items())
+        }
+        Event::Heal => push_bytes(out, b"heal"),
+    }
+}
+
+// A word, and a session at a replica.
+fn push_caller(
+    out: &mut Vec<u8>,
+    word: &[u8],
+    session: SessId,
+    replica: ReplicaId,
+) -> Result<(), NoMemory>
+    ensures { OnOk result (out.new.items ≡ out.old.items ++ joined (word.now ∷ caller_fields session.0 replica.0)) }
+{
+    push_numbered(out, word, session.0)?;
+    push_numbered(out, b" at", replica.0)
+}
+
+// A word and a number.
+fn push_numbered(out: &mut Vec<u8>, word: &[u8], number: u32) -> Result<(), NoMemory>
+    ensures { OnOk result (out.new.items ≡ out.old.items ++ (word.now ++ 32 ∷ decimal number)) }
+{
+    push_bytes(out, word)?;
+    push_bytes(out, b" ")?;
+    push_number(out, number)
+}
+
+// A field behind a space.
+fn push_field(out: &mut Vec<u8>, field: &[u8]) -> Result<(), NoMemory>
+    ensures { OnOk result (out.new.items ≡ out.old.items ++ 32 ∷ field.now) }
+{
+    push_bytes(out, b" ")?;
+    push_bytes(out, field)
+}
+
+fn push_values(out: &mut Vec<u8>, values: &[Value]) -> Result<(), NoMemory>
+    ensures { OnOk result (out.new.items ≡ out.old.items ++ behind (map value_text values.now)) }
+{
+    for value in values {
+        push_bytes(out, b" ")?;
+        print_value(out, value)?;
+    }
+    Ok(())
+}
+
+fn push_names(out: &mut Vec<u8>, names: &Names, ids: &[u32]) -> Result<(), NoMemory>
+    requires { All (λ k. k < length names.now) ids.now }
+    ensures { OnOk result (out.new.items ≡ out.old.items ++ behind (map (name_at names.now) ids.now)) }
+{
+    for id in ids {
+        push_field(out, names.name(*id).bytes())?;
+    }
+    Ok(())
+}
+
+fn push_numbers(out: &mut Vec<u8>, numbers: &[u32]) -> Result<(), NoMemory>
+    ensures { OnOk result (out.new.items ≡ out.old.items ++ behind (map decimal numbers.now)) }
+{
+    for number in numbers {
+        push_bytes(out, b" ")?;
+        push_number(out, *number)?;
+    }
+    Ok(())
+}

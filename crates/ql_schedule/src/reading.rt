@@ -1,0 +1,152 @@
+ghost use Rattle.std.specs.Prelude.{◌≡◌, IfOk, MatchResult, None, Some};
+ghost use Rattle.ql_lang.specs.declared.program.Program.{Program};
+ghost use Rattle.ql_line_files.specs.Answers.{IsLineAnswer};
+ghost use Rattle.ql_line_files.specs.declared.fault.LineFault.TheVariants.{Breaks};
+ghost use Rattle.ql_schedule.specs.declared.header.Declaration.TheVariants.{Object};
+ghost use Rattle.ql_schedule.specs.declared.rules.SchedRule.{SchedRule};
+ghost use Rattle.ql_schedule.specs.declared.reading.Reading.TheVariants.{Declaring, Running, Titled, Untitled};
+ghost use Rattle.ql_schedule.specs.Judging.{declaration_faults};
+ghost use Rattle.ql_schedule.specs.Makings.{with_event, with_object};
+ghost use Rattle.ql_schedule.specs.Outcomes.{Gives};
+ghost use Rattle.ql_schedule.specs.Parts.{parts_of};
+ghost use Rattle.ql_schedule.specs.Rules.{lowest};
+
+use crate::event_line::read_event_line;
+use crate::header::{Declaration, is_title, read_declaration, read_replicas};
+use crate::judging::{declaration_faults, event_faults, replicas_faults};
+use crate::making::event;
+use crate::rules::{Faults, SchedRule};
+use crate::schedule::{Events, Schedule, TypeIds};
+use ql_base::{Names, NoMemory, TypeId, Word};
+use ql_line_files::LineFault;
+use ql_machine::Event;
+use ql_typing::Typed;
+use std::alloc::Global;
+
+/// What was read of a schedule: nothing; its title; the number of replicas and some objects; all
+/// that stands before the events, and some events.
+#[derive(Drop)]
+pub(crate) enum Reading {
+    Untitled,
+    Titled,
+    Declaring(Schedule),
+    Running(Schedule),
+}
+
+/// What is read with one more line.
+pub(crate) fn take(
+    alloc: Global,
+    t: &Typed,
+    read: Reading,
+    text: &[u8],
+) -> Result<Reading, LineFault<SchedRule>>
+    ensures { IsLineAnswer (Gives t.now.program read (parts_of text.now)) result }
+{
+    match read {
+        Reading::Untitled => title(text),
+        Reading::Titled => count(alloc, text),
+        Reading::Declaring(so_far) => declare(t, so_far, text),
+        Reading::Running(so_far) => happen(alloc, t, so_far, text),
+    }
+}
+
+// The title.
+fn title(text: &[u8]) -> Result<Reading, LineFault<SchedRule>>
+    ensures { (p : Program) → IsLineAnswer (Gives p Untitled (parts_of text.now)) result }
+{
+    if is_title(text) {
+        Ok(Reading::Titled)
+    } else {
+        Err(LineFault::Breaks(SchedRule::Unexpected))
+    }
+}
+
+// The number of replicas.
+fn count(alloc: Global, text: &[u8]) -> Result<Reading, LineFault<SchedRule>>
+    ensures { (p : Program) → IsLineAnswer (Gives p Titled (parts_of text.now)) result }
+{
+    let Some(number) = read_replicas(text) else {
+        return Err(LineFault::Breaks(SchedRule::Unexpected));
+    };
+    check(replicas_faults(number))?;
+    Ok(Reading::Declaring(Schedule {
+        replicas: number as u32,
+        objects: Names::new(alloc),
+        kinds: TypeIds::of(Vec::new(alloc)),
+        events: Events::of(Vec::new(alloc)),
+    }))
+}
+
+// One more object, or the word that the events follow.
+fn declare(t: &Typed, so_far: Schedule, text: &[u8]) -> Result<Reading, LineFault<SchedRule>>
+    ensures { IsLineAnswer (Gives t.now.program (Declaring so_far) (parts_of text.now)) result }
+{
+    let Some(line) = read_declaration(text) else {
+        return Err(LineFault::Breaks(SchedRule::Unexpected));
+    };
+    check(declaration_faults(t, &so_far, &line))?;
+    match &line {
+        Declaration::Object { name, kind } => {
+            let more = with_object(t, so_far, name, kind)?;
+            Ok(Reading::Declaring(more))
+        }
+        Declaration::Events => Ok(Reading::Running(so_far)),
+    }
+}
+
+// With one more object.
+fn with_object(t: &Typed, so_far: Schedule, name: &Word, kind: &Word) -> Result<Schedule, NoMemory>
+    requires { lowest (declaration_faults t.now.program so_far (Object name.now kind.now)) ≡ None }
+    ensures { IfOk result (λ more. more ≡ with_object t.now.program so_far name.now kind.now) }
+{
+    let Schedule {
+        replicas,
+        mut objects,
+        mut kinds,
+        events,
+    } = so_far;
+    objects.number(name.bytes())?;
+    kinds.push(t.type_named(kind.bytes()).unwrap())?;
+    Ok(Schedule {
+        replicas,
+        objects,
+        kinds,
+        events,
+    })
+}
+
+// One more event.
+fn happen(
+    alloc: Global,
+    t: &Typed,
+    so_far: Schedule,
+    text: &[u8],
+) -> Result<Reading, LineFault<SchedRule>>
+    ensures { IsLineAnswer (Gives t.now.program (Running so_far) (parts_of text.now)) result }
+{
+    let Some(line) = read_event_line(alloc, text)? else {
+        return Err(LineFault::Breaks(SchedRule::Unexpected));
+    };
+    check(event_faults(t, &so_far, &line))?;
+    let event = event(alloc, t, &so_far, line)?;
+    let more = with_event(so_far, event)?;
+    Ok(Reading::Running(more))
+}
+
+fn with_event(so_far: Schedule, event: Event) -> Result<Schedule, NoMemory>
+    ensures { IfOk result (λ more. more ≡ with_event so_far event) }
+{
+    let mut more = so_far;
+    more.events.push(event)?;
+    Ok(more)
+}
+
+// Refuses a line for the lowest rule that it breaks.
+fn check(faults: Faults) -> Result<(), LineFault<SchedRule>>
+    ensures { MatchResult result (λ _. lowest faults ≡ None) (λ fault. (rule : SchedRule) × (fault ≡ Breaks rule) × (lowest faults ≡ Some rule)) }
+{
+    match faults.lowest() {
+        Some(rule) => Err(LineFault::Breaks(rule)),
+        None => Ok(()),
+    }
+}

@@ -1,0 +1,99 @@
+ghost use Rattle.std.specs.Prelude.{◌≡◌, ◌++◌, ◌∷◌, [], OnOk};
+
+use ql_base::{Names, NoMemory, TypeId};
+use ql_machine::Event;
+use std::marker::Model;
+
+/// What happens to a store: how many replicas it has, its objects with the type of each, and the
+/// events in their order.
+#[derive(Drop)]
+pub struct Schedule {
+    pub replicas: u32,
+    pub objects: Names,
+    pub kinds: TypeIds,
+    pub events: Events,
+}
+
+/// A list of types.
+#[derive(Drop)]
+pub struct TypeIds {
+    items: Vec<TypeId>,
+}
+
+impl Model for TypeIds {
+    ghost use Rattle.std.specs.Prelude.{List};
+    ghost use Rattle.ql_base.specs.declared.ids.TypeId.{TypeId};
+
+    ghost Value = { List TypeId };
+
+    ghost view = { λ t. t.items.items };
+}
+
+impl TypeIds {
+    pub fn of(items: Vec<TypeId>) -> TypeIds
+        ensures { result ≡ items.items }
+    {
+        TypeIds { items }
+    }
+
+    pub fn items(&self) -> &[TypeId]
+        ensures { result.now ≡ self.now }
+    {
+        &self.items
+    }
+
+    pub fn into_items(self) -> Vec<TypeId>
+        ensures { result.items ≡ self }
+    {
+        self.items
+    }
+
+    pub(crate) fn push(&mut self, item: TypeId) -> Result<(), NoMemory>
+        ensures { OnOk result (self.new ≡ self.old ++ item ∷ []) }
+    {
+        self.items.push(item)?;
+        Ok(())
+    }
+}
+
+/// A list of events.
+#[derive(Drop)]
+pub struct Events {
+    items: Vec<Event>,
+}
+
+impl Model for Events {
+    ghost use Rattle.std.specs.Prelude.{List};
+    ghost use Rattle.ql_machine.specs.declared.event.Event.{Event};
+
+    ghost Value = { List Event };
+
+    ghost view = { λ e. e.items.items };
+}
+
+impl Events {
+    pub fn of(items: Vec<Event>) -> Events
+        ensures { result ≡ items.items }
+    {
+        Events { items }
+    }
+
+    pub fn items(&self) -> &[Event]
+        ensures { result.now ≡ self.now }
+    {
+        &self.items
+    }
+
+    pub fn into_items(self) -> Vec<Event>
+        ensures { result.items ≡ self }
+    {
+        self.items
+    }
+
+    pub(crate) fn push(&mut self, item: Event) -> Result<(), NoMemory>
+        ensures { OnOk result (self.new ≡ self.old ++ item ∷ []) }
+    {
+        self.items.push(item)?;
+        Ok(())
+    }
+}
