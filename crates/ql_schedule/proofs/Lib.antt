@@ -3,5 +3,6 @@ mod Loops
 mod Fronts
 mod Clean
 mod Sound
+mod OneFile
 mod Printing
 mod NoEvents

@@ -11,6 +11,7 @@ mod fault;
 mod format;
 mod header;
 mod judging;
+mod law;
 mod lists;
 mod making;
 mod parse;
@@ -21,6 +22,7 @@ mod rules;
 mod schedule;
 
 pub use fault::SchedFault;
+pub use law::one_schedule;
 pub use parse::parse_schedule;
 pub use print::print_schedule;
 pub use schedule::{Events, Schedule, TypeIds};

@@ -1,0 +1,14 @@
+ghost use Rattle.std.specs.Prelude.{◌≡◌};
+ghost use Rattle.ql_lang.specs.declared.program.Program.{Program};
+ghost use Rattle.ql_lines.specs.Lines.{Ahead};
+ghost use Rattle.ql_schedule.specs.declared.fault.SchedFault.{SchedFault};
+ghost use Rattle.ql_schedule.specs.declared.schedule.Schedule.{Schedule};
+ghost use Rattle.ql_schedule.specs.Files.{IsFirstFault, IsScheduleFile};
+
+/// A file says one schedule of a program or has one first fault, never both, and never neither.
+pub fn one_schedule()
+    ensures one { (p : Program) (file : Ahead) (s t : Schedule) → IsScheduleFile p file s → IsScheduleFile p file t → s ≡ t }
+    ensures fault { (p : Program) (file : Ahead) (f g : SchedFault) → IsFirstFault p file f → IsFirstFault p file g → f ≡ g }
+    ensures apart { (p : Program) (file : Ahead) (s : Schedule) (f : SchedFault) → IsScheduleFile p file s → IsFirstFault p file f → ⊥ }
+    ensures some { (p : Program) (file : Ahead) → ((s : Schedule) → IsScheduleFile p file s → ⊥) → ((f : SchedFault) → IsFirstFault p file f → ⊥) → ⊥ }
+{}

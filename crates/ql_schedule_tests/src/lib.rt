@@ -1,0 +1,5 @@
+// Tests of schedules over texts, with answers from outside.
+#![tactic(auto)]
+
+#[cfg(test)]
+mod schedules;
