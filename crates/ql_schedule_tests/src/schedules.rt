@@ -45,7 +45,11 @@ quelea schedule 1␊replicas 2␊events␊heal␍ -> Unexpected 4
 
 #[test]
 fn files_are_schedules(rt: HostRuntime) -> Result<(), Fail> {
-    check_table(rt.alloc(), FILES, |alloc, file| said(alloc, file.as_bytes()))
+    check_table(
+        rt.alloc(),
+        FILES,
+        |alloc, file| said(alloc, file.as_bytes()),
+    )
 }
 
 // What stands before the events of the next table, and is printed as it stands.
@@ -174,7 +178,11 @@ fn counts_have_limits(rt: HostRuntime) -> Result<(), Fail> {
     check_table(rt.alloc(), COUNTED, |alloc, row| {
         let file = counted(alloc, number(row, 0), number(row, 1), number(row, 2))?;
         let text = said(alloc, &file)?;
-        let answer = if text.starts_with(b"quelea") { b"schedule".as_slice() } else { text.as_slice() };
+        let answer = if text.starts_with(b"quelea") {
+            b"schedule".as_slice()
+        } else {
+            text.as_slice()
+        };
         Ok(Vec::from_slice(alloc, answer)?)
     })
 }
