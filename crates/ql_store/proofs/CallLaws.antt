@@ -1,12 +1,11 @@
 -- Calls outside any transaction and below strong.
-use Rattle.std.proofs.Common.{◌≡◌, ◌≢◌, ◌⊎◌, ◌↔◌, ◌∷◌, ◌++◌, [], ◌<◌, ◌≤◌, ℕ, false, true, List, All, Option, Some, None, length, get_or, map, ap, sym, subst, ◌∙◌, inl, inr, refl, arith}
+use Rattle.std.proofs.Common.{◌≡◌, ◌≢◌, ◌∷◌, ◌++◌, [], ◌<◌, ◌≤◌, ℕ, false, true, List, All, Option, Some, None, length, map, ap, sym, subst, ◌∙◌, inl, inr, refl, arith}
 use Rattle.std.proofs.lemmas.Bool.{both_ways, false_from_ne_true}
 use Rattle.std.proofs.lemmas.List.{get_or-map}
 use Rattle.ql_base.specs.IdLists.{has_id}
 use Rattle.ql_base.specs.declared.ids.EffId.{EffId}
 use Rattle.ql_exec.specs.declared.effect.Draft.{Draft}
 use Rattle.ql_exec.specs.declared.effect.Effect.{Effect}
-use Rattle.ql_exec.specs.declared.effect.Member.{Member}
 use Rattle.ql_exec.specs.declared.effect.Member.TheVariants.{Alone}
 use Rattle.ql_exec.specs.declared.folder.Answered.{Answered}
 use Rattle.ql_exec.specs.Effects.{effect_at}
@@ -14,19 +13,18 @@ use Rattle.ql_exec.specs.Execution.{IsExecution, IsOn, effect_of, next_id}
 use Rattle.ql_exec.specs.Folding.{seen_in_order}
 use Rattle.ql_levels.specs.declared.level.Level.{Level}
 use Rattle.ql_levels.specs.declared.level.Level.TheVariants.{Eventual, Causal, Strong}
-use Rattle.ql_needs.specs.Closed.{Has}
 use Rattle.ql_needs.specs.Needs.{JoinsNone}
 use Rattle.ql_holder.specs.Arrivals as held
 use Rattle.ql_machine.specs.declared.open_txn.OpenTxn.{OpenTxn}
 use Rattle.ql_machine.specs.declared.reply.Reply.TheVariants as reply
 use Rattle.ql_machine.specs.Sets.{AreThose}
-use Rattle.ql_machine.specs.State.{Machine, open_of, received_at, replicas}
+use Rattle.ql_machine.specs.State.{Machine, received_at, replicas}
 use Rattle.ql_machine.specs.Rules.{Call, Rules}
 use Rattle.ql_machine.specs.Views.{Applied, InView, PlainScope, Scope}
-use Rattle.ql_machine.specs.Blocking.{IsMissing, MissingInTxn, MustSee, NoneMissing, NoneMissingInTxn}
-use Rattle.ql_machine.specs.Changes.{draft_of, effect_made, member_of, package_to_others, received_by}
+use Rattle.ql_machine.specs.Blocking.{IsMissing, MissingInTxn, MustSee, NoneMissingInTxn}
+use Rattle.ql_machine.specs.Changes.{draft_of, effect_made, package_to_others, received_by}
 use Rattle.ql_machine.specs.Calls.{HasNoneOpen, IsCall, MayAnswer, MayCall, after_plain, blocked, makes}
-use Rattle.ql_machine_laws.specs.Kept.{AreDone, Keeps}
+use Rattle.ql_machine_laws.specs.Kept.{Keeps}
 use Rattle.ql_exec.specs.Effects.{in_run}
 use Rattle.ql_exec.specs.Relations.{inside, vis}
 use Rattle.ql_exec.proofs.Finding.{effect_at-within}
@@ -43,7 +41,7 @@ use Rattle.ql_machine_laws.proofs.Alone.{applied-same}
 use Rattle.ql_machine_laws.proofs.Answering.{made}
 use Rattle.ql_machine_laws.proofs.StoredLaws.{joins-none}
 use Rattle.ql_net.specs.Network.{Network}
-use Rattle.ql_shim.specs.Transactions.{Transactions, open_txns}
+use Rattle.ql_shim.specs.Transactions.{Transactions}
 use Rattle.ql_store.specs.State.{machine_of}
 use Rattle.ql_store.specs.Viewing.{IsLeastLacking, IsWanted}
 

@@ -1,5 +1,5 @@
 -- A new effect outside any transaction.
-use Rattle.std.proofs.Common.{◌≡◌, ◌∷◌, ◌++◌, [], ◌≤◌, ◌<◌, ◌||◌, ℕ, zero, suc, Bool, true, false, nat_eq, List, All, Option, Some, None, length, map, ap, sym, subst, ◌∙◌, arith, refl, length-append}
+use Rattle.std.proofs.Common.{◌≡◌, ◌∷◌, ◌++◌, [], ◌||◌, ℕ, zero, suc, Bool, true, false, nat_eq, List, All, Option, Some, None, length, map, ap, sym, subst, ◌∙◌, arith, refl, length-append}
 use Rattle.std.proofs.lemmas.Bool.{false_from_ne_true}
 use Rattle.ql_base.specs.IdLists.{has_id}
 use Rattle.ql_base.specs.declared.ids.EffId.{EffId}
@@ -9,10 +9,9 @@ use Rattle.ql_exec.specs.declared.effect.Member.{Member}
 use Rattle.ql_exec.specs.declared.effect.Member.TheVariants.{Alone, Inside}
 use Rattle.ql_exec.specs.Effects.{both, effect_at}
 use Rattle.ql_exec.specs.Execution.{effect_of, next_id}
-use Rattle.ql_exec.specs.Relations.{same_run, sametxn}
+use Rattle.ql_exec.specs.Relations.{same_run}
 use Rattle.ql_exec.proofs.Finding.{effect_at-last}
-use Rattle.ql_needs.specs.Closed.{Has}
-use Rattle.ql_needs.specs.Needs.{AreThere, AreWhole, IsPackage}
+use Rattle.ql_needs.specs.Needs.{AreThere, IsPackage}
 use Rattle.ql_machine.specs.State.{received_at}
 
 -- what holds of each holder's list and of no ids holds of each list

@@ -1,9 +1,8 @@
 -- The notes of an execution: which effects they tell, and one note more or less.
-use Rattle.std.proofs.Common.{◌≡◌, ◌∷◌, ◌++◌, [], ◌+◌, ◌-◌, ◌≤◌, ◌&&◌, ℕ, zero, suc, Bool, true, false, nat_eq, List, Option, Some, None, length, take, ap, sym, subst, ◌∙◌, arith, refl, length-append}
+use Rattle.std.proofs.Common.{◌≡◌, ◌∷◌, ◌++◌, [], ◌+◌, ◌-◌, ◌≤◌, ◌&&◌, ℕ, zero, suc, Bool, true, nat_eq, List, Option, Some, None, length, take, ap, sym, subst, ◌∙◌, arith, refl, length-append}
 use Rattle.std.proofs.Math.Seq.{take-append_seam}
-use Rattle.std.proofs.lemmas.Bool.{eq-eqb, eqb-true, and_parts, and_from, false≢true}
+use Rattle.std.proofs.lemmas.Bool.{eq-eqb, eqb-true, and_parts, and_from}
 use Rattle.std.proofs.lemmas.Option.{same_Some}
-use Rattle.ql_base.specs.IdLists.{has_id}
 use Rattle.ql_base.specs.declared.ids.EffId.{EffId}
 use Rattle.ql_base.specs.declared.ids.ObjId.{ObjId}
 use Rattle.ql_base.specs.declared.ids.SessId.{SessId}
