@@ -170,7 +170,7 @@ const COUNTED: &str = "
 1 1024 1 -> schedule
 1 1025 1 -> TooMany 1027
 1 20 16 -> schedule
-1 20 17 -> TooMany 25
+1 20 17 -> TooMany 24
 ";
 
 #[test]
