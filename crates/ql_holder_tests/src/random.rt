@@ -1,8 +1,7 @@
 use crate::executions::{draft, push};
-use crate::receipts::receive;
-use ql_base::{EffId, IdSet, NoMemory};
+use crate::receipts::received;
+use ql_base::{IdSet, NoMemory};
 use ql_exec::Execution;
-use ql_holder::Holder;
 use ql_plain_holder::PlainHolder;
 use ql_replica::Replica;
 use std::alloc::Global;
@@ -41,16 +40,16 @@ fn both_answer_the_same(rt: HostRuntime) -> Result<(), Fail> {
 // Effects of two objects and three sessions, some of them in transactions.
 fn random_execution(alloc: Global, numbers: &mut Numbers) -> Result<Execution, NoMemory> {
     let mut x = Execution::new(alloc);
-    let mut run = 1;
+    let mut run = 1u32;
     for _ in 0..40 {
         if numbers.below(3) == 0 {
-            run += 1;
+            run = run.wrapping_add(1);
         }
         let object = numbers.below(2);
         let seen = some_on(alloc, &x, object, numbers)?;
         let session = numbers.below(3);
         let of = if numbers.below(2) == 0 {
-            run * 3 + session
+            run.wrapping_mul(3).wrapping_add(session)
         } else {
             0
         };
@@ -75,25 +74,15 @@ fn some_on(
     Ok(seen)
 }
 
-// Receives packages at random by both holders, and tells whether all their answers are the same.
+// Receives packages at random by both holders, and returns whether all that they answer is the same.
 fn agree(alloc: Global, x: &Execution, numbers: &mut Numbers) -> Result<bool, NoMemory> {
-    let mut replica = Replica::empty(alloc);
-    let mut plain = PlainHolder::empty(alloc);
+    let mut ids = Vec::new(alloc);
     for _ in 0..120 {
-        let id = numbers.below(x.len()) + 1;
-        let mut out = Vec::new(alloc);
-        let mut plain_out = Vec::new(alloc);
-        receive(alloc, x, &mut replica, id, &mut out)?;
-        receive(alloc, x, &mut plain, id, &mut plain_out)?;
-        if out.as_slice() != plain_out.as_slice() || !tell_same(&replica, &plain, x.len()) {
-            return Ok(false);
-        }
+        ids.push(numbers.below(x.len()).wrapping_add(1))?;
     }
-    Ok(true)
-}
-
-fn tell_same<H: Holder, J: Holder>(one: &H, other: &J, count: u32) -> bool {
-    (1..=count).all(|e| {
-        one.has(EffId(e)) == other.has(EffId(e)) && one.applied(EffId(e)) == other.applied(EffId(e))
-    })
+    let mut out = Vec::new(alloc);
+    let mut plain_out = Vec::new(alloc);
+    received::<Replica>(alloc, x, &ids, true, &mut out)?;
+    received::<PlainHolder>(alloc, x, &ids, true, &mut plain_out)?;
+    Ok(out.as_slice() == plain_out.as_slice())
 }

@@ -21,7 +21,7 @@ fn a_replica_receives(rt: HostRuntime) -> Result<(), Fail> {
     check_table(rt.alloc(), RECEIVED, |alloc, row| {
         let (effects, order) = row.split_once(" in order ").unwrap_or((row, ""));
         let execution = execution_of(alloc, effects)?;
-        received::<Replica>(alloc, &execution, order)
+        answers::<Replica>(alloc, &execution, order)
     })
 }
 
@@ -30,24 +30,59 @@ fn a_plain_holder_receives(rt: HostRuntime) -> Result<(), Fail> {
     check_table(rt.alloc(), RECEIVED, |alloc, row| {
         let (effects, order) = row.split_once(" in order ").unwrap_or((row, ""));
         let execution = execution_of(alloc, effects)?;
-        received::<PlainHolder>(alloc, &execution, order)
+        answers::<PlainHolder>(alloc, &execution, order)
     })
 }
 
-fn received<H: Holder>(alloc: Global, x: &Execution, order: &str) -> Result<Vec<u8>, NoMemory> {
-    let mut holder = H::empty(alloc);
-    let mut out = Vec::new(alloc);
+// What a holder answers as the packages of these effects come.
+fn answers<H: Holder>(alloc: Global, x: &Execution, order: &str) -> Result<Vec<u8>, NoMemory> {
+    let mut ids = Vec::new(alloc);
     for id in order.split_whitespace() {
-        if !out.is_empty() {
-            push_bytes(&mut out, b", ")?;
-        }
-        receive(alloc, x, &mut holder, number(id, 0), &mut out)?;
+        ids.push(number(id, 0))?;
     }
+    let mut out = Vec::new(alloc);
+    received::<H>(alloc, x, &ids, false, &mut out)?;
     Ok(out)
 }
 
-/// Receives the package of an effect, and spells the answer.
-pub(crate) fn receive<H: Holder>(
+/// A holder that received the packages of these effects. Spells its answers, and where it is asked what
+/// it has received and applied after each.
+pub(crate) fn received<H: Holder>(
+    alloc: Global,
+    x: &Execution,
+    ids: &[u32],
+    with_state: bool,
+    out: &mut Vec<u8>,
+) -> Result<H, NoMemory> {
+    let mut holder = H::empty(alloc);
+    for id in ids {
+        if !out.is_empty() {
+            push_bytes(out, b", ")?;
+        }
+        receive(alloc, x, &mut holder, *id, out)?;
+        if with_state {
+            push_state(&holder, x.len(), out)?;
+        }
+    }
+    Ok(holder)
+}
+
+// A letter for each effect: received, applied, both or neither.
+fn push_state<H: Holder>(holder: &H, count: u32, out: &mut Vec<u8>) -> Result<(), NoMemory> {
+    for e in 1..=count {
+        let letter = match (holder.has(EffId(e)), holder.applied(EffId(e))) {
+            (true, true) => b"b",
+            (true, false) => b"r",
+            (false, true) => b"a",
+            (false, false) => b"n",
+        };
+        push_bytes(out, letter)?;
+    }
+    Ok(())
+}
+
+// Receives the package of an effect, and spells the answer.
+fn receive<H: Holder>(
     alloc: Global,
     x: &Execution,
     holder: &mut H,
@@ -95,11 +130,8 @@ fn ranges_and_watches(rt: HostRuntime) -> Result<(), Fail> {
         alloc,
         "0 1 0; 0 2 0 sees 1; 0 3 0 sees 1 2; 0 4 0 sees 1 2 3",
     )?;
-    let mut replica = Replica::empty(alloc);
     let mut out = Vec::new(alloc);
-    receive(alloc, &x, &mut replica, 4, &mut out)?;
-    receive(alloc, &x, &mut replica, 2, &mut out)?;
-    receive(alloc, &x, &mut replica, 1, &mut out)?;
+    let replica = received::<Replica>(alloc, &x, &[4, 2, 1], false, &mut out)?;
     let copy = replica.copy()?;
     let mut kept = Vec::new(alloc);
     for range in copy.ranges().items() {
