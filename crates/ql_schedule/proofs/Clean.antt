@@ -1,11 +1,10 @@
 -- what is known of lines that break no rule
-use Rattle.std.proofs.Common.{◌≡◌, ℕ, zero, suc, ◌<◌, Bool, true, false, List, [], ◌∷◌, Option, None, Some, length, get_or, is_some, arith, refl, ◌∙◌}
+use Rattle.std.proofs.Common.{◌≡◌, ℕ, zero, suc, ◌<◌, Bool, true, false, List, [], ◌∷◌, Option, None, Some, length, get_or, is_some, arith, refl}
 use Rattle.std.specs.Prelude.{All, is_none, ◌||◌}
 use Rattle.std.specs.List.{list_any}
 use Rattle.ql_base.specs.Numbering.{place}
 use Rattle.ql_lang.specs.declared.program.Program.{Program}
 use Rattle.ql_typing.specs.Lookups.{txn_place}
-use Rattle.ql_schedule.specs.declared.event_line.EventLine.{EventLine}
 use Rattle.ql_schedule.specs.declared.event_line.EventLine.TheVariants.{Begin}
 use Rattle.ql_schedule.specs.declared.event_parts.Caller.{Caller}
 use Rattle.ql_schedule.specs.declared.rules.Faults.{Faults}

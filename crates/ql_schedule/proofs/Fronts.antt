@@ -1,6 +1,5 @@
 -- a line that is read from its front, part by part
 use Rattle.std.proofs.Common.{◌≡◌, ℕ, List, [], ◌∷◌, Option, None, Some, MatchOption, drop, codes, ap, sym, subst, ◌∙◌}
-use Rattle.ql_base.specs.Names.{IsName}
 use Rattle.ql_lines.specs.Fields.{Fields}
 use Rattle.ql_lines.proofs.Conses.{heads}
 use Rattle.ql_schedule.specs.EventLines.{CallerAt, IsCalled}

@@ -4,5 +4,8 @@ mod Fronts
 mod Clean
 mod Sound
 mod OneFile
+mod LinesAgain
+mod EventsAgain
+mod FileAgain
 mod Printing
 mod NoEvents

@@ -3,7 +3,7 @@ use Rattle.std.proofs.Common.{◌≡◌, ℕ, List, [], ◌∷◌, drop, codes, 
 use Rattle.ql_lines.specs.Fields.{Fields}
 use Rattle.ql_schedule.specs.declared.argument.Argument.{Argument}
 use Rattle.ql_schedule.specs.declared.event_line.EventLine.{EventLine}
-use Rattle.ql_schedule.specs.declared.event_line.EventLine.TheVariants.{Call, Begin, Commit, Deliver, Repeat, Lose, Resend, Partition, Heal}
+use Rattle.ql_schedule.specs.declared.event_line.EventLine.TheVariants.{Call, Begin, Deliver, Repeat, Lose, Resend}
 use Rattle.ql_schedule.specs.declared.event_parts.Caller.{Caller}
 use Rattle.ql_schedule.specs.Arguments.{AreArguments}
 use Rattle.ql_schedule.specs.EventLines.{CallerAt, IsBegin, IsCall, IsCalled, IsResend, IsRest, kind_word}

@@ -1,5 +1,5 @@
 -- the first part of a line, and the parts behind it
-use Rattle.std.proofs.Common.{◌≡◌, ◌<◌, ◌+◌, ◌==◌, ℕ, suc, Bool, true, false, cond, List, [], ◌∷◌, length, take, drop, nat_eq, arith, refl, ap, sym, subst, ◌∙◌, one-add}
+use Rattle.std.proofs.Common.{◌≡◌, ◌<◌, ◌+◌, ℕ, suc, Bool, true, false, cond, List, [], ◌∷◌, length, take, drop, arith, refl, ap, sym, subst, ◌∙◌, one-add}
 use Rattle.std.specs.Prelude.{not}
 use Rattle.std.specs.List.{prefix_len}
 use Rattle.std.proofs.lemmas.Bool.Decides.{nat_tests}
@@ -7,7 +7,7 @@ use Rattle.std.proofs.lemmas.List.{nil_from_length}
 use Rattle.ql_base.specs.Bytes.{StopsBefore}
 use Rattle.ql_base.proofs.Fronts.{front_stops}
 use Rattle.ql_lines.specs.Fields.{Fields, is_space}
-use Rattle.ql_schedule.specs.Parts.{is_quote, isn't_quote, isn't_space, led_by, part_len, parts_in_part, parts_in_text, parts_of, quoted_len, text_len}
+use Rattle.ql_schedule.specs.Parts.{is_quote, isn't_space, led_by, part_len, parts_in_part, parts_in_text, parts_of, text_len}
 
 behind_space : (b : ℕ) (bs : List ℕ) → is_space b ≡ true → parts_of (b ∷ bs) ≡ parts_of bs
 unfolding parts_of

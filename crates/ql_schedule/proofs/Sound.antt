@@ -1,5 +1,5 @@
 -- a schedule that is read is one that a store can step through
-use Rattle.std.proofs.Common.{◌≡◌, ℕ, zero, suc, ◌<◌, ◌≤◌, ◌+◌, Bool, true, false, cond, nat_eq, nat_le, nat_lt, List, [], ◌∷◌, ◌++◌, Option, None, Some, Ok, unwrap_or, length, arith, refl, ap, sym, subst, ◌∙◌}
+use Rattle.std.proofs.Common.{◌≡◌, ℕ, ◌<◌, ◌≤◌, ◌+◌, Bool, true, false, cond, nat_eq, nat_le, nat_lt, List, [], ◌∷◌, ◌++◌, Option, None, Some, Ok, unwrap_or, length, arith, refl, ap, sym, subst, ◌∙◌}
 use Rattle.std.specs.Prelude.{is_none, not, ◌||◌, ◌&&◌, slice_get}
 use Rattle.std.specs.List.{AllByRecursion, list_any, position}
 use Rattle.std.specs.Option.{option_map}
@@ -21,7 +21,6 @@ use Rattle.ql_lang.specs.declared.program.TypeDecl.{TypeDecl}
 use Rattle.ql_lang.specs.declared.program.TxnDecl.{TxnDecl}
 use Rattle.ql_line_files.specs.Outcomes.{Leads}
 use Rattle.ql_lines.specs.Lines.{Ahead, Numbered}
-use Rattle.ql_machine.specs.declared.event.Event.{Event}
 use Rattle.ql_typing.specs.Functions.{of_base}
 use Rattle.ql_typing.specs.Lookups.{txn_place, type_place}
 use Rattle.ql_typing.specs.Operations.{all_ops, op_kinds, op_place}
@@ -40,10 +39,9 @@ use Rattle.ql_schedule.specs.declared.schedule.Schedule.{Schedule}
 use Rattle.ql_schedule.specs.Arguments.{fit, has_base, is_too_great, values_of}
 use Rattle.ql_schedule.specs.Files.{GivesLine, IsScheduleFile}
 use Rattle.ql_schedule.specs.Guarantees.{FitsCall, FitsEvent, IsCaller, IsSchedule, IsSound}
-use Rattle.ql_schedule.specs.Judging.{are_groups_out, declaration_faults, event_faults, fit_op, is_caller_out, is_same_type, may_call, replicas_faults}
-use Rattle.ql_schedule.specs.Makings.{declared_from, event_of, id_of, of_replicas, with_event, with_object}
-use Rattle.ql_schedule.specs.Outcomes.{Closes, Gives, after_declaration, after_event}
-use Rattle.ql_schedule.specs.Parts.{parts_of}
+use Rattle.ql_schedule.specs.Judging.{declaration_faults, event_faults, fit_op, is_caller_out, is_same_type, may_call, replicas_faults}
+use Rattle.ql_schedule.specs.Makings.{declared_from, event_of, id_of, of_replicas, with_event}
+use Rattle.ql_schedule.specs.Outcomes.{Closes, after_declaration}
 use Rattle.ql_schedule.specs.Rules.{lowest}
 use Rattle.ql_schedule.proofs.Clean.{clean, either}
 

@@ -11,3 +11,4 @@ pub mod Guarantees
 pub mod Files
 pub mod OneLine
 pub mod Texts
+pub mod Spelled

@@ -1,5 +1,5 @@
 -- What one more line makes of a schedule that was read in part, and what a file says that ends behind it.
-use Rattle.std.specs.Prelude.{ℕ, ◌≡◌, Option, Some, None, Result, Ok, Err}
+use Rattle.std.specs.Prelude.{ℕ, ◌≡◌, Some, None, Result, Ok, Err}
 use Rattle.ql_lang.specs.declared.program.Program.{Program}
 use Rattle.ql_line_files.specs.declared.fault.Broken.{Broken}
 use Rattle.ql_line_files.specs.declared.fault.FileFault.{FileFault}

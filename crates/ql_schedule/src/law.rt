@@ -1,9 +1,12 @@
 ghost use Rattle.std.specs.Prelude.{◌≡◌};
 ghost use Rattle.ql_lang.specs.declared.program.Program.{Program};
-ghost use Rattle.ql_lines.specs.Lines.{Ahead};
+ghost use Rattle.ql_lines.specs.Lines.{Ahead, ahead_from};
+ghost use Rattle.ql_lines.specs.Texts.{file_text};
 ghost use Rattle.ql_schedule.specs.declared.fault.SchedFault.{SchedFault};
 ghost use Rattle.ql_schedule.specs.declared.schedule.Schedule.{Schedule};
 ghost use Rattle.ql_schedule.specs.Files.{IsFirstFault, IsScheduleFile};
+ghost use Rattle.ql_schedule.specs.Spelled.{IsSpelled};
+ghost use Rattle.ql_schedule.specs.Texts.{schedule_lines};
 
 /// A file says one schedule of a program or has one first fault, never both, and never neither.
 pub fn one_schedule()
@@ -11,4 +14,9 @@ pub fn one_schedule()
     ensures fault { (p : Program) (file : Ahead) (f g : SchedFault) → IsFirstFault p file f → IsFirstFault p file g → f ≡ g }
     ensures apart { (p : Program) (file : Ahead) (s : Schedule) (f : SchedFault) → IsScheduleFile p file s → IsFirstFault p file f → ⊥ }
     ensures some { (p : Program) (file : Ahead) → ((s : Schedule) → IsScheduleFile p file s → ⊥) → ((f : SchedFault) → IsFirstFault p file f → ⊥) → ⊥ }
+{}
+
+/// A schedule is read again as it is printed, where its names are names and not repeated.
+pub fn printed_is_read_again()
+    ensures { (p : Program) (s : Schedule) → IsSpelled p s → IsScheduleFile p (ahead_from 1 (file_text (schedule_lines p s))) s }
 {}

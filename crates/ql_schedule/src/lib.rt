@@ -22,7 +22,7 @@ mod rules;
 mod schedule;
 
 pub use fault::SchedFault;
-pub use law::one_schedule;
+pub use law::{one_schedule, printed_is_read_again};
 pub use parse::parse_schedule;
 pub use print::print_schedule;
 pub use schedule::{Events, Schedule, TypeIds};

@@ -1,4 +1,4 @@
-use Rattle.std.proofs.Common.{◌++◌, ◌∷◌, [], List, ap, sym, subst, ◌∙◌, append_assoc}
+use Rattle.std.proofs.Common.{◌++◌, ◌∷◌, [], ap, sym, subst, ◌∙◌, append_assoc}
 use Rattle.ql_lines.specs.Fields.{Fields}
 use Rattle.ql_schedule.specs.declared.argument.Argument.{Argument}
 use Rattle.ql_schedule.specs.Arguments.{AreArguments, IsArgument}

@@ -1,4 +1,4 @@
-use Rattle.std.proofs.Common.{◌++◌, ◌∷◌, [], List, ℕ, ap, sym, subst, ◌∙◌, append_assoc}
+use Rattle.std.proofs.Common.{◌++◌, ◌∷◌, [], ap, sym, subst, ◌∙◌, append_assoc}
 use Rattle.ql_lines.specs.Fields.{Fields}
 use Rattle.ql_schedule.specs.EventLines.{AreNumbers}
 use Rattle.ql_schedule.specs.Parts.{parts_of}

@@ -1,6 +1,6 @@
-use Rattle.std.proofs.Common.{◌≡◌, ◌<◌, ◌∷◌, length, take, drop, arith, sym, subst, ap, ◌∙◌}
+use Rattle.std.proofs.Common.{◌≡◌, ◌<◌, ◌∷◌, length, take, drop, arith, sym, ap, ◌∙◌}
 use Rattle.std.specs.List.{prefix_len}
-use Rattle.ql_lines.specs.Fields.{Fields, is_space}
+use Rattle.ql_lines.specs.Fields.{is_space}
 use Rattle.ql_schedule.specs.Parts.{part_len, parts_of}
 use Rattle.ql_schedule.proofs.PartLaws.{first_part_is, no_part}
 use Rattle.ql_schedule.proofs.parts.first_part.Goals as goal

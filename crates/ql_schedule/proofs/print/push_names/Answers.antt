@@ -1,4 +1,4 @@
-use Rattle.std.proofs.Common.{◌≡◌, ◌++◌, ◌∷◌, [], List, ℕ, Option, get_or, ap, sym, ◌∙◌}
+use Rattle.std.proofs.Common.{◌++◌, ◌∷◌, [], List, ℕ, Option, get_or, ap, sym, ◌∙◌}
 use Rattle.std.specs.Option.{option_map_or}
 use Rattle.ql_schedule.specs.Texts.{name_at}
 use Rattle.ql_schedule.proofs.Printing.{nothing_behind, one_more_behind}

@@ -1,0 +1,264 @@
+-- a schedule is read again as it is printed
+use Rattle.std.proofs.Common.{◌≡◌, inl, ℕ, suc, pos, negsuc, ◌<◌, ◌≤◌, ◌^◌, ◌+◌, true, false, nat_le, nat_lt, List, [], ◌∷◌, ◌++◌, map, length, Option, Ok, unwrap_or, decimal, codes, arith, refl, ap, sym, subst, ◌∙◌, append_assoc}
+use Rattle.std.specs.Prelude.{◌==◌}
+use Rattle.std.specs.List.{AllByRecursion}
+use Rattle.std.proofs.lemmas.Bool.Decides.{nat_tests}
+use Rattle.std.proofs.lemmas.List.{append-nil, length-append}
+use Rattle.ql_base.specs.Names.{IsName}
+use Rattle.ql_base.specs.Numbering.{has_name, with_name}
+use Rattle.ql_base.specs.declared.ids.TypeId.{TypeId}
+use Rattle.ql_lang.specs.declared.program.Program.{Program}
+use Rattle.ql_line_files.specs.Outcomes.{Leads}
+use Rattle.ql_lines.specs.Fields.{Fields}
+use Rattle.ql_lines.specs.Lines.{ahead_from}
+use Rattle.ql_lines.specs.Texts.{file_text}
+use Rattle.ql_machine.specs.declared.event.Event.{Event}
+use Rattle.ql_machine.specs.declared.event.Event.TheVariants as event
+use Rattle.ql_typing.specs.Lookups.{type_place}
+use Rattle.ql_value.specs.declared.value.Value.{Value}
+use Rattle.ql_value.specs.declared.value.Value.TheVariants.{Unit as Nothing, Int as Number, Bool as Truth, Text, Set, Map}
+use Rattle.ql_value.specs.Spelling.{value_text}
+use Rattle.ql_schedule.specs.declared.header.Declaration.TheVariants.{Object, Events}
+use Rattle.ql_schedule.specs.declared.reading.Reading.{Reading}
+use Rattle.ql_schedule.specs.declared.reading.Reading.TheVariants.{Untitled, Titled, Declaring, Running}
+use Rattle.ql_schedule.specs.declared.schedule.Schedule.{Schedule}
+use Rattle.ql_schedule.specs.Files.{GivesLine, IsScheduleFile}
+use Rattle.ql_schedule.specs.Guarantees.{FitsEvent}
+use Rattle.ql_schedule.specs.Makings.{of_replicas}
+use Rattle.ql_schedule.specs.Outcomes.{Closes, Gives}
+use Rattle.ql_schedule.specs.Spelled.{AreNew, IsFound, IsSpelled, IsSpelledEvent, IsSpelledType, IsSpelledValue}
+use Rattle.ql_schedule.specs.Texts.{event_fields, name_at, object_fields, object_lines, op_name, schedule_lines, txn_name, type_name}
+use Rattle.ql_schedule.proofs.EventsAgain.{is_event, lawful, line_of, made_again}
+use Rattle.ql_schedule.proofs.LinesAgain.{IsLine, IsPart, file_again, minus_part, name_part, number_part, numbered, parts_again, text_part, word_part}
+
+-- ---- line by line
+
+unfoldable Steps : Program → Reading → List Fields → Reading → Type 0
+Steps p s [] t = s ≡ t
+Steps p s (l ∷ ls) t = (next : Reading) × Gives p s l (Ok next) × Steps p next ls t
+
+joins : (p : Program) (ls ms : List Fields) (s t u : Reading) → Steps p s ls t → Steps p t ms u → Steps p s (ls ++ ms) u
+unfolding Steps
+joins p [] ms s t u h k = subst (λ r. Steps p r ms u) (sym h) k
+joins p (l ∷ ls) ms s t u h k = (h.0, h.1, joins p ls ms h.0 t u h.2 k)
+
+as_lines : (p : Program) (n : ℕ) (ls : List Fields) (s t : Reading) → AllByRecursion IsLine ls → Steps p s ls t → Leads (GivesLine p) Closes s (numbered n ls) t
+unfolding Steps Leads numbered
+as_lines p n [] s t is h = h
+as_lines p n (l ∷ ls) s t is h = (h.0, subst (λ ps. Gives p s ps (Ok h.0)) (sym (parts_again l is.0.parts)) h.1, as_lines p (n + 1) ls h.0 t is.1 h.2)
+
+-- ---- before the events
+
+abbrev header : ℕ → List (List ℕ) → List TypeId → Schedule
+header n names kinds = record { replicas = n; objects = names; kinds = kinds; events = [] }
+
+counted : (p : Program) (n : ℕ) → 1 ≤ n → n ≤ 16 → Gives p Titled (codes "replicas" ∷ decimal n ∷ []) (Ok (Declaring (of_replicas n)))
+counted p n some few =
+    let a : (n == 0) ≡ false = grind (arith, nat_tests, some) in
+    let b : nat_lt 16 n ≡ false = grind (arith, nat_tests, few) in
+    record { line = n; is = record { field = decimal n; number = inl (omega (arith, few), refl); are = refl }; lawful = rw (a, b) refl; to = refl }
+
+declared : (p : Program) (n : ℕ) (done : List (List ℕ)) (kdone : List TypeId) (w : List ℕ) (k : TypeId) → IsName w → has_name done w ≡ false → IsSpelledType p k → length done < 1024
+    → Gives p (Declaring (header n done kdone)) (object_fields p w k) (Ok (Declaring (header n (done ++ w ∷ []) (kdone ++ k ∷ []))))
+declared p n done kdone w k is new type room =
+    let names : with_name done w ≡ done ++ w ∷ [] = rw new refl in
+    let number : unwrap_or (type_place p.types (type_name p k.0)) 0 ≡ k.0 = ap (λ (o : Option ℕ). unwrap_or o 0) type.1 in
+    let few : nat_le 1024 (length done) ≡ false = grind (arith, nat_tests, room) in
+    record {
+      line = Object w (type_name p k.0);
+      is = (is, type.0, refl);
+      lawful = rw (type.1, few, new) refl;
+      to =
+          ap (λ ns. Declaring (header n ns (kdone ++ k ∷ []))) (sym names)
+          ∙ ap (λ t. Declaring (header n (with_name done w) (kdone ++ record { 0 = t } ∷ []))) (sym number);
+    }
+
+objects_again : (p : Program) (n : ℕ) (done : List (List ℕ)) (kdone : List TypeId) (names : List (List ℕ)) (kinds : List TypeId) → length kinds ≡ length names → AreNew done names
+    → AllByRecursion (IsSpelledType p) kinds → length done + length names ≤ 1024 → Steps p (Declaring (header n done kdone)) (object_lines p names kinds) (Declaring (header n (done ++ names) (kdone ++ kinds)))
+unfolding Steps object_lines
+objects_again p n done kdone [] [] e new types few = ap (λ ns. Declaring (header n ns kdone)) (sym (append-nil done)) ∙ ap (λ ks. Declaring (header n (done ++ []) ks)) (sym (append-nil kdone))
+objects_again p n done kdone [] (k ∷ ks) e new types few = absurd (omega (arith, e))
+objects_again p n done kdone (w ∷ ws) [] e new types few = absurd (omega (arith, e))
+objects_again p n done kdone (w ∷ ws) (k ∷ ks) e new types few =
+    let rest = objects_again p n (done ++ w ∷ []) (kdone ++ k ∷ []) ws ks (omega (arith, e)) new.2 types.1 (omega (arith, few, length-append done (w ∷ []))) in (
+      Declaring (header n (done ++ w ∷ []) (kdone ++ k ∷ [])),
+      declared p n done kdone w k new.0 new.1 types.0 (omega (arith, few)),
+      subst (λ ns. Steps p (Declaring (header n (done ++ w ∷ []) (kdone ++ k ∷ []))) (object_lines p ws ks) (Declaring (header n ns (kdone ++ k ∷ ks)))) (append_assoc done (w ∷ []) ws)
+          (subst (λ ns. Steps p (Declaring (header n (done ++ w ∷ []) (kdone ++ k ∷ []))) (object_lines p ws ks) (Declaring (header n ((done ++ w ∷ []) ++ ws) ns))) (append_assoc kdone (k ∷ []) ks) rest),
+    )
+
+-- ---- the events
+
+abbrev at : Schedule → List Event → Schedule
+at s done = record { replicas = s.replicas; objects = s.objects; kinds = s.kinds; events = done }
+
+events_again : (p : Program) (s : Schedule) → s.replicas ≤ 16 → length s.kinds ≡ length s.objects → (done es : List Event) → length done + length es ≤ 4000
+    → AllByRecursion (FitsEvent p s.replicas (length s.objects) s.kinds) es → AllByRecursion (IsSpelledEvent p s.objects) es
+    → Steps p (Running (at s done)) (map (event_fields p s.objects) es) (Running (at s (done ++ es)))
+unfolding Steps
+events_again p s few typed done [] room fits spelled = ap (λ es. Running (at s es)) (sym (append-nil done))
+events_again p s few typed done (e ∷ es) room fits spelled =
+    let line = line_of p s.objects e in
+    let rest = events_again p s few typed (done ++ e ∷ []) es (omega (arith, room, length-append done (e ∷ []))) fits.1 spelled.1 in (
+      Running (at s (done ++ e ∷ [])),
+      record {
+        line = line;
+        is = is_event p (at s done) few e fits.0 spelled.0;
+        lawful = lawful p (at s done) typed (omega (arith, room)) e fits.0 spelled.0;
+        to = ap (λ x. Running (at s (done ++ x ∷ []))) (sym (made_again p (at s done) e spelled.0));
+      },
+      subst (λ xs. Steps p (Running (at s (done ++ e ∷ []))) (map (event_fields p s.objects) es) (Running (at s xs))) (append_assoc done (e ∷ []) es) rest,
+    )
+
+-- ---- the whole schedule
+
+steps : (p : Program) (s : Schedule) → IsSpelled p s → Steps p Untitled (schedule_lines p s) (Running s)
+unfolding Steps
+steps p s is =
+    let h = is.lawful in
+    let objects = objects_again p s.replicas [] [] s.objects s.kinds h.typed is.objects is.types (omega (arith, h.few_objects)) in
+    let events = events_again p s h.few_replicas h.typed [] s.events (omega (arith, h.few_events)) h.events is.events in (
+      Titled,
+      record { line = tt; is = refl; lawful = refl; to = refl },
+      (
+        Declaring (of_replicas s.replicas),
+        counted p s.replicas h.some_replicas h.few_replicas,
+        joins p (object_lines p s.objects s.kinds) ((codes "events" ∷ []) ∷ map (event_fields p s.objects) s.events) (Declaring (of_replicas s.replicas)) (Declaring (header s.replicas s.objects s.kinds)) (Running s)
+            objects (Running (header s.replicas s.objects s.kinds), record { line = Events; is = refl; lawful = refl; to = refl }, events),
+      ),
+    )
+
+-- ---- its lines
+
+value_part : (v : Value) → IsSpelledValue v → IsPart (value_text v)
+value_part Nothing h = absurd cc
+value_part (Number (pos n)) h = number_part n (omega (arith, h.1.sfits))
+value_part (Number (negsuc n)) h = minus_part (suc n) (omega (arith, h.1.sfits))
+value_part (Truth true) h = word_part (codes "true") refl (omega arith)
+value_part (Truth false) h = word_part (codes "false") refl (omega arith)
+value_part (Text t) h = text_part t (λ k lt. h.1.plain k 0 lt)
+value_part (Set s) h = absurd cc
+value_part (Map m) h = absurd cc
+
+all_parts : {X : Type 0} (P : X → Type 0) (field : X → List ℕ) → ((x : X) → P x → IsPart (field x)) → (xs : List X) → AllByRecursion P xs → AllByRecursion IsPart (map field xs)
+all_parts P field part [] h = tt
+all_parts P field part (x ∷ xs) h = (part x h.0, all_parts P field part xs h.1)
+
+number : (n : ℕ) → n < 2 ^ 32 → IsPart (decimal n)
+number n lt = number_part n (omega (arith, lt))
+
+module _ (p : Program) (s : Schedule) (few : s.replicas ≤ 16) where
+  event_line : (e : Event) → FitsEvent p s.replicas (length s.objects) s.kinds e → IsSpelledEvent p s.objects e → IsLine (event_fields p s.objects e)
+  event_line (event.Call session replica object op args) h k = record {
+    parts = (
+      word_part (codes "call") refl (omega arith),
+      (
+        number session.0 (omega (arith, h.caller.is_session)),
+        (
+          word_part (codes "at") refl (omega arith),
+          (
+            number replica.0 (omega (arith, h.caller.is_replica, few)),
+            (
+              name_part (name_at s.objects object.0) k.is_object.0,
+              (name_part (op_name p op.0) k.is_op, all_parts IsSpelledValue value_text value_part args k.values),
+            ),
+          ),
+        ),
+      ),
+    );
+    begins = (99, _, refl, refl, refl);
+  }
+  event_line (event.Begin session replica decl ids) h k = record {
+    parts = (
+      word_part (codes "begin") refl (omega arith),
+      (
+        number session.0 (omega (arith, h.0.is_session)),
+        (
+          word_part (codes "at") refl (omega arith),
+          (
+            number replica.0 (omega (arith, h.0.is_replica, few)),
+            (
+              name_part (txn_name p decl.0) k.is_txn,
+              all_parts (IsFound s.objects) (name_at s.objects) (λ o f. name_part (name_at s.objects o) f.0) ids k.are_objects,
+            ),
+          ),
+        ),
+      ),
+    );
+    begins = (98, _, refl, refl, refl);
+  }
+  event_line (event.Commit session replica) h k = record {
+    parts = (
+      word_part (codes "commit") refl (omega arith),
+      (number session.0 (omega (arith, h.is_session)), (word_part (codes "at") refl (omega arith), (number replica.0 (omega (arith, h.is_replica, few)), tt))),
+    );
+    begins = (99, _, refl, refl, refl);
+  }
+  event_line (event.Deliver m) h k = record { parts = (word_part (codes "deliver") refl (omega arith), (number m.0 k, tt)); begins = (100, _, refl, refl, refl) }
+  event_line (event.Repeat m) h k = record { parts = (word_part (codes "repeat") refl (omega arith), (number m.0 k, tt)); begins = (114, _, refl, refl, refl) }
+  event_line (event.Lose m) h k = record { parts = (word_part (codes "lose") refl (omega arith), (number m.0 k, tt)); begins = (108, _, refl, refl, refl) }
+  event_line (event.Resend e sender receiver) h k = record {
+    parts = (
+      word_part (codes "resend") refl (omega arith),
+      (
+        number e.0 k,
+        (
+          word_part (codes "from") refl (omega arith),
+          (number sender.0 (omega (arith, h.0, few)), (word_part (codes "to") refl (omega arith), (number receiver.0 (omega (arith, h.1, few)), tt))),
+        ),
+      ),
+    );
+    begins = (114, _, refl, refl, refl);
+  }
+  event_line (event.Partition groups) h k = record {
+    parts = (word_part (codes "partition") refl (omega arith), all_parts (λ g. g < 16) decimal (λ g lt. number g (omega (arith, lt))) groups k);
+    begins = (112, _, refl, refl, refl);
+  }
+  event_line event.Heal h k = record { parts = (word_part (codes "heal") refl (omega arith), tt); begins = (104, _, refl, refl, refl) }
+
+  event_lines : (es : List Event) → AllByRecursion (FitsEvent p s.replicas (length s.objects) s.kinds) es → AllByRecursion (IsSpelledEvent p s.objects) es
+      → AllByRecursion IsLine (map (event_fields p s.objects) es)
+  event_lines [] h k = tt
+  event_lines (e ∷ es) h k = (event_line e h.0 k.0, event_lines es h.1 k.1)
+
+object_lines_are : (p : Program) (done names : List (List ℕ)) (kinds : List TypeId) → AreNew done names → AllByRecursion (IsSpelledType p) kinds → AllByRecursion IsLine (object_lines p names kinds)
+unfolding object_lines
+object_lines_are p done [] kinds new types = tt
+object_lines_are p done (w ∷ ws) [] new types = tt
+object_lines_are p done (w ∷ ws) (k ∷ ks) new types = (
+  record {
+    parts = (word_part (codes "object") refl (omega arith), (name_part w new.0, (name_part (type_name p k.0) types.0.0, tt)));
+    begins = (111, _, refl, refl, refl);
+  },
+  object_lines_are p (done ++ w ∷ []) ws ks new.2 types.1,
+)
+
+both_all : {X : Type 0} (P : X → Type 0) (xs ys : List X) → AllByRecursion P xs → AllByRecursion P ys → AllByRecursion P (xs ++ ys)
+both_all P [] ys h k = k
+both_all P (x ∷ xs) ys h k = (h.0, both_all P xs ys h.1 k)
+
+all_lines : (p : Program) (s : Schedule) → IsSpelled p s → AllByRecursion IsLine (schedule_lines p s)
+all_lines p s is =
+    let h = is.lawful in (
+      record {
+        parts = (word_part (codes "quelea") refl (omega arith), (word_part (codes "schedule") refl (omega arith), (word_part (codes "1") refl (omega arith), tt)));
+        begins = (113, _, refl, refl, refl);
+      },
+      (
+        record {
+          parts = (word_part (codes "replicas") refl (omega arith), (number s.replicas (omega (arith, h.few_replicas)), tt));
+          begins = (114, _, refl, refl, refl);
+        },
+        both_all IsLine (object_lines p s.objects s.kinds) ((codes "events" ∷ []) ∷ map (event_fields p s.objects) s.events) (object_lines_are p [] s.objects s.kinds is.objects is.types)
+            (record { parts = (word_part (codes "events") refl (omega arith), tt); begins = (101, _, refl, refl, refl) }, event_lines p s h.few_replicas s.events h.events is.events),
+      ),
+    )
+
+pub printed_is_read : (p : Program) (s : Schedule) → IsSpelled p s → IsScheduleFile p (ahead_from 1 (file_text (schedule_lines p s))) s
+printed_is_read p s is = record {
+  state = Running s;
+  leads =
+      subst (λ ls. Leads (GivesLine p) Closes Untitled ls (Running s)) (sym (file_again 1 (schedule_lines p s) (all_lines p s is)))
+      (as_lines p 1 (schedule_lines p s) Untitled (Running s) (all_lines p s is) (steps p s is));
+  ends = refl;
+}

@@ -1,0 +1,249 @@
+-- lines of parts are read as they are written
+use Rattle.std.proofs.Common.{◌≡◌, ◌⊎◌, inl, inr, ℕ, zero, suc, nat_le, ◌<◌, ◌≤◌, ◌^◌, ◌+◌, ◌-◌, take, Bool, true, false, List, [], ◌∷◌, ◌++◌, length, get_or, decimal, arith, refl, ap, sym, subst, ◌∙◌, append_assoc, one-add}
+use Rattle.std.specs.Prelude.{slice_index, if◌then◌else◌, ◌==◌, ◌&&◌}
+use Rattle.std.specs.List.{AllByRecursion, position_or_len, slice_split}
+use Rattle.std.specs.Str.Lines.{lines, lines_of_parts, strip_carriage_return}
+use Rattle.std.proofs.lemmas.Bool.Decides.{nat_tests}
+use Rattle.std.proofs.lemmas.Fmt.{decimal_is_IsNumeral}
+use Rattle.std.proofs.lemmas.List.{append-nil}
+use Rattle.std.proofs.lemmas.List.Splits.{slice_split-cons_no, slice_split-cons_yes}
+use Rattle.std.proofs.lemmas.Str.Parse.{digit_at}
+use Rattle.ql_base.specs.Bytes.{is_name_byte, is_text_byte}
+use Rattle.ql_base.specs.Names.{IsName}
+use Rattle.ql_lines.specs.Fields.{Fields, is_space}
+use Rattle.ql_lines.specs.Lines.{Numbered, ahead_from, is_line_feed, is_skipped, told}
+use Rattle.ql_lines.specs.Texts.{file_text, joined}
+use Rattle.ql_lines.proofs.FieldLaws.{field_first}
+use Rattle.ql_schedule.specs.Parts.{is_quote, led_by, parts_in_part, parts_in_text, parts_of}
+
+-- ---- bytes and parts
+
+-- a byte that ends no line
+abbrev pub StaysIn : ℕ → Type 0
+StaysIn b = (b ≡ 10 → ⊥) × (b ≡ 13 → ⊥)
+
+-- a byte of a part that no quote begins, and one within a text
+abbrev pub IsPartByte : ℕ → Type 0
+IsPartByte b = StaysIn b × (is_space b ≡ false)
+
+abbrev pub IsInText : ℕ → Type 0
+IsInText b = StaysIn b × (is_quote b ≡ false)
+
+pub record IsBare (b : ℕ) (bs : List ℕ) : Type 0 where
+  pub first : IsPartByte b
+  pub no_quote : is_quote b ≡ false
+  pub rest : AllByRecursion IsPartByte bs
+
+-- a part that is read as it is written: bare, or a text between its quotes
+abbrev pub IsPart : List ℕ → Type 0
+IsPart [] = ⊥
+IsPart (b ∷ bs) = IsBare b bs ⊎ ((t : List ℕ) × (b ≡ 34) × (bs ≡ t ++ 34 ∷ []) × AllByRecursion IsInText t)
+
+-- nothing follows, or a space
+Ends : List ℕ → Type 0
+Ends rest = parts_in_part rest ≡ [] ∷ parts_of rest
+
+ends_here : Ends []
+unfolding Ends parts_of parts_in_part
+ends_here = refl
+
+ends_before : (rest : List ℕ) → Ends (32 ∷ rest)
+unfolding Ends parts_of parts_in_part
+ends_before rest = refl
+
+in_part : (w rest : List ℕ) → AllByRecursion IsPartByte w → Ends rest → parts_in_part (w ++ rest) ≡ w ∷ parts_of rest
+unfolding Ends parts_in_part
+in_part [] rest h e = e
+in_part (b ∷ w) rest h e = rw h.0.1 (ap (led_by b) (in_part w rest h.1 e))
+
+in_text : (t rest : List ℕ) → AllByRecursion IsInText t → Ends rest → parts_in_text (t ++ 34 ∷ rest) ≡ (t ++ 34 ∷ []) ∷ parts_of rest
+unfolding Ends parts_in_text
+in_text [] rest h e = ap (led_by 34) e
+in_text (b ∷ t) rest h e = rw h.0.1 (ap (led_by b) (in_text t rest h.1 e))
+
+bare_first : (b : ℕ) (bs rest : List ℕ) → IsBare b bs → Ends rest → parts_of (b ∷ (bs ++ rest)) ≡ (b ∷ bs) ∷ parts_of rest
+unfolding parts_of
+bare_first b bs rest h e = rw (h.first.1, h.no_quote) (ap (led_by b) (in_part bs rest h.rest e))
+
+text_first : (t rest : List ℕ) → AllByRecursion IsInText t → Ends rest → parts_of (34 ∷ ((t ++ 34 ∷ []) ++ rest)) ≡ (34 ∷ t ++ 34 ∷ []) ∷ parts_of rest
+unfolding parts_of
+text_first t rest h e = ap (λ r. led_by 34 (parts_in_text r)) (append_assoc t (34 ∷ []) rest) ∙ ap (led_by 34) (in_text t rest h e)
+
+part_first : (f rest : List ℕ) → IsPart f → Ends rest → parts_of (f ++ rest) ≡ f ∷ parts_of rest
+part_first [] rest h e = absurd h
+part_first (b ∷ bs) rest (inl h) e = bare_first b bs rest h e
+part_first (b ∷ bs) rest (inr h) e =
+    let is : b ∷ bs ≡ 34 ∷ h.0 ++ 34 ∷ [] = ap (λ c. c ∷ bs) h.1 ∙ ap (λ cs. 34 ∷ cs) h.2 in
+    ap (λ f. parts_of (f ++ rest)) is ∙ text_first h.0 rest h.3 e ∙ ap (λ f. f ∷ parts_of rest) (sym is)
+
+behind_space : (rest : List ℕ) → parts_of (32 ∷ rest) ≡ parts_of rest
+unfolding parts_of
+behind_space rest = refl
+
+no_parts : parts_of [] ≡ []
+unfolding parts_of
+no_parts = refl
+
+pub parts_again : (fs : Fields) → AllByRecursion IsPart fs → parts_of (joined fs) ≡ fs
+parts_again [] h = no_parts
+parts_again (f ∷ []) h = ap parts_of (sym (append-nil f)) ∙ part_first f [] h.0 ends_here ∙ ap (λ ps. f ∷ ps) no_parts
+parts_again (f ∷ g ∷ fs) h = part_first f (32 ∷ joined (g ∷ fs)) h.0 (ends_before (joined (g ∷ fs))) ∙ ap (λ ps. f ∷ ps) (behind_space (joined (g ∷ fs)) ∙ parts_again (g ∷ fs) h.1)
+
+-- ---- lines
+
+all_join : (P : ℕ → Type 0) (xs ys : List ℕ) → AllByRecursion P xs → AllByRecursion P ys → AllByRecursion P (xs ++ ys)
+all_join P [] ys h k = k
+all_join P (x ∷ xs) ys h k = (h.0, all_join P xs ys h.1 k)
+
+all_weak : (P Q : ℕ → Type 0) (f : (b : ℕ) → P b → Q b) (xs : List ℕ) → AllByRecursion P xs → AllByRecursion Q xs
+all_weak P Q f [] h = tt
+all_weak P Q f (x ∷ xs) h = (f x h.0, all_weak P Q f xs h.1)
+
+part_stays : (f : List ℕ) → IsPart f → AllByRecursion StaysIn f
+part_stays [] h = tt
+part_stays (b ∷ bs) (inl h) = (h.first.0, all_weak (λ b. IsPartByte b) (λ b. StaysIn b) (λ c k. k.0) bs h.rest)
+part_stays (b ∷ bs) (inr h) = (
+  subst StaysIn (sym h.1) ((λ e. omega (arith, e)), (λ e. omega (arith, e))),
+  subst (AllByRecursion StaysIn) (sym h.2) (all_join (λ b. StaysIn b) h.0 (34 ∷ []) (all_weak (λ b. IsInText b) (λ b. StaysIn b) (λ c k. k.0) h.0 h.3) (((λ e. omega (arith, e)), (λ e. omega (arith, e))), tt)),
+)
+
+joined_stays : (fs : Fields) → AllByRecursion IsPart fs → AllByRecursion StaysIn (joined fs)
+joined_stays [] h = tt
+joined_stays (f ∷ []) h = part_stays f h.0
+joined_stays (f ∷ g ∷ fs) h = all_join (λ b. StaysIn b) f (32 ∷ joined (g ∷ fs)) (part_stays f h.0) (((λ e. omega (arith, e)), (λ e. omega (arith, e))), joined_stays (g ∷ fs) h.1)
+
+no_feed : (b : ℕ) → StaysIn b → is_line_feed b ≡ false
+no_feed b h = elim (is_line_feed b) as (λ t. is_line_feed b ≡ t → is_line_feed b ≡ false) [ true ↦ λ e. absurd (h.0 (grind (arith, nat_tests, e))) | false ↦ λ e. e ] refl
+
+line_part : (xs ys : List ℕ) → AllByRecursion StaysIn xs → slice_split is_line_feed (xs ++ 10 ∷ ys) ≡ xs ∷ slice_split is_line_feed ys
+line_part [] ys h = slice_split-cons_yes is_line_feed 10 ys refl
+line_part (x ∷ xs) ys h = slice_split-cons_no is_line_feed x (xs ++ 10 ∷ ys) (no_feed x h.0) ∙ rw (line_part xs ys h.1) refl
+
+index : (x y : ℕ) (ys : List ℕ) → length (x ∷ y ∷ ys) - 1 ≡ suc (length (y ∷ ys) - 1)
+index x y ys = omega arith
+
+last_no_return : (xs : List ℕ) → AllByRecursion StaysIn xs → slice_index xs (length xs - 1) ≡ 13 → ⊥
+last_no_return [] h e = omega (arith, e)
+last_no_return (x ∷ []) h e = h.0.1 e
+last_no_return (x ∷ y ∷ ys) h e = last_no_return (y ∷ ys) h.1 (sym (ap (slice_index (x ∷ y ∷ ys)) (index x y ys)) ∙ e)
+
+no_return : (xs : List ℕ) → AllByRecursion StaysIn xs → strip_carriage_return xs ≡ xs
+no_return xs h =
+    let last = slice_index xs (length xs - 1) in
+    let P : Bool → Type 0 = λ t. (last == 13) ≡ t → (if t then take (length xs - 1) xs else xs) ≡ xs in
+    elim (last == 13) as P [ true ↦ λ e. absurd (last_no_return xs h (grind (arith, e))) | false ↦ λ e. refl ] refl
+
+some_rest : (ys : List ℕ) → (p : List ℕ) × (ps : List (List ℕ)) × (slice_split is_line_feed ys ≡ p ∷ ps)
+some_rest [] = ([], [], refl)
+some_rest (y ∷ ys) =
+    let rest = some_rest ys in
+    let P : Bool → Type 0 = λ t. is_line_feed y ≡ t → (p : List ℕ) × (ps : List (List ℕ)) × (slice_split is_line_feed (y ∷ ys) ≡ p ∷ ps) in
+    elim (is_line_feed y) as P [
+      | true ↦ λ e. ([], slice_split is_line_feed ys, slice_split-cons_yes is_line_feed y ys e)
+      | false ↦ λ e. (y ∷ rest.0, rest.1, slice_split-cons_no is_line_feed y ys e ∙ rw rest.2 refl)
+    ] refl
+
+line_again : (text ys : List ℕ) → AllByRecursion StaysIn text → lines (text ++ 10 ∷ ys) ≡ text ∷ lines ys
+line_again text ys h =
+    let rest = some_rest ys in
+    ap lines_of_parts (line_part text ys h) ∙ ap (λ parts. lines_of_parts (text ∷ parts)) rest.2
+    ∙ ap (λ parts. strip_carriage_return text ∷ lines_of_parts parts) (sym rest.2) ∙ ap (λ l. l ∷ lines ys) (no_return text h)
+
+-- a line whose first byte is no space and no `#` tells something
+tells : (b : ℕ) (bs : List ℕ) → is_space b ≡ false → (b == 35) ≡ false → is_skipped (b ∷ bs) ≡ false
+unfolding is_skipped
+tells b bs space hash = rw (field_first b bs space, space, one-add (position_or_len is_space bs)) hash
+
+-- ---- files
+
+abbrev pub begins_so : Fields → Type 0
+begins_so [] = ⊥
+begins_so (f ∷ fs) = (b : ℕ) × (bs : List ℕ) × (f ≡ b ∷ bs) × (is_space b ≡ false) × ((b == 35) ≡ false)
+
+pub record IsLine (fs : Fields) : Type 0 where
+  pub parts : AllByRecursion IsPart fs
+  pub begins : begins_so fs
+
+first_byte : (fs : Fields) → begins_so fs → (b : ℕ) × (bs : List ℕ) × (joined fs ≡ b ∷ bs) × (is_space b ≡ false) × ((b == 35) ≡ false)
+first_byte [] h = absurd h
+first_byte (f ∷ []) h = h
+first_byte (f ∷ g ∷ fs) h = (h.0, h.1 ++ 32 ∷ joined (g ∷ fs), ap (λ w. w ++ 32 ∷ joined (g ∷ fs)) h.2, h.3, h.4)
+
+is_told : (fs : Fields) → begins_so fs → is_skipped (joined fs) ≡ false
+is_told fs h = let k = first_byte fs h in ap is_skipped k.2 ∙ tells k.0 k.1 k.3 k.4
+
+-- lines as a reader has them before it
+unfoldable pub numbered : ℕ → List Fields → List Numbered
+numbered n [] = []
+numbered n (l ∷ ls) = record { number = n; text = joined l } ∷ numbered (n + 1) ls
+
+pub file_again : (n : ℕ) (ls : List Fields) → AllByRecursion IsLine ls → (ahead_from n (file_text ls)).lines ≡ numbered n ls
+unfolding file_text told numbered
+file_again n [] h = refl
+file_again n (l ∷ ls) h =
+    ap (told n) (line_again (joined l) (file_text ls) (joined_stays l h.0.parts)) ∙ rw (is_told l h.0.begins) (ap (λ r. record { number = n; text = joined l } ∷ r) (file_again (n + 1) ls h.1))
+
+-- ---- parts that schedules are printed with
+
+stays_of : (b : ℕ) → 14 ≤ b → StaysIn b
+stays_of b low = ((λ e. omega (arith, e, low)), (λ e. omega (arith, e, low)))
+
+part_byte : (b : ℕ) → 35 ≤ b → IsPartByte b
+part_byte b low = (stays_of b (omega (arith, low)), grind (arith, nat_tests, low))
+
+both : (a b : Bool) → (a && b) ≡ true → (a ≡ true) × (b ≡ true)
+both true b e = (refl, e)
+both false b e = absurd cc
+
+bare_of : (f : List ℕ) → 0 < length f → ((k : ℕ) → k < length f → 35 ≤ get_or f k 0) → IsPart f
+bare_of [] some h = absurd (omega (arith, some))
+bare_of (b ∷ bs) some h =
+    let low : 35 ≤ b = h 0 (omega arith) in
+    inl (record { first = part_byte b low; no_quote = grind (arith, nat_tests, low); rest = all_bytes bs (λ k lt. h (suc k) (omega (arith, lt))) })
+  where
+    all_bytes : (cs : List ℕ) → ((k : ℕ) → k < length cs → 35 ≤ get_or cs k 0) → AllByRecursion IsPartByte cs
+    all_bytes [] g = tt
+    all_bytes (c ∷ cs) g = (part_byte c (g 0 (omega arith)), all_bytes cs (λ k lt. g (suc k) (omega (arith, lt))))
+
+pub number_part : (n : ℕ) → n < 2 ^ 64 → IsPart (decimal n)
+number_part n small =
+    let h = (decimal_is_IsNumeral n small).0 in
+    bare_of (decimal n) h.0 (λ k lt. let r = digit_at (decimal n) k h.1 lt in omega (arith, r.0))
+
+pub minus_part : (n : ℕ) → n < 2 ^ 64 → IsPart (45 ∷ decimal n)
+minus_part n small = bare_of (45 ∷ decimal n) (omega arith) at_each
+  where
+    at_each : (k : ℕ) → k < length (45 ∷ decimal n) → 35 ≤ get_or (45 ∷ decimal n) k 0
+    at_each zero lt = omega arith
+    at_each (suc k) lt = let h = (decimal_is_IsNumeral n small).0 in let r = digit_at (decimal n) k h.1 (omega (arith, lt)) in omega (arith, r.0)
+
+name_low : (b : ℕ) → is_name_byte b ≡ true → 35 ≤ b
+unfolding is_name_byte
+name_low b h = grind (arith, nat_tests, h)
+
+pub name_part : (w : List ℕ) → IsName w → IsPart w
+name_part w n = bare_of w n.shape.some (λ k lt. name_low (get_or w k 0) (n.shape.all k 0 lt))
+
+text_low : (b : ℕ) → is_text_byte b ≡ true → IsInText b
+unfolding is_text_byte
+text_low b h = (stays_of b (grind (arith, nat_tests, h)), grind (arith, nat_tests, h))
+
+pub text_part : (t : List ℕ) → ((k : ℕ) → k < length t → is_text_byte (get_or t k 0) ≡ true) → IsPart (34 ∷ t ++ 34 ∷ [])
+text_part t h = inr (t, refl, refl, all_text t h)
+  where
+    all_text : (s : List ℕ) → ((k : ℕ) → k < length s → is_text_byte (get_or s k 0) ≡ true) → AllByRecursion IsInText s
+    all_text [] g = tt
+    all_text (b ∷ s) g = (text_low b (g 0 (omega arith)), all_text s (λ k lt. g (suc k) (omega (arith, lt))))
+
+-- a word of low bytes only
+abbrev pub is_word_of : List ℕ → Bool
+is_word_of [] = true
+is_word_of (b ∷ bs) = nat_le 35 b && is_word_of bs
+
+word_bytes : (w : List ℕ) → is_word_of w ≡ true → (k : ℕ) → k < length w → 35 ≤ get_or w k 0
+word_bytes [] e k lt = absurd (omega (arith, lt))
+word_bytes (b ∷ bs) e zero lt = let h = both (nat_le 35 b) (is_word_of bs) e in grind (arith, nat_tests, h.0)
+word_bytes (b ∷ bs) e (suc k) lt = word_bytes bs (both (nat_le 35 b) (is_word_of bs) e).1 k (omega (arith, lt))
+
+pub word_part : (w : List ℕ) → is_word_of w ≡ true → 0 < length w → IsPart w
+word_part w e some = bare_of w some (word_bytes w e)
