@@ -222,6 +222,9 @@ fn said_of(alloc: Global, source: &str, file: &[u8]) -> Result<Vec<u8>, NoMemory
 }
 
 fn declared(alloc: Global, source: &str) -> Option<Typed> {
+    if source.len() > 4096 {
+        return None;
+    }
     let program = parse_program(alloc, source.as_bytes()).ok()?;
     typecheck(alloc, program).ok()
 }
