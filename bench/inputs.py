@@ -55,6 +55,34 @@ MAP_SOURCE = """type counts { state counted: map(int, int) = empty;
 """
 
 
+NOTES_SOURCE = """type notes { op write(title: text, first: text, second: text, third: text, count: int, done: bool): unit {
+  contract true; answer unit; } }
+transaction two { uses write; contract true; }
+"""
+
+
+def long_schedule():
+    """4,000 events over 1,024 objects, in a mebibyte: calls with long texts, and some of each other kind."""
+    draw = random.Random("schedule")
+    names = [f"note_{'x' * 20}_{k:04}" for k in range(1024)]
+    parts = ["quelea schedule 1", "replicas 16"] + [f"object {name} notes" for name in names] + ["events"]
+    for event in range(4000):
+        caller = f"{draw.randrange(256)} at {draw.randrange(16)}"
+        kind = event % 16
+        if kind == 0:
+            parts.append(f"begin {caller} two {' '.join(draw.sample(names, 16))}")
+        elif kind == 1:
+            parts.append("partition " + " ".join(str(draw.randrange(16)) for _ in range(16)))
+        elif kind == 2:
+            parts.append(f"resend {draw.randrange(1, 5000)} from {draw.randrange(16)} to {draw.randrange(16)}")
+        elif kind == 3:
+            parts.append(f"deliver {draw.randrange(1, 50000)}")
+        else:
+            texts = " ".join('"' + "".join(draw.choice("abc def ghi") for _ in range(48)) + '"' for _ in range(4))
+            parts.append(f"call {caller} {draw.choice(names)} write {texts} {draw.randrange(10**18)} true")
+    return "\n".join(parts) + "\n"
+
+
 def full_execution(entries):
     """4,000 effects that each see all earlier ones, whose answers are maps of so many entries."""
     pairs = (f"{10**12 + key}: {10**9 + 7919 * key}" for key in range(entries))

@@ -8,6 +8,7 @@ pub mod parse;
 pub mod print;
 pub mod refutation;
 pub mod relations;
+pub mod schedule;
 pub mod solver;
 pub mod tree;
 pub mod types;

@@ -1,0 +1,72 @@
+// Prints schedules for the program of a source in their one spelling: the source is the first argument, and the
+// schedules follow it. It is measured beside a plain program.
+#![tactic(auto)]
+
+use ql_base::NoMemory;
+use ql_parse::parse_program;
+use ql_schedule::{SchedFault, parse_schedule, print_schedule};
+use ql_typing::{Typed, typecheck};
+use std::alloc::Global;
+use std::env::Env;
+use std::{env, fs, io, str};
+
+// How long a file may be.
+const MOST_BYTES: usize = 1 << 20;
+
+fn main(rt: HostRuntime) -> io::Result<()> {
+    let paths = arguments(&rt)?;
+    let mut typed = None;
+    for path in paths.iter() {
+        let text = fs::read_to_string(&rt, path)?;
+        match &typed {
+            None => typed = typed_of(rt.alloc(), text.as_str()),
+            Some(typed) => match said(rt.alloc(), typed, text.as_str()) {
+                Ok(said) => match str::from_utf8(said.as_slice()) {
+                    Ok(said) => print!(rt; "{said}")?,
+                    Err(_) => println!(rt; "{path}: no text")?,
+                },
+                Err(NoMemory) => println!(rt; "{path}: no memory")?,
+            },
+        }
+    }
+    Ok(())
+}
+
+// The arguments of the command line, without the program's own name.
+fn arguments<R: Env + AllocGlobal>(rt: &R) -> io::Result<Vec<String>> {
+    let arguments = env::args(rt)?.skip(1).collect::<Vec<String>>(rt.alloc())?;
+    Ok(arguments)
+}
+
+// The program of a source; none where the text isn't one, or memory is out.
+fn typed_of(alloc: Global, text: &str) -> Option<Typed> {
+    if text.len() > MOST_BYTES {
+        return None;
+    }
+    let program = match parse_program(alloc, text.as_bytes()) {
+        Ok(program) => program,
+        Err(_) => return None,
+    };
+    match typecheck(alloc, program) {
+        Ok(typed) => Some(typed),
+        Err(_) => None,
+    }
+}
+
+// What is said of a text: the schedule in its one spelling, or that it is none.
+fn said(alloc: Global, typed: &Typed, text: &str) -> Result<Vec<u8>, NoMemory> {
+    if text.len() > MOST_BYTES {
+        return line(alloc, b"too long\n");
+    }
+    match parse_schedule(alloc, typed, text.as_bytes()) {
+        Ok(schedule) => print_schedule(alloc, typed, &schedule),
+        Err(SchedFault::NoMemory) => Err(NoMemory),
+        Err(_) => line(alloc, b"no schedule\n"),
+    }
+}
+
+fn line(alloc: Global, bytes: &[u8]) -> Result<Vec<u8>, NoMemory> {
+    let mut out = Vec::new(alloc);
+    out.extend_from_slice(bytes)?;
+    Ok(out)
+}
