@@ -126,6 +126,14 @@ impl Shim {
         Ok(())
     }
 
+    /// The session's open transaction.
+    pub fn txn_of(&self, s: SessId) -> &OpenTxn
+        requires { (t : OpenTxn) × (open_of (open_txns self.now) s ≡ Some t) }
+        ensures { open_of (open_txns self.now) s ≡ Some result.now }
+    {
+        &self.running[place(&self.running, s)].txn
+    }
+
     /// The own effects of the session's open transaction.
     pub fn own(&self, s: SessId) -> &IdSet
         requires { (t : OpenTxn) × (open_of (open_txns self.now) s ≡ Some t) }

@@ -45,12 +45,12 @@ use Rattle.ql_shim.specs.Transactions.{Transactions}
 use Rattle.ql_store.specs.State.{machine_of}
 use Rattle.ql_store.specs.Viewing.{IsLeastLacking, IsWanted}
 
-must-wanted : (s : Machine) (c : Call) (level : Level) (a : ℕ) → MustSee s c level a → IsWanted s.effects level c.session c.object a
+pub must-wanted : (s : Machine) (c : Call) (level : Level) (a : ℕ) → MustSee s c level a → IsWanted s.effects level c.session c.object a
 must-wanted s c Eventual a is = is
 must-wanted s c Causal a is = is
 must-wanted s c Strong a is = is
 
-wanted-must : (s : Machine) (c : Call) (level : Level) (a : ℕ) → IsWanted s.effects level c.session c.object a → MustSee s c level a
+pub wanted-must : (s : Machine) (c : Call) (level : Level) (a : ℕ) → IsWanted s.effects level c.session c.object a → MustSee s c level a
 wanted-must s c Eventual a is = is
 wanted-must s c Causal a is = is
 wanted-must s c Strong a is = is
@@ -162,9 +162,9 @@ by-rules rules promises answer s t event r one two step =
     subst (λ (p : Promises). IsStep (record { promises = p; uses = rules.uses; answer = rules.answer }) s event t r) (sym one)
     (subst (λ (a : OpId → List Value → List Effect → Answered). IsStep (record { promises = promises; uses = rules.uses; answer = a }) s event t r) (sym two) step)
 
--- what open transactions did stays the same where an effect outside any is made
-pub known-plain : (x : List Effect) (e : Effect) (t : OpenTxn) (own saw : List ℕ) → IsExecution (x ++ e ∷ []) → e.member ≡ Alone → IsKnown x t own saw → IsKnown (x ++ e ∷ []) t own saw
-known-plain x e t own saw law alone known = record {
+-- what an open transaction did stays the same where an effect outside it is made
+pub known-beside : (x : List Effect) (e : Effect) (t : OpenTxn) (own saw : List ℕ) → IsExecution (x ++ e ∷ []) → in_run t.run.0 e.member ≡ false → IsKnown x t own saw → IsKnown (x ++ e ∷ []) t own saw
+known-beside x e t own saw law out known = record {
   own = record {
     ascending = known.own.ascending;
     all = λ a is. known.own.all a (back a is);
@@ -181,9 +181,6 @@ known-plain x e t own saw law alone known = record {
   };
 }
   where
-    out : in_run t.run.0 e.member ≡ false
-    out = ap (in_run t.run.0) alone
-
     back : (a : ℕ) → inside (x ++ e ∷ []) t.run.0 a ≡ true → inside x t.run.0 a ≡ true
     back a is = elim (inside-cases x e t.run.0 a is) [ inl old ↦ old | inr new ↦ absurd (both_ways (in_run t.run.0 e.member) out new.1) ]
 
@@ -192,3 +189,6 @@ known-plain x e t own saw law alone known = record {
         let found = inside-found x t.run.0 b is in
         let there = effect_at-within x b found.0 found.1 in
         elim (vis-cases x e law a b sees) [ inl old ↦ old | inr new ↦ (let last = new.0 in absurd (omega (arith, there, last))) ]
+
+pub known-plain : (x : List Effect) (e : Effect) (t : OpenTxn) (own saw : List ℕ) → IsExecution (x ++ e ∷ []) → e.member ≡ Alone → IsKnown x t own saw → IsKnown (x ++ e ∷ []) t own saw
+known-plain x e t own saw law alone = known-beside x e t own saw law (ap (in_run t.run.0) alone)

@@ -34,11 +34,11 @@ abbrev pub some_rules : Promises → Rules
 some_rules promises = record { promises = promises; uses = λ decl op. true; answer = λ op args effects. (record { answer = value.Bool true; payload = Nothing }) }
 
 pub kept-step : (levels : LevelLists) (rules : Rules) (s t : Machine) (notes more : List Note) (shim later : Transactions) (event : Event) (r : Reply) → rules.promises ≡ promises_of levels
-    → IsKept levels s notes shim → IsStep rules s event t r → IsInRange (length s.received) event → more ≡ notes_of t.effects
+    → IsKept levels s notes shim → IsStep rules s event t r → IsInRange (length s.received) levels event → more ≡ notes_of t.effects
     → ((session : SessId) (u : OpenTxn) → open_of t.open_txns session ≡ Some u → IsKnown t.effects u (own_of later session) (saw_of later session)) → IsKept levels t more later
 kept-step levels rules s t notes more shim later event r promises kept step inside noted known =
-    let start : Goes (length s.received) s = record { replicas = refl; groups = kept.grouped; receivers = kept.receivers } in
-    let goes : Goes (length s.received) t = goes-step (length s.received) s start rules event t r step inside in
+    let start : Goes (length s.received) (length levels.txns) s = record { replicas = refl; groups = kept.grouped; receivers = kept.receivers; declared = kept.declared } in
+    let goes : Goes (length s.received) (length levels.txns) t = goes-step (length s.received) (length levels.txns) s start rules event t r step levels refl inside in
     let keeps : Keeps rules.promises (length s.received) s = subst (λ (p : Promises). Keeps p (length s.received) s) (sym promises) kept.keeps in
     let after : Keeps rules.promises (length s.received) t = keeps-step rules (length s.received) s keeps event t r step in
     record {
@@ -46,6 +46,7 @@ kept-step levels rules s t notes more shim later event r promises kept step insi
       grouped = goes.groups ∙ sym goes.replicas;
       receivers = subst (λ (n : ℕ). GoWithin n t.messages) (sym goes.replicas) goes.receivers;
       few = subst (λ (n : ℕ). n ≤ 16) (sym goes.replicas) kept.few;
+      declared = goes.declared;
       noted = noted;
       known = known;
     }
@@ -71,9 +72,14 @@ kept-empty levels n x received net notes shim most none nothing quiet unnoted un
       grouped = length-replicate {A = ℕ} n 0 ∙ sym long;
       receivers = All-nil (λ (message : Message). message.receiver.0 < length (replicate n []));
       few = subst (λ (k : ℕ). k ≤ 16) (sym long) most;
+      declared = λ session t is. (let never : None ≡ Some t = is in cc);
       noted = unnoted;
       known = λ session t is. (let never : None ≡ Some t = is in cc);
     })
+
+pub all-failed : {A : Type 0} (r : Result A NoMemory) (P Q R S : Type 0) → OnErr r P → OnErr r Q → OnErr r R → (P → Q → R → S) → OnErr r S
+all-failed (Ok a) P Q R S one two three from = tt
+all-failed (Err e) P Q R S one two three from = from one two three
 
 pub both-failed : {A : Type 0} (r : Result A NoMemory) (P Q R : Type 0) → OnErr r P → OnErr r Q → (P → Q → R) → OnErr r R
 both-failed (Ok a) P Q R one two from = tt
@@ -88,3 +94,15 @@ made-either (Err k) P A B C D E F G p a b d e f h made same = same e f h
 pub made-ok : (r : Result Reply NoMemory) (P Q : Reply → Type 0) (A B C : Type 0) → IfOk r P → OnOk r A → OnOk r B → OnOk r C → ((k : Reply) → P k → A → B → C → Q k) → IfOk r Q
 made-ok (Ok k) P Q A B C p a b d made = made k p a b d
 made-ok (Err k) P Q A B C p a b d made = tt
+
+-- what a call keeps that makes a step of the machine, or leaves its state as it was
+pub kept-either : (levels : LevelLists) (s t : Machine) (notes more : List Note) (shim later : Transactions) (event : Event) (result : Result Reply NoMemory) (P : Reply → Type 0)
+    → IsKept levels s notes shim → IfOk result P → OnErr result (t ≡ s)
+    → ((r : Reply) → P r → (rules : Rules) × (rules.promises ≡ promises_of levels) × IsStep rules s event t r) → IsInRange (length s.received) levels event → more ≡ notes_of t.effects
+    → ((session : SessId) (u : OpenTxn) → open_of t.open_txns session ≡ Some u → IsKnown t.effects u (own_of later session) (saw_of later session)) → IsKept levels t more later
+kept-either levels s t notes more shim later event (Ok r) P kept is same makes inside noted known =
+    let step = makes r is in
+    kept-step levels step.0 s t notes more shim later event r step.1 kept step.2 inside noted known
+kept-either levels s t notes more shim later event (Err e) P kept is same makes inside noted known =
+    let old : IsKept levels t notes shim = subst (λ (m : Machine). IsKept levels m notes shim) (sym same) kept in
+    record { keeps = old.keeps; grouped = old.grouped; receivers = old.receivers; few = old.few; declared = old.declared; noted = noted; known = known }

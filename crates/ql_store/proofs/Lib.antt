@@ -7,3 +7,5 @@ pub mod NetLaws
 pub mod NoteSets
 pub mod MadeLaws
 pub mod CallLaws
+pub mod BeginLaws
+pub mod CommitLaws

@@ -10,9 +10,10 @@ use Rattle.ql_exec.specs.declared.effect.Draft.{Draft}
 use Rattle.ql_exec.specs.declared.effect.Effect.{Effect}
 use Rattle.ql_exec.specs.Effects.{effect_at}
 use Rattle.ql_exec.specs.Execution.{IsOn, effect_of, next_id}
-use Rattle.ql_exec.proofs.Finding.{effect_at-last}
+use Rattle.ql_exec.proofs.Finding.{effect_at-last, effect_at-within}
 use Rattle.ql_levels.specs.declared.level.Level.TheVariants.{Causal}
 use Rattle.ql_needs.specs.Closed.{Has}
+use Rattle.ql_needs.specs.Needs.{AreThere}
 use Rattle.ql_machine.specs.Blocking.{IsOf}
 use Rattle.ql_machine.specs.Sets.{AreThose}
 use Rattle.ql_session.specs.declared.note.Note.{Note}
@@ -102,3 +103,12 @@ noted-pop x later before e notes fewer made noted popped undone =
     let all : notes ≡ notes_of x ++ one ∷ [] = noted ∙ ap notes_of made ∙ notes_after-push 0 x e in
     undone ∙ ap (λ (n : List Note). take (length n - 1) n) all ∙ take-last (notes_of x) one
     ∙ ap notes_of (sym (popped ∙ ap (λ (y : List Effect). take (length y - 1) y) made ∙ take-last x e))
+
+-- the effects on an object are there
+pub on-there : (x : List Effect) (notes : List Note) (o : ObjId) (on : List ℕ) → notes ≡ notes_of x → on ≡ effects_on notes o → AreThere x on
+on-there x notes o on noted is a has = by a (effect_at x a) refl ((on-those x o).only a (subst (λ (ids : List ℕ). Has ids a) (is ∙ ap (λ (n : List Note). effects_on n o) noted) has))
+  where
+    by : (b : ℕ) (r : Option Effect) → effect_at x b ≡ r → IsOn o r → (1 ≤ b) × (b ≤ length x)
+    by b None at held = absurd held
+    by zero (Some e) at held = absurd (let never : None ≡ Some e = at in cc)
+    by (suc b) (Some e) at held = (omega arith, effect_at-within x (suc b) e at)

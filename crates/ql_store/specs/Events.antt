@@ -1,16 +1,18 @@
 -- What the numbers in an event must meet.
 use Rattle.std.specs.Prelude.{◌≡◌, ◌<◌, ℕ, length}
+use Rattle.ql_levels.specs.Lists.{LevelLists}
 use Rattle.ql_machine.specs.declared.event.Event.{Event}
 use Rattle.ql_machine.specs.declared.event.Event.TheVariants as event
 
--- the replicas of an event are among so many, and a partition gives each its group
-abbrev pub IsInRange : ℕ → Event → Type 0
-IsInRange n (event.Call session replica object op args) = replica.0 < n
-IsInRange n (event.Begin session replica decl objects) = replica.0 < n
-IsInRange n (event.Commit session replica) = replica.0 < n
-IsInRange n (event.Deliver m) = Unit {0}
-IsInRange n (event.Repeat m) = Unit {0}
-IsInRange n (event.Lose m) = Unit {0}
-IsInRange n (event.Resend effect sender receiver) = (sender.0 < n) × (receiver.0 < n)
-IsInRange n (event.Partition groups) = length groups ≡ n
-IsInRange n event.Heal = Unit {0}
+-- The replicas of an event are among so many, its operation or declared transaction is one of those with a level, and a
+-- partition gives each replica its group.
+abbrev pub IsInRange : ℕ → LevelLists → Event → Type 0
+IsInRange n levels (event.Call session replica object op args) = (replica.0 < n) × (op.0 < length levels.ops)
+IsInRange n levels (event.Begin session replica decl objects) = (replica.0 < n) × (decl.0 < length levels.txns)
+IsInRange n levels (event.Commit session replica) = replica.0 < n
+IsInRange n levels (event.Deliver m) = Unit {0}
+IsInRange n levels (event.Repeat m) = Unit {0}
+IsInRange n levels (event.Lose m) = Unit {0}
+IsInRange n levels (event.Resend effect sender receiver) = (sender.0 < n) × (receiver.0 < n)
+IsInRange n levels (event.Partition groups) = length groups ≡ n
+IsInRange n levels event.Heal = Unit {0}

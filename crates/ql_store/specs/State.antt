@@ -34,6 +34,14 @@ machine_of effects received net shim = record {
 abbrev pub GoWithin : ℕ → List Message → Type 0
 GoWithin n messages = All (λ message. message.receiver.0 < n) messages
 
+-- what each open transaction did is noted
+abbrev pub AreKnown : List Effect → Transactions → Type 0
+AreKnown x shim = (session : SessId) (t : OpenTxn) → open_of (open_txns shim) session ≡ Some t → IsKnown x t (own_of shim session) (saw_of shim session)
+
+-- open transactions are of the first declared ones
+abbrev pub AreDeclared : ℕ → List OpenTxn → Type 0
+AreDeclared n open_txns = (session : SessId) (t : OpenTxn) → open_of open_txns session ≡ Some t → t.decl.0 < n
+
 pub record IsKept (levels : LevelLists) (s : Machine) (notes : List Note) (shim : Transactions) : Type 0 where
   -- what every run of the machine keeps at these levels
   pub keeps : Keeps (promises_of levels) (length s.received) s
@@ -41,6 +49,12 @@ pub record IsKept (levels : LevelLists) (s : Machine) (notes : List Note) (shim 
   pub grouped : length s.groups ≡ length s.received
   pub receivers : GoWithin (length s.received) s.messages
   pub few : length s.received ≤ 16
+  -- the declared transactions of open ones have levels
+  pub declared : AreDeclared (length levels.txns) s.open_txns
   -- each effect is noted, and what each open transaction did
   pub noted : notes ≡ notes_of s.effects
   pub known : (session : SessId) (t : OpenTxn) → open_of s.open_txns session ≡ Some t → IsKnown s.effects t (own_of shim session) (saw_of shim session)
+
+-- a state that a store may have, at some levels
+abbrev pub IsState : List Effect → List (List ℕ) → Network → Transactions → Type 0
+IsState effects received net shim = (levels : LevelLists) × (notes : List Note) × IsKept levels (machine_of effects received net shim) notes shim

@@ -4,6 +4,8 @@
 // transaction are to come, and then one `step` for every event.
 #![tactic(auto)]
 
+mod begin;
+mod commit;
 mod deliver;
 mod plain;
 mod receive;

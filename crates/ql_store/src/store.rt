@@ -11,11 +11,13 @@ ghost use Rattle.ql_machine.specs.State.{empty, message_at, open_of};
 ghost use Rattle.ql_machine.specs.Rules.{Rules};
 ghost use Rattle.ql_machine.specs.Steps.{IsStep};
 
+use crate::begin::begin;
+use crate::commit::commit;
 use crate::deliver::deliver;
 use crate::plain::make_plain;
 use crate::resend::resend;
 use crate::view::plain_view;
-use ql_base::{EffId, MsgId, NoMemory, ObjId, OpId, ReplicaId, SessId};
+use ql_base::{DeclId, EffId, IdSet, MsgId, NoMemory, ObjId, OpId, ReplicaId, SessId};
 use ql_exec::{Draft, Execution, Folder, Member};
 use ql_holder::Holder;
 use ql_levels::Levels;
@@ -155,6 +157,54 @@ impl<H: Holder> Store<H> {
             effect,
             from,
             to,
+        )
+    }
+
+    /// A session begins a declared transaction on some objects, at a replica. What the replica has applied is its snapshot.
+    ///
+    /// Looks up each effect of the execution once.
+    pub fn begin(
+        &mut self,
+        session: SessId,
+        replica: ReplicaId,
+        decl: DeclId,
+        objects: IdSet,
+    ) -> Result<Reply, NoMemory>
+        requires replica { replica.0 < length self.old.machine.received }
+        requires decl { decl.0 < length self.old.levels.txns }
+        requires room { self.old.machine.begun + 1 < 2 ^ 32 }
+        ensures step { IfOk result (λ r. (rules : Rules) → IsStep rules self.old.machine (event.Begin session replica decl objects) self.new.machine r) }
+        ensures levels { self.new.levels ≡ self.old.levels }
+        ensures err { OnErr result (self.new ≡ self.old) }
+    {
+        let holder = &self.holders[replica.0 as usize];
+        begin(
+            self.alloc,
+            &self.execution,
+            holder,
+            &mut self.shim,
+            session,
+            decl,
+            objects,
+        )
+    }
+
+    /// A session commits its open transaction: a replica receives its effects as one package, and sends it to each other
+    /// one. Where there are none, nothing is sent.
+    pub fn commit(&mut self, session: SessId, replica: ReplicaId) -> Result<Reply, NoMemory>
+        requires replica { replica.0 < length self.old.machine.received }
+        requires room_messages { length self.old.machine.messages + length self.old.machine.groups < 2 ^ 32 }
+        ensures step { IfOk result (λ r. (rules : Rules) → IsStep rules self.old.machine (event.Commit session replica) self.new.machine r) }
+        ensures levels { self.new.levels ≡ self.old.levels }
+        ensures err { OnErr result (self.new ≡ self.old) }
+    {
+        commit(
+            &self.execution,
+            &mut self.holders,
+            &mut self.net,
+            &mut self.shim,
+            session,
+            replica,
         )
     }
 

@@ -261,7 +261,7 @@ invariant_of-self g c =
       made-either result answered is_made is_received is_sent (c.make_plain.new.x ≡ x) (lists ≡ received) (c.make_plain.new.net ≡ fields.net)
           (IsKept fields.levels end notes fields.shim) ensures.reply ensures.made ensures.received ensures.sent ensures.same ensures.same_received ensures.same_net
           (λ r is made got sent. kept-step fields.levels rules s end fields.sessions notes fields.shim fields.shim e r refl kept
-          (calls c.args.session c.args.replica c.args.object c.args.op c.args.args end r (goes made got sent r is)) plain.replica ensures.noted
+          (calls c.args.session c.args.replica c.args.object c.args.op c.args.args end r (goes made got sent r is)) (plain.replica, subst (λ (v : StoreState). c.args.op.0 < length v.levels.ops) (sym c.self.view_is) c.requires.op) ensures.noted
           (λ session t now. subst (λ (y : List Effect). IsKnown y t (own_of fields.shim session) (saw_of fields.shim session)) (sym made)
           (known-plain x (effect_of x draft) t (own_of fields.shim session) (saw_of fields.shim session) law refl (kept.known session t now))))
           (λ one two three.
