@@ -9,3 +9,5 @@ pub mod MadeLaws
 pub mod CallLaws
 pub mod BeginLaws
 pub mod CommitLaws
+pub mod CommittedLaws
+pub mod StrongLaws

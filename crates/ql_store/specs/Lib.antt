@@ -3,3 +3,5 @@ pub mod State
 pub mod Receipts
 pub mod Events
 pub mod Viewing
+pub mod Asking
+pub mod Obstacles

@@ -1,17 +1,20 @@
 // A replicated store: replicas, the network between them, sessions and their calls.
 // The one contract: each event does to the store what the written machine does, and is answered as there.
-// It has no transactions and no strong calls yet: `begin`, `commit`, calls of strong operations and calls in a
-// transaction are to come, and then one `step` for every event.
+// Calls in a transaction are to come, and then one `step` for every event.
 #![tactic(auto)]
 
+mod asked;
 mod begin;
 mod commit;
+mod committed;
 mod deliver;
+mod obstacle;
 mod plain;
 mod receive;
 mod resend;
 mod spread;
 mod store;
+mod strong;
 mod view;
 
 pub use store::Store;

@@ -11,11 +11,14 @@ ghost use Rattle.ql_machine.specs.State.{empty, message_at, open_of};
 ghost use Rattle.ql_machine.specs.Rules.{Rules};
 ghost use Rattle.ql_machine.specs.Steps.{IsStep};
 
+use crate::asked::Asked;
 use crate::begin::begin;
 use crate::commit::commit;
 use crate::deliver::deliver;
+use crate::obstacle::obstacle;
 use crate::plain::make_plain;
 use crate::resend::resend;
+use crate::strong::{make_strong, strong_draft};
 use crate::view::plain_view;
 use ql_base::{DeclId, EffId, IdSet, MsgId, NoMemory, ObjId, OpId, ReplicaId, SessId};
 use ql_exec::{Draft, Execution, Folder, Member};
@@ -257,6 +260,53 @@ impl<H: Holder> Store<H> {
             &mut self.net,
             &mut self.sessions,
             replica,
+            draft,
+        )
+    }
+
+    /// A session with no open transaction calls a strong operation on an object, at a replica.
+    ///
+    /// Folds each effect on the object. Copies each replica, which receives all that is committed, and
+    /// the new effect with it: one pass over the execution, and one for each transaction that a replica
+    /// lacks.
+    pub fn call_strong<F: Folder>(
+        &mut self,
+        session: SessId,
+        replica: ReplicaId,
+        object: ObjId,
+        op: OpId,
+        args: Values,
+        folder: &F,
+    ) -> Result<Reply, NoMemory>
+        requires replica { replica.0 < length self.old.machine.received }
+        requires op { op.0 < length self.old.levels.ops }
+        requires none_open { open_of self.old.machine.open_txns session ≡ None }
+        requires strong { (promises_of self.old.levels).level op ≡ Strong }
+        requires room { length self.old.machine.effects + 1 < 2 ^ 32 }
+        requires able { (seen : List ℕ) → ((a : ℕ) → Has seen a → IsOn object (effect_at self.old.machine.effects a))
+            → F.able folder.now op args (seen_in_order self.old.machine.effects seen) }
+        ensures step { IfOk result (λ r. (rules : Rules) → rules.promises ≡ promises_of self.old.levels → rules.answer ≡ F.answered folder.now
+            → IsStep rules self.old.machine (event.Call session replica object op args) self.new.machine r) }
+        ensures levels { self.new.levels ≡ self.old.levels }
+        ensures err { OnErr result (self.new ≡ self.old) }
+    {
+        if let Some(refusal) = obstacle(&self.net, &self.shim, replica, object) {
+            return Ok(refusal);
+        }
+        let asked = Asked {
+            session,
+            replica,
+            object,
+            op,
+            args,
+        };
+        let draft = strong_draft(self.alloc, &self.execution, &self.sessions, asked, folder)?;
+        make_strong(
+            self.alloc,
+            &mut self.execution,
+            &mut self.holders,
+            &mut self.sessions,
+            &self.shim,
             draft,
         )
     }

@@ -1,0 +1,33 @@
+use Rattle.std.proofs.Common.{◌<◌, ◌∷◌, [], ℕ, List, length, slice_index_or, subst, sym}
+use Rattle.ql_exec.specs.declared.effect.Effect.{Effect}
+use Rattle.ql_exec.specs.Execution.{effect_of}
+use Rattle.ql_store.proofs.MadeLaws.{package-alone}
+use Rattle.ql_store.proofs.NoteSets.{noted-pop, noted-some}
+use Rattle.ql_store.proofs.StrongLaws.{popped}
+use Rattle.ql_store.proofs.strong.make_strong.Goals as goal
+
+pub synced-requires-clause-fit : goal.synced-requires-clause-fit
+synced-requires-clause-fit g c =
+    subst (λ (hs : List g.row.H.Denot). (k : ℕ) → (d : g.row.H.Denot) → k < length hs → g.H.Holder.fits (slice_index_or hs k d) c.push_noted.new.x) (sym c.deref.ensures.value)
+    (λ k d inside.
+    let h = slice_index_or c.args.holders.now.items k d in
+    subst (λ (y : List Effect). g.H.Holder.fits h y) (sym c.in_ok-id.ensures.made)
+    (g.met.H.Holder.fits_more h c.args.x.now (effect_of c.args.x.now c.args.draft ∷ []) c.requires.lawful (c.requires.fit k d inside) (c.requires.apart k d inside)))
+
+pub synced-requires-clause-package : goal.synced-requires-clause-package
+synced-requires-clause-package g c =
+    package-alone c.args.x.now c.push_noted.new.x c.args.draft c.in_ok-id.id c.in_ok-id.ensures.made c.in_ok-id.ensures.number c.requires.alone
+
+pub undo-requires : goal.undo-requires
+undo-requires g c = noted-some c.args.x.now c.push_noted.new.x (effect_of c.args.x.now c.args.draft) c.push_noted.new.sessions c.in_ok-id.ensures.made c.in_ok-id.ensures.noted
+
+pub returns-in-Err-clause-fit : goal.returns-in-Err-clause-fit
+returns-in-Err-clause-fit g c = λ k d inside.
+    subst (λ (y : List Effect). g.H.Holder.fits (slice_index_or c.args.holders.now.items k d) y)
+    (sym (popped c.args.x.now c.push_noted.new.x c.pop.new.self (effect_of c.args.x.now c.args.draft) c.in_ok-id.ensures.made c.pop.ensures))
+    (c.requires.fit k d inside)
+
+pub returns-in-Err-clause-noted : goal.returns-in-Err-clause-noted
+returns-in-Err-clause-noted g c =
+    noted-pop c.args.x.now c.push_noted.new.x c.pop.new.self (effect_of c.args.x.now c.args.draft) c.push_noted.new.sessions c.undo.new.self
+    c.in_ok-id.ensures.made c.in_ok-id.ensures.noted c.pop.ensures c.undo.ensures
