@@ -11,3 +11,4 @@ pub mod BeginLaws
 pub mod CommitLaws
 pub mod CommittedLaws
 pub mod StrongLaws
+pub mod OwnLaws

@@ -5,3 +5,4 @@ pub mod Events
 pub mod Viewing
 pub mod Asking
 pub mod Obstacles
+pub mod Answering

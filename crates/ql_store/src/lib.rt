@@ -4,11 +4,13 @@
 #![tactic(auto)]
 
 mod asked;
+mod attempt;
 mod begin;
 mod commit;
 mod committed;
 mod deliver;
 mod obstacle;
+mod own;
 mod plain;
 mod receive;
 mod resend;

@@ -4,7 +4,10 @@ ghost use Rattle.ql_exec.specs.Execution.{IsOn};
 ghost use Rattle.ql_exec.specs.Folding.{seen_in_order};
 ghost use Rattle.ql_levels.specs.declared.level.Level.TheVariants.{Strong};
 ghost use Rattle.ql_needs.specs.Closed.{Has};
-ghost use Rattle.ql_store.specs.Levels.{promises_of};
+ghost use Rattle.ql_store.specs.Asking.{call_of};
+ghost use Rattle.ql_store.specs.Answering.{IsAttempt};
+ghost use Rattle.ql_store.specs.Levels.{HasLevelOfEach, promises_of, uses_of};
+ghost use Rattle.ql_machine.specs.declared.open_txn.OpenTxn.{OpenTxn};
 ghost use Rattle.ql_machine.specs.declared.event.Event.TheVariants as event;
 ghost use Rattle.ql_machine.specs.declared.message.Message.{Message};
 ghost use Rattle.ql_machine.specs.State.{empty, message_at, open_of};
@@ -12,10 +15,12 @@ ghost use Rattle.ql_machine.specs.Rules.{Rules};
 ghost use Rattle.ql_machine.specs.Steps.{IsStep};
 
 use crate::asked::Asked;
+use crate::attempt::Attempt;
 use crate::begin::begin;
 use crate::commit::commit;
 use crate::deliver::deliver;
 use crate::obstacle::obstacle;
+use crate::own::{make_own, own_view, refusal};
 use crate::plain::make_plain;
 use crate::resend::resend;
 use crate::strong::{make_strong, strong_draft};
@@ -28,6 +33,7 @@ use ql_machine::{Groups, Reply};
 use ql_net::Net;
 use ql_session::Sessions;
 use ql_shim::Shim;
+use ql_typing::Typed;
 use ql_value::Values;
 use std::alloc::Global;
 use std::marker::Model;
@@ -309,5 +315,98 @@ impl<H: Holder> Store<H> {
             &self.shim,
             draft,
         )
+    }
+
+    /// A session calls an operation on an object, at a replica, in its open transaction. No replica receives the effect.
+    ///
+    /// Looks up each effect on the object once, goes over what the transaction's own ones among them saw, and folds those that
+    /// it sees. At monotonic atomic view it looks up what the transaction saw, too.
+    pub fn call_own<F: Folder>(
+        &mut self,
+        session: SessId,
+        replica: ReplicaId,
+        object: ObjId,
+        op: OpId,
+        args: Values,
+        typed: &Typed,
+        folder: &F,
+    ) -> Result<Reply, NoMemory>
+        requires replica { replica.0 < length self.old.machine.received }
+        requires op { op.0 < length self.old.levels.ops }
+        requires levels { HasLevelOfEach typed.now.program self.old.levels }
+        requires open_now { (t : OpenTxn) × (open_of self.old.machine.open_txns session ≡ Some t) }
+        requires room { length self.old.machine.effects + 1 < 2 ^ 32 }
+        requires able { (seen : List ℕ) → ((a : ℕ) → Has seen a → IsOn object (effect_at self.old.machine.effects a))
+            → F.able folder.now op args (seen_in_order self.old.machine.effects seen) }
+        ensures step { IfOk result (λ r. (rules : Rules) → rules.promises ≡ promises_of self.old.levels → rules.uses ≡ uses_of typed.now.program
+            → rules.answer ≡ F.answered folder.now → IsStep rules self.old.machine (event.Call session replica object op args) self.new.machine r) }
+        ensures levels { self.new.levels ≡ self.old.levels }
+        ensures err { OnErr result (self.new ≡ self.old) }
+    {
+        let asked = Asked {
+            session,
+            replica,
+            object,
+            op,
+            args,
+        };
+        let attempt = self.attempt_own(asked, typed, folder)?;
+        match attempt {
+            Attempt::Ends(reply) => Ok(reply),
+            Attempt::Makes(draft) => make_own(
+                &mut self.execution,
+                &mut self.sessions,
+                &mut self.shim,
+                draft,
+            ),
+        }
+    }
+
+    // How far a call in a session's open transaction comes.
+    fn attempt_own<F: Folder>(
+        &self,
+        asked: Asked,
+        typed: &Typed,
+        folder: &F,
+    ) -> Result<Attempt, NoMemory>
+        requires replica { asked.replica.0 < length self.now.machine.received }
+        requires op { asked.op.0 < length self.now.levels.ops }
+        requires levels { HasLevelOfEach typed.now.program self.now.levels }
+        requires open_now { (t : OpenTxn) × (open_of self.now.machine.open_txns asked.session ≡ Some t) }
+        requires able { (seen : List ℕ) → ((a : ℕ) → Has seen a → IsOn asked.object (effect_at self.now.machine.effects a))
+            → F.able folder.now asked.op asked.args (seen_in_order self.now.machine.effects seen) }
+        ensures { IfOk result (λ attempt. (rules : Rules) → rules.promises ≡ promises_of self.now.levels → rules.uses ≡ uses_of typed.now.program
+            → rules.answer ≡ F.answered folder.now → IsAttempt rules self.now.machine (call_of asked) attempt) }
+    {
+        let txn = self.shim.txn_of(asked.session);
+        let level = self.levels.op(asked.op);
+        let is_used = typed.uses(txn.decl, asked.op);
+        if let Some(reply) = refusal(&self.net, &self.shim, txn, &asked, is_used, level) {
+            return Ok(Attempt::Ends(reply));
+        }
+        let holder = &self.holders[asked.replica.0 as usize];
+        let view = own_view(
+            &self.execution,
+            holder,
+            &self.sessions,
+            &self.shim,
+            &asked,
+            level,
+            self.levels.txn(txn.decl),
+        )?;
+        if let Some(missing) = view.missing {
+            return Ok(Attempt::Ends(Reply::Blocked(missing)));
+        }
+        let answered = folder.answer(asked.op, &asked.args, &self.execution, &view.ids)?;
+        Ok(Attempt::Makes(Draft {
+            object: asked.object,
+            op: asked.op,
+            args: asked.args,
+            payload: answered.payload,
+            answer: answered.answer,
+            session: asked.session,
+            member: Member::Inside(txn.run, txn.decl),
+            seen: view.ids,
+        }))
     }
 }
