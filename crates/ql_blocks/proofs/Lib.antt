@@ -1,0 +1,9 @@
+pub mod Classes
+pub mod Building
+pub mod Alike
+pub mod Arranged
+pub mod Closures
+pub mod Agreement
+pub mod OpLevels
+pub mod Order
+pub mod Arranging

@@ -1,0 +1,5 @@
+pub mod Patterns
+pub mod Lawful
+pub mod Blocks
+pub mod Built
+pub mod Naming

@@ -1,0 +1,24 @@
+ghost use Rattle.std.specs.Prelude.{ℕ, ◌≡◌, ◌<◌, ◌≤◌, ◌*◌, length};
+ghost use Rattle.ql_lang.specs.declared.relation.RelName.{RelName};
+ghost use Rattle.ql_levels.specs.Formulas.{formula_of};
+ghost use Rattle.ql_levels.specs.declared.level.Level.{Level};
+ghost use Rattle.ql_exec.specs.Execution.{IsExecution};
+ghost use Rattle.ql_formula.specs.Truth.{Holds, named};
+ghost use Rattle.ql_blocks.specs.declared.slot.Extra.{Extra};
+ghost use Rattle.ql_blocks.specs.Patterns.{Pattern};
+ghost use Rattle.ql_blocks.specs.Lawful.{IsGrouped, IsLawful, Promises};
+ghost use Rattle.ql_blocks.specs.Blocks.{slots_of};
+ghost use Rattle.ql_blocks.specs.Built.{built, constant_place};
+ghost use Rattle.ql_blocks.specs.Naming.{Shows, named_by};
+
+/// The law of the blocks of a lawful pattern. They are an execution of at most four effects a constant. Between the
+/// effects that stand for constants each relation whose chains it shows is that of the constants, and where a level's promise
+/// is kept at a constant, its formula holds at the constant's effect.
+pub fn blocks_show_relations()
+    ensures execution { (p : Pattern) → IsLawful p → IsGrouped p → (extra : Extra) → IsExecution (built p (slots_of p extra)) }
+    ensures few { (p : Pattern) (extra : Extra) → length (built p (slots_of p extra)) ≤ 4 * p.count }
+    ensures relations { (p : Pattern) → IsLawful p → (extra : Extra) (name : RelName) → Shows extra name → (c d : ℕ) → c < p.count → d < p.count
+        → named (built p (slots_of p extra)) name (constant_place p (slots_of p extra) c) (constant_place p (slots_of p extra) d) ≡ named_by p name c d }
+    ensures levels { (p : Pattern) → IsLawful p → (extra : Extra) (c : ℕ) → c < p.count → (level : Level) → Promises p level c
+        → Holds (built p (slots_of p extra)) (formula_of level) (constant_place p (slots_of p extra) c) }
+{}

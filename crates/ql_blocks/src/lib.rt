@@ -1,0 +1,10 @@
+// Executions built of relations between constants: each class of equal constants becomes a block of effects.
+// The one contract: the execution has the relations that were given, between the constants' effects, and the levels'
+// formulas hold in it where they hold of the constants.
+#![tactic(auto)]
+
+mod laws;
+mod slot;
+
+pub use laws::blocks_show_relations;
+pub use slot::{Extra, Part, Slot};

@@ -1,0 +1,15 @@
+ghost use Rattle.std.specs.Prelude.{ℕ, ◌<◌, Bool, List, length};
+ghost use Rattle.ql_lang.specs.Formulas.{Resolved};
+ghost use Rattle.ql_levels.specs.declared.level.Level.{Level};
+ghost use Rattle.ql_levels.specs.declared.level.TxnLevel.{TxnLevel};
+ghost use Rattle.ql_cnf.specs.Satisfaction.{Satisfies};
+ghost use Rattle.ql_typing.specs.WellFormed.{IsOpContract, IsTxnContract};
+ghost use Rattle.ql_ground.specs.Ground.{op_problem, txn_problem};
+ghost use Rattle.ql_implication.specs.Countermodels.{IsCounter, IsTxnCounter};
+ghost use Rattle.ql_counter.specs.Assigned.{op_current, op_execution, op_places, txn_current, txn_execution, txn_places};
+
+/// The law that each assignment that satisfies a goal's ground problem gives a countermodel.
+pub fn satisfied_problems_have_countermodels()
+    ensures op { (types : List ℕ) (o : ℕ) (level : Level) (f : Resolved) (a : List Bool) → IsOpContract (length types) f → o < length types → Satisfies a (op_problem types o level f)
+        → IsCounter types o level f (op_execution a types f) (op_current a types f) (op_places a types f) }
+{}
