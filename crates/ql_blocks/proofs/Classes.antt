@@ -74,3 +74,11 @@ module _ (n : ℕ) (same : ℕ → ℕ → Bool) (law : IsEquivalence n same) wh
   class-to c d l m e =
       let own : same c (class_of n same d) ≡ true = ap (λ k. same c k) (sym e) ∙ law.back _ c (class-within c l).1 in
       law.joined c _ d own (class-within d m).1
+
+-- the least that passes does, where one below n does
+pub least-passes : (n : ℕ) (test : ℕ → Bool) → least n test < n → test (least n test) ≡ true
+least-passes zero test l = absurd (omega (arith, l))
+least-passes (suc n) test l = elim (cases_Bool (test zero)) [
+  | inl here ↦ rw here here
+  | inr later ↦ rw later (least-passes n (λ j. test (suc j)) (let e : cond (test zero) zero (suc (least n (λ j. test (suc j)))) ≡ suc (least n (λ j. test (suc j))) = rw later refl in omega (arith, l, e)))
+]

@@ -7,3 +7,4 @@ pub mod Agreement
 pub mod OpLevels
 pub mod Order
 pub mod Arranging
+pub mod TxnLevels

@@ -3,7 +3,7 @@
 -- stands just before it on its object, and an opening and a closing on an object of no constant. A chain on one object
 -- goes from an effect to the aide of the later one, and a chain over objects from the closing of the first to the
 -- opening of the later one.
-use Rattle.std.specs.Prelude.{ℕ, zero, suc, Bool, true, not, ◌&&◌, ◌==◌, if◌then◌else◌, List, [], ◌∷◌, ◌++◌}
+use Rattle.std.specs.Prelude.{ℕ, zero, suc, Bool, true, false, not, ◌&&◌, ◌==◌, if◌then◌else◌, List, [], ◌∷◌, ◌++◌}
 use Rattle.ql_base.specs.Ranges.{upto}
 use Rattle.ql_atoms.specs.declared.atoms.PairKind.TheVariants.{So, Vis, Hbo, Hb}
 use Rattle.ql_exec.specs.Relations.{some_below}
@@ -15,6 +15,10 @@ use Rattle.ql_blocks.specs.Patterns.{Pattern, leader}
 
 abbrev pub slot_of : ℕ → Part → Slot
 slot_of b part = record { block = b; part = part }
+
+-- blocks of own effects alone
+abbrev pub no_parts : Extra
+no_parts = record { aides = false; links = false }
 
 -- something happens before it on its object that it doesn't see
 abbrev pub has_aide : Pattern → Extra → ℕ → Bool

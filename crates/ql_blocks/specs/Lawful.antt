@@ -1,13 +1,17 @@
 -- What the relations of executions keep, of constants: equality with what is alike of equals, session order, objects, and
 -- happens-before, on one object and across.
-use Rattle.std.specs.Prelude.{ℕ, ◌≡◌, ◌<◌, ◌⊎◌, true}
+use Rattle.std.specs.Prelude.{ℕ, suc, ◌≡◌, ◌<◌, ◌⊎◌, Bool, true}
 use Rattle.ql_atoms.specs.declared.atoms.PairKind.{PairKind}
-use Rattle.ql_atoms.specs.declared.atoms.PairKind.TheVariants.{Eq, So, SameObj, Vis, Hbo, Hb}
+use Rattle.ql_atoms.specs.declared.atoms.PairKind.TheVariants.{Eq, So, SameObj, Vis, Hbo, Hb, SameTxn}
+use Rattle.ql_base.specs.declared.ids.DeclId.{DeclId}
+use Rattle.ql_exec.specs.declared.effect.Member.TheVariants.{Inside}
 use Rattle.ql_exec.specs.Execution.{same_name}
 use Rattle.ql_exec.specs.Relations.{same_run}
 use Rattle.ql_levels.specs.declared.level.Level.{Level}
 use Rattle.ql_levels.specs.declared.level.Level.TheVariants.{Eventual, Causal, Strong}
-use Rattle.ql_blocks.specs.Patterns.{Pattern, one_session}
+use Rattle.ql_levels.specs.declared.level.TxnLevel.{TxnLevel}
+use Rattle.ql_levels.specs.declared.level.TxnLevel.TheVariants.{Rc, Mav, Rr}
+use Rattle.ql_blocks.specs.Patterns.{Pattern, class_of, least, one_session}
 
 -- the relation holds from the first constant to the second
 abbrev pub Has : Pattern → PairKind → ℕ → ℕ → Type 0
@@ -53,3 +57,34 @@ abbrev pub Promises : Pattern → Level → ℕ → Type 0
 Promises p Eventual cur = (i j : ℕ) → Has p Hbo i j → Has p Vis j cur → Has p Vis i cur
 Promises p Causal cur = (i : ℕ) → Has p Hbo i cur → Has p Vis i cur
 Promises p Strong cur = (i : ℕ) → Has p SameObj i cur → Has p Vis i cur ⊎ (Has p Vis cur i ⊎ Has p Eq i cur)
+
+-- ---- transactions
+abbrev pub txn_of : Pattern → ℕ → ℕ
+txn_of p c = class_of p.count (p.rel SameTxn) c
+
+-- what transactions keep, of constants of which some are current, and that each constant is in a begun transaction under one name
+pub record IsTxnLawful (p : Pattern) (current : ℕ → Bool) (name : DeclId) : Type 0 where
+  pub txn_refl : (i : ℕ) → i < p.count → Has p SameTxn i i
+  pub txn_sym : (i j : ℕ) → Has p SameTxn i j → Has p SameTxn j i
+  pub txn_trans : (i j k : ℕ) → Has p SameTxn i j → Has p SameTxn j k → Has p SameTxn i k
+  pub one_session : (i j : ℕ) → Has p SameTxn i j → Has p So i j ⊎ (Has p So j i ⊎ Has p Eq i j)
+  pub unbroken : (i j k : ℕ) → Has p SameTxn i k → Has p So i j → Has p So j k → Has p SameTxn i j
+  -- the current constants are one transaction
+  pub current_within : (i : ℕ) → current i ≡ true → i < p.count
+  pub current_alike : (i j : ℕ) → Has p Eq i j → current i ≡ true → current j ≡ true
+  pub current_in_one : (i j : ℕ) → current i ≡ true → current j ≡ true → Has p SameTxn i j
+  pub current_whole : (i j : ℕ) → current i ≡ true → Has p SameTxn i j → current j ≡ true
+  pub members : (c : ℕ) → p.member c ≡ Inside (record { 0 = suc (txn_of p c) }) name
+
+-- the begun transaction of the current constants; one without effects where there are none
+abbrev pub run_of : Pattern → (ℕ → Bool) → ℕ
+run_of p current = suc (txn_of p (least p.count current))
+
+abbrev pub TxnPromises : Pattern → (ℕ → Bool) → TxnLevel → Type 0
+TxnPromises p current Rc =
+    (i j k : ℕ) → current i ≡ true → Has p SameTxn j k → Has p SameObj j k → Has p Vis j i → (current j ≡ true) ⊎ Has p Vis k i
+TxnPromises p current Mav =
+    ((i j k : ℕ) → current i ≡ true → Has p SameTxn j k → Has p SameObj j k → Has p Vis j i → (current j ≡ true) ⊎ Has p Vis k i)
+    × ((i j k l : ℕ) → current i ≡ true → current j ≡ true → Has p SameTxn k l → Has p So i j → Has p Vis k i → Has p SameObj l j → (current k ≡ true) ⊎ Has p Vis l j)
+TxnPromises p current Rr =
+    (i j k l : ℕ) → current i ≡ true → current j ≡ true → Has p SameTxn k l → Has p Vis k i → Has p SameObj l j → (current k ≡ true) ⊎ Has p Vis l j

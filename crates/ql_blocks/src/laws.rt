@@ -1,13 +1,15 @@
-ghost use Rattle.std.specs.Prelude.{ℕ, ◌≡◌, ◌<◌, ◌≤◌, ◌*◌, length};
+ghost use Rattle.std.specs.Prelude.{ℕ, Bool, ◌≡◌, ◌<◌, ◌≤◌, ◌*◌, length};
 ghost use Rattle.ql_lang.specs.declared.relation.RelName.{RelName};
-ghost use Rattle.ql_levels.specs.Formulas.{formula_of};
+ghost use Rattle.ql_levels.specs.Formulas.{formula_of, txn_formula_of};
 ghost use Rattle.ql_levels.specs.declared.level.Level.{Level};
+ghost use Rattle.ql_levels.specs.declared.level.TxnLevel.{TxnLevel};
+ghost use Rattle.ql_base.specs.declared.ids.DeclId.{DeclId};
 ghost use Rattle.ql_exec.specs.Execution.{IsExecution};
-ghost use Rattle.ql_formula.specs.Truth.{Holds, named};
+ghost use Rattle.ql_formula.specs.Truth.{Holds, HoldsTxn, named};
 ghost use Rattle.ql_blocks.specs.declared.slot.Extra.{Extra};
 ghost use Rattle.ql_blocks.specs.Patterns.{Pattern};
-ghost use Rattle.ql_blocks.specs.Lawful.{IsGrouped, IsLawful, Promises};
-ghost use Rattle.ql_blocks.specs.Blocks.{slots_of};
+ghost use Rattle.ql_blocks.specs.Lawful.{IsGrouped, IsLawful, IsTxnLawful, Promises, TxnPromises, run_of};
+ghost use Rattle.ql_blocks.specs.Blocks.{no_parts, slots_of};
 ghost use Rattle.ql_blocks.specs.Built.{built, constant_place};
 ghost use Rattle.ql_blocks.specs.Naming.{Shows, named_by};
 
@@ -21,4 +23,12 @@ pub fn blocks_show_relations()
         → named (built p (slots_of p extra)) name (constant_place p (slots_of p extra) c) (constant_place p (slots_of p extra) d) ≡ named_by p name c d }
     ensures levels { (p : Pattern) → IsLawful p → (extra : Extra) (c : ℕ) → c < p.count → (level : Level) → Promises p level c
         → Holds (built p (slots_of p extra)) (formula_of level) (constant_place p (slots_of p extra) c) }
+{}
+
+/// The law of transactions: of a pattern with transactions, where a level's promise is kept at the current constants, its
+/// formula holds of their begun transaction.
+pub fn blocks_show_transactions()
+    ensures execution { (p : Pattern) (current : ℕ → Bool) (name : DeclId) → IsLawful p → IsTxnLawful p current name → IsExecution (built p (slots_of p no_parts)) }
+    ensures levels { (p : Pattern) (current : ℕ → Bool) (name : DeclId) → IsLawful p → IsTxnLawful p current name → (level : TxnLevel) → TxnPromises p current level
+        → HoldsTxn (built p (slots_of p no_parts)) (txn_formula_of level) (run_of p current) }
 {}

@@ -6,5 +6,5 @@
 mod laws;
 mod slot;
 
-pub use laws::blocks_show_relations;
+pub use laws::{blocks_show_relations, blocks_show_transactions};
 pub use slot::{Extra, Part, Slot};

@@ -1,11 +1,11 @@
 -- The circuit of a body has the truth value of the body, where the atoms have those of the relations.
-use Rattle.std.proofs.Common.{◌≡◌, ℕ, ◌<◌, Bool, true, false, not, ◌&&◌, ◌||◌, nat_eq, List, [], ◌∷◌, ◌++◌, map, refl, sym, ap, ◌∙◌, inl, inr}
+use Rattle.std.proofs.Common.{◌≡◌, ℕ, ◌<◌, Bool, true, false, not, ◌&&◌, ◌||◌, nat_eq, List, [], ◌∷◌, ◌++◌, map, refl, sym, ap, ◌∙◌}
 use Rattle.std.proofs.lemmas.Bool.{and_from, and_parts, both_ways, eq-eqb, false_from_ne_true, not_from_false, or_left, or_right}
 use Rattle.std.proofs.lemmas.List.Folds.{list_all-append}
 use Rattle.std.specs.List.{list_all}
 use Rattle.ql_atoms.specs.declared.atoms.Atom.TheVariants.{Pair, Current}
 use Rattle.ql_atoms.specs.declared.atoms.PairKind.TheVariants as kind
-use Rattle.ql_atoms.specs.Atoms.{Size, number_of}
+use Rattle.ql_atoms.specs.Atoms.{Size}
 use Rattle.ql_cnf.specs.Circuits.{Circuit, Both, circuit_true}
 use Rattle.ql_lang.specs.Trees.{Relation, Basic, Union, Intersection}
 use Rattle.ql_lang.specs.Formulas.{Statement, Always, Related, BothOf, OneOf, IfThen, InOneTxn}
@@ -17,10 +17,11 @@ use Rattle.ql_typing.specs.WellFormed.{IsTermOf, AreTermsOf, IsBodyOf, IsPlain, 
 use Rattle.ql_ground.specs.Bodies.{constant_of, holds, fails, named_circuit, relation_circuit, grouped, all_of, other_circuits, txn_circuit, body_circuit}
 use Rattle.ql_exec.specs.declared.effect.Effect.{Effect}
 use Rattle.ql_exec.specs.Relations.{sametxn}
-use Rattle.ql_formula.specs.Truth.{named, related, together, in_one_txn, place_of, statement_true}
+use Rattle.ql_formula.specs.Truth.{named, related, in_one_txn, place_of, statement_true}
 use Rattle.ql_blocks.specs.declared.slot.Extra.{Extra}
-use Rattle.ql_blocks.specs.Naming.{Shows, named_by}
-use Rattle.ql_counter.specs.Assigned.{related_by, current_by, pattern_of, names, mentions, is_hb, is_hbo, extra_of, no_extra}
+use Rattle.ql_blocks.specs.Naming.{Shows}
+use Rattle.ql_counter.specs.Assigned.{names, mentions, is_hb, is_hbo, extra_of}
+use Rattle.ql_blocks.specs.Blocks.{no_parts}
 use Rattle.ql_counter.proofs.Firing.{yes-value, no-value}
 
 -- ---- the relations that a statement names have the chains that they need
@@ -78,10 +79,10 @@ statement-shown extra (InOneTxn members others) v h g = absurd v
 pub extra-shows : (p : Statement) → HasNoTxn p → ShowsAll (extra_of p) false p
 extra-shows p v = statement-shown (extra_of p) p v (λ n. n) (λ n. n)
 
-plain-relation : (r : Relation) → IsPlain r → ShowsRelation no_extra r
+plain-relation : (r : Relation) → IsPlain r → ShowsRelation no_parts r
 plain-relation (Basic name at) h = plain name h
   where
-    plain : (name : RelName) → is_closure name ≡ false → Shows no_extra name
+    plain : (name : RelName) → is_closure name ≡ false → Shows no_parts name
     plain Vis h = tt
     plain So h = tt
     plain Soo h = tt
@@ -93,7 +94,7 @@ plain-relation (Union r q) h = (plain-relation r h.0, plain-relation q h.1)
 plain-relation (Intersection r q) h = (plain-relation r h.0, plain-relation q h.1)
 
 -- a statement without closures needs none
-pub plain-shows : (p : Statement) → HasNoClosure p → ShowsAll no_extra true p
+pub plain-shows : (p : Statement) → HasNoClosure p → ShowsAll no_parts true p
 plain-shows Always h = tt
 plain-shows (Related r t u) h = plain-relation r h
 plain-shows (BothOf p q) h = (plain-shows p h.0, plain-shows q h.1)

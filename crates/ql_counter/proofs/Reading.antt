@@ -1,30 +1,29 @@
 -- An assignment in which the ground clauses are true is a lawful pattern.
-use Rattle.std.proofs.Common.{◌≡◌, ℕ, zero, suc, ◌-◌, ◌<◌, ◌⊎◌, Bool, true, false, ◌&&◌, ◌==◌, cond, inl, inr, List, [], ◌∷◌, ◌++◌, map, length, refl, sym, ap, subst, ◌∙◌, arith}
-use Rattle.std.proofs.lemmas.Bool.{and_from, and_parts, both_ways, cases_Bool, cases_order, eqb-true, lt-ltb, ltb-true, or_left, or_right, eq-eqb}
+use Rattle.std.proofs.Common.{◌≡◌, ℕ, zero, suc, ◌<◌, ◌⊎◌, Bool, true, ◌&&◌, ◌==◌, cond, inl, inr, List, [], ◌∷◌, ◌++◌, map, refl, sym, ap, ◌∙◌, arith}
+use Rattle.std.proofs.lemmas.Bool.{and_from, and_parts, cases_Bool, cases_order, eqb-true, lt-ltb, ltb-true, or_left, or_right, eq-eqb}
 use Rattle.std.specs.Prelude.{nat_lt, slice_index}
 use Rattle.std.specs.List.{list_all}
 use Rattle.ql_base.specs.Ranges.{upto}
 use Rattle.ql_base.specs.Ids.{op}
 use Rattle.ql_base.specs.IdLists.{has_id}
 use Rattle.ql_atoms.specs.declared.atoms.Atom.{Atom}
-use Rattle.ql_atoms.specs.declared.atoms.Atom.TheVariants.{Pair, Current, Is}
+use Rattle.ql_atoms.specs.declared.atoms.Atom.TheVariants.{Pair, Is}
 use Rattle.ql_atoms.specs.declared.atoms.PairKind.{PairKind}
 use Rattle.ql_atoms.specs.declared.atoms.PairKind.TheVariants.{Eq, So, SameObj, Vis, Hbo, Hb, SameTxn}
-use Rattle.ql_atoms.specs.Atoms.{Size, number_of}
+use Rattle.ql_atoms.specs.Atoms.{Size}
 use Rattle.ql_cnf.specs.Satisfaction.{clause_true}
-use Rattle.ql_lang.specs.declared.formula.OpChoice.{OpChoice}
-use Rattle.ql_lang.specs.declared.formula.OpChoice.TheVariants.{Any, OneOf}
+use Rattle.ql_lang.specs.declared.formula.OpChoice.TheVariants.{OneOf}
 use Rattle.ql_levels.specs.declared.level.Level.{Level}
 use Rattle.ql_levels.specs.declared.level.Level.TheVariants.{Eventual, Causal, Strong}
 use Rattle.ql_exec.specs.declared.effect.Member.{Member}
 use Rattle.ql_ground.specs.Bodies.{current_effect}
-use Rattle.ql_ground.specs.Rules.{Rule, equality_rules, alike_op, alike_left, alike_right, reflexive, symmetric, transitive, within, irreflexive, session_rules, from_one_rule, to_one_rule, object_rules, object_order_rules, of_session_rule, order_rules, level_rule}
-use Rattle.ql_ground.specs.Ground.{chosen, at, implication, instances, all_instances, alike_operations, some_operation, one_operation, one_type, axioms, variable_operations, all_variable_operations}
-use Rattle.ql_ground.proofs.Instances.{AllTrue, SomeTrue}
-use Rattle.ql_blocks.specs.Patterns.{Pattern, least}
+use Rattle.ql_ground.specs.Rules.{equality_rules, alike_op, alike_left, alike_right, reflexive, symmetric, transitive, within, irreflexive, session_rules, from_one_rule, to_one_rule, object_rules, object_order_rules, of_session_rule, order_rules, level_rule}
+use Rattle.ql_ground.specs.Ground.{chosen, implication, instances, all_instances, alike_operations, some_operation, one_operation, one_type, axioms, variable_operations}
+use Rattle.ql_ground.proofs.Instances.{SomeTrue}
+use Rattle.ql_blocks.specs.Patterns.{Pattern}
 use Rattle.ql_blocks.specs.Lawful.{Has, IsLawful, Promises}
 use Rattle.ql_blocks.proofs.Classes.{least-found}
-use Rattle.ql_counter.specs.Assigned.{related_by, operation_by, pattern_of}
+use Rattle.ql_counter.specs.Assigned.{pattern_of}
 use Rattle.ql_counter.proofs.Firing.{AllHold, both-hold, fires, only, pick, upto-each, use_rule, value}
 
 module _ (a : List Bool) (s : Size) (types : List ℕ) where
@@ -65,16 +64,16 @@ module _ (a : List Bool) (s : Size) (types : List ℕ) where
         let bounds = and_parts (nat_lt i s.constants) (nat_lt j s.constants) both.0 in
         (ltb-true i s.constants bounds.0, ltb-true j s.constants bounds.1, both.1)
 
-    by-reflexive : (r : PairKind) → AllHold a s (instances s (reflexive r)) → (i : ℕ) → i < s.constants → Has p r i i
+    pub by-reflexive : (r : PairKind) → AllHold a s (instances s (reflexive r)) → (i : ℕ) → i < s.constants → Has p r i i
     unfolding chosen
     by-reflexive r h i l = elim (use_rule a s (reflexive r) h (i ∷ []) refl (l, tt) tt) [ inl y ↦ has-from r i i l l y | inr n ↦ absurd n ]
 
-    by-symmetric : (r : PairKind) → AllHold a s (instances s (symmetric r)) → (i j : ℕ) → Has p r i j → Has p r j i
+    pub by-symmetric : (r : PairKind) → AllHold a s (instances s (symmetric r)) → (i j : ℕ) → Has p r i j → Has p r j i
     unfolding chosen
     by-symmetric r h i j v = let t = has-to r i j v in
         elim (use_rule a s (symmetric r) h (i ∷ j ∷ []) refl (t.0, (t.1, tt)) (t.2, tt)) [ inl y ↦ has-from r j i t.1 t.0 y | inr n ↦ absurd n ]
 
-    by-transitive : (r : PairKind) → AllHold a s (instances s (transitive r)) → (i j k : ℕ) → Has p r i j → Has p r j k → Has p r i k
+    pub by-transitive : (r : PairKind) → AllHold a s (instances s (transitive r)) → (i j k : ℕ) → Has p r i j → Has p r j k → Has p r i k
     unfolding chosen
     by-transitive r h i j k v w = let t = has-to r i j v in let u = has-to r j k w in
         elim (use_rule a s (transitive r) h (i ∷ j ∷ k ∷ []) refl (t.0, (t.1, (u.1, tt))) (t.2, (u.2, tt))) [ inl y ↦ has-from r i k t.0 u.1 y | inr n ↦ absurd n ]
@@ -106,7 +105,7 @@ module _ (a : List Bool) (s : Size) (types : List ℕ) where
       eq-trans = by-transitive Eq (pick a s equality_rules 2 (transitive Eq) refl g.equality)
 
       left : (r : PairKind) (i j k : ℕ) → Has p Eq i j → Has p r i k → Has p r j k
-      left Eq i j k v w = eq-trans j i k (eq-sym i j v) w
+      left Eq = λ i j k v w. eq-trans j i k (eq-sym i j v) w
       left So = by-alike_left So (pick a s equality_rules 3 (alike_left So) refl g.equality)
       left SameObj = by-alike_left SameObj (pick a s equality_rules 5 (alike_left SameObj) refl g.equality)
       left Vis = by-alike_left Vis (pick a s equality_rules 7 (alike_left Vis) refl g.equality)
@@ -115,7 +114,7 @@ module _ (a : List Bool) (s : Size) (types : List ℕ) where
       left SameTxn = by-alike_left SameTxn (pick a s equality_rules 13 (alike_left SameTxn) refl g.equality)
 
       right : (r : PairKind) (i j k : ℕ) → Has p Eq i j → Has p r k i → Has p r k j
-      right Eq i j k v w = eq-trans k i j w v
+      right Eq = λ i j k v w. eq-trans k i j w v
       right So = by-alike_right So (pick a s equality_rules 4 (alike_right So) refl g.equality)
       right SameObj = by-alike_right SameObj (pick a s equality_rules 6 (alike_right SameObj) refl g.equality)
       right Vis = by-alike_right Vis (pick a s equality_rules 8 (alike_right Vis) refl g.equality)
@@ -152,7 +151,7 @@ module _ (a : List Bool) (s : Size) (types : List ℕ) where
           let column = upto-each (clause_true a) s.operations (λ b. upto s.operations (λ d. cond (nat_lt b d) (implication s (Is (op b) i ∷ Is (op d) i ∷ []) [] ∷ []) [])) row o m in
           let cell = upto-each (clause_true a) s.operations (λ d. cond (nat_lt o d) (implication s (Is (op o) i ∷ Is (op d) i ∷ []) [] ∷ []) []) column q n in
           let clause : list_all (clause_true a) (implication s (Is (op o) i ∷ Is (op q) i ∷ []) [] ∷ []) ≡ true =
-              ap (λ b. list_all (clause_true a) (cond b (implication s (Is (op o) i ∷ Is (op q) i ∷ []) [] ∷ []) [])) (sym (lt-ltb o q less)) ∙ cell in
+          ap (λ b. list_all (clause_true a) (cond b (implication s (Is (op o) i ∷ Is (op q) i ∷ []) [] ∷ []) [])) (sym (lt-ltb o q less)) ∙ cell in
           fires a s (Is (op o) i ∷ Is (op q) i ∷ []) [] (only a s _ clause) (v, (w, tt))
 
       -- and no other
@@ -189,7 +188,7 @@ module _ (a : List Bool) (s : Size) (types : List ℕ) where
             | inl same ↦ eqb-true _ _ same
             | inr differ ↦
                 let clause : list_all (clause_true a) (implication s (Pair SameObj i j ∷ Is (op (p.op i)) i ∷ Is (op (p.op j)) j ∷ []) [] ∷ []) ≡ true =
-                    ap (λ b. list_all (clause_true a) (cond b [] (implication s (Pair SameObj i j ∷ Is (op (p.op i)) i ∷ Is (op (p.op j)) j ∷ []) [] ∷ []))) (sym differ) ∙ cell in
+                ap (λ b. list_all (clause_true a) (cond b [] (implication s (Pair SameObj i j ∷ Is (op (p.op i)) i ∷ Is (op (p.op j)) j ∷ []) [] ∷ []))) (sym differ) ∙ cell in
                 absurd (fires a s (Pair SameObj i j ∷ Is (op (p.op i)) i ∷ Is (op (p.op j)) j ∷ []) [] (only a s _ clause) (t.2, (o.1, (q.1, tt))))
           ]
 

@@ -18,7 +18,7 @@ use Rattle.ql_exec.specs.declared.effect.Member.TheVariants.{Alone, Inside}
 use Rattle.ql_blocks.specs.declared.slot.Extra.{Extra}
 use Rattle.ql_blocks.specs.declared.slot.Slot.{Slot}
 use Rattle.ql_blocks.specs.Patterns.{Pattern, least, class_of}
-use Rattle.ql_blocks.specs.Blocks.{slots_of}
+use Rattle.ql_blocks.specs.Blocks.{no_parts, slots_of}
 use Rattle.ql_blocks.specs.Built.{built, constant_place}
 
 -- the relations of an assignment, between constants of the size alone
@@ -93,14 +93,11 @@ run_by a s c = suc (class_of s.constants (related_by a s SameTxn) c)
 abbrev pub begun : List Bool → Size → ℕ → ℕ → Member
 begun a s d c = Inside (record { 0 = run_by a s c }) (record { 0 = d })
 
-abbrev pub no_extra : Extra
-no_extra = record { aides = false; links = false }
-
 abbrev pub txn_pattern : List Bool → List ℕ → ℕ → Resolved → Pattern
 txn_pattern a types d f = let s : Size = txn_size types f in pattern_of a s (begun a s d)
 
 abbrev pub txn_slots : List Bool → List ℕ → ℕ → Resolved → List Slot
-txn_slots a types d f = slots_of (txn_pattern a types d f) no_extra
+txn_slots a types d f = slots_of (txn_pattern a types d f) no_parts
 
 abbrev pub txn_execution : List Bool → List ℕ → ℕ → Resolved → List Effect
 txn_execution a types d f = built (txn_pattern a types d f) (txn_slots a types d f)

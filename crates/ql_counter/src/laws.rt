@@ -12,4 +12,6 @@ ghost use Rattle.ql_counter.specs.Assigned.{op_current, op_execution, op_places,
 pub fn satisfied_problems_have_countermodels()
     ensures op { (types : List ℕ) (o : ℕ) (level : Level) (f : Resolved) (a : List Bool) → IsOpContract (length types) f → o < length types → Satisfies a (op_problem types o level f)
         → IsCounter types o level f (op_execution a types f) (op_current a types f) (op_places a types f) }
+    ensures txn { (types : List ℕ) (d : ℕ) (level : TxnLevel) (f : Resolved) (a : List Bool) → IsTxnContract (length types) f → Satisfies a (txn_problem types level f)
+        → IsTxnCounter types d level f (txn_execution a types d f) (txn_current a types f) (txn_places a types d f) }
 {}

@@ -1,5 +1,5 @@
 -- Countermodels: executions in which a level's promise is kept and the contract is false.
-use Rattle.std.specs.Prelude.{ℕ, ◌≡◌, ◌≤◌, true, false, List, Some, length}
+use Rattle.std.specs.Prelude.{ℕ, ◌≡◌, ◌≤◌, false, List, Some, length}
 use Rattle.ql_lang.specs.Formulas.{Resolved}
 use Rattle.ql_levels.specs.declared.level.Level.{Level}
 use Rattle.ql_levels.specs.declared.level.TxnLevel.{TxnLevel}
@@ -8,7 +8,7 @@ use Rattle.ql_base.specs.declared.ids.RunId.{RunId}
 use Rattle.ql_base.specs.declared.ids.DeclId.{DeclId}
 use Rattle.ql_exec.specs.declared.effect.Effect.{Effect}
 use Rattle.ql_exec.specs.declared.effect.Member.TheVariants.{Inside}
-use Rattle.ql_exec.specs.Effects.{effect_at, in_run}
+use Rattle.ql_exec.specs.Effects.{effect_at}
 use Rattle.ql_exec.specs.Execution.{IsExecution}
 use Rattle.ql_exec.specs.Relations.{inside}
 use Rattle.ql_formula.specs.Truth.{Chosen, Holds, HoldsTxn, none_inside, statement_true}

@@ -17,7 +17,7 @@ use Rattle.ql_commands.specs.declared.answer.Answer.TheVariants.{Done, No}
 use Rattle.ql_commands.specs.Certificates.{SpellsCert}
 use Rattle.ql_commands.specs.Check.{AreDue, goal_of, section_text, verdict_text}
 use Rattle.ql_commands.specs.Sources.{IsSourceOf}
-use Rattle.ql_implication.specs.Executions.{IsImplied, IsImpliedTxn}
+use Rattle.ql_implied.specs.Executions.{IsImplied, IsImpliedTxn}
 
 -- The target has a contract, and its level gives it: in every execution of the program, at each effect of the operation,
 -- or for each begun transaction.
