@@ -12,3 +12,4 @@ pub mod CommitLaws
 pub mod CommittedLaws
 pub mod StrongLaws
 pub mod OwnLaws
+pub mod StepLaws

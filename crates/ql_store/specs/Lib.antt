@@ -6,3 +6,4 @@ pub mod Viewing
 pub mod Asking
 pub mod Obstacles
 pub mod Answering
+pub mod Conditions

@@ -1,6 +1,5 @@
 // A replicated store: replicas, the network between them, sessions and their calls.
 // The one contract: each event does to the store what the written machine does, and is answered as there.
-// Calls in a transaction are to come, and then one `step` for every event.
 #![tactic(auto)]
 
 mod asked;

@@ -6,6 +6,8 @@ ghost use Rattle.ql_levels.specs.declared.level.Level.TheVariants.{Strong};
 ghost use Rattle.ql_needs.specs.Closed.{Has};
 ghost use Rattle.ql_store.specs.Asking.{call_of};
 ghost use Rattle.ql_store.specs.Answering.{IsAttempt};
+ghost use Rattle.ql_store.specs.Conditions.{HasRoom, IsAnswerable};
+ghost use Rattle.ql_store.specs.Events.{IsInRange};
 ghost use Rattle.ql_store.specs.Levels.{HasLevelOfEach, promises_of, uses_of};
 ghost use Rattle.ql_machine.specs.declared.open_txn.OpenTxn.{OpenTxn};
 ghost use Rattle.ql_machine.specs.declared.event.Event.TheVariants as event;
@@ -28,8 +30,8 @@ use crate::view::plain_view;
 use ql_base::{DeclId, EffId, IdSet, MsgId, NoMemory, ObjId, OpId, ReplicaId, SessId};
 use ql_exec::{Draft, Execution, Folder, Member};
 use ql_holder::Holder;
-use ql_levels::Levels;
-use ql_machine::{Groups, Reply};
+use ql_levels::{Level, Levels};
+use ql_machine::{Event, Groups, Reply};
 use ql_net::Net;
 use ql_session::Sessions;
 use ql_shim::Shim;
@@ -93,9 +95,85 @@ impl<H: Holder> Store<H> {
         &self.execution
     }
 
+    /// Does what an event does to a store, and answers it.
+    ///
+    /// The state and the reply are those of the written machine, and the levels stay. A call costs its view
+    /// once, with the fold of what it sees; a delivery costs what the receiver walks. No event copies the
+    /// execution. Memory in proportion to the replicas is taken for messages, and by a strong call for new
+    /// replicas.
+    pub fn step<F: Folder>(
+        &mut self,
+        event: Event,
+        typed: &Typed,
+        folder: &F,
+    ) -> Result<Reply, NoMemory>
+        requires range { IsInRange (length self.old.machine.received) self.old.levels event }
+        requires levels { HasLevelOfEach typed.now.program self.old.levels }
+        requires room { HasRoom self.old.machine }
+        requires able { IsAnswerable (F.able folder.now) self.old.machine.effects event }
+        ensures step { IfOk result (λ r. (rules : Rules) → rules.promises ≡ promises_of self.old.levels → rules.uses ≡ uses_of typed.now.program
+            → rules.answer ≡ F.answered folder.now → IsStep rules self.old.machine event self.new.machine r) }
+        ensures levels { self.new.levels ≡ self.old.levels }
+        ensures err { OnErr result (self.new ≡ self.old) }
+    {
+        match event {
+            Event::Call {
+                session,
+                replica,
+                object,
+                op,
+                args,
+            } => self.call(session, replica, object, op, args, typed, folder),
+            Event::Begin {
+                session,
+                replica,
+                decl,
+                objects,
+            } => self.begin(session, replica, decl, objects),
+            Event::Commit { session, replica } => self.commit(session, replica),
+            Event::Deliver(m) => self.deliver(m),
+            Event::Repeat(m) => Ok(self.repeat(m)),
+            Event::Lose(m) => Ok(self.lose(m)),
+            Event::Resend { effect, from, to } => self.resend(effect, from, to),
+            Event::Partition(groups) => Ok(self.partition(groups)),
+            Event::Heal => Ok(self.heal()),
+        }
+    }
+
+    /// A session calls an operation on an object, at a replica.
+    pub fn call<F: Folder>(
+        &mut self,
+        session: SessId,
+        replica: ReplicaId,
+        object: ObjId,
+        op: OpId,
+        args: Values,
+        typed: &Typed,
+        folder: &F,
+    ) -> Result<Reply, NoMemory>
+        requires replica { replica.0 < length self.old.machine.received }
+        requires op { op.0 < length self.old.levels.ops }
+        requires levels { HasLevelOfEach typed.now.program self.old.levels }
+        requires room { HasRoom self.old.machine }
+        requires able { (seen : List ℕ) → ((a : ℕ) → Has seen a → IsOn object (effect_at self.old.machine.effects a))
+            → F.able folder.now op args (seen_in_order self.old.machine.effects seen) }
+        ensures step { IfOk result (λ r. (rules : Rules) → rules.promises ≡ promises_of self.old.levels → rules.uses ≡ uses_of typed.now.program
+            → rules.answer ≡ F.answered folder.now → IsStep rules self.old.machine (event.Call session replica object op args) self.new.machine r) }
+        ensures levels { self.new.levels ≡ self.old.levels }
+        ensures err { OnErr result (self.new ≡ self.old) }
+    {
+        match self.shim.run_of(session) {
+            Some(_) => self.call_own(session, replica, object, op, args, typed, folder),
+            None => match self.levels.op(op) {
+                Level::Strong => self.call_strong(session, replica, object, op, args, folder),
+                _ => self.call_plain(session, replica, object, op, args, folder),
+            },
+        }
+    }
+
     /// The network falls apart into groups.
     pub fn partition(&mut self, groups: Groups) -> Reply
-        requires { length groups ≡ length self.old.machine.groups }
+        requires { length groups ≡ length self.old.machine.received }
         ensures step { (rules : Rules) → IsStep rules self.old.machine (event.Partition groups) self.new.machine result }
         ensures levels { self.new.levels ≡ self.old.levels }
     {
@@ -202,7 +280,7 @@ impl<H: Holder> Store<H> {
     /// one. Where there are none, nothing is sent.
     pub fn commit(&mut self, session: SessId, replica: ReplicaId) -> Result<Reply, NoMemory>
         requires replica { replica.0 < length self.old.machine.received }
-        requires room_messages { length self.old.machine.messages + length self.old.machine.groups < 2 ^ 32 }
+        requires room { length self.old.machine.messages < 2 ^ 31 }
         ensures step { IfOk result (λ r. (rules : Rules) → IsStep rules self.old.machine (event.Commit session replica) self.new.machine r) }
         ensures levels { self.new.levels ≡ self.old.levels }
         ensures err { OnErr result (self.new ≡ self.old) }
