@@ -1,4 +1,5 @@
-//! What the plain programs share: readers of sources and of line files, ground problems, a solver, executions.
+//! What the plain programs share: readers of sources and of line files, ground problems, a solver, executions,
+//! replicas.
 #![allow(dead_code)]
 pub mod execution;
 pub mod ground;
@@ -8,6 +9,7 @@ pub mod parse;
 pub mod print;
 pub mod refutation;
 pub mod relations;
+pub mod replica;
 pub mod schedule;
 pub mod solver;
 pub mod tree;

@@ -8,6 +8,7 @@ mod begin;
 mod commit;
 mod committed;
 mod deliver;
+mod growth;
 mod obstacle;
 mod own;
 mod plain;
@@ -18,4 +19,5 @@ mod store;
 mod strong;
 mod view;
 
+pub use growth::runs_stay_small;
 pub use store::Store;
