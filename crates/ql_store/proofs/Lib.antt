@@ -13,4 +13,3 @@ pub mod CommittedLaws
 pub mod StrongLaws
 pub mod OwnLaws
 pub mod StepLaws
-pub mod GrowthLaws

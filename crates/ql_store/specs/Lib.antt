@@ -7,4 +7,3 @@ pub mod Asking
 pub mod Obstacles
 pub mod Answering
 pub mod Conditions
-pub mod Growth

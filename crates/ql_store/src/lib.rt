@@ -8,7 +8,6 @@ mod begin;
 mod commit;
 mod committed;
 mod deliver;
-mod growth;
 mod obstacle;
 mod own;
 mod plain;
@@ -19,5 +18,4 @@ mod store;
 mod strong;
 mod view;
 
-pub use growth::runs_stay_small;
 pub use store::Store;
