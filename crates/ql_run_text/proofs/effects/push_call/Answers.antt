@@ -1,0 +1,12 @@
+use Rattle.std.proofs.Common.{◌++◌, codes, ap, ◌∙◌}
+use Rattle.ql_value.specs.Spelling.{value_text}
+use Rattle.ql_run_text.specs.EffectTexts.{values_text}
+use Rattle.ql_run_text.proofs.Printing.{call_pieces, on_ok}
+use Rattle.ql_run_text.proofs.effects.push_call.Goals as goal
+
+pub returns : goal.returns
+returns c =
+    let args = values_text c.args.args.now in
+    let answer = value_text c.args.answer.now in
+    let before = c.in_ok-push_bytes-2.ensures.ok ∙ ap (λ r. r ++ codes " = ") (c.in_ok-push_values.ensures ∙ ap (λ r. r ++ args) c.in_ok-push_bytes.ensures.ok) in
+    on_ok c.print_value.result (λ e. e ∙ ap (λ r. r ++ answer) before ∙ call_pieces c.args.out.now.items args answer) c.print_value.ensures.ok

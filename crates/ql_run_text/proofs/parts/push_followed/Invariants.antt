@@ -1,0 +1,6 @@
+use Rattle.std.proofs.Common.{◌≡◌, ◌++◌, map, take}
+use Rattle.ql_value.specs.Spelling.{followed, value_text}
+use Rattle.ql_run_text.proofs.parts.push_followed.Given as goal
+
+abbrev pub invariant-loop-value : goal.invariant-loop-value
+invariant-loop-value l = l.out.items ≡ l.initial.out.items ++ followed (map value_text (take l.value-index l.values))

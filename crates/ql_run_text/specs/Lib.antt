@@ -1,0 +1,4 @@
+pub mod NumberedLines
+pub mod EffectTexts
+pub mod ReplyTexts
+pub mod RunTexts

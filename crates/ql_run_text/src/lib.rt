@@ -1,0 +1,11 @@
+// Texts of runs: the replies to a schedule's events and the execution that they made.
+// Its one contract: each text that is made is the written one, and the files of executions are read as what was printed.
+#![tactic(auto)]
+
+mod effects;
+mod parts;
+mod replies;
+mod run;
+
+pub use effects::print_effects;
+pub use run::print_run;

@@ -1,0 +1,59 @@
+ghost use Rattle.std.specs.Prelude.{◌≡◌, ◌++◌, List, ℕ, OnOk, decimal, map};
+ghost use Rattle.ql_lines.specs.Texts.{behind};
+ghost use Rattle.ql_value.specs.Spelling.{followed, value_text};
+ghost use Rattle.ql_run_text.specs.EffectTexts.{payload_text, values_text};
+
+use ql_base::{NoMemory, push_bytes, push_number};
+use ql_exec::Payload;
+use ql_value::{Value, Values, print_value};
+
+/// Appends a text and a number behind it.
+pub(crate) fn push_decimal(out: &mut Vec<u8>, text: &[u8], number: u32) -> Result<(), NoMemory>
+    ensures { OnOk result (out.new.items ≡ out.old.items ++ (text.now ++ decimal number)) }
+{
+    push_bytes(out, text)?;
+    push_number(out, number)
+}
+
+/// Appends ids, each behind a space.
+pub(crate) fn push_ids(out: &mut Vec<u8>, ids: &[u32]) -> Result<(), NoMemory>
+    ensures { OnOk result (out.new.items ≡ out.old.items ++ behind (map decimal ids.now)) }
+{
+    for id in ids {
+        push_decimal(out, b" ", *id)?;
+    }
+    Ok(())
+}
+
+/// Appends what an effect carries.
+pub(crate) fn push_payload(out: &mut Vec<u8>, payload: &Payload) -> Result<(), NoMemory>
+    ensures { OnOk result (out.new.items ≡ out.old.items ++ payload_text payload.now) }
+{
+    match payload {
+        Payload::Nothing => push_bytes(out, b"-"),
+        Payload::Emitted(values) => push_values(out, values),
+    }
+}
+
+/// Appends values in round brackets.
+pub(crate) fn push_values(out: &mut Vec<u8>, values: &Values) -> Result<(), NoMemory>
+    ensures { OnOk result (out.new.items ≡ out.old.items ++ values_text values.now) }
+{
+    push_bytes(out, b"(")?;
+    if let Some((first, rest)) = values.items().split_first() {
+        print_value(out, first)?;
+        push_followed(out, rest)?;
+    }
+    push_bytes(out, b")")
+}
+
+// Values that follow a first one.
+fn push_followed(out: &mut Vec<u8>, values: &[Value]) -> Result<(), NoMemory>
+    ensures { OnOk result (out.new.items ≡ out.old.items ++ followed (map value_text values.now)) }
+{
+    for value in values {
+        push_bytes(out, b", ")?;
+        print_value(out, value)?;
+    }
+    Ok(())
+}
