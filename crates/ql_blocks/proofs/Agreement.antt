@@ -24,7 +24,7 @@ use Rattle.ql_blocks.proofs.Building.{There, own, slot_at, vis-to, vis-from, so-
 use Rattle.ql_blocks.proofs.Arranged.{IsArranged, part_place, so-block}
 use Rattle.ql_blocks.proofs.Closures.{hb-blocks, hbo-blocks, hb-forward, hb-less, hbo-less, is_far, Along, Near}
 
-below-found : (n : ℕ) (test : ℕ → Bool) (c : ℕ) → c < n → test c ≡ true → some_below n test ≡ true
+pub below-found : (n : ℕ) (test : ℕ → Bool) (c : ℕ) → c < n → test c ≡ true → some_below n test ≡ true
 below-found zero test c l h = absurd (omega (arith, l))
 below-found (suc n) test c l h = elim (cases_eq c n) [
   | inl same ↦ or_left (test n) _ (ap test (sym same) ∙ h)

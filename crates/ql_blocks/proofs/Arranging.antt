@@ -142,10 +142,10 @@ module _ (p : Pattern) (extra : Extra) where
       (λ r. order-upto (Ranked r) Before (λ c d s t less one other. inr (ap (rank p) one.0 ∙ one.2 ∙ sym other.2 ∙ ap (rank p) (sym other.0), inl (let e = one.0 in let f = other.0 in omega (arith, less, e, f))))
       p.count (ranked_slots p extra r) (ranked-each r) (ranked-order r)))
 
-  abbrev Placed : Slot → Type 0
+  abbrev pub Placed : Slot → Type 0
   Placed s = (s.block < p.count) × Leads p s.block × (has_part p extra s.block s.part ≡ true)
 
-  slots-placed : Each Placed (slots_of p extra)
+  pub slots-placed : Each Placed (slots_of p extra)
   slots-placed = subst (Each Placed) (sym slots-are)
       (each-upto Placed (suc p.count) (λ r. upto p.count (ranked_slots p extra r)) (λ r m.
       each-upto Placed p.count (ranked_slots p extra r) (λ c l.

@@ -5,3 +5,7 @@ pub mod Fitting
 pub mod Choosing
 pub mod OpCounters
 pub mod TxnCounters
+pub mod Loops
+pub mod Made
+pub mod Programs
+pub mod Joined

@@ -2,6 +2,17 @@
 // The one contract: the execution fits the program, what the level promises holds in it, and the contract is false.
 #![tactic(auto)]
 
+mod blocks;
+mod classes;
+mod constants;
+mod construction;
+mod counter;
+mod drafts;
+mod execution;
 mod laws;
+mod naming;
+mod places;
 
-pub use laws::satisfied_problems_have_countermodels;
+pub use construction::countermodel;
+pub use counter::{At, Counter};
+pub use laws::{satisfied_goals_fail, satisfied_problems_have_countermodels};

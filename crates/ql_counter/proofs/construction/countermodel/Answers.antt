@@ -1,0 +1,30 @@
+use Rattle.std.proofs.Common.{IfOk, refl, sym, subst, ◌∙◌}
+use Rattle.ql_lang.specs.Formulas.{resolved_of}
+use Rattle.ql_typing.specs.Operations.{op_kinds}
+use Rattle.ql_ground.specs.OfPrograms.{IsGoalOf}
+use Rattle.ql_ground.specs.declared.goal.Goal.{Goal}
+use Rattle.ql_ground.proofs.Typing.{count_types}
+use Rattle.ql_counter.specs.Countermodels.{IsBuiltOfOp, IsBuiltOfTxn, IsCounterOf, IsSatisfiedBy}
+use Rattle.ql_counter.proofs.Programs.{op_built, txn_built}
+use Rattle.ql_counter.proofs.construction.countermodel.Goals as goal
+
+pub returns-in-OpAt : goal.returns-in-OpAt
+returns-in-OpAt c =
+    let p = c.args.t.now.program in
+    let types = op_kinds p.types in
+    let f = resolved_of c.op_formula.result.now in
+    let built = subst (λ a. IfOk c.of_operation.result (IsBuiltOfOp a types f)) c.items.ensures (c.of_operation.ensures types (count_types p.types types refl ∙ sym c.ops.ensures.count)) in
+    let known = subst (IsGoalOf p) c.in-OpAt.is c.requires.goal in
+    let satisfied = subst (λ (g : Goal). IsSatisfiedBy p g c.args.a.now) c.in-OpAt.is c.requires.satisfied in
+    subst (λ (g : Goal). IfOk c.of_operation.result (IsCounterOf p g)) (sym c.in-OpAt.is)
+    (op_built p c.in-OpAt.o c.in-OpAt.field-1 f c.args.a.now c.of_operation.result c.op_formula.ensures.resolved c.op_formula.ensures.well_formed known satisfied built)
+
+pub returns-in-TxnAt : goal.returns-in-TxnAt
+returns-in-TxnAt c =
+    let p = c.args.t.now.program in
+    let types = op_kinds p.types in
+    let f = resolved_of c.txn_formula.result.now in
+    let built = subst (λ a. IfOk c.of_transaction.result (IsBuiltOfTxn a types c.in-TxnAt.d f)) c.items-in-TxnAt.ensures (c.of_transaction.ensures types (count_types p.types types refl ∙ sym c.ops-in-TxnAt.ensures.count)) in
+    let satisfied = subst (λ (g : Goal). IsSatisfiedBy p g c.args.a.now) c.in-TxnAt.is c.requires.satisfied in
+    subst (λ (g : Goal). IfOk c.of_transaction.result (IsCounterOf p g)) (sym c.in-TxnAt.is)
+    (txn_built p c.in-TxnAt.d c.in-TxnAt.field-1 f c.args.a.now c.of_transaction.result c.txn_formula.ensures.resolved c.txn_formula.ensures.well_formed satisfied built)

@@ -1,0 +1,22 @@
+use Rattle.std.proofs.Common.{length, suc, ◌+◌, ap, ◌∙◌, arith}
+use Rattle.ql_lang.specs.Formulas.{resolved_of}
+use Rattle.ql_atoms.specs.declared.atoms.PairKind.TheVariants.{SameTxn}
+use Rattle.ql_blocks.specs.Patterns.{class_of}
+use Rattle.ql_blocks.specs.Built.{built}
+use Rattle.ql_counter.specs.Assigned.{alone, begun, constant_places, pattern_of, related_by}
+use Rattle.ql_counter.proofs.Joined.{size, txn-made}
+use Rattle.ql_counter.proofs.construction.of_transaction.Goals as goal
+
+pub returns : goal.returns
+returns c = λ types e.
+    let a = c.args.a.now in
+    let n = length c.items.result.now in
+    let s = size n c.args.operations in
+    let vars = ap length c.items.ensures in
+    let run = c.class-run.ensures.value in
+    let first = c.first_current.ensures in
+    txn-made a types (resolved_of c.args.f.now) c.args.name n c.args.operations vars e
+    c.in_ok-slots.slots.items c.in_ok-slots.ensures.slots
+    c.in_ok-execution.field-0 (c.in_ok-execution.ensures ∙ ap (built (pattern_of a s (begun a s c.args.name.0))) c.deref.ensures.value)
+    (c.class-run.result + 1) (omega (arith, run) ∙ ap (λ k. suc (class_of n (related_by a s SameTxn) k)) first)
+    c.in_ok-places.field-0 (c.in_ok-places.ensures ∙ ap (λ ys. constant_places (pattern_of a s alone) ys n) c.deref-2.ensures.value)

@@ -1,0 +1,46 @@
+-- Countermodels of a program's goals.
+use Rattle.std.specs.Prelude.{ℕ, ◌≡◌, Bool, List, Some, map, slice_get}
+use Rattle.ql_base.specs.declared.ids.EffId.{EffId}
+use Rattle.ql_base.specs.declared.ids.RunId.{RunId}
+use Rattle.ql_base.specs.declared.ids.DeclId.{DeclId}
+use Rattle.ql_cnf.specs.Satisfaction.{ClauseList, Satisfies}
+use Rattle.ql_lang.specs.Formulas.{Resolved}
+use Rattle.ql_lang.specs.declared.program.Program.{Program}
+use Rattle.ql_typing.specs.Operations.{op_contracts, op_kinds, txn_contracts}
+use Rattle.ql_ground.specs.declared.goal.Goal.{Goal}
+use Rattle.ql_ground.specs.declared.goal.Goal.TheVariants.{OpAt, TxnAt}
+use Rattle.ql_ground.specs.OfPrograms.{IsProblemOf}
+use Rattle.ql_exec.specs.declared.effect.Effect.{Effect}
+use Rattle.ql_implication.specs.Countermodels.{IsCounter, IsTxnCounter}
+use Rattle.ql_counter.specs.declared.counter.Counter.{Counter}
+use Rattle.ql_counter.specs.declared.counter.At.TheVariants as at
+use Rattle.ql_counter.specs.Assigned.{op_current, op_execution, op_places, txn_current, txn_execution, txn_places}
+
+-- the assignment satisfies the goal's problem
+abbrev pub IsSatisfiedBy : Program → Goal → List Bool → Type 0
+IsSatisfiedBy p g a = (c : ClauseList) × IsProblemOf p g c × Satisfies a c
+
+-- some execution of the program is a countermodel of the goal
+abbrev pub HasCounter : Program → Goal → Type 0
+HasCounter p (OpAt o level) =
+    (f : Resolved) × (slice_get (op_contracts p.types) o.0 ≡ Some f) × (x : List Effect) × (cur : ℕ) × (places : List ℕ) × IsCounter (op_kinds p.types) o.0 level f x cur places
+HasCounter p (TxnAt d level) =
+    (f : Resolved) × (slice_get (txn_contracts p) d.0 ≡ Some f) × (x : List Effect) × (run : ℕ) × (places : List ℕ) × IsTxnCounter (op_kinds p.types) d.0 level f x run places
+
+-- the numbers of some effects
+abbrev pub numbers : List EffId → List ℕ
+numbers ids = map (λ (id : EffId). id.0) ids
+
+-- it is a countermodel of the goal
+abbrev pub IsCounterOf : Program → Goal → Counter → Type 0
+IsCounterOf p (OpAt o level) c =
+    (f : Resolved) × (slice_get (op_contracts p.types) o.0 ≡ Some f) × (cur : EffId) × (c.at ≡ at.Effect cur) × IsCounter (op_kinds p.types) o.0 level f c.execution cur.0 (numbers c.places)
+IsCounterOf p (TxnAt d level) c =
+    (f : Resolved) × (slice_get (txn_contracts p) d.0 ≡ Some f) × (run : RunId) × (c.at ≡ at.Run run) × IsTxnCounter (op_kinds p.types) d.0 level f c.execution run.0 (numbers c.places)
+
+-- ---- what is built of an assignment
+abbrev pub IsBuiltOfOp : List Bool → List ℕ → Resolved → Counter → Type 0
+IsBuiltOfOp a types f c = (c.execution ≡ op_execution a types f) × (c.at ≡ at.Effect (record { 0 = op_current a types f })) × (numbers c.places ≡ op_places a types f)
+
+abbrev pub IsBuiltOfTxn : List Bool → List ℕ → DeclId → Resolved → Counter → Type 0
+IsBuiltOfTxn a types name f c = (c.execution ≡ txn_execution a types name.0 f) × (c.at ≡ at.Run (record { 0 = txn_current a types f })) × (numbers c.places ≡ txn_places a types name.0 f)
