@@ -1,0 +1,7 @@
+// The events of a schedule, one after another, through a store.
+// The one contract: what a store makes of a schedule, and its replies, are the written machine's run.
+#![tactic(auto)]
+
+mod run;
+
+pub use run::{Run, run_schedule};

@@ -1,0 +1,59 @@
+ghost use Rattle.std.specs.Prelude.{◌≡◌, All, IfOk, length};
+ghost use Rattle.ql_eval.specs.Folds.{answered_of};
+ghost use Rattle.ql_machine.specs.Rules.{Rules};
+ghost use Rattle.ql_machine.specs.Runs.{IsRun};
+ghost use Rattle.ql_schedule.specs.Guarantees.{IsSchedule};
+ghost use Rattle.ql_store.specs.Levels.{HasLevelOfEach, promises_of, uses_of};
+ghost use Rattle.ql_runs.specs.Keeping.{FitsSchedule, IsMade};
+
+use ql_base::{Names, NoMemory};
+use ql_eval::TypedFolder;
+use ql_holder::Holder;
+use ql_levels::Levels;
+use ql_machine::Reply;
+use ql_schedule::Schedule;
+use ql_store::Store;
+use ql_typing::Typed;
+use std::alloc::Global;
+
+/// A store after the events of a schedule, with the reply to each and the names of the objects.
+#[derive(Drop)]
+pub struct Run<H: Holder> {
+    pub store: Store<H>,
+    pub replies: Vec<Reply>,
+    pub objects: Names,
+}
+
+/// A new store at these levels goes through the events of a schedule.
+///
+/// Each reply and the last state are the written machine's, with answers by folding what is seen (`run`).
+/// Each effect is of an operation of its object's type (`fits`), and a reply names an effect that is there
+/// (`answered`).
+pub fn run_schedule<H: Holder>(
+    alloc: Global,
+    typed: &Typed,
+    levels: Levels,
+    schedule: Schedule,
+) -> Result<Run<H>, NoMemory>
+    requires levels { HasLevelOfEach typed.now.program levels }
+    requires schedule { IsSchedule typed.now.program schedule }
+    ensures run { IfOk result (λ run. (rules : Rules) → rules.promises ≡ promises_of levels → rules.uses ≡ uses_of typed.now.program
+        → rules.answer ≡ (λ op args seen. answered_of typed.now.program.types op.0 args seen) → IsRun rules schedule.replicas schedule.events run.replies.items run.store.machine) }
+    ensures levels { IfOk result (λ run. run.store.levels ≡ levels) }
+    ensures objects { IfOk result (λ run. run.objects ≡ schedule.objects) }
+    ensures fits { IfOk result (λ run. All (FitsSchedule typed.now.program (length schedule.objects) schedule.kinds) run.store.machine.effects) }
+    ensures answered { IfOk result (λ run. All (IsMade (length run.store.machine.effects)) run.replies.items) }
+{
+    let folder = TypedFolder::new(alloc, typed);
+    let mut store = Store::new(alloc, schedule.replicas, levels)?;
+    let mut replies = Vec::new(alloc);
+    for event in schedule.events.into_items() {
+        let reply = store.step(event, typed, &folder)?;
+        replies.push(reply)?;
+    }
+    Ok(Run {
+        store,
+        replies,
+        objects: schedule.objects,
+    })
+}
