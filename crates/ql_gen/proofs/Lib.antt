@@ -1,0 +1,3 @@
+mod EventLaws
+mod Numbers
+mod ObjectLaws

@@ -1,0 +1,27 @@
+-- The schedule of a number.
+use Rattle.std.specs.Prelude.{ℕ, zero, suc, List, [], ◌∷◌, ◌++◌, length}
+use Rattle.ql_lang.specs.declared.program.Program.{Program}
+use Rattle.ql_machine.specs.declared.event.Event.{Event}
+use Rattle.ql_schedule.specs.declared.schedule.Schedule.{Schedule}
+use Rattle.ql_gen.specs.Events.{after_event, event_of}
+use Rattle.ql_gen.specs.Objects.{object_kinds, object_names}
+
+module _ (p : Program) (number : ℕ) where
+  -- the state before the event that follows so many
+  unfoldable pub state_after : ℕ → ℕ
+  state_after zero = number
+  state_after (suc n) = after_event p (state_after n)
+
+  -- the first events
+  unfoldable pub generated_events : ℕ → List Event
+  generated_events zero = []
+  generated_events (suc n) = generated_events n ++ event_of p (suc n) (state_after n) ∷ []
+
+  -- so many events at three replicas, on two objects of each type
+  abbrev pub generated : ℕ → Schedule
+  generated n = record {
+    replicas = 3;
+    objects = object_names (length p.types);
+    kinds = object_kinds (length p.types);
+    events = generated_events n;
+  }

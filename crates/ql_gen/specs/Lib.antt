@@ -1,0 +1,4 @@
+pub mod Draws
+pub mod Objects
+pub mod Events
+pub mod Generated
