@@ -13,7 +13,7 @@ use Rattle.ql_machine.specs.declared.message.Message.{Message}
 use Rattle.ql_machine.specs.declared.reply.Reply.{Reply}
 use Rattle.ql_machine.specs.State.{Machine, empty, replicas}
 use Rattle.ql_machine.specs.Rules.{Rules}
-use Rattle.ql_machine.specs.Runs.{Leads, step, stop}
+use Rattle.ql_machine.specs.Runs.{IsRun, Leads, step, stop}
 use Rattle.ql_machine.specs.Steps.{IsStep}
 use Rattle.ql_schedule.specs.Guarantees.{FitsEvent, IsSchedule}
 use Rattle.ql_schedule.specs.declared.schedule.Schedule.{Schedule}
@@ -147,3 +147,34 @@ module _ (p : Program) (levels : LevelLists) (schedule : Schedule) (each : HasLe
   pub going-ends : (replies : List Reply) (held : LevelLists) (s : Machine) → IsGoing p levels schedule [] replies held s
       → (rules : Rules) → AreRulesOf p levels rules → Leads rules (empty schedule.replicas) schedule.events replies s
   going-ends replies held s going rules are = subst (λ (events : List Event). Leads rules (empty schedule.replicas) events replies s) (sym (going.parts ∙ append-nil going.done)) (going.leads rules are)
+
+-- ---- along any run
+
+-- rules with the same parts are the same
+same-rules : (p : Program) (levels : LevelLists) (rules : Rules) → AreRulesOf p levels rules → own_rules p levels ≡ rules
+same-rules p levels rules are = λ i. record { promises = sym are.promises i; uses = sym are.uses i; answer = sym are.answer i }
+
+module _ (p : Program) (levels : LevelLists) (schedule : Schedule) (each : HasLevelOfEach p levels) (is : IsSchedule p schedule) (fit : AnswersFit p.types) where
+  going-along : (left : List Event) (s : Machine) (events : List Event) (replies : List Reply) (t : Machine) → Leads (own_rules p levels) s events replies t
+      → (before : List Reply) → IsGoing p levels schedule (events ++ left) before levels s → (after : List Reply) × IsGoing p levels schedule left after levels t
+  going-along left _ _ _ _ (stop s) before going = (before, going)
+  going-along left _ _ _ _ (step s e next r events replies last once rest) before going =
+      going-along left next events replies last rest (before ++ r ∷ [])
+      (going-on p levels schedule each is e (events ++ left) before levels s going next levels r fit refl
+      (λ rules promises uses answer.
+      subst (λ (k : Rules). IsStep k s e next r) (same-rules p levels rules (record { promises = promises; uses = uses; answer = answer })) once))
+
+pub can-go : (p : Program) (levels : LevelLists) (s : Schedule) → HasLevelOfEach p levels → IsSchedule p s → AnswersFit p.types
+    → (rules : Rules) → rules.promises ≡ promises_of levels → rules.uses ≡ uses_of p → rules.answer ≡ (λ op args seen. answered_of p.types op.0 args seen)
+    → (done left : List Event) (event : Event) (replies : List Reply) (last : Machine) → s.events ≡ done ++ event ∷ left → IsRun rules s.replicas done replies last
+    → IsInRange (length last.received) levels event × HasRoom last × IsAnswerable (λ op args effects. IsAble p.types op.0 args effects) last.effects event
+can-go p levels s each is fit rules promises uses answer done left event replies last parts run =
+    let own : Leads (own_rules p levels) (empty s.replicas) done replies last =
+    subst (λ (k : Rules). Leads k (empty s.replicas) done replies last) (sym (same-rules p levels rules (record { promises = promises; uses = uses; answer = answer }))) run in
+    let start : IsGoing p levels s (done ++ event ∷ left) [] levels (empty s.replicas) =
+    subst (λ (events : List Event). IsGoing p levels s events [] levels (empty s.replicas)) parts (going-starts p levels s each is) in
+    let now = going-along p levels s each is fit (event ∷ left) (empty s.replicas) done replies last own [] start in (
+      going-range p levels s each is event left now.0 levels last now.1,
+      going-room p levels s each is event left now.0 levels last now.1,
+      going-able p levels s each is event left now.0 levels last now.1,
+    )

@@ -2,6 +2,8 @@
 // The one contract: what a store makes of a schedule, and its replies, are the written machine's run.
 #![tactic(auto)]
 
+mod law;
 mod run;
 
+pub use law::events_can_be_answered;
 pub use run::{Run, run_schedule};
