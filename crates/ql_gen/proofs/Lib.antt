@@ -1,3 +1,4 @@
 mod EventLaws
+mod Lawful
 mod Numbers
 mod ObjectLaws

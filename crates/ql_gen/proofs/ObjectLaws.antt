@@ -94,7 +94,7 @@ module _ (i : ℕ) (few : i < 16) (names new : List (List ℕ)) (w : List ℕ) (
 
 -- ---- the first objects
 
-abbrev AreBelow : List ℕ → ℕ → Type 0
+abbrev pub AreBelow : List ℕ → ℕ → Type 0
 AreBelow [] n = Unit {0}
 AreBelow (a ∷ ids) n = (a < n) × AreBelow ids n
 
@@ -106,7 +106,7 @@ below_more : (ids : List ℕ) (id n : ℕ) → id < n → AreBelow ids id → Ar
 below_more [] id n less below = (less, tt)
 below_more (a ∷ ids) id n less below = (let first : a < id = below.0 in omega (arith, less, first), below_more ids id n less below.1)
 
-first_below : (n : ℕ) → AreBelow (first_objects n) (2 * n)
+pub first_below : (n : ℕ) → AreBelow (first_objects n) (2 * n)
 unfolding first_objects
 first_below zero = tt
 first_below (suc i) = below_more (first_objects i) (2 * i) (2 * suc i) (omega arith) (first_below i)

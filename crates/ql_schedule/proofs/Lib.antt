@@ -9,4 +9,4 @@ mod EventsAgain
 mod FileAgain
 mod Printing
 mod NoEvents
-mod Named
+pub mod Named
