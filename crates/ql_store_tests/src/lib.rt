@@ -1,0 +1,10 @@
+// Tests of a store by worked schedules: each event and each reply to it, at replicas of both bodies.
+// It has no contract of its own, and nothing stands on this crate.
+#![tactic(auto)]
+
+#[cfg(test)]
+mod levels;
+#[cfg(test)]
+mod replies;
+#[cfg(test)]
+mod worked;
