@@ -16,7 +16,7 @@ use std::alloc::Global;
 
 /// What the line of an effect tells, apart from its number.
 #[derive(Drop)]
-pub(crate) struct EffectLine {
+pub struct EffectLine {
     pub object: Word,
     pub op: Word,
     pub args: Values,

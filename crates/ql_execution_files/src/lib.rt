@@ -11,6 +11,10 @@ mod report_fault;
 mod setting;
 mod told;
 
+// The grammar of these files is in terms of the types beside `ReportFault`.
+pub use effect_line::EffectLine;
 pub use law::one_execution;
 pub use parse::parse_execution;
-pub use report_fault::ReportFault;
+pub use report_fault::{LineFault, ReportFault};
+pub use setting::{Begun, Setting};
+pub use told::Told;

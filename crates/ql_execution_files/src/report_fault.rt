@@ -30,7 +30,7 @@ pub enum ReportFault {
 
 /// Why a line may not follow what was read.
 #[derive(Clone, Copy)]
-pub(crate) enum LineFault {
+pub enum LineFault {
     Unexpected,
     Unknown,
     Mixed,

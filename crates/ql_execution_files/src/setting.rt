@@ -9,14 +9,14 @@ use std::alloc::Global;
 
 /// A begun transaction, by its number and its declared name.
 #[derive(Clone, Copy)]
-pub(crate) struct Begun {
+pub struct Begun {
     pub run: u32,
     pub name: Word,
 }
 
 /// Where an effect was made, and what it sees.
 #[derive(Drop)]
-pub(crate) struct Setting {
+pub struct Setting {
     pub session: u32,
     pub txn: Option<Begun>,
     pub stamp: u32,

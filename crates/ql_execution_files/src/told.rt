@@ -29,7 +29,7 @@ use ql_typing::Typed;
 
 /// The effects that lines tell, and the names of their objects, numbered by first occurrence.
 #[derive(Drop)]
-pub(crate) struct Told {
+pub struct Told {
     pub objects: Names,
     pub effects: Execution,
 }

@@ -1,0 +1,228 @@
+-- the fields of a line are read as they are written
+use Rattle.std.proofs.Common.{◌≡◌, ℕ, zero, suc, ◌<◌, ◌≤◌, ◌+◌, ◌^◌, Bool, true, false, List, [], ◌∷◌, ◌++◌, All, Ok, get_or, length, map, replicate, decimal, codes, pos, negsuc, arith, refl, ap, sym, subst, ◌∙◌, append_assoc}
+use Rattle.std.proofs.lemmas.List.{append-nil}
+use Rattle.std.proofs.lemmas.List.Splits.{slice_split-cons_no, slice_split-cons_yes}
+use Rattle.std.proofs.lemmas.Bool.Decides.{nat_tests}
+use Rattle.std.specs.Fmt.{signed_decimal}
+use Rattle.std.specs.List.{AllByRecursion, AllPass, filter, slice_split}
+use Rattle.ql_base.specs.Bytes.{begins, is_digit, is_name_byte, is_text_byte}
+use Rattle.ql_base.specs.Names.{IsName}
+use Rattle.ql_lines.specs.Fields.{Fields, FirstField, fields_of, is_space, isn't_empty}
+use Rattle.ql_lines.specs.Texts.{behind, joined}
+use Rattle.ql_lines.proofs.FieldLaws.{behind_space}
+use Rattle.ql_value.specs.declared.scalar.Scalar.{Scalar}
+use Rattle.ql_value.specs.declared.scalar.Scalar.TheVariants.{Int, Bool as Truth, Text}
+use Rattle.ql_value.specs.declared.value.Value.{Value}
+use Rattle.ql_value.specs.declared.value.Value.TheVariants.{Unit as Nothing, Int as Number, Bool as TruthValue, Text as TextValue, Set, Map}
+use Rattle.ql_value.specs.Spelling.{bool_text, entry_text, followed, quoted, scalar_text, separated, value_text}
+use Rattle.ql_value.specs.Texts.{IsText}
+use Rattle.ql_value.specs.ValueGrammar.{IsEntry, IsScalar, IsValue, ReadsMore}
+use Rattle.ql_value.proofs.ValueLaws.{printed_again}
+use Rattle.ql_execution_files.specs.Parts.{FieldAt, ItemsAt, ValueAt, ValuesAt, ends_field}
+use Rattle.ql_run_text.specs.EffectTexts.{values_text}
+use Rattle.ql_printed_runs.proofs.LinesAgain.{IsDigitByte, Stay, StaysIn, decimal_bytes, decimal_some, decimal_stay, stay_both, stays_of}
+
+-- ---- fields without spaces
+
+abbrev pub HasNoSpace : List ℕ → Type 0
+HasNoSpace bs = AllByRecursion (λ b. is_space b ≡ false) bs
+
+pub record IsOneField (f : List ℕ) : Type 0 where
+  pub some : 0 < length f
+  pub no_space : HasNoSpace f
+
+no_space_of : (b : ℕ) → 33 ≤ b → is_space b ≡ false
+no_space_of b low = grind (arith, nat_tests, low)
+
+kept : (f : List ℕ) (parts : List (List ℕ)) → 0 < length f → filter isn't_empty (f ∷ parts) ≡ f ∷ filter isn't_empty parts
+kept [] parts some = absurd (omega (arith, some))
+kept (b ∷ bs) parts some = grind arith
+
+part_before : (xs ys : List ℕ) → HasNoSpace xs → slice_split is_space (xs ++ 32 ∷ ys) ≡ xs ∷ slice_split is_space ys
+part_before [] ys h = slice_split-cons_yes is_space 32 ys refl
+part_before (x ∷ xs) ys h = slice_split-cons_no is_space x (xs ++ 32 ∷ ys) h.0 ∙ rw (part_before xs ys h.1) refl
+
+whole_part : (xs : List ℕ) → HasNoSpace xs → slice_split is_space xs ≡ xs ∷ []
+whole_part [] h = refl
+whole_part (x ∷ xs) h = slice_split-cons_no is_space x xs h.0 ∙ rw (whole_part xs h.1) refl
+
+pub field_before : (f : List ℕ) (fs : Fields) → IsOneField f → fields_of (f ++ behind fs) ≡ f ∷ fields_of (behind fs)
+unfolding behind
+field_before f [] h = ap fields_of (append-nil f) ∙ ap (filter isn't_empty) (whole_part f h.no_space) ∙ kept f [] h.some
+field_before f (g ∷ gs) h =
+    ap (filter isn't_empty) (part_before f (g ++ behind gs) h.no_space) ∙ kept f (slice_split is_space (g ++ behind gs)) h.some
+    ∙ ap (λ r. f ∷ r) (sym (behind_space 32 (g ++ behind gs) refl))
+
+field_behind : (f : List ℕ) (fs : Fields) → IsOneField f → fields_of (behind (f ∷ fs)) ≡ f ∷ fields_of (behind fs)
+unfolding behind
+field_behind f fs h = behind_space 32 (f ++ behind fs) refl ∙ field_before f fs h
+
+no_fields : fields_of (behind []) ≡ []
+unfolding behind
+no_fields = refl
+
+pub fields_behind : (fs : Fields) → AllByRecursion IsOneField fs → fields_of (behind fs) ≡ fs
+fields_behind [] h = no_fields
+fields_behind (f ∷ fs) h = field_behind f fs h.0 ∙ ap (λ r. f ∷ r) (fields_behind fs h.1)
+
+-- the first field of a line, and one behind others
+pub first_field : (f : List ℕ) (fs : Fields) → IsOneField f → FirstField (f ++ behind fs) f (behind fs)
+first_field f fs h = record { fields = field_before f fs h; spaces = 0; stands = refl }
+
+pub next_field : (f : List ℕ) (fs : Fields) → IsOneField f → FirstField (behind (f ∷ fs)) f (behind fs)
+unfolding behind
+next_field f fs h = record { fields = field_behind f fs h; spaces = 1; stands = refl }
+
+ends_here : (fs : Fields) → ends_field (behind fs) ≡ true
+unfolding behind
+ends_here [] = refl
+ends_here (f ∷ fs) = refl
+
+-- a part of any kind as a field behind others
+pub part_field : {X : Type 0} (PartAt : X → List ℕ → List ℕ → Type 0) (x : X) (f : List ℕ) (fs : Fields) → PartAt x (f ++ behind fs) (behind fs) → FieldAt PartAt x (behind (f ∷ fs)) (behind fs)
+unfolding behind
+part_field PartAt x f fs part = record { gap = 1; start = f ++ behind fs; spaces = refl; part = part; ended = ends_here fs }
+
+-- ---- words, numbers and names
+
+digits_no_space : (ds : List ℕ) → AllByRecursion IsDigitByte ds → HasNoSpace ds
+digits_no_space [] h = tt
+digits_no_space (d ∷ ds) h = (no_space_of d (omega (arith, h.0.0)), digits_no_space ds h.1)
+
+pub number_field : (n : ℕ) → IsOneField (decimal n)
+number_field n = record { some = decimal_some n; no_space = digits_no_space (decimal n) (decimal_bytes n) }
+
+name_low : (b : ℕ) → is_name_byte b ≡ true → 33 ≤ b
+unfolding is_name_byte
+name_low b h = grind (arith, nat_tests, h)
+
+-- bytes that are all so high
+abbrev pub AllFrom : ℕ → List ℕ → Type 0
+AllFrom low bs = AllByRecursion (λ b. low ≤ b) bs
+
+pub each_byte : (P Q : ℕ → Type 0) → ((b : ℕ) → P b → Q b) → (bs : List ℕ) → AllByRecursion P bs → AllByRecursion Q bs
+each_byte P Q f [] h = tt
+each_byte P Q f (b ∷ bs) h = (f b h.0, each_byte P Q f bs h.1)
+
+from_each : (P : ℕ → Type 0) (bs : List ℕ) → ((k : ℕ) → k < length bs → P (get_or bs k 0)) → AllByRecursion P bs
+from_each P [] h = tt
+from_each P (b ∷ bs) h = (h 0 (omega arith), from_each P bs (λ k lt. h (suc k) (omega (arith, lt))))
+
+pub name_bytes : (w : List ℕ) → IsName w → AllFrom 33 w
+name_bytes w n = from_each (λ b. 33 ≤ b) w (λ k lt. name_low (get_or w k 0) (n.shape.all k 0 lt))
+
+pub name_field : (w : List ℕ) → IsName w → IsOneField w
+name_field w n = record { some = n.shape.some; no_space = each_byte (λ b. 33 ≤ b) (λ b. is_space b ≡ false) no_space_of w (name_bytes w n) }
+
+pub high_stay : (bs : List ℕ) → AllFrom 33 bs → Stay bs
+high_stay bs h = each_byte (λ b. 33 ≤ b) StaysIn (λ b low. stays_of b (omega (arith, low))) bs h
+
+pub no_space_both : (xs ys : List ℕ) → HasNoSpace xs → HasNoSpace ys → HasNoSpace (xs ++ ys)
+no_space_both [] ys h k = k
+no_space_both (x ∷ xs) ys h k = (h.0, no_space_both xs ys h.1 k)
+
+pub txn_field : (n : ℕ) (w : List ℕ) → IsName w → IsOneField (decimal n ++ 58 ∷ w)
+txn_field n w is = record {
+  some = more (decimal n) (58 ∷ w) (decimal_some n);
+  no_space = no_space_both (decimal n) (58 ∷ w) (number_field n).no_space (refl, (name_field w is).no_space);
+}
+  where
+    more : (xs ys : List ℕ) → 0 < length xs → 0 < length (xs ++ ys)
+    more [] ys h = absurd (omega (arith, h))
+    more (x ∷ xs) ys h = omega arith
+
+-- ---- values
+
+behind_digit : (fs : Fields) → begins is_digit (behind fs) ≡ false
+unfolding behind is_digit
+behind_digit [] = refl
+behind_digit (f ∷ fs) = refl
+
+pub value_part : (v : Value) (fs : Fields) → IsValue v → ValueAt v (value_text v ++ behind fs) (behind fs)
+value_part v fs fits = printed_again v (behind fs) fits (behind_digit fs)
+
+more_digit : (ts : List (List ℕ)) (rest : List ℕ) → begins is_digit (followed ts ++ 41 ∷ rest) ≡ false
+unfolding is_digit
+more_digit [] rest = refl
+more_digit (t ∷ ts) rest = refl
+
+more_values : (vs : List Value) (rest : List ℕ) → AllByRecursion IsValue vs → ReadsMore ValueAt vs (followed (map value_text vs) ++ 41 ∷ rest) (41 ∷ rest)
+more_values [] rest h = refl
+more_values (v ∷ vs) rest h =
+    let more = followed (map value_text vs) ++ 41 ∷ rest in record {
+      gap = 1;
+      start = value_text v ++ more;
+      behind = more;
+      comma = ap (λ t. 44 ∷ 32 ∷ t) (append_assoc (value_text v) (followed (map value_text vs)) (41 ∷ rest));
+      item = printed_again v more h.0 (more_digit (map value_text vs) rest);
+      next = more_values vs rest h.1;
+    }
+
+values_at : (vs : List Value) (rest : List ℕ) → AllByRecursion IsValue vs → ValuesAt vs (values_text vs ++ rest) rest
+values_at [] rest h = refl
+values_at (v ∷ vs) rest h =
+    let texts = followed (map value_text vs) in
+    let more = texts ++ 41 ∷ rest in (
+      value_text v ++ more,
+      ap (λ t. 40 ∷ t) (append_assoc (value_text v ++ texts) (41 ∷ []) rest ∙ append_assoc (value_text v) texts (41 ∷ rest)),
+      (more, printed_again v more h.0 (more_digit (map value_text vs) rest), more_values vs rest h.1),
+    )
+
+pub values_part : (vs : List Value) (fs : Fields) → AllByRecursion IsValue vs → ValuesAt vs (values_text vs ++ behind fs) (behind fs)
+values_part vs fs h = values_at vs (behind fs) h
+
+-- ---- no value ends a line
+
+text_low : (b : ℕ) → is_text_byte b ≡ true → 14 ≤ b
+unfolding is_text_byte
+text_low b h = grind (arith, nat_tests, h)
+
+quoted_stay : (t : List ℕ) → IsText t → Stay (quoted t)
+quoted_stay t is = (stays_of 34 (omega arith), stay_both t (34 ∷ []) (from_each StaysIn t (λ k lt. stays_of (get_or t k 0) (text_low (get_or t k 0) (is.plain k 0 lt)))) (stays_of 34 (omega arith), tt))
+
+signed_stay : (n : ℕ) → Stay (45 ∷ decimal n)
+signed_stay n = (stays_of 45 (omega arith), decimal_stay n)
+
+bool_stay : (b : Bool) → Stay (bool_text b)
+bool_stay true = (stays_of 116 (omega arith), (stays_of 114 (omega arith), (stays_of 117 (omega arith), (stays_of 101 (omega arith), tt))))
+bool_stay false = (stays_of 102 (omega arith), (stays_of 97 (omega arith), (stays_of 108 (omega arith), (stays_of 115 (omega arith), (stays_of 101 (omega arith), tt)))))
+
+scalar_stay : (s : Scalar) → IsScalar s → Stay (scalar_text s)
+scalar_stay (Int (pos n)) h = decimal_stay n
+scalar_stay (Int (negsuc n)) h = signed_stay (suc n)
+scalar_stay (Truth b) h = bool_stay b
+scalar_stay (Text t) h = quoted_stay t h
+
+entry_stay : (e : Scalar × Scalar) → IsEntry e → Stay (entry_text e)
+entry_stay e h =
+    stay_both (scalar_text e.0 ++ codes ": ") (scalar_text e.1) (stay_both (scalar_text e.0) (codes ": ") (scalar_stay e.0 h.0) (stays_of 58 (omega arith), (stays_of 32 (omega arith), tt))) (scalar_stay e.1 h.1)
+
+module _ {X : Type 0} (P : X → Type 0) (text : X → List ℕ) (stays : (x : X) → P x → Stay (text x)) where
+  followed_stay : (xs : List X) → AllByRecursion P xs → Stay (followed (map text xs))
+  followed_stay [] h = tt
+  followed_stay (x ∷ xs) h = (stays_of 44 (omega arith), (stays_of 32 (omega arith), stay_both (text x) (followed (map text xs)) (stays x h.0) (followed_stay xs h.1)))
+
+  separated_stay : (xs : List X) → AllByRecursion P xs → Stay (separated (map text xs))
+  separated_stay [] h = tt
+  separated_stay (x ∷ xs) h = stay_both (text x) (followed (map text xs)) (stays x h.0) (followed_stay xs h.1)
+
+by_recursion : {X : Type 0} (P : X → Type 0) (xs : List X) → All P xs → AllByRecursion P xs
+by_recursion P [] h = tt
+by_recursion P (x ∷ xs) h = (h 0 x (omega arith), by_recursion P xs (λ k d lt. h (suc k) d (omega (arith, lt))))
+
+closed_stay : (b : ℕ) (inner : List ℕ) (c : ℕ) → 14 ≤ b → 14 ≤ c → Stay inner → Stay (b ∷ inner ++ c ∷ [])
+closed_stay b inner c low high h = (stays_of b low, stay_both inner (c ∷ []) h (stays_of c high, tt))
+
+pub value_stay : (v : Value) → IsValue v → Stay (value_text v)
+value_stay Nothing h = (stays_of 117 (omega arith), (stays_of 110 (omega arith), (stays_of 105 (omega arith), (stays_of 116 (omega arith), tt))))
+value_stay (Number (pos n)) h = decimal_stay n
+value_stay (Number (negsuc n)) h = signed_stay (suc n)
+value_stay (TruthValue b) h = bool_stay b
+value_stay (TextValue t) h = quoted_stay t h
+value_stay (Set s) h = closed_stay 123 (separated (map scalar_text s)) 125 (omega arith) (omega arith) (separated_stay IsScalar scalar_text scalar_stay s (by_recursion IsScalar s h.1))
+value_stay (Map []) h = (stays_of 123 (omega arith), (stays_of 58 (omega arith), (stays_of 125 (omega arith), tt)))
+value_stay (Map (e ∷ m)) h =
+    closed_stay 123 (separated (map entry_text (e ∷ m))) 125 (omega arith) (omega arith) (separated_stay IsEntry entry_text entry_stay (e ∷ m) (by_recursion IsEntry (e ∷ m) h.1))
+
+pub values_stay : (vs : List Value) → AllByRecursion IsValue vs → Stay (values_text vs)
+values_stay vs h = closed_stay 40 (separated (map value_text vs)) 41 (omega arith) (omega arith) (separated_stay IsValue value_text value_stay vs h)

@@ -1,0 +1,7 @@
+mod LinesAgain
+mod FieldsAgain
+mod EffectAgain
+mod Numbers
+mod Renumbering
+mod ExecutionAgain
+mod RunAgain

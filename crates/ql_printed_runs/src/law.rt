@@ -1,0 +1,17 @@
+ghost use Rattle.std.specs.Prelude.{List, ℕ};
+ghost use Rattle.ql_exec.specs.declared.effect.Effect.{Effect};
+ghost use Rattle.ql_execution_files.specs.ExecutionFile.{IsExecutionFile};
+ghost use Rattle.ql_lang.specs.declared.program.Program.{Program};
+ghost use Rattle.ql_levels.specs.Lists.{LevelLists};
+ghost use Rattle.ql_lines.specs.Lines.{ahead_from};
+ghost use Rattle.ql_machine.specs.declared.reply.Reply.{Reply};
+ghost use Rattle.ql_run_text.specs.RunTexts.{run_text};
+ghost use Rattle.ql_printed_runs.specs.Printable.{IsPrintable};
+ghost use Rattle.ql_printed_runs.specs.Renumbered.{IsRenumbered};
+
+/// The text of a run is a file of an execution, and says the run's own: it is read with objects numbered by their
+/// first occurrence, and is the same in all else.
+pub fn printed_runs_are_read_again()
+    ensures { (p : Program) (objects : List (List ℕ)) (levels : LevelLists) (replies : List Reply) (x : List Effect) → IsPrintable p objects x
+        → (y : List Effect) × IsRenumbered x y × IsExecutionFile p (ahead_from 1 (run_text p objects levels replies x)) y }
+{}
