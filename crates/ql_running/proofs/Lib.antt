@@ -1,0 +1,2 @@
+mod OfRuns
+mod Saying

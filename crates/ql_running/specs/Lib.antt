@@ -1,0 +1,3 @@
+pub mod ScheduleFaults
+pub mod Soundness
+pub mod Runs

@@ -1,0 +1,11 @@
+// The command that runs a schedule through a store of a source's program, from the bytes of both files to its text.
+// The one contract: the text is the run's, and the execution that it shows meets every contract of the source.
+#![tactic(auto)]
+
+mod law;
+mod refusal;
+mod running;
+mod schedule_fault;
+
+pub use law::runs_are_sound;
+pub use running::run;

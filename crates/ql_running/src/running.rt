@@ -1,0 +1,69 @@
+ghost use Rattle.std.specs.Prelude.{◌<◌, ◌^◌, ℕ, List, length, IfOk};
+ghost use Rattle.ql_commands.specs.Sources.{IsSourceOf};
+ghost use Rattle.ql_commands.specs.Levels.{AreLevelsOf};
+ghost use Rattle.ql_lines.specs.Lines.{ahead_from};
+ghost use Rattle.ql_schedule.specs.Files.{IsScheduleFile};
+ghost use Rattle.ql_schedule.specs.Guarantees.{IsSchedule};
+ghost use Rattle.ql_running.specs.Runs.{RunSays, TellsRun};
+
+use crate::law::runs_are_sound;
+use crate::refusal::refusal;
+use crate::schedule_fault::bad_schedule;
+use ql_base::NoMemory;
+use ql_commands::{Answer, bad_source, read_source};
+use ql_levels::Levels;
+use ql_replica::Replica;
+use ql_run_text::print_run;
+use ql_runs::run_schedule;
+use ql_schedule::{Schedule, one_schedule, parse_schedule};
+use ql_typing::Typed;
+use std::alloc::Global;
+
+/// The run of a schedule through a store of a source's program at the least levels, or what is wrong first: a fault of
+/// the source, one of the schedule, or why the program has no such levels.
+pub fn run(alloc: Global, source: &[u8], schedule: &[u8]) -> Result<(Answer, Vec<u8>), NoMemory>
+    requires { length source.now < 2 ^ 32 }
+    ensures { IfOk result (λ answer. RunSays source.now schedule.now answer.0 answer.1.items) }
+{
+    one_schedule();
+    let typed = match read_source(alloc, source) {
+        Ok(typed) => typed,
+        Err(fault) => return Ok((Answer::Bad, bad_source(alloc, fault)?)),
+    };
+    let schedule = match parse_schedule(alloc, &typed, schedule) {
+        Ok(schedule) => schedule,
+        Err(fault) => return Ok((Answer::Bad, bad_schedule(alloc, fault)?)),
+    };
+    match ql_classify::classify(alloc, &typed) {
+        Ok(classified) => Ok((
+            Answer::Done,
+            run_text(alloc, &typed, classified.levels(), schedule)?,
+        )),
+        Err(why) => Ok((Answer::No, refusal(alloc, &typed, why)?)),
+    }
+}
+
+// The text of a schedule's run at these levels, which shows it to whoever reads the program and the schedule in two files.
+fn run_text(
+    alloc: Global,
+    t: &Typed,
+    levels: &Levels,
+    schedule: Schedule,
+) -> Result<Vec<u8>, NoMemory>
+    requires levels { AreLevelsOf t.now.program levels.now }
+    requires schedule { IsSchedule t.now.program schedule }
+    ensures { IfOk result (λ text. (source file : List ℕ) → IsSourceOf source t.now.program → IsScheduleFile t.now.program (ahead_from 1 file) schedule
+        → TellsRun source file text.items) }
+{
+    runs_are_sound();
+    let same = levels.copy(alloc)?;
+    let run = run_schedule::<Replica>(alloc, t, same, schedule)?;
+    print_run(
+        alloc,
+        t,
+        &run.objects,
+        levels,
+        &run.replies,
+        run.store.execution(),
+    )
+}
