@@ -11,7 +11,7 @@ ghost use Rattle.ql_levels.specs.Lists.{LevelLists};
 ghost use Rattle.ql_typing.specs.Operations.{op_contracts, op_kinds, txn_contracts};
 ghost use Rattle.ql_commands.specs.Levels.{AreLevelsOf};
 ghost use Rattle.ql_implied.specs.Commands.{AreEnough};
-ghost use Rattle.ql_implied.specs.Executions.{FitsProgram};
+ghost use Rattle.ql_implication.specs.Executions.{FitsProgram};
 ghost use Rattle.ql_machine.specs.declared.event.Event.{Event};
 ghost use Rattle.ql_machine.specs.declared.reply.Reply.{Reply};
 ghost use Rattle.ql_machine.specs.State.{Machine};

@@ -1,0 +1,4 @@
+pub mod Plain
+pub mod Chains
+pub mod Same
+mod Promises

@@ -19,8 +19,9 @@ use Rattle.ql_commands.specs.Check.{CheckSays, Tells, goal_of, order_text, secti
 use Rattle.ql_commands.specs.Check.Tells.{all, accepted, refused}
 use Rattle.ql_commands.specs.Classify.{ClassifySays}
 use Rattle.ql_commands.specs.Levels.{AreLevelsOf}
-use Rattle.ql_implied.specs.Commands.{AcceptsFront, AreEnough, GivesContract, TellsAccepted, TellsLevels, accepted_lines}
-use Rattle.ql_implied.proofs.Same.{op_implied, txn_implied}
+use Rattle.ql_implied.specs.Commands.{AcceptsFront, AreEnough, AreLeast, GivesContract, TellsAccepted, TellsLeast, TellsLevels, TellsNone, accepted_lines}
+use Rattle.ql_implication.proofs.Same.{op_implied, txn_implied}
+use Rattle.ql_least.proofs.Fails.{lower_fail, top_fails}
 
 -- a goal whose problem is refuted gives its contract
 refuted_gives : (p : Program) (g : Goal) (lines : List Line) → IsRefutedBy p g lines → ground.IsImplied p g → GivesContract p g
@@ -41,6 +42,19 @@ levels_enough p levels are = record {
 
 pub levels_told : (source text : List ℕ) → ClassifySays source Done text → TellsLevels source text
 levels_told source text says = (says.0, says.1, says.2, levels_enough says.0 says.2 says.3, says.4)
+
+pub levels_least : (source text : List ℕ) → ClassifySays source Done text → TellsLeast source text
+levels_least source text says =
+    let p = says.0 in
+    let levels = says.2 in
+    let least : AreLeast p levels = record {
+      enough = levels_enough p levels says.3;
+      lower = λ k d l. lower_fail p says.1.1 (slice_index_or (goals_at levels) k d) (says.3.least k d l);
+    } in
+    (p, says.1, levels, least, says.4)
+
+pub none_told : (source text : List ℕ) → ClassifySays source No text → TellsNone source text
+none_told source text says = (says.0, says.1, says.2.0, top_fails says.0 says.1.1 says.2.0 says.2.1, says.2.2)
 
 -- the lines of the sections from a place on
 lines_told : (p : Program) (place : ℕ) (ss : List Section) (a : Answer) (text : List ℕ) → Tells p place ss a text → AcceptsFront p place ss a text

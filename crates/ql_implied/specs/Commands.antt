@@ -3,6 +3,7 @@ use Rattle.std.specs.Prelude.{◌≡◌, ◌≢◌, ℕ, suc, List, [], ◌∷�
 use Rattle.std.specs.List.{All}
 use Rattle.ql_cert.specs.declared.cert.Section.{Section}
 use Rattle.ql_classify.specs.Targets.{goals_at}
+use Rattle.ql_classify.specs.declared.classless.Classless.{Classless}
 use Rattle.ql_ground.specs.declared.goal.Goal.{Goal}
 use Rattle.ql_ground.specs.declared.goal.Goal.TheVariants.{OpAt, TxnAt}
 use Rattle.ql_lang.specs.Formulas.{Resolved}
@@ -16,8 +17,10 @@ use Rattle.ql_commands.specs.declared.answer.Answer.{Answer}
 use Rattle.ql_commands.specs.declared.answer.Answer.TheVariants.{Done, No}
 use Rattle.ql_commands.specs.Certificates.{SpellsCert}
 use Rattle.ql_commands.specs.Check.{AreDue, goal_of, section_text, verdict_text}
+use Rattle.ql_commands.specs.Levels.{refusal_text}
 use Rattle.ql_commands.specs.Sources.{IsSourceOf}
-use Rattle.ql_implied.specs.Executions.{IsImplied, IsImpliedTxn}
+use Rattle.ql_least.specs.Least.{LowerFail, TopFails}
+use Rattle.ql_implication.specs.Executions.{IsImplied, IsImpliedTxn}
 
 -- The target has a contract, and its level gives it: in every execution of the program, at each effect of the operation,
 -- or for each begun transaction.
@@ -34,6 +37,19 @@ pub record AreEnough (p : Program) (levels : LevelLists) : Type 0 where
 -- the text tells such levels of the source
 abbrev pub TellsLevels : List ℕ → List ℕ → Type 0
 TellsLevels source text = (p : Program) × IsSourceOf source p × (levels : LevelLists) × AreEnough p levels × (text ≡ levels_text p levels)
+
+-- the levels give their contracts, and each lower one fails in some execution of the program
+pub record AreLeast (p : Program) (levels : LevelLists) : Type 0 where
+  pub enough : AreEnough p levels
+  pub lower : All (LowerFail p) (goals_at levels)
+
+-- the text tells such levels of the source
+abbrev pub TellsLeast : List ℕ → List ℕ → Type 0
+TellsLeast source text = (p : Program) × IsSourceOf source p × (levels : LevelLists) × AreLeast p levels × (text ≡ levels_text p levels)
+
+-- the text tells why the source's program has no levels: where no level is enough for a target, its highest fails in some execution
+abbrev pub TellsNone : List ℕ → List ℕ → Type 0
+TellsNone source text = (p : Program) × IsSourceOf source p × (e : Classless) × TopFails p e × (text ≡ refusal_text p e)
 
 -- the sections from a place on, each with a level that gives the contract of the target at that place
 abbrev pub EachGives : Program → ℕ → List Section → Type 0

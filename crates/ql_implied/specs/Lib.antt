@@ -1,3 +1,2 @@
-pub mod Executions
 pub mod Commands
 pub mod Uses

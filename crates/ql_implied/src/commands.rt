@@ -2,12 +2,19 @@ ghost use Rattle.std.specs.Prelude.{◌≡◌, ◌⊎◌, ℕ, List};
 ghost use Rattle.ql_commands.specs.declared.answer.Answer.TheVariants.{Done, No};
 ghost use Rattle.ql_commands.specs.Check.{CheckSays, order_text};
 ghost use Rattle.ql_commands.specs.Classify.{ClassifySays};
-ghost use Rattle.ql_implied.specs.Commands.{TellsAccepted, TellsLevels};
+ghost use Rattle.ql_implied.specs.Commands.{TellsAccepted, TellsLeast, TellsLevels, TellsNone};
 
 /// The law of what `classify` prints: the source's program has each level that is told, and in every
 /// execution of the store that is one of this program, the level gives its target's contract.
 pub fn told_levels_give_contracts()
     ensures { (source text : List ℕ) → ClassifySays source Done text → TellsLevels source text }
+{}
+
+/// The law that these levels are least over all executions: each lower one fails in some execution of the
+/// program. And where `classify` says no since no level is enough for a target, the highest fails in one.
+pub fn told_levels_are_least()
+    ensures yes { (source text : List ℕ) → ClassifySays source Done text → TellsLeast source text }
+    ensures no { (source text : List ℕ) → ClassifySays source No text → TellsNone source text }
 {}
 
 /// The law of what `check` prints: each line that ends in `accepted` states such an implication. With yes

@@ -1,14 +1,14 @@
 // What the commands on levels say, in executions as the store keeps them.
 // The one contract: a level that `classify` tells, or that `check` accepts, gives its contract in every
-// execution of the program, with the relations and the truth of whole contracts.
+// execution of the program, with the relations and the truth of whole contracts, and no lower level does.
 #![tactic(auto)]
 
 mod commands;
-mod levels;
 mod transfer;
 mod uses;
 
-pub use commands::{accepted_lines_give_contracts, told_levels_give_contracts};
-pub use levels::higher_levels_promise_more;
+pub use commands::{
+    accepted_lines_give_contracts, told_levels_are_least, told_levels_give_contracts,
+};
 pub use transfer::implied_in_executions;
 pub use uses::{strong_uses_are_told, uses_are_operations};

@@ -3,7 +3,7 @@ ghost use Rattle.ql_lang.specs.Formulas.{Resolved};
 ghost use Rattle.ql_levels.specs.declared.level.Level.{Level};
 ghost use Rattle.ql_levels.specs.declared.level.TxnLevel.{TxnLevel};
 ghost use Rattle.ql_ground.specs.Implication.{Implies, ImpliesTxn};
-ghost use Rattle.ql_implied.specs.Executions.{IsImplied, IsImpliedTxn};
+ghost use Rattle.ql_implication.specs.Executions.{IsImplied, IsImpliedTxn};
 
 /// The law that valid implication, which is proved of refuted problems over effects of plain numbers, is
 /// that over the store's executions: `op` for operations, `txn` for transactions.

@@ -1,4 +1,4 @@
-use Rattle.ql_implied.proofs.Same.{op_implied, txn_implied}
+use Rattle.ql_implication.proofs.Same.{op_implied, txn_implied}
 use Rattle.ql_implied.proofs.transfer.implied_in_executions.Goals as goal
 
 pub returns-clause-op : goal.returns-clause-op

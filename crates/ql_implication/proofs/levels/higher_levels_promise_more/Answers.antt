@@ -1,5 +1,5 @@
-use Rattle.ql_implied.proofs.Promises.{causal_gives, monotonic_gives, repeatable_gives, strong_gives}
-use Rattle.ql_implied.proofs.levels.higher_levels_promise_more.Goals as goal
+use Rattle.ql_implication.proofs.Promises.{causal_gives, monotonic_gives, repeatable_gives, strong_gives}
+use Rattle.ql_implication.proofs.levels.higher_levels_promise_more.Goals as goal
 
 pub returns-clause-strong : goal.returns-clause-strong
 returns-clause-strong c = strong_gives

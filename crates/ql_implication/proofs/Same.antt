@@ -24,9 +24,9 @@ use Rattle.ql_formula.specs.Truth as truth
 use Rattle.ql_ground.specs.Relations as ground
 use Rattle.ql_ground.specs.Truth as plainly
 use Rattle.ql_ground.specs.Implication as implication
-use Rattle.ql_implied.specs.Executions.{FitsProgram, IsImplied, IsImpliedTxn}
-use Rattle.ql_implied.proofs.Plain.{plain_all, eq-sym, one_at, so-same, vis-same, sameobj-same, soo-same, sametxn-same, inside-same}
-use Rattle.ql_implied.proofs.Chains.{hb-same, hbo-same}
+use Rattle.ql_implication.specs.Executions.{FitsProgram, IsImplied, IsImpliedTxn}
+use Rattle.ql_implication.proofs.Plain.{plain_all, eq-sym, one_at, so-same, vis-same, sameobj-same, soo-same, sametxn-same, inside-same}
+use Rattle.ql_implication.proofs.Chains.{hb-same, hbo-same}
 
 named-same : (x : List Effect) (name : RelName) (a b : ℕ) → plainly.named (plain_all x) name a b ≡ truth.named x name a b
 named-same x Vis a b = vis-same x a b

@@ -4,7 +4,7 @@ use Rattle.ql_exec.specs.declared.effect.Effect.{Effect}
 use Rattle.ql_exec.specs.Relations as relation
 use Rattle.ql_ground.specs.Effects as plain
 use Rattle.ql_ground.specs.Relations as ground
-use Rattle.ql_implied.proofs.Plain.{plain_all, so-same, vis-same, soo-same}
+use Rattle.ql_implication.proofs.Plain.{plain_all, so-same, vis-same, soo-same}
 
 below_same : (n : ℕ) (f g : ℕ → Bool) → ((c : ℕ) → c < n → f c ≡ g c) → ground.some_below n f ≡ relation.some_below n g
 below_same zero f g h = refl

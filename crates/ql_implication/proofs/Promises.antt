@@ -10,9 +10,9 @@ use Rattle.ql_levels.specs.declared.level.Level.TheVariants.{Causal, Eventual, S
 use Rattle.ql_levels.specs.declared.level.TxnLevel.TheVariants.{Mav, Rc, Rr}
 use Rattle.ql_ground.specs.Relations as ground
 use Rattle.ql_ground.proofs.Laws.{hb-irreflexive, hbo-hb, hbo-one, hbo-sameobj, hbo-trans, sameobj-sym, sameobj-trans}
-use Rattle.ql_implied.proofs.Plain.{plain_all, sameobj-same, vis-same}
-use Rattle.ql_implied.proofs.Chains.{hbo-same}
-use Rattle.ql_implied.proofs.Same.{execution-same}
+use Rattle.ql_implication.proofs.Plain.{plain_all, sameobj-same, vis-same}
+use Rattle.ql_implication.proofs.Chains.{hbo-same}
+use Rattle.ql_implication.proofs.Same.{execution-same}
 
 implies : (a c : Bool) → (a ≡ true → c ≡ true) → (not a || c) ≡ true
 implies true c h = h refl
