@@ -1,0 +1,68 @@
+ghost use Rattle.std.specs.Prelude.{IfOk, IfSome};
+ghost use Rattle.ql_store.specs.Levels.{HasLevelOfEach};
+
+use crate::program::program;
+use ql_base::{NoMemory, push_bytes, push_number};
+use ql_exec::Execution;
+use ql_holder::Holder;
+use ql_levels::{Level, Levels};
+use ql_runs::run_schedule;
+use ql_schedule::parse_schedule;
+use ql_typing::{Typed, typecheck};
+use std::alloc::Global;
+
+const HEADING: &[u8] = b"quelea schedule 1
+replicas 3
+object o t
+events
+";
+
+/// A digest of the execution of so many calls, by 16 sessions by turns.
+pub(crate) fn digest<H: Holder>(alloc: Global, calls: u32) -> Result<u64, NoMemory> {
+    let Ok(typed) = typecheck(alloc, program(alloc)?) else {
+        return Ok(0);
+    };
+    let Some(levels) = eventual(alloc, &typed)? else {
+        return Ok(0);
+    };
+    match parse_schedule(alloc, &typed, &schedule_of(alloc, calls)?) {
+        Err(_) => Ok(0),
+        Ok(schedule) => {
+            let run = run_schedule::<H>(alloc, &typed, levels, schedule)?;
+            Ok(digest_of(run.store.execution()))
+        }
+    }
+}
+
+// The lowest level for a program of one operation.
+fn eventual(alloc: Global, typed: &Typed) -> Result<Option<Levels>, NoMemory>
+    ensures { IfOk result (λ found. IfSome found (HasLevelOfEach typed.now.program)) }
+{
+    if typed.ops() != 1 {
+        return Ok(None);
+    }
+    if typed.txns() != 0 {
+        return Ok(None);
+    }
+    Ok(Some(Levels::of(vec![in alloc; Level::Eventual]?, Vec::new(alloc))))
+}
+
+fn schedule_of(alloc: Global, calls: u32) -> Result<Vec<u8>, NoMemory> {
+    let mut file = Vec::new(alloc);
+    push_bytes(&mut file, HEADING)?;
+    for k in 0..calls {
+        push_bytes(&mut file, b"call ")?;
+        push_number(&mut file, k % 16)?;
+        push_bytes(&mut file, b" at 0 o touch\n")?;
+    }
+    Ok(file)
+}
+
+fn digest_of(x: &Execution) -> u64 {
+    let mut digest = 0u64;
+    for effect in x.effects() {
+        let sum = (effect.seen.len() as u64).wrapping_add(u64::from(effect.stamp));
+        digest = digest.wrapping_mul(31).wrapping_add(sum);
+    }
+    digest
+}
