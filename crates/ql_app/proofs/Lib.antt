@@ -3,3 +3,4 @@ pub mod HoldsLaws
 pub mod OutcomeLaws
 pub mod ProofLaws
 pub mod Statuses
+mod RunWritten

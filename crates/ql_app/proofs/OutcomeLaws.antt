@@ -12,9 +12,9 @@ use Rattle.ql_app.specs.declared.status.Status.TheVariants.{Done, No, Bad, ReadF
 use Rattle.ql_app.specs.declared.words.Command.{Command}
 use Rattle.ql_app.specs.declared.words.Command.TheVariants.{Holds, Proof, Classify, Prove}
 use Rattle.ql_app.specs.declared.words.PairCommand.{PairCommand}
-use Rattle.ql_app.specs.declared.words.PairCommand.TheVariants.{Check, Verify}
+use Rattle.ql_app.specs.declared.words.PairCommand.TheVariants.{Check, Verify, Run}
 use Rattle.ql_app.specs.Words.{OneFile, TwoFiles}
-use Rattle.ql_app.specs.Outcome.{CommandSays, IsRead, IsUnread, PairSays, Tells}
+use Rattle.ql_app.specs.Outcome.{CommandSays, IsRead, IsUnread, PairSays, Tells, second_limit}
 
 -- what is said of the bytes that were read is said of the bytes that are held
 of_held : (bytes : List ℕ) (held : Option (List ℕ)) (P : List ℕ → Type 0) → IfSome held (λ whole. bytes ≡ whole) → P bytes → IfSome held P
@@ -52,14 +52,14 @@ module _ (limits : Limits) (held : List ℕ → Option (List ℕ)) (before after
   one_answer command name bytes (Err e) same short says = tt
 
   both : (command : PairCommand) (name other bytes more : List ℕ) (status : Status) (text : List ℕ)
-      → IfSome (held name) (λ whole. bytes ≡ whole) → length bytes ≤ limits.file → IfSome (held other) (λ whole. more ≡ whole) → length more ≤ limits.second
-      → PairSays command bytes more status text → IsRead limits.file (held name) (λ b. IsRead limits.second (held other) (λ m. PairSays command b m status text))
+      → IfSome (held name) (λ whole. bytes ≡ whole) → length bytes ≤ limits.file → IfSome (held other) (λ whole. more ≡ whole) → length more ≤ second_limit limits command
+      → PairSays command bytes more status text → IsRead limits.file (held name) (λ b. IsRead (second_limit limits command) (held other) (λ m. PairSays command b m status text))
   both command name other bytes more status text same short also few says =
-      read limits.file bytes (held name) (λ b. IsRead limits.second (held other) (λ m. PairSays command b m status text)) same short
-      (read limits.second more (held other) (λ m. PairSays command bytes m status text) also few says)
+      read limits.file bytes (held name) (λ b. IsRead (second_limit limits command) (held other) (λ m. PairSays command b m status text)) same short
+      (read (second_limit limits command) more (held other) (λ m. PairSays command bytes m status text) also few says)
 
   two : (command : PairCommand) (name other bytes more : List ℕ) (status : Status) (text : List ℕ)
-      → IfSome (held name) (λ whole. bytes ≡ whole) → length bytes ≤ limits.file → IfSome (held other) (λ whole. more ≡ whole) → length more ≤ limits.second
+      → IfSome (held name) (λ whole. bytes ≡ whole) → length bytes ≤ limits.file → IfSome (held other) (λ whole. more ≡ whole) → length more ≤ second_limit limits command
       → PairSays command bytes more status text → Tells limits held before after (TwoFiles command name other) status text
   two command name other bytes more Done text same short also few says = both command name other bytes more Done text same short also few says
   two command name other bytes more No text same short also few says = both command name other bytes more No text same short also few says
@@ -70,11 +70,14 @@ module _ (limits : Limits) (held : List ℕ → Option (List ℕ)) (before after
   two Verify name other bytes more ReadFault text same short also few says = absurd says
   two Verify name other bytes more WriteFault text same short also few says = absurd says
   two Verify name other bytes more Usage text same short also few says = absurd says
+  two Run name other bytes more ReadFault text same short also few says = absurd says
+  two Run name other bytes more WriteFault text same short also few says = absurd says
+  two Run name other bytes more Usage text same short also few says = absurd says
   two command name other bytes more TooLarge text same short also few says = inl (both command name other bytes more TooLarge text same short also few says)
 
   -- and on two
   pub two_answers : (command : PairCommand) (name other bytes more : List ℕ) (answer : Result (Status × Vec ℕ) NoMemory)
-      → IfSome (held name) (λ whole. bytes ≡ whole) → length bytes ≤ limits.file → IfSome (held other) (λ whole. more ≡ whole) → length more ≤ limits.second
+      → IfSome (held name) (λ whole. bytes ≡ whole) → length bytes ≤ limits.file → IfSome (held other) (λ whole. more ≡ whole) → length more ≤ second_limit limits command
       → IfOk answer (λ a. PairSays command bytes more a.0 a.1.items) → IfOk answer (λ a. Tells limits held before after (TwoFiles command name other) a.0 a.1.items)
   two_answers command name other bytes more (Ok a) same short also few says = two command name other bytes more a.0 a.1.items same short also few says
   two_answers command name other bytes more (Err e) same short also few says = tt

@@ -5,3 +5,4 @@ pub mod ProofFile
 pub mod Answers
 pub mod Outcome
 pub mod ExitNumbers
+pub mod RunWritten

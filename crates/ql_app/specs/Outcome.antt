@@ -11,7 +11,7 @@ use Rattle.ql_app.specs.declared.status.Status.TheVariants.{Done, No, Bad, ReadF
 use Rattle.ql_app.specs.declared.words.Command.{Command}
 use Rattle.ql_app.specs.declared.words.Command.TheVariants.{Holds, Proof, Classify, Prove}
 use Rattle.ql_app.specs.declared.words.PairCommand.{PairCommand}
-use Rattle.ql_app.specs.declared.words.PairCommand.TheVariants.{Check, Verify}
+use Rattle.ql_app.specs.declared.words.PairCommand.TheVariants.{Check, Verify, Run}
 use Rattle.ql_app.specs.Words.{Call, OneFile, TwoFiles, IsRequest}
 use Rattle.ql_app.specs.HoldsFile as holds
 use Rattle.ql_app.specs.HoldsFile.{HoldsSays}
@@ -23,6 +23,7 @@ use Rattle.ql_commands.specs.Classify.{ClassifySays}
 use Rattle.ql_commands.specs.Prove.{ProveSays}
 use Rattle.ql_commands.specs.Sources.{IsSource}
 use Rattle.ql_judging.specs.Verify.{AreJudgeable, VerifySays}
+use Rattle.ql_running.specs.Runs.{AreRunnable, RunSays}
 
 -- what a command says of its file's bytes
 abbrev pub CommandSays : Command → List ℕ → Status → List ℕ → Type 0
@@ -35,6 +36,7 @@ CommandSays Prove bytes status text = AnswerSays (ProveSays bytes) status text
 abbrev pub PairSays : PairCommand → List ℕ → List ℕ → Status → List ℕ → Type 0
 PairSays Check bytes more status text = AnswerSays (CheckSays bytes more) status text
 PairSays Verify bytes more status text = JudgedSays (VerifySays bytes more) status text
+PairSays Run bytes more status text = AnswerSays (RunSays bytes more) status text
 
 -- the bytes are in the grammar of the command's files, and don't ask for too much work
 abbrev pub IsAnswerable : Command → List ℕ → Type 0
@@ -47,6 +49,13 @@ IsAnswerable Prove bytes = IsSource bytes
 abbrev pub AreAnswerable : PairCommand → List ℕ → List ℕ → Type 0
 AreAnswerable Check bytes more = IsSource bytes × IsCertificate more
 AreAnswerable Verify bytes more = AreJudgeable bytes more
+AreAnswerable Run bytes more = AreRunnable bytes more
+
+-- the limit of the second file: certificates and executions may be longer than schedules
+abbrev pub second_limit : Limits → PairCommand → ℕ
+second_limit limits Check = limits.second
+second_limit limits Verify = limits.second
+second_limit limits Run = limits.file
 
 -- a file was read whole: what the shelf tells of it is within a limit, and this is so of it
 abbrev pub IsRead : ℕ → Option (List ℕ) → (List ℕ → Type 0) → Type 0
@@ -56,7 +65,7 @@ IsRead limit held P = IfSome held (λ bytes. (length bytes ≤ limit) × P bytes
 abbrev pub Judges : Limits → (List ℕ → Option (List ℕ)) → Call → Status → List ℕ → Type 0
 Judges limits held (OneFile command name) status text = IsRead limits.file (held name) (λ bytes. CommandSays command bytes status text)
 Judges limits held (TwoFiles command name other) status text =
-    IsRead limits.file (held name) (λ bytes. IsRead limits.second (held other) (λ more. PairSays command bytes more status text))
+    IsRead limits.file (held name) (λ bytes. IsRead (second_limit limits command) (held other) (λ more. PairSays command bytes more status text))
 
 -- the answer where a file couldn't be read whole
 abbrev pub IsUnread : ReadError → List ℕ → Status → List ℕ → Type 0
@@ -81,7 +90,7 @@ IsOver limit held name text = IfSome (held name) (λ bytes. limit < length bytes
 abbrev pub MeetsLimit : Limits → (List ℕ → Option (List ℕ)) → Call → List ℕ → Type 0
 MeetsLimit limits held (OneFile command name) text = IsOver limits.file held name text
 MeetsLimit limits held (TwoFiles command name other) text =
-    IsOver limits.file held name text ⊎ (IsRead limits.file (held name) (λ _. Unit {0}) × IsOver limits.second held other text)
+    IsOver limits.file held name text ⊎ (IsRead limits.file (held name) (λ _. Unit {0}) × IsOver (second_limit limits command) held other text)
 
 -- what is said of a call
 abbrev pub Tells : Limits → (List ℕ → Option (List ℕ)) → (List ℕ → ℕ) → (List ℕ → ℕ) → Call → Status → List ℕ → Type 0
@@ -111,7 +120,7 @@ IsHeld limit held P = (bytes : List ℕ) × (held ≡ Some bytes) × (length byt
 abbrev pub AreHeld : Limits → (List ℕ → Option (List ℕ)) → Call → Type 0
 AreHeld limits held (OneFile command name) = IsHeld limits.file (held name) (IsAnswerable command)
 AreHeld limits held (TwoFiles command name other) =
-    IsHeld limits.file (held name) (λ bytes. IsHeld limits.second (held other) (λ more. AreAnswerable command bytes more))
+    IsHeld limits.file (held name) (λ bytes. IsHeld (second_limit limits command) (held other) (λ more. AreAnswerable command bytes more))
 
 -- no file's count rose
 abbrev pub NoneRose : (List ℕ → ℕ) → (List ℕ → ℕ) → Call → Type 0

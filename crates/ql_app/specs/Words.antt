@@ -6,7 +6,7 @@ use Rattle.std.specs.String.{string_bytes}
 use Rattle.ql_app.specs.declared.words.Command.{Command}
 use Rattle.ql_app.specs.declared.words.Command.TheVariants.{Holds, Proof, Classify, Prove}
 use Rattle.ql_app.specs.declared.words.PairCommand.{PairCommand}
-use Rattle.ql_app.specs.declared.words.PairCommand.TheVariants.{Check, Verify}
+use Rattle.ql_app.specs.declared.words.PairCommand.TheVariants.{Check, Verify, Run}
 
 -- the words' bytes
 abbrev pub word_texts : Vec (String Global) → List (List ℕ)
@@ -26,6 +26,7 @@ command_word Prove = codes "prove"
 abbrev pub pair_word : PairCommand → List ℕ
 pair_word Check = codes "check"
 pair_word Verify = codes "verify"
+pair_word Run = codes "run"
 
 -- what can be asked for: a command on one file, or on two, by their names
 pub data Call : Type 0 where

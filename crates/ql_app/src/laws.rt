@@ -1,9 +1,11 @@
-ghost use Rattle.std.specs.Prelude.{◌≡◌, ℕ, List};
+ghost use Rattle.std.specs.Prelude.{◌≡◌, ℕ, List, Option};
+ghost use Rattle.ql_app.specs.declared.outcome.Limits.{Limits};
 ghost use Rattle.ql_app.specs.declared.status.Status.{Status};
 ghost use Rattle.ql_app.specs.declared.status.Status.TheVariants.{Done};
 ghost use Rattle.ql_app.specs.declared.words.Command.TheVariants.{Prove};
 ghost use Rattle.ql_app.specs.declared.words.PairCommand.TheVariants.{Check};
-ghost use Rattle.ql_app.specs.Outcome.{CommandSays, PairSays};
+ghost use Rattle.ql_app.specs.Outcome.{CommandSays, PairSays, Says, Wrote};
+ghost use Rattle.ql_app.specs.RunWritten.{WritesRun};
 
 use ql_commands::what_is_proved_is_accepted;
 
@@ -15,3 +17,11 @@ pub fn what_is_printed_is_accepted()
 {
     what_is_proved_is_accepted();
 }
+
+/// The headline, of what `quelea` wrote by its clause `wrote`: with status 0, to `run` of a source and a schedule, a text
+/// that shows the schedule's run at the source's least levels, in which each effect and each begun transaction meets its
+/// contract and each answer is its type's fold over exactly what its effect sees.
+pub fn contracts_hold_in_runs()
+    ensures { (limits : Limits) (words : List (List ℕ)) (held : List ℕ → Option (List ℕ)) (before after : List ℕ → ℕ) (was is : Option (List ℕ)) (faults sums : ℕ)
+        → Wrote (Says limits words held before after) was is faults sums Done → WritesRun words held was is }
+{}

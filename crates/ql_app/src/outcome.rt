@@ -1,11 +1,12 @@
 ghost use Rattle.std.specs.Prelude.{◌≡◌, ◌++◌, ◌<◌, ◌≤◌, ◌^◌, ℕ, List, IfOk, codes, length};
 ghost use Rattle.ql_app.specs.Answers.{AnswerSays, JudgedSays, judged_status, status_of};
-ghost use Rattle.ql_app.specs.Outcome.{CommandSays, IsUnread, PairSays, Says, Tells};
+ghost use Rattle.ql_app.specs.Outcome.{CommandSays, IsUnread, PairSays, Says, Tells, second_limit};
 ghost use Rattle.ql_app.specs.Words.{OneFile, TwoFiles, word_texts};
 ghost use Rattle.ql_commands.specs.Check.{CheckSays};
 ghost use Rattle.ql_commands.specs.Classify.{ClassifySays};
 ghost use Rattle.ql_commands.specs.Prove.{ProveSays};
 ghost use Rattle.ql_judging.specs.Verify.{VerifySays};
+ghost use Rattle.ql_running.specs.Runs.{RunSays};
 
 use crate::holds::holds;
 use crate::proof::judge;
@@ -15,9 +16,11 @@ use ql_base::NoMemory;
 use ql_commands::{Answer, check, classify, prove};
 use ql_judging::{Judged, verify};
 use ql_ports::{ReadError, Shelf, read_whole};
+use ql_running::run;
 use std::alloc::Global;
 
-/// The greatest lengths of files in bytes: of the first file that the words name, and of the second.
+/// The greatest lengths of files in bytes: of sources, schedules and the files of `holds` and `proof`, and of certificates
+/// and executions, which are second files.
 #[derive(Clone, Copy, Debug, PartialEq, Eq)]
 pub struct Limits {
     pub file: u32,
@@ -81,7 +84,7 @@ fn of_files<S: Shelf>(
         Ok(bytes) => bytes,
         Err(error) => return unread(alloc, error, name),
     };
-    let more = match read_whole(alloc, shelf, other, limits.second as usize) {
+    let more = match read_whole(alloc, shelf, other, second_limit(limits, command) as usize) {
         Ok(more) => more,
         Err(error) => return unread(alloc, error, other),
     };
@@ -149,6 +152,7 @@ fn judged_pair(
     match command {
         PairCommand::Check => check_files(alloc, bytes, more),
         PairCommand::Verify => verify_files(alloc, bytes, more),
+        PairCommand::Run => run_files(alloc, bytes, more),
     }
 }
 
@@ -174,6 +178,24 @@ fn verify_files(
 {
     let (judged, text) = verify(alloc, source, execution)?;
     Ok((judged_status(judged), text))
+}
+
+fn run_files(alloc: Global, source: &[u8], schedule: &[u8]) -> Result<(Status, Vec<u8>), NoMemory>
+    requires { length source.now < 2 ^ 32 }
+    ensures { IfOk result (λ answer. AnswerSays (RunSays source.now schedule.now) answer.0 answer.1.items) }
+{
+    let (answer, text) = run(alloc, source, schedule)?;
+    Ok((status_of(answer), text))
+}
+
+// The limit of a command's second file.
+fn second_limit(limits: Limits, command: PairCommand) -> u32
+    ensures { result ≡ second_limit limits command }
+{
+    match command {
+        PairCommand::Check | PairCommand::Verify => limits.second,
+        PairCommand::Run => limits.file,
+    }
 }
 
 // The status of an answer.

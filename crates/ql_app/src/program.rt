@@ -9,7 +9,7 @@ use ql_base::{MAX_EXECUTION_BYTES, MAX_SOURCE_BYTES, NoMemory};
 use ql_ports::{Failed, Shelf, Sink, write_whole};
 use std::alloc::Global;
 
-// Sources and the files of `holds` and `proof` have one limit, certificates and executions another.
+// Sources, schedules and the files of `holds` and `proof` have one limit, certificates and executions another.
 const LIMITS: Limits = Limits {
     file: MAX_SOURCE_BYTES as u32,
     second: MAX_EXECUTION_BYTES as u32,

@@ -24,6 +24,8 @@ pub enum PairCommand {
     Check,
     /// Whether a source's contracts hold in an execution.
     Verify,
+    /// What becomes of a schedule in a store of a source's program.
+    Run,
 }
 
 /// A command with the names of its files.
@@ -96,6 +98,7 @@ fn pair_command_named(word: &str) -> Option<PairCommand>
     match word {
         "check" => Some(PairCommand::Check),
         "verify" => Some(PairCommand::Verify),
+        "run" => Some(PairCommand::Run),
         _ => None,
     }
 }

@@ -13,4 +13,6 @@ mod judging;
 #[cfg(test)]
 mod levels;
 #[cfg(test)]
+mod running;
+#[cfg(test)]
 mod sources;
