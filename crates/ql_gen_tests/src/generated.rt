@@ -41,12 +41,16 @@ const EVENTS: &str = r#"
 fn events_are_drawn(rt: HostRuntime) -> Result<(), Fail> {
     check_table(rt.alloc(), EVENTS, |alloc, row| {
         let text = generated(alloc, SOURCE, number(row, 0), number(row, 1))?;
-        let events = match text.strip_prefix(HEADER.as_bytes()) {
-            Some(events) => events.trim_ascii_end(),
-            None => text.as_slice(),
-        };
-        Ok(Vec::from_slice(alloc, events)?)
+        without_header(alloc, &text)
     })
+}
+
+fn without_header(alloc: Global, text: &[u8]) -> Result<Vec<u8>, NoMemory> {
+    let events = match text.strip_prefix(HEADER.as_bytes()) {
+        Some(events) => events.trim_ascii_end(),
+        None => text,
+    };
+    Ok(Vec::from_slice(alloc, events)?)
 }
 
 // The same of a program without transactions, whole.
