@@ -114,7 +114,9 @@ module _ (p : Program) (levels : LevelLists) (schedule : Schedule) (each : HasLe
     pub going-room : HasRoom s
     going-room = record {
       effects = (let few = few-done in let less = going.small.effects in omega (arith, few, less));
-      messages = (let few = few-done in let less = going.small.messages in omega (arith, few, less));
+      messages =
+          (let few = few-done in let less = going.small.messages in let same = going.goes.replicas in let most = is.few_replicas in
+          omega (arith, few, less, same, most));
       begun = (let few = few-done in let less = going.small.begun in omega (arith, few, less));
       copies = λ m message at. (let few = few-done in let less = copies-of (suc (length going.done)) s.messages m message going.small.copies at in omega (arith, few, less));
     }

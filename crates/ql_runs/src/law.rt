@@ -1,4 +1,4 @@
-ghost use Rattle.std.specs.Prelude.{◌≡◌, ◌∷◌, ◌++◌, List, length};
+ghost use Rattle.std.specs.Prelude.{◌≡◌, ◌∷◌, ◌++◌, [], ℕ, List, length};
 ghost use Rattle.ql_eval.specs.Able.{AnswersFit, IsAble};
 ghost use Rattle.ql_eval.specs.Folds.{answered_of};
 ghost use Rattle.ql_lang.specs.declared.program.Program.{Program};
@@ -7,7 +7,8 @@ ghost use Rattle.ql_machine.specs.declared.event.Event.{Event};
 ghost use Rattle.ql_machine.specs.declared.reply.Reply.{Reply};
 ghost use Rattle.ql_machine.specs.Rules.{Rules};
 ghost use Rattle.ql_machine.specs.Runs.{IsRun};
-ghost use Rattle.ql_machine.specs.State.{Machine};
+ghost use Rattle.ql_machine.specs.State.{Machine, empty};
+ghost use Rattle.ql_machine.specs.Steps.{IsStep};
 ghost use Rattle.ql_schedule.specs.Guarantees.{IsSchedule};
 ghost use Rattle.ql_schedule.specs.declared.schedule.Schedule.{Schedule};
 ghost use Rattle.ql_store.specs.Conditions.{HasRoom, IsAnswerable};
@@ -22,4 +23,12 @@ pub fn events_can_be_answered()
         → (rules : Rules) → rules.promises ≡ promises_of levels → rules.uses ≡ uses_of p → rules.answer ≡ (λ op args seen. answered_of p.types op.0 args seen)
         → (done left : List Event) (event : Event) (replies : List Reply) (last : Machine) → s.events ≡ done ++ event ∷ left → IsRun rules s.replicas done replies last
         → IsInRange (length last.received) levels event × HasRoom last × IsAnswerable (λ op args effects. IsAble p.types op.0 args effects) last.effects event }
+{}
+
+/// The law of runs of a store: where nothing happened there is a run, and a step from the last state of a run makes a run
+/// with one event more. So any list of events through `step`, from a new store, is a run.
+pub fn steps_make_runs()
+    ensures none { (rules : Rules) (n : ℕ) → IsRun rules n [] [] (empty n) }
+    ensures more { (rules : Rules) (n : ℕ) (events : List Event) (replies : List Reply) (last next : Machine) (event : Event) (reply : Reply)
+        → IsRun rules n events replies last → IsStep rules last event next reply → IsRun rules n (events ++ event ∷ []) (replies ++ reply ∷ []) next }
 {}

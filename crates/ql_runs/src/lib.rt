@@ -5,5 +5,5 @@
 mod law;
 mod run;
 
-pub use law::events_can_be_answered;
+pub use law::{events_can_be_answered, steps_make_runs};
 pub use run::{Run, run_schedule};

@@ -12,11 +12,11 @@ use Rattle.ql_machine.specs.State.{Machine, message_at}
 use Rattle.ql_needs.specs.Closed.{Has}
 use Rattle.ql_value.specs.declared.value.Value.{Value}
 
--- there is room for what one event adds
+-- 32 bits can number what one event adds: an effect, a message to each replica, a begun transaction, a copy of a message
 pub record HasRoom (s : Machine) : Type 0 where
-  pub effects : length s.effects < 2 ^ 31
-  pub messages : length s.messages < 2 ^ 31
-  pub begun : s.begun < 2 ^ 31
+  pub effects : length s.effects + 1 < 2 ^ 32
+  pub messages : length s.messages + length s.received < 2 ^ 32
+  pub begun : s.begun + 1 < 2 ^ 32
   pub copies : (m : ℕ) (message : Message) → message_at s.messages m ≡ Some message → message.copies + 1 < 2 ^ 32
 
 -- a call can be answered, whatever effects on its object it sees

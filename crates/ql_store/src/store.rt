@@ -280,7 +280,7 @@ impl<H: Holder> Store<H> {
     /// one. Where there are none, nothing is sent.
     pub fn commit(&mut self, session: SessId, replica: ReplicaId) -> Result<Reply, NoMemory>
         requires replica { replica.0 < length self.old.machine.received }
-        requires room { length self.old.machine.messages < 2 ^ 31 }
+        requires room { length self.old.machine.messages + length self.old.machine.received < 2 ^ 32 }
         ensures step { IfOk result (λ r. (rules : Rules) → IsStep rules self.old.machine (event.Commit session replica) self.new.machine r) }
         ensures levels { self.new.levels ≡ self.old.levels }
         ensures err { OnErr result (self.new ≡ self.old) }
