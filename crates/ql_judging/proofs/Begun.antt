@@ -16,11 +16,11 @@ use Rattle.ql_verify.specs.Work.{with_run, with_runs}
 use Rattle.ql_judging.specs.Members.{IsBegun, IsBegunOf, first_name, name_if, or_else}
 
 -- an effect inside a begun transaction under a name
-record IsUnder (x : List Effect) (run name : ℕ) : Type 0 where
-  place : ℕ
-  effect : Effect
-  is : slice_get x place ≡ Some effect
-  member : effect.member ≡ Inside (record { 0 = run }) (record { 0 = name })
+pub record IsUnder (x : List Effect) (run name : ℕ) : Type 0 where
+  pub place : ℕ
+  pub effect : Effect
+  pub is : slice_get x place ≡ Some effect
+  pub member : effect.member ≡ Inside (record { 0 = run }) (record { 0 = name })
 
 later_under : (e : Effect) (x : List Effect) (run name : ℕ) → IsUnder x run name → IsUnder (e ∷ x) run name
 later_under e x run name u = record { place = suc u.place; effect = u.effect; is = u.is; member = u.member }
@@ -73,7 +73,7 @@ module _ (name run : ℕ) where
       by (inl u) = inl (later_under e x run name u)
       by (inr g) = here (of_run runs e.member g)
 
-  under : (x : List Effect) → IsBegunOf x run name → IsUnder x run name
+  pub under : (x : List Effect) → IsBegunOf x run name → IsUnder x run name
   under x h = by (of_runs [] x h)
     where
       by : IsUnder x run name ⊎ (false ≡ true) → IsUnder x run name
@@ -139,7 +139,7 @@ module _ (x : List Effect) (lawful : IsExecution x) (run : ℕ) where
   name_in Alone = 0
   name_in (Inside r n) = n.0
 
-  one_name : (a b : ℕ) → IsUnder x run a → IsUnder x run b → a ≡ b
+  pub one_name : (a b : ℕ) → IsUnder x run a → IsUnder x run b → a ≡ b
   one_name a b u v = by (nat_lt u.place v.place) (nat_lt v.place u.place) refl refl
     where
       by : (c d : Bool) → nat_lt u.place v.place ≡ c → nat_lt v.place u.place ≡ d → a ≡ b

@@ -2,6 +2,6 @@ mod LinesAgain
 mod FieldsAgain
 mod EffectAgain
 mod Numbers
-mod Renumbering
+pub mod Renumbering
 mod ExecutionAgain
 mod RunAgain

@@ -1,0 +1,88 @@
+-- What `verify` can answer of the text of a run.
+use Rattle.std.proofs.Common.{◌≡◌, ◌⊎◌, inl, inr, ℕ, true, false, List, map, Option, Some, None, slice_get, refl, ap, sym, subst, ◌∙◌}
+use Rattle.std.proofs.lemmas.Bool.{both_ways}
+use Rattle.ql_commands.specs.Sources.{IsSourceOf}
+use Rattle.ql_exec.specs.declared.effect.Effect.{Effect}
+use Rattle.ql_execution_files.specs.ExecutionFile.{FirstFault, IsExecutionFile}
+use Rattle.ql_execution_files.specs.declared.report_fault.ReportFault.{ReportFault}
+use Rattle.ql_judging.specs.Verify.{VerifySays, VerifyTells}
+use Rattle.ql_judging.specs.declared.judged.Judged.{Judged}
+use Rattle.ql_judging.specs.declared.judged.Judged.TheVariants.{Holds, Fails, Bad, TooMuch}
+use Rattle.ql_lang.specs.Formulas.{Resolved}
+use Rattle.ql_lang.specs.declared.program.Program.{Program}
+use Rattle.ql_lang.specs.Programs.{Source, source_of}
+use Rattle.ql_levels.specs.Lists.{LevelLists}
+use Rattle.ql_lines.specs.Lines.{Ahead, ahead_from}
+use Rattle.ql_machine.specs.declared.reply.Reply.{Reply}
+use Rattle.ql_parse.specs.Parsing.{IsProgramText}
+use Rattle.ql_printed_runs.specs.Printable.{IsPrintable}
+use Rattle.ql_printed_runs.specs.Renumbered.{IsRenumbered}
+use Rattle.ql_run_text.specs.RunTexts.{run_text}
+use Rattle.ql_running.specs.Runs.{TellsRun}
+use Rattle.ql_typing.specs.Operations.{op_contracts, txn_contracts}
+use Rattle.ql_verify.specs.Verdicts.{IsJudgedAt, IsJudgedOf, IsVerdict}
+use Rattle.ql_verify.specs.declared.breach.Breach.{Breach}
+use Rattle.ql_verify.specs.declared.breach.Breach.TheVariants.{AtOp, AtTxn}
+use Rattle.ql_verified_runs.proofs.SamePrograms.{same_execution, same_op_contracts, same_txn_contracts}
+use Rattle.ql_verified_runs.proofs.Verdicts.{sound-verdict}
+
+-- where all contracts hold there is no breach
+no-breach : (p : Program) (y : List Effect) → IsVerdict p y None → (b : Breach) → IsVerdict p y (Some b) → ⊥
+no-breach p y holds (AtOp a places) breach =
+    both_ways _ breach.is_false.is_false (holds.0 a.0 breach.contract breach.judged (map (λ id. id.0) places) breach.is_false.chosen)
+no-breach p y holds (AtTxn run places) breach =
+    both_ways _ breach.1.is_false.is_false (holds.1 run.0 breach.1.contract breach.1.judged (map (λ id. id.0) places) breach.1.is_false.chosen)
+
+-- the contracts of a program that is read as the same source hold too
+verdict-of : (p q : Program) (y : List Effect) → source_of p ≡ source_of q → IsVerdict p y None → IsVerdict q y None
+verdict-of p q y same holds = (
+  (λ a f judged. holds.0 a f (record {
+    effect = judged.effect;
+    is = judged.is;
+    contract = ap (λ (fs : List Resolved). slice_get fs judged.effect.op.0) (same_op_contracts p q same) ∙ judged.contract;
+  })),
+  (λ run f judged. holds.1 run f (record {
+    name = judged.name;
+    begun = judged.begun;
+    contract = ap (λ (fs : List Resolved). slice_get fs judged.name) (same_txn_contracts p q same) ∙ judged.contract;
+  })),
+)
+
+module _ (tree : (bytes : List ℕ) (s t : Source) → IsProgramText bytes s → IsProgramText bytes t → s ≡ t)
+    (one : (p : Program) (file : Ahead) (x y : List Effect) → IsExecutionFile p file x → IsExecutionFile p file y → x ≡ y)
+    (apart : (p : Program) (file : Ahead) (x : List Effect) (f : ReportFault) → IsExecutionFile p file x → FirstFault p file f → ⊥)
+    (source text : List ℕ) (p : Program) (is : IsSourceOf source p) (y : List Effect) (read : IsExecutionFile p (ahead_from 1 text) y) (holds : IsVerdict p y None) where
+  same-as : (q : Program) → IsSourceOf source q → source_of p ≡ source_of q
+  same-as q is_q = tree source (source_of p) (source_of q) is.0 is_q.0
+
+  never-fails : (said : List ℕ) → VerifyTells source text Fails said → ⊥
+  never-fails said tells =
+      let q = tells.0 in
+      let same = same-as q tells.1 in
+      let x = tells.2 in
+      let here : y ≡ x = one q (ahead_from 1 text) y x (same_execution p q same (ahead_from 1 text) y read) tells.3 in
+      let says = tells.4 in
+      no-breach q x (subst (λ (z : List Effect). IsVerdict q z None) here (verdict-of p q y same holds)) says.1 says.2
+
+  judged-so : (said : List ℕ) (j : Judged) → VerifySays source text j said → (j ≡ Holds) ⊎ (j ≡ TooMuch)
+  judged-so said Holds says = inl refl
+  judged-so said TooMuch says = inr refl
+  judged-so said Fails says = absurd (never-fails said says)
+  judged-so said Bad (inl bad) = absurd (bad.0 (p, is))
+  judged-so said Bad (inr bad) =
+      absurd (apart bad.1 (ahead_from 1 text) y bad.3 (same_execution p bad.1 (same-as bad.1 bad.2) (ahead_from 1 text) y read) bad.4)
+
+pub run-judged : ((bytes : List ℕ) (s t : Source) → IsProgramText bytes s → IsProgramText bytes t → s ≡ t)
+    → ((p : Program) (file : Ahead) (x y : List Effect) → IsExecutionFile p file x → IsExecutionFile p file y → x ≡ y)
+    → ((p : Program) (file : Ahead) (x : List Effect) (f : ReportFault) → IsExecutionFile p file x → FirstFault p file f → ⊥)
+    → ((p : Program) (objects : List (List ℕ)) (levels : LevelLists) (replies : List Reply) (x : List Effect) → IsPrintable p objects x
+    → (y : List Effect) × IsRenumbered x y × IsExecutionFile p (ahead_from 1 (run_text p objects levels replies x)) y)
+    → (source schedule text said : List ℕ) (j : Judged) (tells : TellsRun source schedule text) → IsPrintable tells.program tells.schedule.objects tells.prints.last.effects
+    → VerifySays source text j said → (j ≡ Holds) ⊎ (j ≡ TooMuch)
+run-judged tree one apart again source schedule text said j tells printable says =
+    let p = tells.program in
+    let run = tells.prints in
+    let x = run.last.effects in
+    let read = again p tells.schedule.objects tells.levels run.replies x printable in
+    let file = subst (λ (t : List ℕ). IsExecutionFile p (ahead_from 1 t) read.0) (sym run.printed) read.2 in
+    judged-so tree one apart source text p tells.is_source read.0 file (sound-verdict p x read.0 printable.execution run.sound read.1) said j says

@@ -1,0 +1,4 @@
+mod Truth
+mod Verdicts
+mod SamePrograms
+mod Judgements

@@ -1,0 +1,5 @@
+use Rattle.ql_verified_runs.proofs.Judgements.{run-judged}
+use Rattle.ql_verified_runs.proofs.law.printed_runs_hold.Goals as goal
+
+pub returns : goal.returns
+returns c = run-judged c.one_program_answer.ensures.tree c.one_execution.ensures.one c.one_execution.ensures.apart c.printed_runs_are_read_again.ensures

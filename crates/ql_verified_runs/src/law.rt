@@ -1,0 +1,44 @@
+ghost use Rattle.std.specs.Prelude.{◌≡◌, ◌⊎◌, ℕ, List, None};
+ghost use Rattle.ql_exec.specs.declared.effect.Effect.{Effect};
+ghost use Rattle.ql_formula.specs.Truth.{Holds, HoldsTxn};
+ghost use Rattle.ql_headline.specs.Stores.{rules_of};
+ghost use Rattle.ql_judging.specs.Verify.{VerifySays};
+ghost use Rattle.ql_judging.specs.declared.judged.Judged.{Judged};
+ghost use Rattle.ql_judging.specs.declared.judged.Judged.TheVariants.{Holds as Upheld, TooMuch};
+ghost use Rattle.ql_lang.specs.Formulas.{Resolved};
+ghost use Rattle.ql_machine_laws.specs.Promised.{AllArrived};
+ghost use Rattle.ql_printed_runs.specs.Printable.{IsPrintable};
+ghost use Rattle.ql_printed_runs.specs.Renumbered.{IsRenumbered};
+ghost use Rattle.ql_running.specs.Runs.{TellsRun};
+ghost use Rattle.ql_verified_runs.specs.Agreement.{Agree};
+
+use ql_execution_files::one_execution;
+use ql_machine_laws::replicas_agree;
+use ql_parse::one_program_answer;
+use ql_printed_runs::printed_runs_are_read_again;
+
+/// The numbers of objects are names alone: what holds at an effect or of a begun transaction holds in the execution with
+/// other numbers too.
+pub fn object_numbers_are_names()
+    ensures effect { (x y : List Effect) (f : Resolved) (a : ℕ) → IsRenumbered x y → Holds x f a → Holds y f a }
+    ensures txn { (x y : List Effect) (f : Resolved) (run : ℕ) → IsRenumbered x y → HoldsTxn x f run → HoldsTxn y f run }
+{}
+
+/// Of a source and the text that `run` printed of it, whose execution can be written, `verify` says that all contracts
+/// hold, or that judging them is too much work.
+pub fn printed_runs_hold()
+    ensures { (source schedule text said : List ℕ) (judged : Judged) (told : TellsRun source schedule text) → IsPrintable told.program told.schedule.objects told.prints.last.effects
+        → VerifySays source text judged said → (judged ≡ Upheld) ⊎ (judged ≡ TooMuch) }
+{
+    one_program_answer();
+    one_execution();
+    printed_runs_are_read_again();
+}
+
+/// Agreement, of the run that a text shows: where every package was received, the replicas agree.
+pub fn replicas_of_runs_agree()
+    ensures { (source schedule text : List ℕ) (told : TellsRun source schedule text) → AllArrived told.prints.last
+        → Agree (rules_of told.program told.levels) told.schedule.replicas told.prints.last }
+{
+    replicas_agree();
+}
