@@ -2,11 +2,10 @@ use crate::sources::source_or_text;
 use ql_app::{Status, quelea};
 use ql_base::{NoMemory, push_bytes, push_number};
 use ql_ports::{MemShelf, MemSink};
+use ql_tables::number;
 use std::alloc::Global;
 
-// How many bytes a fetch and a put take, and how many a text may have.
-const PIECE: usize = 4096;
-
+// How many bytes a text may have.
 const ROOM: usize = 65_536;
 
 /// The exit status and the text that the program answers to `COMMAND: FILE` or `COMMAND: FILE ~ FILE`, of which a file
@@ -52,11 +51,50 @@ pub(crate) fn reported(alloc: Global, command: &str, files: &[&[u8]]) -> Result<
     Ok(out)
 }
 
-/// What the program answers to a command with these files.
+/// What the program answers to a command with these files. It is asked twice, the second time with one byte in each
+/// fetch and in each put; where the answers differ, the text says so.
 pub(crate) fn answer(
     alloc: Global,
     command: &str,
     files: &[&[u8]],
+) -> Result<(Status, Vec<u8>), NoMemory> {
+    let (status, mut text) = answer_outside(alloc, command, files, &AMPLE)?;
+    let (status_by_bytes, text_by_bytes) = answer_outside(alloc, command, files, &BY_BYTES)?;
+    if status != status_by_bytes || text.as_slice() != text_by_bytes.as_slice() {
+        push_bytes(&mut text, b"and by single bytes otherwise")?;
+    }
+    Ok((status, text))
+}
+
+/// How a shelf and a sink behave: how many bytes a fetch and a put take, and which of them fails, from 1; 0 for none.
+#[derive(Drop)]
+pub(crate) struct Outside {
+    pub(crate) fetched: usize,
+    pub(crate) put: usize,
+    pub(crate) failing_fetch: u64,
+    pub(crate) failing_put: u64,
+}
+
+const AMPLE: Outside = Outside {
+    fetched: 4096,
+    put: 4096,
+    failing_fetch: 0,
+    failing_put: 0,
+};
+
+pub(crate) const BY_BYTES: Outside = Outside {
+    fetched: 1,
+    put: 1,
+    failing_fetch: 0,
+    failing_put: 0,
+};
+
+/// What the program answers to a command with these files, and what it wrote, over such a shelf and such a sink.
+pub(crate) fn answer_outside(
+    alloc: Global,
+    command: &str,
+    files: &[&[u8]],
+    outside: &Outside,
 ) -> Result<(Status, Vec<u8>), NoMemory> {
     let mut words = Vec::new(alloc);
     words.push(String::from_str(alloc, command)?)?;
@@ -65,10 +103,34 @@ pub(crate) fn answer(
         words.push(String::from_str(alloc, name)?)?;
         named.push(file(alloc, name, bytes)?)?;
     }
-    let mut shelf = MemShelf::new(alloc, named, PIECE, Vec::new(alloc))?;
-    let mut sink = MemSink::new(alloc, ROOM, PIECE, Vec::new(alloc))?;
+    let failing = Vec::from_slice(alloc, &[outside.failing_fetch])?;
+    let mut shelf = MemShelf::new(alloc, named, outside.fetched.max(1), failing)?;
+    let failing = Vec::from_slice(alloc, &[outside.failing_put])?;
+    let mut sink = MemSink::new(alloc, ROOM, outside.put.max(1), failing)?;
     let status = quelea(alloc, &words, &mut shelf, &mut sink)?;
     Ok((status, Vec::from_slice(alloc, sink.bytes())?))
+}
+
+/// What is answered to each number of a row `FIRST LAST`, up to the first one with another answer than the first, which
+/// is then named.
+pub(crate) fn answer_in_common<F: FnMut(Global, u32) -> Result<Vec<u8>, NoMemory>>(
+    alloc: Global,
+    row: &str,
+    mut answer: F,
+) -> Result<Vec<u8>, NoMemory>
+    requires { (state : F) (memory : _) (index : _) → F.pre state memory index }
+{
+    let first = number(row, 0);
+    let mut common = answer(alloc, first)?;
+    for index in first..=number(row, 1) {
+        let found = answer(alloc, index)?;
+        if found.as_slice() != common.as_slice() {
+            push_bytes(&mut common, b"and another answer to ")?;
+            push_number(&mut common, index)?;
+            return Ok(common);
+        }
+    }
+    Ok(common)
 }
 
 pub(crate) fn file(alloc: Global, name: &str, bytes: &[u8]) -> Result<(String, Vec<u8>), NoMemory> {

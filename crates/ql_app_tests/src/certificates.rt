@@ -1,4 +1,4 @@
-use crate::asking::{answer, asked};
+use crate::asking::{answer, answer_in_common, asked, reported};
 use crate::sources::source_or_text;
 use ql_app::Status;
 use ql_base::{NoMemory, push_bytes, push_number};
@@ -27,6 +27,8 @@ check: type t { op touch(): unit { contract forall a. sameobj(a, cur) => vis(a, 
 check: type t { op touch(): unit { contract true; answer unit; } }␊transaction x { uses touch; contract forall a, b. txn{a}{b} => vis(a, b); } ~ quelea certificate 1␊op touch eventual␊1 : c13 c14␊end␊ -> 1: order 2␊
 check: type t { op touch(): unit { contract true; answer unit; } } ~ quelea certificate 1␊op touch eventual␊1 11 : c1␊end␊ -> 1: op touch eventual refused 1 BadVariable␊
 check: type t { op touch(): unit { contract true; answer unit; } } ~ quelea certificate 1␊op touch eventual␊1 10 : c1␊end␊ -> 1: op touch eventual refused 1 NoConflict␊
+check: type t { op touch(): unit { contract true; answer unit; } } ~ quelea certificate 1␊op touch eventual␊1 11 : c13␊end␊ -> 1: op touch eventual refused 1 BadVariable␊
+check: type t { op touch(): unit { contract true; answer unit; } } ~ quelea certificate 1␊op touch eventual␊1 : c4294967296␊end␊ -> 2: bad certificate at 3: Unexpected␊
 ";
 
 #[test]
@@ -87,24 +89,38 @@ fn all_accepted(alloc: Global, levels: &[u8]) -> Result<Vec<u8>, NoMemory> {
     Ok(lines)
 }
 
-// A source and a certificate, and the exit statuses for the fronts of it, from the empty one to all but the last byte. The
-// last line feed may be missing.
+const TOUCH: &[u8] = b"type t { op touch(): unit { contract true; answer unit; } }";
+
+const TOUCH_CERTIFICATE: &[u8] = b"quelea certificate 1
+op touch eventual
+1 : c13 c14
+end
+";
+
+// Of each range of numbers, the certificate is cut to so many bytes, and this is answered, by an independent
+// implementation. The last line feed may be missing.
 const CUT: &str = "
-type t { op touch(): unit { contract true; answer unit; } } ~ quelea certificate 1␊op touch eventual␊1 : c13 c14␊end␊ -> 2222222222222222222222222222222222222222222222222222220
+0 19 -> 2: bad certificate at 1: Unexpected␊
+20 37 -> 2: bad certificate at 2: Unexpected␊
+38 41 -> 2: bad certificate at 3: Unexpected␊
+42 43 -> 2: bad certificate at 4: Unexpected␊
+44 44 -> 2: bad certificate at 3: Unexpected␊
+45 47 -> 2: bad certificate at 4: Unexpected␊
+48 48 -> 2: bad certificate at 3: Unexpected␊
+49 53 -> 2: bad certificate at 4: Unexpected␊
+54 55 -> 0: op touch eventual accepted␊
 ";
 
 #[test]
 fn refuses_a_certificate_that_is_cut(rt: HostRuntime) -> Result<(), Fail> {
-    check_table(rt.alloc(), CUT, fronts_checked)
+    check_table(rt.alloc(), CUT, cuts_checked)
 }
 
-fn fronts_checked(alloc: Global, row: &str) -> Result<Vec<u8>, NoMemory> {
-    let (source, certificate) = row.split_once(" ~ ").unwrap_or((row, ""));
-    let certificate = certificate.as_bytes();
-    let mut statuses = Vec::new(alloc);
-    for cut in 0..certificate.len() {
-        let (status, _) = answer(alloc, "check", &[source.as_bytes(), &certificate[..cut]])?;
-        push_number(&mut statuses, status.number())?;
-    }
-    Ok(statuses)
+fn cuts_checked(alloc: Global, range: &str) -> Result<Vec<u8>, NoMemory> {
+    answer_in_common(alloc, range, cut_checked)
+}
+
+fn cut_checked(alloc: Global, length: u32) -> Result<Vec<u8>, NoMemory> {
+    let kept = TOUCH_CERTIFICATE.len().min(length as usize);
+    reported(alloc, "check", &[TOUCH, &TOUCH_CERTIFICATE[..kept]])
 }

@@ -9,6 +9,8 @@ mod certificates;
 #[cfg(test)]
 mod commands;
 #[cfg(test)]
+mod failing;
+#[cfg(test)]
 mod judging;
 #[cfg(test)]
 mod levels;
