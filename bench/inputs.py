@@ -55,6 +55,12 @@ MAP_SOURCE = """type counts { state counted: map(int, int) = empty;
 """
 
 
+SUM_SOURCE = """type sums { state sum: int = 0;
+  op add_up(n: int): int { contract forall a. soo(a, cur) => vis(a, cur); answer sum;
+    emit p: int = n when n > 0; apply { sum := sum + p; } } }
+"""
+
+
 NOTES_SOURCE = """type notes { op write(title: text, first: text, second: text, third: text, count: int, done: bool): unit {
   contract true; answer unit; } }
 transaction two { uses write; contract true; }
@@ -81,6 +87,20 @@ def long_schedule():
             texts = " ".join('"' + "".join(draw.choice("abc def ghi") for _ in range(48)) + '"' for _ in range(4))
             parts.append(f"call {caller} {draw.choice(names)} write {texts} {draw.randrange(10**18)} true")
     return "\n".join(parts) + "\n"
+
+
+def calls_schedule():
+    """4,000 calls at one replica, by 16 sessions by turns, each of which sees all earlier ones."""
+    calls = (f"call {k % 16} at 0 x add_up {k % 100}" for k in range(MOST_EFFECTS))
+    return "\n".join(["quelea schedule 1", "replicas 1", "object x sums", "events", *calls, ""])
+
+
+def waiting_schedule(calls, receivers):
+    """Calls at one replica that each see all earlier ones, and their deliveries to others, the last one first."""
+    parts = ["quelea schedule 1", f"replicas {receivers + 1}", "object x sums", "events"]
+    parts += [f"call {k % 16} at 0 x add_up 1" for k in range(calls)]
+    parts += [f"deliver {k * receivers + to + 1}" for to in range(receivers) for k in reversed(range(calls))]
+    return "\n".join(parts + [""])
 
 
 def full_execution(entries):

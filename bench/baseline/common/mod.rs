@@ -1,9 +1,10 @@
 //! What the plain programs share: readers of sources and of line files, ground problems, a solver, executions,
-//! replicas.
+//! replicas, a store.
 #![allow(dead_code)]
 pub mod execution;
 pub mod ground;
 pub mod lex;
+pub mod levels;
 pub mod lines;
 pub mod parse;
 pub mod print;
@@ -12,8 +13,10 @@ pub mod relations;
 pub mod replica;
 pub mod schedule;
 pub mod solver;
+pub mod store;
 pub mod tree;
 pub mod types;
+pub mod value;
 
 use std::{fs, process};
 

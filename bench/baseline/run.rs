@@ -1,0 +1,102 @@
+//! Runs a schedule over a simulated store at the least levels of a source, as `quelea run FILE SCHEDULE` does.
+mod common;
+
+use common::levels::levels;
+use common::parse::parse_program;
+use common::schedule::{Known, Schedule, parse_schedule};
+use common::store::{Effect, Reply, Store};
+use common::types::{Typed, typecheck};
+use common::value::{Value, separated};
+use common::{MEBIBYTE, bad, end, read};
+use std::env;
+use std::io::{self, Write};
+
+fn main() -> io::Result<()> {
+    let path = |k: usize| env::args().nth(k).expect("two files");
+    let text = read(&path(1), MEBIBYTE);
+    let program = parse_program(&text).unwrap_or_else(|fault| bad("source", fault));
+    let typed = typecheck(&program).unwrap_or_else(|fault| bad("source", fault));
+    let levels = levels(&typed).unwrap_or_else(|line| end(&line, 1));
+    let text = read(&path(2), MEBIBYTE);
+    let schedule = parse_schedule(&Known::of(&program, &typed), &text).unwrap_or_else(|fault| bad("schedule", fault));
+    let mut store = Store::new(&program, &typed, &levels.ops, &levels.txns, schedule.replicas as usize);
+    let mut out = b"levels\n".to_vec();
+    out.extend_from_slice(levels.print(&typed).as_bytes());
+    out.extend_from_slice(b"replies\n");
+    for (k, event) in schedule.events.iter().enumerate() {
+        let reply = store.step(event);
+        print_reply(k + 1, &reply, &store.effects, &mut out)?;
+    }
+    print_execution(&typed, &schedule, &store, &mut out)?;
+    io::stdout().write_all(&out)
+}
+
+fn print_reply(number: usize, reply: &Reply, effects: &[Effect], out: &mut Vec<u8>) -> io::Result<()> {
+    write!(out, "{number} ")?;
+    match reply {
+        Reply::Ok(id) => {
+            write!(out, "ok {id} ")?;
+            effects[*id as usize - 1].answer.print(out);
+        }
+        Reply::Refused(why) => write!(out, "refused {why}")?,
+        Reply::Unavailable(replica) => write!(out, "unavailable {replica}")?,
+        Reply::Held(session) => write!(out, "held {session}")?,
+        Reply::Blocked(id) => write!(out, "blocked {id}")?,
+        Reply::Begun => write!(out, "begun")?,
+        Reply::Committed(ids) => ids_after(b"committed", ids, out)?,
+        Reply::Applies(ids) => ids_after(b"applies", ids, out)?,
+        Reply::Waits(id) => write!(out, "waits {id}")?,
+        Reply::Again => write!(out, "again")?,
+        Reply::Cut => write!(out, "cut")?,
+        Reply::Gone => write!(out, "gone")?,
+        Reply::Sent(message) => write!(out, "sent {message}")?,
+        Reply::Lost => write!(out, "lost")?,
+        Reply::Split => write!(out, "split")?,
+        Reply::Healed => write!(out, "healed")?,
+    }
+    out.push(b'\n');
+    Ok(())
+}
+
+fn ids_after(word: &[u8], ids: &[u32], out: &mut Vec<u8>) -> io::Result<()> {
+    out.extend_from_slice(word);
+    ids.iter().try_for_each(|id| write!(out, " {id}"))
+}
+
+fn print_execution(typed: &Typed, schedule: &Schedule, store: &Store, out: &mut Vec<u8>) -> io::Result<()> {
+    out.extend_from_slice(b"execution\n");
+    for (k, effect) in store.effects.iter().enumerate() {
+        write!(out, "effect {} ", k + 1)?;
+        out.extend_from_slice(schedule.objects[effect.object as usize]);
+        out.push(b' ');
+        out.extend_from_slice(typed.op_names[effect.op as usize]);
+        out.push(b' ');
+        print_values(&effect.args, out);
+        out.extend_from_slice(b" = ");
+        effect.answer.print(out);
+        out.extend_from_slice(b" emit ");
+        match &effect.payload {
+            Some(values) => print_values(values, out),
+            None => out.push(b'-'),
+        }
+        write!(out, " session {} txn ", effect.session)?;
+        match effect.run {
+            Some(run) => {
+                write!(out, "{}:", run + 1)?;
+                out.extend_from_slice(typed.txn_names[store.runs[run].decl as usize]);
+            }
+            None => out.push(b'-'),
+        }
+        write!(out, " stamp {} vis", effect.stamp)?;
+        effect.seen.iter().try_for_each(|id| write!(out, " {id}"))?;
+        out.push(b'\n');
+    }
+    out.extend_from_slice(b"end\n");
+    Ok(())
+}
+
+fn print_values(values: &[Value], out: &mut Vec<u8>) {
+    out.push(b'(');
+    separated(out, values.iter(), |out, value| value.print(out));
+    out.push(b')');
+}
