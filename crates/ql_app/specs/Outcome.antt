@@ -9,7 +9,7 @@ use Rattle.ql_app.specs.declared.outcome.Limits.{Limits}
 use Rattle.ql_app.specs.declared.status.Status.{Status}
 use Rattle.ql_app.specs.declared.status.Status.TheVariants.{Done, No, Bad, ReadFault, WriteFault, Usage, TooLarge}
 use Rattle.ql_app.specs.declared.words.Command.{Command}
-use Rattle.ql_app.specs.declared.words.Command.TheVariants.{Holds, Proof, Classify, Prove}
+use Rattle.ql_app.specs.declared.words.Command.TheVariants.{Holds, Proof, Classify, Prove, Gen, Soak}
 use Rattle.ql_app.specs.declared.words.PairCommand.{PairCommand}
 use Rattle.ql_app.specs.declared.words.PairCommand.TheVariants.{Check, Verify, Run}
 use Rattle.ql_app.specs.Words.{Call, OneFile, TwoFiles, IsRequest}
@@ -22,7 +22,10 @@ use Rattle.ql_commands.specs.Check.{CheckSays}
 use Rattle.ql_commands.specs.Classify.{ClassifySays}
 use Rattle.ql_commands.specs.Prove.{ProveSays}
 use Rattle.ql_commands.specs.Sources.{IsSource}
+use Rattle.ql_generated.specs.Schedules.{GenSays}
+use Rattle.ql_generated.specs.Soaks.{SoakSays}
 use Rattle.ql_judging.specs.Verify.{AreJudgeable, VerifySays}
+use Rattle.ql_run_text.specs.RunTexts.{run_text}
 use Rattle.ql_running.specs.Runs.{AreRunnable, RunSays}
 
 -- what a command says of its file's bytes
@@ -31,12 +34,14 @@ CommandSays Holds bytes status text = HoldsSays bytes status text
 CommandSays Proof bytes status text = ProofSays bytes status text
 CommandSays Classify bytes status text = AnswerSays (ClassifySays bytes) status text
 CommandSays Prove bytes status text = AnswerSays (ProveSays bytes) status text
+CommandSays (Gen number events) bytes status text = AnswerSays (GenSays bytes number events) status text
+CommandSays (Soak number) bytes status text = AnswerSays (SoakSays bytes number) status text
 
 -- and of the bytes of two files
 abbrev pub PairSays : PairCommand → List ℕ → List ℕ → Status → List ℕ → Type 0
 PairSays Check bytes more status text = AnswerSays (CheckSays bytes more) status text
 PairSays Verify bytes more status text = JudgedSays (VerifySays bytes more) status text
-PairSays Run bytes more status text = AnswerSays (RunSays bytes more) status text
+PairSays Run bytes more status text = AnswerSays (RunSays run_text bytes more) status text
 
 -- the bytes are in the grammar of the command's files, and don't ask for too much work
 abbrev pub IsAnswerable : Command → List ℕ → Type 0
@@ -44,6 +49,8 @@ IsAnswerable Holds bytes = holds.IsAnswerable bytes
 IsAnswerable Proof bytes = IsProofFile bytes
 IsAnswerable Classify bytes = IsSource bytes
 IsAnswerable Prove bytes = IsSource bytes
+IsAnswerable (Gen number events) bytes = IsSource bytes
+IsAnswerable (Soak number) bytes = IsSource bytes
 
 -- and those of two files
 abbrev pub AreAnswerable : PairCommand → List ℕ → List ℕ → Type 0

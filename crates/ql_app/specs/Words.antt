@@ -1,10 +1,10 @@
 -- The grammar of the words.
-use Rattle.std.specs.Prelude.{◌≡◌, ◌≢◌, ℕ, ◌≤◌, List, [], ◌∷◌, length, map, slice_index, codes}
+use Rattle.std.specs.Prelude.{◌≡◌, ◌≢◌, ℕ, ◌≤◌, ◌<◌, ◌^◌, List, [], ◌∷◌, length, map, slice_index, codes, decimal}
 use Rattle.std.specs.Global.{Global, Vec}
 use Rattle.std.specs.declared.string.String.{String}
 use Rattle.std.specs.String.{string_bytes}
 use Rattle.ql_app.specs.declared.words.Command.{Command}
-use Rattle.ql_app.specs.declared.words.Command.TheVariants.{Holds, Proof, Classify, Prove}
+use Rattle.ql_app.specs.declared.words.Command.TheVariants.{Holds, Proof, Classify, Prove, Gen, Soak}
 use Rattle.ql_app.specs.declared.words.PairCommand.{PairCommand}
 use Rattle.ql_app.specs.declared.words.PairCommand.TheVariants.{Check, Verify, Run}
 
@@ -16,17 +16,26 @@ word_texts words = map string_bytes words.items
 abbrev pub IsName : List ℕ → Type 0
 IsName name = (1 ≤ length name) × (length name ≤ 255) × (slice_index name 0 ≢ 45)
 
--- the word of a command
-abbrev pub command_word : Command → List ℕ
-command_word Holds = codes "holds"
-command_word Proof = codes "proof"
-command_word Classify = codes "classify"
-command_word Prove = codes "prove"
+-- the words of a command on the file of a name
+abbrev pub command_words : Command → List ℕ → List (List ℕ)
+command_words Holds name = codes "holds" ∷ name ∷ []
+command_words Proof name = codes "proof" ∷ name ∷ []
+command_words Classify name = codes "classify" ∷ name ∷ []
+command_words Prove name = codes "prove" ∷ name ∷ []
+command_words (Gen number events) name = codes "gen" ∷ name ∷ decimal number ∷ decimal events ∷ []
+command_words (Soak number) name = codes "soak" ∷ name ∷ decimal number ∷ []
 
-abbrev pub pair_word : PairCommand → List ℕ
-pair_word Check = codes "check"
-pair_word Verify = codes "verify"
-pair_word Run = codes "run"
+-- the numbers of a command are in range
+abbrev pub IsInRange : Command → Type 0
+IsInRange (Gen number events) = (number < 2 ^ 31) × (events ≤ 4000)
+IsInRange (Soak number) = number < 2 ^ 31
+IsInRange _ = Unit {0}
+
+-- the words of a command on the files of two names
+abbrev pub pair_words : PairCommand → List ℕ → List ℕ → List (List ℕ)
+pair_words Check name other = codes "check" ∷ name ∷ other ∷ []
+pair_words Verify name other = codes "verify" ∷ name ∷ other ∷ []
+pair_words Run name other = codes "run" ∷ name ∷ other ∷ []
 
 -- what can be asked for: a command on one file, or on two, by their names
 pub data Call : Type 0 where
@@ -35,5 +44,5 @@ pub data Call : Type 0 where
 
 -- the words ask for this
 abbrev pub IsRequest : List (List ℕ) → Call → Type 0
-IsRequest words (OneFile command name) = (words ≡ command_word command ∷ name ∷ []) × IsName name
-IsRequest words (TwoFiles command name other) = (words ≡ pair_word command ∷ name ∷ other ∷ []) × IsName name × IsName other
+IsRequest words (OneFile command name) = (words ≡ command_words command name) × IsInRange command × IsName name
+IsRequest words (TwoFiles command name other) = (words ≡ pair_words command name other) × IsName name × IsName other

@@ -1,11 +1,14 @@
 ghost use Rattle.std.specs.Prelude.{◌≡◌, ◌++◌, ◌<◌, ◌≤◌, ◌^◌, ℕ, List, IfOk, codes, length};
 ghost use Rattle.ql_app.specs.Answers.{AnswerSays, JudgedSays, judged_status, status_of};
 ghost use Rattle.ql_app.specs.Outcome.{CommandSays, IsUnread, PairSays, Says, Tells, second_limit};
-ghost use Rattle.ql_app.specs.Words.{OneFile, TwoFiles, word_texts};
+ghost use Rattle.ql_app.specs.Words.{IsInRange, OneFile, TwoFiles, word_texts};
 ghost use Rattle.ql_commands.specs.Check.{CheckSays};
 ghost use Rattle.ql_commands.specs.Classify.{ClassifySays};
 ghost use Rattle.ql_commands.specs.Prove.{ProveSays};
+ghost use Rattle.ql_generated.specs.Schedules.{GenSays};
+ghost use Rattle.ql_generated.specs.Soaks.{SoakSays};
 ghost use Rattle.ql_judging.specs.Verify.{VerifySays};
+ghost use Rattle.ql_run_text.specs.RunTexts.{run_text};
 ghost use Rattle.ql_running.specs.Runs.{RunSays};
 
 use crate::holds::holds;
@@ -14,6 +17,7 @@ use crate::status::Status;
 use crate::words::{Command, PairCommand, Request, parse_words};
 use ql_base::NoMemory;
 use ql_commands::{Answer, check, classify, prove};
+use ql_generated::{generate, soak};
 use ql_judging::{Judged, verify};
 use ql_ports::{ReadError, Shelf, read_whole};
 use ql_running::run;
@@ -56,6 +60,7 @@ fn of_file<S: Shelf>(
     name: &str,
     limits: Limits,
 ) -> Result<(Status, Vec<u8>), NoMemory>
+    requires { IsInRange command }
     ensures says { IfOk result (λ answer. Tells limits (S.held shelf.old) (S.faults shelf.old) (S.faults shelf.new)
         (OneFile command name.now) answer.0 answer.1.items) }
     ensures same_contents { (other : List ℕ) → S.held shelf.new other ≡ S.held shelf.old other }
@@ -113,7 +118,8 @@ fn named(alloc: Global, text: &[u8], name: &str) -> Result<Vec<u8>, NoMemory>
 }
 
 fn judged(alloc: Global, command: Command, bytes: &[u8]) -> Result<(Status, Vec<u8>), NoMemory>
-    requires { length bytes.now < 2 ^ 32 }
+    requires short { length bytes.now < 2 ^ 32 }
+    requires in_range { IsInRange command }
     ensures { IfOk result (λ answer. CommandSays command bytes.now answer.0 answer.1.items) }
 {
     match command {
@@ -121,6 +127,8 @@ fn judged(alloc: Global, command: Command, bytes: &[u8]) -> Result<(Status, Vec<
         Command::Proof => judge(alloc, bytes),
         Command::Classify => classify_file(alloc, bytes),
         Command::Prove => prove_file(alloc, bytes),
+        Command::Gen { number, events } => gen_file(alloc, bytes, number, events),
+        Command::Soak { number } => soak_file(alloc, bytes, number),
     }
 }
 
@@ -137,6 +145,30 @@ fn prove_file(alloc: Global, source: &[u8]) -> Result<(Status, Vec<u8>), NoMemor
     ensures { IfOk result (λ answer. AnswerSays (ProveSays source.now) answer.0 answer.1.items) }
 {
     let (answer, text) = prove(alloc, source)?;
+    Ok((status_of(answer), text))
+}
+
+fn gen_file(
+    alloc: Global,
+    source: &[u8],
+    number: u32,
+    events: u32,
+) -> Result<(Status, Vec<u8>), NoMemory>
+    requires short { length source.now < 2 ^ 32 }
+    requires number { number < 2 ^ 31 }
+    requires few { events ≤ 4000 }
+    ensures { IfOk result (λ answer. AnswerSays (GenSays source.now number events) answer.0 answer.1.items) }
+{
+    let (answer, text) = generate(alloc, source, number, events)?;
+    Ok((status_of(answer), text))
+}
+
+fn soak_file(alloc: Global, source: &[u8], number: u32) -> Result<(Status, Vec<u8>), NoMemory>
+    requires short { length source.now < 2 ^ 32 }
+    requires number { number < 2 ^ 31 }
+    ensures { IfOk result (λ answer. AnswerSays (SoakSays source.now number) answer.0 answer.1.items) }
+{
+    let (answer, text) = soak(alloc, source, number)?;
     Ok((status_of(answer), text))
 }
 
@@ -182,7 +214,7 @@ fn verify_files(
 
 fn run_files(alloc: Global, source: &[u8], schedule: &[u8]) -> Result<(Status, Vec<u8>), NoMemory>
     requires { length source.now < 2 ^ 32 }
-    ensures { IfOk result (λ answer. AnswerSays (RunSays source.now schedule.now) answer.0 answer.1.items) }
+    ensures { IfOk result (λ answer. AnswerSays (RunSays run_text source.now schedule.now) answer.0 answer.1.items) }
 {
     let (answer, text) = run(alloc, source, schedule)?;
     Ok((status_of(answer), text))

@@ -1,8 +1,26 @@
-ghost use Rattle.std.specs.Prelude.{◌≡◌, ◌≢◌, ◌↔◌, ◌∷◌, [], ℕ, List, IsTrue, MatchOption};
+ghost use Rattle.std.specs.Prelude.{◌≡◌, ◌≢◌, ◌↔◌, ◌∷◌, [], ◌≤◌, ℕ, List, IsTrue, MatchOption, decimal};
 ghost use Rattle.ql_app.specs.declared.words.Command.{Command};
 ghost use Rattle.ql_app.specs.declared.words.PairCommand.{PairCommand};
 ghost use Rattle.ql_app.specs.Requests.{call_of};
-ghost use Rattle.ql_app.specs.Words.{Call, IsName, IsRequest, command_word, pair_word, word_texts};
+ghost use Rattle.ql_app.specs.Words.{
+  Call,
+  IsInRange,
+  IsName,
+  IsRequest,
+  OneFile,
+  TwoFiles,
+  command_words,
+  pair_words,
+  word_texts,
+};
+
+use ql_base::number_of;
+
+// The greatest number of a schedule.
+const MAX_NUMBER: u32 = 2_147_483_647;
+
+// The most events of a schedule.
+const MAX_EVENTS: u32 = 4000;
 
 /// What the program can be asked for of one file.
 #[derive(Clone, Copy, Debug, PartialEq, Eq)]
@@ -15,6 +33,10 @@ pub enum Command {
     Classify,
     /// The certificate of these levels.
     Prove,
+    /// The schedule of a number, with so many events.
+    Gen { number: u32, events: u32 },
+    /// What the run of 4000 generated events comes to.
+    Soak { number: u32 },
 }
 
 /// What it can be asked for of two files.
@@ -42,20 +64,32 @@ pub fn parse_words(words: &Vec<String>) -> Option<Request>
         (λ request. IsRequest (word_texts words.now) (call_of request)) }
 {
     if let [word, name] = words.as_slice() {
-        return one_file(word.as_str(), name.as_str());
+        return on_one_file(plain_command(word.as_str())?, name.as_str());
     }
-    if let [word, name, other] = words.as_slice() {
-        return two_files(word.as_str(), name.as_str(), other.as_str());
+    if let [word, name, last] = words.as_slice() {
+        return three_words(word.as_str(), name.as_str(), last.as_str());
+    }
+    if let [word, name, number, events] = words.as_slice() {
+        let command = gen_command(word.as_str(), number.as_str(), events.as_str())?;
+        return on_one_file(command, name.as_str());
     }
     None
 }
 
-fn one_file<'a>(word: &str, name: &'a str) -> Option<Request<'a>>
+fn three_words<'a>(word: &str, name: &'a str, last: &'a str) -> Option<Request<'a>>
     ensures { MatchOption result
-        ((call : Call) → IsRequest (word.now ∷ name.now ∷ []) call → ⊥)
-        (λ request. IsRequest (word.now ∷ name.now ∷ []) (call_of request)) }
+        ((call : Call) → IsRequest (word.now ∷ name.now ∷ last.now ∷ []) call → ⊥)
+        (λ request. IsRequest (word.now ∷ name.now ∷ last.now ∷ []) (call_of request)) }
 {
-    let command = command_named(word)?;
+    match soak_command(word, last) {
+        Some(command) => on_one_file(command, name),
+        None => on_two_files(pair_command(word)?, name, last),
+    }
+}
+
+fn on_one_file(command: Command, name: &str) -> Option<Request>
+    ensures { MatchOption result (IsName name.now → ⊥) (λ request. IsName name.now × (call_of request ≡ OneFile command name.now)) }
+{
     if is_name(name) {
         Some(Request::OneFile(command, name))
     } else {
@@ -63,12 +97,10 @@ fn one_file<'a>(word: &str, name: &'a str) -> Option<Request<'a>>
     }
 }
 
-fn two_files<'a>(word: &str, name: &'a str, other: &'a str) -> Option<Request<'a>>
-    ensures { MatchOption result
-        ((call : Call) → IsRequest (word.now ∷ name.now ∷ other.now ∷ []) call → ⊥)
-        (λ request. IsRequest (word.now ∷ name.now ∷ other.now ∷ []) (call_of request)) }
+fn on_two_files<'a>(command: PairCommand, name: &'a str, other: &'a str) -> Option<Request<'a>>
+    ensures { MatchOption result (IsName name.now → IsName other.now → ⊥)
+        (λ request. IsName name.now × IsName other.now × (call_of request ≡ TwoFiles command name.now other.now)) }
 {
-    let command = pair_command_named(word)?;
     if is_name(name) && is_name(other) {
         Some(Request::TwoFiles(command, name, other))
     } else {
@@ -76,10 +108,11 @@ fn two_files<'a>(word: &str, name: &'a str, other: &'a str) -> Option<Request<'a
     }
 }
 
-fn command_named(word: &str) -> Option<Command>
+// The command that its word and a name ask for.
+fn plain_command(word: &str) -> Option<Command>
     ensures { MatchOption result
-        ((command : Command) → command_word command ≢ word.now)
-        (λ command. command_word command ≡ word.now) }
+        ((command : Command) (name : List ℕ) → command_words command name ≡ word.now ∷ name ∷ [] → ⊥)
+        (λ command. IsInRange command × ((name : List ℕ) → command_words command name ≡ word.now ∷ name ∷ [])) }
 {
     match word {
         "holds" => Some(Command::Holds),
@@ -90,10 +123,37 @@ fn command_named(word: &str) -> Option<Command>
     }
 }
 
-fn pair_command_named(word: &str) -> Option<PairCommand>
+// The command that a word, a name and a number ask for.
+fn soak_command(word: &str, number: &str) -> Option<Command>
     ensures { MatchOption result
-        ((command : PairCommand) → pair_word command ≢ word.now)
-        (λ command. pair_word command ≡ word.now) }
+        ((command : Command) (name : List ℕ) → IsInRange command → command_words command name ≡ word.now ∷ name ∷ number.now ∷ [] → ⊥)
+        (λ command. IsInRange command × ((name : List ℕ) → command_words command name ≡ word.now ∷ name ∷ number.now ∷ [])) }
+{
+    if word != "soak" {
+        return None;
+    }
+    let number = number_up_to(number, MAX_NUMBER)?;
+    Some(Command::Soak { number })
+}
+
+// The command that a word, a name and two numbers ask for.
+fn gen_command(word: &str, number: &str, events: &str) -> Option<Command>
+    ensures { MatchOption result
+        ((command : Command) (name : List ℕ) → IsInRange command → command_words command name ≡ word.now ∷ name ∷ number.now ∷ events.now ∷ [] → ⊥)
+        (λ command. IsInRange command × ((name : List ℕ) → command_words command name ≡ word.now ∷ name ∷ number.now ∷ events.now ∷ [])) }
+{
+    if word != "gen" {
+        return None;
+    }
+    let number = number_up_to(number, MAX_NUMBER)?;
+    let events = number_up_to(events, MAX_EVENTS)?;
+    Some(Command::Gen { number, events })
+}
+
+fn pair_command(word: &str) -> Option<PairCommand>
+    ensures { MatchOption result
+        ((command : PairCommand) (name other : List ℕ) → pair_words command name other ≡ word.now ∷ name ∷ other ∷ [] → ⊥)
+        (λ command. (name other : List ℕ) → pair_words command name other ≡ word.now ∷ name ∷ other ∷ []) }
 {
     match word {
         "check" => Some(PairCommand::Check),
@@ -101,6 +161,16 @@ fn pair_command_named(word: &str) -> Option<PairCommand>
         "run" => Some(PairCommand::Run),
         _ => None,
     }
+}
+
+// The number whose decimal text is a word.
+fn number_up_to(word: &str, most: u32) -> Option<u32>
+    ensures { MatchOption result
+        ((n : ℕ) → n ≤ most → word.now ≡ decimal n → ⊥)
+        (λ n. (n ≤ most) × (word.now ≡ decimal n)) }
+{
+    let number = number_of(word.as_bytes(), u64::from(most))?;
+    Some(number as u32)
 }
 
 fn is_name(word: &str) -> bool

@@ -4,6 +4,7 @@ use Rattle.ql_commands.specs.declared.answer.Answer.{Answer}
 use Rattle.ql_commands.specs.declared.answer.Answer.TheVariants.{Done, No, Bad}
 use Rattle.ql_commands.specs.Levels.{AreLevelsOf, RefusalSays}
 use Rattle.ql_commands.specs.Sources.{BadSourceSays, IsSource, IsSourceOf}
+use Rattle.ql_exec.specs.declared.effect.Effect.{Effect}
 use Rattle.ql_headline.specs.Stores.{rules_of}
 use Rattle.ql_lang.specs.declared.program.Program.{Program}
 use Rattle.ql_levels.specs.Lists.{LevelLists}
@@ -11,31 +12,34 @@ use Rattle.ql_lines.specs.Lines.{ahead_from}
 use Rattle.ql_machine.specs.declared.reply.Reply.{Reply}
 use Rattle.ql_machine.specs.State.{Machine}
 use Rattle.ql_machine.specs.Runs.{IsRun}
-use Rattle.ql_run_text.specs.RunTexts.{run_text}
 use Rattle.ql_schedule.specs.declared.fault.SchedFault.{SchedFault}
 use Rattle.ql_schedule.specs.declared.schedule.Schedule.{Schedule}
 use Rattle.ql_schedule.specs.Files.{IsFirstFault, IsScheduleFile}
 use Rattle.ql_running.specs.Soundness.{IsSound}
 use Rattle.ql_running.specs.ScheduleFaults.{fault_text}
 
--- The text of the written machine's run of a schedule at some levels. In the execution that the text shows each effect
--- and each begun transaction meets its contract, and each answer is the fold of what its effect sees.
-pub record PrintsRun (p : Program) (levels : LevelLists) (s : Schedule) (text : List ℕ) : Type 0 where
+-- how a run is written: by its program, the names of its objects, the levels, the replies and the execution
+abbrev pub Format : Type 0
+Format = Program → List (List ℕ) → LevelLists → List Reply → List Effect → List ℕ
+
+-- The text, in a format, of the written machine's run of a schedule at some levels. In the execution that the text shows
+-- each effect and each begun transaction meets its contract, and each answer is the fold of what its effect sees.
+pub record PrintsRun (format : Format) (p : Program) (levels : LevelLists) (s : Schedule) (text : List ℕ) : Type 0 where
   pub replies : List Reply
   pub last : Machine
   pub run : IsRun (rules_of p levels) s.replicas s.events replies last
-  pub printed : text ≡ run_text p s.objects levels replies last.effects
+  pub printed : text ≡ format p s.objects levels replies last.effects
   pub sound : IsSound p last.effects
 
 -- The bytes of a source and of a schedule, and the text of the schedule's run at the least levels of the source's program.
-pub record TellsRun (source file text : List ℕ) : Type 0 where
+pub record TellsRun (format : Format) (source file text : List ℕ) : Type 0 where
   pub program : Program
   pub schedule : Schedule
   pub levels : LevelLists
   pub is_source : IsSourceOf source program
   pub is_schedule : IsScheduleFile program (ahead_from 1 file) schedule
   pub are_least : AreLevelsOf program levels
-  pub prints : PrintsRun program levels schedule text
+  pub prints : PrintsRun format program levels schedule text
 
 -- the source is a typed program's, and the other file says a schedule of it
 abbrev pub AreRunnable : List ℕ → List ℕ → Type 0
@@ -47,7 +51,7 @@ BadScheduleSays source file text =
     (AreRunnable source file → ⊥) × (p : Program) × IsSourceOf source p
     × (f : SchedFault) × IsFirstFault p (ahead_from 1 file) f × (fault_text f ≡ Some text)
 
-abbrev pub RunSays : List ℕ → List ℕ → Answer → List ℕ → Type 0
-RunSays source file Done text = TellsRun source file text
-RunSays source file No text = (p : Program) × IsSourceOf source p × (s : Schedule) × IsScheduleFile p (ahead_from 1 file) s × RefusalSays p text
-RunSays source file Bad text = BadSourceSays source text ⊎ BadScheduleSays source file text
+abbrev pub RunSays : Format → List ℕ → List ℕ → Answer → List ℕ → Type 0
+RunSays format source file Done text = TellsRun format source file text
+RunSays format source file No text = (p : Program) × IsSourceOf source p × (s : Schedule) × IsScheduleFile p (ahead_from 1 file) s × RefusalSays p text
+RunSays format source file Bad text = BadSourceSays source text ⊎ BadScheduleSays source file text

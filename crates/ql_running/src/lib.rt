@@ -3,9 +3,12 @@
 #![tactic(auto)]
 
 mod law;
-mod refusal;
+mod refusing;
 mod running;
 mod schedule_fault;
+mod store_run;
 
 pub use law::runs_are_sound;
+pub use refusing::refusal;
 pub use running::run;
+pub use store_run::sound_run;

@@ -4,17 +4,16 @@ ghost use Rattle.ql_commands.specs.Levels.{AreLevelsOf};
 ghost use Rattle.ql_lines.specs.Lines.{ahead_from};
 ghost use Rattle.ql_schedule.specs.Files.{IsScheduleFile};
 ghost use Rattle.ql_schedule.specs.Guarantees.{IsSchedule};
+ghost use Rattle.ql_run_text.specs.RunTexts.{run_text};
 ghost use Rattle.ql_running.specs.Runs.{RunSays, TellsRun};
 
-use crate::law::runs_are_sound;
-use crate::refusal::refusal;
+use crate::refusing::refusal;
 use crate::schedule_fault::bad_schedule;
+use crate::store_run::sound_run;
 use ql_base::NoMemory;
 use ql_commands::{Answer, bad_source, read_source};
 use ql_levels::Levels;
-use ql_replica::Replica;
 use ql_run_text::print_run;
-use ql_runs::run_schedule;
 use ql_schedule::{Schedule, one_schedule, parse_schedule};
 use ql_typing::Typed;
 use std::alloc::Global;
@@ -23,7 +22,7 @@ use std::alloc::Global;
 /// the source, one of the schedule, or why the program has no such levels.
 pub fn run(alloc: Global, source: &[u8], schedule: &[u8]) -> Result<(Answer, Vec<u8>), NoMemory>
     requires { length source.now < 2 ^ 32 }
-    ensures { IfOk result (λ answer. RunSays source.now schedule.now answer.0 answer.1.items) }
+    ensures { IfOk result (λ answer. RunSays run_text source.now schedule.now answer.0 answer.1.items) }
 {
     one_schedule();
     let typed = match read_source(alloc, source) {
@@ -37,14 +36,14 @@ pub fn run(alloc: Global, source: &[u8], schedule: &[u8]) -> Result<(Answer, Vec
     match ql_classify::classify(alloc, &typed) {
         Ok(classified) => Ok((
             Answer::Done,
-            run_text(alloc, &typed, classified.levels(), schedule)?,
+            text_of(alloc, &typed, classified.levels(), schedule)?,
         )),
         Err(why) => Ok((Answer::No, refusal(alloc, &typed, why)?)),
     }
 }
 
 // The text of a schedule's run at these levels, which shows it to whoever reads the program and the schedule in two files.
-fn run_text(
+fn text_of(
     alloc: Global,
     t: &Typed,
     levels: &Levels,
@@ -53,11 +52,9 @@ fn run_text(
     requires levels { AreLevelsOf t.now.program levels.now }
     requires schedule { IsSchedule t.now.program schedule }
     ensures { IfOk result (λ text. (source file : List ℕ) → IsSourceOf source t.now.program → IsScheduleFile t.now.program (ahead_from 1 file) schedule
-        → TellsRun source file text.items) }
+        → TellsRun run_text source file text.items) }
 {
-    runs_are_sound();
-    let same = levels.copy(alloc)?;
-    let run = run_schedule::<Replica>(alloc, t, same, schedule)?;
+    let run = sound_run(alloc, t, levels, schedule)?;
     print_run(
         alloc,
         t,

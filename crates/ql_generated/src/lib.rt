@@ -1,0 +1,11 @@
+// The commands on generated schedules, from the bytes of a source to their texts.
+// The one contract: the schedule that is printed is the stated one of its number, and what is counted is its run, in
+// which every contract of the source holds.
+#![tactic(auto)]
+
+mod generation;
+mod soaking;
+mod summary;
+
+pub use generation::generate;
+pub use soaking::soak;

@@ -1,0 +1,51 @@
+ghost use Rattle.std.specs.Prelude.{◌<◌, ◌^◌, length, IfOk};
+ghost use Rattle.ql_commands.specs.Levels.{AreLevelsOf};
+ghost use Rattle.ql_gen.specs.Generated.{generated};
+ghost use Rattle.ql_running.specs.Runs.{PrintsRun};
+ghost use Rattle.ql_generated.specs.Soaks.{SoakSays};
+ghost use Rattle.ql_generated.specs.Summaries.{summary};
+
+use crate::summary::{EVENTS, print_summary};
+use ql_base::NoMemory;
+use ql_commands::{Answer, bad_source, read_source};
+use ql_gen::schedule_of;
+use ql_levels::Levels;
+use ql_running::{refusal, sound_run};
+use ql_typing::Typed;
+use std::alloc::Global;
+
+/// What the run of 4000 generated events comes to, through a store of a source's program at the least levels; or what is
+/// wrong first: a fault of the source, or why the program has no such levels.
+pub fn soak(alloc: Global, source: &[u8], number: u32) -> Result<(Answer, Vec<u8>), NoMemory>
+    requires source { length source.now < 2 ^ 32 }
+    requires number { number < 2 ^ 31 }
+    ensures { IfOk result (λ answer. SoakSays source.now number answer.0 answer.1.items) }
+{
+    let typed = match read_source(alloc, source) {
+        Ok(typed) => typed,
+        Err(fault) => return Ok((Answer::Bad, bad_source(alloc, fault)?)),
+    };
+    match ql_classify::classify(alloc, &typed) {
+        Ok(classified) => Ok((
+            Answer::Done,
+            summary_of_run(alloc, &typed, classified.levels(), number)?,
+        )),
+        Err(why) => Ok((Answer::No, refusal(alloc, &typed, why)?)),
+    }
+}
+
+// The summary of the run of a number's schedule at these levels.
+fn summary_of_run(
+    alloc: Global,
+    t: &Typed,
+    levels: &Levels,
+    number: u32,
+) -> Result<Vec<u8>, NoMemory>
+    requires levels { AreLevelsOf t.now.program levels.now }
+    requires number { number < 2 ^ 31 }
+    ensures { IfOk result (λ text. PrintsRun summary t.now.program levels.now (generated t.now.program number 4000) text.items) }
+{
+    let schedule = schedule_of(alloc, t, number, EVENTS)?;
+    let run = sound_run(alloc, t, levels, schedule)?;
+    print_summary(alloc, &run.replies, run.store.execution())
+}

@@ -1,0 +1,45 @@
+use Rattle.std.proofs.Common.{◌≡◌, List, ℕ, length, sym, subst, ap, ◌∙◌}
+use Rattle.std.proofs.lemmas.Result.{IfOk-weaker}
+use Rattle.ql_exec.specs.declared.effect.Effect.{Effect}
+use Rattle.ql_run_text.specs.EffectTexts.{AreNamed}
+use Rattle.ql_run_text.specs.ReplyTexts.{AreAnswered}
+use Rattle.ql_run_text.specs.RunTexts.{run_text}
+use Rattle.ql_running.proofs.running.text_of.Goals as goal
+
+pub print_run-requires-clause-named : goal.print_run-requires-clause-named
+print_run-requires-clause-named c =
+    let p = c.args.t.now.program in
+    let run = c.in_ok-run.run' in
+    subst (λ (x : List Effect). AreNamed p (length run.objects) x) (sym c.execution.ensures)
+    (subst (λ (os : List (List ℕ)). AreNamed p (length os) run.store.machine.effects) (sym c.in_ok-run.ensures.objects) c.in_ok-run.ensures.named)
+
+pub print_run-requires-clause-answered : goal.print_run-requires-clause-answered
+print_run-requires-clause-answered c =
+    let run = c.in_ok-run.run' in
+    subst (λ (x : List Effect). AreAnswered x run.replies.items) (sym c.execution.ensures) c.in_ok-run.ensures.answered
+
+pub returns : goal.returns
+returns c =
+    let p = c.args.t.now.program in
+    let levels = c.args.levels.now in
+    let run = c.in_ok-run.run' in
+    let replies = run.replies.items in
+    let shown = ap (λ (os : List (List ℕ)). run_text p os levels replies c.execution.result.now) c.in_ok-run.ensures.objects
+    ∙ ap (λ (x : List Effect). run_text p c.args.schedule.objects levels replies x) c.execution.ensures in
+    IfOk-weaker c.print_run.result _ _
+    (λ text printed. λ source file is_source is_schedule. record {
+      program = p;
+      schedule = c.args.schedule;
+      levels = levels;
+      is_source = is_source;
+      is_schedule = is_schedule;
+      are_least = c.requires.levels;
+      prints = record {
+        replies = replies;
+        last = run.store.machine;
+        run = c.in_ok-run.ensures.run;
+        printed = printed ∙ shown;
+        sound = c.in_ok-run.ensures.sound;
+      };
+    })
+    c.print_run.ensures
