@@ -30,6 +30,19 @@ proof twice; 1 0 0; twice: variables 2␊c 1 2␊c 1 -2␊c -1␊1 1 : c1 c2␊1
 proof ends; 1 0 0; ends: variables 0␍␊c␍␊end -> 1: refused NoEmpty␊
 classify touch; 8 0 2; touch: type t { op touch(): unit { contract true; answer unit; } } -> 4: op touch
 verify touch other; 8 0 0; touch: type t { op touch(): unit { contract true; answer unit; } } -> 3: read fault other␊
+gen touch 0 2; 8 0 0; touch: type t { op touch(): unit { contract true; answer unit; } } -> 0: quelea schedule 1␊replicas 3␊object o0_0 t␊object o0_1 t␊events␊call 0 at 1 o0_0 touch␊deliver 2␊
+gen touch 2147483648 2; 8 0 0; touch: type t { op touch(): unit { contract true; answer unit; } } -> 5: usage␊
+gen touch 0 4001; 8 0 0; touch: type t { op touch(): unit { contract true; answer unit; } } -> 5: usage␊
+gen touch 00 2; 8 0 0; touch: type t { op touch(): unit { contract true; answer unit; } } -> 5: usage␊
+gen touch 0 +2; 8 0 0; touch: type t { op touch(): unit { contract true; answer unit; } } -> 5: usage␊
+gen -touch 0 2; 8 0 0; touch: type t { op touch(): unit { contract true; answer unit; } } -> 5: usage␊
+gen touch 0; 8 0 0; touch: type t { op touch(): unit { contract true; answer unit; } } -> 5: usage␊
+soak touch; 8 0 0; touch: type t { op touch(): unit { contract true; answer unit; } } -> 5: usage␊
+soak touch 007; 8 0 0; touch: type t { op touch(): unit { contract true; answer unit; } } -> 5: usage␊
+soak touch 2147483648; 8 0 0; touch: type t { op touch(): unit { contract true; answer unit; } } -> 5: usage␊
+soak touch 7 7; 8 0 0; touch: type t { op touch(): unit { contract true; answer unit; } } -> 5: usage␊
+gen other 0 2; 8 0 0; touch: type t { op touch(): unit { contract true; answer unit; } } -> 3: read fault other␊
+gen bad 0 2; 8 0 0; bad: type -> 2: bad source at 4: Unexpected␊
 verify touch; 8 0 0; touch: type t { op touch(): unit { contract true; answer unit; } } -> 5: usage␊
 ";
 

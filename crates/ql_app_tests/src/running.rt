@@ -1,6 +1,14 @@
-use crate::asking::asked;
+use crate::asking::{asked, file};
+use crate::sources::source_or_text;
+use ql_app::quelea;
+use ql_base::{NoMemory, push_bytes, push_number};
+use ql_ports::{MemShelf, MemSink};
 use ql_tables::check_table;
+use std::alloc::Global;
 use std::test::Fail;
+
+// How many bytes a fetch and a put take, and how many a text may have.
+const PIECE: usize = 4096;
 
 // Schedules, with what is printed of their runs, from an independent implementation: each reply, each level's way to answer,
 // a whole day of a shop with a partition, a loss and a resend, and faults of both files.
@@ -32,4 +40,36 @@ run: type t { op touch(): unit { contract forall a. vis(b, cur); answer unit; } 
 #[test]
 fn runs_schedules(rt: HostRuntime) -> Result<(), Fail> {
     check_table(rt.alloc(), RUNS, asked)
+}
+
+// Numbers and sources, with the summary of an independent implementation.
+const SOAKED: &str = r"
+7 bank -> 0: events 4000␊ok 1102␊begun 183␊committed 181␊blocked 26␊unavailable 153␊held 70␊cut 113␊gone 753␊again 239␊waits 7␊applies 8␊lost 32␊split 84␊healed 75␊sent 23␊refused 951␊effects 1102␊seen 306561␊stamp 469␊
+7 shop -> 0: events 4000␊ok 893␊begun 160␊committed 159␊blocked 144␊unavailable 127␊held 37␊cut 130␊gone 786␊again 218␊waits 9␊applies 13␊lost 31␊split 93␊healed 71␊sent 19␊refused 1110␊effects 893␊seen 98399␊stamp 357␊
+2147483647 register -> 0: events 4000␊ok 950␊begun 0␊committed 0␊blocked 1016␊unavailable 0␊held 0␊cut 49␊gone 728␊again 0␊waits 344␊applies 16␊lost 31␊split 86␊healed 435␊sent 31␊refused 314␊effects 950␊seen 6668␊stamp 267␊
+0 type t { op touch(): unit { contract forall a. sameobj(a, cur) => vis(a, cur) \/ vis(cur, a) \/ a = cur; answer unit; } } transaction p { uses touch; contract true; } -> 1: strong touch in p␊
+";
+
+#[test]
+fn soaks_sources(rt: HostRuntime) -> Result<(), Fail> {
+    check_table(rt.alloc(), SOAKED, soaked)
+}
+
+// The exit status and the text that `soak` answers to a number and a source.
+fn soaked(alloc: Global, row: &str) -> Result<Vec<u8>, NoMemory> {
+    let (number, source) = row.split_once(' ').unwrap_or(("", ""));
+    let mut words = Vec::new(alloc);
+    for word in ["soak", "source", number] {
+        words.push(String::from_str(alloc, word)?)?;
+    }
+    let mut named = Vec::new(alloc);
+    named.push(file(alloc, "source", source_or_text(source).as_bytes())?)?;
+    let mut shelf = MemShelf::new(alloc, named, PIECE, Vec::new(alloc))?;
+    let mut sink = MemSink::new(alloc, PIECE, PIECE, Vec::new(alloc))?;
+    let status = quelea(alloc, &words, &mut shelf, &mut sink)?;
+    let mut out = Vec::new(alloc);
+    push_number(&mut out, status.number())?;
+    push_bytes(&mut out, b": ")?;
+    push_bytes(&mut out, sink.bytes())?;
+    Ok(out)
 }

@@ -1,9 +1,7 @@
-ghost use Rattle.std.specs.Prelude.{◌<◌, ◌^◌, length, IfOk};
+ghost use Rattle.std.specs.Prelude.{◌<◌, ◌^◌, ℕ, List, length, IfOk};
 ghost use Rattle.ql_commands.specs.Levels.{AreLevelsOf};
-ghost use Rattle.ql_gen.specs.Generated.{generated};
-ghost use Rattle.ql_running.specs.Runs.{PrintsRun};
-ghost use Rattle.ql_generated.specs.Soaks.{SoakSays};
-ghost use Rattle.ql_generated.specs.Summaries.{summary};
+ghost use Rattle.ql_commands.specs.Sources.{IsSourceOf};
+ghost use Rattle.ql_generated.specs.Soaks.{SoakSays, TellsSoak};
 
 use crate::summary::{EVENTS, print_summary};
 use ql_base::NoMemory;
@@ -43,9 +41,9 @@ fn summary_of_run(
 ) -> Result<Vec<u8>, NoMemory>
     requires levels { AreLevelsOf t.now.program levels.now }
     requires number { number < 2 ^ 31 }
-    ensures { IfOk result (λ text. PrintsRun summary t.now.program levels.now (generated t.now.program number 4000) text.items) }
+    ensures { IfOk result (λ text. (source : List ℕ) → IsSourceOf source t.now.program → TellsSoak source number text.items) }
 {
     let schedule = schedule_of(alloc, t, number, EVENTS)?;
     let run = sound_run(alloc, t, levels, schedule)?;
-    print_summary(alloc, &run.replies, run.store.execution())
+    print_summary(alloc, run.replies.as_slice(), run.store.execution())
 }

@@ -1,4 +1,7 @@
-ghost use Rattle.std.specs.Prelude.{◌≡◌, ◌++◌, IfOk, OnOk, length, string_bytes};
+ghost use Rattle.std.specs.Prelude.{◌≡◌, ◌≤◌, ◌<◌, ◌^◌, ◌++◌, length, Some, if◌then◌else◌, IfOk, OnOk};
+ghost use Rattle.std.specs.Option.{option_map};
+ghost use Rattle.std.specs.Str.{bytes_eq};
+ghost use Rattle.ql_exec.specs.Effects.{effect_at};
 ghost use Rattle.ql_generated.specs.Summaries.{
   call_lines,
   count,
@@ -95,11 +98,16 @@ fn count(replies: &[Reply], word: &str) -> usize
 {
     let mut number = 0;
     for k in 0..replies.len() {
-        if word_of(&replies[k]) == word {
-            number += 1;
-        }
+        number += one_for(&replies[k], word);
     }
     number
+}
+
+// 1 for a reply that begins with a word.
+fn one_for(reply: &Reply, word: &str) -> usize
+    ensures { result ≡ (if bytes_eq (word_of reply.now) word.now then 1 else 0) }
+{
+    if word_of(reply) == word { 1 } else { 0 }
 }
 
 // The word that a reply begins with.
@@ -132,9 +140,19 @@ fn seen_count(x: &Execution) -> u128
 {
     let mut sum = 0;
     for k in 0..x.len() {
-        sum += u128::from(x.get(EffId(k + 1)).seen.len() as u64);
+        sum += u128::from(seen_by(x, EffId(k + 1)));
     }
     sum
+}
+
+// How many ids an effect sees.
+fn seen_by(x: &Execution, id: EffId) -> u64
+    requires first { 1 ≤ id.0 }
+    requires last { id.0 ≤ length x.now }
+    ensures seen { option_map (λ e. length e.seen) (effect_at x.now id.0) ≡ Some result }
+    ensures few { result < 2 ^ 64 }
+{
+    x.get(id).seen.len() as u64
 }
 
 // The greatest stamp, and 0 where there is none.
