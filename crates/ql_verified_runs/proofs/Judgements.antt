@@ -77,7 +77,7 @@ pub run-judged : ((bytes : List ℕ) (s t : Source) → IsProgramText bytes s �
     → ((p : Program) (file : Ahead) (x : List Effect) (f : ReportFault) → IsExecutionFile p file x → FirstFault p file f → ⊥)
     → ((p : Program) (objects : List (List ℕ)) (levels : LevelLists) (replies : List Reply) (x : List Effect) → IsPrintable p objects x
     → (y : List Effect) × IsRenumbered x y × IsExecutionFile p (ahead_from 1 (run_text p objects levels replies x)) y)
-    → (source schedule text said : List ℕ) (j : Judged) (tells : TellsRun source schedule text) → IsPrintable tells.program tells.schedule.objects tells.prints.last.effects
+    → (source schedule text said : List ℕ) (j : Judged) (tells : TellsRun run_text source schedule text) → IsPrintable tells.program tells.schedule.objects tells.prints.last.effects
     → VerifySays source text j said → (j ≡ Holds) ⊎ (j ≡ TooMuch)
 run-judged tree one apart again source schedule text said j tells printable says =
     let p = tells.program in

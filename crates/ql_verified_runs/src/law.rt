@@ -9,6 +9,7 @@ ghost use Rattle.ql_lang.specs.Formulas.{Resolved};
 ghost use Rattle.ql_machine_laws.specs.Promised.{AllArrived};
 ghost use Rattle.ql_printed_runs.specs.Printable.{IsPrintable};
 ghost use Rattle.ql_printed_runs.specs.Renumbered.{IsRenumbered};
+ghost use Rattle.ql_run_text.specs.RunTexts.{run_text};
 ghost use Rattle.ql_running.specs.Runs.{TellsRun};
 ghost use Rattle.ql_verified_runs.specs.Agreement.{Agree};
 
@@ -27,7 +28,7 @@ pub fn object_numbers_are_names()
 /// Of a source and the text that `run` printed of it, whose execution can be written, `verify` says that all contracts
 /// hold, or that judging them is too much work.
 pub fn printed_runs_hold()
-    ensures { (source schedule text said : List ℕ) (judged : Judged) (told : TellsRun source schedule text) → IsPrintable told.program told.schedule.objects told.prints.last.effects
+    ensures { (source schedule text said : List ℕ) (judged : Judged) (told : TellsRun run_text source schedule text) → IsPrintable told.program told.schedule.objects told.prints.last.effects
         → VerifySays source text judged said → (judged ≡ Upheld) ⊎ (judged ≡ TooMuch) }
 {
     one_program_answer();
@@ -37,7 +38,7 @@ pub fn printed_runs_hold()
 
 /// Agreement, of the run that a text shows: where every package was received, the replicas agree.
 pub fn replicas_of_runs_agree()
-    ensures { (source schedule text : List ℕ) (told : TellsRun source schedule text) → AllArrived told.prints.last
+    ensures { (source schedule text : List ℕ) (told : TellsRun run_text source schedule text) → AllArrived told.prints.last
         → Agree (rules_of told.program told.levels) told.schedule.replicas told.prints.last }
 {
     replicas_agree();
