@@ -167,8 +167,8 @@ module _ (p : Program) (objects : List (List ℕ)) (id : ℕ) (e : Effect) (name
         ),
       ),
     );
-    call = is_call e.args e.answer after_call is.args is.answer;
-    emit = is_emit e.payload after_emit is.payload;
+    call = is_call e.args e.answer after_call is.values.args is.values.answer;
+    emit = is_emit e.payload after_emit is.values.payload;
     setting = is_setting p e named is stamp ids ascending;
   })
 
@@ -200,15 +200,15 @@ module _ (p : Program) (objects : List (List ℕ)) (id : ℕ) (e : Effect) (name
         (
           name_stay (op_name p e.op.0) named_op,
           (
-            values_stay e.args is.args,
+            values_stay e.args is.values.args,
             (
               (stays_of 61 (omega arith), tt),
               (
-                value_stay e.answer is.answer,
+                value_stay e.answer is.values.answer,
                 (
                   high_word (codes "emit") (omega arith, (omega arith, (omega arith, (omega arith, tt)))),
                   (
-                    payload_stay e.payload is.payload,
+                    payload_stay e.payload is.values.payload,
                     (
                       high_word (codes "session") (omega arith, (omega arith, (omega arith, (omega arith, (omega arith, (omega arith, (omega arith, tt))))))),
                       (

@@ -143,7 +143,7 @@ module _ (p : Program) (objects : List (List ℕ)) (levels : LevelLists) (replie
     where
       by : (r : Option Effect) → effect_at x e ≡ r → Stay (option_map_or (λ (effect : Effect). value_text effect.answer) r [])
       by None at = tt
-      by (Some g) at = value_stay g.answer (at-each IsWritable x is.effects e g at).answer
+      by (Some g) at = value_stay g.answer (at-each IsWritable x is.effects e g at).values.answer
 
   reply_stays : (r : Reply) → AllByRecursion Stay (reply_fields x r)
   reply_stays (reply.Ok e) = (word (codes "ok") refl, (decimal_stay e.0, (answer_stays e.0, tt)))

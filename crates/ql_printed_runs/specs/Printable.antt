@@ -36,11 +36,15 @@ abbrev pub FitsPayload : Payload → Type 0
 FitsPayload Nothing = Unit {0}
 FitsPayload (Emitted vs) = AllByRecursion IsValue vs
 
--- what an effect has can be written
-pub record IsWritable (e : Effect) : Type 0 where
+-- an effect was called with values, answered one, and carries values
+pub record HasValues (e : Effect) : Type 0 where
   pub args : AllByRecursion IsValue e.args
   pub answer : IsValue e.answer
   pub payload : FitsPayload e.payload
+
+-- what an effect has can be written
+pub record IsWritable (e : Effect) : Type 0 where
+  pub values : HasValues e
   pub session : e.session.0 ≤ 255
   pub member : FitsMember e.member
 

@@ -2,7 +2,7 @@ mod PartLaws
 mod Loops
 mod Fronts
 mod Clean
-mod Sound
+pub mod Sound
 mod OneFile
 mod LinesAgain
 mod EventsAgain

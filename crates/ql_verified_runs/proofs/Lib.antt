@@ -2,3 +2,6 @@ mod Truth
 mod Verdicts
 mod SamePrograms
 mod Judgements
+mod FoundNames
+mod Made
+mod Printing

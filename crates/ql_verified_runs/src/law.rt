@@ -1,4 +1,5 @@
 ghost use Rattle.std.specs.Prelude.{◌≡◌, ◌⊎◌, ℕ, List, None};
+ghost use Rattle.std.specs.List.{AllByRecursion};
 ghost use Rattle.ql_exec.specs.declared.effect.Effect.{Effect};
 ghost use Rattle.ql_formula.specs.Truth.{Holds, HoldsTxn};
 ghost use Rattle.ql_headline.specs.Stores.{rules_of};
@@ -7,7 +8,7 @@ ghost use Rattle.ql_judging.specs.declared.judged.Judged.{Judged};
 ghost use Rattle.ql_judging.specs.declared.judged.Judged.TheVariants.{Holds as Upheld, TooMuch};
 ghost use Rattle.ql_lang.specs.Formulas.{Resolved};
 ghost use Rattle.ql_machine_laws.specs.Promised.{AllArrived};
-ghost use Rattle.ql_printed_runs.specs.Printable.{IsPrintable};
+ghost use Rattle.ql_printed_runs.specs.Printable.{AreObjects, HasValues, IsPrintable};
 ghost use Rattle.ql_printed_runs.specs.Renumbered.{IsRenumbered};
 ghost use Rattle.ql_run_text.specs.RunTexts.{run_text};
 ghost use Rattle.ql_running.specs.Runs.{TellsRun};
@@ -25,12 +26,20 @@ pub fn object_numbers_are_names()
     ensures txn { (x y : List Effect) (f : Resolved) (run : ℕ) → IsRenumbered x y → HoldsTxn x f run → HoldsTxn y f run }
 {}
 
-/// Of a source and the text that `run` printed of it, whose execution can be written, `verify` says that all contracts
-/// hold, or that judging them is too much work.
+/// The execution that the text of a run shows can be printed and read again, where its values can and no two objects have
+/// one name: operations and transactions are found by their names, and all numbers fit.
+pub fn runs_can_be_printed()
+    ensures { (source schedule text : List ℕ) (told : TellsRun run_text source schedule text) → AreObjects told.schedule.objects → AllByRecursion HasValues told.prints.last.effects
+        → IsPrintable told.program told.schedule.objects told.prints.last.effects }
+{}
+
+/// Of a source and the text that `run` printed of it, whose values can be written and whose objects have names apart,
+/// `verify` says that all contracts hold, or that judging them is too much work.
 pub fn printed_runs_hold()
-    ensures { (source schedule text said : List ℕ) (judged : Judged) (told : TellsRun run_text source schedule text) → IsPrintable told.program told.schedule.objects told.prints.last.effects
+    ensures { (source schedule text said : List ℕ) (judged : Judged) (told : TellsRun run_text source schedule text) → AreObjects told.schedule.objects → AllByRecursion HasValues told.prints.last.effects
         → VerifySays source text judged said → (judged ≡ Upheld) ⊎ (judged ≡ TooMuch) }
 {
+    runs_can_be_printed();
     one_program_answer();
     one_execution();
     printed_runs_are_read_again();

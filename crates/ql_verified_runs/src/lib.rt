@@ -3,4 +3,6 @@
 
 mod law;
 
-pub use law::{object_numbers_are_names, printed_runs_hold, replicas_of_runs_agree};
+pub use law::{
+    object_numbers_are_names, printed_runs_hold, replicas_of_runs_agree, runs_can_be_printed,
+};

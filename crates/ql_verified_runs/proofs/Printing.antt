@@ -1,0 +1,70 @@
+-- The execution of a schedule's run can be printed, where its values can.
+use Rattle.std.proofs.Common.{◌≡◌, ℕ, suc, ◌<◌, ◌≤◌, ◌^◌, List, Option, Some, get_or, length, slice_get, slice_index, ap, sym, arith, ◌∙◌}
+use Rattle.std.specs.Prelude.{unwrap_or}
+use Rattle.std.specs.List.{AllByRecursion}
+use Rattle.std.specs.Option.{option_map}
+use Rattle.std.proofs.lemmas.List.Elements.{All-from_recursion, recursion_from_All}
+use Rattle.std.proofs.lemmas.Option.{slice_get-get_or, unwrap_or-slice_get}
+use Rattle.ql_base.specs.declared.ids.ObjId.{ObjId}
+use Rattle.ql_base.specs.declared.ids.TypeId.{TypeId}
+use Rattle.ql_exec.specs.declared.effect.Effect.{Effect}
+use Rattle.ql_exec.specs.declared.effect.Member.{Member}
+use Rattle.ql_exec.specs.declared.effect.Member.TheVariants.{Alone, Inside}
+use Rattle.ql_headline.specs.Stores.{rules_of}
+use Rattle.ql_lang.specs.declared.program.Program.{Program}
+use Rattle.ql_lines.specs.Lines.{ahead_from}
+use Rattle.ql_machine_laws.proofs.Runs.{kept}
+use Rattle.ql_printed_runs.specs.Printable.{AreObjects, FitsMember, HasValues, IsPrintable, IsWritable}
+use Rattle.ql_run_text.specs.EffectTexts.{IsDeclared}
+use Rattle.ql_run_text.specs.RunTexts.{run_text}
+use Rattle.ql_running.specs.Runs.{TellsRun}
+use Rattle.ql_schedule.proofs.Sound.{file_sound}
+use Rattle.ql_typing.specs.Operations.{op_kinds}
+use Rattle.ql_verified_runs.proofs.FoundNames.{finds-names}
+use Rattle.ql_verified_runs.proofs.Made.{IsMember, Keeps, run-keeps}
+
+module _ (p : Program) (replicas objects : ℕ) (kinds : List TypeId) where
+  declared : (begun : ℕ) (m : Member) → IsMember p replicas objects kinds begun m → IsDeclared p m
+  declared begun Alone h = tt
+  declared begun (Inside run decl) h = h.2
+
+  numbered : (begun : ℕ) (m : Member) → begun ≤ 4000 → IsMember p replicas objects kinds begun m → FitsMember m
+  numbered begun Alone few h = tt
+  numbered begun (Inside run decl) few h = let high = h.1 in (h.0, omega (arith, high, few))
+
+pub run-printable : (source file text : List ℕ) (told : TellsRun run_text source file text) → AreObjects told.schedule.objects → AllByRecursion HasValues told.prints.last.effects → IsPrintable told.program told.schedule.objects told.prints.last.effects
+run-printable source file text told objects values =
+    let p = told.program in
+    let s = told.schedule in
+    let run = told.prints in
+    let x = run.last.effects in
+    let rules = rules_of p told.levels in
+    let lawful = file_sound p (ahead_from 1 file) s told.is_schedule in
+    let made : Keeps p s.replicas (length s.objects) s.kinds (length s.events) x run.last.open_txns run.last.begun =
+    run-keeps p s.replicas (length s.objects) s.kinds rules s.replicas s.events run.replies run.last run.run lawful.events in
+    let events = lawful.few_events in
+    let few = made.few in
+    let few_begun = made.few_begun in
+    let begun : run.last.begun ≤ 4000 = omega (arith, events, few_begun) in
+    let each = λ (k : ℕ) (d : Effect) (less : k < length x). made.made (suc k) (get_or x k d) (slice_get-get_or x k d less) in
+    record {
+      names = finds-names source p told.is_source;
+      distinct = objects;
+      execution = (kept rules s.replicas s.events run.replies run.last run.run).sound.execution;
+      few = omega (arith, events, few);
+      named = λ k d less. record {
+        object = (each k d less).object;
+        op = (each k d less).op;
+        txn = declared p s.replicas (length s.objects) s.kinds run.last.begun (get_or x k d).member (each k d less).member;
+      };
+      one_type = λ a b e g at there same.
+          (let type : slice_get (op_kinds p.types) e.op.0 ≡ slice_get (op_kinds p.types) g.op.0 =
+          sym (made.made a e at).type ∙ ap (λ (o : ℕ). option_map (λ (t : TypeId). t.0) (slice_get s.kinds o)) same ∙ (made.made b g there).type in
+          sym (unwrap_or-slice_get (op_kinds p.types) e.op.0 0) ∙ ap (λ (o : Option ℕ). unwrap_or o 0) type ∙ unwrap_or-slice_get (op_kinds p.types) g.op.0 0);
+      effects = recursion_from_All IsWritable x
+          (λ k d less. record {
+            values = All-from_recursion HasValues x values k d less;
+            session = (let session = (each k d less).session in omega (arith, session));
+            member = numbered p s.replicas (length s.objects) s.kinds run.last.begun (get_or x k d).member begun (each k d less).member;
+          });
+    }
