@@ -22,7 +22,7 @@ use Rattle.ql_commands.specs.Prove.{IsSectionOf, name_of, level_of}
 use Rattle.ql_commands.specs.Spellable.{HasNames, IsNearlyLine}
 use Rattle.ql_commands.proofs.SpelledVerdicts.{have_spelling}
 
-op-goal : (k : ℕ) (levels : List Level) (o : ℕ) (rest : List Goal) (l : Level) → slice_get levels o ≡ Some l → slice_get (ops_from k levels ++ rest) o ≡ Some (op_at (k + o) l)
+pub op-goal : (k : ℕ) (levels : List Level) (o : ℕ) (rest : List Goal) (l : Level) → slice_get levels o ≡ Some l → slice_get (ops_from k levels ++ rest) o ≡ Some (op_at (k + o) l)
 op-goal k [] o rest l e = absurd (cc)
 op-goal k (x ∷ xs) zero rest l e =
     let same : x ≡ l = cc in
@@ -52,12 +52,12 @@ module _ (p : Program) (levels : LevelLists) where
   same-goal : (n : ℕ) (g h : Goal) → slice_get (goals_at levels) n ≡ Some g → slice_get (goals_at levels) n ≡ Some h → h ≡ g
   same-goal n g h e f = let same : Some h ≡ Some g = sym f ∙ e in cc
 
-  op-is : (o : ℕ) (g : Goal) (l : Level) → slice_get (goals_at levels) o ≡ Some g → slice_get levels.ops o ≡ Some l → op_at o l ≡ g
+  pub op-is : (o : ℕ) (g : Goal) (l : Level) → slice_get (goals_at levels) o ≡ Some g → slice_get levels.ops o ≡ Some l → op_at o l ≡ g
   op-is o g l e f =
       let place : 0 + o ≡ o = omega arith in
       same-goal o g (op_at o l) e (op-goal 0 levels.ops o (txns_from 0 levels.txns) l f ∙ ap (λ n. Some (op_at n l)) place)
 
-  txn-is : (n d : ℕ) (g : Goal) (l : TxnLevel) → n ≡ length levels.ops + d → slice_get (goals_at levels) n ≡ Some g → slice_get levels.txns d ≡ Some l → txn_at d l ≡ g
+  pub txn-is : (n d : ℕ) (g : Goal) (l : TxnLevel) → n ≡ length levels.ops + d → slice_get (goals_at levels) n ≡ Some g → slice_get levels.txns d ≡ Some l → txn_at d l ≡ g
   txn-is n d g l place e f =
       let number : 0 + d ≡ d = omega arith in
       same-goal n g (txn_at d l) e

@@ -10,7 +10,7 @@ ghost use Rattle.ql_commands.specs.Prove.{IsCertificateFor, IsSectionOf, ProveSa
 ghost use Rattle.ql_commands.specs.Spellable.{HasNames};
 
 use crate::answer::Answer;
-use crate::refusal::refusal;
+use crate::refusals::refusal;
 use crate::source::read_source;
 use crate::source_fault::bad_source;
 use crate::spellable::spellable;

@@ -2,7 +2,7 @@ ghost use Rattle.std.specs.Prelude.{◌<◌, ◌^◌, length, IfOk};
 ghost use Rattle.ql_commands.specs.Classify.{ClassifySays};
 
 use crate::answer::Answer;
-use crate::refusal::refusal;
+use crate::refusals::refusal;
 use crate::source::read_source;
 use crate::source_fault::bad_source;
 use ql_base::NoMemory;

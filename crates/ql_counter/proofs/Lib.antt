@@ -9,3 +9,4 @@ pub mod Loops
 pub mod Made
 pub mod Programs
 pub mod Joined
+pub mod Within

@@ -1,5 +1,6 @@
 -- Countermodels of a program's goals.
-use Rattle.std.specs.Prelude.{ℕ, ◌≡◌, Bool, List, Some, map, slice_get}
+use Rattle.std.specs.Prelude.{ℕ, ◌≡◌, ◌<◌, Bool, List, Some, length, map, slice_get}
+use Rattle.std.specs.List.{All}
 use Rattle.ql_base.specs.declared.ids.EffId.{EffId}
 use Rattle.ql_base.specs.declared.ids.RunId.{RunId}
 use Rattle.ql_base.specs.declared.ids.DeclId.{DeclId}
@@ -11,6 +12,8 @@ use Rattle.ql_ground.specs.declared.goal.Goal.{Goal}
 use Rattle.ql_ground.specs.declared.goal.Goal.TheVariants.{OpAt, TxnAt}
 use Rattle.ql_ground.specs.OfPrograms.{IsProblemOf}
 use Rattle.ql_exec.specs.declared.effect.Effect.{Effect}
+use Rattle.ql_exec.specs.declared.effect.Member.{Member}
+use Rattle.ql_exec.specs.declared.effect.Member.TheVariants.{Alone, Inside}
 use Rattle.ql_implication.specs.Countermodels.{IsCounter, IsTxnCounter}
 use Rattle.ql_counter.specs.declared.counter.Counter.{Counter}
 use Rattle.ql_counter.specs.declared.counter.At.TheVariants as at
@@ -37,6 +40,24 @@ IsCounterOf p (OpAt o level) c =
     (f : Resolved) × (slice_get (op_contracts p.types) o.0 ≡ Some f) × (cur : EffId) × (c.at ≡ at.Effect cur) × IsCounter (op_kinds p.types) o.0 level f c.execution cur.0 (numbers c.places)
 IsCounterOf p (TxnAt d level) c =
     (f : Resolved) × (slice_get (txn_contracts p) d.0 ≡ Some f) × (run : RunId) × (c.at ≡ at.Run run) × IsTxnCounter (op_kinds p.types) d.0 level f c.execution run.0 (numbers c.places)
+
+-- ---- the numbers that its effects name
+
+-- the most objects: one for each constant, and one for chains of happens-before
+abbrev pub most_objects : ℕ
+most_objects = 7
+
+-- outside transactions, or in one of a name that the program declares
+abbrev pub IsDeclared : Program → Member → Type 0
+IsDeclared p Alone = Unit {0}
+IsDeclared p (Inside run name) = name.0 < length p.txns
+
+abbrev pub IsWithin : Program → Effect → Type 0
+IsWithin p e = (e.object.0 < most_objects) × IsDeclared p e.member
+
+-- objects are numbered from 0, and transactions are the program's
+abbrev pub AreWithin : Program → List Effect → Type 0
+AreWithin p x = All (IsWithin p) x
 
 -- ---- what is built of an assignment
 abbrev pub IsBuiltOfOp : List Bool → List ℕ → Resolved → Counter → Type 0

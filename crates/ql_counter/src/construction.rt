@@ -1,7 +1,7 @@
 ghost use Rattle.std.specs.Prelude.{◌≡◌, ◌≤◌, ℕ, List, length, IfOk};
 ghost use Rattle.ql_lang.specs.Formulas.{resolved_of};
 ghost use Rattle.ql_ground.specs.OfPrograms.{IsGoalOf};
-ghost use Rattle.ql_counter.specs.Countermodels.{IsBuiltOfOp, IsBuiltOfTxn, IsCounterOf, IsSatisfiedBy};
+ghost use Rattle.ql_counter.specs.Countermodels.{AreWithin, IsBuiltOfOp, IsBuiltOfTxn, IsCounterOf, IsSatisfiedBy};
 
 use crate::blocks::slots;
 use crate::classes::{Likeness, class};
@@ -24,7 +24,8 @@ use std::alloc::Global;
 pub fn countermodel(alloc: Global, t: &Typed, g: Goal, a: &Assignment) -> Result<Counter, NoMemory>
     requires goal { IsGoalOf t.now.program g }
     requires satisfied { IsSatisfiedBy t.now.program g a.now }
-    ensures { IfOk result (IsCounterOf t.now.program g) }
+    ensures counter { IfOk result (IsCounterOf t.now.program g) }
+    ensures within { IfOk result (λ c. AreWithin t.now.program c.execution) }
 {
     match g {
         Goal::OpAt(o, _) => of_operation(alloc, t.op_formula(o), t.ops(), a.items()),

@@ -71,8 +71,8 @@ fn txn_line(
     Ok(line)
 }
 
-// Appends each variable with its place.
-fn push_places(line: &mut Vec<u8>, vars: &[Var], places: &[EffId]) -> Result<(), NoMemory>
+/// Appends each variable with its place.
+pub fn push_places(line: &mut Vec<u8>, vars: &[Var], places: &[EffId]) -> Result<(), NoMemory>
     ensures { OnOk result (line.new.items ≡ line.old.items ++ places_text vars.now (numbers places.now)) }
 {
     let Some((var, other_vars)) = vars.split_first() else {

@@ -8,5 +8,6 @@ mod judged;
 mod member;
 mod verifying;
 
+pub use breach_line::push_places;
 pub use judged::Judged;
 pub use verifying::verify;

@@ -17,13 +17,14 @@ use Rattle.ql_cnf.specs.Satisfaction.{Satisfies}
 use Rattle.ql_typing.specs.Operations.{all_ops, op_contract, op_contracts, op_kinds, op_words, txn_contract, txn_contracts}
 use Rattle.ql_typing.specs.Programs.{program_faults}
 use Rattle.ql_ground.specs.Ground.{op_problem, txn_problem}
+use Rattle.ql_ground.specs.OfPrograms.{IsGoalOf}
 use Rattle.ql_ground.specs.declared.goal.Goal.{Goal}
 use Rattle.ql_ground.specs.declared.goal.Goal.TheVariants.{OpAt, TxnAt}
 use Rattle.ql_classify.specs.Outcome.{Fails, FirstFails, Test, OpHasLevel, UseIsWeak, TxnHasLevel, all_tests, every_txn_tests, names_used, op_tests, txn_tests, use_tests}
 use Rattle.ql_classify.specs.Targets.{IsLeastLevel, op_at, txn_at}
 use Rattle.ql_classify.specs.declared.classless.Classless.{Classless}
 use Rattle.ql_classify.specs.declared.classless.Classless.TheVariants.{NoLevel, StrongInTxn, NoMemory}
-use Rattle.ql_counter.specs.Countermodels.{HasCounter}
+use Rattle.ql_counter.specs.Countermodels.{HasCounter, IsSatisfiedBy}
 use Rattle.ql_counter.proofs.Programs.{goal_fails}
 use Rattle.ql_least.specs.Least.{LowerFail, TopFails, highest}
 
@@ -55,7 +56,9 @@ module _ (p : Program) (typed : program_faults p ≡ []) where
   lower_fail (TxnAt d Mav) (f, e, ((a, sat), enough)) = (txn_fails d Rc f a e sat, tt)
   lower_fail (TxnAt d Rr) (f, e, ((a, sat), (b, more), enough)) = (txn_fails d Rc f a e sat, (txn_fails d Mav f b e more, tt))
 
-  -- ---- the first test that fails
+-- ---- the first test that fails
+
+module _ (p : Program) where
   -- tests of the program's operations and transactions
   abbrev IsTest : Test → Type 0
   IsTest (OpHasLevel o) = o < length (all_ops p.types)
@@ -92,19 +95,36 @@ module _ (p : Program) (typed : program_faults p ≡ []) where
       let rest : (n + d) - n ≡ d = omega arith in
       rw (le-ltb (n + d) n (omega arith)) (ap (λ k. txn_at k Rr) rest)
 
-  one-fails : (t : Test) (e : Classless) → IsTest t → Fails p t e → TopFails p e
-  one-fails (OpHasLevel o) (NoLevel target a) known (e, sat) =
-      subst (HasCounter p) (sym (ap (highest p) e ∙ highest-op o known)) (goal_fails p typed (op_at o Strong) known a sat)
-  one-fails (TxnHasLevel d) (NoLevel target a) known (e, sat) =
-      subst (HasCounter p) (sym (ap (highest p) e ∙ highest-txn d)) (goal_fails p typed (txn_at d Rr) known a sat)
-  one-fails (UseIsWeak d w) (NoLevel target a) known h = absurd h
-  one-fails _ (StrongInTxn txn op) known h = tt
-  one-fails _ NoMemory known h = tt
+  -- the top level's problem is satisfied
+  abbrev TopSatisfied : ℕ → List Bool → Type 0
+  TopSatisfied target a = IsGoalOf p (highest p target) × IsSatisfiedBy p (highest p target) a
 
-  first-fails : (tests : List Test) (e : Classless) → AreTests tests → FirstFails p tests e → TopFails p e
-  first-fails [] e are h = absurd h
-  first-fails (t ∷ tests) e are (inl here) = one-fails t e are.0 here
-  first-fails (t ∷ tests) e are (inr later) = first-fails tests e are.1 later.1
+  one-satisfied : (t : Test) (target : ℕ) (a : List Bool) → IsTest t → Fails p t (NoLevel target a) → TopSatisfied target a
+  one-satisfied (OpHasLevel o) target a known (e, sat) =
+      let is : op_at o Strong ≡ highest p target = sym (ap (highest p) e ∙ highest-op o known) in (
+        subst (IsGoalOf p) is known,
+        subst (λ g. IsSatisfiedBy p g a) is sat,
+      )
+  one-satisfied (TxnHasLevel d) target a known (e, sat) =
+      let is : txn_at d Rr ≡ highest p target = sym (ap (highest p) e ∙ highest-txn d) in (
+        subst (IsGoalOf p) is known,
+        subst (λ g. IsSatisfiedBy p g a) is sat,
+      )
+  one-satisfied (UseIsWeak d w) target a known h = absurd h
 
+  first-satisfied : (tests : List Test) (target : ℕ) (a : List Bool) → AreTests tests → FirstFails p tests (NoLevel target a) → TopSatisfied target a
+  first-satisfied [] target a are h = absurd h
+  first-satisfied (t ∷ tests) target a are (inl here) = one-satisfied t target a are.0 here
+  first-satisfied (t ∷ tests) target a are (inr later) = first-satisfied tests target a are.1 later.1
+
+  pub top_satisfied : (target : ℕ) (a : List Bool) → FirstFails p (all_tests p) (NoLevel target a) → TopSatisfied target a
+  top_satisfied target a h = first-satisfied (all_tests p) target a are-tests h
+
+-- of a typed program
+module _ (p : Program) (typed : program_faults p ≡ []) where
   pub top_fails : (e : Classless) → FirstFails p (all_tests p) e → TopFails p e
-  top_fails e h = first-fails (all_tests p) e are-tests h
+  top_fails (NoLevel target a) h =
+      let top = top_satisfied p target a h in
+      goal_fails p typed (highest p target) top.0 a top.1
+  top_fails (StrongInTxn txn op) h = tt
+  top_fails NoMemory h = tt

@@ -6,10 +6,11 @@ use Rattle.ql_ground.specs.declared.goal.Goal.{Goal}
 use Rattle.ql_ground.proofs.Typing.{count_types}
 use Rattle.ql_counter.specs.Countermodels.{IsBuiltOfOp, IsBuiltOfTxn, IsCounterOf, IsSatisfiedBy}
 use Rattle.ql_counter.proofs.Programs.{op_built, txn_built}
+use Rattle.ql_counter.proofs.Within.{op_within, txn_within}
 use Rattle.ql_counter.proofs.construction.countermodel.Goals as goal
 
-pub returns-in-OpAt : goal.returns-in-OpAt
-returns-in-OpAt c =
+pub returns-in-OpAt-clause-counter : goal.returns-in-OpAt-clause-counter
+returns-in-OpAt-clause-counter c =
     let p = c.args.t.now.program in
     let types = op_kinds p.types in
     let f = resolved_of c.op_formula.result.now in
@@ -19,8 +20,8 @@ returns-in-OpAt c =
     subst (λ (g : Goal). IfOk c.of_operation.result (IsCounterOf p g)) (sym c.in-OpAt.is)
     (op_built p c.in-OpAt.o c.in-OpAt.field-1 f c.args.a.now c.of_operation.result c.op_formula.ensures.resolved c.op_formula.ensures.well_formed known satisfied built)
 
-pub returns-in-TxnAt : goal.returns-in-TxnAt
-returns-in-TxnAt c =
+pub returns-in-TxnAt-clause-counter : goal.returns-in-TxnAt-clause-counter
+returns-in-TxnAt-clause-counter c =
     let p = c.args.t.now.program in
     let types = op_kinds p.types in
     let f = resolved_of c.txn_formula.result.now in
@@ -28,3 +29,20 @@ returns-in-TxnAt c =
     let satisfied = subst (λ (g : Goal). IsSatisfiedBy p g c.args.a.now) c.in-TxnAt.is c.requires.satisfied in
     subst (λ (g : Goal). IfOk c.of_transaction.result (IsCounterOf p g)) (sym c.in-TxnAt.is)
     (txn_built p c.in-TxnAt.d c.in-TxnAt.field-1 f c.args.a.now c.of_transaction.result c.txn_formula.ensures.resolved c.txn_formula.ensures.well_formed satisfied built)
+
+pub returns-in-OpAt-clause-within : goal.returns-in-OpAt-clause-within
+returns-in-OpAt-clause-within c =
+    let p = c.args.t.now.program in
+    let types = op_kinds p.types in
+    let f = resolved_of c.op_formula.result.now in
+    let built = subst (λ a. IfOk c.of_operation.result (IsBuiltOfOp a types f)) c.items.ensures (c.of_operation.ensures types (count_types p.types types refl ∙ sym c.ops.ensures.count)) in
+    op_within p c.args.a.now types f c.of_operation.result c.op_formula.ensures.well_formed.few built
+
+pub returns-in-TxnAt-clause-within : goal.returns-in-TxnAt-clause-within
+returns-in-TxnAt-clause-within c =
+    let p = c.args.t.now.program in
+    let types = op_kinds p.types in
+    let f = resolved_of c.txn_formula.result.now in
+    let built = subst (λ a. IfOk c.of_transaction.result (IsBuiltOfTxn a types c.in-TxnAt.d f)) c.items-in-TxnAt.ensures (c.of_transaction.ensures types (count_types p.types types refl ∙ sym c.ops-in-TxnAt.ensures.count)) in
+    let known = subst (IsGoalOf p) c.in-TxnAt.is c.requires.goal in
+    txn_within p c.args.a.now types c.in-TxnAt.d f c.of_transaction.result c.txn_formula.ensures.well_formed.few known built

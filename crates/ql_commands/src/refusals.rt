@@ -8,7 +8,7 @@ use ql_typing::Typed;
 use std::alloc::Global;
 
 /// The text that tells why a program isn't accepted.
-pub(crate) fn refusal(alloc: Global, t: &Typed, why: Classless) -> Result<Vec<u8>, NoMemory>
+pub fn refusal(alloc: Global, t: &Typed, why: Classless) -> Result<Vec<u8>, NoMemory>
     requires { NamesTargets t.now.program why }
     ensures text { IfOk result (λ text. text.items ≡ refusal_text t.now.program why) }
     ensures known { OnOk result (why ≢ Classless.NoMemory) }

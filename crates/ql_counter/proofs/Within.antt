@@ -1,0 +1,47 @@
+-- The numbers that the effects of a countermodel name are small.
+use Rattle.std.proofs.Common.{◌≡◌, ◌<◌, ◌≤◌, ℕ, suc, Bool, List, length, Result, Ok, Err, Some, IfOk, sym, ap, subst, ◌∙◌, arith, get_or}
+use Rattle.std.proofs.lemmas.Option.{slice_get-get_or}
+use Rattle.ql_base.specs.declared.ids.DeclId.{DeclId}
+use Rattle.ql_base.specs.declared.no_memory.NoMemory.{NoMemory}
+use Rattle.ql_atoms.specs.declared.atoms.PairKind.TheVariants.{SameObj}
+use Rattle.ql_lang.specs.Formulas.{Resolved}
+use Rattle.ql_lang.specs.declared.program.Program.{Program}
+use Rattle.ql_exec.specs.declared.effect.Effect.{Effect}
+use Rattle.ql_blocks.specs.declared.slot.Part.{Part}
+use Rattle.ql_blocks.specs.declared.slot.Part.TheVariants.{Opening, Aide, Own, Closing}
+use Rattle.ql_blocks.specs.declared.slot.Slot.{Slot}
+use Rattle.ql_blocks.specs.Patterns.{Pattern}
+use Rattle.ql_blocks.specs.Built.{built, object_in}
+use Rattle.ql_blocks.proofs.Building.{effect-is, slot_at}
+use Rattle.ql_blocks.proofs.Classes.{least-bound}
+use Rattle.ql_counter.specs.declared.counter.Counter.{Counter}
+use Rattle.ql_counter.specs.Assigned.{op_execution, op_pattern, op_slots, txn_execution, txn_pattern, txn_slots}
+use Rattle.ql_counter.specs.Countermodels.{AreWithin, IsBuiltOfOp, IsBuiltOfTxn, IsDeclared}
+
+-- an object is one of the constants', or the one after them
+object-within : (p : Pattern) (part : Part) (b : ℕ) → object_in p part b ≤ p.count
+object-within p Opening b = omega arith
+object-within p Closing b = omega arith
+object-within p Aide b = least-bound p.count (λ k. p.rel SameObj k b)
+object-within p Own b = least-bound p.count (λ k. p.rel SameObj k b)
+
+module _ (program : Program) where
+  built-within : (p : Pattern) (slots : List Slot) → p.count ≤ 6 → ((c : ℕ) → IsDeclared program (p.member c)) → AreWithin program (built p slots)
+  built-within p slots few declared = λ k d l.
+      let x = built p slots in
+      let e : Effect = get_or x k d in
+      let same = effect-is p slots (suc k) e (slice_get-get_or x k d l) in
+      let t = slot_at slots (suc k) in
+      let object : e.object.0 ≡ object_in p t.part t.block = ap (λ (u : Effect). u.object.0) same.1 in
+      let member : e.member ≡ p.member t.block = ap (λ (u : Effect). u.member) same.1 in
+      (omega (arith, object, few, object-within p t.part t.block), subst (IsDeclared program) (sym member) (declared t.block))
+
+  pub op_within : (a : List Bool) (types : List ℕ) (f : Resolved) (result : Result Counter NoMemory) → length f.vars ≤ 5 → IfOk result (IsBuiltOfOp a types f) → IfOk result (λ c. AreWithin program c.execution)
+  op_within a types f (Err NoMemory) few h = tt
+  op_within a types f (Ok c) few h =
+      subst (AreWithin program) (sym h.0) (built-within (op_pattern a types f) (op_slots a types f) (omega (arith, few)) (λ c. tt))
+
+  pub txn_within : (a : List Bool) (types : List ℕ) (name : DeclId) (f : Resolved) (result : Result Counter NoMemory) → length f.vars ≤ 5 → name.0 < length program.txns → IfOk result (IsBuiltOfTxn a types name f) → IfOk result (λ c. AreWithin program c.execution)
+  txn_within a types name f (Err NoMemory) few known h = tt
+  txn_within a types name f (Ok c) few known h =
+      subst (AreWithin program) (sym h.0) (built-within (txn_pattern a types name.0 f) (txn_slots a types name.0 f) (omega (arith, few)) (λ c. known))

@@ -1,0 +1,18 @@
+use Rattle.std.proofs.Common.{subst}
+use Rattle.ql_classify.specs.Targets.{goals_at}
+use Rattle.ql_commands.specs.Levels.{AreLevelsOf}
+use Rattle.ql_lang.specs.declared.program.Program.{Program}
+use Rattle.ql_why.specs.Why.{InTurn, TellsTarget}
+use Rattle.ql_why.proofs.explanation.classify_with_reasons.Goals as goal
+
+pub returns-in-Ok-classify : goal.returns-in-Ok-classify
+returns-in-Ok-classify c =
+    let levels = c.in-Ok-classify.classified.levels in
+    let text = c.in_ok-levels_with_reasons-in-Ok-classify.field-0.items in
+    let told = c.in_ok-levels_with_reasons-in-Ok-classify.ensures in (
+      c.in-Ok.typed.program,
+      c.in-Ok.ensures.source,
+      levels,
+      subst (λ (q : Program). AreLevelsOf q levels) c.in-Ok-classify.ensures.same told.levels,
+      subst (λ (q : Program). InTurn (TellsTarget q) (goals_at levels) text) c.in-Ok-classify.ensures.same told.text,
+    )

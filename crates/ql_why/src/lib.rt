@@ -1,0 +1,13 @@
+// The least levels of a source's targets, each with countermodels that show why no lower level is enough, from the source's
+// bytes to the text.
+// The one contract: each block of the text is a countermodel of its target at the level that its first line names.
+#![tactic(auto)]
+
+mod counter_text;
+mod explanation;
+mod goals;
+mod objects;
+mod refusal;
+mod targets;
+
+pub use explanation::classify_with_reasons;
