@@ -4,3 +4,4 @@ pub mod OutcomeLaws
 pub mod ProofLaws
 pub mod Statuses
 mod RunWritten
+mod LeastWritten

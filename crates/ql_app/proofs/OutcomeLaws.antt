@@ -10,7 +10,7 @@ use Rattle.ql_app.specs.declared.outcome.Limits.{Limits}
 use Rattle.ql_app.specs.declared.status.Status.{Status}
 use Rattle.ql_app.specs.declared.status.Status.TheVariants.{Done, No, Bad, ReadFault, WriteFault, Usage, TooLarge}
 use Rattle.ql_app.specs.declared.words.Command.{Command}
-use Rattle.ql_app.specs.declared.words.Command.TheVariants.{Holds, Proof, Classify, Prove, Gen, Soak}
+use Rattle.ql_app.specs.declared.words.Command.TheVariants.{Holds, Proof, Classify, ClassifyWhy, Prove, Gen, Soak}
 use Rattle.ql_app.specs.declared.words.PairCommand.{PairCommand}
 use Rattle.ql_app.specs.declared.words.PairCommand.TheVariants.{Check, Verify, Run}
 use Rattle.ql_app.specs.Words.{OneFile, TwoFiles}
@@ -33,18 +33,21 @@ module _ (limits : Limits) (held : List ℕ → Option (List ℕ)) (before after
   one Holds name bytes ReadFault text same short says = absurd says
   one Proof name bytes ReadFault text same short says = absurd says
   one Classify name bytes ReadFault text same short says = absurd says
+  one ClassifyWhy name bytes ReadFault text same short says = absurd says
   one Prove name bytes ReadFault text same short says = absurd says
   one (Gen number events) name bytes ReadFault text same short says = absurd says
   one (Soak number) name bytes ReadFault text same short says = absurd says
   one Holds name bytes WriteFault text same short says = absurd says
   one Proof name bytes WriteFault text same short says = absurd says
   one Classify name bytes WriteFault text same short says = absurd says
+  one ClassifyWhy name bytes WriteFault text same short says = absurd says
   one Prove name bytes WriteFault text same short says = absurd says
   one (Gen number events) name bytes WriteFault text same short says = absurd says
   one (Soak number) name bytes WriteFault text same short says = absurd says
   one Holds name bytes Usage text same short says = absurd says
   one Proof name bytes Usage text same short says = absurd says
   one Classify name bytes Usage text same short says = absurd says
+  one ClassifyWhy name bytes Usage text same short says = absurd says
   one Prove name bytes Usage text same short says = absurd says
   one (Gen number events) name bytes Usage text same short says = absurd says
   one (Soak number) name bytes Usage text same short says = absurd says

@@ -6,7 +6,7 @@ use Rattle.ql_app.specs.declared.outcome.Limits.{Limits}
 use Rattle.ql_app.specs.declared.status.Status.{Status}
 use Rattle.ql_app.specs.declared.status.Status.TheVariants.{Done, Usage}
 use Rattle.ql_app.specs.declared.words.Command.{Command}
-use Rattle.ql_app.specs.declared.words.Command.TheVariants.{Holds, Proof, Classify, Prove, Gen, Soak}
+use Rattle.ql_app.specs.declared.words.Command.TheVariants.{Holds, Proof, Classify, ClassifyWhy, Prove, Gen, Soak}
 use Rattle.ql_app.specs.declared.words.PairCommand.{PairCommand}
 use Rattle.ql_app.specs.declared.words.PairCommand.TheVariants.{Check, Verify, Run}
 use Rattle.ql_app.specs.Outcome.{Judges, PairSays, Says, Tells, Wrote}
@@ -30,6 +30,7 @@ module _ (limits : Limits) (held : List ℕ → Option (List ℕ)) (name other s
   asked words are (OneFile Holds n) is says = absurd (let never : 114 ≡ 104 = ap first (sym are ∙ is.0) in omega (arith, never))
   asked words are (OneFile Proof n) is says = absurd (let never : 114 ≡ 112 = ap first (sym are ∙ is.0) in omega (arith, never))
   asked words are (OneFile Classify n) is says = absurd (let never : 114 ≡ 99 = ap first (sym are ∙ is.0) in omega (arith, never))
+  asked words are (OneFile ClassifyWhy n) is says = absurd (let never : 114 ≡ 99 = ap first (sym are ∙ is.0) in omega (arith, never))
   asked words are (OneFile Prove n) is says = absurd (let never : 114 ≡ 112 = ap first (sym are ∙ is.0) in omega (arith, never))
   asked words are (OneFile (Gen number events) n) is says = absurd (let never : 114 ≡ 103 = ap first (sym are ∙ is.0) in omega (arith, never))
   asked words are (OneFile (Soak number) n) is says = absurd (let never : 114 ≡ 115 = ap first (sym are ∙ is.0) in omega (arith, never))

@@ -6,3 +6,4 @@ pub mod Answers
 pub mod Outcome
 pub mod ExitNumbers
 pub mod RunWritten
+pub mod LeastWritten

@@ -9,7 +9,7 @@ use Rattle.ql_app.specs.declared.outcome.Limits.{Limits}
 use Rattle.ql_app.specs.declared.status.Status.{Status}
 use Rattle.ql_app.specs.declared.status.Status.TheVariants.{Done, No, Bad, ReadFault, WriteFault, Usage, TooLarge}
 use Rattle.ql_app.specs.declared.words.Command.{Command}
-use Rattle.ql_app.specs.declared.words.Command.TheVariants.{Holds, Proof, Classify, Prove, Gen, Soak}
+use Rattle.ql_app.specs.declared.words.Command.TheVariants.{Holds, Proof, Classify, ClassifyWhy, Prove, Gen, Soak}
 use Rattle.ql_app.specs.declared.words.PairCommand.{PairCommand}
 use Rattle.ql_app.specs.declared.words.PairCommand.TheVariants.{Check, Verify, Run}
 use Rattle.ql_app.specs.Words.{Call, OneFile, TwoFiles, IsRequest}
@@ -27,12 +27,14 @@ use Rattle.ql_generated.specs.Soaks.{SoakSays}
 use Rattle.ql_judging.specs.Verify.{AreJudgeable, VerifySays}
 use Rattle.ql_run_text.specs.RunTexts.{run_text}
 use Rattle.ql_running.specs.Runs.{AreRunnable, RunSays}
+use Rattle.ql_why.specs.Why.{WhySays}
 
 -- what a command says of its file's bytes
 abbrev pub CommandSays : Command → List ℕ → Status → List ℕ → Type 0
 CommandSays Holds bytes status text = HoldsSays bytes status text
 CommandSays Proof bytes status text = ProofSays bytes status text
 CommandSays Classify bytes status text = AnswerSays (ClassifySays bytes) status text
+CommandSays ClassifyWhy bytes status text = AnswerSays (WhySays bytes) status text
 CommandSays Prove bytes status text = AnswerSays (ProveSays bytes) status text
 CommandSays (Gen number events) bytes status text = AnswerSays (GenSays bytes number events) status text
 CommandSays (Soak number) bytes status text = AnswerSays (SoakSays bytes number) status text
@@ -48,6 +50,7 @@ abbrev pub IsAnswerable : Command → List ℕ → Type 0
 IsAnswerable Holds bytes = holds.IsAnswerable bytes
 IsAnswerable Proof bytes = IsProofFile bytes
 IsAnswerable Classify bytes = IsSource bytes
+IsAnswerable ClassifyWhy bytes = IsSource bytes
 IsAnswerable Prove bytes = IsSource bytes
 IsAnswerable (Gen number events) bytes = IsSource bytes
 IsAnswerable (Soak number) bytes = IsSource bytes

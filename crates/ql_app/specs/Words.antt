@@ -4,7 +4,7 @@ use Rattle.std.specs.Global.{Global, Vec}
 use Rattle.std.specs.declared.string.String.{String}
 use Rattle.std.specs.String.{string_bytes}
 use Rattle.ql_app.specs.declared.words.Command.{Command}
-use Rattle.ql_app.specs.declared.words.Command.TheVariants.{Holds, Proof, Classify, Prove, Gen, Soak}
+use Rattle.ql_app.specs.declared.words.Command.TheVariants.{Holds, Proof, Classify, ClassifyWhy, Prove, Gen, Soak}
 use Rattle.ql_app.specs.declared.words.PairCommand.{PairCommand}
 use Rattle.ql_app.specs.declared.words.PairCommand.TheVariants.{Check, Verify, Run}
 
@@ -21,6 +21,7 @@ abbrev pub command_words : Command → List ℕ → List (List ℕ)
 command_words Holds name = codes "holds" ∷ name ∷ []
 command_words Proof name = codes "proof" ∷ name ∷ []
 command_words Classify name = codes "classify" ∷ name ∷ []
+command_words ClassifyWhy name = codes "classify" ∷ codes "--why" ∷ name ∷ []
 command_words Prove name = codes "prove" ∷ name ∷ []
 command_words (Gen number events) name = codes "gen" ∷ name ∷ decimal number ∷ decimal events ∷ []
 command_words (Soak number) name = codes "soak" ∷ name ∷ decimal number ∷ []

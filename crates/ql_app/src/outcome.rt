@@ -10,6 +10,7 @@ ghost use Rattle.ql_generated.specs.Soaks.{SoakSays};
 ghost use Rattle.ql_judging.specs.Verify.{VerifySays};
 ghost use Rattle.ql_run_text.specs.RunTexts.{run_text};
 ghost use Rattle.ql_running.specs.Runs.{RunSays};
+ghost use Rattle.ql_why.specs.Why.{WhySays};
 
 use crate::holds::holds;
 use crate::proof::judge;
@@ -21,6 +22,7 @@ use ql_generated::{generate, soak};
 use ql_judging::{Judged, verify};
 use ql_ports::{ReadError, Shelf, read_whole};
 use ql_running::run;
+use ql_why::classify_with_reasons;
 use std::alloc::Global;
 
 /// The greatest lengths of files in bytes: of sources, schedules and the files of `holds` and `proof`, and of certificates
@@ -126,6 +128,7 @@ fn judged(alloc: Global, command: Command, bytes: &[u8]) -> Result<(Status, Vec<
         Command::Holds => holds(alloc, bytes),
         Command::Proof => judge(alloc, bytes),
         Command::Classify => classify_file(alloc, bytes),
+        Command::ClassifyWhy => why_file(alloc, bytes),
         Command::Prove => prove_file(alloc, bytes),
         Command::Gen { number, events } => gen_file(alloc, bytes, number, events),
         Command::Soak { number } => soak_file(alloc, bytes, number),
@@ -137,6 +140,14 @@ fn classify_file(alloc: Global, source: &[u8]) -> Result<(Status, Vec<u8>), NoMe
     ensures { IfOk result (λ answer. AnswerSays (ClassifySays source.now) answer.0 answer.1.items) }
 {
     let (answer, text) = classify(alloc, source)?;
+    Ok((status_of(answer), text))
+}
+
+fn why_file(alloc: Global, source: &[u8]) -> Result<(Status, Vec<u8>), NoMemory>
+    requires { length source.now < 2 ^ 32 }
+    ensures { IfOk result (λ answer. AnswerSays (WhySays source.now) answer.0 answer.1.items) }
+{
+    let (answer, text) = classify_with_reasons(alloc, source)?;
     Ok((status_of(answer), text))
 }
 

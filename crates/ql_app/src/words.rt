@@ -1,4 +1,4 @@
-ghost use Rattle.std.specs.Prelude.{◌≡◌, ◌≢◌, ◌↔◌, ◌∷◌, [], ◌≤◌, ℕ, List, IsTrue, MatchOption, decimal};
+ghost use Rattle.std.specs.Prelude.{◌≡◌, ◌≢◌, ◌↔◌, ◌∷◌, [], ◌≤◌, ℕ, List, IsTrue, MatchOption, codes, decimal};
 ghost use Rattle.ql_app.specs.declared.words.Command.{Command};
 ghost use Rattle.ql_app.specs.declared.words.PairCommand.{PairCommand};
 ghost use Rattle.ql_app.specs.Requests.{call_of};
@@ -31,6 +31,8 @@ pub enum Command {
     Proof,
     /// The least levels of a source's operations and transactions.
     Classify,
+    /// The same with countermodels, which show why no lower level is enough.
+    ClassifyWhy,
     /// The certificate of these levels.
     Prove,
     /// The schedule of a number, with so many events.
@@ -81,10 +83,34 @@ fn three_words<'a>(word: &str, name: &'a str, last: &'a str) -> Option<Request<'
         ((call : Call) → IsRequest (word.now ∷ name.now ∷ last.now ∷ []) call → ⊥)
         (λ request. IsRequest (word.now ∷ name.now ∷ last.now ∷ []) (call_of request)) }
 {
-    match soak_command(word, last) {
-        Some(command) => on_one_file(command, name),
-        None => on_two_files(pair_command(word)?, name, last),
+    match word {
+        "classify" => why_request(name, last),
+        "soak" => soak_request(name, last),
+        _ => on_two_files(pair_command(word)?, name, last),
     }
+}
+
+// What `classify`, a flag and a name ask for.
+fn why_request<'a>(flag: &str, name: &'a str) -> Option<Request<'a>>
+    ensures { MatchOption result
+        ((call : Call) → IsRequest (codes "classify" ∷ flag.now ∷ name.now ∷ []) call → ⊥)
+        (λ request. IsRequest (codes "classify" ∷ flag.now ∷ name.now ∷ []) (call_of request)) }
+{
+    if flag == "--why" {
+        on_one_file(Command::ClassifyWhy, name)
+    } else {
+        None
+    }
+}
+
+// What `soak`, a name and a number ask for.
+fn soak_request<'a>(name: &'a str, number: &str) -> Option<Request<'a>>
+    ensures { MatchOption result
+        ((call : Call) → IsRequest (codes "soak" ∷ name.now ∷ number.now ∷ []) call → ⊥)
+        (λ request. IsRequest (codes "soak" ∷ name.now ∷ number.now ∷ []) (call_of request)) }
+{
+    let number = number_up_to(number, MAX_NUMBER)?;
+    on_one_file(Command::Soak { number }, name)
 }
 
 fn on_one_file(command: Command, name: &str) -> Option<Request>
@@ -121,19 +147,6 @@ fn plain_command(word: &str) -> Option<Command>
         "prove" => Some(Command::Prove),
         _ => None,
     }
-}
-
-// The command that a word, a name and a number ask for.
-fn soak_command(word: &str, number: &str) -> Option<Command>
-    ensures { MatchOption result
-        ((command : Command) (name : List ℕ) → IsInRange command → command_words command name ≡ word.now ∷ name ∷ number.now ∷ [] → ⊥)
-        (λ command. IsInRange command × ((name : List ℕ) → command_words command name ≡ word.now ∷ name ∷ number.now ∷ [])) }
-{
-    if word != "soak" {
-        return None;
-    }
-    let number = number_up_to(number, MAX_NUMBER)?;
-    Some(Command::Soak { number })
 }
 
 // The command that a word, a name and two numbers ask for.
