@@ -1,15 +1,21 @@
-ghost use Rattle.std.specs.Prelude.{◌≡◌, ℕ, List, Option};
+ghost use Rattle.std.specs.Prelude.{◌≡◌, ◌⊎◌, ℕ, List, Option};
+ghost use Rattle.std.specs.List.{AllByRecursion};
 ghost use Rattle.ql_app.specs.declared.outcome.Limits.{Limits};
 ghost use Rattle.ql_app.specs.declared.status.Status.{Status};
-ghost use Rattle.ql_app.specs.declared.status.Status.TheVariants.{Done, No};
+ghost use Rattle.ql_app.specs.declared.status.Status.TheVariants.{Done, No, TooLarge};
 ghost use Rattle.ql_app.specs.declared.words.Command.TheVariants.{Prove};
-ghost use Rattle.ql_app.specs.declared.words.PairCommand.TheVariants.{Check};
+ghost use Rattle.ql_app.specs.declared.words.PairCommand.TheVariants.{Check, Run, Verify};
 ghost use Rattle.ql_app.specs.Outcome.{CommandSays, PairSays, Says, Wrote};
 ghost use Rattle.ql_app.specs.LeastWritten.{WritesLeast, WritesNone};
 ghost use Rattle.ql_app.specs.RunWritten.{WritesRun};
+ghost use Rattle.ql_headline.specs.Stores.{rules_of};
+ghost use Rattle.ql_machine_laws.specs.Promised.{AllArrived};
+ghost use Rattle.ql_printed_runs.specs.Printable.{AreObjects, HasValues};
+ghost use Rattle.ql_verified_runs.specs.Agreement.{Agree};
 
 use ql_commands::what_is_proved_is_accepted;
 use ql_implied::told_levels_are_least;
+use ql_verified_runs::{printed_runs_hold, replicas_of_runs_agree};
 
 /// Where `prove` prints a certificate of a source, with status 0, `check` of that source and that certificate ends
 /// with status 0 too.
@@ -38,4 +44,21 @@ pub fn levels_are_least()
         → Wrote (Says limits words held before after) was is faults sums No → WritesNone words held was is }
 {
     told_levels_are_least();
+}
+
+/// Of a source and the text that `run` prints of it with status 0, whose values can be written and whose objects have names
+/// apart, `verify` ends with status 0, since all contracts hold, or says that judging them is too much work.
+pub fn printed_runs_are_verified()
+    ensures { (source schedule text said : List ℕ) (status : Status) (told : PairSays Run source schedule Done text) → AreObjects told.schedule.objects → AllByRecursion HasValues told.prints.last.effects
+        → PairSays Verify source text status said → (status ≡ Done) ⊎ (status ≡ TooLarge) }
+{
+    printed_runs_hold();
+}
+
+/// Agreement, of the run whose text `run` prints with status 0: where every package was received, the replicas agree.
+pub fn replicas_agree_in_runs()
+    ensures { (source schedule text : List ℕ) (told : PairSays Run source schedule Done text) → AllArrived told.prints.last
+        → Agree (rules_of told.program told.levels) told.schedule.replicas told.prints.last }
+{
+    replicas_of_runs_agree();
 }

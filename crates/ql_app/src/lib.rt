@@ -13,7 +13,10 @@ mod status;
 mod text;
 mod words;
 
-pub use laws::{contracts_hold_in_runs, levels_are_least, what_is_printed_is_accepted};
+pub use laws::{
+    contracts_hold_in_runs, levels_are_least, printed_runs_are_verified, replicas_agree_in_runs,
+    what_is_printed_is_accepted,
+};
 pub use outcome::Limits;
 pub use program::quelea;
 pub use status::Status;
