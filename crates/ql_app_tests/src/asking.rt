@@ -97,7 +97,9 @@ pub(crate) fn answer_outside(
     outside: &Outside,
 ) -> Result<(Status, Vec<u8>), NoMemory> {
     let mut words = Vec::new(alloc);
-    words.push(String::from_str(alloc, command)?)?;
+    for word in command.split_whitespace() {
+        words.push(String::from_str(alloc, word)?)?;
+    }
     let mut named = Vec::new(alloc);
     for (name, bytes) in ["source", "other"].iter().zip(files) {
         words.push(String::from_str(alloc, name)?)?;

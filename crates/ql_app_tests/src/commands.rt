@@ -29,6 +29,13 @@ proof early; 1 0 0; early: variables 2␊c 1 2␊c 1 -2␊c -1␊1 1 : c1 c2␊2
 proof twice; 1 0 0; twice: variables 2␊c 1 2␊c 1 -2␊c -1␊1 1 : c1 c2␊1 : l1 c3␊end␊ -> 2: bad proof at 6: Number␊
 proof ends; 1 0 0; ends: variables 0␍␊c␍␊end -> 1: refused NoEmpty␊
 classify touch; 8 0 2; touch: type t { op touch(): unit { contract true; answer unit; } } -> 4: op touch
+classify --why touch; 8 0 0; touch: type t { op touch(): unit { contract true; answer unit; } } -> 0: op touch eventual␊
+classify --why; 8 0 0; touch: type t { op touch(): unit { contract true; answer unit; } } -> 5: usage␊
+classify touch --why; 8 0 0; touch: type t { op touch(): unit { contract true; answer unit; } } -> 5: usage␊
+classify --why touch touch; 8 0 0; touch: type t { op touch(): unit { contract true; answer unit; } } -> 5: usage␊
+prove --why touch; 8 0 0; touch: type t { op touch(): unit { contract true; answer unit; } } -> 5: usage␊
+classify --why -own; 8 0 0; touch: type t { op touch(): unit { contract true; answer unit; } } -> 5: usage␊
+classify --why other; 8 0 0; touch: type t { op touch(): unit { contract true; answer unit; } } -> 3: read fault other␊
 verify touch other; 8 0 0; touch: type t { op touch(): unit { contract true; answer unit; } } -> 3: read fault other␊
 gen touch 0 2; 8 0 0; touch: type t { op touch(): unit { contract true; answer unit; } } -> 0: quelea schedule 1␊replicas 3␊object o0_0 t␊object o0_1 t␊events␊call 0 at 1 o0_0 touch␊deliver 2␊
 gen touch 2147483648 2; 8 0 0; touch: type t { op touch(): unit { contract true; answer unit; } } -> 5: usage␊

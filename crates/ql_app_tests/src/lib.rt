@@ -15,6 +15,8 @@ mod judging;
 #[cfg(test)]
 mod levels;
 #[cfg(test)]
+mod reasons;
+#[cfg(test)]
 mod running;
 #[cfg(test)]
 mod sources;
