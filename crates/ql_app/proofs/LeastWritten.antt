@@ -7,6 +7,7 @@ use Rattle.ql_app.specs.declared.status.Status.{Status}
 use Rattle.ql_app.specs.declared.status.Status.TheVariants.{Done, No, Usage}
 use Rattle.ql_app.specs.declared.words.Command.TheVariants.{Holds, Proof, Classify, ClassifyWhy, Prove, Gen, Soak}
 use Rattle.ql_app.specs.declared.words.PairCommand.TheVariants.{Check, Verify, Run}
+use Rattle.ql_running.specs.declared.form.Form.TheVariants.{Text, Json}
 use Rattle.ql_app.specs.LeastWritten.{WritesLeast, WritesNone}
 use Rattle.ql_app.specs.Outcome.{Judges, Says, Wrote}
 use Rattle.ql_app.specs.Words.{Call, IsRequest, OneFile, TwoFiles}
@@ -40,7 +41,8 @@ module _ (limits : Limits) (held : List ℕ → Option (List ℕ)) (name source 
   asked status Told judged words are (TwoFiles Check n m) is says =
       absurd (let never : codes "classify" ∷ name ∷ [] ≡ codes "check" ∷ n ∷ m ∷ [] = sym are ∙ is.0 in cc)
   asked status Told judged words are (TwoFiles Verify n m) is says = absurd (let never : 99 ≡ 118 = ap first (sym are ∙ is.0) in omega (arith, never))
-  asked status Told judged words are (TwoFiles Run n m) is says = absurd (let never : 99 ≡ 114 = ap first (sym are ∙ is.0) in omega (arith, never))
+  asked status Told judged words are (TwoFiles (Run Text) n m) is says = absurd (let never : 99 ≡ 114 = ap first (sym are ∙ is.0) in omega (arith, never))
+  asked status Told judged words are (TwoFiles (Run Json) n m) is says = absurd (let never : 99 ≡ 114 = ap first (sym are ∙ is.0) in omega (arith, never))
 
 module _ (limits : Limits) (words : List (List ℕ)) (held : List ℕ → Option (List ℕ)) (before after : List ℕ → ℕ) (was is : Option (List ℕ)) (faults sums : ℕ) where
   pub writes_least : ((source text : List ℕ) → ClassifySays source answer.Done text → TellsLeast source text)

@@ -79,9 +79,9 @@ module _ (limits : Limits) (held : List ℕ → Option (List ℕ)) (before after
   two Verify name other bytes more ReadFault text same short also few says = absurd says
   two Verify name other bytes more WriteFault text same short also few says = absurd says
   two Verify name other bytes more Usage text same short also few says = absurd says
-  two Run name other bytes more ReadFault text same short also few says = absurd says
-  two Run name other bytes more WriteFault text same short also few says = absurd says
-  two Run name other bytes more Usage text same short also few says = absurd says
+  two (Run form) name other bytes more ReadFault text same short also few says = absurd says
+  two (Run form) name other bytes more WriteFault text same short also few says = absurd says
+  two (Run form) name other bytes more Usage text same short also few says = absurd says
   two command name other bytes more TooLarge text same short also few says = inl (both command name other bytes more TooLarge text same short also few says)
 
   -- and on two

@@ -25,7 +25,7 @@ use Rattle.ql_commands.specs.Sources.{IsSource}
 use Rattle.ql_generated.specs.Schedules.{GenSays}
 use Rattle.ql_generated.specs.Soaks.{SoakSays}
 use Rattle.ql_judging.specs.Verify.{AreJudgeable, VerifySays}
-use Rattle.ql_run_text.specs.RunTexts.{run_text}
+use Rattle.ql_running.specs.Forms.{format_of}
 use Rattle.ql_running.specs.Runs.{AreRunnable, RunSays}
 use Rattle.ql_why.specs.Why.{WhySays}
 
@@ -43,7 +43,7 @@ CommandSays (Soak number) bytes status text = AnswerSays (SoakSays bytes number)
 abbrev pub PairSays : PairCommand → List ℕ → List ℕ → Status → List ℕ → Type 0
 PairSays Check bytes more status text = AnswerSays (CheckSays bytes more) status text
 PairSays Verify bytes more status text = JudgedSays (VerifySays bytes more) status text
-PairSays Run bytes more status text = AnswerSays (RunSays run_text bytes more) status text
+PairSays (Run form) bytes more status text = AnswerSays (RunSays (format_of form) bytes more) status text
 
 -- the bytes are in the grammar of the command's files, and don't ask for too much work
 abbrev pub IsAnswerable : Command → List ℕ → Type 0
@@ -59,13 +59,13 @@ IsAnswerable (Soak number) bytes = IsSource bytes
 abbrev pub AreAnswerable : PairCommand → List ℕ → List ℕ → Type 0
 AreAnswerable Check bytes more = IsSource bytes × IsCertificate more
 AreAnswerable Verify bytes more = AreJudgeable bytes more
-AreAnswerable Run bytes more = AreRunnable bytes more
+AreAnswerable (Run form) bytes more = AreRunnable bytes more
 
 -- the limit of the second file: certificates and executions may be longer than schedules
 abbrev pub second_limit : Limits → PairCommand → ℕ
 second_limit limits Check = limits.second
 second_limit limits Verify = limits.second
-second_limit limits Run = limits.file
+second_limit limits (Run form) = limits.file
 
 -- a file was read whole: what the shelf tells of it is within a limit, and this is so of it
 abbrev pub IsRead : ℕ → Option (List ℕ) → (List ℕ → Type 0) → Type 0

@@ -7,6 +7,7 @@ use Rattle.ql_app.specs.declared.words.Command.{Command}
 use Rattle.ql_app.specs.declared.words.Command.TheVariants.{Holds, Proof, Classify, ClassifyWhy, Prove, Gen, Soak}
 use Rattle.ql_app.specs.declared.words.PairCommand.{PairCommand}
 use Rattle.ql_app.specs.declared.words.PairCommand.TheVariants.{Check, Verify, Run}
+use Rattle.ql_running.specs.declared.form.Form.TheVariants.{Text, Json}
 
 -- the words' bytes
 abbrev pub word_texts : Vec (String Global) → List (List ℕ)
@@ -36,7 +37,8 @@ IsInRange _ = Unit {0}
 abbrev pub pair_words : PairCommand → List ℕ → List ℕ → List (List ℕ)
 pair_words Check name other = codes "check" ∷ name ∷ other ∷ []
 pair_words Verify name other = codes "verify" ∷ name ∷ other ∷ []
-pair_words Run name other = codes "run" ∷ name ∷ other ∷ []
+pair_words (Run Text) name other = codes "run" ∷ name ∷ other ∷ []
+pair_words (Run Json) name other = codes "run" ∷ codes "--json" ∷ name ∷ other ∷ []
 
 -- what can be asked for: a command on one file, or on two, by their names
 pub data Call : Type 0 where

@@ -7,6 +7,7 @@ ghost use Rattle.ql_app.specs.declared.words.Command.TheVariants.{Prove};
 ghost use Rattle.ql_app.specs.declared.words.PairCommand.TheVariants.{Check, Run, Verify};
 ghost use Rattle.ql_app.specs.Outcome.{CommandSays, PairSays, Says, Wrote};
 ghost use Rattle.ql_app.specs.LeastWritten.{WritesLeast, WritesNone};
+ghost use Rattle.ql_running.specs.declared.form.Form.TheVariants.{Text};
 ghost use Rattle.ql_app.specs.RunWritten.{WritesRun};
 ghost use Rattle.ql_headline.specs.Stores.{rules_of};
 ghost use Rattle.ql_machine_laws.specs.Promised.{AllArrived};
@@ -49,7 +50,7 @@ pub fn levels_are_least()
 /// Of a source and the text that `run` prints of it with status 0, whose values can be written and whose objects have names
 /// apart, `verify` ends with status 0, since all contracts hold, or says that judging them is too much work.
 pub fn printed_runs_are_verified()
-    ensures { (source schedule text said : List ℕ) (status : Status) (told : PairSays Run source schedule Done text) → AreObjects told.schedule.objects → AllByRecursion HasValues told.prints.last.effects
+    ensures { (source schedule text said : List ℕ) (status : Status) (told : PairSays (Run Text) source schedule Done text) → AreObjects told.schedule.objects → AllByRecursion HasValues told.prints.last.effects
         → PairSays Verify source text status said → (status ≡ Done) ⊎ (status ≡ TooLarge) }
 {
     printed_runs_hold();
@@ -57,7 +58,7 @@ pub fn printed_runs_are_verified()
 
 /// Agreement, of the run whose text `run` prints with status 0: where every package was received, the replicas agree.
 pub fn replicas_agree_in_runs()
-    ensures { (source schedule text : List ℕ) (told : PairSays Run source schedule Done text) → AllArrived told.prints.last
+    ensures { (source schedule text : List ℕ) (told : PairSays (Run Text) source schedule Done text) → AllArrived told.prints.last
         → Agree (rules_of told.program told.levels) told.schedule.replicas told.prints.last }
 {
     replicas_of_runs_agree();

@@ -8,7 +8,7 @@ ghost use Rattle.ql_commands.specs.Prove.{ProveSays};
 ghost use Rattle.ql_generated.specs.Schedules.{GenSays};
 ghost use Rattle.ql_generated.specs.Soaks.{SoakSays};
 ghost use Rattle.ql_judging.specs.Verify.{VerifySays};
-ghost use Rattle.ql_run_text.specs.RunTexts.{run_text};
+ghost use Rattle.ql_running.specs.Forms.{format_of};
 ghost use Rattle.ql_running.specs.Runs.{RunSays};
 ghost use Rattle.ql_why.specs.Why.{WhySays};
 
@@ -21,7 +21,7 @@ use ql_commands::{Answer, check, classify, prove};
 use ql_generated::{generate, soak};
 use ql_judging::{Judged, verify};
 use ql_ports::{ReadError, Shelf, read_whole};
-use ql_running::run;
+use ql_running::{Form, run};
 use ql_why::classify_with_reasons;
 use std::alloc::Global;
 
@@ -195,7 +195,7 @@ fn judged_pair(
     match command {
         PairCommand::Check => check_files(alloc, bytes, more),
         PairCommand::Verify => verify_files(alloc, bytes, more),
-        PairCommand::Run => run_files(alloc, bytes, more),
+        PairCommand::Run(form) => run_files(alloc, form, bytes, more),
     }
 }
 
@@ -223,11 +223,16 @@ fn verify_files(
     Ok((judged_status(judged), text))
 }
 
-fn run_files(alloc: Global, source: &[u8], schedule: &[u8]) -> Result<(Status, Vec<u8>), NoMemory>
+fn run_files(
+    alloc: Global,
+    form: Form,
+    source: &[u8],
+    schedule: &[u8],
+) -> Result<(Status, Vec<u8>), NoMemory>
     requires { length source.now < 2 ^ 32 }
-    ensures { IfOk result (λ answer. AnswerSays (RunSays run_text source.now schedule.now) answer.0 answer.1.items) }
+    ensures { IfOk result (λ answer. AnswerSays (RunSays (format_of form) source.now schedule.now) answer.0 answer.1.items) }
 {
-    let (answer, text) = run(alloc, source, schedule)?;
+    let (answer, text) = run(alloc, form, source, schedule)?;
     Ok((status_of(answer), text))
 }
 
@@ -237,7 +242,7 @@ fn second_limit(limits: Limits, command: PairCommand) -> u32
 {
     match command {
         PairCommand::Check | PairCommand::Verify => limits.second,
-        PairCommand::Run => limits.file,
+        PairCommand::Run(_) => limits.file,
     }
 }
 

@@ -15,6 +15,7 @@ ghost use Rattle.ql_app.specs.Words.{
 };
 
 use ql_base::number_of;
+use ql_running::Form;
 
 // The greatest number of a schedule.
 const MAX_NUMBER: u32 = 2_147_483_647;
@@ -48,8 +49,8 @@ pub enum PairCommand {
     Check,
     /// Whether a source's contracts hold in an execution.
     Verify,
-    /// What becomes of a schedule in a store of a source's program.
-    Run,
+    /// What becomes of a schedule in a store of a source's program, written in a form.
+    Run(Form),
 }
 
 /// A command with the names of its files.
@@ -71,9 +72,13 @@ pub fn parse_words(words: &Vec<String>) -> Option<Request>
     if let [word, name, last] = words.as_slice() {
         return three_words(word.as_str(), name.as_str(), last.as_str());
     }
-    if let [word, name, number, events] = words.as_slice() {
-        let command = gen_command(word.as_str(), number.as_str(), events.as_str())?;
-        return on_one_file(command, name.as_str());
+    if let [word, second, third, last] = words.as_slice() {
+        return four_words(
+            word.as_str(),
+            second.as_str(),
+            third.as_str(),
+            last.as_str(),
+        );
     }
     None
 }
@@ -113,6 +118,42 @@ fn soak_request<'a>(name: &'a str, number: &str) -> Option<Request<'a>>
     on_one_file(Command::Soak { number }, name)
 }
 
+fn four_words<'a>(word: &str, second: &'a str, third: &'a str, last: &'a str) -> Option<Request<'a>>
+    ensures { MatchOption result
+        ((call : Call) → IsRequest (word.now ∷ second.now ∷ third.now ∷ last.now ∷ []) call → ⊥)
+        (λ request. IsRequest (word.now ∷ second.now ∷ third.now ∷ last.now ∷ []) (call_of request)) }
+{
+    match word {
+        "gen" => gen_request(second, third, last),
+        "run" => json_request(second, third, last),
+        _ => None,
+    }
+}
+
+// What `gen`, a name and two numbers ask for.
+fn gen_request<'a>(name: &'a str, number: &str, events: &str) -> Option<Request<'a>>
+    ensures { MatchOption result
+        ((call : Call) → IsRequest (codes "gen" ∷ name.now ∷ number.now ∷ events.now ∷ []) call → ⊥)
+        (λ request. IsRequest (codes "gen" ∷ name.now ∷ number.now ∷ events.now ∷ []) (call_of request)) }
+{
+    let number = number_up_to(number, MAX_NUMBER)?;
+    let events = number_up_to(events, MAX_EVENTS)?;
+    on_one_file(Command::Gen { number, events }, name)
+}
+
+// What `run`, an option and two names ask for.
+fn json_request<'a>(option: &str, name: &'a str, other: &'a str) -> Option<Request<'a>>
+    ensures { MatchOption result
+        ((call : Call) → IsRequest (codes "run" ∷ option.now ∷ name.now ∷ other.now ∷ []) call → ⊥)
+        (λ request. IsRequest (codes "run" ∷ option.now ∷ name.now ∷ other.now ∷ []) (call_of request)) }
+{
+    if option == "--json" {
+        on_two_files(PairCommand::Run(Form::Json), name, other)
+    } else {
+        None
+    }
+}
+
 fn on_one_file(command: Command, name: &str) -> Option<Request>
     ensures { MatchOption result (IsName name.now → ⊥) (λ request. IsName name.now × (call_of request ≡ OneFile command name.now)) }
 {
@@ -149,20 +190,6 @@ fn plain_command(word: &str) -> Option<Command>
     }
 }
 
-// The command that a word, a name and two numbers ask for.
-fn gen_command(word: &str, number: &str, events: &str) -> Option<Command>
-    ensures { MatchOption result
-        ((command : Command) (name : List ℕ) → IsInRange command → command_words command name ≡ word.now ∷ name ∷ number.now ∷ events.now ∷ [] → ⊥)
-        (λ command. IsInRange command × ((name : List ℕ) → command_words command name ≡ word.now ∷ name ∷ number.now ∷ events.now ∷ [])) }
-{
-    if word != "gen" {
-        return None;
-    }
-    let number = number_up_to(number, MAX_NUMBER)?;
-    let events = number_up_to(events, MAX_EVENTS)?;
-    Some(Command::Gen { number, events })
-}
-
 fn pair_command(word: &str) -> Option<PairCommand>
     ensures { MatchOption result
         ((command : PairCommand) (name other : List ℕ) → pair_words command name other ≡ word.now ∷ name ∷ other ∷ [] → ⊥)
@@ -171,7 +198,7 @@ fn pair_command(word: &str) -> Option<PairCommand>
     match word {
         "check" => Some(PairCommand::Check),
         "verify" => Some(PairCommand::Verify),
-        "run" => Some(PairCommand::Run),
+        "run" => Some(PairCommand::Run(Form::Text)),
         _ => None,
     }
 }

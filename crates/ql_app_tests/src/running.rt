@@ -42,28 +42,38 @@ fn runs_schedules(rt: HostRuntime) -> Result<(), Fail> {
     check_table(rt.alloc(), RUNS, asked)
 }
 
-// Numbers and sources, with the summary of an independent implementation.
-const SOAKED: &str = r"
-7 bank -> 0: events 4000␊ok 1102␊begun 183␊committed 181␊blocked 26␊unavailable 153␊held 70␊cut 113␊gone 753␊again 239␊waits 7␊applies 8␊lost 32␊split 84␊healed 75␊sent 23␊refused 951␊effects 1102␊seen 306561␊stamp 469␊
-7 shop -> 0: events 4000␊ok 893␊begun 160␊committed 159␊blocked 144␊unavailable 127␊held 37␊cut 130␊gone 786␊again 218␊waits 9␊applies 13␊lost 31␊split 93␊healed 71␊sent 19␊refused 1110␊effects 893␊seen 98399␊stamp 357␊
-2147483647 register -> 0: events 4000␊ok 950␊begun 0␊committed 0␊blocked 1016␊unavailable 0␊held 0␊cut 49␊gone 728␊again 0␊waits 344␊applies 16␊lost 31␊split 86␊healed 435␊sent 31␊refused 314␊effects 950␊seen 6668␊stamp 267␊
-0 type t { op touch(): unit { contract forall a. sameobj(a, cur) => vis(a, cur) \/ vis(cur, a) \/ a = cur; answer unit; } } transaction p { uses touch; contract true; } -> 1: strong touch in p␊
-";
+// The arguments and the files `source` and `other`, with the answers of an independent implementation.
+const ASKED: &str = r##"
+gen source 1 2; bank -> 0: quelea schedule 1␊replicas 3␊object o0_0 account␊object o0_1 account␊events␊call 2 at 0 o0_1 withdraw 27␊deliver 2␊
+soak source 7; bank -> 0: events 4000␊ok 1102␊begun 183␊committed 181␊blocked 26␊unavailable 153␊held 70␊cut 113␊gone 753␊again 239␊waits 7␊applies 8␊lost 32␊split 84␊healed 75␊sent 23␊refused 951␊effects 1102␊seen 306561␊stamp 469␊
+soak source 7; shop -> 0: events 4000␊ok 893␊begun 160␊committed 159␊blocked 144␊unavailable 127␊held 37␊cut 130␊gone 786␊again 218␊waits 9␊applies 13␊lost 31␊split 93␊healed 71␊sent 19␊refused 1110␊effects 893␊seen 98399␊stamp 357␊
+soak source 2147483647; register -> 0: events 4000␊ok 950␊begun 0␊committed 0␊blocked 1016␊unavailable 0␊held 0␊cut 49␊gone 728␊again 0␊waits 344␊applies 16␊lost 31␊split 86␊healed 435␊sent 31␊refused 314␊effects 950␊seen 6668␊stamp 267␊
+soak source 0; type t { op touch(): unit { contract forall a. sameobj(a, cur) => vis(a, cur) \/ vis(cur, a) \/ a = cur; answer unit; } } transaction p { uses touch; contract true; } -> 1: strong touch in p␊
+run --json source other; register ~ quelea schedule 1␊replicas 2␊object r reg␊events␊call 1 at 0 r write "a"␊call 1 at 1 r read␊deliver 1␊call 1 at 1 r read␊ -> 0: {"execution":[{"answer":null,"args":["a"],"id":1,"object":"r","op":"write","payload":["a"],"session":1,"stamp":1,"txn":null,"vis":[]},{"answer":"a","args":[],"id":2,"object":"r","op":"read","payload":null,"session":1,"stamp":2,"txn":null,"vis":[1]}],"levels":[["op","write","eventual"],["op","read","causal"]],"replies":["ok 1 unit","blocked 1","applies 1","ok 2 \"a\""]}␊
+run --json source other; type t { op touch(): unit { contract true; answer unit; } } ~ quelea schedule 1␊replicas 2␊events␊ -> 0: {"execution":[],"levels":[["op","touch","eventual"]],"replies":[]}␊
+run --json source other; shop ~ quelea schedule 1␊replicas 3␊object p stock␊object c cart␊events␊call 1 at 0 p restock 10␊deliver 1␊call 2 at 1 p stock_left␊begin 1 at 0 fill c␊call 1 at 0 c add_item "tea" 2␊call 1 at 0 c add_item "cup" 1␊call 3 at 0 c show␊commit 1 at 0␊partition 0 0 1␊deliver 8␊call 4 at 2 p reserve 3␊lose 8␊deliver 7␊begin 2 at 1 follow c␊call 2 at 1 c show␊call 2 at 2 c add_item "tea" 1␊heal␊resend 3 from 0 to 2␊deliver 9␊call 2 at 2 c add_item "tea" 1␊call 4 at 2 p reserve 3␊commit 2 at 2␊deliver 3␊begin 3 at 0 report c p␊deliver 10␊call 3 at 0 c show␊call 3 at 1 p stock_left␊commit 3 at 0␊call 5 at 0 c show␊repeat 11␊deliver 11␊deliver 11␊deliver 14␊deliver 12␊call 5 at 1 p stock_left␊call 1 at 2 p stock_left␊call 1 at 0 p stock_left␊deliver 18␊call 1 at 0 p stock_left␊call 4 at 2 p reserve 8␊ -> 0: {"execution":[{"answer":null,"args":[10],"id":1,"object":"p","op":"restock","payload":[10],"session":1,"stamp":1,"txn":null,"vis":[]},{"answer":10,"args":[],"id":2,"object":"p","op":"stock_left","payload":null,"session":2,"stamp":2,"txn":null,"vis":[1]},{"answer":null,"args":["tea",2],"id":3,"object":"c","op":"add_item","payload":["tea",2],"session":1,"stamp":2,"txn":[1,"fill"],"vis":[]},{"answer":null,"args":["cup",1],"id":4,"object":"c","op":"add_item","payload":["cup",1],"session":1,"stamp":3,"txn":[1,"fill"],"vis":[3]},{"answer":[],"args":[],"id":5,"object":"c","op":"show","payload":null,"session":3,"stamp":1,"txn":null,"vis":[]},{"answer":[["cup",1],["tea",2]],"args":[],"id":6,"object":"c","op":"show","payload":null,"session":2,"stamp":4,"txn":[2,"follow"],"vis":[3,4]},{"answer":null,"args":["tea",1],"id":7,"object":"c","op":"add_item","payload":["tea",1],"session":2,"stamp":5,"txn":[2,"follow"],"vis":[3,4,6]},{"answer":true,"args":[3],"id":8,"object":"p","op":"reserve","payload":[3],"session":4,"stamp":3,"txn":null,"vis":[1,2]},{"answer":[["cup",1],["tea",2]],"args":[],"id":9,"object":"c","op":"show","payload":null,"session":3,"stamp":4,"txn":[3,"report"],"vis":[3,4,5]},{"answer":7,"args":[],"id":10,"object":"p","op":"stock_left","payload":null,"session":3,"stamp":5,"txn":[3,"report"],"vis":[1,2,8]},{"answer":[["cup",1],["tea",3]],"args":[],"id":11,"object":"c","op":"show","payload":null,"session":5,"stamp":6,"txn":null,"vis":[3,4,5,6,7,9]},{"answer":7,"args":[],"id":12,"object":"p","op":"stock_left","payload":null,"session":5,"stamp":7,"txn":null,"vis":[1,2,8,10]},{"answer":7,"args":[],"id":13,"object":"p","op":"stock_left","payload":null,"session":1,"stamp":4,"txn":null,"vis":[1,2,8]},{"answer":7,"args":[],"id":14,"object":"p","op":"stock_left","payload":null,"session":1,"stamp":6,"txn":null,"vis":[1,2,8,10,13]},{"answer":false,"args":[8],"id":15,"object":"p","op":"reserve","payload":null,"session":4,"stamp":8,"txn":null,"vis":[1,2,8,10,12,13,14]}],"levels":[["op","restock","eventual"],["op","reserve","strong"],["op","stock_left","causal"],["op","add_item","eventual"],["op","show","eventual"],["txn","fill","rc"],["txn","glance","rc"],["txn","follow","mav"],["txn","report","rr"]],"replies":["ok 1 unit","applies 1","ok 2 10","begun","ok 3 unit","ok 4 unit","ok 5 {:}","committed 3 4","split","cut","unavailable 0","lost","applies 3 4","begun","ok 6 {\"cup\": 1, \"tea\": 2}","blocked 3","healed","sent 9","applies 3 4","ok 7 unit","ok 8 true","committed 6 7","again","begun","applies 6 7","ok 9 {\"cup\": 1, \"tea\": 2}","ok 10 7","committed 9 10","ok 11 {\"cup\": 1, \"tea\": 3}","sent 11","applies 6 7","again","waits 9","applies 9 10 11","ok 12 7","ok 13 7","blocked 13","applies 13","ok 14 7","ok 15 false"]}␊
+run --json source other; register ~ quelea schedule 1␊replicas 2␊object r reg␊events␊call 1 at 0 q read␊ -> 2: bad schedule at 5: Unknown␊
+run source --json other; register ~ quelea schedule 1␊replicas 2␊events␊ -> 5: usage␊
+--json run source other; register ~ quelea schedule 1␊replicas 2␊events␊ -> 5: usage␊
+run --json --json source; register ~ quelea schedule 1␊replicas 2␊events␊ -> 5: usage␊
+verify --json source other; register ~ quelea schedule 1␊replicas 2␊events␊ -> 5: usage␊
+"##;
 
 #[test]
-fn soaks_sources(rt: HostRuntime) -> Result<(), Fail> {
-    check_table(rt.alloc(), SOAKED, soaked)
+fn answers_arguments(rt: HostRuntime) -> Result<(), Fail> {
+    check_table(rt.alloc(), ASKED, answered)
 }
 
-// The exit status and the text that `soak` answers to a number and a source.
-fn soaked(alloc: Global, row: &str) -> Result<Vec<u8>, NoMemory> {
-    let (number, source) = row.split_once(' ').unwrap_or(("", ""));
+fn answered(alloc: Global, row: &str) -> Result<Vec<u8>, NoMemory> {
+    let (arguments, files) = row.split_once("; ").unwrap_or(("", ""));
+    let (source, other) = files.split_once(" ~ ").unwrap_or((files, ""));
     let mut words = Vec::new(alloc);
-    for word in ["soak", "source", number] {
+    for word in arguments.split_whitespace() {
         words.push(String::from_str(alloc, word)?)?;
     }
     let mut named = Vec::new(alloc);
     named.push(file(alloc, "source", source_or_text(source).as_bytes())?)?;
+    named.push(file(alloc, "other", other.as_bytes())?)?;
     let mut shelf = MemShelf::new(alloc, named, PIECE, Vec::new(alloc))?;
     let mut sink = MemSink::new(alloc, PIECE, PIECE, Vec::new(alloc))?;
     let status = quelea(alloc, &words, &mut shelf, &mut sink)?;

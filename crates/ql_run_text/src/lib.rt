@@ -8,4 +8,5 @@ mod replies;
 mod run;
 
 pub use effects::print_effects;
+pub use replies::print_reply;
 pub use run::print_run;

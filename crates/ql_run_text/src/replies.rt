@@ -1,4 +1,4 @@
-ghost use Rattle.std.specs.Prelude.{◌≡◌, ◌++◌, ◌∷◌, [], ◌≤◌, List, OnOk, codes, decimal, map, length};
+ghost use Rattle.std.specs.Prelude.{◌≡◌, ◌++◌, ◌∷◌, [], ◌≤◌, List, IfOk, OnOk, codes, decimal, map, length};
 ghost use Rattle.ql_lines.specs.Texts.{joined};
 ghost use Rattle.ql_run_text.specs.ReplyTexts.{
   AreAnswered,
@@ -14,6 +14,7 @@ use ql_base::{EffId, NoMemory, push_bytes, push_number};
 use ql_exec::Execution;
 use ql_machine::{Reply, Why};
 use ql_value::print_value;
+use std::alloc::Global;
 
 /// Appends a line for each event, with its number and the reply.
 pub(crate) fn push_replies(
@@ -43,6 +44,16 @@ fn push_event(
     push_bytes(out, b" ")?;
     push_reply(out, reply, x)?;
     push_bytes(out, b"\n")
+}
+
+/// The text of a reply, in which a call that is answered shows what its effect in the execution answered.
+pub fn print_reply(alloc: Global, reply: &Reply, x: &Execution) -> Result<Vec<u8>, NoMemory>
+    requires { IsAnswered x.now reply.now }
+    ensures { IfOk result (λ text. text.items ≡ joined (reply_fields x.now reply.now)) }
+{
+    let mut text = Vec::new(alloc);
+    push_reply(&mut text, reply, x)?;
+    Ok(text)
 }
 
 fn push_reply(out: &mut Vec<u8>, reply: &Reply, x: &Execution) -> Result<(), NoMemory>

@@ -1,3 +1,4 @@
 pub mod ScheduleFaults
 pub mod Soundness
 pub mod Runs
+pub mod Forms

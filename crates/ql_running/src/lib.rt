@@ -2,12 +2,14 @@
 // The one contract: the text is the run's, and the execution that it shows meets every contract of the source.
 #![tactic(auto)]
 
+mod form;
 mod law;
 mod refusing;
 mod running;
 mod schedule_fault;
 mod store_run;
 
+pub use form::Form;
 pub use law::runs_are_sound;
 pub use refusing::refusal;
 pub use running::run;

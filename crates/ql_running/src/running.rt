@@ -1,18 +1,25 @@
-ghost use Rattle.std.specs.Prelude.{◌<◌, ◌^◌, ℕ, List, length, IfOk};
+ghost use Rattle.std.specs.Prelude.{◌≡◌, ◌<◌, ◌^◌, ℕ, List, length, IfOk};
 ghost use Rattle.ql_commands.specs.Sources.{IsSourceOf};
 ghost use Rattle.ql_commands.specs.Levels.{AreLevelsOf};
 ghost use Rattle.ql_lines.specs.Lines.{ahead_from};
 ghost use Rattle.ql_schedule.specs.Files.{IsScheduleFile};
 ghost use Rattle.ql_schedule.specs.Guarantees.{IsSchedule};
-ghost use Rattle.ql_run_text.specs.RunTexts.{run_text};
+ghost use Rattle.ql_run_text.specs.EffectTexts.{AreNamed};
+ghost use Rattle.ql_run_text.specs.ReplyTexts.{AreAnswered};
+ghost use Rattle.ql_typing.specs.Operations.{all_ops};
+ghost use Rattle.ql_running.specs.Forms.{format_of};
 ghost use Rattle.ql_running.specs.Runs.{RunSays, TellsRun};
 
+use crate::form::Form;
 use crate::refusing::refusal;
 use crate::schedule_fault::bad_schedule;
 use crate::store_run::sound_run;
-use ql_base::NoMemory;
+use ql_base::{Names, NoMemory};
 use ql_commands::{Answer, bad_source, read_source};
+use ql_exec::Execution;
 use ql_levels::Levels;
+use ql_machine::Reply;
+use ql_run_json::print_run_json;
 use ql_run_text::print_run;
 use ql_schedule::{Schedule, one_schedule, parse_schedule};
 use ql_typing::Typed;
@@ -20,9 +27,14 @@ use std::alloc::Global;
 
 /// The run of a schedule through a store of a source's program at the least levels, or what is wrong first: a fault of
 /// the source, one of the schedule, or why the program has no such levels.
-pub fn run(alloc: Global, source: &[u8], schedule: &[u8]) -> Result<(Answer, Vec<u8>), NoMemory>
+pub fn run(
+    alloc: Global,
+    form: Form,
+    source: &[u8],
+    schedule: &[u8],
+) -> Result<(Answer, Vec<u8>), NoMemory>
     requires { length source.now < 2 ^ 32 }
-    ensures { IfOk result (λ answer. RunSays run_text source.now schedule.now answer.0 answer.1.items) }
+    ensures { IfOk result (λ answer. RunSays (format_of form) source.now schedule.now answer.0 answer.1.items) }
 {
     one_schedule();
     let typed = match read_source(alloc, source) {
@@ -36,7 +48,7 @@ pub fn run(alloc: Global, source: &[u8], schedule: &[u8]) -> Result<(Answer, Vec
     match ql_classify::classify(alloc, &typed) {
         Ok(classified) => Ok((
             Answer::Done,
-            text_of(alloc, &typed, classified.levels(), schedule)?,
+            text_of(alloc, form, &typed, classified.levels(), schedule)?,
         )),
         Err(why) => Ok((Answer::No, refusal(alloc, &typed, why)?)),
     }
@@ -45,6 +57,7 @@ pub fn run(alloc: Global, source: &[u8], schedule: &[u8]) -> Result<(Answer, Vec
 // The text of a schedule's run at these levels, which shows it to whoever reads the program and the schedule in two files.
 fn text_of(
     alloc: Global,
+    form: Form,
     t: &Typed,
     levels: &Levels,
     schedule: Schedule,
@@ -52,15 +65,37 @@ fn text_of(
     requires levels { AreLevelsOf t.now.program levels.now }
     requires schedule { IsSchedule t.now.program schedule }
     ensures { IfOk result (λ text. (source file : List ℕ) → IsSourceOf source t.now.program → IsScheduleFile t.now.program (ahead_from 1 file) schedule
-        → TellsRun run_text source file text.items) }
+        → TellsRun (format_of form) source file text.items) }
 {
     let run = sound_run(alloc, t, levels, schedule)?;
-    print_run(
+    print_in(
         alloc,
+        form,
         t,
         &run.objects,
         levels,
         &run.replies,
         run.store.execution(),
     )
+}
+
+fn print_in(
+    alloc: Global,
+    form: Form,
+    t: &Typed,
+    objects: &Names,
+    levels: &Levels,
+    replies: &Vec<Reply>,
+    x: &Execution,
+) -> Result<Vec<u8>, NoMemory>
+    requires ops { length levels.now.ops ≡ length (all_ops t.now.program.types) }
+    requires txns { length levels.now.txns ≡ length t.now.program.txns }
+    requires named { AreNamed t.now.program (length objects.now) x.now }
+    requires answered { AreAnswered x.now replies.now.items }
+    ensures { IfOk result (λ text. text.items ≡ format_of form t.now.program objects.now levels.now replies.now.items x.now) }
+{
+    match form {
+        Form::Text => print_run(alloc, t, objects, levels, replies, x),
+        Form::Json => print_run_json(alloc, t, objects, levels, replies, x),
+    }
 }

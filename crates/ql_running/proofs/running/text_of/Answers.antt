@@ -3,18 +3,18 @@ use Rattle.std.proofs.lemmas.Result.{IfOk-weaker}
 use Rattle.ql_exec.specs.declared.effect.Effect.{Effect}
 use Rattle.ql_run_text.specs.EffectTexts.{AreNamed}
 use Rattle.ql_run_text.specs.ReplyTexts.{AreAnswered}
-use Rattle.ql_run_text.specs.RunTexts.{run_text}
+use Rattle.ql_running.specs.Forms.{format_of}
 use Rattle.ql_running.proofs.running.text_of.Goals as goal
 
-pub print_run-requires-clause-named : goal.print_run-requires-clause-named
-print_run-requires-clause-named c =
+pub print_in-requires-clause-named : goal.print_in-requires-clause-named
+print_in-requires-clause-named c =
     let p = c.args.t.now.program in
     let run = c.in_ok-run.run' in
     subst (λ (x : List Effect). AreNamed p (length run.objects) x) (sym c.execution.ensures)
     (subst (λ (os : List (List ℕ)). AreNamed p (length os) run.store.machine.effects) (sym c.in_ok-run.ensures.objects) c.in_ok-run.ensures.named)
 
-pub print_run-requires-clause-answered : goal.print_run-requires-clause-answered
-print_run-requires-clause-answered c =
+pub print_in-requires-clause-answered : goal.print_in-requires-clause-answered
+print_in-requires-clause-answered c =
     let run = c.in_ok-run.run' in
     subst (λ (x : List Effect). AreAnswered x run.replies.items) (sym c.execution.ensures) c.in_ok-run.ensures.answered
 
@@ -24,9 +24,9 @@ returns c =
     let levels = c.args.levels.now in
     let run = c.in_ok-run.run' in
     let replies = run.replies.items in
-    let shown = ap (λ (os : List (List ℕ)). run_text p os levels replies c.execution.result.now) c.in_ok-run.ensures.objects
-    ∙ ap (λ (x : List Effect). run_text p c.args.schedule.objects levels replies x) c.execution.ensures in
-    IfOk-weaker c.print_run.result _ _
+    let shown = ap (λ (os : List (List ℕ)). format_of c.args.form p os levels replies c.execution.result.now) c.in_ok-run.ensures.objects
+    ∙ ap (λ (x : List Effect). format_of c.args.form p c.args.schedule.objects levels replies x) c.execution.ensures in
+    IfOk-weaker c.print_in.result _ _
     (λ text printed. λ source file is_source is_schedule. record {
       program = p;
       schedule = c.args.schedule;
@@ -42,4 +42,4 @@ returns c =
         sound = c.in_ok-run.ensures.sound;
       };
     })
-    c.print_run.ensures
+    c.print_in.ensures

@@ -1,0 +1,41 @@
+-- Lists of JSON values that one value is added to.
+use Rattle.std.proofs.Common.{◌≡◌, ℕ, zero, suc, ◌+◌, ◌≤◌, List, [], ◌∷◌, ◌++◌, Option, None, Some, length, map, take, slice_get, refl, sym, ap, subst, arith, ◌∙◌, add-one}
+use Rattle.std.specs.List.{AllByRecursion}
+use Rattle.ql_exec.specs.declared.effect.Effect.{Effect}
+use Rattle.ql_lang.specs.declared.program.Program.{Program}
+use Rattle.ql_run_json.specs.JsonRuns.{effect_data, effects_from}
+use Rattle.serde_json.specs.Data.{Data}
+use Rattle.serde_json.specs.View.{view}
+use Rattle.serde_json.specs.declared.value.Value.{Value}
+
+added : (vs : List Value) (v : Value) → map view (vs ++ v ∷ []) ≡ map view vs ++ view v ∷ []
+added [] v = refl
+added (w ∷ vs) v = ap (λ (ds : List Data). view w ∷ ds) (added vs v)
+
+-- the effects with one more
+pub one_effect : (p : Program) (objects : List (List ℕ)) (id : ℕ) (x : List Effect) (k : ℕ) (e : Effect) → slice_get x k ≡ Some e
+    → effects_from p objects id (take (suc k) x) ≡ effects_from p objects id (take k x) ++ effect_data p objects (id + k) e ∷ []
+unfolding effects_from
+one_effect p objects id [] k e at = let no : ⊥ = cc in absurd no
+one_effect p objects id (g ∷ gs) zero e at =
+    let same : g ≡ e = cc in
+    let first : id ≡ id + 0 = omega arith in
+    ap (λ (h : Effect). effect_data p objects id h ∷ []) same ∙ ap (λ (n : ℕ). effect_data p objects n e ∷ []) first
+one_effect p objects id (g ∷ gs) (suc k) e at =
+    let later : (id + 1) + k ≡ id + suc k = omega arith in
+    ap (λ (ds : List Data). effect_data p objects id g ∷ ds) (one_effect p objects (id + 1) gs k e at
+    ∙ ap (λ (n : ℕ). effects_from p objects (id + 1) (take k gs) ++ effect_data p objects n e ∷ []) later)
+
+pub more_effects : (p : Program) (objects : List (List ℕ)) (x : List Effect) (k : ℕ) (e : Effect) (before after : List Value) (v : Value)
+    → after ≡ before ++ v ∷ [] → map view before ≡ effects_from p objects 1 (take k x) → view v ≡ effect_data p objects (k + 1) e → slice_get x k ≡ Some e
+    → map view after ≡ effects_from p objects 1 (take (k + 1) x)
+more_effects p objects x k e before after v longer same is at =
+    let number : k + 1 ≡ 1 + k = omega arith in
+    ap (map view) longer ∙ added before v ∙ ap (λ (ds : List Data). ds ++ view v ∷ []) same
+    ∙ ap (λ (d : Data). effects_from p objects 1 (take k x) ++ d ∷ []) (is ∙ ap (λ (n : ℕ). effect_data p objects n e) number)
+    ∙ sym (one_effect p objects 1 x k e at) ∙ sym (ap (λ n. effects_from p objects 1 (take n x)) (add-one k))
+
+pub effect_there : (P : Effect → Type 0) (x : List Effect) (k : ℕ) (e : Effect) → AllByRecursion P x → slice_get x k ≡ Some e → P e
+effect_there P [] k e all at = let no : ⊥ = cc in absurd no
+effect_there P (g ∷ gs) zero e all at = let same : g ≡ e = cc in subst P same all.0
+effect_there P (g ∷ gs) (suc k) e all at = effect_there P gs k e all.1 at

@@ -1,0 +1,12 @@
+// The JSON form of runs.
+// The one contract: the text is that of the value which the program, the names of the objects, the levels, the replies and
+// the execution make, and it reads back as that value.
+#![tactic(auto)]
+
+mod effects;
+mod levels;
+mod replies;
+mod run;
+mod values;
+
+pub use run::print_run_json;
