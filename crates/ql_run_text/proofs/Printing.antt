@@ -1,14 +1,19 @@
 -- what is printed of a list is printed item by item
-use Rattle.std.proofs.Common.{◌≡◌, ℕ, ◌<◌, ◌≤◌, ◌+◌, suc, List, [], ◌∷◌, ◌++◌, Option, Some, Result, Ok, Err, codes, decimal, map, take, length, slice_get, get_or, arith, refl, ap, sym, subst, ◌∙◌, append_assoc, add-one, length-take}
+use Rattle.std.proofs.Common.{◌≡◌, ℕ, ◌<◌, ◌≤◌, ◌+◌, suc, List, [], ◌∷◌, ◌++◌, Option, Some, Result, Ok, Err, codes, decimal, map, take, length, slice_get, get_or, All, arith, refl, ap, sym, subst, ◌∙◌, append_assoc, add-one, length-take}
 use Rattle.std.specs.Prelude.{OnOk}
 use Rattle.std.specs.Option.{option_map_or}
 use Rattle.std.proofs.lemmas.List.{append-nil, length-take-le, map-append, take_more}
+use Rattle.std.proofs.lemmas.List.Elements.{All-more}
 use Rattle.std.proofs.lemmas.Option.{get_or_from_slice_get, slice_get_within}
 use Rattle.ql_lines.specs.Fields.{Fields}
 use Rattle.ql_lines.specs.Texts.{behind, file_text, joined}
 use Rattle.ql_lines.proofs.TextLaws.{behind-append, file_text-append, joined_behind}
 use Rattle.ql_value.specs.Spelling.{followed}
 use Rattle.ql_run_text.specs.NumberedLines.{lines_from}
+
+-- what holds of the first so many items holds of one more
+pub all_more : {X : Type 0} (P : X → Type 0) (xs : List X) (i : ℕ) (x : X) → i < length xs → x ≡ get_or xs i x → All P (take i xs) → P x → All P (take (i + 1) xs)
+all_more P xs i x less is all here = All-more P xs i x less all (subst P is here)
 
 -- ---- items of a line
 

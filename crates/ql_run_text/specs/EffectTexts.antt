@@ -7,6 +7,7 @@ use Rattle.ql_lines.specs.Fields.{Fields}
 use Rattle.ql_lines.specs.Texts.{file_text}
 use Rattle.ql_typing.specs.Operations.{all_ops}
 use Rattle.ql_value.specs.declared.value.Value.{Value}
+use Rattle.ql_value.specs.ValueGrammar.{IsValue}
 use Rattle.ql_value.specs.Spelling.{separated, value_text}
 use Rattle.ql_exec.specs.declared.effect.Effect.{Effect}
 use Rattle.ql_exec.specs.declared.effect.Member.{Member}
@@ -63,3 +64,18 @@ pub record IsNamed (p : Program) (objects : ℕ) (e : Effect) : Type 0 where
 
 abbrev pub AreNamed : Program → ℕ → List Effect → Type 0
 AreNamed p objects x = All (IsNamed p objects) x
+
+-- ---- what is printed: values of the grammar
+
+abbrev pub CarriesValues : Payload → Type 0
+CarriesValues Nothing = Unit {0}
+CarriesValues (Emitted vs) = All IsValue vs
+
+-- an effect was called with values, answered one, and carries values
+pub record HasValues (e : Effect) : Type 0 where
+  pub args : All IsValue e.args
+  pub answer : IsValue e.answer
+  pub payload : CarriesValues e.payload
+
+abbrev pub HaveValues : List Effect → Type 0
+HaveValues x = All HasValues x

@@ -1,9 +1,12 @@
-ghost use Rattle.std.specs.Prelude.{◌≡◌, ◌≤◌, ◌<◌, ◌++◌, ◌∷◌, [], IfOk, OnOk, codes, decimal, length, map};
+ghost use Rattle.std.specs.Prelude.{◌≡◌, ◌≤◌, ◌<◌, ◌++◌, ◌∷◌, [], All, IfOk, OnOk, codes, decimal, length, map};
 ghost use Rattle.ql_lines.specs.Texts.{behind, joined};
 ghost use Rattle.ql_report.specs.Levels.{op_name};
 ghost use Rattle.ql_value.specs.Spelling.{value_text};
+ghost use Rattle.ql_value.specs.ValueGrammar.{IsValue};
 ghost use Rattle.ql_run_text.specs.EffectTexts.{
   AreNamed,
+  HasValues,
+  HaveValues,
   IsDeclared,
   IsNamed,
   effect_fields,
@@ -21,7 +24,7 @@ use ql_typing::Typed;
 use ql_value::{Value, Values, print_value};
 use std::alloc::Global;
 
-/// The lines of an execution's effects, in which objects have these names.
+/// The lines of an execution's effects, in which objects have these names. The values that are printed are of the grammar.
 pub fn print_effects(
     alloc: Global,
     t: &Typed,
@@ -29,7 +32,8 @@ pub fn print_effects(
     x: &Execution,
 ) -> Result<Vec<u8>, NoMemory>
     requires { AreNamed t.now.program (length objects.now) x.now }
-    ensures { IfOk result (λ text. text.items ≡ effects_text t.now.program objects.now x.now) }
+    ensures text { IfOk result (λ text. text.items ≡ effects_text t.now.program objects.now x.now) }
+    ensures values { OnOk result (HaveValues x.now) }
 {
     let mut text = Vec::new(alloc);
     push_effects(&mut text, t, objects, x)?;
@@ -44,7 +48,8 @@ pub(crate) fn push_effects(
     x: &Execution,
 ) -> Result<(), NoMemory>
     requires named { AreNamed t.now.program (length objects.now) x.now }
-    ensures { OnOk result (out.new.items ≡ out.old.items ++ effects_text t.now.program objects.now x.now) }
+    ensures text { OnOk result (out.new.items ≡ out.old.items ++ effects_text t.now.program objects.now x.now) }
+    ensures values { OnOk result (HaveValues x.now) }
 {
     for k in 0..x.len() {
         let id = EffId(k + 1);
@@ -61,7 +66,8 @@ fn push_effect(
     effect: &Effect,
 ) -> Result<(), NoMemory>
     requires { IsNamed t.now.program (length objects.now) effect.now }
-    ensures { OnOk result (out.new.items ≡ out.old.items ++ (joined (effect_fields t.now.program objects.now id.0 effect.now) ++ 10 ∷ [])) }
+    ensures text { OnOk result (out.new.items ≡ out.old.items ++ (joined (effect_fields t.now.program objects.now id.0 effect.now) ++ 10 ∷ [])) }
+    ensures values { OnOk result (HasValues effect.now) }
 {
     push_heading(out, t, objects, id, effect)?;
     push_call(out, &effect.args, &effect.answer)?;
@@ -93,7 +99,9 @@ fn push_heading(
 
 // What an operation was called with, and what it answered.
 fn push_call(out: &mut Vec<u8>, args: &Values, answer: &Value) -> Result<(), NoMemory>
-    ensures { OnOk result (out.new.items ≡ out.old.items ++ behind (values_text args.now ∷ codes "=" ∷ value_text answer.now ∷ [])) }
+    ensures text { OnOk result (out.new.items ≡ out.old.items ++ behind (values_text args.now ∷ codes "=" ∷ value_text answer.now ∷ [])) }
+    ensures args { OnOk result (All IsValue args.now) }
+    ensures answer { OnOk result (IsValue answer.now) }
 {
     push_bytes(out, b" ")?;
     push_values(out, args)?;

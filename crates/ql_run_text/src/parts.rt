@@ -1,7 +1,8 @@
-ghost use Rattle.std.specs.Prelude.{◌≡◌, ◌++◌, List, ℕ, OnOk, decimal, map};
+ghost use Rattle.std.specs.Prelude.{◌≡◌, ◌++◌, List, ℕ, All, OnOk, decimal, map};
 ghost use Rattle.ql_lines.specs.Texts.{behind};
 ghost use Rattle.ql_value.specs.Spelling.{followed, value_text};
-ghost use Rattle.ql_run_text.specs.EffectTexts.{payload_text, values_text};
+ghost use Rattle.ql_value.specs.ValueGrammar.{IsValue};
+ghost use Rattle.ql_run_text.specs.EffectTexts.{CarriesValues, payload_text, values_text};
 
 use ql_base::{NoMemory, push_bytes, push_number};
 use ql_exec::Payload;
@@ -27,7 +28,8 @@ pub(crate) fn push_ids(out: &mut Vec<u8>, ids: &[u32]) -> Result<(), NoMemory>
 
 /// Appends what an effect carries.
 pub(crate) fn push_payload(out: &mut Vec<u8>, payload: &Payload) -> Result<(), NoMemory>
-    ensures { OnOk result (out.new.items ≡ out.old.items ++ payload_text payload.now) }
+    ensures text { OnOk result (out.new.items ≡ out.old.items ++ payload_text payload.now) }
+    ensures values { OnOk result (CarriesValues payload.now) }
 {
     match payload {
         Payload::Nothing => push_bytes(out, b"-"),
@@ -37,7 +39,8 @@ pub(crate) fn push_payload(out: &mut Vec<u8>, payload: &Payload) -> Result<(), N
 
 /// Appends values in round brackets.
 pub(crate) fn push_values(out: &mut Vec<u8>, values: &Values) -> Result<(), NoMemory>
-    ensures { OnOk result (out.new.items ≡ out.old.items ++ values_text values.now) }
+    ensures text { OnOk result (out.new.items ≡ out.old.items ++ values_text values.now) }
+    ensures values { OnOk result (All IsValue values.now) }
 {
     push_bytes(out, b"(")?;
     if let Some((first, rest)) = values.items().split_first() {
@@ -49,7 +52,8 @@ pub(crate) fn push_values(out: &mut Vec<u8>, values: &Values) -> Result<(), NoMe
 
 // Values that follow a first one.
 fn push_followed(out: &mut Vec<u8>, values: &[Value]) -> Result<(), NoMemory>
-    ensures { OnOk result (out.new.items ≡ out.old.items ++ followed (map value_text values.now)) }
+    ensures text { OnOk result (out.new.items ≡ out.old.items ++ followed (map value_text values.now)) }
+    ensures values { OnOk result (All IsValue values.now) }
 {
     for value in values {
         push_bytes(out, b", ")?;

@@ -1,6 +1,6 @@
-ghost use Rattle.std.specs.Prelude.{◌≡◌, IfOk, length};
+ghost use Rattle.std.specs.Prelude.{◌≡◌, IfOk, OnOk, length};
 ghost use Rattle.ql_typing.specs.Operations.{all_ops};
-ghost use Rattle.ql_run_text.specs.EffectTexts.{AreNamed};
+ghost use Rattle.ql_run_text.specs.EffectTexts.{AreNamed, HaveValues};
 ghost use Rattle.ql_run_text.specs.ReplyTexts.{AreAnswered};
 ghost use Rattle.ql_run_text.specs.RunTexts.{run_text};
 
@@ -15,7 +15,7 @@ use ql_typing::Typed;
 use std::alloc::Global;
 
 /// The text of a run: the levels of the program, the replies to the events in order, and the
-/// execution that they made, in which objects have these names.
+/// execution that they made, in which objects have these names. The values that are printed are of the grammar.
 pub fn print_run(
     alloc: Global,
     t: &Typed,
@@ -28,7 +28,8 @@ pub fn print_run(
     requires txns { length l.now.txns ≡ length t.now.program.txns }
     requires named { AreNamed t.now.program (length objects.now) x.now }
     requires answered { AreAnswered x.now replies.now.items }
-    ensures { IfOk result (λ text. text.items ≡ run_text t.now.program objects.now l.now replies.now.items x.now) }
+    ensures text { IfOk result (λ text. text.items ≡ run_text t.now.program objects.now l.now replies.now.items x.now) }
+    ensures values { OnOk result (HaveValues x.now) }
 {
     let mut text = Vec::new(alloc);
     push_bytes(&mut text, b"levels\n")?;

@@ -16,10 +16,11 @@ use crate::scalar::{Scalar, TextVal};
 use crate::value::Value;
 use ql_base::{NoMemory, push_bytes, push_number};
 
-/// Appends the text of a value, from which the value is read again. After want of memory the text is
+/// Appends the text of a value of the grammar, from which the value is read again. After want of memory the text is
 /// as before.
 pub fn print_value(out: &mut Vec<u8>, value: &Value) -> Result<(), NoMemory>
     ensures ok { OnOk result (out.new.items ≡ out.old.items ++ value_text value.now) }
+    ensures value { OnOk result (IsValue value.now) }
     ensures again { OnOk result (IsReadBack value.now) }
     ensures err { OnErr result (out.new.items ≡ out.old.items) }
 {

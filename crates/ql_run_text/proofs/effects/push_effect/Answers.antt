@@ -7,8 +7,8 @@ use Rattle.ql_report.specs.Levels.{op_name}
 use Rattle.ql_run_text.proofs.Printing.{effect_pieces, on_ok}
 use Rattle.ql_run_text.proofs.effects.push_effect.Goals as goal
 
-pub returns : goal.returns
-returns c =
+pub returns-clause-text : goal.returns-clause-text
+returns-clause-text c =
     let p = c.args.t.now.program in
     let e = c.args.effect.now in
     let heading : Fields = decimal c.args.id.0 ∷ object_name c.args.objects.now e.object.0 ∷ op_name p e.op.0 ∷ [] in
@@ -16,9 +16,13 @@ returns c =
     let payload = payload_text e.payload in
     let session : Fields = codes "session" ∷ decimal e.session.0 ∷ codes "txn" ∷ member_text p e.member ∷ codes "stamp" ∷ decimal e.stamp ∷ codes "vis" ∷ [] in
     let seen : Fields = map decimal e.seen in
-    let called = c.in_ok-push_call.ensures ∙ ap (λ r. r ++ behind call) c.in_ok-push_heading.ensures in
-    let emitted = c.in_ok-push_payload.ensures ∙ ap (λ r. r ++ payload) (c.in_ok-push_bytes.ensures.ok ∙ ap (λ r. r ++ codes " emit ") called) in
+    let called = c.in_ok-push_call.ensures.text ∙ ap (λ r. r ++ behind call) c.in_ok-push_heading.ensures in
+    let emitted = c.in_ok-push_payload.ensures.text ∙ ap (λ r. r ++ payload) (c.in_ok-push_bytes.ensures.ok ∙ ap (λ r. r ++ codes " emit ") called) in
     let of_session = c.in_ok-push_session.ensures ∙ ap (λ r. r ++ behind session) emitted in
     let listed = c.in_ok-push_ids.ensures ∙ ap (λ (ids : List ℕ). c.push_session.new.out.items ++ behind (map decimal ids)) c.items.ensures.same in
     let before = listed ∙ ap (λ r. r ++ behind seen) of_session in
     on_ok c.push_bytes-2.result (λ w. w ∙ ap (λ r. r ++ codes "\n") before ∙ effect_pieces c.args.out.now.items (codes "effect") payload heading call session seen) c.push_bytes-2.ensures.ok
+
+pub returns-clause-values : goal.returns-clause-values
+returns-clause-values c = on_ok c.push_bytes-2.result
+    (λ e. record { args = c.in_ok-push_call.ensures.args; answer = c.in_ok-push_call.ensures.answer; payload = c.in_ok-push_payload.ensures.values }) c.push_bytes-2.ensures.ok
