@@ -3,6 +3,7 @@ mod Loops
 mod Fronts
 mod Clean
 pub mod Sound
+pub mod ObjectNames
 mod OneFile
 mod LinesAgain
 mod EventsAgain

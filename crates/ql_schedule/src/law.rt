@@ -1,11 +1,11 @@
-ghost use Rattle.std.specs.Prelude.{◌≡◌};
+ghost use Rattle.std.specs.Prelude.{◌≡◌, [], ◌<◌, ℕ, length};
 ghost use Rattle.ql_lang.specs.declared.program.Program.{Program};
 ghost use Rattle.ql_lines.specs.Lines.{Ahead, ahead_from};
 ghost use Rattle.ql_lines.specs.Texts.{file_text};
 ghost use Rattle.ql_schedule.specs.declared.fault.SchedFault.{SchedFault};
 ghost use Rattle.ql_schedule.specs.declared.schedule.Schedule.{Schedule};
 ghost use Rattle.ql_schedule.specs.Files.{IsFirstFault, IsScheduleFile};
-ghost use Rattle.ql_schedule.specs.Spelled.{IsSpelled};
+ghost use Rattle.ql_schedule.specs.Spelled.{AreNew, IsFound, IsSpelled};
 ghost use Rattle.ql_schedule.specs.Texts.{schedule_lines};
 
 /// A file says one schedule of a program or has one first fault, never both, and never neither.
@@ -19,4 +19,10 @@ pub fn one_schedule()
 /// A schedule is read again as it is printed, where its names are names and not repeated.
 pub fn printed_is_read_again()
     ensures { (p : Program) (s : Schedule) → IsSpelled p s → IsScheduleFile p (ahead_from 1 (file_text (schedule_lines p s))) s }
+{}
+
+/// The objects of a schedule that a file says have names, no two of them the same, so each is found by its own.
+pub fn objects_have_own_names()
+    ensures names { (p : Program) (file : Ahead) (s : Schedule) → IsScheduleFile p file s → AreNew [] s.objects }
+    ensures found { (p : Program) (file : Ahead) (s : Schedule) (o : ℕ) → IsScheduleFile p file s → o < length s.objects → IsFound s.objects o }
 {}

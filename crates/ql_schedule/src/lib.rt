@@ -1,7 +1,7 @@
 // Schedules as texts: how many replicas there are, the objects with their types, and the events.
 // Its one contract: a file is read to the schedule that it says, or to its first fault and never
 // both; what is printed is read again; and a schedule that was read is one that a store can step
-// through.
+// through, whose objects have names apart.
 #![tactic(auto)]
 
 mod argument;
@@ -22,7 +22,7 @@ mod rules;
 mod schedule;
 
 pub use fault::SchedFault;
-pub use law::{one_schedule, printed_is_read_again};
+pub use law::{objects_have_own_names, one_schedule, printed_is_read_again};
 pub use parse::parse_schedule;
 pub use print::print_schedule;
 pub use schedule::{Events, Schedule, TypeIds};
