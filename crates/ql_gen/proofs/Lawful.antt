@@ -27,7 +27,7 @@ use Rattle.ql_gen.specs.Generated.{generated, generated_events, state_after}
 use Rattle.ql_gen.specs.Objects.{first_objects, object_kinds, object_names}
 use Rattle.ql_gen.proofs.ObjectLaws.{AreBelow, first_below, length_names}
 
-draw_below : (m x : ℕ) → 1 ≤ m → draw m x < m
+pub draw_below : (m x : ℕ) → 1 ≤ m → draw m x < m
 draw_below m x some = mod-lt (next x / 65536) (omega (arith, some))
 
 -- ---- the types of objects
@@ -56,7 +56,7 @@ type_at (suc m) i k less is_k =
           ∙ ap (slice_get two) at ∙ either_of (record { 0 = m }) k is_k ∙ ap (λ (j : ℕ). Some (record { 0 = j })) same
     ]
 
-all_more : {X : Type 0} (P : X → Type 0) (xs ys : List X) → AllByRecursion P xs → AllByRecursion P ys → AllByRecursion P (xs ++ ys)
+pub all_more : {X : Type 0} (P : X → Type 0) (xs ys : List X) → AllByRecursion P xs → AllByRecursion P ys → AllByRecursion P (xs ++ ys)
 all_more P [] ys first more = more
 all_more P (x ∷ xs) ys first more = (first.0, all_more P xs ys first.1 more)
 
@@ -117,7 +117,7 @@ not_both : (t : Bool) → t ≡ true → t ≡ false → ⊥
 not_both true _ opposed = differ opposed
 not_both false agreed _ = differ (sym agreed)
 
-positive : (n : ℕ) → nat_eq n 0 ≡ false → 1 ≤ n
+pub positive : (n : ℕ) → nat_eq n 0 ≡ false → 1 ≤ n
 positive n other = elim (cases_lt 0 n) [
   | inl some ↦ omega (arith, some)
   | inr none ↦ let zero_is : n ≡ 0 = omega (arith, none) in absurd (not_both (nat_eq n 0) (eq-eqb n 0 zero_is) other)
@@ -125,7 +125,7 @@ positive n other = elim (cases_lt 0 n) [
 
 -- ---- events
 
-if_both : (t : Bool) (P : Event → Type 0) (e f : Event) → (t ≡ true → P e) → (t ≡ false → P f) → P (if t then e else f)
+pub if_both : (t : Bool) (P : Event → Type 0) (e f : Event) → (t ≡ true → P e) → (t ≡ false → P f) → P (if t then e else f)
 if_both true P e f first second = first refl
 if_both false P e f first second = second refl
 

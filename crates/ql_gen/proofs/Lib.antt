@@ -1,4 +1,5 @@
 mod EventLaws
-mod Lawful
+pub mod Lawful
 mod Numbers
-mod ObjectLaws
+pub mod ObjectLaws
+pub mod Spelling

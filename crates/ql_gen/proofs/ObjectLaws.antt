@@ -12,7 +12,7 @@ use Rattle.ql_base.specs.Numbering.{has_name, with_name}
 use Rattle.ql_base.proofs.IdLemmas.{with_id-later}
 use Rattle.ql_gen.specs.Objects.{first_objects, object_name, object_names}
 
-parts : (i k : ℕ) → object_name i k ≡ codes "o" ++ (decimal i ++ (codes "_" ++ decimal k))
+pub parts : (i k : ℕ) → object_name i k ≡ codes "o" ++ (decimal i ++ (codes "_" ++ decimal k))
 parts i k = append_assoc (codes "o" ++ decimal i) (codes "_") (decimal k) ∙ append_assoc (codes "o") (decimal i) (codes "_" ++ decimal k)
 
 same_before : (xs ys s t : List ℕ) → length s ≡ length t → xs ++ s ≡ ys ++ t → xs ≡ ys
