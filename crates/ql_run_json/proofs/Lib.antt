@@ -1,3 +1,5 @@
 pub mod Lists
 pub mod Floats
 pub mod Members
+pub mod Depths
+pub mod LineEnd

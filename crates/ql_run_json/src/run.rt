@@ -1,8 +1,9 @@
-ghost use Rattle.std.specs.Prelude.{◌≡◌, IfOk, OnOk, codes, length};
+ghost use Rattle.std.specs.Prelude.{◌≡◌, Some, IfOk, OnOk, codes, length};
 ghost use Rattle.ql_typing.specs.Operations.{all_ops};
 ghost use Rattle.ql_run_text.specs.EffectTexts.{AreNamed};
 ghost use Rattle.ql_run_text.specs.ReplyTexts.{AreAnswered};
 ghost use Rattle.serde_json.specs.Data.{put as with_member};
+ghost use Rattle.serde_json.specs.Read.{read};
 ghost use Rattle.serde_json.specs.View.{members_view, view};
 ghost use Rattle.ql_run_json.specs.JsonRuns.{run_data, run_json};
 
@@ -18,7 +19,7 @@ use serde_json::{Map, Value as Json, put};
 use std::alloc::Global;
 
 /// A run in JSON, on one line: the levels of the program, the replies to the events in order, and the execution that they
-/// made, in which objects have these names.
+/// made, in which objects have these names. By `serde_json`'s grammar the text is read as the same value.
 pub fn print_run_json(
     alloc: Global,
     t: &Typed,
@@ -31,7 +32,8 @@ pub fn print_run_json(
     requires txns { length l.now.txns ≡ length t.now.program.txns }
     requires named { AreNamed t.now.program (length objects.now) x.now }
     requires answered { AreAnswered x.now replies.now.items }
-    ensures { IfOk result (λ text. text.items ≡ run_json t.now.program objects.now l.now replies.now.items x.now) }
+    ensures text { IfOk result (λ text. text.items ≡ run_json t.now.program objects.now l.now replies.now.items x.now) }
+    ensures again { IfOk result (λ text. read text.items ≡ Some (run_data t.now.program objects.now l.now replies.now.items x.now)) }
 {
     let run = run_value(alloc, t, objects, l, replies.as_slice(), x)?;
     let mut text = run.to_vec(alloc)?;
