@@ -3,6 +3,7 @@ pub mod SameSource
 pub mod Faults
 pub mod NameTokens
 pub mod ReadNames
+pub mod FoundNames
 pub mod SpelledVerdicts
 pub mod Copies
 pub mod Headings

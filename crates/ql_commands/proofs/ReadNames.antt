@@ -1,5 +1,6 @@
--- The names of a program's operations and transactions, as they are read, are names of the language.
-use Rattle.std.proofs.Common.{ℕ, List, [], ◌∷◌, ◌++◌, map, Option, refl, sym, subst}
+-- The names of a program's types, operations and transactions, as they are read, are names of the language.
+use Rattle.std.proofs.Common.{ℕ, ◌<◌, List, [], ◌∷◌, ◌++◌, length, map, Option, refl, sym, subst, arith, length-append}
+use Rattle.std.proofs.lemmas.List.{length-map}
 use Rattle.std.specs.List.{AllByRecursion}
 use Rattle.ql_base.specs.Names.{IsName}
 use Rattle.ql_grammar.specs.declared.role.Role.{Role}
@@ -181,7 +182,7 @@ abbrev OpNamed : Operation → Type 0
 OpNamed o = IsName o.name.word
 
 abbrev TypeNamed : Replicated → Type 0
-TypeNamed t = AllByRecursion OpNamed t.ops
+TypeNamed t = IsName t.name.word × AllByRecursion OpNamed t.ops
 
 abbrev TxnNamed : Transaction → Type 0
 TxnNamed t = IsName t.name.word
@@ -207,7 +208,7 @@ operations (programs.more {os = os} {o = o} before last) names =
     (each-more OpNamed os o first.0 next.0, next.1)
 
 replicated : {ts rest : List Marked} {t : Replicated} → ReadsReplicated ts rest t → Named ts → TypeNamed t × Named rest
-replicated (programs.replicated fs os) names = let ops = operations os (fields fs names.1.1.1) in (ops.0, ops.1.1)
+replicated (programs.replicated fs os) names = let ops = operations os (fields fs names.1.1.1) in ((names.1.0 refl, ops.0), ops.1.1)
 
 types : {ts rest : List Marked} {ns : List Replicated} → ReadsTypes ts rest ns → Named ts → AllByRecursion TypeNamed ns × Named rest
 types (programs.one t) names = let only = replicated t names in ((only.0, tt), only.1)
@@ -244,7 +245,11 @@ ops-named (o ∷ ops) all = (all.0, ops-named ops all.1)
 
 types-named : (ts : List TypeDecl) → AllByRecursion TypeNamed (map replicated_of ts) → AllByRecursion (λ (op : OpDecl). IsName op.name.word) (all_ops ts)
 types-named [] all = tt
-types-named (t ∷ ts) all = all-append (λ (op : OpDecl). IsName op.name.word) t.ops (all_ops ts) (ops-named t.ops all.0) (types-named ts all.1)
+types-named (t ∷ ts) all = all-append (λ (op : OpDecl). IsName op.name.word) t.ops (all_ops ts) (ops-named t.ops all.0.1) (types-named ts all.1)
+
+own-named : (ts : List TypeDecl) → AllByRecursion TypeNamed (map replicated_of ts) → AllByRecursion (λ (type : TypeDecl). IsName type.name.word) ts
+own-named [] all = tt
+own-named (t ∷ ts) all = (all.0.0, own-named ts all.1)
 
 txns-named : (ts : List TxnDecl) → AllByRecursion TxnNamed (map transaction_of ts) → AllByRecursion (λ (txn : TxnDecl). IsName txn.name.word) ts
 txns-named [] all = tt
@@ -254,4 +259,17 @@ pub has_names : (bytes : List ℕ) (p : Program) → IsProgramText bytes (source
 has_names bytes p text =
     let tokens : AreNamed (lexemes_of bytes text.tokens) = lexes_named bytes refl text.lexes in
     let named = source text.parses.reads (subst AreNamed (sym text.parses.are) tokens) in
-    record { ops = types-named p.types named.0; txns = txns-named p.txns named.1 }
+    record { types = own-named p.types named.0; ops = types-named p.types named.0; txns = txns-named p.txns named.1 }
+
+-- a source declares a type
+some-types : {ts rest : List Marked} {ns : List Replicated} → ReadsTypes ts rest ns → 0 < length ns
+some-types (programs.one t) = omega arith
+some-types (programs.more {types = before} {t = t} reads last) = omega (arith, length-append before (t ∷ []))
+
+of-source : {ts rest : List Marked} {s : Source} → ReadsProgram ts rest s → 0 < length s.types
+of-source (programs.program ts ns) = some-types ts
+
+pub has_types : (bytes : List ℕ) (p : Program) → IsProgramText bytes (source_of p) → 0 < length p.types
+has_types bytes p text =
+    let some = of-source text.parses.reads in
+    omega (arith, some, length-map p.types replicated_of)

@@ -1,7 +1,8 @@
 -- Programs that are read as one source have the same faults and the same contracts, wherever their parts are kept.
-use Rattle.std.proofs.Common.{◌≡◌, ℕ, List, [], ◌∷◌, ◌++◌, map, true, false, Option, Some, None, refl, ap, ◌∙◌}
+use Rattle.std.proofs.Common.{◌≡◌, ℕ, suc, List, [], ◌∷◌, ◌++◌, length, map, replicate, true, false, Option, Some, None, refl, ap, sym, ◌∙◌}
 use Rattle.std.specs.List.{flat_map}
 use Rattle.std.specs.Option.{option_map}
+use Rattle.std.proofs.lemmas.List.{length-map, map-append}
 use Rattle.ql_lang.specs.declared.name.Name.{Name}
 use Rattle.ql_lang.specs.declared.operation.Bind.{Bind}
 use Rattle.ql_lang.specs.declared.operation.Stmt.{Stmt}
@@ -19,6 +20,7 @@ use Rattle.ql_typing.specs.Faults.{each, names_met, repeats}
 use Rattle.ql_typing.specs.ContractFaults.{contract_faults, op_faults}
 use Rattle.ql_typing.specs.Functions.{of_base}
 use Rattle.ql_typing.specs.Kinds.{faults_as, kind_in, reading_faults}
+use Rattle.ql_typing.specs.Operations.{all_ops, kinds_from, op_kinds}
 use Rattle.ql_typing.specs.Programs.{above, bind_faults, bind_names, binds_known, effect_faults, field_names, fields_known, init_faults, maybe_effect_faults, op_decl_faults, op_names, op_places, param_names, params_known, places, program_faults, stmt_faults, target_names, txn_faults, type_faults}
 
 -- what two lists agree on in each item, they agree on as lists
@@ -136,3 +138,36 @@ module _ (p q : Program) (e : source_of p ≡ source_of q) where
       ap (λ (n : List Name). each (txn_faults (names_met [] n)) p.txns) names
       ∙ each_alike transaction_of (txn_faults (names_met [] (op_names q.types))) (same-txn (names_met [] (op_names q.types))) p.txns q.txns txns in
       rw (type_names, type_places, txn_names, txn_places, at, of_types, of_txns, names) refl
+
+-- ---- the parts of programs that are read as one source
+
+same-kinds : (k : ℕ) (ts us : List TypeDecl) → map replicated_of ts ≡ map replicated_of us → kinds_from k ts ≡ kinds_from k us
+unfolding kinds_from
+same-kinds k [] [] e = refl
+same-kinds k [] (u ∷ us) e = absurd (cc)
+same-kinds k (t ∷ ts) [] e = absurd (cc)
+same-kinds k (t ∷ ts) (u ∷ us) e =
+    let one : replicated_of t ≡ replicated_of u = cc in
+    let more : map replicated_of ts ≡ map replicated_of us = cc in
+    let count : length t.ops ≡ length u.ops = sym (length-map t.ops operation_of) ∙ ap (λ (r : Replicated). length r.ops) one ∙ length-map u.ops operation_of in
+    ap (λ (n : ℕ). replicate n k ++ kinds_from (suc k) ts) count ∙ ap (λ (ks : List ℕ). replicate (length u.ops) k ++ ks) (same-kinds (suc k) ts us more)
+
+map-flat : {A B C : Type 0} (f : B → C) (g : A → List B) (xs : List A) → map f (flat_map g xs) ≡ flat_map (λ x. map f (g x)) xs
+map-flat f g [] = refl
+map-flat {A} {B} {C} f g (x ∷ xs) = map-append f (g x) (flat_map g xs) ∙ ap (λ (cs : List C). map f (g x) ++ cs) (map-flat f g xs)
+
+module _ (p q : Program) (e : source_of p ≡ source_of q) where
+  pub same-types : map replicated_of p.types ≡ map replicated_of q.types
+  same-types = ap (λ (s : Source). s.types) e
+
+  pub same-txns : map transaction_of p.txns ≡ map transaction_of q.txns
+  same-txns = ap (λ (s : Source). s.txns) e
+
+  pub same-ops : map operation_of (all_ops p.types) ≡ map operation_of (all_ops q.types)
+  same-ops =
+      map-flat operation_of (λ t. t.ops) p.types
+      ∙ flat_alike replicated_of (λ t. map operation_of t.ops) (λ a b s. ap (λ (r : Replicated). r.ops) s) p.types q.types same-types
+      ∙ sym (map-flat operation_of (λ t. t.ops) q.types)
+
+  pub same-op-kinds : op_kinds p.types ≡ op_kinds q.types
+  same-op-kinds = same-kinds 0 p.types q.types same-types

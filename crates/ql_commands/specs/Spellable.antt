@@ -14,7 +14,8 @@ pub record IsNearlyLine (l : Line) : Type 0 where
   pub small : AllByRecursion (λ x. x.var < 2 ^ 32) l.clause
   pub hints : AllByRecursion IsHint l.hints
 
--- the names of a program's targets can stand in a certificate
+-- the names of a program's targets can stand in a certificate, and those of its types in a schedule
 pub record HasNames (p : Program) : Type 0 where
+  pub types : AllByRecursion (λ type. IsName type.name.word) p.types
   pub ops : AllByRecursion (λ op. IsName op.name.word) (all_ops p.types)
   pub txns : AllByRecursion (λ txn. IsName txn.name.word) p.txns

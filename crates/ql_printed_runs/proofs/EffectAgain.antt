@@ -1,5 +1,5 @@
 -- the line of an effect is read as that effect
-use Rattle.std.proofs.Common.{◌≡◌, ℕ, zero, suc, ◌<◌, ◌≤◌, ◌+◌, ◌^◌, Bool, true, false, List, [], ◌∷◌, ◌++◌, Option, Some, None, length, map, decimal, codes, arith, refl, ap, sym, subst, ◌∙◌}
+use Rattle.std.proofs.Common.{◌≡◌, ℕ, zero, suc, ◌<◌, ◌≤◌, ◌+◌, ◌^◌, Bool, true, false, List, [], ◌∷◌, ◌++◌, All, Option, Some, None, length, map, decimal, codes, arith, refl, ap, sym, subst, ◌∙◌}
 use Rattle.std.specs.List.{AllByRecursion}
 use Rattle.ql_base.specs.IdLists.{IsAscending}
 use Rattle.ql_base.specs.Names.{IsName}
@@ -22,8 +22,8 @@ use Rattle.ql_execution_files.specs.declared.setting.Setting.{Setting}
 use Rattle.ql_execution_files.specs.EffectLine.{CallAt, EmitAt, FitsTxn, IsEffectLine, IsSetting, PayloadAt, txn_text}
 use Rattle.ql_execution_files.specs.Parts.{FieldAt, FieldsAt, ValueAt, ValuesAt}
 use Rattle.ql_report.specs.Levels.{op_name, txn_name}
-use Rattle.ql_run_text.specs.EffectTexts.{effect_fields, member_text, object_name, payload_text, values_text}
-use Rattle.ql_printed_runs.specs.Printable.{FitsMember, FitsPayload, IsWritable}
+use Rattle.ql_run_text.specs.EffectTexts.{CarriesValues, effect_fields, member_text, object_name, payload_text, values_text}
+use Rattle.ql_printed_runs.specs.Printable.{FitsMember, IsWritable}
 use Rattle.ql_printed_runs.proofs.FieldsAgain.{IsOneField, fields_behind, first_field, high_stay, name_bytes, name_field, next_field, number_field, part_field, txn_field, value_part, value_stay, values_part, values_stay}
 use Rattle.ql_printed_runs.proofs.LinesAgain.{Stay, decimal_stay, joined_stay, stay_both, stays_of, tells}
 
@@ -113,7 +113,7 @@ is_setting p e named is stamp ids ascending = record {
       ∙ ap (λ t. codes "session" ∷ decimal e.session.0 ∷ codes "txn" ∷ t ∷ codes "stamp" ∷ decimal e.stamp ∷ codes "vis" ∷ map decimal e.seen) (sym (member_is p e.member));
 }
 
-is_call : (args : List Value) (answer : Value) (fs : Fields) → AllByRecursion IsValue args → IsValue answer → CallAt args answer (behind (values_text args ∷ codes "=" ∷ value_text answer ∷ fs)) (behind fs)
+is_call : (args : List Value) (answer : Value) (fs : Fields) → All IsValue args → IsValue answer → CallAt args answer (behind (values_text args ∷ codes "=" ∷ value_text answer ∷ fs)) (behind fs)
 is_call args answer fs values value = record {
   behind_args = behind (codes "=" ∷ value_text answer ∷ fs);
   behind_mark = behind (value_text answer ∷ fs);
@@ -122,11 +122,11 @@ is_call args answer fs values value = record {
   answered = part_field ValueAt answer (value_text answer) fs (value_part answer fs value);
 }
 
-is_payload : (payload : Payload) (fs : Fields) → FitsPayload payload → PayloadAt payload (behind (payload_text payload ∷ fs)) (behind fs)
+is_payload : (payload : Payload) (fs : Fields) → CarriesValues payload → PayloadAt payload (behind (payload_text payload ∷ fs)) (behind fs)
 is_payload Nothing fs fits = next_field (codes "-") fs none_word
 is_payload (Emitted vs) fs fits = part_field ValuesAt vs (values_text vs) fs (values_part vs fs fits)
 
-is_emit : (payload : Payload) (fs : Fields) → FitsPayload payload → EmitAt payload (behind (codes "emit" ∷ payload_text payload ∷ fs)) (behind fs)
+is_emit : (payload : Payload) (fs : Fields) → CarriesValues payload → EmitAt payload (behind (codes "emit" ∷ payload_text payload ∷ fs)) (behind fs)
 is_emit payload fs fits = record {
   behind_word = behind (payload_text payload ∷ fs);
   word = next_field (codes "emit") (payload_text payload ∷ fs) emit_word;
@@ -179,7 +179,7 @@ module _ (p : Program) (objects : List (List ℕ)) (id : ℕ) (e : Effect) (name
   member_stay Alone h = (stays_of 45 (omega arith), tt)
   member_stay (Inside run decl) h = stay_both (decimal run.0) (58 ∷ txn_name p decl.0) (decimal_stay run.0) (stays_of 58 (omega arith), name_stay (txn_name p decl.0) h)
 
-  payload_stay : (payload : Payload) → FitsPayload payload → Stay (payload_text payload)
+  payload_stay : (payload : Payload) → CarriesValues payload → Stay (payload_text payload)
   payload_stay Nothing h = (stays_of 45 (omega arith), tt)
   payload_stay (Emitted vs) h = values_stay vs h
 

@@ -1,6 +1,7 @@
 -- the fields of a line are read as they are written
 use Rattle.std.proofs.Common.{◌≡◌, ℕ, zero, suc, ◌<◌, ◌≤◌, ◌+◌, ◌^◌, Bool, true, false, List, [], ◌∷◌, ◌++◌, All, Ok, get_or, length, map, replicate, decimal, codes, pos, negsuc, arith, refl, ap, sym, subst, ◌∙◌, append_assoc}
 use Rattle.std.proofs.lemmas.List.{append-nil}
+use Rattle.std.proofs.lemmas.List.Elements.{recursion_from_All}
 use Rattle.std.proofs.lemmas.List.Splits.{slice_split-cons_no, slice_split-cons_yes}
 use Rattle.std.proofs.lemmas.Bool.Decides.{nat_tests}
 use Rattle.std.specs.Fmt.{signed_decimal}
@@ -168,8 +169,8 @@ values_at (v ∷ vs) rest h =
       (more, printed_again v more h.0 (more_digit (map value_text vs) rest), more_values vs rest h.1),
     )
 
-pub values_part : (vs : List Value) (fs : Fields) → AllByRecursion IsValue vs → ValuesAt vs (values_text vs ++ behind fs) (behind fs)
-values_part vs fs h = values_at vs (behind fs) h
+pub values_part : (vs : List Value) (fs : Fields) → All IsValue vs → ValuesAt vs (values_text vs ++ behind fs) (behind fs)
+values_part vs fs h = values_at vs (behind fs) (recursion_from_All IsValue vs h)
 
 -- ---- no value ends a line
 
@@ -224,5 +225,5 @@ value_stay (Map []) h = (stays_of 123 (omega arith), (stays_of 58 (omega arith),
 value_stay (Map (e ∷ m)) h =
     closed_stay 123 (separated (map entry_text (e ∷ m))) 125 (omega arith) (omega arith) (separated_stay IsEntry entry_text entry_stay (e ∷ m) (by_recursion IsEntry (e ∷ m) h.1))
 
-pub values_stay : (vs : List Value) → AllByRecursion IsValue vs → Stay (values_text vs)
-values_stay vs h = closed_stay 40 (separated (map value_text vs)) 41 (omega arith) (omega arith) (separated_stay IsValue value_text value_stay vs h)
+pub values_stay : (vs : List Value) → All IsValue vs → Stay (values_text vs)
+values_stay vs h = closed_stay 40 (separated (map value_text vs)) 41 (omega arith) (omega arith) (separated_stay IsValue value_text value_stay vs (recursion_from_All IsValue vs h))

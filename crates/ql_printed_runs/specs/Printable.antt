@@ -6,16 +6,13 @@ use Rattle.ql_base.specs.Names.{IsName}
 use Rattle.ql_lang.specs.declared.program.Program.{Program}
 use Rattle.ql_typing.specs.Lookups.{txn_place}
 use Rattle.ql_typing.specs.Operations.{all_ops, op_kinds, op_place}
-use Rattle.ql_value.specs.ValueGrammar.{IsValue}
 use Rattle.ql_exec.specs.declared.effect.Effect.{Effect}
 use Rattle.ql_exec.specs.declared.effect.Member.{Member}
 use Rattle.ql_exec.specs.declared.effect.Member.TheVariants.{Alone, Inside}
-use Rattle.ql_exec.specs.declared.effect.Payload.{Payload}
-use Rattle.ql_exec.specs.declared.effect.Payload.TheVariants.{Nothing, Emitted}
 use Rattle.ql_exec.specs.Effects.{effect_at}
 use Rattle.ql_exec.specs.Execution.{IsExecution}
 use Rattle.ql_report.specs.Levels.{op_name, txn_name}
-use Rattle.ql_run_text.specs.EffectTexts.{AreNamed, object_name}
+use Rattle.ql_run_text.specs.EffectTexts.{AreNamed, HasValues, object_name}
 
 -- operations and declared transactions have names, and are found by them
 pub record FindsNames (p : Program) : Type 0 where
@@ -31,16 +28,6 @@ pub record AreObjects (objects : List (List ℕ)) : Type 0 where
 abbrev pub FitsMember : Member → Type 0
 FitsMember Alone = Unit {0}
 FitsMember (Inside run decl) = (1 ≤ run.0) × (run.0 < 2 ^ 32)
-
-abbrev pub FitsPayload : Payload → Type 0
-FitsPayload Nothing = Unit {0}
-FitsPayload (Emitted vs) = AllByRecursion IsValue vs
-
--- an effect was called with values, answered one, and carries values
-pub record HasValues (e : Effect) : Type 0 where
-  pub args : AllByRecursion IsValue e.args
-  pub answer : IsValue e.answer
-  pub payload : FitsPayload e.payload
 
 -- what an effect has can be written
 pub record IsWritable (e : Effect) : Type 0 where
