@@ -18,9 +18,9 @@ use Rattle.ql_schedule.specs.Files.{IsFirstFault, IsScheduleFile}
 use Rattle.ql_running.specs.Soundness.{IsSound}
 use Rattle.ql_running.specs.ScheduleFaults.{fault_text}
 
--- how a run is written: by its program, the names of its objects, the levels, the replies and the execution
-abbrev pub Format : Type 0
-Format = Program → List (List ℕ) → LevelLists → List Reply → List Effect → List ℕ
+-- how a run is written: which texts show its program, the names of its objects, the levels, the replies and the execution
+abbrev pub Format : Type 1
+Format = Program → List (List ℕ) → LevelLists → List Reply → List Effect → List ℕ → Type 0
 
 -- The text, in a format, of the written machine's run of a schedule at some levels. In the execution that the text shows
 -- each effect and each begun transaction meets its contract, and each answer is the fold of what its effect sees.
@@ -28,7 +28,7 @@ pub record PrintsRun (format : Format) (p : Program) (levels : LevelLists) (s : 
   pub replies : List Reply
   pub last : Machine
   pub run : IsRun (rules_of p levels) s.replicas s.events replies last
-  pub printed : text ≡ format p s.objects levels replies last.effects
+  pub printed : format p s.objects levels replies last.effects text
   pub sound : IsSound p last.effects
 
 -- The bytes of a source and of a schedule, and the text of the schedule's run at the least levels of the source's program.

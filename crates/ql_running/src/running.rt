@@ -92,7 +92,7 @@ fn print_in(
     requires txns { length levels.now.txns ≡ length t.now.program.txns }
     requires named { AreNamed t.now.program (length objects.now) x.now }
     requires answered { AreAnswered x.now replies.now.items }
-    ensures { IfOk result (λ text. text.items ≡ format_of form t.now.program objects.now levels.now replies.now.items x.now) }
+    ensures { IfOk result (λ text. format_of form t.now.program objects.now levels.now replies.now.items x.now text.items) }
 {
     match form {
         Form::Text => print_run(alloc, t, objects, levels, replies, x),

@@ -24,8 +24,6 @@ returns c =
     let levels = c.args.levels.now in
     let run = c.in_ok-run.run' in
     let replies = run.replies.items in
-    let shown = ap (λ (os : List (List ℕ)). format_of c.args.form p os levels replies c.execution.result.now) c.in_ok-run.ensures.objects
-    ∙ ap (λ (x : List Effect). format_of c.args.form p c.args.schedule.objects levels replies x) c.execution.ensures in
     IfOk-weaker c.print_in.result _ _
     (λ text printed. λ source file is_source is_schedule. record {
       program = p;
@@ -38,7 +36,9 @@ returns c =
         replies = replies;
         last = run.store.machine;
         run = c.in_ok-run.ensures.run;
-        printed = printed ∙ shown;
+        printed =
+            subst (λ (x : List Effect). format_of c.args.form p c.args.schedule.objects levels replies x text.items) c.execution.ensures
+            (subst (λ (os : List (List ℕ)). format_of c.args.form p os levels replies c.execution.result.now text.items) c.in_ok-run.ensures.objects printed);
         sound = c.in_ok-run.ensures.sound;
       };
     })

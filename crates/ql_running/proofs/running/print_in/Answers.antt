@@ -1,0 +1,17 @@
+use Rattle.std.proofs.Common.{Result, Ok, Err, IfOk, OnOk}
+use Rattle.ql_running.proofs.running.print_in.Goals as goal
+
+-- what is known of a result that is there
+of-both : {X E : Type 0} (r : Result X E) (P R : X → Type 0) (Q : Type 0) → ((x : X) → P x → Q → R x) → IfOk r P → OnOk r Q → IfOk r R
+of-both (Ok x) P R Q gives p q = gives x p q
+of-both (Err e) P R Q gives p q = tt
+
+of-two : {X E : Type 0} (r : Result X E) (P Q R : X → Type 0) → ((x : X) → P x → Q x → R x) → IfOk r P → IfOk r Q → IfOk r R
+of-two (Ok x) P Q R gives p q = gives x p q
+of-two (Err e) P Q R gives p q = tt
+
+pub returns-in-Text : goal.returns-in-Text
+returns-in-Text c = of-both c.print_run.result _ _ _ (λ text written values. record { written = written; values = values }) c.print_run.ensures.text c.print_run.ensures.values
+
+pub returns-in-Json : goal.returns-in-Json
+returns-in-Json c = of-two c.print_run_json.result _ _ _ (λ text written again. record { written = written; again = again }) c.print_run_json.ensures.text c.print_run_json.ensures.again
