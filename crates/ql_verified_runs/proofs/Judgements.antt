@@ -18,6 +18,7 @@ use Rattle.ql_parse.specs.Parsing.{IsProgramText}
 use Rattle.ql_printed_runs.specs.Printable.{IsPrintable}
 use Rattle.ql_printed_runs.specs.Renumbered.{IsRenumbered}
 use Rattle.ql_run_text.specs.RunTexts.{run_text}
+use Rattle.ql_running.specs.Forms.{IsRunText}
 use Rattle.ql_running.specs.Runs.{TellsRun}
 use Rattle.ql_typing.specs.Operations.{op_contracts, txn_contracts}
 use Rattle.ql_verify.specs.Verdicts.{IsJudgedAt, IsJudgedOf, IsVerdict}
@@ -77,12 +78,12 @@ pub run-judged : ((bytes : List ℕ) (s t : Source) → IsProgramText bytes s �
     → ((p : Program) (file : Ahead) (x : List Effect) (f : ReportFault) → IsExecutionFile p file x → FirstFault p file f → ⊥)
     → ((p : Program) (objects : List (List ℕ)) (levels : LevelLists) (replies : List Reply) (x : List Effect) → IsPrintable p objects x
     → (y : List Effect) × IsRenumbered x y × IsExecutionFile p (ahead_from 1 (run_text p objects levels replies x)) y)
-    → (source schedule text said : List ℕ) (j : Judged) (tells : TellsRun run_text source schedule text) → IsPrintable tells.program tells.schedule.objects tells.prints.last.effects
+    → (source schedule text said : List ℕ) (j : Judged) (tells : TellsRun IsRunText source schedule text) → IsPrintable tells.program tells.schedule.objects tells.prints.last.effects
     → VerifySays source text j said → (j ≡ Holds) ⊎ (j ≡ TooMuch)
 run-judged tree one apart again source schedule text said j tells printable says =
     let p = tells.program in
     let run = tells.prints in
     let x = run.last.effects in
     let read = again p tells.schedule.objects tells.levels run.replies x printable in
-    let file = subst (λ (t : List ℕ). IsExecutionFile p (ahead_from 1 t) read.0) (sym run.printed) read.2 in
+    let file = subst (λ (t : List ℕ). IsExecutionFile p (ahead_from 1 t) read.0) (sym run.printed.written) read.2 in
     judged-so tree one apart source text p tells.is_source read.0 file (sound-verdict p x read.0 printable.execution run.sound read.1) said j says

@@ -1,10 +1,10 @@
--- The execution of a schedule's run can be printed, where its values can.
-use Rattle.std.proofs.Common.{◌≡◌, ℕ, suc, ◌<◌, ◌≤◌, ◌^◌, List, Option, Some, get_or, length, slice_get, slice_index, ap, sym, arith, ◌∙◌}
+-- The execution of a schedule's run can be printed.
+use Rattle.std.proofs.Common.{◌≡◌, ℕ, suc, ◌<◌, ◌≤◌, ◌^◌, List, [], Option, Some, get_or, length, slice_get, slice_index, ap, sym, arith, ◌∙◌}
 use Rattle.std.specs.Prelude.{unwrap_or}
-use Rattle.std.specs.List.{AllByRecursion}
 use Rattle.std.specs.Option.{option_map}
-use Rattle.std.proofs.lemmas.List.Elements.{All-from_recursion, recursion_from_All}
+use Rattle.std.proofs.lemmas.List.Elements.{recursion_from_All}
 use Rattle.std.proofs.lemmas.Option.{slice_get-get_or, unwrap_or-slice_get}
+use Rattle.ql_base.specs.Numbering.{place}
 use Rattle.ql_base.specs.declared.ids.ObjId.{ObjId}
 use Rattle.ql_base.specs.declared.ids.TypeId.{TypeId}
 use Rattle.ql_exec.specs.declared.effect.Effect.{Effect}
@@ -14,11 +14,13 @@ use Rattle.ql_headline.specs.Stores.{rules_of}
 use Rattle.ql_lang.specs.declared.program.Program.{Program}
 use Rattle.ql_lines.specs.Lines.{ahead_from}
 use Rattle.ql_machine_laws.proofs.Runs.{kept}
-use Rattle.ql_printed_runs.specs.Printable.{AreObjects, FitsMember, HasValues, IsPrintable, IsWritable}
-use Rattle.ql_run_text.specs.EffectTexts.{IsDeclared}
-use Rattle.ql_run_text.specs.RunTexts.{run_text}
+use Rattle.ql_printed_runs.specs.Printable.{AreObjects, FitsMember, IsPrintable, IsWritable}
+use Rattle.ql_run_text.specs.EffectTexts.{IsDeclared, object_name}
+use Rattle.ql_running.specs.Forms.{IsRunText}
 use Rattle.ql_running.specs.Runs.{TellsRun}
+use Rattle.ql_schedule.proofs.ObjectNames.{file_names, found_by_name}
 use Rattle.ql_schedule.proofs.Sound.{file_sound}
+use Rattle.ql_schedule.specs.Spelled.{AreNew}
 use Rattle.ql_typing.specs.Operations.{op_kinds}
 use Rattle.ql_verified_runs.proofs.FoundNames.{finds-names}
 use Rattle.ql_verified_runs.proofs.Made.{IsMember, Keeps, run-keeps}
@@ -32,8 +34,17 @@ module _ (p : Program) (replicas objects : ℕ) (kinds : List TypeId) where
   numbered begun Alone few h = tt
   numbered begun (Inside run decl) few h = let high = h.1 in (h.0, omega (arith, high, few))
 
-pub run-printable : (source file text : List ℕ) (told : TellsRun run_text source file text) → AreObjects told.schedule.objects → AllByRecursion HasValues told.prints.last.effects → IsPrintable told.program told.schedule.objects told.prints.last.effects
-run-printable source file text told objects values =
+-- names apart are found each by itself, so no two are the same
+objects-apart : (objects : List (List ℕ)) → AreNew [] objects → AreObjects objects
+objects-apart objects new = record {
+  named = λ o less. (found_by_name objects o new less).0;
+  apart = λ o q less below same.
+      (let one : Some o ≡ Some q = sym (found_by_name objects o new less).1 ∙ ap (place objects) same ∙ (found_by_name objects q new below).1 in
+      ap (λ (k : Option ℕ). unwrap_or k 0) one);
+}
+
+pub run-printable : (source file text : List ℕ) (told : TellsRun IsRunText source file text) → IsPrintable told.program told.schedule.objects told.prints.last.effects
+run-printable source file text told =
     let p = told.program in
     let s = told.schedule in
     let run = told.prints in
@@ -49,7 +60,7 @@ run-printable source file text told objects values =
     let each = λ (k : ℕ) (d : Effect) (less : k < length x). made.made (suc k) (get_or x k d) (slice_get-get_or x k d less) in
     record {
       names = finds-names source p told.is_source;
-      distinct = objects;
+      distinct = objects-apart s.objects (file_names p (ahead_from 1 file) s told.is_schedule);
       execution = (kept rules s.replicas s.events run.replies run.last run.run).sound.execution;
       few = omega (arith, events, few);
       named = λ k d less. record {
@@ -63,7 +74,7 @@ run-printable source file text told objects values =
           sym (unwrap_or-slice_get (op_kinds p.types) e.op.0 0) ∙ ap (λ (o : Option ℕ). unwrap_or o 0) type ∙ unwrap_or-slice_get (op_kinds p.types) g.op.0 0);
       effects = recursion_from_All IsWritable x
           (λ k d less. record {
-            values = All-from_recursion HasValues x values k d less;
+            values = run.printed.values k d less;
             session = (let session = (each k d less).session in omega (arith, session));
             member = numbered p s.replicas (length s.objects) s.kinds run.last.begun (get_or x k d).member begun (each k d less).member;
           });

@@ -1,14 +1,12 @@
 -- Programs that are read as one source read the same executions, and have the same contracts.
-use Rattle.std.proofs.Common.{◌≡◌, ℕ, suc, List, [], ◌∷◌, ◌++◌, map, Option, None, Some, Result, Err, inl, inr, length, replicate, refl, sym, ap, ◌∙◌}
-use Rattle.std.specs.List.{flat_map}
+use Rattle.std.proofs.Common.{◌≡◌, ℕ, List, [], ◌∷◌, map, Option, None, Some, Result, Err, inl, inr, length, refl, sym, ap, ◌∙◌}
 use Rattle.std.specs.Prelude.{option_map}
 use Rattle.std.specs.Option.{option_and_then, option_map_or}
 use Rattle.std.specs.Str.{bytes_eq}
-use Rattle.std.proofs.lemmas.List.{length-map, map-append}
 use Rattle.ql_base.specs.Numbering.{place}
 use Rattle.ql_base.specs.declared.ids.ObjId.{ObjId}
 use Rattle.ql_base.specs.declared.ids.OpId.{OpId}
-use Rattle.ql_commands.proofs.SameSource.{flat_alike, map_alike}
+use Rattle.ql_commands.proofs.SameSource.{map_alike, same-op-kinds, same-ops, same-txns}
 use Rattle.ql_exec.specs.declared.effect.Effect.{Effect}
 use Rattle.ql_exec.specs.declared.effect.Member.{Member}
 use Rattle.ql_execution_files.specs.Effects.{after_effect, after_known, is_mixed, known_of, member_of}
@@ -22,61 +20,30 @@ use Rattle.ql_lang.specs.Formulas.{Resolved}
 use Rattle.ql_lang.specs.declared.operation.OpDecl.{OpDecl}
 use Rattle.ql_lang.specs.declared.program.Program.{Program}
 use Rattle.ql_lang.specs.declared.program.TxnDecl.{TxnDecl}
-use Rattle.ql_lang.specs.declared.program.TypeDecl.{TypeDecl}
-use Rattle.ql_lang.specs.Programs.{Operation, Replicated, Source, Transaction, operation_of, replicated_of, source_of, transaction_of}
+use Rattle.ql_lang.specs.Programs.{Operation, Transaction, operation_of, source_of, transaction_of}
 use Rattle.ql_lines.specs.Lines.{Ahead, Numbered}
 use Rattle.ql_typing.specs.Lookups.{txn_place}
-use Rattle.ql_typing.specs.Operations.{all_ops, kinds_from, op_contract, op_contracts, op_kinds, op_place, op_words, txn_contract, txn_contracts}
+use Rattle.ql_typing.specs.Operations.{all_ops, op_contract, op_contracts, op_kinds, op_place, op_words, txn_contract, txn_contracts}
 use Rattle.ql_typing.specs.Resolved.{resolved_in}
 use Rattle.ql_typing.proofs.Positions.{op_place_of, position-map}
 
-same-kinds : (k : ℕ) (ts us : List TypeDecl) → map replicated_of ts ≡ map replicated_of us → kinds_from k ts ≡ kinds_from k us
-unfolding kinds_from
-same-kinds k [] [] e = refl
-same-kinds k [] (u ∷ us) e = absurd (cc)
-same-kinds k (t ∷ ts) [] e = absurd (cc)
-same-kinds k (t ∷ ts) (u ∷ us) e =
-    let one : replicated_of t ≡ replicated_of u = cc in
-    let more : map replicated_of ts ≡ map replicated_of us = cc in
-    let count : length t.ops ≡ length u.ops = sym (length-map t.ops operation_of) ∙ ap (λ (r : Replicated). length r.ops) one ∙ length-map u.ops operation_of in
-    ap (λ (n : ℕ). replicate n k ++ kinds_from (suc k) ts) count ∙ ap (λ (ks : List ℕ). replicate (length u.ops) k ++ ks) (same-kinds (suc k) ts us more)
-
-map-flat : {A B C : Type 0} (f : B → C) (g : A → List B) (xs : List A) → map f (flat_map g xs) ≡ flat_map (λ x. map f (g x)) xs
-map-flat f g [] = refl
-map-flat {A} {B} {C} f g (x ∷ xs) = map-append f (g x) (flat_map g xs) ∙ ap (λ (cs : List C). map f (g x) ++ cs) (map-flat f g xs)
-
 module _ (p q : Program) (e : source_of p ≡ source_of q) where
-  types : map replicated_of p.types ≡ map replicated_of q.types
-  types = ap (λ (s : Source). s.types) e
-
-  txns : map transaction_of p.txns ≡ map transaction_of q.txns
-  txns = ap (λ (s : Source). s.txns) e
-
-  ops : map operation_of (all_ops p.types) ≡ map operation_of (all_ops q.types)
-  ops =
-      map-flat operation_of (λ t. t.ops) p.types
-      ∙ flat_alike replicated_of (λ t. map operation_of t.ops) (λ a b s. ap (λ (r : Replicated). r.ops) s) p.types q.types types
-      ∙ sym (map-flat operation_of (λ t. t.ops) q.types)
-
   words : op_words p.types ≡ op_words q.types
-  words = map_alike operation_of (λ o. o.name.word) (λ a b s. ap (λ (o : Operation). o.name.word) s) (all_ops p.types) (all_ops q.types) ops
+  words = map_alike operation_of (λ o. o.name.word) (λ a b s. ap (λ (o : Operation). o.name.word) s) (all_ops p.types) (all_ops q.types) (same-ops p q e)
 
   -- ---- contracts
 
   pub same_op_contracts : op_contracts p.types ≡ op_contracts q.types
   same_op_contracts =
       ap (λ (ws : List (List ℕ)). map (op_contract ws) (all_ops p.types)) words
-      ∙ map_alike operation_of (op_contract (op_words q.types)) (λ a b s. ap (λ (o : Operation). resolved_in (op_words q.types) o.contract) s) (all_ops p.types) (all_ops q.types) ops
+      ∙ map_alike operation_of (op_contract (op_words q.types)) (λ a b s. ap (λ (o : Operation). resolved_in (op_words q.types) o.contract) s) (all_ops p.types) (all_ops q.types) (same-ops p q e)
 
   pub same_txn_contracts : txn_contracts p ≡ txn_contracts q
   same_txn_contracts =
       ap (λ (ws : List (List ℕ)). map (txn_contract ws) p.txns) words
-      ∙ map_alike transaction_of (txn_contract (op_words q.types)) (λ a b s. ap (λ (t : Transaction). resolved_in (op_words q.types) t.contract) s) p.txns q.txns txns
+      ∙ map_alike transaction_of (txn_contract (op_words q.types)) (λ a b s. ap (λ (t : Transaction). resolved_in (op_words q.types) t.contract) s) p.txns q.txns (same-txns p q e)
 
   -- ---- what is read
-
-  kinds : op_kinds p.types ≡ op_kinds q.types
-  kinds = same-kinds 0 p.types q.types types
 
   op-place : (w : List ℕ) → op_place p.types w ≡ op_place q.types w
   op-place w = sym (op_place_of (op_words p.types) p.types w refl) ∙ ap (λ (ws : List (List ℕ)). place ws w) words ∙ op_place_of (op_words q.types) q.types w refl
@@ -84,7 +51,7 @@ module _ (p q : Program) (e : source_of p ≡ source_of q) where
   txn-place : (w : List ℕ) → txn_place p.txns w ≡ txn_place q.txns w
   txn-place w =
       sym (position-map (bytes_eq w) (λ (d : TxnDecl). d.name.word) p.txns)
-      ∙ ap (λ (ws : List (List ℕ)). place ws w) (map_alike transaction_of (λ d. d.name.word) (λ a b s. ap (λ (t : Transaction). t.name.word) s) p.txns q.txns txns)
+      ∙ ap (λ (ws : List (List ℕ)). place ws w) (map_alike transaction_of (λ d. d.name.word) (λ a b s. ap (λ (t : Transaction). t.name.word) s) p.txns q.txns (same-txns p q e))
       ∙ position-map (bytes_eq w) (λ (d : TxnDecl). d.name.word) q.txns
 
   member-same : (t : Option Begun) → member_of p t ≡ member_of q t
@@ -95,14 +62,14 @@ module _ (p q : Program) (e : source_of p ≡ source_of q) where
   known-same l = rw (op-place l.op, member-same l.setting.txn) refl
 
   mixed-same : (effects : List Effect) (object : ObjId) (op : OpId) → is_mixed p effects object op ≡ is_mixed q effects object op
-  mixed-same effects object op = rw kinds refl
+  mixed-same effects object op = rw (same-op-kinds p q e) refl
 
   after-same : (told : Told) (l : EffectLine) → after_effect p told l ≡ after_effect q told l
   after-same told l = rw (known-same l) (by (known_of q l))
     where
       by : (known : Option (OpId × Member)) → option_map_or (λ k. after_known p told l k.0 k.1) known (Err Unknown) ≡ option_map_or (λ k. after_known q told l k.0 k.1) known (Err Unknown)
       by None = refl
-      by (Some k) = rw kinds refl
+      by (Some k) = rw (same-op-kinds p q e) refl
 
   takes : (before : Stage) (l : Numbered) (after : Stage) → Takes p before l after → Takes q before l after
   takes Unbegun l after h = h

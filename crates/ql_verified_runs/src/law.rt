@@ -1,5 +1,4 @@
 ghost use Rattle.std.specs.Prelude.{◌≡◌, ◌⊎◌, ℕ, List, None};
-ghost use Rattle.std.specs.List.{AllByRecursion};
 ghost use Rattle.ql_exec.specs.declared.effect.Effect.{Effect};
 ghost use Rattle.ql_formula.specs.Truth.{Holds, HoldsTxn};
 ghost use Rattle.ql_headline.specs.Stores.{rules_of};
@@ -8,9 +7,9 @@ ghost use Rattle.ql_judging.specs.declared.judged.Judged.{Judged};
 ghost use Rattle.ql_judging.specs.declared.judged.Judged.TheVariants.{Holds as Upheld, TooMuch};
 ghost use Rattle.ql_lang.specs.Formulas.{Resolved};
 ghost use Rattle.ql_machine_laws.specs.Promised.{AllArrived};
-ghost use Rattle.ql_printed_runs.specs.Printable.{AreObjects, HasValues, IsPrintable};
+ghost use Rattle.ql_printed_runs.specs.Printable.{IsPrintable};
 ghost use Rattle.ql_printed_runs.specs.Renumbered.{IsRenumbered};
-ghost use Rattle.ql_run_text.specs.RunTexts.{run_text};
+ghost use Rattle.ql_running.specs.Forms.{IsRunText};
 ghost use Rattle.ql_running.specs.Runs.{TellsRun};
 ghost use Rattle.ql_verified_runs.specs.Agreement.{Agree};
 
@@ -26,17 +25,17 @@ pub fn object_numbers_are_names()
     ensures txn { (x y : List Effect) (f : Resolved) (run : ℕ) → IsRenumbered x y → HoldsTxn x f run → HoldsTxn y f run }
 {}
 
-/// The execution that the text of a run shows can be printed and read again, where its values can and no two objects have
-/// one name: operations and transactions are found by their names, and all numbers fit.
+/// The execution that the text of a run shows can be printed and read again: operations, transactions and objects are found
+/// by their names, all numbers fit, and all values are of the grammar.
 pub fn runs_can_be_printed()
-    ensures { (source schedule text : List ℕ) (told : TellsRun run_text source schedule text) → AreObjects told.schedule.objects → AllByRecursion HasValues told.prints.last.effects
+    ensures { (source schedule text : List ℕ) (told : TellsRun IsRunText source schedule text)
         → IsPrintable told.program told.schedule.objects told.prints.last.effects }
 {}
 
-/// Of a source and the text that `run` printed of it, whose values can be written and whose objects have names apart,
-/// `verify` says that all contracts hold, or that judging them is too much work.
+/// Of a source and the text that `run` printed of it, `verify` says that all contracts hold, or that judging them is too
+/// much work.
 pub fn printed_runs_hold()
-    ensures { (source schedule text said : List ℕ) (judged : Judged) (told : TellsRun run_text source schedule text) → AreObjects told.schedule.objects → AllByRecursion HasValues told.prints.last.effects
+    ensures { (source schedule text said : List ℕ) (judged : Judged) → TellsRun IsRunText source schedule text
         → VerifySays source text judged said → (judged ≡ Upheld) ⊎ (judged ≡ TooMuch) }
 {
     runs_can_be_printed();
@@ -47,7 +46,7 @@ pub fn printed_runs_hold()
 
 /// Agreement, of the run that a text shows: where every package was received, the replicas agree.
 pub fn replicas_of_runs_agree()
-    ensures { (source schedule text : List ℕ) (told : TellsRun run_text source schedule text) → AllArrived told.prints.last
+    ensures { (source schedule text : List ℕ) (told : TellsRun IsRunText source schedule text) → AllArrived told.prints.last
         → Agree (rules_of told.program told.levels) told.schedule.replicas told.prints.last }
 {
     replicas_agree();
