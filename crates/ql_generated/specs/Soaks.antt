@@ -8,7 +8,7 @@ use Rattle.ql_gen.specs.Generated.{generated}
 use Rattle.ql_lang.specs.declared.program.Program.{Program}
 use Rattle.ql_levels.specs.Lists.{LevelLists}
 use Rattle.ql_running.specs.Runs.{PrintsRun}
-use Rattle.ql_generated.specs.Summaries.{summary}
+use Rattle.ql_generated.specs.Summaries.{IsSummary}
 
 -- The summary of the run of the number's schedule, with 4000 events, at the least levels of the source's program; in its
 -- execution every contract holds.
@@ -17,7 +17,7 @@ pub record TellsSoak (source : List ℕ) (number : ℕ) (text : List ℕ) : Type
   pub levels : LevelLists
   pub is_source : IsSourceOf source program
   pub are_least : AreLevelsOf program levels
-  pub prints : PrintsRun summary program levels (generated program number 4000) text
+  pub prints : PrintsRun IsSummary program levels (generated program number 4000) text
 
 abbrev pub SoakSays : List ℕ → ℕ → Answer → List ℕ → Type 0
 SoakSays source number Done text = TellsSoak source number text

@@ -1,6 +1,6 @@
 -- The summary of a run: how many replies begin with each word, how many effects there are, how many ids they see together,
 -- and their greatest stamp.
-use Rattle.std.specs.Prelude.{ℕ, ◌+◌, max, List, [], ◌∷◌, ◌++◌, if◌then◌else◌, codes, decimal, length}
+use Rattle.std.specs.Prelude.{◌≡◌, ℕ, ◌+◌, max, List, [], ◌∷◌, ◌++◌, if◌then◌else◌, codes, decimal, length}
 use Rattle.std.specs.Str.{bytes_eq}
 use Rattle.ql_exec.specs.declared.effect.Effect.{Effect}
 use Rattle.ql_machine.specs.declared.reply.Reply.{Reply}
@@ -69,5 +69,5 @@ module _ (replies : List Reply) where
       ++ line (codes "effects") (length x) ++ line (codes "seen") (seen_count x) ++ line (codes "stamp") (last_stamp x)
 
 -- a run as its summary
-abbrev pub summary : Format
-summary p objects levels replies x = summary_text replies x
+abbrev pub IsSummary : Format
+IsSummary p objects levels replies x text = text ≡ summary_text replies x

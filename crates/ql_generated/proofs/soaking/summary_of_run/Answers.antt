@@ -4,7 +4,7 @@ use Rattle.ql_exec.specs.declared.effect.Effect.{Effect}
 use Rattle.ql_machine.specs.declared.reply.Reply.{Reply}
 use Rattle.ql_running.specs.Runs.{PrintsRun}
 use Rattle.ql_schedule.specs.declared.schedule.Schedule.{Schedule}
-use Rattle.ql_generated.specs.Summaries.{summary, summary_text}
+use Rattle.ql_generated.specs.Summaries.{IsSummary, summary_text}
 use Rattle.ql_generated.proofs.soaking.summary_of_run.Goals as goal
 
 pub returns : goal.returns
@@ -15,7 +15,7 @@ returns c =
     let replies = run.replies.items in
     IfOk-weaker c.print_summary.result _ _
     (λ text printed. λ source is_source.
-    let prints : PrintsRun summary p levels c.in_ok-schedule.schedule text.items = record {
+    let prints : PrintsRun IsSummary p levels c.in_ok-schedule.schedule text.items = record {
       replies = replies;
       last = run.store.machine;
       run = c.in_ok-run.ensures.run;
@@ -27,6 +27,6 @@ returns c =
       levels = levels;
       is_source = is_source;
       are_least = c.requires.levels;
-      prints = subst (λ (s : Schedule). PrintsRun summary p levels s text.items) c.in_ok-schedule.ensures.stated prints;
+      prints = subst (λ (s : Schedule). PrintsRun IsSummary p levels s text.items) c.in_ok-schedule.ensures.stated prints;
     })
     c.print_summary.ensures
