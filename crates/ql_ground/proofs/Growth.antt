@@ -59,6 +59,12 @@ then_rule s old mid new r ys h g = then old mid new (instances s r) (all_instanc
 pub one_rule : (s : Size) (old new : List (List Lit)) (r : Rule) → new ≡ old ++ clauses_of (instances s r) → new ≡ old ++ clauses_of (all_instances s (r ∷ []))
 one_rule s old new r h = last old new (instances s r) h
 
+-- the rules that a list of names stands for, one more
+pub rules_more : {X : Type 0} (s : Size) (f : X → Rule) (old mid new : List (List Lit)) (xs : List X) (i : ℕ) (d : X) → i < length xs → mid ≡ old ++ clauses_of (all_instances s (map f (take i xs))) → new ≡ mid ++ clauses_of (instances s (f (get_or xs i d))) → new ≡ old ++ clauses_of (all_instances s (map f (take (i + 1) xs)))
+rules_more s f old mid new xs i d l h g =
+    then_rules s old mid new (map f (take i xs)) (f (get_or xs i d) ∷ []) h (one_rule s mid new (f (get_or xs i d)) g)
+    ∙ ap (λ rules. old ++ clauses_of (all_instances s rules)) (sym (map_more f xs i d l))
+
 -- a list mapped twice, one item more
 pub mapped_more : {X Y Z : Type 0} (f : Y → Z) (g : X → Y) (start mid new : List Z) (xs : List X) (i : ℕ) (d : X) → i < length xs → mid ≡ start ++ map f (map g (take i xs)) → new ≡ mid ++ f (g (get_or xs i d)) ∷ [] → new ≡ start ++ map f (map g (take (i + 1) xs))
 mapped_more f g start mid new xs i d l h e =

@@ -7,7 +7,11 @@ use Rattle.ql_atoms.specs.declared.atoms.PairKind.TheVariants.{SameObj, SameTxn}
 use Rattle.ql_atoms.specs.Atoms.{Size, number_of}
 use Rattle.ql_cnf.specs.declared.lit.Lit.{Lit}
 use Rattle.ql_ground.specs.declared.rule.Rule as declared
-use Rattle.ql_ground.specs.Rules.{Rule, equality_rules, session_rules, object_rules, object_order_rules, order_rules, alike_current, transaction_rules, level_rule, txn_level_rules}
+use Rattle.ql_ground.specs.declared.axiom.Axiom.{Axiom}
+use Rattle.ql_ground.specs.declared.axiom.Axiom.TheVariants.{Reflexive, Symmetric, Transitive, Irreflexive, Within, AlikeLeft, AlikeRight, FromOne, ToOne, OfSession, Transaction}
+use Rattle.ql_ground.specs.declared.axiom.TransactionAxiom.{TransactionAxiom}
+use Rattle.ql_ground.specs.declared.axiom.TransactionAxiom.TheVariants.{AlikeCurrent, OneSession, Contiguous, InOne, Whole}
+use Rattle.ql_ground.specs.Rules.{Rule, reflexive, symmetric, transitive, irreflexive, within, alike_left, alike_right, from_one_rule, to_one_rule, of_session_rule, one_session_rule, contiguous_rule, in_one_rule, whole_rule, equality_rules, session_rules, object_rules, object_order_rules, order_rules, alike_current, transaction_rules, level_rule, txn_level_rules}
 use Rattle.ql_lang.specs.declared.formula.Term.{Term}
 use Rattle.ql_lang.specs.Formulas.{Statement, Always, Related, BothOf, OneOf, IfThen, InOneTxn}
 use Rattle.ql_lang.specs.declared.formula.OpChoice.{OpChoice}
@@ -31,6 +35,27 @@ IsRuleAtom s (Is o i) = o.0 < s.operations
 -- a rule of the code
 abbrev pub rule_of : declared.Rule → Rule
 rule_of r = record { places = r.places; hypotheses = r.hypotheses.now; conclusions = r.conclusions.now }
+
+-- an axiom of the code
+abbrev pub transaction_axiom_of : TransactionAxiom → Rule
+transaction_axiom_of AlikeCurrent = alike_current
+transaction_axiom_of OneSession = one_session_rule
+transaction_axiom_of Contiguous = contiguous_rule
+transaction_axiom_of InOne = in_one_rule
+transaction_axiom_of Whole = whole_rule
+
+abbrev pub axiom_of : Axiom → Rule
+axiom_of (Reflexive r) = reflexive r
+axiom_of (Symmetric r) = symmetric r
+axiom_of (Transitive r) = transitive r
+axiom_of (Irreflexive r) = irreflexive r
+axiom_of (Within r q) = within r q
+axiom_of (AlikeLeft r) = alike_left r
+axiom_of (AlikeRight r) = alike_right r
+axiom_of FromOne = from_one_rule
+axiom_of ToOne = to_one_rule
+axiom_of OfSession = of_session_rule
+axiom_of (Transaction name) = transaction_axiom_of name
 
 -- the clause of a rule at constants
 abbrev pub instance : Size → Rule → List ℕ → List (List Lit)

@@ -5,15 +5,15 @@ ghost use Rattle.ql_typing.specs.WellFormed.{AreChoicesOf};
 ghost use Rattle.ql_ground.specs.Ground as groups;
 ghost use Rattle.ql_ground.specs.Parts.{op_groups, txn_groups, relation_axioms};
 
+use crate::axiom::add_axioms;
+use crate::axiom_groups::{
+    CURRENT, EQUALITY, OBJECT_ORDER, OBJECTS, ORDER, SESSION_ORDER, TRANSACTIONS,
+};
 use crate::operation_axioms::{
     add_alike_operations, add_one_operation, add_one_type, add_own_operation, add_some_operation,
     add_variables,
 };
 use crate::promises::{add_level, add_txn_level};
-use crate::relation_axioms::{
-    add_equality, add_object_order, add_objects, add_order, add_session_order,
-};
-use crate::transaction_axioms::{add_alike_current, add_transactions};
 use ql_atoms::Shape;
 use ql_base::{NoMemory, OpId};
 use ql_cnf::Clauses;
@@ -42,9 +42,9 @@ pub(crate) fn add_op_groups(
     ensures counted { OnOk result (length c.new.clauses ≤ length c.old.clauses + 200000) }
 {
     let (o, level) = goal;
-    add_equality(alloc, s, c)?;
+    add_axioms(alloc, &EQUALITY, s, c)?;
     add_alike_operations(alloc, s, c)?;
-    add_axioms(alloc, types, s, c)?;
+    add_execution_axioms(alloc, types, s, c)?;
     add_level(alloc, level, s, c)?;
     add_own_operation(o, s, c)?;
     add_variables(alloc, variables, 0, s, c)
@@ -68,17 +68,22 @@ pub(crate) fn add_txn_groups(
     ensures clauses { OnOk result (c.new.clauses ≡ c.old.clauses ++ clauses_of (txn_groups types.now level variables.now (size_of s))) }
     ensures counted { OnOk result (length c.new.clauses ≤ length c.old.clauses + 200000) }
 {
-    add_equality(alloc, s, c)?;
+    add_axioms(alloc, &EQUALITY, s, c)?;
     add_alike_operations(alloc, s, c)?;
-    add_alike_current(alloc, s, c)?;
-    add_axioms(alloc, types, s, c)?;
-    add_transactions(alloc, s, c)?;
+    add_axioms(alloc, &CURRENT, s, c)?;
+    add_execution_axioms(alloc, types, s, c)?;
+    add_axioms(alloc, &TRANSACTIONS, s, c)?;
     add_txn_level(alloc, level, s, c)?;
     add_variables(alloc, variables, 0, s, c)
 }
 
 // The axioms of executions on their relations and operations.
-fn add_axioms(alloc: Global, types: &[u32], s: Shape, c: &mut Clauses) -> Result<(), NoMemory>
+fn add_execution_axioms(
+    alloc: Global,
+    types: &[u32],
+    s: Shape,
+    c: &mut Clauses,
+) -> Result<(), NoMemory>
     requires types { length types.now ≡ s.operations }
     requires variables { c.old.variables ≡ count_of (size_of s) }
     requires room { length c.old.clauses + 100000 < 2 ^ 32 }
@@ -100,8 +105,8 @@ fn add_relations(alloc: Global, s: Shape, c: &mut Clauses) -> Result<(), NoMemor
     ensures clauses { OnOk result (c.new.clauses ≡ c.old.clauses ++ clauses_of (relation_axioms (size_of s))) }
     ensures counted { OnOk result (length c.new.clauses ≤ length c.old.clauses + 16 * 1296) }
 {
-    add_session_order(alloc, s, c)?;
-    add_objects(alloc, s, c)?;
-    add_object_order(alloc, s, c)?;
-    add_order(alloc, s, c)
+    add_axioms(alloc, &SESSION_ORDER, s, c)?;
+    add_axioms(alloc, &OBJECTS, s, c)?;
+    add_axioms(alloc, &OBJECT_ORDER, s, c)?;
+    add_axioms(alloc, &ORDER, s, c)
 }

@@ -3,6 +3,8 @@
 // every execution.
 #![tactic(auto)]
 
+mod axiom;
+mod axiom_groups;
 mod body;
 mod contract_problem;
 mod goal;
@@ -11,10 +13,8 @@ mod level_laws;
 mod literal;
 mod operation_axioms;
 mod promises;
-mod relation_axioms;
 mod rule;
 mod soundness;
-mod transaction_axioms;
 mod worked;
 
 pub use goal::{Goal, problem};

@@ -28,12 +28,8 @@ pub(crate) fn add_alike_operations(alloc: Global, s: Shape, c: &mut Clauses) -> 
     ensures counted { OnOk result (length c.new.clauses ≤ length c.old.clauses + 32 * 1296) }
 {
     for o in 0..s.operations {
-        let rule = Rule {
-            places: 2,
-            hypotheses: &[Atom::Pair(PairKind::Eq, I, J), Atom::Is(OpId(o), I)],
-            conclusions: &[Atom::Is(OpId(o), J)],
-        };
-        add_rule(alloc, &rule, s, c)?;
+        let equal = [Atom::Pair(PairKind::Eq, I, J), Atom::Is(OpId(o), I)];
+        add_rule(alloc, &Rule::over(2, &equal, &[Atom::Is(OpId(o), J)]), s, c)?;
     }
     Ok(())
 }

@@ -2,11 +2,12 @@ ghost use Rattle.std.specs.Prelude.{◌≡◌, ◌+◌, ◌*◌, ◌^◌, ◌<�
 ghost use Rattle.ql_atoms.specs.Atoms.{size_of, count_of};
 ghost use Rattle.ql_cnf.specs.Circuits.{clauses_of};
 ghost use Rattle.ql_ground.specs.Ground.{instances, all_instances};
-ghost use Rattle.ql_levels.specs.declared.level.Level.TheVariants.{Eventual, Causal, Strong};
 ghost use Rattle.ql_ground.specs.Rules as rules;
 
 use crate::rule::{CUR, I, J, K, L, Rule, add_rule};
-use ql_atoms::{Atom, PairKind, Shape};
+use ql_atoms::Atom::{Current, Pair};
+use ql_atoms::PairKind::{Eq, Hbo, SameObj, SameTxn, So, Vis};
+use ql_atoms::Shape;
 use ql_base::NoMemory;
 use ql_cnf::Clauses;
 use ql_levels::{Level, TxnLevel};
@@ -26,66 +27,23 @@ pub(crate) fn add_level(
     ensures counted { OnOk result (length c.new.clauses ≤ length c.old.clauses + 1296) }
 {
     match level {
-        Level::Eventual => add_eventual(alloc, s, c),
-        Level::Causal => add_causal(alloc, s, c),
-        Level::Strong => add_strong(alloc, s, c),
+        // It sees what is before an effect that it sees, on one object.
+        Level::Eventual => {
+            let before = [Pair(Hbo, I, J), Pair(Vis, J, CUR)];
+            add_rule(alloc, &Rule::over(2, &before, &[Pair(Vis, I, CUR)]), s, c)
+        }
+        // It sees what is before it, on one object.
+        Level::Causal => {
+            let before = [Pair(Hbo, I, CUR)];
+            add_rule(alloc, &Rule::over(1, &before, &[Pair(Vis, I, CUR)]), s, c)
+        }
+        // It sees each other effect on the object, or is seen by it.
+        Level::Strong => {
+            let one_sees = [Pair(Vis, I, CUR), Pair(Vis, CUR, I), Pair(Eq, I, CUR)];
+            let on_it = [Pair(SameObj, I, CUR)];
+            add_rule(alloc, &Rule::over(1, &on_it, &one_sees), s, c)
+        }
     }
-}
-
-// The current effect sees what is before an effect that it sees, on one object.
-fn add_eventual(alloc: Global, s: Shape, c: &mut Clauses) -> Result<(), NoMemory>
-    requires variables { c.old.variables ≡ count_of (size_of s) }
-    requires room { length c.old.clauses + 1296 < 2 ^ 32 }
-    ensures variables { c.new.variables ≡ c.old.variables }
-    ensures clauses { OnOk result (c.new.clauses ≡ c.old.clauses ++ clauses_of (instances (size_of s) (rules.level_rule Eventual))) }
-    ensures counted { OnOk result (length c.new.clauses ≤ length c.old.clauses + 1296) }
-{
-    let rule = Rule {
-        places: 2,
-        hypotheses: &[
-            Atom::Pair(PairKind::Hbo, I, J),
-            Atom::Pair(PairKind::Vis, J, CUR),
-        ],
-        conclusions: &[Atom::Pair(PairKind::Vis, I, CUR)],
-    };
-    add_rule(alloc, &rule, s, c)
-}
-
-// The current effect sees what is before it, on one object.
-fn add_causal(alloc: Global, s: Shape, c: &mut Clauses) -> Result<(), NoMemory>
-    requires variables { c.old.variables ≡ count_of (size_of s) }
-    requires room { length c.old.clauses + 1296 < 2 ^ 32 }
-    ensures variables { c.new.variables ≡ c.old.variables }
-    ensures clauses { OnOk result (c.new.clauses ≡ c.old.clauses ++ clauses_of (instances (size_of s) (rules.level_rule Causal))) }
-    ensures counted { OnOk result (length c.new.clauses ≤ length c.old.clauses + 1296) }
-{
-    let seen = Atom::Pair(PairKind::Vis, I, CUR);
-    let rule = Rule {
-        places: 1,
-        hypotheses: &[Atom::Pair(PairKind::Hbo, I, CUR)],
-        conclusions: &[seen],
-    };
-    add_rule(alloc, &rule, s, c)
-}
-
-// Each other effect on the object sees the current effect, or is seen by it.
-fn add_strong(alloc: Global, s: Shape, c: &mut Clauses) -> Result<(), NoMemory>
-    requires variables { c.old.variables ≡ count_of (size_of s) }
-    requires room { length c.old.clauses + 1296 < 2 ^ 32 }
-    ensures variables { c.new.variables ≡ c.old.variables }
-    ensures clauses { OnOk result (c.new.clauses ≡ c.old.clauses ++ clauses_of (instances (size_of s) (rules.level_rule Strong))) }
-    ensures counted { OnOk result (length c.new.clauses ≤ length c.old.clauses + 1296) }
-{
-    let rule = Rule {
-        places: 1,
-        hypotheses: &[Atom::Pair(PairKind::SameObj, I, CUR)],
-        conclusions: &[
-            Atom::Pair(PairKind::Vis, I, CUR),
-            Atom::Pair(PairKind::Vis, CUR, I),
-            Atom::Pair(PairKind::Eq, I, CUR),
-        ],
-    };
-    add_rule(alloc, &rule, s, c)
 }
 
 // What the level of a transaction promises the current one.
@@ -119,17 +77,14 @@ fn add_committed(alloc: Global, s: Shape, c: &mut Clauses) -> Result<(), NoMemor
     ensures clauses { OnOk result (c.new.clauses ≡ c.old.clauses ++ clauses_of (instances (size_of s) rules.committed_rule)) }
     ensures counted { OnOk result (length c.new.clauses ≤ length c.old.clauses + 1296) }
 {
-    let rule = Rule {
-        places: 3,
-        hypotheses: &[
-            Atom::Current(I),
-            Atom::Pair(PairKind::SameTxn, J, K),
-            Atom::Pair(PairKind::SameObj, J, K),
-            Atom::Pair(PairKind::Vis, J, I),
-        ],
-        conclusions: &[Atom::Current(J), Atom::Pair(PairKind::Vis, K, I)],
-    };
-    add_rule(alloc, &rule, s, c)
+    let seen_in_part = [
+        Current(I),
+        Pair(SameTxn, J, K),
+        Pair(SameObj, J, K),
+        Pair(Vis, J, I),
+    ];
+    let seen = [Current(J), Pair(Vis, K, I)];
+    add_rule(alloc, &Rule::over(3, &seen_in_part, &seen), s, c)
 }
 
 // A transaction of which an effect is seen is seen by each later effect of the current one.
@@ -140,19 +95,16 @@ fn add_monotonic(alloc: Global, s: Shape, c: &mut Clauses) -> Result<(), NoMemor
     ensures clauses { OnOk result (c.new.clauses ≡ c.old.clauses ++ clauses_of (instances (size_of s) rules.monotonic_rule)) }
     ensures counted { OnOk result (length c.new.clauses ≤ length c.old.clauses + 1296) }
 {
-    let rule = Rule {
-        places: 4,
-        hypotheses: &[
-            Atom::Current(I),
-            Atom::Current(J),
-            Atom::Pair(PairKind::SameTxn, K, L),
-            Atom::Pair(PairKind::So, I, J),
-            Atom::Pair(PairKind::Vis, K, I),
-            Atom::Pair(PairKind::SameObj, L, J),
-        ],
-        conclusions: &[Atom::Current(K), Atom::Pair(PairKind::Vis, L, J)],
-    };
-    add_rule(alloc, &rule, s, c)
+    let seen_before = [
+        Current(I),
+        Current(J),
+        Pair(SameTxn, K, L),
+        Pair(So, I, J),
+        Pair(Vis, K, I),
+        Pair(SameObj, L, J),
+    ];
+    let seen = [Current(K), Pair(Vis, L, J)];
+    add_rule(alloc, &Rule::over(4, &seen_before, &seen), s, c)
 }
 
 // A transaction of which an effect is seen is seen by each effect of the current one.
@@ -163,16 +115,13 @@ fn add_repeatable(alloc: Global, s: Shape, c: &mut Clauses) -> Result<(), NoMemo
     ensures clauses { OnOk result (c.new.clauses ≡ c.old.clauses ++ clauses_of (instances (size_of s) rules.repeatable_rule)) }
     ensures counted { OnOk result (length c.new.clauses ≤ length c.old.clauses + 1296) }
 {
-    let rule = Rule {
-        places: 4,
-        hypotheses: &[
-            Atom::Current(I),
-            Atom::Current(J),
-            Atom::Pair(PairKind::SameTxn, K, L),
-            Atom::Pair(PairKind::Vis, K, I),
-            Atom::Pair(PairKind::SameObj, L, J),
-        ],
-        conclusions: &[Atom::Current(K), Atom::Pair(PairKind::Vis, L, J)],
-    };
-    add_rule(alloc, &rule, s, c)
+    let seen_by_one = [
+        Current(I),
+        Current(J),
+        Pair(SameTxn, K, L),
+        Pair(Vis, K, I),
+        Pair(SameObj, L, J),
+    ];
+    let seen = [Current(K), Pair(Vis, L, J)];
+    add_rule(alloc, &Rule::over(4, &seen_by_one, &seen), s, c)
 }

@@ -37,6 +37,22 @@ pub(crate) struct Rule<'a> {
     pub conclusions: &'a [Atom],
 }
 
+impl<'a> Rule<'a> {
+    ghost use Rattle.std.specs.Prelude.{◌≡◌};
+    ghost use Rattle.ql_ground.specs.Parts.{rule_of};
+
+    /// The rule of these hypotheses and conclusions, over so many places.
+    pub(crate) fn over(places: u32, hypotheses: &'a [Atom], conclusions: &'a [Atom]) -> Rule<'a>
+        ensures { rule_of result ≡ record { places = places; hypotheses = hypotheses.now; conclusions = conclusions.now } }
+    {
+        Rule {
+            places,
+            hypotheses,
+            conclusions,
+        }
+    }
+}
+
 // The constant at a place; past the chosen ones stands the current effect, which is the last constant.
 #[tactic(auto, unfolding(crate::specs::Ground::chosen))]
 fn constant(place: u32, constants: &[u32], s: Shape) -> u32

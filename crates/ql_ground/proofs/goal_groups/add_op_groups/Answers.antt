@@ -15,12 +15,12 @@ returns-clause-clauses c = on_ok_weaker c.add_variables.result
     (λ (h : c.add_variables.new.c.clauses ≡ c.add_own_operation.new.c.clauses ++ clauses_of (all_variable_operations (size_of c.args.s) 0 c.args.variables.now)).
     then c.args.c.now.clauses c.add_own_operation.new.c.clauses c.add_variables.new.c.clauses (all_instances (size_of c.args.s) equality_rules ++ alike_operations (size_of c.args.s) ++ axioms c.args.types.now (size_of c.args.s) ++ instances (size_of c.args.s) (level_rule c.args.goal.1) ++ implication (size_of c.args.s) [] (Is (op c.args.goal.0.0) (current_effect (size_of c.args.s)) ∷ []) ∷ []) (all_variable_operations (size_of c.args.s) 0 c.args.variables.now)
     (then c.args.c.now.clauses c.add_level.new.c.clauses c.add_own_operation.new.c.clauses (all_instances (size_of c.args.s) equality_rules ++ alike_operations (size_of c.args.s) ++ axioms c.args.types.now (size_of c.args.s) ++ instances (size_of c.args.s) (level_rule c.args.goal.1)) (implication (size_of c.args.s) [] (Is (op c.args.goal.0.0) (current_effect (size_of c.args.s)) ∷ []) ∷ [])
-    (then c.args.c.now.clauses c.add_axioms.new.c.clauses c.add_level.new.c.clauses (all_instances (size_of c.args.s) equality_rules ++ alike_operations (size_of c.args.s) ++ axioms c.args.types.now (size_of c.args.s)) (instances (size_of c.args.s) (level_rule c.args.goal.1))
-    (then c.args.c.now.clauses c.add_alike_operations.new.c.clauses c.add_axioms.new.c.clauses (all_instances (size_of c.args.s) equality_rules ++ alike_operations (size_of c.args.s)) (axioms c.args.types.now (size_of c.args.s))
-    (then c.args.c.now.clauses c.add_equality.new.c.clauses c.add_alike_operations.new.c.clauses (all_instances (size_of c.args.s) equality_rules) (alike_operations (size_of c.args.s))
-    c.in_ok-add_equality.ensures.clauses
+    (then c.args.c.now.clauses c.add_execution_axioms.new.c.clauses c.add_level.new.c.clauses (all_instances (size_of c.args.s) equality_rules ++ alike_operations (size_of c.args.s) ++ axioms c.args.types.now (size_of c.args.s)) (instances (size_of c.args.s) (level_rule c.args.goal.1))
+    (then c.args.c.now.clauses c.add_alike_operations.new.c.clauses c.add_execution_axioms.new.c.clauses (all_instances (size_of c.args.s) equality_rules ++ alike_operations (size_of c.args.s)) (axioms c.args.types.now (size_of c.args.s))
+    (then c.args.c.now.clauses c.add_axioms.new.c.clauses c.add_alike_operations.new.c.clauses (all_instances (size_of c.args.s) equality_rules) (alike_operations (size_of c.args.s))
+    c.in_ok-add_axioms.ensures.clauses
     c.in_ok-add_alike_operations.ensures.clauses)
-    c.in_ok-add_axioms.ensures.clauses)
+    c.in_ok-add_execution_axioms.ensures.clauses)
     c.in_ok-add_level.ensures.clauses)
     c.in_ok-add_own_operation.ensures.clauses)
     h)

@@ -8,13 +8,13 @@ use Rattle.ql_ground.proofs.Growth.{then}
 use Rattle.ql_ground.proofs.goal_groups.add_relations.Goals as goal
 
 pub returns-clause-clauses : goal.returns-clause-clauses
-returns-clause-clauses c = on_ok_weaker c.add_order.result
-    (λ (h : c.add_order.new.c.clauses ≡ c.add_object_order.new.c.clauses ++ clauses_of (all_instances (size_of c.args.s) order_rules)).
-    then c.args.c.now.clauses c.add_object_order.new.c.clauses c.add_order.new.c.clauses (all_instances (size_of c.args.s) session_rules ++ all_instances (size_of c.args.s) object_rules ++ all_instances (size_of c.args.s) object_order_rules) (all_instances (size_of c.args.s) order_rules)
-    (then c.args.c.now.clauses c.add_objects.new.c.clauses c.add_object_order.new.c.clauses (all_instances (size_of c.args.s) session_rules ++ all_instances (size_of c.args.s) object_rules) (all_instances (size_of c.args.s) object_order_rules)
-    (then c.args.c.now.clauses c.add_session_order.new.c.clauses c.add_objects.new.c.clauses (all_instances (size_of c.args.s) session_rules) (all_instances (size_of c.args.s) object_rules)
-    c.in_ok-add_session_order.ensures.clauses
-    c.in_ok-add_objects.ensures.clauses)
-    c.in_ok-add_object_order.ensures.clauses)
+returns-clause-clauses c = on_ok_weaker c.add_axioms-4.result
+    (λ (h : c.add_axioms-4.new.c.clauses ≡ c.add_axioms-3.new.c.clauses ++ clauses_of (all_instances (size_of c.args.s) order_rules)).
+    then c.args.c.now.clauses c.add_axioms-3.new.c.clauses c.add_axioms-4.new.c.clauses (all_instances (size_of c.args.s) session_rules ++ all_instances (size_of c.args.s) object_rules ++ all_instances (size_of c.args.s) object_order_rules) (all_instances (size_of c.args.s) order_rules)
+    (then c.args.c.now.clauses c.add_axioms-2.new.c.clauses c.add_axioms-3.new.c.clauses (all_instances (size_of c.args.s) session_rules ++ all_instances (size_of c.args.s) object_rules) (all_instances (size_of c.args.s) object_order_rules)
+    (then c.args.c.now.clauses c.add_axioms.new.c.clauses c.add_axioms-2.new.c.clauses (all_instances (size_of c.args.s) session_rules) (all_instances (size_of c.args.s) object_rules)
+    c.in_ok-add_axioms.ensures.clauses
+    c.in_ok-add_axioms-2.ensures.clauses)
+    c.in_ok-add_axioms-3.ensures.clauses)
     h)
-    c.add_order.ensures.clauses
+    c.add_axioms-4.ensures.clauses

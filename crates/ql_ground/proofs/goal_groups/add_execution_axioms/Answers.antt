@@ -5,7 +5,7 @@ use Rattle.ql_cnf.specs.Circuits.{clauses_of}
 use Rattle.ql_ground.specs.Ground.{some_operation, one_operation, one_type}
 use Rattle.ql_ground.specs.Parts.{relation_axioms}
 use Rattle.ql_ground.proofs.Growth.{then}
-use Rattle.ql_ground.proofs.goal_groups.add_axioms.Goals as goal
+use Rattle.ql_ground.proofs.goal_groups.add_execution_axioms.Goals as goal
 
 pub returns-clause-clauses : goal.returns-clause-clauses
 returns-clause-clauses c = on_ok_weaker c.add_one_type.result
