@@ -20,7 +20,7 @@ use Rattle.ql_refute.proofs.Steps.{from_reading}
 use Rattle.ql_sat.specs.Answer.{IsNumbered}
 use Rattle.ql_sat.specs.Trail.{assigned_from, IsStep, IsTrail, IsSearching, IsFalseClause, is_seen, NoneSeen, NothingSeen, SeenHaveValues, IsDerived, IsAnalysis}
 use Rattle.ql_sat.specs.declared.trail.Step.{Step}
-use Rattle.ql_sat.proofs.Splitting.{pushed_good}
+use Rattle.ql_sat.proofs.GoodLines.{pushed_good}
 use Rattle.ql_sat.proofs.Trails.{Absent, absent, grows, trail-back, trail-more, assigned-append, head_fails, head_alone, closed_value, closed_list, derived_start, derived_skip, derived_resolve}
 
 is_same : (a b : ℕ) → (a == b) ≡ true → a ≡ b

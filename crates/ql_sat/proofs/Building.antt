@@ -13,7 +13,7 @@ use Rattle.ql_sat.specs.Settled.{IsSettled}
 use Rattle.ql_sat.specs.Watch.{pair_at}
 use Rattle.ql_sat.specs.declared.trail.Step.{Step}
 use Rattle.ql_sat.specs.declared.watches.Pair.{Pair}
-use Rattle.ql_sat.proofs.Rounds.{get_of}
+use Rattle.ql_sat.proofs.Numbers.{get_of}
 
 is_same : (a b : ℕ) → (a == b) ≡ true → a ≡ b
 is_same a b h = grind (arith, nat_tests)

@@ -22,7 +22,7 @@ use Rattle.ql_sat.specs.declared.trail.Step.{Step}
 use Rattle.ql_sat.specs.declared.trail.Visit.{Visit}
 use Rattle.ql_sat.specs.declared.trail.Visit.TheVariants.{Conflict, Forced, Nothing}
 use Rattle.ql_sat.specs.declared.watches.Look.TheVariants.{Read}
-use Rattle.ql_sat.proofs.Rounds.{numbered_next}
+use Rattle.ql_sat.proofs.Numbers.{numbered_next}
 use Rattle.ql_sat.proofs.Settling.{IsFalse, open_not_false, false_at_index}
 use Rattle.ql_sat.proofs.Trails.{set_here}
 

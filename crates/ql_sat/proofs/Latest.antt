@@ -27,7 +27,7 @@ use Rattle.ql_sat.proofs.Building.{watched_more}
 use Rattle.ql_sat.proofs.Forcing.{literal_refl}
 use Rattle.ql_sat.proofs.Learned.{learned_ascending, some_value}
 use Rattle.ql_sat.proofs.Naming.{line_more}
-use Rattle.ql_sat.proofs.Reaching.{forced_unset}
+use Rattle.ql_sat.proofs.Unset.{forced_unset}
 use Rattle.ql_sat.proofs.Settling.{Grows, IsTrueIn, settled_true, settled_unset, at_push, at_each, at_append}
 use Rattle.ql_sat.proofs.Trails.{assigned-append, fresh, grows, head_alone, set_here, trail-back, trail-front, untouched}
 use Rattle.ql_sat.proofs.Visiting.{values_grow, watched_read}

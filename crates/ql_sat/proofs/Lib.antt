@@ -8,11 +8,11 @@ mod Listing
 mod Measure
 mod Models
 mod Naming
-mod Reaching
-mod Rounds
+mod Unset
+mod Numbers
 mod Searching
 mod Settling
-mod Splitting
+mod GoodLines
 mod Trails
 mod Visiting
 mod Watching

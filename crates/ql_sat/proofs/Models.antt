@@ -9,7 +9,7 @@ use Rattle.ql_cnf.specs.declared.lit.Lit.{Lit}
 use Rattle.ql_refute.specs.Marks.{marked, value_of_mark}
 use Rattle.ql_refute.specs.Partial.{Partial, is_value, is_open, reading}
 use Rattle.ql_refute.specs.declared.marks.Reading.TheVariants.{AllFalse, Neither}
-use Rattle.ql_sat.specs.Search.{IsQuiet, IsTotal, AgreesWith}
+use Rattle.ql_sat.specs.Search.{IsTotal, AgreesWith}
 
 -- a clause that isn't false has a literal that isn't
 has_open : (p : Partial) (d : List Lit) → reading p d ≡ Neither → list_any (is_open p) d ≡ true
@@ -74,7 +74,3 @@ is_model_open c m a inside opens total agrees =
         any_true (is_open (marked m)) (literal_true a) d
         (λ k e l opened. literal_is_true c.variables m a (get_or d k e) total agrees (ranges k e l).0 (ranges k e l).1 opened)
         some
-
--- the same where nothing can be propagated
-pub is_model : (c : ClauseList) (m : List ℕ) (a : List Bool) → ClausesInRange c.variables c.clauses → IsQuiet c.clauses m → IsTotal c.variables m → AgreesWith c.variables m a → Satisfies a c
-is_model c m a inside quiet total agrees = is_model_open c m a inside (λ k d l. has_open (marked m) (get_or c.clauses k d) (quiet k d l)) total agrees

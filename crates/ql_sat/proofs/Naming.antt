@@ -12,7 +12,7 @@ use Rattle.ql_refute.specs.declared.refutation.Hint.TheVariants.{Given, Earlier}
 use Rattle.ql_refute.specs.declared.refutation.Line.{Line}
 use Rattle.ql_sat.specs.Settled.{with_lines}
 use Rattle.ql_sat.proofs.Forcing.{given_named}
-use Rattle.ql_sat.proofs.Rounds.{numbered_next}
+use Rattle.ql_sat.proofs.Numbers.{numbered_next}
 
 abbrev clauses_of : List Line → List (List Lit)
 clauses_of lines = map (λ line. line.clause) lines

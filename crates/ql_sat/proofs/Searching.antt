@@ -14,7 +14,7 @@ use Rattle.ql_sat.specs.Trail.{assigned_from, IsStep, IsSearching, trail_number}
 use Rattle.ql_sat.specs.declared.trail.Step.{Step}
 use Rattle.ql_sat.specs.Search.{unset_count}
 use Rattle.ql_sat.proofs.Measure.{number_push}
-use Rattle.ql_sat.proofs.Reaching.{unset_count-one_less, unset_count-one_more, unset_count-clear, valued_below}
+use Rattle.ql_sat.proofs.Unset.{unset_count-one_less, unset_count-one_more, unset_count-clear, valued_below}
 use Rattle.ql_sat.proofs.Trails.{assigned-append, trail-push, trail-front, trail-back, fresh}
 
 -- one more step

@@ -18,7 +18,7 @@ use Rattle.ql_refute.proofs.Laws.{names_more}
 use Rattle.ql_refute.proofs.Steps.{from_reading}
 use Rattle.ql_sat.specs.Trail.{assigned_from, IsStep, IsTrail, is_seen, AllUnset, IsDerived}
 use Rattle.ql_sat.specs.declared.trail.Step.{Step}
-use Rattle.ql_sat.proofs.Reaching.{forced_unset}
+use Rattle.ql_sat.proofs.Unset.{forced_unset}
 
 is_same : (a b : ℕ) → (a == b) ≡ true → a ≡ b
 is_same a b h = grind (arith, nat_tests)

@@ -18,7 +18,7 @@ use Rattle.ql_sat.specs.declared.trail.Step.{Step}
 use Rattle.ql_sat.specs.declared.trail.Visit.{Visit}
 use Rattle.ql_sat.specs.declared.trail.Visit.TheVariants.{Conflict, Forced, Nothing}
 use Rattle.ql_sat.specs.declared.watches.Pair.{Pair}
-use Rattle.ql_sat.proofs.Reaching.{valued_below}
+use Rattle.ql_sat.proofs.Unset.{valued_below}
 use Rattle.ql_sat.proofs.Settling.{Grows, IsFalse, IsTrueIn, literal_at, open_not_false, settled_grows, settled_moved, settled_next, settled_true, moved_away, at_push, at_map}
 use Rattle.ql_sat.proofs.Trails.{assigned-append, grows, set_here, trail-back}
 

@@ -15,13 +15,12 @@ ghost use Rattle.ql_sat.specs.Trail.{IsAnalysis, IsAsserting, IsFalseClause, IsF
 
 use crate::guide::Guide;
 use crate::order::Order;
-use crate::plain::push_line;
 use crate::trail::{Step, Visit, go_back, propagate_clause};
 use crate::turn::Turn;
 use crate::watches::Watches;
 use ql_base::NoMemory;
 use ql_cnf::{Clause, Clauses, Lit};
-use ql_refute::{Hint, Line, hinted};
+use ql_refute::{Hint, Hints, Line, hinted};
 use std::alloc::Global;
 
 // Keeps the clause that is learned from a conflict as a line, and goes back to where it forces a literal.
@@ -325,4 +324,22 @@ fn learned(alloc: Global, variables: u32, marks: &[u8], seen: &[bool]) -> Result
         }
     }
     Ok(Clause::of(literals))
+}
+
+// Appends a line, and gives its number.
+fn push_line(
+    alloc: Global,
+    clause: &Clause,
+    hints: Vec<Hint>,
+    lines: &mut Vec<Line>,
+) -> Result<u64, NoMemory>
+    ensures pushed { OnOk result (lines.new.items ≡ lines.old.items ++ record { clause = clause.now; hints = hints.items } ∷ []) }
+    ensures number { IfOk result (λ number. number ≡ length lines.old.items + 1) }
+{
+    let literals = Vec::from_slice(alloc, clause.items())?;
+    lines.push(Line {
+        clause: Clause::of(literals),
+        hints: Hints::of(hints),
+    })?;
+    Ok(lines.len() as u64)
 }

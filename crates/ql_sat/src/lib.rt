@@ -20,8 +20,8 @@
 mod decided;
 mod guide;
 mod learning;
+mod model;
 mod order;
-pub mod plain;
 mod propagation;
 mod queue;
 mod search;

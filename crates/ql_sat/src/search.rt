@@ -10,7 +10,7 @@ ghost use Rattle.ql_sat.specs.Trail.{IsSearching, IsTurn, trail_number};
 use crate::Decided;
 use crate::guide::Guide;
 use crate::learning::learn;
-use crate::plain::{assignment, greatest_unset};
+use crate::model::{assignment, greatest_unset};
 use crate::propagation::propagate;
 use crate::trail::{Step, decide_on};
 use crate::turn::Turn;

@@ -4,7 +4,7 @@ use crate::texts::{clauses_of, spelled};
 use ql_base::NoMemory;
 use ql_cnf::{Clauses, satisfies};
 use ql_refute::{Verdict, check};
-use ql_sat::{Decided, decide, plain};
+use ql_sat::{Decided, decide};
 use ql_tables::check_table;
 use std::alloc::Global;
 use std::test::Fail;
@@ -21,7 +21,7 @@ const SMALL: &str = "
 
 #[test]
 fn decides_small_lists(rt: HostRuntime) -> Result<(), Fail> {
-    check_table(rt.alloc(), SMALL, decided_both_ways)
+    check_table(rt.alloc(), SMALL, decided)
 }
 
 // Ground problems of operations: the type with one operation and the contract `true`, at eventual; a bank's withdrawal,
@@ -49,18 +49,6 @@ const PIGEONS: &str = "
 #[test]
 fn decides_pigeons(rt: HostRuntime) -> Result<(), Fail> {
     check_table(rt.alloc(), PIGEONS, decided)
-}
-
-fn decided_both_ways(alloc: Global, row: &str) -> Result<Vec<u8>, NoMemory> {
-    let clauses = clauses_in(alloc, row)?;
-    let decided = plain::decide(alloc, &clauses)?;
-    let plainly = judged(alloc, &clauses, &decided)?;
-    let decided = decide(alloc, &clauses)?;
-    if judged(alloc, &clauses, &decided)? == plainly {
-        spelled(alloc, plainly)
-    } else {
-        spelled(alloc, "two answers")
-    }
 }
 
 fn decided(alloc: Global, row: &str) -> Result<Vec<u8>, NoMemory> {

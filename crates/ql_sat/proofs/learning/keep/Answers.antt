@@ -1,6 +1,6 @@
 use Rattle.std.proofs.Common.{length, ◌+◌}
 use Rattle.ql_sat.proofs.Analysis.{searching_keep}
-use Rattle.ql_sat.proofs.Splitting.{pushed_names}
+use Rattle.ql_sat.proofs.GoodLines.{pushed_names}
 use Rattle.ql_sat.proofs.learning.keep.Goals as goal
 
 pub returns-clause-searching : goal.returns-clause-searching

@@ -7,7 +7,7 @@ use Rattle.ql_sat.specs.Trail.{trail_number}
 use Rattle.ql_sat.proofs.Measure.{number-below}
 use Rattle.ql_sat.proofs.Naming.{no_lines}
 use Rattle.ql_sat.proofs.Searching.{clear_zeros, searching_start}
-use Rattle.ql_sat.proofs.Splitting.{accepted}
+use Rattle.ql_sat.proofs.GoodLines.{accepted}
 use Rattle.ql_sat.proofs.search.decide.Goals as goal
 
 pub turns-init : goal.turns-init

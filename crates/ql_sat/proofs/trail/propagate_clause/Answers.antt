@@ -4,7 +4,7 @@ use Rattle.ql_refute.specs.Partial.{reading}
 use Rattle.ql_refute.specs.Verdict.{hinted}
 use Rattle.ql_refute.specs.declared.marks.Reading.TheVariants.{Forces}
 use Rattle.ql_sat.proofs.Forcing.{forced_there}
-use Rattle.ql_sat.proofs.Rounds.{forced_in_range}
+use Rattle.ql_sat.proofs.Numbers.{forced_in_range}
 use Rattle.ql_sat.proofs.Searching.{number_step, searching_push}
 use Rattle.ql_sat.proofs.trail.propagate_clause.Goals as goal
 

@@ -1,6 +1,6 @@
 use Rattle.std.proofs.Common.{◌≡◌, ◌<◌, ◌+◌, ℕ, length, get_or, false}
 use Rattle.std.specs.Prelude.{◌==◌}
-use Rattle.ql_sat.proofs.plain.assignment.Given as goal
+use Rattle.ql_sat.proofs.model.assignment.Given as goal
 
 abbrev pub invariant-loop-mark : goal.invariant-loop-mark
 invariant-loop-mark l = record {

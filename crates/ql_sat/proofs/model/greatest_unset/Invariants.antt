@@ -1,7 +1,7 @@
 use Rattle.std.proofs.Common.{◌≡◌, ◌≤◌, ◌<◌, ℕ, true}
 use Rattle.std.specs.Prelude.{is_some}
 use Rattle.ql_refute.specs.Marks.{marked}
-use Rattle.ql_sat.proofs.plain.greatest_unset.Given as goal
+use Rattle.ql_sat.proofs.model.greatest_unset.Given as goal
 
 abbrev pub invariant-loop-var : goal.invariant-loop-var
 invariant-loop-var l = record {
