@@ -68,8 +68,13 @@ pub(crate) fn add_axioms(
     Ok(())
 }
 
-// Appends the clauses of an axiom.
-fn add_axiom(alloc: Global, name: Axiom, s: Shape, c: &mut Clauses) -> Result<(), NoMemory>
+/// Appends the clauses of an axiom.
+pub(crate) fn add_axiom(
+    alloc: Global,
+    name: Axiom,
+    s: Shape,
+    c: &mut Clauses,
+) -> Result<(), NoMemory>
     requires variables { c.old.variables ≡ count_of (size_of s) }
     requires room { length c.old.clauses + 1296 < 2 ^ 32 }
     ensures variables { c.new.variables ≡ c.old.variables }

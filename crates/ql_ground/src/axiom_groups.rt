@@ -3,7 +3,7 @@ use crate::axiom::Axiom::{
     AlikeLeft, AlikeRight, FromOne, Irreflexive, OfSession, Reflexive, Symmetric, ToOne,
     Transaction, Transitive, Within,
 };
-use crate::axiom::TransactionAxiom::{AlikeCurrent, Contiguous, InOne, OneSession, Whole};
+use crate::axiom::TransactionAxiom::{Contiguous, InOne, OneSession, Whole};
 use ql_atoms::PairKind::{Eq, Hb, Hbo, SameObj, SameTxn, So, Vis};
 
 /// Equality: an equivalence, and equal effects are alike in each other relation.
@@ -24,9 +24,6 @@ pub(crate) const EQUALITY: [Axiom; 15] = [
     AlikeLeft(SameTxn),
     AlikeRight(SameTxn),
 ];
-
-/// Equal effects are both current, or neither is.
-pub(crate) const CURRENT: [Axiom; 1] = [Transaction(AlikeCurrent)];
 
 /// Session order: an order of each session's effects.
 pub(crate) const SESSION_ORDER: [Axiom; 3] = [Transitive(So), FromOne, ToOne];

@@ -5,10 +5,10 @@ ghost use Rattle.ql_typing.specs.WellFormed.{AreChoicesOf};
 ghost use Rattle.ql_ground.specs.Ground as groups;
 ghost use Rattle.ql_ground.specs.Parts.{op_groups, txn_groups, relation_axioms};
 
-use crate::axiom::add_axioms;
-use crate::axiom_groups::{
-    CURRENT, EQUALITY, OBJECT_ORDER, OBJECTS, ORDER, SESSION_ORDER, TRANSACTIONS,
-};
+use crate::axiom::Axiom::Transaction;
+use crate::axiom::TransactionAxiom::AlikeCurrent;
+use crate::axiom::{add_axiom, add_axioms};
+use crate::axiom_groups::{EQUALITY, OBJECT_ORDER, OBJECTS, ORDER, SESSION_ORDER, TRANSACTIONS};
 use crate::operation_axioms::{
     add_alike_operations, add_one_operation, add_one_type, add_own_operation, add_some_operation,
     add_variables,
@@ -70,7 +70,7 @@ pub(crate) fn add_txn_groups(
 {
     add_axioms(alloc, &EQUALITY, s, c)?;
     add_alike_operations(alloc, s, c)?;
-    add_axioms(alloc, &CURRENT, s, c)?;
+    add_axiom(alloc, Transaction(AlikeCurrent), s, c)?;
     add_execution_axioms(alloc, types, s, c)?;
     add_axioms(alloc, &TRANSACTIONS, s, c)?;
     add_txn_level(alloc, level, s, c)?;
