@@ -2,10 +2,11 @@
 use Rattle.std.proofs.Common.{◌≡◌, ℕ, zero, suc, ◌+◌, ◌-◌, ◌<◌, ◌≤◌, ◌⊎◌, Bool, true, false, ◌&&◌, ◌||◌, nat_eq, nat_lt, nat_le, List, [], ◌∷◌, ◌++◌, length, get_or, take, slice_get, Some, None, refl, ap, sym, subst, ◌∙◌, inl, inr, arith, append_assoc}
 use Rattle.std.specs.List.{range_with_len}
 use Rattle.std.specs.Cmp.{both_ways}
-use Rattle.std.proofs.lemmas.Bool.{false≢true, or_cases, or_left, or_right, and_parts, and_from, eq-eqb, eqb-true, le-leb, leb-true, ltb-true, lt-ltb, cases_order, false_from_ne_true}
+use Rattle.std.proofs.lemmas.Bool.{false≢true, or_cases, or_left, or_right, and_parts, and_from, eq-eqb, eqb-true, le-leb, leb-true, leb-false, ltb-true, lt-ltb, cases_order, false_from_ne_true, true_from_ne_false}
 use Rattle.std.proofs.lemmas.Option.{same_Some}
 use Rattle.ql_base.specs.IdLists.{IsBelowAll, IsAscending, has_id}
 use Rattle.ql_ranges.specs.Ranges.{ids_in, ids_of, BeginAt, AreApart}
+use Rattle.ql_ranges.specs.Places.{IsPlace}
 use Rattle.ql_ranges.specs.declared.ranges.IdRange.{IdRange}
 
 -- an id is one of those from one to another
@@ -164,6 +165,33 @@ has-none (range ∷ ranges) id before =
   where
     not_within : range.to + 2 ≤ id → within range.from range.to id ≡ false
     not_within past = false_from_ne_true (within range.from range.to id) (λ is. (let bounds = within-parts range.from range.to id is in omega (arith, bounds, past)))
+
+-- the range at the place of an id has all up to another, where these are there
+pub all-at : (ranges : List IdRange) (at from to : ℕ) (d : IdRange) → AreApart ranges → at < length ranges → IsPlace ranges from at
+    → from ≤ to → ((id : ℕ) → from ≤ id → id ≤ to → has_id (ids_of ranges) id ≡ true)
+    → ((get_or ranges at d).from ≤ from) × (to ≤ (get_or ranges at d).to)
+all-at ranges at from to d apart inside place order all =
+    let first = within-parts (get_or ranges at d).from (get_or ranges at d).to from
+    (sym (has-at ranges at from d apart inside place.before (place.behind at d (omega arith) inside)) ∙ all from (omega arith) order) in (
+      first.0,
+      leb-true to (get_or ranges at d).to (true_from_ne_false (nat_le to (get_or ranges at d).to)
+          (λ beyond.
+          let above : (get_or ranges at d).to < to = leb-false to (get_or ranges at d).to beyond in
+          let next : ℕ = (get_or ranges at d).to + 1 in
+          let low : from ≤ next = omega (arith, first.1) in
+          let here = within-parts (get_or ranges at d).from (get_or ranges at d).to next
+          (sym (has-at ranges at next d apart inside (λ k e h. (let before = place.before k e h in omega (arith, before, low))) (omega arith)) ∙ all next low (omega (arith, above))) in
+          let high = here.1 in
+          omega (arith, high))),
+    )
+
+-- and where that range has both, it has all between
+pub between-at : (ranges : List IdRange) (at from to : ℕ) (d : IdRange) → AreApart ranges → at < length ranges → IsPlace ranges from at
+    → (get_or ranges at d).from ≤ from → to ≤ (get_or ranges at d).to
+    → (id : ℕ) → from ≤ id → id ≤ to → has_id (ids_of ranges) id ≡ true
+between-at ranges at from to d apart inside place low high id above below =
+    has-at ranges at id d apart inside (λ k e h. (let before = place.before k e h in omega (arith, before, above))) (omega (arith, below, high))
+    ∙ within-from (get_or ranges at d).from (get_or ranges at d).to id (omega (arith, low, above)) (omega (arith, below, high))
 
 -- from the first range on
 pub whole-first : (ranges : List IdRange) (range : IdRange) (id : ℕ) → slice_get ranges 0 ≡ Some range → range.from ≤ 1 → 1 ≤ id → id ≤ range.to → has_id (ids_of ranges) id ≡ true

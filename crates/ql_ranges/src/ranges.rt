@@ -1,4 +1,4 @@
-ghost use Rattle.std.specs.Prelude.{◌≡◌, ◌+◌, ◌<◌, ◌≤◌, ◌&&◌, ◌||◌, ℕ, [], true, nat_le, nat_lt, length, slice_index_or, IfOk, OnOk, OnErr};
+ghost use Rattle.std.specs.Prelude.{◌≡◌, ◌↔◌, ◌+◌, ◌<◌, ◌≤◌, ◌&&◌, ◌||◌, ℕ, [], IsTrue, true, nat_le, nat_lt, length, slice_index_or, IfOk, OnOk, OnErr};
 ghost use Rattle.ql_base.specs.IdLists.{IsAscending, has_id, with_id, union_of};
 ghost use Rattle.ql_ranges.specs.Ranges.{ids_of, AreApart};
 ghost use Rattle.ql_ranges.specs.Places.{Adds, IsFree, IsPlace};
@@ -59,6 +59,14 @@ impl Ranges {
         ensures { result ≡ has_id (ids_of self.now) id }
     {
         has_in(&self.ranges, id)
+    }
+
+    /// Whether all ids from one to another are there, found in the time of one.
+    pub fn has_all(&self, from: u32, to: u32) -> bool
+        requires { from ≤ to }
+        ensures { IsTrue result ↔ ((id : ℕ) → from ≤ id → id ≤ to → has_id (ids_of self.now) id ≡ true) }
+    {
+        has_all_in(&self.ranges, from, to)
     }
 
     /// An id up to which there are all from 1 on, and 0 where 1 is missing.
@@ -127,6 +135,18 @@ fn has_in(ranges: &[IdRange], id: u32) -> bool
 {
     match ranges.get(place_of(ranges, id)) {
         Some(range) => covers(*range, id),
+        None => false,
+    }
+}
+
+// One range has all of them, since between two ranges an id is missing.
+fn has_all_in(ranges: &[IdRange], from: u32, to: u32) -> bool
+    requires apart { AreApart ranges.now }
+    requires order { from ≤ to }
+    ensures { IsTrue result ↔ ((id : ℕ) → from ≤ id → id ≤ to → has_id (ids_of ranges.now) id ≡ true) }
+{
+    match ranges.get(place_of(ranges, from)) {
+        Some(range) => range.from <= from && to <= range.to,
         None => false,
     }
 }

@@ -1,4 +1,5 @@
-ghost use Rattle.std.specs.Prelude.{◌≡◌, ◌≤◌, ◌<◌, ◌^◌, ◌∷◌, ℕ, List, [], length, IfOk, OnOk};
+ghost use Rattle.std.specs.Prelude.{◌≡◌, ◌≤◌, ◌<◌, ◌^◌, ◌∷◌, ℕ, List, [], length, IfOk, IsTrue, OnOk};
+ghost use Rattle.ql_base.specs.IdLists.{IsAscending};
 ghost use Rattle.ql_exec.specs.declared.effect.Effect.{Effect};
 ghost use Rattle.ql_exec.specs.Execution.{IsExecution};
 ghost use Rattle.ql_needs.specs.Closed.{Has};
@@ -17,7 +18,8 @@ use std::alloc::Global;
 /// alone. Those asked for are whole transactions, and the known ones have all that they need.
 ///
 /// It takes time in proportion to what it finds and what that sees, and to the way back from each to
-/// the effect before it in its session on its object.
+/// the effect before it in its session on its object. What sees ids that were all found, with all
+/// between them, takes no time for these.
 pub fn reach(alloc: Global, x: &Execution, asked: &IdSet, known: &Ranges) -> Result<IdSet, NoMemory>
     requires asked { AreWhole x.now asked.now }
     requires known { (a b : ℕ) → Has (ids_of known.now) a → Needs x.now a b → Has (ids_of known.now) b }
@@ -137,6 +139,24 @@ fn meet_above(effects: &[Effect], known: &Ranges, walk: &mut Walk, e: u32) -> Re
 }
 
 fn meet_each(known: &Ranges, walk: &mut Walk, ids: &[u32]) -> Result<(), NoMemory>
+    requires { IsAscending ids.now }
+    ensures { OnOk result (Meets (ids_of known.now) ids.now (ids_of walk.old.found) walk.old.due.items (ids_of walk.new.found) walk.new.due.items) }
+{
+    if are_in_one_range(&walk.found, ids) {
+        return Ok(());
+    }
+    meet_one_by_one(known, walk, ids)
+}
+
+// Whether all ids from the first to the last are there, so that none has to be looked up.
+fn are_in_one_range(found: &Ranges, ids: &[u32]) -> bool
+    requires { IsAscending ids.now }
+    ensures { IsTrue result → (a : ℕ) → Has ids.now a → Has (ids_of found.now) a }
+{
+    ids.is_empty() || found.has_all(ids[0], ids[ids.len() - 1])
+}
+
+fn meet_one_by_one(known: &Ranges, walk: &mut Walk, ids: &[u32]) -> Result<(), NoMemory>
     ensures { OnOk result (Meets (ids_of known.now) ids.now (ids_of walk.old.found) walk.old.due.items (ids_of walk.new.found) walk.new.due.items) }
 {
     for id in ids {

@@ -1,7 +1,7 @@
 use Rattle.std.proofs.Common.{arith}
 use Rattle.ql_ranges.specs.Ranges.{ids_of}
 use Rattle.ql_reach.proofs.WalkLaws.{meets-more}
-use Rattle.ql_reach.proofs.walk.meet_each.Goals as goal
+use Rattle.ql_reach.proofs.walk.meet_one_by_one.Goals as goal
 
 pub loop-id-preserved : goal.loop-id-preserved
 loop-id-preserved c =
