@@ -130,7 +130,7 @@ on-found : (o : ObjId) (found : Option Effect) → IsOn o found → (e : Effect)
 on-found o None on = absurd on
 on-found o (Some e) on = (e, refl, on)
 
-of-found : (s : SessId) (found : Option Effect) → IsOf s found → (e : Effect) × (found ≡ Some e) × (e.session ≡ s)
+pub of-found : (s : SessId) (found : Option Effect) → IsOf s found → (e : Effect) × (found ≡ Some e) × (e.session ≡ s)
 of-found s None own = absurd own
 of-found s (Some e) own = (e, refl, own)
 

@@ -4,3 +4,4 @@ pub mod HolderLaws
 pub mod JoinedLaws
 pub mod NextLaws
 pub mod ViewLaws
+pub mod CompleteLaws

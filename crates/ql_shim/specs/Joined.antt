@@ -3,9 +3,11 @@ use Rattle.std.specs.Prelude.{◌≡◌, ◌↔◌, ℕ, Bool, true, false, not,
 use Rattle.ql_base.specs.IdLists.{IsAscending, has_id, with_id}
 use Rattle.ql_base.specs.declared.ids.SessId.{SessId}
 use Rattle.ql_exec.specs.declared.effect.Effect.{Effect}
+use Rattle.ql_exec.specs.Effects.{effect_at}
 use Rattle.ql_exec.specs.Relations.{hbo_step}
 use Rattle.ql_needs.specs.Closed.{Has}
-use Rattle.ql_machine.specs.Sets.{has_all}
+use Rattle.ql_machine.specs.Blocking.{IsOf}
+use Rattle.ql_machine.specs.Sets.{AreThose, has_all}
 
 -- of other effects on the object the given ones, and an own one where all that is a step before it is seen
 pub record IsJoined (x : List Effect) (own others on ids : List ℕ) : Type 0 where
@@ -13,6 +15,11 @@ pub record IsJoined (x : List Effect) (own others on ids : List ℕ) : Type 0 wh
   pub within : (a : ℕ) → Has ids a → Has on a
   pub theirs : (a : ℕ) → Has on a → has_id own a ≡ false → Has ids a ↔ Has others a
   pub ours : (a : ℕ) → Has on a → Has own a → Has ids a ↔ ((b : ℕ) → hbo_step x b a ≡ true → Has ids b)
+
+-- All own effects and these of others, which leave out nothing that an own one saw and nothing of the session.
+pub record IsComplete (x : List Effect) (own saw others : List ℕ) (s : SessId) (on ids : List ℕ) : Type 0 where
+  pub those : AreThose (λ a. Has on a × ((has_id own a || has_id others a) ≡ true)) ids
+  pub rest : (a : ℕ) → Has on a → (has_id own a || has_id others a) ≡ false → (has_id saw a ≡ false) × (IsOf s (effect_at x a) → ⊥)
 
 -- whether the next effect is seen, by those before it that are
 abbrev pub is_seen_next : List ℕ → Bool → Effect → ℕ → List ℕ → List ℕ → Bool

@@ -1,13 +1,14 @@
-ghost use Rattle.std.specs.Prelude.{◌≡◌, ◌↔◌, ℕ, true, Some, IfOk, OnOk};
+ghost use Rattle.std.specs.Prelude.{◌≡◌, ◌↔◌, ◌||◌, nat_eq, ℕ, true, Some, IfOk, IfSome, OnOk};
 ghost use Rattle.ql_base.specs.IdLists.{IsAscending, has_id};
 ghost use Rattle.ql_base.specs.declared.ids.ObjId.{ObjId};
 ghost use Rattle.ql_exec.specs.Effects.{effect_at};
 ghost use Rattle.ql_exec.specs.Execution.{IsExecution, IsOn};
+ghost use Rattle.ql_exec.specs.Relations.{vis};
 ghost use Rattle.ql_needs.specs.Closed.{Has};
 ghost use Rattle.ql_needs.specs.Needs.{AreThere};
 ghost use Rattle.ql_machine.specs.Blocking.{IsOf};
 ghost use Rattle.ql_machine.specs.Sets.{AreThose, has_all};
-ghost use Rattle.ql_shim.specs.Joined.{IsJoined, IsNextJoined};
+ghost use Rattle.ql_shim.specs.Joined.{IsComplete, IsJoined, IsNextJoined};
 
 use crate::running::Running;
 use ql_base::{IdSet, NoMemory};
@@ -25,8 +26,69 @@ struct Gathered {
 /// The effects on an object that a transaction sees: of others these, and each own one where what it
 /// saw and what its session did before on the object is seen.
 ///
-/// Goes over the effects on the object once, and over what the own ones among them saw.
+/// Goes over the effects on the object once, and where one that was seen isn't any more, over what
+/// the own ones among them saw.
 pub(crate) fn with_own(
+    alloc: Global,
+    x: &Execution,
+    running: &Running,
+    others: &IdSet,
+    on: &[u32],
+) -> Result<IdSet, NoMemory>
+    requires { AreThere x.now on.now }
+    ensures execution { IsExecution x.now }
+    ensures joined { IfOk result (λ ids. (o : ObjId) → AreThose (λ a. IsOn o (effect_at x.now a)) on.now
+        → ((a : ℕ) → Has running.now.own a → IsOf running.now.txn.session (effect_at x.now a))
+        → ((a b : ℕ) → Has running.now.own b → vis x.now a b ≡ true → Has running.now.saw a)
+        → IsJoined x.now running.now.own others.now on.now ids) }
+{
+    match all_own(alloc, x, running, others, on)? {
+        Some(ids) => Ok(ids),
+        None => one_by_one(alloc, x, running, others, on),
+    }
+}
+
+// The given ones of others and all own ones, where these leave out nothing that an own one saw and
+// nothing of the session; none where they do.
+fn all_own(
+    alloc: Global,
+    x: &Execution,
+    running: &Running,
+    others: &IdSet,
+    on: &[u32],
+) -> Result<Option<IdSet>, NoMemory>
+    requires { AreThere x.now on.now }
+    ensures execution { IsExecution x.now }
+    ensures complete { IfOk result (λ found. IfSome found (λ ids. IsComplete x.now running.now.own running.now.saw others.now running.now.txn.session on.now ids)) }
+{
+    let effects = x.effects();
+    let mut ids = IdSet::new(alloc);
+    for a in on {
+        if is_kept(*a, running, others) {
+            ids.insert(*a)?;
+        } else if is_awaited(&effects[*a as usize - 1], *a, running) {
+            return Ok(None);
+        }
+    }
+    Ok(Some(ids))
+}
+
+// Whether an effect is an own one or one of the given others.
+fn is_kept(a: u32, running: &Running, others: &IdSet) -> bool
+    ensures { result ≡ (has_id running.now.own a || has_id others.now a) }
+{
+    running.own.has(a) || others.has(a)
+}
+
+// Whether own effects may need this one: they saw it, or it is of their session.
+fn is_awaited(effect: &Effect, a: u32, running: &Running) -> bool
+    ensures { result ≡ (has_id running.now.saw a || nat_eq effect.now.session.0 running.now.txn.session.0) }
+{
+    running.saw.has(a) || effect.session.0 == running.txn.session.0
+}
+
+// The same, each effect judged by those before it.
+fn one_by_one(
     alloc: Global,
     x: &Execution,
     running: &Running,

@@ -1,40 +1,34 @@
-use Rattle.std.proofs.Common.{◌≡◌, ℕ, List, suc, length, get_or, take, ◌∙◌, subst, ap, add-one, arith}
-use Rattle.std.proofs.Math.Seq.{take-length}
-use Rattle.ql_shim.specs.Joined.{IsJoined}
-use Rattle.ql_shim.proofs.JoinedLaws.{at-has}
-use Rattle.ql_shim.proofs.NextLaws.{IsOrdered, effect-read, next-is, way-on}
+use Rattle.std.proofs.Common.{◌≡◌, ℕ, List, Option, Some, true, IfSome, subst}
+use Rattle.std.proofs.lemmas.Result.{IfOk-weaker}
+use Rattle.ql_base.specs.declared.ids.ObjId.{ObjId}
+use Rattle.ql_exec.specs.Effects.{effect_at}
+use Rattle.ql_exec.specs.Execution.{IsOn}
+use Rattle.ql_exec.specs.Relations.{vis}
+use Rattle.ql_needs.specs.Closed.{Has}
+use Rattle.ql_machine.specs.Blocking.{IsOf}
+use Rattle.ql_machine.specs.Sets.{AreThose}
+use Rattle.ql_shim.specs.Joined.{IsComplete, IsJoined}
+use Rattle.ql_shim.proofs.CompleteLaws.{complete-joined}
 use Rattle.ql_shim.proofs.scope.with_own.Goals as goal
 
-pub overflow_sub-a : goal.overflow_sub-a
-overflow_sub-a c = (c.requires (get_or c.args.on.now c.loop-a.a-index 0) (at-has c.args.on.now c.loop-a.a-index c.loop-a-test.true)).0
+pub returns-in-Some-clause-joined : goal.returns-in-Some-clause-joined
+returns-in-Some-clause-joined c = λ o on_object own_of saw_of.
+    let running = c.args.running.now in
+    complete-joined c.args.x.now running.txn.session o running.own running.saw c.args.others.now c.args.on.now c.in-Some.ids
+    c.all_own.ensures.execution on_object own_of saw_of
+    (subst (λ (found : Option (List ℕ)). IfSome found (λ ids. IsComplete c.args.x.now running.own running.saw c.args.others.now running.txn.session c.args.on.now ids))
+    c.in-Some.is c.in_ok-ids.ensures.complete)
 
-pub bounds-effects-a : goal.bounds-effects-a
-bounds-effects-a c =
-    let inside = c.requires (get_or c.args.on.now c.loop-a.a-index 0) (at-has c.args.on.now c.loop-a.a-index c.loop-a-test.true) in
-    let first = inside.0 in
-    let last = inside.1 in
-    let count = ap length c.effects-effects.ensures.same in
-    omega (arith, first, last, count)
-
-pub loop-a-preserved : goal.loop-a-preserved
-loop-a-preserved c = λ o those own_of.
+pub returns-in-None-clause-joined : goal.returns-in-None-clause-joined
+returns-in-None-clause-joined c =
     let x = c.args.x.now in
     let on = c.args.on.now in
-    let k = c.loop-a.a-index in
-    let s = c.args.running.now.txn.session in
-    let own = c.args.running.now.own in
+    let running = c.args.running.now in
     let others = c.args.others.now in
-    let inside = c.requires (get_or on k 0) (at-has on k c.loop-a-test.true) in
-    let at = effect-read x c.effects-effects.result.now (get_or on k 0) c.index-effects-a.result c.effects-effects.ensures.same inside.0 inside.1 c.index-effects-a.is in
-    let ordered : IsOrdered x s o own on = record { law = c.effects-effects.ensures.execution; on_object = those; own_of = own_of } in
-    rw add-one (way-on x s o own others on (take k on) (take (suc k) on) c.loop-a.gathered.ids c.add_next.new.gathered.ids c.loop-a.gathered.whole c.add_next.new.gathered.whole
-    (get_or on k 0) c.index-effects-a.result ordered (next-is x on k c.index-effects-a.result those.ascending c.loop-a-test.true at) c.in_ok-add_next.ensures (c.loop-a.invariant o those own_of))
-
-pub returns-clause-joined : goal.returns-clause-joined
-returns-clause-joined c = λ o those own_of.
-    let on = c.args.on.now in
-    let most = c.loop-a.auto.a-index-end in
-    let past = c.loop-a-test.false in
-    let end : c.loop-a.a-index ≡ length on = omega (arith, most, past) in
-    let whole : take c.loop-a.a-index on ≡ on = ap (λ (n : ℕ). take n on) end ∙ take-length on in
-    subst (λ (front : List ℕ). IsJoined c.args.x.now c.args.running.now.own c.args.others.now front c.loop-a.gathered.ids) whole (c.loop-a.invariant o those own_of).joined
+    IfOk-weaker c.one_by_one.result
+    (λ ids. (o : ObjId) → AreThose (λ a. IsOn o (effect_at x a)) on → ((a : ℕ) → Has running.own a → IsOf running.txn.session (effect_at x a))
+    → IsJoined x running.own others on ids)
+    (λ ids. (o : ObjId) → AreThose (λ a. IsOn o (effect_at x a)) on → ((a : ℕ) → Has running.own a → IsOf running.txn.session (effect_at x a))
+    → ((a b : ℕ) → Has running.own b → vis x a b ≡ true → Has running.saw a) → IsJoined x running.own others on ids)
+    (λ ids joined o on_object own_of saw_of. joined o on_object own_of)
+    c.one_by_one.ensures.joined

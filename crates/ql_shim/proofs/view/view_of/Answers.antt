@@ -13,7 +13,8 @@ returns-in_ok-with_own-in-Rc-clause-ids g c = rw c.in-Rc.is (λ now o asked.
     seen-are x now o on received c.args.running.now received c.in_ok-others-in-Rc.others c.in_ok-with_own-in-Rc.field-0
     c.with_own.ensures.execution asked asked.received_settled
     (those-others on c.in_ok-others-in-Rc.others (Applied x received) (c.in_ok-others-in-Rc.ensures x c.requires.fits))
-    (c.in_ok-with_own-in-Rc.ensures.joined o asked.on_object (λ a has. asked.known.session a (asked.known.own.only a has))))
+    (c.in_ok-with_own-in-Rc.ensures.joined o asked.on_object (λ a has. asked.known.session a (asked.known.own.only a has))
+    (λ a b is_own seen. asked.known.saw.all a (b, asked.known.own.only b is_own, seen))))
 
 pub returns-in_ok-with_own-in-Mav-clause-ids : goal.returns-in_ok-with_own-in-Mav-clause-ids
 returns-in_ok-with_own-in-Mav-clause-ids g c = rw c.in-Mav.is (λ now o asked.
@@ -23,7 +24,8 @@ returns-in_ok-with_own-in-Mav-clause-ids g c = rw c.in-Mav.is (λ now o asked.
     seen-are x now o on received c.args.running.now received c.in_ok-others-in-Mav.others c.in_ok-with_own-in-Mav.field-0
     c.with_own-in-Mav.ensures.execution asked asked.received_settled
     (those-others on c.in_ok-others-in-Mav.others (Applied x received) (c.in_ok-others-in-Mav.ensures x c.requires.fits))
-    (c.in_ok-with_own-in-Mav.ensures.joined o asked.on_object (λ a has. asked.known.session a (asked.known.own.only a has))))
+    (c.in_ok-with_own-in-Mav.ensures.joined o asked.on_object (λ a has. asked.known.session a (asked.known.own.only a has))
+    (λ a b is_own seen. asked.known.saw.all a (b, asked.known.own.only b is_own, seen))))
 
 pub returns-in_ok-with_own-in-Mav-clause-missing : goal.returns-in_ok-with_own-in-Mav-clause-missing
 returns-in_ok-with_own-in-Mav-clause-missing g c = rw c.in-Mav.is (λ now o asked.
@@ -43,4 +45,5 @@ returns-in_ok-with_own-in-Rr-clause-ids g c = rw c.in-Rr.is (λ now o asked.
     let kept = those-others on c.in_ok-others-in-Rr.others (Has snapshot) c.in_ok-others-in-Rr.ensures a is_on in
     let closed = closed-kept x now snapshot asked.snapshot_settled asked.snapshot_closed a in
     (λ has. closed.0 (kept.0 has), λ all. kept.1 (closed.1 all)))
-    (c.in_ok-with_own-in-Rr.ensures.joined o asked.on_object (λ a has. asked.known.session a (asked.known.own.only a has))))
+    (c.in_ok-with_own-in-Rr.ensures.joined o asked.on_object (λ a has. asked.known.session a (asked.known.own.only a has))
+    (λ a b is_own seen. asked.known.saw.all a (b, asked.known.own.only b is_own, seen))))

@@ -6,7 +6,7 @@ use Rattle.ql_needs.specs.Closed.{Has}
 use Rattle.ql_machine.specs.Blocking.{IsOf}
 use Rattle.ql_machine.specs.Sets.{AreThose}
 use Rattle.ql_shim.proofs.NextLaws.{IsUnderWay}
-use Rattle.ql_shim.proofs.scope.with_own.Given as goal
+use Rattle.ql_shim.proofs.scope.one_by_one.Given as goal
 
 abbrev pub invariant-loop-a : goal.invariant-loop-a
 invariant-loop-a l =
