@@ -4,6 +4,7 @@ pub mod NeverStuck
 mod FoldSteps
 pub mod Accepted
 mod StableOrder
-mod EffectOrder
+pub mod EffectOrder
 mod Fitting
 pub mod Answering
+pub mod SplitFolds

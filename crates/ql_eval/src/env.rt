@@ -1,4 +1,4 @@
-ghost use Rattle.std.specs.Prelude.{◌≡◌, ◌∷◌, ◌++◌, [], OnOk, length, not, take};
+ghost use Rattle.std.specs.Prelude.{◌≡◌, ◌∷◌, ◌++◌, [], IfOk, OnOk, length, not, take};
 ghost use Rattle.std.specs.List.{prefix_len};
 ghost use Rattle.std.specs.Str.{bytes_eq};
 ghost use Rattle.std.specs.Option.{option_copied};
@@ -6,7 +6,8 @@ ghost use Rattle.ql_eval.specs.Evaluation.{value_in};
 ghost use Rattle.ql_eval.specs.Folds.{assigned};
 
 use ql_base::{NoMemory, Word};
-use ql_value::Value;
+use ql_value::{Value, copy};
+use std::alloc::Global;
 use std::marker::Model;
 
 /// Names with their values, one for each name in scope. Of a name that stands again the first value counts.
@@ -44,6 +45,17 @@ impl Env {
         ensures { result.items ≡ self }
     {
         self.pairs
+    }
+
+    /// Equal names with equal values.
+    pub fn copy(&self, alloc: Global) -> Result<Env, NoMemory>
+        ensures { IfOk result (λ copied. copied ≡ self.now) }
+    {
+        let mut pairs = Vec::with_capacity(alloc, self.pairs.len())?;
+        for pair in &self.pairs {
+            pairs.push((pair.0, copy(alloc, &pair.1)?))?;
+        }
+        Ok(Env { pairs })
     }
 }
 

@@ -79,7 +79,8 @@ pub fn try_answer(
     }
 }
 
-fn answer_over(
+/// The answer and payload of an operation over a state.
+pub(crate) fn answer_over(
     alloc: Global,
     op: &OpDecl,
     args: &Values,

@@ -32,8 +32,8 @@ pub(crate) fn state_after(
     fold_all(alloc, t, state, &order)
 }
 
-// The state before any effect.
-fn begin(alloc: Global, fields: &[Field]) -> Result<Env, NoMemory>
+/// The state before any effect.
+pub(crate) fn begin(alloc: Global, fields: &[Field]) -> Result<Env, NoMemory>
     ensures { IfOk result (λ state. state ≡ begun fields.now) }
 {
     let mut state = Env::of(Vec::with_capacity(alloc, fields.len())?);
@@ -59,8 +59,8 @@ fn begin_one(alloc: Global, kind: Kind, init: &InitNode) -> Result<Value, NoMemo
     }
 }
 
-// The state after effects, one after another. Each statement runs on the state in its place.
-fn fold_all(
+/// The state after effects, one after another. Each statement runs on the state in its place.
+pub(crate) fn fold_all(
     alloc: Global,
     t: &Typed,
     state: Env,

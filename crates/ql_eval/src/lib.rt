@@ -10,6 +10,7 @@ mod folder;
 mod folding;
 mod operator;
 mod order;
+mod resuming;
 mod scalar;
 mod statement;
 
@@ -17,3 +18,4 @@ pub use env::Env;
 pub use evaluation::{eval, try_eval};
 pub use folder::{TypedFolder, try_answer};
 pub use folding::{apply, fold};
+pub use resuming::{answer_after, first_state, fold_after};
