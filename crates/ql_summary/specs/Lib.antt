@@ -1,0 +1,4 @@
+pub mod Keeping
+pub mod Slimming
+pub mod Covering
+pub mod Standing

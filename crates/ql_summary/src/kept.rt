@@ -1,0 +1,78 @@
+ghost use Rattle.std.specs.Prelude.{◌≡◌, ◌<◌, Some, length, replicate, set, slice_get, IfOk};
+ghost use Rattle.ql_summary.specs.Keeping.{ids_of, nothing};
+
+use ql_base::{IdSet, NoMemory, ObjId};
+use ql_eval::Env;
+use std::alloc::Global;
+use std::marker::Model;
+
+/// What is kept of one object: some effects, and the state that they come to. Where there are none, the state says nothing.
+#[derive(Drop)]
+pub struct KeptObject {
+    pub ids: IdSet,
+    pub state: Env,
+}
+
+/// What is kept of each object.
+#[derive(Drop)]
+pub struct Kept {
+    objects: Vec<KeptObject>,
+}
+
+impl Model for Kept {
+    ghost use Rattle.std.specs.Prelude.{List};
+    ghost use Rattle.ql_summary.specs.declared.kept.KeptObject.{KeptObject};
+
+    ghost Value = { List KeptObject };
+
+    ghost view = { λ kept. kept.objects.items };
+}
+
+impl Kept {
+    /// Nothing is kept of so many objects.
+    pub fn new(alloc: Global, objects: u32) -> Result<Kept, NoMemory>
+        ensures { IfOk result (λ kept. kept ≡ replicate objects nothing) }
+    {
+        let mut empty = Vec::with_capacity(alloc, objects as usize)?;
+        for _o in 0..objects {
+            empty.push(KeptObject {
+                ids: IdSet::new(alloc),
+                state: Env::of(Vec::new(alloc)),
+            })?;
+        }
+        Ok(Kept { objects: empty })
+    }
+
+    /// The effects on an object that are kept.
+    pub fn ids(&self, o: ObjId) -> &IdSet
+        requires { o.0 < length self.now }
+        ensures { result.now ≡ ids_of self.now o }
+    {
+        &self.objects[o.0 as usize].ids
+    }
+}
+
+impl Kept {
+    /// What is kept of an object.
+    pub(crate) fn on(&self, o: ObjId) -> &KeptObject
+        requires { o.0 < length self.now }
+        ensures { slice_get self.now o.0 ≡ Some result.now }
+    {
+        &self.objects[o.0 as usize]
+    }
+
+    /// What is kept of each object.
+    pub(crate) fn objects(&self) -> &[KeptObject]
+        ensures { result.now ≡ self.now }
+    {
+        &self.objects
+    }
+
+    /// Keeps something else of an object.
+    pub(crate) fn put(&mut self, o: ObjId, one: KeptObject)
+        requires { o.0 < length self.old }
+        ensures { self.new ≡ set self.old o.0 one }
+    {
+        self.objects[o.0 as usize] = one;
+    }
+}

@@ -1,0 +1,16 @@
+// Summaries: effects that need not be folded again, kept as the state that they come to.
+// The one contract: from what is kept, and an execution that has lost the contents of what is kept, each answer is still its
+// type's fold over all that the call sees.
+#![tactic(auto)]
+
+mod advance;
+mod answering;
+mod copying;
+mod covering;
+mod kept;
+mod slimming;
+
+pub use answering::answer_with;
+pub use covering::covers;
+pub use kept::{Kept, KeptObject};
+pub use slimming::slim;
