@@ -1,8 +1,9 @@
--- What a call misses by the level of its operation.
+-- What a replica has applied on an object, and what a call misses by the level of its operation.
 use Rattle.std.specs.Prelude.{◌≡◌, ℕ, false, List, Option, Some, None}
 use Rattle.ql_base.specs.IdLists.{has_id}
 use Rattle.ql_base.specs.declared.ids.EffId.{EffId}
 use Rattle.ql_base.specs.declared.ids.ObjId.{ObjId}
+use Rattle.ql_base.specs.declared.ids.ReplicaId.{ReplicaId}
 use Rattle.ql_base.specs.declared.ids.SessId.{SessId}
 use Rattle.ql_exec.specs.declared.effect.Effect.{Effect}
 use Rattle.ql_exec.specs.Effects.{effect_at}
@@ -12,6 +13,8 @@ use Rattle.ql_levels.specs.declared.level.Level.TheVariants.{Eventual, Causal, S
 use Rattle.ql_needs.specs.Closed.{Has}
 use Rattle.ql_machine.specs.Blocking.{IsOf}
 use Rattle.ql_machine.specs.Sets.{IsLeast}
+use Rattle.ql_machine.specs.State.{Machine}
+use Rattle.ql_machine.specs.Views.{Applied}
 
 -- what a view must have: at causal, what the session did before on the object
 abbrev pub IsWanted : List Effect → Level → SessId → ObjId → ℕ → Type 0
@@ -23,3 +26,7 @@ IsWanted x Strong session object a = ⊥
 abbrev pub IsLeastLacking : List Effect → Level → SessId → ObjId → List ℕ → Option EffId → Type 0
 IsLeastLacking x level session object view None = (a : ℕ) → IsWanted x level session object a → Has view a
 IsLeastLacking x level session object view (Some least) = IsLeast (λ a. IsWanted x level session object a × (has_id view a ≡ false)) least.0
+
+-- an effect is on an object, and the replica has applied it
+abbrev pub IsAppliedOn : Machine → ReplicaId → ObjId → ℕ → Type 0
+IsAppliedOn s r o a = IsOn o (effect_at s.effects a) × Applied s r.0 a

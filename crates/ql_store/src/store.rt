@@ -9,11 +9,13 @@ ghost use Rattle.ql_store.specs.Answering.{IsAttempt};
 ghost use Rattle.ql_store.specs.Conditions.{HasRoom, IsAnswerable};
 ghost use Rattle.ql_store.specs.Events.{IsInRange};
 ghost use Rattle.ql_store.specs.Levels.{HasLevelOfEach, promises_of, uses_of};
+ghost use Rattle.ql_store.specs.Viewing.{IsAppliedOn};
 ghost use Rattle.ql_machine.specs.declared.open_txn.OpenTxn.{OpenTxn};
 ghost use Rattle.ql_machine.specs.declared.event.Event.TheVariants as event;
 ghost use Rattle.ql_machine.specs.declared.message.Message.{Message};
 ghost use Rattle.ql_machine.specs.State.{empty, message_at, open_of};
 ghost use Rattle.ql_machine.specs.Rules.{Rules};
+ghost use Rattle.ql_machine.specs.Sets.{AreThose};
 ghost use Rattle.ql_machine.specs.Steps.{IsStep};
 
 use crate::asked::Asked;
@@ -34,7 +36,7 @@ use ql_levels::{Level, Levels};
 use ql_machine::{Event, Groups, Reply};
 use ql_net::Net;
 use ql_session::Sessions;
-use ql_shim::Shim;
+use ql_shim::{Shim, applied_among};
 use ql_typing::Typed;
 use ql_value::Values;
 use std::alloc::Global;
@@ -93,6 +95,15 @@ impl<H: Holder> Store<H> {
         ensures { result.now ≡ self.now.machine.effects }
     {
         &self.execution
+    }
+
+    /// The effects on an object that a replica has applied. Looks up each effect on the object once.
+    pub fn view_at(&self, replica: ReplicaId, object: ObjId) -> Result<IdSet, NoMemory>
+        requires { replica.0 < length self.now.machine.received }
+        ensures { IfOk result (AreThose (IsAppliedOn self.now.machine replica object)) }
+    {
+        let holder = &self.holders[replica.0 as usize];
+        applied_among(self.alloc, holder, self.sessions.on(object))
     }
 
     /// Does what an event does to a store, and answers it.
