@@ -41,6 +41,7 @@ pub fn run_schedule<H: Holder>(
         → rules.answer ≡ (λ op args seen. answered_of typed.now.program.types op.0 args seen) → IsRun rules schedule.replicas schedule.events run.replies.items run.store.machine) }
     ensures levels { IfOk result (λ run. run.store.levels ≡ levels) }
     ensures objects { IfOk result (λ run. run.objects ≡ schedule.objects) }
+    ensures replicas { IfOk result (λ run. length run.store.machine.received ≡ schedule.replicas) }
     ensures fits { IfOk result (λ run. All (FitsSchedule typed.now.program (length schedule.objects) schedule.kinds) run.store.machine.effects) }
     ensures answered { IfOk result (λ run. All (IsMade (length run.store.machine.effects)) run.replies.items) }
 {
