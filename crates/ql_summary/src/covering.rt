@@ -65,8 +65,8 @@ fn are_later(effects: &[Effect], last: EffId, ids: &IdSet, seen: &IdSet) -> bool
         .all(|id| ids.has(*id) || is_before(effects, last.0, *id))
 }
 
-// Whether there are two effects, the first of which comes before the second: by stamp, and at one stamp by session.
-fn is_before(effects: &[Effect], a: u32, b: u32) -> bool
+/// Whether there are two effects, the first of which comes before the second: by stamp, and at one stamp by session.
+pub fn is_before(effects: &[Effect], a: u32, b: u32) -> bool
     ensures { result ≡ both comes_before (effect_at effects.now a) (effect_at effects.now b) }
 {
     match (find(effects, a), find(effects, b)) {

@@ -11,6 +11,6 @@ mod kept;
 mod slimming;
 
 pub use answering::answer_with;
-pub use covering::covers;
+pub use covering::{covers, is_before};
 pub use kept::{Kept, KeptObject};
 pub use slimming::slim;
