@@ -1,0 +1,16 @@
+-- What is known of the calls of a disk that are to come.
+use Rattle.std.specs.Prelude.{ℕ, ◌-◌, Bool, ◌&&◌, nat_le, nat_lt}
+
+-- So many writes and syncs are done, but for a write that ends past the room; those behind them fail. A size and a read
+-- are done.
+pub record Forecast : Type 0 where
+  pub calls : ℕ
+  pub room : ℕ
+
+-- whether a call that writes up to an offset is done
+abbrev pub is_done : Forecast → ℕ → Bool
+is_done forecast end = nat_lt 0 forecast.calls && nat_le end forecast.room
+
+-- what is known after a write or a sync
+abbrev pub next : Forecast → Forecast
+next forecast = record { calls = forecast.calls - 1; room = forecast.room }

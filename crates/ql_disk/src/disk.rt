@@ -1,0 +1,86 @@
+ghost use Rattle.std.specs.Prelude.{◌≡◌, ◌<◌, ◌≤◌, ◌+◌, ◌^◌, ◌&&◌, ℕ, List, Option, Some, length, take, drop, IfOk, OnOk, OnErr, IfSome, OnSome, IsOk};
+ghost use Rattle.std.specs.Result.{is_ok};
+ghost use Rattle.ql_ports.specs.Faults.{Rose};
+ghost use Rattle.ql_disk.specs.Bytes.{DiskBytes, IsImage, IsWritten, IsTorn, IsSynced};
+ghost use Rattle.ql_disk.specs.Forecasts.{Forecast, is_done, next};
+ghost use Rattle.ql_disk.specs.Moments.{Elapses};
+
+use ql_ports::Failed;
+
+/// A file as a journal sees it. It may be stopped at any moment, in the midst of a call too.
+///
+/// A disk over memory tells its bytes. One over a real file doesn't, and the clauses then say nothing
+/// of what it holds: they have `tells` as a premise.
+pub trait Disk {
+    // Whether a disk of this type tells its bytes.
+    ghost tells: { Type 0 };
+
+    // The bytes of the disk, as far as it tells them.
+    ghost held: { Self → DiskBytes };
+
+    // The moment, as a number that doesn't fall.
+    ghost moment: { Self → ℕ };
+
+    // What a stop at some moment from that one on may have left, during a call or between two.
+    ghost left_since: { Self → ℕ → List ℕ → Type 0 };
+
+    // How many faults the calls have met.
+    ghost faults: { Self → ℕ };
+
+    // What is known of the calls to come, where the disk tells it.
+    ghost forecast: { Self → Option Forecast };
+
+    /// How many bytes there are.
+    fn size(&mut self) -> Result<u64, Failed>
+        ensures size { tells → IfOk result (λ size. size ≡ length (held self.old).content) }
+        ensures same { held self.new ≡ held self.old }
+        ensures time { tells → Elapses (moment self.old) (moment self.new) (left_since self.old) (left_since self.new) (held self.new) }
+        ensures failed { OnErr result (Rose (faults self.old) (faults self.new)) }
+        ensures count_stays { faults self.old ≤ faults self.new }
+        ensures foretold { OnSome (forecast self.old) (IsOk result) }
+        ensures forecast { forecast self.new ≡ forecast self.old };
+
+    /// Fills `into` with the bytes from the offset `at` on. After `Failed` the contents of `into` are open.
+    fn read(&mut self, at: u64, into: &mut [u8]) -> Result<(), Failed>
+        requires { tells → at + length into.old ≤ length (held self.old).content }
+        ensures length { length into.new ≡ length into.old }
+        ensures read { tells → OnOk result (into.new ≡ take (length into.old) (drop at (held self.old).content)) }
+        ensures same { held self.new ≡ held self.old }
+        ensures time { tells → Elapses (moment self.old) (moment self.new) (left_since self.old) (left_since self.new) (held self.new) }
+        ensures failed { OnErr result (Rose (faults self.old) (faults self.new)) }
+        ensures count_stays { faults self.old ≤ faults self.new }
+        ensures foretold { OnSome (forecast self.old) (IsOk result) }
+        ensures forecast { forecast self.new ≡ forecast self.old };
+
+    /// Writes over what is there from the offset `at` on, and past the end. Until a sync, a stop may leave any bytes in
+    /// the range. After `Failed` any image may be there.
+    fn write_at(&mut self, at: u64, bytes: &[u8]) -> Result<(), Failed>
+        requires begins { tells → at ≤ length (held self.old).content }
+        requires ends { at + length bytes.now < 2 ^ 40 }
+        ensures written { tells → OnOk result (IsWritten at bytes.now (held self.old) (held self.new)) }
+        ensures torn { tells → OnErr result (IsTorn at (length bytes.now) (held self.old) (held self.new)) }
+        ensures time { tells → Elapses (moment self.old) (moment self.new) (left_since self.old) (left_since self.new) (held self.new) }
+        ensures failed { OnErr result (Rose (faults self.old) (faults self.new)) }
+        ensures count_stays { faults self.old ≤ faults self.new }
+        ensures foretold { IfSome (forecast self.old) (λ f. is_ok result ≡ is_done f (at + length bytes.now)) }
+        ensures forecast { IfSome (forecast self.old) (λ f. forecast self.new ≡ Some (next f)) };
+
+    /// After it, a stop leaves what a read gives, with anything past its end.
+    fn sync(&mut self) -> Result<(), Failed>
+        ensures synced { tells → OnOk result (IsSynced (held self.old) (held self.new)) }
+        ensures same { OnErr result (held self.new ≡ held self.old) }
+        ensures time { tells → Elapses (moment self.old) (moment self.new) (left_since self.old) (left_since self.new) (held self.new) }
+        ensures failed { OnErr result (Rose (faults self.old) (faults self.new)) }
+        ensures count_stays { faults self.old ≤ faults self.new }
+        ensures foretold { IfSome (forecast self.old) (λ f. is_ok result ≡ is_done f 0) }
+        ensures forecast { IfSome (forecast self.old) (λ f. forecast self.new ≡ Some (next f)) };
+
+    // What a read gives is an image.
+    ghost reads_an_image: { (disk : Self) → tells → IsImage (held disk) (held disk).content };
+
+    // What a stop may leave now counts for each moment up to now.
+    ghost counts_now: { (disk : Self) (t : ℕ) (image : List ℕ) → tells → t ≤ moment disk → IsImage (held disk) image → left_since disk t image };
+
+    // Since this moment there is no other.
+    ghost only_now: { (disk : Self) (image : List ℕ) → tells → left_since disk (moment disk) image → IsImage (held disk) image };
+}
