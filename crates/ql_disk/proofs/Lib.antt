@@ -1,1 +1,3 @@
 pub mod Overwriting
+pub mod Stops
+pub mod Lasting

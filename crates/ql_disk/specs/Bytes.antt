@@ -40,3 +40,13 @@ pub record IsSynced (old new : DiskBytes) : Type 0 where
   pub content : new.content ≡ old.content
   pub base : new.base ≡ old.content
   pub clean : (k : ℕ) → new.dirty k ≡ false
+
+-- nothing is dirty
+pub record IsClean (disk : DiskBytes) : Type 0 where
+  pub base : disk.base ≡ disk.content
+  pub clean : (k : ℕ) → disk.dirty k ≡ false
+
+-- What a stop may leave while so many bytes from an offset on are written over these: any bytes in that range and past the
+-- end, and the same elsewhere.
+abbrev pub MayLeave : List ℕ → ℕ → ℕ → List ℕ → Type 0
+MayLeave content at size image = IsImage (record { content = content; base = content; dirty = in_range at size }) image

@@ -5,10 +5,12 @@
 #![tactic(auto)]
 
 mod disk;
+mod durable;
 mod file_disk;
 mod mem_disk;
 
 pub use disk::Disk;
+pub use durable::write_durably;
 pub use file_disk::FileDisk;
 pub use mem_disk::MemDisk;
 pub use ql_ports::Failed;

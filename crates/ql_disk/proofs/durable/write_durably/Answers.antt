@@ -1,0 +1,28 @@
+use Rattle.ql_disk.specs.Bytes.{MayLeave}
+use Rattle.std.proofs.Common.{length}
+use Rattle.ql_disk.proofs.Stops.{started, goes_on}
+use Rattle.ql_disk.proofs.Lasting.{at_first, torn, written, at_last}
+use Rattle.ql_disk.proofs.durable.write_durably.Goals as goal
+
+pub returns-in_err-write_at-clause-any_moment : goal.returns-in_err-write_at-clause-any_moment
+returns-in_err-write_at-clause-any_moment g c = λ told.
+    let old = g.D.Disk.held c.args.disk.now in
+    let clean = c.requires.clean told in
+    let P = MayLeave old.content c.args.at (length c.args.bytes.now) in
+    let at_start = started g.D.Disk.moment g.D.Disk.left_since c.args.disk.now P
+    (λ image left. at_first old clean c.args.at (length c.args.bytes.now) image (g.met.D.Disk.only_now c.args.disk.now image told left)) in
+    goes_on g.D.Disk.moment g.D.Disk.left_since c.args.disk.now c.args.disk.now c.write_at.new.self P _ at_start (c.write_at.ensures.time told)
+    (torn old clean c.args.at (length c.args.bytes.now) _ (c.in_err-write_at.ensures.torn told))
+
+pub returns-clause-any_moment : goal.returns-clause-any_moment
+returns-clause-any_moment g c = λ told.
+    let old = g.D.Disk.held c.args.disk.now in
+    let clean = c.requires.clean told in
+    let P = MayLeave old.content c.args.at (length c.args.bytes.now) in
+    let is = c.in_ok-write_at.ensures.written told in
+    let at_start = started g.D.Disk.moment g.D.Disk.left_since c.args.disk.now P
+    (λ image left. at_first old clean c.args.at (length c.args.bytes.now) image (g.met.D.Disk.only_now c.args.disk.now image told left)) in
+    let put = goes_on g.D.Disk.moment g.D.Disk.left_since c.args.disk.now c.args.disk.now c.write_at.new.self P _ at_start (c.write_at.ensures.time told)
+    (written old clean c.args.at c.args.bytes.now _ is) in
+    goes_on g.D.Disk.moment g.D.Disk.left_since c.args.disk.now c.write_at.new.self c.sync.new.self P _ put (c.sync.ensures.time told)
+    (at_last old clean c.args.at c.args.bytes.now c.sync.result _ _ (c.requires.begins told) is (c.sync.ensures.synced told) c.sync.ensures.same)
