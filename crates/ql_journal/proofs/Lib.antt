@@ -1,0 +1,7 @@
+pub mod Numbers
+pub mod ReadingLaws
+pub mod KnownLaws
+pub mod AppendingLaws
+pub mod StationLaws
+pub mod EndLaws
+pub mod ReadSoFar

@@ -1,0 +1,6 @@
+pub mod Records
+pub mod Gates
+pub mod Within
+pub mod Ends
+pub mod Images
+pub mod Stations

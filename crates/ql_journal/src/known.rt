@@ -1,0 +1,75 @@
+ghost use Rattle.std.specs.Prelude.{◌≡◌, ◌↔◌, ◌≤◌, ℕ, true, length};
+ghost use Rattle.ql_base.specs.IdLists.{has_id};
+ghost use Rattle.ql_needs.specs.Needs.{IsPackage};
+ghost use Rattle.ql_exec.specs.Relations.{sametxn, same_run};
+ghost use Rattle.ql_journal.specs.Ends.{IsKnown};
+ghost use Rattle.ql_journal.specs.Within.{AgreesUpTo, AreWithin};
+ghost use Rattle.ql_journal.specs.Records.{IsLawful};
+
+use ql_base::{EffId, IdSet};
+use ql_exec::{Execution, Member};
+
+/// Whether the ids are a package of committed effects.
+pub(crate) fn is_known(x: &Execution, committed: &IdSet, ids: &IdSet) -> bool
+    requires { IsLawful ids.now }
+    ensures { (result ≡ true) ↔ IsKnown x.now committed.now ids.now }
+{
+    is_package(x, ids) && are_in(ids.items(), committed)
+}
+
+fn is_package(x: &Execution, ids: &IdSet) -> bool
+    requires { IsLawful ids.now }
+    ensures { (result ≡ true) ↔ IsPackage x.now ids.now }
+{
+    let (first, last) = (ids.get(0), ids.get(ids.len() - 1));
+    if last > x.len() {
+        return false;
+    }
+    is_package_of(x, first, ids)
+}
+
+// Whether the ids are those of the effect's transaction.
+fn is_package_of(x: &Execution, member: u32, ids: &IdSet) -> bool
+    requires first { 1 ≤ member }
+    requires last { member ≤ length x.now }
+    ensures { (result ≡ true) ↔ AgreesUpTo x.now member ids.now (length x.now) }
+{
+    for k in 0..x.len() {
+        if ids.has(k + 1) != in_one_txn(x, member, k + 1) {
+            return false;
+        }
+    }
+    true
+}
+
+fn are_in(ids: &[u32], others: &IdSet) -> bool
+    ensures { (result ≡ true) ↔ AreWithin others.now ids.now }
+{
+    let mut rest = ids;
+    while let [id, after @ ..] = rest {
+        if !others.has(*id) {
+            return false;
+        }
+        rest = after;
+    }
+    true
+}
+
+fn in_one_txn(x: &Execution, id: u32, other: u32) -> bool
+    requires first { 1 ≤ id }
+    requires last { id ≤ length x.now }
+    requires first_other { 1 ≤ other }
+    requires last_other { other ≤ length x.now }
+    ensures { result ≡ sametxn x.now id other }
+{
+    id == other || is_same_run(x.get(EffId(id)).member, x.get(EffId(other)).member)
+}
+
+fn is_same_run(member: Member, other: Member) -> bool
+    ensures { result ≡ same_run member other }
+{
+    match (member, other) {
+        (Member::Inside(run, _), Member::Inside(other_run, _)) => run.0 == other_run.0,
+        _ => false,
+    }
+}
