@@ -48,7 +48,7 @@ overwritten-at xs ys new at is =
     ap (λ (l : List ℕ). l ++ (new ++ drop (at + length new) (xs ++ ys))) (take_at xs ys at (sym is))
     ∙ ap (λ (l : List ℕ). xs ++ (new ++ l)) (drop_past xs ys (length new) (at + length new) (omega (arith, is)))
 
-records-append : (records : List (List ℕ)) (ids end : List ℕ) → records_of (records ++ ids ∷ []) ++ end ≡ records_of records ++ 1 ∷ (body ids ++ end)
+pub records-append : (records : List (List ℕ)) (ids end : List ℕ) → records_of (records ++ ids ∷ []) ++ end ≡ records_of records ++ 1 ∷ (body ids ++ end)
 records-append [] ids end = ap (λ (l : List ℕ). 1 ∷ (l ++ end)) (append-nil (body ids))
 records-append (first ∷ records) ids end =
     ap (λ (l : List ℕ). 1 ∷ l) (append_assoc (body first) (records_of (records ++ ids ∷ [])) end ∙ ap (λ (l : List ℕ). body first ++ l) (records-append records ids end)

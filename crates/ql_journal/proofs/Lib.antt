@@ -5,3 +5,4 @@ pub mod AppendingLaws
 pub mod StationLaws
 pub mod EndLaws
 pub mod ReadSoFar
+pub mod ReceiptLaws

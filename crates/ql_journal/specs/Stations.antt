@@ -11,6 +11,7 @@ use Rattle.ql_journal.specs.declared.station.Station.{Station}
 use Rattle.ql_journal.specs.declared.why.StationWhy.{StationWhy}
 use Rattle.ql_journal.specs.declared.why.StationWhy.TheVariants as why
 use Rattle.ql_journal.specs.Ends.{AreKnown, IsDamaged, IsStranger}
+use Rattle.ql_journal.specs.Sizes.{record_size}
 use Rattle.ql_journal.specs.Records.{HasRecords, in_records, records_of}
 
 -- what it received
@@ -24,10 +25,6 @@ end_of station = station.end
 -- a receipt answered `Failed`
 abbrev pub is_stopped : {H : Type 0} → Station H → Bool
 is_stopped station = station.stopped
-
--- how many bytes a record of so many ids has, with its gate
-abbrev pub record_size : ℕ → ℕ
-record_size count = 5 + 4 * count
 
 -- The disk agrees with a station: its records have exactly what the station's holder received, a closed gate stands behind
 -- them, where the station has their end, and nothing is dirty.

@@ -52,7 +52,7 @@ pub(crate) fn received_in<H: Holder>(
             return Err(StationWhy::Stranger(at));
         }
         holder.receive(&ids, x)?;
-        rest = &entry[4 + 4 * ids.len()..];
+        (_, rest) = entry.split_at(4 + 4 * ids.len());
     }
     if rest.is_empty() {
         return Err(StationWhy::Damaged(bytes.len() as u64));

@@ -12,6 +12,7 @@ ghost use Rattle.ql_journal.specs.declared.why.StationWhy.TheVariants as why;
 ghost use Rattle.ql_journal.specs.Ends.{AreKnown, IsDamaged, IsStranger};
 ghost use Rattle.ql_journal.specs.Images.{IsBeforeOrAfter};
 ghost use Rattle.ql_journal.specs.Records.{HasRecords};
+ghost use Rattle.ql_journal.specs.Sizes.{record_size};
 ghost use Rattle.ql_journal.specs.Stations.{
   Agrees,
   IsOfRecovery,
@@ -25,14 +26,13 @@ ghost use Rattle.ql_journal.specs.Stations.{
   end_of,
   holder_of,
   is_stopped,
-  record_size,
   records_after,
 };
 
 use crate::appending::append_record;
 use crate::recovering::{read_file, received_in};
 use crate::why::StationWhy;
-use crate::writing::body_of;
+use crate::writing::{body_of, first_id, record_size};
 use ql_base::{EffId, IdSet};
 use ql_disk::{Disk, write_durably};
 use ql_exec::Execution;
@@ -95,13 +95,15 @@ pub fn recover<H: Holder, D: Disk>(
     ensures foretold { IfSome (D.forecast disk.old) (λ f. 1 ≤ f.calls → IsErrOf result why.Failed → ⊥) }
 {
     let bytes = read_file(alloc, disk)?;
-    let (holder, end) = received_in::<H>(alloc, &bytes, x, committed)?;
-    Ok(Station {
-        alloc,
-        holder,
-        end,
-        stopped: false,
-    })
+    match received_in(alloc, &bytes, x, committed) {
+        Err(why) => Err(why),
+        Ok((holder, end)) => Ok(Station {
+            alloc,
+            holder,
+            end,
+            stopped: false,
+        }),
+    }
 }
 
 impl<H: Holder> Station<H> {
@@ -150,18 +152,22 @@ impl<H: Holder> Station<H> {
         if self.stopped {
             return Err(StationWhy::Reopen);
         }
-        if self.holder.has(EffId(pack.get(0))) {
+        if self.holder.has(EffId(first_id(pack))) {
             return Ok(Arrival::Again);
         }
         let mut holder = self.holder.copy()?;
         let arrival = holder.receive(pack, x)?;
         let body = body_of(self.alloc, pack)?;
-        if append_record(disk, self.end, &body).is_err() {
-            self.stopped = true;
-            return Err(StationWhy::Failed);
+        match append_record(disk, self.end, &body) {
+            Err(Failed) => {
+                self.stopped = true;
+                Err(StationWhy::Failed)
+            }
+            Ok(()) => {
+                self.end += record_size(pack);
+                self.holder = holder;
+                Ok(arrival)
+            }
         }
-        self.end += body.len() as u64;
-        self.holder = holder;
-        Ok(arrival)
     }
 }
