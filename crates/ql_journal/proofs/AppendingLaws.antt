@@ -1,7 +1,7 @@
 -- What a stop may leave while a record is appended, and what the file has at the end.
-use Rattle.std.proofs.Common.{◌≡◌, ◌≢◌, ◌⊎◌, ℕ, zero, suc, ◌+◌, ◌-◌, ◌<◌, ◌≤◌, Bool, true, false, leb, ltb, List, [], ◌∷◌, ◌++◌, length, take, drop, get_or, refl, sym, ◌∙◌, ap, subst, inl, inr, arith, append_assoc, length-append}
-use Rattle.std.proofs.lemmas.Bool.{cases_eq, lt-leb, le-leb, le-ltb, lt-ltb, and_left, and_right}
-use Rattle.std.proofs.lemmas.List.{append-nil, take_at, drop_at}
+use Rattle.std.proofs.Common.{◌≡◌, ◌≢◌, ℕ, zero, suc, ◌+◌, ◌<◌, ◌≤◌, Bool, false, leb, ltb, List, [], ◌∷◌, ◌++◌, length, drop, get_or, refl, sym, ◌∙◌, ap, subst, inl, inr, arith, append_assoc, length-append}
+use Rattle.std.proofs.lemmas.Bool.{cases_eq, lt-leb, le-ltb, and_left, and_right}
+use Rattle.std.proofs.lemmas.List.{append-nil, take_at}
 use Rattle.std.specs.List.{AllByRecursion}
 use Rattle.ql_disk.specs.Bytes.{DiskBytes, IsClean, IsImage, MayLeave, overwritten, in_range}
 use Rattle.ql_journal.specs.Records.{HasRecords, IsClosed, IsLawful, body, records_of}

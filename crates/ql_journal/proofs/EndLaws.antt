@@ -1,12 +1,12 @@
 -- A file has one list of records, and one end.
-use Rattle.std.proofs.Common.{◌≡◌, ◌≢◌, ℕ, List, [], ◌∷◌, ◌++◌, length, drop, take, refl, sym, ◌∙◌, ap, subst, append_assoc, Result, Ok, Err}
+use Rattle.std.proofs.Common.{◌≡◌, ℕ, List, [], ◌∷◌, ◌++◌, length, drop, refl, sym, ◌∙◌, ap, subst, append_assoc, Result, Ok, Err}
 use Rattle.std.specs.List.{AllByRecursion}
 use Rattle.ql_exec.specs.declared.effect.Effect.{Effect}
 use Rattle.ql_journal.specs.declared.why.StationWhy.{StationWhy}
 use Rattle.ql_journal.specs.declared.why.StationWhy.TheVariants as why
 use Rattle.ql_journal.specs.Records.{HasRecords, IsClosed, IsLawful, body, records_of}
 use Rattle.ql_journal.specs.Ends.{AreKnown, EndsIn, IsBroken, IsDamaged, IsKnown, IsStrange, IsStranger}
-use Rattle.ql_journal.specs.Stations.{IsSound, Received, Recovers, TellsUnlessNone}
+use Rattle.ql_journal.specs.Stations.{IsSound, Recovers, TellsUnlessNone}
 use Rattle.ql_journal.proofs.Numbers.{body-front}
 
 -- no lawful record of a kind stands first

@@ -1,12 +1,12 @@
 -- Numbers of four bytes, and the records made of them.
-use Rattle.std.proofs.Common.{◌≡◌, ℕ, zero, suc, ◌+◌, ◌*◌, ◌<◌, ◌≤◌, ◌^◌, List, [], ◌∷◌, ◌++◌, length, take, drop, get_or, refl, sym, ◌∙◌, ap, subst, arith, length-append}
+use Rattle.std.proofs.Common.{◌≡◌, ℕ, zero, suc, ◌*◌, ◌<◌, ◌≤◌, ◌^◌, List, [], ◌∷◌, ◌++◌, length, take, drop, get_or, refl, sym, ◌∙◌, ap, subst, arith, length-append}
 use Rattle.std.proofs.lemmas.List.{append-nil}
 use Rattle.std.proofs.lemmas.Nat.{from_be_bytes-to_be_bytes_4}
 use Rattle.std.specs.Int.{w32, from_be_bytes}
 use Rattle.std.specs.List.{AllByRecursion}
-use Rattle.ql_base.specs.IdLists.{IsAscending, IsBelowAll, with_id}
+use Rattle.ql_base.specs.IdLists.{IsAscending, with_id}
 use Rattle.ql_base.proofs.IdLemmas.{IsBelowAll-below, with_id-later}
-use Rattle.ql_journal.specs.Records.{AreIds, IsLawful, body, number, numbers}
+use Rattle.ql_journal.specs.Records.{IsLawful, body, number, numbers}
 
 abbrev Small : List ℕ → Type 0
 Small ids = AllByRecursion (λ id. id < 2 ^ 32) ids

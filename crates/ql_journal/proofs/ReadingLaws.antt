@@ -1,11 +1,11 @@
 -- Ids that are read one after the other, and the record that they are of.
-use Rattle.std.proofs.Common.{◌≡◌, ℕ, ◌+◌, ◌*◌, ◌<◌, ◌≤◌, ◌^◌, Result, Ok, Err, Option, Some, None, List, [], ◌∷◌, ◌++◌, length, take, drop, refl, sym, ◌∙◌, ap, subst, arith, append_assoc, length-append, take-append-drop}
+use Rattle.std.proofs.Common.{◌≡◌, ℕ, ◌+◌, ◌*◌, ◌<◌, ◌≤◌, ◌^◌, Result, Ok, Err, Option, Some, None, List, ◌++◌, length, take, drop, sym, ◌∙◌, ap, subst, arith, length-append, take-append-drop}
 use Rattle.std.proofs.lemmas.List.{append-nil, nil_from_length, drop_at, take_at, length-take}
 use Rattle.std.specs.Prelude.{IfOk, MatchOption}
 use Rattle.ql_base.specs.declared.no_memory.NoMemory.{NoMemory}
-use Rattle.ql_base.specs.IdLists.{IsAscending, with_id}
+use Rattle.ql_base.specs.IdLists.{with_id}
 use Rattle.ql_journal.specs.Records.{AreIds, IsLawful, body, number, numbers}
-use Rattle.ql_journal.proofs.Numbers.{last_id, length-numbers, numbers-append, above-append, with-last, last-append, small-append, no_step, body-front, number-front}
+use Rattle.ql_journal.proofs.Numbers.{last_id, length-numbers, numbers-append, above-append, with-last, last-append, small-append, no_step, number-front}
 
 -- the bytes behind the ids that were read are a number and the rest
 module _ (bytes ids rest front after : List ℕ) (id : ℕ) (split : bytes ≡ numbers ids ++ rest) (are_ids : AreIds ids)

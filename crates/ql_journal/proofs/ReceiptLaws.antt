@@ -1,21 +1,20 @@
 -- The receipt of a package that is new.
-use Rattle.std.proofs.Common.{◌≡◌, ℕ, suc, ◌+◌, ◌*◌, ◌<◌, ◌≤◌, ◌^◌, Bool, true, false, Option, Some, None, IfSome, Result, Ok, Err, List, [], ◌∷◌, ◌++◌, length, get_or, refl, sym, ◌∙◌, ap, subst, inl, inr, arith, length-append}
+use Rattle.std.proofs.Common.{◌≡◌, ℕ, suc, ◌+◌, ◌<◌, ◌≤◌, ◌^◌, true, false, Option, Some, None, IfSome, Ok, Err, List, [], ◌∷◌, ◌++◌, length, get_or, refl, sym, ◌∙◌, ap, subst, arith, length-append}
 use Rattle.std.proofs.lemmas.Bool.{both_ways, or_left, or_right, eq-eqb, false≢true}
 use Rattle.std.specs.List.{AllByRecursion}
 use Rattle.ql_base.specs.IdLists.{IsAscending, IsBelowAll, has_id}
-use Rattle.ql_disk.specs.Bytes.{DiskBytes, IsClean}
+use Rattle.ql_disk.specs.Bytes.{DiskBytes}
 use Rattle.ql_disk.specs.Forecasts.{Forecast, Foretold}
 use Rattle.ql_exec.specs.declared.effect.Effect.{Effect}
-use Rattle.ql_exec.specs.Relations.{sametxn}
 use Rattle.ql_holder.specs.Arrivals.{IsArrival}
 use Rattle.ql_holder.specs.declared.arrival.Arrival.{Arrival}
 use Rattle.ql_holder.specs.declared.arrival.Arrival.TheVariants.{Again, Waits, Applies}
 use Rattle.ql_needs.specs.Closed.{Has}
 use Rattle.ql_needs.specs.Needs.{IsPackage}
 use Rattle.ql_needs.proofs.Packages.{package-member, sametxn-there}
-use Rattle.ql_journal.specs.Records.{AreIds, HasRecords, IsLawful, body, in_records, number, numbers, records_of}
+use Rattle.ql_journal.specs.Records.{HasRecords, IsLawful, body, records_of}
 use Rattle.ql_journal.specs.Images.{IsAppended}
-use Rattle.ql_journal.specs.Stations.{Agrees, IsForetold, end_after, end_of, holder_of, records_after}
+use Rattle.ql_journal.specs.Stations.{Agrees, IsForetold, end_after, end_of, records_after}
 use Rattle.ql_journal.specs.Sizes.{record_size}
 use Rattle.ql_journal.specs.declared.station.Station.{Station}
 use Rattle.ql_journal.specs.declared.why.StationWhy.TheVariants as why

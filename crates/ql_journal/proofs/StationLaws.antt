@@ -1,14 +1,13 @@
 -- What a holder has after a record, and the records of a file that were read so far.
-use Rattle.std.proofs.Common.{◌≡◌, ℕ, ◌+◌, Bool, true, false, ◌||◌, List, [], ◌∷◌, ◌++◌, length, refl, sym, ◌∙◌, ap, arith}
-use Rattle.std.proofs.lemmas.Bool.{cases_Bool}
+use Rattle.std.proofs.Common.{◌≡◌, ℕ, Bool, true, false, ◌||◌, List, [], ◌∷◌, ◌++◌, refl, sym, ◌∙◌, ap}
 use Rattle.std.specs.List.{AllByRecursion}
-use Rattle.ql_base.specs.IdLists.{has_id, union_of}
+use Rattle.ql_base.specs.IdLists.{has_id}
 use Rattle.ql_exec.specs.declared.effect.Effect.{Effect}
 use Rattle.ql_holder.specs.Arrivals.{IsArrival}
 use Rattle.ql_holder.specs.declared.arrival.Arrival.{Arrival}
 use Rattle.ql_holder.specs.declared.arrival.Arrival.TheVariants.{Again, Waits, Applies}
 use Rattle.ql_needs.proofs.IdSets.{has_id-union}
-use Rattle.ql_journal.specs.Records.{IsLawful, body, in_records, records_of}
+use Rattle.ql_journal.specs.Records.{IsLawful, in_records}
 use Rattle.ql_journal.specs.Ends.{AreKnown, IsKnown}
 
 or_false : (b : Bool) → (b || false) ≡ b

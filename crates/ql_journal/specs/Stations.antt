@@ -1,6 +1,5 @@
 -- A station: what it keeps beside its holder, and the disk that agrees with it.
-use Rattle.std.specs.Prelude.{◌≡◌, ◌⊎◌, ℕ, ◌+◌, ◌*◌, Bool, true, false, List, Option, [], ◌∷◌, ◌++◌, length, Result, Ok, Err}
-use Rattle.std.specs.List.{AllByRecursion}
+use Rattle.std.specs.Prelude.{◌≡◌, ℕ, ◌+◌, Bool, true, false, List, Option, [], ◌∷◌, ◌++◌, length, Result, Ok, Err}
 use Rattle.ql_base.specs.IdLists.{has_id}
 use Rattle.ql_disk.specs.Bytes.{DiskBytes, IsClean}
 use Rattle.ql_disk.specs.Forecasts.{Forecast, Foretold}

@@ -1,4 +1,4 @@
-use Rattle.std.proofs.Common.{◌+◌, ◌++◌, ◌∷◌, [], List, ℕ, length, inl}
+use Rattle.std.proofs.Common.{◌+◌, length, inl}
 use Rattle.std.proofs.lemmas.Result.{on_ok_weaker}
 use Rattle.ql_disk.specs.Bytes.{MayLeave}
 use Rattle.ql_disk.proofs.Stops.{joined, weaker}

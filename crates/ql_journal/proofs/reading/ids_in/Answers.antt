@@ -1,5 +1,4 @@
-use Rattle.std.proofs.Common.{◌≤◌, ◌<◌, subst, sym, ◌∙◌, arith}
-use Rattle.ql_journal.specs.Records.{AreIds}
+use Rattle.std.proofs.Common.{◌<◌, arith}
 use Rattle.ql_journal.proofs.Numbers.{last_id}
 use Rattle.ql_journal.proofs.ReadingLaws.{stuck, grown, are_grown, last_grown, read}
 use Rattle.ql_journal.proofs.reading.ids_in.Goals as goal

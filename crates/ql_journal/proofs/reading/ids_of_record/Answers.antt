@@ -1,8 +1,5 @@
-use Rattle.std.proofs.Common.{Result, Option, Some, None, Ok, Err, List, ℕ, ◌≡◌, ◌∙◌, sym, length}
 use Rattle.std.proofs.lemmas.Bool.{iff_false}
-use Rattle.std.specs.Prelude.{IfOk, MatchOption, drop, ◌++◌, ◌+◌, ◌*◌}
-use Rattle.ql_journal.specs.Records.{IsLawful, body}
-use Rattle.ql_journal.proofs.ReadingLaws.{fits, none, some, found}
+use Rattle.ql_journal.proofs.ReadingLaws.{fits, found}
 use Rattle.ql_journal.proofs.reading.ids_of_record.Goals as goal
 
 pub returns-then-not-is_whole : goal.returns-then-not-is_whole

@@ -1,4 +1,4 @@
-use Rattle.std.proofs.Common.{◌≡◌, ◌++◌, List, ℕ, length}
+use Rattle.std.proofs.Common.{length}
 use Rattle.ql_journal.proofs.ReadSoFar.{SoFar}
 use Rattle.ql_journal.proofs.recovering.received_in.Given as goal
 

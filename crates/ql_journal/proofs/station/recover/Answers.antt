@@ -1,4 +1,4 @@
-use Rattle.std.proofs.Common.{List, ℕ, Err, Ok, ◌∙◌, sym, subst}
+use Rattle.std.proofs.Common.{List, ℕ, Err, Ok, ◌∙◌, subst}
 use Rattle.ql_journal.specs.Stations.{Received, Recovers}
 use Rattle.ql_journal.proofs.EndLaws.{sound, damaged, stranger}
 use Rattle.ql_journal.proofs.station.recover.Goals as goal

@@ -1,13 +1,11 @@
-use Rattle.std.proofs.Common.{◌≡◌, ℕ, ◌+◌, ◌≤◌, List, []  , ◌∷◌, ◌++◌, length, refl, sym, ◌∙◌, ap, subst, inl, arith}
-use Rattle.ql_disk.specs.Forecasts.{Foretold}
+use Rattle.std.proofs.Common.{◌≡◌, ℕ, ◌+◌, List, [], ◌∷◌, ◌++◌, length, refl, sym, ◌∙◌, ap, subst, inl, arith}
 use Rattle.ql_disk.proofs.Stops.{started}
 use Rattle.ql_needs.proofs.Packages.{package-in}
 use Rattle.ql_journal.specs.Images.{IsBeforeOrAfter}
 use Rattle.ql_holder.specs.Arrivals.{IsArrival}
 use Rattle.ql_journal.specs.Records.{HasRecords, records_of}
 use Rattle.ql_journal.specs.Sizes.{record_size}
-use Rattle.ql_journal.specs.Stations.{end_after, records_after}
-use Rattle.ql_journal.proofs.AppendingLaws.{image_has, gate_inside}
+use Rattle.ql_journal.proofs.AppendingLaws.{image_has}
 use Rattle.ql_journal.proofs.StationLaws.{has-more}
 use Rattle.ql_journal.proofs.ReceiptLaws.{package_some, package_lawful, appended_to, bytes_size, end_grown, new_records, new_end, foretold_ok, foretold_err}
 use Rattle.ql_journal.proofs.station.Station.receive.Goals as goal
