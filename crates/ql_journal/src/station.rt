@@ -114,7 +114,14 @@ impl<H: Holder> Station<H> {
         &self.holder
     }
 
-    /// Receives a pack and journals it. One that is there already is answered without a call of the disk. After `Failed`
+    /// Where the next record goes.
+    pub fn end(&self) -> u64
+        ensures { result ≡ end_of self.now }
+    {
+        self.end
+    }
+
+    /// Receives a package and journals it. One that is there already is answered without a call of the disk. After `Failed`
     /// the station is to be recovered.
     pub fn receive<D: Disk>(
         &mut self,

@@ -13,3 +13,4 @@ pub mod CommittedLaws
 pub mod StrongLaws
 pub mod OwnLaws
 pub mod StepLaws
+pub mod ReceivedLaws

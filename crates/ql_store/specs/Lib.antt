@@ -7,3 +7,4 @@ pub mod Asking
 pub mod Obstacles
 pub mod Answering
 pub mod Conditions
+pub mod Received

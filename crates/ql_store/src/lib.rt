@@ -12,6 +12,7 @@ mod obstacle;
 mod own;
 mod plain;
 mod receive;
+mod received;
 mod resend;
 mod spread;
 mod store;

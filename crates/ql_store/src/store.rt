@@ -1,4 +1,4 @@
-ghost use Rattle.std.specs.Prelude.{◌≡◌, ◌≢◌, ◌≤◌, ◌<◌, ◌+◌, ◌^◌, ℕ, List, Some, None, length, IfOk, OnErr};
+ghost use Rattle.std.specs.Prelude.{◌≡◌, ◌≢◌, ◌≤◌, ◌<◌, ◌+◌, ◌^◌, ℕ, List, Some, None, true, length, IfOk, OnErr};
 ghost use Rattle.ql_exec.specs.Effects.{effect_at};
 ghost use Rattle.ql_exec.specs.Execution.{IsOn};
 ghost use Rattle.ql_exec.specs.Folding.{seen_in_order};
@@ -13,19 +13,21 @@ ghost use Rattle.ql_store.specs.Viewing.{IsAppliedOn};
 ghost use Rattle.ql_machine.specs.declared.open_txn.OpenTxn.{OpenTxn};
 ghost use Rattle.ql_machine.specs.declared.event.Event.TheVariants as event;
 ghost use Rattle.ql_machine.specs.declared.message.Message.{Message};
-ghost use Rattle.ql_machine.specs.State.{empty, message_at, open_of};
-ghost use Rattle.ql_machine.specs.Rules.{Rules};
 ghost use Rattle.ql_machine.specs.Sets.{AreThose};
+ghost use Rattle.ql_machine.specs.State.{committed, empty, message_at, open_of, received_at};
+ghost use Rattle.ql_machine.specs.Rules.{Rules};
 ghost use Rattle.ql_machine.specs.Steps.{IsStep};
 
 use crate::asked::Asked;
 use crate::attempt::Attempt;
 use crate::begin::begin;
 use crate::commit::commit;
+use crate::committed::committed_effects;
 use crate::deliver::deliver;
 use crate::obstacle::obstacle;
 use crate::own::{make_own, own_view, refusal};
 use crate::plain::make_plain;
+use crate::received::received_effects;
 use crate::resend::resend;
 use crate::strong::{make_strong, strong_draft};
 use crate::view::plain_view;
@@ -104,6 +106,23 @@ impl<H: Holder> Store<H> {
     {
         let holder = &self.holders[replica.0 as usize];
         applied_among(self.alloc, holder, self.sessions.on(object))
+    }
+
+    /// What a replica has received. Asks it for each effect.
+    pub fn received_at(&self, r: ReplicaId) -> Result<IdSet, NoMemory>
+        requires { r.0 < length self.now.machine.received }
+        ensures { IfOk result (λ ids. ids ≡ received_at self.now.machine.received r.0) }
+    {
+        let holder = &self.holders[r.0 as usize];
+        received_effects(self.alloc, holder, self.execution.len())
+    }
+
+    /// The committed effects: those outside any transaction, and those whose transaction isn't open. Goes over the
+    /// execution once, and for an effect in a transaction over the open transactions.
+    pub fn committed(&self) -> Result<IdSet, NoMemory>
+        ensures { IfOk result (AreThose (λ a. committed self.now.machine.effects self.now.machine.open_txns a ≡ true)) }
+    {
+        committed_effects(self.alloc, self.execution.effects(), &self.shim)
     }
 
     /// Does what an event does to a store, and answers it.
