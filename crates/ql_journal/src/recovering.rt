@@ -21,6 +21,7 @@ pub(crate) fn read_file<D: Disk>(alloc: Global, disk: &mut D) -> Result<Vec<u8>,
     ensures clean { D.tells → OnOk result (IsClean (D.held disk.new)) }
     ensures causes { IfErr result IsOfReading }
     ensures failed { IsErrOf result why.Failed → Rose (D.faults disk.old) (D.faults disk.new) }
+    ensures count_stays { D.faults disk.old ≤ D.faults disk.new }
     ensures foretold { IfSome (D.forecast disk.old) (λ f. 1 ≤ f.calls → IsErrOf result why.Failed → ⊥) }
 {
     disk.sync()?;

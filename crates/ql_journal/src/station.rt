@@ -1,6 +1,6 @@
 ghost use Rattle.std.specs.Prelude.{◌≡◌, ◌↔◌, ◌⊎◌, ◌<◌, ◌≤◌, ◌+◌, ◌^◌, ◌++◌, ◌∷◌, [], ℕ, List, true, false, length, IfOk, OnOk, OnErr, IfErr, IsErrOf, IfSome, Ok, Err};
 ghost use Rattle.std.specs.Result.{is_ok};
-ghost use Rattle.ql_disk.specs.Bytes.{IsClean, IsImage};
+ghost use Rattle.ql_disk.specs.Bytes.{IsImage};
 ghost use Rattle.ql_disk.specs.Forecasts.{Foretold};
 ghost use Rattle.ql_disk.specs.Moments.{LeavesOnly};
 ghost use Rattle.ql_exec.specs.declared.effect.Effect.{Effect};
@@ -34,7 +34,7 @@ use crate::recovering::{read_file, received_in};
 use crate::why::StationWhy;
 use crate::writing::{body_of, first_id, record_size};
 use ql_base::{EffId, IdSet};
-use ql_disk::{Disk, write_durably};
+use ql_disk::Disk;
 use ql_exec::Execution;
 use ql_holder::{Arrival, Holder};
 use ql_ports::Failed;
@@ -53,16 +53,18 @@ pub struct Station<H: Holder> {
 
 /// A station that received nothing, on an empty disk. It writes the closed gate, and takes no memory.
 pub fn create<H: Holder, D: Disk>(alloc: Global, disk: &mut D) -> Result<Station<H>, StationWhy>
-    requires { D.tells → ((D.held disk.old).content ≡ []) × IsClean (D.held disk.old) }
+    requires { D.tells → (D.held disk.old).content ≡ [] }
     ensures nothing { IfOk result (λ station. H.received (holder_of station) ≡ []) }
     ensures fits { IfOk result (λ station. (x : List Effect) → H.fits (holder_of station) x) }
     ensures start { IfOk result (λ station. (end_of station ≡ 0) × (is_stopped station ≡ false)) }
     ensures agrees { D.tells → IfOk result (Agrees H.received (D.held disk.new)) }
     ensures cause { IfErr result (λ cause. cause ≡ why.Failed) }
     ensures failed { OnErr result (Rose (D.faults disk.old) (D.faults disk.new)) }
+    ensures count_stays { D.faults disk.old ≤ D.faults disk.new }
     ensures foretold { IfSome (D.forecast disk.old) (λ f. Foretold f 2 1 (is_ok result) (D.forecast disk.new)) }
 {
-    write_durably(disk, 0, &[0])?;
+    disk.write_at(0, &[0])?;
+    disk.sync()?;
     Ok(Station {
         alloc,
         holder: H::empty(alloc),
@@ -92,6 +94,7 @@ pub fn recover<H: Holder, D: Disk>(
     ensures content { D.tells → (D.held disk.new).content ≡ (D.held disk.old).content }
     ensures causes { IfErr result IsOfRecovery }
     ensures failed { IsErrOf result why.Failed → Rose (D.faults disk.old) (D.faults disk.new) }
+    ensures count_stays { D.faults disk.old ≤ D.faults disk.new }
     ensures foretold { IfSome (D.forecast disk.old) (λ f. 1 ≤ f.calls → IsErrOf result why.Failed → ⊥) }
 {
     let bytes = read_file(alloc, disk)?;
@@ -144,6 +147,7 @@ impl<H: Holder> Station<H> {
         ensures stopped { (is_stopped self.new ≡ true) ↔ ((is_stopped self.old ≡ true) ⊎ IsErrOf result why.Failed) }
         ensures untouched { IsErrOf result why.Reopen ⊎ IsErrOf result why.NoMemory ⊎ (result ≡ Ok Again) → (self.new ≡ self.old) × (disk.new ≡ disk.old) }
         ensures failed { IsErrOf result why.Failed → Rose (D.faults disk.old) (D.faults disk.new) }
+        ensures count_stays { D.faults disk.old ≤ D.faults disk.new }
         ensures end { IfOk result (λ arrival. end_of self.new ≡ end_after arrival (end_of self.old) (length pack.now)) }
         ensures foretold { IfSome (D.forecast disk.old) (λ f. IsForetold f (end_of self.old + record_size (length pack.now) + 1) result (D.forecast disk.new)) }
         ensures agrees { D.tells → is_stopped self.new ≡ false → Agrees H.received (D.held disk.new) self.new }
