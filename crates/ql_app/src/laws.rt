@@ -1,21 +1,24 @@
 ghost use Rattle.std.specs.Prelude.{◌≡◌, ◌⊎◌, ℕ, List, Option};
-ghost use Rattle.std.specs.List.{AllByRecursion};
 ghost use Rattle.ql_app.specs.declared.outcome.Limits.{Limits};
 ghost use Rattle.ql_app.specs.declared.status.Status.{Status};
 ghost use Rattle.ql_app.specs.declared.status.Status.TheVariants.{Done, No, TooLarge};
-ghost use Rattle.ql_app.specs.declared.words.Command.TheVariants.{Prove};
+ghost use Rattle.ql_app.specs.declared.words.Command.TheVariants.{Gen, Prove};
 ghost use Rattle.ql_app.specs.declared.words.PairCommand.TheVariants.{Check, Run, Verify};
 ghost use Rattle.ql_app.specs.Outcome.{CommandSays, PairSays, Says, Wrote};
 ghost use Rattle.ql_app.specs.LeastWritten.{WritesLeast, WritesNone};
-ghost use Rattle.ql_running.specs.declared.form.Form.TheVariants.{Text};
-ghost use Rattle.ql_app.specs.RunWritten.{WritesRun};
+ghost use Rattle.ql_app.specs.RunWritten.{WritesJson, WritesRun};
+ghost use Rattle.ql_app.specs.Words.{IsInRange};
+ghost use Rattle.ql_gen.specs.Generated.{generated};
 ghost use Rattle.ql_headline.specs.Stores.{rules_of};
 ghost use Rattle.ql_machine_laws.specs.Promised.{AllArrived};
-ghost use Rattle.ql_printed_runs.specs.Printable.{AreObjects, HasValues};
+ghost use Rattle.ql_running.specs.declared.form.Form.{Form};
+ghost use Rattle.ql_running.specs.declared.form.Form.TheVariants.{Text};
 ghost use Rattle.ql_verified_runs.specs.Agreement.{Agree};
 
 use ql_commands::what_is_proved_is_accepted;
+use ql_generated::generated_schedules_are_read;
 use ql_implied::told_levels_are_least;
+use ql_schedule::one_schedule;
 use ql_verified_runs::{printed_runs_hold, replicas_of_runs_agree};
 
 /// Where `prove` prints a certificate of a source, with status 0, `check` of that source and that certificate ends
@@ -47,10 +50,10 @@ pub fn levels_are_least()
     told_levels_are_least();
 }
 
-/// Of a source and the text that `run` prints of it with status 0, whose values can be written and whose objects have names
-/// apart, `verify` ends with status 0, since all contracts hold, or says that judging them is too much work.
+/// Of a source and the text that `run` prints of it with status 0, `verify` ends with status 0, since all contracts hold,
+/// or says that judging them is too much work.
 pub fn printed_runs_are_verified()
-    ensures { (source schedule text said : List ℕ) (status : Status) (told : PairSays (Run Text) source schedule Done text) → AreObjects told.schedule.objects → AllByRecursion HasValues told.prints.last.effects
+    ensures { (source schedule text said : List ℕ) (status : Status) → PairSays (Run Text) source schedule Done text
         → PairSays Verify source text status said → (status ≡ Done) ⊎ (status ≡ TooLarge) }
 {
     printed_runs_hold();
@@ -63,3 +66,22 @@ pub fn replicas_agree_in_runs()
 {
     replicas_of_runs_agree();
 }
+
+/// What `gen` prints of a source with status 0, `run` of that source accepts: it ends with status 0, or with 1 where the
+/// program has no levels; and the run that it shows is that of the number's schedule.
+pub fn generated_schedules_are_run()
+    ensures accepted { (source file text : List ℕ) (number events : ℕ) (form : Form) (status : Status) → IsInRange (Gen number events)
+        → CommandSays (Gen number events) source Done file → PairSays (Run form) source file status text → (status ≡ Done) ⊎ (status ≡ No) }
+    ensures shown { (source file text : List ℕ) (number events : ℕ) (form : Form) → IsInRange (Gen number events) → CommandSays (Gen number events) source Done file
+        → (told : PairSays (Run form) source file Done text) → told.schedule ≡ generated told.program number events }
+{
+    generated_schedules_are_read();
+    one_schedule();
+}
+
+/// The JSON text of a run reads back, of what `quelea` wrote by its clause `wrote`: with status 0, to `run --json` of a
+/// source and a schedule, a text that `serde_json`'s grammar reads as the run's value.
+pub fn json_runs_are_read_again()
+    ensures { (limits : Limits) (words : List (List ℕ)) (held : List ℕ → Option (List ℕ)) (before after : List ℕ → ℕ) (was is : Option (List ℕ)) (faults sums : ℕ)
+        → Wrote (Says limits words held before after) was is faults sums Done → WritesJson words held was is }
+{}
