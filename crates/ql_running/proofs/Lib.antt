@@ -1,2 +1,2 @@
 mod OfRuns
-mod Saying
+pub mod Saying

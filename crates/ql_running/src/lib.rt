@@ -13,4 +13,5 @@ pub use form::Form;
 pub use law::runs_are_sound;
 pub use refusing::refusal;
 pub use running::run;
+pub use schedule_fault::bad_schedule;
 pub use store_run::sound_run;

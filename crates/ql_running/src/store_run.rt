@@ -1,9 +1,10 @@
-ghost use Rattle.std.specs.Prelude.{◌≡◌, length, IfOk};
+ghost use Rattle.std.specs.Prelude.{◌≡◌, All, length, IfOk};
 ghost use Rattle.ql_commands.specs.Levels.{AreLevelsOf};
 ghost use Rattle.ql_headline.specs.Stores.{rules_of};
 ghost use Rattle.ql_machine.specs.Runs.{IsRun};
 ghost use Rattle.ql_run_text.specs.EffectTexts.{AreNamed};
 ghost use Rattle.ql_run_text.specs.ReplyTexts.{AreAnswered};
+ghost use Rattle.ql_runs.specs.Keeping.{FitsSchedule};
 ghost use Rattle.ql_schedule.specs.Guarantees.{IsSchedule};
 ghost use Rattle.ql_running.specs.Soundness.{IsSound};
 
@@ -28,6 +29,8 @@ pub fn sound_run(
     ensures run { IfOk result (λ run. IsRun (rules_of t.now.program levels.now) schedule.replicas schedule.events run.replies.items run.store.machine) }
     ensures sound { IfOk result (λ run. IsSound t.now.program run.store.machine.effects) }
     ensures objects { IfOk result (λ run. run.objects ≡ schedule.objects) }
+    ensures replicas { IfOk result (λ run. length run.store.machine.received ≡ schedule.replicas) }
+    ensures fits { IfOk result (λ run. All (FitsSchedule t.now.program (length schedule.objects) schedule.kinds) run.store.machine.effects) }
 
     // What a text of the run needs: numbers that name something, and replies that speak of its effects.
     ensures named { IfOk result (λ run. AreNamed t.now.program (length schedule.objects) run.store.machine.effects) }
