@@ -1,5 +1,5 @@
 -- Types, operations and declared transactions of a source's program are found by their names.
-use Rattle.std.proofs.Common.{◌≡◌, ℕ, zero, suc, ◌+◌, ◌<◌, Bool, true, false, not, ◌||◌, cond, nat_lt, List, [], ◌∷◌, ◌++◌, Option, Some, None, map, length, slice_get, if◌then◌else◌, refl, ap, sym, subst, arith, ◌∙◌}
+use Rattle.std.proofs.Common.{◌≡◌, ℕ, zero, suc, ◌+◌, ◌<◌, Bool, true, false, not, ◌||◌, cond, nat_lt, List, [], ◌∷◌, ◌++◌, Some, None, map, length, slice_get, if◌then◌else◌, refl, ap, sym, subst, arith, ◌∙◌}
 use Rattle.std.specs.List.{AllByRecursion, position, prefix_len}
 use Rattle.std.specs.Str.{bytes_eq}
 use Rattle.std.proofs.lemmas.Bool.{both_ways, lt-ltb, ltb-true}
@@ -15,7 +15,7 @@ use Rattle.ql_lang.specs.declared.program.TypeDecl.{TypeDecl}
 use Rattle.ql_typing.specs.Faults.{repeats}
 use Rattle.ql_typing.specs.Lookups.{txn_place, type_place}
 use Rattle.ql_typing.specs.Operations.{all_ops, op_place}
-use Rattle.ql_typing.specs.Programs.{op_names, program_faults}
+use Rattle.ql_typing.specs.Programs.{program_faults}
 use Rattle.ql_typing.specs.declared.fault.TypeFault.TheVariants.{Twice}
 use Rattle.ql_typing.proofs.Parts.{flat_of_map, left_none, right_none, told_false}
 use Rattle.ql_commands.specs.Sources.{IsSourceOf}

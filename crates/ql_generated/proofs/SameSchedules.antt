@@ -4,11 +4,7 @@ use Rattle.std.specs.Option.{option_map_or}
 use Rattle.std.proofs.lemmas.List.{length-map}
 use Rattle.ql_base.specs.declared.ids.TypeId.{TypeId}
 use Rattle.ql_commands.proofs.SameSource.{same-op-kinds, same-ops, same-txns, same-types}
-use Rattle.ql_lang.specs.declared.operation.OpDecl.{OpDecl}
-use Rattle.ql_lang.specs.declared.operation.Param.{Param}
 use Rattle.ql_lang.specs.declared.program.Program.{Program}
-use Rattle.ql_lang.specs.declared.program.TxnDecl.{TxnDecl}
-use Rattle.ql_lang.specs.declared.program.TypeDecl.{TypeDecl}
 use Rattle.ql_lang.specs.Programs.{Operation, Replicated, Transaction, operation_of, replicated_of, source_of, transaction_of}
 use Rattle.ql_lines.specs.Fields.{Fields}
 use Rattle.ql_machine.specs.declared.event.Event.{Event}
@@ -16,7 +12,7 @@ use Rattle.ql_machine.specs.declared.event.Event.TheVariants.{Begin, Call, Commi
 use Rattle.ql_schedule.specs.declared.schedule.Schedule.{Schedule}
 use Rattle.ql_schedule.specs.Headers.{title}
 use Rattle.ql_schedule.specs.Texts.{caller_fields, event_fields, name_at, object_fields, object_lines, op_name, schedule_lines, txn_name, type_name}
-use Rattle.ql_typing.specs.Operations.{all_ops, op_kinds}
+use Rattle.ql_typing.specs.Operations.{all_ops}
 use Rattle.ql_value.specs.Spelling.{value_text}
 use Rattle.ql_gen.specs.Draws.{draw, next}
 use Rattle.ql_gen.specs.Events.{after_begin, after_call, after_event, begin_of, call_of, event_of, params_of}

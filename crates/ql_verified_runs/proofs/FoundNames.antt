@@ -1,5 +1,5 @@
 -- Operations and declared transactions of a source's program are found by their names.
-use Rattle.std.proofs.Common.{◌≡◌, ℕ, ◌<◌, List, [], Option, Some, length, slice_get, ap, sym, subst, ◌∙◌}
+use Rattle.std.proofs.Common.{◌≡◌, ℕ, List, [], Option, ap, sym, subst, ◌∙◌}
 use Rattle.std.specs.Option.{option_map_or}
 use Rattle.ql_base.specs.Names.{IsName}
 use Rattle.ql_commands.specs.Sources.{IsSourceOf}

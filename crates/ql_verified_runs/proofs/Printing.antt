@@ -15,7 +15,7 @@ use Rattle.ql_lang.specs.declared.program.Program.{Program}
 use Rattle.ql_lines.specs.Lines.{ahead_from}
 use Rattle.ql_machine_laws.proofs.Runs.{kept}
 use Rattle.ql_printed_runs.specs.Printable.{AreObjects, FitsMember, IsPrintable, IsWritable}
-use Rattle.ql_run_text.specs.EffectTexts.{IsDeclared, object_name}
+use Rattle.ql_run_text.specs.EffectTexts.{IsDeclared}
 use Rattle.ql_running.specs.Forms.{IsRunText}
 use Rattle.ql_running.specs.Runs.{TellsRun}
 use Rattle.ql_schedule.proofs.ObjectNames.{file_names, found_by_name}

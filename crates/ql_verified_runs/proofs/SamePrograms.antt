@@ -1,7 +1,6 @@
 -- Programs that are read as one source read the same executions, and have the same contracts.
-use Rattle.std.proofs.Common.{◌≡◌, ℕ, List, [], ◌∷◌, map, Option, None, Some, Result, Err, inl, inr, length, refl, sym, ap, ◌∙◌}
-use Rattle.std.specs.Prelude.{option_map}
-use Rattle.std.specs.Option.{option_and_then, option_map_or}
+use Rattle.std.proofs.Common.{◌≡◌, ℕ, List, [], ◌∷◌, map, Option, None, Some, Err, inl, inr, refl, sym, ap, ◌∙◌}
+use Rattle.std.specs.Option.{option_map_or}
 use Rattle.std.specs.Str.{bytes_eq}
 use Rattle.ql_base.specs.Numbering.{place}
 use Rattle.ql_base.specs.declared.ids.ObjId.{ObjId}
@@ -17,13 +16,12 @@ use Rattle.ql_execution_files.specs.declared.report_fault.LineFault.TheVariants.
 use Rattle.ql_execution_files.specs.declared.setting.Begun.{Begun}
 use Rattle.ql_execution_files.specs.declared.told.Told.{Told}
 use Rattle.ql_lang.specs.Formulas.{Resolved}
-use Rattle.ql_lang.specs.declared.operation.OpDecl.{OpDecl}
 use Rattle.ql_lang.specs.declared.program.Program.{Program}
 use Rattle.ql_lang.specs.declared.program.TxnDecl.{TxnDecl}
 use Rattle.ql_lang.specs.Programs.{Operation, Transaction, operation_of, source_of, transaction_of}
 use Rattle.ql_lines.specs.Lines.{Ahead, Numbered}
 use Rattle.ql_typing.specs.Lookups.{txn_place}
-use Rattle.ql_typing.specs.Operations.{all_ops, op_contract, op_contracts, op_kinds, op_place, op_words, txn_contract, txn_contracts}
+use Rattle.ql_typing.specs.Operations.{all_ops, op_contract, op_contracts, op_place, op_words, txn_contract, txn_contracts}
 use Rattle.ql_typing.specs.Resolved.{resolved_in}
 use Rattle.ql_typing.proofs.Positions.{op_place_of, position-map}
 
