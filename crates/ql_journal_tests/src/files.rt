@@ -41,7 +41,7 @@ fn a_file_is_recovered(rt: HostRuntime) -> Result<(), Fail> {
         let mut bytes = Vec::new(alloc);
         if row != "none" {
             for word in row.split_whitespace() {
-                bytes.push(number(word, 0) as u8)?;
+                bytes.push((number(word, 0) % 256) as u8)?;
             }
         }
         recovered(alloc, &bytes)
