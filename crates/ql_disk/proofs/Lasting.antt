@@ -10,8 +10,8 @@ module _ (old : DiskBytes) (clean : IsClean old) (at size : ℕ) where
   ranged new base undirty image is = record {
     no_shorter = subst (λ (b : List ℕ). length b ≤ length image) (base ∙ clean.base) is.no_shorter;
     same = λ k less out.
-      let same_base : new.base ≡ old.content = base ∙ clean.base in
-      subst (λ (b : List ℕ). k < length b → get_or image k 0 ≡ get_or b k 0) same_base (λ inside. is.same k inside (undirty k out)) less;
+        let same_base : new.base ≡ old.content = base ∙ clean.base in
+        subst (λ (b : List ℕ). k < length b → get_or image k 0 ≡ get_or b k 0) same_base (λ inside. is.same k inside (undirty k out)) less;
   }
 
   pub at_first : (image : List ℕ) → IsImage old image → MayLeave old.content at size image
@@ -37,8 +37,8 @@ module _ (old : DiskBytes) (clean : IsClean old) (at : ℕ) (bytes : List ℕ) w
       record {
         no_shorter = omega (arith, long, longer);
         same = λ k less out.
-          subst (λ (b : List ℕ). k < length b → get_or image k 0 ≡ get_or b k 0) base (λ inside. left.same k inside (synced.clean k)) (omega (arith, less, longer))
-          ∙ outside old.content bytes at k 0 within out;
+            subst (λ (b : List ℕ). k < length b → get_or image k 0 ≡ get_or b k 0) base (λ inside. left.same k inside (synced.clean k)) (omega (arith, less, longer))
+            ∙ outside old.content bytes at k 0 within out;
       }
 
   -- the same, whether the sync is done or not

@@ -12,7 +12,7 @@ outside_cases at size k is = elim (and_cases (leb at k) (ltb k (at + size)) is) 
 ]
 
 pub length-overwritten : {X : Type 0} (old new : List X) (at : ℕ) → at ≤ length old → length old ≤ length (overwritten old at new)
-length-overwritten old new at within = 
+length-overwritten old new at within =
     let front = length-take-le at old within in
     let both = length-append (take at old) (new ++ drop (at + length new) old) in
     let rest = length-append new (drop (at + length new) old) in
@@ -47,6 +47,6 @@ pub image : (content base new : List ℕ) (before after : List Bool) (at : ℕ) 
 image content base new before after at within marked is = record {
   no_shorter = omega (arith, is.no_shorter, length-overwritten content new at within);
   same = λ k less clean.
-    let parts = or_parts (is_marked before k) (in_range at (length new) k) (sym (marked k) ∙ clean) in
-    outside content new at k 0 within parts.1 ∙ is.same k less parts.0;
+      let parts = or_parts (is_marked before k) (in_range at (length new) k) (sym (marked k) ∙ clean) in
+      outside content new at k 0 within parts.1 ∙ is.same k less parts.0;
 }

@@ -22,8 +22,8 @@ front_stays (x ∷ xs) ys [] dirty is clean = absurd (let short = is.no_shorter 
 front_stays (x ∷ xs) ys (b ∷ image) dirty is clean =
     let short = is.no_shorter in
     let later = front_stays xs ys image (λ k. dirty (suc k))
-      (record { no_shorter = omega (arith, short); same = λ k less c. is.same (suc k) (omega (arith, less)) c })
-      (λ k less. clean (suc k) (omega (arith, less))) in
+    (record { no_shorter = omega (arith, short); same = λ k less c. is.same (suc k) (omega (arith, less)) c })
+    (λ k less. clean (suc k) (omega (arith, less))) in
     let first : b ≡ x = is.same 0 (omega arith) (clean 0 (omega arith)) in (
       later.0,
       ap (λ (y : ℕ). y ∷ image) first ∙ ap (λ (l : List ℕ). x ∷ l) later.1,
@@ -52,7 +52,7 @@ pub records-append : (records : List (List ℕ)) (ids end : List ℕ) → record
 records-append [] ids end = ap (λ (l : List ℕ). 1 ∷ (l ++ end)) (append-nil (body ids))
 records-append (first ∷ records) ids end =
     ap (λ (l : List ℕ). 1 ∷ l) (append_assoc (body first) (records_of (records ++ ids ∷ [])) end ∙ ap (λ (l : List ℕ). body first ++ l) (records-append records ids end)
-      ∙ sym (append_assoc (body first) (records_of records) (1 ∷ (body ids ++ end))))
+    ∙ sym (append_assoc (body first) (records_of records) (1 ∷ (body ids ++ end))))
 
 lawful-append : (records : List (List ℕ)) (ids : List ℕ) → AllByRecursion IsLawful records → IsLawful ids → AllByRecursion IsLawful (records ++ ids ∷ [])
 lawful-append [] ids lawful one = (one, tt)
@@ -86,8 +86,8 @@ module _ (records : List (List ℕ)) (ids bytes file : List ℕ) (gate : ℕ) (i
   staged image left =
       let size : length (before ++ shut ∷ []) ≡ gate + 1 = omega (arith, length-append before (shut ∷ []), is.gate_is) in
       let stays = front_stays (before ++ shut ∷ []) behind image (in_range (gate + 1) (length bytes))
-        (subst (λ (f : List ℕ). MayLeave f (gate + 1) (length bytes) image) (file_is ∙ gated) left)
-        (λ k less. and_left (leb (gate + 1) k) (ltb k ((gate + 1) + length bytes)) (lt-leb (gate + 1) k (omega (arith, less, size)))) in
+      (subst (λ (f : List ℕ). MayLeave f (gate + 1) (length bytes) image) (file_is ∙ gated) left)
+      (λ k less. and_left (leb (gate + 1) k) (ltb k ((gate + 1) + length bytes)) (lt-leb (gate + 1) k (omega (arith, less, size)))) in
       record {
         lawful = is.has.lawful;
         end = shut ∷ stays.0;
@@ -128,27 +128,27 @@ module _ (records : List (List ℕ)) (ids bytes file : List ℕ) (gate : ℕ) (i
         let undirty : (k : ℕ) → in_range gate 1 (length before + suc k) ≡ false =
         λ k. and_right (leb gate (length before + suc k)) (ltb (length before + suc k) (gate + 1)) (le-ltb (length before + suc k) (gate + 1) (omega (arith, is.gate_is))) in
         let stays = front_stays tail [] rest (λ k. false)
-          (record {
-            no_shorter = let size = length-append tail [] in omega (arith, short, size);
-            same = λ k less c.
+        (record {
+          no_shorter = let size = length-append tail [] in omega (arith, short, size);
+          same = λ k less c.
               let size = length-append tail [] in
               image.same (suc k) (omega (arith, less, size)) (undirty k) ∙ sym (ap (λ (l : List ℕ). get_or l k 0) (append-nil tail));
-          })
-          (λ k less. refl) in
+        })
+        (λ k less. refl) in
         (h, stays.0, ap (λ (l : List ℕ). h ∷ l) stays.1)
 
     -- while the gate is opened, the record is there or it isn't
     pub opened : (image : List ℕ) → MayLeave mid gate 1 image → IsBeforeOrAfter records ids image
     opened image left =
         let stays = front_stays before (shut ∷ tail) image (in_range gate 1)
-          (subst (λ (f : List ℕ). MayLeave f gate 1 image) mid_is left)
-          (λ k less. and_left (leb gate k) (ltb k (gate + 1)) (lt-leb gate k (omega (arith, less, is.gate_is)))) in
+        (subst (λ (f : List ℕ). MayLeave f gate 1 image) mid_is left)
+        (λ k less. and_left (leb gate k) (ltb k (gate + 1)) (lt-leb gate k (omega (arith, less, is.gate_is)))) in
         let alone = gate_alone stays.0 stays.2 in
         let image_is : image ≡ before ++ alone.0 ∷ (tail ++ alone.1) = stays.1 ∙ ap (λ (l : List ℕ). before ++ l) alone.2 in
         elim (cases_eq alone.0 1) [
           | inl open_gate ↦ inr (has_record image (drop (length bytes) behind ++ alone.1)
               (image_is ∙ ap (λ (h : ℕ). before ++ h ∷ (tail ++ alone.1)) open_gate
-                ∙ ap (λ (l : List ℕ). before ++ 1 ∷ l) (append_assoc bytes (drop (length bytes) behind) alone.1)))
+              ∙ ap (λ (l : List ℕ). before ++ 1 ∷ l) (append_assoc bytes (drop (length bytes) behind) alone.1)))
           | inr closed ↦ inl (record { lawful = is.has.lawful; end = alone.0 ∷ (tail ++ alone.1); split = image_is; closed = closed })
         ]
 
@@ -163,11 +163,11 @@ pub image_has : (disk : DiskBytes) (records : List (List ℕ)) → IsClean disk 
 image_has disk records clean has image is =
     let base : disk.base ≡ disk.content ++ [] = clean.base ∙ sym (append-nil disk.content) in
     let stays = front_stays disk.content [] image disk.dirty
-      (record {
-        no_shorter = subst (λ (b : List ℕ). length b ≤ length image) base is.no_shorter;
-        same = λ k less c. subst (λ (b : List ℕ). k < length b → get_or image k 0 ≡ get_or b k 0) base (λ inside. is.same k inside c) less;
-      })
-      (λ k less. clean.clean k) in
+    (record {
+      no_shorter = subst (λ (b : List ℕ). length b ≤ length image) base is.no_shorter;
+      same = λ k less c. subst (λ (b : List ℕ). k < length b → get_or image k 0 ≡ get_or b k 0) base (λ inside. is.same k inside c) less;
+    })
+    (λ k less. clean.clean k) in
     let split : image ≡ records_of records ++ (has.end ++ stays.0) = stays.1 ∙ ap (λ (l : List ℕ). l ++ stays.0) has.split ∙ append_assoc (records_of records) has.end stays.0 in
     record { lawful = has.lawful; end = has.end ++ stays.0; split = split; closed = still has.end has.closed stays.0 }
   where

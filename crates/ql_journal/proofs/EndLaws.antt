@@ -71,7 +71,7 @@ lawful_of (ids ∷ records) lawful = ((lawful.0, tt), lawful_of records lawful.1
 pub one_list : (records others : List (List ℕ)) (file : List ℕ) → HasRecords records file → HasRecords others file → records ≡ others
 one_list records others file has is =
     (same_records (λ ids. Unit {0}) records others has.end is.end (lawful_of records has.lawful) (lawful_of others is.lawful)
-      (sym has.split ∙ is.split) (closed_stops (λ ids. Unit {0}) has.end has.closed) (closed_stops (λ ids. Unit {0}) is.end is.closed)).0
+    (sym has.split ∙ is.split) (closed_stops (λ ids. Unit {0}) has.end has.closed) (closed_stops (λ ids. Unit {0}) is.end is.closed)).0
 
 -- ---- what a recovery tells
 

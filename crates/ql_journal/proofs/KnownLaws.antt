@@ -59,8 +59,8 @@ module _ (x : List Effect) (ids : List ℕ) (lawful : IsLawful ids) where
         first = least;
         last = omega (arith, most, within);
         all = λ a. same_bool (has_id ids a) (sametxn x first a)
-          (λ has. let b = in_bounds a has in let up = b.1 in sym (agrees a b.0 (omega (arith, up, within))) ∙ has)
-          (λ txn. let there = sametxn-there x first a least (omega (arith, most, within)) txn in agrees a there.0 there.1 ∙ txn);
+            (λ has. let b = in_bounds a has in let up = b.1 in sym (agrees a b.0 (omega (arith, up, within))) ∙ has)
+            (λ txn. let there = sametxn-there x first a least (omega (arith, most, within)) txn in agrees a there.0 there.1 ∙ txn);
       }
 
   pub agrees_from : IsPackage x ids → AgreesUpTo x first ids (length x)

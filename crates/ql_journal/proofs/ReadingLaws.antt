@@ -9,7 +9,7 @@ use Rattle.ql_journal.proofs.Numbers.{last_id, length-numbers, numbers-append, a
 
 -- the bytes behind the ids that were read are a number and the rest
 module _ (bytes ids rest front after : List ℕ) (id : ℕ) (split : bytes ≡ numbers ids ++ rest) (are_ids : AreIds ids)
-  (front_is : front ≡ take 4 rest) (after_is : after ≡ drop 4 rest) (spells : number id ≡ front) (small : id < 2 ^ 32) where
+    (front_is : front ≡ take 4 rest) (after_is : after ≡ drop 4 rest) (spells : number id ≡ front) (small : id < 2 ^ 32) where
   parts : bytes ≡ numbers ids ++ (number id ++ after)
   parts =
       let whole : front ++ after ≡ rest = rw (front_is, after_is) (take-append-drop 4 rest) in
@@ -24,7 +24,7 @@ module _ (bytes ids rest front after : List ℕ) (id : ℕ) (split : bytes ≡ n
 
   pub are_grown : last_id 0 ids < id → AreIds (with_id ids id)
   are_grown more = subst AreIds (sym (with-last 0 ids id are_ids.ascending more))
-    (record { ascending = above-append 0 ids id are_ids.ascending more; small = small-append ids id are_ids.small small })
+      (record { ascending = above-append 0 ids id are_ids.ascending more; small = small-append ids id are_ids.small small })
 
   pub last_grown : last_id 0 ids < id → id ≡ last_id 0 (with_id ids id)
   last_grown more = sym (ap (λ (l : List ℕ). last_id 0 l) (with-last 0 ids id are_ids.ascending more) ∙ last-append 0 ids id)

@@ -10,8 +10,8 @@ pub returns-in_err-write_durably-clause-any_moment : goal.returns-in_err-write_d
 returns-in_err-write_durably-clause-any_moment g c = λ told records ids is.
     let file = (g.D.Disk.held c.args.disk.now).content in
     weaker g.D.Disk.moment g.D.Disk.left_since c.args.disk.now c.write_durably.new.disk
-      (MayLeave file (c.args.gate + 1) (length c.args.bytes.now)) (IsBeforeOrAfter records ids) (c.write_durably.ensures.any_moment told)
-      (λ image left. inl (staged records ids c.args.bytes.now file c.args.gate is image left))
+    (MayLeave file (c.args.gate + 1) (length c.args.bytes.now)) (IsBeforeOrAfter records ids) (c.write_durably.ensures.any_moment told)
+    (λ image left. inl (staged records ids c.args.bytes.now file c.args.gate is image left))
 
 pub returns-clause-any_moment : goal.returns-clause-any_moment
 returns-clause-any_moment g c = λ told records ids is.
@@ -19,16 +19,16 @@ returns-clause-any_moment g c = λ told records ids is.
     let mid = (g.D.Disk.held c.write_durably.new.disk).content in
     let P = IsBeforeOrAfter records ids in
     let first = weaker g.D.Disk.moment g.D.Disk.left_since c.args.disk.now c.write_durably.new.disk
-      (MayLeave file (c.args.gate + 1) (length c.args.bytes.now)) P (c.write_durably.ensures.any_moment told)
-      (λ image left. inl (staged records ids c.args.bytes.now file c.args.gate is image left)) in
+    (MayLeave file (c.args.gate + 1) (length c.args.bytes.now)) P (c.write_durably.ensures.any_moment told)
+    (λ image left. inl (staged records ids c.args.bytes.now file c.args.gate is image left)) in
     joined g.D.Disk.moment g.D.Disk.left_since c.args.disk.now c.write_durably.new.disk c.write_durably-2.new.disk P (MayLeave mid c.args.gate 1)
-      first (c.write_durably-2.ensures.any_moment told)
-      (opened records ids c.args.bytes.now file c.args.gate is mid (c.in_ok-write_durably.ensures.written told))
+    first (c.write_durably-2.ensures.any_moment told)
+    (opened records ids c.args.bytes.now file c.args.gate is mid (c.in_ok-write_durably.ensures.written told))
 
 pub returns-clause-appended : goal.returns-clause-appended
 returns-clause-appended g c = λ told records ids is.
     let file = (g.D.Disk.held c.args.disk.now).content in
     let mid = (g.D.Disk.held c.write_durably.new.disk).content in
     on_ok_weaker c.write_durably-2.result
-      (whole records ids c.args.bytes.now file c.args.gate is mid (c.in_ok-write_durably.ensures.written told) (g.D.Disk.held c.write_durably-2.new.disk).content)
-      (c.write_durably-2.ensures.written told)
+    (whole records ids c.args.bytes.now file c.args.gate is mid (c.in_ok-write_durably.ensures.written told) (g.D.Disk.held c.write_durably-2.new.disk).content)
+    (c.write_durably-2.ensures.written told)

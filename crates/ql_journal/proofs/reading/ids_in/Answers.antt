@@ -17,11 +17,11 @@ loop-rest-preserved c =
     let after = c.in_ok-insert.ensures.added in
     record {
       split = rw after (grown c.args.bytes.now c.loop-rest.ids c.loop-rest.rest.now c.split_at.result.0.now c.split_at.result.1.now c.number_of-id.result
-        i.split i.are_ids c.split_at.ensures.front c.split_at.ensures.back c.number_of-id.ensures c.number_of-id.type_inv more);
+          i.split i.are_ids c.split_at.ensures.front c.split_at.ensures.back c.number_of-id.ensures c.number_of-id.type_inv more);
       are_ids = rw after (are_grown c.args.bytes.now c.loop-rest.ids c.loop-rest.rest.now c.split_at.result.0.now c.split_at.result.1.now c.number_of-id.result
-        i.split i.are_ids c.split_at.ensures.front c.split_at.ensures.back c.number_of-id.ensures c.number_of-id.type_inv more);
+          i.split i.are_ids c.split_at.ensures.front c.split_at.ensures.back c.number_of-id.ensures c.number_of-id.type_inv more);
       last = rw after (last_grown c.args.bytes.now c.loop-rest.ids c.loop-rest.rest.now c.split_at.result.0.now c.split_at.result.1.now c.number_of-id.result
-        i.split i.are_ids c.split_at.ensures.front c.split_at.ensures.back c.number_of-id.ensures c.number_of-id.type_inv more);
+          i.split i.are_ids c.split_at.ensures.front c.split_at.ensures.back c.number_of-id.ensures c.number_of-id.type_inv more);
     }
 
 pub returns : goal.returns

@@ -16,14 +16,14 @@ loop-entry-preserved g c =
     let known = c.is_known.ensures.0 c.if-not-is_known.false in
     let n = 4 + 4 * length c.in-Some-2.ids in
     let more = step g.H.Holder.received c.args.x.now c.args.committed.now c.args.bytes.now c.loop-entry.holder c.receive.new.self c.loop-entry.rest.now c.in-Some.entry.now
-      c.in-Some-2.ids n c.in_ok-receive.field-0 c.loop-entry.invariant.reads c.in-Some.ensures found.0 found.1 known c.in_ok-receive.ensures.arrival in
+    c.in-Some-2.ids n c.in_ok-receive.field-0 c.loop-entry.invariant.reads c.in-Some.ensures found.0 found.1 known c.in_ok-receive.ensures.arrival in
     record {
       fits = c.receive.ensures.fits;
       reads = subst (λ l. SoFar g.H.Holder.received c.args.x.now c.args.committed.now c.args.bytes.now c.receive.new.self l)
-        (sym (c.split_at.ensures.back ∙ ap (λ k. drop (4 + 4 * k) c.in-Some.entry.now) c.len.ensures.length)) more;
+          (sym (c.split_at.ensures.back ∙ ap (λ k. drop (4 + 4 * k) c.in-Some.entry.now) c.len.ensures.length)) more;
     }
 
 pub returns-clause-recovers : goal.returns-clause-recovers
 returns-clause-recovers g c =
     finish g.H.Holder.received c.args.x.now c.args.committed.now c.args.bytes.now c.loop-entry.holder c.loop-entry.rest.now c.loop-entry.invariant.reads c.in_default.ensures
-      (eqb-false (length c.loop-entry.rest.now) 0 (sym c.is_empty.ensures ∙ c.if-is_empty.false))
+    (eqb-false (length c.loop-entry.rest.now) 0 (sym c.is_empty.ensures ∙ c.if-is_empty.false))

@@ -12,7 +12,7 @@ returns-in-Err-clause-sound g c = λ told records known has.
     let committed = c.args.committed.now in
     let file_is = c.deref.ensures.value ∙ c.in_ok-bytes.ensures.bytes told in
     sound {T = Unit {0}} x committed (g.D.Disk.held c.args.disk.now).content Nothing records known has (Err c.in-Err.why)
-      (subst (λ (f : List ℕ). Recovers {T = Unit {0}} Nothing x committed f (Err c.in-Err.why)) file_is c.in-Err.ensures.recovers)
+    (subst (λ (f : List ℕ). Recovers {T = Unit {0}} Nothing x committed f (Err c.in-Err.why)) file_is c.in-Err.ensures.recovers)
 
 pub returns-in-Err-clause-damaged : goal.returns-in-Err-clause-damaged
 returns-in-Err-clause-damaged g c = λ told at broken.
@@ -20,7 +20,7 @@ returns-in-Err-clause-damaged g c = λ told at broken.
     let committed = c.args.committed.now in
     let file_is = c.deref.ensures.value ∙ c.in_ok-bytes.ensures.bytes told in
     damaged {T = Unit {0}} x committed (g.D.Disk.held c.args.disk.now).content Nothing (λ u never. absurd never) at broken (Err c.in-Err.why)
-      (subst (λ (f : List ℕ). Recovers {T = Unit {0}} Nothing x committed f (Err c.in-Err.why)) file_is c.in-Err.ensures.recovers)
+    (subst (λ (f : List ℕ). Recovers {T = Unit {0}} Nothing x committed f (Err c.in-Err.why)) file_is c.in-Err.ensures.recovers)
 
 pub returns-in-Err-clause-strange : goal.returns-in-Err-clause-strange
 returns-in-Err-clause-strange g c = λ told at strange.
@@ -28,7 +28,7 @@ returns-in-Err-clause-strange g c = λ told at strange.
     let committed = c.args.committed.now in
     let file_is = c.deref.ensures.value ∙ c.in_ok-bytes.ensures.bytes told in
     stranger {T = Unit {0}} x committed (g.D.Disk.held c.args.disk.now).content Nothing (λ u never. absurd never) at strange (Err c.in-Err.why)
-      (subst (λ (f : List ℕ). Recovers {T = Unit {0}} Nothing x committed f (Err c.in-Err.why)) file_is c.in-Err.ensures.recovers)
+    (subst (λ (f : List ℕ). Recovers {T = Unit {0}} Nothing x committed f (Err c.in-Err.why)) file_is c.in-Err.ensures.recovers)
 
 pub returns-clause-damaged : goal.returns-clause-damaged
 returns-clause-damaged g c = λ told at broken.
@@ -37,7 +37,7 @@ returns-clause-damaged g c = λ told at broken.
     let file_is = c.deref.ensures.value ∙ c.in_ok-bytes.ensures.bytes told in
     let is = subst (λ (f : List ℕ). Received g.H.Holder.received x committed f c.in-Ok.holder c.in-Ok.end) file_is c.in-Ok.ensures.recovers in
     damaged {T = Unit {0}} x committed (g.D.Disk.held c.args.disk.now).content
-      (λ u. Received g.H.Holder.received x committed (g.D.Disk.held c.args.disk.now).content c.in-Ok.holder c.in-Ok.end) (λ u r. (r.records, r.known, r.has)) at broken (Ok tt) is
+    (λ u. Received g.H.Holder.received x committed (g.D.Disk.held c.args.disk.now).content c.in-Ok.holder c.in-Ok.end) (λ u r. (r.records, r.known, r.has)) at broken (Ok tt) is
 
 pub returns-clause-strange : goal.returns-clause-strange
 returns-clause-strange g c = λ told at strange.
@@ -46,4 +46,4 @@ returns-clause-strange g c = λ told at strange.
     let file_is = c.deref.ensures.value ∙ c.in_ok-bytes.ensures.bytes told in
     let is = subst (λ (f : List ℕ). Received g.H.Holder.received x committed f c.in-Ok.holder c.in-Ok.end) file_is c.in-Ok.ensures.recovers in
     stranger {T = Unit {0}} x committed (g.D.Disk.held c.args.disk.now).content
-      (λ u. Received g.H.Holder.received x committed (g.D.Disk.held c.args.disk.now).content c.in-Ok.holder c.in-Ok.end) (λ u r. (r.records, r.known, r.has)) at strange (Ok tt) is
+    (λ u. Received g.H.Holder.received x committed (g.D.Disk.held c.args.disk.now).content c.in-Ok.holder c.in-Ok.end) (λ u r. (r.records, r.known, r.has)) at strange (Ok tt) is

@@ -8,4 +8,4 @@ loop-id-preserved c =
     let so_far = number (length c.args.ids.now) ++ numbers (take c.loop-id.id-index c.items-id-items.result.now) in
     rw (add-one, numbers-take c.items-id-items.result.now c.loop-id.id-index c.loop-id-test.true)
     (c.in_ok-extend_from_slice-2.ensures.items ∙ ap (λ (l : List ℕ). l ++ c.to_be_bytes-in-loop-id.result) c.loop-id.invariant
-      ∙ ap (λ (l : List ℕ). so_far ++ l) c.to_be_bytes-in-loop-id.ensures)
+    ∙ ap (λ (l : List ℕ). so_far ++ l) c.to_be_bytes-in-loop-id.ensures)

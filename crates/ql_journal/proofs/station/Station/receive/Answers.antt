@@ -28,28 +28,28 @@ returns-then-has-clause-any_moment g c = λ told runs records has.
     let agrees = c.requires.agrees told runs in
     let disk = c.args.disk.now in
     started g.D.Disk.moment g.D.Disk.left_since disk (IsBeforeOrAfter records c.args.pack.now)
-      (λ image left. inl (image_has (g.D.Disk.held disk) records agrees.clean has image (g.met.D.Disk.only_now disk image told left)))
+    (λ image left. inl (image_has (g.D.Disk.held disk) records agrees.clean has image (g.met.D.Disk.only_now disk image told left)))
 
 pub returns-in_err-holder-clause-any_moment : goal.returns-in_err-holder-clause-any_moment
 returns-in_err-holder-clause-any_moment g c = λ told runs records has.
     let agrees = c.requires.agrees told runs in
     let disk = c.args.disk.now in
     started g.D.Disk.moment g.D.Disk.left_since disk (IsBeforeOrAfter records c.args.pack.now)
-      (λ image left. inl (image_has (g.D.Disk.held disk) records agrees.clean has image (g.met.D.Disk.only_now disk image told left)))
+    (λ image left. inl (image_has (g.D.Disk.held disk) records agrees.clean has image (g.met.D.Disk.only_now disk image told left)))
 
 pub returns-in_err-arrival-clause-any_moment : goal.returns-in_err-arrival-clause-any_moment
 returns-in_err-arrival-clause-any_moment g c = λ told runs records has.
     let agrees = c.requires.agrees told runs in
     let disk = c.args.disk.now in
     started g.D.Disk.moment g.D.Disk.left_since disk (IsBeforeOrAfter records c.args.pack.now)
-      (λ image left. inl (image_has (g.D.Disk.held disk) records agrees.clean has image (g.met.D.Disk.only_now disk image told left)))
+    (λ image left. inl (image_has (g.D.Disk.held disk) records agrees.clean has image (g.met.D.Disk.only_now disk image told left)))
 
 pub returns-in_err-body-clause-any_moment : goal.returns-in_err-body-clause-any_moment
 returns-in_err-body-clause-any_moment g c = λ told runs records has.
     let agrees = c.requires.agrees told runs in
     let disk = c.args.disk.now in
     started g.D.Disk.moment g.D.Disk.left_since disk (IsBeforeOrAfter records c.args.pack.now)
-      (λ image left. inl (image_has (g.D.Disk.held disk) records agrees.clean has image (g.met.D.Disk.only_now disk image told left)))
+    (λ image left. inl (image_has (g.D.Disk.held disk) records agrees.clean has image (g.met.D.Disk.only_now disk image told left)))
 
 pub append_record-requires-clause-ends : goal.append_record-requires-clause-ends
 append_record-requires-clause-ends g c =
@@ -69,15 +69,15 @@ returns-in-Err-clause-any_moment g c = λ told runs records has.
     let agrees = c.requires.agrees told runs in
     let lawful = package_lawful c.args.x.now c.args.pack.now c.requires.package c.first_id.ensures.ascending c.first_id.ensures.small c.requires.few in
     c.append_record.ensures.any_moment told records c.args.pack.now
-      (appended_to g.H.Holder.received (g.D.Disk.held c.args.disk.now) c.args.self.now c.args.pack.now c.deref.result.now agrees lawful (c.deref.ensures.value ∙ c.in_ok-body.ensures) records has)
+    (appended_to g.H.Holder.received (g.D.Disk.held c.args.disk.now) c.args.self.now c.args.pack.now c.deref.result.now agrees lawful (c.deref.ensures.value ∙ c.in_ok-body.ensures) records has)
 
 pub returns-in-Ok-clause-end : goal.returns-in-Ok-clause-end
 returns-in-Ok-clause-end g c =
     let came = subst (λ (l : List ℕ). IsArrival c.args.x.now l c.args.pack.now (g.H.Holder.received c.receive.new.self) c.in_ok-arrival.arrival) c.in_ok-holder.ensures.received c.in_ok-arrival.ensures.arrival in
     let absent = sym c.has.ensures ∙ c.if-has.false in
     ap (λ (n : ℕ). c.args.self.now.end + n) c.record_size.ensures
-      ∙ sym (new_end c.args.x.now (g.H.Holder.received c.args.self.now.holder) c.args.pack.now (g.H.Holder.received c.receive.new.self) c.in_ok-arrival.arrival came c.first_id.result c.first_id.ensures.first absent
-        c.args.self.now.end (length c.args.pack.now))
+    ∙ sym (new_end c.args.x.now (g.H.Holder.received c.args.self.now.holder) c.args.pack.now (g.H.Holder.received c.receive.new.self) c.in_ok-arrival.arrival came c.first_id.result c.first_id.ensures.first absent
+    c.args.self.now.end (length c.args.pack.now))
 
 pub returns-in-Ok-clause-foretold : goal.returns-in-Ok-clause-foretold
 returns-in-Ok-clause-foretold g c =
@@ -96,7 +96,7 @@ returns-in-Ok-clause-agrees g c = λ told runs.
       records = agrees.records ++ c.args.pack.now ∷ [];
       has = c.in-Ok.ensures.appended told agrees.records c.args.pack.now is;
       end =
-        ap (λ (n : ℕ). n + c.record_size.result) agrees.end ∙ ap (λ (n : ℕ). length (records_of agrees.records) + n) c.record_size.ensures
+          ap (λ (n : ℕ). n + c.record_size.result) agrees.end ∙ ap (λ (n : ℕ). length (records_of agrees.records) + n) c.record_size.ensures
           ∙ sym (end_grown agrees.records c.args.pack.now);
       ids = has-more c.args.x.now (g.H.Holder.received c.args.self.now.holder) c.args.pack.now (g.H.Holder.received c.receive.new.self) agrees.records c.in_ok-arrival.arrival agrees.ids came;
       clean = c.in-Ok.ensures.clean told;
@@ -107,7 +107,7 @@ returns-in-Ok-clause-any_moment g c = λ told runs records has.
     let agrees = c.requires.agrees told runs in
     let lawful = package_lawful c.args.x.now c.args.pack.now c.requires.package c.first_id.ensures.ascending c.first_id.ensures.small c.requires.few in
     c.append_record.ensures.any_moment told records c.args.pack.now
-      (appended_to g.H.Holder.received (g.D.Disk.held c.args.disk.now) c.args.self.now c.args.pack.now c.deref.result.now agrees lawful (c.deref.ensures.value ∙ c.in_ok-body.ensures) records has)
+    (appended_to g.H.Holder.received (g.D.Disk.held c.args.disk.now) c.args.self.now c.args.pack.now c.deref.result.now agrees lawful (c.deref.ensures.value ∙ c.in_ok-body.ensures) records has)
 
 pub returns-in-Ok-clause-acknowledged : goal.returns-in-Ok-clause-acknowledged
 returns-in-Ok-clause-acknowledged g c = λ told runs records has image left.
@@ -118,4 +118,4 @@ returns-in-Ok-clause-acknowledged g c = λ told runs records has image left.
     let is = appended_to g.H.Holder.received (g.D.Disk.held c.args.disk.now) c.args.self.now c.args.pack.now c.deref.result.now agrees lawful (c.deref.ensures.value ∙ c.in_ok-body.ensures) records has in
     let now = image_has (g.D.Disk.held c.append_record.new.disk) (records ++ c.args.pack.now ∷ []) (c.in-Ok.ensures.clean told) (c.in-Ok.ensures.appended told records c.args.pack.now is) image left in
     subst (λ (l : List (List ℕ)). HasRecords l image)
-      (sym (new_records c.args.x.now (g.H.Holder.received c.args.self.now.holder) c.args.pack.now (g.H.Holder.received c.receive.new.self) c.in_ok-arrival.arrival came c.first_id.result c.first_id.ensures.first absent records)) now
+    (sym (new_records c.args.x.now (g.H.Holder.received c.args.self.now.holder) c.args.pack.now (g.H.Holder.received c.receive.new.self) c.in_ok-arrival.arrival came c.first_id.result c.first_id.ensures.first absent records)) now

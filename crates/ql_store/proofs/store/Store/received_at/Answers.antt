@@ -19,6 +19,6 @@ returns g c =
     let held = held-at g.H.Holder.received fields.holders.items r holder within c.index-holder.ensures in
     let there : (a : ℕ) → _ → (1 ≤ a) × (a ≤ c.len.result) = λ a has. (let both = whole.there a has in let high = both.1 in let size = c.len.ensures.length in (both.0, omega (arith, high, size))) in
     IfOk-weaker c.received_effects.result _ _
-      (λ ids those. all-received (g.H.Holder.received holder) c.len.result ids (g.met.H.Holder.fits_ascending holder fields.execution fits) there those
-          ∙ (sym held ∙ ap (λ (v : StoreState). received_at v.machine.received r) c.self.view_is))
-      c.received_effects.ensures
+    (λ ids those. all-received (g.H.Holder.received holder) c.len.result ids (g.met.H.Holder.fits_ascending holder fields.execution fits) there those
+    ∙ (sym held ∙ ap (λ (v : StoreState). received_at v.machine.received r) c.self.view_is))
+    c.received_effects.ensures
