@@ -1,0 +1,67 @@
+ghost use Rattle.std.specs.Prelude.{◌≡◌, ◌<◌, ◌≤◌, ◌++◌, ℕ, length, IfOk, OnOk};
+ghost use Rattle.std.specs.List.{AllByRecursion};
+ghost use Rattle.ql_eval.specs.Folds.{answered_of};
+ghost use Rattle.ql_machine.specs.Rules.{Rules};
+ghost use Rattle.ql_schedule.specs.Guarantees.{IsSchedule};
+ghost use Rattle.ql_store.specs.Levels.{HasLevelOfEach, promises_of, uses_of};
+ghost use Rattle.ql_watched.specs.Watching.{Watches, new_ids};
+
+use ql_base::{IdSet, NoMemory, ReplicaId};
+use ql_eval::TypedFolder;
+use ql_holder::Holder;
+use ql_levels::Levels;
+use ql_schedule::Schedule;
+use ql_store::Store;
+use ql_typing::Typed;
+use std::alloc::Global;
+
+/// A store after the events of a schedule, and what one replica received meanwhile.
+#[derive(Drop)]
+pub struct Watched<H: Holder> {
+    pub store: Store<H>,
+    /// The effects in the order in which they came; those that came with one event ascend.
+    pub arrivals: Vec<u32>,
+}
+
+/// A new store at these levels goes through the events of a schedule, and a replica is watched. Copies what the replica has
+/// received after each event.
+pub fn watched_run<H: Holder>(
+    alloc: Global,
+    typed: &Typed,
+    levels: Levels,
+    schedule: Schedule,
+    replica: ReplicaId,
+) -> Result<Watched<H>, NoMemory>
+    requires levels { HasLevelOfEach typed.now.program levels }
+    requires schedule { IsSchedule typed.now.program schedule }
+    requires replica { replica.0 < schedule.replicas }
+    ensures watched { IfOk result (λ run. (rules : Rules) → rules.promises ≡ promises_of levels → rules.uses ≡ uses_of typed.now.program
+        → rules.answer ≡ (λ op args seen. answered_of typed.now.program.types op.0 args seen)
+        → Watches rules schedule.replicas replica.0 schedule.events run.store.machine run.arrivals.items) }
+    ensures there { IfOk result (λ run. AllByRecursion (λ a. (1 ≤ a) × (a ≤ length run.store.machine.effects)) run.arrivals.items) }
+    ensures few { IfOk result (λ run. length run.store.machine.effects ≤ 4000) }
+{
+    let folder = TypedFolder::new(alloc, typed);
+    let mut store = Store::new(alloc, schedule.replicas, levels)?;
+    let mut arrivals = Vec::new(alloc);
+    let mut received = IdSet::new(alloc);
+    for event in schedule.events.into_items() {
+        store.step(event, typed, &folder)?;
+        let now = store.received_at(replica)?;
+        push_new(&mut arrivals, &received, now.items())?;
+        received = now;
+    }
+    Ok(Watched { store, arrivals })
+}
+
+// Adds those of the ids that weren't there before.
+fn push_new(arrivals: &mut Vec<u32>, before: &IdSet, after: &[u32]) -> Result<(), NoMemory>
+    ensures { OnOk result (arrivals.new.items ≡ arrivals.old.items ++ new_ids before.now after.now) }
+{
+    for id in after {
+        if !before.has(*id) {
+            arrivals.push(*id)?;
+        }
+    }
+    Ok(())
+}
