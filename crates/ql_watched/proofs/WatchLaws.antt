@@ -148,7 +148,7 @@ module _ (p : Program) (levels : LevelLists) (schedule : Schedule) (each : HasLe
         let run : (rules : Rules) → AreRulesOf p levels rules → IsRun rules schedule.replicas (on.done ++ e ∷ []) (on.replies ++ reply ∷ []) t =
         λ rules are. leads-on rules (empty schedule.replicas) on.done on.replies s t e reply (on.run rules are) (step_by rules are) in
         let whole = held-whole (own_rules p levels).promises schedule.replicas t
-          (kept (own_rules p levels) schedule.replicas (on.done ++ e ∷ []) (on.replies ++ reply ∷ []) t (run (own_rules p levels) own)) r in
+        (kept (own_rules p levels) schedule.replicas (on.done ++ e ∷ []) (on.replies ++ reply ∷ []) t (run (own_rules p levels) own)) r in
         let grown = grows (own_rules p levels) s e t reply (step_by (own_rules p levels) own) in
         let more_by = grown.1 in
         let long = length-append on.done (e ∷ []) in
@@ -164,8 +164,8 @@ module _ (p : Program) (levels : LevelLists) (schedule : Schedule) (each : HasLe
           watched = λ rules are. rw new_is (more on.done s arrivals e t reply (on.watched rules are) (step_by rules are));
           few = omega (arith, more_by, long, fewer);
           there = rw new_is (there-append t arrivals (new_ids (received_at s.received r) (received_at t.received r))
-            (there-later s t arrivals grown.0 on.there)
-            (there-new t (received_at s.received r) (received_at t.received r) whole.there));
+              (there-later s t arrivals grown.0 on.there)
+              (there-new t (received_at s.received r) (received_at t.received r) whole.there));
           received_is = now_is;
         }
 

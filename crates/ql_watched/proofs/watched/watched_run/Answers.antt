@@ -14,7 +14,6 @@ use Rattle.ql_store.specs.Levels.{HasLevelOfEach}
 use Rattle.ql_watched.specs.Watching.{new_ids}
 use Rattle.ql_store.specs.State.{StoreState}
 use Rattle.ql_value.specs.declared.value.Value.{Value}
-
 use Rattle.ql_watched.proofs.WatchLaws.{IsWatching, starts, may_go, replicas_stay, goes, ends, few}
 use Rattle.ql_watched.proofs.watched.watched_run.Goals as goal
 
@@ -31,7 +30,7 @@ loop-event-init g c =
     subst (λ (v : StoreState). IsWatching p c.args.levels c.args.schedule r c.args.schedule.events v.levels v.machine [] []) (sym c.in_ok-store.ensures) start in
     let empty : IsWatching p c.args.levels c.args.schedule r c.args.schedule.events c.in_ok-store.store.levels c.in_ok-store.store.machine c.new-arrivals.result.items c.new-received.result =
     subst (λ (ids : List ℕ). IsWatching p c.args.levels c.args.schedule r c.args.schedule.events c.in_ok-store.store.levels c.in_ok-store.store.machine c.new-arrivals.result.items ids) (sym c.new-received.ensures)
-      (subst (λ (ids : List ℕ). IsWatching p c.args.levels c.args.schedule r c.args.schedule.events c.in_ok-store.store.levels c.in_ok-store.store.machine ids []) (sym c.new-arrivals.ensures.items) made) in (
+    (subst (λ (ids : List ℕ). IsWatching p c.args.levels c.args.schedule r c.args.schedule.events c.in_ok-store.store.levels c.in_ok-store.store.machine ids []) (sym c.new-arrivals.ensures.items) made) in (
       tt,
       tt,
       subst (λ (left : List Event). IsWatching p c.args.levels c.args.schedule r left c.in_ok-store.store.levels c.in_ok-store.store.machine c.new-arrivals.result.items c.new-received.result)
@@ -64,9 +63,9 @@ received_at-requires g c =
     subst (λ (events : List Event). IsWatching p c.args.levels c.args.schedule c.args.replica.0 events store.levels store.machine c.loop-event.arrivals.items c.loop-event.received) c.in-Some.ensures.steps.0 c.loop-event.invariant.2 in
     let types : c.new-folder.result.typed.now.program.types ≡ p.types = (λ i. (c.new-folder.ensures.same i).now.program.types) in
     let most = replicas_stay p c.args.levels c.args.schedule c.requires.levels c.requires.schedule c.args.replica.0 c.new-folder.ensures.kinds c.in-Some.event left store.levels store.machine c.loop-event.arrivals.items c.loop-event.received on
-      c.step.new.self.machine c.in_ok-step.field-0
-      (λ rules promises uses answer. c.in_ok-step.ensures.step rules promises uses
-        (subst (λ (ts : List TypeDecl). rules.answer ≡ (λ (op : OpId) (args : List Value) (seen : List Effect). answered_of ts op.0 args seen)) (sym types) answer)) in
+    c.step.new.self.machine c.in_ok-step.field-0
+    (λ rules promises uses answer. c.in_ok-step.ensures.step rules promises uses
+    (subst (λ (ts : List TypeDecl). rules.answer ≡ (λ (op : OpId) (args : List Value) (seen : List Effect). answered_of ts op.0 args seen)) (sym types) answer)) in
     let inside = c.requires.replica in
     omega (arith, most, inside)
 
@@ -80,11 +79,11 @@ loop-event-preserved g c =
     subst (λ (events : List Event). IsWatching p c.args.levels c.args.schedule c.args.replica.0 events store.levels store.machine c.loop-event.arrivals.items c.loop-event.received) steps c.loop-event.invariant.2 in
     let types : c.new-folder.result.typed.now.program.types ≡ p.types = (λ i. (c.new-folder.ensures.same i).now.program.types) in
     let next = goes p c.args.levels c.args.schedule c.requires.levels c.requires.schedule c.args.replica.0 c.new-folder.ensures.kinds c.in-Some.event left store.levels store.machine c.loop-event.arrivals.items c.loop-event.received on
-      c.step.new.self.machine c.step.new.self.levels c.in_ok-step.field-0 c.push_new.new.arrivals.items c.in_ok-now.now c.in_ok-step.ensures.levels
-      (λ rules promises uses answer. c.in_ok-step.ensures.step rules promises uses
-        (subst (λ (ts : List TypeDecl). rules.answer ≡ (λ (op : OpId) (args : List Value) (seen : List Effect). answered_of ts op.0 args seen)) (sym types) answer))
-      c.in_ok-now.ensures
-      (c.in_ok-push_new.ensures ∙ ap (λ (ids : List ℕ). c.loop-event.arrivals.items ++ new_ids c.loop-event.received ids) c.items.ensures.same) in
+    c.step.new.self.machine c.step.new.self.levels c.in_ok-step.field-0 c.push_new.new.arrivals.items c.in_ok-now.now c.in_ok-step.ensures.levels
+    (λ rules promises uses answer. c.in_ok-step.ensures.step rules promises uses
+    (subst (λ (ts : List TypeDecl). rules.answer ≡ (λ (op : OpId) (args : List Value) (seen : List Effect). answered_of ts op.0 args seen)) (sym types) answer))
+    c.in_ok-now.ensures
+    (c.in_ok-push_new.ensures ∙ ap (λ (ids : List ℕ). c.loop-event.arrivals.items ++ new_ids c.loop-event.received ids) c.items.ensures.same) in
     let count = ap length steps in
     let one = c.in-Some.ensures.steps.1 in
     let was = c.loop-event.invariant.3 in (tt, tt, next, omega (arith, count, one, was))
@@ -95,8 +94,8 @@ returns-clause-watched g c = λ rules promises uses answer.
     let store = c.loop-event.store in
     let none = nil_from_length (into_iter_items c.loop-event.event-iterator) (sym c.loop-event.invariant.3 ∙ c.in-None.ensures.steps.0) in
     ends p c.args.levels c.args.schedule c.requires.levels c.requires.schedule c.args.replica.0 store.levels store.machine c.loop-event.arrivals.items c.loop-event.received
-      (subst (λ (left : List Event). IsWatching p c.args.levels c.args.schedule c.args.replica.0 left store.levels store.machine c.loop-event.arrivals.items c.loop-event.received) none c.loop-event.invariant.2)
-      rules (record { promises = promises; uses = uses; answer = answer })
+    (subst (λ (left : List Event). IsWatching p c.args.levels c.args.schedule c.args.replica.0 left store.levels store.machine c.loop-event.arrivals.items c.loop-event.received) none c.loop-event.invariant.2)
+    rules (record { promises = promises; uses = uses; answer = answer })
 
 pub returns-clause-there : goal.returns-clause-there
 returns-clause-there g c = c.loop-event.invariant.2.there
@@ -107,4 +106,4 @@ returns-clause-few g c =
     let store = c.loop-event.store in
     let none = nil_from_length (into_iter_items c.loop-event.event-iterator) (sym c.loop-event.invariant.3 ∙ c.in-None.ensures.steps.0) in
     few p c.args.levels c.args.schedule c.requires.levels c.requires.schedule c.args.replica.0 store.levels store.machine c.loop-event.arrivals.items c.loop-event.received
-      (subst (λ (left : List Event). IsWatching p c.args.levels c.args.schedule c.args.replica.0 left store.levels store.machine c.loop-event.arrivals.items c.loop-event.received) none c.loop-event.invariant.2)
+    (subst (λ (left : List Event). IsWatching p c.args.levels c.args.schedule c.args.replica.0 left store.levels store.machine c.loop-event.arrivals.items c.loop-event.received) none c.loop-event.invariant.2)
