@@ -11,7 +11,7 @@ use Rattle.ql_app.specs.declared.status.Status.TheVariants.{Done, No, Bad, ReadF
 use Rattle.ql_app.specs.declared.words.Command.{Command}
 use Rattle.ql_app.specs.declared.words.Command.TheVariants.{Holds, Proof, Classify, ClassifyWhy, Prove, Gen, Soak}
 use Rattle.ql_app.specs.declared.words.PairCommand.{PairCommand}
-use Rattle.ql_app.specs.declared.words.PairCommand.TheVariants.{Check, Verify, Run}
+use Rattle.ql_app.specs.declared.words.PairCommand.TheVariants.{Check, Verify, Run, Slim}
 use Rattle.ql_app.specs.Words.{Call, OneFile, TwoFiles, IsRequest}
 use Rattle.ql_app.specs.HoldsFile as holds
 use Rattle.ql_app.specs.HoldsFile.{HoldsSays}
@@ -27,6 +27,7 @@ use Rattle.ql_generated.specs.Soaks.{SoakSays}
 use Rattle.ql_judging.specs.Verify.{AreJudgeable, VerifySays}
 use Rattle.ql_running.specs.Forms.{format_of}
 use Rattle.ql_running.specs.Runs.{AreRunnable, RunSays}
+use Rattle.ql_slimming.specs.Slims.{SlimSays}
 use Rattle.ql_why.specs.Why.{WhySays}
 
 -- what a command says of its file's bytes
@@ -44,6 +45,7 @@ abbrev pub PairSays : PairCommand → List ℕ → List ℕ → Status → List 
 PairSays Check bytes more status text = AnswerSays (CheckSays bytes more) status text
 PairSays Verify bytes more status text = JudgedSays (VerifySays bytes more) status text
 PairSays (Run form) bytes more status text = AnswerSays (RunSays (format_of form) bytes more) status text
+PairSays Slim bytes more status text = AnswerSays (SlimSays bytes more) status text
 
 -- the bytes are in the grammar of the command's files, and don't ask for too much work
 abbrev pub IsAnswerable : Command → List ℕ → Type 0
@@ -60,12 +62,14 @@ abbrev pub AreAnswerable : PairCommand → List ℕ → List ℕ → Type 0
 AreAnswerable Check bytes more = IsSource bytes × IsCertificate more
 AreAnswerable Verify bytes more = AreJudgeable bytes more
 AreAnswerable (Run form) bytes more = AreRunnable bytes more
+AreAnswerable Slim bytes more = AreRunnable bytes more
 
 -- the limit of the second file: certificates and executions may be longer than schedules
 abbrev pub second_limit : Limits → PairCommand → ℕ
 second_limit limits Check = limits.second
 second_limit limits Verify = limits.second
 second_limit limits (Run form) = limits.file
+second_limit limits Slim = limits.file
 
 -- a file was read whole: what the shelf tells of it is within a limit, and this is so of it
 abbrev pub IsRead : ℕ → Option (List ℕ) → (List ℕ → Type 0) → Type 0

@@ -6,7 +6,7 @@ use Rattle.std.specs.String.{string_bytes}
 use Rattle.ql_app.specs.declared.words.Command.{Command}
 use Rattle.ql_app.specs.declared.words.Command.TheVariants.{Holds, Proof, Classify, ClassifyWhy, Prove, Gen, Soak}
 use Rattle.ql_app.specs.declared.words.PairCommand.{PairCommand}
-use Rattle.ql_app.specs.declared.words.PairCommand.TheVariants.{Check, Verify, Run}
+use Rattle.ql_app.specs.declared.words.PairCommand.TheVariants.{Check, Verify, Run, Slim}
 use Rattle.ql_running.specs.declared.form.Form.TheVariants.{Text, Json}
 
 -- the words' bytes
@@ -39,6 +39,7 @@ pair_words Check name other = codes "check" ∷ name ∷ other ∷ []
 pair_words Verify name other = codes "verify" ∷ name ∷ other ∷ []
 pair_words (Run Text) name other = codes "run" ∷ name ∷ other ∷ []
 pair_words (Run Json) name other = codes "run" ∷ codes "--json" ∷ name ∷ other ∷ []
+pair_words Slim name other = codes "slim" ∷ name ∷ other ∷ []
 
 -- what can be asked for: a command on one file, or on two, by their names
 pub data Call : Type 0 where

@@ -10,6 +10,7 @@ ghost use Rattle.ql_generated.specs.Soaks.{SoakSays};
 ghost use Rattle.ql_judging.specs.Verify.{VerifySays};
 ghost use Rattle.ql_running.specs.Forms.{format_of};
 ghost use Rattle.ql_running.specs.Runs.{RunSays};
+ghost use Rattle.ql_slimming.specs.Slims.{SlimSays};
 ghost use Rattle.ql_why.specs.Why.{WhySays};
 
 use crate::holds::holds;
@@ -22,6 +23,7 @@ use ql_generated::{generate, soak};
 use ql_judging::{Judged, verify};
 use ql_ports::{ReadError, Shelf, read_whole};
 use ql_running::{Form, run};
+use ql_slimming::slim_run;
 use ql_why::classify_with_reasons;
 use std::alloc::Global;
 
@@ -196,6 +198,7 @@ fn judged_pair(
         PairCommand::Check => check_files(alloc, bytes, more),
         PairCommand::Verify => verify_files(alloc, bytes, more),
         PairCommand::Run(form) => run_files(alloc, form, bytes, more),
+        PairCommand::Slim => slim_files(alloc, bytes, more),
     }
 }
 
@@ -236,13 +239,25 @@ fn run_files(
     Ok((status_of(answer), text))
 }
 
+fn slim_files(
+    alloc: Global,
+    source: &[u8],
+    schedule: &[u8],
+) -> Result<(Status, Vec<u8>), NoMemory>
+    requires { length source.now < 2 ^ 32 }
+    ensures { IfOk result (λ answer. AnswerSays (SlimSays source.now schedule.now) answer.0 answer.1.items) }
+{
+    let (answer, text) = slim_run(alloc, source, schedule)?;
+    Ok((status_of(answer), text))
+}
+
 // The limit of a command's second file.
 fn second_limit(limits: Limits, command: PairCommand) -> u32
     ensures { result ≡ second_limit limits command }
 {
     match command {
         PairCommand::Check | PairCommand::Verify => limits.second,
-        PairCommand::Run(_) => limits.file,
+        PairCommand::Run(_) | PairCommand::Slim => limits.file,
     }
 }
 

@@ -51,6 +51,8 @@ pub enum PairCommand {
     Verify,
     /// What becomes of a schedule in a store of a source's program, written in a form.
     Run(Form),
+    /// What is stable after a schedule, and what each replica answers when that is kept.
+    Slim,
 }
 
 /// A command with the names of its files.
@@ -199,6 +201,7 @@ fn pair_command(word: &str) -> Option<PairCommand>
         "check" => Some(PairCommand::Check),
         "verify" => Some(PairCommand::Verify),
         "run" => Some(PairCommand::Run(Form::Text)),
+        "slim" => Some(PairCommand::Slim),
         _ => None,
     }
 }

@@ -1,0 +1,11 @@
+use Rattle.std.proofs.Common.{◌+◌, ℕ, sym, subst, add-one}
+use Rattle.ql_slimming.specs.Answers.{Adds, AreAnswersOn, InOrder}
+use Rattle.ql_slimming.proofs.Parts.{one_added}
+use Rattle.ql_slimming.proofs.answers.push_answers.Goals as goal
+
+pub loop-o-preserved : goal.loop-o-preserved
+loop-o-preserved c =
+    let l = c.args.left.now in
+    let part = AreAnswersOn l.t.now.program l.objects.now l.kinds.now l.store.now.machine in
+    let o = c.loop-o.o in
+    subst (λ (n : ℕ). Adds (InOrder part n) c.args.out.now.items c.push_on.new.out.items) (sym (add-one o)) (one_added part o c.args.out.now.items c.loop-o.out.items c.push_on.new.out.items c.loop-o.invariant c.in_ok-push_on.ensures)

@@ -1,0 +1,4 @@
+pub mod Stability
+pub mod Ready
+pub mod Answers
+pub mod Slims
