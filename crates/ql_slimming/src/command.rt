@@ -76,6 +76,7 @@ fn print_slim(
     kinds: &[TypeId],
 ) -> Result<Vec<u8>, NoMemory>
     requires replicas { length run.now.store.machine.received ≡ replicas }
+    requires few { length kinds.now < 2 ^ 32 }
     requires typed { length kinds.now ≡ length run.now.objects }
     requires fits { All (FitsSchedule t.now.program (length run.now.objects) kinds.now) run.now.store.machine.effects }
     ensures { IfOk result (λ text. IsSlimText t.now.program run.now.objects kinds.now run.now.store.machine text.items) }
