@@ -239,11 +239,7 @@ fn run_files(
     Ok((status_of(answer), text))
 }
 
-fn slim_files(
-    alloc: Global,
-    source: &[u8],
-    schedule: &[u8],
-) -> Result<(Status, Vec<u8>), NoMemory>
+fn slim_files(alloc: Global, source: &[u8], schedule: &[u8]) -> Result<(Status, Vec<u8>), NoMemory>
     requires { length source.now < 2 ^ 32 }
     ensures { IfOk result (λ answer. AnswerSays (SlimSays source.now schedule.now) answer.0 answer.1.items) }
 {

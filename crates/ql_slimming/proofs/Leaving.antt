@@ -178,7 +178,7 @@ module _ (p : Program) (objects : ℕ) (kinds : List TypeId) (count : ℕ) (s : 
           let too : IsStable s o b = record {
             on = on_b;
             closed = λ c g h atg ath on_c low. (let same = same_Some f g (sym atb ∙ atg) in
-            stable.closed c e h at ath on_c ((is_order (λ (u : Effect). u)).chain e f h is (subst (λ (u : Effect). comes_before u h ≡ false) (sym same) low)));
+                stable.closed c e h at ath on_c ((is_order (λ (u : Effect). u)).chain e f h is (subst (λ (u : Effect). comes_before u h ≡ false) (sym same) low)));
           } in
           let no : true ≡ false = sym (stable_here.all b too) ∙ lacks in
           cc

@@ -120,31 +120,43 @@ module _ (x : List Effect) (o : ObjId) (views : List (List ℕ)) where
         | inl before ↦ is a before
         | inr here ↦ subst (λ m. is_open x o views m ≡ false) (sym here) closed
       ]
-      by false closed (Some f) is = (is.0, λ a le opened. elim (low a le) [
-        | inl before ↦ is.1 a before opened
-        | inr here ↦ (let no : true ≡ false = sym opened ∙ ap (is_open x o views) here ∙ closed in cc)
-      ])
-      by true opens None is = (opens, λ a le opened. elim (low a le) [
-        | inl before ↦ (let no : true ≡ false = sym opened ∙ is a before in cc)
-        | inr here ↦ (let e = open_on next.0 opens in subst (λ m. both comes_before (effect_at x m) (effect_at x next.0) ≡ false) (sym here) (two e.1 e.1 ∙ never e.0))
-      ])
+      by false closed (Some f) is = (
+        is.0,
+        λ a le opened. elim (low a le) [
+          | inl before ↦ is.1 a before opened
+          | inr here ↦ (let no : true ≡ false = sym opened ∙ ap (is_open x o views) here ∙ closed in cc)
+        ],
+      )
+      by true opens None is = (
+        opens,
+        λ a le opened. elim (low a le) [
+          | inl before ↦ (let no : true ≡ false = sym opened ∙ is a before in cc)
+          | inr here ↦ (let e = open_on next.0 opens in subst (λ m. both comes_before (effect_at x m) (effect_at x next.0) ≡ false) (sym here) (two e.1 e.1 ∙ never e.0))
+        ],
+      )
       by true opens (Some f) is = earlier (both comes_before (effect_at x next.0) (effect_at x f.0)) refl
         where
           earlier : (t : Bool) → both comes_before (effect_at x next.0) (effect_at x f.0) ≡ t → IsFirstOpen x o views (suc n) (cond t (Some next) (Some f))
-          earlier true before = (opens, λ a le opened. elim (low a le) [
-            | inl old ↦
-                let ea = open_on a opened in
-                let ef = open_on f.0 is.0 in
-                let en = open_on next.0 opens in
-                let one : comes_before ea.0 ef.0 ≡ false = sym (two ea.1 ef.1) ∙ is.1 a old opened in
-                let less : comes_before en.0 ef.0 ≡ true = sym (two en.1 ef.1) ∙ before in
-                two ea.1 en.1 ∙ not_less en.0 ef.0 ea.0 less one
-            | inr here ↦ (let e = open_on next.0 opens in subst (λ m. both comes_before (effect_at x m) (effect_at x next.0) ≡ false) (sym here) (two e.1 e.1 ∙ never e.0))
-          ])
-          earlier false after = (is.0, λ a le opened. elim (low a le) [
-            | inl old ↦ is.1 a old opened
-            | inr here ↦ subst (λ m. both comes_before (effect_at x m) (effect_at x f.0) ≡ false) (sym here) after
-          ])
+          earlier true before = (
+            opens,
+            λ a le opened. elim (low a le) [
+              | inl old ↦
+                  let ea = open_on a opened in
+                  let ef = open_on f.0 is.0 in
+                  let en = open_on next.0 opens in
+                  let one : comes_before ea.0 ef.0 ≡ false = sym (two ea.1 ef.1) ∙ is.1 a old opened in
+                  let less : comes_before en.0 ef.0 ≡ true = sym (two en.1 ef.1) ∙ before in
+                  two ea.1 en.1 ∙ not_less en.0 ef.0 ea.0 less one
+              | inr here ↦ (let e = open_on next.0 opens in subst (λ m. both comes_before (effect_at x m) (effect_at x next.0) ≡ false) (sym here) (two e.1 e.1 ∙ never e.0))
+            ],
+          )
+          earlier false after = (
+            is.0,
+            λ a le opened. elim (low a le) [
+              | inl old ↦ is.1 a old opened
+              | inr here ↦ subst (λ m. both comes_before (effect_at x m) (effect_at x f.0) ≡ false) (sym here) after
+            ],
+          )
 
 -- ---- stable effects
 
