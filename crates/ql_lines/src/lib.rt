@@ -8,8 +8,10 @@ mod fields;
 mod ids;
 mod leading;
 mod lines;
+mod search;
 
 pub use fields::first_field;
 pub use ids::ascending_ids;
 pub use leading::{after_name, after_number, after_word};
 pub use lines::{Line, Lines};
+pub use search::bytes_before;

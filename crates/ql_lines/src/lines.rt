@@ -1,9 +1,9 @@
 ghost use Rattle.std.specs.Prelude.{◌≡◌, ◌<◌, ◌≤◌, ◌+◌, ◌^◌, ◌∷◌, [], MatchOption, length};
 ghost use Rattle.std.specs.Str.Lines.{lines, strip_carriage_return};
-ghost use Rattle.std.specs.List.{position_or_len};
-ghost use Rattle.ql_lines.specs.Lines.{ahead_from, is_line_feed, is_skipped};
+ghost use Rattle.ql_lines.specs.Lines.{ahead_from, is_skipped};
 
 use crate::fields::first_field;
+use crate::search::bytes_before;
 use std::marker::Model;
 
 /// A line of a line file that tells something, without its end.
@@ -83,20 +83,12 @@ fn first_line(bytes: &[u8]) -> Option<(&[u8], &[u8])>
     if bytes.is_empty() {
         return None;
     }
-    let len = line_bytes(bytes);
+    let len = bytes_before(bytes, b'\n');
     if len == bytes.len() {
         Some((bytes, &[]))
     } else {
         Some((without_return(&bytes[..len]), &bytes[len + 1..]))
     }
-}
-
-// How many bytes stand before the first line feed.
-fn line_bytes(bytes: &[u8]) -> usize
-    ensures longest { result ≡ position_or_len is_line_feed bytes.now }
-    ensures within { result ≤ length bytes.now }
-{
-    bytes.iter().take_while(|b| **b != b'\n').count()
 }
 
 // A line without the one carriage return at its end, where it has one.

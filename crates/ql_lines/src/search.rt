@@ -1,0 +1,15 @@
+ghost use Rattle.std.specs.Prelude.{◌≡◌, ◌≤◌, ◌==◌, length};
+ghost use Rattle.std.specs.List.{position_or_len};
+
+use memchr::memchr;
+
+/// How many bytes stand before the first one that is `byte`. Where none is, they are all.
+pub fn bytes_before(text: &[u8], byte: u8) -> usize
+    ensures longest { result ≡ position_or_len (λ b. b == byte) text.now }
+    ensures within { result ≤ length text.now }
+{
+    match memchr(byte, text) {
+        Some(found) => found,
+        None => text.len(),
+    }
+}
