@@ -1,4 +1,4 @@
-ghost use Rattle.std.specs.Prelude.{◌≡◌, ◌++◌, IfOk, codes, decimal};
+ghost use Rattle.std.specs.Prelude.{◌≡◌, ◌++◌, ◌<◌, ◌^◌, IfOk, codes, decimal, length};
 ghost use Rattle.std.specs.Option.{option_map};
 ghost use Rattle.ql_cert.specs.declared.fault.CertFault.TheVariants.{Unexpected, Number};
 ghost use Rattle.ql_app.specs.ProofFile.{ProofSays, ProofTells, fault_text, refusal_of};
@@ -13,6 +13,7 @@ use std::alloc::Global;
 
 /// Whether the refutation in a proof file shows that no assignment satisfies its clauses.
 pub fn judge(alloc: Global, bytes: &[u8]) -> Result<(Status, Vec<u8>), NoMemory>
+    requires short { length bytes.now < 2 ^ 32 }
     ensures { IfOk result (λ answer. ProofSays bytes.now answer.0 answer.1.items) }
 {
     match parse_proof(alloc, bytes) {

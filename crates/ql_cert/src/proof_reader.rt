@@ -1,8 +1,8 @@
-ghost use Rattle.std.specs.Prelude.{◌≡◌, ◌↔◌, ◌∷◌, ◌≤◌, IfErr, IfOk, IsTrue, codes, decimal};
+ghost use Rattle.std.specs.Prelude.{◌≡◌, ◌↔◌, ◌∷◌, ◌+◌, ◌^◌, ◌<◌, ◌≤◌, IfErr, IfOk, IsTrue, codes, decimal, length};
 ghost use Rattle.std.specs.Option.{option_map};
 ghost use Rattle.ql_lines.specs.Fields.{fields_of};
 ghost use Rattle.ql_cert.specs.Faults.{IsRefusedBy};
-ghost use Rattle.ql_cert.specs.ProofFile.{ProofFollows, ProofTakes, Unbegun, Within, most_variables, variables_line};
+ghost use Rattle.ql_cert.specs.ProofFile.{ProofFollows, ProofTakes, Unbegun, Within, most_variables, proof_so_far, variables_line};
 ghost use Rattle.ql_cert.specs.ProofReader.{proof_state_of};
 ghost use Rattle.ql_cert.specs.Readings.{IsRead, two};
 
@@ -29,6 +29,7 @@ pub(crate) enum ProofReading {
 impl ProofReading {
     /// What is read with one more line.
     pub(crate) fn take(self, alloc: Global, text: &[u8]) -> Result<ProofReading, LineFault>
+        requires room { length (proof_so_far (proof_state_of self)) + 1 < 2 ^ 32 }
         ensures taken { IfOk result (λ after. ProofTakes (proof_state_of self) (fields_of text.now) (proof_state_of after)) }
         ensures refused { IfErr result (λ fault. IsRefusedBy (ProofFollows (proof_state_of self)) (fields_of text.now) fault) }
     {
@@ -91,6 +92,7 @@ fn within(
     lines: Vec<Line>,
     text: &[u8],
 ) -> Result<ProofReading, LineFault>
+    requires room { length clauses.clauses + 1 < 2 ^ 32 }
     ensures taken { IfOk result (λ after. ProofTakes (Within clauses lines.items) (fields_of text.now) (proof_state_of after)) }
     ensures refused { IfErr result (λ fault. IsRefusedBy (ProofFollows (Within clauses lines.items)) (fields_of text.now) fault) }
 {
@@ -116,13 +118,14 @@ fn is_given(field: &[u8]) -> bool
     field.len() == 1 && field[0] == b'c'
 }
 
-// A clause with these literals. More clauses than can be numbered are want of memory.
+// A clause with these literals.
 fn given(
     alloc: Global,
     clauses: Clauses,
     lines: Vec<Line>,
     body: &[u8],
 ) -> Result<ProofReading, LineFault>
+    requires room { length clauses.clauses + 1 < 2 ^ 32 }
     ensures taken { IfOk result (λ after. ProofTakes (Within clauses lines.items) (codes "c" ∷ fields_of body.now) (proof_state_of after)) }
     ensures refused { IfErr result (λ fault. IsRefusedBy (ProofFollows (Within clauses lines.items)) (codes "c" ∷ fields_of body.now) fault) }
 {
@@ -134,9 +137,6 @@ fn given(
     };
     if !are_in_range(literals.as_slice(), clauses.variables()) {
         return Err(LineFault::Unexpected);
-    }
-    if clauses.len() >= u32::MAX - 1 {
-        return Err(LineFault::NoMemory);
     }
     let mut more = clauses;
     more.add(literals.as_slice())?;

@@ -1,8 +1,9 @@
 -- the first line of a file, and the lines behind it
-use Rattle.std.proofs.Common.{◌≡◌, ◌<◌, ◌+◌, ℕ, true, false, List, [], ◌∷◌, length, arith, refl, ap, sym, ◌∙◌}
-use Rattle.std.specs.List.{after_first, before_first, position_or_len}
+use Rattle.std.proofs.Common.{◌≡◌, ◌<◌, ◌≤◌, ◌+◌, ℕ, suc, Bool, true, false, List, [], ◌∷◌, length, arith, refl, ap, sym, ◌∙◌}
+use Rattle.std.specs.Prelude.{if◌then◌else◌}
+use Rattle.std.specs.List.{after_first, before_first, onto_first, position_or_len}
 use Rattle.std.specs.Str.Lines.{lines, lines_of_parts, strip_carriage_return}
-use Rattle.std.proofs.lemmas.List.Splits.{slice_split_first}
+use Rattle.std.proofs.lemmas.List.Splits.{slice_split-cons_no, slice_split-cons_yes, slice_split_first}
 use Rattle.ql_lines.specs.Lines.{ahead_from, is_line_feed, is_skipped, told}
 use Rattle.ql_lines.proofs.Splits.{none_passes, some_part}
 
@@ -41,3 +42,37 @@ module _ (n : ℕ) (rest behind text : List ℕ) (first : lines rest ≡ text �
   pub tells : is_skipped text ≡ false → (ahead_from n rest).lines ≡ record { number = n; text = text } ∷ (ahead_from (n + 1) behind).lines
   unfolding told
   tells kept = ap (told n) first ∙ rw kept refl
+
+-- ---- there are no more lines than bytes
+
+longer : (x : ℕ) (y : List ℕ) (ys : List (List ℕ)) → length (lines_of_parts ((x ∷ y) ∷ ys)) ≤ 1 + length (lines_of_parts (y ∷ ys))
+longer x y [] = let one : length (lines_of_parts ((x ∷ y) ∷ [])) ≡ 1 = grind arith in omega (arith, one)
+longer x y (z ∷ zs) = omega arith
+
+few_parts : (xs : List ℕ) → length (lines xs) ≤ length xs
+few_parts [] = omega arith
+few_parts (x ∷ xs) =
+    let rest = some_part is_line_feed xs in
+    let few = few_parts xs in
+    let parts = ap (λ ps. length (lines_of_parts ps)) rest.2 in
+    let P : Bool → Type 0 = λ t. is_line_feed x ≡ t → length (lines (x ∷ xs)) ≤ suc (length xs) in
+    elim (is_line_feed x) as P [
+      | true ↦ λ is.
+          let cut = ap (λ ps. length (lines_of_parts ps)) (slice_split-cons_yes is_line_feed x xs is ∙ ap (λ ps. [] ∷ ps) rest.2) in
+          omega (arith, cut, parts, few)
+      | false ↦ λ is.
+          let cut = ap (λ ps. length (lines_of_parts ps)) (slice_split-cons_no is_line_feed x xs is ∙ ap (onto_first x) rest.2) in
+          let more = longer x rest.0 rest.1 in
+          omega (arith, cut, parts, few, more)
+    ] refl
+
+few_told : (n : ℕ) (ls : List (List ℕ)) → length (told n ls) ≤ length ls
+unfolding told
+few_told n [] = omega arith
+few_told n (l ∷ ls) =
+    let few = few_told (n + 1) ls in
+    let P : Bool → Type 0 = λ t. length (if t then told (n + 1) ls else record { number = n; text = l } ∷ told (n + 1) ls) ≤ suc (length ls) in
+    elim (is_skipped l) as P [ true ↦ omega (arith, few) | false ↦ omega (arith, few) ]
+
+pub few_lines : (n : ℕ) (bytes : List ℕ) → length (ahead_from n bytes).lines ≤ length bytes
+few_lines n bytes = let told_few = few_told n (lines bytes) in let few = few_parts bytes in omega (arith, told_few, few)

@@ -1,5 +1,5 @@
 use crate::texts::spelled;
-use ql_base::{NoMemory, push_bytes, push_number};
+use ql_base::{MAX_PROOF_BYTES, NoMemory, push_bytes, push_number};
 use ql_cert::{CertFault, parse_cert, parse_proof, print_cert};
 use ql_tables::check_table;
 use std::alloc::Global;
@@ -153,7 +153,11 @@ fn proofs_and_their_first_faults(rt: HostRuntime) -> Result<(), Fail> {
 }
 
 fn counted(alloc: Global, file: &str) -> Result<Vec<u8>, NoMemory> {
-    let (clauses, refutation) = match parse_proof(alloc, file.as_bytes()) {
+    let bytes = file.as_bytes();
+    if bytes.len() as u64 > MAX_PROOF_BYTES {
+        return spelled(alloc, "too long");
+    }
+    let (clauses, refutation) = match parse_proof(alloc, bytes) {
         Ok(proof) => proof,
         Err(why) => return fault(alloc, why),
     };

@@ -1,5 +1,7 @@
-use Rattle.std.proofs.Common.{◌≡◌, ◌++◌, ◌∷◌, List, ap, sym, subst, ◌∙◌}
-use Rattle.std.proofs.lemmas.List.{append-nil}
+use Rattle.std.proofs.Common.{◌≡◌, ◌+◌, ◌++◌, ◌∷◌, List, length, arith, ap, sym, subst, ◌∙◌}
+use Rattle.std.proofs.lemmas.List.{append-nil, length-append, length-map}
+use Rattle.ql_lines.specs.Fields.{fields_of}
+use Rattle.ql_lines.proofs.LineLaws.{few_lines}
 use Rattle.ql_lines.specs.Lines.{Ahead, Numbered, ahead_from}
 use Rattle.ql_cert.specs.declared.fault.CertFault.TheVariants.{Unexpected}
 use Rattle.ql_cert.specs.ProofFile.{IsProofFile, IsProofState, ProofTakes, Unbegun, proof_so_far}
@@ -36,3 +38,13 @@ returns c =
     let are : file.lines ≡ h.0 = h.1 ∙ ap (λ (ls : List Numbered). h.0 ++ ls) c.in_default.ensures.line.0 ∙ append-nil h.0 in
     let end : file.end ≡ c.end.result = h.2 ∙ sym c.in_default.ensures.end ∙ sym c.end.ensures in
     subst (λ at. FirstFault IsProofFile file (Unexpected at)) end (ended_at Unbegun ProofTakes IsProofFile proof_so_far IsProofState IsLast proof_reader file (proof_state_of c.loop-line.read) h.4 h.0 h.3 are (not_at_end c.loop-line.read c.in_default-read.not-Ended))
+
+pub take-requires : goal.take-requires
+take-requires c =
+    let h = c.loop-line.invariant in
+    let rest = c.next_line.new.self.lines in
+    let line : Numbered = record { number = c.in-Some.line.number; text = c.in-Some.line.text.now } in
+    let are = h.1 ∙ ap (λ (ls : List Numbered). h.0 ++ ls) c.in-Some.ensures.line in
+    let all = ap length are ∙ length-append h.0 (line ∷ rest) in
+    let read = sym (length-map h.0 (λ (l : Numbered). fields_of l.text)) ∙ ap length h.3 in
+    record { room = omega (arith, all, read, few_lines 1 c.args.bytes.now, c.requires) }
