@@ -1,5 +1,5 @@
 -- an effect that breaks no rule is of an operation of the program, and there is room for it
-use Rattle.std.proofs.Common.{◌≡◌, ℕ, suc, ◌<◌, Bool, true, false, cond, All, List, [], ◌∷◌, ◌++◌, Option, None, Some, Result, Ok, Err, length, arith, refl, sym, ap, subst, ◌∙◌}
+use Rattle.std.proofs.Common.{◌≡◌, ℕ, suc, ◌<◌, ◌≤◌, ◌+◌, Bool, true, false, cond, All, List, [], ◌∷◌, ◌++◌, Option, None, Some, Result, Ok, Err, length, arith, refl, sym, ap, subst, ◌∙◌}
 use Rattle.std.specs.Prelude.{option_map, if◌then◌else◌, nat_eq, nat_le, not}
 use Rattle.std.specs.List.{find, position}
 use Rattle.std.specs.Str.{bytes_eq}
@@ -9,6 +9,7 @@ use Rattle.std.specs.Option.{option_and_then, option_map_or}
 use Rattle.std.proofs.lemmas.Bool.Decides.{nat_tests}
 use Rattle.std.proofs.lemmas.List.{length-append}
 use Rattle.std.proofs.lemmas.Option.{same_Some}
+use Rattle.ql_base.specs.Numbering.{has_name, with_name}
 use Rattle.ql_base.specs.declared.ids.ObjId.{ObjId}
 use Rattle.ql_base.specs.declared.ids.OpId.{OpId}
 use Rattle.ql_lang.specs.declared.program.Program.{Program}
@@ -57,6 +58,13 @@ record IsLawful (p : Program) (told : Told) (more : Told) : Type 0 where
   known : draft.op.0 < length (all_ops p.types)
   room : length told.effects < most_effects
   effects : more.effects ≡ told.effects ++ effect_of told.effects draft ∷ []
+  objects : length more.objects ≤ length told.objects + 1
+
+one_name_more : (names : List (List ℕ)) (w : List ℕ) → length (with_name names w) ≤ length names + 1
+one_name_more names w =
+    let pushed = length-append names (w ∷ []) in
+    let P : Bool → Type 0 = λ t. length (if t then names else names ++ w ∷ []) ≤ length names + 1 in
+    elim (has_name names w) as P [ true ↦ omega arith | false ↦ omega (arith, pushed) ]
 
 abbrev known_as : ℕ → Member → OpId × Member
 known_as o member = (record { 0 = o }, member)
@@ -77,6 +85,7 @@ module _ (p : Program) (told more : Told) (e : EffectLine) where
       known = within (λ op. bytes_eq e.op op.name.word) (all_ops p.types) o here;
       room = grind (arith, nat_tests, t);
       effects = ap (λ (m : Told). m.effects) (sym (same_told (with_effect (with_object told e.object) drafted) more h));
+      objects = let names = ap (λ (m : Told). length m.objects) (same_told (with_effect (with_object told e.object) drafted) more h) in omega (arith, names, one_name_more told.objects e.object);
     }
 
     stamped : (other : Bool) → (if other then Err Stamp else (if nat_le most_effects (length told.effects) then Err TooMany else ok_told (with_effect (with_object told e.object) drafted))) ≡ Ok more → IsLawful p told more
@@ -114,6 +123,7 @@ module _ (p : Program) (told more : Told) (e : EffectLine) where
       let count = ap length is.effects ∙ length-append told.effects (effect ∷ []) in (
         omega (arith, count, is.room),
         subst (AreOfProgram p) (sym is.effects) (All-append (λ (f : Effect). f.op.0 < length (all_ops p.types)) told.effects (effect ∷ []) sound.1 (one_of effect is.known)),
+        omega (arith, count, is.objects, sound.2),
       )
     where
       one_of : (f : Effect) → f.op.0 < length (all_ops p.types) → AreOfProgram p (f ∷ [])

@@ -56,7 +56,7 @@ refused_at p file before l rest s NoMemory are leads h = tt
 
 -- what lines tell stays sound
 pub takes_sound : (p : Program) (s : Stage) (l : Numbered) (t : Stage) → AreSound p s → Takes p s l t → AreSound p t
-takes_sound p Unbegun l t sound (inl h) = subst (AreSound p) (sym h.1) (omega arith, All-nil (λ (f : Effect). f.op.0 < length (all_ops p.types)))
+takes_sound p Unbegun l t sound (inl h) = subst (AreSound p) (sym h.1) (omega arith, All-nil (λ (f : Effect). f.op.0 < length (all_ops p.types)), omega arith)
 takes_sound p Unbegun l t sound (inr h) = subst (AreSound p) (sym h.1) tt
 takes_sound p (WithEffects told) l t sound (inl h) = subst (AreSound p) (sym h.to) (stays_sound p told h.more h.effect sound h.lawful)
 takes_sound p (WithEffects told) l t sound (inr h) = subst (AreSound p) (sym h.to) sound

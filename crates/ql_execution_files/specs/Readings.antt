@@ -14,9 +14,9 @@ stage_of reading.Unbegun = Unbegun
 stage_of (reading.WithEffects told) = WithEffects told
 stage_of (reading.Ended told) = Ended told
 
--- the effects are few, and of the program's operations
+-- the effects are few, and of the program's operations; each names one object at most
 abbrev pub IsSound : Program → Told → Type 0
-IsSound p told = (length told.effects ≤ most_effects) × AreOfProgram p told.effects
+IsSound p told = (length told.effects ≤ most_effects) × AreOfProgram p told.effects × (length told.objects ≤ length told.effects)
 
 abbrev pub AreSound : Program → Stage → Type 0
 AreSound p Unbegun = Unit {0}

@@ -1,4 +1,4 @@
-ghost use Rattle.std.specs.Prelude.{◌≡◌, ◌≤◌, ◌<◌, IfOk, IfSome, Option, length};
+ghost use Rattle.std.specs.Prelude.{◌≡◌, ◌≤◌, ◌<◌, ◌+◌, ◌^◌, IfOk, IfSome, Option, length};
 ghost use Rattle.std.specs.Option.{option_copied};
 ghost use Rattle.ql_base.specs.Numbering.{with_name};
 ghost use Rattle.ql_typing.specs.Operations.{all_ops};
@@ -38,6 +38,7 @@ impl Told {
     /// With one more effect, or the lowest rule that it breaks.
     pub(crate) fn put(self, t: &Typed, line: EffectLine) -> Result<Told, LineFault>
         requires few { length self.effects ≤ most_effects }
+        requires named { length self.objects ≤ length self.effects }
         requires known { AreOfProgram t.now.program self.effects }
         ensures { IsAnswer (after_effect t.now.program self line) result }
     {
@@ -56,6 +57,7 @@ impl Told {
         member: Member,
     ) -> Result<Told, LineFault>
         requires few { length self.effects ≤ most_effects }
+        requires named { length self.objects ≤ length self.effects }
         requires known { AreOfProgram t.now.program self.effects }
         requires op { op.0 < length (all_ops t.now.program.types) }
         ensures { IsAnswer (after_known t.now.program self line op member) result }
@@ -107,14 +109,12 @@ fn known(t: &Typed, line: &EffectLine) -> Option<(OpId, Member)>
     Some((op, member))
 }
 
-// The number of a name behind others. Where 32 bits can't number it, there is no memory for it.
+// The number of a name behind others.
 fn number(names: &mut Names, word: &Word) -> Result<u32, NoMemory>
+    requires { length names.old + 1 < 2 ^ 32 }
     ensures names { IfOk result (λ _. names.new ≡ with_name names.old word.now) }
     ensures numbered { IfOk result (λ k. k ≡ number_of names.old word.now) }
 {
-    if names.len() >= u32::MAX - 1 {
-        return Err(NoMemory);
-    }
     names.number(word.bytes())
 }
 
