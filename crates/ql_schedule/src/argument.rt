@@ -7,7 +7,7 @@ ghost use Rattle.ql_schedule.specs.Parts.{parts_of};
 
 use crate::lists::Arguments;
 use crate::parts::{first_part, is_numeral};
-use ql_base::NoMemory;
+use ql_base::{MAX_PARAMETERS, NoMemory};
 use ql_lang::Base;
 use ql_value::{Value, ValueFault, parse_value};
 use std::alloc::Global;
@@ -39,7 +39,7 @@ pub(crate) fn arguments(alloc: Global, text: &[u8]) -> Result<Option<Arguments>,
     ensures { IfOk result (λ read. MatchOption read ((args : List Argument) → AreArguments (parts_of text.now) args → ⊥)
         (λ args. AreArguments (parts_of text.now) args)) }
 {
-    let mut arguments = Vec::new(alloc);
+    let mut arguments = Vec::with_capacity(alloc, MAX_PARAMETERS)?;
     let mut rest = text;
     while let Some((part, behind)) = first_part(rest) {
         let Some(argument) = read_argument(alloc, part)? else {

@@ -98,7 +98,7 @@ fn declared(alloc: Global, so_far: &Schedule, names: &[Word]) -> Result<IdSet, N
 fn values(alloc: Global, args: Arguments) -> Result<Values, NoMemory>
     ensures { IfOk result (λ values. values ≡ values_of args) }
 {
-    let mut values = Vec::new(alloc);
+    let mut values = Vec::with_capacity(alloc, args.items().len())?;
     for arg in args.into_items() {
         push_given(&mut values, arg)?;
     }

@@ -4,9 +4,10 @@ ghost use Rattle.ql_base.specs.Names.{IsName};
 ghost use Rattle.ql_base.specs.Numbers.{IsNumeral};
 ghost use Rattle.ql_lines.specs.Fields.{Fields, is_space};
 ghost use Rattle.ql_schedule.specs.Numbers.{IsNumber};
-ghost use Rattle.ql_schedule.specs.Parts.{isn't_quote, isn't_space, part_len, parts_of, quoted_len, text_len};
+ghost use Rattle.ql_schedule.specs.Parts.{isn't_space, part_len, parts_of, quoted_len, text_len};
 
 use ql_base::{digit_bytes, is_name, number_of};
+use ql_lines::bytes_before;
 
 /// The first part of a line and what stands behind it.
 pub(crate) fn first_part(text: &[u8]) -> Option<(&[u8], &[u8])>
@@ -63,20 +64,12 @@ fn text_bytes(text: &[u8]) -> usize
     ensures all { result ≡ text_len text.now }
     ensures within { result ≤ length text.now }
 {
-    let before = bytes_before_quote(text);
+    let before = bytes_before(text, b'"');
     if before == text.len() {
         before
     } else {
         before + 1
     }
-}
-
-// How many bytes stand before the first quote.
-fn bytes_before_quote(text: &[u8]) -> usize
-    ensures longest { result ≡ prefix_len isn't_quote text.now }
-    ensures within { result ≤ length text.now }
-{
-    text.iter().take_while(|b| **b != b'"').count()
 }
 
 /// Whether a line has no part.
