@@ -6,6 +6,7 @@ pub mod Headers
 pub mod Rules
 pub mod Judging
 pub mod Makings
+pub mod Known
 pub mod Outcomes
 pub mod Guarantees
 pub mod Files

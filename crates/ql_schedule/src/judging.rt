@@ -1,9 +1,10 @@
-ghost use Rattle.std.specs.Prelude.{◌≡◌, Some, is_none, nat_le, slice_get};
+ghost use Rattle.std.specs.Prelude.{◌≡◌, ◌<◌, Some, IfSome, length, nat_le, slice_get};
 ghost use Rattle.std.specs.List.{list_any};
 ghost use Rattle.std.specs.Str.{bytes_eq};
-ghost use Rattle.ql_base.specs.Numbering.{place};
-ghost use Rattle.ql_typing.specs.Operations.{op_place};
+ghost use Rattle.std.specs.Option.{option_map};
+ghost use Rattle.ql_typing.specs.Operations.{all_ops};
 ghost use Rattle.ql_schedule.specs.Arguments.{fit, is_too_great};
+ghost use Rattle.ql_schedule.specs.Known.{AreNumbers};
 ghost use Rattle.ql_schedule.specs.Judging.{
   are_groups_out,
   declaration_faults,
@@ -25,10 +26,11 @@ use crate::argument::Argument;
 use crate::event_line::EventLine;
 use crate::event_parts::Caller;
 use crate::header::Declaration;
+use crate::known::Known;
 use crate::rules::Faults;
 use crate::schedule::Schedule;
 use ql_base::{
-    MAX_DECLARED_OBJECTS, MAX_EVENTS, MAX_OBJECTS, MAX_REPLICAS, MAX_SESSIONS, TypeId, Word,
+    MAX_DECLARED_OBJECTS, MAX_EVENTS, MAX_OBJECTS, MAX_REPLICAS, MAX_SESSIONS, OpId, TypeId, Word,
 };
 use ql_lang::Param;
 use ql_typing::Typed;
@@ -69,62 +71,53 @@ pub(crate) fn declaration_faults(t: &Typed, so_far: &Schedule, line: &Declaratio
 }
 
 /// The rules that an event breaks after what was said before it.
-pub(crate) fn event_faults(t: &Typed, so_far: &Schedule, line: &EventLine) -> Faults
+pub(crate) fn event_faults(t: &Typed, so_far: &Schedule, line: &EventLine, known: &Known) -> Faults
+    requires { AreNumbers t.now.program so_far.now line.now known.now }
     ensures { result ≡ event_faults t.now.program so_far.now line.now }
 {
     Faults {
-        unknown: is_unknown(t, so_far, line),
-        kind: is_misfit(t, so_far, line),
+        unknown: is_unknown(t, so_far, line, known),
+        kind: is_misfit(t, so_far, line, known),
         range: is_out(so_far, line),
         too_many: so_far.events.items().len() >= MAX_EVENTS || declares_too_many(line),
         twice: is_twice(line),
     }
 }
 
-fn is_unknown(t: &Typed, so_far: &Schedule, line: &EventLine) -> bool
+fn is_unknown(t: &Typed, so_far: &Schedule, line: &EventLine, known: &Known) -> bool
+    requires { AreNumbers t.now.program so_far.now line.now known.now }
     ensures { result ≡ is_unknown t.now.program so_far.now line.now }
 {
     match line {
-        EventLine::Call { object, op, .. } => is_no_object(so_far, object)
-            || t.op_named(op.bytes()).is_none(),
-        EventLine::Begin { txn, objects, .. } => t.txn_named(txn.bytes()).is_none()
-            || has_unknown(so_far, objects.items()),
+        EventLine::Call { .. } => known.object.is_none() || known.op.is_none(),
+        EventLine::Begin { .. } => known.decl.is_none() || known.objects.is_none(),
         _ => false,
     }
 }
 
-fn is_no_object(so_far: &Schedule, name: &Word) -> bool
-    ensures { result ≡ is_none (place so_far.now.objects name.now) }
-{
-    so_far.objects.find(name.bytes()).is_none()
-}
-
-fn has_unknown(so_far: &Schedule, names: &[Word]) -> bool
-    ensures { result ≡ list_any (λ w. is_none (place so_far.now.objects w)) names.now }
-{
-    names.iter().any(|name| is_no_object(so_far, name))
-}
-
-fn is_misfit(t: &Typed, so_far: &Schedule, line: &EventLine) -> bool
+fn is_misfit(t: &Typed, so_far: &Schedule, line: &EventLine, known: &Known) -> bool
+    requires { AreNumbers t.now.program so_far.now line.now known.now }
     ensures { result ≡ is_misfit t.now.program so_far.now line.now }
 {
     match line {
-        EventLine::Call {
-            object,
-            op,
-            args,
-            ..
-        } => !may_call(t, so_far, object, op, args.items()),
+        EventLine::Call { args, .. } => !may_call(t, so_far, known.object, known.op, args.items()),
         _ => false,
     }
 }
 
 // Whether an operation is of an object's type, and arguments fit it. Nothing is asked of unknown
 // names.
-fn may_call(t: &Typed, so_far: &Schedule, object: &Word, op: &Word, args: &[Argument]) -> bool
-    ensures { result ≡ may_call t.now.program so_far.now (place so_far.now.objects object.now) (op_place t.now.program.types op.now) args.now }
+fn may_call(
+    t: &Typed,
+    so_far: &Schedule,
+    object: Option<u32>,
+    op: Option<OpId>,
+    args: &[Argument],
+) -> bool
+    requires { IfSome op (λ o. o.0 < length (all_ops t.now.program.types)) }
+    ensures { result ≡ may_call t.now.program so_far.now object (option_map (λ o. o.0) op) args.now }
 {
-    match (so_far.objects.find(object.bytes()), t.op_named(op.bytes())) {
+    match (object, op) {
         (Some(object), Some(op)) => {
             is_of_type(so_far, object, t.kind_of(op)) && fit(t.op(op).params.items(), args)
         }

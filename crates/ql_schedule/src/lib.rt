@@ -11,6 +11,7 @@ mod fault;
 mod format;
 mod header;
 mod judging;
+mod known;
 mod law;
 mod lists;
 mod making;

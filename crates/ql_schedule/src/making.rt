@@ -1,52 +1,46 @@
-ghost use Rattle.std.specs.Prelude.{◌≡◌, ◌++◌, OnOk, ◌<◌, ◌^◌, [], IfOk, List, ℕ, None, All, is_some, true};
-ghost use Rattle.ql_base.specs.Numbering.{place};
+ghost use Rattle.std.specs.Prelude.{◌≡◌, ◌++◌, OnOk, ◌<◌, ◌^◌, IfOk, None, All};
 ghost use Rattle.ql_schedule.specs.Arguments.{given, values_of};
 ghost use Rattle.ql_schedule.specs.Judging.{event_faults};
-ghost use Rattle.ql_schedule.specs.Makings.{declared_from, event_of, id_of};
+ghost use Rattle.ql_schedule.specs.Known.{AreNumbers};
+ghost use Rattle.ql_schedule.specs.Makings.{event_of};
 ghost use Rattle.ql_schedule.specs.Rules.{lowest};
 
 use crate::argument::Argument;
 use crate::event_line::EventLine;
+use crate::known::Known;
 use crate::lists::Arguments;
 use crate::schedule::Schedule;
-use ql_base::{EffId, IdSet, MsgId, NoMemory, ObjId, ReplicaId, SessId, Word};
+use ql_base::{EffId, MsgId, NoMemory, ObjId, ReplicaId, SessId};
 use ql_machine::{Event, Groups};
 use ql_typing::Typed;
 use ql_value::{Value, Values};
 use std::alloc::Global;
 
-/// The event of a line that breaks no rule.
+/// The event of a line that breaks no rule, by the numbers of its names.
 pub(crate) fn event(
     alloc: Global,
     t: &Typed,
     so_far: &Schedule,
     line: EventLine,
+    known: Known,
 ) -> Result<Event, NoMemory>
-    requires { lowest (event_faults t.now.program so_far.now line) ≡ None }
+    requires numbers { AreNumbers t.now.program so_far.now line known }
+    requires lawful { lowest (event_faults t.now.program so_far.now line) ≡ None }
     ensures { IfOk result (λ e. e ≡ event_of t.now.program so_far.now line) }
 {
     match line {
-        EventLine::Call {
-            caller,
-            object,
-            op,
-            args,
-        } => Ok(Event::Call {
+        EventLine::Call { caller, args, .. } => Ok(Event::Call {
             session: SessId(caller.session as u32),
             replica: replica(so_far, caller.replica),
-            object: ObjId(object_id(so_far, &object)),
-            op: t.op_named(op.bytes()).unwrap(),
+            object: ObjId(known.object.unwrap()),
+            op: known.op.unwrap(),
             args: values(alloc, args)?,
         }),
-        EventLine::Begin {
-            caller,
-            txn,
-            objects,
-        } => Ok(Event::Begin {
+        EventLine::Begin { caller, .. } => Ok(Event::Begin {
             session: SessId(caller.session as u32),
             replica: replica(so_far, caller.replica),
-            decl: t.txn_named(txn.bytes()).unwrap(),
-            objects: declared(alloc, so_far, objects.items())?,
+            decl: known.decl.unwrap(),
+            objects: known.objects.unwrap(),
         }),
         EventLine::Commit(caller) => Ok(Event::Commit {
             session: SessId(caller.session as u32),
@@ -71,27 +65,6 @@ fn replica(so_far: &Schedule, number: u64) -> ReplicaId
 {
     prove!(number < u64::from(so_far.replicas));
     ReplicaId(number as u32)
-}
-
-// The number of a declared object.
-fn object_id(so_far: &Schedule, name: &Word) -> u32
-    requires { is_some (place so_far.now.objects name.now) ≡ true }
-    ensures { result ≡ id_of so_far.now.objects name.now }
-{
-    so_far.objects.find(name.bytes()).unwrap()
-}
-
-#[tactic(auto, unfolding(crate::specs::Makings::declared_from))]
-// The numbers of declared objects.
-fn declared(alloc: Global, so_far: &Schedule, names: &[Word]) -> Result<IdSet, NoMemory>
-    requires { All (λ w. is_some (place so_far.now.objects w) ≡ true) names.now }
-    ensures { IfOk result (λ ids. ids ≡ declared_from so_far.now.objects [] names.now) }
-{
-    let mut ids = IdSet::new(alloc);
-    for name in names {
-        ids.insert(object_id(so_far, name))?;
-    }
-    Ok(ids)
 }
 
 // The values that are given as arguments.

@@ -14,6 +14,7 @@ ghost use Rattle.ql_schedule.specs.Rules.{lowest};
 use crate::event_line::read_event_line;
 use crate::header::{Declaration, is_title, read_declaration, read_replicas};
 use crate::judging::{declaration_faults, event_faults, replicas_faults};
+use crate::known::look_up;
 use crate::making::event;
 use crate::rules::{Faults, SchedRule};
 use crate::schedule::{Events, Schedule, TypeIds};
@@ -127,8 +128,9 @@ fn happen(
     let Some(line) = read_event_line(alloc, text)? else {
         return Err(LineFault::Breaks(SchedRule::Unexpected));
     };
-    check(event_faults(t, &so_far, &line))?;
-    let event = event(alloc, t, &so_far, line)?;
+    let known = look_up(alloc, t, &so_far, &line)?;
+    check(event_faults(t, &so_far, &line, &known))?;
+    let event = event(alloc, t, &so_far, line, known)?;
     let more = with_event(so_far, event)?;
     Ok(Reading::Running(more))
 }
