@@ -8,7 +8,8 @@ use ql_schedule::{SchedFault, parse_schedule, print_schedule};
 use ql_typing::{Typed, typecheck};
 use std::alloc::Global;
 use std::env::Env;
-use std::{env, fs, io, str};
+use std::io::Write;
+use std::{env, fs, io};
 
 // How long a file may be.
 const MOST_BYTES: usize = 1 << 20;
@@ -17,14 +18,11 @@ fn main(rt: HostRuntime) -> io::Result<()> {
     let paths = arguments(&rt)?;
     let mut typed = None;
     for path in paths.iter() {
-        let text = fs::read_to_string(&rt, path)?;
+        let text = fs::read(&rt, path)?;
         match &typed {
-            None => typed = typed_of(rt.alloc(), text.as_str()),
-            Some(typed) => match said(rt.alloc(), typed, text.as_str()) {
-                Ok(said) => match str::from_utf8(said.as_slice()) {
-                    Ok(said) => print!(rt; "{said}")?,
-                    Err(_) => println!(rt; "{path}: no text")?,
-                },
+            None => typed = typed_of(rt.alloc(), text.as_slice()),
+            Some(typed) => match said(rt.alloc(), typed, text.as_slice()) {
+                Ok(said) => rt.stdout().write_all(said.as_slice())?,
                 Err(NoMemory) => println!(rt; "{path}: no memory")?,
             },
         }
@@ -39,11 +37,11 @@ fn arguments<R: Env + AllocGlobal>(rt: &R) -> io::Result<Vec<String>> {
 }
 
 // The program of a source; none where the text isn't one, or memory is out.
-fn typed_of(alloc: Global, text: &str) -> Option<Typed> {
+fn typed_of(alloc: Global, text: &[u8]) -> Option<Typed> {
     if text.len() > MOST_BYTES {
         return None;
     }
-    let program = match parse_program(alloc, text.as_bytes()) {
+    let program = match parse_program(alloc, text) {
         Ok(program) => program,
         Err(_) => return None,
     };
@@ -54,11 +52,11 @@ fn typed_of(alloc: Global, text: &str) -> Option<Typed> {
 }
 
 // What is said of a text: the schedule in its one spelling, or that it is none.
-fn said(alloc: Global, typed: &Typed, text: &str) -> Result<Vec<u8>, NoMemory> {
+fn said(alloc: Global, typed: &Typed, text: &[u8]) -> Result<Vec<u8>, NoMemory> {
     if text.len() > MOST_BYTES {
         return line(alloc, b"too long\n");
     }
-    match parse_schedule(alloc, typed, text.as_bytes()) {
+    match parse_schedule(alloc, typed, text) {
         Ok(schedule) => print_schedule(alloc, typed, &schedule),
         Err(SchedFault::NoMemory) => Err(NoMemory),
         Err(_) => line(alloc, b"no schedule\n"),

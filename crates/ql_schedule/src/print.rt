@@ -1,7 +1,7 @@
 ghost use Rattle.std.specs.Prelude.{◌≡◌, ◌<◌, ◌++◌, ◌∷◌, [], List, ℕ, IfOk, OnOk, All, Some, codes, decimal, length, map, slice_get};
 ghost use Rattle.ql_lines.specs.Fields.{Fields};
 ghost use Rattle.ql_lines.specs.Texts.{behind, file_text, joined};
-ghost use Rattle.ql_value.specs.Spelling.{value_text};
+ghost use Rattle.ql_value.specs.Spelling.{quoted, value_text};
 ghost use Rattle.ql_schedule.specs.Texts.{
   AreNamed,
   IsNamed,
@@ -155,9 +155,29 @@ fn push_values(out: &mut Vec<u8>, values: &[Value]) -> Result<(), NoMemory>
 {
     for value in values {
         push_bytes(out, b" ")?;
-        print_value(out, value)?;
+        push_value(out, value)?;
     }
     Ok(())
+}
+
+// A value as `print_value` prints it. Numbers and texts need no text of their own first.
+fn push_value(out: &mut Vec<u8>, value: &Value) -> Result<(), NoMemory>
+    ensures { OnOk result (out.new.items ≡ out.old.items ++ value_text value.now) }
+{
+    match value {
+        Value::Int(number) => push_number(out, *number),
+        Value::Text(text) => push_text(out, text.items()),
+        _ => print_value(out, value),
+    }
+}
+
+// A text between its quotes.
+fn push_text(out: &mut Vec<u8>, text: &[u8]) -> Result<(), NoMemory>
+    ensures { OnOk result (out.new.items ≡ out.old.items ++ quoted text.now) }
+{
+    push_bytes(out, b"\"")?;
+    push_bytes(out, text)?;
+    push_bytes(out, b"\"")
 }
 
 fn push_names(out: &mut Vec<u8>, names: &Names, ids: &[u32]) -> Result<(), NoMemory>

@@ -7,5 +7,5 @@ loop-value-init c = nothing_behind c.args.out.now.items
 
 pub loop-value-preserved : goal.loop-value-preserved
 loop-value-preserved c =
-    rw (c.in_ok-print_value.ensures.ok, c.in_ok-push_bytes.ensures.ok, c.loop-value.invariant)
+    rw (c.in_ok-push_value.ensures, c.in_ok-push_bytes.ensures.ok, c.loop-value.invariant)
     (spaced value_text c.args.values.now c.loop-value.value-index c.value-item.result c.args.out.now.items c.loop-value-test.true c.value-item.is)
