@@ -5,10 +5,10 @@ ghost use Rattle.ql_generated.specs.Soaks.{SoakSays, TellsSoak};
 
 use crate::summary::{EVENTS, print_summary};
 use ql_base::NoMemory;
-use ql_commands::{Answer, bad_source, read_source};
+use ql_commands::{Answer, bad_source, read_source, refusal};
 use ql_gen::schedule_of;
 use ql_levels::Levels;
-use ql_running::{refusal, sound_run};
+use ql_running::sound_run;
 use ql_typing::Typed;
 use std::alloc::Global;
 

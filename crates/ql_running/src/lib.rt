@@ -4,14 +4,12 @@
 
 mod form;
 mod law;
-mod refusing;
 mod running;
 mod schedule_fault;
 mod store_run;
 
 pub use form::Form;
 pub use law::runs_are_sound;
-pub use refusing::refusal;
 pub use running::run;
 pub use schedule_fault::bad_schedule;
 pub use store_run::sound_run;

@@ -11,11 +11,10 @@ ghost use Rattle.ql_running.specs.Forms.{format_of};
 ghost use Rattle.ql_running.specs.Runs.{RunSays, TellsRun};
 
 use crate::form::Form;
-use crate::refusing::refusal;
 use crate::schedule_fault::bad_schedule;
 use crate::store_run::sound_run;
 use ql_base::{Names, NoMemory};
-use ql_commands::{Answer, bad_source, read_source};
+use ql_commands::{Answer, bad_source, read_source, refusal};
 use ql_exec::Execution;
 use ql_levels::Levels;
 use ql_machine::Reply;
