@@ -1,8 +1,8 @@
-ghost use Rattle.std.specs.Prelude.{◌≡◌, IfOk};
+ghost use Rattle.std.specs.Prelude.{◌≡◌, ◌+◌, ◌^◌, ◌<◌, IfOk, OnOk, length};
 ghost use Rattle.ql_session.specs.Executions.{notes_of};
 
 use ql_base::{EffId, IdSet, NoMemory, ObjId, OpId, SessId};
-use ql_exec::{Draft, Execution, Member, Payload};
+use ql_exec::{Draft, Effect, Execution, Member, Payload};
 use ql_session::Sessions;
 use ql_value::{Value, Values};
 use std::alloc::Global;
@@ -49,7 +49,10 @@ fn push(
     session: u32,
     object: u32,
     seen: IdSet,
-) -> Result<(), NoMemory> {
+) -> Result<(), NoMemory>
+    requires { length x.old < 9 }
+    ensures { OnOk result (length x.new ≡ length x.old + 1) }
+{
     let draft = Draft {
         object: ObjId(object),
         op: OpId(0),
@@ -66,17 +69,14 @@ fn push(
     }
 }
 
-fn noted(alloc: Global, x: &Execution) -> Result<Sessions, NoMemory>
-    ensures { IfOk result (λ table. table ≡ notes_of x.now) }
+fn noted(alloc: Global, effects: &[Effect]) -> Result<Sessions, NoMemory>
+    requires { length effects.now < 2 ^ 32 }
+    ensures { IfOk result (λ table. table ≡ notes_of effects.now) }
 {
     let mut table = Sessions::new(alloc);
-    for (k, effect) in x.effects().iter().enumerate() {
-        table.note(
-            effect.session,
-            effect.object,
-            EffId(k as u32 + 1),
-            effect.stamp,
-        )?;
+    for (k, effect) in effects.iter().enumerate() {
+        let id = EffId(k as u32 + 1);
+        table.note(effect.session, effect.object, id, effect.stamp)?;
     }
     Ok(table)
 }
@@ -92,7 +92,7 @@ fn what_happened_before_by_way_of_another_object(rt: HostRuntime) -> Result<(), 
     push(&mut x, alloc, 1, 0, IdSet::new(alloc))?;
     push(&mut x, alloc, 1, 1, IdSet::new(alloc))?;
     push(&mut x, alloc, 2, 1, second)?;
-    let sessions = noted(alloc, &x)?;
+    let sessions = noted(alloc, x.effects())?;
     let mut view = IdSet::new(alloc);
     let (two, three, zero) = (SessId(2), SessId(3), ObjId(0));
     assert!(rt; sessions.least_missing_wide(two, zero, &view, &x)? == Some(EffId(1)));

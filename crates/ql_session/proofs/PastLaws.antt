@@ -1,15 +1,17 @@
 -- The causal past of a call, step by step from its later end.
-use Rattle.std.proofs.Common.{◌≡◌, ◌⊎◌, ℕ, zero, suc, ◌<◌, ◌≤◌, Bool, true, ◌||◌, List, length, Some, refl, ap, sym, ◌∙◌, subst, inl, inr, arith}
-use Rattle.std.proofs.lemmas.Bool.{or_cases, or_left, or_right}
+use Rattle.std.proofs.Common.{◌≡◌, ◌⊎◌, ℕ, zero, suc, ◌<◌, ◌≤◌, Bool, true, List, length, Option, Some, None, refl, sym, subst, inl, inr, arith}
+use Rattle.std.proofs.lemmas.Bool.{or_cases, or_right}
+use Rattle.ql_base.specs.declared.ids.EffId.{EffId}
+use Rattle.ql_base.specs.declared.ids.ObjId.{ObjId}
 use Rattle.ql_base.specs.declared.ids.SessId.{SessId}
 use Rattle.ql_exec.specs.declared.effect.Effect.{Effect}
 use Rattle.ql_exec.specs.Effects.{effect_at}
-use Rattle.ql_exec.specs.Execution.{IsExecution}
+use Rattle.ql_exec.specs.Execution.{IsExecution, IsOn}
 use Rattle.ql_exec.specs.Relations.{hb, hb_step, leads, soo, so, vis}
 use Rattle.ql_exec.proofs.Chains.{leads-cases, leads-step, leads-more}
 use Rattle.ql_exec.proofs.Finding.{effect_at-within, so_parts}
-use Rattle.ql_needs.proofs.NeedsLaws.{step-before}
-use Rattle.ql_session.specs.Past.{InPast}
+use Rattle.ql_needs.proofs.NeedsLaws.{at-first, step-before}
+use Rattle.ql_session.specs.Past.{InPast, IsLeastOf}
 
 -- ---- the first step of a chain
 
@@ -60,3 +62,16 @@ past-step x session view law a b step past = (past.0, past.1, inr (chain past.2)
     chain : (b ≡ past.0) ⊎ (hb x b past.0 ≡ true) → hb x a past.0 ≡ true
     chain (inl same) = leads-step (hb_step x) a past.0 (subst (λ (n : ℕ). hb_step x a n ≡ true) same step)
     chain (inr rest) = step-leads (hb_step x) (λ c d is. (hb-forward x law c d is).0) a b past.0 step rest
+
+-- ---- on an object
+
+pub on-there : (x : List Effect) (o : ObjId) (a : ℕ) → IsOn o (effect_at x a) → (1 ≤ a) × (a ≤ length x)
+on-there x o a on = by (effect_at x a) refl on
+  where
+    by : (found : Option Effect) → effect_at x a ≡ found → IsOn o found → (1 ≤ a) × (a ≤ length x)
+    by None at on = absurd on
+    by (Some e) at on = (at-first x a e at, effect_at-within x a e at)
+
+pub least-same : {P Q : ℕ → Type 0} (r : Option EffId) → ((a : ℕ) → P a → Q a) → ((a : ℕ) → Q a → P a) → IsLeastOf P r → IsLeastOf Q r
+least-same None there back is = λ a holds. is a (back a holds)
+least-same (Some e) there back is = record { fits = there e.0 is.fits; least = λ b holds. is.least b (back b holds) }

@@ -1,5 +1,5 @@
 -- A walk down through an execution meets the causal past of a call, and nothing else.
-use Rattle.std.proofs.Common.{◌≡◌, ◌⊎◌, ℕ, suc, ◌<◌, ◌≤◌, ◌-◌, Bool, true, false, ◌||◌, nat_eq, List, [], length, Option, Some, None, refl, ap, sym, ◌∙◌, subst, inl, inr, arith}
+use Rattle.std.proofs.Common.{◌≡◌, ◌⊎◌, ℕ, ◌<◌, ◌≤◌, ◌-◌, true, false, nat_eq, List, [], length, Option, Some, None, refl, ap, sym, ◌∙◌, subst, inl, inr, arith}
 use Rattle.std.proofs.lemmas.Bool.{false≢true, or_cases, or_left, or_right, eq-eqb, eqb-true, cases_order}
 use Rattle.std.proofs.lemmas.Option.{same_Some}
 use Rattle.ql_base.specs.IdLists.{has_id, with_id}
@@ -54,7 +54,7 @@ pub walk-begins : (x : List Effect) (session : SessId) (view met sessions : List
     → sessions ≡ with_id [] session.0 → IsWalk x session view (length x) met sessions
 walk-begins x session view met sessions there back own = record {
   own = subst (λ (l : List ℕ). Has l session.0) (sym own) (has_id-with [] session.0 session.0 ∙ or_left (nat_eq session.0 session.0) false (eq-eqb session.0 session.0 refl));
-  view = there;
+  viewed = there;
   past = λ a has. (a, inr (back a has), inl refl);
   before = λ a e below at has.
       (a, inl (is-of x session a e at (sym (only-own session.0 e.session.0 (subst (λ (l : List ℕ). Has l e.session.0) own has)))), inl refl);
@@ -85,7 +85,7 @@ past-met x session view met sessions a e law at walk past = by past.0 past.1 pas
     by : (c : ℕ) → IsAtHand x session view c → (a ≡ c) ⊎ (hb x a c ≡ true) → Has met a ⊎ Has sessions e.session.0
     by c (inl own) (inl same) =
         inr (subst (λ (q : ℕ). Has sessions q) (sym (of-is x session a e at (subst (λ (n : ℕ). IsOf session (effect_at x n)) (sym same) own))) walk.own)
-    by c (inr has) (inl same) = inl (walk.view a (subst (λ (n : ℕ). Has view n) (sym same) has))
+    by c (inr has) (inl same) = inl (walk.viewed a (subst (λ (n : ℕ). Has view n) (sym same) has))
     by c hand (inr chain) =
         let first = leads-begins (hb_step x) a c chain in
         later first.0 (c, hand, first.2) first.1
@@ -96,7 +96,7 @@ pub walk-past : (x : List Effect) (e : ℕ) (f : Effect) (met sessions : List �
     → has_id met e ≡ false → has_id sessions f.session.0 ≡ false → GoesDown x e met sessions (e - 1) met sessions
 walk-past x e f met sessions law at first unmet others = λ session view walk. record {
   own = walk.own;
-  view = walk.view;
+  viewed = walk.viewed;
   past = walk.past;
   before = λ a g below there has. walk.before a g (omega (arith, below)) there has;
   visited = λ a behind last past. elim (cases_order a e) [
@@ -145,7 +145,7 @@ walk-in x e f met sessions more others law at first is taken = λ session view w
     let past : InPast x session view e = elim is [ inl has ↦ walk.past e has | inr has ↦ walk.before e f (omega arith) at has ] in
     record {
       own = taken.session_more session.0 walk.own;
-      view = λ a has. taken.met_more a (walk.view a has);
+      viewed = λ a has. taken.met_more a (walk.viewed a has);
       past = λ a has. elim (taken.met_only a has) [
         | inl old ↦ walk.past a old
         | inr (inl same) ↦ subst (InPast x session view) (sym same) past

@@ -1,5 +1,5 @@
 -- A walk through an execution from its end, which meets the causal past of a call.
-use Rattle.std.specs.Prelude.{◌≡◌, ◌⊎◌, ℕ, ◌<◌, ◌≤◌, true, List, length, Some}
+use Rattle.std.specs.Prelude.{◌≡◌, ◌⊎◌, ℕ, ◌<◌, ◌≤◌, List, length, Some}
 use Rattle.ql_base.specs.declared.ids.SessId.{SessId}
 use Rattle.ql_exec.specs.declared.effect.Effect.{Effect}
 use Rattle.ql_exec.specs.Effects.{effect_at}
@@ -15,7 +15,7 @@ pub record IsVisited (x : List Effect) (met sessions : List ℕ) (a : ℕ) : Typ
 -- the walk has come down to a number of effects, which are still to be visited
 pub record IsWalk (x : List Effect) (session : SessId) (view : List ℕ) (left : ℕ) (met sessions : List ℕ) : Type 0 where
   pub own : Has sessions session.0
-  pub view : (a : ℕ) → Has view a → Has met a
+  pub viewed : (a : ℕ) → Has view a → Has met a
   pub past : (a : ℕ) → Has met a → InPast x session view a
   pub before : (a : ℕ) (e : Effect) → a ≤ left → effect_at x a ≡ Some e → Has sessions e.session.0 → InPast x session view a
   pub visited : (a : ℕ) → left < a → a ≤ length x → InPast x session view a → IsVisited x met sessions a

@@ -1,4 +1,4 @@
-ghost use Rattle.std.specs.Prelude.{◌≡◌, ◌↔◌, ◌-◌, ◌^◌, ◌<◌, ◌≤◌, ℕ, false, List, IfOk, IsTrue, OnOk, length};
+ghost use Rattle.std.specs.Prelude.{◌≡◌, ◌↔◌, ◌-◌, ◌≤◌, ℕ, false, List, IfOk, IsTrue, OnOk, length};
 ghost use Rattle.ql_base.specs.IdLists.{IsAscending, has_id};
 ghost use Rattle.ql_exec.specs.declared.effect.Effect.{Effect};
 ghost use Rattle.ql_exec.specs.Execution.{IsExecution};
@@ -8,7 +8,7 @@ ghost use Rattle.ql_session.specs.Past.{InPast, IsLeastOf};
 ghost use Rattle.ql_session.specs.Walks.{GoesDown, IsWalk, Joins};
 
 use ql_base::{EffId, IdSet, NoMemory, SessId};
-use ql_exec::{Effect, Execution};
+use ql_exec::Execution;
 use ql_ranges::Ranges;
 use std::alloc::Global;
 
@@ -25,7 +25,7 @@ pub(crate) fn past_of(
     ensures { IfOk result (λ past. (a : ℕ) → 1 ≤ a → a ≤ length x.now → Has (ids_of past) a ↔ InPast x.now session view.now a) }
 {
     let mut walk = begin(alloc, session, view)?;
-    visit_all(x.effects(), &mut walk)?;
+    visit_all(x, &mut walk)?;
     Ok(walk.met)
 }
 
@@ -47,32 +47,30 @@ fn begin(alloc: Global, session: SessId, view: &IdSet) -> Result<Walk, NoMemory>
     })
 }
 
-fn visit_all(effects: &[Effect], walk: &mut Walk) -> Result<(), NoMemory>
-    requires law { IsExecution effects.now }
-    requires few { length effects.now < 2 ^ 32 }
-    ensures { OnOk result (GoesDown effects.now (length effects.now) (ids_of walk.old.met) (ids_of walk.old.sessions) 0 (ids_of walk.new.met) (ids_of walk.new.sessions)) }
+fn visit_all(x: &Execution, walk: &mut Walk) -> Result<(), NoMemory>
+    ensures { OnOk result (GoesDown x.now (length x.now) (ids_of walk.old.met) (ids_of walk.old.sessions) 0 (ids_of walk.new.met) (ids_of walk.new.sessions)) }
 {
-    let mut left = effects.len() as u32;
+    let mut left = x.len();
     while left > 0 {
-        visit(effects, walk, left)?;
+        visit(x, walk, EffId(left))?;
         left -= 1;
     }
     Ok(())
 }
 
 // Takes in the effect, where it is of the past.
-fn visit(effects: &[Effect], walk: &mut Walk, e: u32) -> Result<(), NoMemory>
-    requires law { IsExecution effects.now }
-    requires first { 1 ≤ e }
-    requires last { e ≤ length effects.now }
-    ensures { OnOk result (GoesDown effects.now e (ids_of walk.old.met) (ids_of walk.old.sessions) (e - 1) (ids_of walk.new.met) (ids_of walk.new.sessions)) }
+fn visit(x: &Execution, walk: &mut Walk, e: EffId) -> Result<(), NoMemory>
+    requires law { IsExecution x.now }
+    requires first { 1 ≤ e.0 }
+    requires last { e.0 ≤ length x.now }
+    ensures { OnOk result (GoesDown x.now e.0 (ids_of walk.old.met) (ids_of walk.old.sessions) (e.0 - 1) (ids_of walk.new.met) (ids_of walk.new.sessions)) }
 {
-    let effect = &effects[e as usize - 1];
-    if !walk.met.has(e) && !walk.sessions.has(effect.session.0) {
+    let effect = x.get(e);
+    if !walk.met.has(e.0) && !walk.sessions.has(effect.session.0) {
         return Ok(());
     }
     walk.sessions.insert(effect.session.0)?;
-    walk.met.insert(e)?;
+    walk.met.insert(e.0)?;
     meet_all(&mut walk.met, &effect.seen)
 }
 

@@ -1,13 +1,10 @@
 -- All that some effects need, as a set of whole transactions.
-use Rattle.std.proofs.Common.{◌≡◌, ◌⊎◌, ℕ, false, true, List, [], refl, inl, inr}
+use Rattle.std.proofs.Common.{ℕ, List, [], refl, inl, inr}
 use Rattle.std.proofs.lemmas.Bool.{false≢true}
 use Rattle.ql_base.specs.IdLists.{IsAscending}
 use Rattle.ql_exec.specs.declared.effect.Effect.{Effect}
-use Rattle.ql_exec.specs.Execution.{IsExecution}
-use Rattle.ql_exec.specs.Relations.{sametxn}
 use Rattle.ql_needs.specs.Closed.{Has, Reaches, here, through}
-use Rattle.ql_needs.specs.Needs.{AreThere, AreWhole, IsNeeded, Needs}
-use Rattle.ql_needs.proofs.Packages.{needed-there}
+use Rattle.ql_needs.specs.Needs.{AreWhole, IsNeeded, Needs}
 use Rattle.ql_machine.specs.Sets.{AreThose}
 use Rattle.ql_reach.specs.Reach.{InEither, IsReach}
 
@@ -15,9 +12,9 @@ found-from : (found : List ℕ) (a : ℕ) → InEither [] found a → Has found 
 found-from found a (inl never) = absurd (false≢true never)
 found-from found a (inr has) = has
 
-pub needed-whole : (x : List Effect) (asked found : List ℕ) → IsExecution x → AreThere x asked → IsReach x asked [] found → AreWhole x found
-needed-whole x asked found law there is = record {
-  there = λ a has. needed-there x asked law there a (is.needed a has);
+pub needed-whole : (x : List Effect) (asked found : List ℕ) → IsReach x asked [] found → AreWhole x found
+needed-whole x asked found is = record {
+  there = is.there;
   whole = λ a b has same. found-from found b (is.whole a b has (inr (refl, same)));
 }
 
