@@ -8,7 +8,7 @@ use Rattle.ql_lang.specs.declared.relation.RelName.TheVariants.{Vis, So, Soo, Sa
 use Rattle.ql_exec.specs.declared.effect.Effect.{Effect}
 use Rattle.ql_exec.specs.Relations.{hb, hb_step, hbo, hbo_step, sameobj, so, some_below, soo, vis}
 use Rattle.ql_formula.specs.Truth.{named}
-use Rattle.ql_formula.proofs.Closures.{leads-step, leads-more}
+use Rattle.ql_exec.proofs.Chains.{leads-step, leads-more}
 use Rattle.ql_blocks.specs.declared.slot.Part.{Part}
 use Rattle.ql_blocks.specs.declared.slot.Part.TheVariants.{Opening, Aide, Own, Closing}
 use Rattle.ql_blocks.specs.declared.slot.Slot.{Slot}

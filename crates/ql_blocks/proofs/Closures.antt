@@ -5,7 +5,8 @@ use Rattle.ql_atoms.specs.declared.atoms.PairKind.TheVariants.{So, SameObj, Hbo,
 use Rattle.ql_exec.specs.declared.effect.Effect.{Effect}
 use Rattle.ql_exec.specs.Relations.{hb, hb_step, hbo, hbo_step, leads, sameobj, so, soo, vis}
 use Rattle.ql_formula.specs.Tables.{GoesForward}
-use Rattle.ql_formula.proofs.Closures.{leads-cases, leads-less}
+use Rattle.ql_exec.proofs.Chains.{leads-cases}
+use Rattle.ql_formula.proofs.Closures.{leads-less}
 use Rattle.ql_blocks.specs.declared.slot.Part.{Part}
 use Rattle.ql_blocks.specs.declared.slot.Part.TheVariants.{Opening, Aide, Own, Closing}
 use Rattle.ql_blocks.specs.declared.slot.Slot.{Slot}

@@ -4,3 +4,4 @@ pub mod Stamps
 pub mod LatestLaws
 pub mod Making
 pub mod StampOrder
+pub mod Chains

@@ -15,7 +15,8 @@ use Rattle.ql_formula.specs.declared.rows.Closure.{Closure}
 use Rattle.ql_formula.specs.declared.rows.Closure.TheVariants.{OnOneObject, Across}
 use Rattle.ql_formula.specs.declared.rows.Key.{Key}
 use Rattle.ql_formula.specs.Tables.{row_has, cell, IsRow, AreRows, GoesForward, IsClosedPart, IsLastBefore, step_of, key_of, follows}
-use Rattle.ql_formula.proofs.Closures.{leads-cases, leads-step, leads-more, leads-less, leads-join, leads-last, leads-first}
+use Rattle.ql_exec.proofs.Chains.{leads-cases, leads-step, leads-more}
+use Rattle.ql_formula.proofs.Closures.{leads-less, leads-join, leads-last, leads-first}
 
 pub same_Bool : (a b : Bool) → (a ≡ true → b ≡ true) → (b ≡ true → a ≡ true) → a ≡ b
 same_Bool true b to from = sym (to refl)

@@ -6,7 +6,7 @@ use Rattle.ql_exec.specs.declared.effect.Effect.{Effect}
 use Rattle.ql_exec.specs.Effects.{effect_at}
 use Rattle.ql_exec.specs.Relations.{hbo, hbo_step, inside, sameobj, sametxn, so, vis}
 use Rattle.ql_formula.specs.Truth.{Holds, HoldsTxn}
-use Rattle.ql_formula.proofs.Closures.{leads-cases}
+use Rattle.ql_exec.proofs.Chains.{leads-cases}
 use Rattle.ql_levels.specs.Formulas.{formula_of, txn_formula_of}
 use Rattle.ql_levels.specs.declared.level.Level.{Level}
 use Rattle.ql_levels.specs.declared.level.Level.TheVariants.{Causal, Eventual, Strong}

@@ -166,6 +166,20 @@ impl Net {
         true
     }
 
+    /// Adds a replica to the group of another, and gives its number. No message is sent.
+    pub fn join(&mut self, near: ReplicaId) -> Result<ReplicaId, NoMemory>
+        requires room { length self.old.groups + 1 < 2 ^ 32 }
+        ensures number { IfOk result (λ joined. joined.0 ≡ length self.old.groups) }
+        ensures joined { OnOk result (self.new ≡ record self.old {
+          groups = self.old.groups ++ group_at self.old.groups near.0 ∷ [];
+        }) }
+        ensures err { OnErr result (self.new ≡ self.old) }
+    {
+        let joined = ReplicaId(self.groups.len() as u32);
+        self.groups.push(group(&self.groups, near))?;
+        Ok(joined)
+    }
+
     /// Gives each replica its group.
     pub fn partition(&mut self, groups: Groups)
         requires { length groups ≡ length self.old.groups }

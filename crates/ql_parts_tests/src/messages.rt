@@ -41,6 +41,8 @@ fn a_message_passes_within_a_group(rt: HostRuntime) -> Result<(), Fail> {
     assert!(rt;
         net.look(MsgId(1)) == Flight::Cut && net.outside(ReplicaId(0)) == Some(ReplicaId(1))
     );
+    let joined = net.join(ReplicaId(1))?;
+    assert!(rt; net.together(joined, ReplicaId(1)) && !net.together(joined, ReplicaId(0)));
     net.heal();
     assert!(rt; net.look(MsgId(1)) == Flight::Ready(ReplicaId(1), ReplicaId(0)));
     assert!(rt; net.outside(ReplicaId(0)).is_none() && net.look(MsgId(2)) == Flight::Gone);

@@ -10,7 +10,7 @@ use ql_holder::Holder;
 use ql_levels::TxnLevel;
 use ql_replica::Replica;
 use ql_shim::Shim;
-use ql_strong::{package_of, sync};
+use ql_strong::{bare, package_of, sync};
 use ql_value::{Value, Values};
 use std::alloc::Global;
 use std::test::Fail;
@@ -135,5 +135,17 @@ fn all_receive_what_is_committed(rt: HostRuntime) -> Result<(), Fail> {
     holders.push(Replica::empty(alloc))?;
     let synced = sync(alloc, &holders, &x, &committed)?;
     assert!(rt; synced.len() == 1 && synced[0].has(EffId(1)) && !synced[0].has(EffId(2)));
+    Ok(())
+}
+
+// The transaction's effect saw effect 1, and no other replica is asked.
+#[test]
+fn a_bare_replica_has_what_its_effects_need(rt: HostRuntime) -> Result<(), Fail> {
+    let alloc = rt.alloc();
+    let x = execution(alloc, &[1])?;
+    let first: Replica = bare(alloc, &x, &package_at(alloc, &x, EffId(1))?)?;
+    assert!(rt; first.has(EffId(1)) && !first.has(EffId(2)));
+    let second: Replica = bare(alloc, &x, &package_at(alloc, &x, EffId(2))?)?;
+    assert!(rt; second.applied(EffId(1)) && second.applied(EffId(2)));
     Ok(())
 }

@@ -1,2 +1,3 @@
 mod RangeLemmas
 mod Edits
+pub mod Ends

@@ -145,9 +145,10 @@ due-few x asked found due law whole w =
 pub due-there : (x : List Effect) (asked found due : List ℕ) → IsExecution x → AreWhole x asked → IsWalk x asked found due → (k : ℕ) → k < length due → (1 ≤ get_or due k 0) × (get_or due k 0 ≤ length x)
 due-there x asked found due law whole w k inside = needed-there x asked law whole.there (get_or due k 0) (w.needed (get_or due k 0) (w.each k inside))
 
-pub reach-from : (x : List Effect) (asked known found due : List ℕ) → AreWhole x asked → ((a b : ℕ) → Has known a → Needs x a b → Has known b) → IsWalk x asked found due
+pub reach-from : (x : List Effect) (asked known found due : List ℕ) → IsExecution x → AreWhole x asked → ((a b : ℕ) → Has known a → Needs x a b → Has known b) → IsWalk x asked found due
     → ((a : ℕ) → Has asked a → InEither known found a) → ((k : ℕ) → k < length due → Visited x asked known found (get_or due k 0)) → IsReach x asked known found
-reach-from x asked known found due whole closed w begins each = record {
+reach-from x asked known found due law whole closed w begins each = record {
+  there = λ a has. needed-there x asked law whole.there a (w.needed a has);
   begins = begins;
   needed = w.needed;
   whole = visited-whole x asked known found (record {

@@ -1,8 +1,8 @@
 -- How a walk goes on.
-use Rattle.std.proofs.Common.{◌≡◌, ℕ, zero, suc, ◌+◌, ◌-◌, ◌<◌, ◌≤◌, Bool, true, false, ◌||◌, nat_eq, List, [], ◌∷◌, ◌++◌, length, get_or, take, Result, Ok, Err, OnOk, refl, ap, sym, subst, ◌∙◌, inl, inr, arith, length-append}
+use Rattle.std.proofs.Common.{◌≡◌, ℕ, zero, suc, ◌+◌, ◌<◌, ◌≤◌, Bool, true, false, ◌||◌, nat_eq, List, [], ◌∷◌, ◌++◌, length, get_or, take, Result, Ok, Err, OnOk, refl, ap, sym, subst, ◌∙◌, inl, inr, arith, length-append}
 use Rattle.std.proofs.lemmas.Bool.{false≢true, or_cases, or_left, or_right, eq-eqb, eqb-true, cases_Bool, both_ways, cases_lt, lt-ltb}
 use Rattle.ql_base.specs.IdLists.{IsBelowAll, IsAscending, has_id, with_id}
-use Rattle.ql_base.proofs.IdLemmas.{IsAscending-with_id, get_or-rises, with_id-later}
+use Rattle.ql_base.proofs.IdLemmas.{IsAscending-with_id, with_id-later}
 use Rattle.ql_exec.specs.declared.effect.Effect.{Effect}
 use Rattle.ql_needs.specs.Closed.{Has}
 use Rattle.ql_needs.specs.Needs.{Needs}
@@ -103,24 +103,6 @@ one_id id a is = elim (or_cases (nat_eq id a) false is) [
   | inl here ↦ eqb-true id a here
   | inr never ↦ absurd (false≢true never)
 ]
-
--- the ids of an ascending list are from its first to its last
-place_of_id : (ids : List ℕ) (a : ℕ) → has_id ids a ≡ true → (k : ℕ) × (k < length ids) × (get_or ids k 0 ≡ a)
-place_of_id [] a is = absurd (false≢true is)
-place_of_id (id ∷ ids) a is = elim (or_cases (nat_eq id a) (has_id ids a) is) [
-  | inl here ↦ (0, omega arith, eqb-true id a here)
-  | inr later ↦ let rest = place_of_id ids a later in (suc rest.0, omega (arith, rest.1), rest.2)
-]
-
-pub between-ends : (ids : List ℕ) (a : ℕ) → IsAscending ids → has_id ids a ≡ true → (get_or ids 0 0 ≤ a) × (a ≤ get_or ids (length ids - 1) 0)
-between-ends ids a ascending is =
-    let place = place_of_id ids a is in
-    let inside = place.1 in
-    let low = get_or-rises ids 0 place.0 ascending (omega arith) inside in
-    let high = get_or-rises ids place.0 (length ids - 1) ascending (omega (arith, inside)) (omega (arith, inside)) in (
-      subst (λ (b : ℕ). get_or ids 0 0 ≤ b) place.2 low,
-      subst (λ (b : ℕ). b ≤ get_or ids (length ids - 1) 0) place.2 high,
-    )
 
 -- nothing is taken in
 pub meets-nothing : (known ids found due : List ℕ) → ((a : ℕ) → Has ids a → InEither known found a) → Meets known ids found due found due

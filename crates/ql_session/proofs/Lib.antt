@@ -1,3 +1,5 @@
 pub mod RowLaws
 pub mod MissingLaws
 pub mod NoteLaws
+pub mod PastLaws
+pub mod WalkLaws

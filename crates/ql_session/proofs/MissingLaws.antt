@@ -1,8 +1,8 @@
 -- The least id that a view lacks, with an id more.
-use Rattle.std.proofs.Common.{◌≡◌, ◌⊎◌, ℕ, min, true, false, nat_eq, List, [], ◌∷◌, ◌++◌, Option, Some, None, refl, sym, ◌∙◌, subst, inl, inr, arith}
+use Rattle.std.proofs.Common.{◌≡◌, ◌⊎◌, ℕ, zero, suc, ◌<◌, ◌≤◌, get_or, length, take, min, true, false, nat_eq, List, [], ◌∷◌, ◌++◌, Option, Some, None, refl, sym, ◌∙◌, subst, inl, inr, arith}
 use Rattle.std.specs.Option.{option_map_or}
 use Rattle.std.proofs.lemmas.Bool.{cases_Bool, false≢true, or_cases, or_left, or_right, eq-eqb, eqb-true}
-use Rattle.ql_base.specs.IdLists.{has_id}
+use Rattle.ql_base.specs.IdLists.{IsAscending, IsBelowAll, has_id}
 use Rattle.ql_base.specs.declared.ids.EffId.{EffId}
 use Rattle.ql_needs.specs.Closed.{Has}
 use Rattle.ql_session.specs.Notes.{IsLeastMissing, missing_with}
@@ -20,7 +20,7 @@ has-new : (ids : List ℕ) (id : ℕ) → Has (ids ++ id ∷ []) id
 has-new [] id = or_left (nat_eq id id) false (eq-eqb id id refl)
 has-new (other ∷ ids) id = or_right (nat_eq other id) (has_id (ids ++ id ∷ []) id) (has-new ids id)
 
-has-cases : (ids : List ℕ) (id a : ℕ) → Has (ids ++ id ∷ []) a → Has ids a ⊎ (id ≡ a)
+pub has-cases : (ids : List ℕ) (id a : ℕ) → Has (ids ++ id ∷ []) a → Has ids a ⊎ (id ≡ a)
 has-cases [] id a has = elim (or_cases (nat_eq id a) false has) [ inl here ↦ inr (eqb-true id a here) | inr never ↦ absurd (false≢true never) ]
 has-cases (other ∷ ids) id a has = elim (or_cases (nat_eq other a) (has_id (ids ++ id ∷ []) a) has) [
   | inl here ↦ inl (or_left (nat_eq other a) (has_id ids a) here)
@@ -69,4 +69,28 @@ pub missing-more : (ids view : List ℕ) (id : ℕ) (least : Option EffId) → I
 missing-more ids view id least is = elim (cases_Bool (has_id view id)) [
   | inl has ↦ rw has (known ids view id least has is)
   | inr lacks ↦ rw lacks (lacked ids view id least lacks is)
+]
+
+-- ---- the first of an ascending list
+
+-- an id is among the first ones, or no lower than the next
+pub first-or-later : (ids : List ℕ) (i a : ℕ) → IsAscending ids → i < length ids → Has ids a → Has (take i ids) a ⊎ (get_or ids i 0 ≤ a)
+first-or-later [] i a ascending inside has = absurd (false≢true has)
+first-or-later (id ∷ ids) zero a ascending inside has = elim (or_cases (nat_eq id a) (has_id ids a) has) [
+  | inl here ↦ (let same = eqb-true id a here in inr (omega (arith, same)))
+  | inr later ↦ (let above = below-all id ids ascending.0 a later in inr (omega (arith, above)))
+]
+  where
+    below-all : (least : ℕ) (others : List ℕ) → IsBelowAll least others → (b : ℕ) → Has others b → least < b
+    below-all least [] below b has = absurd (false≢true has)
+    below-all least (other ∷ others) below b has = elim (or_cases (nat_eq other b) (has_id others b) has) [
+      | inl here ↦ (let same = eqb-true other b here in let less = below.0 in omega (arith, same, less))
+      | inr later ↦ below-all least others below.1 b later
+    ]
+first-or-later (id ∷ ids) (suc i) a ascending inside has = elim (or_cases (nat_eq id a) (has_id ids a) has) [
+  | inl here ↦ inl (or_left (nat_eq id a) (has_id (take i ids) a) here)
+  | inr later ↦ elim (first-or-later ids i a ascending.1 (omega (arith, inside)) later) [
+    | inl first ↦ inl (or_right (nat_eq id a) (has_id (take i ids) a) first)
+    | inr behind ↦ inr behind
+  ]
 ]

@@ -1,13 +1,17 @@
 -- What the lists of notes are after one note more, and of an execution.
-use Rattle.std.proofs.Common.{◌≡◌, ◌⊎◌, ℕ, zero, suc, ◌≤◌, ◌+◌, Some, slice_get, Bool, true, false, cond, nat_eq, List, [], ◌∷◌, ◌++◌, length, map, refl, ap, ◌∙◌, subst, inl, inr, arith}
+use Rattle.std.proofs.Common.{◌≡◌, ◌⊎◌, ℕ, zero, suc, ◌≤◌, ◌+◌, Option, Some, None, sym, slice_get, Bool, true, false, cond, nat_eq, List, [], ◌∷◌, ◌++◌, length, map, refl, ap, ◌∙◌, subst, inl, inr, arith}
 use Rattle.std.specs.List.{filter}
 use Rattle.std.proofs.lemmas.Bool.{false≢true, or_cases, or_left, or_right, eq-eqb, eqb-true}
 use Rattle.ql_base.specs.IdLists.{IsBelowAll, IsAscending, has_id}
+use Rattle.ql_base.specs.declared.ids.ObjId.{ObjId}
 use Rattle.ql_exec.specs.declared.effect.Effect.{Effect}
+use Rattle.ql_exec.specs.Effects.{effect_at}
+use Rattle.ql_exec.specs.Execution.{IsOn}
 use Rattle.ql_needs.specs.Closed.{Has}
-use Rattle.ql_session.specs.Notes.{effects_where}
+use Rattle.ql_machine.specs.Sets.{AreThose}
+use Rattle.ql_session.specs.Notes.{effects_on, effects_where}
 use Rattle.ql_session.specs.declared.note.Note.{Note}
-use Rattle.ql_session.specs.Executions.{note_of, notes_after}
+use Rattle.ql_session.specs.Executions.{note_of, notes_after, notes_of}
 
 -- an execution longer by one effect has one note more
 pub notes_after-push : (k : ℕ) (x : List Effect) (e : Effect) → notes_after k (x ++ e ∷ []) ≡ notes_after k x ++ note_of (k + length x + 1) e ∷ []
@@ -71,3 +75,31 @@ ids-are test k (f ∷ x) a has = elim (has-before (test (note_of (suc k) f)) (su
   | inl here ↦ (zero, f, refl, omega (arith, here.1), subst (λ (n : ℕ). test (note_of n f) ≡ true) here.1 here.0)
   | inr later ↦ (let rest = ids-are test (suc k) x a later in let at = rest.3 in (suc rest.0, rest.1, rest.2, omega (arith, at), rest.4))
 ]
+
+-- the notes that pass a test are of the effects of which something holds, where the test tells it
+pub those : (x : List Effect) (holds : Option Effect → Type 0) (test : Note → Bool) → (holds None → ⊥)
+    → ((a : ℕ) (e : Effect) → holds (Some e) → test (note_of a e) ≡ true) → ((a : ℕ) (e : Effect) → test (note_of a e) ≡ true → holds (Some e))
+    → AreThose (λ a. holds (effect_at x a)) (effects_where test (notes_of x))
+those x holds test none passes tells = record {
+  ascending = ids-ascend test 0 x;
+  all = all;
+  only = λ a has. (let is = ids-are test 0 x a has in let at : suc is.0 ≡ a = (let e = is.3 in omega (arith, e)) in
+      subst (λ (n : ℕ). holds (effect_at x n)) at (subst holds (sym is.2) (tells a is.1 is.4)));
+}
+  where
+    by : (i : ℕ) (o : Option Effect) → effect_at x (suc i) ≡ o → holds o → Has (effects_where test (notes_of x)) (suc i)
+    by i None is held = absurd (none held)
+    by i (Some e) is held = ids-have test 0 x i (suc i) e is (omega arith) (passes (suc i) e held)
+
+    all : (a : ℕ) → holds (effect_at x a) → Has (effects_where test (notes_of x)) a
+    all zero held = absurd (none held)
+    all (suc i) held = by i (effect_at x (suc i)) refl held
+
+pub object-is : (o p : ObjId) → nat_eq o.0 p.0 ≡ true → o ≡ p
+object-is o p same = ap (λ (n : ℕ). let id : ObjId = record { 0 = n } in id) (eqb-true o.0 p.0 same)
+
+-- the effects on an object
+pub on-those : (x : List Effect) (o : ObjId) → AreThose (λ a. IsOn o (effect_at x a)) (effects_on (notes_of x) o)
+on-those x o =
+    those x (IsOn o) (λ (n : Note). nat_eq n.object.0 o.0) (λ never. never)
+    (λ a e held. eq-eqb e.object.0 o.0 (ap (λ (p : ObjId). p.0) held)) (λ a e pass. object-is e.object o pass)

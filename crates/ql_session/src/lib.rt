@@ -1,4 +1,5 @@
-// What each session did, in lists by session and object, so that a causal call finds what it misses.
+// What each session did, in lists by session and object, so that a causal call finds what it misses, and
+// a call that has to see all that it could know of finds that.
 // The one contract: the notes are a list, and each call answers of that list alone; the notes of an
 // execution tell of it which effects a session made on an object.
 #![tactic(auto)]
@@ -7,6 +8,7 @@ mod index;
 mod law;
 mod missing;
 mod note;
+mod past;
 mod rows;
 mod sessions;
 

@@ -1,10 +1,14 @@
-ghost use Rattle.std.specs.Prelude.{◌≡◌, ◌-◌, ◌≤◌, ◌∷◌, ◌++◌, [], length, take, OnOk, OnErr};
+ghost use Rattle.std.specs.Prelude.{◌≡◌, ◌-◌, ◌≤◌, ◌∷◌, ◌++◌, [], length, take, IfOk, OnOk, OnErr};
+ghost use Rattle.ql_session.specs.Executions.{notes_of};
+ghost use Rattle.ql_session.specs.Past.{IsLeastOf, IsMissingPast};
 ghost use Rattle.ql_session.specs.Notes.{effects_by, effects_on, stamps_of, last_or_zero, IsLeastMissing};
 
 use crate::index::Index;
 use crate::missing::least_missing_of;
 use crate::note::Note;
+use crate::past::{first_missing, past_of};
 use ql_base::{EffId, IdSet, NoMemory, ObjId, SessId};
+use ql_exec::Execution;
 use std::alloc::Global;
 use std::marker::Model;
 
@@ -97,5 +101,22 @@ impl Sessions {
         ensures { IsLeastMissing (effects_by self.now s o) view.now result }
     {
         least_missing_of(self.index.pair(s, o), view)
+    }
+
+    /// The least effect on the object that the view lacks, of all that the session and the view know:
+    /// what the session did on any object, what the view has, and all that happened before one of these.
+    /// Goes through the execution once; what each effect saw is looked up where it isn't all known.
+    pub fn least_missing_wide(
+        &self,
+        s: SessId,
+        o: ObjId,
+        view: &IdSet,
+        x: &Execution,
+    ) -> Result<Option<EffId>, NoMemory>
+        requires { self.now ≡ notes_of x.now }
+        ensures { IfOk result (IsLeastOf (IsMissingPast x.now s o view.now)) }
+    {
+        let past = past_of(*self.notes.allocator(), x, s, view)?;
+        Ok(first_missing(self.on(o), &past, view))
     }
 }

@@ -1,2 +1,3 @@
 pub mod PackageLaws
 pub mod SyncLaws
+pub mod BareLaws

@@ -37,7 +37,8 @@ pub fn sync<H: Holder>(
     Ok(synced)
 }
 
-fn made_whole<H: Holder>(
+/// A holder that received what another did and all else of whole transactions.
+pub(crate) fn made_whole<H: Holder>(
     alloc: Global,
     holder: &H,
     x: &Execution,

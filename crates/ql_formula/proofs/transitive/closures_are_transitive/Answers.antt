@@ -3,7 +3,8 @@ use Rattle.ql_exec.specs.Relations.{leads, hb_step, hbo_step}
 use Rattle.ql_formula.specs.declared.rows.Closure.TheVariants.{OnOneObject, Across}
 use Rattle.ql_formula.specs.TransitiveClosures.{Includes, IsTransitive, IsTransitiveClosure}
 use Rattle.ql_formula.specs.Tables.{GoesForward}
-use Rattle.ql_formula.proofs.Closures.{leads-cases, leads-step, leads-join}
+use Rattle.ql_exec.proofs.Chains.{leads-cases, leads-step}
+use Rattle.ql_formula.proofs.Closures.{leads-join}
 use Rattle.ql_formula.proofs.RowLaws.{step_forward}
 use Rattle.ql_formula.proofs.transitive.closures_are_transitive.Goals as goal
 

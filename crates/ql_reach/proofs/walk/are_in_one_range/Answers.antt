@@ -1,6 +1,6 @@
-use Rattle.std.proofs.Common.{ℕ, ◌-◌, ◌<◌, length, arith}
+use Rattle.std.proofs.Common.{◌-◌, ◌<◌, length, arith}
 use Rattle.ql_base.proofs.IdLemmas.{get_or-rises}
-use Rattle.ql_reach.proofs.WalkLaws.{between-ends}
+use Rattle.ql_ranges.proofs.Ends.{between-ends}
 use Rattle.ql_reach.proofs.walk.are_in_one_range.Goals as goal
 
 pub has_all-requires : goal.has_all-requires

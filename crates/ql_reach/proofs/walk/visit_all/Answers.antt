@@ -63,5 +63,5 @@ loop-visited-preserved c =
 
 pub returns : goal.returns
 returns c =
-    reach-from c.args.effects.now c.args.asked.now (ids_of c.args.known.now) (ids_of c.loop-visited.walk.found) c.loop-visited.walk.due.items c.requires.asked c.requires.known
+    reach-from c.args.effects.now c.args.asked.now (ids_of c.args.known.now) (ids_of c.loop-visited.walk.found) c.loop-visited.walk.due.items c.requires.law c.requires.asked c.requires.known
     c.loop-visited.invariant.walk c.loop-visited.invariant.begins (λ k h. c.loop-visited.invariant.done k (omega arith))

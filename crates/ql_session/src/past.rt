@@ -1,0 +1,105 @@
+ghost use Rattle.std.specs.Prelude.{◌≡◌, ◌↔◌, ◌-◌, ◌≤◌, ℕ, false, List, IfOk, IsTrue, OnOk, length};
+ghost use Rattle.ql_base.specs.IdLists.{IsAscending, has_id};
+ghost use Rattle.ql_exec.specs.declared.effect.Effect.{Effect};
+ghost use Rattle.ql_exec.specs.Execution.{IsExecution};
+ghost use Rattle.ql_needs.specs.Closed.{Has};
+ghost use Rattle.ql_ranges.specs.Ranges.{ids_of};
+ghost use Rattle.ql_session.specs.Past.{InPast, IsLeastOf};
+ghost use Rattle.ql_session.specs.Walks.{GoesDown, IsWalk, Joins};
+
+use ql_base::{EffId, IdSet, NoMemory, SessId};
+use ql_exec::Execution;
+use ql_ranges::Ranges;
+use std::alloc::Global;
+
+/// All effects of a session and of a view, and all that happened before one of them.
+///
+/// The execution is gone through once, from its end. What sees ids that were all met, with all between
+/// them, takes no time for these.
+pub(crate) fn past_of(
+    alloc: Global,
+    x: &Execution,
+    session: SessId,
+    view: &IdSet,
+) -> Result<Ranges, NoMemory>
+    ensures { IfOk result (λ past. (a : ℕ) → 1 ≤ a → a ≤ length x.now → Has (ids_of past) a ↔ InPast x.now session view.now a) }
+{
+    let mut walk = begin(alloc, session, view)?;
+    visit_all(x, &mut walk)?;
+    Ok(walk.met)
+}
+
+// What of the past was met: effects, and sessions whose earlier effects are all of it.
+#[derive(Drop)]
+struct Walk {
+    met: Ranges,
+    sessions: Ranges,
+}
+
+fn begin(alloc: Global, session: SessId, view: &IdSet) -> Result<Walk, NoMemory>
+    ensures { IfOk result (λ walk. (x : List Effect) → IsWalk x session view.now (length x) (ids_of walk.met) (ids_of walk.sessions)) }
+{
+    let mut sessions = Ranges::new(alloc);
+    sessions.insert(session.0)?;
+    Ok(Walk {
+        met: Ranges::new(alloc).union(view)?,
+        sessions,
+    })
+}
+
+fn visit_all(x: &Execution, walk: &mut Walk) -> Result<(), NoMemory>
+    ensures { OnOk result (GoesDown x.now (length x.now) (ids_of walk.old.met) (ids_of walk.old.sessions) 0 (ids_of walk.new.met) (ids_of walk.new.sessions)) }
+{
+    let mut left = x.len();
+    while left > 0 {
+        visit(x, walk, EffId(left))?;
+        left -= 1;
+    }
+    Ok(())
+}
+
+// Takes in the effect, where it is of the past.
+fn visit(x: &Execution, walk: &mut Walk, e: EffId) -> Result<(), NoMemory>
+    requires law { IsExecution x.now }
+    requires first { 1 ≤ e.0 }
+    requires last { e.0 ≤ length x.now }
+    ensures { OnOk result (GoesDown x.now e.0 (ids_of walk.old.met) (ids_of walk.old.sessions) (e.0 - 1) (ids_of walk.new.met) (ids_of walk.new.sessions)) }
+{
+    let effect = x.get(e);
+    if !walk.met.has(e.0) && !walk.sessions.has(effect.session.0) {
+        return Ok(());
+    }
+    walk.sessions.insert(effect.session.0)?;
+    walk.met.insert(e.0)?;
+    meet_all(&mut walk.met, &effect.seen)
+}
+
+fn meet_all(met: &mut Ranges, ids: &IdSet) -> Result<(), NoMemory>
+    ensures { OnOk result (Joins (ids_of met.old) ids.now (ids_of met.new)) }
+{
+    if !are_in_one_range(met, ids.items()) {
+        *met = met.union(ids)?;
+    }
+    Ok(())
+}
+
+// Whether all ids from the first to the last are there, so that none has to be looked up.
+fn are_in_one_range(met: &Ranges, ids: &[u32]) -> bool
+    requires { IsAscending ids.now }
+    ensures { IsTrue result → (a : ℕ) → Has ids.now a → Has (ids_of met.now) a }
+{
+    ids.is_empty() || met.has_all(ids[0], ids[ids.len() - 1])
+}
+
+/// The least of some ids that is of the past and that a view lacks.
+pub(crate) fn first_missing(ids: &[u32], past: &Ranges, view: &IdSet) -> Option<EffId>
+    requires { IsAscending ids.now }
+    ensures { IsLeastOf (λ a. Has ids.now a × Has (ids_of past.now) a × (has_id view.now a ≡ false)) result }
+{
+    for id in ids {
+        if past.has(*id) && !view.has(*id) {
+            return Some(EffId(*id));
+        }
+    }
+    None
+}

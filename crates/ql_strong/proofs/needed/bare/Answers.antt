@@ -1,0 +1,25 @@
+use Rattle.std.proofs.Common.{IfOk, Result, Ok, Err, subst, sym}
+use Rattle.ql_machine.specs.Sets.{AreThose}
+use Rattle.ql_needs.specs.Needs.{AreWhole, IsNeeded}
+use Rattle.ql_ranges.specs.Ranges.{ids_of}
+use Rattle.ql_reach.specs.Reach.{IsReach}
+use Rattle.ql_strong.proofs.BareLaws.{needed-whole, needed-those}
+use Rattle.ql_strong.proofs.needed.bare.Goals as goal
+
+pub made_whole-requires-clause-whole : goal.made_whole-requires-clause-whole
+made_whole-requires-clause-whole g c =
+    let found = subst (λ known. IsReach c.args.x.now c.args.strong.now (ids_of known) c.in_ok-needed.needed) c.new.ensures c.in_ok-needed.ensures in
+    subst (AreWhole c.args.x.now) (sym c.items.ensures.same) (needed-whole c.args.x.now c.args.strong.now c.in_ok-needed.needed found)
+
+pub returns-clause-received : goal.returns-clause-received
+returns-clause-received g c =
+    let x = c.args.x.now in
+    let strong = c.args.strong.now in
+    let found = subst (λ known. IsReach x strong (ids_of known) c.in_ok-needed.needed) c.new.ensures c.in_ok-needed.ensures in
+    let those : AreThose (IsNeeded x strong) c.items.result.now =
+    subst (AreThose (IsNeeded x strong)) (sym c.items.ensures.same) (needed-those x strong c.in_ok-needed.needed c.items.ensures.ascending found) in
+    if_ok c.made_whole.result (λ h is. subst (AreThose (IsNeeded x strong)) (sym is) those) c.made_whole.ensures.received
+  where
+    if_ok : {A E : Type 0} (r : Result A E) {P Q : A → Type 0} → ((a : A) → P a → Q a) → IfOk r P → IfOk r Q
+    if_ok (Ok a) f is = f a is
+    if_ok (Err e) f is = tt
