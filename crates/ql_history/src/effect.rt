@@ -1,6 +1,6 @@
 use crate::begun::{Begun, begun_of};
 use crate::part::first_part;
-use ql_base::{IdSet, NoMemory, Word, push_bytes};
+use ql_base::{IdSet, NoMemory, Word, is_name, push_bytes};
 use ql_lines::{after_name, after_number, after_word, ascending_ids, first_field};
 use std::alloc::Global;
 
@@ -16,9 +16,6 @@ pub struct Effect {
     pub session: u32,
     pub begun: Option<Begun>,
     pub seen: IdSet,
-    /// Where it is drawn: the event that it was made at, counted from 0, and its replica.
-    pub column: u32,
-    pub replica: u32,
 }
 
 /// What the line of an effect says, as it is spelled.
@@ -29,12 +26,12 @@ pub(crate) struct Spelled<'a> {
     pub args: &'a [u8],
     pub answer: &'a [u8],
     pub session: u32,
-    pub begun: Option<Begun>,
+    pub txn: &'a [u8],
     pub seen: &'a [u8],
 }
 
 /// What the line of the effect of this number says.
-pub(crate) fn spelled(text: &[u8], id: u32) -> Option<Spelled> {
+pub(crate) fn read_spelled(text: &[u8], id: u32) -> Option<Spelled> {
     let (object, op, rest) = heading(text, id)?;
     match after_word(rest, b"session") {
         Some(behind) => bare(object, op, behind),
@@ -65,7 +62,7 @@ fn bare<'a>(object: &'a [u8], op: &'a [u8], text: &'a [u8]) -> Option<Spelled<'a
         args: b"",
         answer: b"",
         session,
-        begun: None,
+        txn: b"-",
         seen,
     })
 }
@@ -73,14 +70,14 @@ fn bare<'a>(object: &'a [u8], op: &'a [u8], text: &'a [u8]) -> Option<Spelled<'a
 // An effect of an execution: its call, and then its setting.
 fn full<'a>(object: &'a [u8], op: &'a [u8], text: &'a [u8]) -> Option<Spelled<'a>> {
     let (args, answer, rest) = call(text)?;
-    let (session, begun, seen) = setting(rest)?;
+    let (session, txn, seen) = setting(rest)?;
     Some(Spelled {
         object,
         op,
         args,
         answer,
         session,
-        begun,
+        txn,
         seen,
     })
 }
@@ -95,16 +92,17 @@ fn call(text: &[u8]) -> Option<(&[u8], &[u8], &[u8])> {
     Some((args, answer, behind))
 }
 
-// The session, the begun transaction, and what stands behind the word `vis`.
-fn setting(text: &[u8]) -> Option<(u32, Option<Begun>, &[u8])> {
+// The session, the field of the begun transaction, and what stands behind the word `vis`.
+fn setting(text: &[u8]) -> Option<(u32, &[u8], &[u8])> {
     let rest = after_word(text, b"session")?;
     let (session, rest) = after_number(rest, 255)?;
     let rest = after_word(rest, b"txn")?;
     let (txn, rest) = first_field(rest)?;
     let seen = after_stamp(rest)?;
-    match begun_of(txn) {
-        None if txn != b"-" => None,
-        begun => Some((session, begun, seen)),
+    if txn == b"-".as_slice() || begun_of(txn).is_some() {
+        Some((session, txn, seen))
+    } else {
+        None
     }
 }
 
@@ -121,8 +119,10 @@ pub(crate) fn effect_of(
     alloc: Global,
     spelled: Spelled,
     object: u32,
-    op: Word,
 ) -> Result<Option<Effect>, NoMemory> {
+    let Some(op) = named(spelled.op) else {
+        return Ok(None);
+    };
     let Some(seen) = ascending_ids(alloc, spelled.seen)? else {
         return Ok(None);
     };
@@ -134,11 +134,17 @@ pub(crate) fn effect_of(
         call,
         answer,
         session: spelled.session,
-        begun: spelled.begun,
+        begun: begun_of(spelled.txn),
         seen,
-        column: 0,
-        replica: 0,
     }))
+}
+
+fn named(word: &[u8]) -> Option<Word> {
+    if is_name(word) {
+        Some(Word::of(word))
+    } else {
+        None
+    }
 }
 
 // A word, and another one behind it where there is one.

@@ -62,7 +62,9 @@ impl Inside {
             (Inside::Quotes(depth), b'"') => Inside::out_of_quotes(depth),
             (Inside::Nothing, b'(' | b'{') => Inside::Brackets(1),
             (Inside::Brackets(depth), b'(' | b'{') => Inside::Brackets(depth.saturating_add(1)),
-            (Inside::Brackets(depth), b')' | b'}') => Inside::out_of_quotes(depth.saturating_sub(1)),
+            (Inside::Brackets(depth), b')' | b'}') => Inside::out_of_quotes(depth.saturating_sub(
+                1,
+            )),
             (same, _) => same,
         }
     }

@@ -35,11 +35,7 @@ pub struct Reply {
 }
 
 /// The reply that a line says, whose number is to be this one.
-pub(crate) fn reply_of(
-    alloc: Global,
-    text: &[u8],
-    number: u32,
-) -> Result<Option<Reply>, NoMemory> {
+pub(crate) fn reply_of(alloc: Global, text: &[u8], number: u32) -> Result<Option<Reply>, NoMemory> {
     let Some((text, word, number)) = spelled(text, number) else {
         return Ok(None);
     };

@@ -1,6 +1,6 @@
 ghost use Rattle.std.specs.Prelude.{◌<◌, ◌^◌};
 
-use crate::effect::{Effect, Spelled, effect_of, spelled};
+use crate::effect::{Effect, Spelled, effect_of, read_spelled};
 use crate::fault::{DrawnFault, DrawnRule, LineFault};
 use crate::part::{is_word, without_spaces};
 use crate::reply::{Reply, reply_of};
@@ -30,6 +30,34 @@ pub struct Run {
     pub effects: Vec<Effect>,
     /// The words of a countermodel behind its level, as `at 2 a=1`, or where a contract of `holds` is judged.
     pub why: Vec<u8>,
+}
+
+impl Run {
+    /// The level of an operation or of a transaction, empty where none is told.
+    pub fn level_of(&self, is_txn: bool, name: Word) -> &[u8] {
+        match self
+            .levels
+            .iter()
+            .find(|one| one.is_txn == is_txn && one.name == name)
+        {
+            Some(one) => &one.level,
+            None => b"",
+        }
+    }
+
+    /// Whether an effect's operation is strong.
+    pub fn is_strong(&self, effect: &Effect) -> bool {
+        self.level_of(false, effect.op) == b"strong".as_slice()
+    }
+
+    /// The name of the object of a number.
+    pub fn object_name(&self, number: u32) -> &[u8] {
+        if number < self.objects.len() {
+            self.objects.name(number).bytes()
+        } else {
+            b""
+        }
+    }
 }
 
 // Where a line stands.
@@ -139,7 +167,7 @@ fn take_effect(alloc: Global, run: &mut Run, text: &[u8]) -> Result<Stage, LineF
     if count >= MOST {
         return Err(LineFault::Breaks(DrawnRule::TooMany));
     }
-    match spelled(text, count as u32 + 1) {
+    match read_spelled(text, count as u32 + 1) {
         Some(spelled) => push_effect(alloc, run, spelled, count as u32)?,
         None => return Err(LineFault::Breaks(DrawnRule::Unexpected)),
     }
@@ -147,11 +175,17 @@ fn take_effect(alloc: Global, run: &mut Run, text: &[u8]) -> Result<Stage, LineF
 }
 
 // One more effect, behind so many.
-fn push_effect(alloc: Global, run: &mut Run, spelled: Spelled, count: u32) -> Result<(), LineFault> {
-    let Some(object) = object_number(&mut run.objects, spelled.object)? else {
+fn push_effect(
+    alloc: Global,
+    run: &mut Run,
+    spelled: Spelled,
+    count: u32,
+) -> Result<(), LineFault> {
+    let name = spelled.object;
+    let Some(object) = object_number(&mut run.objects, name)? else {
         return Err(LineFault::Breaks(DrawnRule::TooMany));
     };
-    let Some(effect) = effect_of(alloc, spelled, object, Word::of(spelled.op))? else {
+    let Some(effect) = effect_of(alloc, spelled, object)? else {
         return Err(LineFault::Breaks(DrawnRule::Unexpected));
     };
     if effect.seen.items().last().is_some_and(|last| *last > count) {

@@ -13,13 +13,19 @@ pub enum Step {
         call: Vec<u8>,
     },
     /// The begin of a transaction, with its name.
-    Begin { caller: Caller, name: Vec<u8> },
+    Begin {
+        caller: Caller,
+        name: Vec<u8>,
+    },
     Commit(Caller),
     Deliver(u32),
     Repeat(u32),
     Lose(u32),
     /// A replica sends an effect once more to another.
-    Resend { from: u32, to: u32 },
+    Resend {
+        from: u32,
+        to: u32,
+    },
     /// The group of each replica.
     Partition(Vec<u32>),
     Heal,
@@ -33,11 +39,7 @@ pub struct Caller {
 }
 
 /// The event that a line says, in a store of so many replicas.
-pub(crate) fn step_of(
-    alloc: Global,
-    text: &[u8],
-    replicas: u32,
-) -> Result<Option<Step>, NoMemory> {
+pub(crate) fn step_of(alloc: Global, text: &[u8], replicas: u32) -> Result<Option<Step>, NoMemory> {
     let Some((word, rest)) = first_field(text) else {
         return Ok(None);
     };
@@ -75,7 +77,7 @@ fn call(alloc: Global, text: &[u8], replicas: u32) -> Result<Option<Step>, NoMem
 
 // Who calls, the name of the object, and the rest of the line from the operation on.
 fn called(text: &[u8], replicas: u32) -> Option<(Caller, &[u8], &[u8])> {
-    let (caller, rest) = caller(text, replicas)?;
+    let (caller, rest) = after_caller(text, replicas)?;
     let (object, rest) = after_name(rest)?;
     let (_, _) = after_name(rest)?;
     Some((caller, object, without_spaces(rest)))
@@ -92,13 +94,13 @@ fn begin(alloc: Global, text: &[u8], replicas: u32) -> Result<Option<Step>, NoMe
 }
 
 fn begun(text: &[u8], replicas: u32) -> Option<(Caller, &[u8])> {
-    let (caller, rest) = caller(text, replicas)?;
+    let (caller, rest) = after_caller(text, replicas)?;
     let (name, _) = after_name(rest)?;
     Some((caller, name))
 }
 
 fn commit(text: &[u8], replicas: u32) -> Option<Step> {
-    let (caller, rest) = caller(text, replicas)?;
+    let (caller, rest) = after_caller(text, replicas)?;
     match first_field(rest) {
         Some(_) => None,
         None => Some(Step::Commit(caller)),
@@ -119,7 +121,7 @@ fn resend(text: &[u8], replicas: u32) -> Option<Step> {
 }
 
 // A session, and a replica of so many.
-fn caller(text: &[u8], replicas: u32) -> Option<(Caller, &[u8])> {
+fn after_caller(text: &[u8], replicas: u32) -> Option<(Caller, &[u8])> {
     let (session, rest) = after_number(text, 255)?;
     let rest = after_word(rest, b"at")?;
     let (replica, behind) = after_number(rest, replicas)?;
