@@ -1,6 +1,6 @@
-use crate::lanes::Lane;
+use crate::lanes::{Lane, is_in_lane};
 use ql_base::{IdSet, NoMemory};
-use ql_history::Column;
+use ql_history::{Column, Spot};
 use std::alloc::Global;
 
 /// How many bytes of a text are shown.
@@ -14,6 +14,9 @@ pub(crate) const LEFT: u32 = 100;
 
 /// Where rows begin, below the numbers of events.
 pub(crate) const TOP: u32 = 34;
+
+// The least space between columns.
+const STEP: u32 = 44;
 
 const NARROWEST: u32 = 21;
 
@@ -36,16 +39,32 @@ pub(crate) fn text_width(text: &[u8]) -> u32 {
     (text.len().min(MOST_SHOWN) as u32).saturating_mul(LETTER)
 }
 
-/// The places of columns from the left.
-pub(crate) fn column_places(alloc: Global, halves: &[u32]) -> Result<IdSet, NoMemory> {
+/// The places of columns from the left: each behind the one before it, and behind the texts of its own row.
+pub(crate) fn column_places(
+    alloc: Global,
+    columns: &[Column],
+    halves: &[u32],
+) -> Result<IdSet, NoMemory> {
     let mut places = IdSet::new(alloc);
-    let mut x = LEFT;
-    for half in halves {
-        x = x.saturating_add(*half);
+    let mut next = 0u32;
+    for (column, half) in columns.iter().zip(halves.iter()) {
+        let free = row_end(columns, places.items(), halves, column.spot);
+        let x = next.max(free.saturating_add(*half));
         places.insert(x)?;
-        x = x.saturating_add(*half);
+        next = x.saturating_add(STEP);
     }
     Ok(places)
+}
+
+// Where the texts of a row end, among the columns that have their places.
+fn row_end(columns: &[Column], places: &[u32], halves: &[u32], spot: Spot) -> u32 {
+    let mut end = LEFT;
+    for ((column, x), half) in columns.iter().zip(places.iter()).zip(halves.iter()) {
+        if is_in_lane(column.spot, spot) {
+            end = end.max(x.saturating_add(*half));
+        }
+    }
+    end
 }
 
 /// The places of rows from the top.
@@ -71,7 +90,7 @@ pub(crate) fn room_above(lane: Lane) -> u32 {
 /// The room that a row takes below its line.
 pub(crate) fn room_below(lane: Lane) -> u32 {
     match lane.session {
-        Some(_) => 40,
+        Some(_) => 52,
         None => 30,
     }
 }

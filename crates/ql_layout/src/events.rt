@@ -3,6 +3,7 @@ use crate::grid::Grid;
 use crate::marks::Marked;
 use crate::pen::{Pen, plain, point};
 use crate::picture::Scene;
+use crate::transactions::level_of;
 use ql_base::{NoMemory, push_number};
 use ql_history::{Cause, Column, Happening, History, Spot};
 use ql_svg::{Kind, Point};
@@ -170,19 +171,36 @@ fn draw_cause(
 
 /// A strong call is one step of all replicas: a line through their lines.
 pub(crate) fn draw_steps(pen: &mut Pen, history: &History, grid: &Grid) -> Result<(), NoMemory> {
-    if history.replicas == 0 {
-        return Ok(());
-    }
-    let first = grid.replica_y(0);
-    let last = grid.replica_y(history.replicas - 1);
     for seat in &history.seats {
         if seat.is_strong {
-            let at = grid.point(seat.spot);
-            pen.line(
-                Kind::Step,
-                point(at.x, first.min(at.y)),
-                point(at.x, last.max(at.y)),
-            )?;
+            draw_step(pen, history.replicas, grid, grid.point(seat.spot))?;
+        }
+    }
+    Ok(())
+}
+
+fn draw_step(pen: &mut Pen, replicas: u32, grid: &Grid, at: Point) -> Result<(), NoMemory> {
+    for replica in 0..replicas {
+        draw_joint(pen, point(at.x, grid.replica_y(replica)), at)?;
+    }
+    Ok(())
+}
+
+// A line from a replica's line to a mark.
+fn draw_joint(pen: &mut Pen, joint: Point, at: Point) -> Result<(), NoMemory> {
+    pen.line(Kind::Step, joint, at)?;
+    let corner = point(joint.x.saturating_sub(4), joint.y.saturating_sub(4));
+    pen.rect(plain(Kind::Joint), corner, point(8, 8))
+}
+
+/// The moment that each rr transaction sees: a line from its replica's line to its begin.
+pub(crate) fn draw_moments(pen: &mut Pen, scene: Scene, grid: &Grid) -> Result<(), NoMemory> {
+    for column in &scene.history.columns {
+        if let (Happening::Opened, Some(number)) = (column.happening, column.begun) {
+            if level_of(scene, number) == b"rr".as_slice() {
+                let at = grid.point(column.spot);
+                draw_joint(pen, point(at.x, grid.replica_y(column.spot.replica)), at)?;
+            }
         }
     }
     Ok(())

@@ -24,7 +24,7 @@ pub fn grid_of(alloc: Global, history: &History) -> Result<Grid, NoMemory> {
     let halves = halves(alloc, &history.columns)?;
     let lanes = lanes_of(alloc, history)?;
     Ok(Grid {
-        columns: column_places(alloc, &halves)?,
+        columns: column_places(alloc, &history.columns, &halves)?,
         halves,
         rows: row_places(alloc, &lanes)?,
         lanes,
@@ -75,9 +75,11 @@ impl Grid {
 
     /// Where the columns end.
     pub(crate) fn right(&self) -> u32 {
-        let last = self.columns.items().last().copied().unwrap_or(LEFT);
-        let half = self.halves.last().copied().unwrap_or(0);
-        last.saturating_add(half)
+        let mut right = LEFT;
+        for (x, half) in self.columns.items().iter().zip(self.halves.iter()) {
+            right = right.max(x.saturating_add(*half));
+        }
+        right
     }
 }
 

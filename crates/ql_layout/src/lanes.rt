@@ -1,4 +1,4 @@
-ghost use Rattle.std.specs.Prelude.{◌≡◌};
+ghost use Rattle.std.specs.Prelude.{◌≡◌, position};
 ghost use Rattle.std.specs.List.{position_or_len};
 ghost use Rattle.ql_layout.specs.Places.{is_lane_of, same_session};
 
@@ -17,10 +17,16 @@ pub struct Lane {
 pub(crate) fn row_of(lanes: &[Lane], spot: Spot) -> usize
     ensures { result ≡ position_or_len (is_lane_of spot) lanes.now }
 {
-    match lanes.iter().position(|lane| is_lane_of(spot, *lane)) {
+    match first_lane(lanes, spot) {
         Some(row) => row,
         None => lanes.len(),
     }
+}
+
+fn first_lane(lanes: &[Lane], spot: Spot) -> Option<usize>
+    ensures { result ≡ position (is_lane_of spot) lanes.now }
+{
+    lanes.iter().position(|lane| is_lane_of(spot, *lane))
 }
 
 fn is_lane_of(spot: Spot, lane: Lane) -> bool
@@ -37,6 +43,11 @@ fn same_session(one: Option<u32>, other: Option<u32>) -> bool
         (None, None) => true,
         _ => false,
     }
+}
+
+/// Whether two spots are of one session at one replica.
+pub(crate) fn is_in_lane(one: Spot, other: Spot) -> bool {
+    one.replica == other.replica && same_session(one.session, other.session)
 }
 
 /// The rows of a history: each replica's line, where there are replicas, and below it those of its sessions.

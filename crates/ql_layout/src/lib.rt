@@ -20,5 +20,5 @@ mod visibility;
 
 pub use grid::{Grid, grid_of};
 pub use lanes::Lane;
-pub use marks::{Marked, marked};
+pub use marks::{Marked, marks_of};
 pub use picture::{Scene, picture_of};

@@ -11,7 +11,7 @@ pub struct Marked {
 
 /// The effects that the words of a breach name: `a=3` is effect 3 as `a`, and `at 2` effect 2 as `cur`. All other words
 /// say nothing.
-pub fn marked(alloc: Global, words: &[u8]) -> Result<Vec<Marked>, NoMemory> {
+pub fn marks_of(alloc: Global, words: &[u8]) -> Result<Vec<Marked>, NoMemory> {
     let mut marks = Vec::new(alloc);
     let mut rest = words;
     let mut is_behind_at = false;

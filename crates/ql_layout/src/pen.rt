@@ -3,6 +3,9 @@ use ql_base::{NoMemory, push_bytes};
 use ql_svg::{Kind, Point, Shape, Style};
 use std::alloc::Global;
 
+// How many bytes are kept of a longer one.
+const KEPT: usize = 28;
+
 /// What is drawn, one shape above another.
 #[derive(Drop)]
 pub(crate) struct Pen {
@@ -85,7 +88,8 @@ fn shown(alloc: Global, text: &[u8]) -> Result<Vec<u8>, NoMemory> {
     if text.len() <= MOST_SHOWN {
         return Ok(Vec::from_slice(alloc, text)?);
     }
-    let mut front = Vec::from_slice(alloc, &text[..MOST_SHOWN - 2])?;
+    let count = KEPT.min(text.len());
+    let mut front = Vec::from_slice(alloc, &text[..count])?;
     push_bytes(&mut front, b"..")?;
     Ok(front)
 }

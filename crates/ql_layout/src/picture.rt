@@ -2,7 +2,7 @@ ghost use Rattle.std.specs.Prelude.{IfOk};
 ghost use Rattle.ql_layout.specs.Dots.{AreDotsOf};
 
 use crate::dots::dots_of;
-use crate::events::{draw_causes, draw_events, draw_steps};
+use crate::events::{draw_causes, draw_events, draw_moments, draw_steps};
 use crate::grid::Grid;
 use crate::legend::{draw_note, draw_objects};
 use crate::marks::Marked;
@@ -57,6 +57,7 @@ fn ground(alloc: Global, scene: Scene, grid: &Grid) -> Result<Vec<ql_svg::Shape>
 
 fn draw_arrows(pen: &mut Pen, scene: Scene, grid: &Grid) -> Result<(), NoMemory> {
     draw_steps(pen, scene.history, grid)?;
+    draw_moments(pen, scene, grid)?;
     draw_passages(pen, scene.history, grid)?;
     draw_causes(pen, scene.history, grid)?;
     draw_visibility(pen, scene, grid)
@@ -71,5 +72,5 @@ fn legend(alloc: Global, pen: &mut Pen, scene: Scene, top: u32) -> Result<u32, N
 
 // Where the rows end.
 fn bottom(grid: &Grid) -> u32 {
-    grid.rows.last().copied().unwrap_or(0).saturating_add(40)
+    grid.rows.last().copied().unwrap_or(0).saturating_add(50)
 }

@@ -76,12 +76,12 @@ fn draw_stay(
     pen.rect(
         plain(Kind::Transaction),
         point(left, top),
-        point(right.saturating_sub(left), 83),
+        point(right.saturating_sub(left), 96),
     )?;
     pen.label(
         alloc,
         Kind::TransactionName,
-        point(left.saturating_add(6), top.saturating_add(13)),
+        point(left.saturating_add(6), top.saturating_add(90)),
         &name,
     )
 }
@@ -94,9 +94,17 @@ fn name_of(alloc: Global, scene: Scene, number: u32) -> Result<Vec<u8>, NoMemory
         push_bytes(&mut name, b":")?;
         push_bytes(&mut name, begun.name.bytes())?;
         push_bytes(&mut name, b" ")?;
-        push_bytes(&mut name, scene.run.level_of(true, begun.name))?;
+        push_bytes(&mut name, level_of(scene, number))?;
     }
     Ok(name)
+}
+
+/// The level of a begun transaction, empty where it isn't known.
+pub(crate) fn level_of(scene: Scene, number: u32) -> &[u8] {
+    match begun_of(scene, number) {
+        Some(begun) => scene.run.level_of(true, begun.name),
+        None => b"",
+    }
 }
 
 fn begun_of(scene: Scene, number: u32) -> Option<Begun> {

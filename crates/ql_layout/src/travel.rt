@@ -1,4 +1,5 @@
 use crate::grid::Grid;
+use crate::lanes::is_in_lane;
 use crate::pen::{Pen, point};
 use ql_base::{NoMemory, push_bytes, push_number};
 use ql_history::{Fate, History, Passage, Spot};
@@ -57,11 +58,6 @@ fn draw_lane(pen: &mut Pen, history: &History, grid: &Grid, lane: Spot) -> Resul
         Some((first, last)) => pen.line(Kind::Lane, grid.point(first), grid.point(last)),
         None => Ok(()),
     }
-}
-
-/// Whether two spots are of one session at one replica.
-pub(crate) fn is_in_lane(one: Spot, other: Spot) -> bool {
-    one.replica == other.replica && one.session == other.session
 }
 
 /// The ways of sessions from one replica to another.

@@ -1,9 +1,9 @@
 use crate::dots::COLOURS;
 use crate::grid::Grid;
+use crate::lanes::is_in_lane;
 use crate::pen::{Pen, plain, point};
 use crate::picture::Scene;
 use crate::sight::{is_implied, sees};
-use crate::travel::is_in_lane;
 use ql_base::NoMemory;
 use ql_history::{Seat, Spot};
 use ql_svg::{Kind, Point, Style};

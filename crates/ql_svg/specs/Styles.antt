@@ -1,7 +1,7 @@
 -- The classes of shapes, by which the style sheet knows them.
 use Rattle.std.specs.Prelude.{ℕ, List, ◌++◌, codes, decimal}
 use Rattle.ql_svg.specs.declared.kind.Kind.{Kind}
-use Rattle.ql_svg.specs.declared.kind.Kind.TheVariants.{Band, Wall, Replica, ReplicaName, Lane, LaneName, Move, Transaction, TransactionName, Message, Repeated, Lost, Cut, Sees, Unseen, Step, Asks, Sign, Stroke, Mark, Effect, StrongEffect, Number, Call, Answer, Refusal, Event, Axis, Ring, Board, Variable, Swatch, Object, Note}
+use Rattle.ql_svg.specs.declared.kind.Kind.TheVariants.{Band, Wall, Replica, ReplicaName, Lane, LaneName, Move, Transaction, TransactionName, Message, Repeated, Lost, Cut, Sees, Unseen, Step, Joint, Asks, Sign, Stroke, Mark, Effect, StrongEffect, Number, Call, Answer, Refusal, Event, Axis, Ring, Board, Variable, Swatch, Object, Note}
 use Rattle.ql_svg.specs.declared.kind.Style.{Style}
 
 abbrev pub kind_text : Kind → List ℕ
@@ -21,6 +21,7 @@ kind_text Cut = codes "cut"
 kind_text Sees = codes "sees"
 kind_text Unseen = codes "unseen"
 kind_text Step = codes "step"
+kind_text Joint = codes "joint"
 kind_text Asks = codes "asks"
 kind_text Sign = codes "sign"
 kind_text Stroke = codes "stroke"

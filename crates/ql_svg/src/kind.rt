@@ -30,8 +30,9 @@ pub enum Kind {
     /// That an effect sees another; that it doesn't, though it sees one that does.
     Sees,
     Unseen,
-    /// The one step that a strong call is for all replicas.
+    /// The one step that a strong call is for all replicas, or the moment that a transaction sees; and a replica in it.
     Step,
+    Joint,
     /// What a call that wasn't answered was waiting for.
     Asks,
     /// The mark of a call that wasn't answered, and its cross.
@@ -97,6 +98,7 @@ fn kind_text(kind: Kind) -> &'static [u8]
         Kind::Sees => b"sees",
         Kind::Unseen => b"unseen",
         Kind::Step => b"step",
+        Kind::Joint => b"joint",
         Kind::Asks => b"asks",
         Kind::Sign => b"sign",
         Kind::Stroke => b"stroke",
