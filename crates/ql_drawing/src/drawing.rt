@@ -47,13 +47,23 @@ pub fn drawing_text(alloc: Global, what: Drawing) -> Result<Vec<u8>, Why>
     let Some(history) = history_of(alloc, &run, plan.as_ref())? else {
         return Err(Why::Strange);
     };
-    let words = if what.breach.is_empty() { &run.why } else { what.breach };
+    let words = if what.breach.is_empty() {
+        &run.why
+    } else {
+        what.breach
+    };
     let marks = marks_of(alloc, words)?;
     let text = drawn(alloc, &run, &history, &marks, what.all)?;
     Ok(text)
 }
 
-fn drawn(alloc: Global, run: &Run, history: &History, marks: &[Marked], all: bool) -> Result<Vec<u8>, NoMemory>
+fn drawn(
+    alloc: Global,
+    run: &Run,
+    history: &History,
+    marks: &[Marked],
+    all: bool,
+) -> Result<Vec<u8>, NoMemory>
     ensures { IfOk result (λ text. IsDrawn text.items) }
 {
     let grid = grid_of(alloc, history)?;

@@ -1,4 +1,4 @@
-ghost use Rattle.std.specs.Prelude.{◌≡◌, ◌++◌, ◌≤◌, ℕ, List, IfOk, codes};
+ghost use Rattle.std.specs.Prelude.{◌≡◌, ◌++◌, ◌≤◌, ℕ, List, Some, IfOk, codes};
 ghost use Rattle.ql_drawing.specs.Outcomes.{IsAnswer, IsUnread, Says, Tells};
 ghost use Rattle.ql_drawing.specs.Words.{asked_of, word_texts};
 
@@ -17,7 +17,11 @@ const SCHEDULE_BYTES: usize = 1_048_576;
 
 /// The status and the text that answer the words. The named files are read once, to their ends, in the order of the
 /// words.
-pub fn outcome<S: Shelf>(alloc: Global, words: &Vec<String>, shelf: &mut S) -> Result<(Status, Vec<u8>), NoMemory>
+pub fn outcome<S: Shelf>(
+    alloc: Global,
+    words: &Vec<String>,
+    shelf: &mut S,
+) -> Result<(Status, Vec<u8>), NoMemory>
     ensures says { IfOk result (λ answer. Says (word_texts words.now) (S.held shelf.old) (S.faults shelf.old) (S.faults shelf.new) answer.0 answer.1.items) }
     ensures same_contents { (other : List ℕ) → S.held shelf.new other ≡ S.held shelf.old other }
     ensures counts_stay { (other : List ℕ) → S.faults shelf.old other ≤ S.faults shelf.new other }
@@ -28,21 +32,54 @@ pub fn outcome<S: Shelf>(alloc: Global, words: &Vec<String>, shelf: &mut S) -> R
     }
 }
 
-fn of_request<S: Shelf>(alloc: Global, request: Request, shelf: &mut S) -> Result<(Status, Vec<u8>), NoMemory>
+fn of_request<S: Shelf>(
+    alloc: Global,
+    request: Request,
+    shelf: &mut S,
+) -> Result<(Status, Vec<u8>), NoMemory>
     ensures says { IfOk result (λ answer. Tells (S.held shelf.old) (S.faults shelf.old) (S.faults shelf.new) (asked_of request.entry) answer.0 answer.1.items) }
     ensures same_contents { (other : List ℕ) → S.held shelf.new other ≡ S.held shelf.old other }
     ensures counts_stay { (other : List ℕ) → S.faults shelf.old other ≤ S.faults shelf.new other }
 {
-    let run = match read_whole(alloc, shelf, request.file, RUN_BYTES) {
-        Ok(bytes) => bytes,
-        Err(error) => return unread(alloc, error, request.file),
-    };
+    match read_whole(alloc, shelf, request.file, RUN_BYTES) {
+        Ok(run) => of_run(alloc, request, &run, shelf),
+        Err(error) => unread(alloc, error, request.file),
+    }
+}
+
+// The same where the run's text was read.
+fn of_run<S: Shelf>(
+    alloc: Global,
+    request: Request,
+    run: &[u8],
+    shelf: &mut S,
+) -> Result<(Status, Vec<u8>), NoMemory>
+    ensures says { IfOk result (λ answer. Tells (S.held shelf.old) (S.faults shelf.old) (S.faults shelf.new) (asked_of request.entry) answer.0 answer.1.items) }
+    ensures same_contents { (other : List ℕ) → S.held shelf.new other ≡ S.held shelf.old other }
+    ensures counts_stay { (other : List ℕ) → S.faults shelf.old other ≤ S.faults shelf.new other }
+{
     match request.schedule {
-        None => answer(alloc, request, &run, None),
-        Some(name) => match read_whole(alloc, shelf, name, SCHEDULE_BYTES) {
-            Ok(bytes) => answer(alloc, request, &run, Some(&bytes)),
-            Err(error) => unread(alloc, error, name),
-        },
+        None => answer(alloc, request, run, None),
+        Some(name) => with_schedule(alloc, request, run, name, shelf),
+    }
+}
+
+// The same with a schedule of this name.
+fn with_schedule<S: Shelf>(
+    alloc: Global,
+    request: Request,
+    run: &[u8],
+    name: &str,
+    shelf: &mut S,
+) -> Result<(Status, Vec<u8>), NoMemory>
+    requires { (asked_of request).schedule ≡ Some name.now }
+    ensures says { IfOk result (λ answer. Tells (S.held shelf.old) (S.faults shelf.old) (S.faults shelf.new) (asked_of request.entry) answer.0 answer.1.items) }
+    ensures same_contents { (other : List ℕ) → S.held shelf.new other ≡ S.held shelf.old other }
+    ensures counts_stay { (other : List ℕ) → S.faults shelf.old other ≤ S.faults shelf.new other }
+{
+    match read_whole(alloc, shelf, name, SCHEDULE_BYTES) {
+        Ok(bytes) => answer(alloc, request, run, Some(&bytes)),
+        Err(error) => unread(alloc, error, name),
     }
 }
 

@@ -1,7 +1,7 @@
 ghost use Rattle.std.specs.Prelude.{◌≡◌, map};
 ghost use Rattle.std.specs.Option.{option_map};
 ghost use Rattle.std.specs.String.{string_bytes};
-ghost use Rattle.ql_drawing.specs.Words.{after_file, asked, asked_of, breach_of, is_name, of_files, word_texts};
+ghost use Rattle.ql_drawing.specs.Words.{after_file, asked, asked_of, breach_of, is_name, of_files, with_breach, word_texts};
 
 /// What the words ask to be drawn.
 #[derive(Clone, Copy)]
@@ -19,19 +19,29 @@ pub fn parse_words(words: &Vec<String>) -> Option<Request>
     ensures { option_map asked_of result ≡ asked (word_texts words.now) }
 {
     match words.split_first() {
-        Some((first, rest)) if first.as_str() == "--all" => parse_files(true, rest),
-        _ => parse_files(false, words),
+        None => None,
+        Some((first, rest)) => {
+            if first.as_str() == "--all" {
+                parse_files(true, rest)
+            } else {
+                parse_files(false, words)
+            }
+        }
     }
 }
 
 fn parse_files(all: bool, words: &[String]) -> Option<Request>
     ensures { option_map asked_of result ≡ of_files all (map string_bytes words.now) }
 {
-    let (file, rest) = words.split_first()?;
-    if is_name(file.as_str()) {
-        parse_rest(all, file.as_str(), rest)
-    } else {
-        None
+    match words.split_first() {
+        None => None,
+        Some((file, rest)) => {
+            if is_name(file.as_str()) {
+                parse_rest(all, file.as_str(), rest)
+            } else {
+                None
+            }
+        }
     }
 }
 
@@ -40,24 +50,34 @@ fn parse_rest<'a>(all: bool, file: &'a str, words: &'a [String]) -> Option<Reque
     ensures { option_map asked_of result ≡ after_file all file.now (map string_bytes words.now) }
 {
     match words.split_first() {
-        Some((name, behind)) if is_name(name.as_str()) => {
-            let breach = parse_breach(behind)?;
-            Some(Request {
-                all,
-                file,
-                schedule: Some(name.as_str()),
-                breach,
-            })
+        None => request_of(all, file, None, Some(words)),
+        Some((name, behind)) => {
+            if is_name(name.as_str()) {
+                request_of(all, file, Some(name.as_str()), parse_breach(behind))
+            } else {
+                request_of(all, file, None, parse_breach(words))
+            }
         }
-        _ => {
-            let breach = parse_breach(words)?;
-            Some(Request {
-                all,
-                file,
-                schedule: None,
-                breach,
-            })
-        }
+    }
+}
+
+// A request with the words of a breach, where these are some.
+fn request_of<'a>(
+    all: bool,
+    file: &'a str,
+    schedule: Option<&'a str>,
+    breach: Option<&'a [String]>,
+) -> Option<Request<'a>>
+    ensures { option_map asked_of result ≡ with_breach all file.now (option_map (λ name. name.now) schedule.entry) (option_map (λ words. map string_bytes words.now) breach.entry) }
+{
+    match breach {
+        Some(breach) => Some(Request {
+            all,
+            file,
+            schedule,
+            breach,
+        }),
+        None => None,
     }
 }
 
@@ -67,8 +87,13 @@ fn parse_breach(words: &[String]) -> Option<&[String]>
 {
     match words.split_first() {
         None => Some(words),
-        Some((option, rest)) if option.as_str() == "--breach" => Some(rest),
-        Some(_) => None,
+        Some((option, rest)) => {
+            if option.as_str() == "--breach" {
+                Some(rest)
+            } else {
+                None
+            }
+        }
     }
 }
 
