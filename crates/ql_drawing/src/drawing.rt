@@ -5,6 +5,7 @@ use crate::sheet::SHEET;
 use ql_base::{NoMemory, push_bytes, push_number};
 use ql_history::{DrawnFault, DrawnRule, History, Plan, Run, history_of, read_plan, read_run};
 use ql_layout::{Marked, Scene, grid_of, marks_of, picture_of};
+use ql_lines::after_word;
 use ql_svg::svg_text;
 use std::alloc::Global;
 
@@ -47,12 +48,8 @@ pub fn drawing_text(alloc: Global, what: Drawing) -> Result<Vec<u8>, Why>
     let Some(history) = history_of(alloc, &run, plan.as_ref())? else {
         return Err(Why::Strange);
     };
-    let words = if what.breach.is_empty() {
-        &run.why
-    } else {
-        what.breach
-    };
-    let marks = marks_of(alloc, words)?;
+    let words = breach_words(alloc, &run, what.breach)?;
+    let marks = marks_of(alloc, &words)?;
     let text = drawn(alloc, &run, &history, &marks, what.all)?;
     Ok(text)
 }
@@ -75,6 +72,19 @@ fn drawn(
     };
     let picture = picture_of(alloc, scene, &grid)?;
     svg_text(alloc, SHEET.as_bytes(), &picture)
+}
+
+// The words of a breach: those that are given, behind the place that a file of `holds` says itself; else those that
+// stand in the run's text.
+fn breach_words(alloc: Global, run: &Run, breach: &[u8]) -> Result<Vec<u8>, NoMemory> {
+    let is_judged = after_word(&run.why, b"at").is_some();
+    let mut words = Vec::new(alloc);
+    if breach.is_empty() || is_judged {
+        push_bytes(&mut words, &run.why)?;
+        push_bytes(&mut words, b" ")?;
+    }
+    push_bytes(&mut words, breach)?;
+    Ok(words)
 }
 
 fn run_of(alloc: Global, bytes: &[u8]) -> Result<Run, Why> {

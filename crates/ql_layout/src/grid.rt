@@ -46,7 +46,10 @@ impl Grid {
     pub(crate) fn y(&self, spot: Spot) -> u32
         ensures { result ≡ y_of self.now spot }
     {
-        number_at(&self.rows, row_of(&self.lanes, spot))
+        match row_of(&self.lanes, spot) {
+            Some(row) => number_at(&self.rows, row),
+            None => 0,
+        }
     }
 
     /// The place of a spot.

@@ -1,5 +1,4 @@
 ghost use Rattle.std.specs.Prelude.{◌≡◌, position};
-ghost use Rattle.std.specs.List.{position_or_len};
 ghost use Rattle.ql_layout.specs.Places.{is_lane_of, same_session};
 
 use ql_base::{IdSet, NoMemory};
@@ -13,17 +12,8 @@ pub struct Lane {
     pub session: Option<u32>,
 }
 
-/// The row of a spot, or the number of rows where it has none.
-pub(crate) fn row_of(lanes: &[Lane], spot: Spot) -> usize
-    ensures { result ≡ position_or_len (is_lane_of spot) lanes.now }
-{
-    match first_lane(lanes, spot) {
-        Some(row) => row,
-        None => lanes.len(),
-    }
-}
-
-fn first_lane(lanes: &[Lane], spot: Spot) -> Option<usize>
+/// The row of a spot, where it has one.
+pub(crate) fn row_of(lanes: &[Lane], spot: Spot) -> Option<usize>
     ensures { result ≡ position (is_lane_of spot) lanes.now }
 {
     lanes.iter().position(|lane| is_lane_of(spot, *lane))
