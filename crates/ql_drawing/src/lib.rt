@@ -11,10 +11,9 @@ mod sheet;
 mod status;
 mod words;
 
-pub use drawing::{Drawing, Why, drawing_text};
+pub use drawing::Why;
 pub use help::HELP;
-pub use outcome::outcome;
 pub use program::draw;
 pub use sheet::SHEET;
 pub use status::Status;
-pub use words::{Request, parse_words};
+pub use words::Request;
