@@ -1,0 +1,76 @@
+-- What is said of a request, from what is said of its files.
+use Rattle.std.proofs.Common.{◌≡◌, ◌⊎◌, inl, inr, ℕ, ◌≤◌, ◌<◌, List, length, Option, Some, None, Result, Ok, Err, arith, refl, subst}
+use Rattle.std.specs.Prelude.{IfOk, IfSome}
+use Rattle.std.specs.Global.{Vec}
+use Rattle.ql_base.specs.declared.no_memory.NoMemory.{NoMemory}
+use Rattle.ql_ports.specs.Faults.{Rose}
+use Rattle.ql_ports.specs.declared.whole.ReadError.{ReadError}
+use Rattle.ql_ports.specs.declared.whole.ReadError.TheVariants.{Failed, TooLong, NoMemory as NoReadMemory}
+use Rattle.ql_drawing.specs.Outcomes.{IsAnswer, IsOf, IsUnread, Tells, limit_of}
+use Rattle.ql_drawing.specs.Words.{Asked}
+use Rattle.ql_drawing.specs.declared.status.Status.{Status}
+use Rattle.ql_drawing.specs.declared.status.Status.TheVariants.{Done, Bad, ReadFault, WriteFault, Usage, TooLarge}
+
+-- a count that rose later rose
+rose_before : (a b c : ℕ) → a ≤ b → Rose b c → Rose a c
+rose_before a b c le (inl less) = inl (omega (arith, le, less))
+rose_before a b c le (inr is) = inr is
+
+module _ (held : List ℕ → Option (List ℕ)) (before after : List ℕ → ℕ) (a : Asked) where
+  of_answer : (status : Status) (text : List ℕ) → IsAnswer status text → Tells held before after a status text
+  of_answer Done text is = is
+  of_answer Bad text is = is
+  of_answer ReadFault text is = absurd is
+  of_answer WriteFault text is = absurd is
+  of_answer Usage text is = absurd is
+  of_answer TooLarge text is = absurd is
+
+  -- the files were read
+  pub one_answer : (answer : Result (Status × Vec ℕ) NoMemory) → IfOk answer (λ x. IsAnswer x.0 x.1.items) → IfOk answer (λ x. Tells held before after a x.0 x.1.items)
+  one_answer (Ok x) is = of_answer x.0 x.1.items is
+  one_answer (Err e) is = tt
+
+  of_unread : (name : List ℕ) (limit : ℕ) → IsOf a name → limit_of a name limit → (error : ReadError) (status : Status) (text : List ℕ) → IsUnread error name status text
+      → (error ≡ Failed → Rose (before name) (after name)) → (error ≡ TooLong → IfSome (held name) (λ bytes. limit < length bytes)) → Tells held before after a status text
+  of_unread name limit of most Failed Done text is f l = absurd is
+  of_unread name limit of most Failed Bad text is f l = absurd is
+  of_unread name limit of most Failed ReadFault text is f l = (name, of, f refl, is)
+  of_unread name limit of most Failed WriteFault text is f l = absurd is
+  of_unread name limit of most Failed Usage text is f l = absurd is
+  of_unread name limit of most Failed TooLarge text is f l = absurd is
+  of_unread name limit of most TooLong Done text is f l = absurd is
+  of_unread name limit of most TooLong Bad text is f l = absurd is
+  of_unread name limit of most TooLong ReadFault text is f l = absurd is
+  of_unread name limit of most TooLong WriteFault text is f l = absurd is
+  of_unread name limit of most TooLong Usage text is f l = absurd is
+  of_unread name limit of most TooLong TooLarge text is f l = (name, limit, most, l refl, is)
+  of_unread name limit of most NoReadMemory Done text is f l = absurd is
+  of_unread name limit of most NoReadMemory Bad text is f l = absurd is
+  of_unread name limit of most NoReadMemory ReadFault text is f l = absurd is
+  of_unread name limit of most NoReadMemory WriteFault text is f l = absurd is
+  of_unread name limit of most NoReadMemory Usage text is f l = absurd is
+  of_unread name limit of most NoReadMemory TooLarge text is f l = absurd is
+
+  -- a file couldn't be read whole
+  pub one_unread : (name : List ℕ) (limit : ℕ) → IsOf a name → limit_of a name limit → (error : ReadError) (answer : Result (Status × Vec ℕ) NoMemory)
+      → IfOk answer (λ x. IsUnread error name x.0 x.1.items)
+      → (error ≡ Failed → Rose (before name) (after name)) → (error ≡ TooLong → IfSome (held name) (λ bytes. limit < length bytes))
+      → IfOk answer (λ x. Tells held before after a x.0 x.1.items)
+  one_unread name limit of most error (Ok x) is f l = of_unread name limit of most error x.0 x.1.items is f l
+  one_unread name limit of most error (Err e) is f l = tt
+
+-- what is said after a file was read is said of both
+sooner : (held later : List ℕ → Option (List ℕ)) (before between after : List ℕ → ℕ) (a : Asked) → ((n : List ℕ) → later n ≡ held n) → ((n : List ℕ) → before n ≤ between n)
+    → (status : Status) (text : List ℕ) → Tells later between after a status text → Tells held before after a status text
+sooner held later before between after a same less Done text is = is
+sooner held later before between after a same less Bad text is = is
+sooner held later before between after a same less ReadFault text is = (is.0, is.1, rose_before (before is.0) (between is.0) (after is.0) (less is.0) is.2, is.3)
+sooner held later before between after a same less WriteFault text is = absurd is
+sooner held later before between after a same less Usage text is = absurd is
+sooner held later before between after a same less TooLarge text is = (is.0, is.1, is.2, subst (λ (h : Option (List ℕ)). IfSome h (λ bytes. is.1 < length bytes)) (same is.0) is.3, is.4)
+
+pub said_sooner : (held later : List ℕ → Option (List ℕ)) (before between after : List ℕ → ℕ) (a : Asked) (answer : Result (Status × Vec ℕ) NoMemory)
+    → ((n : List ℕ) → later n ≡ held n) → ((n : List ℕ) → before n ≤ between n)
+    → IfOk answer (λ x. Tells later between after a x.0 x.1.items) → IfOk answer (λ x. Tells held before after a x.0 x.1.items)
+said_sooner held later before between after a (Ok x) same less is = sooner held later before between after a same less x.0 x.1.items is
+said_sooner held later before between after a (Err e) same less is = tt

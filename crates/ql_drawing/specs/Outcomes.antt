@@ -1,0 +1,97 @@
+-- What is written: for the words, what the shelf holds and counts, and a status.
+use Rattle.std.specs.Prelude.{◌≡◌, ◌⊎◌, ℕ, ◌<◌, List, ◌++◌, length, Option, Some, None, IfSome, codes, decimal}
+use Rattle.ql_history.specs.declared.fault.DrawnRule.{DrawnRule}
+use Rattle.ql_history.specs.declared.fault.DrawnRule.TheVariants.{Unexpected, NotForward, TooMany, Range}
+use Rattle.ql_history.specs.declared.history.History.{History}
+use Rattle.ql_layout.specs.Dots.{AreDotsOf}
+use Rattle.ql_layout.specs.declared.grid.Grid.{Grid}
+use Rattle.ql_ports.specs.Faults.{Rose}
+use Rattle.ql_ports.specs.declared.whole.ReadError.{ReadError}
+use Rattle.ql_ports.specs.declared.whole.ReadError.TheVariants.{Failed, TooLong}
+use Rattle.ql_ports.specs.Written.{AppendsFront, appended}
+use Rattle.ql_svg.specs.Svg.{svg_text}
+use Rattle.ql_svg.specs.declared.picture.Picture.{Picture}
+use Rattle.ql_drawing.specs.Words.{Asked, asked}
+use Rattle.ql_drawing.specs.declared.help.TheConstants.{HELP}
+use Rattle.ql_drawing.specs.declared.sheet.TheConstants.{SHEET}
+use Rattle.ql_drawing.specs.declared.drawing.Why.{Why}
+use Rattle.ql_drawing.specs.declared.drawing.Why.TheVariants as why
+use Rattle.ql_drawing.specs.declared.status.Status.{Status}
+use Rattle.ql_drawing.specs.declared.status.Status.TheVariants.{Done, Bad, ReadFault, WriteFault, Usage, TooLarge}
+
+-- the text of a picture with a dot for each effect of a history, in its column and its row
+pub record IsDrawn (text : List ℕ) : Type 0 where
+  pub history : History
+  pub grid : Grid
+  pub picture : Picture
+  pub svg : text ≡ svg_text SHEET.now picture
+  pub dots : AreDotsOf grid history.seats.items picture.dots.items
+
+abbrev pub rule_text : DrawnRule → List ℕ
+rule_text Unexpected = codes "Unexpected"
+rule_text NotForward = codes "NotForward"
+rule_text TooMany = codes "TooMany"
+rule_text Range = codes "Range"
+
+-- bad schedule at 4: Range
+abbrev pub bad_text : List ℕ → ℕ → DrawnRule → List ℕ
+bad_text part line rule = part ++ decimal line ++ codes ": " ++ rule_text rule ++ codes "\n"
+
+-- the line that says why something can't be drawn
+abbrev pub IsWhyText : Why → List ℕ → Type 0
+IsWhyText (why.Run line rule) text = text ≡ bad_text (codes "bad execution at ") line rule
+IsWhyText (why.Schedule line rule) text = text ≡ bad_text (codes "bad schedule at ") line rule
+IsWhyText why.Strange text = text ≡ codes "bad schedule: it is another run's\n"
+IsWhyText why.NoMemory text = ⊥
+
+-- what is said of files that were read
+abbrev pub IsAnswer : Status → List ℕ → Type 0
+IsAnswer Done text = IsDrawn text
+IsAnswer Bad text = (w : Why) × IsWhyText w text
+IsAnswer _ text = ⊥
+
+-- the answer where a file couldn't be read whole
+abbrev pub IsUnread : ReadError → List ℕ → Status → List ℕ → Type 0
+IsUnread Failed name ReadFault text = text ≡ codes "read fault " ++ name ++ codes "\n"
+IsUnread TooLong name TooLarge text = text ≡ codes "too large " ++ name ++ codes "\n"
+IsUnread _ _ _ _ = ⊥
+
+-- a file of a request has this name
+abbrev pub IsOf : Asked → List ℕ → Type 0
+IsOf a name = (name ≡ a.file) ⊎ (a.schedule ≡ Some name)
+
+-- a file that couldn't be read
+abbrev pub Fails : (List ℕ → ℕ) → (List ℕ → ℕ) → Asked → List ℕ → Type 0
+Fails before after a text = (name : List ℕ) × IsOf a name × Rose (before name) (after name) × (text ≡ codes "read fault " ++ name ++ codes "\n")
+
+-- a file with more bytes than its limit, 67,108,864 for a run's and 1,048,576 for a schedule's
+abbrev pub limit_of : Asked → List ℕ → ℕ → Type 0
+limit_of a name limit = ((name ≡ a.file) × (limit ≡ 67108864)) ⊎ ((a.schedule ≡ Some name) × (limit ≡ 1048576))
+
+abbrev pub IsOver : (List ℕ → Option (List ℕ)) → Asked → List ℕ → Type 0
+IsOver held a text =
+    (name : List ℕ) × (limit : ℕ) × limit_of a name limit × IfSome (held name) (λ bytes. limit < length bytes) × (text ≡ codes "too large " ++ name ++ codes "\n")
+
+-- what is said of a request
+abbrev pub Tells : (List ℕ → Option (List ℕ)) → (List ℕ → ℕ) → (List ℕ → ℕ) → Asked → Status → List ℕ → Type 0
+Tells held before after a Done text = IsDrawn text
+Tells held before after a Bad text = (w : Why) × IsWhyText w text
+Tells held before after a ReadFault text = Fails before after a text
+Tells held before after a TooLarge text = IsOver held a text
+Tells held before after a WriteFault text = ⊥
+Tells held before after a Usage text = ⊥
+
+-- The text that is to be written with a status. `held` is what the shelf holds under each name, where it tells, and the
+-- counts are those of its faults at each name, before the call and after it.
+abbrev pub SaysOf : (List ℕ → Option (List ℕ)) → (List ℕ → ℕ) → (List ℕ → ℕ) → Option Asked → Status → List ℕ → Type 0
+SaysOf held before after None status text = (status ≡ Usage) × (text ≡ HELP.now)
+SaysOf held before after (Some a) status text = Tells held before after a status text
+
+abbrev pub Says : List (List ℕ) → (List ℕ → Option (List ℕ)) → (List ℕ → ℕ) → (List ℕ → ℕ) → Status → List ℕ → Type 0
+Says words held before after status text = SaysOf held before after (asked words) status text
+
+-- What was written, by how the call ended: `was` and `is` are what the sink tells, and the counts are those of its faults.
+abbrev pub Wrote : (Status → List ℕ → Type 0) → Option (List ℕ) → Option (List ℕ) → ℕ → ℕ → Status → Type 0
+Wrote May was is before after WriteFault =
+    Rose before after × (status : Status) × (text : List ℕ) × May status text × AppendsFront was is text
+Wrote May was is before after status = (text : List ℕ) × May status text × (is ≡ appended was text)

@@ -1,0 +1,55 @@
+-- The words that ask for a picture:  [--all] FILE [SCHEDULE] [--breach WORD..]
+use Rattle.std.specs.Prelude.{ℕ, Bool, true, false, ◌&&◌, ◌==◌, not, nat_le, if◌then◌else◌, List, [], ◌∷◌, Option, Some, None, length, map, slice_index, codes}
+use Rattle.std.specs.Global.{Global, Vec}
+use Rattle.std.specs.Option.{option_map}
+use Rattle.std.specs.Str.{bytes_eq}
+use Rattle.std.specs.declared.string.String.{String}
+use Rattle.std.specs.String.{string_bytes}
+use Rattle.ql_drawing.specs.declared.words.Request.{Request}
+
+-- the words' bytes
+abbrev pub word_texts : Vec (String Global) → List (List ℕ)
+word_texts words = map string_bytes words.items
+
+-- what is to be drawn: whether all that is seen has an arrow, the names of the files, and the words of a breach
+pub record Asked : Type 0 where
+  pub all : Bool
+  pub file : List ℕ
+  pub schedule : Option (List ℕ)
+  pub breach : List (List ℕ)
+
+-- the name of a file has 1 to 255 bytes, and doesn't begin with '-'
+abbrev pub is_name : List ℕ → Bool
+is_name word = nat_le 1 (length word) && nat_le (length word) 255 && not (slice_index word 0 == 45)
+
+-- the words of a breach, which stand behind their option
+abbrev pub breach_of : List (List ℕ) → Option (List (List ℕ))
+breach_of [] = Some []
+breach_of (word ∷ words) = if bytes_eq word (codes "--breach") then Some words else None
+
+abbrev pub with_breach : Bool → List ℕ → Option (List ℕ) → Option (List (List ℕ)) → Option Asked
+with_breach all file schedule breach = option_map (λ words. record { all = all; file = file; schedule = schedule; breach = words }) breach
+
+-- what stands behind the name of the first file
+abbrev pub after_file : Bool → List ℕ → List (List ℕ) → Option Asked
+after_file all file [] = with_breach all file None (Some [])
+after_file all file (word ∷ words) =
+    if is_name word then with_breach all file (Some word) (breach_of words) else with_breach all file None (breach_of (word ∷ words))
+
+abbrev pub of_files : Bool → List (List ℕ) → Option Asked
+of_files all [] = None
+of_files all (word ∷ words) = if is_name word then after_file all word words else None
+
+-- what the words ask for, where they ask for a picture
+abbrev pub asked : List (List ℕ) → Option Asked
+asked [] = None
+asked (word ∷ words) = if bytes_eq word (codes "--all") then of_files true words else of_files false (word ∷ words)
+
+-- a request as data
+abbrev pub asked_of : Request → Asked
+asked_of request = record {
+  all = request.all;
+  file = request.file.now;
+  schedule = option_map (λ name. name.now) request.schedule;
+  breach = map string_bytes request.breach.now;
+}

@@ -1,0 +1,138 @@
+ghost use Rattle.std.specs.Prelude.{◌≡◌, ◌++◌, IfOk, codes, decimal};
+ghost use Rattle.ql_drawing.specs.Outcomes.{IsDrawn, IsWhyText, bad_text, rule_text};
+
+use crate::sheet::SHEET;
+use ql_base::{NoMemory, push_bytes, push_number};
+use ql_history::{DrawnFault, DrawnRule, History, Plan, Run, history_of, read_plan, read_run};
+use ql_layout::{Marked, Scene, grid_of, marks_of, picture_of};
+use ql_lines::after_word;
+use ql_svg::svg_text;
+use std::alloc::Global;
+
+/// What is to be drawn: the bytes of a run's text and of its schedule, the words of a breach, and whether all that is
+/// seen has an arrow.
+#[derive(Clone, Copy)]
+pub struct Drawing<'a> {
+    pub run: &'a [u8],
+    pub schedule: Option<&'a [u8]>,
+    pub breach: &'a [u8],
+    pub all: bool,
+}
+
+/// Why something can't be drawn.
+#[derive(Clone, Copy)]
+pub enum Why {
+    /// The first line at fault of the run's text, or of the schedule's.
+    Run { line: u64, rule: DrawnRule },
+    Schedule { line: u64, rule: DrawnRule },
+    /// The replies aren't those to the schedule's events.
+    Strange,
+    NoMemory,
+}
+
+impl From<NoMemory> for Why {
+    fn from(_error: NoMemory) -> Why {
+        Why::NoMemory
+    }
+}
+
+/// The picture in SVG.
+pub fn drawing_text(alloc: Global, what: Drawing) -> Result<Vec<u8>, Why>
+    ensures { IfOk result (λ text. IsDrawn text.items) }
+{
+    let run = run_of(alloc, what.run)?;
+    let plan = match what.schedule {
+        Some(bytes) => Some(plan_of(alloc, bytes)?),
+        None => None,
+    };
+    let Some(history) = history_of(alloc, &run, plan.as_ref())? else {
+        return Err(Why::Strange);
+    };
+    let words = breach_words(alloc, &run, what.breach)?;
+    let marks = marks_of(alloc, &words)?;
+    let text = drawn(alloc, &run, &history, &marks, what.all)?;
+    Ok(text)
+}
+
+fn drawn(
+    alloc: Global,
+    run: &Run,
+    history: &History,
+    marks: &[Marked],
+    all: bool,
+) -> Result<Vec<u8>, NoMemory>
+    ensures { IfOk result (λ text. IsDrawn text.items) }
+{
+    let grid = grid_of(alloc, history)?;
+    let scene = Scene {
+        run,
+        history,
+        marks,
+        all,
+    };
+    let picture = picture_of(alloc, scene, &grid)?;
+    svg_text(alloc, SHEET.as_bytes(), &picture)
+}
+
+// The words of a breach: those that are given, behind the place that a file of `holds` says itself; else those that
+// stand in the run's text.
+fn breach_words(alloc: Global, run: &Run, breach: &[u8]) -> Result<Vec<u8>, NoMemory> {
+    let is_judged = after_word(&run.why, b"at").is_some();
+    let mut words = Vec::new(alloc);
+    if breach.is_empty() || is_judged {
+        push_bytes(&mut words, &run.why)?;
+        push_bytes(&mut words, b" ")?;
+    }
+    push_bytes(&mut words, breach)?;
+    Ok(words)
+}
+
+fn run_of(alloc: Global, bytes: &[u8]) -> Result<Run, Why> {
+    match read_run(alloc, bytes) {
+        Ok(run) => Ok(run),
+        Err(DrawnFault::Bad { line, rule }) => Err(Why::Run { line, rule }),
+        Err(DrawnFault::NoMemory) => Err(Why::NoMemory),
+    }
+}
+
+fn plan_of(alloc: Global, bytes: &[u8]) -> Result<Plan, Why> {
+    match read_plan(alloc, bytes) {
+        Ok(plan) => Ok(plan),
+        Err(DrawnFault::Bad { line, rule }) => Err(Why::Schedule { line, rule }),
+        Err(DrawnFault::NoMemory) => Err(Why::NoMemory),
+    }
+}
+
+/// The line that says why something can't be drawn; none where memory has run out.
+pub(crate) fn why_text(alloc: Global, why: Why) -> Result<Vec<u8>, NoMemory>
+    ensures { IfOk result (λ text. IsWhyText why text.items) }
+{
+    match why {
+        Why::Run { line, rule } => bad_line(alloc, b"bad execution at ", line, rule),
+        Why::Schedule { line, rule } => bad_line(alloc, b"bad schedule at ", line, rule),
+        Why::Strange => Ok(Vec::from_slice(alloc, b"bad schedule: it is another run's\n")?),
+        Why::NoMemory => Err(NoMemory),
+    }
+}
+
+fn bad_line(alloc: Global, before: &[u8], line: u64, rule: DrawnRule) -> Result<Vec<u8>, NoMemory>
+    ensures { IfOk result (λ text. text.items ≡ bad_text before.now line rule) }
+{
+    let mut text = Vec::from_slice(alloc, before)?;
+    push_number(&mut text, line)?;
+    push_bytes(&mut text, b": ")?;
+    push_bytes(&mut text, rule_text(rule))?;
+    push_bytes(&mut text, b"\n")?;
+    Ok(text)
+}
+
+fn rule_text(rule: DrawnRule) -> &'static [u8]
+    ensures { result.now ≡ rule_text rule }
+{
+    match rule {
+        DrawnRule::Unexpected => b"Unexpected",
+        DrawnRule::NotForward => b"NotForward",
+        DrawnRule::TooMany => b"TooMany",
+        DrawnRule::Range => b"Range",
+    }
+}

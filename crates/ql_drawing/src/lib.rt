@@ -1,0 +1,19 @@
+// The top call of the program `draw`: from its words and the files that they name to one picture in SVG.
+// The one contract: for all words, all files and whatever the outside does, one text is written that the outcome allows;
+// a picture is the text of a value in which each effect is drawn once, in its column and its row.
+#![tactic(auto)]
+
+mod drawing;
+mod help;
+mod outcome;
+mod program;
+mod sheet;
+mod status;
+mod words;
+
+pub use drawing::Why;
+pub use help::HELP;
+pub use program::draw;
+pub use sheet::SHEET;
+pub use status::Status;
+pub use words::Request;

@@ -1,0 +1,137 @@
+ghost use Rattle.std.specs.Prelude.{◌≡◌, ◌++◌, ◌≤◌, ℕ, List, Some, IfOk, codes};
+ghost use Rattle.ql_drawing.specs.Outcomes.{IsAnswer, IsUnread, Says, Tells};
+ghost use Rattle.ql_drawing.specs.Words.{asked_of, word_texts};
+
+use crate::drawing::{Drawing, drawing_text, why_text};
+use crate::help::HELP;
+use crate::status::Status;
+use crate::words::{Request, parse_words};
+use ql_base::{NoMemory, push_bytes};
+use ql_ports::{ReadError, Shelf, read_whole};
+use std::alloc::Global;
+
+// The greatest lengths in bytes of a run's text and of a schedule.
+const RUN_BYTES: usize = 67_108_864;
+
+const SCHEDULE_BYTES: usize = 1_048_576;
+
+/// The status and the text that answer the words. The named files are read once, to their ends, in the order of the
+/// words.
+pub fn outcome<S: Shelf>(
+    alloc: Global,
+    words: &Vec<String>,
+    shelf: &mut S,
+) -> Result<(Status, Vec<u8>), NoMemory>
+    ensures says { IfOk result (λ answer. Says (word_texts words.now) (S.held shelf.old) (S.faults shelf.old) (S.faults shelf.new) answer.0 answer.1.items) }
+    ensures same_contents { (other : List ℕ) → S.held shelf.new other ≡ S.held shelf.old other }
+    ensures counts_stay { (other : List ℕ) → S.faults shelf.old other ≤ S.faults shelf.new other }
+{
+    match parse_words(words) {
+        None => Ok((Status::Usage, Vec::from_slice(alloc, HELP.as_bytes())?)),
+        Some(request) => of_request(alloc, request, shelf),
+    }
+}
+
+fn of_request<S: Shelf>(
+    alloc: Global,
+    request: Request,
+    shelf: &mut S,
+) -> Result<(Status, Vec<u8>), NoMemory>
+    ensures says { IfOk result (λ answer. Tells (S.held shelf.old) (S.faults shelf.old) (S.faults shelf.new) (asked_of request.entry) answer.0 answer.1.items) }
+    ensures same_contents { (other : List ℕ) → S.held shelf.new other ≡ S.held shelf.old other }
+    ensures counts_stay { (other : List ℕ) → S.faults shelf.old other ≤ S.faults shelf.new other }
+{
+    match read_whole(alloc, shelf, request.file, RUN_BYTES) {
+        Ok(run) => of_run(alloc, request, &run, shelf),
+        Err(error) => unread(alloc, error, request.file),
+    }
+}
+
+// The same where the run's text was read.
+fn of_run<S: Shelf>(
+    alloc: Global,
+    request: Request,
+    run: &[u8],
+    shelf: &mut S,
+) -> Result<(Status, Vec<u8>), NoMemory>
+    ensures says { IfOk result (λ answer. Tells (S.held shelf.old) (S.faults shelf.old) (S.faults shelf.new) (asked_of request.entry) answer.0 answer.1.items) }
+    ensures same_contents { (other : List ℕ) → S.held shelf.new other ≡ S.held shelf.old other }
+    ensures counts_stay { (other : List ℕ) → S.faults shelf.old other ≤ S.faults shelf.new other }
+{
+    match request.schedule {
+        None => answer(alloc, request, run, None),
+        Some(name) => with_schedule(alloc, request, run, name, shelf),
+    }
+}
+
+// The same with a schedule of this name.
+fn with_schedule<S: Shelf>(
+    alloc: Global,
+    request: Request,
+    run: &[u8],
+    name: &str,
+    shelf: &mut S,
+) -> Result<(Status, Vec<u8>), NoMemory>
+    requires { (asked_of request).schedule ≡ Some name.now }
+    ensures says { IfOk result (λ answer. Tells (S.held shelf.old) (S.faults shelf.old) (S.faults shelf.new) (asked_of request.entry) answer.0 answer.1.items) }
+    ensures same_contents { (other : List ℕ) → S.held shelf.new other ≡ S.held shelf.old other }
+    ensures counts_stay { (other : List ℕ) → S.faults shelf.old other ≤ S.faults shelf.new other }
+{
+    match read_whole(alloc, shelf, name, SCHEDULE_BYTES) {
+        Ok(bytes) => answer(alloc, request, run, Some(&bytes)),
+        Err(error) => unread(alloc, error, name),
+    }
+}
+
+// The answer where the files were read.
+fn answer(
+    alloc: Global,
+    request: Request,
+    run: &[u8],
+    schedule: Option<&[u8]>,
+) -> Result<(Status, Vec<u8>), NoMemory>
+    ensures { IfOk result (λ answer. IsAnswer answer.0 answer.1.items) }
+{
+    let breach = joined(alloc, request.breach)?;
+    let what = Drawing {
+        run,
+        schedule,
+        breach: &breach,
+        all: request.all,
+    };
+    match drawing_text(alloc, what) {
+        Ok(text) => Ok((Status::Done, text)),
+        Err(why) => Ok((Status::Bad, why_text(alloc, why)?)),
+    }
+}
+
+// The answer where a file couldn't be read whole.
+fn unread(alloc: Global, error: ReadError, name: &str) -> Result<(Status, Vec<u8>), NoMemory>
+    ensures { IfOk result (λ answer. IsUnread error name.now answer.0 answer.1.items) }
+{
+    match error {
+        ReadError::Failed => Ok((Status::ReadFault, named(alloc, b"read fault ", name)?)),
+        ReadError::TooLong => Ok((Status::TooLarge, named(alloc, b"too large ", name)?)),
+        ReadError::NoMemory => Err(NoMemory),
+    }
+}
+
+// A line of a text and a name.
+fn named(alloc: Global, text: &[u8], name: &str) -> Result<Vec<u8>, NoMemory>
+    ensures { IfOk result (λ line. line.items ≡ text.now ++ name.now ++ codes "\n") }
+{
+    let mut line = Vec::from_slice(alloc, text)?;
+    push_bytes(&mut line, name.as_bytes())?;
+    push_bytes(&mut line, b"\n")?;
+    Ok(line)
+}
+
+// Words with a space behind each.
+fn joined(alloc: Global, words: &[String]) -> Result<Vec<u8>, NoMemory> {
+    let mut text = Vec::new(alloc);
+    for word in words {
+        push_bytes(&mut text, word.as_bytes())?;
+        push_bytes(&mut text, b" ")?;
+    }
+    Ok(text)
+}

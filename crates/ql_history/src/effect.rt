@@ -1,0 +1,158 @@
+use crate::begun::{Begun, begun_of};
+use crate::part::first_part;
+use ql_base::{IdSet, NoMemory, Word, is_name, push_bytes};
+use ql_lines::{after_name, after_number, after_word, ascending_ids, first_field};
+use std::alloc::Global;
+
+/// An effect as a picture shows it.
+#[derive(Drop)]
+pub struct Effect {
+    /// The number of its object's name.
+    pub object: u32,
+    pub op: Word,
+    /// The operation with its arguments, and the answer, where they are told.
+    pub call: Vec<u8>,
+    pub answer: Vec<u8>,
+    pub session: u32,
+    pub begun: Option<Begun>,
+    pub seen: IdSet,
+}
+
+/// What the line of an effect says, as it is spelled.
+#[derive(Clone, Copy)]
+pub(crate) struct Spelled<'a> {
+    pub object: &'a [u8],
+    pub op: &'a [u8],
+    pub args: &'a [u8],
+    pub answer: &'a [u8],
+    pub session: u32,
+    pub txn: &'a [u8],
+    pub seen: &'a [u8],
+}
+
+/// What the line of the effect of this number says.
+pub(crate) fn read_spelled(text: &[u8], id: u32) -> Option<Spelled> {
+    let (object, op, rest) = heading(text, id)?;
+    match after_word(rest, b"session") {
+        Some(behind) => bare(object, op, behind),
+        None => full(object, op, rest),
+    }
+}
+
+// The names of the object and the operation behind the word `effect` and the number.
+fn heading(text: &[u8], id: u32) -> Option<(&[u8], &[u8], &[u8])> {
+    let rest = after_word(text, b"effect")?;
+    let (number, rest) = after_number(rest, u32::MAX)?;
+    let (object, rest) = after_name(rest)?;
+    let (op, behind) = after_name(rest)?;
+    if number == id {
+        Some((object, op, behind))
+    } else {
+        None
+    }
+}
+
+// An effect of a file of `holds`: its session and what it sees.
+fn bare<'a>(object: &'a [u8], op: &'a [u8], text: &'a [u8]) -> Option<Spelled<'a>> {
+    let (session, rest) = after_number(text, 255)?;
+    let seen = after_word(rest, b"vis")?;
+    Some(Spelled {
+        object,
+        op,
+        args: b"",
+        answer: b"",
+        session,
+        txn: b"-",
+        seen,
+    })
+}
+
+// An effect of an execution: its call, and then its setting.
+fn full<'a>(object: &'a [u8], op: &'a [u8], text: &'a [u8]) -> Option<Spelled<'a>> {
+    let (args, answer, rest) = call(text)?;
+    let (session, txn, seen) = setting(rest)?;
+    Some(Spelled {
+        object,
+        op,
+        args,
+        answer,
+        session,
+        txn,
+        seen,
+    })
+}
+
+// The arguments and the answer of a call, and what stands behind its payload.
+fn call(text: &[u8]) -> Option<(&[u8], &[u8], &[u8])> {
+    let (args, rest) = first_part(text)?;
+    let rest = after_word(rest, b"=")?;
+    let (answer, rest) = first_part(rest)?;
+    let rest = after_word(rest, b"emit")?;
+    let (_, behind) = first_part(rest)?;
+    Some((args, answer, behind))
+}
+
+// The session, the field of the begun transaction, and what stands behind the word `vis`.
+fn setting(text: &[u8]) -> Option<(u32, &[u8], &[u8])> {
+    let rest = after_word(text, b"session")?;
+    let (session, rest) = after_number(rest, 255)?;
+    let rest = after_word(rest, b"txn")?;
+    let (txn, rest) = first_field(rest)?;
+    let seen = after_stamp(rest)?;
+    if txn == b"-".as_slice() || begun_of(txn).is_some() {
+        Some((session, txn, seen))
+    } else {
+        None
+    }
+}
+
+// What stands behind the stamp and the word `vis`.
+fn after_stamp(text: &[u8]) -> Option<&[u8]> {
+    let rest = after_word(text, b"stamp")?;
+    let (_, rest) = after_number(rest, u32::MAX)?;
+    let behind = after_word(rest, b"vis")?;
+    Some(behind)
+}
+
+/// The effect that is spelled so, on the object of a number. None where it sees ids that don't ascend.
+pub(crate) fn effect_of(
+    alloc: Global,
+    spelled: Spelled,
+    object: u32,
+) -> Result<Option<Effect>, NoMemory> {
+    let Some(op) = named(spelled.op) else {
+        return Ok(None);
+    };
+    let Some(seen) = ascending_ids(alloc, spelled.seen)? else {
+        return Ok(None);
+    };
+    let call = joined(alloc, spelled.op, spelled.args)?;
+    let answer = Vec::from_slice(alloc, spelled.answer)?;
+    Ok(Some(Effect {
+        object,
+        op,
+        call,
+        answer,
+        session: spelled.session,
+        begun: begun_of(spelled.txn),
+        seen,
+    }))
+}
+
+fn named(word: &[u8]) -> Option<Word> {
+    if is_name(word) {
+        Some(Word::of(word))
+    } else {
+        None
+    }
+}
+
+// A word, and another one behind it where there is one.
+fn joined(alloc: Global, word: &[u8], other: &[u8]) -> Result<Vec<u8>, NoMemory> {
+    let mut text = Vec::from_slice(alloc, word)?;
+    if !other.is_empty() {
+        push_bytes(&mut text, b" ")?;
+        push_bytes(&mut text, other)?;
+    }
+    Ok(text)
+}

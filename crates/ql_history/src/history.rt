@@ -1,0 +1,129 @@
+use crate::join::Joining;
+use crate::messages::{Passage, Span, Spot};
+use crate::plan::Plan;
+use crate::run::Run;
+use crate::seat::{Seat, seat_of};
+use ql_base::NoMemory;
+use std::alloc::Global;
+
+/// The most effects that are drawn, and the most events.
+pub const MOST_DRAWN: u32 = 200;
+
+pub const MOST_COLUMNS: u32 = 1000;
+
+/// What happened at an event.
+#[derive(Clone, Copy)]
+pub enum Happening {
+    /// A call made the effect of a number, counted from 1.
+    Made(u32),
+    /// A call, a begin, a commit or a resend was not answered, for this cause.
+    Stopped(Cause),
+    /// A transaction began, or was committed.
+    Opened,
+    Closed,
+    /// Something happened to a message.
+    Noted,
+    /// The replicas were parted or joined.
+    Parted,
+}
+
+/// What stood against a call.
+#[derive(Clone, Copy)]
+pub enum Cause {
+    Effect(u32),
+    Replica(u32),
+    Other,
+}
+
+/// An event, with the texts above and below its mark, and the number of the begun transaction that it belongs to.
+#[derive(Drop)]
+pub struct Column {
+    pub spot: Spot,
+    pub happening: Happening,
+    pub above: Vec<u8>,
+    pub below: Vec<u8>,
+    pub begun: Option<u32>,
+}
+
+/// What is drawn of a run. Without a schedule each effect is an event, at the one replica 0, and `replicas` is 0.
+#[derive(Drop)]
+pub struct History {
+    pub replicas: u32,
+    pub columns: Vec<Column>,
+    /// A seat for each effect that is drawn, in order.
+    pub seats: Vec<Seat>,
+    pub passages: Vec<Passage>,
+    pub spans: Vec<Span>,
+}
+
+/// What is drawn of a run, at most its first effects and events. None where the schedule isn't the run's.
+pub fn history_of(
+    alloc: Global,
+    run: &Run,
+    plan: Option<&Plan>,
+) -> Result<Option<History>, NoMemory> {
+    match plan {
+        Some(plan) => joined(alloc, run, plan),
+        None => Ok(Some(bare(alloc, run)?)),
+    }
+}
+
+// The events of a schedule with their replies.
+fn joined(alloc: Global, run: &Run, plan: &Plan) -> Result<Option<History>, NoMemory> {
+    if run.replies.len() != plan.events.len() {
+        return Ok(None);
+    }
+    let mut joining = Joining::new(alloc, plan.replicas);
+    for (step, reply) in plan.events.iter().zip(run.replies.iter()) {
+        if joining.is_full() {
+            return Ok(Some(joining.into_history()));
+        }
+        if !joining.join(alloc, run, step, reply)? {
+            return Ok(None);
+        }
+    }
+    if joining.made() as usize == run.effects.len() {
+        Ok(Some(joining.into_history()))
+    } else {
+        Ok(None)
+    }
+}
+
+// The effects alone.
+fn bare(alloc: Global, run: &Run) -> Result<History, NoMemory> {
+    let mut history = History::new(alloc, 0);
+    for (k, effect) in run.effects.iter().enumerate() {
+        if k >= MOST_DRAWN as usize {
+            return Ok(history);
+        }
+        let spot = Spot {
+            column: k as u32,
+            replica: 0,
+            session: Some(effect.session),
+        };
+        history
+            .seats
+            .push(seat_of(alloc, run, effect, k as u32 + 1, spot)?)?;
+        history.columns.push(Column {
+            spot,
+            happening: Happening::Made(k as u32 + 1),
+            above: Vec::from_slice(alloc, &effect.call)?,
+            below: Vec::from_slice(alloc, &effect.answer)?,
+            begun: effect.begun.map(|begun| begun.number),
+        })?;
+    }
+    Ok(history)
+}
+
+impl History {
+    /// Nothing, of so many replicas.
+    pub(crate) fn new(alloc: Global, replicas: u32) -> History {
+        History {
+            replicas,
+            columns: Vec::new(alloc),
+            seats: Vec::new(alloc),
+            passages: Vec::new(alloc),
+            spans: Vec::new(alloc),
+        }
+    }
+}

@@ -1,0 +1,79 @@
+ghost use Rattle.std.specs.Prelude.{◌≤◌, length};
+
+use ql_lines::first_field;
+
+/// The first part of a line and what stands behind it. A part ends at a space that stands neither between quotes nor
+/// in brackets, so a value is one part.
+pub(crate) fn first_part(text: &[u8]) -> Option<(&[u8], &[u8])> {
+    let start = without_spaces(text);
+    if start.is_empty() {
+        return None;
+    }
+    Some(start.split_at(part_bytes(start)))
+}
+
+/// What stands behind the spaces at the front.
+pub(crate) fn without_spaces(text: &[u8]) -> &[u8] {
+    let (_, rest) = text.split_at(spaces(text));
+    rest
+}
+
+/// Whether a line has this word and nothing else.
+pub(crate) fn is_word(text: &[u8], word: &[u8]) -> bool {
+    match first_field(text) {
+        Some((field, behind)) => field == word && first_field(behind).is_none(),
+        None => false,
+    }
+}
+
+fn spaces(text: &[u8]) -> usize
+    ensures { result ≤ length text.now }
+{
+    text.iter().take_while(|b| **b == b' ').count()
+}
+
+// How many bytes stand before the first space that ends a part.
+fn part_bytes(text: &[u8]) -> usize
+    ensures { result ≤ length text.now }
+{
+    let mut inside = Inside::Nothing;
+    for (i, b) in text.iter().enumerate() {
+        inside = match (inside, *b) {
+            (Inside::Nothing, b' ') => return i,
+            (inside, b) => inside.with(b),
+        };
+    }
+    text.len()
+}
+
+// In what a byte stands: quotes, so many brackets, or neither.
+#[derive(Clone, Copy)]
+enum Inside {
+    Nothing,
+    Brackets(u32),
+    Quotes(u32),
+}
+
+impl Inside {
+    fn with(self, b: u8) -> Inside {
+        match (self, b) {
+            (Inside::Nothing, b'"') => Inside::Quotes(0),
+            (Inside::Brackets(depth), b'"') => Inside::Quotes(depth),
+            (Inside::Quotes(depth), b'"') => Inside::out_of_quotes(depth),
+            (Inside::Nothing, b'(' | b'{') => Inside::Brackets(1),
+            (Inside::Brackets(depth), b'(' | b'{') => Inside::Brackets(depth.saturating_add(1)),
+            (Inside::Brackets(depth), b')' | b'}') => Inside::out_of_quotes(depth.saturating_sub(
+                1,
+            )),
+            (same, _) => same,
+        }
+    }
+
+    fn out_of_quotes(depth: u32) -> Inside {
+        if depth == 0 {
+            Inside::Nothing
+        } else {
+            Inside::Brackets(depth)
+        }
+    }
+}

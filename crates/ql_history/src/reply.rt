@@ -1,0 +1,90 @@
+use crate::part::without_spaces;
+use ql_base::{NoMemory, number_of};
+use ql_lines::{after_number, first_field};
+use std::alloc::Global;
+
+/// The first word of a reply.
+#[derive(Clone, Copy, PartialEq, Eq)]
+pub enum ReplyWord {
+    Ok,
+    Begun,
+    Committed,
+    Blocked,
+    Unavailable,
+    Held,
+    Refused,
+    Applies,
+    Waits,
+    Again,
+    Cut,
+    Gone,
+    Sent,
+    Lost,
+    Split,
+    Healed,
+}
+
+/// What an event was replied.
+#[derive(Drop)]
+pub struct Reply {
+    pub word: ReplyWord,
+    /// The number behind the word, where one stands there.
+    pub number: Option<u32>,
+    /// All of it, as it was printed.
+    pub text: Vec<u8>,
+}
+
+/// The reply that a line says, whose number is to be this one.
+pub(crate) fn reply_of(alloc: Global, text: &[u8], number: u32) -> Result<Option<Reply>, NoMemory> {
+    let Some((text, word, number)) = spelled(text, number) else {
+        return Ok(None);
+    };
+    let text = Vec::from_slice(alloc, text)?;
+    Ok(Some(Reply { word, number, text }))
+}
+
+// The text of a reply, its word, and the number behind that.
+fn spelled(text: &[u8], number: u32) -> Option<(&[u8], ReplyWord, Option<u32>)> {
+    let (told, rest) = after_number(text, u32::MAX)?;
+    let (field, behind) = first_field(rest)?;
+    let word = word_of(field)?;
+    if told == number {
+        Some((without_spaces(rest), word, number_behind(behind)))
+    } else {
+        None
+    }
+}
+
+fn number_behind(text: &[u8]) -> Option<u32> {
+    let (field, _) = first_field(text)?;
+    let number = number_of(field, u64::from(u32::MAX))?;
+    Some(number as u32)
+}
+
+fn word_of(field: &[u8]) -> Option<ReplyWord> {
+    match field {
+        b"ok" => Some(ReplyWord::Ok),
+        b"begun" => Some(ReplyWord::Begun),
+        b"committed" => Some(ReplyWord::Committed),
+        b"blocked" => Some(ReplyWord::Blocked),
+        b"unavailable" => Some(ReplyWord::Unavailable),
+        b"held" => Some(ReplyWord::Held),
+        b"refused" => Some(ReplyWord::Refused),
+        b"applies" => Some(ReplyWord::Applies),
+        _ => other_word(field),
+    }
+}
+
+fn other_word(field: &[u8]) -> Option<ReplyWord> {
+    match field {
+        b"waits" => Some(ReplyWord::Waits),
+        b"again" => Some(ReplyWord::Again),
+        b"cut" => Some(ReplyWord::Cut),
+        b"gone" => Some(ReplyWord::Gone),
+        b"sent" => Some(ReplyWord::Sent),
+        b"lost" => Some(ReplyWord::Lost),
+        b"split" => Some(ReplyWord::Split),
+        b"healed" => Some(ReplyWord::Healed),
+        _ => None,
+    }
+}

@@ -1,0 +1,204 @@
+ghost use Rattle.std.specs.Prelude.{◌<◌, ◌^◌};
+
+use crate::effect::{Effect, Spelled, effect_of, read_spelled};
+use crate::fault::{DrawnFault, DrawnRule, LineFault};
+use crate::part::{is_word, without_spaces};
+use crate::reply::{Reply, reply_of};
+use ql_base::{Names, NoMemory, Word};
+use ql_lines::{Line, Lines, after_name, after_number, after_word, first_field};
+use std::alloc::Global;
+
+// The most effects and replies of a file, and the most objects.
+const MOST: usize = 4000;
+
+const MOST_OBJECTS: u32 = 1024;
+
+/// The level of an operation or of a transaction.
+#[derive(Drop)]
+pub struct Level {
+    pub is_txn: bool,
+    pub name: Word,
+    pub level: Vec<u8>,
+}
+
+/// What the text of a run says, that of a countermodel, an execution, or a file of `holds`. What isn't there is empty.
+#[derive(Drop)]
+pub struct Run {
+    pub levels: Vec<Level>,
+    pub replies: Vec<Reply>,
+    pub objects: Names,
+    pub effects: Vec<Effect>,
+    /// The words of a countermodel behind its level, as `at 2 a=1`, or where a contract of `holds` is judged.
+    pub why: Vec<u8>,
+}
+
+impl Run {
+    /// The level of an operation or of a transaction, empty where none is told.
+    pub fn level_of(&self, is_txn: bool, name: Word) -> &[u8] {
+        match self
+            .levels
+            .iter()
+            .find(|one| one.is_txn == is_txn && one.name == name)
+        {
+            Some(one) => &one.level,
+            None => b"",
+        }
+    }
+
+    /// Whether an effect's operation is strong.
+    pub fn is_strong(&self, effect: &Effect) -> bool {
+        self.level_of(false, effect.op) == b"strong".as_slice()
+    }
+
+    /// The name of the object of a number.
+    pub fn object_name(&self, number: u32) -> &[u8] {
+        if number < self.objects.len() {
+            self.objects.name(number).bytes()
+        } else {
+            b""
+        }
+    }
+}
+
+// Where a line stands.
+#[derive(Clone, Copy)]
+enum Stage {
+    /// Before the effects.
+    Ahead,
+    /// Behind the word `replies`.
+    Replying,
+    /// Behind the contract of a file of `holds`.
+    Judging,
+    Effects,
+    Ended,
+}
+
+/// What a text says, up to the first line `end` behind its effects. Before these, lines that say nothing of a run are
+/// passed over.
+pub fn read_run(alloc: Global, bytes: &[u8]) -> Result<Run, DrawnFault> {
+    let mut run = empty(alloc);
+    let mut stage = Stage::Ahead;
+    let mut lines = Lines::of(bytes);
+    while let Some(line) = lines.next_line() {
+        stage = match take(alloc, &mut run, stage, line) {
+            Ok(Stage::Ended) => return Ok(run),
+            Ok(more) => more,
+            Err(fault) => return Err(fault.at(line.number)),
+        };
+    }
+    Err(LineFault::Breaks(DrawnRule::Unexpected).at(lines.end()))
+}
+
+fn empty(alloc: Global) -> Run {
+    Run {
+        levels: Vec::new(alloc),
+        replies: Vec::new(alloc),
+        objects: Names::new(alloc),
+        effects: Vec::new(alloc),
+        why: Vec::new(alloc),
+    }
+}
+
+fn take(alloc: Global, run: &mut Run, stage: Stage, line: Line) -> Result<Stage, LineFault> {
+    match stage {
+        Stage::Effects | Stage::Ended => take_effect(alloc, run, line.text),
+        Stage::Judging => take_place(alloc, run, line.text),
+        Stage::Replying if !is_word(line.text, b"execution") => take_reply(alloc, run, line.text),
+        Stage::Ahead | Stage::Replying => take_ahead(alloc, run, line.text),
+    }
+}
+
+// A line before the effects, which is no reply.
+fn take_ahead(alloc: Global, run: &mut Run, text: &[u8]) -> Result<Stage, LineFault> {
+    match first_field(text) {
+        Some((b"execution", _)) if is_word(text, b"execution") => return Ok(Stage::Effects),
+        Some((b"replies", _)) if is_word(text, b"replies") => return Ok(Stage::Replying),
+        Some((b"contract", _)) => return Ok(Stage::Judging),
+        Some((b"why", behind)) => run.why = Vec::from_slice(alloc, without_spaces(behind))?,
+        Some((b"op", behind)) => push_level(alloc, run, false, behind)?,
+        Some((b"txn", behind)) => push_level(alloc, run, true, behind)?,
+        _ => {}
+    }
+    Ok(Stage::Ahead)
+}
+
+fn push_level(alloc: Global, run: &mut Run, is_txn: bool, text: &[u8]) -> Result<(), NoMemory> {
+    let Some((name, behind)) = after_name(text) else {
+        return Ok(());
+    };
+    run.levels.push(Level {
+        is_txn,
+        name: Word::of(name),
+        level: Vec::from_slice(alloc, without_spaces(behind))?,
+    })?;
+    Ok(())
+}
+
+// The line behind a contract says at which effect it is judged.
+fn take_place(alloc: Global, run: &mut Run, text: &[u8]) -> Result<Stage, LineFault> {
+    match after_word(text, b"at") {
+        Some(behind) if after_number(behind, u32::MAX).is_some() => {
+            run.why = Vec::from_slice(alloc, without_spaces(text))?;
+            Ok(Stage::Effects)
+        }
+        _ => Err(LineFault::Breaks(DrawnRule::Unexpected)),
+    }
+}
+
+fn take_reply(alloc: Global, run: &mut Run, text: &[u8]) -> Result<Stage, LineFault> {
+    let count = run.replies.len();
+    if count >= MOST {
+        return Err(LineFault::Breaks(DrawnRule::TooMany));
+    }
+    match reply_of(alloc, text, count as u32 + 1)? {
+        Some(reply) => {
+            run.replies.push(reply)?;
+            Ok(Stage::Replying)
+        }
+        None => Err(LineFault::Breaks(DrawnRule::Unexpected)),
+    }
+}
+
+fn take_effect(alloc: Global, run: &mut Run, text: &[u8]) -> Result<Stage, LineFault> {
+    if is_word(text, b"end") {
+        return Ok(Stage::Ended);
+    }
+    let count = run.effects.len();
+    if count >= MOST {
+        return Err(LineFault::Breaks(DrawnRule::TooMany));
+    }
+    match read_spelled(text, count as u32 + 1) {
+        Some(spelled) => push_effect(alloc, run, spelled, count as u32)?,
+        None => return Err(LineFault::Breaks(DrawnRule::Unexpected)),
+    }
+    Ok(Stage::Effects)
+}
+
+// One more effect, behind so many.
+fn push_effect(
+    alloc: Global,
+    run: &mut Run,
+    spelled: Spelled,
+    count: u32,
+) -> Result<(), LineFault> {
+    let name = spelled.object;
+    let Some(object) = object_number(&mut run.objects, name)? else {
+        return Err(LineFault::Breaks(DrawnRule::TooMany));
+    };
+    let Some(effect) = effect_of(alloc, spelled, object)? else {
+        return Err(LineFault::Breaks(DrawnRule::Unexpected));
+    };
+    if effect.seen.items().last().is_some_and(|last| *last > count) {
+        return Err(LineFault::Breaks(DrawnRule::NotForward));
+    }
+    run.effects.push(effect)?;
+    Ok(())
+}
+
+// The number of an object's name; none where there are too many.
+fn object_number(objects: &mut Names, name: &[u8]) -> Result<Option<u32>, NoMemory> {
+    if objects.len() >= MOST_OBJECTS || name.is_empty() || name.len() > 32 {
+        return Ok(None);
+    }
+    Ok(Some(objects.number(name)?))
+}

@@ -1,0 +1,159 @@
+use crate::part::without_spaces;
+use ql_base::NoMemory;
+use ql_lines::{after_name, after_number, after_word, first_field};
+use std::alloc::Global;
+
+/// An event of a schedule, as far as a picture shows it.
+#[derive(Drop)]
+pub enum Step {
+    /// A session's call, with its operation and arguments as they are written.
+    Call {
+        caller: Caller,
+        object: Vec<u8>,
+        call: Vec<u8>,
+    },
+    /// The begin of a transaction, with its name.
+    Begin {
+        caller: Caller,
+        name: Vec<u8>,
+    },
+    Commit(Caller),
+    Deliver(u32),
+    Repeat(u32),
+    Lose(u32),
+    /// A replica sends an effect once more to another.
+    Resend {
+        from: u32,
+        to: u32,
+    },
+    /// The group of each replica.
+    Partition(Vec<u32>),
+    Heal,
+}
+
+/// A session, and the replica at which it does something.
+#[derive(Clone, Copy)]
+pub struct Caller {
+    pub session: u32,
+    pub replica: u32,
+}
+
+/// The event that a line says, in a store of so many replicas.
+pub(crate) fn step_of(alloc: Global, text: &[u8], replicas: u32) -> Result<Option<Step>, NoMemory> {
+    let Some((word, rest)) = first_field(text) else {
+        return Ok(None);
+    };
+    match word {
+        b"call" => call(alloc, rest, replicas),
+        b"begin" => begin(alloc, rest, replicas),
+        b"partition" => partition(alloc, rest, replicas),
+        _ => Ok(other(word, rest, replicas)),
+    }
+}
+
+// An event that has numbers alone.
+fn other(word: &[u8], rest: &[u8], replicas: u32) -> Option<Step> {
+    match word {
+        b"commit" => commit(rest, replicas),
+        b"resend" => resend(rest, replicas),
+        b"deliver" => Some(Step::Deliver(last_number(rest)?)),
+        b"repeat" => Some(Step::Repeat(last_number(rest)?)),
+        b"lose" => Some(Step::Lose(last_number(rest)?)),
+        b"heal" if first_field(rest).is_none() => Some(Step::Heal),
+        _ => None,
+    }
+}
+
+fn call(alloc: Global, text: &[u8], replicas: u32) -> Result<Option<Step>, NoMemory> {
+    let Some((caller, object, call)) = called(text, replicas) else {
+        return Ok(None);
+    };
+    Ok(Some(Step::Call {
+        caller,
+        object: Vec::from_slice(alloc, object)?,
+        call: Vec::from_slice(alloc, call)?,
+    }))
+}
+
+// Who calls, the name of the object, and the rest of the line from the operation on.
+fn called(text: &[u8], replicas: u32) -> Option<(Caller, &[u8], &[u8])> {
+    let (caller, rest) = after_caller(text, replicas)?;
+    let (object, rest) = after_name(rest)?;
+    let (_, _) = after_name(rest)?;
+    Some((caller, object, without_spaces(rest)))
+}
+
+fn begin(alloc: Global, text: &[u8], replicas: u32) -> Result<Option<Step>, NoMemory> {
+    let Some((caller, name)) = begun(text, replicas) else {
+        return Ok(None);
+    };
+    Ok(Some(Step::Begin {
+        caller,
+        name: Vec::from_slice(alloc, name)?,
+    }))
+}
+
+fn begun(text: &[u8], replicas: u32) -> Option<(Caller, &[u8])> {
+    let (caller, rest) = after_caller(text, replicas)?;
+    let (name, _) = after_name(rest)?;
+    Some((caller, name))
+}
+
+fn commit(text: &[u8], replicas: u32) -> Option<Step> {
+    let (caller, rest) = after_caller(text, replicas)?;
+    match first_field(rest) {
+        Some(_) => None,
+        None => Some(Step::Commit(caller)),
+    }
+}
+
+fn resend(text: &[u8], replicas: u32) -> Option<Step> {
+    let (_, rest) = after_number(text, u32::MAX)?;
+    let rest = after_word(rest, b"from")?;
+    let (from, rest) = after_number(rest, replicas)?;
+    let rest = after_word(rest, b"to")?;
+    let to = last_number(rest)?;
+    if from < replicas && to < replicas {
+        Some(Step::Resend { from, to })
+    } else {
+        None
+    }
+}
+
+// A session, and a replica of so many.
+fn after_caller(text: &[u8], replicas: u32) -> Option<(Caller, &[u8])> {
+    let (session, rest) = after_number(text, 255)?;
+    let rest = after_word(rest, b"at")?;
+    let (replica, behind) = after_number(rest, replicas)?;
+    if replica < replicas {
+        Some((Caller { session, replica }, behind))
+    } else {
+        None
+    }
+}
+
+// A number with which a line ends.
+fn last_number(text: &[u8]) -> Option<u32> {
+    let (number, behind) = after_number(text, u32::MAX)?;
+    match first_field(behind) {
+        Some(_) => None,
+        None => Some(number),
+    }
+}
+
+// The groups, as many as there are replicas.
+fn partition(alloc: Global, text: &[u8], replicas: u32) -> Result<Option<Step>, NoMemory> {
+    let mut groups = Vec::new(alloc);
+    let mut rest = text;
+    for _ in 0..replicas {
+        let Some((group, behind)) = after_number(rest, 15) else {
+            return Ok(None);
+        };
+        groups.push(group)?;
+        rest = behind;
+    }
+    match first_field(rest) {
+        Some(_) => Ok(None),
+        None => Ok(Some(Step::Partition(groups))),
+    }
+}

@@ -1,0 +1,49 @@
+use crate::axes::{LEFT, text_width};
+use crate::dots::COLOURS;
+use crate::pen::{Pen, point};
+use crate::picture::Scene;
+use ql_base::{NoMemory, push_bytes, push_number};
+use ql_svg::{Kind, Style};
+use std::alloc::Global;
+
+/// The objects with their colours, in a line at a height. Gives where the line ends.
+pub(crate) fn draw_objects(
+    alloc: Global,
+    pen: &mut Pen,
+    scene: Scene,
+    y: u32,
+) -> Result<u32, NoMemory> {
+    let mut x = LEFT;
+    for number in 0..scene.run.objects.len().min(64) {
+        let name = scene.run.object_name(number);
+        let style = Style {
+            kind: Kind::Swatch,
+            colour: number % COLOURS,
+        };
+        pen.rect(style, point(x, y.saturating_sub(10)), point(11, 11))?;
+        pen.label(alloc, Kind::Object, point(x.saturating_add(16), y), name)?;
+        x = x.saturating_add(text_width(name)).saturating_add(36);
+    }
+    Ok(x)
+}
+
+/// Says how much is drawn, where that isn't all. Gives where the line ends.
+pub(crate) fn draw_note(
+    alloc: Global,
+    pen: &mut Pen,
+    scene: Scene,
+    y: u32,
+) -> Result<u32, NoMemory> {
+    let drawn = scene.history.seats.len();
+    let all = scene.run.effects.len();
+    if drawn == all {
+        return Ok(0);
+    }
+    let mut text = Vec::from_slice(alloc, b"the first ")?;
+    push_number(&mut text, drawn)?;
+    push_bytes(&mut text, b" of ")?;
+    push_number(&mut text, all)?;
+    push_bytes(&mut text, b" effects")?;
+    pen.label(alloc, Kind::Note, point(LEFT, y), &text)?;
+    Ok(LEFT.saturating_add(text_width(&text)))
+}

@@ -1,0 +1,63 @@
+use ql_base::{NoMemory, number_of, push_bytes};
+use ql_lines::first_field;
+use std::alloc::Global;
+
+/// An effect, counted from 1, with the variables that stand for it, as `a` or `a cur`.
+#[derive(Drop)]
+pub struct Marked {
+    pub effect: u32,
+    pub names: Vec<u8>,
+}
+
+/// The effects that the words of a breach name: `a=3` is effect 3 as `a`, and `at 2` effect 2 as `cur`. All other words
+/// say nothing.
+pub fn marks_of(alloc: Global, words: &[u8]) -> Result<Vec<Marked>, NoMemory> {
+    let mut marks = Vec::new(alloc);
+    let mut rest = words;
+    let mut is_behind_at = false;
+    for _ in 0..words.len() {
+        let Some((field, behind)) = first_field(rest) else {
+            return Ok(marks);
+        };
+        match named(field, is_behind_at) {
+            Some((name, effect)) => put_mark(alloc, &mut marks, name, effect)?,
+            None => {}
+        }
+        is_behind_at = field == b"at".as_slice();
+        rest = behind;
+    }
+    Ok(marks)
+}
+
+// The name and the effect of a word.
+fn named(field: &[u8], is_behind_at: bool) -> Option<(&[u8], u32)> {
+    if is_behind_at {
+        return Some((b"cur", effect_number(field)?));
+    }
+    let at = field.iter().position(|b| *b == b'=')?;
+    let effect = effect_number(&field[at + 1..])?;
+    Some((&field[..at], effect))
+}
+
+fn effect_number(field: &[u8]) -> Option<u32> {
+    let number = number_of(field, u64::from(u32::MAX))?;
+    Some(number as u32)
+}
+
+// One more name of an effect.
+fn put_mark(
+    alloc: Global,
+    marks: &mut Vec<Marked>,
+    name: &[u8],
+    effect: u32,
+) -> Result<(), NoMemory> {
+    for mark in marks.iter_mut() {
+        if mark.effect == effect {
+            push_bytes(&mut mark.names, b" ")?;
+            return push_bytes(&mut mark.names, name);
+        }
+    }
+    let names = Vec::from_slice(alloc, name)?;
+    marks.push(Marked { effect, names })?;
+    Ok(())
+}

@@ -1,0 +1,95 @@
+use crate::axes::MOST_SHOWN;
+use ql_base::{NoMemory, push_bytes};
+use ql_svg::{Kind, Point, Shape, Style};
+use std::alloc::Global;
+
+// How many bytes are kept of a longer one.
+const KEPT: usize = 28;
+
+/// What is drawn, one shape above another.
+#[derive(Drop)]
+pub(crate) struct Pen {
+    pub shapes: Vec<Shape>,
+}
+
+/// A style that needs no colour.
+pub(crate) fn plain(kind: Kind) -> Style {
+    Style { kind, colour: 0 }
+}
+
+pub(crate) fn point(x: u32, y: u32) -> Point {
+    Point { x, y }
+}
+
+impl Pen {
+    pub(crate) fn new(alloc: Global) -> Pen {
+        Pen {
+            shapes: Vec::new(alloc),
+        }
+    }
+
+    pub(crate) fn rect(
+        &mut self,
+        style: Style,
+        corner: Point,
+        size: Point,
+    ) -> Result<(), NoMemory> {
+        self.shapes.push(Shape::Rect {
+            style,
+            corner,
+            size,
+        })?;
+        Ok(())
+    }
+
+    pub(crate) fn line(&mut self, kind: Kind, from: Point, to: Point) -> Result<(), NoMemory> {
+        let style = plain(kind);
+        self.shapes.push(Shape::Line { style, from, to })?;
+        Ok(())
+    }
+
+    /// A curve with its two control points.
+    pub(crate) fn curve(
+        &mut self,
+        style: Style,
+        ends: [Point; 2],
+        controls: [Point; 2],
+    ) -> Result<(), NoMemory> {
+        self.shapes.push(Shape::Curve {
+            style,
+            from: ends[0],
+            first: controls[0],
+            second: controls[1],
+            to: ends[1],
+        })?;
+        Ok(())
+    }
+
+    /// A text, cut where it is long.
+    pub(crate) fn label(
+        &mut self,
+        alloc: Global,
+        kind: Kind,
+        at: Point,
+        text: &[u8],
+    ) -> Result<(), NoMemory> {
+        if text.is_empty() {
+            return Ok(());
+        }
+        let text = shown(alloc, text)?;
+        let style = plain(kind);
+        self.shapes.push(Shape::Label { style, at, text })?;
+        Ok(())
+    }
+}
+
+// As much of a text as there is room for, with dots for the rest.
+fn shown(alloc: Global, text: &[u8]) -> Result<Vec<u8>, NoMemory> {
+    if text.len() <= MOST_SHOWN {
+        return Ok(Vec::from_slice(alloc, text)?);
+    }
+    let count = KEPT.min(text.len());
+    let mut front = Vec::from_slice(alloc, &text[..count])?;
+    push_bytes(&mut front, b"..")?;
+    Ok(front)
+}

@@ -1,0 +1,5 @@
+pub mod Attributes
+pub mod Elements
+pub mod Escapes
+pub mod Styles
+pub mod Svg
