@@ -103,6 +103,33 @@ def waiting_schedule(calls, receivers):
     return "\n".join(parts + [""])
 
 
+def spread_schedule():
+    """2,000 calls by 256 sessions at 16 replicas on 1,024 objects by turns, and the delivery of as many messages."""
+    parts = ["quelea schedule 1", "replicas 16", *(f"object o{k} sums" for k in range(1024)), "events"]
+    parts += [f"call {k % 256} at {k % 16} o{k % 1024} add_up {k}" for k in range(2000)]
+    parts += [f"deliver {15 * k + k % 15 + 1}" for k in range(2000)]
+    return "\n".join(parts + [""])
+
+
+def transactions_schedule():
+    """Transactions of the bank by 16 sessions at two replicas, each of eight calls, on 16 accounts; what is committed is
+    delivered at once."""
+    accounts = [f"a{k}" for k in range(16)]
+    parts = ["quelea schedule 1", "replicas 2", *(f"object {name} account" for name in accounts), "events"]
+    for run in range(MOST_EFFECTS // 11):
+        caller, decl = f"{run % 16} at {run % 2}", ("audit", "peek", "trail")[run % 3]
+        parts.append(f"begin {caller} {decl} {' '.join(accounts)}")
+        parts += [f"call {caller} {accounts[(run + k) % 16]} " + ("deposit 1", "getbalance")[k % 2] for k in range(8)]
+        parts += [f"commit {caller}", f"deliver {run + 1}"]
+    return "\n".join(parts + [""])
+
+
+def strong_schedule():
+    """4,000 withdrawals from one account, by 64 sessions at 16 replicas by turns."""
+    calls = (f"call {k % 64} at {k % 16} a withdraw {k % 7}" for k in range(MOST_EFFECTS))
+    return "\n".join(["quelea schedule 1", "replicas 16", "object a account", "events", *calls, ""])
+
+
 def full_execution(entries):
     """4,000 effects that each see all earlier ones, whose answers are maps of so many entries."""
     pairs = (f"{10**12 + key}: {10**9 + 7919 * key}" for key in range(entries))

@@ -4,7 +4,7 @@ mod common;
 use common::levels::levels;
 use common::parse::parse_program;
 use common::schedule::{Known, Schedule, parse_schedule};
-use common::store::{Effect, Reply, Store};
+use common::store::Store;
 use common::types::{Typed, typecheck};
 use common::value::{Value, separated};
 use common::{MEBIBYTE, bad, end, read};
@@ -25,42 +25,12 @@ fn main() -> io::Result<()> {
     out.extend_from_slice(b"replies\n");
     for (k, event) in schedule.events.iter().enumerate() {
         let reply = store.step(event);
-        print_reply(k + 1, &reply, &store.effects, &mut out)?;
+        write!(out, "{} ", k + 1)?;
+        reply.print(&store.effects, &mut out)?;
+        out.push(b'\n');
     }
     print_execution(&typed, &schedule, &store, &mut out)?;
     io::stdout().write_all(&out)
-}
-
-fn print_reply(number: usize, reply: &Reply, effects: &[Effect], out: &mut Vec<u8>) -> io::Result<()> {
-    write!(out, "{number} ")?;
-    match reply {
-        Reply::Ok(id) => {
-            write!(out, "ok {id} ")?;
-            effects[*id as usize - 1].answer.print(out);
-        }
-        Reply::Refused(why) => write!(out, "refused {why}")?,
-        Reply::Unavailable(replica) => write!(out, "unavailable {replica}")?,
-        Reply::Held(session) => write!(out, "held {session}")?,
-        Reply::Blocked(id) => write!(out, "blocked {id}")?,
-        Reply::Begun => write!(out, "begun")?,
-        Reply::Committed(ids) => ids_after(b"committed", ids, out)?,
-        Reply::Applies(ids) => ids_after(b"applies", ids, out)?,
-        Reply::Waits(id) => write!(out, "waits {id}")?,
-        Reply::Again => write!(out, "again")?,
-        Reply::Cut => write!(out, "cut")?,
-        Reply::Gone => write!(out, "gone")?,
-        Reply::Sent(message) => write!(out, "sent {message}")?,
-        Reply::Lost => write!(out, "lost")?,
-        Reply::Split => write!(out, "split")?,
-        Reply::Healed => write!(out, "healed")?,
-    }
-    out.push(b'\n');
-    Ok(())
-}
-
-fn ids_after(word: &[u8], ids: &[u32], out: &mut Vec<u8>) -> io::Result<()> {
-    out.extend_from_slice(word);
-    ids.iter().try_for_each(|id| write!(out, " {id}"))
 }
 
 fn print_execution(typed: &Typed, schedule: &Schedule, store: &Store, out: &mut Vec<u8>) -> io::Result<()> {

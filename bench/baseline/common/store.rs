@@ -5,6 +5,7 @@ use super::tree::{OpDecl, Program, TypeDecl};
 use super::types::Typed;
 use super::value::{Scalar, Value, value};
 use std::collections::{BTreeMap, HashMap};
+use std::io::{self, Write};
 use std::rc::Rc;
 
 pub struct Effect {
@@ -36,6 +37,38 @@ pub enum Reply {
     Lost,
     Split,
     Healed,
+}
+
+impl Reply {
+    pub fn print(&self, effects: &[Effect], out: &mut Vec<u8>) -> io::Result<()> {
+        match self {
+            Reply::Ok(id) => {
+                write!(out, "ok {id} ")?;
+                effects[*id as usize - 1].answer.print(out);
+                Ok(())
+            }
+            Reply::Refused(why) => write!(out, "refused {why}"),
+            Reply::Unavailable(replica) => write!(out, "unavailable {replica}"),
+            Reply::Held(session) => write!(out, "held {session}"),
+            Reply::Blocked(id) => write!(out, "blocked {id}"),
+            Reply::Begun => write!(out, "begun"),
+            Reply::Committed(ids) => ids_after(b"committed", ids, out),
+            Reply::Applies(ids) => ids_after(b"applies", ids, out),
+            Reply::Waits(id) => write!(out, "waits {id}"),
+            Reply::Again => write!(out, "again"),
+            Reply::Cut => write!(out, "cut"),
+            Reply::Gone => write!(out, "gone"),
+            Reply::Sent(message) => write!(out, "sent {message}"),
+            Reply::Lost => write!(out, "lost"),
+            Reply::Split => write!(out, "split"),
+            Reply::Healed => write!(out, "healed"),
+        }
+    }
+}
+
+fn ids_after(word: &[u8], ids: &[u32], out: &mut Vec<u8>) -> io::Result<()> {
+    out.extend_from_slice(word);
+    ids.iter().try_for_each(|id| write!(out, " {id}"))
 }
 
 /// A begun transaction: its declaration, its effects, and whether it is committed.

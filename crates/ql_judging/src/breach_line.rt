@@ -1,5 +1,5 @@
 // The line that tells the first breach of a contract.
-ghost use Rattle.std.specs.Prelude.{◌≡◌, ◌<◌, ◌++◌, Some, IfOk, OnOk, length};
+ghost use Rattle.std.specs.Prelude.{◌≡◌, ◌<◌, ◌++◌, Some, IfOk, OnErr, OnOk, length};
 ghost use Rattle.ql_typing.specs.Operations.{all_ops};
 ghost use Rattle.ql_verify.specs.Verdicts.{AreOfProgram, IsVerdict};
 ghost use Rattle.ql_judging.specs.Verify.{TellsBreach, numbers, op_text, places_text, txn_text};
@@ -71,8 +71,17 @@ fn txn_line(
     Ok(line)
 }
 
-/// Appends each variable with its place.
+/// Appends each variable with its place. Out of memory, the line is as before.
 pub fn push_places(line: &mut Vec<u8>, vars: &[Var], places: &[EffId]) -> Result<(), NoMemory>
+    ensures ok { OnOk result (line.new.items ≡ line.old.items ++ places_text vars.now (numbers places.now)) }
+    ensures err { OnErr result (line.new.items ≡ line.old.items) }
+{
+    let mut text = Vec::new(*line.allocator());
+    push_each(&mut text, vars, places)?;
+    push_bytes(line, &text)
+}
+
+fn push_each(line: &mut Vec<u8>, vars: &[Var], places: &[EffId]) -> Result<(), NoMemory>
     ensures { OnOk result (line.new.items ≡ line.old.items ++ places_text vars.now (numbers places.now)) }
 {
     let Some((var, other_vars)) = vars.split_first() else {
@@ -85,5 +94,5 @@ pub fn push_places(line: &mut Vec<u8>, vars: &[Var], places: &[EffId]) -> Result
     push_bytes(line, var.name.word.bytes())?;
     line.push(b'=')?;
     push_number(line, place.0)?;
-    push_places(line, other_vars, other_places)
+    push_each(line, other_vars, other_places)
 }
