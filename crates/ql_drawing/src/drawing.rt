@@ -4,7 +4,7 @@ ghost use Rattle.ql_drawing.specs.Outcomes.{IsDrawn, IsWhyText, bad_text, rule_t
 use crate::sheet::SHEET;
 use ql_base::{NoMemory, push_bytes, push_number};
 use ql_history::{DrawnFault, DrawnRule, History, Plan, Run, history_of, read_plan, read_run};
-use ql_layout::{Marked, Scene, grid_of, marks_of, picture_of};
+use ql_layout::{Scene, grid_of, marks_of, picture_of};
 use ql_lines::after_word;
 use ql_svg::svg_text;
 use std::alloc::Global;
@@ -49,8 +49,7 @@ pub fn drawing_text(alloc: Global, what: Drawing) -> Result<Vec<u8>, Why>
         return Err(Why::Strange);
     };
     let words = breach_words(alloc, &run, what.breach)?;
-    let marks = marks_of(alloc, &words)?;
-    let text = drawn(alloc, &run, &history, &marks, what.all)?;
+    let text = drawn(alloc, &run, &history, &words, what.all)?;
     Ok(text)
 }
 
@@ -58,28 +57,31 @@ fn drawn(
     alloc: Global,
     run: &Run,
     history: &History,
-    marks: &[Marked],
+    words: &[u8],
     all: bool,
 ) -> Result<Vec<u8>, NoMemory>
     ensures { IfOk result (λ text. IsDrawn text.items) }
 {
     let grid = grid_of(alloc, history)?;
+    let marks = marks_of(alloc, words)?;
     let scene = Scene {
         run,
         history,
-        marks,
+        marks: &marks,
         all,
     };
-    let picture = picture_of(alloc, scene, &grid)?;
+    let picture = picture_of(alloc, scene, words, &grid)?;
     svg_text(alloc, SHEET.as_bytes(), &picture)
 }
 
 // The words of a breach: those that are given, behind the place that a file of `holds` says itself; else those that
 // stand in the run's text.
 fn breach_words(alloc: Global, run: &Run, breach: &[u8]) -> Result<Vec<u8>, NoMemory> {
-    let is_judged = after_word(&run.why, b"at").is_some();
+    if breach.is_empty() {
+        return Ok(Vec::from_slice(alloc, &run.why)?);
+    }
     let mut words = Vec::new(alloc);
-    if breach.is_empty() || is_judged {
+    if after_word(&run.why, b"at").is_some() {
         push_bytes(&mut words, &run.why)?;
         push_bytes(&mut words, b" ")?;
     }

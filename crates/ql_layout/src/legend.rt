@@ -1,10 +1,13 @@
-use crate::axes::{LEFT, text_width};
+use crate::axes::{LEFT, LETTER, text_width};
 use crate::dots::COLOURS;
 use crate::pen::{Pen, point};
 use crate::picture::Scene;
 use ql_base::{NoMemory, push_bytes, push_number};
 use ql_svg::{Kind, Style};
 use std::alloc::Global;
+
+// For how many bytes of a caption there is room at most.
+const MOST_WORDS: usize = 2000;
 
 /// The objects with their colours, in a line at a height. Gives where the line ends.
 pub(crate) fn draw_objects(
@@ -44,6 +47,21 @@ pub(crate) fn draw_note(
     push_bytes(&mut text, b" of ")?;
     push_number(&mut text, all)?;
     push_bytes(&mut text, b" effects")?;
-    pen.label(alloc, Kind::Note, point(LEFT, y), &text)?;
+    pen.note(alloc, point(LEFT, y), &text)?;
     Ok(LEFT.saturating_add(text_width(&text)))
+}
+
+/// The words of a breach. Gives where the line ends.
+pub(crate) fn draw_caption(
+    alloc: Global,
+    pen: &mut Pen,
+    caption: &[u8],
+    y: u32,
+) -> Result<u32, NoMemory> {
+    if caption.is_empty() {
+        return Ok(0);
+    }
+    pen.note(alloc, point(LEFT, y), caption)?;
+    let length = caption.len().min(MOST_WORDS) as u32;
+    Ok(LEFT.saturating_add(length.saturating_mul(LETTER)))
 }

@@ -81,6 +81,14 @@ impl Pen {
         self.shapes.push(Shape::Label { style, at, text })?;
         Ok(())
     }
+
+    /// A line of text below the picture, whole.
+    pub(crate) fn note(&mut self, alloc: Global, at: Point, text: &[u8]) -> Result<(), NoMemory> {
+        let text = Vec::from_slice(alloc, text)?;
+        let style = plain(Kind::Note);
+        self.shapes.push(Shape::Label { style, at, text })?;
+        Ok(())
+    }
 }
 
 // As much of a text as there is room for, with dots for the rest.

@@ -4,7 +4,7 @@ ghost use Rattle.ql_layout.specs.Dots.{AreDotsOf};
 use crate::dots::dots_of;
 use crate::events::{draw_causes, draw_events, draw_moments, draw_steps};
 use crate::grid::Grid;
-use crate::legend::{draw_note, draw_objects};
+use crate::legend::{draw_caption, draw_note, draw_objects};
 use crate::marks::Marked;
 use crate::pen::Pen;
 use crate::spans::draw_spans;
@@ -26,18 +26,23 @@ pub struct Scene<'a> {
     pub all: bool,
 }
 
-/// The picture of a scene on a grid.
-pub fn picture_of(alloc: Global, scene: Scene, grid: &Grid) -> Result<Picture, NoMemory>
+/// The picture of a scene on a grid, with a line of text below it.
+pub fn picture_of(
+    alloc: Global,
+    scene: Scene,
+    caption: &[u8],
+    grid: &Grid,
+) -> Result<Picture, NoMemory>
     ensures { IfOk result (λ picture. AreDotsOf grid.now scene.entry.history.now.seats.items picture.dots.items) }
 {
     let dots = dots_of(alloc, grid, &scene.history.seats)?;
     let under = ground(alloc, scene, grid)?;
     let mut above = Pen::new(alloc);
     draw_events(alloc, &mut above, scene, grid)?;
-    let right = legend(alloc, &mut above, scene, bottom(grid))?;
+    let right = legend(alloc, &mut above, scene, caption, bottom(grid))?;
     Ok(Picture {
         width: grid.right().max(right).saturating_add(24),
-        height: bottom(grid).saturating_add(52),
+        height: bottom(grid).saturating_add(72),
         under,
         dots,
         above: above.shapes,
@@ -63,11 +68,18 @@ fn draw_arrows(pen: &mut Pen, scene: Scene, grid: &Grid) -> Result<(), NoMemory>
     draw_visibility(pen, scene, grid)
 }
 
-// The lines below the rows, and where the longer one ends.
-fn legend(alloc: Global, pen: &mut Pen, scene: Scene, top: u32) -> Result<u32, NoMemory> {
+// The lines below the rows, and where the longest one ends.
+fn legend(
+    alloc: Global,
+    pen: &mut Pen,
+    scene: Scene,
+    caption: &[u8],
+    top: u32,
+) -> Result<u32, NoMemory> {
     let objects = draw_objects(alloc, pen, scene, top.saturating_add(20))?;
-    let note = draw_note(alloc, pen, scene, top.saturating_add(40))?;
-    Ok(objects.max(note))
+    let words = draw_caption(alloc, pen, caption, top.saturating_add(40))?;
+    let note = draw_note(alloc, pen, scene, top.saturating_add(60))?;
+    Ok(objects.max(words).max(note))
 }
 
 // Where the rows end.
