@@ -1,4 +1,4 @@
-ghost use Rattle.std.specs.Prelude.{◌≡◌, ◌<◌, ◌++◌, true, length, IfOk, OnOk};
+ghost use Rattle.std.specs.Prelude.{◌≡◌, ◌<◌, ◌++◌, true, length, OnOk};
 ghost use Rattle.ql_machine.specs.Sets.{AreThose};
 ghost use Rattle.ql_store.specs.Viewing.{IsAppliedOn};
 ghost use Rattle.ql_typing.specs.Operations.{all_ops};
@@ -27,7 +27,7 @@ use std::alloc::Global;
 
 /// The last state of a run of a program, what is kept of it, and what is left of its execution.
 #[derive(Clone, Copy)]
-pub struct Left<'a> {
+pub(crate) struct Left<'a> {
     pub t: &'a Typed,
     pub objects: &'a Names,
     pub kinds: &'a [TypeId],
@@ -35,16 +35,6 @@ pub struct Left<'a> {
     pub store: &'a Store<Replica>,
     pub kept: &'a Kept,
     pub small: &'a Execution,
-}
-
-/// The lines of what each replica answers to the operations without parameters, object by object.
-pub fn all_answers(alloc: Global, left: &Left) -> Result<Vec<u8>, NoMemory>
-    requires { IsLeft left.now.t.now.program (length left.now.objects.now) left.now.kinds.now left.now.replicas left.now.store.now.machine left.now.kept.now left.now.small.now }
-    ensures { IfOk result (λ text. InOrder (AreAnswersOn left.now.t.now.program left.now.objects.now left.now.kinds.now left.now.store.now.machine) (length left.now.objects.now) text.items) }
-{
-    let mut text = Vec::new(alloc);
-    push_answers(alloc, &mut text, left)?;
-    Ok(text)
 }
 
 /// Appends what each replica answers to the operations without parameters, object by object.

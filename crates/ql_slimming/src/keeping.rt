@@ -17,7 +17,7 @@ use ql_typing::Typed;
 use std::alloc::Global;
 
 /// Keeps the stable effects of every object of a store.
-pub fn keep_stable(
+pub(crate) fn keep_stable(
     alloc: Global,
     t: &Typed,
     store: &Store<Replica>,

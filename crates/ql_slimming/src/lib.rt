@@ -10,7 +10,4 @@ mod keeping;
 mod stability;
 mod views;
 
-pub use answers::{Left, all_answers};
 pub use command::slim_run;
-pub use keeping::keep_stable;
-pub use views::views_on;

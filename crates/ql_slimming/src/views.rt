@@ -7,7 +7,7 @@ use ql_store::Store;
 use std::alloc::Global;
 
 /// What each replica has applied on an object.
-pub fn views_on(
+pub(crate) fn views_on(
     alloc: Global,
     store: &Store<Replica>,
     replicas: u32,
