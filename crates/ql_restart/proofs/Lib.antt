@@ -1,0 +1,6 @@
+pub mod Counting
+pub mod Arrivals
+pub mod Firsts
+pub mod Records
+pub mod Receipts
+pub mod Journals
