@@ -1,5 +1,5 @@
 -- What a replica received in a run: committed effects, each once.
-use Rattle.std.proofs.Common.{◌≡◌, ℕ, Bool, true, false, not, ◌||◌, ◌≤◌, nat_eq, List, [], ◌∷◌, ◌++◌, length, filter, get_or, take, zero, suc, ◌<◌, refl, sym, ◌∙◌, ap, inl, inr, arith}
+use Rattle.std.proofs.Common.{◌≡◌, ℕ, Bool, true, false, cond, not, ◌||◌, ◌≤◌, nat_eq, List, [], ◌∷◌, ◌++◌, length, filter, get_or, take, zero, suc, ◌<◌, refl, sym, ◌∙◌, ap, subst, inl, inr, arith}
 use Rattle.std.specs.List.{AllByRecursion}
 use Rattle.std.proofs.lemmas.Bool.{cases_Bool, false≢true, false_from_ne_true, or_cases, or_left, or_parts, or_right, eq-eqb, eqb-true}
 use Rattle.ql_base.specs.IdLists.{IsAscending, has_id}
@@ -16,7 +16,6 @@ use Rattle.ql_exec.specs.Execution.{next_id}
 use Rattle.ql_machine_laws.specs.Kept.{Keeps}
 use Rattle.ql_machine_laws.proofs.Keeping.{keeps-empty, keeps-step}
 use Rattle.ql_machine_laws.proofs.Lists.{all-kept, received-kept}
-use Rattle.ql_ranges.proofs.RangeLemmas.{has_id-append}
 use Rattle.ql_watched.specs.Watching.{Watches, nothing, more, new_ids}
 use Rattle.ql_restart.specs.Progress.{AreDistinct, CanRecover}
 use Rattle.ql_restart.proofs.Counting.{below-absent}
@@ -62,14 +61,22 @@ holds-on rules s _ _ _ heals r a has = has
 
 -- ---- lists in which no id is twice
 
+has_id-append : (ids others : List ℕ) (a : ℕ) → has_id (ids ++ others) a ≡ (has_id ids a || has_id others a)
+has_id-append [] others a = refl
+has_id-append (id ∷ ids) others a = ap (λ (b : Bool). nat_eq id a || b) (has_id-append ids others a) ∙ assoc (nat_eq id a) (has_id ids a) (has_id others a)
+  where
+    assoc : (b c d : Bool) → (b || (c || d)) ≡ ((b || c) || d)
+    assoc true c d = refl
+    assoc false c d = refl
+
 pub in-filter : (test : ℕ → Bool) (ids : List ℕ) (a : ℕ) → Has (filter test ids) a → Has ids a × (test a ≡ true)
 in-filter test [] a has = absurd (false≢true has)
 in-filter test (id ∷ ids) a has = elim (cases_Bool (test id)) [
-  | inl passes ↦ (let there : Has (id ∷ filter test ids) a = rw (← passes) has in elim (or_cases (nat_eq id a) (has_id (filter test ids) a) there) [
+  | inl passes ↦ (let there : Has (id ∷ filter test ids) a = subst (λ (b : Bool). Has (cond b (id ∷ filter test ids) (filter test ids)) a) passes has in elim (or_cases (nat_eq id a) (has_id (filter test ids) a) there) [
     | inl here ↦ (or_left (nat_eq id a) (has_id ids a) here, subst (λ (b : ℕ). test b ≡ true) (eqb-true id a here) passes)
     | inr later ↦ let rest = in-filter test ids a later in (or_right (nat_eq id a) (has_id ids a) rest.0, rest.1)
   ])
-  | inr fails ↦ (let there : Has (filter test ids) a = rw (← fails) has in let rest = in-filter test ids a there in (or_right (nat_eq id a) (has_id ids a) rest.0, rest.1))
+  | inr fails ↦ (let there : Has (filter test ids) a = subst (λ (b : Bool). Has (cond b (id ∷ filter test ids) (filter test ids)) a) fails has in let rest = in-filter test ids a there in (or_right (nat_eq id a) (has_id ids a) rest.0, rest.1))
 ]
 
 distinct-filter : (test : ℕ → Bool) (ids : List ℕ) → IsAscending ids → AreDistinct (filter test ids)
@@ -91,7 +98,7 @@ distinct-append (id ∷ ids) others one two apart = (
 
 -- an id isn't among those before it
 pub distinct-before : (ids : List ℕ) (i d : ℕ) → AreDistinct ids → i < length ids → has_id (take i ids) (get_or ids i d) ≡ false
-distinct-before [] i d distinct less = refl
+distinct-before [] i d distinct less = absurd (omega (arith, less))
 distinct-before (id ∷ ids) zero d distinct less = refl
 distinct-before (id ∷ ids) (suc i) d distinct less =
     let within : i < length ids = omega (arith, less) in
@@ -141,5 +148,7 @@ can_recover rules n r events s arrivals watches there few =
       few = few;
       once = record { there = there; distinct = is.distinct };
       done = λ a has. is.keeps.stored.held r a (is.among a has);
-      history = is.keeps.history;
+      promises = rules.promises;
+      start = n;
+      keeps = is.keeps;
     }

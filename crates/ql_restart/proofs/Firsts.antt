@@ -9,8 +9,8 @@ use Rattle.ql_machine.specs.Sets.{AreThose}
 use Rattle.ql_machine_laws.specs.Kept.{IsParcel}
 use Rattle.ql_needs.specs.Closed.{Has}
 use Rattle.ql_needs.proofs.Packages.{sametxn-back, sametxn-itself}
-use Rattle.ql_reach.proofs.WalkLaws.{between-ends, has_id-index}
 use Rattle.ql_restart.specs.Journaled.{is_first}
+use Rattle.ql_restart.proofs.Counting.{first_least, index_of}
 
 -- ---- numbers below a number
 
@@ -35,10 +35,10 @@ module _ (x : List Effect) (a : ℕ) (ids : List ℕ) (those : AreThose (λ b. s
   itself = those.all a (sametxn-itself x a)
 
   pub some_ids : 0 < length ids
-  some_ids = let place = has_id-index ids a itself in let inside = place.1 in omega (arith, inside)
+  some_ids = let at = index_of ids a itself in let inside = at.1 in omega (arith, inside)
 
   least : (b : ℕ) → Has ids b → get_or ids 0 0 ≤ b
-  least b has = (between-ends ids b those.ascending has).0
+  least b has = first_least ids b those.ascending has
 
   pub first_is : nat_eq (get_or ids 0 0) a ≡ is_first x a
   first_is = elim (cases_lt (get_or ids 0 0) a) [

@@ -1,5 +1,5 @@
 -- A station that journals package after package.
-use Rattle.std.proofs.Common.{◌≡◌, ◌+◌, ◌*◌, ◌<◌, ◌≤◌, ℕ, zero, suc, true, false, nat_eq, List, [], ◌∷◌, ◌++◌, length, take, drop, get_or, slice_get, None, Some, refl, sym, ◌∙◌, ap, subst, inl, inr, arith, length-append}
+use Rattle.std.proofs.Common.{◌≡◌, ◌+◌, ◌*◌, ◌<◌, ◌≤◌, ℕ, zero, suc, true, false, nat_eq, List, [], ◌∷◌, ◌++◌, length, take, drop, get_or, slice_get, None, Some, Ok, Err, refl, sym, ◌∙◌, ap, subst, inl, inr, arith, length-append}
 use Rattle.std.proofs.lemmas.Bool.{eq-eqb, false≢true, false_from_ne_true, or_left, or_right}
 use Rattle.std.proofs.lemmas.List.{append-nil, take-append-drop, take_all}
 use Rattle.std.proofs.lemmas.List.Elements.{filter-append}
@@ -11,13 +11,15 @@ use Rattle.ql_disk.specs.MemDisks.{bytes_of, content_of}
 use Rattle.ql_exec.specs.declared.effect.Effect.{Effect}
 use Rattle.ql_exec.specs.Relations.{sametxn}
 use Rattle.ql_journal.specs.declared.station.Station.{Station}
+use Rattle.ql_journal.specs.declared.why.StationWhy.{StationWhy}
+use Rattle.ql_journal.specs.declared.why.StationWhy.TheVariants as why
 use Rattle.ql_journal.specs.Records.{HasRecords, in_records}
 use Rattle.ql_journal.specs.Stations.{holder_of}
 use Rattle.ql_journal.proofs.EndLaws.{one_list}
 use Rattle.ql_needs.specs.Closed.{Has}
 use Rattle.ql_needs.proofs.Packages.{sametxn-along, sametxn-back}
 use Rattle.ql_restart.specs.Journaled.{is_first, packages}
-use Rattle.ql_restart.specs.Progress.{AreDistinct, AreOfFirst, IsJournal, IsReady, Receives, calls_left}
+use Rattle.ql_restart.specs.Progress.{AreDistinct, AreOfFirst, IsJournal, IsReady, Receives, UnlessNoMemory, calls_left}
 use Rattle.ql_restart.proofs.Arrivals.{distinct-before, in-filter}
 use Rattle.ql_restart.proofs.Firsts.{one_first}
 use Rattle.ql_restart.proofs.Records.{more_packages, none_of_nothing, of_record, one_more}
@@ -39,7 +41,7 @@ packages_other x arrivals i less other =
 packages_all : (x : List Effect) (arrivals : List ℕ) (i : ℕ) → packages x (take i arrivals) ++ packages x (drop i arrivals) ≡ packages x arrivals
 packages_all x arrivals i = sym (filter-append (is_first x) (take i arrivals) (drop i arrivals)) ∙ ap (packages x) (take-append-drop i arrivals)
 
-is_member : (ids : List ℕ) (k a : ℕ) → slice_get ids k ≡ Some a → Has ids a
+pub is_member : (ids : List ℕ) (k a : ℕ) → slice_get ids k ≡ Some a → Has ids a
 is_member [] k a at = let no : None ≡ Some a = at in absurd cc
 is_member (id ∷ ids) zero a at = or_left (nat_eq id a) (has_id ids a) (eq-eqb id a (same_Some id a at))
 is_member (id ∷ ids) (suc k) a at = or_right (nat_eq id a) (has_id ids a) (is_member ids k a at)
@@ -98,7 +100,7 @@ module _ {H : Type 0} (received : H → List ℕ) (fits : H → List Effect → 
               let is = one_first x of.1 next member.1 first same in
               false≢true (sym (distinct-before arrivals i 0 distinct less) ∙ subst (λ (b : ℕ). Has (take i arrivals) b) is member.0)
 
-      pub goes : (next : MemDisk) (after : Station H) → Receives received fits x ids disk true next after → IsJournaling (take (i + 1) arrivals) calls next after
+      pub goes : (next : MemDisk) (after : Station H) → Receives received fits x ids disk (Ok tt) next after → IsJournaling (take (i + 1) arrivals) calls next after
       goes next after done =
           let more = packages_first x arrivals i less first in
           let long = length-append on.records (ids ∷ []) in
@@ -113,7 +115,7 @@ module _ {H : Type 0} (received : H → List ℕ) (fits : H → List Effect → 
             spent = omega (arith, left, long, spent);
           }
 
-      pub stops : (next : MemDisk) (after : Station H) → Receives received fits x ids disk false next after → IsJournal x (packages x arrivals) calls (bytes_of next).base
+      stops : (next : MemDisk) (after : Station H) → Receives received fits x ids disk (Err why.Failed) next after → IsJournal x (packages x arrivals) calls (bytes_of next).base
       stops next after failed =
           let few = failed.0 in
           let spent = on.spent in
@@ -125,16 +127,24 @@ module _ {H : Type 0} (received : H → List ℕ) (fits : H → List Effect → 
             last = inr (omega (arith, few, spent));
           }
 
+      pub stops_unless : (cause : StationWhy) (next : MemDisk) (after : Station H) → Receives received fits x ids disk (Err cause) next after
+          → UnlessNoMemory (Err cause) (IsJournal x (packages x arrivals) calls (bytes_of next).base)
+      stops_unless why.Failed next after failed = stops next after failed
+      stops_unless why.Reopen next after failed = failed
+      stops_unless (why.Damaged at) next after failed = failed
+      stops_unless (why.Stranger at) next after failed = failed
+      stops_unless why.NoMemory next after failed = tt
+
   pub ends : (arrivals : List ℕ) (i calls : ℕ) (disk : MemDisk) (station : Station H) → length arrivals ≤ i → IsJournaling (take i arrivals) calls disk station
       → IsJournal x (packages x arrivals) calls (bytes_of disk).base
   ends arrivals i calls disk station all on =
       let whole : take i arrivals ≡ arrivals = take_all i arrivals all in
-      let count = on.count ∙ ap (λ (as : List ℕ). length (packages x as)) whole in
+      let count = on.count ∙ ap (λ (ids : List ℕ). length (packages x ids)) whole in
       let spent = on.spent in
       record {
         records = on.records;
         has = subst (HasRecords on.records) (sym on.ready.agrees.clean.base) on.has;
-        are = subst (λ (as : List ℕ). AreOfFirst x (packages x as) on.records) whole on.are;
+        are = subst (λ (ids : List ℕ). AreOfFirst x (packages x ids) on.records) whole on.are;
         enough = omega (arith, spent);
         last = inl (omega (arith, count));
       }

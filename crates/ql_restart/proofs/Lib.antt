@@ -4,3 +4,5 @@ pub mod Firsts
 pub mod Records
 pub mod Receipts
 pub mod Journals
+pub mod Lines
+pub mod Recovering

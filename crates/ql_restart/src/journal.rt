@@ -5,7 +5,7 @@ ghost use Rattle.ql_journal.specs.Stations.{holder_of};
 ghost use Rattle.ql_machine_laws.specs.Kept.{IsParcel};
 ghost use Rattle.ql_needs.specs.Closed.{Has};
 ghost use Rattle.ql_restart.specs.Journaled.{packages};
-ghost use Rattle.ql_restart.specs.Progress.{AreOnce, IsJournal, IsReady, Receives, calls_left};
+ghost use Rattle.ql_restart.specs.Progress.{AreOnce, IsJournal, IsReady, Receives, UnlessNoMemory, calls_left};
 
 use ql_base::{EffId, IdSet, NoMemory};
 use ql_disk::MemDisk;
@@ -32,12 +32,12 @@ pub(crate) fn stopped_disk<H: Holder>(
         (λ disk. (3 ≤ cut) × IsJournal x.now (packages x.now arrivals.now) (cut - 3) (content_of disk) × (1 ≤ calls_left disk))) }
 {
     let mut disk = MemDisk::new(alloc, ROOM, cut)?;
-    match create::<H, MemDisk>(alloc, &mut disk) {
-        Err(_) => Ok(None),
-        Ok(station) => {
-            journal_all(alloc, station, &mut disk, x, arrivals)?;
-            Ok(Some(disk.crash(false)))
-        }
+    let Ok(station) = create::<H, MemDisk>(alloc, &mut disk) else {
+        return Ok(None);
+    };
+    match journal_all(alloc, station, &mut disk, x, arrivals) {
+        Ok(()) | Err(StationWhy::Failed) => Ok(Some(disk.crash(false))),
+        Err(_) => Err(NoMemory),
     }
 }
 
@@ -48,39 +48,35 @@ fn journal_all<H: Holder>(
     disk: &mut MemDisk,
     x: &Execution,
     arrivals: &[u32],
-) -> Result<(), NoMemory>
+) -> Result<(), StationWhy>
     requires few { length x.now ≤ 4000 }
     requires once { AreOnce x.now arrivals.now }
     requires ready { IsReady H.received H.fits x.now disk.old station }
     requires nothing { H.received (holder_of station) ≡ [] }
-    ensures { OnOk result (IsJournal x.now (packages x.now arrivals.now) (calls_left disk.old) (bytes_of disk.new).base) }
+    ensures { UnlessNoMemory result (IsJournal x.now (packages x.now arrivals.now) (calls_left disk.old) (bytes_of disk.new).base) }
 {
     for id in arrivals {
         let pack = package_of(alloc, x, EffId(*id))?;
-        if pack.get(0) == *id && !receive_package(&mut station, disk, &pack, x)? {
-            return Ok(());
+        if pack.get(0) == *id {
+            receive_new(&mut station, disk, &pack, x)?;
         }
     }
     Ok(())
 }
 
-// Receives a package that is new. Whether it is journaled; else a call of the disk failed.
-fn receive_package<H: Holder>(
+// Receives a package that isn't there yet.
+fn receive_new<H: Holder>(
     station: &mut Station<H>,
     disk: &mut MemDisk,
     pack: &IdSet,
     x: &Execution,
-) -> Result<bool, NoMemory>
+) -> Result<(), StationWhy>
     requires few { length x.now ≤ 4000 }
     requires package { IsParcel x.now pack.now }
     requires ready { IsReady H.received H.fits x.now disk.old station.old }
     requires new { (a : ℕ) → Has pack.now a → has_id (H.received (holder_of station.old)) a ≡ false }
-    ensures { IfOk result (λ done. Receives H.received H.fits x.now pack.now disk.old done disk.new station.new) }
+    ensures { Receives H.received H.fits x.now pack.now disk.old result disk.new station.new }
 {
-    match station.receive(disk, pack, x) {
-        Ok(_) => Ok(true),
-        Err(StationWhy::Failed) => Ok(false),
-        Err(StationWhy::NoMemory) => Err(NoMemory),
-        Err(_) => unreachable!(),
-    }
+    station.receive(disk, pack, x)?;
+    Ok(())
 }
