@@ -74,7 +74,7 @@ fn text_of(
 {
     let same = levels.copy(alloc)?;
     let run = watched_run::<Replica>(alloc, t, same, schedule, replica)?;
-    print_recovered(alloc, &run, cut)
+    print_recovered(alloc, &run.store, &run.arrivals, cut)
 }
 
 fn no_replica(alloc: Global, replica: u32) -> Result<Vec<u8>, NoMemory>

@@ -16,23 +16,24 @@ use ql_exec::Execution;
 use ql_holder::Holder;
 use ql_journal::{Station, StationWhy, recover};
 use ql_shim::applied_among;
-use ql_watched::Watched;
+use ql_store::Store;
 use std::alloc::Global;
 
-/// What a replica that journals has after a stop at the call of number `cut`, when it is recovered.
+/// What a replica that journaled these effects has after a stop at the call of number `cut`, when it is recovered.
 pub(crate) fn print_recovered<H: Holder>(
     alloc: Global,
-    run: &Watched<H>,
+    store: &Store<H>,
+    arrivals: &[u32],
     cut: u64,
 ) -> Result<Vec<u8>, NoMemory>
-    requires { CanRecover run.now.store.machine run.now.arrivals.items }
-    ensures { IfOk result (λ text. IsRestartText run.now.store.machine run.now.arrivals.items cut text.items) }
+    requires { CanRecover store.now.machine arrivals.now }
+    ensures { IfOk result (λ text. IsRestartText store.now.machine arrivals.now cut text.items) }
 {
-    let x = run.store.execution();
-    match stopped_disk::<H>(alloc, x, &run.arrivals, cut)? {
+    let x = store.execution();
+    match stopped_disk::<H>(alloc, x, arrivals, cut)? {
         None => Ok(Vec::from_slice(alloc, b"no journal\nend\n")?),
         Some(mut disk) => {
-            let committed = run.store.committed()?;
+            let committed = store.committed()?;
             let station = recovered::<H>(alloc, &mut disk, x, &committed)?;
             let received = received_among(alloc, station.holder(), committed.items())?;
             let applied = applied_among(alloc, station.holder(), received.items())?;
