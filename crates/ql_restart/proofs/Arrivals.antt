@@ -83,9 +83,9 @@ distinct-filter : (test : ℕ → Bool) (ids : List ℕ) → IsAscending ids →
 distinct-filter test [] ascending = tt
 distinct-filter test (id ∷ ids) ascending = elim (cases_Bool (test id)) [
   | inl passes ↦ rw passes ((
-      false_from_ne_true (has_id (filter test ids) id) (λ has. false≢true (sym (below-absent id ids ascending.0) ∙ (in-filter test ids id has).0)),
-      distinct-filter test ids ascending.1,
-    ))
+    false_from_ne_true (has_id (filter test ids) id) (λ has. false≢true (sym (below-absent id ids ascending.0) ∙ (in-filter test ids id has).0)),
+    distinct-filter test ids ascending.1,
+  ))
   | inr fails ↦ rw fails (distinct-filter test ids ascending.1)
 ]
 

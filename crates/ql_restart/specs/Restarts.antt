@@ -1,5 +1,6 @@
 -- What `restart` says of a source, a schedule, a replica and the number of a call.
 use Rattle.std.specs.Prelude.{◌≡◌, ◌⊎◌, ℕ, ◌<◌, ◌≤◌, List, [], ◌∷◌, ◌++◌, codes, decimal, map}
+use Rattle.ql_classify.specs.Outcome.{IsAccepted}
 use Rattle.ql_commands.specs.declared.answer.Answer.{Answer}
 use Rattle.ql_commands.specs.declared.answer.Answer.TheVariants.{Done, No, Bad}
 use Rattle.ql_commands.specs.Levels.{AreLevelsOf, RefusalSays}
@@ -48,10 +49,9 @@ pub record TellsRestart (source file : List ℕ) (replica cut : ℕ) (text : Lis
 pub record TellsNoReplica (source file : List ℕ) (replica : ℕ) (text : List ℕ) : Type 0 where
   pub program : Program
   pub schedule : Schedule
-  pub levels : LevelLists
   pub is_source : IsSourceOf source program
   pub is_schedule : IsScheduleFile program (ahead_from 1 file) schedule
-  pub are_least : AreLevelsOf program levels
+  pub accepted : IsAccepted program
   pub is_none : schedule.replicas ≤ replica
   pub printed : text ≡ codes "no replica " ++ decimal replica ++ codes "\n"
 

@@ -23,3 +23,14 @@ returns-in-Err-classify c = inl (
     c.in_ok-refusal-in-Err-classify.ensures.text,
   ),
 )
+
+pub returns-then-replica-schedule : goal.returns-then-replica-schedule
+returns-then-replica-schedule c = inr (record {
+  program = c.in-Ok.typed.program;
+  schedule = c.in-Ok-parse_schedule.schedule;
+  is_source = c.in-Ok.ensures.source;
+  is_schedule = c.in-Ok-parse_schedule.ensures.read;
+  accepted = c.in-Ok-classify.ensures.accepted;
+  is_none = c.if-replica-schedule.true;
+  printed = c.in_ok-no_replica.ensures;
+})

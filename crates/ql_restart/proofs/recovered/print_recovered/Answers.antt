@@ -59,8 +59,8 @@ returns-in_ok-applied-in-Some g c =
     let are_applied = applied_are s arrivals c.requires ids those cut enough file journal held same received applied are apply in
     IfOk-weaker c.print_ids.result _ _
     (λ text is.
-        subst (IsRestartText s arrivals cut)
-        (sym (is ∙ ap (λ (l : List ℕ). id_line (codes "received") l ++ id_line (codes "applied") c.items-in-Some-3.result.now ++ codes "end\n") c.items-in-Some-2.ensures.same
-        ∙ ap (λ (l : List ℕ). id_line (codes "received") received ++ id_line (codes "applied") l ++ codes "end\n") c.items-in-Some-3.ensures.same))
-        (recovered received applied enough are are_applied))
+    subst (IsRestartText s arrivals cut)
+    (sym (is ∙ ap (λ (l : List ℕ). id_line (codes "received") l ++ id_line (codes "applied") c.items-in-Some-3.result.now ++ codes "end\n") c.items-in-Some-2.ensures.same
+    ∙ ap (λ (l : List ℕ). id_line (codes "received") received ++ id_line (codes "applied") l ++ codes "end\n") c.items-in-Some-3.ensures.same))
+    (recovered received applied enough are are_applied))
     c.print_ids.ensures
