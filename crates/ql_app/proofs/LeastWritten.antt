@@ -6,7 +6,7 @@ use Rattle.ql_app.specs.declared.outcome.Limits.{Limits}
 use Rattle.ql_app.specs.declared.status.Status.{Status}
 use Rattle.ql_app.specs.declared.status.Status.TheVariants.{Done, No, Usage}
 use Rattle.ql_app.specs.declared.words.Command.TheVariants.{Holds, Proof, Classify, ClassifyWhy, Prove, Gen, Soak}
-use Rattle.ql_app.specs.declared.words.PairCommand.TheVariants.{Check, Verify, Run, Slim}
+use Rattle.ql_app.specs.declared.words.PairCommand.TheVariants.{Check, Verify, Run, Slim, Restart}
 use Rattle.ql_running.specs.declared.form.Form.TheVariants.{Text, Json}
 use Rattle.ql_app.specs.LeastWritten.{WritesLeast, WritesNone}
 use Rattle.ql_app.specs.Outcome.{Judges, Says, Wrote}
@@ -44,6 +44,7 @@ module _ (limits : Limits) (held : List ℕ → Option (List ℕ)) (name source 
   asked status Told judged words are (TwoFiles (Run Text) n m) is says = absurd (let never : 99 ≡ 114 = ap first (sym are ∙ is.0) in omega (arith, never))
   asked status Told judged words are (TwoFiles (Run Json) n m) is says = absurd (let never : 99 ≡ 114 = ap first (sym are ∙ is.0) in omega (arith, never))
   asked status Told judged words are (TwoFiles Slim n m) is says = absurd (let never : 99 ≡ 115 = ap first (sym are ∙ is.0) in omega (arith, never))
+  asked status Told judged words are (TwoFiles (Restart replica cut) n m) is says = absurd (let never : 99 ≡ 114 = ap first (sym are ∙ is.0) in omega (arith, never))
 
 module _ (limits : Limits) (words : List (List ℕ)) (held : List ℕ → Option (List ℕ)) (before after : List ℕ → ℕ) (was is : Option (List ℕ)) (faults sums : ℕ) where
   pub writes_least : ((source text : List ℕ) → ClassifySays source answer.Done text → TellsLeast source text)

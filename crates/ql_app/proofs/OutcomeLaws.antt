@@ -12,7 +12,7 @@ use Rattle.ql_app.specs.declared.status.Status.TheVariants.{Done, No, Bad, ReadF
 use Rattle.ql_app.specs.declared.words.Command.{Command}
 use Rattle.ql_app.specs.declared.words.Command.TheVariants.{Holds, Proof, Classify, ClassifyWhy, Prove, Gen, Soak}
 use Rattle.ql_app.specs.declared.words.PairCommand.{PairCommand}
-use Rattle.ql_app.specs.declared.words.PairCommand.TheVariants.{Check, Verify, Run, Slim}
+use Rattle.ql_app.specs.declared.words.PairCommand.TheVariants.{Check, Verify, Run, Slim, Restart}
 use Rattle.ql_app.specs.Words.{OneFile, TwoFiles}
 use Rattle.ql_app.specs.Outcome.{CommandSays, IsRead, IsUnread, PairSays, Tells, second_limit}
 
@@ -85,6 +85,9 @@ module _ (limits : Limits) (held : List ℕ → Option (List ℕ)) (before after
   two Slim name other bytes more ReadFault text same short also few says = absurd says
   two Slim name other bytes more WriteFault text same short also few says = absurd says
   two Slim name other bytes more Usage text same short also few says = absurd says
+  two (Restart replica cut) name other bytes more ReadFault text same short also few says = absurd says
+  two (Restart replica cut) name other bytes more WriteFault text same short also few says = absurd says
+  two (Restart replica cut) name other bytes more Usage text same short also few says = absurd says
   two command name other bytes more TooLarge text same short also few says = inl (both command name other bytes more TooLarge text same short also few says)
 
   -- and on two

@@ -8,7 +8,7 @@ use Rattle.ql_app.specs.declared.status.Status.TheVariants.{Done, Usage}
 use Rattle.ql_app.specs.declared.words.Command.{Command}
 use Rattle.ql_app.specs.declared.words.Command.TheVariants.{Holds, Proof, Classify, ClassifyWhy, Prove, Gen, Soak}
 use Rattle.ql_app.specs.declared.words.PairCommand.{PairCommand}
-use Rattle.ql_app.specs.declared.words.PairCommand.TheVariants.{Check, Verify, Run, Slim}
+use Rattle.ql_app.specs.declared.words.PairCommand.TheVariants.{Check, Verify, Run, Slim, Restart}
 use Rattle.ql_app.specs.Outcome.{Judges, PairSays, Says, Tells, Wrote}
 use Rattle.ql_app.specs.RunWritten.{WritesRun}
 use Rattle.ql_app.specs.Words.{Call, IsRequest, OneFile, TwoFiles, pair_words}
@@ -24,6 +24,10 @@ first ws = get_or (get_or ws 0 []) 0 0
 run_first : (form : Form) (name other : List ℕ) → first (pair_words (Run form) name other) ≡ 114
 run_first Text name other = refl
 run_first Json name other = refl
+
+run_length : (form : Form) (name other : List ℕ) → length (pair_words (Run form) name other) ≤ 4
+run_length Text name other = omega arith
+run_length Json name other = omega arith
 
 -- arguments of `run` have one form, and name the same files
 same_files : (f g : Form) (n m name other : List ℕ) → pair_words (Run f) n m ≡ pair_words (Run g) name other → (f ≡ g) × (n ≡ name) × (m ≡ other)
@@ -50,6 +54,8 @@ module _ (limits : Limits) (held : List ℕ → Option (List ℕ)) (form : Form)
   asked words are (TwoFiles Check n m) is says = absurd (let never : first (pair_words (Run form) name other) ≡ 99 = ap first (sym are ∙ is.0) in omega (arith, never, run_first form name other))
   asked words are (TwoFiles Verify n m) is says = absurd (let never : first (pair_words (Run form) name other) ≡ 118 = ap first (sym are ∙ is.0) in omega (arith, never, run_first form name other))
   asked words are (TwoFiles Slim n m) is says = absurd (let never : first (pair_words (Run form) name other) ≡ 115 = ap first (sym are ∙ is.0) in omega (arith, never, run_first form name other))
+  asked words are (TwoFiles (Restart replica cut) n m) is says =
+      absurd (let never : length (pair_words (Run form) name other) ≡ 5 = ap length (sym are ∙ is.0) in omega (arith, never, run_length form name other))
   asked words are (TwoFiles (Run f) n m) is says = let same = same_files f form n m name other (sym is.0 ∙ are) in told f n m same.0 same.1 same.2 says
 
 pub writes-run : (limits : Limits) (words : List (List ℕ)) (held : List ℕ → Option (List ℕ)) (before after : List ℕ → ℕ) (was is : Option (List ℕ)) (counts sums : ℕ)

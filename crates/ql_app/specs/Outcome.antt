@@ -11,7 +11,7 @@ use Rattle.ql_app.specs.declared.status.Status.TheVariants.{Done, No, Bad, ReadF
 use Rattle.ql_app.specs.declared.words.Command.{Command}
 use Rattle.ql_app.specs.declared.words.Command.TheVariants.{Holds, Proof, Classify, ClassifyWhy, Prove, Gen, Soak}
 use Rattle.ql_app.specs.declared.words.PairCommand.{PairCommand}
-use Rattle.ql_app.specs.declared.words.PairCommand.TheVariants.{Check, Verify, Run, Slim}
+use Rattle.ql_app.specs.declared.words.PairCommand.TheVariants.{Check, Verify, Run, Slim, Restart}
 use Rattle.ql_app.specs.Words.{Call, OneFile, TwoFiles, IsRequest}
 use Rattle.ql_app.specs.HoldsFile as holds
 use Rattle.ql_app.specs.HoldsFile.{HoldsSays}
@@ -25,6 +25,7 @@ use Rattle.ql_commands.specs.Sources.{IsSource}
 use Rattle.ql_generated.specs.Schedules.{GenSays}
 use Rattle.ql_generated.specs.Soaks.{SoakSays}
 use Rattle.ql_judging.specs.Verify.{AreJudgeable, VerifySays}
+use Rattle.ql_restart.specs.Restarts.{RestartSays}
 use Rattle.ql_running.specs.Forms.{format_of}
 use Rattle.ql_running.specs.Runs.{AreRunnable, RunSays}
 use Rattle.ql_slimming.specs.Slims.{SlimSays}
@@ -46,6 +47,7 @@ PairSays Check bytes more status text = AnswerSays (CheckSays bytes more) status
 PairSays Verify bytes more status text = JudgedSays (VerifySays bytes more) status text
 PairSays (Run form) bytes more status text = AnswerSays (RunSays (format_of form) bytes more) status text
 PairSays Slim bytes more status text = AnswerSays (SlimSays bytes more) status text
+PairSays (Restart replica cut) bytes more status text = AnswerSays (RestartSays bytes more replica cut) status text
 
 -- the bytes are in the grammar of the command's files, and don't ask for too much work
 abbrev pub IsAnswerable : Command → List ℕ → Type 0
@@ -63,6 +65,7 @@ AreAnswerable Check bytes more = IsSource bytes × IsCertificate more
 AreAnswerable Verify bytes more = AreJudgeable bytes more
 AreAnswerable (Run form) bytes more = AreRunnable bytes more
 AreAnswerable Slim bytes more = AreRunnable bytes more
+AreAnswerable (Restart replica cut) bytes more = AreRunnable bytes more
 
 -- the limit of the second file: certificates and executions may be longer than schedules
 abbrev pub second_limit : Limits → PairCommand → ℕ
@@ -70,6 +73,7 @@ second_limit limits Check = limits.second
 second_limit limits Verify = limits.second
 second_limit limits (Run form) = limits.file
 second_limit limits Slim = limits.file
+second_limit limits (Restart replica cut) = limits.file
 
 -- a file was read whole: what the shelf tells of it is within a limit, and this is so of it
 abbrev pub IsRead : ℕ → Option (List ℕ) → (List ℕ → Type 0) → Type 0

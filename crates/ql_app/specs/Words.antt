@@ -6,7 +6,7 @@ use Rattle.std.specs.String.{string_bytes}
 use Rattle.ql_app.specs.declared.words.Command.{Command}
 use Rattle.ql_app.specs.declared.words.Command.TheVariants.{Holds, Proof, Classify, ClassifyWhy, Prove, Gen, Soak}
 use Rattle.ql_app.specs.declared.words.PairCommand.{PairCommand}
-use Rattle.ql_app.specs.declared.words.PairCommand.TheVariants.{Check, Verify, Run, Slim}
+use Rattle.ql_app.specs.declared.words.PairCommand.TheVariants.{Check, Verify, Run, Slim, Restart}
 use Rattle.ql_running.specs.declared.form.Form.TheVariants.{Text, Json}
 
 -- the words' bytes
@@ -40,6 +40,12 @@ pair_words Verify name other = codes "verify" ∷ name ∷ other ∷ []
 pair_words (Run Text) name other = codes "run" ∷ name ∷ other ∷ []
 pair_words (Run Json) name other = codes "run" ∷ codes "--json" ∷ name ∷ other ∷ []
 pair_words Slim name other = codes "slim" ∷ name ∷ other ∷ []
+pair_words (Restart replica cut) name other = codes "restart" ∷ name ∷ other ∷ decimal replica ∷ decimal cut ∷ []
+
+-- and its numbers are in range
+abbrev pub IsPairInRange : PairCommand → Type 0
+IsPairInRange (Restart replica cut) = (replica ≤ 15) × (1 ≤ cut) × (cut ≤ 1000000)
+IsPairInRange _ = Unit {0}
 
 -- what can be asked for: a command on one file, or on two, by their names
 pub data Call : Type 0 where
@@ -49,4 +55,4 @@ pub data Call : Type 0 where
 -- the words ask for this
 abbrev pub IsRequest : List (List ℕ) → Call → Type 0
 IsRequest words (OneFile command name) = (words ≡ command_words command name) × IsInRange command × IsName name
-IsRequest words (TwoFiles command name other) = (words ≡ pair_words command name other) × IsName name × IsName other
+IsRequest words (TwoFiles command name other) = (words ≡ pair_words command name other) × IsPairInRange command × IsName name × IsName other

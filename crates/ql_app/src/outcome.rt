@@ -8,6 +8,7 @@ ghost use Rattle.ql_commands.specs.Prove.{ProveSays};
 ghost use Rattle.ql_generated.specs.Schedules.{GenSays};
 ghost use Rattle.ql_generated.specs.Soaks.{SoakSays};
 ghost use Rattle.ql_judging.specs.Verify.{VerifySays};
+ghost use Rattle.ql_restart.specs.Restarts.{RestartSays};
 ghost use Rattle.ql_running.specs.Forms.{format_of};
 ghost use Rattle.ql_running.specs.Runs.{RunSays};
 ghost use Rattle.ql_slimming.specs.Slims.{SlimSays};
@@ -22,6 +23,7 @@ use ql_commands::{Answer, check, classify, prove};
 use ql_generated::{generate, soak};
 use ql_judging::{Judged, verify};
 use ql_ports::{ReadError, Shelf, read_whole};
+use ql_restart::restart_run;
 use ql_running::{Form, run};
 use ql_slimming::slim_run;
 use ql_why::classify_with_reasons;
@@ -199,6 +201,7 @@ fn judged_pair(
         PairCommand::Verify => verify_files(alloc, bytes, more),
         PairCommand::Run(form) => run_files(alloc, form, bytes, more),
         PairCommand::Slim => slim_files(alloc, bytes, more),
+        PairCommand::Restart { replica, cut } => restart_files(alloc, bytes, more, replica, cut),
     }
 }
 
@@ -247,13 +250,27 @@ fn slim_files(alloc: Global, source: &[u8], schedule: &[u8]) -> Result<(Status, 
     Ok((status_of(answer), text))
 }
 
+fn restart_files(
+    alloc: Global,
+    source: &[u8],
+    schedule: &[u8],
+    replica: u32,
+    cut: u32,
+) -> Result<(Status, Vec<u8>), NoMemory>
+    requires { length source.now < 2 ^ 32 }
+    ensures { IfOk result (λ answer. AnswerSays (RestartSays source.now schedule.now replica cut) answer.0 answer.1.items) }
+{
+    let (answer, text) = restart_run(alloc, source, schedule, replica, u64::from(cut))?;
+    Ok((status_of(answer), text))
+}
+
 // The limit of a command's second file.
 fn second_limit(limits: Limits, command: PairCommand) -> u32
     ensures { result ≡ second_limit limits command }
 {
     match command {
         PairCommand::Check | PairCommand::Verify => limits.second,
-        PairCommand::Run(_) | PairCommand::Slim => limits.file,
+        PairCommand::Run(_) | PairCommand::Slim | PairCommand::Restart { .. } => limits.file,
     }
 }
 

@@ -6,6 +6,7 @@ ghost use Rattle.ql_app.specs.Words.{
   Call,
   IsInRange,
   IsName,
+  IsPairInRange,
   IsRequest,
   OneFile,
   TwoFiles,
@@ -22,6 +23,12 @@ const MAX_NUMBER: u32 = 2_147_483_647;
 
 // The most events of a schedule.
 const MAX_EVENTS: u32 = 4000;
+
+// The highest number of a replica.
+const MAX_REPLICA: u32 = 15;
+
+// The highest number of a call at which a disk may be stopped.
+const MAX_CUT: u32 = 1_000_000;
 
 /// What the program can be asked for of one file.
 #[derive(Clone, Copy, Debug, PartialEq, Eq)]
@@ -53,6 +60,8 @@ pub enum PairCommand {
     Run(Form),
     /// What is stable after a schedule, and what each replica answers when that is kept.
     Slim,
+    /// What a replica has after a schedule that journals what it receives, on a disk that stops at the call of a number.
+    Restart { replica: u32, cut: u32 },
 }
 
 /// A command with the names of its files.
@@ -80,6 +89,15 @@ pub fn parse_words(words: &Vec<String>) -> Option<Request>
             second.as_str(),
             third.as_str(),
             last.as_str(),
+        );
+    }
+    if let [word, name, other, replica, cut] = words.as_slice() {
+        return five_words(
+            word.as_str(),
+            name.as_str(),
+            other.as_str(),
+            replica.as_str(),
+            cut.as_str(),
         );
     }
     None
@@ -156,6 +174,42 @@ fn json_request<'a>(option: &str, name: &'a str, other: &'a str) -> Option<Reque
     }
 }
 
+// What `restart`, two names and two numbers ask for.
+fn five_words<'a>(
+    word: &str,
+    name: &'a str,
+    other: &'a str,
+    replica: &str,
+    cut: &str,
+) -> Option<Request<'a>>
+    ensures { MatchOption result
+        ((call : Call) → IsRequest (word.now ∷ name.now ∷ other.now ∷ replica.now ∷ cut.now ∷ []) call → ⊥)
+        (λ request. IsRequest (word.now ∷ name.now ∷ other.now ∷ replica.now ∷ cut.now ∷ []) (call_of request)) }
+{
+    match word {
+        "restart" => restart_request(name, other, replica, cut),
+        _ => None,
+    }
+}
+
+fn restart_request<'a>(
+    name: &'a str,
+    other: &'a str,
+    replica: &str,
+    cut: &str,
+) -> Option<Request<'a>>
+    ensures { MatchOption result
+        ((call : Call) → IsRequest (codes "restart" ∷ name.now ∷ other.now ∷ replica.now ∷ cut.now ∷ []) call → ⊥)
+        (λ request. IsRequest (codes "restart" ∷ name.now ∷ other.now ∷ replica.now ∷ cut.now ∷ []) (call_of request)) }
+{
+    let replica = number_up_to(replica, MAX_REPLICA)?;
+    let cut = number_up_to(cut, MAX_CUT)?;
+    if cut == 0 {
+        return None;
+    }
+    on_two_files(PairCommand::Restart { replica, cut }, name, other)
+}
+
 fn on_one_file(command: Command, name: &str) -> Option<Request>
     ensures { MatchOption result (IsName name.now → ⊥) (λ request. IsName name.now × (call_of request ≡ OneFile command name.now)) }
 {
@@ -195,7 +249,7 @@ fn plain_command(word: &str) -> Option<Command>
 fn pair_command(word: &str) -> Option<PairCommand>
     ensures { MatchOption result
         ((command : PairCommand) (name other : List ℕ) → pair_words command name other ≡ word.now ∷ name ∷ other ∷ [] → ⊥)
-        (λ command. (name other : List ℕ) → pair_words command name other ≡ word.now ∷ name ∷ other ∷ []) }
+        (λ command. IsPairInRange command × ((name other : List ℕ) → pair_words command name other ≡ word.now ∷ name ∷ other ∷ [])) }
 {
     match word {
         "check" => Some(PairCommand::Check),

@@ -51,3 +51,8 @@ module _ (old : DiskBytes) (clean : IsClean old) (at : ℕ) (bytes : List ℕ) w
 -- a sync leaves nothing dirty
 pub synced_clean : (mid new : DiskBytes) → IsSynced mid new → IsClean new
 synced_clean mid new is = record { base = is.base ∙ sym is.content; clean = is.clean }
+
+-- what is so is so after a failure
+pub after_failure : {T E P : Type 0} (r : Result T E) → P → OnErr r P
+after_failure (Ok value) is = tt
+after_failure (Err why) is = is

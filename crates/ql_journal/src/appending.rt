@@ -20,6 +20,8 @@ pub(crate) fn append_record<D: Disk>(disk: &mut D, gate: u64, bytes: &[u8]) -> R
         → LeavesOnly D.moment D.left_since disk.old disk.new (IsBeforeOrAfter records ids) }
     ensures appended { D.tells → (records : List (List ℕ)) (ids : List ℕ) → IsAppended records ids gate bytes.now (D.held disk.old).content
         → OnOk result (HasRecords (records ++ ids ∷ []) (D.held disk.new).content) }
+    ensures kept { D.tells → (records : List (List ℕ)) (ids : List ℕ) → IsAppended records ids gate bytes.now (D.held disk.old).content
+        → OnErr result (HasRecords records (D.held disk.new).base) }
     ensures failed { OnErr result (Rose (D.faults disk.old) (D.faults disk.new)) }
     ensures count_stays { D.faults disk.old ≤ D.faults disk.new }
     ensures foretold { IfSome (D.forecast disk.old) (λ f. Foretold f 4 (gate + 1 + length bytes.now) (is_ok result) (D.forecast disk.new)) }

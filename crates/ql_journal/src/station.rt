@@ -159,6 +159,10 @@ impl<H: Holder> Station<H> {
         // After `Ok` it has the package.
         ensures acknowledged { D.tells → is_stopped self.old ≡ false → (records : List (List ℕ)) → HasRecords records (D.held disk.old).content
             → IfOk result (λ arrival. (image : List ℕ) → IsImage (D.held disk.new) image → HasRecords (records_after arrival records pack.now) image) }
+
+        // After `Failed` what the last good sync left doesn't have it.
+        ensures unacknowledged { D.tells → is_stopped self.old ≡ false → (records : List (List ℕ)) → HasRecords records (D.held disk.old).content
+            → IsErrOf result why.Failed → HasRecords records (D.held disk.new).base }
     {
         if self.stopped {
             return Err(StationWhy::Reopen);

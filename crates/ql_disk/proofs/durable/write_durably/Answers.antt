@@ -1,7 +1,8 @@
-use Rattle.ql_disk.specs.Bytes.{MayLeave}
-use Rattle.std.proofs.Common.{length}
+use Rattle.std.proofs.Common.{length, ◌∙◌, ap}
+use Rattle.std.proofs.lemmas.Result.{on_err_weaker}
+use Rattle.ql_disk.specs.Bytes.{DiskBytes, MayLeave}
 use Rattle.ql_disk.proofs.Stops.{started, goes_on}
-use Rattle.ql_disk.proofs.Lasting.{at_first, torn, written, at_last}
+use Rattle.ql_disk.proofs.Lasting.{after_failure, at_first, torn, written, at_last}
 use Rattle.ql_disk.proofs.durable.write_durably.Goals as goal
 
 pub returns-in_err-write_at-clause-any_moment : goal.returns-in_err-write_at-clause-any_moment
@@ -26,3 +27,12 @@ returns-clause-any_moment g c = λ told.
     (written old clean c.args.at c.args.bytes.now _ is) in
     goes_on g.D.Disk.moment g.D.Disk.left_since c.args.disk.now c.write_at.new.self c.sync.new.self P _ put (c.sync.ensures.time told)
     (at_last old clean c.args.at c.args.bytes.now c.sync.result _ _ (c.requires.begins told) is (c.sync.ensures.synced told) c.sync.ensures.same)
+
+pub returns-in_err-write_at-clause-base : goal.returns-in_err-write_at-clause-base
+returns-in_err-write_at-clause-base g c = λ told. after_failure c.from_residual.result ((c.in_err-write_at.ensures.torn told).base ∙ (c.requires.clean told).base)
+
+pub returns-clause-base : goal.returns-clause-base
+returns-clause-base g c = λ told.
+    on_err_weaker c.sync.result
+    (λ same. ap (λ (d : DiskBytes). d.base) same ∙ (c.in_ok-write_at.ensures.written told).base ∙ (c.requires.clean told).base)
+    c.sync.ensures.same

@@ -1,8 +1,10 @@
-use Rattle.std.proofs.Common.{◌+◌, length, inl}
-use Rattle.std.proofs.lemmas.Result.{on_ok_weaker}
+use Rattle.std.proofs.Common.{◌+◌, ℕ, List, length, inl, sym, subst}
+use Rattle.std.proofs.lemmas.Result.{on_err_weaker, on_ok_weaker}
 use Rattle.ql_disk.specs.Bytes.{MayLeave}
+use Rattle.ql_disk.proofs.Lasting.{after_failure}
 use Rattle.ql_disk.proofs.Stops.{joined, weaker}
 use Rattle.ql_journal.specs.Images.{IsBeforeOrAfter}
+use Rattle.ql_journal.specs.Records.{HasRecords}
 use Rattle.ql_journal.proofs.AppendingLaws.{staged, opened, whole}
 use Rattle.ql_journal.proofs.appending.append_record.Goals as goal
 
@@ -32,3 +34,18 @@ returns-clause-appended g c = λ told records ids is.
     on_ok_weaker c.write_durably-2.result
     (whole records ids c.args.bytes.now file c.args.gate is mid (c.in_ok-write_durably.ensures.written told) (g.D.Disk.held c.write_durably-2.new.disk).content)
     (c.write_durably-2.ensures.written told)
+
+pub returns-in_err-write_durably-clause-kept : goal.returns-in_err-write_durably-clause-kept
+returns-in_err-write_durably-clause-kept g c = λ told records ids is.
+    after_failure c.from_residual.result (subst (HasRecords records) (sym (c.in_err-write_durably.ensures.base told)) is.has)
+
+pub returns-clause-kept : goal.returns-clause-kept
+returns-clause-kept g c = λ told records ids is.
+    let file = (g.D.Disk.held c.args.disk.now).content in
+    let mid = c.write_durably.new.disk in
+    let put = c.write_durably.ensures.any_moment told in
+    let left = put.each (g.D.Disk.held mid).content
+    (g.met.D.Disk.counts_now mid (g.D.Disk.moment c.args.disk.now) (g.D.Disk.held mid).content told put.later (g.met.D.Disk.reads_an_image mid told)) in
+    on_err_weaker c.write_durably-2.result
+    (λ base. subst (HasRecords records) (sym base) (staged records ids c.args.bytes.now file c.args.gate is (g.D.Disk.held mid).content left))
+    (c.write_durably-2.ensures.base told)

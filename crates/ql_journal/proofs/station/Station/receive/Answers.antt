@@ -71,6 +71,13 @@ returns-in-Err-clause-any_moment g c = λ told runs records has.
     c.append_record.ensures.any_moment told records c.args.pack.now
     (appended_to g.H.Holder.received (g.D.Disk.held c.args.disk.now) c.args.self.now c.args.pack.now c.deref.result.now agrees lawful (c.deref.ensures.value ∙ c.in_ok-body.ensures) records has)
 
+pub returns-in-Err-clause-unacknowledged : goal.returns-in-Err-clause-unacknowledged
+returns-in-Err-clause-unacknowledged g c = λ told runs records has failed.
+    let agrees = c.requires.agrees told runs in
+    let lawful = package_lawful c.args.x.now c.args.pack.now c.requires.package c.first_id.ensures.ascending c.first_id.ensures.small c.requires.few in
+    c.in-Err.ensures.kept told records c.args.pack.now
+    (appended_to g.H.Holder.received (g.D.Disk.held c.args.disk.now) c.args.self.now c.args.pack.now c.deref.result.now agrees lawful (c.deref.ensures.value ∙ c.in_ok-body.ensures) records has)
+
 pub returns-in-Ok-clause-end : goal.returns-in-Ok-clause-end
 returns-in-Ok-clause-end g c =
     let came = subst (λ (l : List ℕ). IsArrival c.args.x.now l c.args.pack.now (g.H.Holder.received c.receive.new.self) c.in_ok-arrival.arrival) c.in_ok-holder.ensures.received c.in_ok-arrival.ensures.arrival in

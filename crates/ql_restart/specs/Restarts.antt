@@ -1,0 +1,63 @@
+-- What `restart` says of a source, a schedule, a replica and the number of a call.
+use Rattle.std.specs.Prelude.{◌≡◌, ◌⊎◌, ℕ, ◌<◌, ◌≤◌, List, [], ◌∷◌, ◌++◌, codes, decimal, map}
+use Rattle.ql_classify.specs.Outcome.{IsAccepted}
+use Rattle.ql_commands.specs.declared.answer.Answer.{Answer}
+use Rattle.ql_commands.specs.declared.answer.Answer.TheVariants.{Done, No, Bad}
+use Rattle.ql_commands.specs.Levels.{AreLevelsOf, RefusalSays}
+use Rattle.ql_commands.specs.Sources.{BadSourceSays, IsSourceOf}
+use Rattle.ql_headline.specs.Stores.{rules_of}
+use Rattle.ql_lang.specs.declared.program.Program.{Program}
+use Rattle.ql_levels.specs.Lists.{LevelLists}
+use Rattle.ql_lines.specs.Lines.{ahead_from}
+use Rattle.ql_lines.specs.Texts.{behind}
+use Rattle.ql_machine.specs.Sets.{AreThose}
+use Rattle.ql_machine.specs.State.{Machine, NeedsNow}
+use Rattle.ql_needs.specs.Closed.{Closed, Has}
+use Rattle.ql_running.specs.Runs.{BadScheduleSays}
+use Rattle.ql_schedule.specs.declared.schedule.Schedule.{Schedule}
+use Rattle.ql_schedule.specs.Files.{IsScheduleFile}
+use Rattle.ql_watched.specs.Watching.{Watches}
+use Rattle.ql_restart.specs.Journaled.{IsJournaled}
+
+-- a line of a word and ids
+abbrev pub id_line : List ℕ → List ℕ → List ℕ
+id_line word ids = word ++ behind (map decimal ids) ++ codes "\n"
+
+-- The text for a replica that received these effects, and whose disk stopped at a call: what its station has when it is
+-- recovered, and what of that is applied. Without its first two calls there is no journal.
+pub data IsRestartText (s : Machine) (arrivals : List ℕ) (cut : ℕ) : List ℕ → Type 0 where
+  no_journal : cut < 3 → IsRestartText s arrivals cut (codes "no journal\nend\n")
+  recovered : (received applied : List ℕ) → 3 ≤ cut → AreThose (IsJournaled s.effects arrivals cut) received
+      → AreThose (Closed (NeedsNow s.effects s.open_txns) (Has received)) applied
+      → IsRestartText s arrivals cut (id_line (codes "received") received ++ id_line (codes "applied") applied ++ codes "end\n")
+
+-- The replica in the written machine's run of the schedule at the least levels of the source's program.
+pub record TellsRestart (source file : List ℕ) (replica cut : ℕ) (text : List ℕ) : Type 0 where
+  pub program : Program
+  pub schedule : Schedule
+  pub levels : LevelLists
+  pub last : Machine
+  pub arrivals : List ℕ
+  pub is_source : IsSourceOf source program
+  pub is_schedule : IsScheduleFile program (ahead_from 1 file) schedule
+  pub are_least : AreLevelsOf program levels
+  pub is_replica : replica < schedule.replicas
+  pub run : Watches (rules_of program levels) schedule.replicas replica schedule.events last arrivals
+  pub printed : IsRestartText last arrivals cut text
+
+-- The program is accepted, and the schedule doesn't have the replica.
+pub record TellsNoReplica (source file : List ℕ) (replica : ℕ) (text : List ℕ) : Type 0 where
+  pub program : Program
+  pub schedule : Schedule
+  pub is_source : IsSourceOf source program
+  pub is_schedule : IsScheduleFile program (ahead_from 1 file) schedule
+  pub accepted : IsAccepted program
+  pub is_none : schedule.replicas ≤ replica
+  pub printed : text ≡ codes "no replica " ++ decimal replica ++ codes "\n"
+
+abbrev pub RestartSays : List ℕ → List ℕ → ℕ → ℕ → Answer → List ℕ → Type 0
+RestartSays source file replica cut Done text = TellsRestart source file replica cut text
+RestartSays source file replica cut No text =
+    ((p : Program) × IsSourceOf source p × (s : Schedule) × IsScheduleFile p (ahead_from 1 file) s × RefusalSays p text)
+    ⊎ TellsNoReplica source file replica text
+RestartSays source file replica cut Bad text = BadSourceSays source text ⊎ BadScheduleSays source file text

@@ -1,0 +1,87 @@
+ghost use Rattle.std.specs.Prelude.{◌≡◌, ◌<◌, ◌≤◌, ◌^◌, ◌++◌, ℕ, List, codes, decimal, length, IfOk};
+ghost use Rattle.ql_commands.specs.Levels.{AreLevelsOf};
+ghost use Rattle.ql_commands.specs.Sources.{IsSourceOf};
+ghost use Rattle.ql_lines.specs.Lines.{ahead_from};
+ghost use Rattle.ql_schedule.specs.Files.{IsScheduleFile};
+ghost use Rattle.ql_schedule.specs.Guarantees.{IsSchedule};
+ghost use Rattle.ql_restart.specs.Restarts.{RestartSays, TellsRestart};
+
+use crate::recovered::print_recovered;
+use ql_base::{NoMemory, ReplicaId, push_bytes, push_number};
+use ql_commands::{Answer, bad_source, read_source};
+use ql_levels::Levels;
+use ql_replica::Replica;
+use ql_running::{bad_schedule, refusal};
+use ql_schedule::{Schedule, one_schedule, parse_schedule};
+use ql_typing::Typed;
+use ql_watched::watched_run;
+use std::alloc::Global;
+
+/// What a replica has after a run of a schedule at the least levels of a source's program, when it journals all that it
+/// receives on a disk that stops at the call of number `cut`, and is recovered; or what is wrong first: a fault of the source,
+/// one of the schedule, why the program has no such levels, or that the schedule doesn't have the replica.
+pub fn restart_run(
+    alloc: Global,
+    source: &[u8],
+    schedule: &[u8],
+    replica: u32,
+    cut: u64,
+) -> Result<(Answer, Vec<u8>), NoMemory>
+    requires { length source.now < 2 ^ 32 }
+    ensures { IfOk result (λ answer. RestartSays source.now schedule.now replica cut answer.0 answer.1.items) }
+{
+    one_schedule();
+    let typed = match read_source(alloc, source) {
+        Ok(typed) => typed,
+        Err(fault) => return Ok((Answer::Bad, bad_source(alloc, fault)?)),
+    };
+    let schedule = match parse_schedule(alloc, &typed, schedule) {
+        Ok(schedule) => schedule,
+        Err(fault) => return Ok((Answer::Bad, bad_schedule(alloc, fault)?)),
+    };
+    let classified = match ql_classify::classify(alloc, &typed) {
+        Ok(classified) => classified,
+        Err(why) => return Ok((Answer::No, refusal(alloc, &typed, why)?)),
+    };
+    if replica >= schedule.replicas {
+        return Ok((Answer::No, no_replica(alloc, replica)?));
+    }
+    let text = text_of(
+        alloc,
+        &typed,
+        classified.levels(),
+        schedule,
+        ReplicaId(replica),
+        cut,
+    )?;
+    Ok((Answer::Done, text))
+}
+
+// The text for a replica of a schedule at these levels.
+fn text_of(
+    alloc: Global,
+    t: &Typed,
+    levels: &Levels,
+    schedule: Schedule,
+    replica: ReplicaId,
+    cut: u64,
+) -> Result<Vec<u8>, NoMemory>
+    requires levels { AreLevelsOf t.now.program levels.now }
+    requires schedule { IsSchedule t.now.program schedule }
+    requires replica { replica.0 < schedule.replicas }
+    ensures { IfOk result (λ text. (source file : List ℕ) → IsSourceOf source t.now.program → IsScheduleFile t.now.program (ahead_from 1 file) schedule
+        → TellsRestart source file replica.0 cut text.items) }
+{
+    let same = levels.copy(alloc)?;
+    let run = watched_run::<Replica>(alloc, t, same, schedule, replica)?;
+    print_recovered(alloc, &run.store, &run.arrivals, cut)
+}
+
+fn no_replica(alloc: Global, replica: u32) -> Result<Vec<u8>, NoMemory>
+    ensures { IfOk result (λ text. text.items ≡ codes "no replica " ++ decimal replica ++ codes "\n") }
+{
+    let mut text = Vec::from_slice(alloc, b"no replica ")?;
+    push_number(&mut text, replica)?;
+    push_bytes(&mut text, b"\n")?;
+    Ok(text)
+}
