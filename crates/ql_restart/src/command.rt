@@ -8,10 +8,10 @@ ghost use Rattle.ql_restart.specs.Restarts.{RestartSays, TellsRestart};
 
 use crate::recovered::print_recovered;
 use ql_base::{NoMemory, ReplicaId, push_bytes, push_number};
-use ql_commands::{Answer, bad_source, read_source};
+use ql_commands::{Answer, bad_source, read_source, refusal};
 use ql_levels::Levels;
 use ql_replica::Replica;
-use ql_running::{bad_schedule, refusal};
+use ql_running::bad_schedule;
 use ql_schedule::{Schedule, one_schedule, parse_schedule};
 use ql_typing::Typed;
 use ql_watched::watched_run;
