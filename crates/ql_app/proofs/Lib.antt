@@ -5,3 +5,4 @@ pub mod ProofLaws
 pub mod Statuses
 mod RunWritten
 mod LeastWritten
+mod WordLaws

@@ -1,4 +1,4 @@
-ghost use Rattle.std.specs.Prelude.{◌≡◌, ◌≢◌, ◌↔◌, ◌∷◌, [], ◌≤◌, ℕ, List, IsTrue, MatchOption, codes, decimal};
+ghost use Rattle.std.specs.Prelude.{◌≡◌, ◌≢◌, ◌↔◌, ◌∷◌, [], ◌≤◌, ℕ, List, IsTrue, MatchOption, codes, decimal, length};
 ghost use Rattle.ql_app.specs.declared.words.Command.{Command};
 ghost use Rattle.ql_app.specs.declared.words.PairCommand.{PairCommand};
 ghost use Rattle.ql_app.specs.Requests.{call_of};
@@ -91,6 +91,18 @@ pub fn parse_words(words: &Vec<String>) -> Option<Request>
             last.as_str(),
         );
     }
+    many_words(words)
+}
+
+// What five words ask for, and no others but two to four.
+fn many_words(words: &Vec<String>) -> Option<Request>
+    requires two { length words.now.items ≢ 2 }
+    requires three { length words.now.items ≢ 3 }
+    requires four { length words.now.items ≢ 4 }
+    ensures { MatchOption result
+        ((call : Call) → IsRequest (word_texts words.now) call → ⊥)
+        (λ request. IsRequest (word_texts words.now) (call_of request)) }
+{
     if let [word, name, other, replica, cut] = words.as_slice() {
         return five_words(
             word.as_str(),
@@ -203,10 +215,7 @@ fn restart_request<'a>(
         (λ request. IsRequest (codes "restart" ∷ name.now ∷ other.now ∷ replica.now ∷ cut.now ∷ []) (call_of request)) }
 {
     let replica = number_up_to(replica, MAX_REPLICA)?;
-    let cut = number_up_to(cut, MAX_CUT)?;
-    if cut == 0 {
-        return None;
-    }
+    let cut = cut_of(cut)?;
     on_two_files(PairCommand::Restart { replica, cut }, name, other)
 }
 
@@ -268,6 +277,16 @@ fn number_up_to(word: &str, most: u32) -> Option<u32>
 {
     let number = number_of(word.as_bytes(), u64::from(most))?;
     Some(number as u32)
+}
+
+// The number of a call of a disk that is a word, from 1.
+fn cut_of(word: &str) -> Option<u32>
+    ensures { MatchOption result
+        ((n : ℕ) → 1 ≤ n → n ≤ 1000000 → word.now ≡ decimal n → ⊥)
+        (λ n. (1 ≤ n) × (n ≤ 1000000) × (word.now ≡ decimal n)) }
+{
+    let cut = number_up_to(word, MAX_CUT)?;
+    if cut == 0 { None } else { Some(cut) }
 }
 
 fn is_name(word: &str) -> bool
