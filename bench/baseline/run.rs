@@ -1,36 +1,27 @@
 //! Runs a schedule over a simulated store at the least levels of a source, as `quelea run FILE SCHEDULE` does.
 mod common;
 
-use common::levels::levels;
-use common::parse::parse_program;
-use common::schedule::{Known, Schedule, parse_schedule};
+use common::command::with_store;
+use common::schedule::Schedule;
 use common::store::Store;
-use common::types::{Typed, typecheck};
+use common::types::Typed;
 use common::value::{Value, separated};
-use common::{MEBIBYTE, bad, end, read};
-use std::env;
 use std::io::{self, Write};
 
 fn main() -> io::Result<()> {
-    let path = |k: usize| env::args().nth(k).expect("two files");
-    let text = read(&path(1), MEBIBYTE);
-    let program = parse_program(&text).unwrap_or_else(|fault| bad("source", fault));
-    let typed = typecheck(&program).unwrap_or_else(|fault| bad("source", fault));
-    let levels = levels(&typed).unwrap_or_else(|line| end(&line, 1));
-    let text = read(&path(2), MEBIBYTE);
-    let schedule = parse_schedule(&Known::of(&program, &typed), &text).unwrap_or_else(|fault| bad("schedule", fault));
-    let mut store = Store::new(&program, &typed, &levels.ops, &levels.txns, schedule.replicas as usize);
-    let mut out = b"levels\n".to_vec();
-    out.extend_from_slice(levels.print(&typed).as_bytes());
-    out.extend_from_slice(b"replies\n");
-    for (k, event) in schedule.events.iter().enumerate() {
-        let reply = store.step(event);
-        write!(out, "{} ", k + 1)?;
-        reply.print(&store.effects, &mut out)?;
-        out.push(b'\n');
-    }
-    print_execution(&typed, &schedule, &store, &mut out)?;
-    io::stdout().write_all(&out)
+    with_store(|typed, levels, schedule, mut store| {
+        let mut out = b"levels\n".to_vec();
+        out.extend_from_slice(levels.print(typed).as_bytes());
+        out.extend_from_slice(b"replies\n");
+        for (k, event) in schedule.events.iter().enumerate() {
+            let reply = store.step(event);
+            write!(out, "{} ", k + 1)?;
+            reply.print(&store.effects, &mut out)?;
+            out.push(b'\n');
+        }
+        print_execution(typed, schedule, &store, &mut out)?;
+        io::stdout().write_all(&out)
+    })
 }
 
 fn print_execution(typed: &Typed, schedule: &Schedule, store: &Store, out: &mut Vec<u8>) -> io::Result<()> {

@@ -2,40 +2,32 @@
 //! SCHEDULE` does.
 mod common;
 
-use common::levels::{Levels, levels};
-use common::parse::parse_program;
-use common::schedule::{Known, Schedule, parse_schedule};
+use common::command::with_store;
+use common::levels::Levels;
+use common::schedule::Schedule;
 use common::store::{Effect, Store};
-use common::types::{Typed, typecheck};
+use common::types::Typed;
 use common::value::{Scalar, Value};
-use common::{MEBIBYTE, bad, end, read};
-use std::env;
 use std::io::{self, Write};
 
 fn main() -> io::Result<()> {
-    let path = |k: usize| env::args().nth(k).expect("two files");
-    let text = read(&path(1), MEBIBYTE);
-    let program = parse_program(&text).unwrap_or_else(|fault| bad("source", fault));
-    let typed = typecheck(&program).unwrap_or_else(|fault| bad("source", fault));
-    let levels = levels(&typed).unwrap_or_else(|line| end(&line, 1));
-    let text = read(&path(2), MEBIBYTE);
-    let schedule = parse_schedule(&Known::of(&program, &typed), &text).unwrap_or_else(|fault| bad("schedule", fault));
-    let mut store = Store::new(&program, &typed, &levels.ops, &levels.txns, schedule.replicas as usize);
-    let replies: Vec<_> = schedule.events.iter().map(|event| store.step(event)).collect();
-    let mut out = b"{\"execution\":".to_vec();
-    let numbered = store.effects.iter().zip(1..);
-    listed(&mut out, numbered, |out, (effect, id)| print_effect(&typed, &schedule, &store, id, effect, out))?;
-    out.extend_from_slice(b",\"levels\":");
-    print_levels(&typed, &levels, &mut out)?;
-    out.extend_from_slice(b",\"replies\":");
-    let mut said = Vec::new();
-    listed(&mut out, &replies, |out, reply| {
-        said.clear();
-        reply.print(&store.effects, &mut said)?;
-        string(out, &said)
-    })?;
-    out.extend_from_slice(b"}\n");
-    io::stdout().write_all(&out)
+    with_store(|typed, levels, schedule, mut store| {
+        let replies: Vec<_> = schedule.events.iter().map(|event| store.step(event)).collect();
+        let mut out = b"{\"execution\":".to_vec();
+        let numbered = store.effects.iter().zip(1..);
+        listed(&mut out, numbered, |out, (effect, id)| print_effect(typed, schedule, &store, id, effect, out))?;
+        out.extend_from_slice(b",\"levels\":");
+        print_levels(typed, levels, &mut out)?;
+        out.extend_from_slice(b",\"replies\":");
+        let mut said = Vec::new();
+        listed(&mut out, &replies, |out, reply| {
+            said.clear();
+            reply.print(&store.effects, &mut said)?;
+            string(out, &said)
+        })?;
+        out.extend_from_slice(b"}\n");
+        io::stdout().write_all(&out)
+    })
 }
 
 fn print_levels(typed: &Typed, levels: &Levels, out: &mut Vec<u8>) -> io::Result<()> {

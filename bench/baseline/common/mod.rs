@@ -1,6 +1,7 @@
 //! What the plain programs share: readers of sources and of line files, ground problems, a solver, executions,
 //! replicas, a store.
 #![allow(dead_code)]
+pub mod command;
 pub mod draws;
 pub mod execution;
 pub mod ground;

@@ -1,4 +1,5 @@
-use Rattle.std.proofs.Common.{List, ℕ, Result, Ok, Err, OnOk, sym, subst, inl, inr}
+use Rattle.std.proofs.Common.{List, ℕ, sym, subst, inl, inr}
+use Rattle.std.proofs.lemmas.Result.{on_ok_weaker}
 use Rattle.ql_ranges.specs.Ranges.{ids_of}
 use Rattle.ql_session.specs.Walks.{Joins}
 use Rattle.ql_session.proofs.WalkLaws.{takes-in, walk-in, walk-past}
@@ -19,7 +20,7 @@ returns c =
     let sessions = ids_of c.args.walk.now.sessions in
     let more = ids_of c.meet_all.new.met in
     let others = ids_of c.insert.new.self in
-    on_ok c.meet_all.result
+    on_ok_weaker c.meet_all.result
     (λ joins. walk-in x e effect met sessions more others c.requires.law c.get-effect.ensures c.requires.first
     (elim c.else-not-has.branch [
       | else-not-has-via-then-not-has+else-not-has-2 w ↦ inr (sym w.if-not-has-2.ensures)
@@ -27,7 +28,3 @@ returns c =
     ])
     (takes-in e effect met sessions more others (subst (λ (l : List ℕ). Joins l effect.seen more) c.in_ok-insert-2.ensures.added joins) c.in_ok-insert.ensures.added))
     c.meet_all.ensures
-  where
-    on_ok : {A E : Type 0} (r : Result A E) {P Q : Type 0} → (P → Q) → OnOk r P → OnOk r Q
-    on_ok (Ok a) f is = f is
-    on_ok (Err e) f is = tt

@@ -1,4 +1,5 @@
-use Rattle.std.proofs.Common.{IfOk, Result, Ok, Err, subst, sym}
+use Rattle.std.proofs.Common.{◌≡◌, subst, sym}
+use Rattle.std.proofs.lemmas.Result.{IfOk-weaker}
 use Rattle.ql_machine.specs.Sets.{AreThose}
 use Rattle.ql_needs.specs.Needs.{AreWhole, IsNeeded}
 use Rattle.ql_ranges.specs.Ranges.{ids_of}
@@ -18,8 +19,4 @@ returns-clause-received g c =
     let found = subst (λ known. IsReach x strong (ids_of known) c.in_ok-needed.needed) c.new.ensures c.in_ok-needed.ensures in
     let those : AreThose (IsNeeded x strong) c.items.result.now =
     subst (AreThose (IsNeeded x strong)) (sym c.items.ensures.same) (needed-those x strong c.in_ok-needed.needed c.items.ensures.ascending found) in
-    if_ok c.made_whole.result (λ h is. subst (AreThose (IsNeeded x strong)) (sym is) those) c.made_whole.ensures.received
-  where
-    if_ok : {A E : Type 0} (r : Result A E) {P Q : A → Type 0} → ((a : A) → P a → Q a) → IfOk r P → IfOk r Q
-    if_ok (Ok a) f is = f a is
-    if_ok (Err e) f is = tt
+    IfOk-weaker c.made_whole.result (λ h. g.H.Holder.received h ≡ c.items.result.now) (λ h. AreThose (IsNeeded x strong) (g.H.Holder.received h)) (λ h is. subst (AreThose (IsNeeded x strong)) (sym is) those) c.made_whole.ensures.received
