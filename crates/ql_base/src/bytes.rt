@@ -1,4 +1,5 @@
 ghost use Rattle.std.specs.Prelude.{◌≡◌};
+ghost use Rattle.std.specs.List.{list_all};
 ghost use Rattle.ql_base.specs.Bytes.{
   is_blank,
   is_digit,
@@ -54,4 +55,15 @@ pub fn is_text_byte(b: u8) -> bool
     ensures { result ≡ is_text_byte b }
 {
     matches!(b, b' '..=b'~') && b != b'"' && b != b'\\'
+}
+
+/// Whether each byte may stand inside a text. All of them are asked, which takes less time than to stop early.
+pub fn are_text_bytes(text: &[u8]) -> bool
+    ensures { result ≡ list_all is_text_byte text.now }
+{
+    let mut all = true;
+    for b in text {
+        all = all & is_text_byte(*b);
+    }
+    all
 }

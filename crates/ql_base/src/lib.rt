@@ -14,7 +14,9 @@ mod numbering;
 mod push;
 mod word;
 
-pub use bytes::{is_blank, is_digit, is_lower, is_name_byte, is_text_byte, is_word_byte};
+pub use bytes::{
+    are_text_bytes, is_blank, is_digit, is_lower, is_name_byte, is_text_byte, is_word_byte,
+};
 pub use id_set::IdSet;
 pub use ids::{DeclId, EffId, MsgId, ObjId, OpId, ReplicaId, RunId, SessId, TypeId};
 pub use limits::{

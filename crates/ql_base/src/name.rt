@@ -1,5 +1,5 @@
 ghost use Rattle.std.specs.Prelude.{◌≡◌, ◌↔◌, IsTrue};
-ghost use Rattle.std.specs.List.{prefix_len};
+ghost use Rattle.std.specs.List.{list_all, prefix_len};
 ghost use Rattle.ql_base.specs.Bytes.{is_name_byte};
 ghost use Rattle.ql_base.specs.Names.{is_keyword, IsName, IsWord};
 
@@ -44,8 +44,17 @@ static KEYWORDS: [&[u8]; 35] = [
     b"hbo",
 ];
 
+const LONGEST_KEYWORD: usize = 11;
+
 /// Whether the source language keeps this word for itself.
 pub fn is_keyword(word: &[u8]) -> bool
+    ensures { result ≡ is_keyword word.now }
+{
+    word.len() <= LONGEST_KEYWORD && is_listed(word)
+}
+
+// Whether a word is in the table of keywords.
+fn is_listed(word: &[u8]) -> bool
     ensures { result ≡ is_keyword word.now }
 {
     KEYWORDS.iter().any(|keyword| *keyword == word)
@@ -70,5 +79,16 @@ pub fn is_name(text: &[u8]) -> bool
 fn is_word(text: &[u8]) -> bool
     ensures { IsTrue result ↔ IsWord text.now }
 {
-    !text.is_empty() && is_lower(text[0]) && name_bytes(text) == text.len()
+    !text.is_empty() && is_lower(text[0]) && are_name_bytes(text)
+}
+
+// Whether a name may hold each byte. All of them are asked, which takes less time than to stop early.
+fn are_name_bytes(text: &[u8]) -> bool
+    ensures { result ≡ list_all is_name_byte text.now }
+{
+    let mut all = true;
+    for b in text {
+        all = all & is_name_byte(*b);
+    }
+    all
 }

@@ -14,7 +14,8 @@ ghost use Rattle.ql_value.specs.Reading.{
 
 use crate::fault::ValueFault;
 use crate::scalar::{Scalar, TextVal};
-use ql_base::{MAX_TEXT_BYTES, is_digit, is_text_byte, number_of};
+use memchr::memchr;
+use ql_base::{MAX_TEXT_BYTES, are_text_bytes, is_digit, is_text_byte, number_of};
 use std::alloc::Global;
 
 const MOST_POSITIVE: u64 = 9_223_372_036_854_775_807;
@@ -163,9 +164,16 @@ fn text_end(bytes: &[u8], at: usize) -> usize
     ensures end { result ≡ at + prefix_len is_text_byte (drop at bytes.now) }
     ensures within { result ≤ length bytes.now }
 {
-    let mut end = at;
-    while end < bytes.len() && is_text_byte(bytes[end]) {
-        end += 1;
+    at + text_bytes(&bytes[at..])
+}
+
+// How many bytes at the start may stand inside a text: mostly all before the first quote.
+fn text_bytes(bytes: &[u8]) -> usize
+    ensures longest { result ≡ prefix_len is_text_byte bytes.now }
+    ensures within { result ≤ length bytes.now }
+{
+    match memchr(b'"', bytes) {
+        Some(quote) if are_text_bytes(&bytes[..quote]) => quote,
+        _ => bytes.iter().take_while(|b| is_text_byte(**b)).count(),
     }
-    end
 }
