@@ -22,7 +22,8 @@ pub(crate) fn copy_effect(alloc: Global, effect: &Effect) -> Result<Effect, NoMe
     })
 }
 
-fn copy_payload(alloc: Global, payload: &Payload) -> Result<Payload, NoMemory>
+/// An equal payload.
+pub fn copy_payload(alloc: Global, payload: &Payload) -> Result<Payload, NoMemory>
     ensures { IfOk result (λ copied. copied ≡ payload.now) }
 {
     match payload {
@@ -31,7 +32,8 @@ fn copy_payload(alloc: Global, payload: &Payload) -> Result<Payload, NoMemory>
     }
 }
 
-fn copy_values(alloc: Global, values: &Values) -> Result<Values, NoMemory>
+/// Equal values.
+pub fn copy_values(alloc: Global, values: &Values) -> Result<Values, NoMemory>
     ensures { IfOk result (λ copied. copied ≡ values.now) }
 {
     let mut copied = Vec::with_capacity(alloc, values.items().len())?;

@@ -14,6 +14,7 @@ mod judging;
 mod latest;
 
 pub use clocks::stamps_ascend;
+pub use copying::{copy_payload, copy_values};
 pub use effect::{Draft, Effect, Member, Payload};
 pub use execution::Execution;
 pub use fault::ExecFault;

@@ -1,5 +1,5 @@
 -- The place of an id among ranges, and ranges with one id more.
-use Rattle.std.specs.Prelude.{◌≡◌, ◌⊎◌, ℕ, ◌+◌, ◌<◌, ◌≤◌, Bool, true, false, List, length, slice_index_or}
+use Rattle.std.specs.Prelude.{◌≡◌, ◌⊎◌, ℕ, ◌+◌, ◌-◌, ◌<◌, ◌≤◌, Bool, true, false, List, length, slice_index_or}
 use Rattle.ql_base.specs.IdLists.{has_id}
 use Rattle.ql_ranges.specs.Ranges.{ids_of, BeginAt, AreApart}
 use Rattle.ql_ranges.specs.declared.ranges.IdRange.{IdRange}
@@ -13,6 +13,10 @@ pub record IsPlace (ranges : List IdRange) (id at : ℕ) : Type 0 where
 -- an id is this one, or of these ranges
 abbrev pub IsOneOf : ℕ → List IdRange → ℕ → Type 0
 IsOneOf id ranges a = (a ≡ id) ⊎ (has_id (ids_of ranges) a ≡ true)
+
+-- an id from the first to the last of some ids
+abbrev pub IsBetween : List ℕ → ℕ → Type 0
+IsBetween ids id = (0 < length ids) × (slice_index_or ids 0 0 ≤ id) × (id ≤ slice_index_or ids (length ids - 1) 0)
 
 -- ranges that have one id more than others
 pub record Adds (ranges : List IdRange) (id : ℕ) (more : List IdRange) : Type 0 where

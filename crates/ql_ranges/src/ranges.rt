@@ -1,7 +1,8 @@
 ghost use Rattle.std.specs.Prelude.{◌≡◌, ◌↔◌, ◌+◌, ◌<◌, ◌≤◌, ◌&&◌, ◌||◌, ℕ, [], IsTrue, true, nat_le, nat_lt, length, slice_index_or, IfOk, OnOk, OnErr};
 ghost use Rattle.ql_base.specs.IdLists.{IsAscending, has_id, with_id, union_of};
 ghost use Rattle.ql_ranges.specs.Ranges.{ids_of, AreApart};
-ghost use Rattle.ql_ranges.specs.Places.{Adds, IsFree, IsPlace};
+ghost use Rattle.ql_needs.specs.Closed.{Has};
+ghost use Rattle.ql_ranges.specs.Places.{Adds, IsBetween, IsFree, IsPlace};
 ghost use Rattle.ql_ranges.specs.declared.ranges.IdRange.{IdRange};
 
 use ql_base::{IdSet, NoMemory};
@@ -67,6 +68,15 @@ impl Ranges {
         ensures { IsTrue result ↔ ((id : ℕ) → from ≤ id → id ≤ to → has_id (ids_of self.now) id ≡ true) }
     {
         has_all_in(&self.ranges, from, to)
+    }
+
+    /// Whether all ids from the first to the last of some are there, found in the time of one. Then the others are too.
+    pub fn spans(&self, ids: &[u32]) -> bool
+        requires { IsAscending ids.now }
+        ensures exact { IsTrue result ↔ ((id : ℕ) → IsBetween ids.now id → has_id (ids_of self.now) id ≡ true) }
+        ensures each { IsTrue result → (id : ℕ) → Has ids.now id → Has (ids_of self.now) id }
+    {
+        ids.is_empty() || self.has_all(ids[0], ids[ids.len() - 1])
     }
 
     /// An id up to which there are all from 1 on, and 0 where 1 is missing.

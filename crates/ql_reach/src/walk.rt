@@ -142,18 +142,10 @@ fn meet_each(known: &Ranges, walk: &mut Walk, ids: &[u32]) -> Result<(), NoMemor
     requires { IsAscending ids.now }
     ensures { OnOk result (Meets (ids_of known.now) ids.now (ids_of walk.old.found) walk.old.due.items (ids_of walk.new.found) walk.new.due.items) }
 {
-    if are_in_one_range(&walk.found, ids) {
+    if walk.found.spans(ids) {
         return Ok(());
     }
     meet_one_by_one(known, walk, ids)
-}
-
-// Whether all ids from the first to the last are there, so that none has to be looked up.
-fn are_in_one_range(found: &Ranges, ids: &[u32]) -> bool
-    requires { IsAscending ids.now }
-    ensures { IsTrue result → (a : ℕ) → Has ids.now a → Has (ids_of found.now) a }
-{
-    ids.is_empty() || found.has_all(ids[0], ids[ids.len() - 1])
 }
 
 fn meet_one_by_one(known: &Ranges, walk: &mut Walk, ids: &[u32]) -> Result<(), NoMemory>

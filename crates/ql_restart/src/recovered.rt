@@ -10,11 +10,12 @@ ghost use Rattle.ql_restart.specs.Progress.{CanRecover, HasKnown, calls_left};
 ghost use Rattle.ql_restart.specs.Restarts.{IsRestartText, id_line};
 
 use crate::journal::stopped_disk;
-use ql_base::{EffId, IdSet, NoMemory, push_bytes, push_number};
+use ql_base::{EffId, IdSet, NoMemory, push_bytes};
 use ql_disk::MemDisk;
 use ql_exec::Execution;
 use ql_holder::Holder;
 use ql_journal::{Station, StationWhy, recover};
+use ql_run_text::push_ids;
 use ql_shim::applied_among;
 use ql_store::Store;
 use std::alloc::Global;
@@ -85,15 +86,4 @@ fn print_ids(alloc: Global, received: &[u32], applied: &[u32]) -> Result<Vec<u8>
     push_ids(&mut text, applied)?;
     push_bytes(&mut text, b"\nend\n")?;
     Ok(text)
-}
-
-// Appends ids, each behind a space.
-fn push_ids(out: &mut Vec<u8>, ids: &[u32]) -> Result<(), NoMemory>
-    ensures { OnOk result (out.new.items ≡ out.old.items ++ behind (map decimal ids.now)) }
-{
-    for id in ids {
-        push_bytes(out, b" ")?;
-        push_number(out, *id)?;
-    }
-    Ok(())
 }

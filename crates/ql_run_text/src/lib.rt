@@ -8,5 +8,6 @@ mod replies;
 mod run;
 
 pub use effects::print_effects;
+pub use parts::push_ids;
 pub use replies::print_reply;
 pub use run::print_run;

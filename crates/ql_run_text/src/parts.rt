@@ -17,7 +17,7 @@ pub(crate) fn push_decimal(out: &mut Vec<u8>, text: &[u8], number: u32) -> Resul
 }
 
 /// Appends ids, each behind a space.
-pub(crate) fn push_ids(out: &mut Vec<u8>, ids: &[u32]) -> Result<(), NoMemory>
+pub fn push_ids(out: &mut Vec<u8>, ids: &[u32]) -> Result<(), NoMemory>
     ensures { OnOk result (out.new.items ≡ out.old.items ++ behind (map decimal ids.now)) }
 {
     for id in ids {

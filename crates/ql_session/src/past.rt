@@ -77,18 +77,10 @@ fn visit(x: &Execution, walk: &mut Walk, e: EffId) -> Result<(), NoMemory>
 fn meet_all(met: &mut Ranges, ids: &IdSet) -> Result<(), NoMemory>
     ensures { OnOk result (Joins (ids_of met.old) ids.now (ids_of met.new)) }
 {
-    if !are_in_one_range(met, ids.items()) {
+    if !met.spans(ids.items()) {
         *met = met.union(ids)?;
     }
     Ok(())
-}
-
-// Whether all ids from the first to the last are there, so that none has to be looked up.
-fn are_in_one_range(met: &Ranges, ids: &[u32]) -> bool
-    requires { IsAscending ids.now }
-    ensures { IsTrue result → (a : ℕ) → Has ids.now a → Has (ids_of met.now) a }
-{
-    ids.is_empty() || met.has_all(ids[0], ids[ids.len() - 1])
 }
 
 /// The least of some ids that is of the past and that a view lacks.

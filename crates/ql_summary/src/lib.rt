@@ -5,7 +5,6 @@
 
 mod advance;
 mod answering;
-mod copying;
 mod covering;
 mod kept;
 mod slimming;

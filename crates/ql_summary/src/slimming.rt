@@ -4,10 +4,9 @@ ghost use Rattle.ql_exec.specs.Execution.{IsExecution, effect_of, with_stamp};
 ghost use Rattle.ql_summary.specs.Keeping.{is_kept};
 ghost use Rattle.ql_summary.specs.Slimming.{bare, slim_of};
 
-use crate::copying::{copy_payload, copy_values};
 use crate::kept::Kept;
 use ql_base::{IdSet, NoMemory};
-use ql_exec::{Draft, Effect, ExecFault, Execution, Payload};
+use ql_exec::{Draft, Effect, ExecFault, Execution, Payload, copy_payload, copy_values};
 use ql_value::{Value, Values, copy};
 use std::alloc::Global;
 
