@@ -1,9 +1,8 @@
-ghost use Rattle.std.specs.Prelude.{◌≡◌, ◌++◌, ◌≤◌, ℕ, List, codes, decimal, map, IfOk, OnOk};
+ghost use Rattle.std.specs.Prelude.{◌≡◌, ◌++◌, ◌≤◌, ℕ, List, codes, IfOk};
 ghost use Rattle.ql_base.specs.IdLists.{has_id};
 ghost use Rattle.ql_disk.specs.MemDisks.{content_of};
 ghost use Rattle.ql_journal.specs.Records.{HasRecords, in_records};
 ghost use Rattle.ql_journal.specs.Stations.{holder_of};
-ghost use Rattle.ql_lines.specs.Texts.{behind};
 ghost use Rattle.ql_machine.specs.Sets.{AreThose};
 ghost use Rattle.ql_needs.specs.Closed.{Has};
 ghost use Rattle.ql_restart.specs.Progress.{CanRecover, HasKnown, calls_left};
