@@ -1,4 +1,4 @@
-ghost use Rattle.std.specs.Prelude.{◌≡◌, ◌≤◌, ◌<◌, ◌^◌, ◌∷◌, ℕ, List, [], length, IfOk, IsTrue, OnOk};
+ghost use Rattle.std.specs.Prelude.{◌≡◌, ◌≤◌, ◌<◌, ◌^◌, ◌∷◌, ℕ, List, [], length, IfOk, OnOk};
 ghost use Rattle.ql_base.specs.IdLists.{IsAscending};
 ghost use Rattle.ql_exec.specs.declared.effect.Effect.{Effect};
 ghost use Rattle.ql_exec.specs.Execution.{IsExecution};
