@@ -44,7 +44,7 @@ fn bytes_before_space(text: &[u8]) -> usize
     ensures longest { result ≡ prefix_len isn't_space text.now }
     ensures within { result ≤ length text.now }
 {
-    text.iter().take_while(|b| **b != b' ').count()
+    bytes_before(text, b' ')
 }
 
 // How many bytes at the front are a text: a quote and all up to the next one.
