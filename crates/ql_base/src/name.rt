@@ -1,4 +1,4 @@
-ghost use Rattle.std.specs.Prelude.{◌≡◌, ◌↔◌, IsTrue};
+ghost use Rattle.std.specs.Prelude.{◌≡◌, ◌↔◌, ◌<◌, IsTrue, length};
 ghost use Rattle.std.specs.List.{list_all, prefix_len};
 ghost use Rattle.ql_base.specs.Bytes.{is_name_byte};
 ghost use Rattle.ql_base.specs.Names.{is_keyword, IsName, IsWord};
@@ -6,58 +6,58 @@ ghost use Rattle.ql_base.specs.Names.{is_keyword, IsName, IsWord};
 use crate::bytes::{is_lower, is_name_byte};
 use crate::limits::MAX_NAME_BYTES;
 
-static KEYWORDS: [&[u8]; 35] = [
-    b"type",
-    b"state",
-    b"op",
-    b"contract",
-    b"answer",
-    b"emit",
-    b"when",
-    b"apply",
-    b"transaction",
-    b"uses",
-    b"forall",
-    b"true",
-    b"false",
-    b"unit",
-    b"empty",
-    b"if",
-    b"then",
-    b"else",
-    b"and",
-    b"or",
-    b"not",
-    b"int",
-    b"bool",
-    b"text",
-    b"set",
-    b"map",
-    b"cur",
-    b"txn",
-    b"vis",
-    b"so",
-    b"soo",
-    b"sameobj",
-    b"eq",
-    b"hb",
-    b"hbo",
-];
-
-const LONGEST_KEYWORD: usize = 11;
-
 /// Whether the source language keeps this word for itself.
+#[tactic(auto, unfolding(crate::specs::Names::is_keyword, crate::specs::Names::keywords))]
 pub fn is_keyword(word: &[u8]) -> bool
     ensures { result ≡ is_keyword word.now }
 {
-    word.len() <= LONGEST_KEYWORD && is_listed(word)
+    !word.is_empty() && is_listed(word)
 }
 
-// Whether a word is in the table of keywords.
+// Whether a word is a keyword: only those are looked at that begin with the same byte.
+#[tactic(auto, unfolding(crate::specs::Names::is_keyword, crate::specs::Names::keywords))]
 fn is_listed(word: &[u8]) -> bool
+    requires { 0 < length word.now }
     ensures { result ≡ is_keyword word.now }
 {
-    KEYWORDS.iter().any(|keyword| *keyword == word)
+    match word[0] {
+        b'a' => {
+            b"answer".as_slice() == word || b"apply".as_slice() == word || b"and".as_slice() == word
+        }
+        b'b' => b"bool".as_slice() == word,
+        b'c' => b"contract".as_slice() == word || b"cur".as_slice() == word,
+        b'e' => {
+            b"emit".as_slice() == word
+                || b"empty".as_slice() == word
+                || b"else".as_slice() == word
+                || b"eq".as_slice() == word
+        }
+        b'f' => b"forall".as_slice() == word || b"false".as_slice() == word,
+        b'h' => b"hb".as_slice() == word || b"hbo".as_slice() == word,
+        b'i' => b"if".as_slice() == word || b"int".as_slice() == word,
+        b'm' => b"map".as_slice() == word,
+        b'n' => b"not".as_slice() == word,
+        b'o' => b"op".as_slice() == word || b"or".as_slice() == word,
+        b's' => {
+            b"state".as_slice() == word
+                || b"set".as_slice() == word
+                || b"so".as_slice() == word
+                || b"soo".as_slice() == word
+                || b"sameobj".as_slice() == word
+        }
+        b't' => {
+            b"type".as_slice() == word
+                || b"transaction".as_slice() == word
+                || b"true".as_slice() == word
+                || b"then".as_slice() == word
+                || b"text".as_slice() == word
+                || b"txn".as_slice() == word
+        }
+        b'u' => b"uses".as_slice() == word || b"unit".as_slice() == word,
+        b'v' => b"vis".as_slice() == word,
+        b'w' => b"when".as_slice() == word,
+        _ => false,
+    }
 }
 
 /// How many bytes at the front of `text` a name may hold.

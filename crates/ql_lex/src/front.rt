@@ -3,11 +3,11 @@ ghost use Rattle.std.specs.List.{prefix_len};
 ghost use Rattle.ql_base.specs.Bytes.{is_digit, is_lower, is_text_byte, is_word_byte, begins};
 ghost use Rattle.ql_lex.specs.Bytes.{is_in_line, is_quote};
 
-use crate::keyword::is_keyword;
 use crate::marks::{is_mark_byte, is_mark_pair};
 use crate::token::TokenKind;
 use ql_base::{
-    MAX_NAME_BYTES, MAX_TEXT_BYTES, digit_bytes, is_text_byte, is_word_byte, name_bytes, number_of,
+    MAX_NAME_BYTES, MAX_TEXT_BYTES, digit_bytes, is_keyword, is_text_byte, is_word_byte,
+    name_bytes, number_of,
 };
 
 const HASH: u8 = b'#';

@@ -4,7 +4,6 @@
 #![tactic(auto)]
 
 mod front;
-mod keyword;
 mod marks;
 mod scan;
 mod token;
