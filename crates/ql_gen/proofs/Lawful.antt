@@ -19,8 +19,9 @@ use Rattle.ql_value.specs.declared.value.Value.{Value}
 use Rattle.ql_eval.specs.Able.{AreArgs, AreOfKinds, param_kind}
 use Rattle.ql_eval.specs.ValueKinds.{HasKind}
 use Rattle.ql_machine.specs.declared.event.Event.{Event}
-use Rattle.ql_machine.specs.declared.event.Event.TheVariants.{Begin, Commit, Deliver, Heal}
-use Rattle.ql_schedule.specs.Guarantees.{FitsEvent, IsCaller, IsSchedule}
+use Rattle.ql_machine.specs.declared.event.Event.TheVariants.{Begin, Call, Commit, Deliver, Heal, Join, Lose, Partition, Repeat, Resend}
+use Rattle.ql_machine.specs.Runs.{replicas_after}
+use Rattle.ql_schedule.specs.Guarantees.{AreFit, FitsEvent, IsCaller, IsOfVersion, IsSchedule}
 use Rattle.ql_gen.specs.Draws.{draw, next}
 use Rattle.ql_gen.specs.Events.{arg_of, args_of, begin_of, call_at, call_of, event_of, message_of, network_of, op_of, params_of, replica_of, session_of}
 use Rattle.ql_gen.specs.Generated.{generated, generated_events, state_after}
@@ -190,7 +191,55 @@ module _ (p : Program) where
       if_both (nat_eq k 9) Fits _ _ (λ network. network_fits j s) (λ no_network.
       if_both (nat_eq k 10) Fits _ _ (λ begin. begin_fits s) (λ commit. caller s))))
 
+  -- no replica joins
+  call_plain : (x : ℕ) → IsOfVersion 1 (call_of p x)
+  call_plain x = if_both (nat_eq (length (all_ops p.types)) 0) (IsOfVersion 1) _ _ (λ none. tt) (λ some. tt)
+
+  begin_plain : (x : ℕ) → IsOfVersion 1 (begin_of p x)
+  begin_plain x = if_both (nat_eq (length p.txns) 0) (IsOfVersion 1) _ _ (λ none. tt) (λ some. tt)
+
+  network_plain : (j x : ℕ) → IsOfVersion 1 (network_of j x)
+  network_plain j x =
+      if_both (nat_eq (draw 4 x) 0) (IsOfVersion 1) _ _ (λ split. tt) (λ other.
+      if_both (nat_eq (draw 4 x) 1) (IsOfVersion 1) _ _ (λ heal. tt) (λ more. if_both (nat_eq (draw 4 x) 2) (IsOfVersion 1) _ _ (λ lose. tt) (λ repeat. tt)))
+
+  event_plain : (j x : ℕ) → IsOfVersion 1 (event_of p j x)
+  event_plain j x =
+      let k = draw 12 x in
+      let s = next x in
+      if_both (nat_lt k 6) (IsOfVersion 1) _ _ (λ call. call_plain s) (λ other.
+      if_both (nat_lt k 9) (IsOfVersion 1) _ _ (λ deliver. tt) (λ no_delivery.
+      if_both (nat_eq k 9) (IsOfVersion 1) _ _ (λ network. network_plain j s) (λ no_network.
+      if_both (nat_eq k 10) (IsOfVersion 1) _ _ (λ begin. begin_plain s) (λ commit. tt))))
+
+  -- so there are as many replicas behind each event
+  as_many : (n : ℕ) (e : Event) → IsOfVersion 1 e → replicas_after n e ≡ n
+  as_many n (Call session replica object op args) is = refl
+  as_many n (Begin session replica decl ids) is = refl
+  as_many n (Commit session replica) is = refl
+  as_many n (Deliver m) is = refl
+  as_many n (Repeat m) is = refl
+  as_many n (Lose m) is = refl
+  as_many n (Resend e sender receiver) is = refl
+  as_many n (Partition groups) is = refl
+  as_many n Heal is = refl
+  as_many n (Join near copy) is = absurd (omega (arith, is))
+
+  fit_along : (events : List Event) → AllByRecursion Fits events → AllByRecursion (IsOfVersion 1) events
+      → AreFit p (length (object_names (length p.types))) (object_kinds (length p.types)) 3 events
+  fit_along [] fits plain = tt
+  fit_along (e ∷ events) fits plain = (
+    fits.0,
+    subst (λ (n : ℕ). AreFit p (length (object_names (length p.types))) (object_kinds (length p.types)) n events) (sym (as_many 3 e plain.0)) (fit_along events fits.1 plain.1),
+  )
+
   module _ (number : ℕ) where
+    events_plain : (n : ℕ) → AllByRecursion (IsOfVersion 1) (generated_events p number n)
+    unfolding generated_events
+    events_plain zero = tt
+    events_plain (suc n) =
+        all_more (IsOfVersion 1) (generated_events p number n) (event_of p (suc n) (state_after p number n) ∷ []) (events_plain n) (event_plain (suc n) (state_after p number n), tt)
+
     events_fit : (n : ℕ) → AllByRecursion Fits (generated_events p number n)
     unfolding generated_events
     events_fit zero = tt
@@ -204,18 +253,20 @@ module _ (p : Program) where
 
     pub is_schedule : (n : ℕ) → n ≤ 4000 → length p.types ≤ 16 → IsSchedule p (generated p number n)
     is_schedule n few few_types = record {
+      version = inl refl;
+      of_version = events_plain n;
       some_replicas = omega arith;
       few_replicas = omega arith;
       few_objects = omega (arith, few_types, length_names (length p.types));
       few_events = omega (arith, few, length_events n);
       typed = omega (arith, length_types (length p.types), length_names (length p.types));
       types = are_types (length p.types) (length p.types) (omega arith);
-      events = events_fit n;
+      events = fit_along (generated_events p number n) (events_fit n) (events_plain n);
     }
 
 -- the same of its parts, once they are made
 pub made_schedule : (p : Program) (number n types : ℕ) (objects : List (List ℕ)) (kinds : List TypeId) (events : List Event)
     → types ≡ length p.types → types ≤ 16 → n ≤ 4000 → objects ≡ object_names types → kinds ≡ object_kinds types → events ≡ generated_events p number n
-    → IsSchedule p (record { replicas = 3; objects = objects; kinds = kinds; events = events })
+    → IsSchedule p (record { version = 1; replicas = 3; objects = objects; kinds = kinds; events = events })
 made_schedule p number n types objects kinds events count few_types few names of_types are =
     rw (names, of_types, are, count) (is_schedule p number n few (omega (arith, few_types, count)))

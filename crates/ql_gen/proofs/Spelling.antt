@@ -14,7 +14,7 @@ use Rattle.ql_lang.specs.declared.operation.Base.TheVariants as base
 use Rattle.ql_lang.specs.declared.operation.Param.{Param}
 use Rattle.ql_lang.specs.declared.program.Program.{Program}
 use Rattle.ql_machine.specs.declared.event.Event.{Event}
-use Rattle.ql_machine.specs.declared.event.Event.TheVariants.{Begin, Call, Commit, Deliver, Heal, Lose, Partition, Repeat, Resend}
+use Rattle.ql_machine.specs.declared.event.Event.TheVariants.{Begin, Call, Commit, Deliver, Heal, Join, Lose, Partition, Repeat, Resend}
 use Rattle.ql_schedule.specs.Spelled.{AreNew, IsSpelledValue}
 use Rattle.ql_schedule.proofs.ObjectNames.{new_more}
 use Rattle.ql_typing.specs.Operations.{all_ops}
@@ -137,6 +137,7 @@ Spells (Lose m) = m.0 < 2 ^ 32
 Spells (Resend e sender receiver) = e.0 < 2 ^ 32
 Spells (Partition groups) = AllByRecursion (λ g. g < 16) groups
 Spells Heal = Unit {0}
+Spells (Join near copy) = Unit {0}
 
 module _ (p : Program) (some : 0 < length p.types) (few : length p.types ≤ 16) where
   message_spells : (j x : ℕ) → 1 ≤ j → j ≤ 4000 → suc (draw j x) < 2 ^ 32

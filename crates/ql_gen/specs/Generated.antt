@@ -20,6 +20,7 @@ module _ (p : Program) (number : ℕ) where
   -- so many events at three replicas, on two objects of each type
   abbrev pub generated : ℕ → Schedule
   generated n = record {
+    version = 1;
     replicas = 3;
     objects = object_names (length p.types);
     kinds = object_kinds (length p.types);

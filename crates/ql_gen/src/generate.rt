@@ -24,6 +24,7 @@ pub fn schedule_of(alloc: Global, t: &Typed, number: u32, events: u32) -> Result
 {
     let types = t.types();
     Ok(Schedule {
+        version: 1,
         replicas: 3,
         objects: object_names(alloc, types)?,
         kinds: object_kinds(alloc, types)?,

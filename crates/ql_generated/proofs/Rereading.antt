@@ -15,11 +15,12 @@ use Rattle.ql_lang.specs.Programs.{Source, source_of}
 use Rattle.ql_lines.specs.Lines.{ahead_from}
 use Rattle.ql_lines.specs.Texts.{file_text}
 use Rattle.ql_machine.specs.declared.event.Event.{Event}
-use Rattle.ql_machine.specs.declared.event.Event.TheVariants.{Begin, Call, Commit, Deliver, Heal, Lose, Partition, Repeat, Resend}
+use Rattle.ql_machine.specs.declared.event.Event.TheVariants.{Begin, Call, Commit, Deliver, Heal, Join, Lose, Partition, Repeat, Resend}
 use Rattle.ql_parse.specs.Parsing.{IsProgramText}
 use Rattle.ql_schedule.specs.declared.schedule.Schedule.{Schedule}
+use Rattle.ql_machine.specs.Runs.{replicas_after}
 use Rattle.ql_schedule.specs.Files.{IsScheduleFile}
-use Rattle.ql_schedule.specs.Guarantees.{FitsEvent, IsSchedule}
+use Rattle.ql_schedule.specs.Guarantees.{AreFit, FitsEvent, IsSchedule}
 use Rattle.ql_schedule.specs.Spelled.{AreNew, IsFound, IsSpelled, IsSpelledEvent, IsSpelledType}
 use Rattle.ql_schedule.specs.Texts.{op_name, schedule_lines, txn_name, type_name}
 use Rattle.ql_schedule.proofs.ObjectNames.{found_by_name}
@@ -71,24 +72,25 @@ module _ (source : List ℕ) (p : Program) (is : IsSourceOf source p) where
     ids-found [] below = tt
     ids-found (o ∷ ids) below = (found_by_name objects o new below.0, ids-found ids below.1)
 
-    event-spelled : (e : Event) → FitsEvent p 3 (length objects) kinds e → Spells e → IsSpelledEvent p objects e
-    event-spelled (Call session replica object op args) fits spells =
+    event-spelled : (n : ℕ) (e : Event) → FitsEvent p n (length objects) kinds e → Spells e → IsSpelledEvent p objects e
+    event-spelled n (Call session replica object op args) fits spells =
         let name = op-spelled op.0 fits.is_op in
         record { is_object = found_by_name objects object.0 new fits.is_object; is_op = name.0; op_found = name.1; values = spells }
-    event-spelled (Begin session replica decl ids) fits spells =
+    event-spelled n (Begin session replica decl ids) fits spells =
         let name = txn-spelled decl.0 fits.1 in
         record { is_txn = name.0; txn_found = name.1; are_objects = ids-found ids fits.2; ascending = spells.0; some = spells.1; few = spells.2 }
-    event-spelled (Commit session replica) fits spells = tt
-    event-spelled (Deliver m) fits spells = spells
-    event-spelled (Repeat m) fits spells = spells
-    event-spelled (Lose m) fits spells = spells
-    event-spelled (Resend e sender receiver) fits spells = spells
-    event-spelled (Partition groups) fits spells = spells
-    event-spelled Heal fits spells = tt
+    event-spelled n (Commit session replica) fits spells = tt
+    event-spelled n (Deliver m) fits spells = spells
+    event-spelled n (Repeat m) fits spells = spells
+    event-spelled n (Lose m) fits spells = spells
+    event-spelled n (Resend e sender receiver) fits spells = spells
+    event-spelled n (Partition groups) fits spells = spells
+    event-spelled n Heal fits spells = tt
+    event-spelled n (Join near copy) fits spells = tt
 
-    events-spelled : (es : List Event) → AllByRecursion (FitsEvent p 3 (length objects) kinds) es → AllByRecursion Spells es → AllByRecursion (IsSpelledEvent p objects) es
-    events-spelled [] fit spell = tt
-    events-spelled (e ∷ es) fit spell = (event-spelled e fit.0 spell.0, events-spelled es fit.1 spell.1)
+    events-spelled : (n : ℕ) (es : List Event) → AreFit p (length objects) kinds n es → AllByRecursion Spells es → AllByRecursion (IsSpelledEvent p objects) es
+    events-spelled n [] fit spell = tt
+    events-spelled n (e ∷ es) fit spell = (event-spelled n e fit.0 spell.0, events-spelled (replicas_after n e) es fit.1 spell.1)
 
   is-spelled : (number n : ℕ) → n ≤ 4000 → IsSpelled p (generated p number n)
   is-spelled number n few =
@@ -100,7 +102,7 @@ module _ (source : List ℕ) (p : Program) (is : IsSourceOf source p) where
         objects = new;
         types = types-spelled (length p.types) (omega arith);
         events =
-            events-spelled (object_names (length p.types)) (object_kinds (length p.types)) new (generated p number n).events lawful.events
+            events-spelled (object_names (length p.types)) (object_kinds (length p.types)) new 3 (generated p number n).events lawful.events
             (events_spell p (has_types source p is.0) few_of_types number n few);
       }
 

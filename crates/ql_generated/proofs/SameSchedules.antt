@@ -8,7 +8,7 @@ use Rattle.ql_lang.specs.declared.program.Program.{Program}
 use Rattle.ql_lang.specs.Programs.{Operation, Replicated, Transaction, operation_of, replicated_of, source_of, transaction_of}
 use Rattle.ql_lines.specs.Fields.{Fields}
 use Rattle.ql_machine.specs.declared.event.Event.{Event}
-use Rattle.ql_machine.specs.declared.event.Event.TheVariants.{Begin, Call, Commit, Deliver, Heal, Lose, Partition, Repeat, Resend}
+use Rattle.ql_machine.specs.declared.event.Event.TheVariants.{Begin, Call, Commit, Deliver, Heal, Join, Lose, Partition, Repeat, Resend}
 use Rattle.ql_schedule.specs.declared.schedule.Schedule.{Schedule}
 use Rattle.ql_schedule.specs.Headers.{title}
 use Rattle.ql_schedule.specs.Texts.{caller_fields, event_fields, name_at, object_fields, object_lines, op_name, schedule_lines, txn_name, type_name}
@@ -84,8 +84,8 @@ module _ (p q : Program) (e : source_of p ≡ source_of q) where
 
   schedule-same : (number n : ℕ) → generated p number n ≡ generated q number n
   schedule-same number n =
-      ap (λ (count : ℕ). record { replicas = 3; objects = object_names count; kinds = object_kinds count; events = generated_events p number n }) count-types
-      ∙ ap (λ (es : List Event). record { replicas = 3; objects = object_names (length q.types); kinds = object_kinds (length q.types); events = es }) (events-same number n)
+      ap (λ (count : ℕ). record { version = 1; replicas = 3; objects = object_names count; kinds = object_kinds count; events = generated_events p number n }) count-types
+      ∙ ap (λ (es : List Event). record { version = 1; replicas = 3; objects = object_names (length q.types); kinds = object_kinds (length q.types); events = es }) (events-same number n)
 
   -- ---- its text
 
@@ -111,6 +111,7 @@ module _ (p q : Program) (e : source_of p ≡ source_of q) where
     fields-same (Resend effect sender receiver) = refl
     fields-same (Partition groups) = refl
     fields-same Heal = refl
+    fields-same (Join near copy) = refl
 
     all-fields-same : (es : List Event) → map (event_fields p objects) es ≡ map (event_fields q objects) es
     all-fields-same [] = refl
@@ -119,8 +120,8 @@ module _ (p q : Program) (e : source_of p ≡ source_of q) where
 
   lines-same : (s : Schedule) → schedule_lines p s ≡ schedule_lines q s
   lines-same s =
-      ap (λ (ls : List Fields). title ∷ (codes "replicas" ∷ decimal s.replicas ∷ []) ∷ (ls ++ (codes "events" ∷ []) ∷ map (event_fields p s.objects) s.events)) (objects-same s.objects s.kinds)
-      ∙ ap (λ (ls : List Fields). title ∷ (codes "replicas" ∷ decimal s.replicas ∷ []) ∷ (object_lines q s.objects s.kinds ++ (codes "events" ∷ []) ∷ ls)) (all-fields-same s.objects s.events)
+      ap (λ (ls : List Fields). title s.version ∷ (codes "replicas" ∷ decimal s.replicas ∷ []) ∷ (ls ++ (codes "events" ∷ []) ∷ map (event_fields p s.objects) s.events)) (objects-same s.objects s.kinds)
+      ∙ ap (λ (ls : List Fields). title s.version ∷ (codes "replicas" ∷ decimal s.replicas ∷ []) ∷ (object_lines q s.objects s.kinds ++ (codes "events" ∷ []) ∷ ls)) (all-fields-same s.objects s.events)
 
   pub same-lines : (number n : ℕ) → schedule_lines p (generated p number n) ≡ schedule_lines q (generated q number n)
   same-lines number n = ap (schedule_lines p) (schedule-same number n) ∙ lines-same (generated q number n)

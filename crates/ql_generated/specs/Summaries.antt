@@ -23,6 +23,7 @@ word_of (reply.Applies ids) = codes "applies"
 word_of reply.Lost = codes "lost"
 word_of reply.Split = codes "split"
 word_of reply.Healed = codes "healed"
+word_of (reply.Joined r) = codes "joined"
 word_of (reply.Sent m) = codes "sent"
 word_of (reply.Refused why) = codes "refused"
 

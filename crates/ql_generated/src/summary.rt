@@ -129,6 +129,7 @@ fn word_of(reply: &Reply) -> &'static str
         Reply::Lost => "lost",
         Reply::Split => "split",
         Reply::Healed => "healed",
+        Reply::Joined(_) => "joined",
         Reply::Sent(_) => "sent",
         Reply::Refused(_) => "refused",
     }

@@ -48,7 +48,10 @@ pub struct Column {
 /// What is drawn of a run. Without a schedule each effect is an event, at the one replica 0, and `replicas` is 0.
 #[derive(Drop)]
 pub struct History {
+    /// How many replicas there are at the end.
     pub replicas: u32,
+    /// The events by which the last of them joined, in order.
+    pub joins: Vec<u32>,
     pub columns: Vec<Column>,
     /// A seat for each effect that is drawn, in order.
     pub seats: Vec<Seat>,
@@ -116,10 +119,18 @@ fn bare(alloc: Global, run: &Run) -> Result<History, NoMemory> {
 }
 
 impl History {
+    /// The event by which a replica joined; none for a replica of the start.
+    pub fn join_of(&self, replica: u32) -> Option<u32> {
+        let behind = self.replicas.checked_sub(replica)? as usize;
+        let place = self.joins.len().checked_sub(behind)?;
+        self.joins.get(place).copied()
+    }
+
     /// Nothing, of so many replicas.
     pub(crate) fn new(alloc: Global, replicas: u32) -> History {
         History {
             replicas,
+            joins: Vec::new(alloc),
             columns: Vec::new(alloc),
             seats: Vec::new(alloc),
             passages: Vec::new(alloc),

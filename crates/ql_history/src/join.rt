@@ -75,6 +75,7 @@ impl Joining {
             Step::Resend { from, to } => self.resend(alloc, *from, *to, reply),
             Step::Partition(groups) => self.partition(alloc, groups, reply),
             Step::Heal => self.heal(alloc, reply),
+            Step::Join(near) => self.add(alloc, *near, reply),
         }
     }
 
@@ -276,6 +277,31 @@ impl Joining {
         }
         self.end_span();
         self.part(alloc, reply)
+    }
+
+    // A replica more, which has the next number and stands in the group of another.
+    fn add(&mut self, alloc: Global, near: u32, reply: &Reply) -> Result<bool, NoMemory> {
+        let joined = self.history.replicas;
+        if reply.word != ReplyWord::Joined || reply.number != Some(joined) {
+            return Ok(false);
+        }
+        let spot = self.spot(joined, None);
+        self.join_group(near)?;
+        self.history.joins.push(spot.column)?;
+        self.history.replicas = joined.saturating_add(1);
+        self.push(alloc, spot, Happening::Noted, b"join", &reply.text)?;
+        Ok(true)
+    }
+
+    // In a partition that lasts, the new replica has the group of another.
+    fn join_group(&mut self, near: u32) -> Result<(), NoMemory> {
+        if let Some(span) = self.history.spans.last_mut() {
+            if span.last.is_none() {
+                let group = span.groups.get(near as usize).copied().unwrap_or(0);
+                span.groups.push(group)?;
+            }
+        }
+        Ok(())
     }
 
     fn part(&mut self, alloc: Global, reply: &Reply) -> Result<bool, NoMemory> {

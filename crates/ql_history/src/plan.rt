@@ -6,12 +6,24 @@ use std::alloc::Global;
 
 const MOST_EVENTS: usize = 4000;
 
+const MOST_REPLICAS: u32 = 16;
+
 /// A schedule as a picture shows it.
 #[derive(Drop)]
 pub struct Plan {
-    /// How many replicas there are, 1 to 16.
+    /// How many replicas there are at the start, 1 to 16.
     pub replicas: u32,
     pub events: Vec<Step>,
+}
+
+// How far a schedule is read.
+#[derive(Clone, Copy)]
+struct Place {
+    stage: Stage,
+    /// Whether replicas may join.
+    has_joins: bool,
+    /// How many replicas there are behind the events that were read.
+    replicas: u32,
 }
 
 // Which line comes next.
@@ -29,50 +41,77 @@ pub fn read_plan(alloc: Global, bytes: &[u8]) -> Result<Plan, DrawnFault> {
         replicas: 1,
         events: Vec::new(alloc),
     };
-    let mut stage = Stage::Title;
+    let mut place = Place {
+        stage: Stage::Title,
+        has_joins: false,
+        replicas: 1,
+    };
     let mut lines = Lines::of(bytes);
     while let Some(line) = lines.next_line() {
-        stage = match take(alloc, &mut plan, stage, line.text) {
+        place = match take(alloc, &mut plan, place, line.text) {
             Ok(more) => more,
             Err(fault) => return Err(fault.at(line.number)),
         };
     }
-    match stage {
+    match place.stage {
         Stage::Events => Ok(plan),
         _ => Err(LineFault::Breaks(DrawnRule::Unexpected).at(lines.end())),
     }
 }
 
-fn take(alloc: Global, plan: &mut Plan, stage: Stage, text: &[u8]) -> Result<Stage, LineFault> {
-    match stage {
-        Stage::Title if is_title(text) => Ok(Stage::Replicas),
-        Stage::Replicas => take_replicas(plan, text),
-        Stage::Objects if is_word(text, b"events") => Ok(Stage::Events),
-        Stage::Objects if after_word(text, b"object").is_some() => Ok(Stage::Objects),
-        Stage::Events => take_event(alloc, plan, text),
+fn take(alloc: Global, plan: &mut Plan, place: Place, text: &[u8]) -> Result<Place, LineFault> {
+    match place.stage {
+        Stage::Title => take_title(place, text),
+        Stage::Replicas => take_replicas(plan, place, text),
+        Stage::Objects if is_word(text, b"events") => Ok(place.at(Stage::Events)),
+        Stage::Objects if after_word(text, b"object").is_some() => Ok(place),
+        Stage::Events => take_event(alloc, plan, place, text),
         _ => Err(LineFault::Breaks(DrawnRule::Unexpected)),
     }
 }
 
-fn is_title(text: &[u8]) -> bool {
-    match after_word(text, b"quelea") {
-        Some(rest) => match after_word(rest, b"schedule") {
-            Some(behind) => is_word(behind, b"1"),
-            None => false,
-        },
-        None => false,
+impl Place {
+    fn at(self, stage: Stage) -> Place {
+        Place { stage, ..self }
     }
 }
 
-fn take_replicas(plan: &mut Plan, text: &[u8]) -> Result<Stage, LineFault> {
+fn take_title(place: Place, text: &[u8]) -> Result<Place, LineFault> {
+    match version(text) {
+        Some(version) => Ok(Place {
+            stage: Stage::Replicas,
+            has_joins: version == 2,
+            ..place
+        }),
+        None => Err(LineFault::Breaks(DrawnRule::Unexpected)),
+    }
+}
+
+fn version(text: &[u8]) -> Option<u32> {
+    let rest = after_word(text, b"quelea")?;
+    let rest = after_word(rest, b"schedule")?;
+    if is_word(rest, b"1") {
+        Some(1)
+    } else if is_word(rest, b"2") {
+        Some(2)
+    } else {
+        None
+    }
+}
+
+fn take_replicas(plan: &mut Plan, place: Place, text: &[u8]) -> Result<Place, LineFault> {
     let Some(number) = replicas(text) else {
         return Err(LineFault::Breaks(DrawnRule::Unexpected));
     };
-    if number == 0 || number > 16 {
+    if number == 0 || number > MOST_REPLICAS {
         return Err(LineFault::Breaks(DrawnRule::Range));
     }
     plan.replicas = number;
-    Ok(Stage::Objects)
+    Ok(Place {
+        stage: Stage::Objects,
+        replicas: number,
+        ..place
+    })
 }
 
 fn replicas(text: &[u8]) -> Option<u32> {
@@ -84,15 +123,32 @@ fn replicas(text: &[u8]) -> Option<u32> {
     }
 }
 
-fn take_event(alloc: Global, plan: &mut Plan, text: &[u8]) -> Result<Stage, LineFault> {
+fn take_event(
+    alloc: Global,
+    plan: &mut Plan,
+    place: Place,
+    text: &[u8],
+) -> Result<Place, LineFault> {
     if plan.events.len() >= MOST_EVENTS {
         return Err(LineFault::Breaks(DrawnRule::TooMany));
     }
-    match step_of(alloc, text, plan.replicas)? {
-        Some(step) => {
-            plan.events.push(step)?;
-            Ok(Stage::Events)
-        }
-        None => Err(LineFault::Breaks(DrawnRule::Unexpected)),
+    let Some(step) = step_of(alloc, text, place.replicas)? else {
+        return Err(LineFault::Breaks(DrawnRule::Unexpected));
+    };
+    let more = behind(place, &step)?;
+    plan.events.push(step)?;
+    Ok(more)
+}
+
+// How far a schedule is read behind an event.
+fn behind(place: Place, step: &Step) -> Result<Place, LineFault> {
+    match step {
+        Step::Join(_) if !place.has_joins => Err(LineFault::Breaks(DrawnRule::Unexpected)),
+        Step::Join(_) if place.replicas >= MOST_REPLICAS => Err(LineFault::Breaks(DrawnRule::TooMany)),
+        Step::Join(_) => Ok(Place {
+            replicas: place.replicas + 1,
+            ..place
+        }),
+        _ => Ok(place),
     }
 }

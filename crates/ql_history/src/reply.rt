@@ -22,6 +22,7 @@ pub enum ReplyWord {
     Lost,
     Split,
     Healed,
+    Joined,
 }
 
 /// What an event was replied.
@@ -85,6 +86,7 @@ fn other_word(field: &[u8]) -> Option<ReplyWord> {
         b"lost" => Some(ReplyWord::Lost),
         b"split" => Some(ReplyWord::Split),
         b"healed" => Some(ReplyWord::Healed),
+        b"joined" => Some(ReplyWord::Joined),
         _ => None,
     }
 }

@@ -29,6 +29,8 @@ pub enum Step {
     /// The group of each replica.
     Partition(Vec<u32>),
     Heal,
+    /// A replica joins in the group of another, as a copy of it or bare.
+    Join(u32),
 }
 
 /// A session, and the replica at which it does something.
@@ -60,6 +62,7 @@ fn other(word: &[u8], rest: &[u8], replicas: u32) -> Option<Step> {
         b"repeat" => Some(Step::Repeat(last_number(rest)?)),
         b"lose" => Some(Step::Lose(last_number(rest)?)),
         b"heal" if first_field(rest).is_none() => Some(Step::Heal),
+        b"join" => join(rest, replicas),
         _ => None,
     }
 }
@@ -115,6 +118,19 @@ fn resend(text: &[u8], replicas: u32) -> Option<Step> {
     let to = last_number(rest)?;
     if from < replicas && to < replicas {
         Some(Step::Resend { from, to })
+    } else {
+        None
+    }
+}
+
+// A replica that joins near another.
+fn join(text: &[u8], replicas: u32) -> Option<Step> {
+    let near = match first_field(text) {
+        Some((b"copy" | b"bare", near)) => last_number(near)?,
+        _ => return None,
+    };
+    if near < replicas {
+        Some(Step::Join(near))
     } else {
         None
     }

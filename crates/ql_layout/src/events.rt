@@ -173,15 +173,18 @@ fn draw_cause(
 pub(crate) fn draw_steps(pen: &mut Pen, history: &History, grid: &Grid) -> Result<(), NoMemory> {
     for seat in &history.seats {
         if seat.is_strong {
-            draw_step(pen, history.replicas, grid, grid.point(seat.spot))?;
+            draw_step(pen, history, grid, seat.spot)?;
         }
     }
     Ok(())
 }
 
-fn draw_step(pen: &mut Pen, replicas: u32, grid: &Grid, at: Point) -> Result<(), NoMemory> {
-    for replica in 0..replicas {
-        draw_joint(pen, point(at.x, grid.replica_y(replica)), at)?;
+fn draw_step(pen: &mut Pen, history: &History, grid: &Grid, spot: Spot) -> Result<(), NoMemory> {
+    let at = grid.point(spot);
+    for replica in 0..history.replicas {
+        if history.join_of(replica).unwrap_or(0) <= spot.column {
+            draw_joint(pen, point(at.x, grid.replica_y(replica)), at)?;
+        }
     }
     Ok(())
 }

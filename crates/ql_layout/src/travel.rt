@@ -18,7 +18,8 @@ pub(crate) fn draw_lanes(
         let below = y.saturating_add(4);
         match lane.session {
             None => {
-                pen.line(Kind::Replica, point(90, *y), point(right, *y))?;
+                let left = left_of(history, grid, lane.replica);
+                pen.line(Kind::Replica, point(left, *y), point(right, *y))?;
                 let name = numbered(alloc, b"replica ", lane.replica)?;
                 pen.label(alloc, Kind::ReplicaName, point(8, below), &name)?;
             }
@@ -35,6 +36,22 @@ pub(crate) fn draw_lanes(
         }
     }
     Ok(())
+}
+
+// Where the line of a replica begins: at the left, or at its join.
+fn left_of(history: &History, grid: &Grid, replica: u32) -> u32 {
+    match history.join_of(replica) {
+        Some(column) => {
+            let session = None;
+            let spot = Spot {
+                column,
+                replica,
+                session,
+            };
+            grid.point(spot).x
+        }
+        None => 90,
+    }
 }
 
 // A text and a number.

@@ -14,7 +14,7 @@ use Rattle.ql_exec.specs.Execution.{effect_of}
 use Rattle.ql_exec.specs.Folding.{seen_in_order}
 use Rattle.ql_machine.specs.declared.message.Message.{Message}
 use Rattle.ql_machine.specs.declared.open_txn.OpenTxn.{OpenTxn}
-use Rattle.ql_machine.specs.State.{Machine, message_at, open_of, received_at}
+use Rattle.ql_machine.specs.State.{Machine, group_at, message_at, open_of, received_at, replicas}
 use Rattle.ql_machine.specs.Rules.{Rules, Call}
 
 -- ---- messages
@@ -70,6 +70,16 @@ received_by received r ids = slice_set received r (union_of (received_at receive
 -- every replica has
 abbrev pub received_by_all : List (List ℕ) → List ℕ → List (List ℕ)
 received_by_all received ids = map (λ held. union_of held ids) received
+
+-- ---- replicas
+
+-- the number of the next replica
+abbrev pub next_replica : Machine → ReplicaId
+next_replica s = record { 0 = replicas s }
+
+-- there is one replica more, with what it has received, in the group of another
+abbrev pub after_join : Machine → ReplicaId → List ℕ → Machine
+after_join s near ids = record s { received = s.received ++ ids ∷ []; groups = s.groups ++ group_at s.groups near.0 ∷ [] }
 
 -- ---- open transactions
 

@@ -1,6 +1,7 @@
 -- Runs: the replies to a list of events and the state after them.
-use Rattle.std.specs.Prelude.{ℕ, List, [], ◌∷◌}
+use Rattle.std.specs.Prelude.{ℕ, suc, List, [], ◌∷◌}
 use Rattle.ql_machine.specs.declared.event.Event.{Event}
+use Rattle.ql_machine.specs.declared.event.Event.TheVariants as event
 use Rattle.ql_machine.specs.declared.reply.Reply.{Reply}
 use Rattle.ql_machine.specs.State.{Machine, empty}
 use Rattle.ql_machine.specs.Rules.{Rules}
@@ -15,3 +16,12 @@ pub data Leads (rules : Rules) : Machine → List Event → List Reply → Machi
 -- a run with a number of replicas, which begins with nothing
 abbrev pub IsRun : Rules → ℕ → List Event → List Reply → Machine → Type 0
 IsRun rules n events replies last = Leads rules (empty n) events replies last
+
+-- how many replicas there are behind an event, and behind several
+abbrev pub replicas_after : ℕ → Event → ℕ
+replicas_after n (event.Join near copy) = suc n
+replicas_after n _ = n
+
+abbrev pub replicas_behind : ℕ → List Event → ℕ
+replicas_behind n [] = n
+replicas_behind n (e ∷ events) = replicas_behind (replicas_after n e) events

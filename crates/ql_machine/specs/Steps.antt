@@ -1,6 +1,6 @@
 -- One step of the machine: an event, the state after it and the reply. For each event there is one rule for each reply,
 -- in their order.
-use Rattle.std.specs.Prelude.{◌≡◌, ℕ, suc, ◌<◌, true, false, List, [], ◌∷◌, ◌++◌, replicate}
+use Rattle.std.specs.Prelude.{◌≡◌, ℕ, suc, ◌<◌, true, false, List, [], ◌∷◌, ◌++◌, replicate, Some}
 use Rattle.ql_base.specs.IdLists.{has_id}
 use Rattle.ql_base.specs.declared.ids.DeclId.{DeclId}
 use Rattle.ql_base.specs.declared.ids.EffId.{EffId}
@@ -10,22 +10,35 @@ use Rattle.ql_base.specs.declared.ids.OpId.{OpId}
 use Rattle.ql_base.specs.declared.ids.ReplicaId.{ReplicaId}
 use Rattle.ql_base.specs.declared.ids.SessId.{SessId}
 use Rattle.ql_value.specs.declared.value.Value.{Value}
+use Rattle.ql_exec.specs.declared.effect.Effect.{Effect}
+use Rattle.ql_exec.specs.Effects.{effect_at}
 use Rattle.ql_exec.specs.Relations.{inside, sametxn}
+use Rattle.ql_levels.specs.declared.level.Level.{Level}
+use Rattle.ql_levels.specs.declared.level.Level.TheVariants.{Strong}
+use Rattle.ql_needs.specs.Closed.{Reaches}
 use Rattle.ql_machine.specs.declared.event.Event.{Event}
 use Rattle.ql_machine.specs.declared.event.Event.TheVariants as event
-use Rattle.ql_machine.specs.declared.event.Event.TheVariants.{Begin, Commit, Deliver, Heal, Lose, Partition, Repeat, Resend}
+use Rattle.ql_machine.specs.declared.event.Event.TheVariants.{Begin, Commit, Deliver, Heal, Join, Lose, Partition, Repeat, Resend}
 use Rattle.ql_machine.specs.declared.message.Message.{Message}
 use Rattle.ql_machine.specs.declared.open_txn.OpenTxn.{OpenTxn}
 use Rattle.ql_machine.specs.declared.reply.Reply.{Reply}
-use Rattle.ql_machine.specs.declared.reply.Reply.TheVariants.{Begun, Committed, Gone, Healed, Lost, Refused, Sent, Split}
+use Rattle.ql_machine.specs.declared.reply.Reply.TheVariants.{Begun, Committed, Gone, Healed, Joined, Lost, Refused, Sent, Split}
 use Rattle.ql_machine.specs.declared.reply.Why.TheVariants.{Absent, AlreadyOpen, NotOpen}
 use Rattle.ql_machine.specs.Sets.{AreThose}
-use Rattle.ql_machine.specs.State.{Machine, received_at, replicas}
+use Rattle.ql_machine.specs.State.{Machine, NeedsNow, received_at, replicas}
 use Rattle.ql_machine.specs.Rules.{Rules}
 use Rattle.ql_machine.specs.Views.{Applied}
-use Rattle.ql_machine.specs.Changes.{IsGone, IsInFlight, message_of, next_message, package_to_others, received_by, repeated, spent, without}
+use Rattle.ql_machine.specs.Changes.{IsGone, IsInFlight, after_join, message_of, next_message, next_replica, package_to_others, received_by, repeated, spent, without}
 use Rattle.ql_machine.specs.Calls.{HasNoneOpen, HasOpen, IsCall}
 use Rattle.ql_machine.specs.Deliveries.{IsDelivery}
+
+-- an effect is of a strong operation
+abbrev pub IsOfStrong : (OpId → Level) → List Effect → ℕ → Type 0
+IsOfStrong level x a = (e : Effect) × (effect_at x a ≡ Some e) × (level e.op ≡ Strong)
+
+-- an effect is of a strong operation, or one of these needs it, directly or through others
+abbrev pub IsUnderStrong : Rules → Machine → ℕ → Type 0
+IsUnderStrong rules s b = (a : ℕ) × IsOfStrong rules.level s.effects a × Reaches (NeedsNow s.effects s.open_txns) a b
 
 -- the transaction that begins; begun transactions are numbered in order
 abbrev pub begun_txn : Machine → SessId → DeclId → List ℕ → List ℕ → OpenTxn
@@ -90,3 +103,9 @@ pub data IsStep (rules : Rules) (s : Machine) : Event → Machine → Reply → 
   splits : (groups : List ℕ) → IsStep rules s (Partition groups) (record s { groups = groups }) Split
   -- heal: there is one group
   heals : IsStep rules s Heal (record s { groups = replicate (replicas s) 0 }) Healed
+  -- a copy joins: the new replica has received what the other one has
+  joins_copy : (near : ReplicaId) → near.0 < replicas s
+      → IsStep rules s (Join near true) (after_join s near (received_at s.received near.0)) (Joined (next_replica s))
+  -- a bare replica joins: it has received the strong effects and all that they need, and nothing else
+  joins_bare : (near : ReplicaId) (ids : List ℕ) → near.0 < replicas s → AreThose (IsUnderStrong rules s) ids
+      → IsStep rules s (Join near false) (after_join s near ids) (Joined (next_replica s))

@@ -41,4 +41,7 @@ pub enum Event {
     Partition(Groups),
     /// The network is whole again.
     Heal,
+    /// A replica joins in the group of another one: as a copy of it, or bare, which is with the
+    /// effects of strong operations and all that they need.
+    Join { near: ReplicaId, copy: bool },
 }

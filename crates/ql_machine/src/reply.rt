@@ -31,6 +31,8 @@ pub enum Reply {
     Split,
     /// The network is whole.
     Healed,
+    /// The replica of this number is there.
+    Joined(ReplicaId),
     /// The message of this number is in flight.
     Sent(MsgId),
     /// The event isn't allowed.

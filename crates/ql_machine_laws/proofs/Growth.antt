@@ -7,21 +7,19 @@ use Rattle.ql_base.specs.IdLists.{has_id}
 use Rattle.ql_base.specs.declared.ids.ObjId.{ObjId}
 use Rattle.ql_base.specs.declared.ids.OpId.{OpId}
 use Rattle.ql_exec.specs.declared.effect.Effect.{Effect}
-use Rattle.ql_exec.specs.declared.effect.Member.TheVariants.{Alone}
 use Rattle.ql_exec.specs.Effects.{effect_at}
 use Rattle.ql_exec.specs.Folding.{in_order, seen_in_order}
 use Rattle.ql_exec.proofs.Finding.{cases_pushed, effect_at-append, effect_at-last}
-use Rattle.ql_levels.specs.declared.level.Level.TheVariants.{Strong}
 use Rattle.ql_needs.specs.Closed.{Has}
 use Rattle.ql_machine.specs.declared.event.Event.{Event}
 use Rattle.ql_machine.specs.declared.event.Event.TheVariants as event
 use Rattle.ql_machine.specs.declared.reply.Reply.{Reply}
 use Rattle.ql_machine.specs.State.{Machine, empty}
 use Rattle.ql_machine.specs.Rules.{Call, Rules}
-use Rattle.ql_machine.specs.Changes.{effect_made, member_of}
+use Rattle.ql_machine.specs.Changes.{effect_made}
 use Rattle.ql_machine.specs.Calls.{IsCall, MayAnswer, blocked, held, makes, makes_own, makes_strong, unavailable, undeclared, unused}
 use Rattle.ql_machine.specs.Deliveries.{IsDelivery, again, applies, cut, gone, waits}
-use Rattle.ql_machine.specs.Steps.{IsStep, absent, already_open, begins, calls, commits, delivers, heals, loses, none_open, none_to_lose, none_to_repeat, repeats, resends, splits}
+use Rattle.ql_machine.specs.Steps.{IsStep, absent, already_open, begins, calls, commits, delivers, heals, joins_bare, joins_copy, loses, none_open, none_to_lose, none_to_repeat, repeats, resends, splits}
 use Rattle.ql_machine.specs.Runs.{IsRun, Leads, step, stop}
 use Rattle.ql_machine_laws.specs.Kept.{Keeps}
 use Rattle.ql_machine_laws.specs.Promised.{asks}
@@ -66,6 +64,8 @@ grows rules s _ _ _ (absent a sender receiver lacks) = stays _
 grows rules s _ _ _ (resends a sender receiver ids has are) = stays _
 grows rules s _ _ _ (splits groups) = stays _
 grows rules s _ _ _ heals = stays _
+grows rules s _ _ _ (joins_copy near less) = stays _
+grows rules s _ _ _ (joins_bare near ids less are) = stays _
 
 -- ---- what holds of every call
 
@@ -139,29 +139,3 @@ answered-leads rules start _ _ _ _ (step s e next reply events replies last is l
 pub answers-hold : (rules : Rules) (n : ℕ) (events : List Event) (replies : List Reply) (last : Machine) → IsRun rules n events replies last
     → (a : ℕ) (e : Effect) → effect_at last.effects a ≡ Some e → rules.answer e.op e.args (seen_in_order last.effects e.seen) ≡ record { answer = e.answer; payload = e.payload }
 answers-hold rules n events replies last run = answered-leads rules n (empty n) events replies last run (keeps-empty rules.promises n) (λ a e at. absurd (nothing-there a e at))
-
--- ---- strong effects
-
--- a strong effect is in no transaction
-abbrev AreAlone : Rules → List Effect → Type 0
-AreAlone rules x = (a : ℕ) (e : Effect) → effect_at x a ≡ Some e → rules.level e.op ≡ Strong → e.member ≡ Alone
-
-alone-grown : (rules : Rules) (start : ℕ) (s : Machine) → Keeps rules.promises start s → (e : Event) (y : List Effect) → Grows rules s e y → AreAlone rules s.effects → AreAlone rules y
-alone-grown rules start s keeps _ _ (stays e) alone = alone
-alone-grown rules start s keeps _ _ (gains c seen may) alone = λ a f at level. elim (cases_pushed s.effects (effect_made rules s c seen) f a at) [
-  | inl old ↦ alone a f old.1 level
-  | inr new ↦
-      let is_made = made rules start s c seen keeps may in
-      let none = (is_made.if_strong (ap (λ (g : Effect). rules.level g.op) (sym new.1) ∙ level)).none_open in
-      ap (λ (g : Effect). g.member) new.1 ∙ is_made.joined ∙ ap member_of none
-]
-
-alone-leads : (rules : Rules) (start : ℕ) (s : Machine) (events : List Event) (replies : List Reply) (last : Machine) → Leads rules s events replies last → Keeps rules.promises start s
-    → AreAlone rules s.effects → AreAlone rules last.effects
-alone-leads rules start _ _ _ _ (stop s) keeps alone = alone
-alone-leads rules start _ _ _ _ (step s e next reply events replies last is later) keeps alone =
-    alone-leads rules start next events replies last later (keeps-step rules start s keeps e next reply is) (alone-grown rules start s keeps e next.effects (grows rules s e next reply is) alone)
-
-pub strong-alone : (rules : Rules) (n : ℕ) (events : List Event) (replies : List Reply) (last : Machine) → IsRun rules n events replies last
-    → (a : ℕ) (e : Effect) → effect_at last.effects a ≡ Some e → rules.level e.op ≡ Strong → e.member ≡ Alone
-strong-alone rules n events replies last run = alone-leads rules n (empty n) events replies last run (keeps-empty rules.promises n) (λ a e at. absurd (nothing-there a e at))

@@ -31,7 +31,7 @@ use Rattle.ql_machine.specs.Views.{Applied}
 use Rattle.ql_machine.specs.Changes.{effect_made, is_sent, member_of, message_of, package_to_others, received_by, received_by_all, recounted, to_others, without}
 use Rattle.ql_machine.specs.Calls.{HasNoneOpen, HasOpen, IsCall, MayAnswer, after_own, after_plain, after_strong, blocked, held, makes, makes_own, makes_strong, unavailable, undeclared, unused}
 use Rattle.ql_machine.specs.Deliveries.{IsDelivery, after_receipt, again, applies, cut, gone, waits}
-use Rattle.ql_machine.specs.Steps.{IsStep, absent, after_begin, after_commit, already_open, begins, begun_txn, calls, commits, delivers, heals, loses, none_open, none_to_lose, none_to_repeat, repeats, resends, splits}
+use Rattle.ql_machine.specs.Steps.{IsStep, absent, after_begin, after_commit, already_open, begins, begun_txn, calls, commits, delivers, heals, joins_bare, joins_copy, loses, none_open, none_to_lose, none_to_repeat, repeats, resends, splits}
 use Rattle.ql_machine.specs.Runs.{Leads, step, stop}
 use Rattle.ql_machine_laws.specs.Kept.{AreDone, AreWholeTxns, IsDone, IsOpen, IsParcel, IsSound, Keeps}
 use Rattle.ql_machine_laws.proofs.Lists.{all-kept, all-length, all-new, each-at, each-others, each-package, received-kept, received-length, received-new, sent-kept, sent-new, sent-others, sent-package, sent-recounted, without-cases}
@@ -42,6 +42,7 @@ use Rattle.ql_machine_laws.proofs.StoredLaws.{Stays, spread-to, stays-begin, sta
 use Rattle.ql_machine_laws.proofs.StrongLaws.{strong-begin, strong-push, strong-receives, strong-stays}
 use Rattle.ql_machine_laws.proofs.TxnLaws.{inside-along, together, txns-see-begin, txns-see-commit, txns-see-push}
 use Rattle.ql_machine_laws.proofs.Answering.{made}
+use Rattle.ql_machine_laws.proofs.JoinLaws.{keeps-bare, keeps-copy}
 
 only-one : (n a : ℕ) → Has (n ∷ []) a → n ≡ a
 only-one n a has = elim (or_cases (nat_eq n a) false has) [
@@ -434,6 +435,8 @@ keeps-step rules start s keeps _ _ _ (absent a sender receiver unknown) = keeps
 keeps-step rules start s keeps _ _ _ (resends a sender receiver ids has are) = keeps-resend rules.promises start s keeps a sender receiver ids has are
 keeps-step rules start s keeps _ _ _ (splits groups) = keeps-groups rules.promises start s groups keeps
 keeps-step rules start s keeps _ _ _ heals = keeps-groups rules.promises start s (replicate (replicas s) 0) keeps
+keeps-step rules start s keeps _ _ _ (joins_copy near less) = keeps-copy rules.promises start s keeps near less
+keeps-step rules start s keeps _ _ _ (joins_bare near ids less are) = keeps-bare rules start s keeps near ids less are
 
 pub keeps-leads : (rules : Rules) (start : ℕ) (s : Machine) (events : List Event) (replies : List Reply) (last : Machine) → Keeps rules.promises start s → Leads rules s events replies last → Keeps rules.promises start last
 keeps-leads rules start _ _ _ _ keeps (stop s) = keeps
@@ -499,6 +502,7 @@ keeps-empty promises n =
       strong = record {
         applied = λ a e is r less. absurd (nothing-there a e is.0);
         snapshot = λ a e is session t now. absurd (none_at t now);
+        alone = λ a e is. absurd (nothing-there a e is.0);
         sees = λ a b e is less same. absurd (nothing-there a e is.0);
         seen = λ a b e is less same. absurd (nothing-there a e is.0);
       };

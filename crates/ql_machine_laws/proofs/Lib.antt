@@ -6,6 +6,7 @@ pub mod StoredLaws
 pub mod StrongLaws
 pub mod TxnLaws
 pub mod Answering
+pub mod JoinLaws
 pub mod Keeping
 pub mod Formulas
 pub mod Runs

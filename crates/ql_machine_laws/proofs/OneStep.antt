@@ -23,10 +23,10 @@ use Rattle.ql_machine.specs.Rules.{Call, Rules}
 use Rattle.ql_machine.specs.Sets.{AreThose, IsLeast}
 use Rattle.ql_machine.specs.Views.{Applied, InView}
 use Rattle.ql_machine.specs.Blocking.{IsMissing, MissingInTxn, NoneMissing, NoneMissingInTxn}
-use Rattle.ql_machine.specs.Changes.{IsGone, IsInFlight, message_of, repeated, spent}
+use Rattle.ql_machine.specs.Changes.{IsGone, IsInFlight, after_join, message_of, repeated, spent}
 use Rattle.ql_machine.specs.Calls.{HasNoneOpen, HasOpen, IsAllowed, IsCall, IsConnected, IsFree, IsHeldBy, IsOutside, MayAnswer, MayCall, after_own, after_plain, after_strong, blocked, held, makes, makes_own, makes_strong, unavailable, undeclared, unused}
 use Rattle.ql_machine.specs.Deliveries.{IsAwaited, IsDelivery, IsGained, IsKnown, IsNew, Passes, after_copy, after_receipt, again, applies, cut, gone, waits}
-use Rattle.ql_machine.specs.Steps.{IsStep, absent, after_begin, after_commit, already_open, begins, calls, commits, delivers, heals, loses, none_open, none_to_lose, none_to_repeat, repeats, resends, splits}
+use Rattle.ql_machine.specs.Steps.{IsStep, IsUnderStrong, absent, after_begin, after_commit, already_open, begins, calls, commits, delivers, heals, joins_bare, joins_copy, loses, none_open, none_to_lose, none_to_repeat, repeats, resends, splits}
 
 -- ---- sets and least ids
 
@@ -262,3 +262,5 @@ module _ (rules : Rules) (s : Machine) where
       (ap (λ (l : List ℕ). record s { messages = s.messages ++ message_of sender receiver l ∷ [] }) (same-those (λ b. sametxn s.effects a.0 b ≡ true) ids others are are_too), refl)
   step-once _ _ _ (splits groups) _ _ (splits _) = (refl, refl)
   step-once _ _ _ heals _ _ heals = (refl, refl)
+  step-once _ _ _ (joins_copy near less) _ _ (joins_copy _ less_too) = (refl, refl)
+  step-once _ _ _ (joins_bare near ids less are) _ _ (joins_bare _ others less_too are_too) = (ap (after_join s near) (same-those (IsUnderStrong rules s) ids others are are_too), refl)

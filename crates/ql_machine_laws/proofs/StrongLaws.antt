@@ -16,6 +16,7 @@ use Rattle.ql_needs.proofs.ClosedLaws.{closed-larger}
 use Rattle.ql_machine.specs.declared.open_txn.OpenTxn.{OpenTxn}
 use Rattle.ql_machine.specs.State.{NeedsNow, received_at}
 use Rattle.ql_machine.specs.Rules.{Promises}
+use Rattle.ql_machine.specs.Changes.{member_of}
 use Rattle.ql_machine_laws.specs.Kept.{AreDone, IsOpen, StrongKept, TxnsKept}
 use Rattle.ql_machine_laws.proofs.Lists.{open-cases}
 use Rattle.ql_machine_laws.proofs.Pushed.{at-longer, both-shorter, object-found, vis-longer, vis-new}
@@ -33,6 +34,7 @@ strong-receives level x o received others holds long kept = record {
       closed-larger (NeedsNow x o) (Has (received_at received r)) (Has (received_at others r)) (holds r) a
       (kept.applied a e is r (omega (arith, less, long)));
   snapshot = kept.snapshot;
+  alone = kept.alone;
   sees = kept.sees;
   seen = kept.seen;
 }
@@ -43,6 +45,7 @@ pub strong-stays : (level : OpId → Level) (x : List Effect) (o p : List OpenTx
 strong-stays level x o p received stays opens done kept = record {
   applied = λ a e is r less. closed-stays x x o p stays (Has (received_at received r)) (Has (received_at received r)) (done r) (λ b has. has) a (kept.applied a e is r less);
   snapshot = λ a e is session t open_t declares. kept.snapshot a e is session t (opens session t open_t) declares;
+  alone = kept.alone;
   sees = kept.sees;
   seen = kept.seen;
 }
@@ -56,6 +59,7 @@ strong-begin level x o t received stays done r less shows kept = record {
     | inl old ↦ kept.snapshot a e is session u old declares
     | inr new ↦ subst (λ (v : OpenTxn). Has v.snapshot a) new.1 (shows a (kept.applied a e is r less))
   ];
+  alone = kept.alone;
   sees = kept.sees;
   seen = kept.seen;
 }
@@ -86,6 +90,12 @@ module _ (promises : Promises) (x : List Effect) (o : List OpenTxn) (begun : ℕ
       | inr more ↦
           let alone = made.if_strong (ap (λ (g : Effect). promises.level g.op) (sym more.1) ∙ is.1) in
           absurd (both_ways (has_id t.objects e.object.0) (alone.free session t open_t) (subst (λ (g : Effect). has_id t.objects g.object.0 ≡ true) more.1 declares))
+    ];
+    alone = λ a f is. elim (cases_pushed x e f a is.0) [
+      | inl old ↦ kept.alone a f (old.1, is.1)
+      | inr more ↦
+          let alone = made.if_strong (ap (λ (g : Effect). promises.level g.op) (sym more.1) ∙ is.1) in
+          ap (λ (g : Effect). g.member) more.1 ∙ made.joined ∙ ap member_of alone.none_open
     ];
     sees = λ a b f is less same. elim (cases_pushed x e f a is.0) [
       | inl old ↦

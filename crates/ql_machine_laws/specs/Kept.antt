@@ -122,6 +122,8 @@ pub record StrongKept (level : OpId → Level) (x : List Effect) (open_txns : Li
   pub applied : (a : ℕ) (e : Effect) → IsStrong level x a e → (r : ℕ) → r < length received → Closed (NeedsNow x open_txns) (Has (received_at received r)) a
   -- the snapshots of open transactions that declare its object have it
   pub snapshot : (a : ℕ) (e : Effect) → IsStrong level x a e → (session : SessId) (t : OpenTxn) → IsOpen open_txns session t → has_id t.objects e.object.0 ≡ true → Has t.snapshot a
+  -- it is in no transaction
+  pub alone : (a : ℕ) (e : Effect) → IsStrong level x a e → e.member ≡ Alone
   -- it sees all before it on its object, and all after it see it
   pub sees : (a b : ℕ) (e : Effect) → IsStrong level x a e → b < a → sameobj x b a ≡ true → vis x b a ≡ true
   pub seen : (a b : ℕ) (e : Effect) → IsStrong level x a e → a < b → sameobj x a b ≡ true → vis x a b ≡ true

@@ -10,9 +10,10 @@ ghost use Rattle.ql_levels.specs.Formulas.{formula_of, txn_formula_of};
 ghost use Rattle.ql_levels.specs.declared.level.Level.TheVariants.{Eventual, Strong};
 ghost use Rattle.ql_machine.specs.declared.event.Event.{Event};
 ghost use Rattle.ql_machine.specs.declared.reply.Reply.{Reply};
-ghost use Rattle.ql_machine.specs.State.{Machine};
+ghost use Rattle.ql_machine.specs.State.{Machine, replicas};
 ghost use Rattle.ql_machine.specs.Rules.{Rules};
 ghost use Rattle.ql_machine.specs.Runs.{IsRun};
+ghost use Rattle.ql_machine.specs.Views.{Applied};
 ghost use Rattle.ql_machine_laws.specs.Promised.{IsUnderName};
 
 /// The law of levels of operations: after every list of events the effects are an execution
@@ -35,6 +36,13 @@ pub fn strong_effects_are_ordered()
         → (a b : ℕ) (e : Effect) → effect_at last.effects a ≡ Some e → rules.level e.op ≡ Strong → a < b → sameobj last.effects a b ≡ true → vis last.effects a b ≡ true }
     ensures alone { (rules : Rules) (n : ℕ) (events : List Event) (replies : List Reply) (last : Machine) → IsRun rules n events replies last
         → (a : ℕ) (e : Effect) → effect_at last.effects a ≡ Some e → rules.level e.op ≡ Strong → e.member ≡ Alone }
+{}
+
+/// The law of where strong effects are: each replica that there is, one that joined too, has applied every
+/// strong effect.
+pub fn strong_effects_are_everywhere()
+    ensures { (rules : Rules) (n : ℕ) (events : List Event) (replies : List Reply) (last : Machine) → IsRun rules n events replies last
+        → (a : ℕ) (e : Effect) → effect_at last.effects a ≡ Some e → rules.level e.op ≡ Strong → (r : ℕ) → r < replicas last → Applied last r a }
 {}
 
 /// The law of transactions: each begun transaction meets the formula of its declared name's level, one

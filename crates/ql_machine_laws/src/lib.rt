@@ -17,6 +17,7 @@ pub use effects::calls_make_effects;
 pub use example::example_runs;
 pub use kept::steps_keep_all;
 pub use levels::{
-    effects_meet_their_levels, strong_effects_are_ordered, transactions_meet_their_levels,
+    effects_meet_their_levels, strong_effects_are_everywhere, strong_effects_are_ordered,
+    transactions_meet_their_levels,
 };
 pub use packages::{packages_are_whole, replicas_judge_alone, strong_calls_give_all};

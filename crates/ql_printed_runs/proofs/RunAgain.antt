@@ -160,6 +160,7 @@ module _ (p : Program) (objects : List (List ℕ)) (levels : LevelLists) (replie
   reply_stays reply.Lost = (word (codes "lost") refl, tt)
   reply_stays reply.Split = (word (codes "split") refl, tt)
   reply_stays reply.Healed = (word (codes "healed") refl, tt)
+  reply_stays (reply.Joined r) = (word (codes "joined") refl, (decimal_stay r.0, tt))
   reply_stays (reply.Sent m) = (word (codes "sent") refl, (decimal_stay m.0, tt))
   reply_stays (reply.Refused why) = (word (codes "refused") refl, (decimal_stay (why_number why), tt))
 

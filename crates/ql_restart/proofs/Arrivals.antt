@@ -11,7 +11,7 @@ use Rattle.ql_machine.specs.Changes.{received_by_all}
 use Rattle.ql_machine.specs.Deliveries.{IsDelivery, gone, cut, again, waits, applies}
 use Rattle.ql_machine.specs.Rules.{Call, Rules}
 use Rattle.ql_machine.specs.State.{Machine, received_at}
-use Rattle.ql_machine.specs.Steps.{IsStep, calls, already_open, begins, none_open, commits, delivers, none_to_repeat, repeats, none_to_lose, loses, absent, resends, splits, heals}
+use Rattle.ql_machine.specs.Steps.{IsStep, calls, already_open, begins, none_open, commits, delivers, none_to_repeat, repeats, none_to_lose, loses, absent, resends, splits, heals, joins_copy, joins_bare}
 use Rattle.ql_exec.specs.Execution.{next_id}
 use Rattle.ql_machine_laws.specs.Kept.{Keeps}
 use Rattle.ql_machine_laws.proofs.Keeping.{keeps-empty, keeps-step}
@@ -43,6 +43,12 @@ holds-delivery s m _ _ (again message is passes known) r a has = has
 holds-delivery s m _ _ (waits message b new least) r a has = received-kept s.received message.receiver.0 message.carried r a has
 holds-delivery s m _ _ (applies message ids new all those) r a has = received-kept s.received message.receiver.0 message.carried r a has
 
+-- where one more list of what was received is at the end
+joined-kept : (received : List (List ℕ)) (ids : List ℕ) (r a : ℕ) → Has (received_at received r) a → Has (received_at (received ++ ids ∷ []) r) a
+joined-kept [] ids r a has = absurd (false≢true has)
+joined-kept (had ∷ received) ids zero a has = has
+joined-kept (had ∷ received) ids (suc r) a has = joined-kept received ids r a has
+
 holds-on : (rules : Rules) (s : Machine) (e : Event) (t : Machine) (reply : Reply) → IsStep rules s e t reply → (r a : ℕ) → Holds s r a → Holds t r a
 holds-on rules s _ t reply (calls session replica object op args _ _ is) r a has = holds-call rules s _ t reply is r a has
 holds-on rules s _ _ _ (already_open session replica decl objects txn now_open) r a has = has
@@ -58,6 +64,8 @@ holds-on rules s _ _ _ (absent b sender receiver none) r a has = has
 holds-on rules s _ _ _ (resends b sender receiver ids there those) r a has = has
 holds-on rules s _ _ _ (splits groups) r a has = has
 holds-on rules s _ _ _ heals r a has = has
+holds-on rules s _ _ _ (joins_copy near inside) r a has = joined-kept s.received (received_at s.received near.0) r a has
+holds-on rules s _ _ _ (joins_bare near ids inside are) r a has = joined-kept s.received ids r a has
 
 -- ---- lists in which no id is twice
 

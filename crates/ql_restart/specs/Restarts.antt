@@ -10,6 +10,7 @@ use Rattle.ql_lang.specs.declared.program.Program.{Program}
 use Rattle.ql_levels.specs.Lists.{LevelLists}
 use Rattle.ql_lines.specs.Lines.{ahead_from}
 use Rattle.ql_lines.specs.Texts.{behind}
+use Rattle.ql_machine.specs.Runs.{replicas_behind}
 use Rattle.ql_machine.specs.Sets.{AreThose}
 use Rattle.ql_machine.specs.State.{Machine, NeedsNow}
 use Rattle.ql_needs.specs.Closed.{Closed, Has}
@@ -41,18 +42,18 @@ pub record TellsRestart (source file : List ℕ) (replica cut : ℕ) (text : Lis
   pub is_source : IsSourceOf source program
   pub is_schedule : IsScheduleFile program (ahead_from 1 file) schedule
   pub are_least : AreLevelsOf program levels
-  pub is_replica : replica < schedule.replicas
+  pub is_replica : replica < replicas_behind schedule.replicas schedule.events
   pub run : Watches (rules_of program levels) schedule.replicas replica schedule.events last arrivals
   pub printed : IsRestartText last arrivals cut text
 
--- The program is accepted, and the schedule doesn't have the replica.
+-- The program is accepted, and the replica isn't there behind the events of the schedule.
 pub record TellsNoReplica (source file : List ℕ) (replica : ℕ) (text : List ℕ) : Type 0 where
   pub program : Program
   pub schedule : Schedule
   pub is_source : IsSourceOf source program
   pub is_schedule : IsScheduleFile program (ahead_from 1 file) schedule
   pub accepted : IsAccepted program
-  pub is_none : schedule.replicas ≤ replica
+  pub is_none : replicas_behind schedule.replicas schedule.events ≤ replica
   pub printed : text ≡ codes "no replica " ++ decimal replica ++ codes "\n"
 
 abbrev pub RestartSays : List ℕ → List ℕ → ℕ → ℕ → Answer → List ℕ → Type 0

@@ -2,6 +2,7 @@ ghost use Rattle.std.specs.Prelude.{◌≡◌, ◌<◌, ◌≤◌, ◌^◌, ◌+
 ghost use Rattle.ql_commands.specs.Levels.{AreLevelsOf};
 ghost use Rattle.ql_commands.specs.Sources.{IsSourceOf};
 ghost use Rattle.ql_lines.specs.Lines.{ahead_from};
+ghost use Rattle.ql_machine.specs.Runs.{replicas_behind};
 ghost use Rattle.ql_schedule.specs.Files.{IsScheduleFile};
 ghost use Rattle.ql_schedule.specs.Guarantees.{IsSchedule};
 ghost use Rattle.ql_restart.specs.Restarts.{RestartSays, TellsRestart};
@@ -19,7 +20,7 @@ use std::alloc::Global;
 
 /// What a replica has after a run of a schedule at the least levels of a source's program, when it journals all that it
 /// receives on a disk that stops at the call of number `cut`, and is recovered; or what is wrong first: a fault of the source,
-/// one of the schedule, why the program has no such levels, or that the schedule doesn't have the replica.
+/// one of the schedule, why the program has no such levels, or that the replica isn't there at its end.
 pub fn restart_run(
     alloc: Global,
     source: &[u8],
@@ -43,7 +44,8 @@ pub fn restart_run(
         Ok(classified) => classified,
         Err(why) => return Ok((Answer::No, refusal(alloc, &typed, why)?)),
     };
-    if replica >= schedule.replicas {
+    let replicas = schedule.last_replicas();
+    if replica >= replicas {
         return Ok((Answer::No, no_replica(alloc, replica)?));
     }
     let text = text_of(
@@ -68,7 +70,7 @@ fn text_of(
 ) -> Result<Vec<u8>, NoMemory>
     requires levels { AreLevelsOf t.now.program levels.now }
     requires schedule { IsSchedule t.now.program schedule }
-    requires replica { replica.0 < schedule.replicas }
+    requires replica { replica.0 < replicas_behind schedule.replicas schedule.events }
     ensures { IfOk result (λ text. (source file : List ℕ) → IsSourceOf source t.now.program → IsScheduleFile t.now.program (ahead_from 1 file) schedule
         → TellsRestart source file replica.0 cut text.items) }
 {

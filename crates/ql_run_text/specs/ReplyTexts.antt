@@ -38,6 +38,7 @@ reply_fields x (reply.Applies ids) = codes "applies" ∷ map decimal ids
 reply_fields x reply.Lost = codes "lost" ∷ []
 reply_fields x reply.Split = codes "split" ∷ []
 reply_fields x reply.Healed = codes "healed" ∷ []
+reply_fields x (reply.Joined r) = codes "joined" ∷ decimal r.0 ∷ []
 reply_fields x (reply.Sent m) = codes "sent" ∷ decimal m.0 ∷ []
 reply_fields x (reply.Refused why) = codes "refused" ∷ decimal (why_number why) ∷ []
 

@@ -16,7 +16,7 @@ use Rattle.ql_exec.proofs.Finding.{cases_pushed}
 use Rattle.ql_headline.specs.Stores.{IsScheduleFor, is_of_type}
 use Rattle.ql_lang.specs.declared.program.Program.{Program}
 use Rattle.ql_machine.specs.declared.event.Event.{Event}
-use Rattle.ql_machine.specs.declared.event.Event.TheVariants.{Call, Begin, Commit, Deliver, Repeat, Lose, Resend, Partition, Heal}
+use Rattle.ql_machine.specs.declared.event.Event.TheVariants.{Call, Begin, Commit, Deliver, Repeat, Lose, Resend, Partition, Heal, Join}
 use Rattle.ql_machine.specs.declared.open_txn.OpenTxn.{OpenTxn}
 use Rattle.ql_machine.specs.declared.reply.Reply.{Reply}
 use Rattle.ql_machine.specs.declared.reply.Reply.TheVariants as reply
@@ -25,15 +25,15 @@ use Rattle.ql_machine.specs.Rules.{Call as Asked, Rules}
 use Rattle.ql_machine.specs.Changes.{effect_made, member_of}
 use Rattle.ql_machine.specs.Calls.{IsCall, blocked, held, makes, makes_own, makes_strong, unavailable, undeclared, unused}
 use Rattle.ql_machine.specs.Deliveries.{IsDelivery, again, applies, cut, gone, waits}
-use Rattle.ql_machine.specs.Steps.{IsStep, absent, already_open, begins, begun_txn, calls, commits, delivers, heals, loses, none_open, none_to_lose, none_to_repeat, repeats, resends, splits}
-use Rattle.ql_machine.specs.Runs.{IsRun, Leads, step, stop}
+use Rattle.ql_machine.specs.Steps.{IsStep, absent, already_open, begins, begun_txn, calls, commits, delivers, heals, joins_bare, joins_copy, loses, none_open, none_to_lose, none_to_repeat, repeats, resends, splits}
+use Rattle.ql_machine.specs.Runs.{IsRun, Leads, replicas_after, step, stop}
 use Rattle.ql_machine_laws.specs.Promised.{asks}
 use Rattle.ql_machine_laws.proofs.Keeping.{nothing-there}
 use Rattle.ql_machine_laws.proofs.Lists.{open-cases, without-cases}
 use Rattle.ql_run_text.specs.EffectTexts.{AreNamed, IsDeclared}
 use Rattle.ql_run_text.specs.ReplyTexts.{AreAnswered, IsAnswered}
 use Rattle.ql_runs.specs.Keeping.{FitsSchedule}
-use Rattle.ql_schedule.specs.Guarantees.{FitsEvent, IsSchedule}
+use Rattle.ql_schedule.specs.Guarantees.{AreFit, FitsEvent, IsSchedule}
 use Rattle.ql_schedule.specs.declared.schedule.Schedule.{Schedule}
 use Rattle.ql_typing.specs.Operations.{op_kinds}
 use Rattle.ql_typing.proofs.Flat.{length-kinds}
@@ -56,6 +56,7 @@ answered-later x y (reply.Applies ids) less h = tt
 answered-later x y reply.Lost less h = tt
 answered-later x y reply.Split less h = tt
 answered-later x y reply.Healed less h = tt
+answered-later x y (reply.Joined r) less h = tt
 answered-later x y (reply.Sent m) less h = tt
 answered-later x y (reply.Refused why) less h = tt
 
@@ -101,6 +102,8 @@ answers-step rules s _ _ _ (absent a sender receiver lacks) = (same s, tt)
 answers-step rules s _ _ _ (resends a sender receiver ids has are) = (same s, tt)
 answers-step rules s _ _ _ (splits groups) = (same s, tt)
 answers-step rules s _ _ _ heals = (same s, tt)
+answers-step rules s _ _ _ (joins_copy near less) = (same s, tt)
+answers-step rules s _ _ _ (joins_bare near ids less are) = (same s, tt)
 
 answers-leads : (rules : Rules) (s : Machine) (events : List Event) (replies : List Reply) (last : Machine) → Leads rules s events replies last
     → (length s.effects ≤ length last.effects) × AllByRecursion (IsAnswered last.effects) replies
@@ -177,6 +180,8 @@ module _ (p : Program) (rules : Rules) where
   declared-step s _ _ _ (resends a sender receiver ids has are) h all = record { open_ones = all.open_ones; members = all.members }
   declared-step s _ _ _ (splits groups) h all = record { open_ones = all.open_ones; members = all.members }
   declared-step s _ _ _ heals h all = record { open_ones = all.open_ones; members = all.members }
+  declared-step s _ _ _ (joins_copy near less) h all = record { open_ones = all.open_ones; members = all.members }
+  declared-step s _ _ _ (joins_bare near ids less are) h all = record { open_ones = all.open_ones; members = all.members }
 
   declared-leads : (s : Machine) (events : List Event) (replies : List Reply) (last : Machine) → Leads rules s events replies last → AllByRecursion Begins events → AllDeclared s → AllDeclared last
   declared-leads _ _ _ _ (stop s) h all = all
@@ -195,10 +200,11 @@ module _ (p : Program) (rules : Rules) where
   begins-fit n objects kinds (Resend e sender receiver) fits = tt
   begins-fit n objects kinds (Partition groups) fits = tt
   begins-fit n objects kinds Heal fits = tt
+  begins-fit n objects kinds (Join near copy) fits = tt
 
-  all-begin : (n objects : ℕ) (kinds : List TypeId) (events : List Event) → AllByRecursion (FitsEvent p n objects kinds) events → AllByRecursion Begins events
+  all-begin : (n objects : ℕ) (kinds : List TypeId) (events : List Event) → AreFit p objects kinds n events → AllByRecursion Begins events
   all-begin n objects kinds [] fit = tt
-  all-begin n objects kinds (e ∷ events) fit = (begins-fit n objects kinds e fit.0, all-begin n objects kinds events fit.1)
+  all-begin n objects kinds (e ∷ events) fit = (begins-fit n objects kinds e fit.0, all-begin (replicas_after n e) objects kinds events fit.1)
 
   -- every number in the effects of a schedule's run names something
   pub run-named : (s : Schedule) (replies : List Reply) (last : Machine) → IsSchedule p s → IsRun rules s.replicas s.events replies last
@@ -213,24 +219,25 @@ module _ (p : Program) (rules : Rules) where
 
 -- ---- calls of the type of their objects
 
-module _ (p : Program) (replicas objects : ℕ) (kinds : List TypeId) where
-  asked : (e : Event) → FitsEvent p replicas objects kinds e → asks (is_of_type p (map (λ (t : TypeId). t.0) kinds)) e ≡ true
-  asked (Call session replica object op args) fits =
+module _ (p : Program) (objects : ℕ) (kinds : List TypeId) where
+  asked : (replicas : ℕ) (e : Event) → FitsEvent p replicas objects kinds e → asks (is_of_type p (map (λ (t : TypeId). t.0) kinds)) e ≡ true
+  asked replicas (Call session replica object op args) fits =
       let count = length-kinds 0 p.types in
       let known : op.0 < length (op_kinds p.types) = (let less = fits.is_op in omega (arith, less, count)) in
       let found : slice_get (map (λ (t : TypeId). t.0) kinds) object.0 ≡ slice_get (op_kinds p.types) op.0 = slice_get-map (λ (t : TypeId). t.0) kinds object.0 ∙ fits.type in
       let type : slice_index (op_kinds p.types) op.0 ≡ slice_index (map (λ (t : TypeId). t.0) kinds) object.0 =
       sym (unwrap_or-slice_get (op_kinds p.types) op.0 0) ∙ ap (λ (o : Option ℕ). unwrap_or o 0) (sym found) ∙ unwrap_or-slice_get (map (λ (t : TypeId). t.0) kinds) object.0 0 in
       rw (lt-ltb op.0 (length (op_kinds p.types)) known, eq-eqb (slice_index (op_kinds p.types) op.0) (slice_index (map (λ (t : TypeId). t.0) kinds) object.0) type) refl
-  asked (Begin session replica decl ids) fits = refl
-  asked (Commit session replica) fits = refl
-  asked (Deliver m) fits = refl
-  asked (Repeat m) fits = refl
-  asked (Lose m) fits = refl
-  asked (Resend e sender receiver) fits = refl
-  asked (Partition groups) fits = refl
-  asked Heal fits = refl
+  asked replicas (Begin session replica decl ids) fits = refl
+  asked replicas (Commit session replica) fits = refl
+  asked replicas (Deliver m) fits = refl
+  asked replicas (Repeat m) fits = refl
+  asked replicas (Lose m) fits = refl
+  asked replicas (Resend e sender receiver) fits = refl
+  asked replicas (Partition groups) fits = refl
+  asked replicas Heal fits = refl
+  asked replicas (Join near copy) fits = refl
 
-  pub schedule-for : (events : List Event) → AllByRecursion (FitsEvent p replicas objects kinds) events → IsScheduleFor p (map (λ (t : TypeId). t.0) kinds) events
-  schedule-for [] fit = refl
-  schedule-for (e ∷ events) fit = rw (asked e fit.0, schedule-for events fit.1) refl
+  pub schedule-for : (replicas : ℕ) (events : List Event) → AreFit p objects kinds replicas events → IsScheduleFor p (map (λ (t : TypeId). t.0) kinds) events
+  schedule-for replicas [] fit = refl
+  schedule-for replicas (e ∷ events) fit = rw (asked replicas e fit.0, schedule-for (replicas_after replicas e) events fit.1) refl

@@ -1,7 +1,7 @@
 ghost use Rattle.std.specs.Prelude.{◌≡◌, All, length, IfOk};
 ghost use Rattle.ql_commands.specs.Levels.{AreLevelsOf};
 ghost use Rattle.ql_headline.specs.Stores.{rules_of};
-ghost use Rattle.ql_machine.specs.Runs.{IsRun};
+ghost use Rattle.ql_machine.specs.Runs.{IsRun, replicas_behind};
 ghost use Rattle.ql_run_text.specs.EffectTexts.{AreNamed};
 ghost use Rattle.ql_run_text.specs.ReplyTexts.{AreAnswered};
 ghost use Rattle.ql_runs.specs.Keeping.{FitsSchedule};
@@ -29,7 +29,7 @@ pub fn sound_run(
     ensures run { IfOk result (λ run. IsRun (rules_of t.now.program levels.now) schedule.replicas schedule.events run.replies.items run.store.machine) }
     ensures sound { IfOk result (λ run. IsSound t.now.program run.store.machine.effects) }
     ensures objects { IfOk result (λ run. run.objects ≡ schedule.objects) }
-    ensures replicas { IfOk result (λ run. length run.store.machine.received ≡ schedule.replicas) }
+    ensures replicas { IfOk result (λ run. length run.store.machine.received ≡ replicas_behind schedule.replicas schedule.events) }
     ensures fits { IfOk result (λ run. All (FitsSchedule t.now.program (length schedule.objects) schedule.kinds) run.store.machine.effects) }
 
     // What a text of the run needs: numbers that name something, and replies that speak of its effects.

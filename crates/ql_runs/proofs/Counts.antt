@@ -15,7 +15,7 @@ use Rattle.ql_machine.specs.Rules.{Call, Rules}
 use Rattle.ql_machine.specs.Changes.{effect_made, message_of, package_to_others, recounted, to_others}
 use Rattle.ql_machine.specs.Calls.{IsCall, blocked, held, makes, makes_own, makes_strong, unavailable, undeclared, unused}
 use Rattle.ql_machine.specs.Deliveries.{IsDelivery, again, applies, cut, gone, waits}
-use Rattle.ql_machine.specs.Steps.{IsStep, absent, already_open, begins, calls, commits, delivers, heals, loses, none_open, none_to_lose, none_to_repeat, repeats, resends, splits}
+use Rattle.ql_machine.specs.Steps.{IsStep, absent, already_open, begins, calls, commits, delivers, heals, joins_bare, joins_copy, loses, none_open, none_to_lose, none_to_repeat, repeats, resends, splits}
 
 -- after so many events at 16 replicas at most
 pub record IsSmall (events : ℕ) (s : Machine) : Type 0 where
@@ -150,6 +150,8 @@ module _ (k : ℕ) (s : Machine) (small : IsSmall k s) (few : replicas s ≤ 16)
       record { effects = later.effects; messages = now.0; begun = later.begun; copies = now.1 }
   small-step rules _ _ _ (splits groups) = record { effects = later.effects; messages = later.messages; begun = later.begun; copies = later.copies }
   small-step rules _ _ _ heals = record { effects = later.effects; messages = later.messages; begun = later.begun; copies = later.copies }
+  small-step rules _ _ _ (joins_copy near less) = record { effects = later.effects; messages = later.messages; begun = later.begun; copies = later.copies }
+  small-step rules _ _ _ (joins_bare near ids less are) = record { effects = later.effects; messages = later.messages; begun = later.begun; copies = later.copies }
 
 pub small-empty : (n : ℕ) → IsSmall 0 (empty n)
 small-empty n = record { effects = omega arith; messages = omega arith; begun = omega arith; copies = All-nil (λ (one : Message). one.copies ≤ 1) }

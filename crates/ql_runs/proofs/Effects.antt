@@ -30,7 +30,7 @@ use Rattle.ql_machine.specs.Rules.{Call, Rules}
 use Rattle.ql_machine.specs.Changes.{effect_made, member_of}
 use Rattle.ql_machine.specs.Calls.{IsCall, MayAnswer, blocked, held, makes, makes_own, makes_strong, unavailable, undeclared, unused}
 use Rattle.ql_machine.specs.Deliveries.{IsDelivery, again, applies, cut, gone, waits}
-use Rattle.ql_machine.specs.Steps.{IsStep, absent, already_open, begins, calls, commits, delivers, heals, loses, none_open, none_to_lose, none_to_repeat, repeats, resends, splits}
+use Rattle.ql_machine.specs.Steps.{IsStep, absent, already_open, begins, calls, commits, delivers, heals, joins_bare, joins_copy, loses, none_open, none_to_lose, none_to_repeat, repeats, resends, splits}
 use Rattle.ql_needs.specs.Closed.{Has}
 use Rattle.ql_schedule.specs.Guarantees.{FitsCall, FitsEvent}
 use Rattle.ql_typing.specs.Operations.{all_ops, op_kinds}
@@ -128,6 +128,8 @@ makes-step rules s _ _ _ (absent a sender receiver lacks) = nothing _
 makes-step rules s _ _ _ (resends a sender receiver ids has are) = nothing _
 makes-step rules s _ _ _ (splits groups) = nothing _
 makes-step rules s _ _ _ heals = nothing _
+makes-step rules s _ _ _ (joins_copy near less) = nothing _
+makes-step rules s _ _ _ (joins_bare near ids less are) = nothing _
 
 -- an effect that a reply names is there, and stays there
 made-call : (rules : Rules) (s : Machine) (c : Call) (after : Machine) (r : Reply) → IsCall rules s c after r → IsMade (length after.effects) r
@@ -162,6 +164,8 @@ made-step rules s _ _ _ (absent a sender receiver lacks) = tt
 made-step rules s _ _ _ (resends a sender receiver ids has are) = tt
 made-step rules s _ _ _ (splits groups) = tt
 made-step rules s _ _ _ heals = tt
+made-step rules s _ _ _ (joins_copy near less) = tt
+made-step rules s _ _ _ (joins_bare near ids less are) = tt
 
 more-made : (rules : Rules) (s : Machine) (e : Event) (y : List Effect) → Makes rules s e y → length s.effects ≤ length y
 more-made rules s _ _ (nothing e) = omega arith

@@ -1,25 +1,25 @@
 -- A store on its way through the events of a schedule.
 use Rattle.std.proofs.Common.{◌≡◌, ◌∷◌, ◌++◌, [], ◌<◌, ◌≤◌, ℕ, suc, List, All, Some, None, length, refl, ap, sym, subst, ◌∙◌, arith, length-append}
-use Rattle.std.specs.List.{AllByRecursion}
-use Rattle.std.proofs.lemmas.List.{append-nil, append_assoc, length-replicate}
+use Rattle.std.proofs.lemmas.List.{append-nil, append_assoc}
 use Rattle.std.proofs.lemmas.List.Elements.{All-nil}
 use Rattle.ql_eval.specs.Able.{AnswersFit, IsAble}
 use Rattle.ql_eval.specs.Folds.{answered_of}
 use Rattle.ql_lang.specs.declared.program.Program.{Program}
 use Rattle.ql_levels.specs.Lists.{LevelLists}
 use Rattle.ql_machine.specs.declared.event.Event.{Event}
-use Rattle.ql_machine.specs.declared.event.Event.TheVariants.{Call, Begin, Commit, Deliver, Repeat, Lose, Resend, Partition, Heal}
+use Rattle.ql_machine.specs.declared.event.Event.TheVariants.{Call, Begin, Commit, Deliver, Repeat, Lose, Resend, Partition, Heal, Join}
 use Rattle.ql_machine.specs.declared.message.Message.{Message}
 use Rattle.ql_machine.specs.declared.reply.Reply.{Reply}
 use Rattle.ql_machine.specs.State.{Machine, empty, replicas}
 use Rattle.ql_machine.specs.Rules.{Rules}
-use Rattle.ql_machine.specs.Runs.{IsRun, Leads, step, stop}
+use Rattle.ql_machine.specs.Runs.{IsRun, Leads, replicas_after, replicas_behind, step, stop}
+use Rattle.ql_machine.proofs.Counting.{behind-more}
 use Rattle.ql_machine.specs.Steps.{IsStep}
-use Rattle.ql_schedule.specs.Guarantees.{FitsEvent, IsSchedule}
+use Rattle.ql_schedule.specs.Guarantees.{AreFit, FitsEvent, IsSchedule}
 use Rattle.ql_schedule.specs.declared.schedule.Schedule.{Schedule}
 use Rattle.ql_store.specs.Conditions.{HasRoom, IsAnswerable}
 use Rattle.ql_store.specs.Events.{IsInRange}
-use Rattle.ql_store.proofs.Going.{Goes, goes-step}
+use Rattle.ql_store.proofs.Going.{Goes, goes-empty, goes-step}
 use Rattle.ql_store.specs.Levels.{HasLevelOfEach, promises_of, uses_of}
 use Rattle.ql_store.specs.State.{AreDeclared}
 use Rattle.ql_runs.specs.Keeping.{FitsSchedule, IsMade}
@@ -49,10 +49,13 @@ pub record IsGoing (p : Program) (levels : LevelLists) (schedule : Schedule) (le
   pub same : held ≡ levels
   pub leads : (rules : Rules) → AreRulesOf p levels rules → Leads rules (empty schedule.replicas) done replies s
   pub small : IsSmall (length done) s
-  pub goes : Goes schedule.replicas (length levels.txns) s
+  -- how many replicas there are now
+  pub count : ℕ
+  pub counted : count ≡ replicas_behind schedule.replicas done
+  pub goes : Goes count levels s
   pub fits : All (FitsSchedule p (length schedule.objects) schedule.kinds) s.effects
   pub answered : All (IsMade (length s.effects)) replies
-  pub left_fit : AllByRecursion (FitsEvent p schedule.replicas (length schedule.objects) schedule.kinds) left
+  pub left_fit : AreFit p (length schedule.objects) schedule.kinds count left
 
 module _ (p : Program) (levels : LevelLists) (schedule : Schedule) (each : HasLevelOfEach p levels) (is : IsSchedule p schedule) where
   pub going-starts : IsGoing p levels schedule schedule.events [] levels (empty schedule.replicas)
@@ -62,39 +65,38 @@ module _ (p : Program) (levels : LevelLists) (schedule : Schedule) (each : HasLe
     same = refl;
     leads = λ rules are. stop (empty schedule.replicas);
     small = small-empty schedule.replicas;
-    goes = record {
-      replicas = length-replicate {A = List ℕ} schedule.replicas [];
-      groups = length-replicate {A = ℕ} schedule.replicas 0;
-      receivers = All-nil (λ (message : Message). message.receiver.0 < schedule.replicas);
-      declared = λ session t now. (let never : None ≡ Some t = now in cc);
-    };
+    count = schedule.replicas;
+    counted = refl;
+    goes = goes-empty schedule.replicas levels is.few_replicas;
     fits = All-nil (FitsSchedule p (length schedule.objects) schedule.kinds);
     answered = All-nil (IsMade 0);
     left_fit = is.events;
   }
 
-  in-range : (e : Event) → FitsEvent p schedule.replicas (length schedule.objects) schedule.kinds e → IsInRange schedule.replicas levels e
-  in-range (Call session replica object op args) fits = let less = fits.is_op in let count = each.ops in (fits.caller.is_replica, omega (arith, less, count))
-  in-range (Begin session replica decl objects) fits = let less = fits.1 in let count = each.txns in (fits.0.is_replica, omega (arith, less, count))
-  in-range (Commit session replica) fits = fits.is_replica
-  in-range (Deliver m) fits = tt
-  in-range (Repeat m) fits = tt
-  in-range (Lose m) fits = tt
-  in-range (Resend a sender receiver) fits = fits
-  in-range (Partition groups) fits = fits
-  in-range Heal fits = tt
+  in-range : (n : ℕ) (e : Event) → FitsEvent p n (length schedule.objects) schedule.kinds e → IsInRange n levels e
+  in-range n (Call session replica object op args) fits = let less = fits.is_op in let count = each.ops in (fits.caller.is_replica, omega (arith, less, count))
+  in-range n (Begin session replica decl objects) fits = let less = fits.1 in let count = each.txns in (fits.0.is_replica, omega (arith, less, count))
+  in-range n (Commit session replica) fits = fits.is_replica
+  in-range n (Deliver m) fits = tt
+  in-range n (Repeat m) fits = tt
+  in-range n (Lose m) fits = tt
+  in-range n (Resend a sender receiver) fits = fits
+  in-range n (Partition groups) fits = fits
+  in-range n Heal fits = tt
+  in-range n (Join near copy) fits = fits
 
-  answerable : (s : Machine) (e : Event) → FitsEvent p schedule.replicas (length schedule.objects) schedule.kinds e → All (FitsSchedule p (length schedule.objects) schedule.kinds) s.effects
+  answerable : (n : ℕ) (s : Machine) (e : Event) → FitsEvent p n (length schedule.objects) schedule.kinds e → All (FitsSchedule p (length schedule.objects) schedule.kinds) s.effects
       → IsAnswerable (λ op args effects. IsAble p.types op.0 args effects) s.effects e
-  answerable s (Call session replica object op args) fits all = λ seen on. call-able p schedule.replicas (length schedule.objects) schedule.kinds s.effects session replica object op args seen fits all on
-  answerable s (Begin session replica decl objects) fits all = tt
-  answerable s (Commit session replica) fits all = tt
-  answerable s (Deliver m) fits all = tt
-  answerable s (Repeat m) fits all = tt
-  answerable s (Lose m) fits all = tt
-  answerable s (Resend a sender receiver) fits all = tt
-  answerable s (Partition groups) fits all = tt
-  answerable s Heal fits all = tt
+  answerable n s (Call session replica object op args) fits all = λ seen on. call-able p n (length schedule.objects) schedule.kinds s.effects session replica object op args seen fits all on
+  answerable n s (Begin session replica decl objects) fits all = tt
+  answerable n s (Commit session replica) fits all = tt
+  answerable n s (Deliver m) fits all = tt
+  answerable n s (Repeat m) fits all = tt
+  answerable n s (Lose m) fits all = tt
+  answerable n s (Resend a sender receiver) fits all = tt
+  answerable n s (Partition groups) fits all = tt
+  answerable n s Heal fits all = tt
+  answerable n s (Join near copy) fits all = tt
 
   module _ (e : Event) (left : List Event) (replies : List Reply) (held : LevelLists) (s : Machine) (going : IsGoing p levels schedule (e ∷ left) replies held s) where
     few-done : length going.done < 4000
@@ -106,7 +108,7 @@ module _ (p : Program) (levels : LevelLists) (schedule : Schedule) (each : HasLe
 
     pub going-range : IsInRange (length s.received) held e
     going-range =
-        subst (λ (n : ℕ). IsInRange n held e) (sym going.goes.replicas) (subst (λ (l : LevelLists). IsInRange schedule.replicas l e) (sym going.same) (in-range e going.left_fit.0))
+        subst (λ (n : ℕ). IsInRange n held e) (sym going.goes.replicas) (subst (λ (l : LevelLists). IsInRange going.count l e) (sym going.same) (in-range going.count e going.left_fit.0))
 
     pub going-levels : HasLevelOfEach p held
     going-levels = subst (HasLevelOfEach p) (sym going.same) each
@@ -115,14 +117,14 @@ module _ (p : Program) (levels : LevelLists) (schedule : Schedule) (each : HasLe
     going-room = record {
       effects = (let few = few-done in let less = going.small.effects in omega (arith, few, less));
       messages =
-          (let few = few-done in let less = going.small.messages in let same = going.goes.replicas in let most = is.few_replicas in
+          (let few = few-done in let less = going.small.messages in let same = going.goes.replicas in let most = going.goes.few in
           omega (arith, few, less, same, most));
       begun = (let few = few-done in let less = going.small.begun in omega (arith, few, less));
       copies = λ m message at. (let few = few-done in let less = copies-of (suc (length going.done)) s.messages m message going.small.copies at in omega (arith, few, less));
     }
 
     pub going-able : IsAnswerable (λ op args effects. IsAble p.types op.0 args effects) s.effects e
-    going-able = answerable s e going.left_fit.0 going.fits
+    going-able = answerable going.count s e going.left_fit.0 going.fits
 
     pub going-on : (t : Machine) (held' : LevelLists) (r : Reply) → AnswersFit p.types → held' ≡ held
         → ((rules : Rules) → rules.promises ≡ promises_of held → rules.uses ≡ uses_of p → rules.answer ≡ (λ op args seen. answered_of p.types op.0 args seen) → IsStep rules s e t r)
@@ -130,7 +132,7 @@ module _ (p : Program) (levels : LevelLists) (schedule : Schedule) (each : HasLe
     going-on t held' r fit kept steps =
         let step_by : (rules : Rules) → AreRulesOf p levels rules → IsStep rules s e t r = λ rules are. steps rules (are.promises ∙ ap promises_of (sym going.same)) are.uses are.answer in
         let once : IsStep (own_rules p levels) s e t r = step_by (own_rules p levels) (record { promises = refl; uses = refl; answer = refl }) in
-        let few : replicas s ≤ 16 = (let same = going.goes.replicas in let most = is.few_replicas in omega (arith, same, most)) in
+        let few : replicas s ≤ 16 = (let same = going.goes.replicas in let most = going.goes.few in omega (arith, same, most)) in
         let long = length-append going.done (e ∷ []) in
         let count : suc (length going.done) ≡ length (going.done ++ e ∷ []) = omega (arith, long) in
         record {
@@ -139,13 +141,19 @@ module _ (p : Program) (levels : LevelLists) (schedule : Schedule) (each : HasLe
           same = kept ∙ going.same;
           leads = λ rules are. leads-on rules (empty schedule.replicas) going.done replies s t e r (going.leads rules are) (step_by rules are);
           small = subst (λ (n : ℕ). IsSmall n t) count (small-step (length going.done) s going.small few (own_rules p levels) e t r once);
-          goes = goes-step schedule.replicas (length levels.txns) s going.goes (own_rules p levels) e t r once levels refl (in-range e going.left_fit.0);
-          fits = fits-step p schedule.replicas (length schedule.objects) schedule.kinds (own_rules p levels) refl fit s e t r (subst (λ (n : ℕ). AreDeclared n s.open_txns) each.txns going.goes.declared) once going.left_fit.0 going.fits;
+          count = replicas_after going.count e;
+          counted = ap (λ (n : ℕ). replicas_after n e) going.counted ∙ sym (behind-more schedule.replicas going.done e);
+          goes = goes-step going.count levels s going.goes (own_rules p levels) e t r once (in-range going.count e going.left_fit.0);
+          fits = fits-step p going.count (length schedule.objects) schedule.kinds (own_rules p levels) refl fit s e t r (subst (λ (n : ℕ). AreDeclared n s.open_txns) each.txns going.goes.declared) once going.left_fit.0 going.fits;
           answered = made-kept (own_rules p levels) s e t r replies once going.answered;
           left_fit = going.left_fit.1;
         }
 
   -- all are done
+  pub going-count : (replies : List Reply) (held : LevelLists) (s : Machine) → IsGoing p levels schedule [] replies held s → length s.received ≡ replicas_behind schedule.replicas schedule.events
+  going-count replies held s going =
+      going.goes.replicas ∙ going.counted ∙ ap (replicas_behind schedule.replicas) (sym (going.parts ∙ append-nil going.done))
+
   pub going-ends : (replies : List Reply) (held : LevelLists) (s : Machine) → IsGoing p levels schedule [] replies held s
       → (rules : Rules) → AreRulesOf p levels rules → Leads rules (empty schedule.replicas) schedule.events replies s
   going-ends replies held s going rules are = subst (λ (events : List Event). Leads rules (empty schedule.replicas) events replies s) (sym (going.parts ∙ append-nil going.done)) (going.leads rules are)

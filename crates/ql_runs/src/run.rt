@@ -1,7 +1,7 @@
 ghost use Rattle.std.specs.Prelude.{◌≡◌, All, IfOk, length};
 ghost use Rattle.ql_eval.specs.Folds.{answered_of};
 ghost use Rattle.ql_machine.specs.Rules.{Rules};
-ghost use Rattle.ql_machine.specs.Runs.{IsRun};
+ghost use Rattle.ql_machine.specs.Runs.{IsRun, replicas_behind};
 ghost use Rattle.ql_schedule.specs.Guarantees.{IsSchedule};
 ghost use Rattle.ql_store.specs.Levels.{HasLevelOfEach, promises_of, uses_of};
 ghost use Rattle.ql_runs.specs.Keeping.{FitsSchedule, IsMade};
@@ -41,7 +41,7 @@ pub fn run_schedule<H: Holder>(
         → rules.answer ≡ (λ op args seen. answered_of typed.now.program.types op.0 args seen) → IsRun rules schedule.replicas schedule.events run.replies.items run.store.machine) }
     ensures levels { IfOk result (λ run. run.store.levels ≡ levels) }
     ensures objects { IfOk result (λ run. run.objects ≡ schedule.objects) }
-    ensures replicas { IfOk result (λ run. length run.store.machine.received ≡ schedule.replicas) }
+    ensures replicas { IfOk result (λ run. length run.store.machine.received ≡ replicas_behind schedule.replicas schedule.events) }
     ensures fits { IfOk result (λ run. All (FitsSchedule typed.now.program (length schedule.objects) schedule.kinds) run.store.machine.effects) }
     ensures answered { IfOk result (λ run. All (IsMade (length run.store.machine.effects)) run.replies.items) }
 {

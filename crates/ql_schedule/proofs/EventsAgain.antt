@@ -4,6 +4,7 @@ use Rattle.std.specs.Prelude.{is_none, ◌||◌, ◌&&◌, slice_get}
 use Rattle.std.specs.List.{AllByRecursion, list_any}
 use Rattle.std.specs.Option.{option_map}
 use Rattle.std.specs.Str.{bytes_eq}
+use Rattle.std.proofs.lemmas.Bool.{eq-eqb}
 use Rattle.std.proofs.lemmas.Bool.Decides.{nat_tests}
 use Rattle.std.proofs.lemmas.List.{append-nil, length-map}
 use Rattle.std.proofs.lemmas.Option.{slice_get-get_or}
@@ -23,6 +24,7 @@ use Rattle.ql_lang.specs.declared.program.Program.{Program}
 use Rattle.ql_lines.specs.Fields.{Fields}
 use Rattle.ql_machine.specs.declared.event.Event.{Event}
 use Rattle.ql_machine.specs.declared.event.Event.TheVariants as event
+use Rattle.ql_machine.specs.Runs.{replicas_after}
 use Rattle.ql_typing.specs.Functions.{of_base}
 use Rattle.ql_typing.specs.Lookups.{txn_place}
 use Rattle.ql_typing.specs.Operations.{all_ops, op_kinds, op_place}
@@ -33,14 +35,14 @@ use Rattle.ql_value.specs.Spelling.{value_text}
 use Rattle.ql_value.proofs.ValueLaws.{printed_again}
 use Rattle.ql_schedule.specs.declared.argument.Argument.TheVariants.{Given}
 use Rattle.ql_schedule.specs.declared.event_line.EventLine.{EventLine}
-use Rattle.ql_schedule.specs.declared.event_line.EventLine.TheVariants.{Call, Begin, Commit, Deliver, Repeat, Lose, Resend, Partition, Heal}
+use Rattle.ql_schedule.specs.declared.event_line.EventLine.TheVariants.{Call, Begin, Commit, Deliver, Repeat, Lose, Resend, Partition, Heal, Join}
 use Rattle.ql_schedule.specs.declared.rules.Faults.{Faults}
 use Rattle.ql_schedule.specs.declared.schedule.Schedule.{Schedule}
 use Rattle.ql_schedule.specs.Arguments.{AreArguments, fit, has_base, is_too_great, values_of}
-use Rattle.ql_schedule.specs.EventLines.{AreNumbers, CallerAt, IsEventLine}
-use Rattle.ql_schedule.specs.Guarantees.{FitsEvent}
+use Rattle.ql_schedule.specs.EventLines.{AreNumbers, CallerAt, IsEventLine, is_of_version, join_word}
+use Rattle.ql_schedule.specs.Guarantees.{FitsEvent, IsOfVersion}
 use Rattle.ql_schedule.specs.Judging.{event_faults, fit_op, has_repeat, is_caller_out, is_same_type}
-use Rattle.ql_schedule.specs.Makings.{declared_from, event_of, id_of}
+use Rattle.ql_schedule.specs.Makings.{declared_from, event_of, id_of, replicas_with}
 use Rattle.ql_schedule.specs.Numbers.{IsNumber}
 use Rattle.ql_schedule.specs.Rules.{lowest}
 use Rattle.ql_schedule.specs.Spelled.{IsFound, IsSpelledEvent, IsSpelledValue}
@@ -58,6 +60,7 @@ line_of p objects (event.Lose m) = Lose m.0
 line_of p objects (event.Resend e sender receiver) = Resend e.0 sender.0 receiver.0
 line_of p objects (event.Partition groups) = Partition groups
 line_of p objects event.Heal = Heal
+line_of p objects (event.Join near copy) = Join near.0 copy
 
 -- ---- what the parts are
 
@@ -76,11 +79,11 @@ names_again : (objects : List (List ℕ)) (ids : List ℕ) → AllByRecursion (I
 names_again objects [] h = tt
 names_again objects (o ∷ ids) h = (h.0.0, names_again objects ids h.1)
 
-module _ (p : Program) (s : Schedule) (few : s.replicas ≤ 16) where
+module _ (p : Program) (s : Schedule) (n : ℕ) (few : n ≤ 16) where
   abbrev In : Event → Type 0
-  In e = FitsEvent p s.replicas (length s.objects) s.kinds e
+  In e = FitsEvent p n (length s.objects) s.kinds e
 
-  caller_again : (session replica : ℕ) (rest : Fields) → session < 256 → replica < s.replicas
+  caller_again : (session replica : ℕ) (rest : Fields) → session < 256 → replica < n
       → CallerAt (record { session = session; replica = replica }) (decimal session ∷ codes "at" ∷ decimal replica ∷ rest) rest
   caller_again session replica rest a b = record {
     session = decimal session;
@@ -137,6 +140,48 @@ module _ (p : Program) (s : Schedule) (few : s.replicas ≤ 16) where
   }
   is_event (event.Partition groups) h k = record { rest = _; are = refl; rest_is = numbers_again groups k }
   is_event event.Heal h k = record { rest = []; are = refl; rest_is = refl }
+  is_event (event.Join near copy) h k = record {
+    rest = join_word copy ∷ decimal near.0 ∷ [];
+    are = refl;
+    rest_is = record { field = decimal near.0; number = small near.0 (omega (arith, h.0, few)); are = refl };
+  }
+
+  -- of its version, and no more than 16 replicas behind it
+  pub in_version : (e : Event) → IsOfVersion s.version e → is_of_version s.version (line_of p s.objects e) ≡ true
+  in_version (event.Call session replica object op args) h = refl
+  in_version (event.Begin session replica decl ids) h = refl
+  in_version (event.Commit session replica) h = refl
+  in_version (event.Deliver m) h = refl
+  in_version (event.Repeat m) h = refl
+  in_version (event.Lose m) h = refl
+  in_version (event.Resend e sender receiver) h = refl
+  in_version (event.Partition groups) h = refl
+  in_version event.Heal h = refl
+  in_version (event.Join near copy) h = eq-eqb s.version 2 h
+
+  pub few_behind : (e : Event) → In e → replicas_after n e ≤ 16
+  few_behind (event.Call session replica object op args) h = few
+  few_behind (event.Begin session replica decl ids) h = few
+  few_behind (event.Commit session replica) h = few
+  few_behind (event.Deliver m) h = few
+  few_behind (event.Repeat m) h = few
+  few_behind (event.Lose m) h = few
+  few_behind (event.Resend e sender receiver) h = few
+  few_behind (event.Partition groups) h = few
+  few_behind event.Heal h = few
+  few_behind (event.Join near copy) h = omega (arith, h.1)
+
+  pub counted_again : (e : Event) → replicas_after n e ≡ replicas_with n (line_of p s.objects e)
+  counted_again (event.Call session replica object op args) = refl
+  counted_again (event.Begin session replica decl ids) = refl
+  counted_again (event.Commit session replica) = refl
+  counted_again (event.Deliver m) = refl
+  counted_again (event.Repeat m) = refl
+  counted_again (event.Lose m) = refl
+  counted_again (event.Resend e sender receiver) = refl
+  counted_again (event.Partition groups) = refl
+  counted_again event.Heal = refl
+  counted_again (event.Join near copy) = refl
 
 -- ---- no rule is broken
 
@@ -223,50 +268,54 @@ and_false : (a b : Bool) → b ≡ false → (a && b) ≡ false
 and_false true b e = e
 and_false false b e = refl
 
-module _ (p : Program) (s : Schedule) (typed : length s.kinds ≡ length s.objects) (room : length s.events < 4000) where
+module _ (p : Program) (s : Schedule) (n : ℕ) (typed : length s.kinds ≡ length s.objects) (room : length s.events < 4000) where
   some_room : nat_le 4000 (length s.events) ≡ false
   some_room = grind (arith, nat_tests, room)
 
-  caller_in : (session replica : ℕ) → session < 256 → replica < s.replicas → is_caller_out s (record { session = session; replica = replica }) ≡ false
+  caller_in : (session replica : ℕ) → session < 256 → replica < n → is_caller_out n (record { session = session; replica = replica }) ≡ false
   caller_in session replica a b =
       let x : nat_le 256 session ≡ false = grind (arith, nat_tests, a) in
-      let y : nat_le s.replicas replica ≡ false = grind (arith, nat_tests, b) in
-      or_false (nat_le 256 session) (nat_le s.replicas replica) x y
+      let y : nat_le n replica ≡ false = grind (arith, nat_tests, b) in
+      or_false (nat_le 256 session) (nat_le n replica) x y
 
-  pub lawful : (e : Event) → FitsEvent p s.replicas (length s.objects) s.kinds e → IsSpelledEvent p s.objects e → lowest (event_faults p s (line_of p s.objects e)) ≡ None
+  pub lawful : (e : Event) → FitsEvent p n (length s.objects) s.kinds e → IsSpelledEvent p s.objects e → lowest (event_faults p s n (line_of p s.objects e)) ≡ None
   lawful (event.Call session replica object op args) h k =
       let kind_there = slice_get-get_or s.kinds object.0 (record { 0 = 0 }) (omega (arith, h.is_object, typed)) in
       let same = same_again (slice_get s.kinds object.0) (slice_get (op_kinds p.types) op.0) (get_or s.kinds object.0 (record { 0 = 0 })) kind_there h.type in
       let fits = op_fit (slice_get (all_ops p.types) op.0) args h.arguments in
-      none_broken (event_faults p s (line_of p s.objects (event.Call session replica object op args)))
+      none_broken (event_faults p s n (line_of p s.objects (event.Call session replica object op args)))
       (rw (k.is_object.1, k.op_found) refl)
       (rw (k.is_object.1, k.op_found, same, fits) refl)
-      (or_false (is_caller_out s (record { session = session.0; replica = replica.0 })) (list_any is_too_great (map Given args)) (caller_in session.0 replica.0 h.caller.is_session h.caller.is_replica) (none_great args))
+      (or_false (is_caller_out n (record { session = session.0; replica = replica.0 })) (list_any is_too_great (map Given args)) (caller_in session.0 replica.0 h.caller.is_session h.caller.is_replica) (none_great args))
       (rw some_room refl)
       refl
   lawful (event.Begin session replica decl ids) h k =
       let count = length-map ids (name_at s.objects) in
       let few : nat_lt 16 (length (map (name_at s.objects) ids)) ≡ false = grind (arith, nat_tests, count, k.few) in
-      none_broken (event_faults p s (line_of p s.objects (event.Begin session replica decl ids)))
+      none_broken (event_faults p s n (line_of p s.objects (event.Begin session replica decl ids)))
       (rw (k.txn_found, all_known s.objects ids k.are_objects) refl)
       refl
       (caller_in session.0 replica.0 h.0.is_session h.0.is_replica)
       (rw (some_room, few) refl)
       (and_false (nat_le (length (map (name_at s.objects) ids)) 16) (has_repeat (map (name_at s.objects) ids)) (no_repeat s.objects ids k.are_objects k.ascending))
   lawful (event.Commit session replica) h k =
-      none_broken (event_faults p s (line_of p s.objects (event.Commit session replica))) refl refl (caller_in session.0 replica.0 h.is_session h.is_replica) (rw some_room refl) refl
-  lawful (event.Deliver m) h k = none_broken (event_faults p s (Deliver m.0)) refl refl (grind (arith, nat_tests, k)) (rw some_room refl) refl
-  lawful (event.Repeat m) h k = none_broken (event_faults p s (Repeat m.0)) refl refl (grind (arith, nat_tests, k)) (rw some_room refl) refl
-  lawful (event.Lose m) h k = none_broken (event_faults p s (Lose m.0)) refl refl (grind (arith, nat_tests, k)) (rw some_room refl) refl
+      none_broken (event_faults p s n (line_of p s.objects (event.Commit session replica))) refl refl (caller_in session.0 replica.0 h.is_session h.is_replica) (rw some_room refl) refl
+  lawful (event.Deliver m) h k = none_broken (event_faults p s n (Deliver m.0)) refl refl (grind (arith, nat_tests, k)) (rw some_room refl) refl
+  lawful (event.Repeat m) h k = none_broken (event_faults p s n (Repeat m.0)) refl refl (grind (arith, nat_tests, k)) (rw some_room refl) refl
+  lawful (event.Lose m) h k = none_broken (event_faults p s n (Lose m.0)) refl refl (grind (arith, nat_tests, k)) (rw some_room refl) refl
   lawful (event.Resend e sender receiver) h k =
       let x : nat_le 4294967296 e.0 ≡ false = grind (arith, nat_tests, k) in
-      let y : nat_le s.replicas sender.0 ≡ false = grind (arith, nat_tests, h.0) in
-      let z : nat_le s.replicas receiver.0 ≡ false = grind (arith, nat_tests, h.1) in
-      none_broken (event_faults p s (Resend e.0 sender.0 receiver.0)) refl refl (rw (x, y, z) refl) (rw some_room refl) refl
+      let y : nat_le n sender.0 ≡ false = grind (arith, nat_tests, h.0) in
+      let z : nat_le n receiver.0 ≡ false = grind (arith, nat_tests, h.1) in
+      none_broken (event_faults p s n (Resend e.0 sender.0 receiver.0)) refl refl (rw (x, y, z) refl) (rw some_room refl) refl
   lawful (event.Partition groups) h k =
-      let all : nat_eq (length groups) s.replicas ≡ true = grind (arith, nat_tests, h) in
-      none_broken (event_faults p s (Partition groups)) refl refl (rw (all, all_small groups k) refl) (rw some_room refl) refl
-  lawful event.Heal h k = none_broken (event_faults p s Heal) refl refl refl (rw some_room refl) refl
+      let all : nat_eq (length groups) n ≡ true = grind (arith, nat_tests, h) in
+      none_broken (event_faults p s n (Partition groups)) refl refl (rw (all, all_small groups k) refl) (rw some_room refl) refl
+  lawful event.Heal h k = none_broken (event_faults p s n Heal) refl refl refl (rw some_room refl) refl
+  lawful (event.Join near copy) h k =
+      let low : nat_le n near.0 ≡ false = grind (arith, nat_tests, h.0) in
+      let space : nat_le 16 n ≡ false = grind (arith, nat_tests, h.1) in
+      none_broken (event_faults p s n (Join near.0 copy)) refl refl low (rw (some_room, space) refl) refl
 
 -- ---- the event is made again
 
@@ -304,3 +353,4 @@ made_again p s (event.Lose m) k = refl
 made_again p s (event.Resend e sender receiver) k = refl
 made_again p s (event.Partition groups) k = refl
 made_again p s event.Heal k = refl
+made_again p s (event.Join near copy) k = refl

@@ -10,4 +10,5 @@ mod EventsAgain
 mod FileAgain
 mod Printing
 mod NoEvents
+mod Joins
 pub mod Named

@@ -1,14 +1,15 @@
 -- lines of a kind that are no event
-use Rattle.std.proofs.Common.{◌≡◌, ℕ, List, [], ◌∷◌, drop, codes, arith, ap, sym, subst, ◌∙◌}
+use Rattle.std.proofs.Common.{◌≡◌, ℕ, Bool, true, false, List, [], ◌∷◌, drop, codes, arith, ap, sym, subst, ◌∙◌}
+use Rattle.std.proofs.lemmas.Bool.{both_ways}
 use Rattle.ql_lines.specs.Fields.{Fields}
 use Rattle.ql_schedule.specs.declared.argument.Argument.{Argument}
 use Rattle.ql_schedule.specs.declared.event_line.EventLine.{EventLine}
-use Rattle.ql_schedule.specs.declared.event_line.EventLine.TheVariants.{Call, Begin, Deliver, Repeat, Lose, Resend}
+use Rattle.ql_schedule.specs.declared.event_line.EventLine.TheVariants.{Call, Begin, Deliver, Repeat, Lose, Resend, Join}
 use Rattle.ql_schedule.specs.declared.event_parts.Caller.{Caller}
 use Rattle.ql_schedule.specs.Arguments.{AreArguments}
-use Rattle.ql_schedule.specs.EventLines.{CallerAt, IsBegin, IsCall, IsCalled, IsResend, IsRest, kind_word}
+use Rattle.ql_schedule.specs.EventLines.{CallerAt, IsBegin, IsCall, IsCalled, IsEventIn, IsEventLine, IsJoin, IsResend, IsRest, is_of_version, join_word, kind_word}
 use Rattle.ql_schedule.specs.Numbers.{IsNumber}
-use Rattle.ql_schedule.specs.OneLine.{kind_no, no_of_kind, no_of_word, one_called, word_no}
+use Rattle.ql_schedule.specs.OneLine.{kind_no, no_of_kind, no_of_word, one_called, one_event, word_no}
 
 by_word : (l : EventLine) (w : List ℕ) → kind_word l ≡ w → no_of_kind (kind_no l) ≡ word_no w
 by_word l w e = sym (no_of_word l) ∙ ap word_no e
@@ -69,3 +70,23 @@ pub no_lose : (parts : Fields) → ((f : List ℕ) (n : ℕ) → IsNumber f n �
 unfolding no_of_kind word_no
 no_lose parts none (Lose n) e h = none h.field n h.number h.are
 no_lose parts none l e h = absurd (omega (arith, by_word l (codes "lose") e))
+
+of_join : (parts : Fields) → ((near : ℕ) (copy : Bool) → IsJoin parts near copy → ⊥) → (l : EventLine) → kind_word l ≡ codes "join" → IsRest parts l → ⊥
+unfolding no_of_kind word_no
+of_join parts none (Join near copy) e h = none near copy h
+of_join parts none l e h = absurd (omega (arith, by_word l (codes "join") e))
+
+pub no_near : (parts p1 : Fields) (w : List ℕ) → parts ≡ w ∷ p1 → ((f : List ℕ) (n : ℕ) → IsNumber f n → p1 ≡ f ∷ [] → ⊥) → (l : EventLine) → kind_word l ≡ codes "join" → IsRest parts l → ⊥
+no_near parts p1 w are none = of_join parts (λ near copy h. none h.field near h.number (ap (λ (fs : Fields). drop 1 fs) (sym are ∙ h.are)))
+
+pub no_how : (parts : Fields) → ((rest : Fields) → parts ≡ codes "copy" ∷ rest → ⊥) → ((rest : Fields) → parts ≡ codes "bare" ∷ rest → ⊥) → (copy : Bool) (rest : Fields) → parts ≡ join_word copy ∷ rest → ⊥
+no_how parts none no_bare true rest are = none rest are
+no_how parts none no_bare false rest are = no_bare rest are
+
+pub no_join : (parts : Fields) → ((copy : Bool) (rest : Fields) → parts ≡ join_word copy ∷ rest → ⊥) → (l : EventLine) → kind_word l ≡ codes "join" → IsRest parts l → ⊥
+no_join parts none = of_join parts (λ near copy h. none copy (h.field ∷ []) h.are)
+
+-- a line that its version lacks is no event of it
+pub no_version : (version : ℕ) (parts : Fields) (line : EventLine) → IsEventLine parts line → is_of_version version line ≡ false → (l : EventLine) → IsEventIn version parts l → ⊥
+no_version version parts line is other l in_it =
+    both_ways (is_of_version version line) other (subst (λ (m : EventLine). is_of_version version m ≡ true) (one_event parts l line in_it.0 is) in_it.1)

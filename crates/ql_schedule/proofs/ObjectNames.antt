@@ -38,9 +38,9 @@ new_more before (v ∷ ws) w are name new =
 
 abbrev Names : Reading → Type 0
 Names Untitled = Unit {0}
-Names Titled = Unit {0}
+Names (Titled version) = Unit {0}
 Names (Declaring s) = AreNew [] s.objects
-Names (Running s) = AreNew [] s.objects
+Names (Running s replicas) = AreNew [] s.objects
 
 with_new : (names : List (List ℕ)) (w : List ℕ) → has_name names w ≡ false → with_name names w ≡ names ++ w ∷ []
 with_new names w new = rw new refl
@@ -53,9 +53,9 @@ declared_names p s parts Events is lawful are = are
 
 line_names : (p : Program) (a b : Reading) (l : Numbered) → Names a → GivesLine p a l (Ok b) → Names b
 line_names p Untitled b l are m = subst Names (sym m.to) tt
-line_names p Titled b l are m = subst Names (sym m.to) tt
+line_names p (Titled version) b l are m = subst Names (sym m.to) tt
 line_names p (Declaring s) b l are m = subst Names (sym m.to) (declared_names p s (parts_of l.text) m.line m.is m.lawful are)
-line_names p (Running s) b l are m = subst Names (sym m.to) are
+line_names p (Running s replicas) b l are m = subst Names (sym m.to) are
 
 lines_names : (p : Program) (ls : List Numbered) (a b : Reading) → Names a → Leads (GivesLine p) Closes a ls b → Names b
 unfolding Leads
@@ -63,9 +63,9 @@ lines_names p [] a b are h = subst Names h are
 lines_names p (l ∷ ls) a b are h = lines_names p ls h.0 b (line_names p a h.0 l are h.1) h.2
 
 closed_names : (p : Program) (a : Reading) (end : ℕ) (s : Schedule) → Names a → Closes a end (Ok s) → AreNew [] s.objects
-closed_names p (Running t) end s are h = let same : t ≡ s = cc in subst (λ (u : Schedule). AreNew [] u.objects) same are
+closed_names p (Running t replicas) end s are h = let same : t ≡ s = cc in subst (λ (u : Schedule). AreNew [] u.objects) same are
 closed_names p Untitled end s are h = absurd cc
-closed_names p Titled end s are h = absurd cc
+closed_names p (Titled version) end s are h = absurd cc
 closed_names p (Declaring t) end s are h = absurd cc
 
 pub file_names : (p : Program) (file : Ahead) (s : Schedule) → IsScheduleFile p file s → AreNew [] s.objects

@@ -3,7 +3,6 @@ use Rattle.std.proofs.Common.{◌≡◌, ℕ, ◌<◌, ◌+◌, List, [], ◌∷
 use Rattle.std.specs.Prelude.{OnOk}
 use Rattle.ql_base.specs.declared.ids.TypeId.{TypeId}
 use Rattle.ql_lang.specs.declared.program.Program.{Program}
-use Rattle.ql_schedule.specs.Headers.{title}
 use Rattle.ql_schedule.specs.Texts.{object_fields, object_lines}
 use Rattle.std.proofs.lemmas.List.{append-nil, get_or_default, map-append}
 use Rattle.std.proofs.Math.Seq.{take-suc}
@@ -96,11 +95,11 @@ pub on_ok : {A E B C : Type 0} (r : Result A E) → (B → C) → OnOk r B → O
 on_ok (Ok x) f h = f h
 on_ok (Err e) f h = tt
 
-pub schedule_pieces : (n : List ℕ) (os es : List Fields)
-    → (((((codes "quelea schedule 1\nreplicas ") ++ n) ++ codes "\n") ++ file_text os) ++ codes "events\n") ++ file_text es
-    ≡ file_text (title ∷ (codes "replicas" ∷ n ∷ []) ∷ (os ++ (codes "events" ∷ []) ∷ es))
+pub schedule_pieces : (v n : List ℕ) (os es : List Fields)
+    → (((((((codes "quelea schedule ") ++ v) ++ codes "\nreplicas ") ++ n) ++ codes "\n") ++ file_text os) ++ codes "events\n") ++ file_text es
+    ≡ file_text ((codes "quelea" ∷ codes "schedule" ∷ v ∷ []) ∷ (codes "replicas" ∷ n ∷ []) ∷ (os ++ (codes "events" ∷ []) ∷ es))
 unfolding file_text
-schedule_pieces n os es = simp (append_assoc, file_text-append os ((codes "events" ∷ []) ∷ es)) refl
+schedule_pieces v n os es = simp (append_assoc, file_text-append os ((codes "events" ∷ []) ∷ es)) refl
 
 pub lines_more : (p : Program) (names : List (List ℕ)) (kinds : List TypeId) (name : List ℕ) (kind : TypeId) → length names ≡ length kinds
     → object_lines p (names ++ name ∷ []) (kinds ++ kind ∷ []) ≡ object_lines p names kinds ++ object_fields p name kind ∷ []

@@ -4,6 +4,7 @@ use Rattle.std.specs.Prelude.{is_none, not, ◌||◌, ◌&&◌, slice_get}
 use Rattle.std.specs.List.{AllByRecursion, list_any, position}
 use Rattle.std.specs.Option.{option_map}
 use Rattle.std.specs.Str.{bytes_eq}
+use Rattle.std.proofs.lemmas.Bool.{eqb-true}
 use Rattle.std.proofs.lemmas.Bool.Decides.{nat_tests}
 use Rattle.std.proofs.lemmas.List.{length-append}
 use Rattle.std.proofs.lemmas.List.Quantifiers.{position-Some}
@@ -21,6 +22,9 @@ use Rattle.ql_lang.specs.declared.program.TypeDecl.{TypeDecl}
 use Rattle.ql_lang.specs.declared.program.TxnDecl.{TxnDecl}
 use Rattle.ql_line_files.specs.Outcomes.{Leads}
 use Rattle.ql_lines.specs.Lines.{Ahead, Numbered}
+use Rattle.ql_machine.specs.declared.event.Event.{Event}
+use Rattle.ql_machine.specs.Runs.{replicas_after, replicas_behind}
+use Rattle.ql_machine.proofs.Counting.{behind-more}
 use Rattle.ql_typing.specs.Functions.{of_base}
 use Rattle.ql_typing.specs.Lookups.{txn_place, type_place}
 use Rattle.ql_typing.specs.Operations.{all_ops, op_kinds, op_place}
@@ -29,7 +33,7 @@ use Rattle.ql_value.specs.declared.value.Value.TheVariants.{Unit as Nothing, Int
 use Rattle.ql_schedule.specs.declared.argument.Argument.{Argument}
 use Rattle.ql_schedule.specs.declared.argument.Argument.TheVariants.{Given, TooGreat}
 use Rattle.ql_schedule.specs.declared.event_line.EventLine.{EventLine}
-use Rattle.ql_schedule.specs.declared.event_line.EventLine.TheVariants.{Call, Begin, Commit, Deliver, Repeat, Lose, Resend, Partition, Heal}
+use Rattle.ql_schedule.specs.declared.event_line.EventLine.TheVariants.{Call, Begin, Commit, Deliver, Repeat, Lose, Resend, Partition, Heal, Join}
 use Rattle.ql_schedule.specs.declared.event_parts.Caller.{Caller}
 use Rattle.ql_schedule.specs.declared.header.Declaration.{Declaration}
 use Rattle.ql_schedule.specs.declared.header.Declaration.TheVariants.{Object, Events}
@@ -37,11 +41,13 @@ use Rattle.ql_schedule.specs.declared.reading.Reading.{Reading}
 use Rattle.ql_schedule.specs.declared.reading.Reading.TheVariants.{Untitled, Titled, Declaring, Running}
 use Rattle.ql_schedule.specs.declared.schedule.Schedule.{Schedule}
 use Rattle.ql_schedule.specs.Arguments.{fit, has_base, is_too_great, values_of}
+use Rattle.ql_schedule.specs.EventLines.{is_of_version}
 use Rattle.ql_schedule.specs.Files.{GivesLine, IsScheduleFile}
-use Rattle.ql_schedule.specs.Guarantees.{FitsCall, FitsEvent, IsCaller, IsSchedule, IsSound}
-use Rattle.ql_schedule.specs.Judging.{declaration_faults, event_faults, fit_op, is_caller_out, is_same_type, may_call, replicas_faults}
-use Rattle.ql_schedule.specs.Makings.{declared_from, event_of, id_of, of_replicas, with_event}
-use Rattle.ql_schedule.specs.Outcomes.{Closes, after_declaration}
+use Rattle.ql_schedule.specs.Guarantees.{AreFit, FitsCall, FitsEvent, IsCaller, IsOfVersion, IsSchedule, IsSound}
+use Rattle.ql_schedule.specs.Headers.{IsVersion}
+use Rattle.ql_schedule.specs.Judging.{declaration_faults, declares_too_many, event_faults, fit_op, is_caller_out, is_full, is_same_type, may_call, replicas_faults}
+use Rattle.ql_schedule.specs.Makings.{declared_from, event_of, id_of, of_replicas, replicas_with}
+use Rattle.ql_schedule.specs.Outcomes.{Closes, after_declaration, after_event}
 use Rattle.ql_schedule.specs.Rules.{lowest}
 use Rattle.ql_schedule.proofs.Clean.{clean, either}
 
@@ -112,9 +118,9 @@ same_type (Some t) (Some n) e = let same : t.0 ≡ n = grind (arith, nat_tests, 
 
 -- ---- events
 
-caller_in : (p : Program) (s : Schedule) (c : Caller) → is_caller_out s c ≡ false → IsCaller p s.replicas (length s.objects) s.kinds (record { 0 = c.session }) (record { 0 = c.replica })
-caller_in p s c e =
-    let h = either (nat_le 256 c.session) (nat_le s.replicas c.replica) e in
+caller_in : (p : Program) (s : Schedule) (n : ℕ) (c : Caller) → is_caller_out n c ≡ false → IsCaller p n (length s.objects) s.kinds (record { 0 = c.session }) (record { 0 = c.replica })
+caller_in p s n c e =
+    let h = either (nat_le 256 c.session) (nat_le n c.replica) e in
     record { is_session = grind (arith, nat_tests, h.0); is_replica = grind (arith, nat_tests, h.1) }
 
 call_asked : (p : Program) (s : Schedule) (a b : Option ℕ) (args : List Argument) → is_none a ≡ false → is_none b ≡ false → may_call p s a b args ≡ true
@@ -127,17 +133,17 @@ not_false : (b : Bool) → not b ≡ false → b ≡ true
 not_false true e = refl
 not_false false e = absurd cc
 
-call_fits : (p : Program) (s : Schedule) (c : Caller) (o f : List ℕ) (args : List Argument) → lowest (event_faults p s (Call c o f args)) ≡ None
-    → FitsCall p s.replicas (length s.objects) s.kinds (record { 0 = c.session }) (record { 0 = c.replica }) (record { 0 = id_of s.objects o }) (record { 0 = unwrap_or (op_place p.types f) 0 }) (values_of args)
-call_fits p s c o f args e =
-    let h = clean (event_faults p s (Call c o f args)) e in
+call_fits : (p : Program) (s : Schedule) (n : ℕ) (c : Caller) (o f : List ℕ) (args : List Argument) → lowest (event_faults p s n (Call c o f args)) ≡ None
+    → FitsCall p n (length s.objects) s.kinds (record { 0 = c.session }) (record { 0 = c.replica }) (record { 0 = id_of s.objects o }) (record { 0 = unwrap_or (op_place p.types f) 0 }) (values_of args)
+call_fits p s n c o f args e =
+    let h = clean (event_faults p s n (Call c o f args)) e in
     let known = either (is_none (place s.objects o)) (is_none (op_place p.types f)) h.unknown in
-    let out = either (is_caller_out s c) (list_any is_too_great args) h.range in
+    let out = either (is_caller_out n c) (list_any is_too_great args) h.range in
     let asked = call_asked p s (place s.objects o) (op_place p.types f) args known.0 known.1 (not_false (may_call p s (place s.objects o) (op_place p.types f) args) h.kind) in
     let op = unwrap_or (op_place p.types f) 0 in
     let is = both (is_same_type (slice_get s.kinds (id_of s.objects o)) (slice_get (op_kinds p.types) op)) (fit_op (slice_get (all_ops p.types) op) args) asked in
     record {
-      caller = caller_in p s c out.0;
+      caller = caller_in p s n c out.0;
       is_object = known_object s.objects o known.0;
       is_op = below (λ (d : OpDecl). bytes_eq f d.name.word) (all_ops p.types) (op_place p.types f) refl known.1;
       type = same_type (slice_get s.kinds (id_of s.objects o)) (slice_get (op_kinds p.types) op) is.0;
@@ -163,34 +169,72 @@ declared_below names ids (w ∷ ws) h known =
     let k = either (is_none (place names w)) (list_any (λ v. is_none (place names v)) ws) known in
     declared_below names (with_id ids (id_of names w)) ws (with_id_all (λ o. o < length names) ids (id_of names w) h (known_object names w k.0)) k.1
 
-event_fits : (p : Program) (s : Schedule) (l : EventLine) → lowest (event_faults p s l) ≡ None → FitsEvent p s.replicas (length s.objects) s.kinds (event_of p s l)
-event_fits p s (Call c o f args) e = call_fits p s c o f args e
-event_fits p s (Begin c t ws) e =
-    let h = clean (event_faults p s (Begin c t ws)) e in
+event_fits : (p : Program) (s : Schedule) (n : ℕ) (l : EventLine) → lowest (event_faults p s n l) ≡ None → FitsEvent p n (length s.objects) s.kinds (event_of p s l)
+event_fits p s n (Call c o f args) e = call_fits p s n c o f args e
+event_fits p s n (Begin c t ws) e =
+    let h = clean (event_faults p s n (Begin c t ws)) e in
     let known = either (is_none (txn_place p.txns t)) (list_any (λ w. is_none (place s.objects w)) ws) h.unknown in (
-      caller_in p s c h.range,
+      caller_in p s n c h.range,
       below (λ (d : TxnDecl). bytes_eq t d.name.word) p.txns (txn_place p.txns t) refl known.0,
       declared_below s.objects [] ws tt known.1,
     )
-event_fits p s (Commit c) e = caller_in p s c (clean (event_faults p s (Commit c)) e).range
-event_fits p s (Deliver n) e = tt
-event_fits p s (Repeat n) e = tt
-event_fits p s (Lose n) e = tt
-event_fits p s (Resend n a b) e =
-    let h = either (nat_le 4294967296 n || nat_le s.replicas a) (nat_le s.replicas b) (clean (event_faults p s (Resend n a b)) e).range in
-    let k = either (nat_le 4294967296 n) (nat_le s.replicas a) h.0 in
+event_fits p s n (Commit c) e = caller_in p s n c (clean (event_faults p s n (Commit c)) e).range
+event_fits p s n (Deliver m) e = tt
+event_fits p s n (Repeat m) e = tt
+event_fits p s n (Lose m) e = tt
+event_fits p s n (Resend m a b) e =
+    let h = either (nat_le 4294967296 m || nat_le n a) (nat_le n b) (clean (event_faults p s n (Resend m a b)) e).range in
+    let k = either (nat_le 4294967296 m) (nat_le n a) h.0 in
     (grind (arith, nat_tests, k.1), grind (arith, nat_tests, h.1))
-event_fits p s (Partition gs) e =
-    let h = either (not (nat_eq (length gs) s.replicas)) (list_any (λ g. nat_le 16 g) gs) (clean (event_faults p s (Partition gs)) e).range in
-    grind (arith, nat_tests, not_false (nat_eq (length gs) s.replicas) h.0)
-event_fits p s Heal e = tt
+event_fits p s n (Partition gs) e =
+    let h = either (not (nat_eq (length gs) n)) (list_any (λ g. nat_le 16 g) gs) (clean (event_faults p s n (Partition gs)) e).range in
+    grind (arith, nat_tests, not_false (nat_eq (length gs) n) h.0)
+event_fits p s n Heal e = tt
+event_fits p s n (Join near copy) e =
+    let h = clean (event_faults p s n (Join near copy)) e in
+    let low = h.range in
+    let room = (either (nat_le 4000 (length s.events) || false) (nat_le 16 n) h.too_many).1 in
+    (grind (arith, nat_tests, low), grind (arith, nat_tests, room))
+
+-- a join is of the second version
+event_version : (p : Program) (s : Schedule) (l : EventLine) → is_of_version s.version l ≡ true → IsOfVersion s.version (event_of p s l)
+event_version p s (Call c o f args) e = tt
+event_version p s (Begin c t ws) e = tt
+event_version p s (Commit c) e = tt
+event_version p s (Deliver m) e = tt
+event_version p s (Repeat m) e = tt
+event_version p s (Lose m) e = tt
+event_version p s (Resend m a b) e = tt
+event_version p s (Partition gs) e = tt
+event_version p s Heal e = tt
+event_version p s (Join near copy) e = eqb-true s.version 2 e
+
+-- behind a line there are as many replicas as behind its event
+counted_so : (p : Program) (s : Schedule) (n : ℕ) (l : EventLine) → replicas_with n l ≡ replicas_after n (event_of p s l)
+counted_so p s n (Call c o f args) = refl
+counted_so p s n (Begin c t ws) = refl
+counted_so p s n (Commit c) = refl
+counted_so p s n (Deliver m) = refl
+counted_so p s n (Repeat m) = refl
+counted_so p s n (Lose m) = refl
+counted_so p s n (Resend m a b) = refl
+counted_so p s n (Partition gs) = refl
+counted_so p s n Heal = refl
+counted_so p s n (Join near copy) = refl
+
+-- one event more
+fit_more : (p : Program) (objects : ℕ) (kinds : List TypeId) (n : ℕ) (es : List Event) (e : Event) → AreFit p objects kinds n es → FitsEvent p (replicas_behind n es) objects kinds e → AreFit p objects kinds n (es ++ e ∷ [])
+fit_more p objects kinds n [] e h k = (k, tt)
+fit_more p objects kinds n (d ∷ es) e h k = (h.0, fit_more p objects kinds (replicas_after n d) es e h.1 k)
 
 -- ---- line by line
 
-count_sound : (p : Program) (n : ℕ) → lowest (replicas_faults n) ≡ None → IsSound p (Declaring (of_replicas n))
-count_sound p n e =
+count_sound : (p : Program) (version n : ℕ) → IsVersion version → lowest (replicas_faults n) ≡ None → IsSound p (Declaring (of_replicas version n))
+count_sound p version n is e =
     let h = (clean (replicas_faults n) e).range in (
       record {
+        version = is;
+        of_version = tt;
         some_replicas = grind (arith, nat_tests, h);
         few_replicas = grind (arith, nat_tests, h);
         few_objects = omega arith;
@@ -214,40 +258,49 @@ declared_sound p s (Object name kind) is e =
     let typed = is.0.typed in
     let room = h.too_many in (
       record {
+        version = is.0.version;
+        of_version = subst (AllByRecursion (IsOfVersion s.version)) (sym is.1) tt;
         some_replicas = is.0.some_replicas;
         few_replicas = is.0.few_replicas;
         few_objects = few_more (length s.objects) (length (with_name s.objects name)) more room;
         few_events = is.0.few_events;
         typed = omega (arith, more, kinds, typed);
         types = all_more (λ t. t.0 < length p.types) s.kinds _ is.0.types (below (λ (t : TypeDecl). bytes_eq kind t.name.word) p.types (type_place p.types kind) refl h.unknown);
-        events = subst (AllByRecursion (FitsEvent p s.replicas (length (with_name s.objects name)) (s.kinds ++ record { 0 = unwrap_or (type_place p.types kind) 0 } ∷ []))) (sym is.1) tt;
+        events = subst (AreFit p (length (with_name s.objects name)) (s.kinds ++ record { 0 = unwrap_or (type_place p.types kind) 0 } ∷ []) s.replicas) (sym is.1) tt;
       },
       is.1,
     )
   where
     few_more : (n m : ℕ) → m ≡ n + 1 → nat_le 1024 n ≡ false → m ≤ 1024
     few_more n m e h = grind (arith, nat_tests, e, h)
-declared_sound p s Events is e = is.0
+declared_sound p s Events is e = (is.0, ap (replicas_behind s.replicas) (sym is.1))
 
-event_sound : (p : Program) (s : Schedule) (l : EventLine) → IsSchedule p s → lowest (event_faults p s l) ≡ None → IsSchedule p (with_event s (event_of p s l))
-event_sound p s l is e =
-    let room = (either (nat_le 4000 (length s.events)) _ (clean (event_faults p s l) e).too_many).0 in
-    let more = length-append s.events (event_of p s l ∷ []) in
-    record {
-      some_replicas = is.some_replicas;
-      few_replicas = is.few_replicas;
-      few_objects = is.few_objects;
-      few_events = grind (arith, nat_tests, room, more);
-      typed = is.typed;
-      types = is.types;
-      events = all_more (FitsEvent p s.replicas (length s.objects) s.kinds) s.events (event_of p s l) is.events (event_fits p s l e);
-    }
+event_sound : (p : Program) (s : Schedule) (n : ℕ) (l : EventLine) → IsSound p (Running s n) → is_of_version s.version l ≡ true → lowest (event_faults p s n l) ≡ None → IsSound p (after_event p s n l)
+event_sound p s n l sound version e =
+    let is = sound.0 in
+    let room = (either (nat_le 4000 (length s.events)) _ (either (nat_le 4000 (length s.events) || declares_too_many l) (is_full n l) (clean (event_faults p s n l) e).too_many).0).0 in
+    let more = length-append s.events (event_of p s l ∷ []) in (
+      record {
+        version = is.version;
+        of_version = all_more (IsOfVersion s.version) s.events (event_of p s l) is.of_version (event_version p s l version);
+        some_replicas = is.some_replicas;
+        few_replicas = is.few_replicas;
+        few_objects = is.few_objects;
+        few_events = grind (arith, nat_tests, room, more);
+        typed = is.typed;
+        types = is.types;
+        events =
+            fit_more p (length s.objects) s.kinds s.replicas s.events (event_of p s l) is.events
+            (subst (λ (m : ℕ). FitsEvent p m (length s.objects) s.kinds (event_of p s l)) sound.1 (event_fits p s n l e));
+      },
+      counted_so p s n l ∙ ap (λ (m : ℕ). replicas_after m (event_of p s l)) sound.1 ∙ sym (behind-more s.replicas s.events (event_of p s l)),
+    )
 
 line_sound : (p : Program) (a b : Reading) (l : Numbered) → IsSound p a → GivesLine p a l (Ok b) → IsSound p b
-line_sound p Untitled b l is m = subst (IsSound p) (sym m.to) tt
-line_sound p Titled b l is m = subst (IsSound p) (sym m.to) (count_sound p m.line m.lawful)
+line_sound p Untitled b l is m = subst (IsSound p) (sym m.to) m.is.0
+line_sound p (Titled version) b l is m = subst (IsSound p) (sym m.to) (count_sound p version m.line is m.lawful)
 line_sound p (Declaring s) b l is m = subst (IsSound p) (sym m.to) (declared_sound p s m.line is m.lawful)
-line_sound p (Running s) b l is m = subst (IsSound p) (sym m.to) (event_sound p s m.line is m.lawful)
+line_sound p (Running s n) b l is m = subst (IsSound p) (sym m.to) (event_sound p s n m.line is m.is.1 m.lawful)
 
 lines_sound : (p : Program) (ls : List Numbered) (a b : Reading) → IsSound p a → Leads (GivesLine p) Closes a ls b → IsSound p b
 unfolding Leads
@@ -255,9 +308,9 @@ lines_sound p [] a b is h = subst (IsSound p) h is
 lines_sound p (l ∷ ls) a b is h = lines_sound p ls h.0 b (line_sound p a h.0 l is h.1) h.2
 
 closed_sound : (p : Program) (a : Reading) (end : ℕ) (s : Schedule) → IsSound p a → Closes a end (Ok s) → IsSchedule p s
-closed_sound p (Running t) end s is h = let same : t ≡ s = cc in subst (IsSchedule p) same is
+closed_sound p (Running t n) end s is h = let same : t ≡ s = cc in subst (IsSchedule p) same is.0
 closed_sound p Untitled end s is h = absurd cc
-closed_sound p Titled end s is h = absurd cc
+closed_sound p (Titled version) end s is h = absurd cc
 closed_sound p (Declaring t) end s is h = absurd cc
 
 pub file_sound : (p : Program) (file : Ahead) (s : Schedule) → IsScheduleFile p file s → IsSchedule p s

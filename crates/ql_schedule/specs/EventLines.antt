@@ -1,11 +1,11 @@
 -- The lines of events, as they are written. Names may be unknown in them, and numbers out of range.
-use Rattle.std.specs.Prelude.{ℕ, ◌≡◌, ◌<◌, List, [], ◌∷◌, Option, None, Some, codes, length}
+use Rattle.std.specs.Prelude.{ℕ, ◌≡◌, ◌<◌, Bool, true, false, nat_eq, List, [], ◌∷◌, Option, None, Some, codes, length}
 use Rattle.std.specs.List.{AllByRecursion}
 use Rattle.ql_base.specs.Names.{IsName}
 use Rattle.ql_lines.specs.Fields.{Fields}
 use Rattle.ql_schedule.specs.declared.argument.Argument.{Argument}
 use Rattle.ql_schedule.specs.declared.event_line.EventLine.{EventLine}
-use Rattle.ql_schedule.specs.declared.event_line.EventLine.TheVariants.{Call, Begin, Commit, Deliver, Repeat, Lose, Resend, Partition, Heal}
+use Rattle.ql_schedule.specs.declared.event_line.EventLine.TheVariants.{Call, Begin, Commit, Deliver, Repeat, Lose, Resend, Partition, Heal, Join}
 use Rattle.ql_schedule.specs.declared.event_parts.Caller.{Caller}
 use Rattle.ql_schedule.specs.Arguments.{AreArguments}
 use Rattle.ql_schedule.specs.Numbers.{IsNumber}
@@ -56,6 +56,17 @@ pub record IsResend (parts : Fields) (effect sender receiver : ℕ) : Type 0 whe
   pub is_receiver : IsNumber third receiver
   pub are : parts ≡ first ∷ codes "from" ∷ second ∷ codes "to" ∷ third ∷ []
 
+-- the word for how a replica joins
+abbrev pub join_word : Bool → List ℕ
+join_word true = codes "copy"
+join_word false = codes "bare"
+
+-- `copy R`, `bare R`
+pub record IsJoin (parts : Fields) (near : ℕ) (copy : Bool) : Type 0 where
+  pub field : List ℕ
+  pub number : IsNumber field near
+  pub are : parts ≡ join_word copy ∷ field ∷ []
+
 abbrev pub AreNumbers : Fields → List ℕ → Type 0
 AreNumbers [] [] = Unit {0}
 AreNumbers (field ∷ fields) (n ∷ ns) = IsNumber field n × AreNumbers fields ns
@@ -72,6 +83,7 @@ kind_word (Lose n) = codes "lose"
 kind_word (Resend effect sender receiver) = codes "resend"
 kind_word (Partition groups) = codes "partition"
 kind_word Heal = codes "heal"
+kind_word (Join near copy) = codes "join"
 
 -- what stands behind that word
 abbrev pub IsRest : Fields → EventLine → Type 0
@@ -84,12 +96,22 @@ IsRest parts (Lose n) = IsOneNumber parts n
 IsRest parts (Resend effect sender receiver) = IsResend parts effect sender receiver
 IsRest parts (Partition groups) = AreNumbers parts groups
 IsRest parts Heal = parts ≡ []
+IsRest parts (Join near copy) = IsJoin parts near copy
 
 -- the parts of a line are this event
 pub record IsEventLine (parts : Fields) (l : EventLine) : Type 0 where
   pub rest : Fields
   pub are : parts ≡ kind_word l ∷ rest
   pub rest_is : IsRest rest l
+
+-- a version of the format has this line
+abbrev pub is_of_version : ℕ → EventLine → Bool
+is_of_version version (Join near copy) = nat_eq version 2
+is_of_version version _ = true
+
+-- the parts of a line are this event in a version of the format
+abbrev pub IsEventIn : ℕ → Fields → EventLine → Type 0
+IsEventIn version parts l = IsEventLine parts l × (is_of_version version l ≡ true)
 
 -- the event of a kind that parts behind its word are
 abbrev pub IsKindRead : List ℕ → Fields → Option EventLine → Type 0

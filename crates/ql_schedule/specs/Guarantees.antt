@@ -1,6 +1,6 @@
 -- What a schedule guarantees to a store that is to step through it: every number is in range, an object's calls are of its
 -- type, and arguments fit their operation.
-use Rattle.std.specs.Prelude.{ℕ, ◌≡◌, ◌<◌, ◌≤◌, List, [], length, slice_get}
+use Rattle.std.specs.Prelude.{ℕ, ◌≡◌, ◌<◌, ◌≤◌, List, [], ◌∷◌, length, slice_get}
 use Rattle.std.specs.List.{AllByRecursion}
 use Rattle.std.specs.Option.{option_map}
 use Rattle.ql_base.specs.declared.ids.ObjId.{ObjId}
@@ -11,14 +11,16 @@ use Rattle.ql_base.specs.declared.ids.TypeId.{TypeId}
 use Rattle.ql_eval.specs.Able.{AreArgs}
 use Rattle.ql_lang.specs.declared.program.Program.{Program}
 use Rattle.ql_machine.specs.declared.event.Event.{Event}
-use Rattle.ql_machine.specs.declared.event.Event.TheVariants.{Call, Begin, Commit, Deliver, Repeat, Lose, Resend, Partition, Heal}
+use Rattle.ql_machine.specs.declared.event.Event.TheVariants.{Call, Begin, Commit, Deliver, Repeat, Lose, Resend, Partition, Heal, Join}
+use Rattle.ql_machine.specs.Runs.{replicas_after, replicas_behind}
 use Rattle.ql_typing.specs.Operations.{all_ops, op_kinds}
 use Rattle.ql_value.specs.declared.value.Value.{Value}
 use Rattle.ql_schedule.specs.declared.reading.Reading.{Reading}
 use Rattle.ql_schedule.specs.declared.reading.Reading.TheVariants.{Untitled, Titled, Declaring, Running}
 use Rattle.ql_schedule.specs.declared.schedule.Schedule.{Schedule}
+use Rattle.ql_schedule.specs.Headers.{IsVersion}
 
--- the program, the number of replicas, the number of objects and their types
+-- the program, the number of replicas that there are, the number of objects and their types
 module _ (p : Program) (replicas objects : ℕ) (kinds : List TypeId) where
   -- a session and its replica
   pub record IsCaller (session : SessId) (replica : ReplicaId) : Type 0 where
@@ -42,8 +44,21 @@ module _ (p : Program) (replicas objects : ℕ) (kinds : List TypeId) where
   FitsEvent (Resend e sender receiver) = (sender.0 < replicas) × (receiver.0 < replicas)
   FitsEvent (Partition groups) = length groups ≡ replicas
   FitsEvent Heal = Unit {0}
+  FitsEvent (Join near copy) = (near.0 < replicas) × (replicas < 16)
+
+-- events fit one behind the other, where a join makes the replicas one more
+abbrev pub AreFit : Program → ℕ → List TypeId → ℕ → List Event → Type 0
+AreFit p objects kinds replicas [] = Unit {0}
+AreFit p objects kinds replicas (e ∷ events) = FitsEvent p replicas objects kinds e × AreFit p objects kinds (replicas_after replicas e) events
+
+-- a version of the format has this event
+abbrev pub IsOfVersion : ℕ → Event → Type 0
+IsOfVersion version (Join near copy) = version ≡ 2
+IsOfVersion version _ = Unit {0}
 
 pub record IsSchedule (p : Program) (s : Schedule) : Type 0 where
+  pub version : IsVersion s.version
+  pub of_version : AllByRecursion (IsOfVersion s.version) s.events
   pub some_replicas : 1 ≤ s.replicas
   pub few_replicas : s.replicas ≤ 16
   pub few_objects : length s.objects ≤ 1024
@@ -51,11 +66,11 @@ pub record IsSchedule (p : Program) (s : Schedule) : Type 0 where
   -- one type for each object
   pub typed : length s.kinds ≡ length s.objects
   pub types : AllByRecursion (λ t. t.0 < length p.types) s.kinds
-  pub events : AllByRecursion (FitsEvent p s.replicas (length s.objects) s.kinds) s.events
+  pub events : AreFit p (length s.objects) s.kinds s.replicas s.events
 
 -- what is read of a schedule is one
 abbrev pub IsSound : Program → Reading → Type 0
 IsSound p Untitled = Unit {0}
-IsSound p Titled = Unit {0}
+IsSound p (Titled version) = IsVersion version
 IsSound p (Declaring s) = IsSchedule p s × (s.events ≡ [])
-IsSound p (Running s) = IsSchedule p s
+IsSound p (Running s replicas) = IsSchedule p s × (replicas ≡ replicas_behind s.replicas s.events)

@@ -1,13 +1,20 @@
 -- The lines of a schedule before its events, as they are written.
-use Rattle.std.specs.Prelude.{ℕ, ◌≡◌, List, [], ◌∷◌, codes}
+use Rattle.std.specs.Prelude.{ℕ, ◌≡◌, ◌⊎◌, List, [], ◌∷◌, codes, decimal}
 use Rattle.ql_base.specs.Names.{IsName}
 use Rattle.ql_lines.specs.Fields.{Fields}
 use Rattle.ql_schedule.specs.declared.header.Declaration.{Declaration}
 use Rattle.ql_schedule.specs.declared.header.Declaration.TheVariants.{Object, Events}
 use Rattle.ql_schedule.specs.Numbers.{IsNumber}
 
-abbrev pub title : Fields
-title = codes "quelea" ∷ codes "schedule" ∷ codes "1" ∷ []
+-- the versions of the format; joins are of the second
+abbrev pub IsVersion : ℕ → Type 0
+IsVersion version = (version ≡ 1) ⊎ (version ≡ 2)
+
+abbrev pub title : ℕ → Fields
+title version = codes "quelea" ∷ codes "schedule" ∷ decimal version ∷ []
+
+abbrev pub IsTitle : Fields → ℕ → Type 0
+IsTitle parts version = IsVersion version × (parts ≡ title version)
 
 -- `replicas N`
 pub record IsReplicas (parts : Fields) (n : ℕ) : Type 0 where

@@ -10,7 +10,7 @@ use Rattle.ql_typing.specs.Lookups.{txn_place, type_place}
 use Rattle.ql_typing.specs.Operations.{all_ops, op_kinds, op_place}
 use Rattle.ql_schedule.specs.declared.argument.Argument.{Argument}
 use Rattle.ql_schedule.specs.declared.event_line.EventLine.{EventLine}
-use Rattle.ql_schedule.specs.declared.event_line.EventLine.TheVariants.{Call, Begin, Commit, Deliver, Repeat, Lose, Resend, Partition, Heal}
+use Rattle.ql_schedule.specs.declared.event_line.EventLine.TheVariants.{Call, Begin, Commit, Deliver, Repeat, Lose, Resend, Partition, Heal, Join}
 use Rattle.ql_schedule.specs.declared.event_parts.Caller.{Caller}
 use Rattle.ql_schedule.specs.declared.header.Declaration.{Declaration}
 use Rattle.ql_schedule.specs.declared.header.Declaration.TheVariants.{Object, Events}
@@ -78,32 +78,39 @@ abbrev pub is_misfit : Program → Schedule → EventLine → Bool
 is_misfit p s (Call c object op args) = not (may_call p s (place s.objects object) (op_place p.types op) args)
 is_misfit p s _ = false
 
-abbrev pub is_caller_out : Schedule → Caller → Bool
-is_caller_out s c = nat_le most_sessions c.session || nat_le s.replicas c.replica
+-- A replica is below the number of replicas that there are: those of the start, and one for each join above.
+abbrev pub is_caller_out : ℕ → Caller → Bool
+is_caller_out replicas c = nat_le most_sessions c.session || nat_le replicas c.replica
 
 -- 2^32 stands for each number that is as great
 abbrev pub is_number_out : ℕ → Bool
 is_number_out n = nat_le 4294967296 n
 
 -- a group of each replica, each below 16
-abbrev pub are_groups_out : Schedule → List ℕ → Bool
-are_groups_out s groups = not (nat_eq (length groups) s.replicas) || list_any (λ g. nat_le 16 g) groups
+abbrev pub are_groups_out : ℕ → List ℕ → Bool
+are_groups_out replicas groups = not (nat_eq (length groups) replicas) || list_any (λ g. nat_le 16 g) groups
 
 -- a replica, a session, a group or a number out of range
-abbrev pub is_out : Schedule → EventLine → Bool
-is_out s (Call c object op args) = is_caller_out s c || list_any is_too_great args
-is_out s (Begin c txn objects) = is_caller_out s c
-is_out s (Commit c) = is_caller_out s c
-is_out s (Deliver n) = is_number_out n
-is_out s (Repeat n) = is_number_out n
-is_out s (Lose n) = is_number_out n
-is_out s (Resend effect sender receiver) = is_number_out effect || nat_le s.replicas sender || nat_le s.replicas receiver
-is_out s (Partition groups) = are_groups_out s groups
-is_out s Heal = false
+abbrev pub is_out : ℕ → EventLine → Bool
+is_out replicas (Call c object op args) = is_caller_out replicas c || list_any is_too_great args
+is_out replicas (Begin c txn objects) = is_caller_out replicas c
+is_out replicas (Commit c) = is_caller_out replicas c
+is_out replicas (Deliver n) = is_number_out n
+is_out replicas (Repeat n) = is_number_out n
+is_out replicas (Lose n) = is_number_out n
+is_out replicas (Resend effect sender receiver) = is_number_out effect || nat_le replicas sender || nat_le replicas receiver
+is_out replicas (Partition groups) = are_groups_out replicas groups
+is_out replicas Heal = false
+is_out replicas (Join near copy) = nat_le replicas near
 
 abbrev pub declares_too_many : EventLine → Bool
 declares_too_many (Begin c txn objects) = nat_lt most_declared (length objects)
 declares_too_many _ = false
+
+-- a replica joins where there are 16
+abbrev pub is_full : ℕ → EventLine → Bool
+is_full replicas (Join near copy) = nat_le most_replicas replicas
+is_full replicas _ = false
 
 -- a name stands twice in a list
 unfoldable pub has_repeat : List (List ℕ) → Bool
@@ -115,11 +122,12 @@ abbrev pub is_twice : EventLine → Bool
 is_twice (Begin c txn objects) = nat_le (length objects) most_declared && has_repeat objects
 is_twice _ = false
 
-abbrev pub event_faults : Program → Schedule → EventLine → Faults
-event_faults p s l = record {
+-- the rules that an event breaks behind a schedule, with so many replicas there
+abbrev pub event_faults : Program → Schedule → ℕ → EventLine → Faults
+event_faults p s replicas l = record {
   unknown = is_unknown p s l;
   kind = is_misfit p s l;
-  range = is_out s l;
-  too_many = nat_le most_events (length s.events) || declares_too_many l;
+  range = is_out replicas l;
+  too_many = nat_le most_events (length s.events) || declares_too_many l || is_full replicas l;
   twice = is_twice l;
 }

@@ -1,5 +1,5 @@
 -- What a line that breaks no rule adds to a schedule.
-use Rattle.std.specs.Prelude.{ℕ, List, [], ◌∷◌, ◌++◌, unwrap_or}
+use Rattle.std.specs.Prelude.{ℕ, suc, List, [], ◌∷◌, ◌++◌, unwrap_or}
 use Rattle.ql_base.specs.IdLists.{with_id}
 use Rattle.ql_base.specs.Numbering.{place, with_name}
 use Rattle.ql_lang.specs.declared.program.Program.{Program}
@@ -8,7 +8,7 @@ use Rattle.ql_machine.specs.declared.event.Event.TheVariants as event
 use Rattle.ql_typing.specs.Lookups.{txn_place, type_place}
 use Rattle.ql_typing.specs.Operations.{op_place}
 use Rattle.ql_schedule.specs.declared.event_line.EventLine.{EventLine}
-use Rattle.ql_schedule.specs.declared.event_line.EventLine.TheVariants.{Call, Begin, Commit, Deliver, Repeat, Lose, Resend, Partition, Heal}
+use Rattle.ql_schedule.specs.declared.event_line.EventLine.TheVariants.{Call, Begin, Commit, Deliver, Repeat, Lose, Resend, Partition, Heal, Join}
 use Rattle.ql_schedule.specs.declared.schedule.Schedule.{Schedule}
 use Rattle.ql_schedule.specs.Arguments.{values_of}
 
@@ -34,13 +34,20 @@ event_of p s (Lose n) = event.Lose (record { 0 = n })
 event_of p s (Resend effect sender receiver) = event.Resend (record { 0 = effect }) (record { 0 = sender }) (record { 0 = receiver })
 event_of p s (Partition groups) = event.Partition groups
 event_of p s Heal = event.Heal
+event_of p s (Join near copy) = event.Join (record { 0 = near }) copy
+
+-- how many replicas there are behind a line
+abbrev pub replicas_with : ℕ → EventLine → ℕ
+replicas_with replicas (Join near copy) = suc replicas
+replicas_with replicas _ = replicas
 
 -- a schedule without objects and events
-abbrev pub of_replicas : ℕ → Schedule
-of_replicas n = record { replicas = n; objects = []; kinds = []; events = [] }
+abbrev pub of_replicas : ℕ → ℕ → Schedule
+of_replicas version n = record { version = version; replicas = n; objects = []; kinds = []; events = [] }
 
 abbrev pub with_object : Program → Schedule → List ℕ → List ℕ → Schedule
 with_object p s name kind = record {
+  version = s.version;
   replicas = s.replicas;
   objects = with_name s.objects name;
   kinds = s.kinds ++ record { 0 = unwrap_or (type_place p.types kind) 0 } ∷ [];
@@ -48,4 +55,4 @@ with_object p s name kind = record {
 }
 
 abbrev pub with_event : Schedule → Event → Schedule
-with_event s e = record { replicas = s.replicas; objects = s.objects; kinds = s.kinds; events = s.events ++ e ∷ [] }
+with_event s e = record { version = s.version; replicas = s.replicas; objects = s.objects; kinds = s.kinds; events = s.events ++ e ∷ [] }

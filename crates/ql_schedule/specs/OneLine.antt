@@ -1,5 +1,5 @@
 -- A line is one thing, and makes one thing of what was read before it.
-use Rattle.std.proofs.Common.{◌≡◌, ◌⊎◌, inl, inr, ℕ, ◌+◌, ◌*◌, List, [], ◌∷◌, Option, Some, None, Result, Ok, Err, length, get_or, drop, codes, arith, refl, ap, sym, subst, ◌∙◌}
+use Rattle.std.proofs.Common.{◌≡◌, ◌⊎◌, inl, inr, ℕ, ◌+◌, ◌*◌, ◌<◌, ◌^◌, Bool, true, false, List, [], ◌∷◌, Option, Some, None, Result, Ok, Err, length, get_or, drop, codes, arith, refl, ap, sym, subst, ◌∙◌}
 use Rattle.std.proofs.lemmas.Fmt.{decimal_injective}
 use Rattle.ql_lang.specs.declared.program.Program.{Program}
 use Rattle.ql_line_files.specs.declared.fault.Broken.{Broken}
@@ -9,7 +9,7 @@ use Rattle.ql_value.specs.Reading.{Read}
 use Rattle.ql_schedule.specs.declared.argument.Argument.{Argument}
 use Rattle.ql_schedule.specs.declared.argument.Argument.TheVariants.{Given, TooGreat}
 use Rattle.ql_schedule.specs.declared.event_line.EventLine.{EventLine}
-use Rattle.ql_schedule.specs.declared.event_line.EventLine.TheVariants.{Call, Begin, Commit, Deliver, Repeat, Lose, Resend, Partition, Heal}
+use Rattle.ql_schedule.specs.declared.event_line.EventLine.TheVariants.{Call, Begin, Commit, Deliver, Repeat, Lose, Resend, Partition, Heal, Join}
 use Rattle.ql_schedule.specs.declared.event_parts.Caller.{Caller}
 use Rattle.ql_schedule.specs.declared.header.Declaration.{Declaration}
 use Rattle.ql_schedule.specs.declared.header.Declaration.TheVariants.{Object, Events}
@@ -20,8 +20,8 @@ use Rattle.ql_schedule.specs.declared.rules.SchedRule.{SchedRule}
 use Rattle.ql_schedule.specs.declared.rules.SchedRule.TheVariants.{Unexpected, Unknown, Kind, Range, TooMany, Twice}
 use Rattle.ql_schedule.specs.declared.schedule.Schedule.{Schedule}
 use Rattle.ql_schedule.specs.Arguments.{AreArguments, IsArgument}
-use Rattle.ql_schedule.specs.EventLines.{AreNumbers, CallerAt, IsBegin, IsCall, IsCalled, IsEventLine, IsOneNumber, IsResend, IsRest, kind_word}
-use Rattle.ql_schedule.specs.Headers.{IsDeclaration, IsReplicas, title}
+use Rattle.ql_schedule.specs.EventLines.{AreNumbers, CallerAt, IsBegin, IsCall, IsCalled, IsEventIn, IsEventLine, IsJoin, IsOneNumber, IsResend, IsRest, join_word, kind_word}
+use Rattle.ql_schedule.specs.Headers.{IsDeclaration, IsReplicas, IsTitle, IsVersion}
 use Rattle.ql_schedule.specs.Judging.{declaration_faults, event_faults, replicas_faults}
 use Rattle.ql_schedule.specs.Makings.{of_replicas}
 use Rattle.ql_schedule.specs.Numbers.{IsNumber}
@@ -89,12 +89,13 @@ kind_no (Lose n) = 5
 kind_no (Resend effect sender receiver) = 6
 kind_no (Partition groups) = 7
 kind_no Heal = 8
+kind_no (Join near copy) = 9
 
 unfoldable pub word_no : List ℕ → ℕ
 word_no w = get_or w 0 0 + 256 * get_or w 2 0
 
 unfoldable pub no_of_kind : ℕ → ℕ
-no_of_kind k = get_or (27747 ∷ 26466 ∷ 28003 ∷ 27748 ∷ 28786 ∷ 29548 ∷ 29554 ∷ 29296 ∷ 24936 ∷ []) k 0
+no_of_kind k = get_or (27747 ∷ 26466 ∷ 28003 ∷ 27748 ∷ 28786 ∷ 29548 ∷ 29554 ∷ 29296 ∷ 24936 ∷ 26986 ∷ []) k 0
 
 pub no_of_word : (l : EventLine) → word_no (kind_word l) ≡ no_of_kind (kind_no l)
 unfolding word_no no_of_kind
@@ -107,6 +108,7 @@ no_of_word (Lose n) = refl
 no_of_word (Resend effect sender receiver) = refl
 no_of_word (Partition groups) = refl
 no_of_word Heal = refl
+no_of_word (Join near copy) = refl
 
 -- two events of one word, by the number of its kind
 same_no : (l m : EventLine) → kind_word l ≡ kind_word m → no_of_kind (kind_no l) ≡ no_of_kind (kind_no m)
@@ -147,6 +149,19 @@ one_resend parts a b c d e f h k =
     let third = same_number h.third k.third c f (ap (λ (fs : Fields). get_or fs 4 []) same) h.is_receiver k.is_receiver in
     ap (λ x. Resend x b c) first ∙ ap (λ x. Resend d x c) second ∙ ap (λ x. Resend d e x) third
 
+one_join_word : (b c : Bool) → join_word b ≡ join_word c → b ≡ c
+one_join_word true true e = refl
+one_join_word true false e = let first : 99 ≡ 98 = ap (λ (w : List ℕ). get_or w 0 0) e in absurd (omega (arith, first))
+one_join_word false true e = let first : 98 ≡ 99 = ap (λ (w : List ℕ). get_or w 0 0) e in absurd (omega (arith, first))
+one_join_word false false e = refl
+
+one_join : (parts : Fields) (m n : ℕ) (b c : Bool) → IsJoin parts m b → IsJoin parts n c → Join m b ≡ Join n c
+one_join parts m n b c h k =
+    let same = sym h.are ∙ k.are in
+    let near = same_number h.field k.field m n (ap (λ (fs : Fields). get_or fs 1 []) same) h.number k.number in
+    let word = one_join_word b c (ap (λ (fs : Fields). get_or fs 0 []) same) in
+    ap (λ x. Join x b) near ∙ ap (λ x. Join n x) word
+
 one_rest : (parts : Fields) (l m : EventLine) → no_of_kind (kind_no l) ≡ no_of_kind (kind_no m) → IsRest parts l → IsRest parts m → l ≡ m
 unfolding no_of_kind
 one_rest parts (Call c o f xs) (Call d p g ys) e a b = one_call parts c d o p f g xs ys a b
@@ -158,6 +173,7 @@ one_rest parts (Lose m) (Lose n) e a b = ap Lose (one_alone parts m n a b)
 one_rest parts (Resend x y z) (Resend u v w) e a b = one_resend parts x y z u v w a b
 one_rest parts (Partition xs) (Partition ys) e a b = ap Partition (one_numbers parts xs ys a b)
 one_rest parts Heal Heal e a b = refl
+one_rest parts (Join m x) (Join n y) e a b = one_join parts m n x y a b
 one_rest parts l m e a b = absurd (omega (arith, e))
 
 pub one_event : (parts : Fields) (l m : EventLine) → IsEventLine parts l → IsEventLine parts m → l ≡ m
@@ -168,6 +184,13 @@ one_event parts l m h k =
     one_rest k.rest l m (same_no l m word) (subst (λ fs. IsRest fs l) rest h.rest_is) k.rest_is
 
 -- ---- headers
+
+one_title : (parts : Fields) (v w : ℕ) → IsTitle parts v → IsTitle parts w → v ≡ w
+one_title parts v w a b = decimal_injective v w (small v a.0) (small w b.0) (ap (λ (fs : Fields). get_or fs 2 []) (sym a.1 ∙ b.1))
+  where
+    small : (u : ℕ) → IsVersion u → u < 2 ^ 64
+    small u (inl is) = omega (arith, is)
+    small u (inr is) = omega (arith, is)
 
 one_count : (parts : Fields) (m n : ℕ) → IsReplicas parts m → IsReplicas parts n → m ≡ n
 one_count parts m n a b = same_number a.field b.field m n (ap (λ (fs : Fields). get_or fs 1 []) (sym a.are ∙ b.are)) a.number b.number
@@ -243,25 +266,26 @@ module _ {L : Type 0} (Is : L → Type 0) (faults_of : L → Faults) (next : L �
     one_given (Err q) (Err r) h k = ap Err (one_rule q r (ruled q h) (ruled r k))
 
 pub gives_one : (p : Program) (s : Reading) (parts : Fields) (x y : Result Reading SchedRule) → Gives p s parts x → Gives p s parts y → x ≡ y
-gives_one p Untitled parts x y h k = one_given {L = Unit {0}} (λ _. parts ≡ title) (λ _. no_faults) (λ _. Titled) (λ a b e f. refl) x y h k
-gives_one p Titled parts x y h k = one_given (IsReplicas parts) replicas_faults (λ n. Declaring (of_replicas n)) (one_count parts) x y h k
+gives_one p Untitled parts x y h k = one_given (IsTitle parts) (λ _. no_faults) Titled (one_title parts) x y h k
+gives_one p (Titled version) parts x y h k = one_given (IsReplicas parts) replicas_faults (λ n. Declaring (of_replicas version n)) (one_count parts) x y h k
 gives_one p (Declaring s) parts x y h k = one_given (IsDeclaration parts) (declaration_faults p s) (after_declaration p s) (one_declaration parts) x y h k
-gives_one p (Running s) parts x y h k = one_given (IsEventLine parts) (event_faults p s) (after_event p s) (one_event parts) x y h k
+gives_one p (Running s replicas) parts x y h k =
+    one_given (IsEventIn s.version parts) (event_faults p s replicas) (after_event p s replicas) (λ l m a b. one_event parts l m a.0 b.0) x y h k
 
 pub gives_some : (p : Program) (s : Reading) (parts : Fields) → ((x : Result Reading SchedRule) → Gives p s parts x → ⊥) → ⊥
-gives_some p Untitled parts none = some_given {L = Unit {0}} (λ _. parts ≡ title) (λ _. no_faults) (λ _. Titled) none
-gives_some p Titled parts none = some_given (IsReplicas parts) replicas_faults (λ n. Declaring (of_replicas n)) none
+gives_some p Untitled parts none = some_given (IsTitle parts) (λ _. no_faults) Titled none
+gives_some p (Titled version) parts none = some_given (IsReplicas parts) replicas_faults (λ n. Declaring (of_replicas version n)) none
 gives_some p (Declaring s) parts none = some_given (IsDeclaration parts) (declaration_faults p s) (after_declaration p s) none
-gives_some p (Running s) parts none = some_given (IsEventLine parts) (event_faults p s) (after_event p s) none
+gives_some p (Running s replicas) parts none = some_given (IsEventIn s.version parts) (event_faults p s replicas) (after_event p s replicas) none
 
 pub closes_one : (s : Reading) (end : ℕ) (x y : Result Schedule (Broken SchedRule)) → Closes s end x → Closes s end y → x ≡ y
-closes_one (Running s) end x y h k = h ∙ sym k
+closes_one (Running s replicas) end x y h k = h ∙ sym k
 closes_one Untitled end x y h k = h ∙ sym k
-closes_one Titled end x y h k = h ∙ sym k
+closes_one (Titled version) end x y h k = h ∙ sym k
 closes_one (Declaring s) end x y h k = h ∙ sym k
 
 pub closes_some : (s : Reading) (end : ℕ) → ((x : Result Schedule (Broken SchedRule)) → Closes s end x → ⊥) → ⊥
-closes_some (Running s) end none = none (Ok s) refl
+closes_some (Running s replicas) end none = none (Ok s) refl
 closes_some Untitled end none = none (Err (record { line = end; rule = Unexpected })) refl
-closes_some Titled end none = none (Err (record { line = end; rule = Unexpected })) refl
+closes_some (Titled version) end none = none (Err (record { line = end; rule = Unexpected })) refl
 closes_some (Declaring s) end none = none (Err (record { line = end; rule = Unexpected })) refl

@@ -16,10 +16,10 @@ use Rattle.ql_schedule.specs.declared.rules.Faults.{Faults}
 use Rattle.ql_schedule.specs.declared.rules.SchedRule.{SchedRule}
 use Rattle.ql_schedule.specs.declared.rules.SchedRule.TheVariants.{Unexpected, Unknown, Kind, Range, TooMany, Twice}
 use Rattle.ql_schedule.specs.declared.schedule.Schedule.{Schedule}
-use Rattle.ql_schedule.specs.EventLines.{IsEventLine}
-use Rattle.ql_schedule.specs.Headers.{IsDeclaration, IsReplicas, title}
+use Rattle.ql_schedule.specs.EventLines.{IsEventIn}
+use Rattle.ql_schedule.specs.Headers.{IsDeclaration, IsReplicas, IsTitle}
 use Rattle.ql_schedule.specs.Judging.{declaration_faults, event_faults, replicas_faults}
-use Rattle.ql_schedule.specs.Makings.{event_of, of_replicas, with_event, with_object}
+use Rattle.ql_schedule.specs.Makings.{event_of, of_replicas, replicas_with, with_event, with_object}
 use Rattle.ql_schedule.specs.Rules.{lowest, no_faults}
 
 -- ---- one line
@@ -45,23 +45,23 @@ module _ {L : Type 0} (Is : L → Type 0) (faults_of : L → Faults) (next : L �
 
 abbrev pub after_declaration : Program → Schedule → Declaration → Reading
 after_declaration p s (Object name kind) = Declaring (with_object p s name kind)
-after_declaration p s Events = Running s
+after_declaration p s Events = Running s s.replicas
 
-abbrev pub after_event : Program → Schedule → EventLine → Reading
-after_event p s l = Running (with_event s (event_of p s l))
+abbrev pub after_event : Program → Schedule → ℕ → EventLine → Reading
+after_event p s replicas l = Running (with_event s (event_of p s l)) (replicas_with replicas l)
 
 -- what a line with these parts makes of what was read before it, or the lowest rule that it breaks
 abbrev pub Gives : Program → Reading → Fields → Result Reading SchedRule → Type 0
-Gives p Untitled parts = GivesAs {L = Unit {0}} (λ _. parts ≡ title) (λ _. no_faults) (λ _. Titled)
-Gives p Titled parts = GivesAs (IsReplicas parts) replicas_faults (λ n. Declaring (of_replicas n))
+Gives p Untitled parts = GivesAs (IsTitle parts) (λ _. no_faults) Titled
+Gives p (Titled version) parts = GivesAs (IsReplicas parts) replicas_faults (λ n. Declaring (of_replicas version n))
 Gives p (Declaring s) parts = GivesAs (IsDeclaration parts) (declaration_faults p s) (after_declaration p s)
-Gives p (Running s) parts = GivesAs (IsEventLine parts) (event_faults p s) (after_event p s)
+Gives p (Running s replicas) parts = GivesAs (IsEventIn s.version parts) (event_faults p s replicas) (after_event p s replicas)
 
 -- ---- the end of a file
 
 -- a file may end behind the word `events` or behind an event; else the line after its last one is at fault
 abbrev pub Closes : Reading → ℕ → Result Schedule (Broken SchedRule) → Type 0
-Closes (Running s) end x = x ≡ Ok s
+Closes (Running s replicas) end x = x ≡ Ok s
 Closes other end x = x ≡ Err (record { line = end; rule = Unexpected })
 
 -- ---- faults of a file

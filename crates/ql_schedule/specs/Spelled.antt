@@ -8,7 +8,7 @@ use Rattle.ql_base.specs.Numbering.{has_name, place}
 use Rattle.ql_base.specs.declared.ids.TypeId.{TypeId}
 use Rattle.ql_lang.specs.declared.program.Program.{Program}
 use Rattle.ql_machine.specs.declared.event.Event.{Event}
-use Rattle.ql_machine.specs.declared.event.Event.TheVariants.{Call, Begin, Commit, Deliver, Repeat, Lose, Resend, Partition, Heal}
+use Rattle.ql_machine.specs.declared.event.Event.TheVariants.{Call, Begin, Commit, Deliver, Repeat, Lose, Resend, Partition, Heal, Join}
 use Rattle.ql_typing.specs.Lookups.{txn_place, type_place}
 use Rattle.ql_typing.specs.Operations.{op_place}
 use Rattle.ql_value.specs.declared.value.Value.{Value}
@@ -55,6 +55,7 @@ module _ (p : Program) (objects : List (List ℕ)) where
   IsSpelledEvent (Resend e sender receiver) = e.0 < 2 ^ 32
   IsSpelledEvent (Partition groups) = AllByRecursion (λ g. g < 16) groups
   IsSpelledEvent Heal = Unit {0}
+  IsSpelledEvent (Join near copy) = Unit {0}
 
 abbrev pub IsSpelledType : Program → TypeId → Type 0
 IsSpelledType p t = IsName (type_name p t.0) × (type_place p.types (type_name p t.0) ≡ Some t.0)

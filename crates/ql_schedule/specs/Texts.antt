@@ -5,10 +5,11 @@ use Rattle.ql_base.specs.declared.ids.TypeId.{TypeId}
 use Rattle.ql_lang.specs.declared.program.Program.{Program}
 use Rattle.ql_lines.specs.Fields.{Fields}
 use Rattle.ql_machine.specs.declared.event.Event.{Event}
-use Rattle.ql_machine.specs.declared.event.Event.TheVariants.{Call, Begin, Commit, Deliver, Repeat, Lose, Resend, Partition, Heal}
+use Rattle.ql_machine.specs.declared.event.Event.TheVariants.{Call, Begin, Commit, Deliver, Repeat, Lose, Resend, Partition, Heal, Join}
 use Rattle.ql_typing.specs.Operations.{all_ops}
 use Rattle.ql_value.specs.Spelling.{value_text}
 use Rattle.ql_schedule.specs.declared.schedule.Schedule.{Schedule}
+use Rattle.ql_schedule.specs.EventLines.{join_word}
 use Rattle.ql_schedule.specs.Headers.{title}
 
 -- the names of numbers
@@ -42,6 +43,7 @@ event_fields p objects (Resend e sender receiver) =
     codes "resend" ∷ decimal e.0 ∷ codes "from" ∷ decimal sender.0 ∷ codes "to" ∷ decimal receiver.0 ∷ []
 event_fields p objects (Partition groups) = codes "partition" ∷ map decimal groups
 event_fields p objects Heal = codes "heal" ∷ []
+event_fields p objects (Join near copy) = codes "join" ∷ join_word copy ∷ decimal near.0 ∷ []
 
 abbrev pub object_fields : Program → List ℕ → TypeId → Fields
 object_fields p name kind = codes "object" ∷ name ∷ type_name p kind.0 ∷ []
@@ -52,7 +54,7 @@ object_lines p _ _ = []
 
 abbrev pub schedule_lines : Program → Schedule → List Fields
 schedule_lines p s =
-    title ∷ (codes "replicas" ∷ decimal s.replicas ∷ []) ∷ (object_lines p s.objects s.kinds ++ (codes "events" ∷ []) ∷ map (event_fields p s.objects) s.events)
+    title s.version ∷ (codes "replicas" ∷ decimal s.replicas ∷ []) ∷ (object_lines p s.objects s.kinds ++ (codes "events" ∷ []) ∷ map (event_fields p s.objects) s.events)
 
 -- ---- what can be printed: all numbers name something
 

@@ -1,8 +1,8 @@
-ghost use Rattle.std.specs.Prelude.{◌≡◌, ◌∷◌, IfOk, MatchOption, List, ℕ, codes};
+ghost use Rattle.std.specs.Prelude.{◌≡◌, ◌∷◌, IfOk, MatchOption, Bool, List, ℕ, true, false, codes};
 ghost use Rattle.ql_lines.specs.Fields.{Fields};
 ghost use Rattle.ql_schedule.specs.declared.event_parts.Caller.{Caller};
 ghost use Rattle.ql_schedule.specs.declared.event_line.EventLine.{EventLine};
-ghost use Rattle.ql_schedule.specs.EventLines.{IsCalled, IsEventLine, IsKindRead};
+ghost use Rattle.ql_schedule.specs.EventLines.{IsCalled, IsEventIn, IsEventLine, IsKindRead, is_of_version, join_word};
 ghost use Rattle.ql_schedule.specs.Parts.{parts_of};
 
 use crate::argument::arguments;
@@ -37,10 +37,50 @@ pub(crate) enum EventLine {
     },
     Partition(Numbers),
     Heal,
+    Join {
+        near: u64,
+        copy: bool,
+    },
 }
 
-/// The event that a line is.
-pub(crate) fn read_event_line(alloc: Global, text: &[u8]) -> Result<Option<EventLine>, NoMemory>
+/// The event that a line is in a version of the format.
+pub(crate) fn read_event(
+    alloc: Global,
+    version: u32,
+    text: &[u8],
+) -> Result<Option<EventLine>, NoMemory>
+    ensures { IfOk result (λ read. MatchOption read ((l : EventLine) → IsEventIn version (parts_of text.now) l → ⊥) (λ l. IsEventIn version (parts_of text.now) l)) }
+{
+    match read_event_line(alloc, text)? {
+        Some(line) => Ok(in_version(version, line)),
+        None => Ok(None),
+    }
+}
+
+// The line where a version of the format has it.
+fn in_version(version: u32, line: EventLine) -> Option<EventLine>
+    ensures { MatchOption result (is_of_version version line ≡ false) (λ l. (l ≡ line) × (is_of_version version line ≡ true)) }
+{
+    if line.is_of_version(version) {
+        Some(line)
+    } else {
+        None
+    }
+}
+
+impl EventLine {
+    fn is_of_version(&self, version: u32) -> bool
+        ensures { result ≡ is_of_version version self.now }
+    {
+        match self {
+            EventLine::Join { .. } => version == 2,
+            _ => true,
+        }
+    }
+}
+
+// The event that a line is.
+fn read_event_line(alloc: Global, text: &[u8]) -> Result<Option<EventLine>, NoMemory>
     ensures { IfOk result (λ read. MatchOption read ((l : EventLine) → IsEventLine (parts_of text.now) l → ⊥) (λ l. IsEventLine (parts_of text.now) l)) }
 {
     let Some((word, rest)) = first_part(text) else {
@@ -74,6 +114,8 @@ fn plain(word: &[u8], rest: &[u8]) -> Option<EventLine>
         lose(rest)
     } else if word == b"resend".as_slice() {
         resend(rest)
+    } else if word == b"join".as_slice() {
+        join(rest)
     } else if word == b"heal".as_slice() && is_end(rest) {
         Some(EventLine::Heal)
     } else {
@@ -193,6 +235,33 @@ fn resend(text: &[u8]) -> Option<EventLine>
         return None;
     };
     Some(EventLine::Resend { effect, from, to })
+}
+
+#[tactic(auto, using(crate::proofs::NoEvents::no_join, crate::proofs::NoEvents::no_near))]
+fn join(text: &[u8]) -> Option<EventLine>
+    ensures { IsKindRead (codes "join") (parts_of text.now) result }
+{
+    let Some((copy, rest)) = how(text) else {
+        return None;
+    };
+    let Some(near) = one_number(rest) else {
+        return None;
+    };
+    Some(EventLine::Join { near, copy })
+}
+
+#[tactic(auto, using(crate::proofs::NoEvents::no_how))]
+// How a replica joins.
+fn how(text: &[u8]) -> Option<(bool, &[u8])>
+    ensures { MatchOption result ((copy : Bool) (rest : Fields) → parts_of text.now ≡ join_word copy ∷ rest → ⊥) (λ x. parts_of text.now ≡ join_word x.0 ∷ parts_of x.1.now) }
+{
+    if let Some(rest) = after_word(text, b"copy") {
+        return Some((true, rest));
+    }
+    match after_word(text, b"bare") {
+        Some(rest) => Some((false, rest)),
+        None => None,
+    }
 }
 
 fn partition(alloc: Global, text: &[u8]) -> Result<Option<EventLine>, NoMemory>

@@ -17,7 +17,7 @@ pub enum SchedFault {
     Kind(u64),
     /// A replica, a session, a group or a number that is out of range.
     Range(u64),
-    /// One object, one event or one object that a transaction declares above the limit.
+    /// One object, one event, one object that a transaction declares or one replica above the limit.
     TooMany(u64),
     /// A name that is declared twice, or listed twice.
     Twice(u64),

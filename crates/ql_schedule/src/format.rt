@@ -47,7 +47,7 @@ impl<'a> LineFormat for Format<'a> {
 
     fn finish(&self, state: Reading, end: u64) -> Result<Schedule, FileFault<SchedRule>> {
         match state {
-            Reading::Running(schedule) => Ok(schedule),
+            Reading::Running(schedule, _) => Ok(schedule),
             _ => Err(FileFault::Broken(Broken {
                 line: end,
                 rule: SchedRule::Unexpected,

@@ -1,8 +1,8 @@
-ghost use Rattle.std.specs.Prelude.{◌≡◌, ◌∷◌, [], IsTrue, ◌↔◌, MatchOption, List, ℕ, codes};
+ghost use Rattle.std.specs.Prelude.{◌≡◌, ◌∷◌, [], IsTrue, ◌↔◌, MatchOption, List, ℕ, codes, decimal};
 ghost use Rattle.ql_base.specs.Names.{IsName};
 ghost use Rattle.ql_lines.specs.Fields.{Fields};
 ghost use Rattle.ql_schedule.specs.declared.header.Declaration.{Declaration};
-ghost use Rattle.ql_schedule.specs.Headers.{IsDeclaration, IsReplicas, title};
+ghost use Rattle.ql_schedule.specs.Headers.{IsDeclaration, IsReplicas, IsTitle, IsVersion};
 ghost use Rattle.ql_schedule.specs.Parts.{parts_of};
 
 use crate::event_parts::one_number;
@@ -17,24 +17,47 @@ pub(crate) enum Declaration {
     Events,
 }
 
-/// Whether a line is the title of a schedule.
-pub(crate) fn is_title(text: &[u8]) -> bool
-    ensures { IsTrue result ↔ (parts_of text.now ≡ title) }
+/// The version of the format whose title a line is.
+pub(crate) fn read_title(text: &[u8]) -> Option<u32>
+    ensures { MatchOption result ((version : ℕ) → IsTitle (parts_of text.now) version → ⊥) (λ version. IsTitle (parts_of text.now) version) }
 {
     match after_title(text) {
-        Some(behind) => is_end(behind),
-        None => false,
+        Some(behind) => read_version(behind),
+        None => None,
     }
 }
 
 fn after_title(text: &[u8]) -> Option<&[u8]>
-    ensures { MatchOption result ((rest : Fields) → parts_of text.now ≡ codes "quelea" ∷ codes "schedule" ∷ codes "1" ∷ rest → ⊥)
-        (λ behind. parts_of text.now ≡ codes "quelea" ∷ codes "schedule" ∷ codes "1" ∷ parts_of behind.now) }
+    ensures { MatchOption result ((rest : Fields) → parts_of text.now ≡ codes "quelea" ∷ codes "schedule" ∷ rest → ⊥)
+        (λ behind. parts_of text.now ≡ codes "quelea" ∷ codes "schedule" ∷ parts_of behind.now) }
 {
     let rest = after_word(text, b"quelea")?;
-    let rest = after_word(rest, b"schedule")?;
-    let behind = after_word(rest, b"1")?;
+    let behind = after_word(rest, b"schedule")?;
     Some(behind)
+}
+
+// The version that is all of a text.
+fn read_version(text: &[u8]) -> Option<u32>
+    ensures { MatchOption result ((version : ℕ) → IsVersion version → parts_of text.now ≡ decimal version ∷ [] → ⊥)
+        (λ version. IsVersion version × (parts_of text.now ≡ decimal version ∷ [])) }
+{
+    if is_word(text, b"1") {
+        Some(1)
+    } else if is_word(text, b"2") {
+        Some(2)
+    } else {
+        None
+    }
+}
+
+// Whether a text is one word.
+fn is_word(text: &[u8], word: &[u8]) -> bool
+    ensures { IsTrue result ↔ (parts_of text.now ≡ word.now ∷ []) }
+{
+    match after_word(text, word) {
+        Some(behind) => is_end(behind),
+        None => false,
+    }
 }
 
 #[tactic(auto, using(crate::proofs::Fronts::no_count))]
@@ -50,7 +73,7 @@ pub(crate) fn read_replicas(text: &[u8]) -> Option<u64>
 pub(crate) fn read_declaration(text: &[u8]) -> Option<Declaration>
     ensures { MatchOption result ((d : Declaration) → IsDeclaration (parts_of text.now) d → ⊥) (λ d. IsDeclaration (parts_of text.now) d) }
 {
-    if is_events(text) {
+    if is_word(text, b"events") {
         return Some(Declaration::Events);
     }
     let (name, kind) = object(text)?;
@@ -58,15 +81,6 @@ pub(crate) fn read_declaration(text: &[u8]) -> Option<Declaration>
         name: Word::of(name),
         kind: Word::of(kind),
     })
-}
-
-fn is_events(text: &[u8]) -> bool
-    ensures { IsTrue result ↔ (parts_of text.now ≡ codes "events" ∷ []) }
-{
-    match after_word(text, b"events") {
-        Some(behind) => is_end(behind),
-        None => false,
-    }
 }
 
 // An object's name, and that of its type.

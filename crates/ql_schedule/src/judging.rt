@@ -12,6 +12,7 @@ ghost use Rattle.ql_schedule.specs.Judging.{
   event_faults,
   has_repeat,
   is_caller_out,
+  is_full,
   is_misfit,
   is_number_out,
   is_out,
@@ -70,16 +71,24 @@ pub(crate) fn declaration_faults(t: &Typed, so_far: &Schedule, line: &Declaratio
     }
 }
 
-/// The rules that an event breaks after what was said before it.
-pub(crate) fn event_faults(t: &Typed, so_far: &Schedule, line: &EventLine, known: &Known) -> Faults
+/// The rules that an event breaks after what was said before it, with so many replicas there.
+pub(crate) fn event_faults(
+    t: &Typed,
+    so_far: &Schedule,
+    replicas: u32,
+    line: &EventLine,
+    known: &Known,
+) -> Faults
     requires { AreNumbers t.now.program so_far.now line.now known.now }
-    ensures { result ≡ event_faults t.now.program so_far.now line.now }
+    ensures { result ≡ event_faults t.now.program so_far.now replicas line.now }
 {
     Faults {
         unknown: is_unknown(t, so_far, line, known),
         kind: is_misfit(t, so_far, line, known),
-        range: is_out(so_far, line),
-        too_many: so_far.events.items().len() >= MAX_EVENTS || declares_too_many(line),
+        range: is_out(replicas, line),
+        too_many: so_far.events.items().len() >= MAX_EVENTS
+            || declares_too_many(line)
+            || is_full(replicas, line),
         twice: is_twice(line),
     }
 }
@@ -147,30 +156,31 @@ fn fit(params: &[Param], args: &[Argument]) -> bool
     }
 }
 
-fn is_out(so_far: &Schedule, line: &EventLine) -> bool
-    ensures { result ≡ is_out so_far.now line.now }
+fn is_out(replicas: u32, line: &EventLine) -> bool
+    ensures { result ≡ is_out replicas line.now }
 {
-    let replicas = u64::from(so_far.replicas);
+    let count = u64::from(replicas);
     match line {
         EventLine::Call { caller, args, .. } => {
-            is_caller_out(so_far, *caller) || has_too_great(args.items())
+            is_caller_out(replicas, *caller) || has_too_great(args.items())
         }
         EventLine::Begin { caller, .. } | EventLine::Commit(caller) => is_caller_out(
-            so_far, *caller,
+            replicas, *caller,
         ),
         EventLine::Deliver(n) | EventLine::Repeat(n) | EventLine::Lose(n) => is_number_out(*n),
         EventLine::Resend { effect, from, to } => {
-            is_number_out(*effect) || *from >= replicas || *to >= replicas
+            is_number_out(*effect) || *from >= count || *to >= count
         }
-        EventLine::Partition(groups) => are_groups_out(so_far, groups.items()),
+        EventLine::Partition(groups) => are_groups_out(replicas, groups.items()),
         EventLine::Heal => false,
+        EventLine::Join { near, .. } => *near >= count,
     }
 }
 
-fn is_caller_out(so_far: &Schedule, caller: Caller) -> bool
-    ensures { result ≡ is_caller_out so_far.now caller }
+fn is_caller_out(replicas: u32, caller: Caller) -> bool
+    ensures { result ≡ is_caller_out replicas caller }
 {
-    caller.session >= u64::from(MAX_SESSIONS) || caller.replica >= u64::from(so_far.replicas)
+    caller.session >= u64::from(MAX_SESSIONS) || caller.replica >= u64::from(replicas)
 }
 
 fn is_number_out(number: u64) -> bool
@@ -180,10 +190,10 @@ fn is_number_out(number: u64) -> bool
 }
 
 // Each replica has its group, of which there are 16.
-fn are_groups_out(so_far: &Schedule, groups: &[u64]) -> bool
-    ensures { result ≡ are_groups_out so_far.now groups.now }
+fn are_groups_out(replicas: u32, groups: &[u64]) -> bool
+    ensures { result ≡ are_groups_out replicas groups.now }
 {
-    groups.len() != so_far.replicas as usize || has_great_group(groups)
+    groups.len() != replicas as usize || has_great_group(groups)
 }
 
 fn has_great_group(groups: &[u64]) -> bool
@@ -209,6 +219,16 @@ fn declares_too_many(line: &EventLine) -> bool
 {
     match line {
         EventLine::Begin { objects, .. } => objects.items().len() > MAX_DECLARED_OBJECTS,
+        _ => false,
+    }
+}
+
+// Whether a replica joins where there are as many as there may be.
+fn is_full(replicas: u32, line: &EventLine) -> bool
+    ensures { result ≡ is_full replicas line.now }
+{
+    match line {
+        EventLine::Join { .. } => replicas >= MAX_REPLICAS,
         _ => false,
     }
 }

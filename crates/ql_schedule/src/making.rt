@@ -21,49 +21,54 @@ pub(crate) fn event(
     alloc: Global,
     t: &Typed,
     so_far: &Schedule,
+    replicas: u32,
     line: EventLine,
     known: Known,
 ) -> Result<Event, NoMemory>
     requires numbers { AreNumbers t.now.program so_far.now line known }
-    requires lawful { lowest (event_faults t.now.program so_far.now line) ≡ None }
+    requires lawful { lowest (event_faults t.now.program so_far.now replicas line) ≡ None }
     ensures { IfOk result (λ e. e ≡ event_of t.now.program so_far.now line) }
 {
     match line {
         EventLine::Call { caller, args, .. } => Ok(Event::Call {
             session: SessId(caller.session as u32),
-            replica: replica(so_far, caller.replica),
+            replica: replica(replicas, caller.replica),
             object: ObjId(known.object.unwrap()),
             op: known.op.unwrap(),
             args: values(alloc, args)?,
         }),
         EventLine::Begin { caller, .. } => Ok(Event::Begin {
             session: SessId(caller.session as u32),
-            replica: replica(so_far, caller.replica),
+            replica: replica(replicas, caller.replica),
             decl: known.decl.unwrap(),
             objects: known.objects.unwrap(),
         }),
         EventLine::Commit(caller) => Ok(Event::Commit {
             session: SessId(caller.session as u32),
-            replica: replica(so_far, caller.replica),
+            replica: replica(replicas, caller.replica),
         }),
         EventLine::Deliver(n) => Ok(Event::Deliver(MsgId(n as u32))),
         EventLine::Repeat(n) => Ok(Event::Repeat(MsgId(n as u32))),
         EventLine::Lose(n) => Ok(Event::Lose(MsgId(n as u32))),
         EventLine::Resend { effect, from, to } => Ok(Event::Resend {
             effect: EffId(effect as u32),
-            from: replica(so_far, from),
-            to: replica(so_far, to),
+            from: replica(replicas, from),
+            to: replica(replicas, to),
         }),
         EventLine::Partition(numbers) => Ok(Event::Partition(groups(alloc, numbers.items())?)),
         EventLine::Heal => Ok(Event::Heal),
+        EventLine::Join { near, copy } => Ok(Event::Join {
+            near: replica(replicas, near),
+            copy,
+        }),
     }
 }
 
-fn replica(so_far: &Schedule, number: u64) -> ReplicaId
-    requires { number < so_far.now.replicas }
+fn replica(replicas: u32, number: u64) -> ReplicaId
+    requires { number < replicas }
     ensures { result ≡ record { 0 = number } }
 {
-    prove!(number < u64::from(so_far.replicas));
+    prove!(number < u64::from(replicas));
     ReplicaId(number as u32)
 }
 

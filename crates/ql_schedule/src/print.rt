@@ -28,7 +28,9 @@ pub fn print_schedule(alloc: Global, t: &Typed, s: &Schedule) -> Result<Vec<u8>,
     ensures { IfOk result (λ text. text.items ≡ file_text (schedule_lines t.now.program s.now)) }
 {
     let mut text = Vec::new(alloc);
-    push_bytes(&mut text, b"quelea schedule 1\nreplicas ")?;
+    push_bytes(&mut text, b"quelea schedule ")?;
+    push_number(&mut text, s.version)?;
+    push_bytes(&mut text, b"\nreplicas ")?;
     push_number(&mut text, s.replicas)?;
     push_bytes(&mut text, b"\n")?;
     push_objects(&mut text, t, s)?;
@@ -117,6 +119,8 @@ fn push_event(out: &mut Vec<u8>, t: &Typed, objects: &Names, event: &Event) -> R
             push_numbers(out, groups.items())
         }
         Event::Heal => push_bytes(out, b"heal"),
+        Event::Join { near, copy: true } => push_numbered(out, b"join copy", near.0),
+        Event::Join { near, copy: false } => push_numbered(out, b"join bare", near.0),
     }
 }
 

@@ -1,18 +1,18 @@
-ghost use Rattle.std.specs.Prelude.{◌≡◌, IfOk, MatchResult, None, Some};
+ghost use Rattle.std.specs.Prelude.{◌≡◌, false, IfOk, MatchResult, None, Some};
 ghost use Rattle.ql_lang.specs.declared.program.Program.{Program};
 ghost use Rattle.ql_line_files.specs.Answers.{IsLineAnswer};
 ghost use Rattle.ql_line_files.specs.declared.fault.LineFault.TheVariants.{Breaks};
 ghost use Rattle.ql_schedule.specs.declared.header.Declaration.TheVariants.{Object};
 ghost use Rattle.ql_schedule.specs.declared.rules.SchedRule.{SchedRule};
 ghost use Rattle.ql_schedule.specs.declared.reading.Reading.TheVariants.{Declaring, Running, Titled, Untitled};
-ghost use Rattle.ql_schedule.specs.Judging.{declaration_faults};
-ghost use Rattle.ql_schedule.specs.Makings.{with_event, with_object};
+ghost use Rattle.ql_schedule.specs.Judging.{declaration_faults, is_full};
+ghost use Rattle.ql_schedule.specs.Makings.{replicas_with, with_event, with_object};
 ghost use Rattle.ql_schedule.specs.Outcomes.{Gives};
 ghost use Rattle.ql_schedule.specs.Parts.{parts_of};
 ghost use Rattle.ql_schedule.specs.Rules.{lowest};
 
-use crate::event_line::read_event_line;
-use crate::header::{Declaration, is_title, read_declaration, read_replicas};
+use crate::event_line::{EventLine, read_event};
+use crate::header::{Declaration, read_declaration, read_replicas, read_title};
 use crate::judging::{declaration_faults, event_faults, replicas_faults};
 use crate::known::look_up;
 use crate::making::event;
@@ -24,14 +24,15 @@ use ql_machine::Event;
 use ql_typing::Typed;
 use std::alloc::Global;
 
-/// What was read of a schedule: nothing; its title; the number of replicas and some objects; all
-/// that stands before the events, and some events.
+/// What was read of a schedule: nothing; its title, with the version; the number of replicas and some
+/// objects; all that stands before the events, and some events, with the number of replicas that there
+/// are behind them.
 #[derive(Drop)]
 pub(crate) enum Reading {
     Untitled,
-    Titled,
+    Titled(u32),
     Declaring(Schedule),
-    Running(Schedule),
+    Running(Schedule, u32),
 }
 
 /// What is read with one more line.
@@ -45,9 +46,9 @@ pub(crate) fn take(
 {
     match read {
         Reading::Untitled => title(text),
-        Reading::Titled => count(alloc, text),
+        Reading::Titled(version) => count(alloc, version, text),
         Reading::Declaring(so_far) => declare(t, so_far, text),
-        Reading::Running(so_far) => happen(alloc, t, so_far, text),
+        Reading::Running(so_far, replicas) => happen(alloc, t, so_far, replicas, text),
     }
 }
 
@@ -55,22 +56,22 @@ pub(crate) fn take(
 fn title(text: &[u8]) -> Result<Reading, LineFault<SchedRule>>
     ensures { (p : Program) → IsLineAnswer (Gives p Untitled (parts_of text.now)) result }
 {
-    if is_title(text) {
-        Ok(Reading::Titled)
-    } else {
-        Err(LineFault::Breaks(SchedRule::Unexpected))
+    match read_title(text) {
+        Some(version) => Ok(Reading::Titled(version)),
+        None => Err(LineFault::Breaks(SchedRule::Unexpected)),
     }
 }
 
 // The number of replicas.
-fn count(alloc: Global, text: &[u8]) -> Result<Reading, LineFault<SchedRule>>
-    ensures { (p : Program) → IsLineAnswer (Gives p Titled (parts_of text.now)) result }
+fn count(alloc: Global, version: u32, text: &[u8]) -> Result<Reading, LineFault<SchedRule>>
+    ensures { (p : Program) → IsLineAnswer (Gives p (Titled version) (parts_of text.now)) result }
 {
     let Some(number) = read_replicas(text) else {
         return Err(LineFault::Breaks(SchedRule::Unexpected));
     };
     check(replicas_faults(number))?;
     Ok(Reading::Declaring(Schedule {
+        version,
         replicas: number as u32,
         objects: Names::new(alloc),
         kinds: TypeIds::of(Vec::new(alloc)),
@@ -91,7 +92,10 @@ fn declare(t: &Typed, so_far: Schedule, text: &[u8]) -> Result<Reading, LineFaul
             let more = with_object(t, so_far, name, kind)?;
             Ok(Reading::Declaring(more))
         }
-        Declaration::Events => Ok(Reading::Running(so_far)),
+        Declaration::Events => {
+            let replicas = so_far.replicas;
+            Ok(Reading::Running(so_far, replicas))
+        }
     }
 }
 
@@ -101,6 +105,7 @@ fn with_object(t: &Typed, so_far: Schedule, name: &Word, kind: &Word) -> Result<
     ensures { IfOk result (λ more. more ≡ with_object t.now.program so_far name.now kind.now) }
 {
     let Schedule {
+        version,
         replicas,
         mut objects,
         mut kinds,
@@ -109,6 +114,7 @@ fn with_object(t: &Typed, so_far: Schedule, name: &Word, kind: &Word) -> Result<
     objects.number(name.bytes())?;
     kinds.push(t.type_named(kind.bytes()).unwrap())?;
     Ok(Schedule {
+        version,
         replicas,
         objects,
         kinds,
@@ -121,18 +127,31 @@ fn happen(
     alloc: Global,
     t: &Typed,
     so_far: Schedule,
+    replicas: u32,
     text: &[u8],
 ) -> Result<Reading, LineFault<SchedRule>>
-    ensures { IsLineAnswer (Gives t.now.program (Running so_far) (parts_of text.now)) result }
+    ensures { IsLineAnswer (Gives t.now.program (Running so_far replicas) (parts_of text.now)) result }
 {
-    let Some(line) = read_event_line(alloc, text)? else {
+    let Some(line) = read_event(alloc, so_far.version, text)? else {
         return Err(LineFault::Breaks(SchedRule::Unexpected));
     };
     let known = look_up(alloc, t, &so_far, &line)?;
-    check(event_faults(t, &so_far, &line, &known))?;
-    let event = event(alloc, t, &so_far, line, known)?;
+    check(event_faults(t, &so_far, replicas, &line, &known))?;
+    let behind = replicas_with(replicas, &line);
+    let event = event(alloc, t, &so_far, replicas, line, known)?;
     let more = with_event(so_far, event)?;
-    Ok(Reading::Running(more))
+    Ok(Reading::Running(more, behind))
+}
+
+// How many replicas there are behind a line.
+fn replicas_with(replicas: u32, line: &EventLine) -> u32
+    requires { is_full replicas line.now ≡ false }
+    ensures { result ≡ replicas_with replicas line.now }
+{
+    match line {
+        EventLine::Join { .. } => replicas + 1,
+        _ => replicas,
+    }
 }
 
 fn with_event(so_far: Schedule, event: Event) -> Result<Schedule, NoMemory>

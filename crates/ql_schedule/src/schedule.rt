@@ -1,17 +1,42 @@
-ghost use Rattle.std.specs.Prelude.{◌≡◌, ◌++◌, ◌∷◌, [], OnOk};
+ghost use Rattle.std.specs.Prelude.{◌≡◌, ◌++◌, ◌∷◌, ◌+◌, ◌<◌, ◌^◌, ℕ, suc, [], OnOk, length, if◌then◌else◌};
+ghost use Rattle.ql_machine.specs.Runs.{replicas_after, replicas_behind};
 
 use ql_base::{Names, NoMemory, TypeId};
 use ql_machine::Event;
 use std::marker::Model;
 
-/// What happens to a store: how many replicas it has, its objects with the type of each, and the
-/// events in their order.
+/// What happens to a store: how many replicas it has at the start, its objects with the type of each,
+/// and the events in their order.
 #[derive(Drop)]
 pub struct Schedule {
+    /// The version of the format, 1 or 2. Replicas join in the second alone.
+    pub version: u32,
     pub replicas: u32,
     pub objects: Names,
     pub kinds: TypeIds,
     pub events: Events,
+}
+
+impl Schedule {
+    /// How many replicas there are behind all events: those of the start, and one for each join.
+    pub fn last_replicas(&self) -> u32
+        requires { self.now.replicas + length self.now.events < 2 ^ 32 }
+        ensures { result ≡ replicas_behind self.now.replicas self.now.events }
+    {
+        let mut replicas = self.replicas;
+        for event in self.events.items() {
+            if is_join(event) {
+                replicas += 1;
+            }
+        }
+        replicas
+    }
+}
+
+fn is_join(event: &Event) -> bool
+    ensures { (n : ℕ) → replicas_after n event.now ≡ (if result then suc n else n) }
+{
+    matches!(event, Event::Join { .. })
 }
 
 /// A list of types.

@@ -17,7 +17,9 @@ transaction look { uses left; contract true; }";
 const FILES: &str = r#"
  -> Unexpected 1
 quelea schedule 1␊ -> Unexpected 2
-quelea schedule 2␊ -> Unexpected 1
+quelea schedule 2␊ -> Unexpected 2
+quelea schedule 3␊ -> Unexpected 1
+quelea schedule 02␊ -> Unexpected 1
 quelea certificate 1␊ -> Unexpected 1
 quelea schedule 1 1␊ -> Unexpected 1
 quelea  schedule␊ -> Unexpected 1
@@ -48,6 +50,36 @@ fn files_are_schedules(rt: HostRuntime) -> Result<(), Fail> {
     check_table(
         rt.alloc(),
         FILES,
+        |alloc, file| said(alloc, file.as_bytes()),
+    )
+}
+
+// Files in which replicas join.
+const JOINS: &str = r#"
+quelea schedule 2␊replicas 1␊events␊ -> quelea schedule 2␊replicas 1␊events␊
+quelea schedule 2 1␊replicas 1␊events␊ -> Unexpected 1
+quelea schedule 2␊replicas 16␊object p stock␊events␊join copy 0␊ -> TooMany 5
+quelea schedule 1␊replicas 16␊object p stock␊events␊join copy 0␊ -> Unexpected 5
+quelea schedule 2␊replicas 16␊object p stock␊events␊join copy 16␊ -> Range 5
+quelea schedule 2␊replicas 15␊object p stock␊events␊join  bare  14␊ join copy 15␊ -> TooMany 6
+quelea schedule 2␊replicas 2␊object p stock␊events␊join copy 1␊partition 0 1 15␊call 0 at 2 p left␊ -> quelea schedule 2␊replicas 2␊object p stock␊events␊join copy 1␊partition 0 1 15␊call 0 at 2 p left␊
+quelea schedule 2␊replicas 2␊object p stock␊events␊partition 0 1 15␊join copy 1␊ -> Range 5
+quelea schedule 2␊replicas 2␊object p stock␊events␊join copy 1␊partition 0 1␊ -> Range 6
+quelea schedule 2␊replicas 2␊events␊join  copy 1␊join bare 2 ␊resend 1 from 3 to 2␊ -> quelea schedule 2␊replicas 2␊events␊join copy 1␊join bare 2␊resend 1 from 3 to 2␊
+quelea schedule 2␊replicas 2␊events␊join copy 1␊resend 1 from 3 to 2␊ -> Range 5
+quelea schedule 2␊replicas 2␊events␊join copy 2␊ -> Range 4
+quelea schedule 2␊replicas 2␊events␊join copy 4294967296␊ -> Range 4
+quelea schedule 2␊replicas 2␊events␊join copy␊ -> Unexpected 4
+quelea schedule 2␊replicas 2␊events␊join bare 0 0␊ -> Unexpected 4
+quelea schedule 2␊replicas 2␊events␊join all 0␊ -> Unexpected 4
+quelea schedule 2␊replicas 2␊events␊join copy 00␊ -> Unexpected 4
+"#;
+
+#[test]
+fn replicas_join(rt: HostRuntime) -> Result<(), Fail> {
+    check_table(
+        rt.alloc(),
+        JOINS,
         |alloc, file| said(alloc, file.as_bytes()),
     )
 }

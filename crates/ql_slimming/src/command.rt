@@ -61,7 +61,7 @@ fn text_of(
     requires schedule { IsSchedule t.now.program schedule }
     ensures { IfOk result (λ text. (source file : List ℕ) → IsSourceOf source t.now.program → IsScheduleFile t.now.program (ahead_from 1 file) schedule → TellsSlim source file text.items) }
 {
-    let replicas = schedule.replicas;
+    let replicas = schedule.last_replicas();
     let kinds = Vec::from_slice(alloc, schedule.kinds.items())?;
     let run = sound_run(alloc, t, levels, schedule)?;
     print_slim(alloc, t, &run, replicas, &kinds)

@@ -16,8 +16,9 @@ use Rattle.ql_machine.specs.declared.reply.Reply.{Reply}
 use Rattle.ql_machine.specs.State.{Machine, empty, open_of}
 use Rattle.ql_machine.specs.Rules.{Promises, Rules}
 use Rattle.ql_machine.specs.Steps.{IsStep}
+use Rattle.ql_machine.specs.Runs.{replicas_after}
 use Rattle.ql_machine_laws.specs.Kept.{Keeps}
-use Rattle.ql_machine_laws.proofs.Keeping.{keeps-empty, keeps-step}
+use Rattle.ql_machine_laws.proofs.Keeping.{keeps-empty, keeps-step, nothing-there}
 use Rattle.ql_session.specs.declared.note.Note.{Note}
 use Rattle.ql_session.specs.Executions.{notes_of}
 use Rattle.ql_shim.specs.Transactions.{own_of, saw_of}
@@ -37,16 +38,18 @@ pub kept-step : (levels : LevelLists) (rules : Rules) (s t : Machine) (notes mor
     → IsKept levels s notes shim → IsStep rules s event t r → IsInRange (length s.received) levels event → more ≡ notes_of t.effects
     → ((session : SessId) (u : OpenTxn) → open_of t.open_txns session ≡ Some u → IsKnown t.effects u (own_of later session) (saw_of later session)) → IsKept levels t more later
 kept-step levels rules s t notes more shim later event r promises kept step inside noted known =
-    let start : Goes (length s.received) (length levels.txns) s = record { replicas = refl; groups = kept.grouped; receivers = kept.receivers; declared = kept.declared } in
-    let goes : Goes (length s.received) (length levels.txns) t = goes-step (length s.received) (length levels.txns) s start rules event t r step levels refl inside in
-    let keeps : Keeps rules.promises (length s.received) s = subst (λ (p : Promises). Keeps p (length s.received) s) (sym promises) kept.keeps in
-    let after : Keeps rules.promises (length s.received) t = keeps-step rules (length s.received) s keeps event t r step in
+    let start : Goes (length s.received) levels s = record { replicas = refl; few = kept.few; groups = kept.grouped; receivers = kept.receivers; declared = kept.declared; ops = kept.ops } in
+    let goes : Goes (replicas_after (length s.received) event) levels t = goes-step (length s.received) levels s start rules event t r step inside in
+    let keeps : Keeps rules.promises kept.start s = subst (λ (p : Promises). Keeps p kept.start s) (sym promises) kept.keeps in
+    let after : Keeps rules.promises kept.start t = keeps-step rules kept.start s keeps event t r step in
     record {
-      keeps = subst (λ (n : ℕ). Keeps (promises_of levels) n t) (sym goes.replicas) (subst (λ (p : Promises). Keeps p (length s.received) t) promises after);
+      start = kept.start;
+      keeps = subst (λ (p : Promises). Keeps p kept.start t) promises after;
       grouped = goes.groups ∙ sym goes.replicas;
       receivers = subst (λ (n : ℕ). GoWithin n t.messages) (sym goes.replicas) goes.receivers;
-      few = subst (λ (n : ℕ). n ≤ 16) (sym goes.replicas) kept.few;
+      few = subst (λ (n : ℕ). n ≤ 16) (sym goes.replicas) goes.few;
       declared = goes.declared;
+      ops = goes.ops;
       noted = noted;
       known = known;
     }
@@ -68,11 +71,13 @@ kept-empty levels n x received net notes shim most none nothing quiet unnoted un
     let start : empty n ≡ machine_of x received net shim = λ i. machine_of (sym none i) (sym nothing i) (sym quiet i) (sym unbegun i) in
     let long : length (replicate n []) ≡ n = length-replicate {A = List ℕ} n [] in
     subst (λ (s : Machine). IsKept levels s notes shim) start (record {
-      keeps = subst (λ (k : ℕ). Keeps (promises_of levels) k (empty n)) (sym long) (keeps-empty (promises_of levels) n);
+      start = n;
+      keeps = keeps-empty (promises_of levels) n;
       grouped = length-replicate {A = ℕ} n 0 ∙ sym long;
       receivers = All-nil (λ (message : Message). message.receiver.0 < length (replicate n []));
       few = subst (λ (k : ℕ). k ≤ 16) (sym long) most;
       declared = λ session t is. (let never : None ≡ Some t = is in cc);
+      ops = λ a e at. absurd (nothing-there a e at);
       noted = unnoted;
       known = λ session t is. (let never : None ≡ Some t = is in cc);
     })
@@ -105,4 +110,4 @@ kept-either levels s t notes more shim later event (Ok r) P kept is same makes i
     kept-step levels step.0 s t notes more shim later event r step.1 kept step.2 inside noted known
 kept-either levels s t notes more shim later event (Err e) P kept is same makes inside noted known =
     let old : IsKept levels t notes shim = subst (λ (m : Machine). IsKept levels m notes shim) (sym same) kept in
-    record { keeps = old.keeps; grouped = old.grouped; receivers = old.receivers; few = old.few; declared = old.declared; noted = noted; known = known }
+    record { start = old.start; keeps = old.keeps; grouped = old.grouped; receivers = old.receivers; few = old.few; declared = old.declared; ops = old.ops; noted = noted; known = known }

@@ -14,3 +14,4 @@ pub mod StrongLaws
 pub mod OwnLaws
 pub mod StepLaws
 pub mod ReceivedLaws
+pub mod JoinLaws

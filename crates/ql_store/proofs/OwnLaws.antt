@@ -295,14 +295,14 @@ module _ (rules : Rules) (levels : LevelLists) (x : List Effect) (received : Lis
     (kept : IsKept levels (machine_of x received net shim) notes shim) (promises : rules.promises ≡ promises_of levels) (c : Call) (t : OpenTxn) (now : open_of (open_txns shim) c.session ≡ Some t)
     (seen : List ℕ) (may : MayAnswer rules (machine_of x received net shim) c seen) (draft : Draft)
     (is : draft ≡ draft_of c (open_of (open_txns shim) c.session) (rules.answer c.op c.args (seen_in_order x seen)) seen) where
-  keeps : Keeps rules.promises (length received) (machine_of x received net shim)
-  keeps = subst (λ (p : Promises). Keeps p (length received) (machine_of x received net shim)) (sym promises) kept.keeps
+  keeps : Keeps rules.promises kept.start (machine_of x received net shim)
+  keeps = subst (λ (p : Promises). Keeps p kept.start (machine_of x received net shim)) (sym promises) kept.keeps
 
   effect-is : effect_of x draft ≡ effect_made rules (machine_of x received net shim) c seen
   effect-is = ap (effect_of x) is
 
   pub own-lawful : IsExecution (x ++ effect_of x draft ∷ [])
-  own-lawful = subst (λ (e : Effect). IsExecution (x ++ e ∷ [])) (sym effect-is) (made rules (length received) (machine_of x received net shim) c seen keeps may).grown
+  own-lawful = subst (λ (e : Effect). IsExecution (x ++ e ∷ [])) (sym effect-is) (made rules kept.start (machine_of x received net shim) c seen keeps may).grown
 
   pub own-apart : (r : ℕ) → JoinsNone x (effect_of x draft ∷ []) (received_at received r)
   own-apart r =

@@ -82,8 +82,8 @@ pub record IsStrongCall (rules : Rules) (start : ℕ) (s : Machine) (c : Call) :
 
 -- in a store
 pub strong-call : (levels : LevelLists) (s : Machine) (notes : List Note) (shim : Transactions) (uses : DeclId → OpId → Bool) (answer : OpId → List Value → List Effect → Answered) (c : Call)
-    → IsKept levels s notes shim → IsAskedStrong (record { levels = levels; machine = s }) c
-    → IsStrongCall (record { promises = promises_of levels; uses = uses; answer = answer }) (length s.received) s c
+    → (kept : IsKept levels s notes shim) → IsAskedStrong (record { levels = levels; machine = s }) c
+    → IsStrongCall (record { promises = promises_of levels; uses = uses; answer = answer }) kept.start s c
 strong-call levels s notes shim uses answer c kept asked = record { keeps = kept.keeps; none_open = asked.none_open; strong = asked.strong; replica = asked.replica }
 
 module _ (rules : Rules) (start : ℕ) (s : Machine) (c : Call) (is : IsStrongCall rules start s c) where

@@ -5,7 +5,7 @@ use Rattle.ql_machine.specs.declared.event.Event.{Event}
 use Rattle.ql_machine.specs.declared.event.Event.TheVariants as event
 
 -- The replicas of an event are among so many, its operation or declared transaction is one of those with a level, and a
--- partition gives each replica its group.
+-- partition gives each replica its group. A replica joins where there are fewer than 16.
 abbrev pub IsInRange : ℕ → LevelLists → Event → Type 0
 IsInRange n levels (event.Call session replica object op args) = (replica.0 < n) × (op.0 < length levels.ops)
 IsInRange n levels (event.Begin session replica decl objects) = (replica.0 < n) × (decl.0 < length levels.txns)
@@ -16,3 +16,4 @@ IsInRange n levels (event.Lose m) = Unit {0}
 IsInRange n levels (event.Resend effect sender receiver) = (sender.0 < n) × (receiver.0 < n)
 IsInRange n levels (event.Partition groups) = length groups ≡ n
 IsInRange n levels event.Heal = Unit {0}
+IsInRange n levels (event.Join near copy) = (near.0 < n) × (n < 16)

@@ -8,3 +8,4 @@ pub mod Obstacles
 pub mod Answering
 pub mod Conditions
 pub mod Received
+pub mod Joining

@@ -2,6 +2,7 @@
 use Rattle.std.specs.Prelude.{◌≡◌, ◌≤◌, ◌<◌, ℕ, List, All, Some, length}
 use Rattle.ql_base.specs.declared.ids.SessId.{SessId}
 use Rattle.ql_exec.specs.declared.effect.Effect.{Effect}
+use Rattle.ql_exec.specs.Effects.{effect_at}
 use Rattle.ql_levels.specs.Lists.{LevelLists}
 use Rattle.ql_machine.specs.declared.message.Message.{Message}
 use Rattle.ql_machine.specs.declared.open_txn.OpenTxn.{OpenTxn}
@@ -42,15 +43,22 @@ AreKnown x shim = (session : SessId) (t : OpenTxn) → open_of (open_txns shim) 
 abbrev pub AreDeclared : ℕ → List OpenTxn → Type 0
 AreDeclared n open_txns = (session : SessId) (t : OpenTxn) → open_of open_txns session ≡ Some t → t.decl.0 < n
 
+-- the operations of effects are among the first ones
+abbrev pub AreAmongOps : ℕ → List Effect → Type 0
+AreAmongOps n x = (a : ℕ) (e : Effect) → effect_at x a ≡ Some e → e.op.0 < n
+
 pub record IsKept (levels : LevelLists) (s : Machine) (notes : List Note) (shim : Transactions) : Type 0 where
-  -- what every run of the machine keeps at these levels
-  pub keeps : Keeps (promises_of levels) (length s.received) s
+  -- what every run of the machine keeps at these levels, which began with some number of replicas
+  pub start : ℕ
+  pub keeps : Keeps (promises_of levels) start s
   -- each replica has a group, and messages go to replicas
   pub grouped : length s.groups ≡ length s.received
   pub receivers : GoWithin (length s.received) s.messages
   pub few : length s.received ≤ 16
   -- the declared transactions of open ones have levels
   pub declared : AreDeclared (length levels.txns) s.open_txns
+  -- the operations of effects have levels
+  pub ops : AreAmongOps (length levels.ops) s.effects
   -- each effect is noted, and what each open transaction did
   pub noted : notes ≡ notes_of s.effects
   pub known : (session : SessId) (t : OpenTxn) → open_of s.open_txns session ≡ Some t → IsKnown s.effects t (own_of shim session) (saw_of shim session)

@@ -8,6 +8,7 @@ mod begin;
 mod commit;
 mod committed;
 mod deliver;
+mod join;
 mod obstacle;
 mod own;
 mod plain;

@@ -1,4 +1,4 @@
-ghost use Rattle.std.specs.Prelude.{◌≡◌, ◌≢◌, ◌≤◌, ◌<◌, ◌+◌, ◌^◌, ℕ, List, Some, None, true, length, IfOk, OnErr};
+ghost use Rattle.std.specs.Prelude.{◌≡◌, ◌≢◌, ◌≤◌, ◌<◌, ◌+◌, ◌^◌, ℕ, List, Some, None, true, false, length, IfOk, OnErr};
 ghost use Rattle.ql_exec.specs.Effects.{effect_at};
 ghost use Rattle.ql_exec.specs.Execution.{IsOn};
 ghost use Rattle.ql_exec.specs.Folding.{seen_in_order};
@@ -24,6 +24,7 @@ use crate::begin::begin;
 use crate::commit::commit;
 use crate::committed::committed_effects;
 use crate::deliver::deliver;
+use crate::join::{add, bare_holder};
 use crate::obstacle::obstacle;
 use crate::own::{make_own, own_view, refusal};
 use crate::plain::make_plain;
@@ -108,13 +109,14 @@ impl<H: Holder> Store<H> {
         applied_among(self.alloc, holder, self.sessions.on(object))
     }
 
-    /// What a replica has received. Asks it for each effect.
+    /// What a replica has received, which is nothing where there is no such replica. Asks it for each effect.
     pub fn received_at(&self, r: ReplicaId) -> Result<IdSet, NoMemory>
-        requires { r.0 < length self.now.machine.received }
         ensures { IfOk result (λ ids. ids ≡ received_at self.now.machine.received r.0) }
     {
-        let holder = &self.holders[r.0 as usize];
-        received_effects(self.alloc, holder, self.execution.len())
+        match self.holders.get(r.0 as usize) {
+            Some(holder) => received_effects(self.alloc, holder, self.execution.len()),
+            None => Ok(IdSet::new(self.alloc)),
+        }
     }
 
     /// The committed effects: those outside any transaction, and those whose transaction isn't open. Goes over the
@@ -167,6 +169,7 @@ impl<H: Holder> Store<H> {
             Event::Resend { effect, from, to } => self.resend(effect, from, to),
             Event::Partition(groups) => Ok(self.partition(groups)),
             Event::Heal => Ok(self.heal()),
+            Event::Join { near, copy } => self.join(near, copy),
         }
     }
 
@@ -218,6 +221,48 @@ impl<H: Holder> Store<H> {
     {
         self.net.heal();
         Reply::Healed
+    }
+
+    /// A replica joins in the group of another one: as a copy of it, or bare, which is with the effects of
+    /// strong operations and all that they need. It has the next number, and no message is sent.
+    ///
+    /// A copy costs what the other replica has. A bare one costs a pass over the execution, and what the
+    /// strong effects need.
+    pub fn join(&mut self, near: ReplicaId, copy: bool) -> Result<Reply, NoMemory>
+        requires near { near.0 < length self.old.machine.received }
+        requires few { length self.old.machine.received < 16 }
+        ensures step { IfOk result (λ r. (rules : Rules) → rules.promises ≡ promises_of self.old.levels → IsStep rules self.old.machine (event.Join near copy) self.new.machine r) }
+        ensures levels { self.new.levels ≡ self.old.levels }
+        ensures err { OnErr result (self.new ≡ self.old) }
+    {
+        if copy {
+            self.join_copy(near)
+        } else {
+            self.join_bare(near)
+        }
+    }
+
+    fn join_copy(&mut self, near: ReplicaId) -> Result<Reply, NoMemory>
+        requires near { near.0 < length self.old.machine.received }
+        requires few { length self.old.machine.received < 16 }
+        ensures step { IfOk result (λ r. (rules : Rules) → IsStep rules self.old.machine (event.Join near true) self.new.machine r) }
+        ensures levels { self.new.levels ≡ self.old.levels }
+        ensures err { OnErr result (self.new ≡ self.old) }
+    {
+        let holder = &self.holders[near.0 as usize];
+        let joining = holder.copy()?;
+        add(&mut self.holders, &mut self.net, near, joining)
+    }
+
+    fn join_bare(&mut self, near: ReplicaId) -> Result<Reply, NoMemory>
+        requires near { near.0 < length self.old.machine.received }
+        requires few { length self.old.machine.received < 16 }
+        ensures step { IfOk result (λ r. (rules : Rules) → rules.promises ≡ promises_of self.old.levels → IsStep rules self.old.machine (event.Join near false) self.new.machine r) }
+        ensures levels { self.new.levels ≡ self.old.levels }
+        ensures err { OnErr result (self.new ≡ self.old) }
+    {
+        let joining = bare_holder(self.alloc, &self.execution, &self.levels)?;
+        add(&mut self.holders, &mut self.net, near, joining)
     }
 
     /// The network makes one more copy of a message.

@@ -34,6 +34,7 @@ fn push_reply(out: &mut Vec<u8>, reply: &Reply, x: &Execution) -> Result<(), NoM
         Reply::Lost => push_bytes(out, b"lost"),
         Reply::Split => push_bytes(out, b"split"),
         Reply::Healed => push_bytes(out, b"healed"),
+        Reply::Joined(replica) => push_numbered(out, b"joined ", replica.0),
         Reply::Sent(m) => push_numbered(out, b"sent ", m.0),
         Reply::Refused(why) => push_numbered(out, b"refused ", number_of(*why)),
     }

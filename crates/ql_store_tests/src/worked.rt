@@ -85,6 +85,59 @@ fn registers(rt: HostRuntime) -> Result<(), Fail> {
     })
 }
 
+const JOINED_ACCOUNTS_HEADING: &str = "quelea schedule 2
+replicas 2
+object x account
+object y account
+events
+";
+
+// Replicas join in mid-run.
+const JOINED_ACCOUNTS: &str = "
+call 1 at 0 x deposit 100; join bare 0; call 3 at 2 x getbalance; call 1 at 0 x withdraw 30; join bare 1; call 4 at 3 x getbalance; partition 0 0 0 1; call 1 at 0 x withdraw 5 -> ok 1 unit; joined 2; ok 2 0; ok 3 true; joined 3; ok 4 70; split; unavailable 3
+call 1 at 0 x deposit 7; call 1 at 1 y deposit 9; join copy 0; call 3 at 2 x getbalance; call 3 at 2 y getbalance; deliver 2; call 2 at 2 x deposit 1; deliver 3; deliver 4 -> ok 1 unit; ok 2 unit; joined 2; ok 3 7; ok 4 0; applies 2; ok 5 unit; applies 3; waits 1
+partition 0 1; join copy 1; call 1 at 2 x deposit 4; deliver 2; deliver 1; heal; deliver 1; call 5 at 2 x withdraw 3; join bare 0; call 6 at 3 x getbalance; call 6 at 3 y getbalance -> split; joined 2; ok 1 unit; applies 1; cut; healed; applies 1; ok 2 true; joined 3; ok 3 1; ok 4 0
+begin 1 at 0 audit x; call 1 at 0 x deposit 5; join bare 1; call 2 at 2 x withdraw 1; commit 1 at 2; deliver 1; call 2 at 2 x withdraw 1; join bare 2; call 3 at 3 x getbalance -> begun; ok 1 unit; joined 2; held 1; committed 1; applies 1; ok 2 true; joined 3; ok 3 4
+";
+
+#[test]
+fn accounts_at_joined_replicas(rt: HostRuntime) -> Result<(), Fail> {
+    check_table(rt.alloc(), JOINED_ACCOUNTS, |alloc, events| {
+        replied(
+            alloc,
+            ACCOUNTS,
+            ACCOUNT_LEVELS,
+            JOINED_ACCOUNTS_HEADING,
+            events,
+        )
+    })
+}
+
+const JOINED_REGISTER_HEADING: &str = "quelea schedule 2
+replicas 2
+object r reg
+events
+";
+
+const JOINED_REGISTERS: &str = r#"
+call 1 at 0 r write "a"; join copy 0; join bare 0; call 1 at 2 r read; call 1 at 3 r read -> ok 1 unit; joined 2; joined 3; ok 2 "a"; blocked 1
+join copy 1; call 1 at 0 r write "a"; deliver 2; call 1 at 2 r read; resend 1 from 2 to 1; deliver 3 -> joined 2; ok 1 unit; applies 1; ok 2 "a"; sent 5; applies 2
+begin 1 at 0 both r; call 1 at 0 r write "a"; commit 1 at 0; join copy 0; join bare 0; call 2 at 2 r read; call 2 at 3 r read; resend 1 from 0 to 3; deliver 3; call 2 at 3 r read -> begun; ok 1 unit; committed 1; joined 2; joined 3; ok 2 "a"; blocked 2; sent 5; waits 1; blocked 2
+"#;
+
+#[test]
+fn registers_at_joined_replicas(rt: HostRuntime) -> Result<(), Fail> {
+    check_table(rt.alloc(), JOINED_REGISTERS, |alloc, events| {
+        replied(
+            alloc,
+            REGISTER,
+            REGISTER_LEVELS,
+            JOINED_REGISTER_HEADING,
+            events,
+        )
+    })
+}
+
 // The replies to events where replicas of both bodies reply alike.
 fn replied(
     alloc: Global,

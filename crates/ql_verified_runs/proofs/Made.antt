@@ -1,6 +1,5 @@
 -- What every effect of a schedule's run is: of a call of the schedule, and in no transaction or in a begun one.
 use Rattle.std.proofs.Common.{◌≡◌, ℕ, zero, suc, ◌+◌, ◌<◌, ◌≤◌, List, [], ◌∷◌, ◌++◌, Option, Some, None, length, length-append, slice_get, refl, ap, sym, subst, arith, inl, inr, ◌∙◌}
-use Rattle.std.specs.List.{AllByRecursion}
 use Rattle.std.specs.Option.{option_map}
 use Rattle.ql_base.specs.declared.ids.SessId.{SessId}
 use Rattle.ql_base.specs.declared.ids.TypeId.{TypeId}
@@ -19,14 +18,14 @@ use Rattle.ql_machine.specs.Rules.{Call as Asked, Rules}
 use Rattle.ql_machine.specs.Changes.{effect_made, member_of}
 use Rattle.ql_machine.specs.Calls.{IsCall, blocked, held, makes, makes_own, makes_strong, unavailable, undeclared, unused}
 use Rattle.ql_machine.specs.Deliveries.{IsDelivery, again, applies, cut, gone, waits}
-use Rattle.ql_machine.specs.Steps.{IsStep, absent, already_open, begins, begun_txn, calls, commits, delivers, heals, loses, none_open, none_to_lose, none_to_repeat, repeats, resends, splits}
-use Rattle.ql_machine.specs.Runs.{IsRun, Leads, step, stop}
+use Rattle.ql_machine.specs.Steps.{IsStep, absent, already_open, begins, begun_txn, calls, commits, delivers, heals, joins_bare, joins_copy, loses, none_open, none_to_lose, none_to_repeat, repeats, resends, splits}
+use Rattle.ql_machine.specs.Runs.{IsRun, Leads, replicas_after, step, stop}
 use Rattle.ql_machine_laws.proofs.Keeping.{nothing-there}
 use Rattle.ql_machine_laws.proofs.Lists.{open-cases, without-cases}
-use Rattle.ql_schedule.specs.Guarantees.{FitsCall, FitsEvent}
+use Rattle.ql_schedule.specs.Guarantees.{AreFit, FitsCall, FitsEvent}
 use Rattle.ql_typing.specs.Operations.{all_ops, op_kinds}
 
-module _ (p : Program) (replicas objects : ℕ) (kinds : List TypeId) where
+module _ (p : Program) (objects : ℕ) (kinds : List TypeId) where
   -- in no transaction, or in one of those begun
   abbrev pub IsMember : ℕ → Member → Type 0
   IsMember begun Alone = Unit {0}
@@ -61,9 +60,9 @@ module _ (p : Program) (replicas objects : ℕ) (kinds : List TypeId) where
   member-now begun None h = tt
   member-now begun (Some t) h = h t refl
 
-  effect-made : (rules : Rules) (n : ℕ) (s : Machine) (c : Asked) (seen : List ℕ) → KeepsIn n s → FitsCall p replicas objects kinds c.session c.replica c.object c.op c.args
+  effect-made : (rules : Rules) (n replicas : ℕ) (s : Machine) (c : Asked) (seen : List ℕ) → KeepsIn n s → FitsCall p replicas objects kinds c.session c.replica c.object c.op c.args
       → Keeps (suc n) (s.effects ++ effect_made rules s c seen ∷ []) s.open_txns s.begun
-  effect-made rules n s c seen k fits =
+  effect-made rules n replicas s c seen k fits =
       let e = effect_made rules s c seen in
       let long = length-append s.effects (e ∷ []) in
       let few = k.few in
@@ -85,15 +84,15 @@ module _ (p : Program) (replicas objects : ℕ) (kinds : List TypeId) where
         ];
       }
 
-  keeps-call : (rules : Rules) (n : ℕ) (s : Machine) (c : Asked) (after : Machine) (r : Reply) → IsCall rules s c after r → FitsCall p replicas objects kinds c.session c.replica c.object c.op c.args → KeepsIn n s → KeepsIn (suc n) after
-  keeps-call rules n s c _ _ (undeclared t is lacks) fits k = later n s.effects s.open_txns s.begun k
-  keeps-call rules n s c _ _ (unused t is declares unlisted) fits k = later n s.effects s.open_txns s.begun k
-  keeps-call rules n s c _ _ (unavailable q allowed level least) fits k = later n s.effects s.open_txns s.begun k
-  keeps-call rules n s c _ _ (held session allowed level connected least) fits k = later n s.effects s.open_txns s.begun k
-  keeps-call rules n s c _ _ (blocked a may least) fits k = later n s.effects s.open_txns s.begun k
-  keeps-call rules n s c _ _ (makes seen may none weak) fits k = effect-made rules n s c seen k fits
-  keeps-call rules n s c _ _ (makes_strong seen ids may none level are) fits k = effect-made rules n s c seen k fits
-  keeps-call rules n s c _ _ (makes_own t seen may is) fits k = effect-made rules n s c seen k fits
+  keeps-call : (rules : Rules) (n replicas : ℕ) (s : Machine) (c : Asked) (after : Machine) (r : Reply) → IsCall rules s c after r → FitsCall p replicas objects kinds c.session c.replica c.object c.op c.args → KeepsIn n s → KeepsIn (suc n) after
+  keeps-call rules n replicas s c _ _ (undeclared t is lacks) fits k = later n s.effects s.open_txns s.begun k
+  keeps-call rules n replicas s c _ _ (unused t is declares unlisted) fits k = later n s.effects s.open_txns s.begun k
+  keeps-call rules n replicas s c _ _ (unavailable q allowed level least) fits k = later n s.effects s.open_txns s.begun k
+  keeps-call rules n replicas s c _ _ (held session allowed level connected least) fits k = later n s.effects s.open_txns s.begun k
+  keeps-call rules n replicas s c _ _ (blocked a may least) fits k = later n s.effects s.open_txns s.begun k
+  keeps-call rules n replicas s c _ _ (makes seen may none weak) fits k = effect-made rules n replicas s c seen k fits
+  keeps-call rules n replicas s c _ _ (makes_strong seen ids may none level are) fits k = effect-made rules n replicas s c seen k fits
+  keeps-call rules n replicas s c _ _ (makes_own t seen may is) fits k = effect-made rules n replicas s c seen k fits
 
   keeps-delivery : (n : ℕ) (s : Machine) (m : ℕ) (after : Machine) (r : Reply) → IsDelivery s m after r → KeepsIn n s → KeepsIn (suc n) after
   keeps-delivery n s m _ _ (gone none) k = later n s.effects s.open_txns s.begun k
@@ -111,10 +110,10 @@ module _ (p : Program) (replicas objects : ℕ) (kinds : List TypeId) where
   made-later : (begun : ℕ) (e : Effect) → IsMade begun e → IsMade (suc begun) e
   made-later begun e is = record { object = is.object; op = is.op; type = is.type; session = is.session; member = member-later begun e.member is.member }
 
-  keeps-step : (rules : Rules) (n : ℕ) (s : Machine) (e : Event) (after : Machine) (r : Reply) → IsStep rules s e after r → FitsEvent p replicas objects kinds e → KeepsIn n s → KeepsIn (suc n) after
-  keeps-step rules n s _ _ _ (calls session replica object op args after r is) fits k = keeps-call rules n s _ after r is fits k
-  keeps-step rules n s _ _ _ (already_open session replica decl ids t is) fits k = later n s.effects s.open_txns s.begun k
-  keeps-step rules n s _ _ _ (begins session replica decl ids snapshot none less are) fits k =
+  keeps-step : (rules : Rules) (n replicas : ℕ) (s : Machine) (e : Event) (after : Machine) (r : Reply) → IsStep rules s e after r → FitsEvent p replicas objects kinds e → KeepsIn n s → KeepsIn (suc n) after
+  keeps-step rules n replicas s _ _ _ (calls session replica object op args after r is) fits k = keeps-call rules n replicas s _ after r is fits k
+  keeps-step rules n replicas s _ _ _ (already_open session replica decl ids t is) fits k = later n s.effects s.open_txns s.begun k
+  keeps-step rules n replicas s _ _ _ (begins session replica decl ids snapshot none less are) fits k =
       let few = k.few in
       let few_begun = k.few_begun in
       record {
@@ -126,8 +125,8 @@ module _ (p : Program) (replicas objects : ℕ) (kinds : List TypeId) where
         ];
         made = λ a e at. made-later s.begun e (k.made a e at);
       }
-  keeps-step rules n s _ _ _ (none_open session replica none) fits k = later n s.effects s.open_txns s.begun k
-  keeps-step rules n s _ _ _ (commits session replica t own is are) fits k =
+  keeps-step rules n replicas s _ _ _ (none_open session replica none) fits k = later n s.effects s.open_txns s.begun k
+  keeps-step rules n replicas s _ _ _ (commits session replica t own is are) fits k =
       let few = k.few in
       let few_begun = k.few_begun in
       record {
@@ -136,21 +135,23 @@ module _ (p : Program) (replicas objects : ℕ) (kinds : List TypeId) where
         open_ones = λ other u still. k.open_ones other u (without-cases s.open_txns session other u still).1;
         made = k.made;
       }
-  keeps-step rules n s _ _ _ (delivers m after r is) fits k = keeps-delivery n s m.0 after r is k
-  keeps-step rules n s _ _ _ (none_to_repeat m is) fits k = later n s.effects s.open_txns s.begun k
-  keeps-step rules n s _ _ _ (repeats m message is) fits k = later n s.effects s.open_txns s.begun k
-  keeps-step rules n s _ _ _ (none_to_lose m is) fits k = later n s.effects s.open_txns s.begun k
-  keeps-step rules n s _ _ _ (loses m message is) fits k = later n s.effects s.open_txns s.begun k
-  keeps-step rules n s _ _ _ (absent a sender receiver lacks) fits k = later n s.effects s.open_txns s.begun k
-  keeps-step rules n s _ _ _ (resends a sender receiver ids has are) fits k = later n s.effects s.open_txns s.begun k
-  keeps-step rules n s _ _ _ (splits groups) fits k = later n s.effects s.open_txns s.begun k
-  keeps-step rules n s _ _ _ heals fits k = later n s.effects s.open_txns s.begun k
+  keeps-step rules n replicas s _ _ _ (delivers m after r is) fits k = keeps-delivery n s m.0 after r is k
+  keeps-step rules n replicas s _ _ _ (none_to_repeat m is) fits k = later n s.effects s.open_txns s.begun k
+  keeps-step rules n replicas s _ _ _ (repeats m message is) fits k = later n s.effects s.open_txns s.begun k
+  keeps-step rules n replicas s _ _ _ (none_to_lose m is) fits k = later n s.effects s.open_txns s.begun k
+  keeps-step rules n replicas s _ _ _ (loses m message is) fits k = later n s.effects s.open_txns s.begun k
+  keeps-step rules n replicas s _ _ _ (absent a sender receiver lacks) fits k = later n s.effects s.open_txns s.begun k
+  keeps-step rules n replicas s _ _ _ (resends a sender receiver ids has are) fits k = later n s.effects s.open_txns s.begun k
+  keeps-step rules n replicas s _ _ _ (splits groups) fits k = later n s.effects s.open_txns s.begun k
+  keeps-step rules n replicas s _ _ _ heals fits k = later n s.effects s.open_txns s.begun k
+  keeps-step rules n replicas s _ _ _ (joins_copy near less) fits k = later n s.effects s.open_txns s.begun k
+  keeps-step rules n replicas s _ _ _ (joins_bare near ids less are) fits k = later n s.effects s.open_txns s.begun k
 
-  keeps-leads : (rules : Rules) (n m : ℕ) (s : Machine) (events : List Event) (replies : List Reply) (last : Machine) → Leads rules s events replies last → m ≡ n + length events
-      → AllByRecursion (FitsEvent p replicas objects kinds) events → KeepsIn n s → KeepsIn m last
-  keeps-leads rules n m _ _ _ _ (stop s) is fit k = let same : n ≡ m = omega (arith, is) in subst (λ (j : ℕ). KeepsIn j s) same k
-  keeps-leads rules n m _ _ _ _ (step s e next r events replies last now more) is fit k =
-      keeps-leads rules (suc n) m next events replies last more (omega (arith, is)) fit.1 (keeps-step rules n s e next r now fit.0 k)
+  keeps-leads : (rules : Rules) (n m replicas : ℕ) (s : Machine) (events : List Event) (replies : List Reply) (last : Machine) → Leads rules s events replies last → m ≡ n + length events
+      → AreFit p objects kinds replicas events → KeepsIn n s → KeepsIn m last
+  keeps-leads rules n m replicas _ _ _ _ (stop s) is fit k = let same : n ≡ m = omega (arith, is) in subst (λ (j : ℕ). KeepsIn j s) same k
+  keeps-leads rules n m replicas _ _ _ _ (step s e next r events replies last now more) is fit k =
+      keeps-leads rules (suc n) m (replicas_after replicas e) next events replies last more (omega (arith, is)) fit.1 (keeps-step rules n replicas s e next r now fit.0 k)
 
   nothing-yet : (n : ℕ) → KeepsIn 0 (empty n)
   nothing-yet n = record {
@@ -161,5 +162,5 @@ module _ (p : Program) (replicas objects : ℕ) (kinds : List TypeId) where
   }
 
   pub run-keeps : (rules : Rules) (n : ℕ) (events : List Event) (replies : List Reply) (last : Machine) → IsRun rules n events replies last
-      → AllByRecursion (FitsEvent p replicas objects kinds) events → Keeps (length events) last.effects last.open_txns last.begun
-  run-keeps rules n events replies last run fit = keeps-leads rules 0 (length events) (empty n) events replies last run (omega arith) fit (nothing-yet n)
+      → AreFit p objects kinds n events → Keeps (length events) last.effects last.open_txns last.begun
+  run-keeps rules n events replies last run fit = keeps-leads rules 0 (length events) n (empty n) events replies last run (omega arith) fit (nothing-yet n)

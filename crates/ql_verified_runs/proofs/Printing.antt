@@ -25,12 +25,12 @@ use Rattle.ql_typing.specs.Operations.{op_kinds}
 use Rattle.ql_verified_runs.proofs.FoundNames.{finds-names}
 use Rattle.ql_verified_runs.proofs.Made.{IsMember, Keeps, run-keeps}
 
-module _ (p : Program) (replicas objects : ℕ) (kinds : List TypeId) where
-  declared : (begun : ℕ) (m : Member) → IsMember p replicas objects kinds begun m → IsDeclared p m
+module _ (p : Program) (objects : ℕ) (kinds : List TypeId) where
+  declared : (begun : ℕ) (m : Member) → IsMember p objects kinds begun m → IsDeclared p m
   declared begun Alone h = tt
   declared begun (Inside run decl) h = h.2
 
-  numbered : (begun : ℕ) (m : Member) → begun ≤ 4000 → IsMember p replicas objects kinds begun m → FitsMember m
+  numbered : (begun : ℕ) (m : Member) → begun ≤ 4000 → IsMember p objects kinds begun m → FitsMember m
   numbered begun Alone few h = tt
   numbered begun (Inside run decl) few h = let high = h.1 in (h.0, omega (arith, high, few))
 
@@ -51,8 +51,8 @@ run-printable source file text told =
     let x = run.last.effects in
     let rules = rules_of p told.levels in
     let lawful = file_sound p (ahead_from 1 file) s told.is_schedule in
-    let made : Keeps p s.replicas (length s.objects) s.kinds (length s.events) x run.last.open_txns run.last.begun =
-    run-keeps p s.replicas (length s.objects) s.kinds rules s.replicas s.events run.replies run.last run.run lawful.events in
+    let made : Keeps p (length s.objects) s.kinds (length s.events) x run.last.open_txns run.last.begun =
+    run-keeps p (length s.objects) s.kinds rules s.replicas s.events run.replies run.last run.run lawful.events in
     let events = lawful.few_events in
     let few = made.few in
     let few_begun = made.few_begun in
@@ -66,7 +66,7 @@ run-printable source file text told =
       named = λ k d less. record {
         object = (each k d less).object;
         op = (each k d less).op;
-        txn = declared p s.replicas (length s.objects) s.kinds run.last.begun (get_or x k d).member (each k d less).member;
+        txn = declared p (length s.objects) s.kinds run.last.begun (get_or x k d).member (each k d less).member;
       };
       one_type = λ a b e g at there same.
           (let type : slice_get (op_kinds p.types) e.op.0 ≡ slice_get (op_kinds p.types) g.op.0 =
@@ -76,6 +76,6 @@ run-printable source file text told =
           (λ k d less. record {
             values = run.printed.values k d less;
             session = (let session = (each k d less).session in omega (arith, session));
-            member = numbered p s.replicas (length s.objects) s.kinds run.last.begun (get_or x k d).member begun (each k d less).member;
+            member = numbered p (length s.objects) s.kinds run.last.begun (get_or x k d).member begun (each k d less).member;
           });
     }

@@ -15,7 +15,7 @@ use Rattle.ql_machine.specs.Calls.{IsCall, undeclared, unused, unavailable, held
 use Rattle.ql_machine.specs.Deliveries.{IsDelivery, gone, cut, again, waits, applies}
 use Rattle.ql_machine.specs.Rules.{Call, Rules}
 use Rattle.ql_machine.specs.State.{Machine, empty, received_at}
-use Rattle.ql_machine.specs.Steps.{IsStep, calls, already_open, begins, none_open, commits, delivers, none_to_repeat, repeats, none_to_lose, loses, absent, resends, splits, heals}
+use Rattle.ql_machine.specs.Steps.{IsStep, calls, already_open, begins, none_open, commits, delivers, none_to_repeat, repeats, none_to_lose, loses, absent, resends, splits, heals, joins_copy, joins_bare}
 use Rattle.ql_schedule.specs.Guarantees.{IsSchedule}
 use Rattle.ql_schedule.specs.declared.schedule.Schedule.{Schedule}
 use Rattle.ql_store.specs.Levels.{HasLevelOfEach, promises_of, uses_of}
@@ -70,6 +70,8 @@ grows rules s _ _ _ (absent a sender receiver none) = same s.effects
 grows rules s _ _ _ (resends a sender receiver ids has those) = same s.effects
 grows rules s _ _ _ (splits groups) = same s.effects
 grows rules s _ _ _ heals = same s.effects
+grows rules s _ _ _ (joins_copy near inside) = same s.effects
+grows rules s _ _ _ (joins_bare near ids inside those) = same s.effects
 
 -- ---- on the way
 
@@ -128,15 +130,6 @@ module _ (p : Program) (levels : LevelLists) (schedule : Schedule) (each : HasLe
   module _ (fit : AnswersFit p.types) (e : Event) (left : List Event) (at : LevelLists) (s : Machine) (arrivals received : List ℕ) (on : IsWatching p levels schedule r (e ∷ left) at s arrivals received) where
     pub may_go : IsInRange (length s.received) levels e × HasRoom s × IsAnswerable (λ op args effects. IsAble p.types op.0 args effects) s.effects e
     may_go = can-go p levels schedule each is fit (own_rules p levels) refl refl refl on.done left e on.replies s on.parts (on.run (own_rules p levels) own)
-
-    -- the replicas of the start are still there
-    pub replicas_stay : (t : Machine) (reply : Reply)
-        → ((rules : Rules) → rules.promises ≡ promises_of at → rules.uses ≡ uses_of p → rules.answer ≡ (λ op args seen. answered_of p.types op.0 args seen) → IsStep rules s e t reply)
-        → schedule.replicas ≤ length t.received
-    replicas_stay t reply steps =
-        let once = steps (own_rules p levels) (ap promises_of (sym on.levels_are)) refl refl in
-        let run = leads-on (own_rules p levels) (empty schedule.replicas) on.done on.replies s t e reply (on.run (own_rules p levels) own) once in
-        (kept (own_rules p levels) schedule.replicas (on.done ++ e ∷ []) (on.replies ++ reply ∷ []) t run).replicas
 
     pub goes : (t : Machine) (after_levels : LevelLists) (reply : Reply) (after now : List ℕ) → after_levels ≡ at
         → ((rules : Rules) → rules.promises ≡ promises_of at → rules.uses ≡ uses_of p → rules.answer ≡ (λ op args seen. answered_of p.types op.0 args seen) → IsStep rules s e t reply)

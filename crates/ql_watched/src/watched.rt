@@ -1,4 +1,4 @@
-ghost use Rattle.std.specs.Prelude.{◌≡◌, ◌<◌, ◌≤◌, ◌++◌, ℕ, length, IfOk, OnOk};
+ghost use Rattle.std.specs.Prelude.{◌≡◌, ◌≤◌, ◌++◌, ℕ, length, IfOk, OnOk};
 ghost use Rattle.std.specs.List.{AllByRecursion};
 ghost use Rattle.ql_eval.specs.Folds.{answered_of};
 ghost use Rattle.ql_machine.specs.Rules.{Rules};
@@ -23,8 +23,8 @@ pub struct Watched<H: Holder> {
     pub arrivals: Vec<u32>,
 }
 
-/// A new store at these levels goes through the events of a schedule, and a replica is watched. Copies what the replica has
-/// received after each event.
+/// A new store at these levels goes through the events of a schedule, and a replica is watched. One that joins is watched from
+/// its join on, and all that it has then comes with that event. Copies what the replica has received after each event.
 pub fn watched_run<H: Holder>(
     alloc: Global,
     typed: &Typed,
@@ -34,7 +34,6 @@ pub fn watched_run<H: Holder>(
 ) -> Result<Watched<H>, NoMemory>
     requires levels { HasLevelOfEach typed.now.program levels }
     requires schedule { IsSchedule typed.now.program schedule }
-    requires replica { replica.0 < schedule.replicas }
     ensures watched { IfOk result (λ run. (rules : Rules) → rules.promises ≡ promises_of levels → rules.uses ≡ uses_of typed.now.program
         → rules.answer ≡ (λ op args seen. answered_of typed.now.program.types op.0 args seen)
         → Watches rules schedule.replicas replica.0 schedule.events run.store.machine run.arrivals.items) }

@@ -1,4 +1,3 @@
-use Rattle.ql_machine_laws.proofs.Growth.{strong-alone}
 use Rattle.ql_machine_laws.proofs.Runs.{kept}
 use Rattle.ql_machine_laws.proofs.levels.strong_effects_are_ordered.Goals as goal
 
@@ -9,4 +8,4 @@ pub returns-clause-after : goal.returns-clause-after
 returns-clause-after c = λ rules n events replies last run a b e at level less same. (kept rules n events replies last run).strong.seen a b e (at, level) less same
 
 pub returns-clause-alone : goal.returns-clause-alone
-returns-clause-alone c = strong-alone
+returns-clause-alone c = λ rules n events replies last run a e at level. (kept rules n events replies last run).strong.alone a e (at, level)

@@ -1,4 +1,4 @@
-use Rattle.std.proofs.Common.{inl, inr}
+use Rattle.std.proofs.Common.{arith, inl, inr}
 use Rattle.ql_commands.proofs.NamedTargets.{first_fails, refusal_names_targets}
 use Rattle.ql_running.proofs.Saying.{schedule_is_bad}
 use Rattle.ql_restart.proofs.command.restart_run.Goals as goal
@@ -24,13 +24,13 @@ returns-in-Err-classify c = inl (
   ),
 )
 
-pub returns-then-replica-schedule : goal.returns-then-replica-schedule
-returns-then-replica-schedule c = inr (record {
+pub returns-then-replica-replicas : goal.returns-then-replica-replicas
+returns-then-replica-replicas c = inr (record {
   program = c.in-Ok.typed.program;
   schedule = c.in-Ok-parse_schedule.schedule;
   is_source = c.in-Ok.ensures.source;
   is_schedule = c.in-Ok-parse_schedule.ensures.read;
   accepted = c.in-Ok-classify.ensures.accepted;
-  is_none = c.if-replica-schedule.true;
+  is_none = (let is = c.last_replicas-replicas.ensures in let least = c.if-replica-replicas.true in omega (arith, is, least));
   printed = c.in_ok-no_replica.ensures;
 })

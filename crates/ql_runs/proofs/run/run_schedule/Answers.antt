@@ -11,7 +11,7 @@ use Rattle.ql_machine.specs.declared.reply.Reply.{Reply}
 use Rattle.ql_store.specs.Conditions.{IsAnswerable}
 use Rattle.ql_store.specs.State.{StoreState}
 use Rattle.ql_value.specs.declared.value.Value.{Value}
-use Rattle.ql_runs.proofs.Going.{IsGoing, going-able, going-ends, going-on, going-room, going-starts}
+use Rattle.ql_runs.proofs.Going.{IsGoing, going-able, going-count, going-ends, going-on, going-room, going-starts}
 use Rattle.ql_runs.proofs.run.run_schedule.Goals as goal
 
 pub loop-event-init : goal.loop-event-init
@@ -82,3 +82,11 @@ returns-clause-run g c = λ rules promises uses answer.
     going-ends p c.args.levels c.args.schedule c.requires.levels c.requires.schedule c.loop-event.replies.items store.levels store.machine
     (subst (λ (left : List Event). IsGoing p c.args.levels c.args.schedule left c.loop-event.replies.items store.levels store.machine) none c.loop-event.invariant.2)
     rules (record { promises = promises; uses = uses; answer = answer })
+
+pub returns-clause-replicas : goal.returns-clause-replicas
+returns-clause-replicas g c =
+    let p = c.args.typed.now.program in
+    let store = c.loop-event.store in
+    let none = nil_from_length (into_iter_items c.loop-event.event-iterator) (sym c.loop-event.invariant.3 ∙ c.in-None.ensures.steps.0) in
+    going-count p c.args.levels c.args.schedule c.requires.levels c.requires.schedule c.loop-event.replies.items store.levels store.machine
+    (subst (λ (left : List Event). IsGoing p c.args.levels c.args.schedule left c.loop-event.replies.items store.levels store.machine) none c.loop-event.invariant.2)

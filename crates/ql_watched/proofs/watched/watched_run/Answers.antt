@@ -14,7 +14,7 @@ use Rattle.ql_store.specs.Levels.{HasLevelOfEach}
 use Rattle.ql_watched.specs.Watching.{new_ids}
 use Rattle.ql_store.specs.State.{StoreState}
 use Rattle.ql_value.specs.declared.value.Value.{Value}
-use Rattle.ql_watched.proofs.WatchLaws.{IsWatching, starts, may_go, replicas_stay, goes, ends, few}
+use Rattle.ql_watched.proofs.WatchLaws.{IsWatching, starts, may_go, goes, ends, few}
 use Rattle.ql_watched.proofs.watched.watched_run.Goals as goal
 
 pub loop-event-init : goal.loop-event-init
@@ -53,21 +53,6 @@ step-requires g c =
       room = may.1;
       able = subst (λ (ts : List TypeDecl). IsAnswerable (λ op args effects. IsAble ts op.0 args effects) store.machine.effects c.in-Some.event) (sym types) may.2;
     }
-
-pub received_at-requires : goal.received_at-requires
-received_at-requires g c =
-    let p = c.args.typed.now.program in
-    let store = c.loop-event.store in
-    let left = into_iter_items c.next.new.self in
-    let on : IsWatching p c.args.levels c.args.schedule c.args.replica.0 (c.in-Some.event ∷ left) store.levels store.machine c.loop-event.arrivals.items c.loop-event.received =
-    subst (λ (events : List Event). IsWatching p c.args.levels c.args.schedule c.args.replica.0 events store.levels store.machine c.loop-event.arrivals.items c.loop-event.received) c.in-Some.ensures.steps.0 c.loop-event.invariant.2 in
-    let types : c.new-folder.result.typed.now.program.types ≡ p.types = (λ i. (c.new-folder.ensures.same i).now.program.types) in
-    let most = replicas_stay p c.args.levels c.args.schedule c.requires.levels c.requires.schedule c.args.replica.0 c.new-folder.ensures.kinds c.in-Some.event left store.levels store.machine c.loop-event.arrivals.items c.loop-event.received on
-    c.step.new.self.machine c.in_ok-step.field-0
-    (λ rules promises uses answer. c.in_ok-step.ensures.step rules promises uses
-    (subst (λ (ts : List TypeDecl). rules.answer ≡ (λ (op : OpId) (args : List Value) (seen : List Effect). answered_of ts op.0 args seen)) (sym types) answer)) in
-    let inside = c.requires.replica in
-    omega (arith, most, inside)
 
 pub loop-event-preserved : goal.loop-event-preserved
 loop-event-preserved g c =

@@ -41,7 +41,7 @@ returns-in-Some-clause-step g c = λ given promises answer.
     let s = machine_of x received fields.net fields.shim in
     let call : Call = record { session = c.args.session; replica = c.args.replica; object = c.args.object; op = c.args.op; args = c.args.args } in
     let rules : Rules = record { promises = promises_of fields.levels; uses = given.uses; answer = g.F.Folder.answered c.args.folder.now } in
-    let plain : IsPlainCall rules (length received) s call = record {
+    let plain : IsPlainCall rules c.self.invariant.0.start s call = record {
       keeps = c.self.invariant.0.keeps;
       none = subst (λ (v : StoreState). open_of v.machine.open_txns c.args.session ≡ None) (sym c.self.view_is) c.requires.none_open;
       below = subst (λ (v : StoreState). (promises_of v.levels).level c.args.op ≢ Strong) (sym c.self.view_is) c.requires.below;
@@ -64,7 +64,7 @@ returns-in-Some-clause-step g c = λ given promises answer.
     (event.Call c.args.session c.args.replica c.args.object c.args.op c.args.args) (reply.Blocked c.in-Some.missing)
     (promises ∙ ap (λ (v : StoreState). promises_of v.levels) (sym c.self.view_is)) answer
     (subst (λ (v : StoreState). IsStep rules v.machine (event.Call c.args.session c.args.replica c.args.object c.args.op c.args.args) v.machine (reply.Blocked c.in-Some.missing)) c.self.view_is
-    (calls c.args.session c.args.replica c.args.object c.args.op c.args.args s (reply.Blocked c.in-Some.missing) (plain-blocked rules (length received) s call plain ids those c.in-Some.missing found)))
+    (calls c.args.session c.args.replica c.args.object c.args.op c.args.args s (reply.Blocked c.in-Some.missing) (plain-blocked rules c.self.invariant.0.start s call plain ids those c.in-Some.missing found)))
 
 pub answer-requires-clause-seen : goal.answer-requires-clause-seen
 answer-requires-clause-seen g c =
@@ -74,7 +74,7 @@ answer-requires-clause-seen g c =
     let s = machine_of x received fields.net fields.shim in
     let call : Call = record { session = c.args.session; replica = c.args.replica; object = c.args.object; op = c.args.op; args = c.args.args } in
     let rules : Rules = record { promises = promises_of fields.levels; uses = λ decl op. true; answer = g.F.Folder.answered c.args.folder.now } in
-    let plain : IsPlainCall rules (length received) s call = record {
+    let plain : IsPlainCall rules c.self.invariant.0.start s call = record {
       keeps = c.self.invariant.0.keeps;
       none = subst (λ (v : StoreState). open_of v.machine.open_txns c.args.session ≡ None) (sym c.self.view_is) c.requires.none_open;
       below = subst (λ (v : StoreState). (promises_of v.levels).level c.args.op ≢ Strong) (sym c.self.view_is) c.requires.below;
@@ -101,7 +101,7 @@ answer-requires-clause-able g c =
     let s = machine_of x received fields.net fields.shim in
     let call : Call = record { session = c.args.session; replica = c.args.replica; object = c.args.object; op = c.args.op; args = c.args.args } in
     let rules : Rules = record { promises = promises_of fields.levels; uses = λ decl op. true; answer = g.F.Folder.answered c.args.folder.now } in
-    let plain : IsPlainCall rules (length received) s call = record {
+    let plain : IsPlainCall rules c.self.invariant.0.start s call = record {
       keeps = c.self.invariant.0.keeps;
       none = subst (λ (v : StoreState). open_of v.machine.open_txns c.args.session ≡ None) (sym c.self.view_is) c.requires.none_open;
       below = subst (λ (v : StoreState). (promises_of v.levels).level c.args.op ≢ Strong) (sym c.self.view_is) c.requires.below;
@@ -129,7 +129,7 @@ make_plain-requires-clause-lawful g c =
     let s = machine_of x received fields.net fields.shim in
     let call : Call = record { session = c.args.session; replica = c.args.replica; object = c.args.object; op = c.args.op; args = c.args.args } in
     let rules : Rules = record { promises = promises_of fields.levels; uses = λ decl op. true; answer = g.F.Folder.answered c.args.folder.now } in
-    let plain : IsPlainCall rules (length received) s call = record {
+    let plain : IsPlainCall rules c.self.invariant.0.start s call = record {
       keeps = c.self.invariant.0.keeps;
       none = subst (λ (v : StoreState). open_of v.machine.open_txns c.args.session ≡ None) (sym c.self.view_is) c.requires.none_open;
       below = subst (λ (v : StoreState). (promises_of v.levels).level c.args.op ≢ Strong) (sym c.self.view_is) c.requires.below;
@@ -160,7 +160,7 @@ make_plain-requires-clause-lawful g c =
     } in
     let drafted : draft ≡ draft_of call None (rules.answer c.args.op c.args.args (seen_in_order x ids)) ids =
     ap (λ (answered : Answered). draft_of call None answered ids) c.in_ok-answered.ensures in
-    plain-lawful rules (length received) s call plain ids those draft nothing drafted
+    plain-lawful rules c.self.invariant.0.start s call plain ids those draft nothing drafted
 
 pub make_plain-requires-clause-apart : goal.make_plain-requires-clause-apart
 make_plain-requires-clause-apart g c =
@@ -170,7 +170,7 @@ make_plain-requires-clause-apart g c =
     let s = machine_of x received fields.net fields.shim in
     let call : Call = record { session = c.args.session; replica = c.args.replica; object = c.args.object; op = c.args.op; args = c.args.args } in
     let rules : Rules = record { promises = promises_of fields.levels; uses = λ decl op. true; answer = g.F.Folder.answered c.args.folder.now } in
-    let plain : IsPlainCall rules (length received) s call = record {
+    let plain : IsPlainCall rules c.self.invariant.0.start s call = record {
       keeps = c.self.invariant.0.keeps;
       none = subst (λ (v : StoreState). open_of v.machine.open_txns c.args.session ≡ None) (sym c.self.view_is) c.requires.none_open;
       below = subst (λ (v : StoreState). (promises_of v.levels).level c.args.op ≢ Strong) (sym c.self.view_is) c.requires.below;
@@ -199,7 +199,7 @@ make_plain-requires-clause-apart g c =
     } in
     let drafted : draft ≡ draft_of call None (rules.answer c.args.op c.args.args (seen_in_order x ids)) ids =
     ap (λ (answered : Answered). draft_of call None answered ids) c.in_ok-answered.ensures in
-    each-holder g.H.Holder.received (JoinsNone x (effect_of x draft ∷ [])) fields.holders.items (plain-apart rules (length received) s call plain ids those draft drafted)
+    each-holder g.H.Holder.received (JoinsNone x (effect_of x draft ∷ [])) fields.holders.items (plain-apart rules c.self.invariant.0.start s call plain ids those draft drafted)
 
 pub invariant_of-self : goal.invariant_of-self
 invariant_of-self g c =
@@ -209,7 +209,7 @@ invariant_of-self g c =
     let s = machine_of x received fields.net fields.shim in
     let call : Call = record { session = c.args.session; replica = c.args.replica; object = c.args.object; op = c.args.op; args = c.args.args } in
     let rules : Rules = record { promises = promises_of fields.levels; uses = λ decl op. true; answer = g.F.Folder.answered c.args.folder.now } in
-    let plain : IsPlainCall rules (length received) s call = record {
+    let plain : IsPlainCall rules c.self.invariant.0.start s call = record {
       keeps = c.self.invariant.0.keeps;
       none = subst (λ (v : StoreState). open_of v.machine.open_txns c.args.session ≡ None) (sym c.self.view_is) c.requires.none_open;
       below = subst (λ (v : StoreState). (promises_of v.levels).level c.args.op ≢ Strong) (sym c.self.view_is) c.requires.below;
@@ -246,7 +246,7 @@ invariant_of-self g c =
     (sent : c.make_plain.new.net ≡ record fields.net { messages = fields.net.messages ++ package_to_others (length fields.net.groups) c.args.replica ((next_id x).0 ∷ []) }) (r : Reply) (is : r ≡ reply.Ok (next_id x)).
     let step : IsCall rules s call end r =
     subst (λ (t : Machine). IsCall rules s call t r) (sym (plain-after rules x c.make_plain.new.x received lists fields.net c.make_plain.new.net fields.shim call ids draft plain.none drafted c.self.invariant.0.grouped made got sent))
-    (subst (λ (k : Reply). IsCall rules s call (after_plain rules s call ids) k) (sym is) (plain-makes rules (length received) s call plain ids those nothing)) in
+    (subst (λ (k : Reply). IsCall rules s call (after_plain rules s call ids) k) (sym is) (plain-makes rules c.self.invariant.0.start s call plain ids those nothing)) in
     step in
     let result = c.make_plain.result in
     let answered : Reply → Type 0 = λ r. r ≡ reply.Ok (next_id x) in
@@ -256,7 +256,7 @@ invariant_of-self g c =
     let ensures = c.make_plain.ensures in
     let kept = c.self.invariant.0 in
     let notes = c.make_plain.new.sessions in
-    let law : IsExecution (x ++ effect_of x draft ∷ []) = plain-lawful rules (length received) s call plain ids those draft nothing drafted in
+    let law : IsExecution (x ++ effect_of x draft ∷ []) = plain-lawful rules c.self.invariant.0.start s call plain ids those draft nothing drafted in
     let e = event.Call c.args.session c.args.replica c.args.object c.args.op c.args.args in (
       made-either result answered is_made is_received is_sent (c.make_plain.new.x ≡ x) (lists ≡ received) (c.make_plain.new.net ≡ fields.net)
           (IsKept fields.levels end notes fields.shim) ensures.reply ensures.made ensures.received ensures.sent ensures.same ensures.same_received ensures.same_net
@@ -285,7 +285,7 @@ returns-clause-step g c =
     let s = machine_of x received fields.net fields.shim in
     let call : Call = record { session = c.args.session; replica = c.args.replica; object = c.args.object; op = c.args.op; args = c.args.args } in
     let rules : Rules = record { promises = promises_of fields.levels; uses = given.uses; answer = g.F.Folder.answered c.args.folder.now } in
-    let plain : IsPlainCall rules (length received) s call = record {
+    let plain : IsPlainCall rules c.self.invariant.0.start s call = record {
       keeps = c.self.invariant.0.keeps;
       none = subst (λ (v : StoreState). open_of v.machine.open_txns c.args.session ≡ None) (sym c.self.view_is) c.requires.none_open;
       below = subst (λ (v : StoreState). (promises_of v.levels).level c.args.op ≢ Strong) (sym c.self.view_is) c.requires.below;
@@ -322,7 +322,7 @@ returns-clause-step g c =
     (sent : c.make_plain.new.net ≡ record fields.net { messages = fields.net.messages ++ package_to_others (length fields.net.groups) c.args.replica ((next_id x).0 ∷ []) }) (r : Reply) (is : r ≡ reply.Ok (next_id x)).
     let step : IsCall rules s call end r =
     subst (λ (t : Machine). IsCall rules s call t r) (sym (plain-after rules x c.make_plain.new.x received lists fields.net c.make_plain.new.net fields.shim call ids draft plain.none drafted c.self.invariant.0.grouped made got sent))
-    (subst (λ (k : Reply). IsCall rules s call (after_plain rules s call ids) k) (sym is) (plain-makes rules (length received) s call plain ids those nothing)) in
+    (subst (λ (k : Reply). IsCall rules s call (after_plain rules s call ids) k) (sym is) (plain-makes rules c.self.invariant.0.start s call plain ids those nothing)) in
     step in
     by-rules given (promises_of fields.levels) (g.F.Folder.answered c.args.folder.now) c.args.self.now.machine end e r
     (promises ∙ ap (λ (v : StoreState). promises_of v.levels) (sym c.self.view_is)) answer

@@ -47,7 +47,7 @@ returns-in-Some-clause-step g c = λ given promises answer.
     by-rules given (promises_of fields.levels) (g.F.Folder.answered c.args.folder.now) c.args.self.now.machine c.args.self.now.machine e c.in-Some.refusal
     (promises ∙ ap (λ (v : StoreState). promises_of v.levels) (sym c.self.view_is)) answer
     (subst (λ (v : StoreState). IsStep rules v.machine e v.machine c.in-Some.refusal) c.self.view_is
-    (calls c.args.session c.args.replica c.args.object c.args.op c.args.args s c.in-Some.refusal (strong-refused rules (length received) s call is c.in-Some.refusal found)))
+    (calls c.args.session c.args.replica c.args.object c.args.op c.args.args s c.in-Some.refusal (strong-refused rules c.self.invariant.0.start s call is c.in-Some.refusal found)))
 
 pub strong_draft-requires-clause-able : goal.strong_draft-requires-clause-able
 strong_draft-requires-clause-able g c = λ seen on.
@@ -72,7 +72,7 @@ make_strong-requires-clause-lawful g c =
     let draft = c.in_ok-draft.draft in
     let those : AreThose (λ a. IsOn c.args.object (effect_at x a)) draft.seen = c.in_ok-draft.ensures.seen in
     let drafted : draft ≡ draft_of call None (g.F.Folder.answered c.args.folder.now c.args.op c.args.args (seen_in_order x draft.seen)) draft.seen = c.in_ok-draft.ensures.answered in
-    strong-lawful rules (length received) s call is clear draft.seen those draft drafted
+    strong-lawful rules c.self.invariant.0.start s call is clear draft.seen those draft drafted
 
 pub make_strong-requires-clause-apart : goal.make_strong-requires-clause-apart
 make_strong-requires-clause-apart g c =
@@ -91,7 +91,7 @@ make_strong-requires-clause-apart g c =
     let draft = c.in_ok-draft.draft in
     let those : AreThose (λ a. IsOn c.args.object (effect_at x a)) draft.seen = c.in_ok-draft.ensures.seen in
     let drafted : draft ≡ draft_of call None (g.F.Folder.answered c.args.folder.now c.args.op c.args.args (seen_in_order x draft.seen)) draft.seen = c.in_ok-draft.ensures.answered in
-    each-holder g.H.Holder.received (JoinsNone x (effect_of x draft ∷ [])) fields.holders.items (strong-apart rules (length received) s call is clear draft.seen those draft drafted)
+    each-holder g.H.Holder.received (JoinsNone x (effect_of x draft ∷ [])) fields.holders.items (strong-apart rules c.self.invariant.0.start s call is clear draft.seen those draft drafted)
 
 pub make_strong-requires-clause-done : goal.make_strong-requires-clause-done
 make_strong-requires-clause-done g c =
@@ -115,7 +115,7 @@ make_strong-requires-clause-whole g c =
     let draft = c.in_ok-draft.draft in
     let those : AreThose (λ a. IsOn c.args.object (effect_at x a)) draft.seen = c.in_ok-draft.ensures.seen in
     let drafted : draft ≡ draft_of call None (g.F.Folder.answered c.args.folder.now c.args.op c.args.args (seen_in_order x draft.seen)) draft.seen = c.in_ok-draft.ensures.answered in
-    strong-whole rules (length received) s call is clear draft.seen those draft drafted
+    strong-whole rules c.self.invariant.0.start s call is clear draft.seen those draft drafted
 
 pub invariant_of-self : goal.invariant_of-self
 invariant_of-self g c =
@@ -144,13 +144,13 @@ invariant_of-self g c =
     let is_received = (done : List ℕ) × AreThose (λ a. committed x (open_txns fields.shim) a ≡ true) done × (lists ≡ received_by_all (received_by_all received done) ((next_id x).0 ∷ [])) in
     let ensures = c.make_strong.ensures in
     let kept = c.self.invariant.0 in
-    let law : IsExecution (x ++ effect_of x draft ∷ []) = strong-lawful rules (length received) s call is clear draft.seen those draft drafted in (
+    let law : IsExecution (x ++ effect_of x draft ∷ []) = strong-lawful rules c.self.invariant.0.start s call is clear draft.seen those draft drafted in (
       strong-either c.make_strong.result answered is_made is_received (y ≡ x) (lists ≡ received) (IsKept fields.levels end notes fields.shim)
           ensures.reply ensures.made ensures.received ensures.same ensures.same_received
           (λ r reply_is made got.
           let step : IsCall rules s call end r =
           subst (λ (t : Machine). IsCall rules s call t r) (sym (strong-after rules x y received lists fields.net fields.shim call draft.seen got.0 draft is.none_open drafted made got.2))
-          (subst (λ (k : Reply). IsCall rules s call (after_strong rules s call draft.seen got.0) k) (sym reply_is) (strong-makes rules (length received) s call is clear draft.seen those draft drafted got.0 got.1)) in
+          (subst (λ (k : Reply). IsCall rules s call (after_strong rules s call draft.seen got.0) k) (sym reply_is) (strong-makes rules c.self.invariant.0.start s call is clear draft.seen those draft drafted got.0 got.1)) in
           kept-step fields.levels rules s end fields.sessions notes fields.shim fields.shim e r refl kept
           (calls c.args.session c.args.replica c.args.object c.args.op c.args.args end r step) (asked.replica, subst (λ (v : StoreState). c.args.op.0 < length v.levels.ops) (sym c.self.view_is) c.requires.op) ensures.noted
           (λ session t now. subst (λ (z : List Effect). IsKnown z t (own_of fields.shim session) (saw_of fields.shim session)) (sym made)
@@ -188,7 +188,7 @@ returns-clause-step g c =
     let drafted : draft ≡ draft_of call None (g.F.Folder.answered c.args.folder.now c.args.op c.args.args (seen_in_order x draft.seen)) draft.seen = c.in_ok-draft.ensures.answered in
     let step : IsCall rules s call last r =
     subst (λ (t : Machine). IsCall rules s call t r) (sym (strong-after rules x c.make_strong.new.x received all fields.net fields.shim call draft.seen got.0 draft is.none_open drafted made got.2))
-    (subst (λ (k : Reply). IsCall rules s call (after_strong rules s call draft.seen got.0) k) (sym reply_is) (strong-makes rules (length received) s call is clear draft.seen those draft drafted got.0 got.1)) in
+    (subst (λ (k : Reply). IsCall rules s call (after_strong rules s call draft.seen got.0) k) (sym reply_is) (strong-makes rules c.self.invariant.0.start s call is clear draft.seen those draft drafted got.0 got.1)) in
     by-rules given (promises_of fields.levels) (g.F.Folder.answered c.args.folder.now) c.args.self.now.machine last e r
     (promises ∙ ap (λ (v : StoreState). promises_of v.levels) (sym c.self.view_is)) answer
     (subst (λ (v : StoreState). IsStep rules v.machine e last r) c.self.view_is

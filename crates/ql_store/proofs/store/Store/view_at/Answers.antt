@@ -35,7 +35,7 @@ returns g c =
     (λ ids found.
     let applied : AreThose (λ a. Has c.on.result.now a × held.Applied x (received_at received r) a) ids =
     subst (λ (ls : List ℕ). AreThose (λ a. Has c.on.result.now a × held.Applied x ls a) ids) (sym lists) (found x fits) in
-    let same = applied-same (promises_of fields.levels) (length received) s c.self.invariant.0.keeps r in
+    let same = applied-same (promises_of fields.levels) c.self.invariant.0.start s c.self.invariant.0.keeps r in
     let those : AreThose (IsAppliedOn s c.args.replica c.args.object) ids = record {
       ascending = applied.ascending;
       all = λ a is. applied.all a (on.all a is.0, (same a).0 is.1);
