@@ -1,13 +1,15 @@
 -- Replicas that have received the same messages agree.
-use Rattle.std.proofs.Common.{◌≡◌, ◌⊎◌, ◌↔◌, ℕ, zero, suc, ◌<◌, true, ◌&&◌, nat_eq, List, [], ◌∷◌, ◌++◌, Option, Some, None, refl, ap, sym, subst, ◌∙◌, inl, inr}
-use Rattle.std.proofs.lemmas.Bool.{and_parts, eqb-true, false≢true, or_cases}
+use Rattle.std.proofs.Common.{◌≡◌, ◌⊎◌, ◌↔◌, ℕ, zero, suc, ◌<◌, true, ◌&&◌, nat_eq, List, [], ◌∷◌, ◌++◌, Option, Some, None, refl, ap, sym, subst, ◌∙◌, inl, inr, arith}
+use Rattle.std.proofs.lemmas.Bool.{and_parts, eqb-true, false≢true, or_cases, or_right}
 use Rattle.ql_base.specs.IdLists.{has_id}
 use Rattle.ql_base.specs.declared.ids.EffId.{EffId}
 use Rattle.ql_base.specs.declared.ids.ReplicaId.{ReplicaId}
 use Rattle.ql_exec.specs.declared.effect.Effect.{Effect}
+use Rattle.ql_exec.proofs.Chains.{leads-cases}
+use Rattle.ql_exec.proofs.Finding.{so_parts}
 use Rattle.ql_exec.specs.Effects.{effect_at}
 use Rattle.ql_exec.specs.Execution.{IsOn, next_id}
-use Rattle.ql_exec.specs.Relations.{hb}
+use Rattle.ql_exec.specs.Relations.{hb, hb_step, so, soo, vis}
 use Rattle.ql_levels.specs.declared.level.Level.{Level}
 use Rattle.ql_levels.specs.declared.level.Level.TheVariants.{Causal, Eventual, Strong, Wide}
 use Rattle.ql_needs.specs.Closed.{Has}
@@ -24,11 +26,35 @@ use Rattle.ql_machine.specs.Views.{Applied, InView, PlainScope, Scope}
 use Rattle.ql_machine.specs.Blocking.{IsAtHand, IsMissing, IsOf, MissingInTxn, MustSee}
 use Rattle.ql_machine.specs.Changes.{effect_made, is_sent}
 use Rattle.ql_machine.specs.Calls.{HasOpen, IsCall, after_plain, blocked, held, makes, makes_own, makes_strong, unavailable, undeclared, unused}
-use Rattle.ql_machine_laws.specs.Kept.{IsDone, Keeps}
+use Rattle.ql_machine_laws.specs.Kept.{History, IsDone, Keeps, TxnsKept}
 use Rattle.ql_machine_laws.specs.Promised.{AllArrived, IsPlain, at_replica}
-use Rattle.ql_machine_laws.proofs.Pushed.{done-closed}
+use Rattle.ql_machine_laws.proofs.Pushed.{done-closed, undone}
 use Rattle.ql_machine_laws.proofs.OneStep.{same-those}
-use Rattle.ql_machine_laws.proofs.Past.{hb-done}
+use Rattle.ql_machine_laws.proofs.TxnLaws.{done-or-open}
+
+-- ---- what happened before a committed effect is committed
+
+module _ (x : List Effect) (o : List OpenTxn) (begun : ℕ) (txns : TxnsKept x o begun) (history : History x o) where
+  step-done : (a b : ℕ) → hb_step x a b ≡ true → IsDone x o b → IsDone x o a
+  step-done a b step done = elim (or_cases (so x a b) (vis x a b) step) [
+    | inl order ↦
+        let parts = so_parts x a b order in
+        elim (done-or-open x o a parts.first parts.first_at) [
+          | inl is ↦ is
+          | inr own ↦ absurd (undone x o begun txns parts.first.session own.0 own.1 b (txns.last parts.first.session own.0 own.1 a b own.2 order) done)
+        ]
+    | inr seen ↦ history.done b a done (inl (or_right (soo x a b) (vis x a b) seen))
+  ]
+
+  done-below : (bound a b : ℕ) → b < bound → hb x a b ≡ true → IsDone x o b → IsDone x o a
+  done-below zero a b less is done = absurd (omega (arith, less))
+  done-below (suc bound) a b less is done = elim (leads-cases (hb_step x) a b is) [
+    | inl one ↦ step-done a b one done
+    | inr more ↦ let below = more.1 in done-below bound a more.0 (omega (arith, less, below)) more.2 (step-done more.0 b more.3 done)
+  ]
+
+  hb-done : (a b : ℕ) → hb x a b ≡ true → IsDone x o b → IsDone x o a
+  hb-done a b is done = done-below (suc b) a b (omega arith) is done
 
 -- some message carries it there
 pub sent-found : (messages : List Message) (r a : ℕ) → is_sent messages r a ≡ true → (m : ℕ) × (message : Message) × (message_at messages m ≡ Some message) × (message.receiver.0 ≡ r) × Has message.carried a

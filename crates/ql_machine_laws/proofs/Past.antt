@@ -5,16 +5,13 @@ use Rattle.ql_base.specs.declared.ids.SessId.{SessId}
 use Rattle.ql_exec.specs.declared.effect.Effect.{Effect}
 use Rattle.ql_exec.specs.Effects.{effect_at}
 use Rattle.ql_exec.specs.Execution.{IsExecution}
-use Rattle.ql_exec.specs.Relations.{hb, hb_step, so, soo, vis}
+use Rattle.ql_exec.specs.Relations.{hb, hb_step, so, vis}
 use Rattle.ql_exec.proofs.Chains.{leads-cases, leads-more, leads-step}
 use Rattle.ql_exec.proofs.Finding.{effect_at-within, so_parts}
 use Rattle.ql_formula.proofs.Closures.{leads-less}
 use Rattle.ql_needs.specs.Closed.{Has}
-use Rattle.ql_machine.specs.declared.open_txn.OpenTxn.{OpenTxn}
 use Rattle.ql_machine.specs.Blocking.{InPast, IsAtHand, IsOf}
-use Rattle.ql_machine_laws.specs.Kept.{History, IsDone, TxnsKept}
-use Rattle.ql_machine_laws.proofs.Pushed.{inside-found, same_session, seen-before, seen-found, so-cases, undone, vis-cases}
-use Rattle.ql_machine_laws.proofs.TxnLaws.{done-or-open}
+use Rattle.ql_machine_laws.proofs.Pushed.{same_session, seen-before, seen-found, so-cases, vis-cases}
 
 -- who sees more has a larger past
 pub past-wider : (x : List Effect) (session : SessId) (sees others : ℕ → Type 0) → ((a : ℕ) → sees a → others a) → (a : ℕ) → InPast x session sees a → InPast x session others a
@@ -80,27 +77,3 @@ module _ (x : List Effect) (e : Effect) (law : IsExecution (x ++ e ∷ [])) wher
     | inl one ↦ (a, at-hand a b new one, inl refl)
     | inr more ↦ let below = more.1 in (more.0, at-hand more.0 b new more.3, inr (hb-shorter a more.0 (omega (arith, below, new)) more.2))
   ]
-
--- ---- what happened before a committed effect is committed
-
-module _ (x : List Effect) (o : List OpenTxn) (begun : ℕ) (txns : TxnsKept x o begun) (history : History x o) where
-  step-done : (a b : ℕ) → hb_step x a b ≡ true → IsDone x o b → IsDone x o a
-  step-done a b step done = elim (or_cases (so x a b) (vis x a b) step) [
-    | inl order ↦
-        let parts = so_parts x a b order in
-        elim (done-or-open x o a parts.first parts.first_at) [
-          | inl is ↦ is
-          | inr own ↦ absurd (undone x o begun txns parts.first.session own.0 own.1 b (txns.last parts.first.session own.0 own.1 a b own.2 order) done)
-        ]
-    | inr seen ↦ history.done b a done (inl (or_right (soo x a b) (vis x a b) seen))
-  ]
-
-  done-below : (bound a b : ℕ) → b < bound → hb x a b ≡ true → IsDone x o b → IsDone x o a
-  done-below zero a b less is done = absurd (omega (arith, less))
-  done-below (suc bound) a b less is done = elim (leads-cases (hb_step x) a b is) [
-    | inl one ↦ step-done a b one done
-    | inr more ↦ let below = more.1 in done-below bound a more.0 (omega (arith, less, below)) more.2 (step-done more.0 b more.3 done)
-  ]
-
-  pub hb-done : (a b : ℕ) → hb x a b ≡ true → IsDone x o b → IsDone x o a
-  hb-done a b is done = done-below (suc b) a b (omega arith) is done
