@@ -33,15 +33,15 @@ module _ (p : Program) where
   two-steps [] a b l none more = ap (λ (z : List ℕ). z ++ b) none ∙ more
   two-steps (g ∷ goals) a b l first second = (a, b, first, one-step goals b (omega (arith, l)) second, refl)
 
-  three-steps : (goals : List Goal) (a b c : List ℕ) → length goals ≤ 3 → IsStepText p (slice_get goals 0) a → IsStepText p (slice_get goals 1) b → IsStepText p (slice_get goals 2) c → InTurn (IsCounterText p) goals (a ++ b ++ c)
-  three-steps [] a b c l none more most = ap (λ (z : List ℕ). z ++ b ++ c) none ∙ ap (λ (z : List ℕ). z ++ c) more ∙ most
+  three-steps : (goals : List Goal) (a b c : List ℕ) → length goals ≤ 3 → IsStepText p (slice_get goals 0) a → IsStepText p (slice_get goals 1) b → IsStepText p (slice_get goals 2) c → InTurn (IsCounterText p) goals (a ++ (b ++ c))
+  three-steps [] a b c l none more most = ap (λ (z : List ℕ). z ++ (b ++ c)) none ∙ ap (λ (z : List ℕ). z ++ c) more ∙ most
   three-steps (g ∷ goals) a b c l first second third = (a, b ++ c, first, two-steps goals b c (omega (arith, l)) second third, refl)
 
   pub target_told : (g : Goal) (out lined first second last : List ℕ) → lined ≡ out ++ target_line p g
       → Appended (IsStepText p (slice_get (goals_below g) 0)) lined first → Appended (IsStepText p (slice_get (goals_below g) 1)) first second
       → Appended (IsStepText p (slice_get (goals_below g) 2)) second last → Appended (TellsTarget p g) out last
   target_told g out lined first second last line (a, lowest, e) (b, next, f) (c, highest, h) =
-      let counters = a ++ b ++ c in (
+      let counters = a ++ (b ++ c) in (
         target_line p g ++ counters,
         (counters, three-steps (goals_below g) a b c (few_below g) lowest next highest, refl),
         h
