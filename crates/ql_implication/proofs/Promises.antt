@@ -9,7 +9,7 @@ use Rattle.ql_levels.specs.Formulas.{formula_of, txn_formula_of}
 use Rattle.ql_levels.specs.declared.level.Level.TheVariants.{Causal, Eventual, Strong, Wide}
 use Rattle.ql_levels.specs.declared.level.TxnLevel.TheVariants.{Mav, Rc, Rr}
 use Rattle.ql_ground.specs.Relations as ground
-use Rattle.ql_ground.proofs.Laws.{hb-irreflexive, hb-one, hb-trans, hbo-hb, hbo-one, hbo-sameobj, hbo-trans, sameobj-sym, sameobj-trans}
+use Rattle.ql_ground.proofs.Laws.{hb-irreflexive, hb-trans, hbo-hb, hbo-one, hbo-sameobj, hbo-trans, sameobj-sym, sameobj-trans}
 use Rattle.ql_implication.proofs.Plain.{plain_all, sameobj-same, vis-same}
 use Rattle.ql_implication.proofs.Chains.{hb-same, hbo-same}
 use Rattle.ql_implication.proofs.Same.{execution-same}

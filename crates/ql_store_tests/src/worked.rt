@@ -85,7 +85,8 @@ fn registers(rt: HostRuntime) -> Result<(), Fail> {
     })
 }
 
-const PAGES: &str = "type page { op write(): unit { contract true; answer unit; } op look(): unit { contract true; answer unit; } }
+const PAGES: &str =
+    "type page { op write(): unit { contract true; answer unit; } op look(): unit { contract true; answer unit; } }
 transaction both { uses write, look; contract true; }";
 
 const PAGES_HEADING: &str = "quelea schedule 1

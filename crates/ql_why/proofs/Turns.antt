@@ -45,10 +45,10 @@ module _ (p : Program) where
         target_line p g ++ counters,
         (counters, three-steps (goals_below g) a b c (few_below g) lowest next highest, refl),
         h
-        ∙ ap (λ (z : List ℕ). z ++ c) (f ∙ ap (λ (z : List ℕ). z ++ b) (e ∙ ap (λ (z : List ℕ). z ++ a) line))
-        ∙ append_assoc ((out ++ target_line p g) ++ a) b c
-        ∙ append_assoc (out ++ target_line p g) a (b ++ c)
-        ∙ append_assoc out (target_line p g) counters,
+            ∙ ap (λ (z : List ℕ). z ++ c) (f ∙ ap (λ (z : List ℕ). z ++ b) (e ∙ ap (λ (z : List ℕ). z ++ a) line))
+            ∙ append_assoc ((out ++ target_line p g) ++ a) b c
+            ∙ append_assoc (out ++ target_line p g) a (b ++ c)
+            ∙ append_assoc out (target_line p g) counters,
       )
 
 pub on_ok : {A E B C : Type 0} (r : Result A E) → (B → C) → OnOk r B → OnOk r C
