@@ -25,9 +25,9 @@ fn main() {
         let program = parse_program(&text).unwrap_or_else(|fault| bad("source", fault));
         let typed = typecheck(&program).unwrap_or_else(|fault| bad("source", fault));
         println!("{path}");
-        let list = |kind: &str, k: usize, target: Target, levels: [Level; 3]| {
+        let list = |kind: &str, k: usize, target: Target, levels: &[Level]| {
             for level in levels {
-                let problem = problem(&typed, target, level);
+                let problem = problem(&typed, target, *level);
                 let (variables, clauses) = (problem.variables, problem.clauses.len());
                 let (word, sum) = (level.word(), checksum(&problem));
                 println!("{kind} {k} {word}: {variables} variables, {clauses} clauses, {sum}");

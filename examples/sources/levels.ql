@@ -8,6 +8,10 @@ type t {
     contract forall a. hbo(a, cur) => vis(a, cur);
     answer unit;
   }
+  op at_wide(): unit {
+    contract forall a. hb(a, cur) /\ sameobj(a, cur) => vis(a, cur);
+    answer unit;
+  }
   op at_strong(): unit {
     contract forall a. sameobj(a, cur) => vis(a, cur) \/ vis(cur, a) \/ a = cur;
     answer unit;

@@ -6,20 +6,22 @@ use super::types::{Body, Formula, Term, Typed};
 pub enum Level {
     Eventual,
     Causal,
+    Wide,
     Strong,
     Rc,
     Mav,
     Rr,
 }
 
-pub const OP_LEVELS: [Level; 3] = [Level::Eventual, Level::Causal, Level::Strong];
-pub const TXN_LEVELS: [Level; 3] = [Level::Rc, Level::Mav, Level::Rr];
+pub const OP_LEVELS: &[Level] = &[Level::Eventual, Level::Causal, Level::Wide, Level::Strong];
+pub const TXN_LEVELS: &[Level] = &[Level::Rc, Level::Mav, Level::Rr];
 
 impl Level {
     pub fn word(self) -> &'static str {
         match self {
             Level::Eventual => "eventual",
             Level::Causal => "causal",
+            Level::Wide => "wide",
             Level::Strong => "strong",
             Level::Rc => "rc",
             Level::Mav => "mav",
@@ -28,7 +30,7 @@ impl Level {
     }
 
     pub fn of(word: &[u8]) -> Option<Level> {
-        OP_LEVELS.into_iter().chain(TXN_LEVELS).find(|level| level.word().as_bytes() == word)
+        OP_LEVELS.iter().chain(TXN_LEVELS).copied().find(|level| level.word().as_bytes() == word)
     }
 }
 
@@ -224,6 +226,7 @@ impl Builder<'_> {
                 self.each_two(|b, i, j| [-b.pair(Hbo, i, j), -b.pair(Vis, j, cur), b.pair(Vis, i, cur)]);
             }
             Level::Causal => self.each(|b, i| vec![-b.pair(Hbo, i, cur), b.pair(Vis, i, cur)]),
+            Level::Wide => self.each(|b, i| vec![-b.pair(Hb, i, cur), -b.pair(SameObj, i, cur), b.pair(Vis, i, cur)]),
             Level::Strong => self.each(|b, i| {
                 vec![-b.pair(SameObj, i, cur), b.pair(Vis, i, cur), b.pair(Vis, cur, i), b.pair(Eq, i, cur)]
             }),

@@ -28,7 +28,7 @@ pub fn levels(typed: &Typed) -> Result<Levels, String> {
 
 fn least(typed: &Typed, target: Target) -> Option<Level> {
     let levels = if matches!(target, Target::Op(_)) { OP_LEVELS } else { TXN_LEVELS };
-    levels.into_iter().find(|level| {
+    levels.iter().copied().find(|level| {
         let problem = problem(typed, target, *level);
         !is_satisfiable(problem.variables, &problem.clauses)
     })

@@ -4,7 +4,7 @@ use super::schedule::{self, Event};
 use super::tree::{OpDecl, Program, TypeDecl};
 use super::types::Typed;
 use super::value::{Scalar, Value, value};
-use std::collections::{BTreeMap, HashMap};
+use std::collections::{BTreeMap, BTreeSet, HashMap};
 use std::io::{self, Write};
 use std::rc::Rc;
 
@@ -236,10 +236,31 @@ impl<'p> Store<'p> {
             let unseen = before.iter().copied().find(|id| seen.binary_search(id).is_err());
             missing = missing.into_iter().chain(unseen).min();
         }
+        if level == Level::Wide {
+            let past = self.past(session, &seen);
+            let unseen = on.iter().copied().find(|id| past[*id as usize] && seen.binary_search(id).is_err());
+            missing = missing.into_iter().chain(unseen).min();
+        }
         match missing {
             Some(missing) => Reply::Blocked(missing),
             None => self.made(session, at, object, op, args, seen),
         }
+    }
+
+    /// The effects of a session, those that are seen, and all that happened before one of these, marked by their ids.
+    fn past(&self, session: u8, seen: &[u32]) -> Vec<bool> {
+        let mut past = vec![false; self.effects.len() + 1];
+        let mut sessions = BTreeSet::from([session]);
+        seen.iter().for_each(|id| past[*id as usize] = true);
+        for id in (1..past.len()).rev() {
+            let effect = self.effect(id as u32);
+            if past[id] || sessions.contains(&effect.session) {
+                past[id] = true;
+                sessions.insert(effect.session);
+                effect.seen.iter().for_each(|id| past[*id as usize] = true);
+            }
+        }
+        past
     }
 
     fn txn_level(&self, open: &Open) -> Level {

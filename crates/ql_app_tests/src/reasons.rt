@@ -12,7 +12,7 @@ const FIRST_BLOCKS: &str = "
 register -> 0: op write eventual␊op read causal␊why eventual; 1: fails op read
 type t { op touch(): unit { contract true; answer unit; } } -> 0: op touch eventual␊why ; 0: holds␊
 type t { op touch(): unit { contract forall a. sameobj(a, cur) => vis(a, cur); answer unit; } } -> 1: none op touch␊why strong; 1: fails op touch
-type t { op touch(): unit { contract forall a. hb(a, cur) /\\ sameobj(a, cur) => vis(a, cur); answer unit; } } -> 0: op touch strong␊why eventual; 1: fails op touch
+type t { op touch(): unit { contract forall a. hb(a, cur) /\\ sameobj(a, cur) => vis(a, cur); answer unit; } } -> 0: op touch wide␊why eventual; 1: fails op touch
 type t { op touch(): unit { contract forall a. sameobj(a, cur) => vis(a, cur) \\/ vis(cur, a) \\/ a = cur; answer unit; } } transaction p { uses touch; contract true; } -> 1: strong touch in p␊why ; 0: holds␊
 type t $ -> 2: bad source at 7: BadChar␊why ; 2: bad source
 ";

@@ -1,12 +1,13 @@
 -- Where a level's promise holds of a constant, its formula holds at the constant's effect.
 use Rattle.std.proofs.Common.{◌≡◌, ℕ, zero, suc, ◌<◌, Bool, true, false, not, ◌&&◌, ◌||◌, nat_eq, List, [], ◌∷◌, refl, sym, ap, subst, ◌∙◌, inl, inr, arith}
 use Rattle.std.proofs.lemmas.Bool.{and_parts, both_ways, eq-eqb, false≢true, not-true, or_cases, or_left, or_right}
+use Rattle.ql_atoms.specs.declared.atoms.PairKind.{PairKind}
 use Rattle.ql_atoms.specs.declared.atoms.PairKind.TheVariants.{Eq, SameObj, Vis, Hbo, Hb}
 use Rattle.ql_exec.specs.declared.effect.Effect.{Effect}
-use Rattle.ql_exec.specs.Relations.{hbo, sameobj, some_below, vis}
+use Rattle.ql_exec.specs.Relations.{hb, hbo, sameobj, some_below, vis}
 use Rattle.ql_levels.specs.Formulas.{formula_of}
 use Rattle.ql_levels.specs.declared.level.Level.{Level}
-use Rattle.ql_levels.specs.declared.level.Level.TheVariants.{Eventual, Causal, Strong}
+use Rattle.ql_levels.specs.declared.level.Level.TheVariants.{Eventual, Causal, Wide, Strong}
 use Rattle.ql_formula.specs.Truth.{Holds}
 use Rattle.ql_blocks.specs.declared.slot.Part.{Part}
 use Rattle.ql_blocks.specs.declared.slot.Part.TheVariants.{Opening, Aide, Own, Closing}
@@ -19,7 +20,7 @@ use Rattle.ql_blocks.specs.Built.{sees_as, sees, built, constant_place}
 use Rattle.ql_blocks.proofs.Alike.{leader-equal, leader-leads, one-block}
 use Rattle.ql_blocks.proofs.Building.{There, own, slot_at, vis-to, vis-from, object-to}
 use Rattle.ql_blocks.proofs.Arranged.{IsArranged}
-use Rattle.ql_blocks.proofs.Closures.{hbo-blocks, hbo-less, is_far, objects-split, Near, OnOne}
+use Rattle.ql_blocks.proofs.Closures.{hb-blocks, hb-less, hbo-blocks, hbo-less, is_far, objects-split, Along, Near, OnOne}
 use Rattle.ql_blocks.proofs.Agreement.{place-is}
 
 pub implies : (a c : Bool) → (a ≡ true → c ≡ true) → (not a || c) ≡ true
@@ -141,11 +142,38 @@ module _ (p : Pattern) (law : IsLawful p) (extra : Extra) (slots : List Slot) (a
           absurd (omega (arith, less, one))
       by h i (inr (f, g, inr before)) = cur-vis a i f (to-now (at a).block (promise (at a).block (hbo-c (at a).block (subst (λ k. Has p Hbo (at a).block k) (ap (λ (s : Slot). s.block) here) before))))
 
-  strong-causal : Promises p Strong c → Promises p Causal c
-  strong-causal promise i h = elim (promise i (law.hbo_object i c h)) [
+  wide-causal : Promises p Wide c → Promises p Causal c
+  wide-causal promise i h = promise i (law.hbo_hb i c h) (law.hbo_object i c h)
+
+  -- a relation of constants to the current one, of blocks
+  to-constant : (r : PairKind) (b : ℕ) → Has p r b (at cur).block → Has p r b c
+  to-constant r b h = law.alike_right r now c b (leader-equal p law c l) (subst (λ k. Has p r b k) (ap (λ (s : Slot). s.block) here) h)
+
+  wide : Promises p Wide c → Holds x (formula_of Wide) cur
+  wide promise [] chosen = absurd chosen
+  wide promise (a ∷ b ∷ more) chosen = absurd chosen.1
+  wide promise (a ∷ []) chosen = implies (hb x a cur && sameobj x a cur) (vis x a cur) (λ h.
+      let both = and_parts (hb x a cur) (sameobj x a cur) h in
+      let chain = hb-blocks p law extra slots arranged a cur both.0 in
+      let o = object-to p slots a cur both.1 in
+      let i = arranged.block a o.0 in
+      let j = arranged.block cur there in
+      by both.0 o.0 (objects-split p law (at a).part (at cur).part (at a).block (at cur).block i.0 j.0 o.2) chain.2)
+    where
+      by : hb x a cur ≡ true → There slots a → OnOne p law (at a).part (at cur).part (at a).block (at cur).block → Along p law extra slots arranged (Has p Hb) (at a).block (at cur).block → vis x a cur ≡ true
+      by h i (inl far) chain = absurd (both_ways (is_far Own) refl (ap is_far (ap (λ (s : Slot). s.part) (sym here)) ∙ far.1))
+      by h i (inr (near, _, on)) (inl same) =
+          let less = hb-less p law extra slots arranged a cur h in
+          let one = own-block (wide-causal promise) a i near (same ∙ ap (λ (s : Slot). s.block) here) in
+          absurd (omega (arith, less, one))
+      by h i (inr (near, _, on)) (inr before) =
+          cur-vis a i near (to-now (at a).block (promise (at a).block (to-constant Hb (at a).block before) (to-constant SameObj (at a).block on)))
+
+  strong-wide : Promises p Strong c → Promises p Wide c
+  strong-wide promise i h on_one = elim (promise i on_one) [
     | inl seen ↦ seen
-    | inr (inl later) ↦ absurd (law.hb_irreflexive i (law.hb_trans i c i (law.hbo_hb i c h) (law.vis_hb c i later)))
-    | inr (inr same) ↦ absurd (law.hb_irreflexive c (law.alike_left Hb i c c same (law.hbo_hb i c h)))
+    | inr (inl later) ↦ absurd (law.hb_irreflexive i (law.hb_trans i c i h (law.vis_hb c i later)))
+    | inr (inr same) ↦ absurd (law.hb_irreflexive c (law.alike_left Hb i c c same h))
   ]
 
   strong : Promises p Strong c → Holds x (formula_of Strong) cur
@@ -166,10 +194,11 @@ module _ (p : Pattern) (law : IsLawful p) (extra : Extra) (slots : List Slot) (a
             | inr (inl later) ↦ or_left _ _ (or_right (vis x a cur) _ (vis-by a i near (law.alike_left Vis c now (at a).block (law.eq_sym _ _ (leader-equal p law c l)) later)))
             | inr (inr same) ↦
                 let equal : Has p Eq (at a).block now = law.eq_trans (at a).block c now same (law.eq_sym _ _ (leader-equal p law c l)) in
-                or_right (vis x a cur || vis x cur a) _ (eq-eqb a cur (own-block (strong-causal promise) a i near (one-block p law (at a).block now leads (leader-leads p law c l) equal)))
+                or_right (vis x a cur || vis x cur a) _ (eq-eqb a cur (own-block (wide-causal (strong-wide promise)) a i near (one-block p law (at a).block now leads (leader-leads p law c l) equal)))
           ]
 
   pub op-holds : (level : Level) → Promises p level c → Holds x (formula_of level) cur
   op-holds Eventual promise = eventual promise
   op-holds Causal promise = causal promise
+  op-holds Wide promise = wide promise
   op-holds Strong promise = strong promise

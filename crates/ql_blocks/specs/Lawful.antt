@@ -8,7 +8,7 @@ use Rattle.ql_exec.specs.declared.effect.Member.TheVariants.{Inside}
 use Rattle.ql_exec.specs.Execution.{same_name}
 use Rattle.ql_exec.specs.Relations.{same_run}
 use Rattle.ql_levels.specs.declared.level.Level.{Level}
-use Rattle.ql_levels.specs.declared.level.Level.TheVariants.{Eventual, Causal, Strong}
+use Rattle.ql_levels.specs.declared.level.Level.TheVariants.{Eventual, Causal, Wide, Strong}
 use Rattle.ql_levels.specs.declared.level.TxnLevel.{TxnLevel}
 use Rattle.ql_levels.specs.declared.level.TxnLevel.TheVariants.{Rc, Mav, Rr}
 use Rattle.ql_blocks.specs.Patterns.{Pattern, class_of, least, one_session}
@@ -56,6 +56,7 @@ pub record IsGrouped (p : Pattern) : Type 0 where
 abbrev pub Promises : Pattern → Level → ℕ → Type 0
 Promises p Eventual cur = (i j : ℕ) → Has p Hbo i j → Has p Vis j cur → Has p Vis i cur
 Promises p Causal cur = (i : ℕ) → Has p Hbo i cur → Has p Vis i cur
+Promises p Wide cur = (i : ℕ) → Has p Hb i cur → Has p SameObj i cur → Has p Vis i cur
 Promises p Strong cur = (i : ℕ) → Has p SameObj i cur → Has p Vis i cur ⊎ (Has p Vis cur i ⊎ Has p Eq i cur)
 
 -- ---- transactions

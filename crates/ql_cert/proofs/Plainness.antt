@@ -8,7 +8,7 @@ use Rattle.ql_base.specs.Names.{IsName}
 use Rattle.ql_lines.specs.Lines.{ahead_from, begins_with}
 use Rattle.ql_lines.specs.Texts.{EndsNothing, IsPlain, IsPlainLine, file_text, is_ender}
 use Rattle.ql_lines.proofs.TextLaws.{file_again}
-use Rattle.ql_levels.specs.declared.level.Level.TheVariants.{Eventual, Causal, Strong}
+use Rattle.ql_levels.specs.declared.level.Level.TheVariants.{Eventual, Causal, Wide, Strong}
 use Rattle.ql_levels.specs.declared.level.TxnLevel.TheVariants.{Rc, Mav, Rr}
 use Rattle.ql_cnf.specs.declared.lit.Lit.{Lit}
 use Rattle.ql_refute.specs.declared.refutation.Hint.{Hint}
@@ -67,6 +67,7 @@ plain_level : (l : SectionLevel) → IsPlain (level_word l)
 unfolding level_word
 plain_level (Op Eventual) = record { some = omega arith; plain = (refl, (refl, (refl, (refl, (refl, (refl, (refl, (refl, tt)))))))) }
 plain_level (Op Causal) = record { some = omega arith; plain = (refl, (refl, (refl, (refl, (refl, (refl, tt)))))) }
+plain_level (Op Wide) = record { some = omega arith; plain = (refl, (refl, (refl, (refl, tt)))) }
 plain_level (Op Strong) = record { some = omega arith; plain = (refl, (refl, (refl, (refl, (refl, (refl, tt)))))) }
 plain_level (Txn Rc) = record { some = omega arith; plain = (refl, (refl, tt)) }
 plain_level (Txn Mav) = record { some = omega arith; plain = (refl, (refl, (refl, tt))) }

@@ -4,7 +4,7 @@ use Rattle.std.specs.Prelude.{unwrap_or}
 use Rattle.std.specs.List.{AllByRecursion}
 use Rattle.std.proofs.lemmas.List.{append-nil, length-append}
 use Rattle.ql_levels.specs.declared.level.Level.{Level}
-use Rattle.ql_levels.specs.declared.level.Level.TheVariants.{Eventual, Causal, Strong}
+use Rattle.ql_levels.specs.declared.level.Level.TheVariants.{Eventual, Causal, Wide, Strong}
 use Rattle.ql_levels.specs.declared.level.TxnLevel.{TxnLevel}
 use Rattle.ql_levels.specs.declared.level.TxnLevel.TheVariants.{Rc, Mav, Rr}
 use Rattle.ql_levels.specs.Words.{word_of, txn_word_of}
@@ -24,7 +24,14 @@ use Rattle.ql_cert.proofs.Walking.{Walks, joined}
 same_word : (l m : Level) → word_of l ≡ word_of m → l ≡ m
 same_word Eventual Eventual e = refl
 same_word Causal Causal e = refl
+same_word Wide Wide e = refl
 same_word Strong Strong e = refl
+same_word Wide Eventual e = absurd (omega (arith, ap length e))
+same_word Wide Causal e = absurd (omega (arith, ap length e))
+same_word Wide Strong e = absurd (omega (arith, ap length e))
+same_word Eventual Wide e = absurd (omega (arith, ap length e))
+same_word Causal Wide e = absurd (omega (arith, ap length e))
+same_word Strong Wide e = absurd (omega (arith, ap length e))
 same_word Eventual Causal e = absurd (omega (arith, ap length e))
 same_word Eventual Strong e = absurd (omega (arith, ap length e))
 same_word Causal Eventual e = absurd (omega (arith, ap length e))

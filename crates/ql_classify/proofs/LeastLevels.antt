@@ -7,7 +7,7 @@ use Rattle.ql_cnf.specs.Satisfaction.{Satisfies, IsUnsatisfiable}
 use Rattle.ql_lang.specs.Formulas.{Resolved}
 use Rattle.ql_lang.specs.declared.program.Program.{Program}
 use Rattle.ql_levels.specs.declared.level.Level.{Level}
-use Rattle.ql_levels.specs.declared.level.Level.TheVariants.{Eventual, Causal, Strong}
+use Rattle.ql_levels.specs.declared.level.Level.TheVariants.{Eventual, Causal, Wide, Strong}
 use Rattle.ql_levels.specs.declared.level.TxnLevel.{TxnLevel}
 use Rattle.ql_levels.specs.declared.level.TxnLevel.TheVariants.{Rc, Mav, Rr}
 use Rattle.ql_typing.specs.Operations.{op_kinds, op_contracts, txn_contracts}
@@ -38,9 +38,14 @@ module _ (p : Program) where
   op_least o Eventual lower f at h u = u
   op_least o Causal [] f at h u = absurd h
   op_least o Causal (a ∷ lower) f at h u = ((a, op_satisfied o Eventual a f at h.0), u)
+  op_least o Wide [] f at h u = absurd h
+  op_least o Wide (a ∷ []) f at h u = absurd h.1
+  op_least o Wide (a ∷ b ∷ lower) f at h u = ((a, op_satisfied o Eventual a f at h.0), (b, op_satisfied o Causal b f at h.1.0), u)
   op_least o Strong [] f at h u = absurd h
   op_least o Strong (a ∷ []) f at h u = absurd h.1
-  op_least o Strong (a ∷ b ∷ lower) f at h u = ((a, op_satisfied o Eventual a f at h.0), (b, op_satisfied o Causal b f at h.1.0), u)
+  op_least o Strong (a ∷ b ∷ []) f at h u = absurd h.1.1
+  op_least o Strong (a ∷ b ∷ c ∷ lower) f at h u =
+      ((a, op_satisfied o Eventual a f at h.0), (b, op_satisfied o Causal b f at h.1.0), (c, op_satisfied o Wide c f at h.1.1.0), u)
 
   txn_least : (d : DeclId) (level : TxnLevel) (lower : List (List Bool)) (f : Resolved) → slice_get (txn_contracts p) d.0 ≡ Some f → AllZip (IsSatisfiedBy p) (goals_below (TxnAt d level)) lower → IsUnsatisfiable (txn_problem (op_kinds p.types) level f) → IsLeastTxn (op_kinds p.types) f level
   txn_least d Rc lower f at h u = u
@@ -74,7 +79,8 @@ module _ (p : Program) where
   op_shows o [] lines h = (tt, h)
   op_shows o (a ∷ []) lines h = ((h.0, tt), h.1)
   op_shows o (a ∷ b ∷ []) lines h = ((h.0, (h.1.0, tt)), h.1.1)
-  op_shows o (a ∷ b ∷ c ∷ lower) lines h = absurd h.1.1.1
+  op_shows o (a ∷ b ∷ c ∷ []) lines h = ((h.0, (h.1.0, (h.1.1.0, tt))), h.1.1.1)
+  op_shows o (a ∷ b ∷ c ∷ d ∷ lower) lines h = absurd h.1.1.1.1
 
   txn_shows : (d : ℕ) (lower : List (List Bool)) (lines : List Line) → IsFirstRefuted p (txn_goals d) lower lines → Shows (txn_at d (step_txn_level (length lower))) lower lines
   txn_shows d [] lines h = (tt, h)

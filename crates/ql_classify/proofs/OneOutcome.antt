@@ -6,13 +6,13 @@ use Rattle.ql_cnf.specs.Satisfaction.{Satisfies}
 use Rattle.ql_lang.specs.Formulas.{Resolved}
 use Rattle.ql_lang.specs.declared.program.Program.{Program}
 use Rattle.ql_levels.specs.declared.level.Level.{Level}
-use Rattle.ql_levels.specs.declared.level.Level.TheVariants.{Eventual, Causal, Strong}
+use Rattle.ql_levels.specs.declared.level.Level.TheVariants.{Eventual, Causal, Wide, Strong}
 use Rattle.ql_levels.specs.declared.level.TxnLevel.{TxnLevel}
 use Rattle.ql_levels.specs.declared.level.TxnLevel.TheVariants.{Rc, Mav, Rr}
 use Rattle.ql_typing.specs.Operations.{op_kinds}
 use Rattle.ql_ground.specs.Ground.{op_problem, txn_problem}
 use Rattle.ql_ground.specs.Least.{IsLeast, IsLeastTxn}
-use Rattle.ql_ground.proofs.Lower.{strong_gives_causal, causal_gives_eventual, rr_gives_mav, mav_gives_rc}
+use Rattle.ql_ground.proofs.Lower.{strong_gives_wide, wide_gives_causal, causal_gives_eventual, rr_gives_mav, mav_gives_rc}
 use Rattle.ql_classify.specs.Outcome.{Test, OpHasLevel, UseIsWeak, TxnHasLevel, Passes, Fails, FirstFails}
 use Rattle.ql_classify.specs.Targets.{IsOpLevel, IsTxnLevel}
 use Rattle.ql_classify.specs.declared.classless.Classless.{Classless}
@@ -21,9 +21,10 @@ use Rattle.ql_classify.proofs.LeastLevels.{op_satisfied, txn_satisfied}
 
 -- where the top level's problem is satisfied no level is least
 op-none : (types : List ℕ) (o : ℕ) (f : Resolved) (level : Level) (a : List Bool) → Satisfies a (op_problem types o Strong f) → IsLeast types o f level → ⊥
-op-none types o f Eventual a h u = u a (causal_gives_eventual types o f a (strong_gives_causal types o f a h))
-op-none types o f Causal a h u = u.1 a (strong_gives_causal types o f a h)
-op-none types o f Strong a h u = u.2 a h
+op-none types o f Eventual a h u = u a (causal_gives_eventual types o f a (wide_gives_causal types o f a (strong_gives_wide types o f a h)))
+op-none types o f Causal a h u = u.1 a (wide_gives_causal types o f a (strong_gives_wide types o f a h))
+op-none types o f Wide a h u = u.2 a (strong_gives_wide types o f a h)
+op-none types o f Strong a h u = u.3 a h
 
 txn-none : (types : List ℕ) (f : Resolved) (level : TxnLevel) (a : List Bool) → Satisfies a (txn_problem types Rr f) → IsLeastTxn types f level → ⊥
 txn-none types f Rc a h u = u a (mav_gives_rc types f a (rr_gives_mav types f a h))
@@ -33,12 +34,19 @@ txn-none types f Rr a h u = u.2 a h
 op-one : (types : List ℕ) (o : ℕ) (f : Resolved) (l k : Level) → IsLeast types o f l → IsLeast types o f k → l ≡ k
 op-one types o f Eventual Eventual h g = refl
 op-one types o f Eventual Causal h g = absurd (h g.0.0 g.0.1)
+op-one types o f Eventual Wide h g = absurd (h g.0.0 g.0.1)
 op-one types o f Eventual Strong h g = absurd (h g.0.0 g.0.1)
 op-one types o f Causal Eventual h g = absurd (g h.0.0 h.0.1)
 op-one types o f Causal Causal h g = refl
+op-one types o f Causal Wide h g = absurd (h.1 g.1.0 g.1.1)
 op-one types o f Causal Strong h g = absurd (h.1 g.1.0 g.1.1)
+op-one types o f Wide Eventual h g = absurd (g h.0.0 h.0.1)
+op-one types o f Wide Causal h g = absurd (g.1 h.1.0 h.1.1)
+op-one types o f Wide Wide h g = refl
+op-one types o f Wide Strong h g = absurd (h.2 g.2.0 g.2.1)
 op-one types o f Strong Eventual h g = absurd (g h.0.0 h.0.1)
 op-one types o f Strong Causal h g = absurd (g.1 h.1.0 h.1.1)
+op-one types o f Strong Wide h g = absurd (g.2 h.2.0 h.2.1)
 op-one types o f Strong Strong h g = refl
 
 txn-one : (types : List ℕ) (f : Resolved) (l k : TxnLevel) → IsLeastTxn types f l → IsLeastTxn types f k → l ≡ k

@@ -5,7 +5,7 @@ use Rattle.ql_lang.specs.Formulas.{Resolved}
 use Rattle.ql_lang.specs.declared.program.Program.{Program}
 use Rattle.ql_levels.specs.Lists.{LevelLists}
 use Rattle.ql_levels.specs.declared.level.Level.{Level}
-use Rattle.ql_levels.specs.declared.level.Level.TheVariants.{Eventual, Causal, Strong}
+use Rattle.ql_levels.specs.declared.level.Level.TheVariants.{Eventual, Causal, Wide, Strong}
 use Rattle.ql_levels.specs.declared.level.TxnLevel.{TxnLevel}
 use Rattle.ql_levels.specs.declared.level.TxnLevel.TheVariants.{Rc, Mav, Rr}
 use Rattle.ql_typing.specs.Operations.{all_ops, op_kinds, op_place, op_contracts, txn_contracts}
@@ -27,7 +27,7 @@ targets p = length (all_ops p.types) + length p.txns
 
 -- the goals of an operation and of a transaction, the lowest level first
 abbrev pub op_goals : ℕ → List Goal
-op_goals o = op_at o Eventual ∷ op_at o Causal ∷ op_at o Strong ∷ []
+op_goals o = op_at o Eventual ∷ op_at o Causal ∷ op_at o Wide ∷ op_at o Strong ∷ []
 
 abbrev pub txn_goals : ℕ → List Goal
 txn_goals d = txn_at d Rc ∷ txn_at d Mav ∷ txn_at d Rr ∷ []
@@ -36,7 +36,8 @@ txn_goals d = txn_at d Rc ∷ txn_at d Mav ∷ txn_at d Rr ∷ []
 abbrev pub step_level : ℕ → Level
 step_level zero = Eventual
 step_level (suc zero) = Causal
-step_level (suc (suc n)) = Strong
+step_level (suc (suc zero)) = Wide
+step_level (suc (suc (suc n))) = Strong
 
 abbrev pub step_txn_level : ℕ → TxnLevel
 step_txn_level zero = Rc
@@ -47,7 +48,8 @@ step_txn_level (suc (suc n)) = Rr
 abbrev pub goals_below : Goal → List Goal
 goals_below (OpAt o Eventual) = []
 goals_below (OpAt o Causal) = OpAt o Eventual ∷ []
-goals_below (OpAt o Strong) = OpAt o Eventual ∷ OpAt o Causal ∷ []
+goals_below (OpAt o Wide) = OpAt o Eventual ∷ OpAt o Causal ∷ []
+goals_below (OpAt o Strong) = OpAt o Eventual ∷ OpAt o Causal ∷ OpAt o Wide ∷ []
 goals_below (TxnAt d Rc) = []
 goals_below (TxnAt d Mav) = TxnAt d Rc ∷ []
 goals_below (TxnAt d Rr) = TxnAt d Rc ∷ TxnAt d Mav ∷ []

@@ -43,6 +43,7 @@ pub(crate) fn find_level(alloc: Global, t: &Typed, o: OpId) -> Result<(Level, Ev
     let goals = [
         Goal::OpAt(o, Level::Eventual),
         Goal::OpAt(o, Level::Causal),
+        Goal::OpAt(o, Level::Wide),
         Goal::OpAt(o, Level::Strong),
     ];
     match first_refuted(alloc, t, &goals)? {
@@ -86,6 +87,7 @@ fn level_above(lower: &[Assignment]) -> Level
     match lower.len() {
         0 => Level::Eventual,
         1 => Level::Causal,
+        2 => Level::Wide,
         _ => Level::Strong,
     }
 }

@@ -14,7 +14,7 @@ use Rattle.ql_atoms.specs.Atoms.{Size}
 use Rattle.ql_cnf.specs.Satisfaction.{clause_true}
 use Rattle.ql_lang.specs.declared.formula.OpChoice.TheVariants.{OneOf}
 use Rattle.ql_levels.specs.declared.level.Level.{Level}
-use Rattle.ql_levels.specs.declared.level.Level.TheVariants.{Eventual, Causal, Strong}
+use Rattle.ql_levels.specs.declared.level.Level.TheVariants.{Eventual, Causal, Wide, Strong}
 use Rattle.ql_exec.specs.declared.effect.Member.{Member}
 use Rattle.ql_ground.specs.Bodies.{current_effect}
 use Rattle.ql_ground.specs.Rules.{equality_rules, alike_op, alike_left, alike_right, reflexive, symmetric, transitive, within, irreflexive, session_rules, from_one_rule, to_one_rule, object_rules, object_order_rules, of_session_rule, order_rules, level_rule}
@@ -258,6 +258,13 @@ module _ (a : List Bool) (s : Size) (types : List ℕ) where
       level-promised Causal h c e l = λ i v.
           let t = has-to Hbo i c v in
           elim (use_rule a s (level_rule Causal) h (i ∷ []) refl (t.0, tt) (ap (λ k. value a s (Pair Hbo i k)) e ∙ t.2, tt)) [
+            | inl y ↦ has-from Vis i c t.0 l (ap (λ k. value a s (Pair Vis i k)) (sym e) ∙ y)
+            | inr n ↦ absurd n
+          ]
+      level-promised Wide h c e l = λ i v w.
+          let t = has-to Hb i c v in
+          let u : value a s (Pair SameObj i (current_effect s)) ≡ true = ap (λ k. value a s (Pair SameObj i k)) e ∙ (has-to SameObj i c w).2 in
+          elim (use_rule a s (level_rule Wide) h (i ∷ []) refl (t.0, tt) (ap (λ k. value a s (Pair Hb i k)) e ∙ t.2, (u, tt))) [
             | inl y ↦ has-from Vis i c t.0 l (ap (λ k. value a s (Pair Vis i k)) (sym e) ∙ y)
             | inr n ↦ absurd n
           ]

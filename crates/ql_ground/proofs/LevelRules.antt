@@ -7,12 +7,12 @@ use Rattle.ql_atoms.specs.Atoms.{Size}
 use Rattle.ql_cnf.specs.Satisfaction.{clause_true}
 use Rattle.ql_lang.specs.declared.formula.OpChoice.TheVariants.{Any}
 use Rattle.ql_levels.specs.declared.level.Level.{Level}
-use Rattle.ql_levels.specs.declared.level.Level.TheVariants.{Eventual, Causal, Strong}
+use Rattle.ql_levels.specs.declared.level.Level.TheVariants.{Eventual, Causal, Wide, Strong}
 use Rattle.ql_levels.specs.declared.level.TxnLevel.{TxnLevel}
 use Rattle.ql_levels.specs.declared.level.TxnLevel.TheVariants.{Rc, Mav, Rr}
 use Rattle.ql_levels.specs.Formulas.{formula_of, txn_formula_of}
 use Rattle.ql_ground.specs.Effects.{Effect, effect_at}
-use Rattle.ql_ground.specs.Relations.{so, vis, sameobj, sametxn, hbo, inside}
+use Rattle.ql_ground.specs.Relations.{so, vis, sameobj, sametxn, hb, hbo, inside}
 use Rattle.ql_ground.specs.Rules.{Rule, level_rule, committed_rule, monotonic_rule, repeatable_rule, txn_level_rules}
 use Rattle.ql_ground.specs.Ground.{chosen, instances, all_instances}
 use Rattle.ql_ground.specs.Truth.{in_range, in_one_txn, Holds, HoldsTxn}
@@ -47,6 +47,11 @@ module _ (x : List Effect) (current : ℕ → Bool) (effects : List ℕ) (s : Si
       (λ i l. implied-from _ _ (λ g. inl (
       ap (λ c. vis x (place i) c) last
       ∙ gives (hbo x (place i) cur) (vis x (place i) cur) (holds (place i ∷ []) (any i l, tt)) (ap (λ c. hbo x (place i) c) (sym last) ∙ g.0))))
+  level-true Wide cur last holds = instances-true assigned s (atom_true x current effects) reads (level_rule Wide) (omega arith) (tt, (tt, tt)) (tt, tt)
+      (λ i l. implied-from _ _ (λ g. inl (
+      ap (λ c. vis x (place i) c) last
+      ∙ gives (hb x (place i) cur && sameobj x (place i) cur) (vis x (place i) cur) (holds (place i ∷ []) (any i l, tt))
+      (and_from (hb x (place i) cur) (sameobj x (place i) cur) (ap (λ c. hb x (place i) c) (sym last) ∙ g.0) (ap (λ c. sameobj x (place i) c) (sym last) ∙ g.1.0)))))
   level-true Strong cur last holds = instances-true assigned s (atom_true x current effects) reads (level_rule Strong) (omega arith) (tt, tt) (tt, (tt, (tt, tt)))
       (λ i l. implied-from _ _ (λ g.
       let some : ((vis x (place i) cur || vis x cur (place i)) || (place i == cur)) ≡ true =

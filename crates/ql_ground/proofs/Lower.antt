@@ -16,7 +16,7 @@ use Rattle.ql_cnf.specs.Satisfaction.{value_of, literal_true, clause_true}
 use Rattle.ql_cnf.proofs.CircuitLaws.{all_true-clauses_of}
 use Rattle.ql_lang.specs.declared.formula.OpChoice.{OpChoice}
 use Rattle.ql_levels.specs.declared.level.Level.{Level}
-use Rattle.ql_levels.specs.declared.level.Level.TheVariants.{Eventual, Causal, Strong}
+use Rattle.ql_levels.specs.declared.level.Level.TheVariants.{Eventual, Causal, Wide, Strong}
 use Rattle.ql_levels.specs.declared.level.TxnLevel.{TxnLevel}
 use Rattle.ql_levels.specs.declared.level.TxnLevel.TheVariants.{Rc, Mav, Rr}
 use Rattle.ql_ground.specs.Bodies.{current_effect, body_circuit}
@@ -163,13 +163,11 @@ module _ (a : List Bool) (s : Size) where
     object_order : All (all_instances s object_order_rules)
     order : All (all_instances s order_rules)
 
-  strong-causal : Given → All (instances s (level_rule Strong)) → (i : ℕ) → i < s.constants → holds Hbo i (s.constants - 1) → holds Vis i (s.constants - 1)
+  strong-wide : Given → All (instances s (level_rule Strong)) → (i : ℕ) → i < s.constants → holds Hb i (s.constants - 1) → holds SameObj i (s.constants - 1) → holds Vis i (s.constants - 1)
   unfolding chosen
-  strong-causal g h i l v =
+  strong-wide g h i l before on_one =
       let c : ℕ = s.constants - 1 in
       let m : c < s.constants = omega arith in
-      let on_one : holds SameObj i c = by-within Hbo SameObj (pick object_order_rules 3 (within Hbo SameObj) refl g.object_order) i c l m v in
-      let before : holds Hb i c = by-within Hbo Hb (pick order_rules 0 (within Hbo Hb) refl g.order) i c l m v in
       let never : (k : ℕ) → k < s.constants → holds Hb k k → ⊥ = by-irreflexive Hb (pick order_rules 4 (irreflexive Hb) refl g.order) in
       elim (use_rule (level_rule Strong) h (i ∷ []) refl (l, tt) (on_one, tt)) [
         | inl seen ↦ seen
@@ -182,9 +180,18 @@ module _ (a : List Bool) (s : Size) where
         ]
       ]
 
-  causal : Given → All (instances s (level_rule Strong)) → All (instances s (level_rule Causal))
+  wide : Given → All (instances s (level_rule Strong)) → All (instances s (level_rule Wide))
   unfolding chosen
-  causal g h = give (level_rule Causal) (λ i l v. inl (strong-causal g h i l v.0))
+  wide g h = give (level_rule Wide) (λ i l v. inl (strong-wide g h i l v.0 v.1.0))
+
+  causal : Given → All (instances s (level_rule Wide)) → All (instances s (level_rule Causal))
+  unfolding chosen
+  causal g h = give (level_rule Causal) (λ i l v.
+      let c : ℕ = s.constants - 1 in
+      let m : c < s.constants = omega arith in
+      let before : holds Hb i c = by-within Hbo Hb (pick order_rules 0 (within Hbo Hb) refl g.order) i c l m v.0 in
+      let on_one : holds SameObj i c = by-within Hbo SameObj (pick object_order_rules 3 (within Hbo SameObj) refl g.object_order) i c l m v.0 in
+      use_rule (level_rule Wide) h (i ∷ []) refl (l, tt) (before, (on_one, tt)))
 
   eventual : Given → All (instances s (level_rule Causal)) → All (instances s (level_rule Eventual))
   unfolding chosen
@@ -282,8 +289,11 @@ txn_gives higher lower g types f a h =
     let body : List (List Lit) = denying (count_of s) (body_circuit s f.body) in
     (h.0, all_true-clauses_of a (txn_ground types lower f ++ body) ∙ lower_txn a s types f.vars body higher lower (g a s) (sym (all_true-clauses_of a (txn_ground types higher f ++ body)) ∙ h.1))
 
-pub strong_gives_causal : GivesLevel Strong Causal
-strong_gives_causal = op_gives Strong Causal causal
+pub strong_gives_wide : GivesLevel Strong Wide
+strong_gives_wide = op_gives Strong Wide wide
+
+pub wide_gives_causal : GivesLevel Wide Causal
+wide_gives_causal = op_gives Wide Causal causal
 
 pub causal_gives_eventual : GivesLevel Causal Eventual
 causal_gives_eventual = op_gives Causal Eventual eventual

@@ -4,7 +4,7 @@ use Rattle.std.specs.Prelude.{ℕ, Bool, List}
 use Rattle.ql_cnf.specs.Satisfaction.{ClauseList, Satisfies, IsUnsatisfiable}
 use Rattle.ql_lang.specs.Formulas.{Resolved}
 use Rattle.ql_levels.specs.declared.level.Level.{Level}
-use Rattle.ql_levels.specs.declared.level.Level.TheVariants.{Eventual, Causal, Strong}
+use Rattle.ql_levels.specs.declared.level.Level.TheVariants.{Eventual, Causal, Wide, Strong}
 use Rattle.ql_levels.specs.declared.level.TxnLevel.{TxnLevel}
 use Rattle.ql_levels.specs.declared.level.TxnLevel.TheVariants.{Rc, Mav, Rr}
 use Rattle.ql_ground.specs.Ground.{op_problem, txn_problem}
@@ -15,9 +15,12 @@ IsSatisfied p = (a : List Bool) × Satisfies a p
 abbrev pub IsLeast : List ℕ → ℕ → Resolved → Level → Type 0
 IsLeast types o f Eventual = IsUnsatisfiable (op_problem types o Eventual f)
 IsLeast types o f Causal = IsSatisfied (op_problem types o Eventual f) × IsUnsatisfiable (op_problem types o Causal f)
+IsLeast types o f Wide =
+    IsSatisfied (op_problem types o Eventual f) × IsSatisfied (op_problem types o Causal f)
+    × IsUnsatisfiable (op_problem types o Wide f)
 IsLeast types o f Strong =
     IsSatisfied (op_problem types o Eventual f) × IsSatisfied (op_problem types o Causal f)
-    × IsUnsatisfiable (op_problem types o Strong f)
+    × IsSatisfied (op_problem types o Wide f) × IsUnsatisfiable (op_problem types o Strong f)
 
 abbrev pub IsLeastTxn : List ℕ → Resolved → TxnLevel → Type 0
 IsLeastTxn types f Rc = IsUnsatisfiable (txn_problem types Rc f)

@@ -6,7 +6,7 @@ use Rattle.ql_atoms.specs.declared.atoms.Atom.TheVariants.{Pair, Current, Is}
 use Rattle.ql_atoms.specs.declared.atoms.PairKind.{PairKind}
 use Rattle.ql_atoms.specs.declared.atoms.PairKind.TheVariants.{Eq, So, SameObj, Vis, Hbo, Hb, SameTxn}
 use Rattle.ql_levels.specs.declared.level.Level.{Level}
-use Rattle.ql_levels.specs.declared.level.Level.TheVariants.{Eventual, Causal, Strong}
+use Rattle.ql_levels.specs.declared.level.Level.TheVariants.{Eventual, Causal, Wide, Strong}
 use Rattle.ql_levels.specs.declared.level.TxnLevel.{TxnLevel}
 use Rattle.ql_levels.specs.declared.level.TxnLevel.TheVariants.{Rc, Mav, Rr}
 
@@ -134,6 +134,7 @@ transaction_rules = reflexive SameTxn ∷ symmetric SameTxn ∷ transitive SameT
 abbrev pub level_rule : Level → Rule
 level_rule Eventual = rule 2 (Pair Hbo i j ∷ Pair Vis j cur ∷ []) (Pair Vis i cur ∷ [])
 level_rule Causal = rule 1 (Pair Hbo i cur ∷ []) (Pair Vis i cur ∷ [])
+level_rule Wide = rule 1 (Pair Hb i cur ∷ Pair SameObj i cur ∷ []) (Pair Vis i cur ∷ [])
 level_rule Strong = rule 1 (Pair SameObj i cur ∷ []) (Pair Vis i cur ∷ Pair Vis cur i ∷ Pair Eq i cur ∷ [])
 
 -- 32: what the level of a transaction promises the current one; that an effect isn't current stands among the conclusions

@@ -1,6 +1,6 @@
 ghost use Rattle.std.specs.Prelude.{◌≡◌, ◌&&◌, ℕ, not, true, false, List, ◌∷◌};
 ghost use Rattle.std.specs.List.{list_all};
-ghost use Rattle.ql_levels.specs.declared.level.Level.TheVariants.{Eventual, Causal, Strong};
+ghost use Rattle.ql_levels.specs.declared.level.Level.TheVariants.{Eventual, Causal, Wide, Strong};
 ghost use Rattle.ql_levels.specs.declared.level.TxnLevel.TheVariants.{Rc, Mav, Rr};
 ghost use Rattle.ql_ground.specs.Effects.{Effect};
 ghost use Rattle.ql_ground.specs.Order.{GivesLevel, GivesTxnLevel};
@@ -11,7 +11,8 @@ ghost use Rattle.ql_ground.specs.Truth.{in_one_txn};
 /// problem at each lower level. So where the top level's problem is satisfied each level's is, and a level
 /// above a refuted one is refuted.
 pub fn higher_levels_ask_more()
-    ensures strong { GivesLevel Strong Causal }
+    ensures strong { GivesLevel Strong Wide }
+    ensures wide { GivesLevel Wide Causal }
     ensures causal { GivesLevel Causal Eventual }
     ensures repeatable { GivesTxnLevel Rr Mav }
     ensures monotonic { GivesTxnLevel Mav Rc }

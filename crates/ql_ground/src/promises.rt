@@ -6,7 +6,7 @@ ghost use Rattle.ql_ground.specs.Rules as rules;
 
 use crate::rule::{CUR, I, J, K, L, Rule, add_rule};
 use ql_atoms::Atom::{Current, Pair};
-use ql_atoms::PairKind::{Eq, Hbo, SameObj, SameTxn, So, Vis};
+use ql_atoms::PairKind::{Eq, Hb, Hbo, SameObj, SameTxn, So, Vis};
 use ql_atoms::Shape;
 use ql_base::NoMemory;
 use ql_cnf::Clauses;
@@ -35,6 +35,11 @@ pub(crate) fn add_level(
         // It sees what is before it, on one object.
         Level::Causal => {
             let before = [Pair(Hbo, I, CUR)];
+            add_rule(alloc, &Rule::over(1, &before, &[Pair(Vis, I, CUR)]), s, c)
+        }
+        // It sees what is before it, also by way of other objects.
+        Level::Wide => {
+            let before = [Pair(Hb, I, CUR), Pair(SameObj, I, CUR)];
             add_rule(alloc, &Rule::over(1, &before, &[Pair(Vis, I, CUR)]), s, c)
         }
         // It sees each other effect on the object, or is seen by it.

@@ -3,15 +3,15 @@ use Rattle.std.proofs.Common.{◌≡◌, ℕ, Bool, true, false, not, ◌&&◌, 
 use Rattle.std.proofs.lemmas.Bool.{and_from, and_parts, both_ways, or_cases}
 use Rattle.ql_exec.specs.declared.effect.Effect.{Effect}
 use Rattle.ql_exec.specs.Execution.{IsExecution}
-use Rattle.ql_exec.specs.Relations.{hbo, inside, sameobj, sametxn, so, vis}
+use Rattle.ql_exec.specs.Relations.{hb, hbo, inside, sameobj, sametxn, so, vis}
 use Rattle.ql_formula.specs.Truth.{Holds, HoldsTxn}
 use Rattle.ql_levels.specs.Formulas.{formula_of, txn_formula_of}
-use Rattle.ql_levels.specs.declared.level.Level.TheVariants.{Causal, Eventual, Strong}
+use Rattle.ql_levels.specs.declared.level.Level.TheVariants.{Causal, Eventual, Strong, Wide}
 use Rattle.ql_levels.specs.declared.level.TxnLevel.TheVariants.{Mav, Rc, Rr}
 use Rattle.ql_ground.specs.Relations as ground
-use Rattle.ql_ground.proofs.Laws.{hb-irreflexive, hbo-hb, hbo-one, hbo-sameobj, hbo-trans, sameobj-sym, sameobj-trans}
+use Rattle.ql_ground.proofs.Laws.{hb-irreflexive, hb-trans, hbo-hb, hbo-one, hbo-sameobj, hbo-trans, sameobj-sym, sameobj-trans}
 use Rattle.ql_implication.proofs.Plain.{plain_all, sameobj-same, vis-same}
-use Rattle.ql_implication.proofs.Chains.{hbo-same}
+use Rattle.ql_implication.proofs.Chains.{hb-same, hbo-same}
 use Rattle.ql_implication.proofs.Same.{execution-same}
 
 implies : (a c : Bool) → (a ≡ true → c ≡ true) → (not a || c) ≡ true
@@ -37,8 +37,15 @@ module _ (x : List Effect) (law : IsExecution x) where
   seen_before a b h =
       sym (hbo-same x a b) ∙ hbo-one (plain_all x) plain_law a b (or_second (ground.soo (plain_all x) a b) (ground.vis (plain_all x) a b) (vis-same x a b ∙ h))
 
-  no_loop : (a : ℕ) → hbo x a a ≡ true → ⊥
-  no_loop a h = hb-irreflexive (plain_all x) plain_law a (hbo-hb (plain_all x) plain_law a a (hbo-same x a a ∙ h))
+  -- happened-before, by way of any object
+  past : (a b c : ℕ) → hb x a b ≡ true → hb x b c ≡ true → hb x a c ≡ true
+  past a b c h g = sym (hb-same x a c) ∙ hb-trans (plain_all x) plain_law a b c (hb-same x a b ∙ h) (hb-same x b c ∙ g)
+
+  in_past : (a b : ℕ) → hbo x a b ≡ true → hb x a b ≡ true
+  in_past a b h = sym (hb-same x a b) ∙ hbo-hb (plain_all x) plain_law a b (hbo-same x a b ∙ h)
+
+  no_loop : (a : ℕ) → hb x a a ≡ true → ⊥
+  no_loop a h = hb-irreflexive (plain_all x) plain_law a (hb-same x a a ∙ h)
 
   object_before : (a b : ℕ) → hbo x a b ≡ true → sameobj x a b ≡ true
   object_before a b h = sym (sameobj-same x a b) ∙ hbo-sameobj (plain_all x) plain_law a b (hbo-same x a b ∙ h)
@@ -51,21 +58,29 @@ module _ (x : List Effect) (law : IsExecution x) where
 
   -- ---- operations
 
-  seen_indeed : (a cur : ℕ) → hbo x a cur ≡ true → ((vis x a cur || vis x cur a) || nat_eq a cur) ≡ true → vis x a cur ≡ true
+  seen_indeed : (a cur : ℕ) → hb x a cur ≡ true → ((vis x a cur || vis x cur a) || nat_eq a cur) ≡ true → vis x a cur ≡ true
   seen_indeed a cur h some = elim (or_cases (vis x a cur || vis x cur a) (nat_eq a cur) some) [
     | inl seen ↦ elim (or_cases (vis x a cur) (vis x cur a) seen) [
       | inl before ↦ before
-      | inr after ↦ absurd (no_loop a (chain a cur a h (seen_before cur a after)))
+      | inr after ↦ absurd (no_loop a (past a cur a h (in_past cur a (seen_before cur a after))))
     ]
-    | inr same ↦ absurd (no_loop cur (subst (λ k. hbo x k cur ≡ true) (eqb-true a cur same) h))
+    | inr same ↦ absurd (no_loop cur (subst (λ k. hb x k cur ≡ true) (eqb-true a cur same) h))
   ]
 
-  pub strong_gives : (cur : ℕ) → Holds x (formula_of Strong) cur → Holds x (formula_of Causal) cur
+  pub strong_gives : (cur : ℕ) → Holds x (formula_of Strong) cur → Holds x (formula_of Wide) cur
   strong_gives cur h [] chosen = absurd chosen
   strong_gives cur h (a ∷ b ∷ more) chosen = absurd chosen.1
   strong_gives cur h (a ∷ []) chosen =
-      implies (hbo x a cur) (vis x a cur) (λ before. seen_indeed a cur before
-      (gives (sameobj x a cur) ((vis x a cur || vis x cur a) || nat_eq a cur) (h (a ∷ []) chosen) (object_before a cur before)))
+      implies (hb x a cur && sameobj x a cur) (vis x a cur) (λ both.
+      let parts = and_parts (hb x a cur) (sameobj x a cur) both in
+      seen_indeed a cur parts.0 (gives (sameobj x a cur) ((vis x a cur || vis x cur a) || nat_eq a cur) (h (a ∷ []) chosen) parts.1))
+
+  pub wide_gives : (cur : ℕ) → Holds x (formula_of Wide) cur → Holds x (formula_of Causal) cur
+  wide_gives cur h [] chosen = absurd chosen
+  wide_gives cur h (a ∷ b ∷ more) chosen = absurd chosen.1
+  wide_gives cur h (a ∷ []) chosen =
+      implies (hbo x a cur) (vis x a cur) (λ before.
+      gives (hb x a cur && sameobj x a cur) (vis x a cur) (h (a ∷ []) chosen) (and_from (hb x a cur) (sameobj x a cur) (in_past a cur before) (object_before a cur before)))
 
   pub causal_gives : (cur : ℕ) → Holds x (formula_of Causal) cur → Holds x (formula_of Eventual) cur
   causal_gives cur h [] chosen = absurd chosen

@@ -11,7 +11,7 @@ use Rattle.ql_base.specs.declared.ids.OpId.{OpId}
 use Rattle.ql_base.specs.declared.ids.DeclId.{DeclId}
 use Rattle.ql_levels.specs.declared.level.Level.{Level}
 use Rattle.ql_levels.specs.declared.level.TxnLevel.{TxnLevel}
-use Rattle.ql_levels.specs.declared.level.Level.TheVariants.{Eventual, Causal, Strong}
+use Rattle.ql_levels.specs.declared.level.Level.TheVariants.{Eventual, Causal, Wide, Strong}
 use Rattle.ql_levels.specs.declared.level.TxnLevel.TheVariants.{Rc, Mav, Rr}
 use Rattle.ql_cnf.specs.Satisfaction.{Satisfies}
 use Rattle.ql_typing.specs.Operations.{all_ops, op_contract, op_contracts, op_kinds, op_words, txn_contract, txn_contracts}
@@ -51,7 +51,9 @@ module _ (p : Program) (typed : program_faults p ≡ []) where
   pub lower_fail : (g : Goal) → IsLeastLevel p g → LowerFail p g
   lower_fail (OpAt o Eventual) least = tt
   lower_fail (OpAt o Causal) (f, e, ((a, sat), enough)) = (op_fails o Eventual f a e sat, tt)
-  lower_fail (OpAt o Strong) (f, e, ((a, sat), (b, more), enough)) = (op_fails o Eventual f a e sat, (op_fails o Causal f b e more, tt))
+  lower_fail (OpAt o Wide) (f, e, ((a, sat), (b, more), enough)) = (op_fails o Eventual f a e sat, (op_fails o Causal f b e more, tt))
+  lower_fail (OpAt o Strong) (f, e, ((a, sat), (b, more), (c, most), enough)) =
+      (op_fails o Eventual f a e sat, (op_fails o Causal f b e more, (op_fails o Wide f c e most, tt)))
   lower_fail (TxnAt d Rc) least = tt
   lower_fail (TxnAt d Mav) (f, e, ((a, sat), enough)) = (txn_fails d Rc f a e sat, tt)
   lower_fail (TxnAt d Rr) (f, e, ((a, sat), (b, more), enough)) = (txn_fails d Rc f a e sat, (txn_fails d Mav f b e more, tt))

@@ -1,15 +1,15 @@
--- The formula of each level. The levels' names are from Sivaramakrishnan, Kaki and Jagannathan (PLDI 2015);
--- these exact formulas are ours.
+-- The formula of each level. The levels' names are from Sivaramakrishnan, Kaki and Jagannathan (PLDI 2015), but for
+-- `wide`; that name and these exact formulas are ours.
 use Rattle.std.specs.Prelude.{[], ◌∷◌}
 use Rattle.ql_lang.specs.Trees.{Basic}
 use Rattle.ql_lang.specs.Formulas.{Statement, Related, BothOf, OneOf, IfThen, InOneTxn, Resolved}
 use Rattle.ql_lang.specs.declared.relation.RelName.{RelName}
-use Rattle.ql_lang.specs.declared.relation.RelName.TheVariants.{Vis, So, SameObj, Eq, Hbo}
+use Rattle.ql_lang.specs.declared.relation.RelName.TheVariants.{Vis, So, SameObj, Eq, Hb, Hbo}
 use Rattle.ql_lang.specs.declared.formula.OpChoice.TheVariants.{Any}
 use Rattle.ql_lang.specs.declared.formula.Term.{Term}
 use Rattle.ql_lang.specs.declared.formula.Term.TheVariants.{Cur, Var}
 use Rattle.ql_levels.specs.declared.level.Level.{Level}
-use Rattle.ql_levels.specs.declared.level.Level.TheVariants.{Eventual, Causal, Strong}
+use Rattle.ql_levels.specs.declared.level.Level.TheVariants.{Eventual, Causal, Wide, Strong}
 use Rattle.ql_levels.specs.declared.level.TxnLevel.{TxnLevel}
 use Rattle.ql_levels.specs.declared.level.TxnLevel.TheVariants.{Rc, Mav, Rr}
 
@@ -35,6 +35,8 @@ abbrev pub formula_of : Level → Resolved
 formula_of Eventual = record { vars = Any ∷ Any ∷ []; body = IfThen (BothOf (is Hbo a b) (is Vis b Cur)) (is Vis a Cur) }
 -- hbo(a, cur) => vis(a, cur)
 formula_of Causal = record { vars = Any ∷ []; body = IfThen (is Hbo a Cur) (is Vis a Cur) }
+-- hb(a, cur) /\ sameobj(a, cur) => vis(a, cur)
+formula_of Wide = record { vars = Any ∷ []; body = IfThen (BothOf (is Hb a Cur) (is SameObj a Cur)) (is Vis a Cur) }
 -- sameobj(a, cur) => vis(a, cur) \/ vis(cur, a) \/ a = cur
 formula_of Strong = record { vars = Any ∷ []; body = IfThen (is SameObj a Cur) (OneOf (OneOf (is Vis a Cur) (is Vis Cur a)) (is Eq a Cur)) }
 

@@ -1,13 +1,14 @@
--- The words of the levels: names of Sivaramakrishnan, Kaki and Jagannathan (PLDI 2015).
+-- The words of the levels. All but `wide`, which is ours, are names of Sivaramakrishnan, Kaki and Jagannathan (PLDI 2015).
 use Rattle.std.specs.Prelude.{ℕ, List, codes}
 use Rattle.ql_levels.specs.declared.level.Level.{Level}
-use Rattle.ql_levels.specs.declared.level.Level.TheVariants.{Eventual, Causal, Strong}
+use Rattle.ql_levels.specs.declared.level.Level.TheVariants.{Eventual, Causal, Wide, Strong}
 use Rattle.ql_levels.specs.declared.level.TxnLevel.{TxnLevel}
 use Rattle.ql_levels.specs.declared.level.TxnLevel.TheVariants.{Rc, Mav, Rr}
 
 abbrev pub word_of : Level → List ℕ
 word_of Eventual = codes "eventual"
 word_of Causal = codes "causal"
+word_of Wide = codes "wide"
 word_of Strong = codes "strong"
 
 abbrev pub txn_word_of : TxnLevel → List ℕ

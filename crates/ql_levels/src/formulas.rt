@@ -42,6 +42,18 @@ pub fn formula(alloc: Global, l: Level) -> Result<Formula, NoMemory>
             )?;
             for_all(alloc, 1, body)
         }
+        Level::Wide => {
+            let earlier = both(
+                alloc,
+                related(RelName::Hb, A, Term::Cur),
+                related(RelName::SameObj, A, Term::Cur),
+            )?;
+            for_all(
+                alloc,
+                1,
+                implies(alloc, earlier, related(RelName::Vis, A, Term::Cur))?,
+            )
+        }
         Level::Strong => {
             let seen = either(
                 alloc,

@@ -3,6 +3,7 @@
 pub enum Level {
     Eventual,
     Causal,
+    Wide,
     Strong,
 }
 

@@ -1,4 +1,4 @@
-// The store's levels: three for operations and three for transactions, each in ascending order.
+// The store's levels: four for operations and three for transactions, each in ascending order.
 // The one contract: the formula of a level is the written one, and its word is its name both ways.
 #![tactic(auto)]
 

@@ -12,6 +12,7 @@ pub fn level_word(l: Level) -> &'static str
     match l {
         Level::Eventual => "eventual",
         Level::Causal => "causal",
+        Level::Wide => "wide",
         Level::Strong => "strong",
     }
 }
@@ -36,6 +37,8 @@ pub fn level_of(w: &[u8]) -> Option<Level>
         Some(Level::Eventual)
     } else if w == b"causal".as_slice() {
         Some(Level::Causal)
+    } else if w == b"wide".as_slice() {
+        Some(Level::Wide)
     } else if w == b"strong".as_slice() {
         Some(Level::Strong)
     } else {

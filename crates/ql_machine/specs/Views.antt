@@ -1,11 +1,12 @@
 -- What a call sees: by whether its session has a transaction open, and then by the level of the transaction or of the
--- operation. The names of the levels are from Sivaramakrishnan, Kaki and Jagannathan (PLDI 2015); the views are ours.
+-- operation. The names of the levels, all but `wide`, are from Sivaramakrishnan, Kaki and Jagannathan (PLDI 2015); the
+-- views are ours.
 use Rattle.std.specs.Prelude.{◌≡◌, ◌⊎◌, ℕ, true, List, Option, Some, None}
 use Rattle.ql_exec.specs.Effects.{effect_at}
 use Rattle.ql_exec.specs.Execution.{IsOn}
 use Rattle.ql_exec.specs.Relations.{inside}
 use Rattle.ql_levels.specs.declared.level.Level.{Level}
-use Rattle.ql_levels.specs.declared.level.Level.TheVariants.{Eventual, Causal, Strong}
+use Rattle.ql_levels.specs.declared.level.Level.TheVariants.{Eventual, Causal, Wide, Strong}
 use Rattle.ql_levels.specs.declared.level.TxnLevel.{TxnLevel}
 use Rattle.ql_levels.specs.declared.level.TxnLevel.TheVariants.{Rc, Mav, Rr}
 use Rattle.ql_needs.specs.Closed.{Closed, Has}
@@ -25,6 +26,7 @@ AppliedWithOwn s t ids a = Closed (NeedsNow s.effects s.open_txns) (λ b. Has id
 abbrev pub PlainScope : Machine → ℕ → Level → ℕ → Type 0
 PlainScope s r Eventual a = Applied s r a
 PlainScope s r Causal a = Applied s r a
+PlainScope s r Wide a = Applied s r a
 PlainScope s r Strong a = Unit {0}
 
 -- In a transaction: what the replica has applied, its own effects joined. At repeatable read what stood in the snapshot

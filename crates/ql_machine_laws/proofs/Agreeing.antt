@@ -1,14 +1,17 @@
 -- Replicas that have received the same messages agree.
-use Rattle.std.proofs.Common.{◌≡◌, ◌⊎◌, ◌↔◌, ℕ, zero, suc, ◌<◌, true, ◌&&◌, nat_eq, List, [], ◌∷◌, ◌++◌, Option, Some, None, refl, ap, sym, subst, ◌∙◌, inl, inr}
-use Rattle.std.proofs.lemmas.Bool.{and_parts, eqb-true, false≢true, or_cases}
+use Rattle.std.proofs.Common.{◌≡◌, ◌⊎◌, ◌↔◌, ℕ, zero, suc, ◌<◌, true, ◌&&◌, nat_eq, List, [], ◌∷◌, ◌++◌, Option, Some, None, refl, ap, sym, subst, ◌∙◌, inl, inr, arith}
+use Rattle.std.proofs.lemmas.Bool.{and_parts, eqb-true, false≢true, or_cases, or_right}
 use Rattle.ql_base.specs.IdLists.{has_id}
 use Rattle.ql_base.specs.declared.ids.EffId.{EffId}
 use Rattle.ql_base.specs.declared.ids.ReplicaId.{ReplicaId}
 use Rattle.ql_exec.specs.declared.effect.Effect.{Effect}
+use Rattle.ql_exec.proofs.Chains.{leads-cases}
+use Rattle.ql_exec.proofs.Finding.{so_parts}
 use Rattle.ql_exec.specs.Effects.{effect_at}
 use Rattle.ql_exec.specs.Execution.{IsOn, next_id}
+use Rattle.ql_exec.specs.Relations.{hb, hb_step, so, soo, vis}
 use Rattle.ql_levels.specs.declared.level.Level.{Level}
-use Rattle.ql_levels.specs.declared.level.Level.TheVariants.{Causal, Eventual, Strong}
+use Rattle.ql_levels.specs.declared.level.Level.TheVariants.{Causal, Eventual, Strong, Wide}
 use Rattle.ql_needs.specs.Closed.{Has}
 use Rattle.ql_needs.proofs.ClosedLaws.{closed-from, closed-member}
 use Rattle.ql_machine.specs.declared.message.Message.{Message}
@@ -20,13 +23,38 @@ use Rattle.ql_machine.specs.State.{Machine, NeedsNow, committed, message_at, ope
 use Rattle.ql_machine.specs.Rules.{Call, Rules}
 use Rattle.ql_machine.specs.Sets.{AreThose}
 use Rattle.ql_machine.specs.Views.{Applied, InView, PlainScope, Scope}
-use Rattle.ql_machine.specs.Blocking.{IsMissing, IsOf, MissingInTxn, MustSee}
+use Rattle.ql_machine.specs.Blocking.{IsAtHand, IsMissing, IsOf, MissingInTxn, MustSee}
 use Rattle.ql_machine.specs.Changes.{effect_made, is_sent}
 use Rattle.ql_machine.specs.Calls.{HasOpen, IsCall, after_plain, blocked, held, makes, makes_own, makes_strong, unavailable, undeclared, unused}
-use Rattle.ql_machine_laws.specs.Kept.{IsDone, Keeps}
+use Rattle.ql_machine_laws.specs.Kept.{History, IsDone, Keeps, TxnsKept}
 use Rattle.ql_machine_laws.specs.Promised.{AllArrived, IsPlain, at_replica}
-use Rattle.ql_machine_laws.proofs.Pushed.{done-closed}
+use Rattle.ql_machine_laws.proofs.Pushed.{done-closed, undone}
 use Rattle.ql_machine_laws.proofs.OneStep.{same-those}
+use Rattle.ql_machine_laws.proofs.TxnLaws.{done-or-open}
+
+-- ---- what happened before a committed effect is committed
+
+module _ (x : List Effect) (o : List OpenTxn) (begun : ℕ) (txns : TxnsKept x o begun) (history : History x o) where
+  step-done : (a b : ℕ) → hb_step x a b ≡ true → IsDone x o b → IsDone x o a
+  step-done a b step done = elim (or_cases (so x a b) (vis x a b) step) [
+    | inl order ↦
+        let parts = so_parts x a b order in
+        elim (done-or-open x o a parts.first parts.first_at) [
+          | inl is ↦ is
+          | inr own ↦ absurd (undone x o begun txns parts.first.session own.0 own.1 b (txns.last parts.first.session own.0 own.1 a b own.2 order) done)
+        ]
+    | inr seen ↦ history.done b a done (inl (or_right (soo x a b) (vis x a b) seen))
+  ]
+
+  done-below : (bound a b : ℕ) → b < bound → hb x a b ≡ true → IsDone x o b → IsDone x o a
+  done-below zero a b less is done = absurd (omega (arith, less))
+  done-below (suc bound) a b less is done = elim (leads-cases (hb_step x) a b is) [
+    | inl one ↦ step-done a b one done
+    | inr more ↦ let below = more.1 in done-below bound a more.0 (omega (arith, less, below)) more.2 (step-done more.0 b more.3 done)
+  ]
+
+  hb-done : (a b : ℕ) → hb x a b ≡ true → IsDone x o b → IsDone x o a
+  hb-done a b is done = done-below (suc b) a b (omega arith) is done
 
 -- some message carries it there
 pub sent-found : (messages : List Message) (r a : ℕ) → is_sent messages r a ≡ true → (m : ℕ) × (message : Message) × (message_at messages m ≡ Some message) × (message.receiver.0 ≡ r) × Has message.carried a
@@ -76,6 +104,7 @@ module _ (rules : Rules) (start : ℕ) (s : Machine) (keeps : Keeps rules.promis
           by : (level : Level) → rules.level c.op ≡ level → PlainScope s q.0 level a ↔ IsDone s.effects s.open_txns a
           by Eventual is = applied q.0 less a
           by Causal is = applied q.0 less a
+          by Wide is = applied q.0 less a
           by Strong is = absurd (plain.1 is)
 
       pub view-at : (q : ReplicaId) → q.0 < start → (a : ℕ) → InView rules s (at_replica c q) a ↔ (IsOn c.object (effect_at s.effects a) × IsDone s.effects s.open_txns a)
@@ -84,13 +113,22 @@ module _ (rules : Rules) (start : ℕ) (s : Machine) (keeps : Keeps rules.promis
       none-missing : (q : ReplicaId) → q.0 < start → (a : ℕ) → IsMissing rules s (at_replica c q) a → ⊥
       none-missing q less a (inl unseen) = by (rules.level c.op) unseen.0
         where
-          of-session : (r : Option Effect) → effect_at s.effects a ≡ r → IsOf c.session r → IsDone s.effects s.open_txns a
-          of-session None at of = absurd of
-          of-session (Some f) at of = done-closed s.effects s.open_txns a f at (ap (open_of s.open_txns) of ∙ plain.0)
+          of-session : (b : ℕ) (r : Option Effect) → effect_at s.effects b ≡ r → IsOf c.session r → IsDone s.effects s.open_txns b
+          of-session b None at of = absurd of
+          of-session b (Some f) at of = done-closed s.effects s.open_txns b f at (ap (open_of s.open_txns) of ∙ plain.0)
 
-          by : (level : Level) → MustSee s (at_replica c q) level a → ⊥
+          at-hand : (b : ℕ) → IsAtHand s.effects c.session (InView rules s (at_replica c q)) b → IsDone s.effects s.open_txns b
+          at-hand b (inl of) = of-session b (effect_at s.effects b) refl of
+          at-hand b (inr seen) = ((view-at q less b).0 seen).1
+
+          past-done : (b : ℕ) → IsDone s.effects s.open_txns b → (a ≡ b) ⊎ (hb s.effects a b ≡ true) → IsDone s.effects s.open_txns a
+          past-done b done (inl same) = subst (IsDone s.effects s.open_txns) (sym same) done
+          past-done b done (inr before) = hb-done s.effects s.open_txns s.begun keeps.sound.txns keeps.history a b before done
+
+          by : (level : Level) → MustSee s (at_replica c q) (InView rules s (at_replica c q)) level a → ⊥
           by Eventual must = must
-          by Causal must = unseen.1 ((view-at q less a).1 (must.0, of-session (effect_at s.effects a) refl must.1))
+          by Causal must = unseen.1 ((view-at q less a).1 (must.0, of-session a (effect_at s.effects a) refl must.1))
+          by Wide must = unseen.1 ((view-at q less a).1 (must.0, past-done must.1.0 (at-hand must.1.0 must.1.1) must.1.2))
           by Strong must = must
       none-missing q less a (inr unapplied) = subst (λ (r : Option OpenTxn). MissingInTxn rules s (at_replica c q) r a) plain.0 unapplied
 

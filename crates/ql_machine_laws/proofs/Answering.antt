@@ -15,7 +15,7 @@ use Rattle.ql_exec.specs.Folding.{seen_in_order}
 use Rattle.ql_exec.proofs.Finding.{LastIs, any_found, effect, effect_at-within, last_is, nothing, so_from}
 use Rattle.ql_exec.proofs.Law.{IsExecution-push, splits-own}
 use Rattle.ql_levels.specs.declared.level.Level.{Level}
-use Rattle.ql_levels.specs.declared.level.Level.TheVariants.{Eventual, Causal, Strong}
+use Rattle.ql_levels.specs.declared.level.Level.TheVariants.{Eventual, Causal, Wide, Strong}
 use Rattle.ql_levels.specs.declared.level.TxnLevel.{TxnLevel}
 use Rattle.ql_levels.specs.declared.level.TxnLevel.TheVariants.{Rc, Mav, Rr}
 use Rattle.ql_needs.specs.Closed.{Has}
@@ -23,13 +23,14 @@ use Rattle.ql_needs.proofs.ClosedLaws.{closed-from, closed-larger, closed-member
 use Rattle.ql_machine.specs.declared.open_txn.OpenTxn.{OpenTxn}
 use Rattle.ql_machine.specs.State.{Machine, NeedsNow, open_of, received_at}
 use Rattle.ql_machine.specs.Rules.{Call, Rules}
-use Rattle.ql_machine.specs.Views.{AppliedWithOwn, PlainScope, Scope, TxnScope}
+use Rattle.ql_machine.specs.Views.{AppliedWithOwn, InView, PlainScope, Scope, TxnScope}
 use Rattle.ql_machine.specs.Blocking.{IsOf, MustHave, MustSee, NoneMissingInTxn, SawOfOthers}
 use Rattle.ql_machine.specs.Calls.{IsFree, MayAnswer, MayCall}
 use Rattle.ql_machine.specs.Changes.{draft_of, effect_made, member_of}
 use Rattle.ql_machine_laws.specs.Kept.{IsDone, IsOpen, IsStrong, Keeps, TxnsKept}
 use Rattle.ql_machine_laws.proofs.Pushed.{inside-found, inside-from, object-found, same_session, step-object}
 use Rattle.ql_machine_laws.proofs.Made.{IsAlone, IsBeside, IsMade, IsMadeIn}
+use Rattle.ql_machine_laws.proofs.Past.{past-wider}
 use Rattle.ql_machine_laws.proofs.TxnLaws.{done-or-open}
 
 -- ---- a new effect splits no transaction
@@ -100,6 +101,7 @@ module _ (rules : Rules) (start : ℕ) (s : Machine) (c : Call) (keeps : Keeps r
       plain : (level : Level) → PlainScope s c.replica.0 level a → PlainScope s c.replica.0 level b
       plain Eventual is = closed-need (NeedsNow s.effects s.open_txns) _ a b is need
       plain Causal is = closed-need (NeedsNow s.effects s.open_txns) _ a b is need
+      plain Wide is = closed-need (NeedsNow s.effects s.open_txns) _ a b is need
       plain Strong is = tt
   scope-need (Some t) a b scope need = inner (rules.txn_level t.decl) scope
     where
@@ -116,6 +118,7 @@ module _ (rules : Rules) (start : ℕ) (s : Machine) (c : Call) (keeps : Keeps r
       plain : (level : Level) → rules.level c.op ≡ level → PlainScope s c.replica.0 level a → IsDone s.effects s.open_txns a
       plain Eventual at is = keeps.stored.held c.replica.0 a (closed-member (NeedsNow s.effects s.open_txns) _ a is)
       plain Causal at is = keeps.stored.held c.replica.0 a (closed-member (NeedsNow s.effects s.open_txns) _ a is)
+      plain Wide at is = keeps.stored.held c.replica.0 a (closed-member (NeedsNow s.effects s.open_txns) _ a is)
       plain Strong at is = free-done (may.free at) a on
   scope-known (Some t) now a on scope = inner (rules.txn_level t.decl) scope
     where
@@ -142,6 +145,7 @@ module _ (rules : Rules) (start : ℕ) (s : Machine) (c : Call) (keeps : Keeps r
       plain : (level : Level) → PlainScope s c.replica.0 level a
       plain Eventual = keeps.strong.applied a f is c.replica.0 in_range
       plain Causal = keeps.strong.applied a f is c.replica.0 in_range
+      plain Wide = keeps.strong.applied a f is c.replica.0 in_range
       plain Strong = tt
   scope-strong (Some t) now a f is same = inner (rules.txn_level t.decl)
     where
@@ -241,7 +245,12 @@ module _ (rules : Rules) (start : ℕ) (s : Machine) (c : Call) (seen : List ℕ
     causal = λ level a f at in_session on_object.
         let on = on-object s.effects c.object a f at on_object in
         let of : IsOf c.session (effect_at s.effects a) = subst (IsOf c.session) (sym at) (same_session f.session c.session in_session) in
-        let must : MustSee s c (rules.level c.op) a = subst (λ (l : Level). MustSee s c l a) (sym level) (on, of) in
+        let must : MustSee s c (InView rules s c) (rules.level c.op) a = subst (λ (l : Level). MustSee s c (InView rules s c) l a) (sym level) (on, of) in
+        answers.view.all a (answers.none_missing.seen a must);
+    wide = λ level a beside past.
+        let on = on-object s.effects c.object a beside.effect beside.at beside.on_object in
+        let in_past = past-wider s.effects c.session (Has seen) (InView rules s c) answers.view.only a past in
+        let must : MustSee s c (InView rules s c) (rules.level c.op) a = subst (λ (l : Level). MustSee s c (InView rules s c) l a) (sym level) (on, in_past) in
         answers.view.all a (answers.none_missing.seen a must);
     known = λ a has.
         let view = answers.view.only a has in

@@ -4,12 +4,12 @@ use Rattle.std.proofs.lemmas.Bool.{and_from, and_parts, cases_order, eq-eqb, or_
 use Rattle.ql_base.specs.declared.ids.DeclId.{DeclId}
 use Rattle.ql_exec.specs.declared.effect.Effect.{Effect}
 use Rattle.ql_exec.specs.Effects.{effect_at}
-use Rattle.ql_exec.specs.Relations.{hbo, hbo_step, inside, sameobj, sametxn, so, vis}
+use Rattle.ql_exec.specs.Relations.{hb, hbo, hbo_step, inside, sameobj, sametxn, so, vis}
 use Rattle.ql_formula.specs.Truth.{Holds, HoldsTxn}
 use Rattle.ql_exec.proofs.Chains.{leads-cases}
 use Rattle.ql_levels.specs.Formulas.{formula_of, txn_formula_of}
 use Rattle.ql_levels.specs.declared.level.Level.{Level}
-use Rattle.ql_levels.specs.declared.level.Level.TheVariants.{Causal, Eventual, Strong}
+use Rattle.ql_levels.specs.declared.level.Level.TheVariants.{Causal, Eventual, Strong, Wide}
 use Rattle.ql_levels.specs.declared.level.TxnLevel.{TxnLevel}
 use Rattle.ql_levels.specs.declared.level.TxnLevel.TheVariants.{Mav, Rc, Rr}
 use Rattle.ql_machine.specs.State.{Machine}
@@ -51,6 +51,13 @@ module _ (promises : Promises) (start : ℕ) (s : Machine) (keeps : Keeps promis
     | inr more ↦ seen_below (suc more.0) a more.0 cur (omega arith) more.2 (keeps.sound.causal more.0 cur e at level more.3)
   ])
 
+  wide : (cur : ℕ) (e : Effect) → effect_at s.effects cur ≡ Some e → promises.level e.op ≡ Wide → Holds s.effects (formula_of Wide) cur
+  wide cur e at level [] chosen = absurd chosen
+  wide cur e at level (a ∷ b ∷ more) chosen = absurd chosen.1
+  wide cur e at level (a ∷ []) chosen = implies (hb s.effects a cur && sameobj s.effects a cur) (vis s.effects a cur) (λ is.
+      let parts = and_parts (hb s.effects a cur) (sameobj s.effects a cur) is in
+      keeps.sound.wide a cur e at level parts.0 parts.1)
+
   object-back : (a b : ℕ) → sameobj s.effects a b ≡ true → sameobj s.effects b a ≡ true
   object-back a b is = let found = object-found s.effects a b is in object-from s.effects b a found.1 found.0 found.3 found.2 (sym found.4)
 
@@ -69,6 +76,7 @@ module _ (promises : Promises) (start : ℕ) (s : Machine) (keeps : Keeps promis
       by : (level : Level) → promises.level e.op ≡ level → Holds s.effects (formula_of level) cur
       by Eventual is = eventual cur
       by Causal is = causal cur e at is
+      by Wide is = wide cur e at is
       by Strong is = strong cur e at is
 
   -- ---- transactions

@@ -484,6 +484,7 @@ keeps-empty promises n =
         execution = empty-execution;
         closed = λ a b c seen stepped. absurd (unseen b c seen);
         causal = λ a c e at level stepped. absurd (nothing-there c e at);
+        wide = λ a c e at level before on. absurd (nothing-there c e at);
         txns = record {
           numbered = λ a e at. absurd (nothing-there a e at);
           open_numbered = λ session t is. absurd (none_at t is);

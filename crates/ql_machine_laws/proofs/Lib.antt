@@ -1,6 +1,7 @@
 pub mod Lists
 pub mod Pushed
 pub mod Made
+pub mod Past
 pub mod SoundLaws
 pub mod StoredLaws
 pub mod StrongLaws

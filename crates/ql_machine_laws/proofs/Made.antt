@@ -6,12 +6,13 @@ use Rattle.ql_exec.specs.declared.effect.Effect.{Effect}
 use Rattle.ql_exec.specs.Effects.{effect_at}
 use Rattle.ql_exec.specs.Execution.{IsExecution}
 use Rattle.ql_exec.specs.Relations.{vis, sametxn, inside, hbo_step}
-use Rattle.ql_levels.specs.declared.level.Level.TheVariants.{Causal, Strong}
+use Rattle.ql_levels.specs.declared.level.Level.TheVariants.{Causal, Wide, Strong}
 use Rattle.ql_levels.specs.declared.level.TxnLevel.TheVariants.{Mav, Rr}
 use Rattle.ql_needs.specs.Closed.{Has}
 use Rattle.ql_machine.specs.declared.open_txn.OpenTxn.{OpenTxn}
 use Rattle.ql_machine.specs.State.{open_of}
 use Rattle.ql_machine.specs.Rules.{Promises}
+use Rattle.ql_machine.specs.Blocking.{InPast}
 use Rattle.ql_machine.specs.Changes.{member_of}
 use Rattle.ql_machine_laws.specs.Kept.{IsDone, IsOpen, IsStrong}
 
@@ -41,6 +42,7 @@ pub record IsMade (promises : Promises) (x : List Effect) (o : List OpenTxn) (e 
   -- what is one step before something seen is seen
   pub closed : (a b : ℕ) → Has e.seen b → hbo_step x a b ≡ true → Has e.seen a
   pub causal : promises.level e.op ≡ Causal → (a : ℕ) (f : Effect) → effect_at x a ≡ Some f → f.session.0 ≡ e.session.0 → f.object.0 ≡ e.object.0 → Has e.seen a
+  pub wide : promises.level e.op ≡ Wide → (a : ℕ) → IsBeside x e a → InPast x e.session (Has e.seen) a → Has e.seen a
   -- what is seen is committed, or of the session's open transaction
   pub known : (a : ℕ) → Has e.seen a → IsDone x o a ⊎ ((t : OpenTxn) × IsOpen o e.session t × (inside x t.run.0 a ≡ true))
   -- of a committed transaction all on the object is seen, or nothing

@@ -10,8 +10,8 @@ use Rattle.ql_exec.specs.declared.effect.Member.{Member}
 use Rattle.ql_exec.specs.declared.effect.Member.TheVariants.{Alone, Inside}
 use Rattle.ql_exec.specs.Effects.{effect_at, both, in_run}
 use Rattle.ql_exec.specs.Execution.{has_name}
-use Rattle.ql_exec.specs.Relations.{so, vis, sameobj, soo, same_run, inside}
-use Rattle.ql_exec.proofs.Finding.{both-found, cases_pushed, effect_at-last, effect_at-within, in_run-along, so_parts}
+use Rattle.ql_exec.specs.Relations.{hb, so, vis, sameobj, soo, same_run, inside}
+use Rattle.ql_exec.proofs.Finding.{both-found, cases_pushed, effect_at-append, effect_at-last, effect_at-within, in_run-along, so_parts}
 use Rattle.ql_levels.specs.declared.level.Level.{Level}
 use Rattle.ql_needs.proofs.NeedsLaws.{step-before}
 use Rattle.ql_machine.specs.declared.open_txn.OpenTxn.{OpenTxn}
@@ -20,8 +20,9 @@ use Rattle.ql_machine.specs.Rules.{Promises}
 use Rattle.ql_machine.specs.Changes.{member_of, without}
 use Rattle.ql_machine_laws.specs.Kept.{History, IsDone, IsNumbered, IsOpen, IsOwn, IsSound, TxnsKept}
 use Rattle.ql_machine_laws.proofs.Lists.{committed-begun, done-kept, done-own, open-cases, without-cases, without-other}
-use Rattle.ql_machine_laws.proofs.Pushed.{done-cases, done-closed, done-found, done-from, done-longer, inside-cases, inside-found, inside-from, inside-longer, member-open, needs-shorter, not_done, same_session, seen-found, so-cases, step-cases, vis-cases, vis-longer, vis-new}
-use Rattle.ql_machine_laws.proofs.Made.{IsMade}
+use Rattle.ql_machine_laws.proofs.Pushed.{both-shorter, done-cases, done-closed, done-found, done-from, done-longer, inside-cases, inside-found, inside-from, inside-longer, member-open, needs-shorter, not_done, object-found, same_session, seen-found, so-cases, step-cases, vis-cases, vis-longer, vis-new}
+use Rattle.ql_machine_laws.proofs.Made.{IsBeside, IsMade}
+use Rattle.ql_machine_laws.proofs.Past.{hb-less, hb-shorter, past-new}
 
 -- ---- a call
 
@@ -107,8 +108,31 @@ module _ (promises : Promises) (x : List Effect) (o : List OpenTxn) (begun : ℕ
         ]
       ]
     ];
+    wide = λ a c f at level before on. elim (cases_pushed x e f c at) [
+      | inl old ↦
+          let before_x = hb-shorter x e made.grown a c old.0 before in
+          let less = hb-less x sound.execution a c before_x in
+          let within = old.0 in
+          vis-longer x (e ∷ []) a c
+          (sound.wide a c f old.1 level before_x (both-shorter x (e ∷ []) (λ g h. nat_eq g.object.0 h.object.0) a c (omega (arith, less, within)) old.0 on))
+      | inr new ↦
+          vis-new x e made.grown a c new.0
+          (made.wide (ap (λ (g : Effect). promises.level g.op) (sym new.1) ∙ level) a (beside a c new.0 before on) (past-new x e made.grown a c new.0 before))
+    ];
     txns = txns-push;
   }
+    where
+      -- what happened before the new effect on its object is of the execution before it
+      beside : (a c : ℕ) → c ≡ suc (length x) → hb (x ++ e ∷ []) a c ≡ true → sameobj (x ++ e ∷ []) a c ≡ true → IsBeside x e a
+      beside a c new before on =
+          let found = object-found (x ++ e ∷ []) a c on in
+          let less = hb-less (x ++ e ∷ []) made.grown a c before in
+          let last : found.1 ≡ e = same_Some found.1 e (sym found.3 ∙ ap (effect_at (x ++ e ∷ [])) new ∙ effect_at-last x e) in
+          record {
+            effect = found.0;
+            at = sym (effect_at-append x (e ∷ []) a (omega (arith, less, new))) ∙ found.2;
+            on_object = found.4 ∙ ap (λ (g : Effect). g.object.0) last;
+          }
 
   module _ (history : History x o) where
     pub done-new : is_done (open_of o e.session) e.member ≡ true → open_of o e.session ≡ None
@@ -222,7 +246,7 @@ module _ (x : List Effect) (o : List OpenTxn) (begun : ℕ) (txns : TxnsKept x o
       higher (Inside run decl) low = omega (arith, low)
 
   pub sound-begin : (level : OpId → Level) → IsSound level x o begun → IsSound level x (o ++ t ∷ []) (suc begun)
-  sound-begin level sound = record { execution = sound.execution; closed = sound.closed; causal = sound.causal; txns = txns-begin }
+  sound-begin level sound = record { execution = sound.execution; closed = sound.closed; causal = sound.causal; wide = sound.wide; txns = txns-begin }
 
   pub needs-begin : (a b : ℕ) → NeedsNow x (o ++ t ∷ []) a b → NeedsNow x o a b
   needs-begin a b (inl step) = inl step
@@ -256,7 +280,7 @@ module _ (x : List Effect) (o : List OpenTxn) (begun : ℕ) (txns : TxnsKept x o
   }
 
   pub sound-commit : (level : OpId → Level) → IsSound level x o begun → IsSound level x (without o session) begun
-  sound-commit level sound = record { execution = sound.execution; closed = sound.closed; causal = sound.causal; txns = txns-commit }
+  sound-commit level sound = record { execution = sound.execution; closed = sound.closed; causal = sound.causal; wide = sound.wide; txns = txns-commit }
 
   -- an effect that is committed now and wasn't before is of the session's open transaction
   pub newly-done : (a : ℕ) → IsDone x (without o session) a → IsDone x o a ⊎ ((t : OpenTxn) × IsOpen o session t × (inside x t.run.0 a ≡ true))

@@ -10,9 +10,9 @@ use Rattle.ql_exec.specs.declared.effect.Member.{Member}
 use Rattle.ql_exec.specs.declared.effect.Member.TheVariants.{Alone, Inside}
 use Rattle.ql_exec.specs.Effects.{effect_at, in_run}
 use Rattle.ql_exec.specs.Execution.{IsExecution, has_name}
-use Rattle.ql_exec.specs.Relations.{so, vis, sameobj, sametxn, inside, hbo_step}
+use Rattle.ql_exec.specs.Relations.{so, vis, sameobj, sametxn, inside, hb, hbo_step}
 use Rattle.ql_levels.specs.declared.level.Level.{Level}
-use Rattle.ql_levels.specs.declared.level.Level.TheVariants.{Causal, Strong}
+use Rattle.ql_levels.specs.declared.level.Level.TheVariants.{Causal, Wide, Strong}
 use Rattle.ql_levels.specs.declared.level.TxnLevel.{TxnLevel}
 use Rattle.ql_levels.specs.declared.level.TxnLevel.TheVariants.{Mav, Rr}
 use Rattle.ql_needs.specs.Closed.{Closed, Has}
@@ -68,6 +68,8 @@ pub record IsSound (level : OpId → Level) (x : List Effect) (open_txns : List 
   pub closed : (a b c : ℕ) → vis x b c ≡ true → hbo_step x a b ≡ true → vis x a c ≡ true
   -- an effect of a causal operation sees what is one step before it
   pub causal : (a c : ℕ) (e : Effect) → effect_at x c ≡ Some e → level e.op ≡ Causal → hbo_step x a c ≡ true → vis x a c ≡ true
+  -- an effect of a wide operation sees what happened before it on its object, also by way of others
+  pub wide : (a c : ℕ) (e : Effect) → effect_at x c ≡ Some e → level e.op ≡ Wide → hb x a c ≡ true → sameobj x a c ≡ true → vis x a c ≡ true
   pub txns : TxnsKept x open_txns begun
 
 -- ---- what is committed

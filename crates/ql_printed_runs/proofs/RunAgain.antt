@@ -13,7 +13,7 @@ use Rattle.ql_lang.specs.declared.program.Program.{Program}
 use Rattle.ql_levels.specs.Lists.{LevelLists}
 use Rattle.ql_levels.specs.Words.{word_of, txn_word_of}
 use Rattle.ql_levels.specs.declared.level.Level.{Level}
-use Rattle.ql_levels.specs.declared.level.Level.TheVariants.{Eventual, Causal, Strong}
+use Rattle.ql_levels.specs.declared.level.Level.TheVariants.{Eventual, Causal, Wide, Strong}
 use Rattle.ql_levels.specs.declared.level.TxnLevel.{TxnLevel}
 use Rattle.ql_levels.specs.declared.level.TxnLevel.TheVariants.{Rc, Mav, Rr}
 use Rattle.ql_lines.specs.Fields.{Fields, fields_of, is_space}
@@ -90,6 +90,7 @@ word w e = high_stay w (visible_bytes w e)
 level_stays : (l : Level) → Stay (word_of l)
 level_stays Eventual = word (codes "eventual") refl
 level_stays Causal = word (codes "causal") refl
+level_stays Wide = word (codes "wide") refl
 level_stays Strong = word (codes "strong") refl
 
 txn_level_stays : (l : TxnLevel) → Stay (txn_word_of l)

@@ -15,7 +15,7 @@ const PRIME: u64 = 0x100000001b3;
 // A line for each goal, and with `whole` a line for each clause after it.
 pub fn list_goals(alloc: Global, t: &Typed, whole: bool, out: &mut String) -> Result<(), NoMemory> {
     for o in 0..t.ops() {
-        for level in [Level::Eventual, Level::Causal, Level::Strong] {
+        for level in [Level::Eventual, Level::Causal, Level::Wide, Level::Strong] {
             let clauses = problem(alloc, t, Goal::OpAt(OpId(o), level))?;
             write!(out, "op {o} {}", level_word(level))?;
             list_problem(&clauses, whole, out)?;

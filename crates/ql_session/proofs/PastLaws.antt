@@ -10,8 +10,10 @@ use Rattle.ql_exec.specs.Execution.{IsExecution, IsOn}
 use Rattle.ql_exec.specs.Relations.{hb, hb_step, leads, soo, so, vis}
 use Rattle.ql_exec.proofs.Chains.{leads-cases, leads-step, leads-more}
 use Rattle.ql_exec.proofs.Finding.{effect_at-within, so_parts}
+use Rattle.ql_needs.specs.Closed.{Has}
 use Rattle.ql_needs.proofs.NeedsLaws.{at-first, step-before}
-use Rattle.ql_session.specs.Past.{InPast, IsLeastOf}
+use Rattle.ql_machine.specs.Blocking.{InPast}
+use Rattle.ql_session.specs.Past.{IsLeastOf}
 
 -- ---- the first step of a chain
 
@@ -56,7 +58,7 @@ hb-forward x law a b is = elim (or_cases (so x a b) (vis x a b) is) [
     within c e at = effect_at-within x c e at
 
 -- what happened a step before one of the past is of the past
-pub past-step : (x : List Effect) (session : SessId) (view : List ℕ) → IsExecution x → (a b : ℕ) → hb_step x a b ≡ true → InPast x session view b → InPast x session view a
+pub past-step : (x : List Effect) (session : SessId) (view : List ℕ) → IsExecution x → (a b : ℕ) → hb_step x a b ≡ true → InPast x session (Has view) b → InPast x session (Has view) a
 past-step x session view law a b step past = (past.0, past.1, inr (chain past.2))
   where
     chain : (b ≡ past.0) ⊎ (hb x b past.0 ≡ true) → hb x a past.0 ≡ true

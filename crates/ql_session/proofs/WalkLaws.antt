@@ -12,7 +12,7 @@ use Rattle.ql_exec.proofs.Finding.{so_parts, so_from, both-found}
 use Rattle.ql_needs.specs.Closed.{Has}
 use Rattle.ql_needs.proofs.IdSets.{has_id-with}
 use Rattle.ql_machine.specs.Blocking.{IsOf}
-use Rattle.ql_session.specs.Past.{InPast, IsAtHand}
+use Rattle.ql_machine.specs.Blocking.{InPast, IsAtHand}
 use Rattle.ql_session.specs.Walks.{GoesDown, IsVisited, IsWalk, Joins}
 use Rattle.ql_session.proofs.PastLaws.{hb-forward, leads-begins, past-step}
 
@@ -65,10 +65,10 @@ walk-begins x session view met sessions there back own = record {
 
 -- it was met, or its session was
 pub past-met : (x : List Effect) (session : SessId) (view met sessions : List ℕ) (a : ℕ) (e : Effect) → IsExecution x → effect_at x a ≡ Some e
-    → IsWalk x session view a met sessions → InPast x session view a → Has met a ⊎ Has sessions e.session.0
+    → IsWalk x session view a met sessions → InPast x session (Has view) a → Has met a ⊎ Has sessions e.session.0
 past-met x session view met sessions a e law at walk past = by past.0 past.1 past.2
   where
-    later : (d : ℕ) → InPast x session view d → hb_step x a d ≡ true → Has met a ⊎ Has sessions e.session.0
+    later : (d : ℕ) → InPast x session (Has view) d → hb_step x a d ≡ true → Has met a ⊎ Has sessions e.session.0
     later d of_past step =
         let order = hb-forward x law a d step in
         let visit = walk.visited d order.0 order.1 of_past in
@@ -82,7 +82,7 @@ past-met x session view met sessions a e law at walk past = by past.0 past.1 pas
               inl (visit.seen found.1 found.3 a found.4)
         ]
 
-    by : (c : ℕ) → IsAtHand x session view c → (a ≡ c) ⊎ (hb x a c ≡ true) → Has met a ⊎ Has sessions e.session.0
+    by : (c : ℕ) → IsAtHand x session (Has view) c → (a ≡ c) ⊎ (hb x a c ≡ true) → Has met a ⊎ Has sessions e.session.0
     by c (inl own) (inl same) =
         inr (subst (λ (q : ℕ). Has sessions q) (sym (of-is x session a e at (subst (λ (n : ℕ). IsOf session (effect_at x n)) (sym same) own))) walk.own)
     by c (inr has) (inl same) = inl (walk.viewed a (subst (λ (n : ℕ). Has view n) (sym same) has))
@@ -100,7 +100,7 @@ walk-past x e f met sessions law at first unmet others = λ session view walk. r
   past = walk.past;
   before = λ a g below there has. walk.before a g (omega (arith, below)) there has;
   visited = λ a behind last past. elim (cases_order a e) [
-    | inl same ↦ absurd (elim (past-met x session view met sessions e f law at walk (subst (InPast x session view) same past)) [
+    | inl same ↦ absurd (elim (past-met x session view met sessions e f law at walk (subst (InPast x session (Has view)) same past)) [
       | inl has ↦ false≢true (sym unmet ∙ has)
       | inr has ↦ false≢true (sym others ∙ has)
     ])
@@ -142,13 +142,13 @@ takes-in e f met sessions more others joins is = rw is (record {
 pub walk-in : (x : List Effect) (e : ℕ) (f : Effect) (met sessions more others : List ℕ) → IsExecution x → effect_at x e ≡ Some f → 1 ≤ e
     → Has met e ⊎ Has sessions f.session.0 → TakesIn e f met sessions more others → GoesDown x e met sessions (e - 1) more others
 walk-in x e f met sessions more others law at first is taken = λ session view walk.
-    let past : InPast x session view e = elim is [ inl has ↦ walk.past e has | inr has ↦ walk.before e f (omega arith) at has ] in
+    let past : InPast x session (Has view) e = elim is [ inl has ↦ walk.past e has | inr has ↦ walk.before e f (omega arith) at has ] in
     record {
       own = taken.session_more session.0 walk.own;
       viewed = λ a has. taken.met_more a (walk.viewed a has);
       past = λ a has. elim (taken.met_only a has) [
         | inl old ↦ walk.past a old
-        | inr (inl same) ↦ subst (InPast x session view) (sym same) past
+        | inr (inl same) ↦ subst (InPast x session (Has view)) (sym same) past
         | inr (inr seen) ↦ past-step x session view law a e (seen-step x e a f law at seen) past
       ];
       before = λ a g below there has. elim (taken.session_only g.session.0 has) [
@@ -182,5 +182,5 @@ walk-in x e f met sessions more others law at first is taken = λ session view w
 -- ---- where the walk ends
 
 pub walk-ends : (x : List Effect) (session : SessId) (view met sessions : List ℕ) → IsWalk x session view 0 met sessions
-    → (a : ℕ) → 1 ≤ a → a ≤ length x → InPast x session view a → Has met a
+    → (a : ℕ) → 1 ≤ a → a ≤ length x → InPast x session (Has view) a → Has met a
 walk-ends x session view met sessions walk a first last past = (walk.visited a first last past).itself

@@ -4,7 +4,7 @@ use Rattle.ql_base.specs.declared.ids.SessId.{SessId}
 use Rattle.ql_exec.specs.declared.effect.Effect.{Effect}
 use Rattle.ql_exec.specs.Effects.{effect_at}
 use Rattle.ql_needs.specs.Closed.{Has}
-use Rattle.ql_session.specs.Past.{InPast}
+use Rattle.ql_machine.specs.Blocking.{InPast}
 
 -- the effect is met with all that it sees, and its session
 pub record IsVisited (x : List Effect) (met sessions : List ℕ) (a : ℕ) : Type 0 where
@@ -16,9 +16,9 @@ pub record IsVisited (x : List Effect) (met sessions : List ℕ) (a : ℕ) : Typ
 pub record IsWalk (x : List Effect) (session : SessId) (view : List ℕ) (left : ℕ) (met sessions : List ℕ) : Type 0 where
   pub own : Has sessions session.0
   pub viewed : (a : ℕ) → Has view a → Has met a
-  pub past : (a : ℕ) → Has met a → InPast x session view a
-  pub before : (a : ℕ) (e : Effect) → a ≤ left → effect_at x a ≡ Some e → Has sessions e.session.0 → InPast x session view a
-  pub visited : (a : ℕ) → left < a → a ≤ length x → InPast x session view a → IsVisited x met sessions a
+  pub past : (a : ℕ) → Has met a → InPast x session (Has view) a
+  pub before : (a : ℕ) (e : Effect) → a ≤ left → effect_at x a ≡ Some e → Has sessions e.session.0 → InPast x session (Has view) a
+  pub visited : (a : ℕ) → left < a → a ≤ length x → InPast x session (Has view) a → IsVisited x met sessions a
 
 -- the walk goes down to fewer effects, for every call
 abbrev pub GoesDown : List Effect → ℕ → List ℕ → List ℕ → ℕ → List ℕ → List ℕ → Type 0

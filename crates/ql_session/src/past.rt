@@ -4,7 +4,8 @@ ghost use Rattle.ql_exec.specs.declared.effect.Effect.{Effect};
 ghost use Rattle.ql_exec.specs.Execution.{IsExecution};
 ghost use Rattle.ql_needs.specs.Closed.{Has};
 ghost use Rattle.ql_ranges.specs.Ranges.{ids_of};
-ghost use Rattle.ql_session.specs.Past.{InPast, IsLeastOf};
+ghost use Rattle.ql_machine.specs.Blocking.{InPast};
+ghost use Rattle.ql_session.specs.Past.{IsLeastOf};
 ghost use Rattle.ql_session.specs.Walks.{GoesDown, IsWalk, Joins};
 
 use ql_base::{EffId, IdSet, NoMemory, SessId};
@@ -22,7 +23,7 @@ pub(crate) fn past_of(
     session: SessId,
     view: &IdSet,
 ) -> Result<Ranges, NoMemory>
-    ensures { IfOk result (λ past. (a : ℕ) → 1 ≤ a → a ≤ length x.now → Has (ids_of past) a ↔ InPast x.now session view.now a) }
+    ensures { IfOk result (λ past. (a : ℕ) → 1 ≤ a → a ≤ length x.now → Has (ids_of past) a ↔ InPast x.now session (Has view.now) a) }
 {
     let mut walk = begin(alloc, session, view)?;
     visit_all(x, &mut walk)?;

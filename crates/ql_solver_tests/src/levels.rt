@@ -9,6 +9,7 @@ use std::test::Fail;
 const FORMULAS: &str = "
 eventual -> 2 implies
 causal -> 1 implies
+wide -> 1 implies
 strong -> 1 implies
 rc -> 3 implies
 mav -> 4 and

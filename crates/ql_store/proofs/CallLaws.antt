@@ -12,7 +12,8 @@ use Rattle.ql_exec.specs.Effects.{effect_at}
 use Rattle.ql_exec.specs.Execution.{IsExecution, IsOn, effect_of, next_id}
 use Rattle.ql_exec.specs.Folding.{seen_in_order}
 use Rattle.ql_levels.specs.declared.level.Level.{Level}
-use Rattle.ql_levels.specs.declared.level.Level.TheVariants.{Eventual, Causal, Strong}
+use Rattle.ql_levels.specs.declared.level.Level.TheVariants.{Eventual, Causal, Wide, Strong}
+use Rattle.ql_needs.specs.Closed.{Has}
 use Rattle.ql_needs.specs.Needs.{JoinsNone}
 use Rattle.ql_holder.specs.Arrivals as held
 use Rattle.ql_machine.specs.declared.open_txn.OpenTxn.{OpenTxn}
@@ -39,30 +40,36 @@ use Rattle.ql_machine_laws.proofs.Pushed.{at-longer, inside-cases, inside-found,
 use Rattle.ql_shim.specs.Viewing.{IsKnown}
 use Rattle.ql_machine_laws.proofs.Alone.{applied-same}
 use Rattle.ql_machine_laws.proofs.Answering.{made}
+use Rattle.ql_machine_laws.proofs.Past.{past-wider}
 use Rattle.ql_machine_laws.proofs.StoredLaws.{joins-none}
 use Rattle.ql_net.specs.Network.{Network}
 use Rattle.ql_shim.specs.Transactions.{Transactions}
 use Rattle.ql_store.specs.State.{machine_of}
 use Rattle.ql_store.specs.Viewing.{IsLeastLacking, IsWanted}
 
-pub must-wanted : (s : Machine) (c : Call) (level : Level) (a : ℕ) → MustSee s c level a → IsWanted s.effects level c.session c.object a
-must-wanted s c Eventual a is = is
-must-wanted s c Causal a is = is
-must-wanted s c Strong a is = is
+-- what a call must see, of a list of what it sees
+pub must-wanted : (s : Machine) (c : Call) (sees : ℕ → Type 0) (ids : List ℕ) → AreThose sees ids → (level : Level) (a : ℕ) → MustSee s c sees level a → IsWanted s.effects level c.session c.object ids a
+must-wanted s c sees ids those Eventual a is = is
+must-wanted s c sees ids those Causal a is = is
+must-wanted s c sees ids those Wide a is = (is.0, past-wider s.effects c.session sees (Has ids) those.all a is.1)
+must-wanted s c sees ids those Strong a is = is
 
-pub wanted-must : (s : Machine) (c : Call) (level : Level) (a : ℕ) → IsWanted s.effects level c.session c.object a → MustSee s c level a
-wanted-must s c Eventual a is = is
-wanted-must s c Causal a is = is
-wanted-must s c Strong a is = is
+pub wanted-must : (s : Machine) (c : Call) (sees : ℕ → Type 0) (ids : List ℕ) → AreThose sees ids → (level : Level) (a : ℕ) → IsWanted s.effects level c.session c.object ids a → MustSee s c sees level a
+wanted-must s c sees ids those Eventual a is = is
+wanted-must s c sees ids those Causal a is = is
+wanted-must s c sees ids those Wide a is = (is.0, past-wider s.effects c.session (Has ids) sees those.only a is.1)
+wanted-must s c sees ids those Strong a is = is
 
 scope-in : (s : Machine) (r a : ℕ) (level : Level) → Applied s r a → PlainScope s r level a
 scope-in s r a Eventual is = is
 scope-in s r a Causal is = is
+scope-in s r a Wide is = is
 scope-in s r a Strong is = tt
 
 scope-out : (s : Machine) (r a : ℕ) (level : Level) → level ≢ Strong → PlainScope s r level a → Applied s r a
 scope-out s r a Eventual below is = is
 scope-out s r a Causal below is = is
+scope-out s r a Wide below is = is
 scope-out s r a Strong below is = absurd (below refl)
 
 -- what is seen on the object at the called replica
@@ -100,19 +107,19 @@ module _ (rules : Rules) (start : ℕ) (s : Machine) (c : Call) (plain : IsPlain
 
   pub plain-blocked : (missing : EffId) → IsLeastLacking s.effects (rules.level c.op) c.session c.object ids (Some missing) → IsCall rules s c s (reply.Blocked missing)
   plain-blocked missing is = blocked missing may (record {
-    fits = inl (wanted-must s c (rules.level c.op) missing.0 is.fits.0, λ seen. both_ways (has_id ids missing.0) is.fits.1 (view.all missing.0 seen));
+    fits = inl (wanted-must s c (InView rules s c) ids view (rules.level c.op) missing.0 is.fits.0, λ seen. both_ways (has_id ids missing.0) is.fits.1 (view.all missing.0 seen));
     least = λ b lacks. by b lacks;
   })
     where
       by : (b : ℕ) → IsMissing rules s c b → missing.0 ≤ b
-      by b (inl lacks) = is.least b (must-wanted s c (rules.level c.op) b lacks.0, false_from_ne_true (has_id ids b) (λ has. lacks.1 (view.only b has)))
+      by b (inl lacks) = is.least b (must-wanted s c (InView rules s c) ids view (rules.level c.op) b lacks.0, false_from_ne_true (has_id ids b) (λ has. lacks.1 (view.only b has)))
       by b (inr lacks) = absurd (subst (λ (r : Option OpenTxn). MissingInTxn rules s c r b) plain.none lacks)
 
   pub plain-answers : IsLeastLacking s.effects (rules.level c.op) c.session c.object ids None → MayAnswer rules s c ids
   plain-answers is = record {
     may = may;
     none_missing = record {
-      seen = λ a must. view.only a (is a (must-wanted s c (rules.level c.op) a must));
+      seen = λ a must. view.only a (is a (must-wanted s c (InView rules s c) ids view (rules.level c.op) a must));
       applied = subst (NoneMissingInTxn rules s c) (sym plain.none) tt;
     };
     in_range = plain.replica;

@@ -1,8 +1,10 @@
 -- The notes of an execution: which effects they tell, and one note more or less.
-use Rattle.std.proofs.Common.{◌≡◌, ◌∷◌, ◌++◌, [], ◌+◌, ◌-◌, ◌≤◌, ◌&&◌, ℕ, zero, suc, Bool, true, nat_eq, List, Option, Some, None, length, take, ap, sym, subst, ◌∙◌, arith, refl, length-append}
+use Rattle.std.proofs.Common.{◌≡◌, ◌∷◌, ◌++◌, [], ◌+◌, ◌-◌, ◌≤◌, ◌&&◌, ℕ, zero, suc, Bool, true, nat_eq, List, Option, Some, None, Result, Ok, Err, inl, inr, length, take, ap, sym, subst, ◌∙◌, arith, refl, length-append}
+use Rattle.std.specs.Prelude.{IfOk}
 use Rattle.std.proofs.Math.Seq.{take-append_seam}
-use Rattle.std.proofs.lemmas.Bool.{eq-eqb, eqb-true, and_parts, and_from}
+use Rattle.std.proofs.lemmas.Bool.{cases_Bool, eq-eqb, eqb-true, and_parts, and_from}
 use Rattle.std.proofs.lemmas.Option.{same_Some}
+use Rattle.ql_base.specs.IdLists.{has_id}
 use Rattle.ql_base.specs.declared.ids.EffId.{EffId}
 use Rattle.ql_base.specs.declared.ids.ObjId.{ObjId}
 use Rattle.ql_base.specs.declared.ids.SessId.{SessId}
@@ -11,7 +13,7 @@ use Rattle.ql_exec.specs.declared.effect.Effect.{Effect}
 use Rattle.ql_exec.specs.Effects.{effect_at}
 use Rattle.ql_exec.specs.Execution.{IsOn, effect_of, next_id}
 use Rattle.ql_exec.proofs.Finding.{effect_at-last, effect_at-within}
-use Rattle.ql_levels.specs.declared.level.Level.TheVariants.{Causal}
+use Rattle.ql_levels.specs.declared.level.Level.TheVariants.{Causal, Wide}
 use Rattle.ql_needs.specs.Closed.{Has}
 use Rattle.ql_needs.specs.Needs.{AreThere}
 use Rattle.ql_machine.specs.Blocking.{IsOf}
@@ -19,6 +21,7 @@ use Rattle.ql_machine.specs.Sets.{AreThose}
 use Rattle.ql_session.specs.declared.note.Note.{Note}
 use Rattle.ql_session.specs.Notes.{IsLeastMissing, effects_by, effects_on, effects_where}
 use Rattle.ql_session.specs.Executions.{note_of, notes_of}
+use Rattle.ql_session.specs.Past.{IsLeastOf, IsMissingPast}
 use Rattle.ql_session.proofs.NoteLaws.{ids-ascend, ids-have, ids-are, notes_after-push}
 use Rattle.ql_store.specs.Viewing.{IsLeastLacking}
 
@@ -65,6 +68,19 @@ lacking-causal x s o view None is = λ a wanted. is a ((by-those x s o).all a wa
 lacking-causal x s o view (Some least) is = record {
   fits = ((by-those x s o).only least.0 is.fits.0, is.fits.1);
   least = λ b lacks. is.least b ((by-those x s o).all b lacks.0, lacks.1);
+}
+
+-- the least of the past that a view lacks
+pub lacking-wide : {E : Type 0} (x : List Effect) (s : SessId) (o : ObjId) (view : List ℕ) (found : Result (Option EffId) E)
+    → IfOk found (IsLeastOf (IsMissingPast x s o view)) → IfOk found (IsLeastLacking x Wide s o view)
+lacking-wide x s o view (Err e) is = tt
+lacking-wide x s o view (Ok None) is = λ a wanted. elim (cases_Bool (has_id view a)) [
+  | inl has ↦ has
+  | inr lacks ↦ absurd (is a (wanted.0, wanted.1, lacks))
+]
+lacking-wide x s o view (Ok (Some least)) is = record {
+  fits = ((is.fits.0, is.fits.1), is.fits.2);
+  least = λ b lacks. is.least b (lacks.0.0, lacks.0.1, lacks.1);
 }
 
 -- ---- one more, and one fewer

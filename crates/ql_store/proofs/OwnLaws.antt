@@ -181,16 +181,16 @@ module _ (rules : Rules) (s : Machine) (c : Call) (t : OpenTxn) (now : HasOpen s
   }
 
   abbrev Lacks : ℕ → Type 0
-  Lacks b = MustSee s c (rules.level c.op) b × (InView rules s c b → ⊥)
+  Lacks b = MustSee s c (InView rules s c) (rules.level c.op) b × (InView rules s c b → ⊥)
 
   abbrev Unapplied : ℕ → Type 0
   Unapplied b = MissingInTxn rules s c (open_of s.open_txns c.session) b
 
   lacking : (o : Option EffId) → IsLeastLacking s.effects (rules.level c.op) c.session c.object ids o → IsLeastOr Lacks o
-  lacking None is = λ b lacks. lacks.1 (view.only b (is b (must-wanted s c (rules.level c.op) b lacks.0)))
+  lacking None is = λ b lacks. lacks.1 (view.only b (is b (must-wanted s c (InView rules s c) ids view (rules.level c.op) b lacks.0)))
   lacking (Some l) is = record {
-    fits = (wanted-must s c (rules.level c.op) l.0 is.fits.0, λ seen_it. both_ways (has_id ids l.0) is.fits.1 (view.all l.0 seen_it));
-    least = λ b lacks. is.least b (must-wanted s c (rules.level c.op) b lacks.0, false_from_ne_true (has_id ids b) (λ has. lacks.1 (view.only b has)));
+    fits = (wanted-must s c (InView rules s c) ids view (rules.level c.op) l.0 is.fits.0, λ seen_it. both_ways (has_id ids l.0) is.fits.1 (view.all l.0 seen_it));
+    least = λ b lacks. is.least b (must-wanted s c (InView rules s c) ids view (rules.level c.op) b lacks.0, false_from_ne_true (has_id ids b) (λ has. lacks.1 (view.only b has)));
   }
 
   unapplied : (o : Option EffId) → IsLeastUnapplied (state_of s.effects s.open_txns (received_at s.received c.replica.0)) t (rules.txn_level t.decl) (received_at s.received c.replica.0) o → IsLeastOr Unapplied o
@@ -213,7 +213,7 @@ module _ (rules : Rules) (s : Machine) (c : Call) (t : OpenTxn) (now : HasOpen s
         let all = subst (IsLeastLacking s.effects (rules.level c.op) c.session c.object ids) both.1 lacks in
         let none = subst (IsLeastUnapplied (state_of s.effects s.open_txns (received_at s.received c.replica.0)) t (rules.txn_level t.decl) (received_at s.received c.replica.0)) both.0 applied in
         record {
-          seen = λ a must. view.only a (all a (must-wanted s c (rules.level c.op) a must));
+          seen = λ a must. view.only a (all a (must-wanted s c (InView rules s c) ids view (rules.level c.op) a must));
           applied = subst (NoneMissingInTxn rules s c) (sym now) (λ a must. none a (have-to s t (received_at s.received c.replica.0) (rules.txn_level t.decl) a must));
         }
     missed (Some a) is = least-either Lacks Unapplied first last a (unapplied first applied) (lacking last lacks) is

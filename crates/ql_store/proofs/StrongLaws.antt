@@ -34,7 +34,7 @@ use Rattle.ql_machine.specs.declared.reply.Reply.TheVariants.{Held, Unavailable}
 use Rattle.ql_machine.specs.Sets.{AreThose}
 use Rattle.ql_machine.specs.State.{Machine, committed, received_at, replicas}
 use Rattle.ql_machine.specs.Rules.{Call, Rules}
-use Rattle.ql_machine.specs.Views.{PlainScope, Scope}
+use Rattle.ql_machine.specs.Views.{InView, PlainScope, Scope}
 use Rattle.ql_machine.specs.Blocking.{MustSee, NoneMissingInTxn}
 use Rattle.ql_machine.specs.Changes.{draft_of, effect_made, received_by_all}
 use Rattle.ql_machine.specs.Calls.{HasNoneOpen, IsAllowed, IsCall, MayAnswer, MayCall, after_strong, held, makes_strong, unavailable}
@@ -107,7 +107,7 @@ module _ (rules : Rules) (start : ℕ) (s : Machine) (c : Call) (is : IsStrongCa
     strong-answers = record {
       may = strong-may clear;
       none_missing = record {
-        seen = λ a must. absurd (subst (λ (level : Level). MustSee s c level a) is.strong must);
+        seen = λ a must. absurd (subst (λ (level : Level). MustSee s c (InView rules s c) level a) is.strong must);
         applied = subst (NoneMissingInTxn rules s c) (sym is.none_open) tt;
       };
       in_range = is.replica;

@@ -9,23 +9,25 @@ use Rattle.ql_exec.specs.declared.effect.Effect.{Effect}
 use Rattle.ql_exec.specs.Effects.{effect_at}
 use Rattle.ql_exec.specs.Execution.{IsOn}
 use Rattle.ql_levels.specs.declared.level.Level.{Level}
-use Rattle.ql_levels.specs.declared.level.Level.TheVariants.{Eventual, Causal, Strong}
+use Rattle.ql_levels.specs.declared.level.Level.TheVariants.{Eventual, Causal, Wide, Strong}
 use Rattle.ql_needs.specs.Closed.{Has}
-use Rattle.ql_machine.specs.Blocking.{IsOf}
+use Rattle.ql_machine.specs.Blocking.{InPast, IsOf}
 use Rattle.ql_machine.specs.Sets.{IsLeast}
 use Rattle.ql_machine.specs.State.{Machine}
 use Rattle.ql_machine.specs.Views.{Applied}
 
--- what a view must have: at causal, what the session did before on the object
-abbrev pub IsWanted : List Effect → Level → SessId → ObjId → ℕ → Type 0
-IsWanted x Eventual session object a = ⊥
-IsWanted x Causal session object a = IsOn object (effect_at x a) × IsOf session (effect_at x a)
-IsWanted x Strong session object a = ⊥
+-- What a view must have. At causal: what the session did before on the object. At wide: what is on the object in the past of
+-- the session and of what the view has.
+abbrev pub IsWanted : List Effect → Level → SessId → ObjId → List ℕ → ℕ → Type 0
+IsWanted x Eventual session object view a = ⊥
+IsWanted x Causal session object view a = IsOn object (effect_at x a) × IsOf session (effect_at x a)
+IsWanted x Wide session object view a = IsOn object (effect_at x a) × InPast x session (Has view) a
+IsWanted x Strong session object view a = ⊥
 
 -- the least of it that a view lacks, or that it lacks nothing
 abbrev pub IsLeastLacking : List Effect → Level → SessId → ObjId → List ℕ → Option EffId → Type 0
-IsLeastLacking x level session object view None = (a : ℕ) → IsWanted x level session object a → Has view a
-IsLeastLacking x level session object view (Some least) = IsLeast (λ a. IsWanted x level session object a × (has_id view a ≡ false)) least.0
+IsLeastLacking x level session object view None = (a : ℕ) → IsWanted x level session object view a → Has view a
+IsLeastLacking x level session object view (Some least) = IsLeast (λ a. IsWanted x level session object view a × (has_id view a ≡ false)) least.0
 
 -- an effect is on an object, and the replica has applied it
 abbrev pub IsAppliedOn : Machine → ReplicaId → ObjId → ℕ → Type 0

@@ -48,6 +48,7 @@ pub(crate) fn refusal(
     match level {
         Level::Eventual => None,
         Level::Causal => None,
+        Level::Wide => None,
         Level::Strong => obstacle(net, shim, asked.replica, asked.object),
     }
 }
@@ -73,7 +74,7 @@ pub(crate) fn own_view<H: Holder>(
 {
     let on = sessions.on(asked.object);
     let view = shim.view_rule(asked.session, txn_level, holder, x, on)?;
-    let lacking = least_lacking(sessions, level, asked.session, asked.object, &view.ids);
+    let lacking = least_lacking(x, sessions, level, asked.session, asked.object, &view.ids)?;
     let missing = lesser(view.missing, lacking);
     Ok(View {
         ids: view.ids,

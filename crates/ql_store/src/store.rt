@@ -397,7 +397,15 @@ impl<H: Holder> Store<H> {
     {
         let level = self.levels.op(op);
         let holder = &self.holders[replica.0 as usize];
-        let view = plain_view(self.alloc, holder, &self.sessions, level, session, object)?;
+        let view = plain_view(
+            self.alloc,
+            &self.execution,
+            holder,
+            &self.sessions,
+            level,
+            session,
+            object,
+        )?;
         if let Some(missing) = view.missing {
             return Ok(Reply::Blocked(missing));
         }

@@ -26,6 +26,7 @@ fn push_level(ops: &mut Vec<Level>, txns: &mut Vec<TxnLevel>, word: &str) -> Res
     match word {
         "eventual" => ops.push(Level::Eventual)?,
         "causal" => ops.push(Level::Causal)?,
+        "wide" => ops.push(Level::Wide)?,
         "strong" => ops.push(Level::Strong)?,
         "rc" => txns.push(TxnLevel::Rc)?,
         "mav" => txns.push(TxnLevel::Mav)?,

@@ -138,6 +138,31 @@ fn registers_at_joined_replicas(rt: HostRuntime) -> Result<(), Fail> {
     })
 }
 
+const PAGES: &str =
+    "type page { op write(): unit { contract true; answer unit; } op look(): unit { contract true; answer unit; } }
+transaction both { uses write, look; contract true; }";
+
+const PAGES_HEADING: &str = "quelea schedule 1
+replicas 2
+object x page
+object y page
+events
+";
+
+// A look that must see what happened before it also by way of another object, and one that needn't.
+const WIDE_RUNS: &str = "
+call 1 at 0 x write; call 1 at 0 y write; deliver 2; call 2 at 1 y write; call 2 at 1 x look; deliver 1; call 2 at 1 x look -> ok 1 unit; ok 2 unit; applies 2; ok 3 unit; blocked 1; applies 1; ok 4 unit
+call 1 at 0 x write; call 1 at 0 y write; call 1 at 1 x look; deliver 2; call 2 at 1 x look; call 2 at 1 y look; call 2 at 1 x look -> ok 1 unit; ok 2 unit; blocked 1; applies 2; ok 3 unit; ok 4 unit; blocked 1
+call 1 at 0 x write; call 1 at 0 y write; deliver 2; begin 2 at 1 both x y; call 2 at 1 y look; call 2 at 1 x look; deliver 1; call 2 at 1 x look -> ok 1 unit; ok 2 unit; applies 2; begun; ok 3 unit; blocked 1; applies 1; ok 4 unit
+";
+
+#[test]
+fn looks_across_objects(rt: HostRuntime) -> Result<(), Fail> {
+    check_table(rt.alloc(), WIDE_RUNS, |alloc, events| {
+        replied(alloc, PAGES, "eventual wide rc", PAGES_HEADING, events)
+    })
+}
+
 // The replies to events where replicas of both bodies reply alike.
 fn replied(
     alloc: Global,

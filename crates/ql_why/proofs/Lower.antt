@@ -11,7 +11,7 @@ use Rattle.ql_ground.specs.declared.goal.Goal.TheVariants.{OpAt, TxnAt}
 use Rattle.ql_lang.specs.declared.program.Program.{Program}
 use Rattle.ql_levels.specs.Lists.{LevelLists}
 use Rattle.ql_levels.specs.declared.level.Level.{Level}
-use Rattle.ql_levels.specs.declared.level.Level.TheVariants.{Eventual, Causal, Strong}
+use Rattle.ql_levels.specs.declared.level.Level.TheVariants.{Eventual, Causal, Wide, Strong}
 use Rattle.ql_levels.specs.declared.level.TxnLevel.{TxnLevel}
 use Rattle.ql_levels.specs.declared.level.TxnLevel.TheVariants.{Rc, Mav, Rr}
 
@@ -40,9 +40,13 @@ pub op_below : (o : OpId) (level : Level) (step : ℕ) (lower : Goal) → slice_
 op_below o Eventual step lower e = absurd (cc)
 op_below o Causal zero lower e = same_Some _ lower e
 op_below o Causal (suc step) lower e = absurd (cc)
+op_below o Wide zero lower e = same_Some _ lower e
+op_below o Wide (suc zero) lower e = same_Some _ lower e
+op_below o Wide (suc (suc step)) lower e = absurd (cc)
 op_below o Strong zero lower e = same_Some _ lower e
 op_below o Strong (suc zero) lower e = same_Some _ lower e
-op_below o Strong (suc (suc step)) lower e = absurd (cc)
+op_below o Strong (suc (suc zero)) lower e = same_Some _ lower e
+op_below o Strong (suc (suc (suc step))) lower e = absurd (cc)
 
 pub txn_below : (d : DeclId) (level : TxnLevel) (step : ℕ) (lower : Goal) → slice_get (goals_below (TxnAt d level)) step ≡ Some lower → TxnAt d (step_txn_level step) ≡ lower
 txn_below d Rc step lower e = absurd (cc)
@@ -52,9 +56,10 @@ txn_below d Rr zero lower e = same_Some _ lower e
 txn_below d Rr (suc zero) lower e = same_Some _ lower e
 txn_below d Rr (suc (suc step)) lower e = absurd (cc)
 
-pub few_below : (g : Goal) → length (goals_below g) ≤ 2
+pub few_below : (g : Goal) → length (goals_below g) ≤ 3
 few_below (OpAt o Eventual) = omega arith
 few_below (OpAt o Causal) = omega arith
+few_below (OpAt o Wide) = omega arith
 few_below (OpAt o Strong) = omega arith
 few_below (TxnAt d Rc) = omega arith
 few_below (TxnAt d Mav) = omega arith

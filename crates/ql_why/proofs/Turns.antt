@@ -24,19 +24,31 @@ module _ {X : Type 0} (Says : X → List ℕ → Type 0) where
   turn_all xs k text l h = subst (λ (ys : List X). InTurn Says ys text) (take_all k xs l) h
 
 module _ (p : Program) where
+  one-step : (goals : List Goal) (a : List ℕ) → length goals ≤ 1 → IsStepText p (slice_get goals 0) a → InTurn (IsCounterText p) goals a
+  one-step [] a l none = none
+  one-step (g ∷ []) a l first = (a, [], first, refl, sym (append-nil a))
+  one-step (g ∷ h ∷ goals) a l first = absurd (omega (arith, l))
+
   two-steps : (goals : List Goal) (a b : List ℕ) → length goals ≤ 2 → IsStepText p (slice_get goals 0) a → IsStepText p (slice_get goals 1) b → InTurn (IsCounterText p) goals (a ++ b)
   two-steps [] a b l none more = ap (λ (z : List ℕ). z ++ b) none ∙ more
-  two-steps (g ∷ []) a b l first none = (a, b, first, none, refl)
-  two-steps (g ∷ h ∷ []) a b l first second = (a, b, first, (b, [], second, refl, sym (append-nil b)), refl)
-  two-steps (g ∷ h ∷ i ∷ goals) a b l first second = absurd (omega (arith, l))
+  two-steps (g ∷ goals) a b l first second = (a, b, first, one-step goals b (omega (arith, l)) second, refl)
 
-  pub target_told : (g : Goal) (out lined first last : List ℕ) → lined ≡ out ++ target_line p g
-      → Appended (IsStepText p (slice_get (goals_below g) 0)) lined first → Appended (IsStepText p (slice_get (goals_below g) 1)) first last → Appended (TellsTarget p g) out last
-  target_told g out lined first last line (a, lowest, e) (b, second, f) =
-      let counters = a ++ b in (
+  three-steps : (goals : List Goal) (a b c : List ℕ) → length goals ≤ 3 → IsStepText p (slice_get goals 0) a → IsStepText p (slice_get goals 1) b → IsStepText p (slice_get goals 2) c → InTurn (IsCounterText p) goals (a ++ (b ++ c))
+  three-steps [] a b c l none more most = ap (λ (z : List ℕ). z ++ (b ++ c)) none ∙ ap (λ (z : List ℕ). z ++ c) more ∙ most
+  three-steps (g ∷ goals) a b c l first second third = (a, b ++ c, first, two-steps goals b c (omega (arith, l)) second third, refl)
+
+  pub target_told : (g : Goal) (out lined first second last : List ℕ) → lined ≡ out ++ target_line p g
+      → Appended (IsStepText p (slice_get (goals_below g) 0)) lined first → Appended (IsStepText p (slice_get (goals_below g) 1)) first second
+      → Appended (IsStepText p (slice_get (goals_below g) 2)) second last → Appended (TellsTarget p g) out last
+  target_told g out lined first second last line (a, lowest, e) (b, next, f) (c, highest, h) =
+      let counters = a ++ (b ++ c) in (
         target_line p g ++ counters,
-        (counters, two-steps (goals_below g) a b (few_below g) lowest second, refl),
-        f ∙ ap (λ (z : List ℕ). z ++ b) (e ∙ ap (λ (z : List ℕ). z ++ a) line) ∙ append_assoc (out ++ target_line p g) a b ∙ append_assoc out (target_line p g) counters,
+        (counters, three-steps (goals_below g) a b c (few_below g) lowest next highest, refl),
+        h
+            ∙ ap (λ (z : List ℕ). z ++ c) (f ∙ ap (λ (z : List ℕ). z ++ b) (e ∙ ap (λ (z : List ℕ). z ++ a) line))
+            ∙ append_assoc ((out ++ target_line p g) ++ a) b c
+            ∙ append_assoc (out ++ target_line p g) a (b ++ c)
+            ∙ append_assoc out (target_line p g) counters,
       )
 
 pub on_ok : {A E B C : Type 0} (r : Result A E) → (B → C) → OnOk r B → OnOk r C

@@ -47,6 +47,7 @@ fn level_at(step: u32) -> Level
     match step {
         0 => Level::Eventual,
         1 => Level::Causal,
+        2 => Level::Wide,
         _ => Level::Strong,
     }
 }

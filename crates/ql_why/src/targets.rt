@@ -48,7 +48,8 @@ fn push_target(
 {
     push_line(out, classified.typed(), g)?;
     push_step(alloc, out, classified, target, g, 0)?;
-    push_step(alloc, out, classified, target, g, 1)
+    push_step(alloc, out, classified, target, g, 1)?;
+    push_step(alloc, out, classified, target, g, 2)
 }
 
 // The line that `classify` prints of a target.

@@ -10,6 +10,10 @@ pub returns-clause-causal : goal.returns-clause-causal
 unfolding chosen
 returns-clause-causal c = refl
 
+pub returns-clause-wide : goal.returns-clause-wide
+unfolding chosen
+returns-clause-wide c = refl
+
 pub returns-clause-strong : goal.returns-clause-strong
 unfolding chosen
 returns-clause-strong c = refl

@@ -38,6 +38,6 @@ returns g c = λ rules received net t state held now op_level txn_level.
     let unapplied : IsLeastUnapplied (state_of x opened list) t (rules.txn_level t.decl) list c.in_ok-view.view.missing =
     subst (λ (l : TxnLevel). IsLeastUnapplied (state_of x opened list) t l list c.in_ok-view.view.missing) (sym txn_level)
     (subst (λ (ids : List ℕ). IsLeastUnapplied (state_of x opened ids) t c.args.txn_level ids c.in_ok-view.view.missing) (sym held) (c.in_ok-view.ensures.missing asked.object t known)) in
-    let lacking : IsLeastLacking x (rules.level asked.op) asked.session asked.object c.in_ok-view.view.ids c.least_lacking-lacking.result =
-    subst (λ (l : Level). IsLeastLacking x l asked.session asked.object c.in_ok-view.view.ids c.least_lacking-lacking.result) (sym op_level) (c.least_lacking-lacking.ensures x c.requires.noted) in
-    own-view rules (machine_of x received net c.args.shim.now) call t now c.in_ok-view.view.ids seen c.in_ok-view.view.missing c.least_lacking-lacking.result unapplied lacking c.lesser-missing.result c.lesser-missing.ensures
+    let lacking : IsLeastLacking x (rules.level asked.op) asked.session asked.object c.in_ok-view.view.ids c.in_ok-lacking.lacking =
+    subst (λ (l : Level). IsLeastLacking x l asked.session asked.object c.in_ok-view.view.ids c.in_ok-lacking.lacking) (sym op_level) c.in_ok-lacking.ensures in
+    own-view rules (machine_of x received net c.args.shim.now) call t now c.in_ok-view.view.ids seen c.in_ok-view.view.missing c.in_ok-lacking.lacking unapplied lacking c.lesser-missing.result c.lesser-missing.ensures

@@ -8,10 +8,11 @@ use Rattle.ql_store.proofs.NoteSets.{on-those}
 use Rattle.ql_store.proofs.view.plain_view.Goals as goal
 
 pub returns-clause-ids : goal.returns-clause-ids
-returns-clause-ids g c = λ x fits noted.
+returns-clause-ids g c = λ fits.
+    let x = c.args.x.now in
     let found = c.in_ok-ids.ensures x fits in
     let on : AreThose (λ a. IsOn c.args.object (effect_at x a)) c.on.result.now =
-    subst (AreThose (λ (a : ℕ). IsOn c.args.object (effect_at x a))) (sym (c.on.ensures ∙ ap (λ (notes : List Note). effects_on notes c.args.object) noted)) (on-those x c.args.object) in
+    subst (AreThose (λ (a : ℕ). IsOn c.args.object (effect_at x a))) (sym (c.on.ensures ∙ ap (λ (notes : List Note). effects_on notes c.args.object) c.requires)) (on-those x c.args.object) in
     record {
       ascending = found.ascending;
       all = λ a is. found.all a (on.all a is.0, is.1);

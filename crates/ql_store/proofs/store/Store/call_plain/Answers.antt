@@ -33,6 +33,9 @@ use Rattle.ql_store.proofs.KeptLaws.{kept-step, made-either, made-ok}
 use Rattle.ql_store.proofs.ReceiptLaws.{held-at}
 use Rattle.ql_store.proofs.store.Store.call_plain.Goals as goal
 
+pub plain_view-requires : goal.plain_view-requires
+plain_view-requires g c = c.self.invariant.0.noted
+
 pub returns-in-Some-clause-step : goal.returns-in-Some-clause-step
 returns-in-Some-clause-step g c = λ given promises answer.
     let fields = c.self.inside in
@@ -54,10 +57,10 @@ returns-in-Some-clause-step g c = λ given promises answer.
     let those : AreThose (IsApplied s call) ids =
     subst (λ (lists : List ℕ). AreThose (λ a. IsOn c.args.object (effect_at x a) × Applied x lists a) ids)
     (sym (held-at g.H.Holder.received fields.holders.items c.args.replica.0 one within c.index-holder.ensures))
-    (c.in_ok-view.ensures.ids x fits c.self.invariant.0.noted) in
+    (c.in_ok-view.ensures.ids fits) in
     let level : c.op-level.result ≡ rules.level c.args.op = sym (get_or_from_slice_get fields.levels.ops c.args.op.0 c.op-level.result Strong c.op-level.ensures) in
     let lacking : IsLeastLacking x (rules.level c.args.op) c.args.session c.args.object ids c.in_ok-view.view.missing =
-    subst (λ (l : Level). IsLeastLacking x l c.args.session c.args.object ids c.in_ok-view.view.missing) level (c.in_ok-view.ensures.missing x c.self.invariant.0.noted) in
+    subst (λ (l : Level). IsLeastLacking x l c.args.session c.args.object ids c.in_ok-view.view.missing) level c.in_ok-view.ensures.missing in
     let found : IsLeastLacking x (rules.level c.args.op) c.args.session c.args.object ids (Some c.in-Some.missing) =
     subst (IsLeastLacking x (rules.level c.args.op) c.args.session c.args.object ids) c.in-Some.is lacking in
     by-rules given (promises_of fields.levels) (g.F.Folder.answered c.args.folder.now) c.args.self.now.machine c.args.self.now.machine
@@ -87,10 +90,10 @@ answer-requires-clause-seen g c =
     let those : AreThose (IsApplied s call) ids =
     subst (λ (lists : List ℕ). AreThose (λ a. IsOn c.args.object (effect_at x a) × Applied x lists a) ids)
     (sym (held-at g.H.Holder.received fields.holders.items c.args.replica.0 one within c.index-holder.ensures))
-    (c.in_ok-view.ensures.ids x fits c.self.invariant.0.noted) in
+    (c.in_ok-view.ensures.ids fits) in
     let level : c.op-level.result ≡ rules.level c.args.op = sym (get_or_from_slice_get fields.levels.ops c.args.op.0 c.op-level.result Strong c.op-level.ensures) in
     let lacking : IsLeastLacking x (rules.level c.args.op) c.args.session c.args.object ids c.in_ok-view.view.missing =
-    subst (λ (l : Level). IsLeastLacking x l c.args.session c.args.object ids c.in_ok-view.view.missing) level (c.in_ok-view.ensures.missing x c.self.invariant.0.noted) in
+    subst (λ (l : Level). IsLeastLacking x l c.args.session c.args.object ids c.in_ok-view.view.missing) level c.in_ok-view.ensures.missing in
     (c.args.object, λ a has. (those.only a has).0)
 
 pub answer-requires-clause-able : goal.answer-requires-clause-able
@@ -114,10 +117,10 @@ answer-requires-clause-able g c =
     let those : AreThose (IsApplied s call) ids =
     subst (λ (lists : List ℕ). AreThose (λ a. IsOn c.args.object (effect_at x a) × Applied x lists a) ids)
     (sym (held-at g.H.Holder.received fields.holders.items c.args.replica.0 one within c.index-holder.ensures))
-    (c.in_ok-view.ensures.ids x fits c.self.invariant.0.noted) in
+    (c.in_ok-view.ensures.ids fits) in
     let level : c.op-level.result ≡ rules.level c.args.op = sym (get_or_from_slice_get fields.levels.ops c.args.op.0 c.op-level.result Strong c.op-level.ensures) in
     let lacking : IsLeastLacking x (rules.level c.args.op) c.args.session c.args.object ids c.in_ok-view.view.missing =
-    subst (λ (l : Level). IsLeastLacking x l c.args.session c.args.object ids c.in_ok-view.view.missing) level (c.in_ok-view.ensures.missing x c.self.invariant.0.noted) in
+    subst (λ (l : Level). IsLeastLacking x l c.args.session c.args.object ids c.in_ok-view.view.missing) level c.in_ok-view.ensures.missing in
     subst (λ (v : StoreState). g.F.Folder.able c.args.folder.now c.args.op c.args.args (seen_in_order v.machine.effects ids)) (sym c.self.view_is)
     (c.requires.able ids (λ a has. subst (λ (v : StoreState). IsOn c.args.object (effect_at v.machine.effects a)) c.self.view_is (those.only a has).0))
 
@@ -142,10 +145,10 @@ make_plain-requires-clause-lawful g c =
     let those : AreThose (IsApplied s call) ids =
     subst (λ (lists : List ℕ). AreThose (λ a. IsOn c.args.object (effect_at x a) × Applied x lists a) ids)
     (sym (held-at g.H.Holder.received fields.holders.items c.args.replica.0 one within c.index-holder.ensures))
-    (c.in_ok-view.ensures.ids x fits c.self.invariant.0.noted) in
+    (c.in_ok-view.ensures.ids fits) in
     let level : c.op-level.result ≡ rules.level c.args.op = sym (get_or_from_slice_get fields.levels.ops c.args.op.0 c.op-level.result Strong c.op-level.ensures) in
     let lacking : IsLeastLacking x (rules.level c.args.op) c.args.session c.args.object ids c.in_ok-view.view.missing =
-    subst (λ (l : Level). IsLeastLacking x l c.args.session c.args.object ids c.in_ok-view.view.missing) level (c.in_ok-view.ensures.missing x c.self.invariant.0.noted) in
+    subst (λ (l : Level). IsLeastLacking x l c.args.session c.args.object ids c.in_ok-view.view.missing) level c.in_ok-view.ensures.missing in
     let nothing : IsLeastLacking x (rules.level c.args.op) c.args.session c.args.object ids None =
     subst (IsLeastLacking x (rules.level c.args.op) c.args.session c.args.object ids) c.in_default.is lacking in
     let draft : Draft = record {
@@ -183,10 +186,10 @@ make_plain-requires-clause-apart g c =
     let those : AreThose (IsApplied s call) ids =
     subst (λ (lists : List ℕ). AreThose (λ a. IsOn c.args.object (effect_at x a) × Applied x lists a) ids)
     (sym (held-at g.H.Holder.received fields.holders.items c.args.replica.0 one within c.index-holder.ensures))
-    (c.in_ok-view.ensures.ids x fits c.self.invariant.0.noted) in
+    (c.in_ok-view.ensures.ids fits) in
     let level : c.op-level.result ≡ rules.level c.args.op = sym (get_or_from_slice_get fields.levels.ops c.args.op.0 c.op-level.result Strong c.op-level.ensures) in
     let lacking : IsLeastLacking x (rules.level c.args.op) c.args.session c.args.object ids c.in_ok-view.view.missing =
-    subst (λ (l : Level). IsLeastLacking x l c.args.session c.args.object ids c.in_ok-view.view.missing) level (c.in_ok-view.ensures.missing x c.self.invariant.0.noted) in
+    subst (λ (l : Level). IsLeastLacking x l c.args.session c.args.object ids c.in_ok-view.view.missing) level c.in_ok-view.ensures.missing in
     let draft : Draft = record {
       object = c.args.object;
       op = c.args.op;
@@ -222,10 +225,10 @@ invariant_of-self g c =
     let those : AreThose (IsApplied s call) ids =
     subst (λ (lists : List ℕ). AreThose (λ a. IsOn c.args.object (effect_at x a) × Applied x lists a) ids)
     (sym (held-at g.H.Holder.received fields.holders.items c.args.replica.0 one within c.index-holder.ensures))
-    (c.in_ok-view.ensures.ids x fits c.self.invariant.0.noted) in
+    (c.in_ok-view.ensures.ids fits) in
     let level : c.op-level.result ≡ rules.level c.args.op = sym (get_or_from_slice_get fields.levels.ops c.args.op.0 c.op-level.result Strong c.op-level.ensures) in
     let lacking : IsLeastLacking x (rules.level c.args.op) c.args.session c.args.object ids c.in_ok-view.view.missing =
-    subst (λ (l : Level). IsLeastLacking x l c.args.session c.args.object ids c.in_ok-view.view.missing) level (c.in_ok-view.ensures.missing x c.self.invariant.0.noted) in
+    subst (λ (l : Level). IsLeastLacking x l c.args.session c.args.object ids c.in_ok-view.view.missing) level c.in_ok-view.ensures.missing in
     let nothing : IsLeastLacking x (rules.level c.args.op) c.args.session c.args.object ids None =
     subst (IsLeastLacking x (rules.level c.args.op) c.args.session c.args.object ids) c.in_default.is lacking in
     let draft : Draft = record {
@@ -298,10 +301,10 @@ returns-clause-step g c =
     let those : AreThose (IsApplied s call) ids =
     subst (λ (lists : List ℕ). AreThose (λ a. IsOn c.args.object (effect_at x a) × Applied x lists a) ids)
     (sym (held-at g.H.Holder.received fields.holders.items c.args.replica.0 one within c.index-holder.ensures))
-    (c.in_ok-view.ensures.ids x fits c.self.invariant.0.noted) in
+    (c.in_ok-view.ensures.ids fits) in
     let level : c.op-level.result ≡ rules.level c.args.op = sym (get_or_from_slice_get fields.levels.ops c.args.op.0 c.op-level.result Strong c.op-level.ensures) in
     let lacking : IsLeastLacking x (rules.level c.args.op) c.args.session c.args.object ids c.in_ok-view.view.missing =
-    subst (λ (l : Level). IsLeastLacking x l c.args.session c.args.object ids c.in_ok-view.view.missing) level (c.in_ok-view.ensures.missing x c.self.invariant.0.noted) in
+    subst (λ (l : Level). IsLeastLacking x l c.args.session c.args.object ids c.in_ok-view.view.missing) level c.in_ok-view.ensures.missing in
     let nothing : IsLeastLacking x (rules.level c.args.op) c.args.session c.args.object ids None =
     subst (IsLeastLacking x (rules.level c.args.op) c.args.session c.args.object ids) c.in_default.is lacking in
     let draft : Draft = record {
