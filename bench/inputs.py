@@ -89,9 +89,9 @@ def long_schedule():
     return "\n".join(parts) + "\n"
 
 
-def calls_schedule():
-    """4,000 calls at one replica, by 16 sessions by turns, each of which sees all earlier ones."""
-    calls = (f"call {k % 16} at 0 x add_up {k % 100}" for k in range(MOST_EFFECTS))
+def calls_schedule(events=MOST_EFFECTS):
+    """Calls at one replica, by 16 sessions by turns, each of which sees all earlier ones."""
+    calls = (f"call {k % 16} at 0 x add_up {k % 100}" for k in range(events))
     return "\n".join(["quelea schedule 1", "replicas 1", "object x sums", "events", *calls, ""])
 
 
@@ -103,20 +103,21 @@ def waiting_schedule(calls, receivers):
     return "\n".join(parts + [""])
 
 
-def spread_schedule():
-    """2,000 calls by 256 sessions at 16 replicas on 1,024 objects by turns, and the delivery of as many messages."""
+def spread_schedule(events=MOST_EFFECTS):
+    """Calls by 256 sessions at 16 replicas on 1,024 objects by turns, and the delivery of as many messages."""
+    calls = events // 2
     parts = ["quelea schedule 1", "replicas 16", *(f"object o{k} sums" for k in range(1024)), "events"]
-    parts += [f"call {k % 256} at {k % 16} o{k % 1024} add_up {k}" for k in range(2000)]
-    parts += [f"deliver {15 * k + k % 15 + 1}" for k in range(2000)]
+    parts += [f"call {k % 256} at {k % 16} o{k % 1024} add_up {k}" for k in range(calls)]
+    parts += [f"deliver {15 * k + k % 15 + 1}" for k in range(calls)]
     return "\n".join(parts + [""])
 
 
-def transactions_schedule():
+def transactions_schedule(events=MOST_EFFECTS):
     """Transactions of the bank by 16 sessions at two replicas, each of eight calls, on 16 accounts; what is committed is
     delivered at once."""
     accounts = [f"a{k}" for k in range(16)]
     parts = ["quelea schedule 1", "replicas 2", *(f"object {name} account" for name in accounts), "events"]
-    for run in range(MOST_EFFECTS // 11):
+    for run in range(events // 11):
         caller, decl = f"{run % 16} at {run % 2}", ("audit", "peek", "trail")[run % 3]
         parts.append(f"begin {caller} {decl} {' '.join(accounts)}")
         parts += [f"call {caller} {accounts[(run + k) % 16]} " + ("deposit 1", "getbalance")[k % 2] for k in range(8)]
@@ -124,9 +125,9 @@ def transactions_schedule():
     return "\n".join(parts + [""])
 
 
-def strong_schedule():
-    """4,000 withdrawals from one account, by 64 sessions at 16 replicas by turns."""
-    calls = (f"call {k % 64} at {k % 16} a withdraw {k % 7}" for k in range(MOST_EFFECTS))
+def strong_schedule(events=MOST_EFFECTS):
+    """Withdrawals from one account, by 64 sessions at 16 replicas by turns."""
+    calls = (f"call {k % 64} at {k % 16} a withdraw {k % 7}" for k in range(events))
     return "\n".join(["quelea schedule 1", "replicas 16", "object a account", "events", *calls, ""])
 
 
