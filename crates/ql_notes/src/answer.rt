@@ -28,8 +28,8 @@ pub(crate) fn fault_of(answer: &[u8]) -> Option<Fault> {
     })
 }
 
-// The bytes before the first blank, and those behind it.
-fn word(text: &[u8]) -> (&[u8], &[u8]) {
+/// The bytes before the first blank, and those behind it.
+pub(crate) fn word(text: &[u8]) -> (&[u8], &[u8]) {
     for k in 0..text.len() {
         if text[k] == b' ' || text[k] == b'\n' {
             return (&text[..k], &text[k + 1..]);

@@ -85,8 +85,8 @@ pub(crate) fn push_excerpt(
     push_bytes(note, b"\n")
 }
 
-// The bytes before the first end of a line.
-fn line_of(text: &[u8]) -> &[u8] {
+/// The bytes before the first end of a line.
+pub(crate) fn line_of(text: &[u8]) -> &[u8] {
     for k in 0..text.len() {
         if text[k] == b'\n' {
             return &text[..k];

@@ -11,6 +11,7 @@ mod kept;
 mod likeness;
 mod notes;
 mod rules;
+mod stamp;
 
 pub use help::HELP;
 pub use kept::KeptSink;

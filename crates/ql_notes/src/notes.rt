@@ -7,7 +7,8 @@ use crate::expected::{expected, push_expected};
 use crate::help::HELP;
 use crate::likeness::likest;
 use crate::rules::sentence;
-use ql_base::{NoMemory, push_bytes};
+use crate::stamp::right_stamp;
+use ql_base::{NoMemory, push_bytes, push_number};
 use ql_lex::{LexFault, Token, TokenKind, tokens};
 use ql_ports::{ReadError, Shelf, read_whole};
 use std::alloc::Global;
@@ -95,6 +96,13 @@ fn note_of_line(
     let mut note = Vec::new(alloc);
     push_heading(&mut note, name, place, fault)?;
     push_excerpt(&mut note, text, place, 1)?;
+    if fault.rule == b"Stamp".as_slice()
+        && let Some(stamp) = right_stamp(text, place)
+    {
+        push_bytes(&mut note, b"  the right stamp is ")?;
+        push_number(&mut note, stamp)?;
+        push_bytes(&mut note, b"\n")?;
+    }
     Ok(note)
 }
 

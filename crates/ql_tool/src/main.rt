@@ -10,12 +10,15 @@ use ql_ports::{FileShelf, StdSink};
 use std::env::Env;
 use std::io::{IsTerminal, Write};
 use std::process::ExitCode;
-use std::{env, io};
+use std::{env, fs, io};
 
 // The exit statuses that aren't the top call's.
 const NO_MEMORY: u8 = 6;
 
 const NO_WORDS: u8 = 8;
+
+// That of a file that can't be read.
+const READ_FAULT: u8 = 3;
 
 fn main(rt: HostRuntime) -> ExitCode {
     let words = match words(&rt) {
@@ -66,5 +69,21 @@ fn write_note(
 ) {
     if let Ok(text) = note(rt.alloc(), words, status, first, shelf) {
         let _ = rt.stderr().write_all(&text);
+    }
+    if status == READ_FAULT {
+        write_reason(&rt, words);
+    }
+}
+
+// Why the first file that can't be opened can't be, by the system.
+fn write_reason(rt: &HostRuntime, words: &Vec<String>) {
+    for word in words.iter().skip(1) {
+        if word.as_bytes().first() == Some(&b'-') {
+            continue;
+        }
+        if let Err(error) = fs::open(rt, word.as_str()) {
+            let _ = eprintln!(rt; "{}: {}", word.as_str(), error);
+            return;
+        }
     }
 }
