@@ -29,12 +29,7 @@ pub fn reasons(alloc: Global, formula: &Formula, c: &Counter) -> Result<Vec<Fact
 }
 
 // Appends facts that give the body this value, where it has it; else its answer is false.
-fn tell(
-    facts: &mut Vec<Fact>,
-    scene: Scene,
-    body: &Body,
-    value: bool,
-) -> Result<bool, NoMemory>
+fn tell(facts: &mut Vec<Fact>, scene: Scene, body: &Body, value: bool) -> Result<bool, NoMemory>
     requires { IsTableOf scene.relations.now scene.execution.now }
     ensures { OnOk result (KeepsTrue scene.entry.execution.now scene.entry.at facts.old.items facts.new.items) }
 {

@@ -17,7 +17,11 @@ pub(crate) fn place_of(text: &[u8], offset: usize) -> Place
     ensures within { result.at ≤ length text.now }
     ensures number { result.line ≤ result.at + 1 }
 {
-    let at = if offset < text.len() { offset } else { text.len() };
+    let at = if offset < text.len() {
+        offset
+    } else {
+        text.len()
+    };
     let (mut line, mut start) = (1, 0);
     for k in 0..at {
         if text[k] == b'\n' {
@@ -46,11 +50,7 @@ pub(crate) fn place_of_line(text: &[u8], number: u64) -> Place
 }
 
 /// Appends `NAME:LINE:COLUMN: `.
-pub(crate) fn push_place(
-    note: &mut Vec<u8>,
-    name: &[u8],
-    place: Place,
-) -> Result<(), NoMemory>
+pub(crate) fn push_place(note: &mut Vec<u8>, name: &[u8], place: Place) -> Result<(), NoMemory>
     requires { place.start ≤ place.at }
 {
     push_bytes(note, name)?;

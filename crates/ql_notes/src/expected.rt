@@ -107,9 +107,9 @@ fn is_allowed(alloc: Global, before: &[u8], terminal: &str) -> Result<bool, NoMe
         Ok(_) => Ok(true),
         Err(ParseFault::NoMemory | ParseFault::Lex(LexFault::NoMemory)) => Err(NoMemory),
         Err(ParseFault::Lex(_)) => Ok(false),
-        Err(
-            ParseFault::Unexpected(at) | ParseFault::Deep(at) | ParseFault::Wide(at),
-        ) => Ok(at as usize > before.len() + 1),
+        Err(ParseFault::Unexpected(at) | ParseFault::Deep(at) | ParseFault::Wide(at)) => Ok(
+            at as usize > before.len() + 1,
+        ),
     }
 }
 
@@ -120,7 +120,14 @@ pub(crate) fn push_expected(note: &mut Vec<u8>, terminals: &[&str]) -> Result<()
             return push_bytes(note, b" and more");
         }
         if k > 0 {
-            push_bytes(note, if k + 1 == terminals.len() { b" or " } else { b", " })?;
+            push_bytes(
+                note,
+                if k + 1 == terminals.len() {
+                    b" or "
+                } else {
+                    b", "
+                },
+            )?;
         }
         push_terminal(note, terminals[k])?;
     }

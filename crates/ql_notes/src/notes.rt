@@ -107,12 +107,7 @@ fn note_of_line(
 }
 
 // NAME:LINE:COLUMN: RULE: the rule in a sentence
-fn push_heading(
-    note: &mut Vec<u8>,
-    name: &[u8],
-    place: Place,
-    fault: Fault,
-) -> Result<(), NoMemory>
+fn push_heading(note: &mut Vec<u8>, name: &[u8], place: Place, fault: Fault) -> Result<(), NoMemory>
     requires { place.start ≤ place.at }
 {
     push_place(note, name, place)?;
@@ -170,11 +165,7 @@ fn part(text: &[u8], token: Token) -> &[u8] {
 }
 
 // The names of a text, in order.
-fn names<'a>(
-    alloc: Global,
-    text: &'a [u8],
-    found: &[Token],
-) -> Result<Vec<&'a [u8]>, NoMemory> {
+fn names<'a>(alloc: Global, text: &'a [u8], found: &[Token]) -> Result<Vec<&'a [u8]>, NoMemory> {
     let mut names = Vec::new(alloc);
     for token in found {
         if token.what == TokenKind::Name {
