@@ -3,3 +3,4 @@ pub mod LeastLevels
 pub mod TargetLists
 pub mod TestOrder
 pub mod OneOutcome
+pub mod NextLower

@@ -4,3 +4,4 @@ pub mod Outcome
 pub mod Found
 pub mod Classification
 pub mod Kept
+pub mod Finding

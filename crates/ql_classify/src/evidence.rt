@@ -81,7 +81,7 @@ pub(crate) fn find_txn_level(
 }
 
 // The level of an operation above those that these assignments are for.
-fn level_above(lower: &[Assignment]) -> Level
+pub(crate) fn level_above(lower: &[Assignment]) -> Level
     ensures { result ≡ step_level (length lower.now) }
 {
     match lower.len() {
@@ -93,7 +93,7 @@ fn level_above(lower: &[Assignment]) -> Level
 }
 
 // The same of a transaction.
-fn txn_level_above(lower: &[Assignment]) -> TxnLevel
+pub(crate) fn txn_level_above(lower: &[Assignment]) -> TxnLevel
     ensures { result ≡ step_txn_level (length lower.now) }
 {
     match lower.len() {

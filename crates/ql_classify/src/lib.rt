@@ -7,11 +7,13 @@
 mod classified;
 mod classless;
 mod evidence;
+mod finding;
 mod judge;
 mod laws;
 mod uses;
 
 pub use classified::Classified;
 pub use classless::Classless;
+pub use finding::{Finding, Unmet, find_target};
 pub use judge::classify;
 pub use laws::{accepted_is_not_refused, least_levels_are_unique};

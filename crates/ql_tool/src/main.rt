@@ -1,18 +1,24 @@
 // The program `quelea`: the command line, the system's files and standard output, given to the top
-// call. It prints nothing itself, and its exit status is the top call's.
+// call. On standard output it prints nothing itself, and its exit status is the top call's. Notes on the
+// answer go to standard error, after it.
 #![tactic(auto)]
 
 use ql_app::quelea;
 use ql_base::NoMemory;
+use ql_notes::{KeptSink, note};
 use ql_ports::{FileShelf, StdSink};
 use std::env::Env;
+use std::io::{IsTerminal, Write};
 use std::process::ExitCode;
-use std::{env, io};
+use std::{env, fs, io};
 
 // The exit statuses that aren't the top call's.
 const NO_MEMORY: u8 = 6;
 
 const NO_WORDS: u8 = 8;
+
+// That of a file that can't be read.
+const READ_FAULT: u8 = 3;
 
 fn main(rt: HostRuntime) -> ExitCode {
     let words = match words(&rt) {
@@ -33,9 +39,51 @@ fn words<R: Env + AllocGlobal>(rt: &R) -> io::Result<Vec<String>> {
 
 fn exit_number(rt: HostRuntime, words: &Vec<String>) -> u8 {
     let mut shelf = FileShelf::new(rt.alloc(), rt);
-    let mut sink = StdSink::new(rt);
-    match quelea(rt.alloc(), words, &mut shelf, &mut sink) {
+    let mut sink = KeptSink::over(StdSink::new(rt));
+    let status = match quelea(rt.alloc(), words, &mut shelf, &mut sink) {
         Ok(status) => status.number(),
-        Err(NoMemory) => NO_MEMORY,
+        Err(NoMemory) => return NO_MEMORY,
+    };
+    if wants_notes(&rt) {
+        write_note(rt, words, status, sink.first(), &mut shelf);
+    }
+    status
+}
+
+// Notes are for people: on a terminal, or where QUELEA_NOTES is 1, and never where it is 0.
+fn wants_notes(rt: &HostRuntime) -> bool {
+    match env::var(rt, "QUELEA_NOTES") {
+        Ok(value) if value.as_str() == "1" => true,
+        Ok(value) if value.as_str() == "0" => false,
+        _ => rt.stderr().is_terminal(),
+    }
+}
+
+// Out of memory, or where standard error takes nothing, there is no note.
+fn write_note(
+    rt: HostRuntime,
+    words: &Vec<String>,
+    status: u8,
+    first: &[u8],
+    shelf: &mut FileShelf<HostRuntime>,
+) {
+    if let Ok(text) = note(rt.alloc(), words, status, first, shelf) {
+        let _ = rt.stderr().write_all(&text);
+    }
+    if status == READ_FAULT {
+        write_reason(&rt, words);
+    }
+}
+
+// Why the first file that can't be opened can't be, by the system.
+fn write_reason(rt: &HostRuntime, words: &Vec<String>) {
+    for word in words.iter().skip(1) {
+        if word.as_bytes().first() == Some(&b'-') {
+            continue;
+        }
+        if let Err(error) = fs::open(rt, word.as_str()) {
+            let _ = eprintln!(rt; "{}: {}", word.as_str(), error);
+            return;
+        }
     }
 }

@@ -1,0 +1,20 @@
+use ql_base::EffId;
+use ql_lang::RelName;
+
+/// What may be said of one effect of an execution, or of two.
+#[derive(Clone, Copy, PartialEq, Eq)]
+pub enum Claim {
+    /// The first is related to the second.
+    Related(RelName, EffId, EffId),
+    /// The effect is in the transaction of which the contract speaks.
+    Inside(EffId),
+    /// They are one effect, or two of one begun transaction.
+    OneTxn(EffId, EffId),
+}
+
+/// Whether a claim holds.
+#[derive(Clone, Copy, PartialEq, Eq)]
+pub struct Fact {
+    pub claim: Claim,
+    pub holds: bool,
+}

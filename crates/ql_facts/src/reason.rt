@@ -1,0 +1,191 @@
+// The facts that make a contract false.
+ghost use Rattle.std.specs.Prelude.{◌≡◌, IfOk, OnOk};
+ghost use Rattle.std.specs.List.{All};
+ghost use Rattle.ql_formula.specs.Tables.{IsTableOf};
+ghost use Rattle.ql_facts.specs.Facts.{IsTrueOf, KeepsAny, KeepsTrue};
+
+use crate::claims::{Scene, holds, place_of};
+use crate::fact::{Claim, Fact};
+use ql_base::{EffId, NoMemory};
+use ql_counter::Counter;
+use ql_formula::Relations;
+use ql_lang::{Body, Formula, Rel, Term};
+use std::alloc::Global;
+
+/// What makes a contract false in a countermodel: facts about its effects.
+pub fn reasons(alloc: Global, formula: &Formula, c: &Counter) -> Result<Vec<Fact>, NoMemory>
+    ensures { IfOk result (λ facts. All (IsTrueOf c.now.execution c.now.at) facts.items) }
+{
+    let relations = Relations::build(alloc, &c.execution)?;
+    let scene = Scene {
+        execution: &c.execution,
+        relations: &relations,
+        at: c.at,
+        places: c.places.items(),
+    };
+    let mut facts = Vec::new(alloc);
+    let _is_false = tell(&mut facts, scene, &formula.body, false)?;
+    Ok(facts)
+}
+
+// Appends facts that give the body this value, where it has it; else its answer is false.
+fn tell(facts: &mut Vec<Fact>, scene: Scene, body: &Body, value: bool) -> Result<bool, NoMemory>
+    requires { IsTableOf scene.relations.now scene.execution.now }
+    ensures { OnOk result (KeepsTrue scene.entry.execution.now scene.entry.at facts.old.items facts.new.items) }
+{
+    let mark = facts.len();
+    match body {
+        Body::True => Ok(value),
+        Body::Apply(relation, first, second) => {
+            let (first, second) = (place_of(scene, *first), place_of(scene, *second));
+            tell_related(facts, scene, relation, (first, second), value)
+        }
+        Body::And(left, right) => {
+            let told = tell(facts, scene, left, value)?;
+            if is_settled(facts, mark, told, value) {
+                return Ok(told);
+            }
+            tell(facts, scene, right, value)
+        }
+        Body::Or(left, right) => {
+            let told = tell(facts, scene, left, value)?;
+            if is_settled(facts, mark, told, !value) {
+                return Ok(told);
+            }
+            tell(facts, scene, right, value)
+        }
+        Body::Implies(left, right) => {
+            let told = tell(facts, scene, left, !value)?;
+            if is_settled(facts, mark, told, !value) {
+                return Ok(told);
+            }
+            tell(facts, scene, right, value)
+        }
+        Body::Txn(members, others) => {
+            tell_txn(facts, scene, members.items(), others.items(), value)
+        }
+    }
+}
+
+// Whether the left one of two parts settles the value, where it takes both or one of them. What the left one told is taken
+// back where it takes the right one alone.
+fn is_settled(facts: &mut Vec<Fact>, mark: usize, told: bool, both: bool) -> bool
+    ensures { KeepsAny facts.old.items facts.new.items }
+{
+    if told != both {
+        return true;
+    }
+    if !told {
+        facts.truncate(mark);
+    }
+    false
+}
+
+fn tell_related(
+    facts: &mut Vec<Fact>,
+    scene: Scene,
+    relation: &Rel,
+    pair: (EffId, EffId),
+    value: bool,
+) -> Result<bool, NoMemory>
+    requires { IsTableOf scene.relations.now scene.execution.now }
+    ensures { OnOk result (KeepsTrue scene.entry.execution.now scene.entry.at facts.old.items facts.new.items) }
+{
+    let mark = facts.len();
+    match relation {
+        Rel::Base(name, _) => {
+            let claim = Claim::Related(*name, pair.0, pair.1);
+            tell_claim(facts, scene, claim, value)
+        }
+        Rel::Union(left, right) => {
+            let told = tell_related(facts, scene, left, pair, value)?;
+            if is_settled(facts, mark, told, !value) {
+                return Ok(told);
+            }
+            tell_related(facts, scene, right, pair, value)
+        }
+        Rel::Inter(left, right) => {
+            let told = tell_related(facts, scene, left, pair, value)?;
+            if is_settled(facts, mark, told, value) {
+                return Ok(told);
+            }
+            tell_related(facts, scene, right, pair, value)
+        }
+    }
+}
+
+fn tell_claim(
+    facts: &mut Vec<Fact>,
+    scene: Scene,
+    claim: Claim,
+    value: bool,
+) -> Result<bool, NoMemory>
+    requires { IsTableOf scene.relations.now scene.execution.now }
+    ensures { OnOk result (KeepsTrue scene.entry.execution.now scene.entry.at facts.old.items facts.new.items) }
+{
+    let is_so = holds(scene, claim) == value;
+    if is_so {
+        facts.push(Fact {
+            claim,
+            holds: value,
+        })?;
+    }
+    Ok(is_so)
+}
+
+// That the members are in the current transaction, and that the others aren't and are in one.
+fn tell_txn(
+    facts: &mut Vec<Fact>,
+    scene: Scene,
+    members: &[Term],
+    others: &[Term],
+    value: bool,
+) -> Result<bool, NoMemory>
+    requires { IsTableOf scene.relations.now scene.execution.now }
+    ensures { OnOk result (KeepsTrue scene.entry.execution.now scene.entry.at facts.old.items facts.new.items) }
+{
+    let mut asked = Vec::new(*facts.allocator());
+    for member in members {
+        asked.push(Fact {
+            claim: Claim::Inside(place_of(scene, *member)),
+            holds: true,
+        })?;
+    }
+    for other in others {
+        asked.push(Fact {
+            claim: Claim::Inside(place_of(scene, *other)),
+            holds: false,
+        })?;
+    }
+    if let Some((first, rest)) = others.split_first() {
+        for other in rest {
+            asked.push(Fact {
+                claim: Claim::OneTxn(place_of(scene, *first), place_of(scene, *other)),
+                holds: true,
+            })?;
+        }
+    }
+    tell_all(facts, scene, &asked, value)
+}
+
+// That all of these hold; or the first that doesn't.
+fn tell_all(
+    facts: &mut Vec<Fact>,
+    scene: Scene,
+    asked: &[Fact],
+    value: bool,
+) -> Result<bool, NoMemory>
+    requires { IsTableOf scene.relations.now scene.execution.now }
+    ensures { OnOk result (KeepsTrue scene.entry.execution.now scene.entry.at facts.old.items facts.new.items) }
+{
+    for fact in asked {
+        if value {
+            if !tell_claim(facts, scene, fact.claim, fact.holds)? {
+                return Ok(false);
+            }
+        } else if tell_claim(facts, scene, fact.claim, !fact.holds)? {
+            return Ok(true);
+        }
+    }
+    Ok(value)
+}

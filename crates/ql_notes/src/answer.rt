@@ -1,0 +1,39 @@
+// What an answer says of a fault: bad PART at AT: RULE
+use ql_base::number_of;
+
+/// A fault that an answer names.
+#[derive(Clone, Copy)]
+pub(crate) struct Fault<'a> {
+    pub(crate) part: &'a [u8],
+    /// An offset in a source, from 0, and else a line, from 1.
+    pub(crate) at: u64,
+    pub(crate) rule: &'a [u8],
+}
+
+/// The fault that an answer names, where it names one.
+pub(crate) fn fault_of(answer: &[u8]) -> Option<Fault> {
+    let (bad, rest) = word(answer);
+    let (part, rest) = word(rest);
+    let (at, rest) = word(rest);
+    let (number, rest) = word(rest);
+    if bad != b"bad".as_slice() || at != b"at".as_slice() {
+        return None;
+    }
+    let digits = number.split_last()?.1;
+    let (rule, _) = word(rest);
+    Some(Fault {
+        part,
+        at: number_of(digits, u32::MAX as u64)?,
+        rule,
+    })
+}
+
+/// The bytes before the first blank, and those behind it.
+pub(crate) fn word(text: &[u8]) -> (&[u8], &[u8]) {
+    for k in 0..text.len() {
+        if text[k] == b' ' || text[k] == b'\n' {
+            return (&text[..k], &text[k + 1..]);
+        }
+    }
+    (text, &text[text.len()..])
+}

@@ -1,0 +1,148 @@
+// What the grammar has where it doesn't have what a source has there.
+//
+// Each terminal is tried: the text before the place is read with the terminal behind it. Where the first fault isn't at the
+// terminal, the grammar has it there.
+ghost use Rattle.std.specs.Prelude.{◌≤◌, length};
+
+use ql_base::{NoMemory, push_bytes};
+use ql_lex::LexFault;
+use ql_parse::{ParseFault, parse_program};
+use std::alloc::Global;
+
+// A spelling of each terminal.
+static TERMINALS: [&str; 64] = [
+    "x",
+    "1",
+    "\"\"",
+    "type",
+    "state",
+    "op",
+    "contract",
+    "answer",
+    "emit",
+    "when",
+    "apply",
+    "transaction",
+    "uses",
+    "forall",
+    "true",
+    "false",
+    "unit",
+    "empty",
+    "if",
+    "then",
+    "else",
+    "and",
+    "or",
+    "not",
+    "int",
+    "bool",
+    "text",
+    "set",
+    "map",
+    "cur",
+    "txn",
+    "vis",
+    "so",
+    "soo",
+    "sameobj",
+    "eq",
+    "hb",
+    "hbo",
+    "{",
+    "}",
+    "(",
+    ")",
+    "[",
+    "]",
+    ",",
+    ";",
+    ":",
+    ".",
+    "=",
+    ":=",
+    "=>",
+    "==",
+    "!=",
+    "<",
+    "<=",
+    ">",
+    ">=",
+    "+",
+    "-",
+    "*",
+    "/\\",
+    "\\/",
+    "|",
+    "&",
+];
+
+// How many are listed at most.
+const MOST: usize = 12;
+
+/// The terminals that the grammar has behind the first bytes of a source.
+pub(crate) fn expected(alloc: Global, before: &[u8]) -> Result<Vec<&'static str>, NoMemory>
+    requires { length before.now ≤ 1048576 }
+{
+    let mut found = Vec::new(alloc);
+    for terminal in TERMINALS.iter() {
+        if is_allowed(alloc, before, terminal)? {
+            found.push(*terminal)?;
+        }
+    }
+    Ok(found)
+}
+
+// Whether the grammar has a terminal behind these bytes.
+fn is_allowed(alloc: Global, before: &[u8], terminal: &str) -> Result<bool, NoMemory>
+    requires { length before.now ≤ 1048576 }
+{
+    if terminal.len() > 32 {
+        return Ok(false);
+    }
+    let mut text = Vec::from_slice(alloc, before)?;
+    push_bytes(&mut text, b"\n")?;
+    push_bytes(&mut text, terminal.as_bytes())?;
+    match parse_program(alloc, &text) {
+        Ok(_) => Ok(true),
+        Err(ParseFault::NoMemory | ParseFault::Lex(LexFault::NoMemory)) => Err(NoMemory),
+        Err(ParseFault::Lex(_)) => Ok(false),
+        Err(ParseFault::Unexpected(at) | ParseFault::Deep(at) | ParseFault::Wide(at)) => Ok(
+            at as usize > before.len() + 1,
+        ),
+    }
+}
+
+/// Appends what was expected, a few of them.
+pub(crate) fn push_expected(note: &mut Vec<u8>, terminals: &[&str]) -> Result<(), NoMemory> {
+    for k in 0..terminals.len() {
+        if k == MOST {
+            return push_bytes(note, b" and more");
+        }
+        if k > 0 {
+            push_bytes(
+                note,
+                if k + 1 == terminals.len() {
+                    b" or "
+                } else {
+                    b", "
+                },
+            )?;
+        }
+        push_terminal(note, terminals[k])?;
+    }
+    Ok(())
+}
+
+fn push_terminal(note: &mut Vec<u8>, terminal: &str) -> Result<(), NoMemory> {
+    match terminal {
+        "x" => push_bytes(note, b"a name"),
+        "1" => push_bytes(note, b"a number"),
+        "\"\"" => push_bytes(note, b"a text"),
+        word => {
+            push_bytes(note, b"`")?;
+            push_bytes(note, word.as_bytes())?;
+            push_bytes(note, b"`")
+        }
+    }
+}

@@ -1,0 +1,78 @@
+// The stamp that an effect in an execution's file should have.
+ghost use Rattle.std.specs.Prelude.{◌≤◌, length};
+
+use crate::answer::word;
+use crate::excerpt::{Place, line_of};
+use ql_base::number_of;
+
+// What a stamp depends on in the line of an effect.
+#[derive(Clone, Copy)]
+struct EffectLine<'a> {
+    id: &'a [u8],
+    session: &'a [u8],
+    stamp: u64,
+    seen: &'a [u8],
+}
+
+/// One more than the greatest stamp among the effects that the effect of a line sees and the earlier ones of its session.
+pub(crate) fn right_stamp(text: &[u8], place: Place) -> Option<u64>
+    requires line { place.start ≤ place.at }
+    requires within { place.at ≤ length text.now }
+{
+    let effect = effect_of(line_of(&text[place.start..]))?;
+    let mut greatest = 0;
+    for k in 0..place.start {
+        if k > 0 && text[k - 1] != b'\n' {
+            continue;
+        }
+        if let Some(other) = effect_of(line_of(&text[k..]))
+            && (other.session == effect.session || has_word(effect.seen, other.id))
+            && other.stamp > greatest
+        {
+            greatest = other.stamp;
+        }
+    }
+    Some(greatest.saturating_add(1))
+}
+
+// effect ID .. session S txn T stamp N vis ID..
+fn effect_of(line: &[u8]) -> Option<EffectLine> {
+    let (effect, rest) = word(line);
+    let (id, _) = word(rest);
+    if effect != b"effect".as_slice() {
+        return None;
+    }
+    let (session, rest) = word(behind_last(line, b" session ")?);
+    let (_, rest) = word(rest);
+    let (_, rest) = word(rest);
+    let (_, rest) = word(rest);
+    let (stamp, rest) = word(rest);
+    let (_, seen) = word(rest);
+    Some(EffectLine {
+        id,
+        session,
+        stamp: number_of(stamp, u32::MAX as u64)?,
+        seen,
+    })
+}
+
+// What stands behind the last place where a text has some bytes.
+fn behind_last<'a>(text: &'a [u8], part: &[u8]) -> Option<&'a [u8]> {
+    let mut found = None;
+    for k in 0..text.len() {
+        if let Some(rest) = text[k..].strip_prefix(part) {
+            found = Some(rest);
+        }
+    }
+    found
+}
+
+// Whether a word is one of those of a text.
+fn has_word(text: &[u8], wanted: &[u8]) -> bool {
+    for k in 0..text.len() {
+        if (k == 0 || text[k - 1] == b' ') && word(&text[k..]).0 == wanted {
+            return true;
+        }
+    }
+    false
+}
