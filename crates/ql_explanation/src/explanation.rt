@@ -29,11 +29,7 @@ pub fn explain(alloc: Global, source: &[u8]) -> Result<(Answer, Vec<u8>), NoMemo
 }
 
 // The sections of all targets, and whether nothing is wrong with any.
-fn sections_of(
-    alloc: Global,
-    t: &Typed,
-    findings: &[Finding],
-) -> Result<(bool, Vec<u8>), NoMemory>
+fn sections_of(alloc: Global, t: &Typed, findings: &[Finding]) -> Result<(bool, Vec<u8>), NoMemory>
     requires { AreFindings t.now.program findings.now }
     ensures { IfOk result (λ answer. InTurn (IsSection t.now.program) findings.now answer.1.items) }
 {

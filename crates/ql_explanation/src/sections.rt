@@ -75,12 +75,7 @@ pub(crate) fn goal_of(finding: &Finding) -> Goal
     }
 }
 
-fn push_first_line(
-    out: &mut Vec<u8>,
-    t: &Typed,
-    finding: &Finding,
-    g: Goal,
-) -> Result<(), NoMemory>
+fn push_first_line(out: &mut Vec<u8>, t: &Typed, finding: &Finding, g: Goal) -> Result<(), NoMemory>
     requires known { IsGoalOf t.now.program g }
     requires target { g ≡ goal_of finding.now }
     ensures { OnOk result (out.new.items ≡ out.old.items ++ first_line t.now.program finding.now) }
@@ -167,12 +162,7 @@ fn unmet_of(finding: &Finding) -> Option<&Unmet>
 }
 
 // A countermodel of a goal: in words, and as an execution.
-fn counter_part(
-    alloc: Global,
-    t: &Typed,
-    unmet: &Unmet,
-    is_top: bool,
-) -> Result<Vec<u8>, NoMemory>
+fn counter_part(alloc: Global, t: &Typed, unmet: &Unmet, is_top: bool) -> Result<Vec<u8>, NoMemory>
     requires goal { IsGoalOf t.now.program unmet.now.goal }
     requires unmet { IsUnmet t.now.program unmet.now }
     ensures { IfOk result (λ text. IsCounterPart t.now.program unmet.now.goal text.items) }

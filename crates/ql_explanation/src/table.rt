@@ -144,12 +144,7 @@ fn print(alloc: Global, cells: &[Vec<u8>]) -> Result<Vec<u8>, NoMemory> {
     Ok(text)
 }
 
-fn push_cell(
-    text: &mut Vec<u8>,
-    column: usize,
-    cell: &[u8],
-    width: usize,
-) -> Result<(), NoMemory>
+fn push_cell(text: &mut Vec<u8>, column: usize, cell: &[u8], width: usize) -> Result<(), NoMemory>
     requires { column < 7 }
 {
     if column == 0 {

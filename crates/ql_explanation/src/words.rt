@@ -35,7 +35,10 @@ pub(crate) fn counter_words(
     push_bytes(&mut text, level_of(g).as_bytes())?;
     let not = if is_top { ", the highest level," } else { "" };
     push_bytes(&mut text, not.as_bytes())?;
-    push_bytes(&mut text, b" isn't enough. Here all holds that it guarantees, but the contract of ")?;
+    push_bytes(
+        &mut text,
+        b" isn't enough. Here all holds that it guarantees, but the contract of ",
+    )?;
     push_bytes(&mut text, name_of(t, g).word.bytes())?;
     push_bytes(&mut text, b" is false of ")?;
     push_at(&mut text, c)?;
@@ -60,7 +63,11 @@ fn push_at(text: &mut Vec<u8>, c: &Counter) -> Result<(), NoMemory> {
             push_number(text, run.0)?;
         }
     }
-    let with = if c.places.items().is_empty() { "" } else { " with" };
+    let with = if c.places.items().is_empty() {
+        ""
+    } else {
+        " with"
+    };
     push_bytes(text, with.as_bytes())
 }
 
@@ -100,12 +107,7 @@ fn formula_of(t: &Typed, g: Goal) -> &Formula
 
 /// What may be wrong with a target whatever its level: strong operations that it uses, and variables that look like
 /// operations.
-pub(crate) fn remarks(
-    alloc: Global,
-    t: &Typed,
-    g: Goal,
-    uses: &[OpId],
-) -> Result<Vec<u8>, NoMemory>
+pub(crate) fn remarks(alloc: Global, t: &Typed, g: Goal, uses: &[OpId]) -> Result<Vec<u8>, NoMemory>
     requires goal { IsGoalOf t.now.program g }
     requires uses { All (λ o. o.0 < length (all_ops t.now.program.types)) uses.now }
 {
@@ -122,7 +124,10 @@ pub(crate) fn remarks(
 fn push_warning(text: &mut Vec<u8>, name: &[u8]) -> Result<(), NoMemory> {
     push_bytes(text, b"  The variable ")?;
     push_bytes(text, name)?;
-    push_bytes(text, b" has an operation's name, and stands for any effect: `a: ")?;
+    push_bytes(
+        text,
+        b" has an operation's name, and stands for any effect: `a: ",
+    )?;
     push_bytes(text, name)?;
     push_bytes(text, b"` stands for the operation's.\n")
 }
