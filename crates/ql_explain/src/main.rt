@@ -4,11 +4,11 @@
 // `ql_explanation` says.
 #![tactic(auto)]
 
+mod asked;
 mod help;
 mod outcome;
 mod program;
 mod status;
-mod words;
 
 use crate::program::explain_words;
 use ql_base::NoMemory;

@@ -2,9 +2,9 @@ ghost use Rattle.std.specs.Prelude.{◌≡◌, ◌<◌, ◌≤◌, ◌^◌, ◌+
 ghost use Rattle.ql_explain.specs.Outcomes.{IsAnswer, IsUnread, Says, Tells};
 ghost use Rattle.ql_explain.specs.Words.{word_texts};
 
+use crate::asked::name_of;
 use crate::help::HELP;
 use crate::status::Status;
-use crate::words::name_of;
 use ql_base::{NoMemory, push_bytes};
 use ql_commands::Answer;
 use ql_explanation::explain;
