@@ -1,9 +1,9 @@
 // The text of a countermodel: where its contract fails and at which effects, and then its execution.
 ghost use Rattle.std.specs.Prelude.{◌≡◌, ◌++◌, OnOk};
-ghost use Rattle.ql_counter.specs.Countermodels.{IsSatisfiedBy};
+ghost use Rattle.ql_counter.specs.Countermodels.{AreWithin, IsCounterOf, IsSatisfiedBy};
 ghost use Rattle.ql_ground.specs.OfPrograms.{IsGoalOf};
 ghost use Rattle.ql_run_text.specs.EffectTexts.{AreNamed, execution_text};
-ghost use Rattle.ql_why.specs.Why.{Appended, IsCounterText, at_text, heading_text, level_text, object_names, vars_of};
+ghost use Rattle.ql_why.specs.Why.{Appended, IsCounterText, at_text, counter_text, heading_text, level_text, object_names, vars_of};
 
 use crate::objects::object_names;
 use ql_base::{NoMemory, push_bytes, push_number};
@@ -31,8 +31,24 @@ pub(crate) fn push_countermodel(
     ensures { OnOk result (Appended (IsCounterText t.now.program g) out.old.items out.new.items) }
 {
     let counter = countermodel(alloc, t, g, a)?;
-    push_heading(out, t, g, &counter)?;
-    push_execution(alloc, out, t, &counter.execution)
+    push_counter(alloc, out, t, g, &counter)
+}
+
+/// Appends a countermodel of a goal.
+pub fn push_counter(
+    alloc: Global,
+    out: &mut Vec<u8>,
+    t: &Typed,
+    g: Goal,
+    c: &Counter,
+) -> Result<(), NoMemory>
+    requires goal { IsGoalOf t.now.program g }
+    requires counter { IsCounterOf t.now.program g c.now }
+    requires within { AreWithin t.now.program c.now.execution }
+    ensures { OnOk result (out.new.items ≡ out.old.items ++ counter_text t.now.program g c.now) }
+{
+    push_heading(out, t, g, c)?;
+    push_execution(alloc, out, t, &c.execution)
 }
 
 // The level, where the contract fails, and the effect of each of its variables.

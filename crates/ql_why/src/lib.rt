@@ -10,4 +10,6 @@ mod objects;
 mod refusal;
 mod targets;
 
+pub use counter_text::push_counter;
 pub use explanation::classify_with_reasons;
+pub use targets::push_target_line;

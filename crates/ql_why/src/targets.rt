@@ -46,14 +46,14 @@ fn push_target(
     requires known { IsGoalOf classified.now.program g }
     ensures { OnOk result (Appended (TellsTarget classified.now.program g) out.old.items out.new.items) }
 {
-    push_line(out, classified.typed(), g)?;
+    push_target_line(out, classified.typed(), g)?;
     push_step(alloc, out, classified, target, g, 0)?;
     push_step(alloc, out, classified, target, g, 1)?;
     push_step(alloc, out, classified, target, g, 2)
 }
 
-// The line that `classify` prints of a target.
-fn push_line(out: &mut Vec<u8>, t: &Typed, g: Goal) -> Result<(), NoMemory>
+/// Appends the line that `classify` prints of a target.
+pub fn push_target_line(out: &mut Vec<u8>, t: &Typed, g: Goal) -> Result<(), NoMemory>
     requires { IsGoalOf t.now.program g }
     ensures { OnOk result (out.new.items ≡ out.old.items ++ target_line t.now.program g) }
 {

@@ -1,0 +1,107 @@
+-- What `explain` says of a source: of each target its least level or that none is enough, the strong operations that it
+-- uses, and a countermodel of it at the next lower level, or at the highest.
+use Rattle.std.specs.Prelude.{ℕ, ◌≡◌, ◌<◌, Bool, true, if◌then◌else◌, List, [], ◌∷◌, ◌++◌, Option, None, Some, length, slice_get, codes}
+use Rattle.std.specs.List.{All}
+use Rattle.ql_base.specs.declared.ids.OpId.{OpId}
+use Rattle.ql_classify.specs.Finding.{IsFinding}
+use Rattle.ql_classify.specs.Targets.{IsOpLevel, targets}
+use Rattle.ql_classify.specs.declared.finding.Finding.{Finding}
+use Rattle.ql_classify.specs.declared.finding.Unmet.{Unmet}
+use Rattle.ql_classify.specs.declared.finding.Finding.TheVariants.{Least, NoLevel}
+use Rattle.ql_commands.specs.declared.answer.Answer.{Answer}
+use Rattle.ql_commands.specs.declared.answer.Answer.TheVariants.{Done, No, Bad}
+use Rattle.ql_commands.specs.Sources.{BadSourceSays, IsSourceOf}
+use Rattle.ql_ground.specs.declared.goal.Goal.{Goal}
+use Rattle.ql_ground.specs.declared.goal.Goal.TheVariants.{OpAt, TxnAt}
+use Rattle.ql_lang.specs.declared.program.Program.{Program}
+use Rattle.ql_levels.specs.declared.level.Level.TheVariants.{Strong}
+use Rattle.ql_report.specs.Levels.{op_name, txn_name}
+use Rattle.ql_report.specs.Refusals.{strong_text}
+use Rattle.ql_typing.specs.Operations.{all_ops, uses_op}
+use Rattle.ql_why.specs.Why.{InTurn, IsCounterText, target_line}
+
+-- ---- what is found
+
+-- a finding of each target, in order
+pub record AreFindings (p : Program) (findings : List Finding) : Type 0 where
+  pub all : length findings ≡ targets p
+  pub each : (k : ℕ) (f : Finding) → slice_get findings k ≡ Some f → IsFinding p k f
+
+-- the target of a finding, at its least level or at the highest
+abbrev pub goal_of : Finding → Goal
+goal_of (Least g below) = g
+goal_of (NoLevel u) = u.goal
+
+-- the goal that isn't met: the next lower one, or the highest
+abbrev pub unmet_of : Finding → Option Unmet
+unmet_of (Least g below) = below
+unmet_of (NoLevel u) = Some u
+
+-- it is an operation's, whose least level is strong
+abbrev pub IsStrong : Finding → Type 0
+IsStrong (Least (OpAt o level) below) = level ≡ Strong
+IsStrong _ = ⊥
+
+-- the transaction uses the operation, whose least level is strong
+pub record IsStrongIn (p : Program) (d : ℕ) (o : OpId) : Type 0 where
+  pub known : o.0 < length (all_ops p.types)
+  pub used : uses_op p d o.0 ≡ true
+  pub strong : IsOpLevel p o.0 Strong
+
+abbrev pub AreUsesOf : Program → Goal → List OpId → Type 0
+AreUsesOf p (OpAt o level) uses = uses ≡ []
+AreUsesOf p (TxnAt d level) uses = All (IsStrongIn p d.0) uses
+
+-- ---- the text
+
+-- none op F, and none txn F
+abbrev pub none_line : Program → Goal → List ℕ
+none_line p (OpAt o level) = codes "none op " ++ op_name p o.0 ++ codes "\n"
+none_line p (TxnAt d level) = codes "none txn " ++ txn_name p d.0 ++ codes "\n"
+
+abbrev pub first_line : Program → Finding → List ℕ
+first_line p (Least g below) = target_line p g
+first_line p (NoLevel u) = none_line p u.goal
+
+-- strong F in G, for each
+abbrev pub uses_text : Program → ℕ → List OpId → List ℕ
+uses_text p d [] = []
+uses_text p d (o ∷ uses) = strong_text p d o.0 ++ uses_text p d uses
+
+abbrev pub strong_lines : Program → Goal → List OpId → List ℕ
+strong_lines p (OpAt o level) uses = []
+strong_lines p (TxnAt d level) uses = uses_text p d.0 uses
+
+-- some words, and the text of a countermodel
+abbrev pub IsCounterPart : Program → Goal → List ℕ → Type 0
+IsCounterPart p g text = (words : List ℕ) × (counter : List ℕ) × IsCounterText p g counter × (text ≡ words ++ counter)
+
+-- why the lower levels, or all, aren't enough
+abbrev pub IsReasonOf : Program → Option Unmet → List ℕ → Type 0
+IsReasonOf p None text = Unit {0}
+IsReasonOf p (Some u) text = IsCounterPart p u.goal text
+
+abbrev pub IsReason : Program → Finding → List ℕ → Type 0
+IsReason p f text = IsReasonOf p (unmet_of f) text
+
+-- a blank line, but for the first
+abbrev pub gap : Bool → List ℕ
+gap is_first = if is_first then [] else codes "\n"
+
+-- the section of a target
+pub record IsSection (p : Program) (f : Finding) (text : List ℕ) : Type 0 where
+  pub is_first : Bool
+  pub uses : List OpId
+  pub are_uses : AreUsesOf p (goal_of f) uses
+  pub words : List ℕ
+  pub reason : List ℕ
+  pub is_reason : IsReason p f reason
+  pub whole : text ≡ gap is_first ++ first_line p f ++ strong_lines p (goal_of f) uses ++ words ++ reason
+
+abbrev pub IsExplanation : Program → List ℕ → Type 0
+IsExplanation p text = (findings : List Finding) × AreFindings p findings × InTurn (IsSection p) findings text
+
+abbrev pub ExplainSays : List ℕ → Answer → List ℕ → Type 0
+ExplainSays bytes Done text = (p : Program) × IsSourceOf bytes p × IsExplanation p text
+ExplainSays bytes No text = (p : Program) × IsSourceOf bytes p × IsExplanation p text
+ExplainSays bytes Bad text = BadSourceSays bytes text

@@ -1,0 +1,14 @@
+// Why each target of a source has its level, or none: text for people, from the source's bytes.
+// The one contract: each level is the target's least one, and each execution is a countermodel of the target at the next
+// lower level, or at the highest where none is enough.
+#![tactic(auto)]
+
+mod explanation;
+mod finding;
+mod sections;
+mod sentences;
+mod table;
+mod uses;
+mod words;
+
+pub use explanation::explain;

@@ -1,0 +1,174 @@
+// The section of each target: its line, the strong operations that it uses, and why no lower level is enough.
+ghost use Rattle.std.specs.Prelude.{◌≡◌, ◌<◌, ◌++◌, ℕ, IfOk, OnOk, length};
+ghost use Rattle.std.specs.List.{All};
+ghost use Rattle.std.specs.Option.{option_copied};
+ghost use Rattle.ql_classify.specs.Finding.{IsFinding, IsUnmet};
+ghost use Rattle.ql_ground.specs.OfPrograms.{IsGoalOf};
+ghost use Rattle.ql_explanation.specs.Explanation.{
+  AreUsesOf,
+  IsCounterPart,
+  IsReason,
+  IsSection,
+  IsStrongIn,
+  first_line,
+  gap,
+  goal_of,
+  none_line,
+  strong_lines,
+  unmet_of,
+  uses_text,
+};
+
+use crate::words::{LOWEST, counter_words, remarks};
+use ql_base::{DeclId, NoMemory, OpId, push_bytes};
+use ql_classify::{Finding, Unmet};
+use ql_counter::countermodel;
+use ql_ground::Goal;
+use ql_report::print_strong_use;
+use ql_typing::Typed;
+use ql_why::{push_counter, push_target_line};
+use std::alloc::Global;
+
+/// The section of a target of which this is found, with the strong operations that it uses. A blank line stands before all but
+/// the first.
+pub(crate) fn section(
+    alloc: Global,
+    t: &Typed,
+    finding: &Finding,
+    g: Goal,
+    uses: &[OpId],
+    is_first: bool,
+) -> Result<Vec<u8>, NoMemory>
+    requires finding { (target : ℕ) × IsFinding t.now.program target finding.now }
+    requires target { g ≡ goal_of finding.now }
+    requires known { IsGoalOf t.now.program g }
+    requires uses { AreUsesOf t.now.program g uses.now }
+    ensures { IfOk result (λ text. IsSection t.now.program finding.now text.items) }
+{
+    let mut text = gap(alloc, is_first)?;
+    push_first_line(&mut text, t, finding, g)?;
+    push_uses(alloc, &mut text, t, g, uses)?;
+    let remarks = remarks(alloc, t, g, uses)?;
+    push_bytes(&mut text, &remarks)?;
+    let reason = reason(alloc, t, finding)?;
+    push_bytes(&mut text, &reason)?;
+    Ok(text)
+}
+
+fn gap(alloc: Global, is_first: bool) -> Result<Vec<u8>, NoMemory>
+    ensures { IfOk result (λ text. text.items ≡ gap is_first) }
+{
+    if is_first {
+        Ok(Vec::new(alloc))
+    } else {
+        Ok(Vec::from_slice(alloc, b"\n")?)
+    }
+}
+
+/// The target at the level that its line tells, or at the highest.
+pub(crate) fn goal_of(finding: &Finding) -> Goal
+    ensures { result ≡ goal_of finding.now }
+{
+    match finding {
+        Finding::Least { goal, .. } => *goal,
+        Finding::NoLevel(unmet) => unmet.goal,
+    }
+}
+
+fn push_first_line(out: &mut Vec<u8>, t: &Typed, finding: &Finding, g: Goal) -> Result<(), NoMemory>
+    requires known { IsGoalOf t.now.program g }
+    requires target { g ≡ goal_of finding.now }
+    ensures { OnOk result (out.new.items ≡ out.old.items ++ first_line t.now.program finding.now) }
+{
+    match finding {
+        Finding::Least { .. } => push_target_line(out, t, g),
+        Finding::NoLevel(_) => push_none(out, t, g),
+    }
+}
+
+fn push_none(out: &mut Vec<u8>, t: &Typed, g: Goal) -> Result<(), NoMemory>
+    requires { IsGoalOf t.now.program g }
+    ensures { OnOk result (out.new.items ≡ out.old.items ++ none_line t.now.program g) }
+{
+    match g {
+        Goal::OpAt(o, _) => {
+            push_bytes(out, b"none op ")?;
+            push_bytes(out, t.op(o).name.word.bytes())?;
+        }
+        Goal::TxnAt(d, _) => {
+            push_bytes(out, b"none txn ")?;
+            push_bytes(out, t.txn(d).name.word.bytes())?;
+        }
+    }
+    push_bytes(out, b"\n")
+}
+
+fn push_uses(
+    alloc: Global,
+    out: &mut Vec<u8>,
+    t: &Typed,
+    g: Goal,
+    uses: &[OpId],
+) -> Result<(), NoMemory>
+    requires goal { IsGoalOf t.now.program g }
+    requires uses { AreUsesOf t.now.program g uses.now }
+    ensures { OnOk result (out.new.items ≡ out.old.items ++ strong_lines t.now.program g uses.now) }
+{
+    match g {
+        Goal::OpAt(_, _) => Ok(()),
+        Goal::TxnAt(d, _) => push_strong(alloc, out, t, d, uses),
+    }
+}
+
+// A line for each strong operation that a transaction uses.
+fn push_strong(
+    alloc: Global,
+    out: &mut Vec<u8>,
+    t: &Typed,
+    d: DeclId,
+    uses: &[OpId],
+) -> Result<(), NoMemory>
+    requires txn { d.0 < length t.now.program.txns }
+    requires uses { All (IsStrongIn t.now.program d.0) uses.now }
+    ensures { OnOk result (out.new.items ≡ out.old.items ++ uses_text t.now.program d.0 uses.now) }
+{
+    let Some((o, others)) = uses.split_first() else {
+        return Ok(());
+    };
+    let line = print_strong_use(alloc, t, d, *o)?;
+    push_bytes(out, &line)?;
+    push_strong(alloc, out, t, d, others)
+}
+
+// Why no lower level is enough, or none at all.
+fn reason(alloc: Global, t: &Typed, finding: &Finding) -> Result<Vec<u8>, NoMemory>
+    requires { (target : ℕ) × IsFinding t.now.program target finding.now }
+    ensures { IfOk result (λ text. IsReason t.now.program finding.now text.items) }
+{
+    match unmet_of(finding) {
+        Some(unmet) => counter_part(alloc, t, unmet, matches!(finding, Finding::NoLevel(_))),
+        None => Ok(Vec::from_slice(alloc, LOWEST.as_bytes())?),
+    }
+}
+
+// The goal that isn't met: the next lower one, or the highest.
+fn unmet_of(finding: &Finding) -> Option<&Unmet>
+    ensures { option_copied result ≡ unmet_of finding.now }
+{
+    match finding {
+        Finding::Least { below, .. } => below.as_ref(),
+        Finding::NoLevel(unmet) => Some(unmet),
+    }
+}
+
+// A countermodel of a goal: in words, and as an execution.
+fn counter_part(alloc: Global, t: &Typed, unmet: &Unmet, is_top: bool) -> Result<Vec<u8>, NoMemory>
+    requires goal { IsGoalOf t.now.program unmet.now.goal }
+    requires unmet { IsUnmet t.now.program unmet.now }
+    ensures { IfOk result (λ text. IsCounterPart t.now.program unmet.now.goal text.items) }
+{
+    let counter = countermodel(alloc, t, unmet.goal, &unmet.assignment)?;
+    let mut text = counter_words(alloc, t, unmet.goal, &counter, is_top)?;
+    push_counter(alloc, &mut text, t, unmet.goal, &counter)?;
+    Ok(text)
+}

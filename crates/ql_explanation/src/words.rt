@@ -1,0 +1,158 @@
+// What is said of a target in words.
+ghost use Rattle.std.specs.Prelude.{◌<◌, length};
+ghost use Rattle.std.specs.List.{All};
+ghost use Rattle.ql_typing.specs.Operations.{all_ops};
+ghost use Rattle.ql_ground.specs.OfPrograms.{IsGoalOf};
+ghost use Rattle.ql_run_text.specs.EffectTexts.{AreNamed};
+
+use crate::sentences::push_facts;
+use crate::table::table;
+use ql_base::{NoMemory, OpId, push_bytes, push_number};
+use ql_counter::{At, Counter};
+use ql_facts::reasons;
+use ql_ground::Goal;
+use ql_judging::push_places;
+use ql_lang::{Formula, Name, Var};
+use ql_levels::{level_word, txn_word};
+use ql_typing::Typed;
+use std::alloc::Global;
+
+/// Of a target at the lowest level.
+pub(crate) const LOWEST: &str = "  No level is lower.\n";
+
+/// What a countermodel shows: its effects as a table, and why the contract is false.
+pub(crate) fn counter_words(
+    alloc: Global,
+    t: &Typed,
+    g: Goal,
+    c: &Counter,
+    is_top: bool,
+) -> Result<Vec<u8>, NoMemory>
+    requires goal { IsGoalOf t.now.program g }
+    requires named { AreNamed t.now.program 7 c.now.execution }
+{
+    let mut text = Vec::from_slice(alloc, b"  ")?;
+    push_bytes(&mut text, level_of(g).as_bytes())?;
+    let not = if is_top { ", the highest level," } else { "" };
+    push_bytes(&mut text, not.as_bytes())?;
+    push_bytes(
+        &mut text,
+        b" isn't enough. Here all holds that it guarantees, but the contract of ",
+    )?;
+    push_bytes(&mut text, name_of(t, g).word.bytes())?;
+    push_bytes(&mut text, b" is false of ")?;
+    push_at(&mut text, c)?;
+    push_places(&mut text, vars_of(t, g), c.places.items())?;
+    push_bytes(&mut text, b":\n\n")?;
+    push_bytes(&mut text, &table(alloc, t, vars_of(t, g), c)?)?;
+    push_bytes(&mut text, b"\n")?;
+    let facts = reasons(alloc, formula_of(t, g), c)?;
+    push_facts(&mut text, t, c, &facts)?;
+    push_bytes(&mut text, b"\n")?;
+    Ok(text)
+}
+
+fn push_at(text: &mut Vec<u8>, c: &Counter) -> Result<(), NoMemory> {
+    match c.at {
+        At::Effect(id) => {
+            push_bytes(text, b"effect ")?;
+            push_number(text, id.0)?;
+        }
+        At::Run(run) => {
+            push_bytes(text, b"transaction ")?;
+            push_number(text, run.0)?;
+        }
+    }
+    let with = if c.places.items().is_empty() {
+        ""
+    } else {
+        " with"
+    };
+    push_bytes(text, with.as_bytes())
+}
+
+fn level_of(g: Goal) -> &'static str {
+    match g {
+        Goal::OpAt(_, level) => level_word(level),
+        Goal::TxnAt(_, level) => txn_word(level),
+    }
+}
+
+fn name_of(t: &Typed, g: Goal) -> Name
+    requires { IsGoalOf t.now.program g }
+{
+    match g {
+        Goal::OpAt(o, _) => t.op(o).name,
+        Goal::TxnAt(d, _) => t.txn(d).name,
+    }
+}
+
+fn vars_of(t: &Typed, g: Goal) -> &[Var]
+    requires { IsGoalOf t.now.program g }
+{
+    match g {
+        Goal::OpAt(o, _) => t.op(o).contract.vars.items(),
+        Goal::TxnAt(d, _) => t.txn(d).contract.vars.items(),
+    }
+}
+
+fn formula_of(t: &Typed, g: Goal) -> &Formula
+    requires { IsGoalOf t.now.program g }
+{
+    match g {
+        Goal::OpAt(o, _) => t.op_formula(o),
+        Goal::TxnAt(d, _) => t.txn_formula(d),
+    }
+}
+
+/// What may be wrong with a target whatever its level: strong operations that it uses, and variables that look like
+/// operations.
+pub(crate) fn remarks(alloc: Global, t: &Typed, g: Goal, uses: &[OpId]) -> Result<Vec<u8>, NoMemory>
+    requires goal { IsGoalOf t.now.program g }
+    requires uses { All (λ o. o.0 < length (all_ops t.now.program.types)) uses.now }
+{
+    let mut text = Vec::new(alloc);
+    push_uses(&mut text, t, uses)?;
+    for var in vars_of(t, g) {
+        if var.ops.items().is_empty() && t.op_named(var.name.word.bytes()).is_some() {
+            push_warning(&mut text, var.name.word.bytes())?;
+        }
+    }
+    Ok(text)
+}
+
+fn push_warning(text: &mut Vec<u8>, name: &[u8]) -> Result<(), NoMemory> {
+    push_bytes(text, b"  The variable ")?;
+    push_bytes(text, name)?;
+    push_bytes(
+        text,
+        b" has an operation's name, and stands for any effect: `a: ",
+    )?;
+    push_bytes(text, name)?;
+    push_bytes(text, b"` stands for the operation's.\n")
+}
+
+// Why a transaction can't use strong operations, and what one can do.
+fn push_uses(text: &mut Vec<u8>, t: &Typed, uses: &[OpId]) -> Result<(), NoMemory>
+    requires { All (λ o. o.0 < length (all_ops t.now.program.types)) uses.now }
+{
+    for o in uses {
+        let name = t.op(*o).name.word;
+        push_bytes(text, b"  No transaction may use ")?;
+        push_bytes(text, name.bytes())?;
+        push_bytes(text, STRONG_USE.as_bytes())?;
+        push_bytes(text, b"  Call ")?;
+        push_bytes(text, name.bytes())?;
+        push_bytes(text, WAY_OUT.as_bytes())?;
+    }
+    Ok(())
+}
+
+const STRONG_USE: &str = ", which is strong. A strong call is ordered with all effects on its
+  object, and every replica has its effect before the next one is made; what a
+  transaction does reaches others when it commits, all at once.
+";
+
+const WAY_OUT: &str = " outside the transaction, before it begins or once it is committed;
+  or ask less of it: an operation whose level is lower can be used in one.
+";
