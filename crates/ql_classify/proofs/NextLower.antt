@@ -9,7 +9,7 @@ use Rattle.ql_ground.specs.declared.goal.Goal.{Goal}
 use Rattle.ql_ground.specs.declared.goal.Goal.TheVariants.{OpAt, TxnAt}
 use Rattle.ql_lang.specs.declared.program.Program.{Program}
 use Rattle.ql_levels.specs.declared.level.Level.{Level}
-use Rattle.ql_levels.specs.declared.level.Level.TheVariants.{Eventual, Causal, Strong}
+use Rattle.ql_levels.specs.declared.level.Level.TheVariants.{Eventual, Causal, Wide, Strong}
 use Rattle.ql_levels.specs.declared.level.TxnLevel.{TxnLevel}
 use Rattle.ql_levels.specs.declared.level.TxnLevel.TheVariants.{Rc, Mav, Rr}
 use Rattle.ql_classify.specs.Finding.{IsLastUnmet}
@@ -33,9 +33,13 @@ op_below : (o : OpId) (level : Level) (step : ℕ) (lower : Goal) → slice_get 
 op_below o Eventual step lower e = absurd (cc)
 op_below o Causal zero lower e = sym (same_Some _ lower e)
 op_below o Causal (suc step) lower e = absurd (cc)
+op_below o Wide zero lower e = sym (same_Some _ lower e)
+op_below o Wide (suc zero) lower e = sym (same_Some _ lower e)
+op_below o Wide (suc (suc step)) lower e = absurd (cc)
 op_below o Strong zero lower e = sym (same_Some _ lower e)
 op_below o Strong (suc zero) lower e = sym (same_Some _ lower e)
-op_below o Strong (suc (suc step)) lower e = absurd (cc)
+op_below o Strong (suc (suc zero)) lower e = sym (same_Some _ lower e)
+op_below o Strong (suc (suc (suc step))) lower e = absurd (cc)
 
 txn_below : (d : DeclId) (level : TxnLevel) (step : ℕ) (lower : Goal) → slice_get (goals_below (TxnAt d level)) step ≡ Some lower → lower ≡ TxnAt d (step_txn_level step)
 txn_below d Rc step lower e = absurd (cc)

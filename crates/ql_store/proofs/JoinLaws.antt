@@ -16,7 +16,7 @@ use Rattle.ql_exec.specs.Relations.{same_run}
 use Rattle.ql_exec.proofs.Finding.{both-found, effect_at-within}
 use Rattle.ql_levels.specs.declared.level.Level.{Level}
 use Rattle.ql_levels.specs.Lists.{LevelLists}
-use Rattle.ql_levels.specs.declared.level.Level.TheVariants.{Eventual, Causal, Strong}
+use Rattle.ql_levels.specs.declared.level.Level.TheVariants.{Eventual, Causal, Wide, Strong}
 use Rattle.ql_needs.specs.Closed.{Has}
 use Rattle.ql_needs.specs.Needs.{AreWhole, IsNeeded}
 use Rattle.ql_needs.proofs.ClosedLaws.{closed-member}
@@ -47,6 +47,7 @@ use Rattle.ql_store.proofs.CommittedLaws.{ArePassing}
 strong-level : (level : Level) → is_strong level ≡ true → level ≡ Strong
 strong-level Eventual is = absurd (false≢true is)
 strong-level Causal is = absurd (false≢true is)
+strong-level Wide is = absurd (false≢true is)
 strong-level Strong is = refl
 
 -- those that pass the test are of strong operations
