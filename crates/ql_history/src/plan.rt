@@ -144,7 +144,9 @@ fn take_event(
 fn behind(place: Place, step: &Step) -> Result<Place, LineFault> {
     match step {
         Step::Join(_) if !place.has_joins => Err(LineFault::Breaks(DrawnRule::Unexpected)),
-        Step::Join(_) if place.replicas >= MOST_REPLICAS => Err(LineFault::Breaks(DrawnRule::TooMany)),
+        Step::Join(_) if place.replicas >= MOST_REPLICAS => Err(LineFault::Breaks(
+            DrawnRule::TooMany,
+        )),
         Step::Join(_) => Ok(Place {
             replicas: place.replicas + 1,
             ..place

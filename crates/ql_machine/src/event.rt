@@ -43,5 +43,8 @@ pub enum Event {
     Heal,
     /// A replica joins in the group of another one: as a copy of it, or bare, which is with the
     /// effects of strong operations and all that they need.
-    Join { near: ReplicaId, copy: bool },
+    Join {
+        near: ReplicaId,
+        copy: bool,
+    },
 }
