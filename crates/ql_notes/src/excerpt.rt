@@ -49,7 +49,7 @@ pub(crate) fn place_of_line(text: &[u8], number: u64) -> Place
     place_of(text, text.len())
 }
 
-/// Appends `NAME:LINE:COLUMN: `.
+/// Appends `NAME:LINE:COLUMN: `, both counted from 1, the column in bytes.
 pub(crate) fn push_place(note: &mut Vec<u8>, name: &[u8], place: Place) -> Result<(), NoMemory>
     requires { place.start ≤ place.at }
 {
@@ -57,7 +57,7 @@ pub(crate) fn push_place(note: &mut Vec<u8>, name: &[u8], place: Place) -> Resul
     push_bytes(note, b":")?;
     push_number(note, place.line)?;
     push_bytes(note, b":")?;
-    push_number(note, place.at - place.start)?;
+    push_number(note, (place.at - place.start).saturating_add(1))?;
     push_bytes(note, b": ")
 }
 
