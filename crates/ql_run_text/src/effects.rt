@@ -17,7 +17,7 @@ ghost use Rattle.ql_run_text.specs.EffectTexts.{
   values_text,
 };
 
-use crate::parts::{push_decimal, push_ids, push_payload, push_values};
+use crate::parts::{push_decimal, push_each_id, push_payload, push_values};
 use ql_base::{EffId, Names, NoMemory, push_bytes, push_number};
 use ql_exec::{Effect, Execution, Member};
 use ql_typing::Typed;
@@ -74,7 +74,7 @@ fn push_effect(
     push_bytes(out, b" emit ")?;
     push_payload(out, &effect.payload)?;
     push_session(out, t, effect)?;
-    push_ids(out, effect.seen.items())?;
+    push_each_id(out, effect.seen.items())?;
     push_bytes(out, b"\n")
 }
 

@@ -1,4 +1,4 @@
-ghost use Rattle.std.specs.Prelude.{◌≡◌, ◌++◌, List, ℕ, All, OnOk, decimal, map};
+ghost use Rattle.std.specs.Prelude.{◌≡◌, ◌++◌, List, ℕ, All, OnErr, OnOk, decimal, map};
 ghost use Rattle.ql_lines.specs.Texts.{behind};
 ghost use Rattle.ql_value.specs.Spelling.{followed, value_text};
 ghost use Rattle.ql_value.specs.ValueGrammar.{IsValue};
@@ -16,8 +16,18 @@ pub(crate) fn push_decimal(out: &mut Vec<u8>, text: &[u8], number: u32) -> Resul
     push_number(out, number)
 }
 
-/// Appends ids, each behind a space.
+/// Appends ids, each behind a space. Out of memory, the text is as before.
 pub fn push_ids(out: &mut Vec<u8>, ids: &[u32]) -> Result<(), NoMemory>
+    ensures ok { OnOk result (out.new.items ≡ out.old.items ++ behind (map decimal ids.now)) }
+    ensures err { OnErr result (out.new.items ≡ out.old.items) }
+{
+    let mut text = Vec::new(*out.allocator());
+    push_each_id(&mut text, ids)?;
+    push_bytes(out, &text)
+}
+
+/// Appends ids, each behind a space. Out of memory, some of them may stand behind the text.
+pub(crate) fn push_each_id(out: &mut Vec<u8>, ids: &[u32]) -> Result<(), NoMemory>
     ensures { OnOk result (out.new.items ≡ out.old.items ++ behind (map decimal ids.now)) }
 {
     for id in ids {

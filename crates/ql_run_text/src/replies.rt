@@ -9,7 +9,7 @@ ghost use Rattle.ql_run_text.specs.ReplyTexts.{
 };
 ghost use Rattle.ql_run_text.specs.RunTexts.{event_fields, replies_text};
 
-use crate::parts::{push_decimal, push_ids};
+use crate::parts::{push_decimal, push_each_id};
 use ql_base::{EffId, NoMemory, push_bytes, push_number};
 use ql_exec::Execution;
 use ql_machine::{Reply, Why};
@@ -97,7 +97,7 @@ fn push_listed(out: &mut Vec<u8>, word: &[u8], ids: &[u32]) -> Result<(), NoMemo
     ensures { OnOk result (out.new.items ≡ out.old.items ++ joined (word.now ∷ map decimal ids.now)) }
 {
     push_bytes(out, word)?;
-    push_ids(out, ids)
+    push_each_id(out, ids)
 }
 
 // The number of a reason.

@@ -19,7 +19,7 @@ returns-clause-text c =
     let called = c.in_ok-push_call.ensures.text ∙ ap (λ r. r ++ behind call) c.in_ok-push_heading.ensures in
     let emitted = c.in_ok-push_payload.ensures.text ∙ ap (λ r. r ++ payload) (c.in_ok-push_bytes.ensures.ok ∙ ap (λ r. r ++ codes " emit ") called) in
     let of_session = c.in_ok-push_session.ensures ∙ ap (λ r. r ++ behind session) emitted in
-    let listed = c.in_ok-push_ids.ensures ∙ ap (λ (ids : List ℕ). c.push_session.new.out.items ++ behind (map decimal ids)) c.items.ensures.same in
+    let listed = c.in_ok-push_each_id.ensures ∙ ap (λ (ids : List ℕ). c.push_session.new.out.items ++ behind (map decimal ids)) c.items.ensures.same in
     let before = listed ∙ ap (λ r. r ++ behind seen) of_session in
     on_ok c.push_bytes-2.result (λ w. w ∙ ap (λ r. r ++ codes "\n") before ∙ effect_pieces c.args.out.now.items (codes "effect") payload heading call session seen) c.push_bytes-2.ensures.ok
 

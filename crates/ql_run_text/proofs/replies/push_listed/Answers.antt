@@ -6,4 +6,4 @@ use Rattle.ql_run_text.proofs.replies.push_listed.Goals as goal
 pub returns : goal.returns
 returns c =
     let ids = map decimal c.args.ids.now in
-    on_ok c.push_ids.result (λ e. e ∙ ap (λ r. r ++ behind ids) c.in_ok-push_bytes.ensures.ok ∙ word_and_fields c.args.out.now.items c.args.word.now ids) c.push_ids.ensures
+    on_ok c.push_each_id.result (λ e. e ∙ ap (λ r. r ++ behind ids) c.in_ok-push_bytes.ensures.ok ∙ word_and_fields c.args.out.now.items c.args.word.now ids) c.push_each_id.ensures

@@ -1,6 +1,6 @@
 use Rattle.std.proofs.Common.{decimal}
 use Rattle.ql_run_text.proofs.Printing.{more_behind, nothing_behind}
-use Rattle.ql_run_text.proofs.parts.push_ids.Goals as goal
+use Rattle.ql_run_text.proofs.parts.push_each_id.Goals as goal
 
 pub loop-id-init : goal.loop-id-init
 loop-id-init c = nothing_behind c.args.out.now.items
