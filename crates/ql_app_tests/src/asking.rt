@@ -8,6 +8,9 @@ use std::alloc::Global;
 // How many bytes a text may have.
 const ROOM: usize = 65_536;
 
+// The names of the files.
+const NAMES: [&str; 2] = ["source", "other"];
+
 /// The exit status and the text that the program answers to `COMMAND: FILE` or `COMMAND: FILE ~ FILE`, of which a file
 /// is its text or the name of a source. Of `3 times [effect #..] in front@back` the three parts stand between front
 /// and back, with their numbers in place of `#`.
@@ -44,22 +47,48 @@ fn built(alloc: Global, row: &str) -> Result<String, NoMemory> {
 
 pub(crate) fn reported(alloc: Global, command: &str, files: &[&[u8]]) -> Result<Vec<u8>, NoMemory> {
     let (status, text) = answer(alloc, command, files)?;
+    report(alloc, status, &text)
+}
+
+/// An exit status and a text, as the tables have them.
+pub(crate) fn report(alloc: Global, status: Status, text: &[u8]) -> Result<Vec<u8>, NoMemory> {
     let mut out = Vec::new(alloc);
     push_number(&mut out, status.number())?;
     push_bytes(&mut out, b": ")?;
-    push_bytes(&mut out, &text)?;
+    push_bytes(&mut out, text)?;
     Ok(out)
 }
 
-/// What the program answers to a command with these files. It is asked twice, the second time with one byte in each
-/// fetch and in each put; where the answers differ, the text says so.
+/// What the program answers to a command that is followed by the names of these files.
 pub(crate) fn answer(
     alloc: Global,
     command: &str,
     files: &[&[u8]],
 ) -> Result<(Status, Vec<u8>), NoMemory> {
-    let (status, mut text) = answer_outside(alloc, command, files, &AMPLE)?;
-    let (status_by_bytes, text_by_bytes) = answer_outside(alloc, command, files, &BY_BYTES)?;
+    let mut words = words_of(alloc, command)?;
+    for (name, _) in NAMES.iter().zip(files) {
+        words.push(String::from_str(alloc, name)?)?;
+    }
+    answer_to(alloc, &words, files)
+}
+
+pub(crate) fn words_of(alloc: Global, text: &str) -> Result<Vec<String>, NoMemory> {
+    let mut words = Vec::new(alloc);
+    for word in text.split_whitespace() {
+        words.push(String::from_str(alloc, word)?)?;
+    }
+    Ok(words)
+}
+
+/// What the program answers to all its words. It is asked twice, the second time with one byte in each fetch and in each
+/// put; where the answers differ, the text says so.
+pub(crate) fn answer_to(
+    alloc: Global,
+    words: &Vec<String>,
+    files: &[&[u8]],
+) -> Result<(Status, Vec<u8>), NoMemory> {
+    let (status, mut text) = answer_outside(alloc, words, files, &AMPLE)?;
+    let (status_by_bytes, text_by_bytes) = answer_outside(alloc, words, files, &BY_BYTES)?;
     if status != status_by_bytes || text.as_slice() != text_by_bytes.as_slice() {
         push_bytes(&mut text, b"and by single bytes otherwise")?;
     }
@@ -89,27 +118,22 @@ pub(crate) const BY_BYTES: Outside = Outside {
     failing_put: 0,
 };
 
-/// What the program answers to a command with these files, and what it wrote, over such a shelf and such a sink.
+/// What the program answers to its words, and what it wrote, over such a shelf and such a sink.
 pub(crate) fn answer_outside(
     alloc: Global,
-    command: &str,
+    words: &Vec<String>,
     files: &[&[u8]],
     outside: &Outside,
 ) -> Result<(Status, Vec<u8>), NoMemory> {
-    let mut words = Vec::new(alloc);
-    for word in command.split_whitespace() {
-        words.push(String::from_str(alloc, word)?)?;
-    }
     let mut named = Vec::new(alloc);
-    for (name, bytes) in ["source", "other"].iter().zip(files) {
-        words.push(String::from_str(alloc, name)?)?;
+    for (name, bytes) in NAMES.iter().zip(files) {
         named.push(file(alloc, name, bytes)?)?;
     }
     let failing = Vec::from_slice(alloc, &[outside.failing_fetch])?;
     let mut shelf = MemShelf::new(alloc, named, outside.fetched.max(1), failing)?;
     let failing = Vec::from_slice(alloc, &[outside.failing_put])?;
     let mut sink = MemSink::new(alloc, ROOM, outside.put.max(1), failing)?;
-    let status = quelea(alloc, &words, &mut shelf, &mut sink)?;
+    let status = quelea(alloc, words, &mut shelf, &mut sink)?;
     Ok((status, Vec::from_slice(alloc, sink.bytes())?))
 }
 

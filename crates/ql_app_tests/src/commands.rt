@@ -1,8 +1,8 @@
 ghost use Rattle.std.specs.Prelude.{◌≤◌};
 
-use crate::asking::file;
+use crate::asking::{file, report, words_of};
 use ql_app::quelea;
-use ql_base::{NoMemory, push_bytes, push_number};
+use ql_base::NoMemory;
 use ql_ports::{MemShelf, MemSink};
 use ql_tables::{check_table, number};
 use std::alloc::Global;
@@ -29,28 +29,28 @@ proof early; 1 0 0; early: variables 2␊c 1 2␊c 1 -2␊c -1␊1 1 : c1 c2␊2
 proof twice; 1 0 0; twice: variables 2␊c 1 2␊c 1 -2␊c -1␊1 1 : c1 c2␊1 : l1 c3␊end␊ -> 2: bad proof at 6: Number␊
 proof ends; 1 0 0; ends: variables 0␍␊c␍␊end -> 1: refused NoEmpty␊
 classify touch; 8 0 2; touch: type t { op touch(): unit { contract true; answer unit; } } -> 4: op touch
-classify --why touch; 8 0 0; touch: type t { op touch(): unit { contract true; answer unit; } } -> 0: op touch eventual␊
-classify --why; 8 0 0; touch: type t { op touch(): unit { contract true; answer unit; } } -> 5: usage␊
-classify touch --why; 8 0 0; touch: type t { op touch(): unit { contract true; answer unit; } } -> 5: usage␊
-classify --why touch touch; 8 0 0; touch: type t { op touch(): unit { contract true; answer unit; } } -> 5: usage␊
-prove --why touch; 8 0 0; touch: type t { op touch(): unit { contract true; answer unit; } } -> 5: usage␊
-classify --why -own; 8 0 0; touch: type t { op touch(): unit { contract true; answer unit; } } -> 5: usage␊
-classify --why other; 8 0 0; touch: type t { op touch(): unit { contract true; answer unit; } } -> 3: read fault other␊
-verify touch other; 8 0 0; touch: type t { op touch(): unit { contract true; answer unit; } } -> 3: read fault other␊
-gen touch 0 2; 8 0 0; touch: type t { op touch(): unit { contract true; answer unit; } } -> 0: quelea schedule 1␊replicas 3␊object o0_0 t␊object o0_1 t␊events␊call 0 at 1 o0_0 touch␊deliver 2␊
-gen touch 2147483648 2; 8 0 0; touch: type t { op touch(): unit { contract true; answer unit; } } -> 5: usage␊
-gen touch 0 4001; 8 0 0; touch: type t { op touch(): unit { contract true; answer unit; } } -> 5: usage␊
-gen touch 00 2; 8 0 0; touch: type t { op touch(): unit { contract true; answer unit; } } -> 5: usage␊
-gen touch 0 +2; 8 0 0; touch: type t { op touch(): unit { contract true; answer unit; } } -> 5: usage␊
-gen -touch 0 2; 8 0 0; touch: type t { op touch(): unit { contract true; answer unit; } } -> 5: usage␊
-gen touch 0; 8 0 0; touch: type t { op touch(): unit { contract true; answer unit; } } -> 5: usage␊
-soak touch; 8 0 0; touch: type t { op touch(): unit { contract true; answer unit; } } -> 5: usage␊
-soak touch 007; 8 0 0; touch: type t { op touch(): unit { contract true; answer unit; } } -> 5: usage␊
-soak touch 2147483648; 8 0 0; touch: type t { op touch(): unit { contract true; answer unit; } } -> 5: usage␊
-soak touch 7 7; 8 0 0; touch: type t { op touch(): unit { contract true; answer unit; } } -> 5: usage␊
-gen other 0 2; 8 0 0; touch: type t { op touch(): unit { contract true; answer unit; } } -> 3: read fault other␊
-gen bad 0 2; 8 0 0; bad: type -> 2: bad source at 4: Unexpected␊
-verify touch; 8 0 0; touch: type t { op touch(): unit { contract true; answer unit; } } -> 5: usage␊
+classify --why touch; 1 0 0; touch: type t { op touch(): unit { contract true; answer unit; } } -> 0: op touch eventual␊
+classify --why; 1 0 0; touch: type t { op touch(): unit { contract true; answer unit; } } -> 5: usage␊
+classify touch --why; 1 0 0; touch: type t { op touch(): unit { contract true; answer unit; } } -> 5: usage␊
+classify --why touch touch; 1 0 0; touch: type t { op touch(): unit { contract true; answer unit; } } -> 5: usage␊
+prove --why touch; 1 0 0; touch: type t { op touch(): unit { contract true; answer unit; } } -> 5: usage␊
+classify --why -own; 1 0 0; touch: type t { op touch(): unit { contract true; answer unit; } } -> 5: usage␊
+classify --why other; 1 0 0; touch: type t { op touch(): unit { contract true; answer unit; } } -> 3: read fault other␊
+verify touch other; 1 0 0; touch: type t { op touch(): unit { contract true; answer unit; } } -> 3: read fault other␊
+gen touch 0 2; 1 0 0; touch: type t { op touch(): unit { contract true; answer unit; } } -> 0: quelea schedule 1␊replicas 3␊object o0_0 t␊object o0_1 t␊events␊call 0 at 1 o0_0 touch␊deliver 2␊
+gen touch 2147483648 2; 1 0 0; touch: type t { op touch(): unit { contract true; answer unit; } } -> 5: usage␊
+gen touch 0 4001; 1 0 0; touch: type t { op touch(): unit { contract true; answer unit; } } -> 5: usage␊
+gen touch 00 2; 1 0 0; touch: type t { op touch(): unit { contract true; answer unit; } } -> 5: usage␊
+gen touch 0 +2; 1 0 0; touch: type t { op touch(): unit { contract true; answer unit; } } -> 5: usage␊
+gen -touch 0 2; 1 0 0; touch: type t { op touch(): unit { contract true; answer unit; } } -> 5: usage␊
+gen touch 0; 1 0 0; touch: type t { op touch(): unit { contract true; answer unit; } } -> 5: usage␊
+soak touch; 1 0 0; touch: type t { op touch(): unit { contract true; answer unit; } } -> 5: usage␊
+soak touch 007; 1 0 0; touch: type t { op touch(): unit { contract true; answer unit; } } -> 5: usage␊
+soak touch 2147483648; 1 0 0; touch: type t { op touch(): unit { contract true; answer unit; } } -> 5: usage␊
+soak touch 7 7; 1 0 0; touch: type t { op touch(): unit { contract true; answer unit; } } -> 5: usage␊
+gen other 0 2; 1 0 0; touch: type t { op touch(): unit { contract true; answer unit; } } -> 3: read fault other␊
+gen bad 0 2; 1 0 0; bad: type -> 2: bad source at 4: Unexpected␊
+verify touch; 1 0 0; touch: type t { op touch(): unit { contract true; answer unit; } } -> 5: usage␊
 ";
 
 #[test]
@@ -66,19 +66,7 @@ fn answered(alloc: Global, row: &str) -> Result<Vec<u8>, NoMemory> {
     let failing = Vec::from_slice(alloc, &[u64::from(number(numbers, 2))])?;
     let mut sink = MemSink::new(alloc, 100, piece(numbers), failing)?;
     let status = quelea(alloc, &words, &mut shelf, &mut sink)?;
-    let mut out = Vec::new(alloc);
-    push_number(&mut out, status.number())?;
-    push_bytes(&mut out, b": ")?;
-    push_bytes(&mut out, sink.bytes())?;
-    Ok(out)
-}
-
-fn words_of(alloc: Global, text: &str) -> Result<Vec<String>, NoMemory> {
-    let mut words = Vec::new(alloc);
-    for word in text.split_whitespace() {
-        words.push(String::from_str(alloc, word)?)?;
-    }
-    Ok(words)
+    report(alloc, status, sink.bytes())
 }
 
 fn shelf(alloc: Global, numbers: &str, text: &str) -> Result<MemShelf, NoMemory> {

@@ -1,4 +1,4 @@
-use crate::asking::{BY_BYTES, Outside, answer_in_common, answer_outside};
+use crate::asking::{BY_BYTES, Outside, answer_in_common, answer_outside, report, words_of};
 use crate::sources::BANK;
 use ql_app::Status;
 use ql_base::{NoMemory, push_bytes, push_number};
@@ -40,11 +40,7 @@ fn answered_to_failing_fetch(alloc: Global, failing: u32) -> Result<Vec<u8>, NoM
             ..BY_BYTES
         },
     )?;
-    let mut out = Vec::new(alloc);
-    push_number(&mut out, status.number())?;
-    push_bytes(&mut out, b": ")?;
-    push_bytes(&mut out, &text)?;
-    Ok(out)
+    report(alloc, status, &text)
 }
 
 // The same run, whose text has 379 bytes, put 16 at a time. Of each range of numbers, that put fails, and this is the exit
@@ -84,5 +80,6 @@ fn written_to_failing_put(alloc: Global, failing: u32) -> Result<Vec<u8>, NoMemo
 }
 
 fn run(alloc: Global, outside: &Outside) -> Result<(Status, Vec<u8>), NoMemory> {
-    answer_outside(alloc, "run", &[BANK.as_bytes(), SCHEDULE], outside)
+    let words = words_of(alloc, "run source other")?;
+    answer_outside(alloc, &words, &[BANK.as_bytes(), SCHEDULE], outside)
 }

@@ -66,6 +66,9 @@ verify: v ~ execution␊effect 1 x w () = unit emit - session 1 txn - stamp 1 vi
 verify: v ~ execution␊effect 1 x n () = unit emit - session 1 txn 1:p stamp 1 vis␊effect 2 x n () = unit emit - session 1 txn - stamp 2 vis␊effect 3 x n () = unit emit - session 1 txn 1:p stamp 3 vis␊end␊ -> 2: bad execution at 4: SplitTxn␊
 verify: type t { op f(): int { contract true; answer true; } } ~ execution␊end␊ -> 2: bad source at 45: Kind␊
 verify: type t $ ~ execution␊end␊ -> 2: bad source at 7: BadChar␊
+verify: bank ~ levels␊op deposit eventual␊op withdraw strong␊op getbalance eventual␊txn audit rr␊txn peek rc␊txn trail mav␊replies␊1 ok 1 unit␊2 ok 2 0␊3 applies 1␊4 ok 3 100␊execution␊effect 1 x deposit (100) = unit emit (100) session 1 txn - stamp 1 vis␊effect 2 x getbalance () = 0 emit - session 2 txn - stamp 1 vis␊effect 3 x getbalance () = 100 emit - session 2 txn - stamp 2 vis 1 2␊end␊ -> 0: holds␊
+271 times [effect # x touch () = unit emit - session 1 txn - stamp # vis␊] in verify: type t { op touch(): unit { contract forall a, b. vis(a, b) /\ vis(b, cur) => vis(a, cur); answer unit; } } ~ execution␊@end␊ -> 0: holds␊
+272 times [effect # x touch () = unit emit - session 1 txn - stamp # vis␊] in verify: type t { op touch(): unit { contract forall a, b. vis(a, b) /\ vis(b, cur) => vis(a, cur); answer unit; } } ~ execution␊@end␊ -> 7: too much 20123648␊
 4001 times [effect # x n () = unit emit - session 1 txn - stamp # vis␊] in verify: v ~ execution␊@end␊ -> 2: bad execution at 4002: TooMany␊
 17 times [effect # x touch () = unit emit - session 1 txn - stamp # vis␊] in verify: type t { op touch(): unit { contract forall a, b, c, d, e. true; answer unit; } } ~ execution␊@end␊ -> 7: too much 24137569␊
 4 times [effect # x touch () = unit emit - session 1 txn - stamp # vis␊] in verify: type t { op touch(): unit { contract forall a, b, c, d, e. true; answer unit; } } ~ execution␊@end␊ -> 0: holds␊

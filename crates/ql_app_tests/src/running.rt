@@ -1,14 +1,9 @@
-use crate::asking::{asked, file};
+use crate::asking::{answer_to, asked, report, words_of};
 use crate::sources::source_or_text;
-use ql_app::quelea;
-use ql_base::{NoMemory, push_bytes, push_number};
-use ql_ports::{MemShelf, MemSink};
+use ql_base::NoMemory;
 use ql_tables::check_table;
 use std::alloc::Global;
 use std::test::Fail;
-
-// How many bytes a fetch and a put take, and how many a text may have.
-const PIECE: usize = 4096;
 
 // Schedules, with what is printed of their runs, from an independent implementation: each reply, each level's way to answer,
 // a whole day of a shop with a partition, a loss and a resend, and faults of both files.
@@ -36,6 +31,7 @@ run: bank ~ quelea schedule 1␊replicas 2␊object x account␊events␊call 1 
 run: bank ~ quelea schedule 1␊replicas 2␊object x account␊events␊call 1 at 0 x deposit true␊ -> 2: bad schedule at 5: Kind␊
 run: bank ~ quelea schedule 1␊replicas 2␊ -> 2: bad schedule at 3: Unexpected␊
 run: type t { op touch(): unit { contract forall a. sameobj(a, cur) => vis(a, cur) \/ vis(cur, a) \/ a = cur; answer unit; } } transaction p { uses touch; contract true; } ~ quelea schedule 1␊replicas 2␊object x t␊events␊heal␊ -> 1: strong touch in p␊
+4001 times [call 1 at 0 o f # #␊] in run: type t { op f(a: int, b: int): unit { contract true; answer unit; } } ~ quelea schedule 1␊replicas 2␊object o t␊events␊@ -> 2: bad schedule at 4005: TooMany␊
 run: type t { op touch(): unit { contract forall a. vis(b, cur); answer unit; } } ~ quelea schedule 1␊replicas 2␊object x u␊events␊heal␊ -> 2: bad source at 51: Unknown␊
 "#;
 
@@ -106,19 +102,8 @@ fn answers_arguments(rt: HostRuntime) -> Result<(), Fail> {
 fn answered(alloc: Global, row: &str) -> Result<Vec<u8>, NoMemory> {
     let (arguments, files) = row.split_once("; ").unwrap_or(("", ""));
     let (source, other) = files.split_once(" ~ ").unwrap_or((files, ""));
-    let mut words = Vec::new(alloc);
-    for word in arguments.split_whitespace() {
-        words.push(String::from_str(alloc, word)?)?;
-    }
-    let mut named = Vec::new(alloc);
-    named.push(file(alloc, "source", source_or_text(source).as_bytes())?)?;
-    named.push(file(alloc, "other", other.as_bytes())?)?;
-    let mut shelf = MemShelf::new(alloc, named, PIECE, Vec::new(alloc))?;
-    let mut sink = MemSink::new(alloc, PIECE, PIECE, Vec::new(alloc))?;
-    let status = quelea(alloc, &words, &mut shelf, &mut sink)?;
-    let mut out = Vec::new(alloc);
-    push_number(&mut out, status.number())?;
-    push_bytes(&mut out, b": ")?;
-    push_bytes(&mut out, sink.bytes())?;
-    Ok(out)
+    let words = words_of(alloc, arguments)?;
+    let files = [source_or_text(source).as_bytes(), other.as_bytes()];
+    let (status, text) = answer_to(alloc, &words, &files)?;
+    report(alloc, status, &text)
 }

@@ -1,5 +1,5 @@
 // The text of a countermodel: where its contract fails and at which effects, and then its execution.
-ghost use Rattle.std.specs.Prelude.{◌≡◌, ◌++◌, OnOk};
+ghost use Rattle.std.specs.Prelude.{◌≡◌, ◌++◌, OnOk, OnErr};
 ghost use Rattle.ql_counter.specs.Countermodels.{AreWithin, IsCounterOf, IsSatisfiedBy};
 ghost use Rattle.ql_ground.specs.OfPrograms.{IsGoalOf};
 ghost use Rattle.ql_run_text.specs.EffectTexts.{AreNamed, execution_text};
@@ -34,7 +34,7 @@ pub(crate) fn push_countermodel(
     push_counter(alloc, out, t, g, &counter)
 }
 
-/// Appends a countermodel of a goal.
+/// Appends a countermodel of a goal. Out of memory, the text is as before.
 pub fn push_counter(
     alloc: Global,
     out: &mut Vec<u8>,
@@ -45,10 +45,13 @@ pub fn push_counter(
     requires goal { IsGoalOf t.now.program g }
     requires counter { IsCounterOf t.now.program g c.now }
     requires within { AreWithin t.now.program c.now.execution }
-    ensures { OnOk result (out.new.items ≡ out.old.items ++ counter_text t.now.program g c.now) }
+    ensures ok { OnOk result (out.new.items ≡ out.old.items ++ counter_text t.now.program g c.now) }
+    ensures err { OnErr result (out.new.items ≡ out.old.items) }
 {
-    push_heading(out, t, g, c)?;
-    push_execution(alloc, out, t, &c.execution)
+    let mut text = Vec::new(alloc);
+    push_heading(&mut text, t, g, c)?;
+    push_execution(alloc, &mut text, t, &c.execution)?;
+    push_bytes(out, &text)
 }
 
 // The level, where the contract fails, and the effect of each of its variables.

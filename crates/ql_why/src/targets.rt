@@ -1,5 +1,5 @@
 // The targets of a classified program, each with its level and with countermodels of the lower ones.
-ghost use Rattle.std.specs.Prelude.{◌≡◌, ◌<◌, ◌++◌, Some, IfOk, OnOk, length, slice_get};
+ghost use Rattle.std.specs.Prelude.{◌≡◌, ◌<◌, ◌++◌, Some, IfOk, OnOk, OnErr, length, slice_get};
 ghost use Rattle.ql_classify.specs.Targets.{goals_at, goals_below, targets};
 ghost use Rattle.ql_commands.specs.Levels.{AreLevelsOf};
 ghost use Rattle.ql_ground.specs.OfPrograms.{IsGoalOf};
@@ -52,8 +52,18 @@ fn push_target(
     push_step(alloc, out, classified, target, g, 2)
 }
 
-/// Appends the line that `classify` prints of a target.
+/// Appends the line that `classify` prints of a target. Out of memory, the text is as before.
 pub fn push_target_line(out: &mut Vec<u8>, t: &Typed, g: Goal) -> Result<(), NoMemory>
+    requires { IsGoalOf t.now.program g }
+    ensures ok { OnOk result (out.new.items ≡ out.old.items ++ target_line t.now.program g) }
+    ensures err { OnErr result (out.new.items ≡ out.old.items) }
+{
+    let mut line = Vec::new(*out.allocator());
+    push_line(&mut line, t, g)?;
+    push_bytes(out, &line)
+}
+
+fn push_line(out: &mut Vec<u8>, t: &Typed, g: Goal) -> Result<(), NoMemory>
     requires { IsGoalOf t.now.program g }
     ensures { OnOk result (out.new.items ≡ out.old.items ++ target_line t.now.program g) }
 {
