@@ -1,4 +1,5 @@
 // What an answer says of a fault: bad PART at AT: RULE
+use crate::words::word;
 use ql_base::number_of;
 
 /// A fault that an answer names.
@@ -26,14 +27,4 @@ pub(crate) fn fault_of(answer: &[u8]) -> Option<Fault> {
         at: number_of(digits, u32::MAX as u64)?,
         rule,
     })
-}
-
-/// The bytes before the first blank, and those behind it.
-pub(crate) fn word(text: &[u8]) -> (&[u8], &[u8]) {
-    for k in 0..text.len() {
-        if text[k] == b' ' || text[k] == b'\n' {
-            return (&text[..k], &text[k + 1..]);
-        }
-    }
-    (text, &text[text.len()..])
 }

@@ -1,12 +1,18 @@
 // A place of a file, and its line with a mark under the place.
-ghost use Rattle.std.specs.Prelude.{◌+◌, ◌≤◌, length};
+ghost use Rattle.std.specs.Prelude.{◌≡◌, ◌⊎◌, ◌+◌, ◌≤◌, length};
 
+use crate::words::line_of;
 use ql_base::{NoMemory, push_bytes, push_number};
+
+// The most bytes of a line that are shown, and of those before the place.
+const SHOWN: usize = 160;
+
+const BEFORE: usize = 100;
 
 /// Where something stands in a text: its line, from 1, that line's first byte, and its own.
 #[derive(Clone, Copy)]
 pub(crate) struct Place {
-    pub(crate) line: usize,
+    pub(crate) line: u64,
     pub(crate) start: usize,
     pub(crate) at: usize,
 }
@@ -36,17 +42,23 @@ pub(crate) fn place_of(text: &[u8], offset: usize) -> Place
 pub(crate) fn place_of_line(text: &[u8], number: u64) -> Place
     ensures line { result.start ≤ result.at }
     ensures within { result.at ≤ length text.now }
+    ensures on_line { (result.line ≡ number) ⊎ (result.at ≡ length text.now) }
 {
-    let mut line = 1;
+    let (mut line, mut start) = (1, 0);
     for k in 0..text.len() {
         if line == number && text[k] != b' ' {
-            return place_of(text, k);
+            return Place { line, start, at: k };
         }
         if text[k] == b'\n' {
             line += 1;
+            start = k + 1;
         }
     }
-    place_of(text, text.len())
+    Place {
+        line,
+        start,
+        at: text.len(),
+    }
 }
 
 /// Appends `NAME:LINE:COLUMN: `, both counted from 1, the column in bytes.
@@ -61,7 +73,8 @@ pub(crate) fn push_place(note: &mut Vec<u8>, name: &[u8], place: Place) -> Resul
     push_bytes(note, b": ")
 }
 
-/// Appends a line of a text, and below it a mark under so many bytes from the place on.
+/// Appends a line of a text, and below it a mark under so many bytes from the place on. Of a long line only what stands
+/// around the place.
 pub(crate) fn push_excerpt(
     note: &mut Vec<u8>,
     text: &[u8],
@@ -71,26 +84,61 @@ pub(crate) fn push_excerpt(
     requires line { place.start ≤ place.at }
     requires within { place.at ≤ length text.now }
 {
+    let from = if place.at - place.start > BEFORE {
+        place.at - BEFORE
+    } else {
+        place.start
+    };
     push_bytes(note, b"    ")?;
-    push_bytes(note, line_of(&text[place.start..]))?;
+    push_bytes(note, first_bytes(line_of(&text[from..]), SHOWN))?;
     push_bytes(note, b"\n    ")?;
-    for byte in &text[place.start..place.at] {
+    for byte in &text[from..place.at] {
         // A tab stays one, so that the mark stands below its place.
         push_bytes(note, if *byte == b'\t' { b"\t" } else { b" " })?;
     }
     push_bytes(note, b"^")?;
-    for _ in 1..bytes {
+    for _ in 1..bytes.min(SHOWN - BEFORE) {
         push_bytes(note, b"^")?;
     }
     push_bytes(note, b"\n")
 }
 
-/// The bytes before the first end of a line.
-pub(crate) fn line_of(text: &[u8]) -> &[u8] {
-    for k in 0..text.len() {
-        if text[k] == b'\n' {
-            return &text[..k];
-        }
+// The first bytes of a text, at most so many.
+fn first_bytes(text: &[u8], most: usize) -> &[u8] {
+    if most < text.len() {
+        &text[..most]
+    } else {
+        text
     }
-    text
+}
+
+/// A file, and what it is called.
+#[derive(Clone, Copy)]
+pub(crate) struct File<'a> {
+    pub(crate) name: &'a [u8],
+    pub(crate) text: &'a [u8],
+}
+
+/// Some bytes of a file, from an offset on.
+#[derive(Clone, Copy)]
+pub(crate) struct Spot {
+    pub(crate) from: usize,
+    pub(crate) bytes: usize,
+}
+
+/// Appends `NAME:LINE:COLUMN: RULE: SENTENCE`, the line, and a mark under some bytes of it.
+pub(crate) fn push_fault(
+    note: &mut Vec<u8>,
+    file: File,
+    spot: Spot,
+    rule: &[u8],
+    sentence: &[u8],
+) -> Result<(), NoMemory> {
+    let place = place_of(file.text, spot.from);
+    push_place(note, file.name, place)?;
+    push_bytes(note, rule)?;
+    push_bytes(note, b": ")?;
+    push_bytes(note, sentence)?;
+    push_bytes(note, b"\n")?;
+    push_excerpt(note, file.text, place, spot.bytes)
 }

@@ -1,3 +1,10 @@
+// What can be asked of the program.
+
+use crate::likeness::likest;
+use crate::wanted::push_quoted;
+use ql_base::{NoMemory, push_bytes};
+use std::alloc::Global;
+
 /// What can be asked of the program.
 pub const HELP: &str = "usage: ./quelea COMMAND ..
 
@@ -25,3 +32,34 @@ other arguments, 7 too large. docs/GUIDE.md is a first walk, README.md has each
 command. QUELEA_NOTES=1 prints notes on faults on standard error, as on a
 terminal; QUELEA_NOTES=0 prints none.
 ";
+
+// The commands.
+static COMMANDS: [&str; 13] = [
+    "classify", "explain", "prove", "check", "verify", "holds", "run", "slim", "restart", "gen",
+    "soak", "proof", "draw",
+];
+
+/// Appends a command that was perhaps meant, where the first word is none.
+pub(crate) fn push_command(
+    alloc: Global,
+    note: &mut Vec<u8>,
+    words: &Vec<String>,
+) -> Result<(), NoMemory> {
+    let Some(first) = words.first() else {
+        return Ok(());
+    };
+    let mut commands = Vec::new(alloc);
+    for command in COMMANDS.iter() {
+        if command.as_bytes() == first.as_bytes() {
+            return Ok(());
+        }
+        commands.push(command.as_bytes())?;
+    }
+    let Some(meant) = likest(first.as_bytes(), &commands) else {
+        return Ok(());
+    };
+    push_quoted(note, first.as_bytes())?;
+    push_bytes(note, b" is no command: did you mean `")?;
+    push_bytes(note, meant)?;
+    push_bytes(note, b"`?\n\n")
+}

@@ -1,4 +1,4 @@
-// A sink that passes on what it is given, and keeps how it begins.
+// A sink that passes on what it is given, and keeps how it begins and how its last line does.
 ghost use Rattle.std.specs.Prelude.{◌≤◌};
 
 use ql_ports::{Failed, Sink};
@@ -15,12 +15,46 @@ struct Beginning {
 }
 
 impl Beginning {
+    fn new() -> Beginning {
+        Beginning {
+            bytes: [0; KEPT],
+            count: 0,
+        }
+    }
+
     fn keep(&mut self, bytes: &[u8]) {
         for byte in bytes {
-            if self.count < KEPT {
-                self.bytes[self.count] = *byte;
-                self.count += 1;
+            self.keep_byte(*byte);
+        }
+    }
+
+    fn keep_byte(&mut self, byte: u8) {
+        if self.count < KEPT {
+            self.bytes[self.count] = byte;
+            self.count += 1;
+        }
+    }
+
+    fn kept(&self) -> &[u8] {
+        &self.bytes[..self.count]
+    }
+}
+
+// The first bytes of the last line of a text.
+#[derive(Drop)]
+struct LastLine {
+    beginning: Beginning,
+    is_ended: bool,
+}
+
+impl LastLine {
+    fn keep(&mut self, bytes: &[u8]) {
+        for byte in bytes {
+            if self.is_ended {
+                self.beginning.count = 0;
             }
+            self.beginning.keep_byte(*byte);
+            self.is_ended = *byte == b'\n';
         }
     }
 }
@@ -30,22 +64,29 @@ impl Beginning {
 pub struct KeptSink<K: Sink + Drop> {
     sink: K,
     beginning: Beginning,
+    last: LastLine,
 }
 
 impl<K: Sink + Drop> KeptSink<K> {
     pub fn over(sink: K) -> KeptSink<K> {
         KeptSink {
             sink,
-            beginning: Beginning {
-                bytes: [0; KEPT],
-                count: 0,
+            beginning: Beginning::new(),
+            last: LastLine {
+                beginning: Beginning::new(),
+                is_ended: false,
             },
         }
     }
 
     /// The first bytes that were taken, at most 128.
     pub fn first(&self) -> &[u8] {
-        &self.beginning.bytes[..self.beginning.count]
+        self.beginning.kept()
+    }
+
+    /// The first bytes of the last line that was taken, at most 128.
+    pub fn last_line(&self) -> &[u8] {
+        self.last.beginning.kept()
     }
 }
 
@@ -57,6 +98,7 @@ impl<K: Sink + Drop> Sink for KeptSink<K> {
     fn put(&mut self, bytes: &[u8]) -> Result<usize, Failed> {
         let count = self.sink.put(bytes)?;
         self.beginning.keep(&bytes[..count]);
+        self.last.keep(&bytes[..count]);
         Ok(count)
     }
 }

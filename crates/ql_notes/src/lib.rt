@@ -3,16 +3,34 @@
 // The one contract: every function is safe and returns, whatever the files have in them.
 #![tactic(auto)]
 
+mod above;
 mod answer;
+mod columns;
+mod contracts;
+mod declared;
 mod excerpt;
 mod expected;
+mod fields;
+mod fits;
+mod forms;
 mod help;
+mod helps;
 mod kept;
 mod likeness;
+mod lines;
 mod notes;
+mod pieces;
+mod repair;
 mod rules;
+mod sources;
 mod stamp;
+mod syntax;
+mod typing;
+mod unmet;
+mod verdicts;
+mod wanted;
+mod words;
 
 pub use help::HELP;
 pub use kept::KeptSink;
-pub use notes::note;
+pub use notes::{Printed, note};

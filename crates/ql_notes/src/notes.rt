@@ -1,15 +1,15 @@
 // The note on an answer.
-ghost use Rattle.std.specs.Prelude.{◌≤◌, ◌<◌, ◌^◌, length};
+ghost use Rattle.std.specs.Prelude.{◌≤◌, IfOk, length};
 
 use crate::answer::{Fault, fault_of};
-use crate::excerpt::{Place, place_of, place_of_line, push_excerpt, push_place};
-use crate::expected::{expected, push_expected};
-use crate::help::HELP;
-use crate::likeness::likest;
-use crate::rules::sentence;
-use crate::stamp::right_stamp;
-use ql_base::{NoMemory, push_bytes, push_number};
-use ql_lex::{LexFault, Token, TokenKind, tokens};
+use crate::excerpt::File;
+use crate::help::{HELP, push_command};
+use crate::lines::push_line_fault;
+use crate::pieces::{pieces, tokens_of};
+use crate::sources::push_source_fault;
+use crate::unmet::push_unmet;
+use crate::verdicts::push_verdict;
+use ql_base::NoMemory;
 use ql_ports::{ReadError, Shelf, read_whole};
 use std::alloc::Global;
 
@@ -22,50 +22,108 @@ const FILE_BYTES: usize = 67_108_864;
 // The status for words that ask for nothing.
 const USAGE: u8 = 5;
 
-/// What can be said of an answer beside it: of a fault in a file where it stands and what the rule is, and of words that ask
-/// for nothing what can be asked. Empty where there is nothing to say. `first` is how the answer begins.
+/// How an answer begins, and its last line.
+#[derive(Clone, Copy)]
+pub struct Printed<'a> {
+    pub first: &'a [u8],
+    pub last_line: &'a [u8],
+}
+
+/// What can be said of an answer beside it: of a fault in a file where it stands and what the rule is, of words that ask
+/// for nothing what can be asked, and of an answer that isn't yes what it means. Empty where there is nothing to say.
 pub fn note<S: Shelf>(
     alloc: Global,
     words: &Vec<String>,
     status: u8,
-    first: &[u8],
+    printed: Printed,
     shelf: &mut S,
 ) -> Result<Vec<u8>, NoMemory> {
+    let mut note = Vec::new(alloc);
     if status == USAGE {
-        return Ok(Vec::from_slice(alloc, HELP.as_bytes())?);
+        push_command(alloc, &mut note, words)?;
+        note.extend_from_slice(HELP.as_bytes())?;
+    } else if let Some(fault) = fault_of(printed.first) {
+        push_bad_file(alloc, &mut note, words, fault, shelf)?;
+    } else {
+        push_verdict(&mut note, status, printed)?;
+        if status == 0 && printed.first == b"holds\n".as_slice() {
+            push_holding(alloc, &mut note, words, shelf)?;
+        }
     }
-    match fault_of(first) {
-        Some(fault) => note_of_fault(alloc, words, fault, shelf),
-        None => Ok(Vec::new(alloc)),
-    }
+    Ok(note)
 }
 
-fn note_of_fault<S: Shelf>(
+// What can be said of a file that is at fault.
+fn push_bad_file<S: Shelf>(
     alloc: Global,
+    note: &mut Vec<u8>,
     words: &Vec<String>,
     fault: Fault,
     shelf: &mut S,
-) -> Result<Vec<u8>, NoMemory> {
-    let Some(name) = file_of(words, fault.part) else {
-        return Ok(Vec::new(alloc));
+) -> Result<(), NoMemory> {
+    let Some(source) = file_of(words, true) else {
+        return Ok(());
     };
-    if fault.part != b"source".as_slice() {
-        return match read_whole(alloc, shelf, name, FILE_BYTES) {
-            Ok(text) => note_of_line(alloc, name.as_bytes(), &text, fault),
-            Err(error) => nothing(alloc, error),
-        };
+    let text = source_text(alloc, shelf, source)?;
+    if fault.part == b"source".as_slice() {
+        return push_source_fault(
+            alloc,
+            note,
+            File {
+                name: source.as_bytes(),
+                text: &text,
+            },
+            fault,
+        );
     }
-    match read_whole(alloc, shelf, name, SOURCE_BYTES) {
-        Ok(text) => note_of_source(alloc, name.as_bytes(), &text, fault),
-        Err(error) => nothing(alloc, error),
+    let is_alone = fault.part == b"holds".as_slice() || fault.part == b"proof".as_slice();
+    let Some(name) = file_of(words, is_alone) else {
+        return Ok(());
+    };
+    let found = tokens_of(alloc, &text)?;
+    let tokens = pieces(alloc, &text, &found)?;
+    let other = file_text(alloc, shelf, name)?;
+    push_line_fault(
+        alloc,
+        note,
+        File {
+            name: name.as_bytes(),
+            text: &other,
+        },
+        fault,
+        &tokens,
+    )
+}
+
+// What can be said of a contract that holds.
+fn push_holding<S: Shelf>(
+    alloc: Global,
+    note: &mut Vec<u8>,
+    words: &Vec<String>,
+    shelf: &mut S,
+) -> Result<(), NoMemory> {
+    let is_holds = match words.first() {
+        Some(word) => word.as_bytes() == b"holds".as_slice(),
+        None => false,
+    };
+    match file_of(words, true) {
+        Some(name) if is_holds => {
+            let text = file_text(alloc, shelf, name)?;
+            push_unmet(
+                alloc,
+                note,
+                File {
+                    name: name.as_bytes(),
+                    text: &text,
+                },
+            )
+        }
+        _ => Ok(()),
     }
 }
 
-// The file that is at fault: the first one behind the command and its options, or the second.
-fn file_of<'a>(words: &'a Vec<String>, part: &[u8]) -> Option<&'a str> {
-    let is_first = part == b"source".as_slice()
-        || part == b"holds".as_slice()
-        || part == b"proof".as_slice();
+// The first file behind the command and its options, or the second.
+fn file_of(words: &Vec<String>, is_first: bool) -> Option<&str> {
     let mut first = None;
     for word in words.iter().skip(1) {
         if word.as_bytes().first() != Some(&b'-') {
@@ -78,139 +136,22 @@ fn file_of<'a>(words: &'a Vec<String>, part: &[u8]) -> Option<&'a str> {
     None
 }
 
-// Nothing is said of a file that can't be read again.
-fn nothing(alloc: Global, error: ReadError) -> Result<Vec<u8>, NoMemory> {
-    match error {
-        ReadError::NoMemory => Err(NoMemory),
-        _ => Ok(Vec::new(alloc)),
-    }
-}
-
-fn note_of_line(
-    alloc: Global,
-    name: &[u8],
-    text: &[u8],
-    fault: Fault,
-) -> Result<Vec<u8>, NoMemory> {
-    let place = place_of_line(text, fault.at);
-    let mut note = Vec::new(alloc);
-    push_heading(&mut note, name, place, fault)?;
-    push_excerpt(&mut note, text, place, 1)?;
-    if fault.rule == b"Stamp".as_slice()
-        && let Some(stamp) = right_stamp(text, place)
-    {
-        push_bytes(&mut note, b"  the right stamp is ")?;
-        push_number(&mut note, stamp)?;
-        push_bytes(&mut note, b"\n")?;
-    }
-    Ok(note)
-}
-
-// NAME:LINE:COLUMN: RULE: the rule in a sentence
-fn push_heading(note: &mut Vec<u8>, name: &[u8], place: Place, fault: Fault) -> Result<(), NoMemory>
-    requires { place.start ≤ place.at }
+// The bytes of a source; none where it can't be read again.
+fn source_text<S: Shelf>(alloc: Global, shelf: &mut S, name: &str) -> Result<Vec<u8>, NoMemory>
+    ensures { IfOk result (λ text. length text.items ≤ 1048576) }
 {
-    push_place(note, name, place)?;
-    push_bytes(note, fault.rule)?;
-    push_bytes(note, b": ")?;
-    push_bytes(note, sentence(fault.part, fault.rule).as_bytes())?;
-    push_bytes(note, b"\n")
-}
-
-fn note_of_source(
-    alloc: Global,
-    name: &[u8],
-    text: &[u8],
-    fault: Fault,
-) -> Result<Vec<u8>, NoMemory>
-    requires { length text.now ≤ 1048576 }
-{
-    let place = place_of(text, fault.at as usize);
-    let found = match tokens(alloc, text) {
-        Ok(found) => found,
-        Err(LexFault::NoMemory) => return Err(NoMemory),
-        Err(_) => Vec::new(alloc),
-    };
-    let word = word_at(text, &found, place.at);
-    let mut note = Vec::new(alloc);
-    push_heading(&mut note, name, place, fault)?;
-    push_excerpt(&mut note, text, place, word.len())?;
-    if fault.rule == b"Unexpected".as_slice() {
-        push_syntax(alloc, &mut note, &text[..place.at], word)?;
-    }
-    if fault.rule == b"Unknown".as_slice() {
-        let names = names(alloc, text, &found)?;
-        push_meant(&mut note, likest(word, &names))?;
-    }
-    Ok(note)
-}
-
-// The bytes of the token at a place; none at the text's end.
-fn word_at<'a>(text: &'a [u8], found: &[Token], at: usize) -> &'a [u8] {
-    for token in found {
-        if token.from as usize == at {
-            return part(text, *token);
-        }
-    }
-    &text[text.len()..]
-}
-
-fn part(text: &[u8], token: Token) -> &[u8] {
-    let (from, to) = (token.from as usize, token.to as usize);
-    if from <= to && to <= text.len() {
-        &text[from..to]
-    } else {
-        &text[text.len()..]
+    match read_whole(alloc, shelf, name, SOURCE_BYTES) {
+        Ok(text) => Ok(text),
+        Err(ReadError::NoMemory) => Err(NoMemory),
+        Err(_) => Ok(Vec::new(alloc)),
     }
 }
 
-// The names of a text, in order.
-fn names<'a>(alloc: Global, text: &'a [u8], found: &[Token]) -> Result<Vec<&'a [u8]>, NoMemory> {
-    let mut names = Vec::new(alloc);
-    for token in found {
-        if token.what == TokenKind::Name {
-            names.push(part(text, *token))?;
-        }
+// The bytes of another file, likewise.
+fn file_text<S: Shelf>(alloc: Global, shelf: &mut S, name: &str) -> Result<Vec<u8>, NoMemory> {
+    match read_whole(alloc, shelf, name, FILE_BYTES) {
+        Ok(text) => Ok(text),
+        Err(ReadError::NoMemory) => Err(NoMemory),
+        Err(_) => Ok(Vec::new(alloc)),
     }
-    Ok(names)
-}
-
-// What was found and what was expected.
-fn push_syntax(
-    alloc: Global,
-    note: &mut Vec<u8>,
-    before: &[u8],
-    word: &[u8],
-) -> Result<(), NoMemory>
-    requires { length before.now ≤ 1048576 }
-{
-    let terminals = expected(alloc, before)?;
-    push_bytes(note, b"  found ")?;
-    push_found(note, word)?;
-    push_bytes(note, b", expected ")?;
-    push_expected(note, &terminals)?;
-    push_bytes(note, b"\n")?;
-    let mut spelt = Vec::new(alloc);
-    for terminal in terminals.iter() {
-        spelt.push(terminal.as_bytes())?;
-    }
-    push_meant(note, likest(word, &spelt))
-}
-
-fn push_found(note: &mut Vec<u8>, word: &[u8]) -> Result<(), NoMemory> {
-    if word.is_empty() {
-        return push_bytes(note, b"the file's end");
-    }
-    push_bytes(note, b"`")?;
-    push_bytes(note, word)?;
-    push_bytes(note, b"`")
-}
-
-fn push_meant(note: &mut Vec<u8>, meant: Option<&[u8]>) -> Result<(), NoMemory> {
-    let Some(meant) = meant else {
-        return Ok(());
-    };
-    push_bytes(note, b"  did you mean `")?;
-    push_bytes(note, meant)?;
-    push_bytes(note, b"`?\n")
 }

@@ -1,8 +1,8 @@
 // The stamp that an effect in an execution's file should have.
 ghost use Rattle.std.specs.Prelude.{◌≤◌, length};
 
-use crate::answer::word;
-use crate::excerpt::{Place, line_of};
+use crate::excerpt::Place;
+use crate::words::{has_word, line_of, word};
 use ql_base::number_of;
 
 // What a stamp depends on in the line of an effect.
@@ -65,14 +65,4 @@ fn behind_last<'a>(text: &'a [u8], part: &[u8]) -> Option<&'a [u8]> {
         }
     }
     found
-}
-
-// Whether a word is one of those of a text.
-fn has_word(text: &[u8], wanted: &[u8]) -> bool {
-    for k in 0..text.len() {
-        if (k == 0 || text[k - 1] == b' ') && word(&text[k..]).0 == wanted {
-            return true;
-        }
-    }
-    false
 }

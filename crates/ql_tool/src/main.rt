@@ -5,7 +5,7 @@
 
 use ql_app::quelea;
 use ql_base::NoMemory;
-use ql_notes::{KeptSink, note};
+use ql_notes::{KeptSink, Printed, note};
 use ql_ports::{FileShelf, StdSink};
 use std::env::Env;
 use std::io::{IsTerminal, Write};
@@ -45,7 +45,11 @@ fn exit_number(rt: HostRuntime, words: &Vec<String>) -> u8 {
         Err(NoMemory) => return NO_MEMORY,
     };
     if wants_notes(&rt) {
-        write_note(rt, words, status, sink.first(), &mut shelf);
+        let printed = Printed {
+            first: sink.first(),
+            last_line: sink.last_line(),
+        };
+        write_note(rt, words, status, printed, &mut shelf);
     }
     status
 }
@@ -64,10 +68,10 @@ fn write_note(
     rt: HostRuntime,
     words: &Vec<String>,
     status: u8,
-    first: &[u8],
+    printed: Printed,
     shelf: &mut FileShelf<HostRuntime>,
 ) {
-    if let Ok(text) = note(rt.alloc(), words, status, first, shelf) {
+    if let Ok(text) = note(rt.alloc(), words, status, printed, shelf) {
         let _ = rt.stderr().write_all(&text);
     }
     if status == READ_FAULT {

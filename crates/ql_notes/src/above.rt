@@ -1,0 +1,100 @@
+// What stands above a line of a line file.
+ghost use Rattle.std.specs.Prelude.{◌≤◌, length};
+
+use crate::words::{line_of, word};
+use ql_base::is_digit;
+
+/// What is counted and met in the lines above a line, those that aren't blank or comments.
+#[derive(Clone, Copy)]
+pub(crate) struct Above {
+    pub(crate) lines: u64,
+    /// How many effects there are.
+    pub(crate) effects: u64,
+    /// How many numbered lines there are since the last one that isn't.
+    pub(crate) numbered: u64,
+    /// How many replicas join.
+    pub(crate) joins: u64,
+    pub(crate) is_begun: bool,
+    pub(crate) has_events: bool,
+    pub(crate) is_ended: bool,
+}
+
+/// What stands above the line that begins at an offset. Of an execution's file only what follows the line `execution`
+/// counts.
+pub(crate) fn lines_above(text: &[u8], start: usize, is_execution: bool) -> Above
+    requires { start ≤ length text.now }
+{
+    let mut above = NOTHING;
+    for k in 0..start {
+        if k == 0 || text[k - 1] == b'\n' {
+            let first = first_word(line_of(&text[k..]));
+            if !is_skipped(first)
+                && (!is_execution || above.is_begun || first == b"execution".as_slice())
+            {
+                above = above.and(first);
+            }
+        }
+    }
+    above
+}
+
+const NOTHING: Above = Above {
+    lines: 0,
+    effects: 0,
+    numbered: 0,
+    joins: 0,
+    is_begun: false,
+    has_events: false,
+    is_ended: false,
+};
+
+impl Above {
+    // The same with one more line, by its first word.
+    fn and(self, first: &[u8]) -> Above {
+        let mut more = self;
+        more.lines = more.lines.saturating_add(1);
+        if is_numbered(first) {
+            more.numbered = more.numbered.saturating_add(1);
+            return more;
+        }
+        more.numbered = 0;
+        if first == b"effect".as_slice() {
+            more.effects = more.effects.saturating_add(1);
+        } else if first == b"join".as_slice() {
+            more.joins = more.joins.saturating_add(1);
+        } else if first == b"execution".as_slice() {
+            more.is_begun = true;
+        } else if first == b"events".as_slice() {
+            more.has_events = true;
+        } else if first == b"end".as_slice() {
+            more.is_ended = true;
+        }
+        more
+    }
+}
+
+fn is_numbered(first: &[u8]) -> bool {
+    match first.first() {
+        Some(byte) => is_digit(*byte),
+        None => false,
+    }
+}
+
+/// Whether a line is blank or a comment, by its first word.
+fn is_skipped(first: &[u8]) -> bool {
+    first.is_empty() || first.first() == Some(&b'#')
+}
+
+/// The first word of a line.
+pub(crate) fn first_word(line: &[u8]) -> &[u8] {
+    for k in 0..line.len() {
+        if line[k] != b' ' && line[k] != b'\r' {
+            return without_return(word(&line[k..]).0);
+        }
+    }
+    &line[line.len()..]
+}
+
+fn without_return(word: &[u8]) -> &[u8] {
+    word.strip_suffix(b"\r").unwrap_or(word)
+}

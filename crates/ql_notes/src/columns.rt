@@ -1,0 +1,227 @@
+// Which field of a line breaks a rule.
+
+use crate::above::first_word;
+use crate::declared::{behind, place_in, type_at, word_of};
+use crate::fields::{Field, field_text};
+use crate::words::{has_word, line_of};
+use ql_base::number_of;
+
+/// A line at fault: the kind of its file, the rule, its fields, what stands above it, and the tokens of the source that
+/// the file belongs to.
+#[derive(Clone, Copy)]
+pub(crate) struct FaultyLine<'a> {
+    pub(crate) part: &'a [u8],
+    pub(crate) rule: &'a [u8],
+    pub(crate) fields: &'a [Field<'a>],
+    pub(crate) above: &'a [u8],
+    pub(crate) source: &'a [&'a [u8]],
+    /// How many replicas there are.
+    pub(crate) replicas: u64,
+}
+
+// The fields of an effect in an execution.
+const OBJECT: usize = 2;
+
+const OPERATION: usize = 3;
+
+const TXN: usize = 12;
+
+const STAMP: usize = 14;
+
+const SEEN: usize = 16;
+
+// The first effect that is seen in a file of `holds`.
+const SEEN_IN_HOLDS: usize = 7;
+
+/// The number of the field that breaks the rule, from 0.
+pub(crate) fn column(line: FaultyLine) -> usize {
+    let first = if line.part == b"holds".as_slice() {
+        SEEN_IN_HOLDS
+    } else {
+        SEEN
+    };
+    if line.rule == b"NotForward".as_slice() {
+        return not_earlier(line, first);
+    }
+    if line.rule == b"OtherObject".as_slice() {
+        return on_other_object(line, first);
+    }
+    if line.part == b"schedule".as_slice() {
+        return in_schedule(line);
+    }
+    if line.part == b"execution".as_slice() {
+        return in_execution(line);
+    }
+    if line.rule == b"Range".as_slice() {
+        1
+    } else {
+        0
+    }
+}
+
+fn in_execution(line: FaultyLine) -> usize {
+    if line.rule == b"Stamp".as_slice() {
+        STAMP
+    } else if line.rule == b"SplitTxn".as_slice() {
+        TXN
+    } else if line.rule == b"Mixed".as_slice() {
+        OPERATION
+    } else if line.rule == b"Unknown".as_slice() {
+        if is_declared(line, b"op", OPERATION) {
+            TXN
+        } else {
+            OPERATION
+        }
+    } else {
+        0
+    }
+}
+
+fn is_declared(line: FaultyLine, keyword: &[u8], k: usize) -> bool {
+    place_in(line.source, keyword, field_text(line.fields, k)).is_some()
+}
+
+// The first effect that is seen and isn't earlier.
+fn not_earlier(line: FaultyLine, first: usize) -> usize {
+    let own = number_in(field_text(line.fields, 1));
+    for (k, id) in line.fields.iter().enumerate() {
+        if first <= k && number_in(id.text) >= own {
+            return k;
+        }
+    }
+    0
+}
+
+// The first effect that is seen and is on another object.
+fn on_other_object(line: FaultyLine, first: usize) -> usize {
+    let object = field_text(line.fields, OBJECT);
+    for k in 0..line.above.len() {
+        if k == 0 || line.above[k - 1] == b'\n' {
+            let text = line_of(&line.above[k..]);
+            if first_word(text) == b"effect".as_slice() && word_of(text, 2) != object {
+                let seen = place_of_id(line, first, word_of(text, 1));
+                if seen > 0 {
+                    return seen;
+                }
+            }
+        }
+    }
+    0
+}
+
+// The field of an effect that is seen, 0 where it isn't.
+fn place_of_id(line: FaultyLine, first: usize, id: &[u8]) -> usize {
+    for (k, field) in line.fields.iter().enumerate() {
+        if first <= k && field.text == id {
+            return k;
+        }
+    }
+    0
+}
+
+fn number_in(text: &[u8]) -> u64 {
+    number_of(text, u32::MAX as u64).unwrap_or(0)
+}
+
+fn in_schedule(line: FaultyLine) -> usize {
+    let first = field_text(line.fields, 0);
+    if line.rule == b"Unknown".as_slice() {
+        unknown(line, first)
+    } else if line.rule == b"Kind".as_slice() {
+        if has_own_type(line) { 6 } else { 5 }
+    } else if line.rule == b"Range".as_slice() {
+        out_of_range(line, first)
+    } else if line.rule == b"Twice".as_slice() {
+        twice(line, first)
+    } else {
+        0
+    }
+}
+
+// Whether a call is of an operation of the object's type.
+fn has_own_type(line: FaultyLine) -> bool {
+    let declared = behind(line.above, b"object", field_text(line.fields, 4));
+    match place_in(line.source, b"op", field_text(line.fields, 5)) {
+        Some(op) => type_at(line.source, op) == declared,
+        None => false,
+    }
+}
+
+fn unknown(line: FaultyLine, first: &[u8]) -> usize {
+    if first == b"object".as_slice() {
+        return 2;
+    }
+    if first == b"begin".as_slice() && !is_declared(line, b"transaction", 4) {
+        return 4;
+    }
+    let from = if first == b"begin".as_slice() { 5 } else { 4 };
+    for (k, object) in line.fields.iter().enumerate() {
+        if from <= k && behind(line.above, b"object", object.text).is_empty() {
+            return k;
+        }
+    }
+    5
+}
+
+// The number that is out of its range.
+fn out_of_range(line: FaultyLine, first: &[u8]) -> usize {
+    if has_word(b"call begin commit", first) {
+        if number_of(field_text(line.fields, 1), 255).is_none() {
+            1
+        } else if is_replica(line, 3) {
+            6
+        } else {
+            3
+        }
+    } else if first == b"resend".as_slice() {
+        if is_replica(line, 3) { 5 } else { 3 }
+    } else if first == b"join".as_slice() {
+        2
+    } else if first == b"partition".as_slice() {
+        group(line)
+    } else {
+        1
+    }
+}
+
+fn is_replica(line: FaultyLine, k: usize) -> bool {
+    match number_of(field_text(line.fields, k), u32::MAX as u64) {
+        Some(replica) => replica < line.replicas,
+        None => false,
+    }
+}
+
+// The first group above 15, or the first one.
+fn group(line: FaultyLine) -> usize {
+    for (k, number) in line.fields.iter().enumerate() {
+        if k > 0 && number_of(number.text, 15).is_none() {
+            return k;
+        }
+    }
+    1
+}
+
+// The name that is there twice.
+fn twice(line: FaultyLine, first: &[u8]) -> usize {
+    if first == b"object".as_slice() {
+        return 1;
+    }
+    for (k, object) in line.fields.iter().enumerate() {
+        for (j, earlier) in line.fields.iter().enumerate() {
+            if 5 <= j && j < k && earlier.text == object.text {
+                return k;
+            }
+        }
+    }
+    0
+}
+
+/// How many replicas the schedule begins with.
+pub(crate) fn replicas(above: &[u8]) -> u64 {
+    for k in 0..above.len() {
+        if (k == 0 || above[k - 1] == b'\n') && word_of(&above[k..], 0) == b"replicas".as_slice() {
+            return number_of(word_of(&above[k..], 1), 16).unwrap_or(0);
+        }
+    }
+    0
+}

@@ -1,0 +1,97 @@
+// What a source and a schedule declare.
+
+use crate::above::first_word;
+use crate::pieces::{last_of, next_of, piece};
+use crate::words::{line_of, word};
+use ql_base::NoMemory;
+use std::alloc::Global;
+
+/// The names that stand behind a keyword, of the tokens of a source.
+pub(crate) fn declared<'a>(
+    alloc: Global,
+    source: &[&'a [u8]],
+    keyword: &[u8],
+) -> Result<Vec<&'a [u8]>, NoMemory> {
+    let mut names = Vec::new(alloc);
+    for (k, token) in source.iter().enumerate() {
+        if *token == keyword {
+            names.push(piece(source, k.saturating_add(1)))?;
+        }
+    }
+    Ok(names)
+}
+
+/// Where a source declares a name behind a keyword: the keyword's place.
+pub(crate) fn place_in(source: &[&[u8]], keyword: &[u8], name: &[u8]) -> Option<usize> {
+    for (k, token) in source.iter().enumerate() {
+        if *token == keyword && piece(source, k.saturating_add(1)) == name {
+            return Some(k);
+        }
+    }
+    None
+}
+
+/// The type that has the operation at a place.
+pub(crate) fn type_at<'a>(source: &[&'a [u8]], op: usize) -> &'a [u8] {
+    match last_of(source, op, b"type") {
+        Some(declared) => piece(source, declared.saturating_add(1)),
+        None => b"".as_slice(),
+    }
+}
+
+/// The parameters of the operation at a place, from bracket to bracket.
+pub(crate) fn parameters(source: &[&[u8]], op: usize) -> (usize, usize) {
+    let from = op.saturating_add(2);
+    let to = next_of(source, from, b")").unwrap_or(from);
+    (from, to)
+}
+
+/// The names behind a word that begins a line, as `object`.
+pub(crate) fn named<'a>(
+    alloc: Global,
+    text: &'a [u8],
+    first: &[u8],
+) -> Result<Vec<&'a [u8]>, NoMemory> {
+    let mut names = Vec::new(alloc);
+    for k in 0..text.len() {
+        if k == 0 || text[k - 1] == b'\n' {
+            let line = line_of(&text[k..]);
+            if first_word(line) == first {
+                names.push(word_of(line, 1))?;
+            }
+        }
+    }
+    Ok(names)
+}
+
+/// The word that follows another one, in the first line of a text that begins with two words; nothing where there is none.
+pub(crate) fn behind<'a>(text: &'a [u8], first: &[u8], second: &[u8]) -> &'a [u8] {
+    for k in 0..text.len() {
+        if k == 0 || text[k - 1] == b'\n' {
+            let line = line_of(&text[k..]);
+            if first_word(line) == first && word_of(line, 1) == second {
+                return word_of(line, 2);
+            }
+        }
+    }
+    b"".as_slice()
+}
+
+/// The word of a number of a line, from 0.
+pub(crate) fn word_of(line: &[u8], number: usize) -> &[u8] {
+    let mut rest = line;
+    for _ in 0..number {
+        rest = behind_first(rest);
+    }
+    first_word(rest)
+}
+
+// What stands behind the first word of a line.
+fn behind_first(line: &[u8]) -> &[u8] {
+    for k in 0..line.len() {
+        if line[k] != b' ' {
+            return word(&line[k..]).1;
+        }
+    }
+    line
+}

@@ -1,0 +1,146 @@
+// What a field of a line may be, by the word of a form.
+
+use crate::words::{has_word, word};
+use ql_base::{digit_bytes, is_name, number_of};
+
+// What the words of forms stand for, each on a line with its word.
+const MEANINGS: &str = "NAME a name
+NUMBER a number
+DIGITS a number
+SESSION a session, 0 to 255
+VALUES arguments in brackets, as `(1, \"a\")`
+VALUE an answer, as `unit`, `5` or `\"a\"`
+PAYLOAD `-`, or what is emitted in brackets
+TXN `-`, or a transaction as `1:audit`
+SEEN.. the effects that it sees, ascending
+LITERAL.. a variable's number, with `-` before it where it is denied
+HINT.. a hint, as `c1` or `l1`
+OP_LEVEL `eventual`, `causal`, `wide` or `strong`
+TXN_LEVEL `rc`, `mav` or `rr`
+ARGUMENT.. a number, `true`, `false` or a text in quotes
+DIGITS.. a number
+NAME.. a name
+JOIN `copy` or `bare`
+VERSION `1` or `2`
+CONTRACT.. a contract";
+
+/// What a word of a form stands for, nothing where it stands for itself.
+pub(crate) fn meaning(wanted: &[u8]) -> &'static [u8] {
+    crate::words::sentence_of(MEANINGS, wanted)
+}
+
+/// Whether a word of a form stands for itself: it begins with no capital.
+pub(crate) fn stands_for_itself(wanted: &[u8]) -> bool {
+    match wanted.first() {
+        Some(byte) => *byte < b'A' || b'Z' < *byte,
+        None => true,
+    }
+}
+
+/// Whether a field is what a word of a form asks for. `next` is the number of the next effect.
+pub(crate) fn fits(wanted: &[u8], field: &[u8], next: u64) -> bool {
+    if field.is_empty() || wanted.is_empty() {
+        false
+    } else if stands_for_itself(wanted) {
+        wanted == field
+    } else if wanted == b"NEXT".as_slice() {
+        number_of(field, u32::MAX as u64) == Some(next)
+    } else if wanted == b"SESSION".as_slice() {
+        number_of(field, 255).is_some()
+    } else if has_word(b"NUMBER SEEN..", wanted) {
+        number_of(field, u32::MAX as u64).is_some()
+    } else if has_word(b"DIGITS DIGITS..", wanted) {
+        digit_bytes(field) == field.len()
+    } else if has_word(b"NAME NAME..", wanted) {
+        is_name(field)
+    } else {
+        fits_text(wanted, field)
+    }
+}
+
+fn fits_text(wanted: &[u8], field: &[u8]) -> bool {
+    if wanted == b"VALUES".as_slice() {
+        is_bracketed(field)
+    } else if wanted == b"PAYLOAD".as_slice() {
+        field == b"-".as_slice() || is_bracketed(field)
+    } else if wanted == b"TXN".as_slice() {
+        field == b"-".as_slice() || is_transaction(field)
+    } else if wanted == b"VALUE".as_slice() || wanted == b"ARGUMENT..".as_slice() {
+        is_value(field)
+    } else if wanted == b"LITERAL..".as_slice() {
+        is_literal(field)
+    } else if wanted == b"HINT..".as_slice() {
+        is_hint(field)
+    } else {
+        is_listed(wanted, field)
+    }
+}
+
+fn is_listed(wanted: &[u8], field: &[u8]) -> bool {
+    if wanted == b"OP_LEVEL".as_slice() {
+        has_word(b"eventual causal wide strong", field)
+    } else if wanted == b"TXN_LEVEL".as_slice() {
+        has_word(b"rc mav rr", field)
+    } else if wanted == b"JOIN".as_slice() {
+        has_word(b"copy bare", field)
+    } else if wanted == b"VERSION".as_slice() {
+        has_word(b"1 2", field)
+    } else {
+        true
+    }
+}
+
+// Whether a field stands in round brackets, with spaces behind commas and colons alone.
+fn is_bracketed(field: &[u8]) -> bool {
+    field.starts_with(b"(") && field.ends_with(b")") && !has_stray_space(field)
+}
+
+fn has_stray_space(field: &[u8]) -> bool {
+    let mut is_quoted = false;
+    for k in 1..field.len() {
+        if field[k] == b'"' {
+            is_quoted = !is_quoted;
+        }
+        if field[k] == b' ' && !is_quoted && !has_word(b", : \" ", &field[k - 1..k]) {
+            return true;
+        }
+    }
+    false
+}
+
+// Whether a field begins as a value does, and a text ends as one.
+fn is_value(field: &[u8]) -> bool {
+    match field.first() {
+        Some(b'"') => field.len() > 1 && field.ends_with(b"\""),
+        Some(byte) => has_word(b"unit true false", field)
+            || matches!(*byte, b'{' | b'-' | b'0'..=b'9'),
+        None => false,
+    }
+}
+
+// NUMBER:NAME
+fn is_transaction(field: &[u8]) -> bool {
+    for k in 0..field.len() {
+        if field[k] == b':' {
+            return number_of(&field[..k], u32::MAX as u64).is_some() && is_name(&field[k + 1..]);
+        }
+    }
+    false
+}
+
+fn is_literal(field: &[u8]) -> bool {
+    let number = field.strip_prefix(b"-").unwrap_or(field);
+    number_of(number, u32::MAX as u64).is_some()
+}
+
+fn is_hint(field: &[u8]) -> bool {
+    match field.strip_prefix(b"c") {
+        Some(number) => digit_bytes(number) == number.len(),
+        None => {
+            match field.strip_prefix(b"l") {
+                Some(number) => digit_bytes(number) == number.len(),
+                None => false,
+            }
+        }
+    }
+}

@@ -1,0 +1,137 @@
+// The tokens of a source as words that others may be put in the place of.
+ghost use Rattle.std.specs.Prelude.{◌≤◌, length};
+
+use crate::words::has_word;
+use ql_base::{NoMemory, push_bytes};
+use ql_lex::{LexFault, Token, tokens};
+use std::alloc::Global;
+
+/// The tokens of a text, none where it isn't one of tokens.
+pub(crate) fn tokens_of(alloc: Global, text: &[u8]) -> Result<Vec<Token>, NoMemory>
+    requires { length text.now ≤ 1048576 }
+{
+    match tokens(alloc, text) {
+        Ok(found) => Ok(found),
+        Err(LexFault::NoMemory) => Err(NoMemory),
+        Err(_) => Ok(Vec::new(alloc)),
+    }
+}
+
+/// The bytes of tokens, in order.
+pub(crate) fn pieces<'a>(
+    alloc: Global,
+    text: &'a [u8],
+    found: &[Token],
+) -> Result<Vec<&'a [u8]>, NoMemory> {
+    let mut pieces = Vec::new(alloc);
+    for token in found {
+        pieces.push(part(text, *token))?;
+    }
+    Ok(pieces)
+}
+
+/// The bytes of a token.
+pub(crate) fn part(text: &[u8], token: Token) -> &[u8] {
+    let (from, to) = (token.from as usize, token.to as usize);
+    if from <= to && to <= text.len() {
+        &text[from..to]
+    } else {
+        &text[text.len()..]
+    }
+}
+
+/// The piece of a number, nothing where there is none.
+pub(crate) fn piece<'a>(pieces: &[&'a [u8]], k: usize) -> &'a [u8] {
+    match pieces.get(k) {
+        Some(piece) => *piece,
+        None => b"".as_slice(),
+    }
+}
+
+/// Puts a word in the place of a piece.
+pub(crate) fn put<'a>(pieces: &mut [&'a [u8]], k: usize, word: &'a [u8]) {
+    if k < pieces.len() {
+        pieces[k] = word;
+    }
+}
+
+/// Puts nothing in the place of some pieces.
+pub(crate) fn clear(pieces: &mut [&[u8]], from: usize, to: usize) {
+    for k in from..to {
+        put(pieces, k, b"".as_slice());
+    }
+}
+
+/// The last piece up to a place that is one of some words.
+pub(crate) fn last_of(pieces: &[&[u8]], k: usize, words: &[u8]) -> Option<usize> {
+    let mut found = None;
+    for (j, piece) in pieces.iter().enumerate() {
+        if j <= k && has_word(words, piece) {
+            found = Some(j);
+        }
+    }
+    found
+}
+
+/// The first piece from a place on that is one of some words.
+pub(crate) fn next_of(pieces: &[&[u8]], k: usize, words: &[u8]) -> Option<usize> {
+    for (j, piece) in pieces.iter().enumerate() {
+        if k <= j && has_word(words, piece) {
+            return Some(j);
+        }
+    }
+    None
+}
+
+/// The piece before a place, of those that are something.
+pub(crate) fn before(pieces: &[&[u8]], k: usize) -> usize {
+    let mut found = k;
+    for (j, piece) in pieces.iter().enumerate() {
+        if j < k && !piece.is_empty() {
+            found = j;
+        }
+    }
+    found
+}
+
+/// The piece behind a place, of those that are something.
+pub(crate) fn behind(pieces: &[&[u8]], k: usize) -> usize {
+    for (j, piece) in pieces.iter().enumerate() {
+        if k < j && !piece.is_empty() {
+            return j;
+        }
+    }
+    k
+}
+
+/// The text of pieces, each on a line of its own.
+pub(crate) fn joined(alloc: Global, pieces: &[&[u8]]) -> Result<Vec<u8>, NoMemory> {
+    let mut text = Vec::new(alloc);
+    for piece in pieces {
+        push_bytes(&mut text, piece)?;
+        push_bytes(&mut text, b"\n")?;
+    }
+    Ok(text)
+}
+
+/// The piece that stands at an offset of their text, or before it.
+pub(crate) fn piece_at(pieces: &[&[u8]], offset: usize) -> usize {
+    let mut from = 0usize;
+    for (k, piece) in pieces.iter().enumerate() {
+        from = from.saturating_add(piece.len()).saturating_add(1);
+        if offset < from {
+            return k;
+        }
+    }
+    pieces.len()
+}
+
+/// The bytes of the token at an offset; none where no token begins.
+pub(crate) fn word_at<'a>(text: &'a [u8], found: &[Token], at: usize) -> &'a [u8] {
+    for token in found {
+        if token.from as usize == at {
+            return part(text, *token);
+        }
+    }
+    b"".as_slice()
+}

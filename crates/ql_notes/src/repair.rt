@@ -1,0 +1,243 @@
+// What is put in the place of a fault of typing, so that the next one is found.
+//
+// No declaration is taken away, so that what is found next doesn't follow from that. A name that is declared again gets
+// another name; an expression becomes one of its kind, and a statement nothing; an unknown effect of a contract becomes another
+// effect, an unknown operation nothing, and where that isn't enough the contract becomes `true`.
+
+use crate::pieces::{before, behind, clear, last_of, next_of, piece, put};
+use crate::words::has_word;
+use ql_typing::TypeFault;
+
+// The words with which the parts of a source begin.
+const PARTS: &[u8] = b"type state op contract answer emit when apply transaction uses";
+
+// Names that stand for those that are declared again.
+static FRESH: [&str; 10] = [
+    "other_0", "other_1", "other_2", "other_3", "other_4", "other_5", "other_6", "other_7",
+    "other_8", "other_9",
+];
+
+/// Puts something right in the place of a fault that stands at a piece. Where it knows nothing the pieces stay.
+pub(crate) fn repair(pieces: &mut [&[u8]], k: usize, fault: TypeFault) {
+    match fault {
+        TypeFault::Unknown(_) => unknown(pieces, k),
+        TypeFault::Twice(_) => twice(pieces, k),
+        TypeFault::Kind(_) => expression(pieces, k),
+        TypeFault::TxnClosure(_) => put(pieces, k, b"vis".as_slice()),
+        TypeFault::Variables(_) | TypeFault::TxnAtom(_) => contract(pieces, k),
+        TypeFault::TooMany(_) | TypeFault::NoMemory => {}
+    }
+}
+
+/// The word with which the part of a source begins in which a piece stands, and where.
+pub(crate) fn part_of<'a>(pieces: &[&'a [u8]], k: usize) -> (&'a [u8], usize) {
+    let start = last_of(pieces, k, PARTS).unwrap_or(0);
+    (piece(pieces, start), start)
+}
+
+fn unknown(pieces: &mut [&[u8]], k: usize) {
+    let (part, start) = part_of(pieces, k);
+    if part == b"uses".as_slice() {
+        drop_used(pieces, k);
+    } else if part != b"contract".as_slice() {
+        expression(pieces, k);
+    } else if is_chosen(pieces, k) {
+        drop_chosen(pieces, k);
+    } else {
+        effect(pieces, start, k);
+    }
+}
+
+fn twice(pieces: &mut [&[u8]], k: usize) {
+    let (part, _) = part_of(pieces, k);
+    if part == b"uses".as_slice() {
+        drop_used(pieces, k);
+    } else if is_chosen(pieces, k) {
+        drop_chosen(pieces, k);
+    } else {
+        rename(pieces, k);
+    }
+}
+
+/// Whether a piece is an operation of a variable.
+pub(crate) fn is_chosen(pieces: &[&[u8]], k: usize) -> bool {
+    part_of(pieces, k).0 == b"contract".as_slice()
+        && has_word(b": |", piece(pieces, before(pieces, k)))
+}
+
+// Leaves an operation out of those of a variable, and with the last one their colon.
+fn drop_chosen(pieces: &mut [&[u8]], k: usize) {
+    let (mark, next) = (before(pieces, k), behind(pieces, k));
+    let other = if piece(pieces, mark) == b":".as_slice()
+        && piece(pieces, next) == b"|".as_slice()
+    {
+        next
+    } else {
+        mark
+    };
+    put(pieces, k, b"".as_slice());
+    put(pieces, other, b"".as_slice());
+}
+
+// Leaves an operation out of those that a transaction uses, or puts the first of all in its place.
+fn drop_used(pieces: &mut [&[u8]], k: usize) {
+    let (mark, next) = (before(pieces, k), behind(pieces, k));
+    let other = if piece(pieces, mark) == b",".as_slice() {
+        mark
+    } else {
+        next
+    };
+    if piece(pieces, other) == b",".as_slice() {
+        put(pieces, k, b"".as_slice());
+        put(pieces, other, b"".as_slice());
+        return;
+    }
+    if let Some(op) = next_of(pieces, 0, b"op") {
+        let name = piece(pieces, op.saturating_add(1));
+        put(pieces, k, name);
+    }
+}
+
+// Gives a name that is declared again another one.
+fn rename(pieces: &mut [&[u8]], k: usize) {
+    for name in FRESH.iter() {
+        if next_of(pieces, 0, name.as_bytes()).is_none() {
+            put(pieces, k, name.as_bytes());
+            return;
+        }
+    }
+}
+
+// Puts an effect that is there in the place of an unknown one, wherever the contract that begins at a place names it.
+fn effect(pieces: &mut [&[u8]], start: usize, k: usize) {
+    let Some(name) = known_effect(pieces, start) else {
+        return contract(pieces, k);
+    };
+    let (wrong, end) = (piece(pieces, k), end_of(pieces, k));
+    for j in k..end {
+        if piece(pieces, j) == wrong && !is_chosen(pieces, j) {
+            put(pieces, j, name);
+        }
+    }
+}
+
+// An effect that a contract may name: the current one of an operation, of a transaction the first that is quantified.
+fn known_effect<'a>(pieces: &[&'a [u8]], start: usize) -> Option<&'a [u8]> {
+    let owner = last_of(pieces, start, b"op transaction")?;
+    if piece(pieces, owner) == b"op".as_slice() {
+        return Some(b"cur".as_slice());
+    }
+    let first = start.saturating_add(1);
+    if piece(pieces, first) == b"forall".as_slice() {
+        Some(piece(pieces, first.saturating_add(1)))
+    } else {
+        None
+    }
+}
+
+// The contract around a piece becomes `true`.
+fn contract(pieces: &mut [&[u8]], k: usize) {
+    let (_, start) = part_of(pieces, k);
+    replace(
+        pieces,
+        start.saturating_add(1),
+        end_of(pieces, k),
+        b"true".as_slice(),
+    );
+}
+
+// The next semicolon.
+fn end_of(pieces: &[&[u8]], k: usize) -> usize {
+    next_of(pieces, k, b";").unwrap_or(k)
+}
+
+// Puts one word in the place of some pieces.
+fn replace<'a>(pieces: &mut [&'a [u8]], from: usize, to: usize, word: &'a [u8]) {
+    clear(pieces, from, to);
+    put(pieces, from, word);
+}
+
+// The expression around a piece becomes one of its kind.
+fn expression(pieces: &mut [&[u8]], k: usize) {
+    let (part, start) = part_of(pieces, k);
+    let from = start.saturating_add(1);
+    if part == b"answer".as_slice() {
+        answer(pieces, from, k);
+    } else if part == b"when".as_slice() {
+        replace(pieces, from, end_of(pieces, k), b"true".as_slice());
+    } else if part == b"emit".as_slice() {
+        bound(pieces, k);
+    } else if part == b"state".as_slice() {
+        initial(pieces, start, k);
+    } else if part == b"apply".as_slice() {
+        statement(pieces, k);
+    }
+}
+
+// An answer and its kind become `unit`.
+fn answer(pieces: &mut [&[u8]], from: usize, k: usize) {
+    replace(pieces, from, end_of(pieces, k), b"unit".as_slice());
+    let op = last_of(pieces, from, b"op").unwrap_or(from);
+    let bracket = next_of(pieces, op, b")").unwrap_or(op);
+    let end = next_of(pieces, bracket, b"{").unwrap_or(bracket);
+    replace(pieces, bracket.saturating_add(2), end, b"unit".as_slice());
+}
+
+// A value that is emitted.
+fn bound(pieces: &mut [&[u8]], k: usize) {
+    let sign = last_of(pieces, k, b"=").unwrap_or(k);
+    let value = value_of(piece(pieces, before(pieces, sign)));
+    let from = sign.saturating_add(1);
+    let to = end_of_bound(pieces, from);
+    replace(pieces, from, to, value);
+}
+
+// Where the value that begins at a place ends: at a comma outside its brackets, or at `when`.
+fn end_of_bound(pieces: &[&[u8]], from: usize) -> usize {
+    let mut depth = 0usize;
+    for (j, piece) in pieces.iter().enumerate() {
+        if j < from {
+            continue;
+        }
+        if depth == 0 && has_word(b", when", piece) {
+            return j;
+        }
+        if has_word(b"(", piece) {
+            depth = depth.saturating_add(1);
+        }
+        if has_word(b")", piece) {
+            depth = depth.saturating_sub(1);
+        }
+    }
+    from
+}
+
+// What a field begins with.
+fn initial(pieces: &mut [&[u8]], start: usize, k: usize) {
+    let colon = next_of(pieces, start, b":").unwrap_or(k);
+    let sign = next_of(pieces, start, b"=").unwrap_or(k);
+    let value = value_of(piece(pieces, colon.saturating_add(1)));
+    replace(pieces, sign.saturating_add(1), end_of(pieces, k), value);
+}
+
+// A value of the kind that begins with a word.
+fn value_of(kind: &[u8]) -> &'static [u8] {
+    if kind == b"int".as_slice() {
+        b"0".as_slice()
+    } else if kind == b"bool".as_slice() {
+        b"true".as_slice()
+    } else if kind == b"text".as_slice() {
+        b"\"\"".as_slice()
+    } else if kind == b"unit".as_slice() {
+        b"unit".as_slice()
+    } else {
+        b"empty".as_slice()
+    }
+}
+
+// A statement becomes nothing.
+fn statement(pieces: &mut [&[u8]], k: usize) {
+    let from = last_of(pieces, k, b"{ ;").unwrap_or(k).saturating_add(1);
+    let to = end_of(pieces, k).saturating_add(1);
+    clear(pieces, from, to);
+}

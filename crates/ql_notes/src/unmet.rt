@@ -1,0 +1,89 @@
+// What a file of `holds` names in its contract and no effect has.
+ghost use Rattle.std.specs.Prelude.{◌≤◌, length};
+
+use crate::above::first_word;
+use crate::contracts::contract_at;
+use crate::declared::word_of;
+use crate::excerpt::{File, Spot, push_fault};
+use crate::likeness::{likest, push_meant};
+use crate::pieces::{next_of, piece, pieces, tokens_of};
+use crate::words::{has_word, line_of};
+use ql_base::NoMemory;
+use std::alloc::Global;
+
+/// Appends a note for each operation that the contract names and no effect has.
+pub(crate) fn push_unmet(alloc: Global, note: &mut Vec<u8>, file: File) -> Result<(), NoMemory> {
+    let Some(from) = contract_start(file.text) else {
+        return Ok(());
+    };
+    let contract = contract_at(file.text, from);
+    let found = tokens_of(alloc, contract)?;
+    let pieces = pieces(alloc, contract, &found)?;
+    let ops = operations(alloc, file.text)?;
+    let end = next_of(&pieces, 0, b".").unwrap_or(0);
+    for (k, token) in found.iter().enumerate() {
+        let name = piece(&pieces, k);
+        let is_chosen = k > 0 && k < end && has_word(b": |", piece(&pieces, k.saturating_sub(1)));
+        if is_chosen && !is_one_of(name, &ops) {
+            let spot = Spot {
+                from: from.saturating_add(token.from as usize),
+                bytes: name.len(),
+            };
+            push_fault(
+                note,
+                file,
+                spot,
+                b"note",
+                b"no effect is one of this operation, so the contract asks nothing of it",
+            )?;
+            push_meant(note, likest(name, &ops))?;
+        }
+    }
+    Ok(())
+}
+
+// Where the contract stands, behind the word `contract` of the first line that begins with it.
+fn contract_start(text: &[u8]) -> Option<usize> {
+    for k in 0..text.len() {
+        if text[k..].starts_with(b"contract ") && is_first(text, k) {
+            return Some(k.saturating_add(8));
+        }
+    }
+    None
+}
+
+// Whether nothing but spaces stands before a place in its line.
+fn is_first(text: &[u8], at: usize) -> bool
+    requires { at ≤ length text.now }
+{
+    for k in 0..at {
+        let byte = text[at - 1 - k];
+        if byte != b' ' {
+            return byte == b'\n';
+        }
+    }
+    true
+}
+
+// The operations of the effects of a file.
+fn operations(alloc: Global, text: &[u8]) -> Result<Vec<&[u8]>, NoMemory> {
+    let mut names = Vec::new(alloc);
+    for k in 0..text.len() {
+        if k == 0 || text[k - 1] == b'\n' {
+            let line = line_of(&text[k..]);
+            if first_word(line) == b"effect".as_slice() {
+                names.push(word_of(line, 3))?;
+            }
+        }
+    }
+    Ok(names)
+}
+
+fn is_one_of(name: &[u8], names: &[&[u8]]) -> bool {
+    for other in names {
+        if *other == name {
+            return true;
+        }
+    }
+    false
+}

@@ -1,0 +1,112 @@
+// What a line has where it leaves its form, and what was expected there.
+
+use crate::fits::{meaning, stands_for_itself};
+use crate::forms::Misfit;
+use crate::likeness::{likest, push_meant};
+use crate::words::{line_of, word};
+use ql_base::{NoMemory, push_bytes, push_number};
+use std::alloc::Global;
+
+/// Appends what was found and what was expected, and a word that was perhaps meant.
+pub(crate) fn push_wanted(
+    alloc: Global,
+    note: &mut Vec<u8>,
+    found: &[u8],
+    misfit: Misfit,
+    next: u64,
+) -> Result<(), NoMemory> {
+    if found.is_empty() && word(misfit.form).0.ends_with(b"..") {
+        return Ok(());
+    }
+    push_bytes(note, b"  found ")?;
+    push_found(note, found)?;
+    push_bytes(note, b", expected ")?;
+    if misfit.is_choice {
+        push_first_words(note, misfit.form, next)?;
+    } else {
+        push_next_words(note, misfit.form, next)?;
+    }
+    push_bytes(note, b"\n")?;
+    let words = own_words(alloc, misfit)?;
+    push_meant(note, likest(found, &words))
+}
+
+/// Appends a word in quotes, or that there is none.
+pub(crate) fn push_found(note: &mut Vec<u8>, found: &[u8]) -> Result<(), NoMemory> {
+    if found.is_empty() {
+        return push_bytes(note, b"the end");
+    }
+    push_quoted(note, found)
+}
+
+/// Appends a word in quotes.
+pub(crate) fn push_quoted(note: &mut Vec<u8>, word: &[u8]) -> Result<(), NoMemory> {
+    push_bytes(note, b"`")?;
+    push_bytes(note, word)?;
+    push_bytes(note, b"`")
+}
+
+// The first words of the forms that a line may have.
+fn push_first_words(note: &mut Vec<u8>, forms: &[u8], next: u64) -> Result<(), NoMemory> {
+    for k in 0..forms.len() {
+        if k == 0 || forms[k - 1] == b'\n' {
+            if k > 0 {
+                let is_last = line_of(&forms[k..]).len() == forms.len() - k;
+                push_bytes(
+                    note,
+                    if is_last {
+                        b" or ".as_slice()
+                    } else {
+                        b", ".as_slice()
+                    },
+                )?;
+            }
+            push_word(note, word(&forms[k..]).0, next)?;
+        }
+    }
+    Ok(())
+}
+
+// The next word of a form, and where that stands for itself what follows it.
+fn push_next_words(note: &mut Vec<u8>, form: &[u8], next: u64) -> Result<(), NoMemory> {
+    let (first, rest) = word(form);
+    push_word(note, first, next)?;
+    let second = word(rest).0;
+    if first.ends_with(b"..") && !second.is_empty() {
+        push_bytes(note, b" or ")?;
+        return push_word(note, second, next);
+    }
+    if stands_for_itself(first) && !stands_for_itself(second) {
+        push_bytes(note, b" and ")?;
+        return push_word(note, second, next);
+    }
+    Ok(())
+}
+
+fn push_word(note: &mut Vec<u8>, wanted: &[u8], next: u64) -> Result<(), NoMemory> {
+    if wanted.is_empty() {
+        push_bytes(note, b"nothing more")
+    } else if wanted == b"NEXT".as_slice() {
+        push_bytes(note, b"the next effect's number, ")?;
+        push_number(note, next)
+    } else if stands_for_itself(wanted) {
+        push_quoted(note, wanted)
+    } else {
+        push_bytes(note, meaning(wanted))
+    }
+}
+
+// The words of forms that stand for themselves and may come next.
+fn own_words(alloc: Global, misfit: Misfit) -> Result<Vec<&'static [u8]>, NoMemory> {
+    let mut words = Vec::new(alloc);
+    let forms = misfit.form;
+    for k in 0..forms.len() {
+        if k == 0 || (misfit.is_choice && forms[k - 1] == b'\n') {
+            let first = word(line_of(&forms[k..])).0;
+            if stands_for_itself(first) {
+                words.push(first)?;
+            }
+        }
+    }
+    Ok(words)
+}

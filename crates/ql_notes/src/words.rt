@@ -1,0 +1,45 @@
+// Words of a text, parted by blanks.
+
+/// The bytes before the first blank, and those behind it.
+pub(crate) fn word(text: &[u8]) -> (&[u8], &[u8]) {
+    for k in 0..text.len() {
+        if text[k] == b' ' || text[k] == b'\n' {
+            return (&text[..k], &text[k + 1..]);
+        }
+    }
+    (text, &text[text.len()..])
+}
+
+/// Whether a word is one of those of a text.
+pub(crate) fn has_word(text: &[u8], wanted: &[u8]) -> bool {
+    for k in 0..text.len() {
+        if (k == 0 || text[k - 1] == b' ') && word(&text[k..]).0 == wanted {
+            return true;
+        }
+    }
+    false
+}
+
+/// The sentence behind a word, in a text that has one on each line.
+pub(crate) fn sentence_of(rules: &'static str, rule: &[u8]) -> &'static [u8] {
+    let text = rules.as_bytes();
+    for k in 0..text.len() {
+        if k == 0 || text[k - 1] == b'\n' {
+            let (name, sentence) = word(&text[k..]);
+            if name == rule {
+                return line_of(sentence);
+            }
+        }
+    }
+    &text[text.len()..]
+}
+
+/// The bytes before the first end of a line.
+pub(crate) fn line_of(text: &[u8]) -> &[u8] {
+    for k in 0..text.len() {
+        if text[k] == b'\n' {
+            return &text[..k];
+        }
+    }
+    text
+}
