@@ -1,5 +1,6 @@
 -- The headline, from what `quelea` wrote; and the answer of `check` to what `prove` wrote.
-use Rattle.std.proofs.Common.{◌≡◌, ◌≢◌, inl, inr, ℕ, ◌≤◌, true, length, List, [], ◌∷◌, ◌++◌, Option, Some, Result, Ok, codes, refl, sym, ap, subst, ◌∙◌}
+use Rattle.std.proofs.Common.{◌≡◌, ◌≢◌, inl, inr, ℕ, ◌≤◌, true, length, List, [], ◌∷◌, ◌++◌, Option, Some, Result, Ok, Err, codes, refl, sym, ap, subst, ◌∙◌}
+use Rattle.std.specs.Prelude.{IfOk}
 use Rattle.std.proofs.lemmas.List.{append_cancel_left}
 use Rattle.ql_base.specs.declared.no_memory.NoMemory.{NoMemory}
 use Rattle.ql_ports.specs.Faults.{Rose}
@@ -104,3 +105,11 @@ module _ (tree : (bytes : List ℕ) (s t : Source) → IsProgramText bytes s →
           → Wrote (Says limits next next_held next_before next_after) next_was next_is next_faults next_sums status
           → NothingFailed next_before next_after turn.again turn.other next_faults next_sums → status ≡ Done
       accepted status within complete told nothing = accepts status told (answered (Ok status) within complete nothing)
+
+-- ---- calls
+
+-- what is claimed of a call with status 0, where it ended
+pub claim-of : (May : Status → List ℕ → Type 0) (was is : Option (List ℕ)) (faults sums : ℕ) (Claim : Type 0) (result : Result Status NoMemory)
+    → IfOk result (Wrote May was is faults sums) → (Wrote May was is faults sums Done → Claim) → IfOk result (λ status. status ≡ Done → Claim)
+claim-of May was is faults sums Claim (Ok status) wrote law = λ done. law (subst (Wrote May was is faults sums) done wrote)
+claim-of May was is faults sums Claim (Err error) wrote law = tt
