@@ -17,6 +17,13 @@ use Rattle.ql_commands.specs.declared.answer.Answer.TheVariants as answer
 abbrev first : List (List ℕ) → ℕ
 first ws = get_or (get_or ws 0 []) 0 0
 
+-- its second one, and its fourth
+abbrev second : List (List ℕ) → ℕ
+second ws = get_or (get_or ws 0 []) 1 0
+
+abbrev fourth : List (List ℕ) → ℕ
+fourth ws = get_or (get_or ws 0 []) 3 0
+
 module _ (limits : Limits) (held : List ℕ → Option (List ℕ)) (name source text : List ℕ) (name_held : held name ≡ Some source) where
   told : (n : List ℕ) → n ≡ name → Judges limits held (OneFile Prove n) Done text → (length source ≤ limits.file) × ProveSays source answer.Done text
   told n n_is says = subst (λ (h : Option (List ℕ)). IfSome h (λ bytes. (length bytes ≤ limits.file) × ProveSays bytes answer.Done text)) (ap held n_is ∙ name_held) says
@@ -24,7 +31,7 @@ module _ (limits : Limits) (held : List ℕ → Option (List ℕ)) (name source 
   pub proves : (words : List (List ℕ)) → words ≡ codes "prove" ∷ name ∷ [] → (call : Call) → IsRequest words call → Judges limits held call Done text
       → (length source ≤ limits.file) × ProveSays source answer.Done text
   proves words are (OneFile Holds n) is says = absurd (let never : 112 ≡ 104 = ap first (sym are ∙ is.0) in omega (arith, never))
-  proves words are (OneFile Proof n) is says = absurd (let never : codes "prove" ∷ name ∷ [] ≡ codes "proof" ∷ n ∷ [] = sym are ∙ is.0 in cc)
+  proves words are (OneFile Proof n) is says = absurd (let never : 118 ≡ 111 = ap fourth (sym are ∙ is.0) in omega (arith, never))
   proves words are (OneFile Classify n) is says = absurd (let never : 112 ≡ 99 = ap first (sym are ∙ is.0) in omega (arith, never))
   proves words are (OneFile ClassifyWhy n) is says = absurd (let never : 112 ≡ 99 = ap first (sym are ∙ is.0) in omega (arith, never))
   proves words are (OneFile Prove n) is says =
@@ -50,8 +57,8 @@ module _ (limits : Limits) (held : List ℕ → Option (List ℕ)) (name other s
   pub checks : (words : List (List ℕ)) → words ≡ codes "check" ∷ name ∷ other ∷ [] → (call : Call) → IsRequest words call → Judges limits held call No text → CheckSays source certificate answer.No text
   checks words are (OneFile Holds n) is says = absurd (let never : 99 ≡ 104 = ap first (sym are ∙ is.0) in omega (arith, never))
   checks words are (OneFile Proof n) is says = absurd (let never : 99 ≡ 112 = ap first (sym are ∙ is.0) in omega (arith, never))
-  checks words are (OneFile Classify n) is says = absurd (let never : codes "check" ∷ name ∷ other ∷ [] ≡ codes "classify" ∷ n ∷ [] = sym are ∙ is.0 in cc)
-  checks words are (OneFile ClassifyWhy n) is says = absurd (let never : codes "check" ∷ name ∷ other ∷ [] ≡ codes "classify" ∷ codes "--why" ∷ n ∷ [] = sym are ∙ is.0 in cc)
+  checks words are (OneFile Classify n) is says = absurd (let never : 104 ≡ 108 = ap second (sym are ∙ is.0) in omega (arith, never))
+  checks words are (OneFile ClassifyWhy n) is says = absurd (let never : 104 ≡ 108 = ap second (sym are ∙ is.0) in omega (arith, never))
   checks words are (OneFile Prove n) is says = absurd (let never : 99 ≡ 112 = ap first (sym are ∙ is.0) in omega (arith, never))
   checks words are (OneFile (Gen number events) n) is says = absurd (let never : 99 ≡ 103 = ap first (sym are ∙ is.0) in omega (arith, never))
   checks words are (OneFile (Soak number) n) is says = absurd (let never : 99 ≡ 115 = ap first (sym are ∙ is.0) in omega (arith, never))
