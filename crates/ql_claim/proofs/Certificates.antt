@@ -1,5 +1,5 @@
 -- What is proved of a run and of a certificate, from what the commands say of their bytes.
-use Rattle.std.proofs.Common.{◌≡◌, ◌≢◌, ℕ, zero, suc, ◌<◌, true, List, [], ◌∷◌, length, get_or, slice_get, Option, Some, None, refl, subst, arith}
+use Rattle.std.proofs.Common.{◌≡◌, ◌≢◌, ℕ, zero, suc, ◌<◌, true, List, [], ◌∷◌, length, get_or, slice_get, Some, refl, subst, arith}
 use Rattle.std.specs.List.{slice_index_or}
 use Rattle.ql_classify.specs.Outcome.{IsAccepted}
 use Rattle.ql_classify.specs.Targets.{IsLeastLevel, IsOpLevel, goals_at}

@@ -27,7 +27,7 @@ use Rattle.ql_levels.specs.declared.level.Level.TheVariants.{Strong}
 use Rattle.ql_parse.specs.Parsing.{IsProgramText}
 use Rattle.ql_typing.specs.Operations.{uses_op}
 use Rattle.ql_typing.specs.Programs.{program_faults}
-use Rattle.ql_claim.specs.Headline.{Gained, Headline, IsProvedCertificate}
+use Rattle.ql_claim.specs.Headline.{Headline}
 use Rattle.ql_claim.specs.InTurn.{AreInTurn, NothingFailed}
 use Rattle.ql_claim.proofs.Asked.{checks, proves}
 use Rattle.ql_claim.proofs.Certificates.{proved-certificate, proved-run}

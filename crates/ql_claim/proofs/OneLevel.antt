@@ -1,5 +1,5 @@
 -- Levels that are least over all executions are one, of all programs that are read as one source.
-use Rattle.std.proofs.Common.{◌≡◌, ℕ, zero, suc, ◌+◌, ◌<◌, List, [], ◌∷◌, ◌++◌, length, map, get_or, slice_get, Some, refl, ap, sym, subst, ◌∙◌, arith, length-append, get_or-append-add}
+use Rattle.std.proofs.Common.{◌≡◌, ℕ, zero, suc, ◌+◌, ◌<◌, List, [], ◌∷◌, length, map, get_or, slice_get, Some, refl, ap, sym, subst, ◌∙◌, arith, length-append, get_or-append-add}
 use Rattle.std.specs.List.{All}
 use Rattle.std.proofs.lemmas.List.{get_or_append_left, length-map}
 use Rattle.ql_base.specs.declared.ids.OpId.{OpId}
@@ -16,7 +16,6 @@ use Rattle.ql_implication.specs.Executions.{IsImplied, IsImpliedTxn}
 use Rattle.ql_implied.specs.Commands.{AreLeast, GivesContract}
 use Rattle.ql_lang.specs.Formulas.{Resolved}
 use Rattle.ql_lang.specs.declared.program.Program.{Program}
-use Rattle.ql_lang.specs.declared.program.TxnDecl.{TxnDecl}
 use Rattle.ql_lang.specs.Programs.{Operation, Transaction, operation_of, source_of, transaction_of}
 use Rattle.ql_least.specs.Least.{EachFails, LowerFail}
 use Rattle.ql_levels.specs.Lists.{LevelLists}
@@ -55,6 +54,12 @@ length-ops from (level ∷ levels) = ap suc (length-ops (suc from) levels)
 length-txns : (from : ℕ) (levels : List TxnLevel) → length (txns_from from levels) ≡ length levels
 length-txns from [] = refl
 length-txns from (level ∷ levels) = ap suc (length-txns (suc from) levels)
+
+abbrev lists : List Level → List TxnLevel → LevelLists
+lists ops txns = record { ops = ops; txns = txns }
+
+same-lists : (a b : List Level) (c d : List TxnLevel) → a ≡ b → c ≡ d → lists a c ≡ lists b d
+same-lists a b c d ops txns = rw (ops, txns) refl
 
 -- what is so of each goal is so of each operation's and of each transaction's
 module _ (P : Goal → Type 0) (levels : LevelLists) (each : All P (goals_at levels)) where
@@ -177,7 +182,7 @@ module _ (op_refuted : (types : List ℕ) (o : ℕ) (level : Level) (f : Resolve
       (gives p q e (TxnAt at m) (of-txn (GivesContract q) k other.enough.each d theirs)) (lower-as p q e (TxnAt at m) (of-txn (LowerFail q) k other.lower d theirs))) in
       let ops : l.ops ≡ k.ops = same-items Strong l.ops k.ops (omega (arith, least.enough.ops, other.enough.ops, same_count p q e)) op in
       let txns : l.txns ≡ k.txns = same-items Rr l.txns k.txns (omega (arith, least.enough.txns, other.enough.txns, count-txns p q e)) txn in
-      (ap (λ (os : List Level). record { ops = os; txns = l.txns }) ops ∙ ap (λ (ts : List TxnLevel). record { ops = k.ops; txns = ts }) txns)
+      same-lists l.ops k.ops l.txns k.txns ops txns
     where
       lower-as : (p q : Program) (e : source_of p ≡ source_of q) (g : Goal) → LowerFail q g → LowerFail p g
       lower-as p q e g h = fail p q e (goals_below g) h

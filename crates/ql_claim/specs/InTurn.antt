@@ -1,5 +1,5 @@
 -- `prove` of a source, and then `check` of that source and of what `prove` wrote.
-use Rattle.std.specs.Prelude.{◌≡◌, ◌⊎◌, ℕ, ◌≤◌, List, [], ◌∷◌, ◌++◌, length, Option, Some, codes}
+use Rattle.std.specs.Prelude.{◌≡◌, ℕ, ◌≤◌, List, [], ◌∷◌, ◌++◌, length, Option, Some, codes}
 use Rattle.ql_app.specs.Words.{IsName}
 use Rattle.ql_ports.specs.Faults.{Rose}
 
