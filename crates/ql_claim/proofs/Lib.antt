@@ -1,0 +1,4 @@
+mod OneLevel
+mod Certificates
+mod Asked
+mod Claims

@@ -1,0 +1,46 @@
+ghost use Rattle.std.specs.Prelude.{◌≡◌, IfOk};
+ghost use Rattle.ql_app.specs.declared.status.Status.TheVariants.{Done};
+ghost use Rattle.ql_app.specs.Words.{word_texts};
+ghost use Rattle.ql_claim.specs.Headline.{Headline};
+ghost use Rattle.ql_claim.specs.InTurn.{AreInTurn, NothingFailed};
+
+use crate::law::headline;
+use ql_app::{Status, quelea};
+use ql_base::NoMemory;
+use ql_parse::one_program_answer;
+use ql_ports::{Shelf, Sink};
+use std::alloc::Global;
+
+/// A call of `quelea`, with the headline as its clause.
+pub fn answer<S: Shelf, K: Sink>(
+    alloc: Global,
+    words: &Vec<String>,
+    shelf: &mut S,
+    sink: &mut K,
+) -> Result<Status, NoMemory>
+    ensures headline { IfOk result (λ status. status ≡ Done → Headline (word_texts words.now) (S.held shelf.old) (K.written sink.old) (K.written sink.new)) }
+{
+    headline();
+    quelea(alloc, words, shelf, sink)
+}
+
+/// Two calls of `quelea`, each with its own shelf and sink: what the first printed for `prove`, with status 0, the second
+/// accepts for `check`, where nothing fails.
+pub fn prove_and_check<S: Shelf, K: Sink, T: Shelf, L: Sink>(
+    alloc: Global,
+    words: &Vec<String>,
+    shelf: &mut S,
+    sink: &mut K,
+    next: &Vec<String>,
+    next_shelf: &mut T,
+    next_sink: &mut L,
+) -> Result<(Status, Status), NoMemory>
+    ensures accepted { (turn : AreInTurn (word_texts words.now) (S.held shelf.old) (K.written sink.old) (K.written sink.new) (word_texts next.now) (T.held next_shelf.old))
+        → NothingFailed (T.faults next_shelf.old) (T.faults next_shelf.new) turn.again turn.other (L.faults next_sink.old) (L.faults next_sink.new)
+        → IfOk result (λ ended. ended.0 ≡ Done → ended.1 ≡ Done) }
+{
+    one_program_answer();
+    let proved = quelea(alloc, words, shelf, sink)?;
+    let checked = quelea(alloc, next, next_shelf, next_sink)?;
+    Ok((proved, checked))
+}

@@ -1,0 +1,34 @@
+ghost use Rattle.std.specs.Prelude.{◌≡◌, ℕ, List, Option};
+ghost use Rattle.ql_app.specs.declared.outcome.Limits.{Limits};
+ghost use Rattle.ql_app.specs.declared.status.Status.TheVariants.{Done};
+ghost use Rattle.ql_app.specs.Outcome.{Says, Wrote};
+ghost use Rattle.ql_implied.specs.Commands.{AreLeast};
+ghost use Rattle.ql_lang.specs.declared.program.Program.{Program};
+ghost use Rattle.ql_lang.specs.Programs.{source_of};
+ghost use Rattle.ql_levels.specs.Lists.{LevelLists};
+ghost use Rattle.ql_claim.specs.Headline.{Headline};
+
+use ql_app::contracts_hold_in_runs;
+use ql_implication::countermodels_refute;
+use ql_implied::strong_uses_are_told;
+use ql_parse::one_program_answer;
+
+/// The headline, of what `quelea` wrote by its clause `wrote`: with status 0, to `run` of a source and a schedule, the text
+/// of the schedule's run at the source's least levels, in which every contract holds and each answer is the fold of what its
+/// effect sees; and to `prove` of a source, a certificate with a refutation for each of these levels.
+pub fn headline()
+    ensures { (limits : Limits) (words : List (List ℕ)) (held : List ℕ → Option (List ℕ)) (before after : List ℕ → ℕ) (was is : Option (List ℕ)) (faults sums : ℕ)
+        → Wrote (Says limits words held before after) was is faults sums Done → Headline words held was is }
+{
+    contracts_hold_in_runs();
+    least_levels_are_one();
+    one_program_answer();
+    strong_uses_are_told();
+}
+
+/// Levels that are least over all executions are one, of all programs that are read as one source.
+pub fn least_levels_are_one()
+    ensures { (p q : Program) → source_of p ≡ source_of q → (l k : LevelLists) → AreLeast p l → AreLeast q k → l ≡ k }
+{
+    countermodels_refute();
+}

@@ -1,0 +1,10 @@
+// What is claimed of the program, in one place, as a reader meets it.
+// The one contract: what `quelea` writes with status 0 to `run` and to `prove` is the text of a proved run and of a
+// proved certificate, and `check` accepts the certificate.
+#![tactic(auto)]
+
+mod calls;
+mod law;
+
+pub use calls::{answer, prove_and_check};
+pub use law::{headline, least_levels_are_one};
