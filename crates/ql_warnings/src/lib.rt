@@ -4,17 +4,17 @@
 
 mod always;
 mod clash;
+mod contract;
 mod known;
 mod named;
+mod others;
 mod place;
 mod premises;
-mod ruled_out;
 mod unbracketed;
 mod warning;
-mod warnings;
 mod words;
 
-pub use ruled_out::ruled_out;
+pub use contract::warnings;
+pub use others::ruled_out;
 pub use warning::{Place, Warning};
-pub use warnings::warnings;
 pub use words::{warning_text, warning_word};

@@ -26,15 +26,15 @@ pub(crate) enum Sign {
 fn sign_of(word: &[u8]) -> Sign
     ensures { result ≡ sign_of word.now }
 {
-    if word == b"(" || word == b"[" || word == b"{" {
+    if word == b"(".as_slice() || word == b"[".as_slice() || word == b"{".as_slice() {
         Sign::Opens
-    } else if word == b")" || word == b"]" || word == b"}" {
+    } else if word == b")".as_slice() || word == b"]".as_slice() || word == b"}".as_slice() {
         Sign::Closes
-    } else if word == b"=>" {
+    } else if word == b"=>".as_slice() {
         Sign::Arrow
-    } else if word == b"/\\" || word == b"\\/" {
+    } else if word == b"/\\".as_slice() || word == b"\\/".as_slice() {
         Sign::Joins
-    } else if word == b";" {
+    } else if word == b";".as_slice() {
         Sign::Ends
     } else {
         Sign::Plain
@@ -89,7 +89,7 @@ fn push_joined(
     requires behind { (t : Token) → slice_get tokens.now k ≡ Some t → start ≤ t.from }
     ensures { OnOk result (All (IsBracketWarning source.now start) found.old.items → All (IsBracketWarning source.now start) found.new.items) }
 {
-    if sign(source, tokens, k) != Sign::Arrow {
+    if sign_at(source, tokens, k) != Sign::Arrow {
         return Ok(());
     }
     let Some(at) = joined(source, tokens, k + 1, 0, None) else {
@@ -116,7 +116,7 @@ fn joined(
     if tokens.len() <= k {
         return None;
     }
-    match (sign(source, tokens, k), depth) {
+    match (sign_at(source, tokens, k), depth) {
         (Sign::Opens, _) => joined(source, tokens, k + 1, depth + 1, found),
         (Sign::Closes, 0) | (Sign::Ends, _) => None,
         (Sign::Closes, _) => joined(source, tokens, k + 1, depth - 1, found),
@@ -129,7 +129,7 @@ fn joined(
     }
 }
 
-fn sign(source: &[u8], tokens: &[Token], k: usize) -> Sign
+fn sign_at(source: &[u8], tokens: &[Token], k: usize) -> Sign
     requires spans { AreSpans 0 (length source.now) tokens.now }
     requires there { k < length tokens.now }
     ensures { (t : Token) → slice_get tokens.now k ≡ Some t → result ≡ sign_of (word_of source.now t) }
