@@ -1,1 +1,5 @@
 mod Names
+mod Scenes
+mod Given
+mod Kept
+mod Spans

@@ -1,5 +1,6 @@
 -- Statements that stand beside each other without brackets: `a => b /\ c => d`.
 use Rattle.std.specs.Prelude.{ℕ, zero, suc, ◌+◌, ◌-◌, ◌≡◌, ◌≤◌, Bool, ◌||◌, List, [], ◌∷◌, Option, None, Some, Ok, codes, drop, slice_get, take, if◌then◌else◌}
+use Rattle.std.specs.Option.{option_map_or}
 use Rattle.std.specs.Str.{bytes_eq}
 use Rattle.ql_lex.specs.Tokens.{Lexes}
 use Rattle.ql_lex.specs.declared.token.Token.{Token}
@@ -19,24 +20,33 @@ sign_of w =
     else (if bytes_eq w (codes "/\\") || bytes_eq w (codes "\\/") then Joins
     else (if bytes_eq w (codes ";") then Ends else Plain))))
 
--- The offset of the first `/\` or `\/` that stands before the next `=>` outside brackets, where that comes before the end
--- of what is in the brackets around. Here `depth` brackets are open, and `found` was met before.
-mutual
-  pub joined : List ℕ → ℕ → Option ℕ → List Token → Option ℕ
-  joined source depth found [] = None
-  joined source depth found (t ∷ ts) = joined_at source (sign_of (word_of source t)) t.from depth found ts
+-- how many brackets are open after a token, where the search for the next `=>` outside them goes on
+abbrev pub deeper : Sign → ℕ → Option ℕ
+deeper Opens depth = Some (suc depth)
+deeper Closes zero = None
+deeper Closes (suc depth) = Some depth
+deeper Arrow zero = None
+deeper Arrow (suc depth) = Some (suc depth)
+deeper Joins depth = Some depth
+deeper Ends depth = None
+deeper Plain depth = Some depth
 
-  pub joined_at : List ℕ → Sign → ℕ → ℕ → Option ℕ → List Token → Option ℕ
-  joined_at source Opens from depth found ts = joined source (suc depth) found ts
-  joined_at source Closes from zero found ts = None
-  joined_at source Closes from (suc depth) found ts = joined source depth found ts
-  joined_at source Arrow from zero found ts = found
-  joined_at source Arrow from (suc depth) found ts = joined source (suc depth) found ts
-  joined_at source Joins from zero None ts = joined source zero (Some from) ts
-  joined_at source Joins from zero (Some at) ts = joined source zero (Some at) ts
-  joined_at source Joins from (suc depth) found ts = joined source (suc depth) found ts
-  joined_at source Ends from depth found ts = None
-  joined_at source Plain from depth found ts = joined source depth found ts
+-- the first `/\` or `\/` outside brackets, after a token
+abbrev pub met : Sign → ℕ → ℕ → Option ℕ → Option ℕ
+met Joins zero from None = Some from
+met sign depth from found = found
+
+-- what was met where the search ends: only an `=>` is an end that counts
+abbrev pub told : Sign → Option ℕ → Option ℕ
+told Arrow found = found
+told sign found = None
+
+-- the offset of the first `/\` or `\/` before the next `=>`, both outside brackets, where that comes before the end of what is
+-- in the brackets around and of the contract
+abbrev pub joined : List ℕ → ℕ → Option ℕ → List Token → Option ℕ
+joined source depth found [] = None
+joined source depth found (t ∷ ts) =
+    option_map_or (λ d. joined source d (met (sign_of (word_of source t)) depth t.from found) ts) (deeper (sign_of (word_of source t)) depth) (told (sign_of (word_of source t)) found)
 
 -- it stands there between two `=>`, the first of them from a place of the source on
 pub record IsUnbracketed (source : List ℕ) (start at : ℕ) : Type 0 where

@@ -6,3 +6,4 @@ pub mod Known
 pub mod Clashes
 pub mod Warnings
 pub mod Kept
+pub mod Texts

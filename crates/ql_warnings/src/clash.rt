@@ -83,7 +83,7 @@ fn may_be(scene: Scene, term: Term, kind: TypeId) -> bool
 }
 
 fn choice_may(t: &Typed, choice: Option<&OpChoice>, kind: TypeId) -> bool
-    ensures { result ≡ choice_may (op_kinds t.now.program.types) (option_copied choice) kind.0 }
+    ensures { result ≡ choice_may (op_kinds t.now.program.types) (option_copied choice.entry) kind.0 }
 {
     match choice {
         Some(OpChoice::OneOf(ops)) => one_may(t, ops.items(), kind),

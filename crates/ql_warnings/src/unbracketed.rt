@@ -1,10 +1,10 @@
 // `=>` and `/\` or `\/` beside each other without brackets.
-ghost use Rattle.std.specs.Prelude.{◌≡◌, ◌<◌, ◌≤◌, ◌^◌, IfOk, Ok, OnOk, Some, drop, length, slice_get};
+ghost use Rattle.std.specs.Prelude.{◌≡◌, ◌+◌, ◌<◌, ◌≤◌, ◌^◌, IfOk, IfSome, Ok, OnOk, Some, drop, length, slice_get};
 ghost use Rattle.std.specs.List.{All};
 ghost use Rattle.ql_lex.specs.Tokens.{AreSpans, Lexes};
 ghost use Rattle.ql_lex.specs.declared.token.Token.{Token};
 ghost use Rattle.ql_warnings.specs.Kept.{IsBracketWarning};
-ghost use Rattle.ql_warnings.specs.Brackets.{joined, sign_of, word_of};
+ghost use Rattle.ql_warnings.specs.Brackets.{deeper, joined, met, sign_of, told, word_of};
 
 use crate::place::place_in;
 use crate::warning::Warning;
@@ -12,7 +12,7 @@ use ql_base::NoMemory;
 use ql_lex::{LexFault, Token, tokens};
 use std::alloc::Global;
 
-/// What a token does in a contract.
+// What a token does in a contract.
 #[derive(Clone, Copy, PartialEq, Eq)]
 pub(crate) enum Sign {
     Opens,
@@ -116,16 +116,48 @@ fn joined(
     if tokens.len() <= k {
         return None;
     }
-    match (sign_at(source, tokens, k), depth) {
-        (Sign::Opens, _) => joined(source, tokens, k + 1, depth + 1, found),
-        (Sign::Closes, 0) | (Sign::Ends, _) => None,
-        (Sign::Closes, _) => joined(source, tokens, k + 1, depth - 1, found),
-        (Sign::Arrow, 0) => found,
-        (Sign::Joins, 0) => {
-            let first = found.or(Some(tokens[k].from));
-            joined(source, tokens, k + 1, 0, first)
+    let sign = sign_at(source, tokens, k);
+    match deeper(sign, depth) {
+        Some(inside) => {
+            let found = met(sign, depth, token_at(tokens, k).from, found);
+            joined(source, tokens, k + 1, inside, found)
         }
-        _ => joined(source, tokens, k + 1, depth, found),
+        None => told(sign, found),
+    }
+}
+
+// How many brackets are open after a token, where the search goes on.
+fn deeper(sign: Sign, depth: usize) -> Option<usize>
+    requires { depth < 18446744073709551615 }
+    ensures exact { result ≡ deeper sign depth }
+    ensures near { IfSome result (λ inside. inside ≤ depth + 1) }
+{
+    match sign {
+        Sign::Opens => Some(depth + 1),
+        Sign::Closes => depth.checked_sub(1),
+        Sign::Arrow if depth == 0 => None,
+        Sign::Ends => None,
+        Sign::Arrow | Sign::Joins | Sign::Plain => Some(depth),
+    }
+}
+
+// The first of what joins, after a token.
+fn met(sign: Sign, depth: usize, from: u32, found: Option<u32>) -> Option<u32>
+    ensures { result ≡ met sign depth from found }
+{
+    match (sign, found) {
+        (Sign::Joins, None) if depth == 0 => Some(from),
+        _ => found,
+    }
+}
+
+// What was met, where the search ends at an `=>`.
+fn told(sign: Sign, found: Option<u32>) -> Option<u32>
+    ensures { result ≡ told sign found }
+{
+    match sign {
+        Sign::Arrow => found,
+        _ => None,
     }
 }
 

@@ -1,7 +1,9 @@
 // Warnings as sentences.
+ghost use Rattle.std.specs.Prelude.{◌≡◌, ◌++◌, IfOk, OnOk};
+ghost use Rattle.ql_warnings.specs.Texts.{name_in, named_text, placed, ruled_out_text, warning_text};
+
 use crate::warning::{Place, Warning};
-use ql_base::{NoMemory, push_bytes, push_number};
-use ql_base::OpId;
+use ql_base::{NoMemory, OpId, push_bytes, push_number};
 use ql_typing::Typed;
 use std::alloc::Global;
 
@@ -17,21 +19,33 @@ pub fn warning_word(warning: Warning) -> &'static str {
     }
 }
 
-/// The sentences of a warning, each line with its end.
-pub fn warning_text(alloc: Global, t: &Typed, warning: Warning) -> Result<Vec<u8>, NoMemory> {
-    let mut text = Vec::new(alloc);
+/// The sentence of a warning, without a line's end.
+pub fn warning_text(alloc: Global, t: &Typed, warning: Warning) -> Result<Vec<u8>, NoMemory>
+    ensures { IfOk result (λ text. text.items ≡ warning_text t.now.program warning) }
+{
     match warning {
-        Warning::NamedAsOperation { op, .. } => push_named(&mut text, name_of(t, op))?,
-        Warning::Unbracketed(place) => push_placed(&mut text, place, UNBRACKETED)?,
-        Warning::AsksNothing => push_bytes(&mut text, ASKS_NOTHING.as_bytes())?,
-        Warning::NeverApplies(place) => push_placed(&mut text, place, NEVER)?,
-        Warning::Unneeded(place) => push_placed(&mut text, place, UNNEEDED)?,
-        Warning::RuledOut { op, at } => push_ruled_out(&mut text, name_of(t, op), at.0)?,
+        Warning::NamedAsOperation { op, .. } => named_text(alloc, name_in(t, op)),
+        Warning::Unbracketed(place) => placed(alloc, place, UNBRACKETED),
+        Warning::AsksNothing => Ok(Vec::from_slice(alloc, ASKS_NOTHING)?),
+        Warning::NeverApplies(place) => placed(alloc, place, NEVER),
+        Warning::Unneeded(place) => placed(alloc, place, UNNEEDED),
+        Warning::RuledOut { op, at } => ruled_out_text(alloc, name_in(t, op), at.0),
     }
-    Ok(text)
 }
 
-fn name_of(t: &Typed, op: OpId) -> &[u8] {
+const UNBRACKETED: &[u8] = b"two statements with `=>` are joined without brackets, so the second one is a part of the first: write (a => b) /\\ (c => d).";
+
+const ASKS_NOTHING: &[u8] =
+    b"The contract asks for nothing: it holds in every execution, whatever the level.";
+
+const NEVER: &[u8] = b"is what can't hold with the rest before its `=>`, in any execution: so what stands behind is never asked for.";
+
+const UNNEEDED: &[u8] =
+    b"is what isn't needed: it holds wherever the rest before its `=>` does.";
+
+fn name_in(t: &Typed, op: OpId) -> &[u8]
+    ensures { result.now ≡ name_in t.now.program op.0 }
+{
     if op.0 < t.ops() {
         t.op(op).name.word.bytes()
     } else {
@@ -39,46 +53,42 @@ fn name_of(t: &Typed, op: OpId) -> &[u8] {
     }
 }
 
-fn push_named(text: &mut Vec<u8>, name: &[u8]) -> Result<(), NoMemory> {
-    push_bytes(text, b"The variable ")?;
-    push_bytes(text, name)?;
+// What is said of a place, behind its line and column.
+fn placed(alloc: Global, place: Place, said: &[u8]) -> Result<Vec<u8>, NoMemory>
+    ensures { IfOk result (λ text. text.items ≡ placed place said.now) }
+{
+    let mut text = Vec::from_slice(alloc, b"At ")?;
+    push_number(&mut text, place.line)?;
+    push_bytes(&mut text, b":")?;
+    push_number(&mut text, place.column)?;
+    push_bytes(&mut text, b" ")?;
+    push_bytes(&mut text, said)?;
+    Ok(text)
+}
+
+fn named_text(alloc: Global, name: &[u8]) -> Result<Vec<u8>, NoMemory>
+    ensures { IfOk result (λ text. text.items ≡ named_text name.now) }
+{
+    let mut text = Vec::from_slice(alloc, b"The variable ")?;
+    push_bytes(&mut text, name)?;
     push_bytes(
-        text,
+        &mut text,
         b" has an operation's name, and stands for any effect: `a: ",
     )?;
-    push_bytes(text, name)?;
-    push_bytes(text, b"` stands for the operation's.\n")
+    push_bytes(&mut text, name)?;
+    push_bytes(&mut text, b"` stands for the operation's.")?;
+    Ok(text)
 }
 
-// Appends what is said of a place of the contract, behind its line and column.
-fn push_placed(text: &mut Vec<u8>, place: Place, said: &str) -> Result<(), NoMemory> {
-    push_bytes(text, b"At ")?;
-    push_number(text, place.line)?;
-    push_bytes(text, b":")?;
-    push_number(text, place.column)?;
-    push_bytes(text, said.as_bytes())
-}
-
-const UNBRACKETED: &str = " two statements with `=>` are joined without brackets, and so what stands
-behind the first `=>` is all the rest: write (a => b) /\\ (c => d).
-";
-
-const ASKS_NOTHING: &str = "The contract asks for nothing: it holds in every execution, whatever the level.
-";
-
-const NEVER: &str = " stands what can't hold with the rest before its `=>`, in any execution:
-so what stands behind it is never asked for.
-";
-
-const UNNEEDED: &str = " stands what isn't needed: it holds wherever the rest before its `=>` does.
-";
-
-fn push_ruled_out(text: &mut Vec<u8>, name: &[u8], at: u32) -> Result<(), NoMemory> {
-    push_bytes(text, b"The contract of ")?;
-    push_bytes(text, name)?;
-    push_bytes(text, b" is false here too, of effect ")?;
-    push_number(text, at)?;
-    push_bytes(text, b": where ")?;
-    push_bytes(text, name)?;
-    push_bytes(text, b" has its level, this execution can't be.\n")
+fn ruled_out_text(alloc: Global, name: &[u8], at: u32) -> Result<Vec<u8>, NoMemory>
+    ensures { IfOk result (λ text. text.items ≡ ruled_out_text name.now at) }
+{
+    let mut text = Vec::from_slice(alloc, b"The contract of ")?;
+    push_bytes(&mut text, name)?;
+    push_bytes(&mut text, b" is false here too, of effect ")?;
+    push_number(&mut text, at)?;
+    push_bytes(&mut text, b": where ")?;
+    push_bytes(&mut text, name)?;
+    push_bytes(&mut text, b" has its level, this execution can't be.")?;
+    Ok(text)
 }

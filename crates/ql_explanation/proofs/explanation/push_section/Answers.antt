@@ -8,3 +8,6 @@ uses_of-requires-clause-goal c = subst (IsGoalOf c.args.t.now.program) (sym c.go
 
 pub section-requires-clause-known : goal.section-requires-clause-known
 section-requires-clause-known c = subst (IsGoalOf c.args.t.now.program) (sym c.goal_of-goal.ensures) (goal_known c.args.t.now.program c.args.finding.now c.requires.finding)
+
+pub warnings-requires-clause-goal : goal.warnings-requires-clause-goal
+warnings-requires-clause-goal c = subst (IsGoalOf c.args.t.now.program) (sym c.goal_of-goal.ensures) (goal_known c.args.t.now.program c.args.finding.now c.requires.finding)

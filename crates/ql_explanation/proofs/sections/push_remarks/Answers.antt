@@ -1,0 +1,5 @@
+use Rattle.ql_explanation.proofs.Known.{uses_known}
+use Rattle.ql_explanation.proofs.sections.push_remarks.Goals as goal
+
+pub ways_out-requires : goal.ways_out-requires
+ways_out-requires c = uses_known c.args.t.now.program c.args.g c.args.remarks.uses.now c.requires.uses
