@@ -85,7 +85,7 @@ warned_text p (w ∷ ws) = codes "  " ++ warning_text p w ++ codes "\n" ++ warne
 -- some words, the warnings that are so of a countermodel, and its text
 abbrev pub IsCounterPart : Program → Goal → List ℕ → Type 0
 IsCounterPart p g text =
-    (c : Counter) × IsCounterOf p g c × (words : List ℕ) × (warned : List Warning) × All (IsRuledOut p g c) warned × (text ≡ words ++ warned_text p warned ++ counter_text p g c)
+    (c : Counter) × IsCounterOf p g c × (words : List ℕ) × (warned : List Warning) × All (IsRuledOut p g c) warned × (text ≡ words ++ warned_text p warned ++ codes "\n" ++ counter_text p g c)
 
 -- why the lower levels, or all, aren't enough
 abbrev pub IsReasonOf : Program → Option Unmet → List ℕ → Type 0

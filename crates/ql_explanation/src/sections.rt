@@ -51,7 +51,7 @@ pub(crate) fn section(
     requires target { g ≡ goal_of finding.now }
     requires known { IsGoalOf t.now.program g }
     requires uses { AreUsesOf t.now.program g remarks.entry.uses.now }
-    ensures { (source : List ℕ) → All (IsWarning source t.now.program g) remarks.entry.warned.now → IfOk result (λ text. IsSection source t.now.program finding.now text.items) }
+    ensures { IfOk result (λ text. (source : List ℕ) → All (IsWarning source t.now.program g) remarks.entry.warned.now → IsSection source t.now.program finding.now text.items) }
 {
     let mut text = gap(alloc, is_first)?;
     push_first_line(&mut text, t, finding, g)?;
@@ -238,6 +238,7 @@ fn counter_part(
     let counter = countermodel(alloc, t, unmet.goal, &unmet.assignment)?;
     let mut text = counter_words(alloc, t, unmet.goal, &counter, is_top)?;
     push_ruled_out(alloc, &mut text, t, findings, unmet.goal, &counter)?;
+    push_bytes(&mut text, b"\n")?;
     push_counter(alloc, &mut text, t, unmet.goal, &counter)?;
     Ok(text)
 }

@@ -48,7 +48,6 @@ pub(crate) fn counter_words(
     push_bytes(&mut text, b"\n")?;
     let facts = reasons(alloc, formula_of(t, g), c)?;
     push_facts(&mut text, t, c, &facts)?;
-    push_bytes(&mut text, b"\n")?;
     Ok(text)
 }
 

@@ -1,9 +1,11 @@
 -- What follows from known relations.
-use Rattle.std.proofs.Common.{◌≡◌, ℕ, zero, suc, ◌<◌, Bool, true, false, not, ◌&&◌, ◌||◌, inl, inr, ◌⊎◌, List, [], ◌∷◌, ◌++◌, length, Some, get_or, slice_get, refl, sym, subst, ◌∙◌, arith}
+use Rattle.std.proofs.Common.{◌≡◌, ℕ, zero, suc, ◌<◌, Bool, true, false, not, ◌&&◌, ◌||◌, inl, inr, ◌⊎◌, List, [], ◌∷◌, ◌++◌, length, Some, get_or, slice_get, Result, Ok, Err, ◌≢◌, refl, sym, subst, ◌∙◌, arith}
+use Rattle.std.specs.Prelude.{IfOk, OnOk}
+use Rattle.ql_base.specs.declared.no_memory.NoMemory.{NoMemory}
 use Rattle.std.proofs.lemmas.Bool.{and_from, cases_Bool}
 use Rattle.std.proofs.lemmas.List.Elements.{All-push}
 use Rattle.std.specs.List.{All}
-use Rattle.ql_lang.specs.Formulas.{Statement, Always, BothOf, IfThen}
+use Rattle.ql_lang.specs.Formulas.{Resolved, Statement, Always, BothOf, IfThen}
 use Rattle.ql_lang.specs.Formulas as formula
 use Rattle.ql_lang.specs.declared.formula.OpChoice.{OpChoice}
 use Rattle.ql_lang.specs.declared.program.Program.{Program}
@@ -13,7 +15,7 @@ use Rattle.ql_exec.specs.Execution.{IsExecution}
 use Rattle.ql_formula.specs.Truth.{statement_true}
 use Rattle.ql_warnings.specs.Clashes.{CantHold, IsGiven}
 use Rattle.ql_warnings.specs.Known.{Gives, IsKnown, IsPartOf, PartsKept}
-use Rattle.ql_warnings.specs.Premises.{IsAlways, IsPart, IsScene, said}
+use Rattle.ql_warnings.specs.Premises.{AsksNothing, IsAlways, IsContract, IsPart, IsScene, said}
 use Rattle.ql_warnings.specs.declared.known.Known.{Known}
 use Rattle.ql_warnings.proofs.Scenes.{all_at, parts_known}
 
@@ -87,3 +89,18 @@ module _ (p : Program) (g : Goal) (vars : List OpChoice) (known : List Known) wh
 -- what is given by nothing is always so
 pub always : (p : Program) (g : Goal) (vars : List OpChoice) (s : Statement) → IsGiven p g vars [] s → IsAlways p g vars s true
 always p g vars s given x inside places cur scene = given x inside places cur scene (λ k d less. absurd (omega (arith, less)))
+
+-- ---- where the last step may run out of memory
+
+pub both_ok : {A : Type 0} (p q : Statement) (a b c : List Known) (last : Result A NoMemory) → PartsKept p a b → OnOk last (PartsKept q b c) → OnOk last (PartsKept (BothOf p q) a c)
+both_ok p q a b c (Ok done) left right = both_parts p q a b c left right
+both_ok p q a b c (Err e) left right = tt
+
+pub if_ok : (p : Program) (g : Goal) (vars : List OpChoice) (known : List Known) (s r : Statement) (more : List Known) (last : Result Bool NoMemory) → PartsKept s known more
+    → IfOk last (λ b. b ≡ true → IsGiven p g vars more r) → IfOk last (λ b. b ≡ true → IsGiven p g vars known (IfThen s r))
+if_ok p g vars known s r more (Ok b) kept given = λ is. given_if p g vars known s r more kept (given is)
+if_ok p g vars known s r more (Err e) kept given = tt
+
+pub asked_ok : (p : Program) (g : Goal) (f : Resolved) (vars : List OpChoice) (last : Result Bool NoMemory) → IsContract p g f → vars ≡ f.vars → f.body ≢ Always → IfOk last (λ b. b ≡ true → IsGiven p g vars [] f.body) → IfOk last (λ b. b ≡ true → AsksNothing p g)
+asked_ok p g f vars (Ok b) is same other given = λ holds. record { contract = f; is = is; other = other; always = always p g f.vars f.body (subst (λ vs. IsGiven p g vs [] f.body) same (given holds)) }
+asked_ok p g f vars (Err e) is same other given = tt

@@ -3,3 +3,4 @@ mod Scenes
 mod Given
 mod Kept
 mod Spans
+mod Others

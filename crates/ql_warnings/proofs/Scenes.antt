@@ -1,7 +1,7 @@
 -- What is known in each scene.
-use Rattle.std.proofs.Common.{◌≡◌, ◌≢◌, ℕ, zero, suc, ◌+◌, ◌<◌, Bool, true, false, not, ◌&&◌, ◌||◌, nat_eq, inl, inr, ◌⊎◌, List, [], ◌∷◌, ◌++◌, length, Option, None, Some, get_or, slice_get, refl, sym, ap, subst, ◌∙◌, arith, eqb-true}
+use Rattle.std.proofs.Common.{◌≡◌, ◌≢◌, ℕ, zero, suc, ◌+◌, ◌<◌, ◌≤◌, Bool, true, false, not, ◌&&◌, ◌||◌, nat_eq, inl, inr, ◌⊎◌, List, [], ◌∷◌, ◌++◌, length, Option, None, Some, get_or, slice_get, refl, sym, ap, subst, ◌∙◌, arith, eqb-true, eq-eqb}
 use Rattle.std.proofs.lemmas.Bool.{and_parts, and_from, both_ways, cases_Bool, or_cases}
-use Rattle.std.proofs.lemmas.Option.{get_or_from_slice_get, same_Some, slice_get-get_or, slice_get_within}
+use Rattle.std.proofs.lemmas.Option.{get_or_from_slice_get, same_Some, slice_get-get_or, slice_get_past, slice_get_within}
 use Rattle.std.specs.List.{All, list_any}
 use Rattle.ql_base.specs.IdLists.{has_id}
 use Rattle.ql_base.specs.declared.ids.OpId.{OpId}
@@ -13,7 +13,7 @@ use Rattle.ql_lang.specs.declared.formula.OpChoice.TheVariants.{Any, OneOf}
 use Rattle.ql_lang.specs.declared.formula.Term.{Term}
 use Rattle.ql_lang.specs.declared.formula.Term.TheVariants.{Cur, Var}
 use Rattle.ql_lang.specs.declared.program.Program.{Program}
-use Rattle.ql_typing.specs.Operations.{op_kinds}
+use Rattle.ql_typing.specs.Operations.{all_ops, op_kinds}
 use Rattle.ql_ground.specs.declared.goal.Goal.{Goal}
 use Rattle.ql_ground.specs.declared.goal.Goal.TheVariants.{OpAt, TxnAt}
 use Rattle.ql_exec.specs.declared.effect.Effect.{Effect}
@@ -22,10 +22,13 @@ use Rattle.ql_exec.specs.Relations.{sameobj}
 use Rattle.ql_formula.specs.Truth.{Chosen, in_range, named, place_of, statement_true}
 use Rattle.ql_warnings.specs.Clashes.{AreApart, CantHold, IsGiven, choice_may, is_of, may_be, same_kind}
 use Rattle.ql_warnings.specs.Known.{Gives, IsKnown, IsPartOf}
-use Rattle.ql_warnings.specs.Names.{is_on_object, is_order}
+use Rattle.ql_warnings.specs.Names.{is_on_object, is_order, is_symmetric, is_within}
 use Rattle.ql_warnings.specs.Premises.{IsAlways, IsPart, IsScene, IsUnneeded, OthersTrue, said}
 use Rattle.ql_warnings.specs.declared.known.Known.{Known}
-use Rattle.ql_warnings.proofs.Names.{no_order_back, on_object}
+use Rattle.ql_warnings.proofs.Names.{no_order_back, on_object, within_holds}
+use Rattle.ql_warnings.proofs.Names as names
+use Rattle.ql_lang.specs.declared.program.TypeDecl.{TypeDecl}
+use Rattle.ql_ground.proofs.Typing.{count_types}
 
 -- an item of a list
 pub all_at : {A : Type 0} (P : A → Type 0) (xs : List A) (k : ℕ) (a : A) → All P xs → slice_get xs k ≡ Some a → P a
@@ -48,12 +51,12 @@ parts_known x inside places cur s known all h = λ k d less. parts_true x inside
 -- a statement whose parts can't all hold
 pub never_true : (p : Program) (g : Goal) (vars : List OpChoice) (s : Statement) (known : List Known) → All (IsPartOf s) known → CantHold p g vars known → IsAlways p g vars s false
 never_true p g vars s known all cant x inside places cur scene = elim (cases_Bool (statement_true x inside places cur s)) [
-  | inl yes ↦ absurd (cant x places cur scene (parts_known x inside places cur s known all yes))
-  | inr no ↦ no
+  | inl holds ↦ absurd (cant x places cur scene (parts_known x inside places cur s known all holds))
+  | inr fails ↦ fails
 ]
 
 -- the offset of a relation
-at_of : Statement → ℕ
+abbrev at_of : Statement → ℕ
 at_of (Related (Basic name at) t u) = at
 at_of s = 0
 
@@ -84,8 +87,7 @@ chosen_in x (c ∷ vars) (a ∷ places) zero choice chosen at = subst (λ o. in_
 chosen_in x (c ∷ vars) (a ∷ places) (suc v) choice chosen at = chosen_in x vars places v choice chosen.1 at
 
 same_self : (kind : ℕ) → nat_eq kind kind ≡ true
-same_self zero = refl
-same_self (suc kind) = same_self kind
+same_self kind = eq-eqb kind kind refl
 
 of_itself : (kinds : List ℕ) (o kind : ℕ) → slice_get kinds o ≡ Some kind → is_of kinds o kind ≡ true
 of_itself kinds o kind at = subst (λ r. same_kind r kind ≡ true) (sym at) (same_self kind)
@@ -108,8 +110,8 @@ may_var kinds x a (Some (OneOf ops)) e kind range here at =
 might : (p : Program) (g : Goal) (vars : List OpChoice) (x : List Effect) (places : List ℕ) (cur : ℕ) → IsScene p g vars x places cur
     → (t : Term) (e : Effect) (kind : ℕ) → effect_at x (place_of places cur t) ≡ Some e → slice_get (op_kinds p.types) e.op.0 ≡ Some kind → may_be (op_kinds p.types) g vars t kind ≡ true
 might p (OpAt o level) vars x places cur scene Cur e kind here at =
-    let same : scene.current.0 ≡ e = same_Some scene.current.0 e (sym scene.current.1.0 ∙ here) in
-    let of : e.op ≡ o = subst (λ (f : Effect). f.op ≡ o) same scene.current.1.1 in
+    let same : scene.current.0 ≡ e = same_Some scene.current.0 e (sym scene.current.1 ∙ here) in
+    let of : e.op ≡ o = subst (λ (f : Effect). f.op ≡ o) same scene.current.2 in
     of_itself (op_kinds p.types) o.0 kind (subst (λ (q : OpId). slice_get (op_kinds p.types) q.0 ≡ Some kind) of at)
 might p (TxnAt d level) vars x places cur scene Cur e kind here at = refl
 might p (OpAt o level) vars x places cur scene (Var v) e kind here at = may_var (op_kinds p.types) x (place_of places cur (Var v)) (slice_get vars v) e kind (λ c is. chosen_in x vars places v c scene.chosen is) here at
@@ -122,7 +124,7 @@ both_there x a b h = found (effect_at x a) (effect_at x b) refl refl h where
       → (e : Effect) × (f : Effect) × (effect_at x a ≡ Some e) × (effect_at x b ≡ Some f) × (e.object.0 ≡ f.object.0)
   found None s i j h = absurd (cc)
   found (Some e) None i j h = absurd (cc)
-  found (Some e) (Some f) i j h = (e, (f, (i, (j, eqb-true e.object.0 f.object.0 h))))
+  found (Some e) (Some f) i j h = (e, f, i, j, eqb-true e.object.0 f.object.0 h)
 
 -- a relation on one object between terms that no type is possible for
 pub apart : (p : Program) (g : Goal) (vars : List OpChoice) (known : List Known) (i : ℕ) (k : Known) → slice_get known i ≡ Some k → is_on_object k.name ≡ true
@@ -133,12 +135,12 @@ apart p g vars known i k at is none x places cur scene all =
     let b : ℕ = place_of places cur k.second in
     let there = both_there x a b (on_object x scene.lawful k.name a b is (all_at (IsKnown x places cur) known i k all at)) in
     let e : Effect = there.0 in
-    let f : Effect = there.1.0 in
-    let at-e : effect_at x a ≡ Some e = there.1.1.0 in
-    let at-f : effect_at x b ≡ Some f = there.1.1.1.0 in
+    let f : Effect = there.1 in
+    let at-e : effect_at x a ≡ Some e = there.2 in
+    let at-f : effect_at x b ≡ Some f = there.3 in
     let kind : ℕ = get_or kinds e.op.0 0 in
     let of-e : slice_get kinds e.op.0 ≡ Some kind = slice_get-get_or kinds e.op.0 0 (scene.fits.known a e at-e) in
-    let one : kind ≡ get_or kinds f.op.0 0 = scene.fits.one_type a b e f at-e at-f there.1.1.1.1 in
+    let one : kind ≡ get_or kinds f.op.0 0 = scene.fits.one_type a b e f at-e at-f there.4 in
     let of-f : slice_get kinds f.op.0 ≡ Some kind = slice_get-get_or kinds f.op.0 0 (scene.fits.known b f at-f) ∙ ap (λ n. Some n) (sym one) in
     none e.op.0 kind of-e (might p g vars x places cur scene k.first e kind at-e of-e) (might p g vars x places cur scene k.second f kind at-f of-f)
 
@@ -150,3 +152,23 @@ turned p g vars known i j k other at-k at-other is-k is-other one two x places c
     (all_at (IsKnown x places cur) known i k all at-k)
     (subst (λ t. named x other.name t (place_of places cur k.first) ≡ true) (ap (place_of places cur) one)
     (subst (λ t. named x other.name (place_of places cur other.first) t ≡ true) (ap (place_of places cur) two) (all_at (IsKnown x places cur) known j other all at-other)))
+
+-- ---- for the code
+
+-- no operation has a number past the last
+pub past_kinds : (types : List TypeDecl) (o kind : ℕ) → length (all_ops types) ≤ o → is_of (op_kinds types) o kind ≡ false
+past_kinds types o kind past = ap (λ r. same_kind r kind) (slice_get_past (op_kinds types) o (omega (arith, past, count_types types (op_kinds types) refl)))
+
+-- what one relation gives of the same effects, and of the same ones turned
+pub same_way : (k wanted : Known) → is_within k.name wanted.name ≡ true → k.first ≡ wanted.first → k.second ≡ wanted.second → Gives k wanted
+same_way k wanted is one two x law places cur h =
+    within_holds x law k.name wanted.name (place_of places cur wanted.first) (place_of places cur wanted.second) is
+    (subst (λ t. named x k.name t (place_of places cur wanted.second) ≡ true) (ap (place_of places cur) one)
+    (subst (λ t. named x k.name (place_of places cur k.first) t ≡ true) (ap (place_of places cur) two) h))
+
+pub other_way : (k wanted : Known) → is_within k.name wanted.name ≡ true → is_symmetric wanted.name ≡ true → k.first ≡ wanted.second → k.second ≡ wanted.first → Gives k wanted
+other_way k wanted is both one two x law places cur h =
+    names.turned x law wanted.name (place_of places cur wanted.second) (place_of places cur wanted.first) both
+    (within_holds x law k.name wanted.name (place_of places cur wanted.second) (place_of places cur wanted.first) is
+    (subst (λ t. named x k.name t (place_of places cur wanted.first) ≡ true) (ap (place_of places cur) one)
+    (subst (λ t. named x k.name (place_of places cur k.first) t ≡ true) (ap (place_of places cur) two) h)))

@@ -11,14 +11,20 @@ use Rattle.ql_warnings.specs.declared.unbracketed.Sign.TheVariants.{Opens, Close
 abbrev pub word_of : List ℕ → Token → List ℕ
 word_of source t = take (t.to - t.from) (drop t.from source)
 
+-- brackets of each kind, and what joins two statements
+abbrev pub opens : List ℕ → Bool
+opens w = bytes_eq w (codes "(") || (bytes_eq w (codes "[") || bytes_eq w (codes "{"))
+
+abbrev pub closes : List ℕ → Bool
+closes w = bytes_eq w (codes ")") || (bytes_eq w (codes "]") || bytes_eq w (codes "}"))
+
+abbrev pub joins : List ℕ → Bool
+joins w = bytes_eq w (codes "/\\") || bytes_eq w (codes "\\/")
+
 -- what a token does in a contract
-unfoldable pub sign_of : List ℕ → Sign
+abbrev pub sign_of : List ℕ → Sign
 sign_of w =
-    if bytes_eq w (codes "(") || bytes_eq w (codes "[") || bytes_eq w (codes "{") then Opens
-    else (if bytes_eq w (codes ")") || bytes_eq w (codes "]") || bytes_eq w (codes "}") then Closes
-    else (if bytes_eq w (codes "=>") then Arrow
-    else (if bytes_eq w (codes "/\\") || bytes_eq w (codes "\\/") then Joins
-    else (if bytes_eq w (codes ";") then Ends else Plain))))
+    if opens w then Opens else (if closes w then Closes else (if bytes_eq w (codes "=>") then Arrow else (if joins w then Joins else (if bytes_eq w (codes ";") then Ends else Plain))))
 
 -- how many brackets are open after a token, where the search for the next `=>` outside them goes on
 abbrev pub deeper : Sign → ℕ → Option ℕ

@@ -11,21 +11,21 @@ use Rattle.ql_warnings.specs.declared.warning.Warning.TheVariants as warning
 abbrev pub name_in : Program → ℕ → List ℕ
 name_in p o = option_map_or (λ op. op.name.word) (slice_get (all_ops p.types) o) []
 
--- LINE:COLUMN and what is said of it
+-- What stands at LINE:COLUMN, and what is said of it
 abbrev pub placed : Place → List ℕ → List ℕ
-placed place said = codes "At " ++ decimal place.line ++ codes ":" ++ decimal place.column ++ codes " " ++ said
+placed place said = codes "What stands at " ++ decimal place.line ++ codes ":" ++ decimal place.column ++ codes " " ++ said
 
 abbrev pub unbracketed : List ℕ
-unbracketed = codes "two statements with `=>` are joined without brackets, so the second one is a part of the first: write (a => b) /\\ (c => d)."
+unbracketed = codes "joins two statements with `=>` without brackets, so the second one is a part of the first: write (a => b) /\\ (c => d)."
 
 abbrev pub asks_nothing : List ℕ
 asks_nothing = codes "The contract asks for nothing: it holds in every execution, whatever the level."
 
 abbrev pub never : List ℕ
-never = codes "is what can't hold with the rest before its `=>`, in any execution: so what stands behind is never asked for."
+never = codes "can't hold with the rest before its `=>`, in any execution: so what stands behind that is never asked for."
 
 abbrev pub unneeded : List ℕ
-unneeded = codes "is what isn't needed: it holds wherever the rest before its `=>` does."
+unneeded = codes "isn't needed: it holds wherever the rest before its `=>` does."
 
 abbrev pub named_text : List ℕ → List ℕ
 named_text name = codes "The variable " ++ name ++ codes " has an operation's name, and stands for any effect: `a: " ++ name ++ codes "` stands for the operation's."

@@ -1,5 +1,6 @@
 -- What each warning says.
 use Rattle.std.specs.Prelude.{ℕ, ◌≡◌, ◌≢◌, ◌<◌, List, [], Option, None, Some, length, slice_get}
+use Rattle.std.specs.Option.{option_map}
 use Rattle.std.specs.List.{All}
 use Rattle.ql_base.specs.declared.ids.EffId.{EffId}
 use Rattle.ql_base.specs.declared.ids.OpId.{OpId}
@@ -21,6 +22,7 @@ use Rattle.ql_counter.specs.declared.counter.Counter.{Counter}
 use Rattle.ql_classify.specs.Finding.{IsFinding}
 use Rattle.ql_classify.specs.Targets.{IsOpLevel, targets}
 use Rattle.ql_classify.specs.declared.finding.Finding.{Finding}
+use Rattle.ql_classify.specs.declared.finding.Finding.TheVariants.{Least, NoLevel}
 use Rattle.ql_warnings.specs.Brackets.{IsUnbracketed}
 use Rattle.ql_warnings.specs.Places.{IsPlaceOf}
 use Rattle.ql_warnings.specs.Premises.{AsksNothing, IsContract, IsNever, IsPremise, IsUnneeded}
@@ -31,8 +33,10 @@ use Rattle.ql_warnings.specs.declared.warning.Warning.TheVariants as warning
 
 -- the variables of a target's contract as they are written, and the offset of its name
 abbrev pub Declares : Program → Goal → List Var → ℕ → Type 0
-Declares p (OpAt o level) vars at = (d : OpDecl) × (slice_get (all_ops p.types) o.0 ≡ Some d) × (d.contract.vars ≡ vars) × (d.name.at ≡ at)
-Declares p (TxnAt n level) vars at = (d : TxnDecl) × (slice_get p.txns n.0 ≡ Some d) × (d.contract.vars ≡ vars) × (d.name.at ≡ at)
+Declares p (OpAt o level) vars at =
+    (option_map (λ d. d.contract.vars) (slice_get (all_ops p.types) o.0) ≡ Some vars) × (option_map (λ d. d.name.at) (slice_get (all_ops p.types) o.0) ≡ Some at)
+Declares p (TxnAt n level) vars at =
+    (option_map (λ d. d.contract.vars) (slice_get p.txns n.0) ≡ Some vars) × (option_map (λ d. d.name.at) (slice_get p.txns n.0) ≡ Some at)
 
 -- a variable stands for any effect, and has the name of an operation
 pub record IsNamedAs (p : Program) (vars : List Var) (v : ℕ) (op : OpId) : Type 0 where
@@ -69,6 +73,10 @@ IsWarning source p g (warning.RuledOut op at) = ⊥
 pub record AreFindings (p : Program) (findings : List Finding) : Type 0 where
   pub all : length findings ≡ targets p
   pub each : (k : ℕ) (f : Finding) → slice_get findings k ≡ Some f → IsFinding p k f
+
+abbrev pub HasLevel : Finding → Type 0
+HasLevel (Least g below) = Unit {0}
+HasLevel (NoLevel u) = ⊥
 
 -- the target isn't the operation
 abbrev pub IsOther : Goal → OpId → Type 0

@@ -5,9 +5,9 @@ ghost use Rattle.ql_exec.specs.declared.effect.Effect.{Effect};
 ghost use Rattle.ql_exec.specs.Execution.{IsExecution};
 ghost use Rattle.ql_lang.specs.Formulas.{statement_of};
 ghost use Rattle.ql_warnings.specs.Clashes.{IsGiven};
-ghost use Rattle.ql_warnings.specs.Known.{IsKnown};
+ghost use Rattle.ql_warnings.specs.Known.{IsKnown, PartsKept};
 
-use crate::clash::{Scene, first_clash};
+use crate::clash::{Scene, has_clash};
 use crate::known::{Known, gives, push_known};
 use ql_base::NoMemory;
 use ql_lang::{Body, Rel};
@@ -40,15 +40,23 @@ pub(crate) fn is_given(
             Ok(is_given(alloc, scene, known, left)? || is_given(alloc, scene, known, right)?)
         }
         Body::Implies(left, right) => {
-            let mut more = Vec::from_slice(alloc, known)?;
-            push_known(&mut more, left)?;
-            if first_clash(scene, &more).is_some() {
+            let more = with_parts(alloc, known, left)?;
+            if has_clash(scene, &more) {
                 return Ok(true);
             }
             is_given(alloc, scene, &more, right)
         }
         Body::Apply(_, _, _) | Body::Txn(_, _) => Ok(false),
     }
+}
+
+// What is known where a statement is true too.
+fn with_parts(alloc: Global, known: &[Known], body: &Body) -> Result<Vec<Known>, NoMemory>
+    ensures { IfOk result (λ more. PartsKept (statement_of body.now) known.now more.items) }
+{
+    let mut more = Vec::from_slice(alloc, known)?;
+    push_known(&mut more, body)?;
+    Ok(more)
 }
 
 // Whether one of the relations gives another.

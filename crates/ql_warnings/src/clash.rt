@@ -26,12 +26,32 @@ pub(crate) fn first_clash(scene: Scene, known: &[Known]) -> Option<Known>
     ensures clash { IfSome result (λ k. CantHold scene.entry.program.now.program scene.entry.goal scene.entry.vars.now known.now) }
 {
     for k in 0..known.len() {
-        let relation = known[k];
-        if is_of_two_types(scene, relation) || has_turned(known, relation) {
+        let relation = known_at(known, k);
+        if is_of_two_types(scene, relation) {
+            return Some(relation);
+        }
+        if has_turned(known, relation) {
             return Some(relation);
         }
     }
     None
+}
+
+/// Whether one can't hold with all the others.
+pub(crate) fn has_clash(scene: Scene, known: &[Known]) -> bool
+    ensures { result ≡ true → CantHold scene.entry.program.now.program scene.entry.goal scene.entry.vars.now known.now }
+{
+    match first_clash(scene, known) {
+        Some(_) => true,
+        None => false,
+    }
+}
+
+fn known_at(known: &[Known], k: usize) -> Known
+    requires { k < length known.now }
+    ensures { slice_get known.now k ≡ Some result }
+{
+    known[k]
 }
 
 // Whether a relation is of effects on one object, which no type is possible for.
@@ -98,6 +118,7 @@ fn one_may(t: &Typed, ops: &[u32], kind: TypeId) -> bool
 }
 
 // Whether there is an operation of the number, of the type.
+#[tactic(auto, using(crate::proofs::Scenes::past_kinds))]
 fn is_of(t: &Typed, o: u32, kind: TypeId) -> bool
     ensures { result ≡ is_of (op_kinds t.now.program.types) o kind.0 }
 {

@@ -1,9 +1,9 @@
 // What there is to warn of in a target's contract.
-ghost use Rattle.std.specs.Prelude.{◌≡◌, ◌≢◌, ◌<◌, ◌++◌, ◌^◌, IfOk, OnOk, length, true};
+ghost use Rattle.std.specs.Prelude.{◌≡◌, ◌≢◌, ◌<◌, ◌++◌, ◌^◌, ℕ, IfOk, List, OnOk, false, length, true};
 ghost use Rattle.std.specs.List.{All};
 ghost use Rattle.ql_lang.specs.Formulas.{Always, resolved_of, statement_of};
 ghost use Rattle.ql_ground.specs.OfPrograms.{IsGoalOf};
-ghost use Rattle.ql_warnings.specs.Premises.{IsAlways, IsContract};
+ghost use Rattle.ql_warnings.specs.Premises.{AsksNothing, IsContract};
 ghost use Rattle.ql_warnings.specs.Warnings.{Declares, IsWarning};
 
 use crate::always::is_given;
@@ -90,30 +90,74 @@ fn of_contract(
     requires goal { IsGoalOf t.now.program g }
     ensures { IfOk result (λ found. All (IsWarning source.now t.now.program g) found.items) }
 {
-    let formula = formula_of(t, g);
-    let scene = Scene {
-        program: t,
-        goal: g,
-        vars: formula.vars.items(),
-    };
-    let mut found = Vec::new(alloc);
-    if asks_nothing(alloc, scene, &formula.body)? {
-        found.push(Warning::AsksNothing)?;
-    }
-    let of_premises = premises(alloc, source, scene, &formula.body)?;
+    let mut found = nothing(alloc, t, g)?;
+    let of_premises = of_premises(alloc, source, t, g)?;
     push_all(&mut found, &of_premises)?;
     Ok(found)
 }
 
-// Whether a contract isn't `true` and is always true.
-fn asks_nothing(alloc: Global, scene: Scene, body: &Body) -> Result<bool, NoMemory>
-    ensures { IfOk result (λ nothing. nothing ≡ true → (statement_of body.now ≢ Always)
-        × IsAlways scene.entry.program.now.program scene.entry.goal scene.entry.vars.now (statement_of body.now) true) }
+fn of_premises(
+    alloc: Global,
+    source: &[u8],
+    t: &Typed,
+    g: Goal,
+) -> Result<Vec<Warning>, NoMemory>
+    requires bytes { length source.now < 2 ^ 32 }
+    requires goal { IsGoalOf t.now.program g }
+    ensures { IfOk result (λ found. All (IsWarning source.now t.now.program g) found.items) }
 {
-    if let Body::True = body {
+    let formula = formula_of(t, g);
+    let found = premises(alloc, source, scene_of(t, g, formula), &formula.body)?;
+    Ok(found)
+}
+
+// That a contract asks for nothing, where it does.
+fn nothing(alloc: Global, t: &Typed, g: Goal) -> Result<Vec<Warning>, NoMemory>
+    requires { IsGoalOf t.now.program g }
+    ensures { IfOk result (λ found. (source : List ℕ) → All (IsWarning source t.now.program g) found.items) }
+{
+    let mut found = Vec::new(alloc);
+    if asks_nothing(alloc, t, g)? {
+        found.push(Warning::AsksNothing)?;
+    }
+    Ok(found)
+}
+
+// Whether a contract isn't `true` and is always true: where it says so.
+fn asks_nothing(alloc: Global, t: &Typed, g: Goal) -> Result<bool, NoMemory>
+    requires { IsGoalOf t.now.program g }
+    ensures { IfOk result (λ nothing. nothing ≡ true → AsksNothing t.now.program g) }
+{
+    let formula = formula_of(t, g);
+    if is_true(&formula.body) {
         return Ok(false);
     }
-    is_given(alloc, scene, &[], body)
+    is_given(alloc, scene_of(t, g, formula), &[], &formula.body)
+}
+
+fn is_true(body: &Body) -> bool
+    ensures { result ≡ false → statement_of body.now ≢ Always }
+{
+    match body {
+        Body::True => true,
+        Body::Apply(_, _, _)
+        | Body::And(_, _)
+        | Body::Or(_, _)
+        | Body::Implies(_, _)
+        | Body::Txn(_, _) => false,
+    }
+}
+
+fn scene_of<'a>(t: &'a Typed, g: Goal, formula: &'a Formula) -> Scene<'a>
+    ensures program { result.program ≡ t }
+    ensures goal { result.goal ≡ g }
+    ensures vars { result.vars.now ≡ formula.now.vars }
+{
+    Scene {
+        program: t,
+        goal: g,
+        vars: formula.vars.items(),
+    }
 }
 
 fn formula_of(t: &Typed, g: Goal) -> &Formula

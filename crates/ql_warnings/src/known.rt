@@ -45,8 +45,16 @@ pub(crate) fn push_known(known: &mut Vec<Known>, body: &Body) -> Result<(), NoMe
 pub(crate) fn gives(known: Known, wanted: Known) -> bool
     ensures { result ≡ true → Gives known wanted }
 {
-    is_within(known.name, wanted.name)
-        && (is_same_way(known, wanted) || is_symmetric(wanted.name) && is_turned(known, wanted))
+    if !is_within(known.name, wanted.name) {
+        return false;
+    }
+    if is_same_way(known, wanted) {
+        return true;
+    }
+    if !is_symmetric(wanted.name) {
+        return false;
+    }
+    is_turned(known, wanted)
 }
 
 /// Whether two relations are of the same effects in the same order.

@@ -4,12 +4,12 @@ ghost use Rattle.ql_warnings.specs.Places.{IsPlaceOf, ends_line, in_line};
 
 use crate::warning::Place;
 
-/// The line and the column of an offset, where the source is as long.
+/// The line and the column of an offset, where the source is longer.
 pub(crate) fn place_in(source: &[u8], at: u32) -> Option<Place>
     requires { length source.now < 2 ^ 32 }
     ensures { IfSome result (λ place. IsPlaceOf source.now place × (place.at ≡ at)) }
 {
-    if at as usize <= source.len() {
+    if (at as usize) < source.len() {
         Some(place_of(source, at))
     } else {
         None
@@ -18,7 +18,7 @@ pub(crate) fn place_in(source: &[u8], at: u32) -> Option<Place>
 
 fn place_of(source: &[u8], at: u32) -> Place
     requires few { length source.now < 2 ^ 32 }
-    requires within { at ≤ length source.now }
+    requires within { at < length source.now }
     ensures place { IsPlaceOf source.now result }
     ensures same { result.at ≡ at }
 {

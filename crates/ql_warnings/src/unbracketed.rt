@@ -1,13 +1,16 @@
 // `=>` and `/\` or `\/` beside each other without brackets.
-ghost use Rattle.std.specs.Prelude.{◌≡◌, ◌+◌, ◌<◌, ◌≤◌, ◌^◌, IfOk, IfSome, Ok, OnOk, Some, drop, length, slice_get};
+ghost use Rattle.std.specs.Prelude.{◌≡◌, ◌+◌, ◌<◌, ◌≤◌, ◌^◌, IfOk, IfSome, Ok, Some, codes, drop, length, slice_get, true};
 ghost use Rattle.std.specs.List.{All};
 ghost use Rattle.ql_lex.specs.Tokens.{AreSpans, Lexes};
 ghost use Rattle.ql_lex.specs.declared.token.Token.{Token};
 ghost use Rattle.ql_warnings.specs.Kept.{IsBracketWarning};
-ghost use Rattle.ql_warnings.specs.Brackets.{deeper, joined, met, sign_of, told, word_of};
+ghost use Rattle.ql_warnings.specs.Places.{IsPlaceOf};
+ghost use Rattle.ql_warnings.specs.declared.unbracketed.Sign.TheVariants.{Arrow};
+ghost use Rattle.std.specs.Str.{bytes_eq};
+ghost use Rattle.ql_warnings.specs.Brackets.{IsUnbracketed, closes, deeper, joined, joins, met, opens, sign_of, told, word_of};
 
 use crate::place::place_in;
-use crate::warning::Warning;
+use crate::warning::{Place, Warning};
 use ql_base::NoMemory;
 use ql_lex::{LexFault, Token, tokens};
 use std::alloc::Global;
@@ -26,19 +29,49 @@ pub(crate) enum Sign {
 fn sign_of(word: &[u8]) -> Sign
     ensures { result ≡ sign_of word.now }
 {
-    if word == b"(".as_slice() || word == b"[".as_slice() || word == b"{".as_slice() {
+    if opens(word) {
         Sign::Opens
-    } else if word == b")".as_slice() || word == b"]".as_slice() || word == b"}".as_slice() {
+    } else if closes(word) {
         Sign::Closes
-    } else if word == b"=>".as_slice() {
+    } else if is_arrow(word) {
         Sign::Arrow
-    } else if word == b"/\\".as_slice() || word == b"\\/".as_slice() {
+    } else if joins(word) {
         Sign::Joins
-    } else if word == b";".as_slice() {
+    } else if ends(word) {
         Sign::Ends
     } else {
         Sign::Plain
     }
+}
+
+fn opens(word: &[u8]) -> bool
+    ensures { result ≡ opens word.now }
+{
+    word == b"(".as_slice() || word == b"[".as_slice() || word == b"{".as_slice()
+}
+
+fn closes(word: &[u8]) -> bool
+    ensures { result ≡ closes word.now }
+{
+    word == b")".as_slice() || word == b"]".as_slice() || word == b"}".as_slice()
+}
+
+fn is_arrow(word: &[u8]) -> bool
+    ensures { result ≡ bytes_eq word.now (codes "=>") }
+{
+    word == b"=>".as_slice()
+}
+
+fn joins(word: &[u8]) -> bool
+    ensures { result ≡ joins word.now }
+{
+    word == b"/\\".as_slice() || word == b"\\/".as_slice()
+}
+
+fn ends(word: &[u8]) -> bool
+    ensures { result ≡ bytes_eq word.now (codes ";") }
+{
+    word == b";".as_slice()
 }
 
 /// A warning of each `/\` or `\/` that stands between two `=>` without brackets, where the first `=>` is from one offset of
@@ -59,9 +92,8 @@ pub(crate) fn unbracketed(
         Err(_) => return Ok(found),
     };
     for k in 0..tokens.len() {
-        let token = token_at(&tokens, k);
-        if start <= token.from && token.from < end {
-            push_joined(&mut found, source, &tokens, k, start)?;
+        if let Some(place) = joined_at(source, &tokens, k, start, end) {
+            found.push(Warning::Unbracketed(place))?;
         }
     }
     Ok(found)
@@ -74,31 +106,25 @@ fn token_at(tokens: &[Token], k: usize) -> Token
     tokens[k]
 }
 
-// Appends a warning of what joins an `=>` to the next one.
-fn push_joined(
-    found: &mut Vec<Warning>,
-    source: &[u8],
-    tokens: &[Token],
-    k: usize,
-    start: u32,
-) -> Result<(), NoMemory>
+// The place of what joins an `=>` to the next one, where that is from `start` on and before `end`.
+fn joined_at(source: &[u8], tokens: &[Token], k: usize, start: u32, end: u32) -> Option<Place>
     requires few { length source.now < 2 ^ 32 }
     requires lexed { Lexes 0 source.now (Ok tokens.now) }
     requires spans { AreSpans 0 (length source.now) tokens.now }
     requires there { k < length tokens.now }
-    requires behind { (t : Token) → slice_get tokens.now k ≡ Some t → start ≤ t.from }
-    ensures { OnOk result (All (IsBracketWarning source.now start) found.old.items → All (IsBracketWarning source.now start) found.new.items) }
+    ensures { IfSome result (λ place. IsPlaceOf source.now place × IsUnbracketed source.now start place.at) }
 {
-    if sign_at(source, tokens, k) != Sign::Arrow {
-        return Ok(());
+    let token = token_at(tokens, k);
+    if token.from < start || end <= token.from {
+        return None;
     }
-    let Some(at) = joined(source, tokens, k + 1, 0, None) else {
-        return Ok(());
-    };
-    if let Some(place) = place_in(source, at) {
-        found.push(Warning::Unbracketed(place))?;
+    if !points(sign_at(source, token)) {
+        return None;
     }
-    Ok(())
+    match joined(source, tokens, k + 1, 0, None) {
+        Some(at) => place_in(source, at),
+        None => None,
+    }
 }
 
 // The first `/\` or `\/` before the next `=>` from a token on, outside brackets, of which so many are open.
@@ -116,14 +142,37 @@ fn joined(
     if tokens.len() <= k {
         return None;
     }
-    let sign = sign_at(source, tokens, k);
+    let token = token_at(tokens, k);
+    let sign = sign_at(source, token);
     match deeper(sign, depth) {
         Some(inside) => {
-            let found = met(sign, depth, token_at(tokens, k).from, found);
-            joined(source, tokens, k + 1, inside, found)
+            let next = met(sign, depth, token.from, found);
+            joined(source, tokens, k + 1, inside, next)
         }
         None => told(sign, found),
     }
+}
+
+fn points(sign: Sign) -> bool
+    ensures { result ≡ true → sign ≡ Arrow }
+{
+    matches!(sign, Sign::Arrow)
+}
+
+fn sign_at(source: &[u8], token: Token) -> Sign
+    requires order { token.from ≤ token.to }
+    requires within { token.to ≤ length source.now }
+    ensures { result ≡ sign_of (word_of source.now token) }
+{
+    sign_of(word_of(source, token))
+}
+
+fn word_of(source: &[u8], token: Token) -> &[u8]
+    requires order { token.from ≤ token.to }
+    requires within { token.to ≤ length source.now }
+    ensures { result.now ≡ word_of source.now token }
+{
+    &source[token.from as usize..token.to as usize]
 }
 
 // How many brackets are open after a token, where the search goes on.
@@ -159,13 +208,4 @@ fn told(sign: Sign, found: Option<u32>) -> Option<u32>
         Sign::Arrow => found,
         _ => None,
     }
-}
-
-fn sign_at(source: &[u8], tokens: &[Token], k: usize) -> Sign
-    requires spans { AreSpans 0 (length source.now) tokens.now }
-    requires there { k < length tokens.now }
-    ensures { (t : Token) → slice_get tokens.now k ≡ Some t → result ≡ sign_of (word_of source.now t) }
-{
-    let token = token_at(tokens, k);
-    sign_of(&source[token.from as usize..token.to as usize])
 }

@@ -33,15 +33,15 @@ pub fn warning_text(alloc: Global, t: &Typed, warning: Warning) -> Result<Vec<u8
     }
 }
 
-const UNBRACKETED: &[u8] = b"two statements with `=>` are joined without brackets, so the second one is a part of the first: write (a => b) /\\ (c => d).";
+const UNBRACKETED: &[u8] = b"joins two statements with `=>` without brackets, so the second one is a part of the first: write (a => b) /\\ (c => d).";
 
 const ASKS_NOTHING: &[u8] =
     b"The contract asks for nothing: it holds in every execution, whatever the level.";
 
-const NEVER: &[u8] = b"is what can't hold with the rest before its `=>`, in any execution: so what stands behind is never asked for.";
+const NEVER: &[u8] = b"can't hold with the rest before its `=>`, in any execution: so what stands behind that is never asked for.";
 
 const UNNEEDED: &[u8] =
-    b"is what isn't needed: it holds wherever the rest before its `=>` does.";
+    b"isn't needed: it holds wherever the rest before its `=>` does.";
 
 fn name_in(t: &Typed, op: OpId) -> &[u8]
     ensures { result.now ≡ name_in t.now.program op.0 }
@@ -57,7 +57,7 @@ fn name_in(t: &Typed, op: OpId) -> &[u8]
 fn placed(alloc: Global, place: Place, said: &[u8]) -> Result<Vec<u8>, NoMemory>
     ensures { IfOk result (λ text. text.items ≡ placed place said.now) }
 {
-    let mut text = Vec::from_slice(alloc, b"At ")?;
+    let mut text = Vec::from_slice(alloc, b"What stands at ")?;
     push_number(&mut text, place.line)?;
     push_bytes(&mut text, b":")?;
     push_number(&mut text, place.column)?;
