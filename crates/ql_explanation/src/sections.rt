@@ -236,28 +236,29 @@ fn counter_part(
     ensures { IfOk result (λ text. IsCounterPart t.now.program unmet.now.goal text.items) }
 {
     let counter = countermodel(alloc, t, unmet.goal, &unmet.assignment)?;
+    let warned = of_counter(alloc, t, findings, unmet.goal, &counter)?;
     let mut text = counter_words(alloc, t, unmet.goal, &counter, is_top)?;
-    push_ruled_out(alloc, &mut text, t, findings, unmet.goal, &counter)?;
+    push_warned(alloc, &mut text, t, &warned)?;
     push_bytes(&mut text, b"\n")?;
     push_counter(alloc, &mut text, t, unmet.goal, &counter)?;
     Ok(text)
 }
 
 // Whether the countermodel breaks the contract of another operation, which has a level.
-fn push_ruled_out(
+fn of_counter(
     alloc: Global,
-    out: &mut Vec<u8>,
     t: &Typed,
     findings: &[Finding],
     g: Goal,
     c: &Counter,
-) -> Result<(), NoMemory>
+) -> Result<Vec<Warning>, NoMemory>
     requires findings { AreFindings t.now.program findings.now }
     requires counter { IsCounterOf t.now.program g c.now }
-    ensures { OnOk result ((warned : List Warning) × All (IsRuledOut t.now.program g c.now) warned × (out.new.items ≡ out.old.items ++ warned_text t.now.program warned)) }
+    ensures { IfOk result (λ warned. All (IsRuledOut t.now.program g c.now) warned.items) }
 {
-    match ruled_out(alloc, t, findings, g, c)? {
-        Some(warning) => push_warned(alloc, out, t, &[warning]),
-        None => Ok(()),
+    let mut warned = Vec::new(alloc);
+    if let Some(warning) = ruled_out(alloc, t, findings, g, c)? {
+        warned.push(warning)?;
     }
+    Ok(warned)
 }

@@ -29,7 +29,7 @@ both_parts p q a b c left right whole h all = right whole (λ part m. h part (in
 
 -- ---- known relations as one statement
 
-all_of : List Known → Statement
+abbrev all_of : List Known → Statement
 all_of [] = Always
 all_of (k ∷ known) = BothOf (said k) (all_of known)
 

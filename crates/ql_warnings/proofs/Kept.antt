@@ -1,6 +1,6 @@
 -- Warnings that are kept, and of what they are.
 use Rattle.std.proofs.Common.{◌≡◌, ℕ, zero, suc, ◌<◌, inl, inr, ◌⊎◌, List, [], ◌∷◌, ◌++◌, length, get_or, Result, Ok, Err, refl, sym, subst, ◌∙◌, arith}
-use Rattle.std.specs.Prelude.{OnOk}
+use Rattle.std.specs.Prelude.{IfOk, OnOk}
 use Rattle.ql_base.specs.declared.no_memory.NoMemory.{NoMemory}
 use Rattle.std.proofs.lemmas.List.Elements.{All-append}
 use Rattle.std.specs.List.{All}
@@ -65,3 +65,7 @@ two_ok source p g vars s r a b c (Err e) left right = tt
 pub first_ok : {A : Type 0} (source : List ℕ) (p : Program) (g : Goal) (vars : List OpChoice) (s r : Statement) (a found b c : List Warning) (last : Result A NoMemory) → All (IsOfPremise source p g vars s) found → b ≡ a ++ found → OnOk last (PremisesKept source p g vars r b c) → OnOk last (PremisesKept source p g vars (IfThen s r) a c)
 first_ok source p g vars s r a found b c (Ok done) of same rest = premise_first source p g vars s r a found b c of same rest
 first_ok source p g vars s r a found b c (Err e) of same rest = tt
+
+pub ok_map : {A : Type 0} {P Q : A → Type 0} (last : Result A NoMemory) → ((a : A) → P a → Q a) → IfOk last P → IfOk last Q
+ok_map (Ok a) more is = more a is
+ok_map (Err e) more is = tt

@@ -3,4 +3,4 @@ mod Scenes
 mod Given
 mod Kept
 mod Spans
-mod Others
+mod Breaking

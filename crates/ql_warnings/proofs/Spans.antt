@@ -1,5 +1,5 @@
 -- Tokens lie within their source, and what joins two `=>` among them.
-use Rattle.std.proofs.Common.{◌≡◌, ℕ, zero, suc, ◌+◌, ◌<◌, ◌≤◌, List, [], ◌∷◌, length, Option, None, Some, slice_get, drop, refl, sym, ap, subst, ◌∙◌, arith}
+use Rattle.std.proofs.Common.{◌≡◌, ℕ, zero, suc, ◌+◌, ◌<◌, ◌≤◌, List, [], ◌∷◌, length, Option, None, Some, slice_get, drop, refl, sym, ap, subst, ◌∙◌, add-one, arith}
 use Rattle.std.specs.Prelude.{IfSome, Ok}
 use Rattle.std.specs.Option.{option_map_or}
 use Rattle.std.proofs.lemmas.Option.{same_Some}
@@ -35,7 +35,7 @@ from_one (u ∷ ts) (suc k) t e = from_one ts k t e
 pub goes_on : (source : List ℕ) (ts : List Token) (k : ℕ) (t : Token) (sign : Sign) (depth inside : ℕ) (found next r : Option ℕ) → slice_get ts k ≡ Some t → sign ≡ sign_of (word_of source t)
     → Some inside ≡ deeper sign depth → next ≡ met sign depth t.from found → r ≡ joined source inside next (drop (k + 1) ts) → r ≡ joined source depth found (drop k ts)
 goes_on source ts k t sign depth inside found next r at is deep on same =
-    same ∙ ap (λ n. joined source inside n (drop (suc k) ts)) on
+    same ∙ ap (λ m. joined source inside next (drop m ts)) (add-one k) ∙ ap (λ n. joined source inside n (drop (suc k) ts)) on
     ∙ ap (λ o. option_map_or (λ d. joined source d (met sign depth t.from found) (drop (suc k) ts)) o (told sign found)) deep
     ∙ ap (λ s. option_map_or (λ d. joined source d (met s depth t.from found) (drop (suc k) ts)) (deeper s depth) (told s found)) is
     ∙ sym (ap (joined source depth found) (from_one ts k t at))
@@ -53,4 +53,4 @@ pub unbracketed_at : (source : List ℕ) (start at : ℕ) (tokens : List Token) 
     → start ≤ arrow.from → joined source 0 None (drop (k + 1) tokens) ≡ Some at → IfSome r (λ place. IsPlaceOf source place × (place.at ≡ at)) → IfSome r (λ place. IsPlaceOf source place × IsUnbracketed source start place.at)
 unbracketed_at source start at tokens k arrow None lexed there is behind joins placed = tt
 unbracketed_at source start at tokens k arrow (Some place) lexed there is behind joins placed =
-    (placed.0, record { tokens = tokens; lexed = lexed; place = k; arrow = arrow; there = there; is_arrow = is; behind = behind; joins = joins ∙ ap (λ n. Some n) (sym placed.1) })
+    (placed.0, record { tokens = tokens; lexed = lexed; place = k; arrow = arrow; there = there; is_arrow = is; behind = behind; joins = sym (ap (λ m. joined source 0 None (drop m tokens)) (add-one k)) ∙ joins ∙ ap (λ n. Some n) (sym placed.1) })

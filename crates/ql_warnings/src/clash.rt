@@ -47,7 +47,7 @@ pub(crate) fn has_clash(scene: Scene, known: &[Known]) -> bool
     }
 }
 
-fn known_at(known: &[Known], k: usize) -> Known
+pub(crate) fn known_at(known: &[Known], k: usize) -> Known
     requires { k < length known.now }
     ensures { slice_get known.now k ≡ Some result }
 {

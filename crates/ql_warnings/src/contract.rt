@@ -107,7 +107,12 @@ fn of_premises(
     ensures { IfOk result (λ found. All (IsWarning source.now t.now.program g) found.items) }
 {
     let formula = formula_of(t, g);
-    let found = premises(alloc, source, scene_of(t, g, formula), &formula.body)?;
+    let scene = Scene {
+        program: t,
+        goal: g,
+        vars: formula.vars.items(),
+    };
+    let found = premises(alloc, source, scene, &formula.body)?;
     Ok(found)
 }
 
@@ -132,7 +137,12 @@ fn asks_nothing(alloc: Global, t: &Typed, g: Goal) -> Result<bool, NoMemory>
     if is_true(&formula.body) {
         return Ok(false);
     }
-    is_given(alloc, scene_of(t, g, formula), &[], &formula.body)
+    let scene = Scene {
+        program: t,
+        goal: g,
+        vars: formula.vars.items(),
+    };
+    is_given(alloc, scene, &[], &formula.body)
 }
 
 fn is_true(body: &Body) -> bool
@@ -145,18 +155,6 @@ fn is_true(body: &Body) -> bool
         | Body::Or(_, _)
         | Body::Implies(_, _)
         | Body::Txn(_, _) => false,
-    }
-}
-
-fn scene_of<'a>(t: &'a Typed, g: Goal, formula: &'a Formula) -> Scene<'a>
-    ensures program { result.program ≡ t }
-    ensures goal { result.goal ≡ g }
-    ensures vars { result.vars.now ≡ formula.now.vars }
-{
-    Scene {
-        program: t,
-        goal: g,
-        vars: formula.vars.items(),
     }
 }
 

@@ -11,8 +11,9 @@ ghost use Rattle.ql_ground.specs.declared.goal.Goal.{Goal};
 ghost use Rattle.ql_warnings.specs.declared.known.Known.{Known};
 ghost use Rattle.ql_warnings.specs.Premises.{IsNever, IsUnneeded};
 
-use crate::clash::{Scene, first_clash};
-use crate::known::{Known, gives, push_known};
+use crate::always::with_parts;
+use crate::clash::{Scene, first_clash, known_at};
+use crate::known::{Known, gives};
 use crate::place::place_in;
 use crate::warning::Warning;
 use ql_base::NoMemory;
@@ -75,35 +76,51 @@ fn of_premise(
     requires { length source.now < 2 ^ 32 }
     ensures { IfOk result (λ found. All (IsOfPremise source.now scene.entry.program.now.program scene.entry.goal scene.entry.vars.now (statement_of premise.now)) found.items) }
 {
-    let mut known = Vec::new(alloc);
-    push_known(&mut known, premise)?;
-    let mut found = Vec::new(alloc);
+    let known = with_parts(alloc, &[], premise)?;
     match first_clash(scene, &known) {
-        Some(clash) => push_never(&mut found, source, clash.at)?,
-        None => push_unneeded(&mut found, source, &known)?,
+        Some(clash) => of_clash(alloc, source, clash.at),
+        None => of_parts(alloc, source, &known),
+    }
+}
+
+fn of_clash(alloc: Global, source: &[u8], at: u32) -> Result<Vec<Warning>, NoMemory>
+    requires { length source.now < 2 ^ 32 }
+    ensures { IfOk result (λ found. (p : Program) (g : Goal) (vars : List OpChoice) (premise : Statement) → IsNever p g vars premise at → All (IsOfPremise source.now p g vars premise) found.items) }
+{
+    let mut found = Vec::new(alloc);
+    if let Some(place) = place_in(source, at) {
+        found.push(Warning::NeverApplies(place))?;
     }
     Ok(found)
 }
 
-fn push_never(found: &mut Vec<Warning>, source: &[u8], at: u32) -> Result<(), NoMemory>
+// The relations that others give.
+fn of_parts(alloc: Global, source: &[u8], known: &[Known]) -> Result<Vec<Warning>, NoMemory>
     requires { length source.now < 2 ^ 32 }
-    ensures { OnOk result ((p : Program) (g : Goal) (vars : List OpChoice) (premise : Statement) → IsNever p g vars premise at → PremiseKept source.now p g vars premise found.old.items found.new.items) }
+    ensures { IfOk result (λ found. (p : Program) (g : Goal) (vars : List OpChoice) (premise : Statement) → All (IsPartOf premise) known.now → All (IsOfPremise source.now p g vars premise) found.items) }
 {
-    if let Some(place) = place_in(source, at) {
-        found.push(Warning::NeverApplies(place))?;
+    let mut found = Vec::new(alloc);
+    for k in 0..known.len() {
+        push_part(&mut found, source, known, k)?;
     }
-    Ok(())
+    Ok(found)
 }
 
-fn push_unneeded(found: &mut Vec<Warning>, source: &[u8], known: &[Known]) -> Result<(), NoMemory>
-    requires { length source.now < 2 ^ 32 }
+fn push_part(
+    found: &mut Vec<Warning>,
+    source: &[u8],
+    known: &[Known],
+    k: usize,
+) -> Result<(), NoMemory>
+    requires few { length source.now < 2 ^ 32 }
+    requires there { k < length known.now }
     ensures { OnOk result ((p : Program) (g : Goal) (vars : List OpChoice) (premise : Statement) → All (IsPartOf premise) known.now → PremiseKept source.now p g vars premise found.old.items found.new.items) }
 {
-    for k in 0..known.len() {
-        if is_unneeded(known, known[k]) {
-            push_place(found, source, known[k])?;
-        }
+    let part = known_at(known, k);
+    if !is_unneeded(known, part) {
+        return Ok(());
     }
+    push_place(found, source, part)?;
     Ok(())
 }
 

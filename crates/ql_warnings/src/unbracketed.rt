@@ -92,11 +92,30 @@ pub(crate) fn unbracketed(
         Err(_) => return Ok(found),
     };
     for k in 0..tokens.len() {
-        if let Some(place) = joined_at(source, &tokens, k, start, end) {
-            found.push(Warning::Unbracketed(place))?;
+        if let Some(warning) = warning_at(source, &tokens, k, start, end) {
+            found.push(warning)?;
         }
     }
     Ok(found)
+}
+
+fn warning_at(
+    source: &[u8],
+    tokens: &[Token],
+    k: usize,
+    start: u32,
+    end: u32,
+) -> Option<Warning>
+    requires few { length source.now < 2 ^ 32 }
+    requires lexed { Lexes 0 source.now (Ok tokens.now) }
+    requires spans { AreSpans 0 (length source.now) tokens.now }
+    requires there { k < length tokens.now }
+    ensures { IfSome result (IsBracketWarning source.now start) }
+{
+    match joined_at(source, tokens, k, start, end) {
+        Some(place) => Some(Warning::Unbracketed(place)),
+        None => None,
+    }
 }
 
 fn token_at(tokens: &[Token], k: usize) -> Token

@@ -11,3 +11,6 @@ section-requires-clause-known c = subst (IsGoalOf c.args.t.now.program) (sym c.g
 
 pub warnings-requires-clause-goal : goal.warnings-requires-clause-goal
 warnings-requires-clause-goal c = subst (IsGoalOf c.args.t.now.program) (sym c.goal_of-goal.ensures) (goal_known c.args.t.now.program c.args.finding.now c.requires.finding)
+
+pub returns : goal.returns
+returns c = (c.in_ok-section.section.items, c.in_ok-section.ensures c.args.source.now c.in_ok-warned.ensures, c.in_ok-push_bytes.ensures)

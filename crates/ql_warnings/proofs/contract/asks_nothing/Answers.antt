@@ -4,5 +4,5 @@ use Rattle.ql_warnings.proofs.contract.asks_nothing.Goals as goal
 
 pub returns : goal.returns
 returns c =
-    asked_ok c.args.t.now.program c.args.g (resolved_of c.formula_of-formula.result.now) c.scene_of.result.vars.now c.is_given.result
-    c.formula_of-formula.ensures c.scene_of.ensures.vars (c.is_true.ensures c.if-is_true.false) c.is_given.ensures
+    asked_ok c.args.t.now.program c.args.g (resolved_of c.formula_of-formula.result.now) c.items.result.now c.is_given.result
+    c.formula_of-formula.ensures c.items.ensures (c.is_true.ensures c.if-is_true.false) c.is_given.ensures

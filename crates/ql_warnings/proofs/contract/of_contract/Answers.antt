@@ -7,4 +7,5 @@ use Rattle.ql_warnings.proofs.contract.of_contract.Goals as goal
 pub returns : goal.returns
 returns c =
     subst (All (IsWarning c.args.source.now c.args.t.now.program c.args.g)) (sym c.in_ok-push_all.ensures)
-    (All-append (IsWarning c.args.source.now c.args.t.now.program c.args.g) c.in_ok-found.found.items c.in_ok-of_premises.of_premises.items (c.in_ok-found.ensures c.args.source.now) c.in_ok-of_premises.ensures)
+    (All-append (IsWarning c.args.source.now c.args.t.now.program c.args.g) c.in_ok-found.found.items c.deref.result.now (c.in_ok-found.ensures c.args.source.now)
+    (subst (All (IsWarning c.args.source.now c.args.t.now.program c.args.g)) (sym c.deref.ensures) c.in_ok-of_premises.ensures))

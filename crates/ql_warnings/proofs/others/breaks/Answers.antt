@@ -1,6 +1,6 @@
 use Rattle.std.proofs.Common.{arith}
 use Rattle.ql_lang.specs.Formulas.{resolved_of}
-use Rattle.ql_warnings.proofs.Others.{breaks_other}
+use Rattle.ql_warnings.proofs.Breaking.{breaks_other}
 use Rattle.ql_warnings.proofs.others.breaks.Goals as goal
 
 pub has_level-requires : goal.has_level-requires

@@ -1,5 +1,5 @@
 use Rattle.std.proofs.Common.{◌+◌, refl}
-use Rattle.ql_warnings.proofs.Others.{op_known}
+use Rattle.ql_warnings.proofs.Breaking.{op_known}
 use Rattle.ql_warnings.proofs.others.ruled_out.Goals as goal
 
 pub breaks-requires-clause-counter : goal.breaks-requires-clause-counter

@@ -38,7 +38,7 @@ module _ (p : Program) where
 
   -- a formula that is false at some places doesn't hold
   pub not_holds : (x : List Effect) (f : Resolved) (cur : ℕ) (places : List ℕ) → IsFirstFalse x none_inside cur f places → Holds x f cur → ⊥
-  not_holds x f cur places is holds = both_ways false (sym is.is_false ∙ holds places is.chosen) refl
+  not_holds x f cur places is holds = both_ways false refl (sym is.is_false ∙ holds places is.chosen)
 
   pub breaks_other : (g : Goal) (c : Counter) (op : OpId) (at : EffId) (e : Effect) (f : Resolved) (fd : Finding) → IsCounterOf p g c → effect_at c.execution at.0 ≡ Some e → e.op ≡ op
       → slice_get (op_contracts p.types) op.0 ≡ Some f → (Holds c.execution f at.0 → ⊥) → IsFinding p op.0 fd → HasLevel fd → BreaksOther p c.execution op at
