@@ -51,7 +51,11 @@ pub(crate) fn is_given(
 }
 
 /// What is known where a statement is true too.
-pub(crate) fn with_parts(alloc: Global, known: &[Known], body: &Body) -> Result<Vec<Known>, NoMemory>
+pub(crate) fn with_parts(
+    alloc: Global,
+    known: &[Known],
+    body: &Body,
+) -> Result<Vec<Known>, NoMemory>
     ensures { IfOk result (λ more. PartsKept (statement_of body.now) known.now more.items) }
 {
     let mut more = Vec::from_slice(alloc, known)?;

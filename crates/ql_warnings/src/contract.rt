@@ -80,12 +80,7 @@ fn nearer(at: u32, next: u32, name: Name) -> u32 {
 }
 
 // That a contract asks for nothing, and what there is to warn of in its premises.
-fn of_contract(
-    alloc: Global,
-    source: &[u8],
-    t: &Typed,
-    g: Goal,
-) -> Result<Vec<Warning>, NoMemory>
+fn of_contract(alloc: Global, source: &[u8], t: &Typed, g: Goal) -> Result<Vec<Warning>, NoMemory>
     requires bytes { length source.now < 2 ^ 32 }
     requires goal { IsGoalOf t.now.program g }
     ensures { IfOk result (λ found. All (IsWarning source.now t.now.program g) found.items) }
@@ -96,12 +91,7 @@ fn of_contract(
     Ok(found)
 }
 
-fn of_premises(
-    alloc: Global,
-    source: &[u8],
-    t: &Typed,
-    g: Goal,
-) -> Result<Vec<Warning>, NoMemory>
+fn of_premises(alloc: Global, source: &[u8], t: &Typed, g: Goal) -> Result<Vec<Warning>, NoMemory>
     requires bytes { length source.now < 2 ^ 32 }
     requires goal { IsGoalOf t.now.program g }
     ensures { IfOk result (λ found. All (IsWarning source.now t.now.program g) found.items) }

@@ -77,10 +77,7 @@ fn is_within(name: RelName, wanted: RelName) -> bool
     match (name, wanted) {
         (RelName::Vis, RelName::Vis | RelName::SameObj | RelName::Hb | RelName::Hbo)
         | (RelName::So, RelName::So | RelName::Hb)
-        | (
-            RelName::Soo,
-            RelName::So | RelName::Soo | RelName::SameObj | RelName::Hb | RelName::Hbo,
-        )
+        | (RelName::Soo, RelName::So | RelName::Soo | RelName::SameObj | RelName::Hb | RelName::Hbo)
         | (RelName::SameObj, RelName::SameObj)
         | (RelName::Eq, RelName::Eq)
         | (RelName::Hb, RelName::Hb)

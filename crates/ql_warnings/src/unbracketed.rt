@@ -99,13 +99,7 @@ pub(crate) fn unbracketed(
     Ok(found)
 }
 
-fn warning_at(
-    source: &[u8],
-    tokens: &[Token],
-    k: usize,
-    start: u32,
-    end: u32,
-) -> Option<Warning>
+fn warning_at(source: &[u8], tokens: &[Token], k: usize, start: u32, end: u32) -> Option<Warning>
     requires few { length source.now < 2 ^ 32 }
     requires lexed { Lexes 0 source.now (Ok tokens.now) }
     requires spans { AreSpans 0 (length source.now) tokens.now }

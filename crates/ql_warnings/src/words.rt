@@ -33,15 +33,16 @@ pub fn warning_text(alloc: Global, t: &Typed, warning: Warning) -> Result<Vec<u8
     }
 }
 
-const UNBRACKETED: &[u8] = b"joins two statements with `=>` without brackets, so the second one is a part of the first: write (a => b) /\\ (c => d).";
+const UNBRACKETED: &[u8] =
+    b"joins two statements with `=>` without brackets, so the second one is a part of the first: write (a => b) /\\ (c => d).";
 
 const ASKS_NOTHING: &[u8] =
     b"The contract asks for nothing: it holds in every execution, whatever the level.";
 
-const NEVER: &[u8] = b"can't hold with the rest before its `=>`, in any execution: so what stands behind that is never asked for.";
+const NEVER: &[u8] =
+    b"can't hold with the rest before its `=>`, in any execution: so what stands behind that is never asked for.";
 
-const UNNEEDED: &[u8] =
-    b"isn't needed: it holds wherever the rest before its `=>` does.";
+const UNNEEDED: &[u8] = b"isn't needed: it holds wherever the rest before its `=>` does.";
 
 fn name_in(t: &Typed, op: OpId) -> &[u8]
     ensures { result.now ≡ name_in t.now.program op.0 }

@@ -7,5 +7,5 @@ ways_out-requires c = uses_known c.args.t.now.program c.args.g c.args.remarks.us
 
 pub returns : goal.returns
 returns c =
-    remarks_ok c.args.out.now.items c.push_uses.new.out.items c.push_bytes.new.text.items c.push_warned.new.out.items _ c.in_ok-ways_out.ways_out.items _ c.push_warned.result
-    c.in_ok-push_uses.ensures c.in_ok-push_bytes.ensures c.push_warned.ensures
+    remarks_ok c.args.out.now.items c.push_uses.new.out.items c.push_bytes.new.out.items c.push_warned.new.out.items _ c.deref.result.now _ c.push_warned.result
+    c.in_ok-push_uses.ensures c.in_ok-push_bytes.ensures.ok c.push_warned.ensures

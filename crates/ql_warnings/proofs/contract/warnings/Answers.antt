@@ -17,5 +17,5 @@ returns c =
     (subst (All (IsWarning source p g)) (sym c.in_ok-push_all.ensures)
     (All-append (IsWarning source p g) c.in_ok-found.found.items c.deref.result.now
     (all_named source p g vars at c.in_ok-found.found.items c.declared-at.ensures c.in_ok-found.ensures)
-    (subst (All (IsWarning source p g)) (sym c.deref.ensures) (all_brackets source p g vars at c.in_ok-brackets.brackets.items c.declared-at.ensures c.in_ok-brackets.ensures))))
-    (subst (All (IsWarning source p g)) (sym c.deref-2.ensures) c.in_ok-of_contract.ensures))
+    (subst (All (IsWarning source p g)) (sym c.deref.ensures.value) (all_brackets source p g vars at c.in_ok-brackets.brackets.items c.declared-at.ensures c.in_ok-brackets.ensures))))
+    (subst (All (IsWarning source p g)) (sym c.deref-2.ensures.value) c.in_ok-of_contract.ensures))

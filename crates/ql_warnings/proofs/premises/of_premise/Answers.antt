@@ -12,7 +12,7 @@ returns-in-Some c =
     let g = c.args.scene.goal in
     let vars = c.args.scene.vars.now in
     let s = statement_of c.args.premise.now in
-    let parts = subst (All (IsPartOf s)) (sym c.deref.ensures) (c.in_ok-known.ensures s (λ part m. m) (λ k d less. absurd (omega (arith, less)))) in
+    let parts = subst (All (IsPartOf s)) (sym c.deref.ensures.value) (c.in_ok-known.ensures s (λ part m. m) (λ k d less. absurd (omega (arith, less)))) in
     ok_map c.of_clash.result (λ found of. of p g vars s (record {
       part = c.in-Some.clash;
       place = refl;
@@ -20,11 +20,11 @@ returns-in-Some c =
       never = never_true p g vars s c.deref.result.now parts c.in-Some.ensures.clash;
     })) c.of_clash.ensures
 
-pub returns-in-None : goal.returns-in-None
-returns-in-None c =
+pub returns : goal.returns
+returns c =
     let p = c.args.scene.program.now.program in
     let g = c.args.scene.goal in
     let vars = c.args.scene.vars.now in
     let s = statement_of c.args.premise.now in
-    let parts = subst (All (IsPartOf s)) (sym c.deref-in-None.ensures) (c.in_ok-known.ensures s (λ part m. m) (λ k d less. absurd (omega (arith, less)))) in
+    let parts = subst (All (IsPartOf s)) (sym c.deref-in-None.ensures.value) (c.in_ok-known.ensures s (λ part m. m) (λ k d less. absurd (omega (arith, less)))) in
     ok_map c.of_parts.result (λ found of. of p g vars s parts) c.of_parts.ensures
