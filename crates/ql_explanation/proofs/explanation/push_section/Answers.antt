@@ -16,8 +16,9 @@ pub warnings-requires-clause-goal : goal.warnings-requires-clause-goal
 warnings-requires-clause-goal c = subst (IsGoalOf c.args.t.now.program) (sym c.goal_of-goal.ensures) (goal_known c.args.t.now.program c.args.finding.now c.requires.finding)
 
 pub returns : goal.returns
-returns c =
-    (c.deref-3.result.now,
-    subst (IsSection c.args.source.now c.args.t.now.program c.args.finding.now) (sym c.deref-3.ensures.value)
-    (c.in_ok-section.ensures c.args.source.now (subst (All (IsWarning c.args.source.now c.args.t.now.program c.goal_of-goal.result)) (sym c.deref-2.ensures.value) c.in_ok-warned.ensures)),
-    c.in_ok-push_bytes.ensures.ok)
+returns c = (
+  c.deref-3.result.now,
+  subst (IsSection c.args.source.now c.args.t.now.program c.args.finding.now) (sym c.deref-3.ensures.value)
+      (c.in_ok-section.ensures c.args.source.now (subst (All (IsWarning c.args.source.now c.args.t.now.program c.goal_of-goal.result)) (sym c.deref-2.ensures.value) c.in_ok-warned.ensures)),
+  c.in_ok-push_bytes.ensures.ok,
+)

@@ -16,6 +16,6 @@ returns c = λ source warned. record {
   reason = c.deref.result.now;
   is_reason = subst (IsReason c.args.t.now.program c.args.finding.now) (sym c.deref.ensures.value) c.in_ok-reason.ensures;
   whole = whole_section _ _ _ _ _ _ c.in_ok-text.text.items c.push_first_line.new.out.items c.push_remarks.new.out.items c.push_bytes.new.out.items c.in_ok-text.ensures c.in_ok-push_first_line.ensures
-    (subst (λ h. c.push_remarks.new.out.items ≡ c.push_first_line.new.out.items ++ strong_lines c.args.t.now.program h c.args.remarks.uses.now ++ c.in_ok-push_remarks.ensures.0 ++ warned_text c.args.t.now.program c.args.remarks.warned.now) c.requires.target c.in_ok-push_remarks.ensures.1)
-    c.in_ok-push_bytes.ensures.ok;
+      (subst (λ h. c.push_remarks.new.out.items ≡ c.push_first_line.new.out.items ++ strong_lines c.args.t.now.program h c.args.remarks.uses.now ++ c.in_ok-push_remarks.ensures.0 ++ warned_text c.args.t.now.program c.args.remarks.warned.now) c.requires.target c.in_ok-push_remarks.ensures.1)
+      c.in_ok-push_bytes.ensures.ok;
 }
