@@ -1,0 +1,6 @@
+mod Names
+mod Scenes
+mod Given
+mod Kept
+mod Spans
+mod Breaking

@@ -1,0 +1,66 @@
+-- Statements that stand beside each other without brackets: `a => b /\ c => d`.
+use Rattle.std.specs.Prelude.{ℕ, zero, suc, ◌+◌, ◌-◌, ◌≡◌, ◌≤◌, Bool, ◌||◌, List, [], ◌∷◌, Option, None, Some, Ok, codes, drop, slice_get, take, if◌then◌else◌}
+use Rattle.std.specs.Option.{option_map_or}
+use Rattle.std.specs.Str.{bytes_eq}
+use Rattle.ql_lex.specs.Tokens.{Lexes}
+use Rattle.ql_lex.specs.declared.token.Token.{Token}
+use Rattle.ql_warnings.specs.declared.unbracketed.Sign.{Sign}
+use Rattle.ql_warnings.specs.declared.unbracketed.Sign.TheVariants.{Opens, Closes, Arrow, Joins, Ends, Plain}
+
+-- the bytes of a token
+abbrev pub word_of : List ℕ → Token → List ℕ
+word_of source t = take (t.to - t.from) (drop t.from source)
+
+-- brackets of each kind, and what joins two statements
+abbrev pub opens : List ℕ → Bool
+opens w = bytes_eq w (codes "(") || (bytes_eq w (codes "[") || bytes_eq w (codes "{"))
+
+abbrev pub closes : List ℕ → Bool
+closes w = bytes_eq w (codes ")") || (bytes_eq w (codes "]") || bytes_eq w (codes "}"))
+
+abbrev pub joins : List ℕ → Bool
+joins w = bytes_eq w (codes "/\\") || bytes_eq w (codes "\\/")
+
+-- what a token does in a contract
+abbrev pub sign_of : List ℕ → Sign
+sign_of w =
+    if opens w then Opens else (if closes w then Closes else (if bytes_eq w (codes "=>") then Arrow else (if joins w then Joins else (if bytes_eq w (codes ";") then Ends else Plain))))
+
+-- how many brackets are open after a token, where the search for the next `=>` outside them goes on
+abbrev pub deeper : Sign → ℕ → Option ℕ
+deeper Opens depth = Some (suc depth)
+deeper Closes zero = None
+deeper Closes (suc depth) = Some depth
+deeper Arrow zero = None
+deeper Arrow (suc depth) = Some (suc depth)
+deeper Joins depth = Some depth
+deeper Ends depth = None
+deeper Plain depth = Some depth
+
+-- the first `/\` or `\/` outside brackets, after a token
+abbrev pub met : Sign → ℕ → ℕ → Option ℕ → Option ℕ
+met Joins zero from None = Some from
+met sign depth from found = found
+
+-- what was met where the search ends: only an `=>` is an end that counts
+abbrev pub told : Sign → Option ℕ → Option ℕ
+told Arrow found = found
+told sign found = None
+
+-- the offset of the first `/\` or `\/` before the next `=>`, both outside brackets, where that comes before the end of what is
+-- in the brackets around and of the contract
+abbrev pub joined : List ℕ → ℕ → Option ℕ → List Token → Option ℕ
+joined source depth found [] = None
+joined source depth found (t ∷ ts) =
+    option_map_or (λ d. joined source d (met (sign_of (word_of source t)) depth t.from found) ts) (deeper (sign_of (word_of source t)) depth) (told (sign_of (word_of source t)) found)
+
+-- it stands there between two `=>`, the first of them from a place of the source on
+pub record IsUnbracketed (source : List ℕ) (start at : ℕ) : Type 0 where
+  pub tokens : List Token
+  pub lexed : Lexes 0 source (Ok tokens)
+  pub place : ℕ
+  pub arrow : Token
+  pub there : slice_get tokens place ≡ Some arrow
+  pub is_arrow : sign_of (word_of source arrow) ≡ Arrow
+  pub behind : start ≤ arrow.from
+  pub joins : joined source 0 None (drop (suc place) tokens) ≡ Some at
