@@ -1,4 +1,3 @@
 pub mod Findings
 pub mod Known
 pub mod Named
-mod Texts
