@@ -1,3 +1,4 @@
 pub mod Findings
 pub mod Known
 pub mod Named
+mod Texts

@@ -1,5 +1,5 @@
 -- What `explain` says of a source: of each target its least level or that none is enough, the strong operations that it
--- uses, and a countermodel of it at the next lower level, or at the highest.
+-- uses, warnings, and a countermodel of it at the next lower level, or at the highest.
 use Rattle.std.specs.Prelude.{ℕ, ◌≡◌, ◌<◌, Bool, true, if◌then◌else◌, List, [], ◌∷◌, ◌++◌, Option, None, Some, length, slice_get, codes}
 use Rattle.std.specs.List.{All}
 use Rattle.ql_base.specs.declared.ids.OpId.{OpId}
@@ -18,14 +18,19 @@ use Rattle.ql_levels.specs.declared.level.Level.TheVariants.{Strong}
 use Rattle.ql_report.specs.Levels.{op_name, txn_name}
 use Rattle.ql_report.specs.Refusals.{strong_text}
 use Rattle.ql_typing.specs.Operations.{all_ops, uses_op}
-use Rattle.ql_why.specs.Why.{InTurn, IsCounterText, target_line}
+use Rattle.ql_why.specs.Why.{InTurn, counter_text, target_line}
+use Rattle.ql_counter.specs.Countermodels.{IsCounterOf}
+use Rattle.ql_counter.specs.declared.counter.Counter.{Counter}
+use Rattle.ql_warnings.specs.Texts.{warning_text}
+use Rattle.ql_warnings.specs.Warnings.{IsRuledOut, IsWarning}
+use Rattle.ql_warnings.specs.Warnings as warnings
+use Rattle.ql_warnings.specs.declared.warning.Warning.{Warning}
 
 -- ---- what is found
 
 -- a finding of each target, in order
-pub record AreFindings (p : Program) (findings : List Finding) : Type 0 where
-  pub all : length findings ≡ targets p
-  pub each : (k : ℕ) (f : Finding) → slice_get findings k ≡ Some f → IsFinding p k f
+abbrev pub AreFindings : Program → List Finding → Type 0
+AreFindings p findings = warnings.AreFindings p findings
 
 -- the target of a finding, at its least level or at the highest
 abbrev pub goal_of : Finding → Goal
@@ -72,9 +77,15 @@ abbrev pub strong_lines : Program → Goal → List OpId → List ℕ
 strong_lines p (OpAt o level) uses = []
 strong_lines p (TxnAt d level) uses = uses_text p d.0 uses
 
--- some words, and the text of a countermodel
+-- warnings, each a line
+abbrev pub warned_text : Program → List Warning → List ℕ
+warned_text p [] = []
+warned_text p (w ∷ ws) = codes "  " ++ warning_text p w ++ codes "\n" ++ warned_text p ws
+
+-- some words, the warnings that are so of a countermodel, and its text
 abbrev pub IsCounterPart : Program → Goal → List ℕ → Type 0
-IsCounterPart p g text = (words : List ℕ) × (counter : List ℕ) × IsCounterText p g counter × (text ≡ words ++ counter)
+IsCounterPart p g text =
+    (c : Counter) × IsCounterOf p g c × (words : List ℕ) × (warned : List Warning) × All (IsRuledOut p g c) warned × (text ≡ words ++ warned_text p warned ++ codes "\n" ++ counter_text p g c)
 
 -- why the lower levels, or all, aren't enough
 abbrev pub IsReasonOf : Program → Option Unmet → List ℕ → Type 0
@@ -89,19 +100,22 @@ abbrev pub gap : Bool → List ℕ
 gap is_first = if is_first then [] else codes "\n"
 
 -- the section of a target
-pub record IsSection (p : Program) (f : Finding) (text : List ℕ) : Type 0 where
+pub record IsSection (source : List ℕ) (p : Program) (f : Finding) (text : List ℕ) : Type 0 where
   pub is_first : Bool
   pub uses : List OpId
   pub are_uses : AreUsesOf p (goal_of f) uses
   pub words : List ℕ
+  -- each warning is so of the target's contract
+  pub warned : List Warning
+  pub are_warned : All (IsWarning source p (goal_of f)) warned
   pub reason : List ℕ
   pub is_reason : IsReason p f reason
-  pub whole : text ≡ gap is_first ++ first_line p f ++ strong_lines p (goal_of f) uses ++ words ++ reason
+  pub whole : text ≡ gap is_first ++ first_line p f ++ strong_lines p (goal_of f) uses ++ words ++ warned_text p warned ++ reason
 
-abbrev pub IsExplanation : Program → List ℕ → Type 0
-IsExplanation p text = (findings : List Finding) × AreFindings p findings × InTurn (IsSection p) findings text
+abbrev pub IsExplanation : List ℕ → Program → List ℕ → Type 0
+IsExplanation source p text = (findings : List Finding) × AreFindings p findings × InTurn (IsSection source p) findings text
 
 abbrev pub ExplainSays : List ℕ → Answer → List ℕ → Type 0
-ExplainSays bytes Done text = (p : Program) × IsSourceOf bytes p × IsExplanation p text
-ExplainSays bytes No text = (p : Program) × IsSourceOf bytes p × IsExplanation p text
+ExplainSays bytes Done text = (p : Program) × IsSourceOf bytes p × IsExplanation bytes p text
+ExplainSays bytes No text = (p : Program) × IsSourceOf bytes p × IsExplanation bytes p text
 ExplainSays bytes Bad text = BadSourceSays bytes text

@@ -4,12 +4,13 @@ ghost use Rattle.ql_why.specs.Why.{Appended, InTurn};
 ghost use Rattle.ql_explanation.specs.Explanation.{AreFindings, ExplainSays, IsSection};
 
 use crate::finding::findings;
-use crate::sections::{goal_of, section};
+use crate::sections::{Remarks, goal_of, section};
 use crate::uses::uses_of;
 use ql_base::{NoMemory, push_bytes};
 use ql_classify::Finding;
 use ql_commands::{Answer, bad_source, read_source};
 use ql_typing::Typed;
+use ql_warnings::warnings;
 use std::alloc::Global;
 
 /// What is found of each target of a source, with a countermodel where it has a lower level or none is enough. The answer is
@@ -23,21 +24,27 @@ pub fn explain(alloc: Global, source: &[u8]) -> Result<(Answer, Vec<u8>), NoMemo
         Err(fault) => return Ok((Answer::Bad, bad_source(alloc, fault)?)),
     };
     let findings = findings(alloc, &typed)?;
-    let (is_fine, text) = sections_of(alloc, &typed, &findings)?;
+    let (is_fine, text) = sections_of(alloc, source, &typed, &findings)?;
     let answer = if is_fine { Answer::Done } else { Answer::No };
     Ok((answer, text))
 }
 
 // The sections of all targets, and whether nothing is wrong with any.
-fn sections_of(alloc: Global, t: &Typed, findings: &[Finding]) -> Result<(bool, Vec<u8>), NoMemory>
-    requires { AreFindings t.now.program findings.now }
-    ensures { IfOk result (λ answer. InTurn (IsSection t.now.program) findings.now answer.1.items) }
+fn sections_of(
+    alloc: Global,
+    source: &[u8],
+    t: &Typed,
+    findings: &[Finding],
+) -> Result<(bool, Vec<u8>), NoMemory>
+    requires source { length source.now < 2 ^ 32 }
+    requires findings { AreFindings t.now.program findings.now }
+    ensures { IfOk result (λ answer. InTurn (IsSection source.now t.now.program) findings.now answer.1.items) }
 {
     let mut text = Vec::new(alloc);
     let mut is_fine = true;
     for k in 0..findings.len() {
         let finding = finding_at(findings, k);
-        let is_right = push_section(alloc, &mut text, t, findings, finding)?;
+        let is_right = push_section(alloc, &mut text, source, t, findings, finding)?;
         is_fine = is_fine && is_right;
     }
     Ok((is_fine, text))
@@ -54,17 +61,24 @@ fn finding_at(findings: &[Finding], k: usize) -> &Finding
 fn push_section(
     alloc: Global,
     text: &mut Vec<u8>,
+    source: &[u8],
     t: &Typed,
     findings: &[Finding],
     finding: &Finding,
 ) -> Result<bool, NoMemory>
+    requires source { length source.now < 2 ^ 32 }
     requires findings { AreFindings t.now.program findings.now }
     requires finding { (target : ℕ) × IsFinding t.now.program target finding.now }
-    ensures { OnOk result (Appended (IsSection t.now.program finding.now) text.old.items text.new.items) }
+    ensures { OnOk result (Appended (IsSection source.now t.now.program finding.now) text.old.items text.new.items) }
 {
     let goal = goal_of(finding);
     let uses = uses_of(alloc, t, findings, goal)?;
-    let section = section(alloc, t, finding, goal, &uses, text.is_empty())?;
+    let warned = warnings(alloc, source, t, goal)?;
+    let remarks = Remarks {
+        uses: &uses,
+        warned: &warned,
+    };
+    let section = section(alloc, t, findings, finding, goal, remarks, text.is_empty())?;
     push_bytes(text, &section)?;
     Ok(has_level(finding) && uses.is_empty())
 }

@@ -1,10 +1,14 @@
 // The section of each target: its line, the strong operations that it uses, and why no lower level is enough.
-ghost use Rattle.std.specs.Prelude.{◌≡◌, ◌<◌, ◌++◌, ℕ, IfOk, OnOk, length};
+ghost use Rattle.std.specs.Prelude.{◌≡◌, ◌<◌, ◌++◌, ℕ, IfOk, List, OnOk, length};
 ghost use Rattle.std.specs.List.{All};
 ghost use Rattle.std.specs.Option.{option_copied};
 ghost use Rattle.ql_classify.specs.Finding.{IsFinding, IsUnmet};
+ghost use Rattle.ql_counter.specs.Countermodels.{IsCounterOf};
 ghost use Rattle.ql_ground.specs.OfPrograms.{IsGoalOf};
+ghost use Rattle.ql_warnings.specs.Warnings.{IsRuledOut, IsWarning};
+ghost use Rattle.ql_warnings.specs.declared.warning.Warning.{Warning};
 ghost use Rattle.ql_explanation.specs.Explanation.{
+  AreFindings,
   AreUsesOf,
   IsCounterPart,
   IsReason,
@@ -17,42 +21,87 @@ ghost use Rattle.ql_explanation.specs.Explanation.{
   strong_lines,
   unmet_of,
   uses_text,
+  warned_text,
 };
 
-use crate::words::{LOWEST, counter_words, remarks};
+use crate::words::{LOWEST, counter_words, ways_out};
 use ql_base::{DeclId, NoMemory, OpId, push_bytes};
 use ql_classify::{Finding, Unmet};
-use ql_counter::countermodel;
+use ql_counter::{Counter, countermodel};
 use ql_ground::Goal;
 use ql_report::print_strong_use;
 use ql_typing::Typed;
+use ql_warnings::{Warning, ruled_out, warning_text};
 use ql_why::{push_counter, push_target_line};
 use std::alloc::Global;
 
-/// The section of a target of which this is found, with the strong operations that it uses. A blank line stands before all but
-/// the first.
+/// The section of a target of which this is found, with the strong operations that it uses and what there is to warn of in
+/// its contract. A blank line stands before all but the first.
 pub(crate) fn section(
     alloc: Global,
     t: &Typed,
+    findings: &[Finding],
     finding: &Finding,
     g: Goal,
-    uses: &[OpId],
+    remarks: Remarks,
     is_first: bool,
 ) -> Result<Vec<u8>, NoMemory>
+    requires findings { AreFindings t.now.program findings.now }
     requires finding { (target : ℕ) × IsFinding t.now.program target finding.now }
     requires target { g ≡ goal_of finding.now }
     requires known { IsGoalOf t.now.program g }
-    requires uses { AreUsesOf t.now.program g uses.now }
-    ensures { IfOk result (λ text. IsSection t.now.program finding.now text.items) }
+    requires uses { AreUsesOf t.now.program g remarks.uses.now }
+    ensures { IfOk result (λ text. (source : List ℕ) → All (IsWarning source t.now.program g) remarks.entry.warned.now → IsSection source t.now.program finding.now text.items) }
 {
     let mut text = gap(alloc, is_first)?;
     push_first_line(&mut text, t, finding, g)?;
-    push_uses(alloc, &mut text, t, g, uses)?;
-    let remarks = remarks(alloc, t, g, uses)?;
-    push_bytes(&mut text, &remarks)?;
-    let reason = reason(alloc, t, finding)?;
+    push_remarks(alloc, &mut text, t, g, remarks)?;
+    let reason = reason(alloc, t, findings, finding)?;
     push_bytes(&mut text, &reason)?;
     Ok(text)
+}
+
+/// What is said of a target beside its level: the strong operations that it uses, and warnings.
+#[derive(Clone, Copy)]
+pub(crate) struct Remarks<'a> {
+    pub(crate) uses: &'a [OpId],
+    pub(crate) warned: &'a [Warning],
+}
+
+fn push_remarks(
+    alloc: Global,
+    out: &mut Vec<u8>,
+    t: &Typed,
+    g: Goal,
+    remarks: Remarks,
+) -> Result<(), NoMemory>
+    requires known { IsGoalOf t.now.program g }
+    requires uses { AreUsesOf t.now.program g remarks.uses.now }
+    ensures { OnOk result ((words : List ℕ) × (out.new.items ≡ out.old.items ++ strong_lines t.now.program g remarks.entry.uses.now ++ words ++ warned_text t.now.program remarks.entry.warned.now)) }
+{
+    push_uses(alloc, out, t, g, remarks.uses)?;
+    let ways_out = ways_out(alloc, t, remarks.uses)?;
+    push_bytes(out, &ways_out)?;
+    push_warned(alloc, out, t, remarks.warned)
+}
+
+// A line for each warning.
+fn push_warned(
+    alloc: Global,
+    out: &mut Vec<u8>,
+    t: &Typed,
+    warned: &[Warning],
+) -> Result<(), NoMemory>
+    ensures { OnOk result (out.new.items ≡ out.old.items ++ warned_text t.now.program warned.now) }
+{
+    let Some((warning, others)) = warned.split_first() else {
+        return Ok(());
+    };
+    let sentence = warning_text(alloc, t, *warning)?;
+    push_bytes(out, b"  ")?;
+    push_bytes(out, &sentence)?;
+    push_bytes(out, b"\n")?;
+    push_warned(alloc, out, t, others)
 }
 
 fn gap(alloc: Global, is_first: bool) -> Result<Vec<u8>, NoMemory>
@@ -141,12 +190,24 @@ fn push_strong(
 }
 
 // Why no lower level is enough, or none at all.
-fn reason(alloc: Global, t: &Typed, finding: &Finding) -> Result<Vec<u8>, NoMemory>
-    requires { (target : ℕ) × IsFinding t.now.program target finding.now }
+fn reason(
+    alloc: Global,
+    t: &Typed,
+    findings: &[Finding],
+    finding: &Finding,
+) -> Result<Vec<u8>, NoMemory>
+    requires findings { AreFindings t.now.program findings.now }
+    requires finding { (target : ℕ) × IsFinding t.now.program target finding.now }
     ensures { IfOk result (λ text. IsReason t.now.program finding.now text.items) }
 {
     match unmet_of(finding) {
-        Some(unmet) => counter_part(alloc, t, unmet, matches!(finding, Finding::NoLevel(_))),
+        Some(unmet) => counter_part(
+            alloc,
+            t,
+            findings,
+            unmet,
+            matches!(finding, Finding::NoLevel(_)),
+        ),
         None => Ok(Vec::from_slice(alloc, LOWEST.as_bytes())?),
     }
 }
@@ -162,13 +223,42 @@ fn unmet_of(finding: &Finding) -> Option<&Unmet>
 }
 
 // A countermodel of a goal: in words, and as an execution.
-fn counter_part(alloc: Global, t: &Typed, unmet: &Unmet, is_top: bool) -> Result<Vec<u8>, NoMemory>
+fn counter_part(
+    alloc: Global,
+    t: &Typed,
+    findings: &[Finding],
+    unmet: &Unmet,
+    is_top: bool,
+) -> Result<Vec<u8>, NoMemory>
+    requires findings { AreFindings t.now.program findings.now }
     requires goal { IsGoalOf t.now.program unmet.now.goal }
     requires unmet { IsUnmet t.now.program unmet.now }
     ensures { IfOk result (λ text. IsCounterPart t.now.program unmet.now.goal text.items) }
 {
     let counter = countermodel(alloc, t, unmet.goal, &unmet.assignment)?;
+    let warned = of_counter(alloc, t, findings, unmet.goal, &counter)?;
     let mut text = counter_words(alloc, t, unmet.goal, &counter, is_top)?;
+    push_warned(alloc, &mut text, t, &warned)?;
+    push_bytes(&mut text, b"\n")?;
     push_counter(alloc, &mut text, t, unmet.goal, &counter)?;
     Ok(text)
+}
+
+// Whether the countermodel breaks the contract of another operation, which has a level.
+fn of_counter(
+    alloc: Global,
+    t: &Typed,
+    findings: &[Finding],
+    g: Goal,
+    c: &Counter,
+) -> Result<Vec<Warning>, NoMemory>
+    requires findings { AreFindings t.now.program findings.now }
+    requires counter { IsCounterOf t.now.program g c.now }
+    ensures { IfOk result (λ warned. All (IsRuledOut t.now.program g c.now) warned.items) }
+{
+    let mut warned = Vec::new(alloc);
+    if let Some(warning) = ruled_out(alloc, t, findings, g, c)? {
+        warned.push(warning)?;
+    }
+    Ok(warned)
 }

@@ -48,7 +48,6 @@ pub(crate) fn counter_words(
     push_bytes(&mut text, b"\n")?;
     let facts = reasons(alloc, formula_of(t, g), c)?;
     push_facts(&mut text, t, c, &facts)?;
-    push_bytes(&mut text, b"\n")?;
     Ok(text)
 }
 
@@ -105,47 +104,21 @@ fn formula_of(t: &Typed, g: Goal) -> &Formula
     }
 }
 
-/// What may be wrong with a target whatever its level: strong operations that it uses, and variables that look like
-/// operations.
-pub(crate) fn remarks(alloc: Global, t: &Typed, g: Goal, uses: &[OpId]) -> Result<Vec<u8>, NoMemory>
-    requires goal { IsGoalOf t.now.program g }
-    requires uses { All (λ o. o.0 < length (all_ops t.now.program.types)) uses.now }
-{
-    let mut text = Vec::new(alloc);
-    push_uses(&mut text, t, uses)?;
-    for var in vars_of(t, g) {
-        if var.ops.items().is_empty() && t.op_named(var.name.word.bytes()).is_some() {
-            push_warning(&mut text, var.name.word.bytes())?;
-        }
-    }
-    Ok(text)
-}
-
-fn push_warning(text: &mut Vec<u8>, name: &[u8]) -> Result<(), NoMemory> {
-    push_bytes(text, b"  The variable ")?;
-    push_bytes(text, name)?;
-    push_bytes(
-        text,
-        b" has an operation's name, and stands for any effect: `a: ",
-    )?;
-    push_bytes(text, name)?;
-    push_bytes(text, b"` stands for the operation's.\n")
-}
-
-// Why a transaction can't use strong operations, and what one can do.
-fn push_uses(text: &mut Vec<u8>, t: &Typed, uses: &[OpId]) -> Result<(), NoMemory>
+/// Why a target can't use strong operations, and what one can do.
+pub(crate) fn ways_out(alloc: Global, t: &Typed, uses: &[OpId]) -> Result<Vec<u8>, NoMemory>
     requires { All (λ o. o.0 < length (all_ops t.now.program.types)) uses.now }
 {
+    let mut text = Vec::new(alloc);
     for o in uses {
         let name = t.op(*o).name.word;
-        push_bytes(text, b"  No transaction may use ")?;
-        push_bytes(text, name.bytes())?;
-        push_bytes(text, STRONG_USE.as_bytes())?;
-        push_bytes(text, b"  Call ")?;
-        push_bytes(text, name.bytes())?;
-        push_bytes(text, WAY_OUT.as_bytes())?;
+        push_bytes(&mut text, b"  No transaction may use ")?;
+        push_bytes(&mut text, name.bytes())?;
+        push_bytes(&mut text, STRONG_USE.as_bytes())?;
+        push_bytes(&mut text, b"  Call ")?;
+        push_bytes(&mut text, name.bytes())?;
+        push_bytes(&mut text, WAY_OUT.as_bytes())?;
     }
-    Ok(())
+    Ok(text)
 }
 
 const STRONG_USE: &str = ", which is strong. A strong call is ordered with all effects on its

@@ -1,5 +1,8 @@
 use Rattle.std.proofs.Common.{subst, sym}
+use Rattle.std.specs.List.{All}
 use Rattle.ql_ground.specs.OfPrograms.{IsGoalOf}
+use Rattle.ql_warnings.specs.Warnings.{IsWarning}
+use Rattle.ql_explanation.specs.Explanation.{IsSection}
 use Rattle.ql_explanation.proofs.Known.{goal_known}
 use Rattle.ql_explanation.proofs.explanation.push_section.Goals as goal
 
@@ -8,3 +11,14 @@ uses_of-requires-clause-goal c = subst (IsGoalOf c.args.t.now.program) (sym c.go
 
 pub section-requires-clause-known : goal.section-requires-clause-known
 section-requires-clause-known c = subst (IsGoalOf c.args.t.now.program) (sym c.goal_of-goal.ensures) (goal_known c.args.t.now.program c.args.finding.now c.requires.finding)
+
+pub warnings-requires-clause-goal : goal.warnings-requires-clause-goal
+warnings-requires-clause-goal c = subst (IsGoalOf c.args.t.now.program) (sym c.goal_of-goal.ensures) (goal_known c.args.t.now.program c.args.finding.now c.requires.finding)
+
+pub returns : goal.returns
+returns c = (
+  c.deref-3.result.now,
+  subst (IsSection c.args.source.now c.args.t.now.program c.args.finding.now) (sym c.deref-3.ensures.value)
+      (c.in_ok-section.ensures c.args.source.now (subst (All (IsWarning c.args.source.now c.args.t.now.program c.goal_of-goal.result)) (sym c.deref-2.ensures.value) c.in_ok-warned.ensures)),
+  c.in_ok-push_bytes.ensures.ok,
+)
