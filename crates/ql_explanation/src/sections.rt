@@ -50,7 +50,7 @@ pub(crate) fn section(
     requires finding { (target : ℕ) × IsFinding t.now.program target finding.now }
     requires target { g ≡ goal_of finding.now }
     requires known { IsGoalOf t.now.program g }
-    requires uses { AreUsesOf t.now.program g remarks.entry.uses.now }
+    requires uses { AreUsesOf t.now.program g remarks.uses.now }
     ensures { IfOk result (λ text. (source : List ℕ) → All (IsWarning source t.now.program g) remarks.entry.warned.now → IsSection source t.now.program finding.now text.items) }
 {
     let mut text = gap(alloc, is_first)?;
@@ -76,7 +76,7 @@ fn push_remarks(
     remarks: Remarks,
 ) -> Result<(), NoMemory>
     requires known { IsGoalOf t.now.program g }
-    requires uses { AreUsesOf t.now.program g remarks.entry.uses.now }
+    requires uses { AreUsesOf t.now.program g remarks.uses.now }
     ensures { OnOk result ((words : List ℕ) × (out.new.items ≡ out.old.items ++ strong_lines t.now.program g remarks.entry.uses.now ++ words ++ warned_text t.now.program remarks.entry.warned.now)) }
 {
     push_uses(alloc, out, t, g, remarks.uses)?;
