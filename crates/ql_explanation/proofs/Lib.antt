@@ -1,3 +1,3 @@
-pub mod Findings
+pub mod Found
 pub mod Known
 pub mod Named
