@@ -1,4 +1,4 @@
-pub mod Findings
+pub mod Found
 pub mod Known
 pub mod Named
 mod Texts

@@ -9,7 +9,7 @@ use ql_typing::Typed;
 use std::alloc::Global;
 
 /// The finding of each target: the operations in order, and then the transactions in order.
-pub(crate) fn findings(alloc: Global, t: &Typed) -> Result<Vec<Finding>, NoMemory>
+pub fn findings(alloc: Global, t: &Typed) -> Result<Vec<Finding>, NoMemory>
     ensures { IfOk result (λ found. AreFindings t.now.program found.items) }
 {
     let mut found = Vec::new(alloc);

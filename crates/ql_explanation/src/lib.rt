@@ -12,3 +12,6 @@ mod uses;
 mod words;
 
 pub use explanation::explain;
+pub use finding::findings;
+pub use sections::{goal_of, unmet_of};
+pub use uses::uses_of;

@@ -115,7 +115,7 @@ fn gap(alloc: Global, is_first: bool) -> Result<Vec<u8>, NoMemory>
 }
 
 /// The target at the level that its line tells, or at the highest.
-pub(crate) fn goal_of(finding: &Finding) -> Goal
+pub fn goal_of(finding: &Finding) -> Goal
     ensures { result ≡ goal_of finding.now }
 {
     match finding {
@@ -212,8 +212,8 @@ fn reason(
     }
 }
 
-// The goal that isn't met: the next lower one, or the highest.
-fn unmet_of(finding: &Finding) -> Option<&Unmet>
+/// The goal that isn't met: the next lower one, or the highest.
+pub fn unmet_of(finding: &Finding) -> Option<&Unmet>
     ensures { option_copied result ≡ unmet_of finding.now }
 {
     match finding {

@@ -13,7 +13,7 @@ use ql_typing::Typed;
 use std::alloc::Global;
 
 /// The operations whose least level is strong that a target uses, in their order.
-pub(crate) fn uses_of(
+pub fn uses_of(
     alloc: Global,
     t: &Typed,
     findings: &[Finding],

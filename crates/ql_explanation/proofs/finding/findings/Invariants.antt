@@ -1,4 +1,4 @@
-use Rattle.ql_explanation.proofs.Findings.{AreFirst}
+use Rattle.ql_explanation.proofs.Found.{AreFirst}
 use Rattle.ql_explanation.proofs.finding.findings.Given as goal
 
 abbrev pub invariant-loop-target : goal.invariant-loop-target

@@ -3,7 +3,7 @@ use Rattle.std.specs.List.{All}
 use Rattle.ql_base.specs.declared.ids.OpId.{OpId}
 use Rattle.ql_typing.specs.Operations.{uses_op}
 use Rattle.ql_explanation.specs.Explanation.{IsStrongIn}
-use Rattle.ql_explanation.proofs.Findings.{strong_pushed}
+use Rattle.ql_explanation.proofs.Found.{strong_pushed}
 use Rattle.ql_explanation.proofs.uses.push_strong_use.Goals as goal
 
 pub returns : goal.returns

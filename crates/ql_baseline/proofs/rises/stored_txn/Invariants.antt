@@ -1,0 +1,9 @@
+use Rattle.std.proofs.Common.{◌≡◌, length}
+use Rattle.ql_baseline.specs.Comparison.{stored_txn}
+use Rattle.ql_baseline.proofs.rises.stored_txn.Given as goal
+
+abbrev pub invariant-loop-first : goal.invariant-loop-first
+invariant-loop-first l = stored_txn l.stored l.name ≡ stored_txn l.rest l.name
+
+abbrev pub decreases-loop-first : goal.decreases-loop-first
+decreases-loop-first l = length l.rest

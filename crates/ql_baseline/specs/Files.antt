@@ -1,0 +1,25 @@
+-- What a stored answer says, or its first fault.
+use Rattle.std.specs.Prelude.{◌≡◌, ◌⊎◌, ℕ, true, false, List, [], ◌∷◌, ◌++◌, Result, Ok, Err}
+use Rattle.ql_line_files.specs.Outcomes.{Outcome}
+use Rattle.ql_line_files.specs.declared.fault.Broken.{Broken}
+use Rattle.ql_lines.specs.Lines.{Numbered, ahead_from}
+use Rattle.ql_baseline.specs.Lines.{IsStored, is_passed}
+use Rattle.ql_baseline.specs.declared.stored.BaselineRule.{BaselineRule}
+use Rattle.ql_baseline.specs.declared.stored.Stored.{Stored}
+
+-- what a line makes of what is said before it: the same, where it says nothing of levels; else the same with a target, or
+-- a fault, where it is no line of an answer
+abbrev pub GivesLine : List Stored → List ℕ → Result (List Stored) BaselineRule → Type 0
+GivesLine before text (Ok after) =
+    ((is_passed text ≡ true) × (after ≡ before)) ⊎ ((is_passed text ≡ false) × (s : Stored) × IsStored text s × (after ≡ before ++ s ∷ []))
+GivesLine before text (Err rule) = (is_passed text ≡ false) × ((s : Stored) → IsStored text s → ⊥)
+
+abbrev pub gives : List Stored → Numbered → Result (List Stored) BaselineRule → Type 0
+gives before l x = GivesLine before l.text x
+
+abbrev pub closes : List Stored → ℕ → Result (List Stored) (Broken BaselineRule) → Type 0
+closes before end x = x ≡ Ok before
+
+-- what the file says, or its first fault
+abbrev pub IsBaseline : List ℕ → Result (List Stored) (Broken BaselineRule) → Type 0
+IsBaseline bytes x = Outcome gives closes [] (ahead_from 1 bytes) x

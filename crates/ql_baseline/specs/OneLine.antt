@@ -1,0 +1,91 @@
+-- A line of a stored answer makes one thing.
+use Rattle.std.proofs.Common.{◌≡◌, ◌⊎◌, inl, inr, ℕ, Bool, true, false, List, [], ◌∷◌, ◌++◌, length, get_or, Option, None, Some, Result, Ok, Err, codes, refl, sym, ap, ap₂, subst, ◌∙◌, arith}
+use Rattle.std.proofs.lemmas.Bool.{false≢true}
+use Rattle.ql_base.specs.Names.{IsName}
+use Rattle.ql_levels.specs.declared.level.Level.{Level}
+use Rattle.ql_levels.specs.declared.level.Level.TheVariants.{Eventual, Causal, Wide, Strong}
+use Rattle.ql_levels.specs.declared.level.TxnLevel.{TxnLevel}
+use Rattle.ql_levels.specs.declared.level.TxnLevel.TheVariants.{Rc, Mav, Rr}
+use Rattle.ql_levels.specs.Words.{txn_word_of, word_of}
+use Rattle.ql_lines.specs.Fields.{Fields, fields_of}
+use Rattle.ql_line_files.specs.declared.fault.Broken.{Broken}
+use Rattle.ql_baseline.specs.Files.{GivesLine, closes}
+use Rattle.ql_baseline.specs.Lines.{IsStored, is_passed, stored_fields}
+use Rattle.ql_baseline.specs.declared.stored.BaselineRule.{BaselineRule}
+use Rattle.ql_baseline.specs.declared.stored.BaselineRule.TheVariants.{Unexpected}
+use Rattle.ql_baseline.specs.declared.stored.Stored.{Stored}
+use Rattle.ql_baseline.specs.declared.stored.Stored.TheVariants.{Op, Txn}
+
+same_word : (l m : Level) → word_of l ≡ word_of m → l ≡ m
+same_word Eventual Eventual e = refl
+same_word Causal Causal e = refl
+same_word Wide Wide e = refl
+same_word Strong Strong e = refl
+same_word Wide Eventual e = absurd (omega (arith, ap length e))
+same_word Wide Causal e = absurd (omega (arith, ap length e))
+same_word Wide Strong e = absurd (omega (arith, ap length e))
+same_word Eventual Wide e = absurd (omega (arith, ap length e))
+same_word Causal Wide e = absurd (omega (arith, ap length e))
+same_word Strong Wide e = absurd (omega (arith, ap length e))
+same_word Eventual Causal e = absurd (omega (arith, ap length e))
+same_word Eventual Strong e = absurd (omega (arith, ap length e))
+same_word Causal Eventual e = absurd (omega (arith, ap length e))
+same_word Strong Eventual e = absurd (omega (arith, ap length e))
+same_word Causal Strong e = absurd (omega (arith, ap (λ (w : List ℕ). get_or w 0 0) e))
+same_word Strong Causal e = absurd (omega (arith, ap (λ (w : List ℕ). get_or w 0 0) e))
+
+same_txn_word : (l m : TxnLevel) → txn_word_of l ≡ txn_word_of m → l ≡ m
+same_txn_word Rc Rc e = refl
+same_txn_word Mav Mav e = refl
+same_txn_word Rr Rr e = refl
+same_txn_word Rc Mav e = absurd (omega (arith, ap length e))
+same_txn_word Mav Rc e = absurd (omega (arith, ap length e))
+same_txn_word Rr Mav e = absurd (omega (arith, ap length e))
+same_txn_word Mav Rr e = absurd (omega (arith, ap length e))
+same_txn_word Rc Rr e = absurd (omega (arith, ap (λ (w : List ℕ). get_or w 1 0) e))
+same_txn_word Rr Rc e = absurd (omega (arith, ap (λ (w : List ℕ). get_or w 1 0) e))
+
+-- a line is of one target
+pub same_stored : (s t : Stored) → stored_fields s ≡ stored_fields t → s ≡ t
+same_stored (Op n (Some l)) (Op m (Some k)) e = ap₂ (λ (w : List ℕ) (x : Level). Op w (Some x)) (ap (λ (f : Fields). get_or f 1 []) e) (same_word l k (ap (λ (f : Fields). get_or f 2 []) e))
+same_stored (Op n None) (Op m None) e = ap (λ (w : List ℕ). Op w None) (ap (λ (f : Fields). get_or f 2 []) e)
+same_stored (Txn n (Some l)) (Txn m (Some k)) e = ap₂ (λ (w : List ℕ) (x : TxnLevel). Txn w (Some x)) (ap (λ (f : Fields). get_or f 1 []) e) (same_txn_word l k (ap (λ (f : Fields). get_or f 2 []) e))
+same_stored (Txn n None) (Txn m None) e = ap (λ (w : List ℕ). Txn w None) (ap (λ (f : Fields). get_or f 2 []) e)
+same_stored (Op n (Some l)) (Op m None) e = absurd (omega (arith, ap (λ (f : Fields). length (get_or f 0 [])) e))
+same_stored (Op n (Some l)) (Txn m (Some k)) e = absurd (omega (arith, ap (λ (f : Fields). length (get_or f 0 [])) e))
+same_stored (Op n (Some l)) (Txn m None) e = absurd (omega (arith, ap (λ (f : Fields). length (get_or f 0 [])) e))
+same_stored (Op n None) (Op m (Some k)) e = absurd (omega (arith, ap (λ (f : Fields). length (get_or f 0 [])) e))
+same_stored (Op n None) (Txn m (Some k)) e = absurd (omega (arith, ap (λ (f : Fields). length (get_or f 0 [])) e))
+same_stored (Op n None) (Txn m None) e = absurd (omega (arith, ap (λ (f : Fields). length (get_or f 1 [])) e))
+same_stored (Txn n (Some l)) (Op m (Some k)) e = absurd (omega (arith, ap (λ (f : Fields). length (get_or f 0 [])) e))
+same_stored (Txn n (Some l)) (Op m None) e = absurd (omega (arith, ap (λ (f : Fields). length (get_or f 0 [])) e))
+same_stored (Txn n (Some l)) (Txn m None) e = absurd (omega (arith, ap (λ (f : Fields). length (get_or f 0 [])) e))
+same_stored (Txn n None) (Op m (Some k)) e = absurd (omega (arith, ap (λ (f : Fields). length (get_or f 0 [])) e))
+same_stored (Txn n None) (Op m None) e = absurd (omega (arith, ap (λ (f : Fields). length (get_or f 1 [])) e))
+same_stored (Txn n None) (Txn m (Some k)) e = absurd (omega (arith, ap (λ (f : Fields). length (get_or f 0 [])) e))
+
+module _ (before : List Stored) (text : List ℕ) where
+  pub gives_one : (x y : Result (List Stored) BaselineRule) → GivesLine before text x → GivesLine before text y → x ≡ y
+  gives_one (Ok a) (Ok b) (inl p) (inl q) = ap Ok (p.1 ∙ sym q.1)
+  gives_one (Ok a) (Ok b) (inl p) (inr q) = absurd (false≢true (sym q.0 ∙ p.0))
+  gives_one (Ok a) (Ok b) (inr p) (inl q) = absurd (false≢true (sym p.0 ∙ q.0))
+  gives_one (Ok a) (Ok b) (inr (ours, s, is, e)) (inr (theirs, t, are, f)) =
+      ap Ok (e ∙ ap (λ (u : Stored). before ++ u ∷ []) (same_stored s t (sym is.1 ∙ are.1)) ∙ sym f)
+  gives_one (Ok a) (Err r) (inl p) q = absurd (false≢true (sym q.0 ∙ p.0))
+  gives_one (Ok a) (Err r) (inr (ours, s, is, e)) q = absurd (q.1 s is)
+  gives_one (Err r) (Ok b) p (inl q) = absurd (false≢true (sym p.0 ∙ q.0))
+  gives_one (Err r) (Ok b) p (inr (ours, s, is, e)) = absurd (p.1 s is)
+  gives_one (Err Unexpected) (Err Unexpected) p q = refl
+
+  by_cases : (passed : Bool) → is_passed text ≡ passed → ((x : Result (List Stored) BaselineRule) → GivesLine before text x → ⊥) → ⊥
+  by_cases true is none = none (Ok before) (inl (is, refl))
+  by_cases false is none = none (Err Unexpected) (is, λ s stored. none (Ok (before ++ s ∷ [])) (inr (is, s, stored, refl)))
+
+  pub gives_some : ((x : Result (List Stored) BaselineRule) → GivesLine before text x → ⊥) → ⊥
+  gives_some none = by_cases (is_passed text) refl none
+
+pub closes_one : (before : List Stored) (x y : Result (List Stored) (Broken BaselineRule)) → x ≡ Ok before → y ≡ Ok before → x ≡ y
+closes_one before x y p q = p ∙ sym q
+
+pub closes_some : (before : List Stored) → ((x : Result (List Stored) (Broken BaselineRule)) → x ≡ Ok before → ⊥) → ⊥
+closes_some before none = none (Ok before) refl

@@ -1,0 +1,93 @@
+ghost use Rattle.std.specs.Prelude.{◌≡◌, ◌<◌, ◌++◌, ◌^◌, ℕ, IfOk, OnOk, Some, length, map, slice_get};
+ghost use Rattle.std.specs.List.{concat};
+ghost use Rattle.ql_classify.specs.Finding.{IsFinding};
+ghost use Rattle.ql_explanation.specs.Explanation.{AreFindings};
+ghost use Rattle.ql_baseline.specs.Comparison.{BaselineSays, IsComparison, bad_text, rise_of};
+
+use crate::format::Format;
+use crate::rises::push_rise_at;
+use crate::stored::{BaselineRule, Stored};
+use ql_base::{NoMemory, push_bytes, push_number};
+use ql_classify::Finding;
+use ql_commands::{Answer, bad_source, read_source};
+use ql_explanation::{findings, goal_of};
+use ql_line_files::{Broken, FileFault, read_file};
+use ql_typing::Typed;
+use std::alloc::Global;
+
+/// The targets of a source whose levels are higher than in a stored answer, a line for each. The answer is yes where there
+/// are none.
+pub fn compare(alloc: Global, source: &[u8], baseline: &[u8]) -> Result<(Answer, Vec<u8>), NoMemory>
+    requires { length source.now < 2 ^ 32 }
+    ensures { IfOk result (λ answer. BaselineSays source.now baseline.now answer.0 answer.1.items) }
+{
+    let typed = match read_source(alloc, source) {
+        Ok(typed) => typed,
+        Err(fault) => return Ok((Answer::Bad, bad_source(alloc, fault)?)),
+    };
+    match read_file(&Format { alloc }, baseline) {
+        Ok(stored) => against(alloc, &typed, stored.items()),
+        Err(FileFault::Broken(fault)) => Ok((Answer::Bad, bad_baseline(alloc, fault)?)),
+        Err(FileFault::NoMemory) => Err(NoMemory),
+    }
+}
+
+fn bad_baseline(alloc: Global, fault: Broken<BaselineRule>) -> Result<Vec<u8>, NoMemory>
+    ensures { IfOk result (λ text. text.items ≡ bad_text fault) }
+{
+    let mut text = Vec::from_slice(alloc, b"bad baseline at ")?;
+    push_number(&mut text, fault.line)?;
+    push_bytes(&mut text, b": Unexpected\n")?;
+    Ok(text)
+}
+
+// What became of the levels since this answer was stored.
+fn against(alloc: Global, t: &Typed, stored: &[Stored]) -> Result<(Answer, Vec<u8>), NoMemory>
+    ensures { IfOk result (λ answer. IsComparison t.now.program stored.now answer.0 answer.1.items) }
+{
+    let findings = findings(alloc, t)?;
+    let text = rises(alloc, t, stored, &findings)?;
+    let answer = if text.is_empty() {
+        Answer::Done
+    } else {
+        Answer::No
+    };
+    Ok((answer, text))
+}
+
+fn rises(
+    alloc: Global,
+    t: &Typed,
+    stored: &[Stored],
+    findings: &[Finding],
+) -> Result<Vec<u8>, NoMemory>
+    requires { AreFindings t.now.program findings.now }
+    ensures { IfOk result (λ text. text.items ≡ concat (map (rise_of t.now.program stored.now) findings.now)) }
+{
+    let mut text = Vec::new(alloc);
+    for k in 0..findings.len() {
+        push_rise_of(&mut text, t, stored, finding_at(findings, k))?;
+    }
+    Ok(text)
+}
+
+fn finding_at(findings: &[Finding], k: usize) -> &Finding
+    requires { k < length findings.now }
+    ensures { slice_get findings.now k ≡ Some result.now }
+{
+    &findings[k]
+}
+
+// Appends the line of a target, where its level rose.
+fn push_rise_of(
+    out: &mut Vec<u8>,
+    t: &Typed,
+    stored: &[Stored],
+    finding: &Finding,
+) -> Result<(), NoMemory>
+    requires { (target : ℕ) × IsFinding t.now.program target finding.now }
+    ensures { OnOk result (out.new.items ≡ out.old.items ++ rise_of t.now.program stored.now finding.now) }
+{
+    let has_level = matches!(finding, Finding::Least { .. });
+    push_rise_at(out, t, stored, goal_of(finding), has_level)
+}

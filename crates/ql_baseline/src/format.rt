@@ -1,0 +1,67 @@
+ghost use Rattle.std.specs.Prelude.{◌≡◌, [], Ok};
+ghost use Rattle.ql_baseline.specs.Files.{GivesLine};
+ghost use Rattle.ql_baseline.specs.OneLine.{closes_one, closes_some, gives_one, gives_some};
+
+use crate::lines::{is_passed, stored_of};
+use crate::stored::{BaselineRule, StoredList};
+use ql_line_files::{FileFault, LineFault, LineFormat};
+use std::alloc::Global;
+
+/// The format of stored answers.
+#[derive(Clone, Copy)]
+pub(crate) struct Format {
+    pub(crate) alloc: Global,
+}
+
+impl LineFormat for Format {
+    type State = StoredList;
+
+    type Said = StoredList;
+
+    type Rule = BaselineRule;
+
+    ghost start = { λ f. [] };
+
+    ghost sound = { λ f stored. Unit {0} };
+
+    ghost gives = { λ f stored l x. GivesLine stored l.text x };
+
+    ghost closes = { λ f stored end x. x ≡ Ok stored };
+
+    fn start(&self) -> StoredList {
+        StoredList::new(self.alloc)
+    }
+
+    fn take(
+        &self,
+        state: StoredList,
+        _number: u64,
+        text: &[u8],
+    ) -> Result<StoredList, LineFault<BaselineRule>> {
+        if is_passed(text) {
+            return Ok(state);
+        }
+        let Some(stored) = stored_of(text) else {
+            return Err(LineFault::Breaks(BaselineRule::Unexpected));
+        };
+        let mut list = state;
+        list.push(stored)?;
+        Ok(list)
+    }
+
+    fn finish(&self, state: StoredList, _end: u64) -> Result<StoredList, FileFault<BaselineRule>> {
+        Ok(state)
+    }
+
+    ghost starts_sound = { λ f. tt };
+
+    ghost stays_sound = { λ f s t l sound given. tt };
+
+    ghost gives_one = { λ f s l x y p q. gives_one s l.text x y p q };
+
+    ghost gives_some = { λ f s l sound none. gives_some s l.text none };
+
+    ghost closes_one = { λ f s end x y p q. closes_one s x y p q };
+
+    ghost closes_some = { λ f s end sound none. closes_some s none };
+}

@@ -1,0 +1,103 @@
+-- No explanation has a float in its JSON form.
+use Rattle.std.proofs.Common.{◌≡◌, ℕ, Bool, true, false, ◌||◌, List, [], ◌∷◌, None, Some, Option, map, refl, sym, ap, ◌∙◌}
+use Rattle.serde_json.specs.Data.{Data}
+use Rattle.serde_json.specs.View.{items_of}
+use Rattle.serde_json.specs.Written.{has_float, items_have_float}
+use Rattle.ql_base.specs.declared.ids.OpId.{OpId}
+use Rattle.ql_classify.specs.declared.finding.Finding.{Finding}
+use Rattle.ql_classify.specs.declared.finding.Finding.TheVariants.{Least, NoLevel}
+use Rattle.ql_classify.specs.declared.finding.Unmet.{Unmet}
+use Rattle.ql_counter.specs.Countermodels.{numbers}
+use Rattle.ql_counter.specs.declared.counter.At.{At}
+use Rattle.ql_counter.specs.declared.counter.At.TheVariants as at
+use Rattle.ql_counter.specs.declared.counter.Counter.{Counter}
+use Rattle.ql_exec.specs.declared.effect.Effect.{Effect}
+use Rattle.ql_explanation.specs.Explanation.{unmet_of}
+use Rattle.ql_facts.specs.declared.fact.Fact.{Fact}
+use Rattle.ql_ground.specs.declared.goal.Goal.{Goal}
+use Rattle.ql_lang.specs.declared.contract.Var.{Var}
+use Rattle.ql_levels.specs.Lists.{LevelLists}
+use Rattle.ql_lang.specs.declared.program.Program.{Program}
+use Rattle.ql_run_json.specs.JsonRuns.{effects_from, run_data}
+use Rattle.ql_run_json.specs.Values.{id_data, listed}
+use Rattle.ql_run_json.proofs.Floats.{run_none}
+use Rattle.ql_why.specs.Why.{object_names, vars_of}
+use Rattle.ql_explain_json.specs.JsonExplanations.{AreTargets, AreWarnings, IsCounterData, IsReasonOf, IsTarget, Warned, at_data, claim_effects, counter_data, fact_data, level_data, place_data, target_data, use_data, variables_data, warning_data}
+
+abbrev HasNone : Data → Type 0
+HasNone d = has_float d ≡ false
+
+abbrev HaveNone : List Data → Type 0
+HaveNone ds = items_have_float (items_of ds) ≡ false
+
+neither : (a b : Bool) → a ≡ false → b ≡ false → (a || b) ≡ false
+neither false b h k = k
+neither true b h k = h
+
+first : (a b : Bool) → (a || b) ≡ false → a ≡ false
+first false b e = refl
+first true b e = e
+
+each_none : {X : Type 0} (f : X → Data) → ((x : X) → HasNone (f x)) → (xs : List X) → HaveNone (map f xs)
+each_none f none [] = refl
+each_none f none (x ∷ xs) = neither (has_float (f x)) (items_have_float (items_of (map f xs))) (none x) (each_none f none xs)
+
+-- an execution is part of a run, which has none
+execution_none : (p : Program) (x : List Effect) → HasNone (listed (effects_from p object_names 1 x))
+execution_none p x =
+    let levels : LevelLists = record { ops = []; txns = [] } in
+    first (has_float (listed (effects_from p object_names 1 x))) _ (run_none p object_names levels [] x)
+
+fact_none : (fact : Fact) → HasNone (fact_data fact)
+fact_none fact = neither (has_float (listed (map id_data (claim_effects fact.claim)))) false (each_none id_data (λ n. refl) (claim_effects fact.claim)) refl
+
+at_none : (here : At) → HasNone (at_data here)
+at_none (at.Effect id) = refl
+at_none (at.Run run) = refl
+
+variables_none : (vars : List Var) (ids : List ℕ) → HaveNone (variables_data vars ids)
+variables_none [] ids = refl
+variables_none (var ∷ vars) [] = refl
+variables_none (var ∷ vars) (id ∷ ids) = variables_none vars ids
+
+counter_none : (p : Program) (g : Goal) (c : Counter) (facts : List Fact) → HasNone (counter_data p g c facts)
+counter_none p g c facts =
+    let variables : Bool = has_float (listed (variables_data (vars_of p g) (numbers c.places))) || false in
+    let told : Bool = has_float (listed (map fact_data facts)) || variables in
+    let execution : Bool = has_float (listed (effects_from p object_names 1 c.execution)) || told in
+    neither (has_float (at_data c.at)) execution (at_none c.at)
+    (neither (has_float (listed (effects_from p object_names 1 c.execution))) told (execution_none p c.execution)
+    (neither (has_float (listed (map fact_data facts))) variables (each_none fact_data fact_none facts)
+    (neither (has_float (listed (variables_data (vars_of p g) (numbers c.places)))) false (variables_none (vars_of p g) (numbers c.places)) refl)))
+
+reason_none : (p : Program) (u : Option Unmet) (reason : Data) → IsReasonOf p u reason → HasNone reason
+reason_none p None reason is = ap has_float is
+reason_none p (Some u) reason (c, facts, counter, true_facts, is) = ap has_float is ∙ counter_none p u.goal c facts
+
+level_none : (f : Finding) → HasNone (level_data f)
+level_none (Least g below) = refl
+level_none (NoLevel u) = refl
+
+place_none : (place : Option (ℕ × ℕ)) → HasNone (place_data place)
+place_none None = refl
+place_none (Some place) = refl
+
+warning_none : (w : Warned) → HasNone (warning_data w)
+warning_none w = neither (has_float (place_data w.place)) false (place_none w.place) refl
+
+warnings_none : (json : Data) → AreWarnings json → HasNone json
+warnings_none json (ws, is) = ap has_float is ∙ each_none warning_data warning_none ws
+
+target_none : (p : Program) (f : Finding) (json : Data) → IsTarget p f json → HasNone json
+target_none p f json (uses, reason, warnings, are, of, warned, is) =
+    let told : Bool = has_float warnings || false in
+    let used : Bool = has_float (listed (map (use_data p) uses)) || told in
+    ap has_float is ∙ neither (has_float reason) (has_float (level_data f) || used) (reason_none p (unmet_of f) reason of)
+    (neither (has_float (level_data f)) used (level_none f) (neither (has_float (listed (map (use_data p) uses))) told (each_none (use_data p) (λ o. refl) uses)
+    (neither (has_float warnings) false (warnings_none warnings warned) refl)))
+
+pub targets_none : (p : Program) (findings : List Finding) (targets : List Data) → AreTargets p findings targets → HaveNone targets
+targets_none p [] [] are = refl
+targets_none p [] (d ∷ ds) are = absurd are
+targets_none p (f ∷ fs) [] are = absurd are
+targets_none p (f ∷ fs) (d ∷ ds) are = neither (has_float d) (items_have_float (items_of ds)) (target_none p f d are.0) (targets_none p fs ds are.1)

@@ -1,0 +1,4 @@
+pub mod Members
+pub mod Floats
+pub mod Targets
+pub mod ShownLaws

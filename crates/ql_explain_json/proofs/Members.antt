@@ -1,0 +1,31 @@
+-- Members that are put in the order of their keys stand in that order.
+use Rattle.std.proofs.Common.{◌≡◌, codes, refl}
+use Rattle.serde_json.specs.Data.{Data, member, no_members, put}
+use Rattle.serde_json.proofs.OnLiterals.{serde_json_on_literals}
+
+pub effect_members : (answer args id o op payload session stamp txn seen : Data)
+    → put (codes "vis") seen (put (codes "txn") txn (put (codes "stamp") stamp (put (codes "session") session (put (codes "payload") payload
+    (put (codes "op") op (put (codes "object") o (put (codes "id") id (put (codes "args") args (put (codes "answer") answer no_members)))))))))
+    ≡ member (codes "answer") answer (member (codes "args") args (member (codes "id") id (member (codes "object") o (member (codes "op") op
+    (member (codes "payload") payload (member (codes "session") session (member (codes "stamp") stamp (member (codes "txn") txn (member (codes "vis") seen no_members)))))))))
+unfolding serde_json_on_literals
+effect_members answer args id o op payload session stamp txn seen = refl
+
+pub fact_members : (claim effects holds : Data)
+    → put (codes "holds") holds (put (codes "effects") effects (put (codes "claim") claim no_members))
+    ≡ member (codes "claim") claim (member (codes "effects") effects (member (codes "holds") holds no_members))
+unfolding serde_json_on_literals
+fact_members claim effects holds = refl
+
+pub counter_members : (here execution facts level variables : Data)
+    → put (codes "variables") variables (put (codes "level") level (put (codes "facts") facts (put (codes "execution") execution (put (codes "at") here no_members))))
+    ≡ member (codes "at") here (member (codes "execution") execution (member (codes "facts") facts (member (codes "level") level (member (codes "variables") variables no_members))))
+unfolding serde_json_on_literals
+counter_members here execution facts level variables = refl
+
+pub target_members : (reason kind level name uses warnings : Data)
+    → put (codes "warnings") warnings (put (codes "uses_strong") uses (put (codes "name") name (put (codes "level") level (put (codes "kind") kind (put (codes "countermodel") reason no_members)))))
+    ≡ member (codes "countermodel") reason (member (codes "kind") kind (member (codes "level") level (member (codes "name") name
+    (member (codes "uses_strong") uses (member (codes "warnings") warnings no_members)))))
+unfolding serde_json_on_literals
+target_members reason kind level name uses warnings = refl

@@ -1,0 +1,27 @@
+use Rattle.std.proofs.Common.{◌≡◌, ◌+◌, slice_get, Some, ap, sym, ◌∙◌, add-one, rules}
+use Rattle.std.proofs.lemmas.List.Elements.{recursion_from_All}
+use Rattle.ql_exec.specs.declared.effect.Effect.{Effect}
+use Rattle.ql_exec.specs.Effects.{effect_at}
+use Rattle.ql_run_text.specs.EffectTexts.{IsNamed}
+use Rattle.std.specs.Prelude.{length}
+use Rattle.ql_run_json.specs.JsonRuns.{effects_from}
+use Rattle.ql_run_json.proofs.Lists.{effect_there, more_effects}
+use Rattle.ql_explain_json.proofs.effects.effects.Goals as goal
+
+pub loop-k-init : goal.loop-k-init
+unfolding effects_from
+loop-k-init c = search rules
+
+pub effect-requires : goal.effect-requires
+effect-requires c =
+    let x = c.args.x.now in
+    let e = c.get.result.now in
+    let at : slice_get x c.loop-k.k ≡ Some e = sym (ap (λ n. effect_at x n) (add-one c.loop-k.k)) ∙ c.get.ensures in
+    effect_there (IsNamed c.args.t.now.program (length c.args.objects.now)) x c.loop-k.k e (recursion_from_All (IsNamed c.args.t.now.program (length c.args.objects.now)) x c.requires) at
+
+pub loop-k-preserved : goal.loop-k-preserved
+loop-k-preserved c =
+    let x = c.args.x.now in
+    let e = c.get.result.now in
+    let at : slice_get x c.loop-k.k ≡ Some e = sym (ap (λ n. effect_at x n) (add-one c.loop-k.k)) ∙ c.get.ensures in
+    more_effects c.args.t.now.program c.args.objects.now x c.loop-k.k e _ _ c.in_ok-effect.effect c.in_ok-push.ensures.items c.loop-k.invariant c.in_ok-effect.ensures at

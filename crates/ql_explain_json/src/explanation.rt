@@ -1,0 +1,71 @@
+ghost use Rattle.std.specs.Prelude.{◌≡◌, ◌<◌, ◌^◌, IfOk, Some, false, length, map, slice_get};
+ghost use Rattle.serde_json.specs.View.{items_view, view};
+ghost use Rattle.serde_json.specs.Written.{items_have_float};
+ghost use Rattle.ql_explanation.specs.Explanation.{AreFindings};
+ghost use Rattle.ql_explain_json.specs.JsonExplanations.{AreTargets, ExplainJsonSays, explanation_json};
+
+use crate::target::target;
+use ql_base::NoMemory;
+use ql_classify::Finding;
+use ql_commands::{Answer, bad_source, read_source};
+use ql_explanation::findings;
+use ql_typing::Typed;
+use serde_json::{Map, Value as Json, put};
+use std::alloc::Global;
+
+/// What is found of each target of a source, as one JSON object on a line. The answer is yes where each has a level and no
+/// transaction uses a strong operation.
+pub fn explain_json(alloc: Global, source: &[u8]) -> Result<(Answer, Vec<u8>), NoMemory>
+    requires { length source.now < 2 ^ 32 }
+    ensures { IfOk result (λ answer. ExplainJsonSays source.now answer.0 answer.1.items) }
+{
+    let typed = match read_source(alloc, source) {
+        Ok(typed) => typed,
+        Err(fault) => return Ok((Answer::Bad, bad_source(alloc, fault)?)),
+    };
+    let findings = findings(alloc, &typed)?;
+    let (is_fine, targets) = targets(alloc, source, &typed, &findings)?;
+    let text = line(alloc, targets)?;
+    let answer = if is_fine { Answer::Done } else { Answer::No };
+    Ok((answer, text))
+}
+
+// The values of all targets, and whether nothing is wrong with any.
+fn targets(
+    alloc: Global,
+    source: &[u8],
+    t: &Typed,
+    findings: &[Finding],
+) -> Result<(bool, Vec<Json>), NoMemory>
+    requires bytes { length source.now < 2 ^ 32 }
+    requires findings { AreFindings t.now.program findings.now }
+    ensures { IfOk result (λ answer. AreTargets t.now.program findings.now (map view answer.1.items)) }
+{
+    let mut list = Vec::new(alloc);
+    let mut is_fine = true;
+    for k in 0..findings.len() {
+        let (is_right, target) = target(alloc, source, t, findings, finding_at(findings, k))?;
+        list.push(target)?;
+        is_fine = is_fine && is_right;
+    }
+    Ok((is_fine, list))
+}
+
+fn finding_at(findings: &[Finding], k: usize) -> &Finding
+    requires { k < length findings.now }
+    ensures { slice_get findings.now k ≡ Some result.now }
+{
+    &findings[k]
+}
+
+// The line of the whole object.
+fn line(alloc: Global, targets: Vec<Json>) -> Result<Vec<u8>, NoMemory>
+    requires { items_have_float (items_view targets.items) ≡ false }
+    ensures { IfOk result (λ text. text.items ≡ explanation_json (map view targets.items)) }
+{
+    let mut members = Map::new(alloc);
+    put(&mut members, alloc, "targets", Json::Array(targets))?;
+    let mut text = Json::Object(members).to_vec(alloc)?;
+    text.push(b'\n')?;
+    Ok(text)
+}
