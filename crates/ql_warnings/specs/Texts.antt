@@ -40,3 +40,12 @@ warning_text p warning.AsksNothing = asks_nothing
 warning_text p (warning.NeverApplies place) = placed place never
 warning_text p (warning.Unneeded place) = placed place unneeded
 warning_text p (warning.RuledOut op at) = ruled_out_text (name_in p op.0) at.0
+
+-- the word of a warning's kind
+abbrev pub warning_word : Warning → List ℕ
+warning_word (warning.NamedAsOperation v op) = codes "named as operation"
+warning_word (warning.Unbracketed place) = codes "unbracketed"
+warning_word warning.AsksNothing = codes "asks nothing"
+warning_word (warning.NeverApplies place) = codes "never applies"
+warning_word (warning.Unneeded place) = codes "unneeded"
+warning_word (warning.RuledOut op at) = codes "ruled out"

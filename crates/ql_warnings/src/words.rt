@@ -1,6 +1,6 @@
 // Warnings as sentences.
 ghost use Rattle.std.specs.Prelude.{◌≡◌, ◌++◌, IfOk, OnOk};
-ghost use Rattle.ql_warnings.specs.Texts.{name_in, named_text, placed, ruled_out_text, warning_text};
+ghost use Rattle.ql_warnings.specs.Texts.{name_in, named_text, placed, ruled_out_text, warning_text, warning_word};
 
 use crate::warning::{Place, Warning};
 use ql_base::{NoMemory, OpId, push_bytes, push_number};
@@ -8,7 +8,9 @@ use ql_typing::Typed;
 use std::alloc::Global;
 
 /// A word for each kind of warning, for programs.
-pub fn warning_word(warning: Warning) -> &'static str {
+pub fn warning_word(warning: Warning) -> &'static str
+    ensures { result.now ≡ warning_word warning }
+{
     match warning {
         Warning::NamedAsOperation { .. } => "named as operation",
         Warning::Unbracketed(_) => "unbracketed",
