@@ -17,11 +17,18 @@ pub fact_members : (claim effects holds : Data)
 unfolding serde_json_on_literals
 fact_members claim effects holds = refl
 
-pub counter_members : (here execution facts level variables : Data)
-    → put (codes "variables") variables (put (codes "level") level (put (codes "facts") facts (put (codes "execution") execution (put (codes "at") here no_members))))
-    ≡ member (codes "at") here (member (codes "execution") execution (member (codes "facts") facts (member (codes "level") level (member (codes "variables") variables no_members))))
+pub counter_members : (here execution facts level variables warnings : Data)
+    → put (codes "warnings") warnings (put (codes "variables") variables (put (codes "level") level (put (codes "facts") facts (put (codes "execution") execution (put (codes "at") here no_members)))))
+    ≡ member (codes "at") here (member (codes "execution") execution (member (codes "facts") facts (member (codes "level") level (member (codes "variables") variables
+    (member (codes "warnings") warnings no_members)))))
 unfolding serde_json_on_literals
-counter_members here execution facts level variables = refl
+counter_members here execution facts level variables warnings = refl
+
+pub warning_members : (kind place text : Data)
+    → put (codes "text") text (put (codes "place") place (put (codes "kind") kind no_members))
+    ≡ member (codes "kind") kind (member (codes "place") place (member (codes "text") text no_members))
+unfolding serde_json_on_literals
+warning_members kind place text = refl
 
 pub target_members : (reason kind level name uses warnings : Data)
     → put (codes "warnings") warnings (put (codes "uses_strong") uses (put (codes "name") name (put (codes "level") level (put (codes "kind") kind (put (codes "countermodel") reason no_members)))))

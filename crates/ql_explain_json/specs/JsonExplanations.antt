@@ -29,6 +29,11 @@ use Rattle.ql_run_json.specs.JsonRuns.{effects_from}
 use Rattle.ql_run_json.specs.Values.{id_data, listed, text_data}
 use Rattle.ql_explain_json.specs.declared.counter.Shown.{Shown}
 use Rattle.ql_why.specs.Why.{level_text, object_names, vars_of}
+use Rattle.ql_warnings.specs.Texts.{warning_text, warning_word}
+use Rattle.ql_warnings.specs.Warnings.{IsRuledOut, IsWarning}
+use Rattle.ql_warnings.specs.declared.warning.Place.{Place}
+use Rattle.ql_warnings.specs.declared.warning.Warning.{Warning}
+use Rattle.ql_warnings.specs.declared.warning.Warning.TheVariants as warning
 
 -- ---- facts
 
@@ -50,6 +55,34 @@ fact_data fact =
     (member (codes "effects") (listed (map id_data (claim_effects fact.claim)))
     (member (codes "holds") (boolean fact.holds) no_members)))
 
+-- ---- warnings
+
+-- a place of the source, as [line,column], both from 1
+abbrev pub place_data : Place → Data
+place_data place = listed (id_data place.line ∷ id_data place.column ∷ [])
+
+-- the place that a warning speaks of, where it speaks of one
+abbrev pub place_of : Warning → Data
+place_of (warning.NamedAsOperation v op) = null
+place_of (warning.Unbracketed place) = place_data place
+place_of warning.AsksNothing = null
+place_of (warning.NeverApplies place) = place_data place
+place_of (warning.Unneeded place) = place_data place
+place_of (warning.RuledOut op at) = null
+
+abbrev pub warning_data : Program → Warning → Data
+warning_data p w =
+    object (member (codes "kind") (text_data (warning_word w))
+    (member (codes "place") (place_of w)
+    (member (codes "text") (text_data (warning_text p w)) no_members)))
+
+abbrev pub warnings_data : Program → List Warning → Data
+warnings_data p ws = listed (map (warning_data p) ws)
+
+-- warnings that are so of a target's contract
+abbrev pub AreWarnings : List ℕ → Program → Goal → Data → Type 0
+AreWarnings source p g json = (ws : List Warning) × All (IsWarning source p g) ws × (json ≡ warnings_data p ws)
+
 -- ---- countermodels
 
 -- the effect or the begun transaction of which the contract is false
@@ -67,17 +100,19 @@ variables_data (var ∷ vars) [] = []
 variables_data (var ∷ vars) (id ∷ ids) = variable_data var.name.word id ∷ variables_data vars ids
 
 -- The execution has the form that it has in a run.
-abbrev pub counter_data : Program → Goal → Counter → List Fact → Data
-counter_data p g c facts =
+abbrev pub counter_data : Program → Goal → Counter → List Fact → List Warning → Data
+counter_data p g c facts ws =
     object (member (codes "at") (at_data c.at)
     (member (codes "execution") (listed (effects_from p object_names 1 c.execution))
     (member (codes "facts") (listed (map fact_data facts))
     (member (codes "level") (text_data (level_text g))
-    (member (codes "variables") (listed (variables_data (vars_of p g) (numbers c.places))) no_members)))))
+    (member (codes "variables") (listed (variables_data (vars_of p g) (numbers c.places)))
+    (member (codes "warnings") (warnings_data p ws) no_members))))))
 
--- a countermodel of the goal, with facts that are true of it
+-- a countermodel of the goal, with facts that are true of it and warnings that are so of it
 abbrev pub IsCounterData : Program → Goal → Data → Type 0
-IsCounterData p g json = (c : Counter) × (facts : List Fact) × IsCounterOf p g c × All (IsTrueOf c.execution c.at) facts × (json ≡ counter_data p g c facts)
+IsCounterData p g json =
+    (c : Counter) × (facts : List Fact) × (ws : List Warning) × IsCounterOf p g c × All (IsTrueOf c.execution c.at) facts × All (IsRuledOut p g c) ws × (json ≡ counter_data p g c facts ws)
 
 -- one at the next lower level, or at the highest where none is enough
 abbrev pub IsReasonOf : Program → Option Unmet → Data → Type 0
@@ -86,28 +121,6 @@ IsReasonOf p (Some u) json = IsCounterData p u.goal json
 
 abbrev pub IsReasonData : Program → Finding → Data → Type 0
 IsReasonData p f json = IsReasonOf p (unmet_of f) json
-
--- ---- warnings
-
--- a kind of warning, its sentences, and the line and the column from 1 of a place in the source, where it has one
-pub record Warned : Type 0 where
-  pub kind : List ℕ
-  pub place : Option (ℕ × ℕ)
-  pub text : List ℕ
-
-abbrev pub place_data : Option (ℕ × ℕ) → Data
-place_data None = null
-place_data (Some place) = listed (id_data place.0 ∷ id_data place.1 ∷ [])
-
-abbrev pub warning_data : Warned → Data
-warning_data w =
-    object (member (codes "kind") (text_data w.kind)
-    (member (codes "place") (place_data w.place)
-    (member (codes "text") (text_data w.text) no_members)))
-
--- some warnings, of which nothing is claimed
-abbrev pub AreWarnings : Data → Type 0
-AreWarnings json = (ws : List Warned) × (json ≡ listed (map warning_data ws))
 
 -- ---- targets
 
@@ -136,13 +149,13 @@ target_data p f uses reason warnings =
     (member (codes "uses_strong") (listed (map (use_data p) uses))
     (member (codes "warnings") warnings no_members))))))
 
-abbrev pub IsTarget : Program → Finding → Data → Type 0
-IsTarget p f json =
-    (uses : List OpId) × (reason : Data) × (warnings : Data) × AreUsesOf p (goal_of f) uses × IsReasonData p f reason × AreWarnings warnings × (json ≡ target_data p f uses reason warnings)
+abbrev pub IsTarget : List ℕ → Program → Finding → Data → Type 0
+IsTarget source p f json =
+    (uses : List OpId) × (reason : Data) × (warnings : Data) × AreUsesOf p (goal_of f) uses × IsReasonData p f reason × AreWarnings source p (goal_of f) warnings × (json ≡ target_data p f uses reason warnings)
 
 -- each finding's, in order
-abbrev pub AreTargets : Program → List Finding → List Data → Type 0
-AreTargets p findings targets = AllZip (IsTarget p) findings targets
+abbrev pub AreTargets : List ℕ → Program → List Finding → List Data → Type 0
+AreTargets source p findings targets = AllZip (IsTarget source p) findings targets
 
 -- ---- the whole
 
@@ -152,13 +165,13 @@ explanation_data targets = object (member (codes "targets") (listed targets) no_
 abbrev pub explanation_json : List Data → List ℕ
 explanation_json targets = compact_text (explanation_data targets) ++ codes "\n"
 
-abbrev pub IsJsonExplanation : Program → List ℕ → Type 0
-IsJsonExplanation p text =
-    (findings : List Finding) × AreFindings p findings × (targets : List Data) × AreTargets p findings targets × (text ≡ explanation_json targets)
+abbrev pub IsJsonExplanation : List ℕ → Program → List ℕ → Type 0
+IsJsonExplanation source p text =
+    (findings : List Finding) × AreFindings p findings × (targets : List Data) × AreTargets source p findings targets × (text ≡ explanation_json targets)
 
 abbrev pub ExplainJsonSays : List ℕ → Answer → List ℕ → Type 0
-ExplainJsonSays bytes Done text = (p : Program) × IsSourceOf bytes p × IsJsonExplanation p text
-ExplainJsonSays bytes No text = (p : Program) × IsSourceOf bytes p × IsJsonExplanation p text
+ExplainJsonSays bytes Done text = (p : Program) × IsSourceOf bytes p × IsJsonExplanation bytes p text
+ExplainJsonSays bytes No text = (p : Program) × IsSourceOf bytes p × IsJsonExplanation bytes p text
 ExplainJsonSays bytes Bad text = BadSourceSays bytes text
 
 -- ---- parts of it

@@ -1,22 +1,25 @@
 // A countermodel as JSON.
 ghost use Rattle.std.specs.Prelude.{◌≡◌, ◌++◌, ℕ, IfOk, OnOk, codes, map};
+ghost use Rattle.std.specs.List.{All};
 ghost use Rattle.serde_json.specs.Data.{put as with_member};
 ghost use Rattle.serde_json.specs.View.{members_view, view};
 ghost use Rattle.ql_classify.specs.Finding.{IsFinding, IsUnmet};
 ghost use Rattle.ql_counter.specs.Countermodels.{AreWithin, IsCounterOf, numbers};
-ghost use Rattle.ql_explanation.specs.Explanation.{unmet_of};
+ghost use Rattle.ql_explanation.specs.Explanation.{AreFindings, unmet_of};
 ghost use Rattle.ql_ground.specs.OfPrograms.{IsGoalOf};
 ghost use Rattle.ql_run_json.specs.JsonRuns.{effects_from};
 ghost use Rattle.ql_run_json.specs.Values.{id_data, listed, text_data};
 ghost use Rattle.ql_run_text.specs.EffectTexts.{AreNamed};
 ghost use Rattle.ql_why.specs.Why.{level_text, object_names};
 ghost use Rattle.ql_why.specs.Why as why;
-ghost use Rattle.ql_explain_json.specs.JsonExplanations.{IsCounterData, IsShown, IsShownOf, at_data, counter_data, fact_data, variable_data, variables_data};
+ghost use Rattle.ql_warnings.specs.Warnings.{IsRuledOut};
+ghost use Rattle.ql_explain_json.specs.JsonExplanations.{IsCounterData, IsShown, IsShownOf, at_data, counter_data, fact_data, variable_data, variables_data, warnings_data};
 
 use crate::effects::effects;
 use crate::facts::facts as facts_value;
 use crate::names::{formula_of, level_of, object_names, vars_of};
 use crate::values::{pair, text};
+use crate::warnings::warnings_value;
 use ql_base::{EffId, NoMemory};
 use ql_classify::{Finding, Unmet};
 use ql_counter::{At, Counter, countermodel};
@@ -25,6 +28,7 @@ use ql_facts::{Fact, reasons};
 use ql_ground::Goal;
 use ql_lang::Var;
 use ql_typing::Typed;
+use ql_warnings::{Warning, ruled_out};
 use serde_json::{Map, Value as Json, put};
 use std::alloc::Global;
 
@@ -62,15 +66,40 @@ fn make_shown(alloc: Global, t: &Typed, unmet: &Unmet) -> Result<Shown, NoMemory
     })
 }
 
-/// A countermodel with the facts that make the contract false in it.
-pub(crate) fn shown_value(alloc: Global, t: &Typed, shown: &Shown) -> Result<Json, NoMemory>
+/// A countermodel with the facts that make the contract false in it, and what there is to warn of in it.
+pub(crate) fn shown_value(
+    alloc: Global,
+    t: &Typed,
+    findings: &[Finding],
+    shown: &Shown,
+) -> Result<Json, NoMemory>
+    requires findings { AreFindings t.now.program findings.now }
     requires goal { IsGoalOf t.now.program shown.now.goal }
     requires counter { IsCounterOf t.now.program shown.now.goal shown.now.counter }
     requires within { AreWithin t.now.program shown.now.counter.execution }
     ensures { IfOk result (λ json. IsCounterData t.now.program shown.now.goal (view json)) }
 {
     let facts = reasons(alloc, formula_of(t, shown.goal), &shown.counter)?;
-    counter_value(alloc, t, shown.goal, &shown.counter, &facts)
+    let warned = of_counter(alloc, t, findings, shown)?;
+    counter_value(alloc, t, shown.goal, &shown.counter, &facts, &warned)
+}
+
+// Whether the countermodel breaks the contract of another operation, which has a level.
+fn of_counter(
+    alloc: Global,
+    t: &Typed,
+    findings: &[Finding],
+    shown: &Shown,
+) -> Result<Vec<Warning>, NoMemory>
+    requires findings { AreFindings t.now.program findings.now }
+    requires counter { IsCounterOf t.now.program shown.now.goal shown.now.counter }
+    ensures { IfOk result (λ warned. All (IsRuledOut t.now.program shown.now.goal shown.now.counter) warned.items) }
+{
+    let mut warned = Vec::new(alloc);
+    if let Some(warning) = ruled_out(alloc, t, findings, shown.goal, &shown.counter)? {
+        warned.push(warning)?;
+    }
+    Ok(warned)
 }
 
 #[tactic(auto, using(crate::proofs::Members::counter_members))]
@@ -80,14 +109,21 @@ fn counter_value(
     g: Goal,
     c: &Counter,
     facts: &[Fact],
+    warned: &[Warning],
 ) -> Result<Json, NoMemory>
     requires goal { IsGoalOf t.now.program g }
     requires named { AreNamed t.now.program 7 c.now.execution }
-    ensures { IfOk result (λ json. view json ≡ counter_data t.now.program g c.now facts.now) }
+    ensures { IfOk result (λ json. view json ≡ counter_data t.now.program g c.now facts.now warned.now) }
 {
     let mut members = Map::new(alloc);
     put_execution(alloc, &mut members, t, c)?;
     put_breach(alloc, &mut members, t, g, c, facts)?;
+    put(
+        &mut members,
+        alloc,
+        "warnings",
+        warnings_value(alloc, t, warned)?,
+    )?;
     Ok(Json::Object(members))
 }
 

@@ -39,7 +39,7 @@ fn targets(
 ) -> Result<(bool, Vec<Json>), NoMemory>
     requires bytes { length source.now < 2 ^ 32 }
     requires findings { AreFindings t.now.program findings.now }
-    ensures { IfOk result (λ answer. AreTargets t.now.program findings.now (map view answer.1.items)) }
+    ensures { IfOk result (λ answer. AreTargets source.now t.now.program findings.now (map view answer.1.items)) }
 {
     let mut list = Vec::new(alloc);
     let mut is_fine = true;

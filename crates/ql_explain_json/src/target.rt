@@ -33,13 +33,13 @@ pub(crate) fn target(
     requires bytes { length source.now < 2 ^ 32 }
     requires findings { AreFindings t.now.program findings.now }
     requires finding { (target : ℕ) × IsFinding t.now.program target finding.now }
-    ensures { IfOk result (λ answer. IsTarget t.now.program finding.now (view answer.1)) }
+    ensures { IfOk result (λ answer. IsTarget source.now t.now.program finding.now (view answer.1)) }
 {
     let goal = goal_of(finding);
     let uses = uses_of(alloc, t, findings, goal)?;
     let shown = shown_of(alloc, t, finding)?;
-    let warnings = warnings(alloc, source, t, findings, goal, &shown)?;
-    let reason = reason(alloc, t, finding, &shown)?;
+    let warnings = warnings(alloc, source, t, goal)?;
+    let reason = reason(alloc, t, findings, finding, &shown)?;
     let value = target_value(alloc, t, finding, goal, &uses, reason, warnings)?;
     Ok((has_level(finding) && uses.is_empty(), value))
 }
@@ -52,16 +52,18 @@ fn has_level(finding: &Finding) -> bool {
 fn reason(
     alloc: Global,
     t: &Typed,
+    findings: &[Finding],
     finding: &Finding,
     shown: &Option<Shown>,
 ) -> Result<Json, NoMemory>
+    requires findings { AreFindings t.now.program findings.now }
     requires finding { (target : ℕ) × IsFinding t.now.program target finding.now }
     requires shown { IsShown t.now.program (unmet_of finding.now) shown.now }
     ensures { IfOk result (λ json. IsReasonData t.now.program finding.now (view json)) }
 {
     let _finding = finding;
     match shown {
-        Some(shown) => shown_value(alloc, t, shown),
+        Some(shown) => shown_value(alloc, t, findings, shown),
         None => Ok(Json::Null),
     }
 }

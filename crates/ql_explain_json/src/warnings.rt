@@ -1,31 +1,77 @@
-ghost use Rattle.std.specs.Prelude.{◌<◌, ◌^◌, IfOk, length};
+// Warnings as JSON.
+ghost use Rattle.std.specs.Prelude.{◌≡◌, ◌<◌, ◌^◌, IfOk, length, map};
 ghost use Rattle.serde_json.specs.View.{view};
-ghost use Rattle.ql_explanation.specs.Explanation.{AreFindings};
 ghost use Rattle.ql_ground.specs.OfPrograms.{IsGoalOf};
-ghost use Rattle.ql_explain_json.specs.JsonExplanations.{AreWarnings};
+ghost use Rattle.ql_explain_json.specs.JsonExplanations.{AreWarnings, place_data, place_of, warning_data, warnings_data};
+ghost use Rattle.ql_run_json.specs.Values.{text_data};
+ghost use Rattle.ql_warnings.specs.Texts.{warning_text};
 
-use crate::counter::Shown;
+use crate::values::{pair, text};
 use ql_base::NoMemory;
-use ql_classify::Finding;
 use ql_ground::Goal;
 use ql_typing::Typed;
-use serde_json::Value as Json;
+use ql_warnings::{Place, Warning, warning_text, warning_word, warnings as warnings_of};
+use serde_json::{Map, Value as Json, put};
 use std::alloc::Global;
 
-/// What may be wrong with a target's contract, or with the countermodel that is shown of it. Nothing looks for it yet.
-pub(crate) fn warnings(
-    alloc: Global,
-    source: &[u8],
-    t: &Typed,
-    findings: &[Finding],
-    g: Goal,
-    shown: &Option<Shown>,
-) -> Result<Json, NoMemory>
+/// What there is to warn of in a target's contract.
+pub(crate) fn warnings(alloc: Global, source: &[u8], t: &Typed, g: Goal) -> Result<Json, NoMemory>
     requires bytes { length source.now < 2 ^ 32 }
     requires goal { IsGoalOf t.now.program g }
-    requires findings { AreFindings t.now.program findings.now }
-    ensures { IfOk result (λ json. AreWarnings (view json)) }
+    ensures { IfOk result (λ json. AreWarnings source.now t.now.program g (view json)) }
 {
-    let (_source, _t, _findings, _g, _shown) = (source, t, findings, g, shown);
-    Ok(Json::Array(Vec::new(alloc)))
+    let found = warnings_of(alloc, source, t, g)?;
+    warnings_value(alloc, t, &found)
+}
+
+/// Warnings in order.
+pub(crate) fn warnings_value(alloc: Global, t: &Typed, warned: &[Warning]) -> Result<Json, NoMemory>
+    ensures { IfOk result (λ json. view json ≡ warnings_data t.now.program warned.now) }
+{
+    let mut list = Vec::with_capacity(alloc, warned.len())?;
+    for k in 0..warned.len() {
+        list.push(warning(alloc, t, warned[k])?)?;
+    }
+    Ok(Json::Array(list))
+}
+
+#[tactic(auto, using(crate::proofs::Members::warning_members))]
+fn warning(alloc: Global, t: &Typed, warning: Warning) -> Result<Json, NoMemory>
+    ensures { IfOk result (λ json. view json ≡ warning_data t.now.program warning) }
+{
+    let mut members = Map::new(alloc);
+    put(
+        &mut members,
+        alloc,
+        "kind",
+        text(alloc, warning_word(warning).as_bytes())?,
+    )?;
+    put(&mut members, alloc, "place", place(alloc, warning)?)?;
+    put(&mut members, alloc, "text", sentence(alloc, t, warning)?)?;
+    Ok(Json::Object(members))
+}
+
+// The place that a warning speaks of, where it speaks of one.
+fn place(alloc: Global, warning: Warning) -> Result<Json, NoMemory>
+    ensures { IfOk result (λ json. view json ≡ place_of warning) }
+{
+    match warning {
+        Warning::Unbracketed(place) => place_value(alloc, place),
+        Warning::NeverApplies(place) => place_value(alloc, place),
+        Warning::Unneeded(place) => place_value(alloc, place),
+        _ => Ok(Json::Null),
+    }
+}
+
+fn place_value(alloc: Global, place: Place) -> Result<Json, NoMemory>
+    ensures { IfOk result (λ json. view json ≡ place_data place) }
+{
+    pair(Json::from(place.line), Json::from(place.column), alloc)
+}
+
+fn sentence(alloc: Global, t: &Typed, warning: Warning) -> Result<Json, NoMemory>
+    ensures { IfOk result (λ json. view json ≡ text_data (warning_text t.now.program warning)) }
+{
+    let sentence = warning_text(alloc, t, warning)?;
+    text(alloc, &sentence)
 }
