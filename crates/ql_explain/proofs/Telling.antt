@@ -1,13 +1,18 @@
--- What is said of a source, from what is said of its file.
-use Rattle.std.proofs.Common.{◌≡◌, ℕ, ◌<◌, List, length, Option, Some, None, Result, Ok, Err, refl, subst}
+-- What is said of the files that words name, from what is said of each.
+use Rattle.std.proofs.Common.{◌≡◌, ◌⊎◌, inl, inr, ℕ, ◌<◌, ◌≤◌, List, length, Option, Some, None, Result, Ok, Err, refl, sym, subst, arith}
 use Rattle.std.specs.Prelude.{IfOk, IfSome}
 use Rattle.std.specs.Global.{Vec}
 use Rattle.ql_base.specs.declared.no_memory.NoMemory.{NoMemory}
+use Rattle.ql_commands.specs.declared.answer.Answer.{Answer}
+use Rattle.ql_commands.specs.declared.answer.Answer.TheVariants as answer
 use Rattle.ql_ports.specs.Faults.{Rose}
 use Rattle.ql_ports.specs.Written.{appended}
 use Rattle.ql_ports.specs.declared.whole.ReadError.{ReadError}
 use Rattle.ql_ports.specs.declared.whole.ReadError.TheVariants.{Failed, TooLong, NoMemory as NoReadMemory}
-use Rattle.ql_explain.specs.Outcomes.{IsAnswer, IsUnread, SaysOf, Tells, Wrote}
+use Rattle.ql_baseline.specs.Comparison.{BaselineSays}
+use Rattle.ql_explain.specs.Outcomes.{IsAnswer, IsOf, IsUnread, Means, SaysIn, SaysOf, Tells, Wrote, status_of}
+use Rattle.ql_explain.specs.Words.{Call, Explained, Compared}
+use Rattle.ql_explain.specs.declared.asked.Form.{Form}
 use Rattle.ql_explain.specs.declared.status.Status.{Status}
 use Rattle.ql_explain.specs.declared.status.Status.TheVariants.{Done, No, Bad, ReadFault, WriteFault, Usage, TooLarge}
 
@@ -16,61 +21,101 @@ of_whole : (o : Option (List ℕ)) (bytes : List ℕ) (P : List ℕ → Type 0) 
 of_whole None bytes P same is = tt
 of_whole (Some whole) bytes P same is = subst P same is
 
-module _ (held : List ℕ → Option (List ℕ)) (before after : List ℕ → ℕ) (name : List ℕ) where
-  of_answer : (bytes : List ℕ) → IfSome (held name) (λ whole. bytes ≡ whole) → (status : Status) (text : List ℕ) → IsAnswer bytes status text → Tells held before after name status text
-  of_answer bytes same Done text is = of_whole (held name) bytes (λ b. IsAnswer b Done text) same is
-  of_answer bytes same No text is = of_whole (held name) bytes (λ b. IsAnswer b No text) same is
-  of_answer bytes same Bad text is = of_whole (held name) bytes (λ b. IsAnswer b Bad text) same is
-  of_answer bytes same ReadFault text is = absurd is
-  of_answer bytes same WriteFault text is = absurd is
-  of_answer bytes same Usage text is = absurd is
-  of_answer bytes same TooLarge text is = absurd is
+-- a count that rose later rose
+rose_before : (a b c : ℕ) → a ≤ b → Rose b c → Rose a c
+rose_before a b c le (inl less) = inl (omega (arith, le, less))
+rose_before a b c le (inr is) = inr is
 
-  -- the file was read
-  pub one_answer : (bytes source : List ℕ) → source ≡ bytes → IfSome (held name) (λ whole. bytes ≡ whole) → (answer : Result (Status × Vec ℕ) NoMemory) → IfOk answer (λ x. IsAnswer source x.0 x.1.items)
-      → IfOk answer (λ x. Tells held before after name x.0 x.1.items)
-  one_answer bytes source e same (Ok x) is = of_answer bytes same x.0 x.1.items (subst (λ b. IsAnswer b x.0 x.1.items) e is)
-  one_answer bytes source e same (Err error) is = tt
+module _ (held : List ℕ → Option (List ℕ)) (before after : List ℕ → ℕ) (call : Call) where
+  of_answer : (a : Answer) (status : Status) (text : List ℕ) → status ≡ status_of a → Means held call a text → Tells held before after call status text
+  of_answer answer.Done status text e means = subst (λ (s : Status). Tells held before after call s text) (sym e) means
+  of_answer answer.No status text e means = subst (λ (s : Status). Tells held before after call s text) (sym e) means
+  of_answer answer.Bad status text e means = subst (λ (s : Status). Tells held before after call s text) (sym e) means
 
-  of_unread : (error : ReadError) (status : Status) (text : List ℕ) → IsUnread error name status text
-      → (error ≡ Failed → Rose (before name) (after name)) → (error ≡ TooLong → IfSome (held name) (λ bytes. 1048576 < length bytes)) → Tells held before after name status text
-  of_unread Failed Done text is f l = absurd is
-  of_unread Failed No text is f l = absurd is
-  of_unread Failed Bad text is f l = absurd is
-  of_unread Failed ReadFault text is f l = (f refl, is)
-  of_unread Failed WriteFault text is f l = absurd is
-  of_unread Failed Usage text is f l = absurd is
-  of_unread Failed TooLarge text is f l = absurd is
-  of_unread TooLong Done text is f l = absurd is
-  of_unread TooLong No text is f l = absurd is
-  of_unread TooLong Bad text is f l = absurd is
-  of_unread TooLong ReadFault text is f l = absurd is
-  of_unread TooLong WriteFault text is f l = absurd is
-  of_unread TooLong Usage text is f l = absurd is
-  of_unread TooLong TooLarge text is f l = (l refl, is)
-  of_unread NoReadMemory Done text is f l = absurd is
-  of_unread NoReadMemory No text is f l = absurd is
-  of_unread NoReadMemory Bad text is f l = absurd is
-  of_unread NoReadMemory ReadFault text is f l = absurd is
-  of_unread NoReadMemory WriteFault text is f l = absurd is
-  of_unread NoReadMemory Usage text is f l = absurd is
-  of_unread NoReadMemory TooLarge text is f l = absurd is
+  one_answer : (Says : Answer → List ℕ → Type 0) → ((a : Answer) (text : List ℕ) → Says a text → Means held call a text)
+      → (said : Result (Status × Vec ℕ) NoMemory) → IfOk said (λ x. IsAnswer Says x.0 x.1.items) → IfOk said (λ x. Tells held before after call x.0 x.1.items)
+  one_answer Says means (Ok x) (a, e, says) = of_answer a x.0 x.1.items e (means a x.1.items says)
+  one_answer Says means (Err error) is = tt
 
-  -- it couldn't be read whole
-  pub one_unread : (error : ReadError) (answer : Result (Status × Vec ℕ) NoMemory) → IfOk answer (λ x. IsUnread error name x.0 x.1.items)
+  of_unread : (name : List ℕ) → IsOf call name → (error : ReadError) (status : Status) (text : List ℕ) → IsUnread error name status text
+      → (error ≡ Failed → Rose (before name) (after name)) → (error ≡ TooLong → IfSome (held name) (λ bytes. 1048576 < length bytes)) → Tells held before after call status text
+  of_unread name of Failed Done text is f l = absurd is
+  of_unread name of Failed No text is f l = absurd is
+  of_unread name of Failed Bad text is f l = absurd is
+  of_unread name of Failed ReadFault text is f l = (name, of, f refl, is)
+  of_unread name of Failed WriteFault text is f l = absurd is
+  of_unread name of Failed Usage text is f l = absurd is
+  of_unread name of Failed TooLarge text is f l = absurd is
+  of_unread name of TooLong Done text is f l = absurd is
+  of_unread name of TooLong No text is f l = absurd is
+  of_unread name of TooLong Bad text is f l = absurd is
+  of_unread name of TooLong ReadFault text is f l = absurd is
+  of_unread name of TooLong WriteFault text is f l = absurd is
+  of_unread name of TooLong Usage text is f l = absurd is
+  of_unread name of TooLong TooLarge text is f l = (name, of, l refl, is)
+  of_unread name of NoReadMemory Done text is f l = absurd is
+  of_unread name of NoReadMemory No text is f l = absurd is
+  of_unread name of NoReadMemory Bad text is f l = absurd is
+  of_unread name of NoReadMemory ReadFault text is f l = absurd is
+  of_unread name of NoReadMemory WriteFault text is f l = absurd is
+  of_unread name of NoReadMemory Usage text is f l = absurd is
+  of_unread name of NoReadMemory TooLarge text is f l = absurd is
+
+  -- a file couldn't be read whole
+  pub one_unread : (name : List ℕ) → IsOf call name → (error : ReadError) (said : Result (Status × Vec ℕ) NoMemory) → IfOk said (λ x. IsUnread error name x.0 x.1.items)
       → (error ≡ Failed → Rose (before name) (after name)) → (error ≡ TooLong → IfSome (held name) (λ bytes. 1048576 < length bytes))
-      → IfOk answer (λ x. Tells held before after name x.0 x.1.items)
-  one_unread error (Ok x) is f l = of_unread error x.0 x.1.items is f l
-  one_unread error (Err e) is f l = tt
+      → IfOk said (λ x. Tells held before after call x.0 x.1.items)
+  one_unread name of error (Ok x) is f l = of_unread name of error x.0 x.1.items is f l
+  one_unread name of error (Err e) is f l = tt
+
+module _ (held : List ℕ → Option (List ℕ)) (before after : List ℕ → ℕ) where
+  -- a source was read
+  pub source_said : (form : Form) (name bytes source : List ℕ) → source ≡ bytes → IfSome (held name) (λ whole. bytes ≡ whole)
+      → (said : Result (Status × Vec ℕ) NoMemory) → IfOk said (λ x. IsAnswer (SaysIn form source) x.0 x.1.items) → IfOk said (λ x. Tells held before after (Explained form name) x.0 x.1.items)
+  source_said form name bytes source e same said is =
+      one_answer held before after (Explained form name) (SaysIn form source)
+      (λ a text says. of_whole (held name) bytes (λ b. SaysIn form b a text) same (subst (λ b. SaysIn form b a text) e says)) said is
+
+  -- a stored answer and a source were read
+  pub pair_said : (file name baseline bytes source : List ℕ) → source ≡ bytes → IfSome (held file) (λ whole. baseline ≡ whole) → IfSome (held name) (λ whole. bytes ≡ whole)
+      → (said : Result (Status × Vec ℕ) NoMemory) → IfOk said (λ x. IsAnswer (BaselineSays source baseline) x.0 x.1.items) → IfOk said (λ x. Tells held before after (Compared file name) x.0 x.1.items)
+  pair_said file name baseline bytes source e stored same said is =
+      one_answer held before after (Compared file name) (BaselineSays source baseline)
+      (λ a text says. of_whole (held file) baseline (λ b. IfSome (held name) (λ s. BaselineSays s b a text)) stored
+      (of_whole (held name) bytes (λ s. BaselineSays s baseline a text) same (subst (λ s. BaselineSays s baseline a text) e says))) said is
+
+-- what is said after a file was read is said of both
+module _ (held later : List ℕ → Option (List ℕ)) (before between after : List ℕ → ℕ) (file name : List ℕ) (same : (n : List ℕ) → later n ≡ held n) (less : (n : List ℕ) → before n ≤ between n) where
+  means_sooner : (a : Answer) (text : List ℕ) → Means later (Compared file name) a text → Means held (Compared file name) a text
+  means_sooner a text is = subst (λ (h : Option (List ℕ)). IfSome h (λ baseline. IfSome (held name) (λ source. BaselineSays source baseline a text))) (same file)
+      (subst (λ (h : Option (List ℕ)). IfSome (later file) (λ baseline. IfSome h (λ source. BaselineSays source baseline a text))) (same name) is)
+
+  sooner : (status : Status) (text : List ℕ) → Tells later between after (Compared file name) status text → Tells held before after (Compared file name) status text
+  sooner Done text is = means_sooner answer.Done text is
+  sooner No text is = means_sooner answer.No text is
+  sooner Bad text is = means_sooner answer.Bad text is
+  sooner ReadFault text is = (is.0, is.1, rose_before (before is.0) (between is.0) (after is.0) (less is.0) is.2, is.3)
+  sooner WriteFault text is = absurd is
+  sooner Usage text is = absurd is
+  sooner TooLarge text is = (is.0, is.1, subst (λ (h : Option (List ℕ)). IfSome h (λ bytes. 1048576 < length bytes)) (same is.0) is.2, is.3)
+
+  pub said_sooner : (said : Result (Status × Vec ℕ) NoMemory) → IfOk said (λ x. Tells later between after (Compared file name) x.0 x.1.items)
+      → IfOk said (λ x. Tells held before after (Compared file name) x.0 x.1.items)
+  said_sooner (Ok x) is = sooner x.0 x.1.items is
+  said_sooner (Err e) is = tt
+
+-- what the shelf tells is the same later
+pub still_whole : (was is : Option (List ℕ)) (bytes : List ℕ) → is ≡ was → IfSome was (λ whole. bytes ≡ whole) → IfSome is (λ whole. bytes ≡ whole)
+still_whole was is bytes same whole = subst (λ (h : Option (List ℕ)). IfSome h (λ w. bytes ≡ w)) (sym same) whole
 
 -- nothing is to be written with the status of a write fault
 abbrev IsWriteFault : Status → Type 0
 IsWriteFault WriteFault = Unit {0}
 IsWriteFault _ = ⊥
 
-pub never : (held : List ℕ → Option (List ℕ)) (before after : List ℕ → ℕ) (name : Option (List ℕ)) (text : List ℕ) → SaysOf held before after name WriteFault text → ⊥
+pub never : (held : List ℕ → Option (List ℕ)) (before after : List ℕ → ℕ) (call : Option Call) (text : List ℕ) → SaysOf held before after call WriteFault text → ⊥
 never held before after None text says = subst IsWriteFault says.0 tt
-never held before after (Some name) text says = says
+never held before after (Some call) text says = says
 
 pub wrote : (May : Status → List ℕ → Type 0) (was is : Option (List ℕ)) (before after : ℕ) (status : Status) (text : List ℕ) → (May WriteFault text → ⊥)
     → May status text → is ≡ appended was text → Wrote May was is before after status

@@ -1,23 +1,56 @@
--- The words that ask about a source:  SOURCE
-use Rattle.std.specs.Prelude.{ℕ, Bool, ◌&&◌, ◌==◌, not, nat_le, if◌then◌else◌, List, [], ◌∷◌, Option, Some, None, length, map, slice_index}
+-- The words that ask for something:  SOURCE, or  --json SOURCE, or  --baseline FILE SOURCE
+use Rattle.std.specs.Prelude.{ℕ, Bool, ◌&&◌, ◌==◌, not, nat_le, if◌then◌else◌, List, [], ◌∷◌, Option, Some, None, length, map, slice_index, codes}
 use Rattle.std.specs.Global.{Global, Vec}
+use Rattle.std.specs.Option.{option_map}
+use Rattle.std.specs.Str.{bytes_eq}
 use Rattle.std.specs.declared.string.String.{String}
 use Rattle.std.specs.String.{string_bytes}
+use Rattle.ql_explain.specs.declared.asked.Asked.{Asked}
+use Rattle.ql_explain.specs.declared.asked.Asked.TheVariants as request
+use Rattle.ql_explain.specs.declared.asked.Form.{Form}
+use Rattle.ql_explain.specs.declared.asked.Form.TheVariants.{Text, Json}
 
 -- the words' bytes
 abbrev pub word_texts : Vec (String Global) → List (List ℕ)
 word_texts words = map string_bytes words.items
 
+-- what is found of the source of a name, in a form; or which of its levels are higher than in the stored answer of a name
+pub data Call : Type 0 where
+  Explained : Form → List ℕ → Call
+  Compared : List ℕ → List ℕ → Call
+
 -- the name of a file has 1 to 255 bytes, and doesn't begin with '-'
 abbrev pub is_name : List ℕ → Bool
 is_name word = nat_le 1 (length word) && nat_le (length word) 255 && not (slice_index word 0 == 45)
 
--- a word that is a name, where no more follow
+-- the word that is a name, where no more follow
 abbrev pub only_name : List ℕ → List (List ℕ) → Option (List ℕ)
 only_name word [] = if is_name word then Some word else None
 only_name word (next ∷ words) = None
 
--- the name of the source
-abbrev pub asked_name : List (List ℕ) → Option (List ℕ)
-asked_name [] = None
-asked_name (word ∷ words) = only_name word words
+abbrev pub one_name : List (List ℕ) → Option (List ℕ)
+one_name [] = None
+one_name (word ∷ words) = only_name word words
+
+abbrev pub plain_of : List ℕ → List (List ℕ) → Option Call
+plain_of word words = option_map (Explained Text) (only_name word words)
+
+-- what stands behind --json
+abbrev pub json_of : List (List ℕ) → Option Call
+json_of words = option_map (Explained Json) (one_name words)
+
+-- what stands behind --baseline
+abbrev pub against_of : List (List ℕ) → Option Call
+against_of [] = None
+against_of (word ∷ words) = if is_name word then option_map (λ name. Compared word name) (one_name words) else None
+
+-- what the words ask for, where they ask for something
+abbrev pub asked : List (List ℕ) → Option Call
+asked [] = None
+asked (word ∷ words) =
+    if bytes_eq word (codes "--json") then json_of words else (if bytes_eq word (codes "--baseline") then against_of words else plain_of word words)
+
+-- a request as data
+abbrev pub call_of : Asked → Call
+call_of (request.Explained form name) = Explained form name.now
+call_of (request.Compared pair) = Compared pair.baseline.now pair.source.now

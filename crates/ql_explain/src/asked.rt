@@ -1,11 +1,95 @@
 ghost use Rattle.std.specs.Prelude.{◌≡◌, map};
 ghost use Rattle.std.specs.Option.{option_map};
 ghost use Rattle.std.specs.String.{string_bytes};
-ghost use Rattle.ql_explain.specs.Words.{asked_name, is_name, only_name, word_texts};
+ghost use Rattle.ql_explain.specs.Words.{Compared, against_of, asked, call_of, is_name, json_of, one_name, only_name, plain_of, word_texts};
 
-/// The name of the source that the words ask about, where they are one name.
-pub(crate) fn name_of(words: &Vec<String>) -> Option<&str>
-    ensures { option_map (λ name. name.now) result ≡ asked_name (word_texts words.now) }
+/// In which form it is said what is found of a source.
+#[derive(Clone, Copy)]
+pub(crate) enum Form {
+    Text,
+    Json,
+}
+
+/// The names of a stored answer and of a source.
+#[derive(Clone, Copy)]
+pub(crate) struct Pair<'a> {
+    pub(crate) baseline: &'a str,
+    pub(crate) source: &'a str,
+}
+
+/// What the words ask for.
+#[derive(Clone, Copy)]
+pub(crate) enum Asked<'a> {
+    /// What is found of the source of a name.
+    Explained(Form, &'a str),
+    /// Which levels are higher than in a stored answer.
+    Compared(Pair<'a>),
+}
+
+/// What the words ask for, where they ask for something.
+pub(crate) fn parse_words(words: &Vec<String>) -> Option<Asked>
+    ensures { option_map call_of result ≡ asked (word_texts words.now) }
+{
+    match words.split_first() {
+        None => None,
+        Some((word, rest)) => {
+            if word.as_str() == "--json" {
+                json(rest)
+            } else if word.as_str() == "--baseline" {
+                against(rest)
+            } else {
+                plain(word.as_str(), rest)
+            }
+        }
+    }
+}
+
+fn json(words: &[String]) -> Option<Asked>
+    ensures { option_map call_of result ≡ json_of (map string_bytes words.now) }
+{
+    match one_name(words) {
+        None => None,
+        Some(name) => Some(Asked::Explained(Form::Json, name)),
+    }
+}
+
+fn plain<'a>(word: &'a str, rest: &[String]) -> Option<Asked<'a>>
+    ensures { option_map call_of result ≡ plain_of word.now (map string_bytes rest.now) }
+{
+    match only_name(word, rest) {
+        None => None,
+        Some(name) => Some(Asked::Explained(Form::Text, name)),
+    }
+}
+
+// What a name behind `--baseline` and another one ask for.
+fn against(words: &[String]) -> Option<Asked>
+    ensures { option_map call_of result ≡ against_of (map string_bytes words.now) }
+{
+    match words.split_first() {
+        None => None,
+        Some((word, rest)) => {
+            if is_name(word.as_str()) {
+                compared(word.as_str(), one_name(rest))
+            } else {
+                None
+            }
+        }
+    }
+}
+
+fn compared<'a>(baseline: &'a str, source: Option<&'a str>) -> Option<Asked<'a>>
+    ensures { option_map call_of result ≡ option_map (λ name. Compared baseline.now name) (option_map (λ name. name.now) source.entry) }
+{
+    match source {
+        None => None,
+        Some(source) => Some(Asked::Compared(Pair { baseline, source })),
+    }
+}
+
+// A name, where it is all words.
+fn one_name(words: &[String]) -> Option<&str>
+    ensures { option_map (λ name. name.now) result ≡ one_name (map string_bytes words.now) }
 {
     match words.split_first() {
         None => None,

@@ -1,20 +1,23 @@
-ghost use Rattle.std.specs.Prelude.{◌≡◌, ◌<◌, ◌≤◌, ◌^◌, ◌++◌, ℕ, List, IfOk, codes, length};
-ghost use Rattle.ql_explain.specs.Outcomes.{IsAnswer, IsUnread, Says, Tells};
-ghost use Rattle.ql_explain.specs.Words.{word_texts};
+ghost use Rattle.std.specs.Prelude.{◌≡◌, ◌<◌, ◌≤◌, ◌^◌, ◌++◌, ℕ, List, IfOk, IfSome, codes, length};
+ghost use Rattle.ql_baseline.specs.Comparison.{BaselineSays};
+ghost use Rattle.ql_explain.specs.Outcomes.{IsAnswer, IsUnread, Says, SaysIn, Tells, status_of};
+ghost use Rattle.ql_explain.specs.Words.{Compared, Explained, word_texts};
 
-use crate::asked::name_of;
+use crate::asked::{Asked, Form, Pair, parse_words};
 use crate::help::HELP;
 use crate::status::Status;
 use ql_base::{NoMemory, push_bytes};
+use ql_baseline::compare;
 use ql_commands::Answer;
+use ql_explain_json::explain_json;
 use ql_explanation::explain;
 use ql_ports::{ReadError, Shelf, read_whole};
 use std::alloc::Global;
 
-// The greatest length of a source in bytes.
-const SOURCE_BYTES: usize = 1_048_576;
+// The greatest length of a file in bytes.
+const FILE_BYTES: usize = 1_048_576;
 
-/// The status and the text that answer the words. The named file is read once, to its end.
+/// The status and the text that answer the words. The named files are read once, to their ends, in the order of the words.
 pub(crate) fn outcome<S: Shelf>(
     alloc: Global,
     words: &Vec<String>,
@@ -24,41 +27,94 @@ pub(crate) fn outcome<S: Shelf>(
     ensures same_contents { (other : List ℕ) → S.held shelf.new other ≡ S.held shelf.old other }
     ensures counts_stay { (other : List ℕ) → S.faults shelf.old other ≤ S.faults shelf.new other }
 {
-    match name_of(words) {
+    match parse_words(words) {
         None => Ok((Status::Usage, Vec::from_slice(alloc, HELP.as_bytes())?)),
-        Some(name) => of_source(alloc, name, shelf),
+        Some(Asked::Explained(form, name)) => of_source(alloc, form, name, shelf),
+        Some(Asked::Compared(pair)) => of_pair(alloc, pair, shelf),
     }
 }
 
 fn of_source<S: Shelf>(
     alloc: Global,
+    form: Form,
     name: &str,
     shelf: &mut S,
 ) -> Result<(Status, Vec<u8>), NoMemory>
-    ensures says { IfOk result (λ answer. Tells (S.held shelf.old) (S.faults shelf.old) (S.faults shelf.new) name.now answer.0 answer.1.items) }
+    ensures says { IfOk result (λ answer. Tells (S.held shelf.old) (S.faults shelf.old) (S.faults shelf.new) (Explained form name.now) answer.0 answer.1.items) }
     ensures same_contents { (other : List ℕ) → S.held shelf.new other ≡ S.held shelf.old other }
     ensures counts_stay { (other : List ℕ) → S.faults shelf.old other ≤ S.faults shelf.new other }
 {
-    match read_whole(alloc, shelf, name, SOURCE_BYTES) {
-        Ok(bytes) => answer(alloc, &bytes),
+    match read_whole(alloc, shelf, name, FILE_BYTES) {
+        Ok(bytes) => answer(alloc, form, &bytes),
         Err(error) => unread(alloc, error, name),
     }
 }
 
-fn answer(alloc: Global, source: &[u8]) -> Result<(Status, Vec<u8>), NoMemory>
-    requires { length source.now < 2 ^ 32 }
-    ensures { IfOk result (λ answer. IsAnswer source.now answer.0 answer.1.items) }
+fn of_pair<S: Shelf>(
+    alloc: Global,
+    pair: Pair,
+    shelf: &mut S,
+) -> Result<(Status, Vec<u8>), NoMemory>
+    ensures says { IfOk result (λ answer. Tells (S.held shelf.old) (S.faults shelf.old) (S.faults shelf.new) (Compared pair.entry.baseline.now pair.entry.source.now) answer.0 answer.1.items) }
+    ensures same_contents { (other : List ℕ) → S.held shelf.new other ≡ S.held shelf.old other }
+    ensures counts_stay { (other : List ℕ) → S.faults shelf.old other ≤ S.faults shelf.new other }
 {
-    let (answer, text) = explain(alloc, source)?;
-    let status = match answer {
+    match read_whole(alloc, shelf, pair.baseline, FILE_BYTES) {
+        Ok(baseline) => with_baseline(alloc, pair, &baseline, shelf),
+        Err(error) => unread(alloc, error, pair.baseline),
+    }
+}
+
+// The same where the stored answer was read.
+fn with_baseline<S: Shelf>(
+    alloc: Global,
+    pair: Pair,
+    baseline: &[u8],
+    shelf: &mut S,
+) -> Result<(Status, Vec<u8>), NoMemory>
+    requires { IfSome (S.held shelf.old pair.baseline.now) (λ whole. baseline.now ≡ whole) }
+    ensures says { IfOk result (λ answer. Tells (S.held shelf.old) (S.faults shelf.old) (S.faults shelf.new) (Compared pair.entry.baseline.now pair.entry.source.now) answer.0 answer.1.items) }
+    ensures same_contents { (other : List ℕ) → S.held shelf.new other ≡ S.held shelf.old other }
+    ensures counts_stay { (other : List ℕ) → S.faults shelf.old other ≤ S.faults shelf.new other }
+{
+    match read_whole(alloc, shelf, pair.source, FILE_BYTES) {
+        Ok(source) => comparison(alloc, &source, baseline),
+        Err(error) => unread(alloc, error, pair.source),
+    }
+}
+
+// What is found of a source that was read.
+fn answer(alloc: Global, form: Form, source: &[u8]) -> Result<(Status, Vec<u8>), NoMemory>
+    requires { length source.now < 2 ^ 32 }
+    ensures { IfOk result (λ answer. IsAnswer (SaysIn form source.now) answer.0 answer.1.items) }
+{
+    let (answer, text) = match form {
+        Form::Text => explain(alloc, source)?,
+        Form::Json => explain_json(alloc, source)?,
+    };
+    Ok((status_of(answer), text))
+}
+
+// What became of its levels since the answer was stored.
+fn comparison(alloc: Global, source: &[u8], baseline: &[u8]) -> Result<(Status, Vec<u8>), NoMemory>
+    requires { length source.now < 2 ^ 32 }
+    ensures { IfOk result (λ answer. IsAnswer (BaselineSays source.now baseline.now) answer.0 answer.1.items) }
+{
+    let (answer, text) = compare(alloc, source, baseline)?;
+    Ok((status_of(answer), text))
+}
+
+fn status_of(answer: Answer) -> Status
+    ensures { result ≡ status_of answer }
+{
+    match answer {
         Answer::Done => Status::Done,
         Answer::No => Status::No,
         Answer::Bad => Status::Bad,
-    };
-    Ok((status, text))
+    }
 }
 
-// The answer where the file couldn't be read whole.
+// The answer where a file couldn't be read whole.
 fn unread(alloc: Global, error: ReadError, name: &str) -> Result<(Status, Vec<u8>), NoMemory>
     ensures { IfOk result (λ answer. IsUnread error name.now answer.0 answer.1.items) }
 {

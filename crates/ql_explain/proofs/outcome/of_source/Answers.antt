@@ -1,13 +1,14 @@
-use Rattle.std.proofs.Common.{Err, ap}
-use Rattle.ql_explain.proofs.Telling.{one_answer, one_unread}
+use Rattle.std.proofs.Common.{Err, ap, refl}
+use Rattle.ql_explain.specs.Words.{Explained}
+use Rattle.ql_explain.proofs.Telling.{one_unread, source_said}
 use Rattle.ql_explain.proofs.outcome.of_source.Goals as goal
 
 pub returns-in-Ok-clause-says : goal.returns-in-Ok-clause-says
 returns-in-Ok-clause-says g c =
-    one_answer (g.S.Shelf.held c.args.shelf.now) (g.S.Shelf.faults c.args.shelf.now) (g.S.Shelf.faults c.read_whole.new.shelf) c.args.name.now c.in-Ok.bytes.items c.deref.result.now c.deref.ensures.value
-    c.in-Ok.ensures.whole c.answer.result c.answer.ensures
+    source_said (g.S.Shelf.held c.args.shelf.now) (g.S.Shelf.faults c.args.shelf.now) (g.S.Shelf.faults c.read_whole.new.shelf) c.args.form c.args.name.now c.in-Ok.bytes.items c.deref.result.now
+    c.deref.ensures.value c.in-Ok.ensures.whole c.answer.result c.answer.ensures
 
 pub returns-in-Err-clause-says : goal.returns-in-Err-clause-says
 returns-in-Err-clause-says g c =
-    one_unread (g.S.Shelf.held c.args.shelf.now) (g.S.Shelf.faults c.args.shelf.now) (g.S.Shelf.faults c.read_whole.new.shelf) c.args.name.now c.in-Err.error c.unread.result c.unread.ensures
-    (λ is. c.in-Err.ensures.failed (ap Err is)) (λ is. c.in-Err.ensures.too_long (ap Err is))
+    one_unread (g.S.Shelf.held c.args.shelf.now) (g.S.Shelf.faults c.args.shelf.now) (g.S.Shelf.faults c.read_whole.new.shelf) (Explained c.args.form c.args.name.now) c.args.name.now refl
+    c.in-Err.error c.unread.result c.unread.ensures (λ is. c.in-Err.ensures.failed (ap Err is)) (λ is. c.in-Err.ensures.too_long (ap Err is))

@@ -1,5 +1,5 @@
 use Rattle.ql_explain.specs.Outcomes.{Says}
-use Rattle.ql_explain.specs.Words.{asked_name, word_texts}
+use Rattle.ql_explain.specs.Words.{asked, word_texts}
 use Rattle.ql_explain.proofs.Telling.{never, wrote}
 use Rattle.ql_explain.proofs.program.explain_words.Goals as goal
 
@@ -11,4 +11,4 @@ returns-in-Ok-clause-wrote g c =
     let words = word_texts c.args.words.now in
     let text = c.in_ok-status.text.items in
     wrote (Says words held before after) (g.K.Sink.written c.args.sink.now) (g.K.Sink.written c.write_whole.new.sink) (g.K.Sink.faults c.args.sink.now) (g.K.Sink.faults c.write_whole.new.sink)
-    c.in_ok-status.status text (never held before after (asked_name words) text) c.in_ok-status.ensures.says (rw c.as_slice.ensures.value at c.in-Ok.ensures.whole)
+    c.in_ok-status.status text (never held before after (asked words) text) c.in_ok-status.ensures.says (rw c.as_slice.ensures.value at c.in-Ok.ensures.whole)

@@ -1,0 +1,22 @@
+use Rattle.std.proofs.Common.{◌≡◌, ℕ, List, Err, ap, inl, refl, subst, sym}
+use Rattle.std.specs.Prelude.{IfSome}
+use Rattle.ql_explain.specs.Words.{Compared}
+use Rattle.ql_explain.proofs.Telling.{one_unread, said_sooner, still_whole}
+use Rattle.ql_explain.proofs.outcome.of_pair.Goals as goal
+
+pub with_baseline-requires : goal.with_baseline-requires
+with_baseline-requires g c =
+    let file = c.args.pair.baseline.now in
+    let held = g.S.Shelf.held c.read_whole.new.shelf file in
+    subst (λ (b : List ℕ). IfSome held (λ whole. b ≡ whole)) (sym c.deref.ensures.value)
+    (still_whole (g.S.Shelf.held c.args.shelf.now file) held c.in-Ok.baseline.items (c.in-Ok.ensures.same_contents file) c.in-Ok.ensures.whole)
+
+pub returns-in-Ok-clause-says : goal.returns-in-Ok-clause-says
+returns-in-Ok-clause-says g c =
+    said_sooner (g.S.Shelf.held c.args.shelf.now) (g.S.Shelf.held c.read_whole.new.shelf) (g.S.Shelf.faults c.args.shelf.now) (g.S.Shelf.faults c.read_whole.new.shelf)
+    (g.S.Shelf.faults c.with_baseline.new.shelf) c.args.pair.baseline.now c.args.pair.source.now c.in-Ok.ensures.same_contents c.in-Ok.ensures.counts_stay c.with_baseline.result c.with_baseline.ensures.says
+
+pub returns-in-Err-clause-says : goal.returns-in-Err-clause-says
+returns-in-Err-clause-says g c =
+    one_unread (g.S.Shelf.held c.args.shelf.now) (g.S.Shelf.faults c.args.shelf.now) (g.S.Shelf.faults c.read_whole.new.shelf) (Compared c.args.pair.baseline.now c.args.pair.source.now) c.args.pair.baseline.now (inl refl)
+    c.in-Err.error c.unread.result c.unread.ensures (λ is. c.in-Err.ensures.failed (ap Err is)) (λ is. c.in-Err.ensures.too_long (ap Err is))

@@ -1,0 +1,14 @@
+use Rattle.std.proofs.Common.{Err, ap, inr, refl}
+use Rattle.ql_explain.specs.Words.{Compared}
+use Rattle.ql_explain.proofs.Telling.{one_unread, pair_said}
+use Rattle.ql_explain.proofs.outcome.with_baseline.Goals as goal
+
+pub returns-in-Ok-clause-says : goal.returns-in-Ok-clause-says
+returns-in-Ok-clause-says g c =
+    pair_said (g.S.Shelf.held c.args.shelf.now) (g.S.Shelf.faults c.args.shelf.now) (g.S.Shelf.faults c.read_whole.new.shelf) c.args.pair.baseline.now c.args.pair.source.now c.args.baseline.now c.in-Ok.source.items c.deref.result.now
+    c.deref.ensures.value c.requires c.in-Ok.ensures.whole c.comparison.result c.comparison.ensures
+
+pub returns-in-Err-clause-says : goal.returns-in-Err-clause-says
+returns-in-Err-clause-says g c =
+    one_unread (g.S.Shelf.held c.args.shelf.now) (g.S.Shelf.faults c.args.shelf.now) (g.S.Shelf.faults c.read_whole.new.shelf) (Compared c.args.pair.baseline.now c.args.pair.source.now) c.args.pair.source.now (inr refl)
+    c.in-Err.error c.unread.result c.unread.ensures (λ is. c.in-Err.ensures.failed (ap Err is)) (λ is. c.in-Err.ensures.too_long (ap Err is))
