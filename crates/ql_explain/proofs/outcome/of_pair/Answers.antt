@@ -1,5 +1,5 @@
-use Rattle.std.proofs.Common.{Err, ap, inl, refl, subst, sym}
-use Rattle.std.specs.Prelude.{◌≡◌, IfSome}
+use Rattle.std.proofs.Common.{◌≡◌, ℕ, List, Err, ap, inl, refl, subst, sym}
+use Rattle.std.specs.Prelude.{IfSome}
 use Rattle.ql_explain.specs.Words.{Compared}
 use Rattle.ql_explain.proofs.Telling.{one_unread, said_sooner, still_whole}
 use Rattle.ql_explain.proofs.outcome.of_pair.Goals as goal
@@ -7,7 +7,9 @@ use Rattle.ql_explain.proofs.outcome.of_pair.Goals as goal
 pub with_baseline-requires : goal.with_baseline-requires
 with_baseline-requires g c =
     let file = c.args.pair.baseline.now in
-    rw sym c.deref.ensures.value at still_whole (g.S.Shelf.held c.args.shelf.now file) (g.S.Shelf.held c.read_whole.new.shelf file) c.in-Ok.baseline.items (c.in-Ok.ensures.same_contents file) c.in-Ok.ensures.whole
+    let held = g.S.Shelf.held c.read_whole.new.shelf file in
+    subst (λ (b : List ℕ). IfSome held (λ whole. b ≡ whole)) (sym c.deref.ensures.value)
+    (still_whole (g.S.Shelf.held c.args.shelf.now file) held c.in-Ok.baseline.items (c.in-Ok.ensures.same_contents file) c.in-Ok.ensures.whole)
 
 pub returns-in-Ok-clause-says : goal.returns-in-Ok-clause-says
 returns-in-Ok-clause-says g c =
