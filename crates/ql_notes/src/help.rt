@@ -10,8 +10,10 @@ pub const HELP: &str = "usage: ./quelea COMMAND ..
 
   classify [--why] SOURCE     the least level of each operation and transaction;
                               with --why an execution for each lower level
-  explain SOURCE              the same of every target, also of those that have
-                              no level, as a table and in words
+  explain [--json] SOURCE     the same of every target, also of those that have
+                              no level, as a table and in words, or as JSON
+  explain --baseline FILE SOURCE
+                              which levels are higher than in a stored answer
   prove SOURCE                a certificate of these levels
   check SOURCE CERTIFICATE    whether a certificate shows that levels are enough
   verify SOURCE EXECUTION     whether every contract is true in an execution
