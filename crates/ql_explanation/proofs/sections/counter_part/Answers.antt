@@ -19,5 +19,5 @@ returns c = (
   c.in_ok-text.text.items,
   c.deref.result.now,
   subst (All (IsRuledOut c.args.t.now.program c.args.unmet.now.goal c.in_ok-counter.counter)) (sym c.deref.ensures.value) c.in_ok-warned.ensures,
-  whole_counter c.in_ok-text.text.items (warned_text c.args.t.now.program c.deref.result.now) (codes "\n") (counter_text c.args.t.now.program c.args.unmet.now.goal c.in_ok-counter.counter) c.push_warned.new.out.items c.push_bytes.new.out.items c.push_counter.new.out.items c.in_ok-push_warned.ensures c.in_ok-push_bytes.ensures.ok c.in_ok-push_counter.ensures,
+  whole_counter c.in_ok-text.text.items (warned_text c.args.t.now.program c.deref.result.now) (codes "\n") (counter_text c.args.t.now.program c.args.unmet.now.goal c.in_ok-counter.counter) c.push_warned.new.out.items c.push_bytes.new.out.items c.push_counter.new.out.items c.in_ok-push_warned.ensures c.in_ok-push_bytes.ensures.ok c.in_ok-push_counter.ensures.ok,
 )
