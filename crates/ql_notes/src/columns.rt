@@ -1,8 +1,10 @@
 // Which field of a line breaks a rule.
 
 use crate::above::first_word;
-use crate::declared::{behind, place_in, type_at, word_of};
+use crate::arguments::misfit;
+use crate::declared::{place_in, word_after, word_of};
 use crate::fields::{Field, field_text};
+use crate::ranges::is_too_great;
 use crate::words::{has_word, line_of};
 use ql_base::number_of;
 
@@ -128,22 +130,13 @@ fn in_schedule(line: FaultyLine) -> usize {
     if line.rule == b"Unknown".as_slice() {
         unknown(line, first)
     } else if line.rule == b"Kind".as_slice() {
-        if has_own_type(line) { 6 } else { 5 }
+        misfit(line)
     } else if line.rule == b"Range".as_slice() {
         out_of_range(line, first)
     } else if line.rule == b"Twice".as_slice() {
         twice(line, first)
     } else {
         0
-    }
-}
-
-// Whether a call is of an operation of the object's type.
-fn has_own_type(line: FaultyLine) -> bool {
-    let declared = behind(line.above, b"object", field_text(line.fields, 4));
-    match place_in(line.source, b"op", field_text(line.fields, 5)) {
-        Some(op) => type_at(line.source, op) == declared,
-        None => false,
     }
 }
 
@@ -156,7 +149,7 @@ fn unknown(line: FaultyLine, first: &[u8]) -> usize {
     }
     let from = if first == b"begin".as_slice() { 5 } else { 4 };
     for (k, object) in line.fields.iter().enumerate() {
-        if from <= k && behind(line.above, b"object", object.text).is_empty() {
+        if from <= k && word_after(line.above, b"object", object.text).is_empty() {
             return k;
         }
     }
@@ -169,12 +162,18 @@ fn out_of_range(line: FaultyLine, first: &[u8]) -> usize {
         if number_of(field_text(line.fields, 1), 255).is_none() {
             1
         } else if is_replica(line, 3) {
-            6
+            great_argument(line)
         } else {
             3
         }
     } else if first == b"resend".as_slice() {
-        if is_replica(line, 3) { 5 } else { 3 }
+        if number_of(field_text(line.fields, 1), u32::MAX as u64).is_none() {
+            1
+        } else if is_replica(line, 3) {
+            5
+        } else {
+            3
+        }
     } else if first == b"join".as_slice() {
         2
     } else if first == b"partition".as_slice() {
@@ -182,6 +181,16 @@ fn out_of_range(line: FaultyLine, first: &[u8]) -> usize {
     } else {
         1
     }
+}
+
+// The first argument that is beyond 64 bits.
+fn great_argument(line: FaultyLine) -> usize {
+    for (k, argument) in line.fields.iter().enumerate() {
+        if k > 5 && is_too_great(argument.text) {
+            return k;
+        }
+    }
+    6
 }
 
 fn is_replica(line: FaultyLine, k: usize) -> bool {

@@ -61,16 +61,15 @@ pub(crate) fn place_of_line(text: &[u8], number: u64) -> Place
     }
 }
 
-/// Appends `NAME:LINE:COLUMN: `, both counted from 1, the column in bytes.
-pub(crate) fn push_place(note: &mut Vec<u8>, name: &[u8], place: Place) -> Result<(), NoMemory>
+/// Appends `NAME:LINE:COLUMN`, both counted from 1, the column in bytes.
+pub(crate) fn push_position(note: &mut Vec<u8>, name: &[u8], place: Place) -> Result<(), NoMemory>
     requires { place.start ≤ place.at }
 {
     push_bytes(note, name)?;
     push_bytes(note, b":")?;
     push_number(note, place.line)?;
     push_bytes(note, b":")?;
-    push_number(note, (place.at - place.start).saturating_add(1))?;
-    push_bytes(note, b": ")
+    push_number(note, (place.at - place.start).saturating_add(1))
 }
 
 /// Appends a line of a text, and below it a mark under so many bytes from the place on. Of a long line only what stands
@@ -135,7 +134,8 @@ pub(crate) fn push_fault(
     sentence: &[u8],
 ) -> Result<(), NoMemory> {
     let place = place_of(file.text, spot.from);
-    push_place(note, file.name, place)?;
+    push_position(note, file.name, place)?;
+    push_bytes(note, b": ")?;
     push_bytes(note, rule)?;
     push_bytes(note, b": ")?;
     push_bytes(note, sentence)?;

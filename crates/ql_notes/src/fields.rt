@@ -30,7 +30,7 @@ pub(crate) fn fields(alloc: Global, text: &[u8], start: usize) -> Result<Vec<Fie
             }
             from = k + 1;
         }
-        nesting = nesting.behind(line[k]);
+        nesting = nesting.after(line[k]);
     }
     if from < line.len() {
         fields.push(field_at(&line[from..], start, from))?;
@@ -70,7 +70,7 @@ impl Nesting {
         !self.is_quoted && self.depth == 0
     }
 
-    fn behind(self, byte: u8) -> Nesting {
+    fn after(self, byte: u8) -> Nesting {
         let Nesting { is_quoted, depth } = self;
         if byte == b'"' {
             return Nesting {

@@ -21,6 +21,7 @@ ARGUMENT.. a number, `true`, `false` or a text in quotes
 DIGITS.. a number
 NAME.. a name
 JOIN `copy` or `bare`
+TARGET `op` or `txn`
 VERSION `1` or `2`
 CONTRACT.. a contract";
 
@@ -83,6 +84,8 @@ fn is_listed(wanted: &[u8], field: &[u8]) -> bool {
         has_word(b"rc mav rr", field)
     } else if wanted == b"JOIN".as_slice() {
         has_word(b"copy bare", field)
+    } else if wanted == b"TARGET".as_slice() {
+        has_word(b"op txn", field)
     } else if wanted == b"VERSION".as_slice() {
         has_word(b"1 2", field)
     } else {
@@ -90,7 +93,7 @@ fn is_listed(wanted: &[u8], field: &[u8]) -> bool {
     }
 }
 
-// Whether a field stands in round brackets, with spaces behind commas and colons alone.
+// Whether a field stands in round brackets, with spaces after commas and colons alone.
 fn is_bracketed(field: &[u8]) -> bool {
     field.starts_with(b"(") && field.ends_with(b")") && !has_stray_space(field)
 }

@@ -42,7 +42,7 @@ pub(crate) fn push_unmet(alloc: Global, note: &mut Vec<u8>, file: File) -> Resul
     Ok(())
 }
 
-// Where the contract stands, behind the word `contract` of the first line that begins with it.
+// Where the contract stands, after the word `contract` of the first line that begins with it.
 fn contract_start(text: &[u8]) -> Option<usize> {
     for k in 0..text.len() {
         if text[k..].starts_with(b"contract ") && is_first(text, k) {

@@ -1,22 +1,24 @@
 // What a line has where it leaves its form, and what was expected there.
 
+use crate::fields::{Field, field_text};
 use crate::fits::{meaning, stands_for_itself};
 use crate::forms::Misfit;
 use crate::likeness::{likest, push_meant};
 use crate::words::{line_of, word};
-use ql_base::{NoMemory, push_bytes, push_number};
+use ql_base::{NoMemory, number_of, push_bytes, push_number};
 use std::alloc::Global;
 
 /// Appends what was found and what was expected, and a word that was perhaps meant.
 pub(crate) fn push_wanted(
     alloc: Global,
     note: &mut Vec<u8>,
-    found: &[u8],
+    fields: &[Field],
     misfit: Misfit,
     next: u64,
 ) -> Result<(), NoMemory> {
+    let found = field_text(fields, misfit.field);
     if found.is_empty() && word(misfit.form).0.ends_with(b"..") {
-        return Ok(());
+        return push_descent(note, fields);
     }
     push_bytes(note, b"  found ")?;
     push_found(note, found)?;
@@ -31,10 +33,27 @@ pub(crate) fn push_wanted(
     push_meant(note, likest(found, &words))
 }
 
-/// Appends a word in quotes, or that there is none.
-pub(crate) fn push_found(note: &mut Vec<u8>, found: &[u8]) -> Result<(), NoMemory> {
+// Appends which effect doesn't ascend among those that an effect sees.
+fn push_descent(note: &mut Vec<u8>, fields: &[Field]) -> Result<(), NoMemory> {
+    let mut last = 0;
+    let mut is_seen = false;
+    for field in fields {
+        let number = number_of(field.text, u32::MAX as u64).unwrap_or(0);
+        if is_seen && number <= last {
+            push_bytes(note, b"  the effects that it sees ascend, and ")?;
+            push_quoted(note, field.text)?;
+            return push_bytes(note, b" doesn't\n");
+        }
+        last = number;
+        is_seen = is_seen || field.text == b"vis".as_slice();
+    }
+    Ok(())
+}
+
+// Appends a word in quotes, or that there is none.
+fn push_found(note: &mut Vec<u8>, found: &[u8]) -> Result<(), NoMemory> {
     if found.is_empty() {
-        return push_bytes(note, b"the end");
+        return push_bytes(note, b"the end of the line");
     }
     push_quoted(note, found)
 }
