@@ -20,7 +20,10 @@ pub(crate) fn misfit(line: FaultyLine) -> usize {
     let Some(op) = own_operation(line) else {
         return OPERATION;
     };
-    let (taken, given) = (count(line.source, op), line.fields.len().saturating_sub(FIRST));
+    let (taken, given) = (
+        count(line.source, op),
+        line.fields.len().saturating_sub(FIRST),
+    );
     for k in 0..taken.min(given) {
         let argument = FIRST.saturating_add(k);
         if kind_of(field_text(line.fields, argument)) != base(line.source, op, k) {
@@ -50,7 +53,10 @@ fn count(source: &[&[u8]], op: usize) -> usize {
 // The kind of a parameter.
 fn base<'a>(source: &[&'a [u8]], op: usize, k: usize) -> &'a [u8] {
     let from = parameters(source, op).0;
-    piece(source, from.saturating_add(k.saturating_mul(4)).saturating_add(3))
+    piece(
+        source,
+        from.saturating_add(k.saturating_mul(4)).saturating_add(3),
+    )
 }
 
 // The kind of an argument, by its first byte.
@@ -69,7 +75,10 @@ pub(crate) fn push_misfit(said: &mut Vec<u8>, line: FaultyLine, k: usize) -> Res
     let Some(op) = own_operation(line) else {
         return push_other_type(said, line);
     };
-    let (taken, given) = (count(line.source, op), line.fields.len().saturating_sub(FIRST));
+    let (taken, given) = (
+        count(line.source, op),
+        line.fields.len().saturating_sub(FIRST),
+    );
     if taken != given {
         return push_counts(said, field_text(line.fields, OPERATION), taken, given);
     }

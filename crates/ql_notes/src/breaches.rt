@@ -48,9 +48,9 @@ fn push_unknown_name(said: &mut Vec<u8>, line: FaultyLine, k: usize) -> Result<(
     push_quoted(said, field_text(line.fields, k))?;
     let what = if line.part == b"execution".as_slice() {
         if k == 3 {
-            b" has no operation of the source".as_slice()
+            b" is no operation of the source".as_slice()
         } else {
-            b" has no transaction of the source".as_slice()
+            b" names no transaction of the source".as_slice()
         }
     } else if first == b"object".as_slice() {
         b" is no type of the source".as_slice()
@@ -111,9 +111,25 @@ fn first_offset(line: FaultyLine, k: usize) -> Option<usize> {
         if k == 0 || line.above[k - 1] == b'\n' {
             let other = line_of(&line.above[k..]);
             if first_word(other) == b"object".as_slice() && word_of(other, 1) == name {
-                return Some(k);
+                return Some(k.saturating_add(offset_of_second(other)));
             }
         }
     }
     None
+}
+
+// Where the second word of a line begins.
+fn offset_of_second(line: &[u8]) -> usize {
+    let mut count = 0usize;
+    let mut before = b' ';
+    for (k, byte) in line.iter().enumerate() {
+        if *byte != b' ' && before == b' ' {
+            count = count.saturating_add(1);
+            if count == 2 {
+                return k;
+            }
+        }
+        before = *byte;
+    }
+    0
 }

@@ -51,7 +51,14 @@ fn push_count(note: &mut Vec<u8>, function: Function, count: usize) -> Result<()
     push_quoted(note, name)?;
     push_bytes(note, b" takes ")?;
     push_arguments(note, arity(function))?;
-    push_bytes(note, if count == 1 { b", and here is " } else { b", and here are " })?;
+    push_bytes(
+        note,
+        if count == 1 {
+            b", and here is "
+        } else {
+            b", and here are "
+        },
+    )?;
     push_number(note, count as u64)?;
     push_bytes(note, b": it takes ")?;
     push_bytes(note, sentence_of(TAKEN, name))
@@ -59,7 +66,14 @@ fn push_count(note: &mut Vec<u8>, function: Function, count: usize) -> Result<()
 
 fn push_arguments(note: &mut Vec<u8>, count: usize) -> Result<(), NoMemory> {
     push_number(note, count as u64)?;
-    push_bytes(note, if count == 1 { b" argument" } else { b" arguments" })
+    push_bytes(
+        note,
+        if count == 1 {
+            b" argument"
+        } else {
+            b" arguments"
+        },
+    )
 }
 
 /// Appends a kind with its article.
@@ -89,10 +103,20 @@ fn push_expected_kind(note: &mut Vec<u8>, wish: Wish) -> Result<(), NoMemory> {
 fn push_wish(note: &mut Vec<u8>, wish: Wish) -> Result<(), NoMemory> {
     match wish {
         Wish::Answer(name, kind) => push_named(note, b"", name.bytes(), b" answers ", kind),
-        Wish::Initial(name, kind) | Wish::Assigned(name, kind) =>
-            push_named(note, b"the field ", name.bytes(), b" is ", kind),
-        Wish::Emitted(name, kind) =>
-            push_named(note, b"the emitted value ", name.bytes(), b" is ", kind),
+        Wish::Initial(name, kind) | Wish::Assigned(name, kind) => push_named(
+            note,
+            b"the field ",
+            name.bytes(),
+            b" is ",
+            kind,
+        ),
+        Wish::Emitted(name, kind) => push_named(
+            note,
+            b"the emitted value ",
+            name.bytes(),
+            b" is ",
+            kind,
+        ),
         Wish::When => push_bytes(note, b"`when` takes a bool"),
         Wish::Condition => push_bytes(note, b"the condition of `if` is a bool"),
         Wish::Branch(_) => push_bytes(note, b"`else` gives the kind that `then` gives"),
@@ -152,7 +176,8 @@ fn name_of(function: Function) -> &'static str {
 
 /// Appends which kind was perhaps meant in the declaration.
 pub(crate) fn push_redeclared(note: &mut Vec<u8>, clash: Clash) -> Result<(), NoMemory> {
-    let (Wish::Initial(name, _) | Wish::Emitted(name, _), Some(kind)) = (clash.wish, clash.found) else {
+    let (Wish::Initial(name, _) | Wish::Emitted(name, _), Some(kind)) = (clash.wish, clash.found)
+    else {
         return Ok(());
     };
     push_bytes(note, b"  did you mean `")?;

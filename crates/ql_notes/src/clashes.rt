@@ -141,9 +141,11 @@ fn clash_inside(search: Search, at: u32, node: &ExprNode) -> Option<Clash> {
         }
         ExprNode::Binary(op, left, right) => {
             let kind = kind_of(search.scope, &left.node);
-            clash_of(search, left, left_wish(*op)).or(
-                clash_of(search, right, right_wish(*op, kind)),
-            )
+            clash_of(search, left, left_wish(*op)).or(clash_of(
+                search,
+                right,
+                right_wish(*op, kind),
+            ))
         }
         ExprNode::Not(operand) => clash_of(search, operand, Wish::Operand("not", Kind::Bool)),
         ExprNode::Neg(operand) => clash_of(search, operand, Wish::Operand("-", Kind::Int)),

@@ -72,7 +72,12 @@ pub(crate) fn push_contract_fault(
     let found = fault_in(alloc, text)?;
     let mut said = Vec::new(alloc);
     if is_lexical(found.rule) {
-        let spot = push_lexical(&mut said, file.text, found.rule, from.saturating_add(found.at))?;
+        let spot = push_lexical(
+            &mut said,
+            file.text,
+            found.rule,
+            from.saturating_add(found.at),
+        )?;
         return push_fault(note, file, spot, fault.rule, &said);
     }
     let tokens = tokens_of(alloc, text)?;
@@ -144,7 +149,14 @@ fn push_contract_misuse(
     } else {
         push_bytes(&mut said, sentence(b"source", fault.rule))?;
     }
-    push_contract_place(note, contract, fault.at, word, shown_rule(fault.rule), &said)?;
+    push_contract_place(
+        note,
+        contract,
+        fault.at,
+        word,
+        shown_rule(fault.rule),
+        &said,
+    )?;
     if fault.rule == b"Unknown".as_slice() {
         return push_instead(alloc, note, &found, k);
     }

@@ -1,8 +1,8 @@
 // Why an effect of an execution can't stand where it does.
 
+use crate::above::first_word;
 use crate::columns::FaultyLine;
 use crate::declared::{place_in, type_at, word_of};
-use crate::above::first_word;
 use crate::fields::field_text;
 use crate::stamp::effect_of;
 use crate::wanted::push_quoted;
@@ -88,7 +88,10 @@ fn effect_line<'a>(text: &'a [u8], number: usize, word: &[u8]) -> &'a [u8] {
 
 /// Appends why an effect can't be one of its transaction.
 pub(crate) fn push_split(said: &mut Vec<u8>, line: FaultyLine) -> Result<(), NoMemory> {
-    let (own, session) = (field_text(line.fields, TXN), field_text(line.fields, SESSION));
+    let (own, session) = (
+        field_text(line.fields, TXN),
+        field_text(line.fields, SESSION),
+    );
     let mut since = b"".as_slice();
     for k in 0..line.above.len() {
         if k > 0 && line.above[k - 1] != b'\n' {
@@ -108,7 +111,10 @@ pub(crate) fn push_split(said: &mut Vec<u8>, line: FaultyLine) -> Result<(), NoM
             since = other.id;
         }
     }
-    push_bytes(said, b"a transaction's effects follow one another in their session, and effect ")?;
+    push_bytes(
+        said,
+        b"a transaction's effects follow one another in their session, and effect ",
+    )?;
     push_bytes(said, since)?;
     push_bytes(said, b" of this session stands between and isn't of it")
 }
@@ -120,7 +126,10 @@ fn push_differing(
     other: &[u8],
     own: &[u8],
 ) -> Result<(), NoMemory> {
-    push_bytes(said, b"a transaction has one number, name and session: effect ")?;
+    push_bytes(
+        said,
+        b"a transaction has one number, name and session: effect ",
+    )?;
     push_bytes(said, id)?;
     push_bytes(said, what)?;
     push_bytes(said, other)?;

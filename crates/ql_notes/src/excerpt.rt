@@ -140,5 +140,9 @@ pub(crate) fn push_fault(
     push_bytes(note, b": ")?;
     push_bytes(note, sentence)?;
     push_bytes(note, b"\n")?;
+    // On the line after the last one nothing stands.
+    if place.start == file.text.len() {
+        return Ok(());
+    }
     push_excerpt(note, file.text, place, spot.bytes)
 }

@@ -4,6 +4,7 @@ use crate::excerpt::{File, place_of, push_position};
 use crate::meant::is_bound;
 use crate::pieces::{last_of, next_of, piece};
 use crate::repair::{is_chosen, part_of};
+use crate::wanted::push_quoted;
 use crate::words::has_word;
 use ql_base::{NoMemory, push_bytes};
 use ql_lex::Token;
@@ -33,7 +34,9 @@ pub(crate) fn push_declaration(
     let Some(first) = value_before(pieces, k) else {
         return Ok(());
     };
-    push_declared(note, file, tokens, first, b"  declared at ")
+    push_bytes(note, b"  ")?;
+    push_quoted(note, piece(pieces, k))?;
+    push_declared(note, file, tokens, first, b" is declared at ")
 }
 
 fn push_declared(

@@ -50,10 +50,11 @@ int text
 txn vis";
 
 // The words that are often forgotten.
-const FORGOTTEN: &[u8] = b"; ) } ] . , { ( : = := => == then else when apply contract answer uses emit op";
+const FORGOTTEN: &[u8] =
+    b"; ) } ] . , { ( : = := => == then else when apply contract answer uses emit op";
 
 /// The likeliest repair, by the terminals that the grammar has in the place of the word.
-pub(crate) fn guess(
+pub(crate) fn likeliest_repair(
     alloc: Global,
     found: Break,
     terminals: &[&'static str],

@@ -50,7 +50,10 @@ fn push_bad_byte(said: &mut Vec<u8>, text: &[u8], at: usize) -> Result<Spot, NoM
         return Ok(one);
     };
     if byte == b'\n' || byte == b'\r' {
-        push_bytes(said, b"this text isn't ended: a second `\"` is missing, on the same line")?;
+        push_bytes(
+            said,
+            b"this text isn't ended: a second `\"` is missing, on the same line",
+        )?;
         return Ok(Spot {
             from: quote,
             bytes: at.saturating_sub(quote),
@@ -111,11 +114,21 @@ fn open_quote(text: &[u8], at: usize) -> Option<usize> {
 fn push_long(said: &mut Vec<u8>, rest: &[u8]) -> Result<usize, NoMemory> {
     if rest.first() == Some(&b'"') {
         let bytes = text_bytes(rest);
-        push_length(said, b"this text has ", bytes, b" bytes, and a text has at most 64")?;
+        push_length(
+            said,
+            b"this text has ",
+            bytes,
+            b" bytes, and a text has at most 64",
+        )?;
         return Ok(bytes.saturating_add(2));
     }
     let bytes = word_bytes(rest);
-    push_length(said, b"this name has ", bytes, b" bytes, and a name has at most 32")?;
+    push_length(
+        said,
+        b"this name has ",
+        bytes,
+        b" bytes, and a name has at most 32",
+    )?;
     Ok(bytes)
 }
 

@@ -12,7 +12,7 @@ use crate::forms::{find_misfit, forms};
 use crate::helps::push_help;
 use crate::rules::sentence;
 use crate::wanted::push_wanted;
-use ql_base::{NoMemory, push_bytes};
+use ql_base::NoMemory;
 use std::alloc::Global;
 
 /// Appends what can be said of a fault in a line file. `source` has the tokens of the source that it belongs to.
@@ -64,15 +64,21 @@ fn push_form_fault(
 ) -> Result<(), NoMemory> {
     let next = above.effects.saturating_add(1);
     let found = find_misfit(forms(fault.part, above), fields, next);
-    let said = if start < file.text.len() {
+    let is_end = start == file.text.len();
+    let said = if !is_end {
         sentence(fault.part, fault.rule)
+    } else if last_form(found.form) == b"end".as_slice() {
+        b"the file ends here, and the line `end` is missing".as_slice()
     } else {
-        b"the file ends too early".as_slice()
+        b"the file ends here".as_slice()
     };
-    push_fault(note, file, spot(fields, found.field, start), fault.rule, said)?;
-    if start == file.text.len() && last_form(found.form) == b"end".as_slice() {
-        return push_bytes(note, b"  the file ends here, and the line `end` is missing\n");
-    }
+    push_fault(
+        note,
+        file,
+        spot(fields, found.field, start),
+        fault.rule,
+        said,
+    )?;
     push_wanted(alloc, note, fields, found, next)
 }
 

@@ -1,7 +1,8 @@
 // What is said of an unknown name in a source: what was wanted there, and the names that are known.
 
 use crate::declared::{declared, place_in};
-use crate::names::push_known;
+use crate::likeness::{likest, push_meant};
+use crate::names::{push_known, push_listed};
 use crate::pieces::{last_of, next_of, piece};
 use crate::repair::{is_chosen, part_of};
 use crate::wanted::push_quoted;
@@ -30,7 +31,7 @@ static FUNCTIONS: [&str; 9] = [
 
 static VALUES: [&str; 3] = ["true", "false", "unit"];
 
-fn meant(tokens: &[&[u8]], k: usize) -> Meant {
+fn meant_at(tokens: &[&[u8]], k: usize) -> Meant {
     let part = part_of(tokens, k).0;
     let next = piece(tokens, k.saturating_add(1));
     if part == b"uses".as_slice() || is_chosen(tokens, k) {
@@ -55,12 +56,8 @@ fn meant(tokens: &[&[u8]], k: usize) -> Meant {
 }
 
 /// Appends what is unknown.
-pub(crate) fn push_unknown(
-    note: &mut Vec<u8>,
-    tokens: &[&[u8]],
-    k: usize,
-) -> Result<(), NoMemory> {
-    let meant = meant(tokens, k);
+pub(crate) fn push_unknown(note: &mut Vec<u8>, tokens: &[&[u8]], k: usize) -> Result<(), NoMemory> {
+    let meant = meant_at(tokens, k);
     if let Meant::Current = meant {
         return push_bytes(
             note,
@@ -91,23 +88,26 @@ pub(crate) fn push_instead(
     k: usize,
 ) -> Result<(), NoMemory> {
     let word = piece(tokens, k);
-    let mut names = match meant(tokens, k) {
+    let names = match meant_at(tokens, k) {
         Meant::Operation => declared(alloc, tokens, b"op")?,
-        Meant::Current | Meant::Variable => variables(alloc, tokens, k)?,
-        Meant::Function => Vec::new(alloc),
-        Meant::Target => fields(alloc, tokens, k)?,
-        Meant::Parameter | Meant::Value => values(alloc, tokens, k)?,
-    };
-    match meant(tokens, k) {
-        Meant::Function => push_words(&mut names, &FUNCTIONS)?,
-        Meant::Value => push_words(&mut names, &VALUES)?,
+        Meant::Current => return push_listed(note, &variables(alloc, tokens, k)?),
         Meant::Variable => {
             if place_in(tokens, b"op", word).is_some() {
                 return push_effects_of(note, word);
             }
+            variables(alloc, tokens, k)?
         }
-        _ => {}
-    }
+        Meant::Function => words(alloc, &FUNCTIONS)?,
+        Meant::Target => fields(alloc, tokens, k)?,
+        Meant::Parameter => return push_listed(note, &values(alloc, tokens, k)?),
+        Meant::Value => {
+            let meant = likest(word, &words(alloc, &VALUES)?);
+            if meant.is_some() {
+                return push_meant(note, meant);
+            }
+            values(alloc, tokens, k)?
+        }
+    };
     push_known(note, word, &names)
 }
 
@@ -118,11 +118,12 @@ fn push_effects_of(note: &mut Vec<u8>, operation: &[u8]) -> Result<(), NoMemory>
     push_bytes(note, b".` quantifies its effects\n")
 }
 
-fn push_words<'a>(names: &mut Vec<&'a [u8]>, words: &[&'static str]) -> Result<(), NoMemory> {
+fn words(alloc: Global, words: &[&'static str]) -> Result<Vec<&'static [u8]>, NoMemory> {
+    let mut bytes = Vec::new(alloc);
     for word in words {
-        names.push(word.as_bytes())?;
+        bytes.push(word.as_bytes())?;
     }
-    Ok(())
+    Ok(bytes)
 }
 
 // The variables of the contract around a token, and in an operation the current effect.
@@ -137,7 +138,10 @@ fn variables<'a>(alloc: Global, tokens: &[&'a [u8]], k: usize) -> Result<Vec<&'a
             }
         }
     }
-    let owner = piece(tokens, last_of(tokens, start, b"op transaction").unwrap_or(start));
+    let owner = piece(
+        tokens,
+        last_of(tokens, start, b"op transaction").unwrap_or(start),
+    );
     if owner == b"op".as_slice() {
         names.push(b"cur".as_slice())?;
     }

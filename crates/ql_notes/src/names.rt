@@ -8,15 +8,16 @@ use ql_base::{NoMemory, push_bytes};
 const MOST: usize = 12;
 
 /// Appends the name that was perhaps meant, or else those that are known.
-pub(crate) fn push_known(
-    note: &mut Vec<u8>,
-    word: &[u8],
-    names: &[&[u8]],
-) -> Result<(), NoMemory> {
+pub(crate) fn push_known(note: &mut Vec<u8>, word: &[u8], names: &[&[u8]]) -> Result<(), NoMemory> {
     let meant = likest(word, names);
     if meant.is_some() {
         return push_meant(note, meant);
     }
+    push_listed(note, names)
+}
+
+/// Appends the names that are known.
+pub(crate) fn push_listed(note: &mut Vec<u8>, names: &[&[u8]]) -> Result<(), NoMemory> {
     if names.is_empty() {
         return push_bytes(note, b"  no name is known here\n");
     }
@@ -25,16 +26,31 @@ pub(crate) fn push_known(
     push_bytes(note, b"\n")
 }
 
-/// Appends names in quotes, at most a dozen.
-pub(crate) fn push_names(note: &mut Vec<u8>, names: &[&[u8]]) -> Result<(), NoMemory> {
-    for k in 0..names.len() {
-        if k == MOST {
+// Appends names in quotes, each once, at most a dozen.
+fn push_names(note: &mut Vec<u8>, names: &[&[u8]]) -> Result<(), NoMemory> {
+    let mut count = 0usize;
+    for (k, name) in names.iter().enumerate() {
+        if has_before(names, k, name) {
+            continue;
+        }
+        if count == MOST {
             return push_bytes(note, b" and more");
         }
-        if k > 0 {
+        if count > 0 {
             push_bytes(note, b", ")?;
         }
-        push_quoted(note, names[k])?;
+        push_quoted(note, name)?;
+        count = count.saturating_add(1);
     }
     Ok(())
+}
+
+// Whether a name stands before a place.
+fn has_before(names: &[&[u8]], k: usize, name: &[u8]) -> bool {
+    for (j, other) in names.iter().enumerate() {
+        if j < k && *other == name {
+            return true;
+        }
+    }
+    false
 }

@@ -29,7 +29,10 @@ pub(crate) fn push_range(
     } else if k == 1 {
         push_bytes(said, b"a session is 0 to 255")
     } else {
-        push_bytes(said, b"a number is -9223372036854775808 to 9223372036854775807")
+        push_bytes(
+            said,
+            b"a number is -9223372036854775808 to 9223372036854775807",
+        )
     }
 }
 

@@ -82,13 +82,26 @@ pub(crate) fn push_refusal(
     if refusal.rule == b"order".as_slice() {
         let number = number_of(refusal.line, u32::MAX as u64).unwrap_or(1);
         push_order(alloc, &mut said, source, number)?;
-        push_fault(note, file, section_spot(file.text, number), refusal.rule, &said)?;
+        push_fault(
+            note,
+            file,
+            section_spot(file.text, number),
+            refusal.rule,
+            &said,
+        )?;
         return push_anew(note, source);
     }
     if !refusal.section.is_empty() {
         push_bytes(&mut said, b"section ")?;
         push_quoted(&mut said, refusal.section)?;
-        push_bytes(&mut said, if refusal.line.is_empty() { b": " } else { b", " })?;
+        push_bytes(
+            &mut said,
+            if refusal.line.is_empty() {
+                b": "
+            } else {
+                b", "
+            },
+        )?;
     }
     if !refusal.line.is_empty() {
         push_bytes(&mut said, b"line ")?;
@@ -114,12 +127,18 @@ fn push_order(
     let ops = declared(alloc, source.tokens, b"op")?;
     let txns = declared(alloc, source.tokens, b"transaction")?;
     let k = number.saturating_sub(1) as usize;
-    push_bytes(said, b"sections stand in the order of the source, and section ")?;
+    push_bytes(
+        said,
+        b"sections stand in the order of the source, and section ",
+    )?;
     push_number(said, number)?;
     let (keyword, name) = if k < ops.len() {
         (b"op ".as_slice(), piece(&ops, k))
     } else {
-        (b"txn ".as_slice(), piece(&txns, k.saturating_sub(ops.len())))
+        (
+            b"txn ".as_slice(),
+            piece(&txns, k.saturating_sub(ops.len())),
+        )
     };
     if name.is_empty() {
         return push_bytes(said, b" is one too many");
@@ -137,9 +156,12 @@ fn push_levels(note: &mut Vec<u8>, source: Source) -> Result<(), NoMemory> {
 }
 
 fn push_anew(note: &mut Vec<u8>, source: Source) -> Result<(), NoMemory> {
-    push_bytes(note, b"  or the file, or the source since, was changed: `./quelea prove ")?;
+    push_bytes(
+        note,
+        b"  or the file, or the source since, was changed: `./quelea prove ",
+    )?;
     push_bytes(note, source.name)?;
-    push_bytes(note, b"` makes a certificate anew\n")
+    push_bytes(note, b"` makes it anew\n")
 }
 
 // The first line of the section of a number, or the line `end`.

@@ -21,7 +21,7 @@ pub(crate) fn sentence(part: &[u8], rule: &[u8]) -> &'static [u8] {
     }
 }
 
-const SOURCE_RULES: &str = "Unexpected the grammar has something else here
+const SOURCE_RULES: &str = "Unexpected this may not stand here
 Deep at most 64 brackets are open at once, and this one is the 65th: leave out those that nothing needs
 Wide an expression or a contract has at most 256 names, numbers, operators and calls, and this is the 257th: make it shorter, or assign a part of it in a statement of its own
 Twice this name is declared or listed before

@@ -101,12 +101,15 @@ fn push_misuse(
     match (misuse.fault, misuse.clash) {
         (TypeFault::Unknown(_), _) => push_instead(alloc, note, found, k),
         (TypeFault::Twice(_), _) => push_first(note, file, tokens, found, k),
-        (TypeFault::Kind(_), Some(clash)) if clash.name.is_some() => push_declaration(
-            note, file, tokens, found, k,
-        ),
-        (TypeFault::Kind(_), Some(clash)) if misuse.is_declared_wrong => push_redeclared(
-            note, clash,
-        ),
+        (TypeFault::Kind(_), Some(clash)) => {
+            if clash.name.is_some() {
+                push_declaration(note, file, tokens, found, k)?;
+            }
+            if misuse.is_declared_wrong {
+                push_redeclared(note, clash)?;
+            }
+            Ok(())
+        }
         _ => Ok(()),
     }
 }
@@ -121,7 +124,10 @@ fn push_sentence(said: &mut Vec<u8>, found: &[&[u8]], misuse: Misuse) -> Result<
         (TypeFault::TxnClosure(_), _) => {
             push_bytes(said, b"a transaction's contract can't speak of `")?;
             push_bytes(said, piece(found, k))?;
-            push_bytes(said, b"`: it may use `vis`, `so`, `soo`, `sameobj` and `txn`")
+            push_bytes(
+                said,
+                b"`: it may use `vis`, `so`, `soo`, `sameobj` and `txn`",
+            )
         }
         (fault, _) => push_bytes(said, sentence(b"source", rule_of(fault))),
     }

@@ -1,7 +1,7 @@
 // What was found and what was expected, where a text leaves the grammar of sources.
 
 use crate::expected::{expected, push_expected};
-use crate::guesses::{Guess, guess};
+use crate::guesses::{Guess, likeliest_repair};
 use crate::wanted::push_quoted;
 use ql_base::{NoMemory, is_keyword, push_bytes};
 use std::alloc::Global;
@@ -19,16 +19,12 @@ pub(crate) struct Break<'a> {
 }
 
 /// Appends what was found, what was expected, and what was perhaps meant.
-pub(crate) fn push_syntax(
-    alloc: Global,
-    note: &mut Vec<u8>,
-    found: Break,
-) -> Result<(), NoMemory> {
+pub(crate) fn push_syntax(alloc: Global, note: &mut Vec<u8>, found: Break) -> Result<(), NoMemory> {
     if found.before.len() > SOURCE_BYTES {
         return Ok(());
     }
     let terminals = expected(alloc, found.before)?;
-    let guess = guess(alloc, found, &terminals)?;
+    let guess = likeliest_repair(alloc, found, &terminals)?;
     push_bytes(note, b"  found ")?;
     if found.word.is_empty() {
         push_bytes(note, found.end)?;

@@ -2,12 +2,12 @@
 
 use crate::clashes::{Clash, Wish, clash_at};
 use crate::first::end_of_scope;
-use crate::pieces::{joined, last_of, next_of, piece, piece_at};
 use crate::kinds::spelling;
+use crate::pieces::{joined, last_of, next_of, piece, piece_at};
 use crate::repair::{redeclare, repair};
 use ql_base::NoMemory;
-use ql_lex::LexFault;
 use ql_lang::{Kind, Program};
+use ql_lex::LexFault;
 use ql_parse::{ParseFault, parse_program};
 use ql_typing::{TypeFault, typecheck};
 use std::alloc::Global;
@@ -191,7 +191,10 @@ fn is_one_clash(tokens: &[&[u8]], earlier: Misuse, misuse: Misuse) -> bool {
         return false;
     };
     let is_name = one.name.is_some() && other.name.is_some();
-    if !is_name || !is_same(tokens, earlier.token, misuse.token) || one.wish.kind() != other.wish.kind() {
+    if !is_name
+        || !is_same(tokens, earlier.token, misuse.token)
+        || one.wish.kind() != other.wish.kind()
+    {
         return false;
     }
     match end_of_scope(tokens, earlier.token) {

@@ -21,7 +21,11 @@ pub(crate) fn push_wanted(
         return push_descent(note, fields);
     }
     push_bytes(note, b"  found ")?;
-    push_found(note, found)?;
+    if fields.is_empty() {
+        push_bytes(note, b"the end of the file")?;
+    } else {
+        push_found(note, found)?;
+    }
     push_bytes(note, b", expected ")?;
     if misfit.is_choice {
         push_first_words(note, misfit.form, next)?;
