@@ -1,11 +1,12 @@
 // A wrong kind in words: what was found, what was expected, and what wants it.
 
-use crate::clashes::{Clash, Wish};
+use crate::clashes::{Clash, Operator, Wish};
 use crate::kinds::{arity, spelling};
+use crate::pieces::{last_of, piece};
 use crate::wanted::push_quoted;
 use crate::words::sentence_of;
 use ql_base::{NoMemory, push_bytes, push_number};
-use ql_lang::Kind;
+use ql_lang::{BinOp, Kind};
 use ql_typing::Function;
 
 // What each function takes first, and what all its arguments are.
@@ -29,8 +30,13 @@ drop a map, then a key
 get a map, then a key, then the value where the key isn't there
 sum a map to int";
 
-/// Appends both kinds and what wants the one.
-pub(crate) fn push_clash(note: &mut Vec<u8>, clash: Clash) -> Result<(), NoMemory> {
+/// Appends both kinds at a token, and what wants the one.
+pub(crate) fn push_clash(
+    note: &mut Vec<u8>,
+    tokens: &[&[u8]],
+    k: usize,
+    clash: Clash,
+) -> Result<(), NoMemory> {
     if let Wish::Count(function, count) = clash.wish {
         return push_count(note, function, count);
     }
@@ -42,7 +48,29 @@ pub(crate) fn push_clash(note: &mut Vec<u8>, clash: Clash) -> Result<(), NoMemor
     push_bytes(note, b", expected ")?;
     push_expected_kind(note, clash.wish)?;
     push_bytes(note, b": ")?;
-    push_wish(note, clash.wish)
+    push_wish(note, owner(tokens, k, clash.wish), clash.wish)
+}
+
+// The name of what wants a kind at a token: an operation, a field or an emitted value.
+fn owner<'a>(tokens: &[&'a [u8]], k: usize, wish: Wish) -> &'a [u8] {
+    match wish {
+        Wish::Answer(_) => after_last(tokens, k, b"op"),
+        Wish::Initial(_) => after_last(tokens, k, b"state"),
+        Wish::Assigned(_) => after_last(tokens, k, b"{ ;"),
+        // NAME : BASE =
+        Wish::Emitted(_) => {
+            let sign = last_of(tokens, k, b"=").unwrap_or(k);
+            piece(tokens, sign.saturating_sub(3))
+        }
+        _ => b"".as_slice(),
+    }
+}
+
+fn after_last<'a>(tokens: &[&'a [u8]], k: usize, words: &[u8]) -> &'a [u8] {
+    match last_of(tokens, k, words) {
+        Some(j) => piece(tokens, j.saturating_add(1)),
+        None => b"".as_slice(),
+    }
 }
 
 // `has` takes 2 arguments, and here are 3
@@ -100,29 +128,27 @@ fn push_expected_kind(note: &mut Vec<u8>, wish: Wish) -> Result<(), NoMemory> {
 }
 
 // What wants the kind.
-fn push_wish(note: &mut Vec<u8>, wish: Wish) -> Result<(), NoMemory> {
+fn push_wish(note: &mut Vec<u8>, owner: &[u8], wish: Wish) -> Result<(), NoMemory> {
     match wish {
-        Wish::Answer(name, kind) => push_named(note, b"", name.bytes(), b" answers ", kind),
-        Wish::Initial(name, kind) | Wish::Assigned(name, kind) => push_named(
+        Wish::Answer(kind) => push_named(note, b"", owner, b" answers ", kind),
+        Wish::Initial(kind) | Wish::Assigned(kind) => push_named(
             note,
             b"the field ",
-            name.bytes(),
+            owner,
             b" is ",
             kind,
         ),
-        Wish::Emitted(name, kind) => push_named(
-            note,
-            b"the emitted value ",
-            name.bytes(),
-            b" is ",
-            kind,
-        ),
+        Wish::Emitted(kind) => push_named(note, b"the emitted value ", owner, b" is ", kind),
         Wish::When => push_bytes(note, b"`when` takes a bool"),
         Wish::Condition => push_bytes(note, b"the condition of `if` is a bool"),
         Wish::Branch(_) => push_bytes(note, b"`else` gives the kind that `then` gives"),
-        Wish::Operand(word, kind) => push_operand(note, word, kind),
-        Wish::Comparable(word) => push_about(note, word, b" compares values of these kinds alone"),
-        Wish::SameAsLeft(word, _) => push_about(note, word, b" has one kind on both sides"),
+        Wish::Operand(operator, kind) => push_operand(note, operator, kind),
+        Wish::Comparable(operator) => push_about(
+            note,
+            operator,
+            b" compares values of these kinds alone",
+        ),
+        Wish::SameAsLeft(operator, _) => push_about(note, operator, b" has one kind on both sides"),
         Wish::First(function) | Wish::Argument(function, _, _) | Wish::Count(function, _) =>
             push_taken(note, function),
         Wish::Any => Ok(()),
@@ -142,14 +168,14 @@ fn push_named(
     push_kind(note, kind)
 }
 
-fn push_operand(note: &mut Vec<u8>, word: &str, kind: Kind) -> Result<(), NoMemory> {
-    push_quoted(note, word.as_bytes())?;
+fn push_operand(note: &mut Vec<u8>, operator: Operator, kind: Kind) -> Result<(), NoMemory> {
+    push_quoted(note, spelling_of(operator).as_bytes())?;
     push_bytes(note, b" takes ")?;
     push_kind(note, kind)
 }
 
-fn push_about(note: &mut Vec<u8>, word: &str, what: &[u8]) -> Result<(), NoMemory> {
-    push_quoted(note, word.as_bytes())?;
+fn push_about(note: &mut Vec<u8>, operator: Operator, what: &[u8]) -> Result<(), NoMemory> {
+    push_quoted(note, spelling_of(operator).as_bytes())?;
     push_bytes(note, what)
 }
 
@@ -158,6 +184,30 @@ fn push_taken(note: &mut Vec<u8>, function: Function) -> Result<(), NoMemory> {
     push_quoted(note, name)?;
     push_bytes(note, b" takes ")?;
     push_bytes(note, sentence_of(TAKEN, name))
+}
+
+fn spelling_of(operator: Operator) -> &'static str {
+    match operator {
+        Operator::Not => "not",
+        Operator::Minus => "-",
+        Operator::Two(op) => spelling_of_two(op),
+    }
+}
+
+fn spelling_of_two(op: BinOp) -> &'static str {
+    match op {
+        BinOp::Or => "or",
+        BinOp::And => "and",
+        BinOp::Eq => "==",
+        BinOp::Ne => "!=",
+        BinOp::Lt => "<",
+        BinOp::Le => "<=",
+        BinOp::Gt => ">",
+        BinOp::Ge => ">=",
+        BinOp::Add => "+",
+        BinOp::Sub => "-",
+        BinOp::Mul => "*",
+    }
 }
 
 fn name_of(function: Function) -> &'static str {
@@ -174,14 +224,18 @@ fn name_of(function: Function) -> &'static str {
     }
 }
 
-/// Appends which kind was perhaps meant in the declaration.
-pub(crate) fn push_redeclared(note: &mut Vec<u8>, clash: Clash) -> Result<(), NoMemory> {
-    let (Wish::Initial(name, _) | Wish::Emitted(name, _), Some(kind)) = (clash.wish, clash.found)
-    else {
+/// Appends which kind was perhaps meant in the declaration of a value that begins at a token.
+pub(crate) fn push_redeclared(
+    note: &mut Vec<u8>,
+    tokens: &[&[u8]],
+    k: usize,
+    clash: Clash,
+) -> Result<(), NoMemory> {
+    let Some(kind) = clash.found else {
         return Ok(());
     };
     push_bytes(note, b"  did you mean `")?;
-    push_bytes(note, name.bytes())?;
+    push_bytes(note, owner(tokens, k, clash.wish))?;
     push_bytes(note, b": ")?;
     push_bytes(note, spelling(kind).as_bytes())?;
     push_bytes(note, b"`?\n")

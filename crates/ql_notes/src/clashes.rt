@@ -9,17 +9,25 @@ use ql_lang::{BinOp, EmitDecl, Expr, ExprNode, Field, Kind, OpDecl, Program, Typ
 use ql_typing::{Function, Known, find_function};
 use std::alloc::Global;
 
+/// An operator of one operand or of two.
+#[derive(Clone, Copy)]
+pub(crate) enum Operator {
+    Not,
+    Minus,
+    Two(BinOp),
+}
+
 /// What wants a kind.
 #[derive(Clone, Copy)]
 pub(crate) enum Wish {
     /// An operation wants it of its answer.
-    Answer(Word, Kind),
+    Answer(Kind),
     /// A field wants it of what it begins with.
-    Initial(Word, Kind),
+    Initial(Kind),
     /// A field wants it of what is assigned to it.
-    Assigned(Word, Kind),
+    Assigned(Kind),
     /// An emitted value wants it.
-    Emitted(Word, Kind),
+    Emitted(Kind),
     /// `when` wants a truth value.
     When,
     /// `if` wants one.
@@ -27,11 +35,11 @@ pub(crate) enum Wish {
     /// `else` wants the kind that `then` has.
     Branch(Kind),
     /// An operator wants it of an operand.
-    Operand(&'static str, Kind),
+    Operand(Operator, Kind),
     /// `==` and `!=` want a base kind.
-    Comparable(&'static str),
+    Comparable(Operator),
     /// They want the kind that is on the left.
-    SameAsLeft(&'static str, Kind),
+    SameAsLeft(Operator, Kind),
     /// A function wants a set or a map first.
     First(Function),
     /// A function wants it of its argument of a number, from 0.
@@ -48,18 +56,18 @@ pub(crate) enum Wish {
 pub(crate) struct Clash {
     pub(crate) found: Option<Kind>,
     pub(crate) wish: Wish,
-    /// The name of which the whole expression consists, where it does.
-    pub(crate) name: Option<Word>,
+    /// Whether the expression is a name.
+    pub(crate) is_name: bool,
 }
 
 impl Wish {
     /// The one kind that is wanted, where there is one.
     pub(crate) fn kind(self) -> Option<Kind> {
         match self {
-            Wish::Answer(_, kind)
-            | Wish::Initial(_, kind)
-            | Wish::Assigned(_, kind)
-            | Wish::Emitted(_, kind)
+            Wish::Answer(kind)
+            | Wish::Initial(kind)
+            | Wish::Assigned(kind)
+            | Wish::Emitted(kind)
             | Wish::Branch(kind)
             | Wish::Operand(_, kind)
             | Wish::SameAsLeft(_, kind)
@@ -110,15 +118,8 @@ fn own_clash(search: Search, node: &ExprNode, wish: Wish) -> Option<Clash> {
     Some(Clash {
         found: Some(found),
         wish,
-        name: name_of(node),
+        is_name: matches!(node, ExprNode::Var(_)),
     })
-}
-
-fn name_of(node: &ExprNode) -> Option<Word> {
-    match node {
-        ExprNode::Var(name) => Some(name.word),
-        _ => None,
-    }
 }
 
 // The clash in the parts of an expression that begins at an offset.
@@ -147,8 +148,16 @@ fn clash_inside(search: Search, at: u32, node: &ExprNode) -> Option<Clash> {
                 right_wish(*op, kind),
             ))
         }
-        ExprNode::Not(operand) => clash_of(search, operand, Wish::Operand("not", Kind::Bool)),
-        ExprNode::Neg(operand) => clash_of(search, operand, Wish::Operand("-", Kind::Int)),
+        ExprNode::Not(operand) => clash_of(
+            search,
+            operand,
+            Wish::Operand(Operator::Not, Kind::Bool),
+        ),
+        ExprNode::Neg(operand) => clash_of(
+            search,
+            operand,
+            Wish::Operand(Operator::Minus, Kind::Int),
+        ),
         _ => None,
     }
 }
@@ -172,7 +181,7 @@ fn count_clash(function: Function, count: usize) -> Clash {
     Clash {
         found: None,
         wish: Wish::Count(function, count),
-        name: None,
+        is_name: false,
     }
 }
 
@@ -195,36 +204,22 @@ fn argument_wish(function: Function, first: Option<Kind>, number: usize) -> Wish
 
 // What an operator wants of its left operand.
 fn left_wish(op: BinOp) -> Wish {
-    let word = word_of(op);
+    let operator = Operator::Two(op);
     match op {
-        BinOp::Eq | BinOp::Ne => Wish::Comparable(word),
-        BinOp::Or | BinOp::And => Wish::Operand(word, Kind::Bool),
-        _ => Wish::Operand(word, Kind::Int),
+        BinOp::Eq | BinOp::Ne => Wish::Comparable(operator),
+        BinOp::Or | BinOp::And => Wish::Operand(operator, Kind::Bool),
+        _ => Wish::Operand(operator, Kind::Int),
     }
 }
 
 // What an operator wants of its right operand, by the kind of the left one.
 fn right_wish(op: BinOp, left: Option<Kind>) -> Wish {
     match (left_wish(op), left) {
-        (Wish::Comparable(word), Some(kind)) if is_base(kind) => Wish::SameAsLeft(word, kind),
+        (Wish::Comparable(operator), Some(kind)) if is_base(kind) => Wish::SameAsLeft(
+            operator, kind,
+        ),
         (Wish::Comparable(_), _) => Wish::Any,
         (wish, _) => wish,
-    }
-}
-
-fn word_of(op: BinOp) -> &'static str {
-    match op {
-        BinOp::Or => "or",
-        BinOp::And => "and",
-        BinOp::Eq => "==",
-        BinOp::Ne => "!=",
-        BinOp::Lt => "<",
-        BinOp::Le => "<=",
-        BinOp::Gt => ">",
-        BinOp::Ge => ">=",
-        BinOp::Add => "+",
-        BinOp::Sub => "-",
-        BinOp::Mul => "*",
     }
 }
 
@@ -267,8 +262,8 @@ fn known(word: Word, kind: Kind) -> Known {
 fn initial_clash(field: &Field) -> Clash {
     Clash {
         found: kind_of_init(&field.init),
-        wish: Wish::Initial(field.name.word, field.kind),
-        name: None,
+        wish: Wish::Initial(field.kind),
+        is_name: false,
     }
 }
 
@@ -283,7 +278,7 @@ fn clash_in_operation(
         scope.push(known(param.name.word, of_base(param.base)))?;
     }
     let search = Search { scope: &scope, at };
-    let clash = clash_of(search, &op.answer, Wish::Answer(op.name.word, op.kind));
+    let clash = clash_of(search, &op.answer, Wish::Answer(op.kind));
     match &op.effect {
         Some(effect) if clash.is_none() => clash_in_effect(alloc, fields, search, effect),
         _ => Ok(clash),
@@ -299,7 +294,7 @@ fn clash_in_effect(
     let mut scope = Vec::from_slice(alloc, fields)?;
     for bind in effect.binds.items() {
         let kind = of_base(bind.base);
-        let clash = clash_of(search, &bind.value, Wish::Emitted(bind.name.word, kind));
+        let clash = clash_of(search, &bind.value, Wish::Emitted(kind));
         if clash.is_some() {
             return Ok(clash);
         }
@@ -317,7 +312,7 @@ fn clash_in_statements(search: Search, effect: &EmitDecl) -> Option<Clash> {
     for statement in effect.stmts.items() {
         let target = statement.target.word;
         let wish = match kind_named(search.scope, &target) {
-            Some(kind) => Wish::Assigned(target, kind),
+            Some(kind) => Wish::Assigned(kind),
             None => Wish::Any,
         };
         let clash = clash_of(search, &statement.value, wish);

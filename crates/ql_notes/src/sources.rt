@@ -102,11 +102,11 @@ fn push_misuse(
         (TypeFault::Unknown(_), _) => push_instead(alloc, note, found, k),
         (TypeFault::Twice(_), _) => push_first(note, file, tokens, found, k),
         (TypeFault::Kind(_), Some(clash)) => {
-            if clash.name.is_some() {
+            if clash.is_name {
                 push_declaration(note, file, tokens, found, k)?;
             }
             if misuse.is_declared_wrong {
-                push_redeclared(note, clash)?;
+                push_redeclared(note, found, k, clash)?;
             }
             Ok(())
         }
@@ -119,7 +119,7 @@ fn push_sentence(said: &mut Vec<u8>, found: &[&[u8]], misuse: Misuse) -> Result<
     let k = misuse.token;
     match (misuse.fault, misuse.clash) {
         (TypeFault::Unknown(_), _) => push_unknown(said, found, k),
-        (TypeFault::Kind(_), Some(clash)) => push_clash(said, clash),
+        (TypeFault::Kind(_), Some(clash)) => push_clash(said, found, k, clash),
         (TypeFault::TooMany(_), _) => push_bytes(said, size_sentence(found, k)),
         (TypeFault::TxnClosure(_), _) => {
             push_bytes(said, b"a transaction's contract can't speak of `")?;

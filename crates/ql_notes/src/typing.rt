@@ -78,7 +78,7 @@ fn mend(alloc: Global, pieces: &mut [&[u8]], misuse: Misuse) -> Result<Misuse, N
 fn kind_of_value(misuse: Misuse) -> Option<Kind> {
     let clash = misuse.clash?;
     match clash.wish {
-        Wish::Initial(_, _) | Wish::Emitted(_, _) => clash.found,
+        Wish::Initial(_) | Wish::Emitted(_) => clash.found,
         _ => None,
     }
 }
@@ -190,7 +190,7 @@ fn is_one_clash(tokens: &[&[u8]], earlier: Misuse, misuse: Misuse) -> bool {
     let (Some(one), Some(other)) = (earlier.clash, misuse.clash) else {
         return false;
     };
-    let is_name = one.name.is_some() && other.name.is_some();
+    let is_name = one.is_name && other.is_name;
     if !is_name
         || !is_same(tokens, earlier.token, misuse.token)
         || one.wish.kind() != other.wish.kind()
