@@ -200,14 +200,14 @@ fn is_replica(line: FaultyLine, k: usize) -> bool {
     }
 }
 
-// The first group above 15, or the first one.
+// The first group above 15, or the first one too many, or where one is missing.
 fn group(line: FaultyLine) -> usize {
     for (k, number) in line.fields.iter().enumerate() {
-        if k > 0 && number_of(number.text, 15).is_none() {
+        if k > line.replicas as usize || (k > 0 && number_of(number.text, 15).is_none()) {
             return k;
         }
     }
-    1
+    line.fields.len()
 }
 
 // The name that is there twice.

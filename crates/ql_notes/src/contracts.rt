@@ -8,7 +8,7 @@ use crate::lexical::{is_lexical, push_lexical};
 use crate::meant::{push_instead, push_unknown};
 use crate::pieces::{pieces, tokens_of, word_at};
 use crate::rules::sentence;
-use crate::sources::after_word;
+use crate::sources::{after_word, form_sentence};
 use crate::syntax::{Break, push_syntax};
 use crate::typing::{offset_of, rule_of};
 use crate::words::line_of;
@@ -97,7 +97,7 @@ fn push_contract_syntax(
 ) -> Result<(), NoMemory> {
     let word = word_at(contract.text, tokens, at);
     let rule = b"Unexpected".as_slice();
-    push_contract_place(note, contract, at, word, rule, sentence(b"source", rule))?;
+    push_contract_place(note, contract, at, word, rule, form_sentence(rule, word))?;
     if at > contract.text.len() {
         return Ok(());
     }
@@ -109,7 +109,7 @@ fn push_contract_syntax(
         before: &before,
         word,
         rest: &rest,
-        end: b"the end of the line",
+        is_line: true,
     };
     push_syntax(alloc, note, found)
 }

@@ -115,12 +115,14 @@ fn is_allowed(alloc: Global, before: &[u8], terminal: &str) -> Result<bool, NoMe
     }
 }
 
-/// Appends what was expected, a few of them: first what was perhaps meant, then what ends or parts something.
+/// Appends what was expected, a few of them: first what was perhaps meant, then what ends or parts
+/// something. In a line its end stands for a semicolon.
 pub(crate) fn push_expected(
     alloc: Global,
     note: &mut Vec<u8>,
     terminals: &[&'static str],
     guess: Guess,
+    is_line: bool,
 ) -> Result<(), NoMemory> {
     let ordered = ordered(alloc, terminals, guess)?;
     for k in 0..ordered.len() {
@@ -137,7 +139,7 @@ pub(crate) fn push_expected(
                 },
             )?;
         }
-        push_terminal(note, ordered[k])?;
+        push_terminal(note, ordered[k], is_line)?;
     }
     Ok(())
 }
@@ -173,8 +175,9 @@ fn rank_of(terminal: &str, guess: Guess) -> usize {
     }
 }
 
-fn push_terminal(note: &mut Vec<u8>, terminal: &str) -> Result<(), NoMemory> {
+fn push_terminal(note: &mut Vec<u8>, terminal: &str, is_line: bool) -> Result<(), NoMemory> {
     match terminal {
+        ";" if is_line => push_bytes(note, b"the end of the line"),
         "x" => push_bytes(note, b"a name"),
         "1" => push_bytes(note, b"a number"),
         "\"\"" => push_bytes(note, b"a text"),

@@ -74,7 +74,8 @@ pub(crate) fn likeliest_repair(
         }
     }
     for terminal in terminals {
-        if has_word(FORGOTTEN, terminal.as_bytes()) {
+        let is_end = found.is_line && terminal.as_bytes() == b";".as_slice();
+        if has_word(FORGOTTEN, terminal.as_bytes()) && !is_end {
             best.try_repair(alloc, found, Guess::Missing(terminal))?;
         }
     }

@@ -1,5 +1,5 @@
-// Notes beside an answer, for people: where a fault stands, the line with a mark under the place, the rule in a sentence, what
-// the grammar has there, and names that were perhaps meant. They say nothing that an answer depends on.
+// Notes beside an answer, for people: where a fault stands, the line with a mark under the place, what is wrong in a sentence,
+// what the grammar has there, and names that were perhaps meant. They say nothing that an answer depends on.
 // The one contract: every function is safe and returns, whatever the files have in them.
 #![tactic(auto)]
 
@@ -39,6 +39,7 @@ mod sizes;
 mod sources;
 mod stamp;
 mod syntax;
+mod system;
 mod typing;
 mod unmet;
 mod verdicts;
@@ -48,3 +49,4 @@ mod words;
 pub use help::HELP;
 pub use kept::KeptSink;
 pub use notes::{Printed, note};
+pub use system::{wants_notes, write_reason};

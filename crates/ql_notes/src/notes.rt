@@ -10,6 +10,7 @@ use crate::refusals::{Refusal, Source, push_refusal, refusal_in};
 use crate::sources::push_source_fault;
 use crate::unmet::push_unmet;
 use crate::verdicts::{NO, push_verdict};
+use crate::words::has_word;
 use ql_base::NoMemory;
 use ql_ports::{ReadError, Shelf, read_whole};
 use std::alloc::Global;
@@ -45,17 +46,32 @@ pub fn note<S: Shelf>(
         note.extend_from_slice(HELP.as_bytes())?;
     } else if let Some(fault) = fault_of(printed.first) {
         push_bad_file(alloc, &mut note, words, fault, shelf)?;
-    } else if let Some(refusal) = refusal_in(printed.last_line)
-        && status == NO
-    {
+    } else if let Some(refusal) = refusal_of(words, status, printed) {
         push_refused(alloc, &mut note, words, refusal, shelf)?;
-    } else {
+    } else if status != NO || command(words) != b"explain".as_slice() {
         push_verdict(&mut note, status, printed)?;
         if status == 0 && printed.first == b"holds\n".as_slice() {
             push_holding(alloc, &mut note, words, shelf)?;
         }
     }
     Ok(note)
+}
+
+// The command's name.
+fn command(words: &Vec<String>) -> &[u8] {
+    match words.first() {
+        Some(word) => word.as_bytes(),
+        None => b"".as_slice(),
+    }
+}
+
+// What was refused, of a command that judges.
+fn refusal_of<'a>(words: &Vec<String>, status: u8, printed: Printed<'a>) -> Option<Refusal<'a>> {
+    if status == NO && has_word(b"check proof", command(words)) {
+        refusal_in(printed.last_line)
+    } else {
+        None
+    }
 }
 
 // What can be said of a file that is at fault.
@@ -142,12 +158,8 @@ fn push_holding<S: Shelf>(
     words: &Vec<String>,
     shelf: &mut S,
 ) -> Result<(), NoMemory> {
-    let is_holds = match words.first() {
-        Some(word) => word.as_bytes() == b"holds".as_slice(),
-        None => false,
-    };
     match file_of(words, 0) {
-        Some(name) if is_holds => {
+        Some(name) if command(words) == b"holds".as_slice() => {
             let text = file_text(alloc, shelf, name)?;
             push_unmet(alloc, note, file(name, &text))
         }

@@ -24,7 +24,7 @@ pub(crate) fn sentence(part: &[u8], rule: &[u8]) -> &'static [u8] {
 const SOURCE_RULES: &str = "Unexpected this may not stand here
 Deep at most 64 brackets are open at once, and this one is the 65th: leave out those that nothing needs
 Wide an expression or a contract has at most 256 names, numbers, operators and calls, and this is the 257th: make it shorter, or assign a part of it in a statement of its own
-Twice this name is declared or listed before
+Twice this name is declared or listed already
 Kind this isn't of the kind that is wanted here
 Variables a contract has at most 5 variables, and this is the sixth
 TxnAtom an operation's contract can't speak of `txn`: only a transaction's can";

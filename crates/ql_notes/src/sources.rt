@@ -12,6 +12,7 @@ use crate::rules::sentence;
 use crate::sizes::size_sentence;
 use crate::syntax::{Break, push_syntax};
 use crate::typing::{Misuse, misuses, rule_of};
+use crate::wanted::push_quoted;
 use ql_base::{NoMemory, push_bytes};
 use ql_lex::Token;
 use ql_typing::TypeFault;
@@ -60,7 +61,7 @@ fn push_parse_fault(
         from: at,
         bytes: word.len(),
     };
-    push_fault(note, file, spot, rule, sentence(b"source", rule))?;
+    push_fault(note, file, spot, rule, form_sentence(rule, word))?;
     if rule != b"Unexpected".as_slice() {
         return Ok(());
     }
@@ -68,9 +69,18 @@ fn push_parse_fault(
         before: &file.text[..at],
         word,
         rest: after_word(&file.text[at..], word),
-        end: b"the end of the file",
+        is_line: false,
     };
     push_syntax(alloc, note, found)
+}
+
+/// What a rule of forms says at a word, or at the end of a text.
+pub(crate) fn form_sentence(rule: &[u8], word: &[u8]) -> &'static [u8] {
+    if word.is_empty() {
+        b"something is missing at the end".as_slice()
+    } else {
+        sentence(b"source", rule)
+    }
 }
 
 /// What stands after a word at the start of a text.
@@ -120,6 +130,10 @@ fn push_sentence(said: &mut Vec<u8>, found: &[&[u8]], misuse: Misuse) -> Result<
     match (misuse.fault, misuse.clash) {
         (TypeFault::Unknown(_), _) => push_unknown(said, found, k),
         (TypeFault::Kind(_), Some(clash)) => push_clash(said, found, k, clash),
+        (TypeFault::Twice(_), _) => {
+            push_quoted(said, piece(found, k))?;
+            push_bytes(said, b" is declared or listed already")
+        }
         (TypeFault::TooMany(_), _) => push_bytes(said, size_sentence(found, k)),
         (TypeFault::TxnClosure(_), _) => {
             push_bytes(said, b"a transaction's contract can't speak of `")?;

@@ -9,13 +9,14 @@ use std::alloc::Global;
 // The most bytes of a source.
 const SOURCE_BYTES: usize = 1_048_576;
 
-/// Where a text leaves the grammar: what stands before, the word there, what follows it, and what the text's end is called.
+/// Where a text leaves the grammar: what stands before, the word there, and what follows it.
 #[derive(Clone, Copy)]
 pub(crate) struct Break<'a> {
     pub(crate) before: &'a [u8],
     pub(crate) word: &'a [u8],
     pub(crate) rest: &'a [u8],
-    pub(crate) end: &'static [u8],
+    /// Whether the text is a line, and ends where a semicolon would stand in a source.
+    pub(crate) is_line: bool,
 }
 
 /// Appends what was found, what was expected, and what was perhaps meant.
@@ -26,13 +27,15 @@ pub(crate) fn push_syntax(alloc: Global, note: &mut Vec<u8>, found: Break) -> Re
     let terminals = expected(alloc, found.before)?;
     let guess = likeliest_repair(alloc, found, &terminals)?;
     push_bytes(note, b"  found ")?;
-    if found.word.is_empty() {
-        push_bytes(note, found.end)?;
-    } else {
+    if !found.word.is_empty() {
         push_quoted(note, found.word)?;
+    } else if found.is_line {
+        push_bytes(note, b"the end of the line")?;
+    } else {
+        push_bytes(note, b"the end of the file")?;
     }
     push_bytes(note, b", expected ")?;
-    push_expected(alloc, note, &terminals, guess)?;
+    push_expected(alloc, note, &terminals, guess, found.is_line)?;
     push_bytes(note, b"\n")?;
     match (guess, terminals.first()) {
         (Guess::Nothing, Some(first)) if *first == "x" && is_keyword(found.word) => {

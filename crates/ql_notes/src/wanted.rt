@@ -1,7 +1,7 @@
 // What a line has where it leaves its form, and what was expected there.
 
 use crate::fields::{Field, field_text};
-use crate::fits::{meaning, stands_for_itself};
+use crate::fits::{listed_words, meaning, stands_for_itself};
 use crate::forms::Misfit;
 use crate::likeness::{likest, push_meant};
 use crate::words::{line_of, word};
@@ -119,7 +119,7 @@ fn push_word(note: &mut Vec<u8>, wanted: &[u8], next: u64) -> Result<(), NoMemor
     }
 }
 
-// The words of forms that stand for themselves and may come next.
+// The words that may come next in a form: those that stand for themselves, and those that are listed.
 fn own_words(alloc: Global, misfit: Misfit) -> Result<Vec<&'static [u8]>, NoMemory> {
     let mut words = Vec::new(alloc);
     let forms = misfit.form;
@@ -129,7 +129,20 @@ fn own_words(alloc: Global, misfit: Misfit) -> Result<Vec<&'static [u8]>, NoMemo
             if stands_for_itself(first) {
                 words.push(first)?;
             }
+            push_listed_words(&mut words, listed_words(first))?;
         }
     }
     Ok(words)
+}
+
+fn push_listed_words(
+    words: &mut Vec<&'static [u8]>,
+    listed: &'static [u8],
+) -> Result<(), NoMemory> {
+    for k in 0..listed.len() {
+        if k == 0 || listed[k - 1] == b' ' {
+            words.push(word(&listed[k..]).0)?;
+        }
+    }
+    Ok(())
 }
