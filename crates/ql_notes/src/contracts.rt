@@ -21,6 +21,9 @@ use std::alloc::Global;
 // The most bytes of a contract of which something is said.
 const BYTES: usize = 65_536;
 
+// The most bytes of a source.
+const SOURCE_BYTES: usize = 1_048_576;
+
 // What stands around a contract in a source.
 const BEFORE: &[u8] = b"type t { op f(): unit { contract ";
 
@@ -139,6 +142,9 @@ fn push_contract_misuse(
 ) -> Result<(), NoMemory> {
     let mut whole = Vec::from_slice(alloc, BEFORE)?;
     push_bytes(&mut whole, contract.text)?;
+    if whole.len() > SOURCE_BYTES {
+        return Ok(());
+    }
     let all = tokens_of(alloc, &whole)?;
     let found = pieces(alloc, &whole, &all)?;
     let k = number_at(tokens, fault.at).saturating_add(TOKENS_BEFORE);

@@ -34,7 +34,12 @@ pub(crate) fn push_line_fault<'x>(
         return push_contract_fault(alloc, note, file, fault, end_of(&fields, 0, start));
     }
     if fault.rule == b"Unexpected".as_slice() {
-        return push_form_fault(alloc, note, file, fault, start, above, &fields);
+        let line = Line {
+            start,
+            fields: &fields,
+            above,
+        };
+        return push_form_fault(alloc, note, file, fault, line);
     }
     let line = FaultyLine {
         part: fault.part,
@@ -52,19 +57,25 @@ pub(crate) fn push_line_fault<'x>(
     push_help(alloc, note, line, k, above, file.text)
 }
 
+// Where a line begins, its fields, and what stands above it.
+#[derive(Clone, Copy)]
+struct Line<'a> {
+    start: usize,
+    fields: &'a [Field<'a>],
+    above: Above,
+}
+
 // Appends what can be said of a line that isn't of its form.
 fn push_form_fault(
     alloc: Global,
     note: &mut Vec<u8>,
     file: File,
     fault: Fault,
-    start: usize,
-    above: Above,
-    fields: &[Field],
+    line: Line,
 ) -> Result<(), NoMemory> {
-    let next = above.effects.saturating_add(1);
-    let found = find_misfit(forms(fault.part, above), fields, next);
-    let is_end = start == file.text.len();
+    let next = line.above.effects.saturating_add(1);
+    let found = find_misfit(forms(fault.part, line.above), line.fields, next);
+    let is_end = line.start == file.text.len();
     let said = if !is_end {
         sentence(fault.part, fault.rule)
     } else if last_form(found.form) == b"end".as_slice() {
@@ -72,14 +83,9 @@ fn push_form_fault(
     } else {
         b"the file ends here".as_slice()
     };
-    push_fault(
-        note,
-        file,
-        spot(fields, found.field, start),
-        fault.rule,
-        said,
-    )?;
-    push_wanted(alloc, note, fields, found, next)
+    let spot = spot(line.fields, found.field, line.start);
+    push_fault(note, file, spot, fault.rule, said)?;
+    push_wanted(alloc, note, line.fields, found, next)
 }
 
 // The last of the forms that a line may have.

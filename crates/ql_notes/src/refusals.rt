@@ -17,8 +17,8 @@ NotUnit a hint of this line names a clause that leaves open more than one litera
 NoConflict the hints lead to no contradiction
 NoEmpty no line is the empty clause, so nothing is shown";
 
-/// What a line of an answer refuses: the rule, the section's first line, nothing in a proof, and the number of the line, nothing of
-/// the whole.
+/// What a line of an answer refuses: the rule, the section's first line, which is empty in a proof, and the number of the line,
+/// which is empty where the whole is refused.
 #[derive(Clone, Copy)]
 pub(crate) struct Refusal<'a> {
     rule: &'a [u8],
@@ -158,7 +158,7 @@ fn push_levels(note: &mut Vec<u8>, source: Source) -> Result<(), NoMemory> {
 fn push_anew(note: &mut Vec<u8>, source: Source) -> Result<(), NoMemory> {
     push_bytes(
         note,
-        b"  or the file, or the source since, was changed: `./quelea prove ",
+        b"  the certificate, or the source since, may be changed: `./quelea prove ",
     )?;
     push_bytes(note, source.name)?;
     push_bytes(note, b"` makes it anew\n")

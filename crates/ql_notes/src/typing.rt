@@ -60,16 +60,19 @@ fn mend(alloc: Global, pieces: &mut [&[u8]], misuse: Misuse) -> Result<Misuse, N
         repair(pieces, misuse.token, misuse.fault);
         return Ok(misuse);
     };
+    let kind = spelling(kind).as_bytes();
     let mut redeclared = Vec::from_slice(alloc, pieces)?;
-    redeclare(&mut redeclared, misuse.token, spelling(kind).as_bytes());
-    let other = token_of_first(alloc, &redeclared)?;
-    repair(pieces, misuse.token, misuse.fault);
-    if other <= token_of_first(alloc, pieces)? {
-        return Ok(misuse);
+    redeclare(&mut redeclared, misuse.token, kind);
+    let mut repaired = Vec::from_slice(alloc, pieces)?;
+    repair(&mut repaired, misuse.token, misuse.fault);
+    let is_declared_wrong = token_of_first(alloc, &repaired)? < token_of_first(alloc, &redeclared)?;
+    if is_declared_wrong {
+        redeclare(pieces, misuse.token, kind);
+    } else {
+        repair(pieces, misuse.token, misuse.fault);
     }
-    pieces.copy_from_slice(&redeclared);
     Ok(Misuse {
-        is_declared_wrong: true,
+        is_declared_wrong,
         ..misuse
     })
 }
