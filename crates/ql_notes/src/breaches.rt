@@ -5,13 +5,12 @@ use crate::arguments::push_misfit;
 use crate::columns::FaultyLine;
 use crate::declared::word_of;
 use crate::effects::{push_mixed, push_not_earlier, push_other_object, push_split};
-use crate::excerpt::{File, place_of, push_position};
 use crate::fields::field_text;
 use crate::ranges::push_range;
 use crate::rules::sentence;
 use crate::wanted::push_quoted;
-use crate::words::line_of;
 use ql_base::{NoMemory, push_bytes};
+use ql_excerpt::{File, line_of, place_of, push_position};
 
 /// Appends what is wrong in a field of a line, of a file with this text.
 pub(crate) fn push_breach(

@@ -5,8 +5,9 @@ use crate::arguments::misfit;
 use crate::declared::{place_in, word_after, word_of};
 use crate::fields::{Field, field_text};
 use crate::ranges::is_too_great;
-use crate::words::{has_word, line_of};
+use crate::words::has_word;
 use ql_base::number_of;
+use ql_excerpt::line_of;
 
 /// A line at fault: the kind of its file, the rule, its fields, what stands above it, and the tokens of the source that
 /// the file belongs to.

@@ -2,7 +2,6 @@
 ghost use Rattle.std.specs.Prelude.{◌<◌, ◌≤◌, ◌^◌, length};
 
 use crate::answer::Fault;
-use crate::excerpt::{File, Spot, push_fault};
 use crate::first::{first_of, push_first_at};
 use crate::lexical::{is_lexical, push_lexical};
 use crate::meant::{push_instead, push_unknown};
@@ -11,8 +10,8 @@ use crate::rules::sentence;
 use crate::sources::{after_word, form_sentence};
 use crate::syntax::{Break, push_syntax};
 use crate::typing::{offset_of, rule_of};
-use crate::words::line_of;
 use ql_base::{Names, NoMemory, push_bytes};
+use ql_excerpt::{File, Spot, line_of, push_fault};
 use ql_lex::{LexFault, Token};
 use ql_parse::{ParseFault, parse_contract};
 use ql_typing::{TypeFault, resolve};

@@ -2,8 +2,9 @@
 
 use crate::above::first_word;
 use crate::pieces::{last_of, next_of, piece};
-use crate::words::{line_of, word};
+use crate::words::word;
 use ql_base::NoMemory;
+use ql_excerpt::line_of;
 use std::alloc::Global;
 
 /// The names that stand after a keyword, of the tokens of a source.

@@ -6,8 +6,8 @@ use crate::declared::{place_in, type_at, word_of};
 use crate::fields::field_text;
 use crate::stamp::effect_of;
 use crate::wanted::push_quoted;
-use crate::words::line_of;
 use ql_base::{NoMemory, number_of, push_bytes, push_number};
+use ql_excerpt::line_of;
 
 // The fields of an effect in an execution.
 const ID: usize = 1;

@@ -1,8 +1,8 @@
 // The fields of a line.
 ghost use Rattle.std.specs.Prelude.{◌≤◌, length};
 
-use crate::words::line_of;
 use ql_base::NoMemory;
+use ql_excerpt::line_of;
 use std::alloc::Global;
 
 /// A field of a line, and where it stands in the file.

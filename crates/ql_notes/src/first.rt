@@ -1,12 +1,12 @@
 // Where a name stands first that a source declares or lists again, and where the name of a value is declared.
 
-use crate::excerpt::{File, place_of, push_position};
 use crate::meant::is_bound;
 use crate::pieces::{last_of, next_of, piece};
 use crate::repair::{is_chosen, part_of};
 use crate::wanted::push_quoted;
 use crate::words::has_word;
 use ql_base::{NoMemory, push_bytes};
+use ql_excerpt::{File, place_of, push_position};
 use ql_lex::Token;
 
 /// Appends where the name at a token stands first.

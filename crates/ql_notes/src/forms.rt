@@ -6,7 +6,8 @@
 use crate::above::Above;
 use crate::fields::{Field, field_text};
 use crate::fits::fits;
-use crate::words::{line_of, word};
+use crate::words::word;
+use ql_excerpt::line_of;
 
 const OF_EXECUTION: &str =
     "effect NEXT NAME NAME VALUES = VALUE emit PAYLOAD session SESSION txn TXN stamp NUMBER vis SEEN..

@@ -4,12 +4,12 @@ use crate::above::Above;
 use crate::arguments::push_operation;
 use crate::columns::FaultyLine;
 use crate::declared::{declared, named, type_at, word_after};
-use crate::excerpt::place_of;
 use crate::fields::field_text;
 use crate::names::push_known;
 use crate::pieces::piece;
 use crate::stamp::right_stamp;
 use ql_base::{NoMemory, push_bytes, push_number};
+use ql_excerpt::place_of;
 use std::alloc::Global;
 
 /// Appends what would be right in the field of a number: the stamp, the line's number, a name that was perhaps meant, or what

@@ -1,8 +1,8 @@
 // Why bytes are no token.
 
-use crate::excerpt::Spot;
 use crate::wanted::push_quoted;
 use ql_base::{NoMemory, digit_bytes, is_word_byte, push_bytes, push_number};
+use ql_excerpt::Spot;
 
 /// Whether a rule is one of tokens.
 pub(crate) fn is_lexical(rule: &[u8]) -> bool {

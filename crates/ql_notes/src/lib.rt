@@ -13,7 +13,6 @@ mod columns;
 mod contracts;
 mod declared;
 mod effects;
-mod excerpt;
 mod expected;
 mod fields;
 mod first;

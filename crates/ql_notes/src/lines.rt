@@ -6,13 +6,13 @@ use crate::answer::Fault;
 use crate::breaches::{push_breach, push_first_line};
 use crate::columns::{FaultyLine, column, replicas};
 use crate::contracts::push_contract_fault;
-use crate::excerpt::{File, Spot, place_of_line, push_fault};
 use crate::fields::{Field, field_text, fields};
 use crate::forms::{find_misfit, forms};
 use crate::helps::push_help;
 use crate::rules::sentence;
 use crate::wanted::push_wanted;
 use ql_base::NoMemory;
+use ql_excerpt::{File, Spot, place_of_line, push_fault};
 use std::alloc::Global;
 
 /// Appends what can be said of a fault in a line file. `source` has the tokens of the source that it belongs to.

@@ -2,7 +2,6 @@
 ghost use Rattle.std.specs.Prelude.{◌≤◌, IfOk, length};
 
 use crate::answer::{Fault, fault_of};
-use crate::excerpt::File;
 use crate::help::{HELP, push_command};
 use crate::lines::push_line_fault;
 use crate::pieces::{pieces, tokens_of};
@@ -12,6 +11,7 @@ use crate::unmet::push_unmet;
 use crate::verdicts::{NO, push_verdict};
 use crate::words::has_word;
 use ql_base::NoMemory;
+use ql_excerpt::File;
 use ql_ports::{ReadError, Shelf, read_whole};
 use std::alloc::Global;
 

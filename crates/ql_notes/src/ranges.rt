@@ -3,8 +3,9 @@
 use crate::above::first_word;
 use crate::columns::FaultyLine;
 use crate::fields::field_text;
-use crate::words::{has_word, line_of};
+use crate::words::has_word;
 use ql_base::{NoMemory, number_of, push_bytes, push_number};
+use ql_excerpt::line_of;
 
 /// Appends the range of the number in a field, in a file with this text.
 pub(crate) fn push_range(

@@ -3,11 +3,11 @@ ghost use Rattle.std.specs.Prelude.{◌≤◌, length};
 
 use crate::above::first_word;
 use crate::declared::{declared, word_of};
-use crate::excerpt::{File, Spot, push_fault};
 use crate::pieces::piece;
 use crate::wanted::push_quoted;
-use crate::words::{has_word, line_of, sentence_of, word};
+use crate::words::{has_word, sentence_of, word};
 use ql_base::{NoMemory, number_of, push_bytes, push_number};
+use ql_excerpt::{File, Spot, line_of, push_fault};
 use std::alloc::Global;
 
 // By the rule for which a section is refused.

@@ -3,7 +3,6 @@ ghost use Rattle.std.specs.Prelude.{◌≤◌, length};
 
 use crate::answer::Fault;
 use crate::clash_words::{push_clash, push_redeclared};
-use crate::excerpt::{File, Spot, place_of, push_fault};
 use crate::first::{push_declaration, push_first};
 use crate::lexical::{is_lexical, push_lexical};
 use crate::meant::{push_instead, push_unknown};
@@ -14,6 +13,7 @@ use crate::syntax::{Break, push_syntax};
 use crate::typing::{Misuse, misuses, rule_of};
 use crate::wanted::push_quoted;
 use ql_base::{NoMemory, push_bytes};
+use ql_excerpt::{File, Spot, place_of, push_fault};
 use ql_lex::Token;
 use ql_typing::TypeFault;
 use std::alloc::Global;

@@ -1,9 +1,9 @@
 // The stamp that an effect in an execution's file should have.
 ghost use Rattle.std.specs.Prelude.{◌≤◌, length};
 
-use crate::excerpt::Place;
-use crate::words::{has_word, line_of, word};
+use crate::words::{has_word, word};
 use ql_base::number_of;
+use ql_excerpt::{Place, line_of};
 
 /// The number of an effect, its session, its transaction, its stamp, and the effects that it sees.
 #[derive(Clone, Copy)]

@@ -4,8 +4,9 @@ use crate::fields::{Field, field_text};
 use crate::fits::{listed_words, meaning, stands_for_itself};
 use crate::forms::Misfit;
 use crate::likeness::{likest, push_meant};
-use crate::words::{line_of, word};
+use crate::words::word;
 use ql_base::{NoMemory, number_of, push_bytes, push_number};
+use ql_excerpt::line_of;
 use std::alloc::Global;
 
 /// Appends what was found and what was expected, and a word that was perhaps meant.
