@@ -1,5 +1,5 @@
-// The program `explain`: the command line, the system's files and standard output, given to its top call. It prints nothing
-// itself, and its exit status is the top call's.
+// The program `explain`: the command line, the system's files and standard output, given to its top call. On standard output it
+// prints nothing itself, and its exit status is the top call's. Notes on the answer go to standard error, after it.
 // The one contract: for all words and all files one text is written that the outcome allows; of a source it is what
 // `ql_explanation` says.
 #![tactic(auto)]
@@ -12,8 +12,10 @@ mod status;
 
 use crate::program::explain_words;
 use ql_base::NoMemory;
+use ql_notes::{KeptSink, Printed, note, wants_notes, write_reason};
 use ql_ports::{FileShelf, StdSink};
 use std::env::Env;
+use std::io::{IsTerminal, Write};
 use std::process::ExitCode;
 use std::{env, io};
 
@@ -21,6 +23,9 @@ use std::{env, io};
 const NO_MEMORY: u8 = 6;
 
 const NO_WORDS: u8 = 8;
+
+// That of a file that can't be read.
+const READ_FAULT: u8 = 3;
 
 fn main(rt: HostRuntime) -> ExitCode {
     let words = match words(&rt) {
@@ -41,9 +46,46 @@ fn words<R: Env + AllocGlobal>(rt: &R) -> io::Result<Vec<String>> {
 
 fn exit_number(rt: HostRuntime, words: &Vec<String>) -> u8 {
     let mut shelf = FileShelf::new(rt.alloc(), rt);
-    let mut sink = StdSink::new(rt);
-    match explain_words(rt.alloc(), words, &mut shelf, &mut sink) {
+    let mut sink = KeptSink::over(StdSink::new(rt));
+    let status = match explain_words(rt.alloc(), words, &mut shelf, &mut sink) {
         Ok(status) => status.number(),
-        Err(NoMemory) => NO_MEMORY,
+        Err(NoMemory) => return NO_MEMORY,
+    };
+    if wants_notes(&rt, rt.stderr().is_terminal()) {
+        let printed = Printed {
+            first: sink.first(),
+            last_line: sink.last_line(),
+        };
+        write_note(rt, words, status, printed, &mut shelf);
     }
+    status
+}
+
+// Out of memory, or where standard error takes nothing, there is no note.
+fn write_note(
+    rt: HostRuntime,
+    words: &Vec<String>,
+    status: u8,
+    printed: Printed,
+    shelf: &mut FileShelf<HostRuntime>,
+) {
+    let Ok(words) = with_command(&rt, words) else {
+        return;
+    };
+    if let Ok(text) = note(rt.alloc(), &words, status, printed, shelf) {
+        let _ = rt.stderr().write_all(&text);
+    }
+    if status == READ_FAULT {
+        write_reason(&rt, &words);
+    }
+}
+
+// The words as `./quelea` got them.
+fn with_command<R: AllocGlobal>(rt: &R, words: &Vec<String>) -> io::Result<Vec<String>> {
+    let mut all = Vec::new(rt.alloc());
+    all.push(String::from_str(rt.alloc(), "explain")?)?;
+    for word in words {
+        all.push(String::from_str(rt.alloc(), word.as_str())?)?;
+    }
+    Ok(all)
 }

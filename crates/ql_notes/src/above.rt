@@ -1,8 +1,9 @@
 // What stands above a line of a line file.
 ghost use Rattle.std.specs.Prelude.{◌≤◌, length};
 
-use crate::words::{line_of, word};
+use crate::words::word;
 use ql_base::is_digit;
+use ql_excerpt::line_of;
 
 /// What is counted and met in the lines above a line, those that aren't blank or comments.
 #[derive(Clone, Copy)]

@@ -1,10 +1,13 @@
 // Which field of a line breaks a rule.
 
 use crate::above::first_word;
-use crate::declared::{behind, place_in, type_at, word_of};
+use crate::arguments::misfit;
+use crate::declared::{place_in, word_after, word_of};
 use crate::fields::{Field, field_text};
-use crate::words::{has_word, line_of};
+use crate::ranges::is_too_great;
+use crate::words::has_word;
 use ql_base::number_of;
+use ql_excerpt::line_of;
 
 /// A line at fault: the kind of its file, the rule, its fields, what stands above it, and the tokens of the source that
 /// the file belongs to.
@@ -128,22 +131,13 @@ fn in_schedule(line: FaultyLine) -> usize {
     if line.rule == b"Unknown".as_slice() {
         unknown(line, first)
     } else if line.rule == b"Kind".as_slice() {
-        if has_own_type(line) { 6 } else { 5 }
+        misfit(line)
     } else if line.rule == b"Range".as_slice() {
         out_of_range(line, first)
     } else if line.rule == b"Twice".as_slice() {
         twice(line, first)
     } else {
         0
-    }
-}
-
-// Whether a call is of an operation of the object's type.
-fn has_own_type(line: FaultyLine) -> bool {
-    let declared = behind(line.above, b"object", field_text(line.fields, 4));
-    match place_in(line.source, b"op", field_text(line.fields, 5)) {
-        Some(op) => type_at(line.source, op) == declared,
-        None => false,
     }
 }
 
@@ -156,7 +150,7 @@ fn unknown(line: FaultyLine, first: &[u8]) -> usize {
     }
     let from = if first == b"begin".as_slice() { 5 } else { 4 };
     for (k, object) in line.fields.iter().enumerate() {
-        if from <= k && behind(line.above, b"object", object.text).is_empty() {
+        if from <= k && word_after(line.above, b"object", object.text).is_empty() {
             return k;
         }
     }
@@ -169,12 +163,18 @@ fn out_of_range(line: FaultyLine, first: &[u8]) -> usize {
         if number_of(field_text(line.fields, 1), 255).is_none() {
             1
         } else if is_replica(line, 3) {
-            6
+            great_argument(line)
         } else {
             3
         }
     } else if first == b"resend".as_slice() {
-        if is_replica(line, 3) { 5 } else { 3 }
+        if number_of(field_text(line.fields, 1), u32::MAX as u64).is_none() {
+            1
+        } else if is_replica(line, 3) {
+            5
+        } else {
+            3
+        }
     } else if first == b"join".as_slice() {
         2
     } else if first == b"partition".as_slice() {
@@ -184,6 +184,16 @@ fn out_of_range(line: FaultyLine, first: &[u8]) -> usize {
     }
 }
 
+// The first argument that is beyond 64 bits.
+fn great_argument(line: FaultyLine) -> usize {
+    for (k, argument) in line.fields.iter().enumerate() {
+        if k > 5 && is_too_great(argument.text) {
+            return k;
+        }
+    }
+    6
+}
+
 fn is_replica(line: FaultyLine, k: usize) -> bool {
     match number_of(field_text(line.fields, k), u32::MAX as u64) {
         Some(replica) => replica < line.replicas,
@@ -191,14 +201,14 @@ fn is_replica(line: FaultyLine, k: usize) -> bool {
     }
 }
 
-// The first group above 15, or the first one.
+// The first group above 15, or the first one too many, or where one is missing.
 fn group(line: FaultyLine) -> usize {
     for (k, number) in line.fields.iter().enumerate() {
-        if k > 0 && number_of(number.text, 15).is_none() {
+        if k > line.replicas as usize || (k > 0 && number_of(number.text, 15).is_none()) {
             return k;
         }
     }
-    1
+    line.fields.len()
 }
 
 // The name that is there twice.

@@ -2,13 +2,17 @@
 ghost use Rattle.std.specs.Prelude.{◌<◌, ◌≤◌, ◌^◌, length};
 
 use crate::answer::Fault;
-use crate::excerpt::{File, Spot, push_fault};
-use crate::pieces::{tokens_of, word_at};
+use crate::first::{first_of, push_first_at};
+use crate::lexical::{is_lexical, push_lexical};
+use crate::meant::{push_instead, push_unknown};
+use crate::pieces::{pieces, tokens_of, word_at};
 use crate::rules::sentence;
-use crate::syntax::push_syntax;
-use crate::words::line_of;
+use crate::sources::{after_word, form_sentence};
+use crate::syntax::{Break, push_syntax};
+use crate::typing::{offset_of, rule_of};
 use ql_base::{Names, NoMemory, push_bytes};
-use ql_lex::LexFault;
+use ql_excerpt::{File, Spot, line_of, push_fault};
+use ql_lex::{LexFault, Token};
 use ql_parse::{ParseFault, parse_contract};
 use ql_typing::{TypeFault, resolve};
 use std::alloc::Global;
@@ -16,7 +20,18 @@ use std::alloc::Global;
 // The most bytes of a contract of which something is said.
 const BYTES: usize = 65_536;
 
-/// The text of the contract that stands behind an offset, up to the end of its line; nothing where it is long.
+// The most bytes of a source.
+const SOURCE_BYTES: usize = 1_048_576;
+
+// What stands around a contract in a source.
+const BEFORE: &[u8] = b"type t { op f(): unit { contract ";
+
+const AFTER: &[u8] = b"; answer unit; } }";
+
+// How many tokens stand before it there.
+const TOKENS_BEFORE: usize = 11;
+
+/// The text of the contract that stands after an offset, up to the end of its line; nothing where it is long.
 pub(crate) fn contract_at(text: &[u8], from: usize) -> &[u8]
     ensures { length result.now ≤ 65536 }
 {
@@ -31,7 +46,22 @@ pub(crate) fn contract_at(text: &[u8], from: usize) -> &[u8]
     }
 }
 
-/// Appends what can be said of a fault in a contract that stands behind an offset.
+// A contract of a file, and where it begins.
+#[derive(Clone, Copy)]
+struct Placed<'a> {
+    file: File<'a>,
+    text: &'a [u8],
+    from: usize,
+}
+
+// The first fault of a contract: its offset, and the rule that it breaks in a source.
+#[derive(Clone, Copy)]
+struct ContractFault {
+    at: usize,
+    rule: &'static [u8],
+}
+
+/// Appends what can be said of a fault in a contract that stands after an offset.
 pub(crate) fn push_contract_fault(
     alloc: Global,
     note: &mut Vec<u8>,
@@ -39,54 +69,168 @@ pub(crate) fn push_contract_fault(
     fault: Fault,
     from: usize,
 ) -> Result<(), NoMemory> {
-    let contract = contract_at(file.text, from);
-    let at = fault_in(alloc, contract)?;
-    let found = tokens_of(alloc, contract)?;
-    let word = word_at(contract, &found, at);
-    let spot = Spot {
-        from: from.saturating_add(at),
-        bytes: word.len(),
-    };
-    push_fault(
-        note,
-        file,
-        spot,
-        fault.rule,
-        sentence(fault.part, fault.rule),
-    )?;
-    if fault.rule != b"Unexpected".as_slice() || at > contract.len() {
-        return Ok(());
+    let text = contract_at(file.text, from);
+    let contract = Placed { file, text, from };
+    let found = fault_in(alloc, text)?;
+    let mut said = Vec::new(alloc);
+    if is_lexical(found.rule) {
+        let spot = push_lexical(
+            &mut said,
+            file.text,
+            found.rule,
+            from.saturating_add(found.at),
+        )?;
+        return push_fault(note, file, spot, fault.rule, &said);
     }
-    // The grammar of contracts, inside that of sources.
-    let mut before = Vec::from_slice(alloc, b"type t { op f(): unit { contract ")?;
-    push_bytes(&mut before, &contract[..at])?;
-    push_syntax(alloc, note, &before, word)
+    let tokens = tokens_of(alloc, text)?;
+    if found.rule == b"Unexpected".as_slice() {
+        return push_contract_syntax(alloc, note, contract, found.at, &tokens);
+    }
+    push_contract_misuse(alloc, note, contract, found, &tokens)
 }
 
-// The offset of the first fault of a contract; 0 where there is none.
-fn fault_in(alloc: Global, contract: &[u8]) -> Result<usize, NoMemory>
+// What was expected in a contract: the grammar of contracts stands inside that of sources.
+fn push_contract_syntax(
+    alloc: Global,
+    note: &mut Vec<u8>,
+    contract: Placed,
+    at: usize,
+    tokens: &[Token],
+) -> Result<(), NoMemory> {
+    let word = word_at(contract.text, tokens, at);
+    let rule = b"Unexpected".as_slice();
+    push_contract_place(note, contract, at, word, rule, form_sentence(rule, word))?;
+    if at > contract.text.len() {
+        return Ok(());
+    }
+    let mut before = Vec::from_slice(alloc, BEFORE)?;
+    push_bytes(&mut before, &contract.text[..at])?;
+    let mut rest = Vec::from_slice(alloc, after_word(&contract.text[at..], word))?;
+    push_bytes(&mut rest, AFTER)?;
+    let found = Break {
+        before: &before,
+        word,
+        rest: &rest,
+        is_line: true,
+    };
+    push_syntax(alloc, note, found)
+}
+
+fn push_contract_place(
+    note: &mut Vec<u8>,
+    contract: Placed,
+    at: usize,
+    word: &[u8],
+    rule: &[u8],
+    said: &[u8],
+) -> Result<(), NoMemory> {
+    let spot = Spot {
+        from: contract.from.saturating_add(at),
+        bytes: word.len(),
+    };
+    push_fault(note, contract.file, spot, rule, said)
+}
+
+// A fault of the names in a contract, by its tokens inside a source.
+fn push_contract_misuse(
+    alloc: Global,
+    note: &mut Vec<u8>,
+    contract: Placed,
+    fault: ContractFault,
+    tokens: &[Token],
+) -> Result<(), NoMemory> {
+    let mut whole = Vec::from_slice(alloc, BEFORE)?;
+    push_bytes(&mut whole, contract.text)?;
+    if whole.len() > SOURCE_BYTES {
+        return Ok(());
+    }
+    let all = tokens_of(alloc, &whole)?;
+    let found = pieces(alloc, &whole, &all)?;
+    let k = number_at(tokens, fault.at).saturating_add(TOKENS_BEFORE);
+    let word = word_at(contract.text, tokens, fault.at);
+    let mut said = Vec::new(alloc);
+    if fault.rule == b"Unknown".as_slice() {
+        push_unknown(&mut said, &found, k)?;
+    } else {
+        push_bytes(&mut said, sentence(b"source", fault.rule))?;
+    }
+    push_contract_place(
+        note,
+        contract,
+        fault.at,
+        word,
+        shown_rule(fault.rule),
+        &said,
+    )?;
+    if fault.rule == b"Unknown".as_slice() {
+        return push_instead(alloc, note, &found, k);
+    }
+    match first_of(&found, k) {
+        Some(first) if fault.rule == b"Twice".as_slice() => push_first_at(
+            note,
+            contract.file,
+            contract.from.saturating_add(offset_in(tokens, first)),
+        ),
+        _ => Ok(()),
+    }
+}
+
+// What the answer calls a rule: what is wrong in the form of a contract is `Unexpected`.
+fn shown_rule(rule: &'static [u8]) -> &'static [u8] {
+    if rule == b"Deep".as_slice() || rule == b"Wide".as_slice() {
+        b"Unexpected".as_slice()
+    } else {
+        rule
+    }
+}
+
+// The number of the token at an offset.
+fn number_at(tokens: &[Token], at: usize) -> usize {
+    for (k, token) in tokens.iter().enumerate() {
+        if token.from as usize == at {
+            return k;
+        }
+    }
+    tokens.len()
+}
+
+// The offset of a token of a contract, by its number inside a source.
+fn offset_in(tokens: &[Token], k: usize) -> usize {
+    match tokens.get(k.saturating_sub(TOKENS_BEFORE)) {
+        Some(token) => token.from as usize,
+        None => 0,
+    }
+}
+
+// The first fault of a contract; where there is none, a place with no rule.
+fn fault_in(alloc: Global, contract: &[u8]) -> Result<ContractFault, NoMemory>
     requires { length contract.now < 2 ^ 32 }
 {
     let tree = match parse_contract(alloc, contract) {
         Ok(tree) => tree,
-        Err(fault) => return offset_of_parse(fault),
+        Err(fault) => return parse_fault(fault),
     };
     let mut ops = Names::new(alloc);
     match resolve(alloc, &tree, &mut ops, false) {
-        Ok(_) => Ok(0),
+        Ok(_) => Ok(contract_fault(0, b"")),
         Err(TypeFault::NoMemory) => Err(NoMemory),
-        Err(fault) => Ok(crate::typing::offset_of(fault)),
+        Err(fault) => Ok(contract_fault(offset_of(fault), rule_of(fault))),
     }
 }
 
-fn offset_of_parse(fault: ParseFault) -> Result<usize, NoMemory> {
-    match fault {
-        ParseFault::NoMemory | ParseFault::Lex(LexFault::NoMemory) => Err(NoMemory),
-        ParseFault::Unexpected(at)
-        | ParseFault::Deep(at)
-        | ParseFault::Wide(at)
-        | ParseFault::Lex(
-            LexFault::BadChar(at) | LexFault::LongWord(at) | LexFault::BadNumber(at),
-        ) => Ok(at as usize),
-    }
+fn contract_fault(at: usize, rule: &'static [u8]) -> ContractFault {
+    ContractFault { at, rule }
+}
+
+fn parse_fault(fault: ParseFault) -> Result<ContractFault, NoMemory> {
+    let (at, rule) = match fault {
+        ParseFault::NoMemory | ParseFault::Lex(LexFault::NoMemory) => return Err(NoMemory),
+        ParseFault::Unexpected(at) => (at, b"Unexpected".as_slice()),
+        ParseFault::Deep(at) => (at, b"Deep".as_slice()),
+        ParseFault::Wide(at) => (at, b"Wide".as_slice()),
+        ParseFault::Lex(LexFault::BadChar(at)) => (at, b"BadChar".as_slice()),
+        ParseFault::Lex(LexFault::LongWord(at)) => (at, b"LongWord".as_slice()),
+        ParseFault::Lex(LexFault::BadNumber(at)) => (at, b"BadNumber".as_slice()),
+    };
+    Ok(contract_fault(at as usize, rule))
 }

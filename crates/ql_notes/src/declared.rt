@@ -2,11 +2,12 @@
 
 use crate::above::first_word;
 use crate::pieces::{last_of, next_of, piece};
-use crate::words::{line_of, word};
+use crate::words::word;
 use ql_base::NoMemory;
+use ql_excerpt::line_of;
 use std::alloc::Global;
 
-/// The names that stand behind a keyword, of the tokens of a source.
+/// The names that stand after a keyword, of the tokens of a source.
 pub(crate) fn declared<'a>(
     alloc: Global,
     source: &[&'a [u8]],
@@ -21,7 +22,7 @@ pub(crate) fn declared<'a>(
     Ok(names)
 }
 
-/// Where a source declares a name behind a keyword: the keyword's place.
+/// Where a source declares a name after a keyword: the keyword's place.
 pub(crate) fn place_in(source: &[&[u8]], keyword: &[u8], name: &[u8]) -> Option<usize> {
     for (k, token) in source.iter().enumerate() {
         if *token == keyword && piece(source, k.saturating_add(1)) == name {
@@ -46,7 +47,7 @@ pub(crate) fn parameters(source: &[&[u8]], op: usize) -> (usize, usize) {
     (from, to)
 }
 
-/// The names behind a word that begins a line, as `object`.
+/// The names after a word that begins a line, as `object`.
 pub(crate) fn named<'a>(
     alloc: Global,
     text: &'a [u8],
@@ -65,7 +66,7 @@ pub(crate) fn named<'a>(
 }
 
 /// The word that follows another one, in the first line of a text that begins with two words; nothing where there is none.
-pub(crate) fn behind<'a>(text: &'a [u8], first: &[u8], second: &[u8]) -> &'a [u8] {
+pub(crate) fn word_after<'a>(text: &'a [u8], first: &[u8], second: &[u8]) -> &'a [u8] {
     for k in 0..text.len() {
         if k == 0 || text[k - 1] == b'\n' {
             let line = line_of(&text[k..]);
@@ -81,13 +82,13 @@ pub(crate) fn behind<'a>(text: &'a [u8], first: &[u8], second: &[u8]) -> &'a [u8
 pub(crate) fn word_of(line: &[u8], number: usize) -> &[u8] {
     let mut rest = line;
     for _ in 0..number {
-        rest = behind_first(rest);
+        rest = after_first(rest);
     }
     first_word(rest)
 }
 
-// What stands behind the first word of a line.
-fn behind_first(line: &[u8]) -> &[u8] {
+// What stands after the first word of a line.
+fn after_first(line: &[u8]) -> &[u8] {
     for k in 0..line.len() {
         if line[k] != b' ' {
             return word(&line[k..]).1;

@@ -1,9 +1,11 @@
 // What the grammar has where it doesn't have what a source has there.
 //
-// Each terminal is tried: the text before the place is read with the terminal behind it. Where the first fault isn't at the
+// Each terminal is tried: the text before the place is read with the terminal after it. Where the first fault isn't at the
 // terminal, the grammar has it there.
 ghost use Rattle.std.specs.Prelude.{◌≤◌, length};
 
+use crate::guesses::Guess;
+use crate::words::has_word;
 use ql_base::{NoMemory, push_bytes};
 use ql_lex::LexFault;
 use ql_parse::{ParseFault, parse_program};
@@ -80,7 +82,7 @@ static TERMINALS: [&str; 64] = [
 // How many are listed at most.
 const MOST: usize = 12;
 
-/// The terminals that the grammar has behind the first bytes of a source.
+/// The terminals that the grammar has after the first bytes of a source.
 pub(crate) fn expected(alloc: Global, before: &[u8]) -> Result<Vec<&'static str>, NoMemory>
     requires { length before.now ≤ 1048576 }
 {
@@ -93,7 +95,7 @@ pub(crate) fn expected(alloc: Global, before: &[u8]) -> Result<Vec<&'static str>
     Ok(found)
 }
 
-// Whether the grammar has a terminal behind these bytes.
+// Whether the grammar has a terminal after these bytes.
 fn is_allowed(alloc: Global, before: &[u8], terminal: &str) -> Result<bool, NoMemory>
     requires { length before.now ≤ 1048576 }
 {
@@ -113,29 +115,69 @@ fn is_allowed(alloc: Global, before: &[u8], terminal: &str) -> Result<bool, NoMe
     }
 }
 
-/// Appends what was expected, a few of them.
-pub(crate) fn push_expected(note: &mut Vec<u8>, terminals: &[&str]) -> Result<(), NoMemory> {
-    for k in 0..terminals.len() {
+/// Appends what was expected, a few of them: first what was perhaps meant, then what ends or parts
+/// something. In a line its end stands for a semicolon.
+pub(crate) fn push_expected(
+    alloc: Global,
+    note: &mut Vec<u8>,
+    terminals: &[&'static str],
+    guess: Guess,
+    is_line: bool,
+) -> Result<(), NoMemory> {
+    let ordered = ordered(alloc, terminals, guess)?;
+    for k in 0..ordered.len() {
         if k == MOST {
             return push_bytes(note, b" and more");
         }
         if k > 0 {
             push_bytes(
                 note,
-                if k + 1 == terminals.len() {
+                if k + 1 == ordered.len() {
                     b" or "
                 } else {
                     b", "
                 },
             )?;
         }
-        push_terminal(note, terminals[k])?;
+        push_terminal(note, ordered[k], is_line)?;
     }
     Ok(())
 }
 
-fn push_terminal(note: &mut Vec<u8>, terminal: &str) -> Result<(), NoMemory> {
+// Terminals by how likely they were meant.
+fn ordered(
+    alloc: Global,
+    terminals: &[&'static str],
+    guess: Guess,
+) -> Result<Vec<&'static str>, NoMemory> {
+    let mut ordered = Vec::new(alloc);
+    for rank in 0..3 {
+        for terminal in terminals {
+            if rank_of(terminal, guess) == rank {
+                ordered.push(*terminal)?;
+            }
+        }
+    }
+    Ok(ordered)
+}
+
+fn rank_of(terminal: &str, guess: Guess) -> usize {
+    let is_guessed = match guess {
+        Guess::Instead(word) | Guess::Missing(word) => word.as_bytes() == terminal.as_bytes(),
+        _ => false,
+    };
+    if is_guessed {
+        0
+    } else if has_word(b"; ) } ] . , :", terminal.as_bytes()) {
+        1
+    } else {
+        2
+    }
+}
+
+fn push_terminal(note: &mut Vec<u8>, terminal: &str, is_line: bool) -> Result<(), NoMemory> {
     match terminal {
+        ";" if is_line => push_bytes(note, b"the end of the line"),
         "x" => push_bytes(note, b"a name"),
         "1" => push_bytes(note, b"a number"),
         "\"\"" => push_bytes(note, b"a text"),

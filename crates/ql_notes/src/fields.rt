@@ -1,8 +1,8 @@
 // The fields of a line.
 ghost use Rattle.std.specs.Prelude.{◌≤◌, length};
 
-use crate::words::line_of;
 use ql_base::NoMemory;
+use ql_excerpt::line_of;
 use std::alloc::Global;
 
 /// A field of a line, and where it stands in the file.
@@ -30,7 +30,7 @@ pub(crate) fn fields(alloc: Global, text: &[u8], start: usize) -> Result<Vec<Fie
             }
             from = k + 1;
         }
-        nesting = nesting.behind(line[k]);
+        nesting = nesting.after(line[k]);
     }
     if from < line.len() {
         fields.push(field_at(&line[from..], start, from))?;
@@ -70,7 +70,7 @@ impl Nesting {
         !self.is_quoted && self.depth == 0
     }
 
-    fn behind(self, byte: u8) -> Nesting {
+    fn after(self, byte: u8) -> Nesting {
         let Nesting { is_quoted, depth } = self;
         if byte == b'"' {
             return Nesting {

@@ -21,6 +21,7 @@ ARGUMENT.. a number, `true`, `false` or a text in quotes
 DIGITS.. a number
 NAME.. a name
 JOIN `copy` or `bare`
+TARGET `op` or `txn`
 VERSION `1` or `2`
 CONTRACT.. a contract";
 
@@ -77,20 +78,28 @@ fn fits_text(wanted: &[u8], field: &[u8]) -> bool {
 }
 
 fn is_listed(wanted: &[u8], field: &[u8]) -> bool {
+    let words = listed_words(wanted);
+    words.is_empty() || has_word(words, field)
+}
+
+/// The words that a word of a form lists, none where it lists none.
+pub(crate) fn listed_words(wanted: &[u8]) -> &'static [u8] {
     if wanted == b"OP_LEVEL".as_slice() {
-        has_word(b"eventual causal wide strong", field)
+        b"eventual causal wide strong".as_slice()
     } else if wanted == b"TXN_LEVEL".as_slice() {
-        has_word(b"rc mav rr", field)
+        b"rc mav rr".as_slice()
     } else if wanted == b"JOIN".as_slice() {
-        has_word(b"copy bare", field)
+        b"copy bare".as_slice()
+    } else if wanted == b"TARGET".as_slice() {
+        b"op txn".as_slice()
     } else if wanted == b"VERSION".as_slice() {
-        has_word(b"1 2", field)
+        b"1 2".as_slice()
     } else {
-        true
+        b"".as_slice()
     }
 }
 
-// Whether a field stands in round brackets, with spaces behind commas and colons alone.
+// Whether a field stands in round brackets, with spaces after commas and colons alone.
 fn is_bracketed(field: &[u8]) -> bool {
     field.starts_with(b"(") && field.ends_with(b")") && !has_stray_space(field)
 }

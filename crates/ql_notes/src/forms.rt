@@ -6,7 +6,8 @@
 use crate::above::Above;
 use crate::fields::{Field, field_text};
 use crate::fits::fits;
-use crate::words::{line_of, word};
+use crate::words::word;
+use ql_excerpt::line_of;
 
 const OF_EXECUTION: &str =
     "effect NEXT NAME NAME VALUES = VALUE emit PAYLOAD session SESSION txn TXN stamp NUMBER vis SEEN..
@@ -31,9 +32,13 @@ txn NAME TXN_LEVEL
 NUMBER LITERAL.. : HINT..
 end";
 
+const OF_BASELINE: &str = "op NAME OP_LEVEL
+txn NAME TXN_LEVEL
+none TARGET NAME";
+
 /// The forms that a line may have, each on a line, by what stands above it.
 pub(crate) fn forms(part: &[u8], above: Above) -> &'static str {
-    if above.is_ended {
+    if above.is_ended && part != b"baseline".as_slice() {
         ""
     } else if part == b"execution".as_slice() {
         if above.is_begun {
@@ -47,8 +52,10 @@ pub(crate) fn forms(part: &[u8], above: Above) -> &'static str {
         of_holds(above)
     } else if part == b"certificate".as_slice() {
         of_certificate(above)
-    } else {
+    } else if part == b"proof".as_slice() {
         of_proof(above)
+    } else {
+        OF_BASELINE
     }
 }
 
@@ -115,11 +122,11 @@ pub(crate) fn find_misfit(forms: &'static str, fields: &[Field], next: u64) -> M
 fn misfit_of(form: &'static [u8], fields: &[Field], next: u64) -> Misfit {
     let mut form = form;
     for (k, field) in fields.iter().enumerate() {
-        let (first, behind) = word(form);
+        let (first, after) = word(form);
         let is_list = first.ends_with(b"..");
-        // A list ends where what stands behind it fits.
-        if is_list && word(behind).0 == field.text {
-            form = word(behind).1;
+        // A list ends where what stands after it fits.
+        if is_list && word(after).0 == field.text {
+            form = word(after).1;
         } else if !fits(first, field.text, next) {
             return Misfit {
                 field: k,
@@ -127,7 +134,7 @@ fn misfit_of(form: &'static [u8], fields: &[Field], next: u64) -> Misfit {
                 is_choice: false,
             };
         } else if !is_list {
-            form = behind;
+            form = after;
         }
     }
     Misfit {

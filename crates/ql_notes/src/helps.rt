@@ -1,16 +1,15 @@
 // What would be right in a line at fault.
 
 use crate::above::Above;
+use crate::arguments::push_operation;
 use crate::columns::FaultyLine;
-use crate::declared::{declared, named, parameters, place_in, type_at};
-use crate::excerpt::place_of;
+use crate::declared::{declared, named, type_at, word_after};
 use crate::fields::field_text;
-use crate::likeness::{likest, push_meant};
+use crate::names::push_known;
 use crate::pieces::piece;
 use crate::stamp::right_stamp;
-use crate::wanted::push_quoted;
-use crate::words::has_word;
 use ql_base::{NoMemory, push_bytes, push_number};
+use ql_excerpt::place_of;
 use std::alloc::Global;
 
 /// Appends what would be right in the field of a number: the stamp, the line's number, a name that was perhaps meant, or what
@@ -35,7 +34,7 @@ pub(crate) fn push_help(
     }
     if line.rule == b"Unknown".as_slice() && line.part != b"holds".as_slice() {
         let names = candidates(alloc, line, k)?;
-        return push_meant(note, likest(name_in(field_text(line.fields, k)), &names));
+        return push_known(note, name_in(field_text(line.fields, k)), &names);
     }
     if line.rule == b"Kind".as_slice() {
         return push_operation(note, line);
@@ -86,33 +85,20 @@ fn candidates<'a>(
     } else if first == b"begin".as_slice() && k == 4 {
         declared(alloc, line.source, b"transaction")
     } else if first == b"call".as_slice() && k == 5 {
-        declared(alloc, line.source, b"op")
+        operations_of(alloc, line)
     } else {
         named(alloc, line.above, b"object")
     }
 }
 
-// Of which type the operation of a call is, and what it takes.
-fn push_operation(note: &mut Vec<u8>, line: FaultyLine) -> Result<(), NoMemory> {
-    let name = field_text(line.fields, 5);
-    let Some(op) = place_in(line.source, b"op", name) else {
-        return Ok(());
-    };
-    push_bytes(note, b"  ")?;
-    push_quoted(note, name)?;
-    push_bytes(note, b" is an operation of ")?;
-    push_quoted(note, type_at(line.source, op))?;
-    push_bytes(note, b" and takes `")?;
-    let (from, to) = parameters(line.source, op);
-    for k in from..to {
-        let token = piece(line.source, k);
-        if k > from
-            && !has_word(b", :", token)
-            && piece(line.source, k.saturating_sub(1)) != b"(".as_slice()
-        {
-            push_bytes(note, b" ")?;
+// The operations of the type of a call's object.
+fn operations_of<'a>(alloc: Global, line: FaultyLine<'a>) -> Result<Vec<&'a [u8]>, NoMemory> {
+    let declared = word_after(line.above, b"object", field_text(line.fields, 4));
+    let mut names = Vec::new(alloc);
+    for (k, token) in line.source.iter().enumerate() {
+        if *token == b"op".as_slice() && type_at(line.source, k) == declared {
+            names.push(piece(line.source, k.saturating_add(1)))?;
         }
-        push_bytes(note, token)?;
     }
-    push_bytes(note, b")`\n")
+    Ok(names)
 }

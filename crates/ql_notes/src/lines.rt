@@ -1,17 +1,18 @@
 // The note on a line of a line file.
 ghost use Rattle.std.specs.Prelude.{◌≤◌, length};
 
-use crate::above::lines_above;
+use crate::above::{Above, lines_above};
 use crate::answer::Fault;
+use crate::breaches::{push_breach, push_first_line};
 use crate::columns::{FaultyLine, column, replicas};
 use crate::contracts::push_contract_fault;
-use crate::excerpt::{File, Spot, place_of_line, push_fault};
 use crate::fields::{Field, field_text, fields};
 use crate::forms::{find_misfit, forms};
 use crate::helps::push_help;
 use crate::rules::sentence;
 use crate::wanted::push_wanted;
 use ql_base::NoMemory;
+use ql_excerpt::{File, Spot, place_of_line, push_fault};
 use std::alloc::Global;
 
 /// Appends what can be said of a fault in a line file. `source` has the tokens of the source that it belongs to.
@@ -32,18 +33,13 @@ pub(crate) fn push_line_fault<'x>(
     {
         return push_contract_fault(alloc, note, file, fault, end_of(&fields, 0, start));
     }
-    let text = sentence(fault.part, fault.rule);
     if fault.rule == b"Unexpected".as_slice() {
-        let next = above.effects.saturating_add(1);
-        let found = find_misfit(forms(fault.part, above), &fields, next);
-        push_fault(
-            note,
-            file,
-            spot(&fields, found.field, start),
-            fault.rule,
-            text,
-        )?;
-        return push_wanted(alloc, note, field_text(&fields, found.field), found, next);
+        let line = Line {
+            start,
+            fields: &fields,
+            above,
+        };
+        return push_form_fault(alloc, note, file, fault, line);
     }
     let line = FaultyLine {
         part: fault.part,
@@ -54,11 +50,56 @@ pub(crate) fn push_line_fault<'x>(
         replicas: replicas(above_text).saturating_add(above.joins),
     };
     let k = column(line);
-    push_fault(note, file, spot(&fields, k, start), fault.rule, text)?;
+    let mut said = Vec::new(alloc);
+    push_breach(&mut said, line, k, file.text)?;
+    push_fault(note, file, spot(&fields, k, start), fault.rule, &said)?;
+    push_first_line(note, file, line, k)?;
     push_help(alloc, note, line, k, above, file.text)
 }
 
-// Where a line begins; a line behind the last one at the text's end.
+// Where a line begins, its fields, and what stands above it.
+#[derive(Clone, Copy)]
+struct Line<'a> {
+    start: usize,
+    fields: &'a [Field<'a>],
+    above: Above,
+}
+
+// Appends what can be said of a line that isn't of its form.
+fn push_form_fault(
+    alloc: Global,
+    note: &mut Vec<u8>,
+    file: File,
+    fault: Fault,
+    line: Line,
+) -> Result<(), NoMemory> {
+    let next = line.above.effects.saturating_add(1);
+    let found = find_misfit(forms(fault.part, line.above), line.fields, next);
+    let is_end = line.start == file.text.len();
+    let said = if !is_end {
+        sentence(fault.part, fault.rule)
+    } else if last_form(found.form) == b"end".as_slice() {
+        b"the file ends here, and the line `end` is missing".as_slice()
+    } else {
+        b"the file ends here".as_slice()
+    };
+    let spot = spot(line.fields, found.field, line.start);
+    push_fault(note, file, spot, fault.rule, said)?;
+    push_wanted(alloc, note, line.fields, found, next)
+}
+
+// The last of the forms that a line may have.
+fn last_form(forms: &[u8]) -> &[u8] {
+    let mut start = 0;
+    for k in 0..forms.len() {
+        if forms[k] == b'\n' {
+            start = k + 1;
+        }
+    }
+    &forms[start..]
+}
+
+// Where a line begins; a line after the last one at the text's end.
 fn start_of(text: &[u8], number: u64) -> usize
     ensures { result ≤ length text.now }
 {
@@ -70,7 +111,7 @@ fn start_of(text: &[u8], number: u64) -> usize
     }
 }
 
-// The bytes of a field; behind the last one there is one.
+// The bytes of a field; after the last one there is one.
 fn spot(fields: &[Field], k: usize, start: usize) -> Spot {
     match fields.get(k) {
         Some(field) => Spot {

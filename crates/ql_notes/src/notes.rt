@@ -2,14 +2,16 @@
 ghost use Rattle.std.specs.Prelude.{◌≤◌, IfOk, length};
 
 use crate::answer::{Fault, fault_of};
-use crate::excerpt::File;
 use crate::help::{HELP, push_command};
 use crate::lines::push_line_fault;
 use crate::pieces::{pieces, tokens_of};
+use crate::refusals::{Refusal, Source, push_refusal, refusal_in};
 use crate::sources::push_source_fault;
 use crate::unmet::push_unmet;
-use crate::verdicts::push_verdict;
+use crate::verdicts::{NO, push_verdict};
+use crate::words::has_word;
 use ql_base::NoMemory;
+use ql_excerpt::File;
 use ql_ports::{ReadError, Shelf, read_whole};
 use std::alloc::Global;
 
@@ -44,13 +46,32 @@ pub fn note<S: Shelf>(
         note.extend_from_slice(HELP.as_bytes())?;
     } else if let Some(fault) = fault_of(printed.first) {
         push_bad_file(alloc, &mut note, words, fault, shelf)?;
-    } else {
+    } else if let Some(refusal) = refusal_of(words, status, printed) {
+        push_refused(alloc, &mut note, words, refusal, shelf)?;
+    } else if status != NO || command(words) != b"explain".as_slice() {
         push_verdict(&mut note, status, printed)?;
         if status == 0 && printed.first == b"holds\n".as_slice() {
             push_holding(alloc, &mut note, words, shelf)?;
         }
     }
     Ok(note)
+}
+
+// The command's name.
+fn command(words: &Vec<String>) -> &[u8] {
+    match words.first() {
+        Some(word) => word.as_bytes(),
+        None => b"".as_slice(),
+    }
+}
+
+// What was refused, of a command that judges.
+fn refusal_of<'a>(words: &Vec<String>, status: u8, printed: Printed<'a>) -> Option<Refusal<'a>> {
+    if status == NO && has_word(b"check proof", command(words)) {
+        refusal_in(printed.last_line)
+    } else {
+        None
+    }
 }
 
 // What can be said of a file that is at fault.
@@ -61,38 +82,73 @@ fn push_bad_file<S: Shelf>(
     fault: Fault,
     shelf: &mut S,
 ) -> Result<(), NoMemory> {
-    let Some(source) = file_of(words, true) else {
-        return Ok(());
-    };
-    let text = source_text(alloc, shelf, source)?;
     if fault.part == b"source".as_slice() {
-        return push_source_fault(
-            alloc,
-            note,
-            File {
-                name: source.as_bytes(),
-                text: &text,
-            },
-            fault,
-        );
+        return push_bad_source(alloc, note, words, fault, shelf);
     }
-    let is_alone = fault.part == b"holds".as_slice() || fault.part == b"proof".as_slice();
-    let Some(name) = file_of(words, is_alone) else {
+    let Some(name) = name_of_part(words, fault.part) else {
         return Ok(());
     };
+    let text = source_text(alloc, shelf, file_of(words, 0).unwrap_or(name))?;
     let found = tokens_of(alloc, &text)?;
     let tokens = pieces(alloc, &text, &found)?;
     let other = file_text(alloc, shelf, name)?;
-    push_line_fault(
-        alloc,
-        note,
-        File {
-            name: name.as_bytes(),
-            text: &other,
-        },
-        fault,
-        &tokens,
-    )
+    push_line_fault(alloc, note, file(name, &other), fault, &tokens)
+}
+
+fn file<'a>(name: &'a str, text: &'a [u8]) -> File<'a> {
+    File {
+        name: name.as_bytes(),
+        text,
+    }
+}
+
+// What can be said of a source that is at fault.
+fn push_bad_source<S: Shelf>(
+    alloc: Global,
+    note: &mut Vec<u8>,
+    words: &Vec<String>,
+    fault: Fault,
+    shelf: &mut S,
+) -> Result<(), NoMemory> {
+    let Some(name) = file_of(words, 0) else {
+        return Ok(());
+    };
+    let text = source_text(alloc, shelf, name)?;
+    push_source_fault(alloc, note, file(name, &text), fault)
+}
+
+// The file of a part of the input that isn't a source.
+fn name_of_part<'a>(words: &'a Vec<String>, part: &[u8]) -> Option<&'a str> {
+    if part == b"baseline".as_slice() {
+        baseline_of(words)
+    } else if part == b"holds".as_slice() || part == b"proof".as_slice() {
+        file_of(words, 0)
+    } else {
+        file_of(words, 1)
+    }
+}
+
+// What can be said of a certificate or a proof that is refused.
+fn push_refused<S: Shelf>(
+    alloc: Global,
+    note: &mut Vec<u8>,
+    words: &Vec<String>,
+    refusal: Refusal,
+    shelf: &mut S,
+) -> Result<(), NoMemory> {
+    let Some(source) = file_of(words, 0) else {
+        return Ok(());
+    };
+    let name = file_of(words, 1).unwrap_or(source);
+    let text = source_text(alloc, shelf, source)?;
+    let found = tokens_of(alloc, &text)?;
+    let tokens = pieces(alloc, &text, &found)?;
+    let other = file_text(alloc, shelf, name)?;
+    let source = Source {
+        name: source.as_bytes(),
+        tokens: &tokens,
+    };
+    push_refusal(alloc, note, file(name, &other), source, refusal)
 }
 
 // What can be said of a contract that holds.
@@ -102,36 +158,39 @@ fn push_holding<S: Shelf>(
     words: &Vec<String>,
     shelf: &mut S,
 ) -> Result<(), NoMemory> {
-    let is_holds = match words.first() {
-        Some(word) => word.as_bytes() == b"holds".as_slice(),
-        None => false,
-    };
-    match file_of(words, true) {
-        Some(name) if is_holds => {
+    match file_of(words, 0) {
+        Some(name) if command(words) == b"holds".as_slice() => {
             let text = file_text(alloc, shelf, name)?;
-            push_unmet(
-                alloc,
-                note,
-                File {
-                    name: name.as_bytes(),
-                    text: &text,
-                },
-            )
+            push_unmet(alloc, note, file(name, &text))
         }
         _ => Ok(()),
     }
 }
 
-// The first file behind the command and its options, or the second.
-fn file_of(words: &Vec<String>, is_first: bool) -> Option<&str> {
-    let mut first = None;
+// The file of a number, from 0, after the command and its options.
+fn file_of(words: &Vec<String>, number: usize) -> Option<&str> {
+    let mut count = 0usize;
+    let mut is_operand = false;
     for word in words.iter().skip(1) {
-        if word.as_bytes().first() != Some(&b'-') {
-            if is_first || first.is_some() {
+        if word.as_bytes().first() != Some(&b'-') && !is_operand {
+            if count == number {
                 return Some(word.as_str());
             }
-            first = Some(word.as_str());
+            count = count.saturating_add(1);
         }
+        is_operand = word.as_bytes() == b"--baseline".as_slice();
+    }
+    None
+}
+
+// The file after `--baseline`.
+fn baseline_of(words: &Vec<String>) -> Option<&str> {
+    let mut is_operand = false;
+    for word in words.iter() {
+        if is_operand {
+            return Some(word.as_str());
+        }
+        is_operand = word.as_bytes() == b"--baseline".as_slice();
     }
     None
 }

@@ -94,8 +94,8 @@ pub(crate) fn before(pieces: &[&[u8]], k: usize) -> usize {
     found
 }
 
-/// The piece behind a place, of those that are something.
-pub(crate) fn behind(pieces: &[&[u8]], k: usize) -> usize {
+/// The piece after a place, of those that are something.
+pub(crate) fn after(pieces: &[&[u8]], k: usize) -> usize {
     for (j, piece) in pieces.iter().enumerate() {
         if k < j && !piece.is_empty() {
             return j;

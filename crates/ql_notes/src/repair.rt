@@ -4,7 +4,7 @@
 // another name; an expression becomes one of its kind, and a statement nothing; an unknown effect of a contract becomes another
 // effect, an unknown operation nothing, and where that isn't enough the contract becomes `true`.
 
-use crate::pieces::{before, behind, clear, last_of, next_of, piece, put};
+use crate::pieces::{after, before, clear, last_of, next_of, piece, put};
 use crate::words::has_word;
 use ql_typing::TypeFault;
 
@@ -67,7 +67,7 @@ pub(crate) fn is_chosen(pieces: &[&[u8]], k: usize) -> bool {
 
 // Leaves an operation out of those of a variable, and with the last one their colon.
 fn drop_chosen(pieces: &mut [&[u8]], k: usize) {
-    let (mark, next) = (before(pieces, k), behind(pieces, k));
+    let (mark, next) = (before(pieces, k), after(pieces, k));
     let other = if piece(pieces, mark) == b":".as_slice()
         && piece(pieces, next) == b"|".as_slice()
     {
@@ -81,7 +81,7 @@ fn drop_chosen(pieces: &mut [&[u8]], k: usize) {
 
 // Leaves an operation out of those that a transaction uses, or puts the first of all in its place.
 fn drop_used(pieces: &mut [&[u8]], k: usize) {
-    let (mark, next) = (before(pieces, k), behind(pieces, k));
+    let (mark, next) = (before(pieces, k), after(pieces, k));
     let other = if piece(pieces, mark) == b",".as_slice() {
         mark
     } else {
@@ -218,6 +218,13 @@ fn initial(pieces: &mut [&[u8]], start: usize, k: usize) {
     let sign = next_of(pieces, start, b"=").unwrap_or(k);
     let value = value_of(piece(pieces, colon.saturating_add(1)));
     replace(pieces, sign.saturating_add(1), end_of(pieces, k), value);
+}
+
+/// Gives the field or the emitted value whose value begins at a piece another kind.
+pub(crate) fn redeclare<'a>(pieces: &mut [&'a [u8]], k: usize, kind: &'a [u8]) {
+    let sign = last_of(pieces, k, b"=").unwrap_or(k);
+    let colon = last_of(pieces, sign, b":").unwrap_or(sign);
+    replace(pieces, colon.saturating_add(1), sign, kind);
 }
 
 // A value of the kind that begins with a word.

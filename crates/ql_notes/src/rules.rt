@@ -21,20 +21,13 @@ pub(crate) fn sentence(part: &[u8], rule: &[u8]) -> &'static [u8] {
     }
 }
 
-const SOURCE_RULES: &str =
-    "BadChar no token begins with this byte, or it may not stand in a text, or a text isn't ended
-LongWord a name has at most 32 bytes, and a text at most 64
-BadNumber a number is at most 9223372036854775807, without leading zeros, and no letter follows it at once
-Unexpected the grammar has something else here
-Deep at most 64 brackets are open at once
-Wide an expression or a contract has at most 256 nodes
-Unknown nothing of this name is declared here
-Twice this name is declared or listed before
-Kind this isn't of the kind that is wanted here, or a call has another number of arguments
-TooMany this is one more than the limit
-TxnClosure a transaction's contract can't speak of hb and hbo
-Variables a contract has at most five variables
-TxnAtom only a transaction's contract can speak of txn";
+const SOURCE_RULES: &str = "Unexpected this may not stand here
+Deep at most 64 brackets are open at once, and this one is the 65th: leave out those that nothing needs
+Wide an expression or a contract has at most 256 names, numbers, operators and calls, and this is the 257th: make it shorter, or assign a part of it in a statement of its own
+Twice this name is declared or listed already
+Kind this isn't of the kind that is wanted here
+Variables a contract has at most 5 variables, and this is the sixth
+TxnAtom an operation's contract can't speak of `txn`: only a transaction's can";
 
 const SCHEDULE_RULES: &str = "Unknown this name isn't declared
 Kind the operation is of another type than the object, or has another number or other kinds of arguments

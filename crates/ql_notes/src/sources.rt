@@ -2,17 +2,20 @@
 ghost use Rattle.std.specs.Prelude.{◌≤◌, length};
 
 use crate::answer::Fault;
-use crate::declared::declared;
-use crate::excerpt::{File, Spot, place_of, push_fault};
-use crate::likeness::{likest, push_meant};
+use crate::clash_words::{push_clash, push_redeclared};
+use crate::first::{push_declaration, push_first};
+use crate::lexical::{is_lexical, push_lexical};
+use crate::meant::{push_instead, push_unknown};
 use crate::pieces::{part, piece, pieces, tokens_of, word_at};
-use crate::repair::{is_chosen, part_of};
 use crate::rules::sentence;
-use crate::syntax::push_syntax;
+use crate::sizes::size_sentence;
+use crate::syntax::{Break, push_syntax};
 use crate::typing::{Misuse, misuses, rule_of};
-use crate::words::has_word;
-use ql_base::{NoMemory, is_name, push_bytes};
+use crate::wanted::push_quoted;
+use ql_base::{NoMemory, push_bytes};
+use ql_excerpt::{File, Spot, place_of, push_fault};
 use ql_lex::Token;
+use ql_typing::TypeFault;
 use std::alloc::Global;
 
 /// Appends what can be said of a source's fault, and of typing all further ones, up to ten.
@@ -24,108 +27,122 @@ pub(crate) fn push_source_fault(
 ) -> Result<(), NoMemory>
     requires { length file.text.now ≤ 1048576 }
 {
+    let at = place_of(file.text, fault.at as usize).at;
+    if is_lexical(fault.rule) {
+        let mut said = Vec::new(alloc);
+        let spot = push_lexical(&mut said, file.text, fault.rule, at)?;
+        return push_fault(note, file, spot, fault.rule, &said);
+    }
     let tokens = tokens_of(alloc, file.text)?;
     let found = pieces(alloc, file.text, &tokens)?;
     let misuses = misuses(alloc, &found)?;
-    if !misuses.is_empty() {
-        return push_misuses(alloc, note, file, &tokens, &misuses);
+    if misuses.is_empty() {
+        return push_parse_fault(alloc, note, file, fault.rule, at, &tokens);
     }
-    let at = place_of(file.text, fault.at as usize).at;
-    let word = word_at(file.text, &tokens, at);
-    push_at(note, file, fault.rule, at, word)?;
-    if fault.rule == b"Unexpected".as_slice() {
-        push_syntax(alloc, note, &file.text[..at], word)?;
+    for misuse in misuses.iter() {
+        push_misuse(alloc, note, file, &tokens, &found, *misuse)?;
     }
     Ok(())
 }
 
-fn push_at(
+// Appends what can be said where a source leaves the grammar.
+fn push_parse_fault(
+    alloc: Global,
     note: &mut Vec<u8>,
     file: File,
     rule: &[u8],
     at: usize,
-    word: &[u8],
-) -> Result<(), NoMemory> {
+    tokens: &[Token],
+) -> Result<(), NoMemory>
+    requires { at ≤ length file.text.now }
+{
+    let word = word_at(file.text, tokens, at);
     let spot = Spot {
         from: at,
         bytes: word.len(),
     };
-    push_fault(note, file, spot, rule, sentence(b"source", rule))
+    push_fault(note, file, spot, rule, form_sentence(rule, word))?;
+    if rule != b"Unexpected".as_slice() {
+        return Ok(());
+    }
+    let found = Break {
+        before: &file.text[..at],
+        word,
+        rest: after_word(&file.text[at..], word),
+        is_line: false,
+    };
+    push_syntax(alloc, note, found)
 }
 
-// Appends each fault of typing.
-fn push_misuses(
+/// What a rule of forms says at a word, or at the end of a text.
+pub(crate) fn form_sentence(rule: &[u8], word: &[u8]) -> &'static [u8] {
+    if word.is_empty() {
+        b"something is missing at the end".as_slice()
+    } else {
+        sentence(b"source", rule)
+    }
+}
+
+/// What stands after a word at the start of a text.
+pub(crate) fn after_word<'a>(text: &'a [u8], word: &[u8]) -> &'a [u8] {
+    text.strip_prefix(word).unwrap_or(text)
+}
+
+// Appends a fault of typing.
+fn push_misuse(
     alloc: Global,
     note: &mut Vec<u8>,
     file: File,
     tokens: &[Token],
-    misuses: &[Misuse],
-) -> Result<(), NoMemory> {
-    let found = pieces(alloc, file.text, tokens)?;
-    for misuse in misuses {
-        let Some(token) = tokens.get(misuse.token) else {
-            return Ok(());
-        };
-        let word = part(file.text, *token);
-        let rule = rule_of(misuse.fault);
-        push_at(note, file, rule, token.from as usize, word)?;
-        if rule == b"Unknown".as_slice() {
-            push_instead(alloc, note, &found, misuse.token)?;
-        }
-    }
-    Ok(())
-}
-
-// Appends what was perhaps meant by an unknown name.
-fn push_instead(
-    alloc: Global,
-    note: &mut Vec<u8>,
     found: &[&[u8]],
-    k: usize,
+    misuse: Misuse,
 ) -> Result<(), NoMemory> {
-    let word = piece(found, k);
-    if word == b"cur".as_slice() {
-        return push_bytes(note, b"  a transaction's contract has no `cur`\n");
-    }
-    let names = names_for(alloc, found, k)?;
-    push_meant(note, likest(word, &names))
-}
-
-// The names that may stand in the place of an unknown one: where an operation is wanted the operations, else all that are
-// declared, and the functions.
-fn names_for<'a>(alloc: Global, found: &[&'a [u8]], k: usize) -> Result<Vec<&'a [u8]>, NoMemory> {
-    if is_operation(found, k) {
-        return declared(alloc, found, b"op");
-    }
-    let mut names = Vec::new(alloc);
-    for (j, word) in found.iter().enumerate() {
-        if is_declared(found, j) {
-            names.push(*word)?;
+    let k = misuse.token;
+    let Some(token) = tokens.get(k) else {
+        return Ok(());
+    };
+    let spot = Spot {
+        from: token.from as usize,
+        bytes: part(file.text, *token).len(),
+    };
+    let mut said = Vec::new(alloc);
+    push_sentence(&mut said, found, misuse)?;
+    push_fault(note, file, spot, rule_of(misuse.fault), &said)?;
+    match (misuse.fault, misuse.clash) {
+        (TypeFault::Unknown(_), _) => push_instead(alloc, note, found, k),
+        (TypeFault::Twice(_), _) => push_first(note, file, tokens, found, k),
+        (TypeFault::Kind(_), Some(clash)) => {
+            if clash.is_name {
+                push_declaration(note, file, tokens, found, k)?;
+            }
+            if misuse.is_declared_wrong {
+                push_redeclared(note, found, k, clash)?;
+            }
+            Ok(())
         }
+        _ => Ok(()),
     }
-    for word in FUNCTIONS.iter() {
-        names.push(word.as_bytes())?;
-    }
-    Ok(names)
 }
 
-// Whether an operation is wanted at a token.
-fn is_operation(found: &[&[u8]], k: usize) -> bool {
-    part_of(found, k).0 == b"uses".as_slice() || is_chosen(found, k)
-}
-
-// Whether a token is a name where it is declared.
-fn is_declared(found: &[&[u8]], k: usize) -> bool {
-    let (before, behind) = (
-        piece(found, k.wrapping_sub(1)),
-        piece(found, k.saturating_add(1)),
-    );
-    if before == b",".as_slice() && behind == b",".as_slice() {
-        return true;
+// Says what is wrong at a token.
+fn push_sentence(said: &mut Vec<u8>, found: &[&[u8]], misuse: Misuse) -> Result<(), NoMemory> {
+    let k = misuse.token;
+    match (misuse.fault, misuse.clash) {
+        (TypeFault::Unknown(_), _) => push_unknown(said, found, k),
+        (TypeFault::Kind(_), Some(clash)) => push_clash(said, found, k, clash),
+        (TypeFault::Twice(_), _) => {
+            push_quoted(said, piece(found, k))?;
+            push_bytes(said, b" is declared or listed already")
+        }
+        (TypeFault::TooMany(_), _) => push_bytes(said, size_sentence(found, k)),
+        (TypeFault::TxnClosure(_), _) => {
+            push_bytes(said, b"a transaction's contract can't speak of `")?;
+            push_bytes(said, piece(found, k))?;
+            push_bytes(
+                said,
+                b"`: it may use `vis`, `so`, `soo`, `sameobj` and `txn`",
+            )
+        }
+        (fault, _) => push_bytes(said, sentence(b"source", rule_of(fault))),
     }
-    is_name(piece(found, k)) && (has_word(b"forall state", before) || has_word(b": .", behind))
 }
-
-static FUNCTIONS: [&str; 10] = [
-    "has", "size", "add", "remove", "union", "put", "drop", "get", "sum", "cur",
-];

@@ -1,17 +1,18 @@
 // The stamp that an effect in an execution's file should have.
 ghost use Rattle.std.specs.Prelude.{◌≤◌, length};
 
-use crate::excerpt::Place;
-use crate::words::{has_word, line_of, word};
+use crate::words::{has_word, word};
 use ql_base::number_of;
+use ql_excerpt::{Place, line_of};
 
-// What a stamp depends on in the line of an effect.
+/// The number of an effect, its session, its transaction, its stamp, and the effects that it sees.
 #[derive(Clone, Copy)]
-struct EffectLine<'a> {
-    id: &'a [u8],
-    session: &'a [u8],
-    stamp: u64,
-    seen: &'a [u8],
+pub(crate) struct EffectLine<'a> {
+    pub(crate) id: &'a [u8],
+    pub(crate) session: &'a [u8],
+    pub(crate) txn: &'a [u8],
+    pub(crate) stamp: u64,
+    pub(crate) seen: &'a [u8],
 }
 
 /// One more than the greatest stamp among the effects that the effect of a line sees and the earlier ones of its session.
@@ -35,29 +36,28 @@ pub(crate) fn right_stamp(text: &[u8], place: Place) -> Option<u64>
     Some(greatest.saturating_add(1))
 }
 
-// effect ID .. session S txn T stamp N vis ID..
-fn effect_of(line: &[u8]) -> Option<EffectLine> {
+/// effect ID .. session S txn T stamp N vis ID..
+pub(crate) fn effect_of(line: &[u8]) -> Option<EffectLine> {
     let (effect, rest) = word(line);
     let (id, _) = word(rest);
     if effect != b"effect".as_slice() {
         return None;
     }
-    let (session, rest) = word(behind_last(line, b" session ")?);
-    let (_, rest) = word(rest);
-    let (_, rest) = word(rest);
-    let (_, rest) = word(rest);
-    let (stamp, rest) = word(rest);
+    let (session, rest) = word(after_last(line, b" session ")?);
+    let (txn, rest) = word(word(rest).1);
+    let (stamp, rest) = word(word(rest).1);
     let (_, seen) = word(rest);
     Some(EffectLine {
         id,
         session,
+        txn,
         stamp: number_of(stamp, u32::MAX as u64)?,
         seen,
     })
 }
 
-// What stands behind the last place where a text has some bytes.
-fn behind_last<'a>(text: &'a [u8], part: &[u8]) -> Option<&'a [u8]> {
+// What stands after the last place where a text has some bytes.
+fn after_last<'a>(text: &'a [u8], part: &[u8]) -> Option<&'a [u8]> {
     let mut found = None;
     for k in 0..text.len() {
         if let Some(rest) = text[k..].strip_prefix(part) {

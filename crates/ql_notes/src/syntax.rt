@@ -1,37 +1,65 @@
 // What was found and what was expected, where a text leaves the grammar of sources.
 
 use crate::expected::{expected, push_expected};
-use crate::likeness::{likest, push_meant};
+use crate::guesses::{Guess, likeliest_repair};
 use crate::wanted::push_quoted;
-use ql_base::{NoMemory, push_bytes};
+use ql_base::{NoMemory, is_keyword, push_bytes};
 use std::alloc::Global;
 
 // The most bytes of a source.
 const SOURCE_BYTES: usize = 1_048_576;
 
-/// Appends what was found behind the first bytes of a source, what was expected, and a word that was perhaps meant.
-pub(crate) fn push_syntax(
-    alloc: Global,
-    note: &mut Vec<u8>,
-    before: &[u8],
-    word: &[u8],
-) -> Result<(), NoMemory> {
-    if before.len() > SOURCE_BYTES {
+/// Where a text leaves the grammar: what stands before, the word there, and what follows it.
+#[derive(Clone, Copy)]
+pub(crate) struct Break<'a> {
+    pub(crate) before: &'a [u8],
+    pub(crate) word: &'a [u8],
+    pub(crate) rest: &'a [u8],
+    /// Whether the text is a line, and ends where a semicolon would stand in a source.
+    pub(crate) is_line: bool,
+}
+
+/// Appends what was found, what was expected, and what was perhaps meant.
+pub(crate) fn push_syntax(alloc: Global, note: &mut Vec<u8>, found: Break) -> Result<(), NoMemory> {
+    if found.before.len() > SOURCE_BYTES {
         return Ok(());
     }
-    let terminals = expected(alloc, before)?;
+    let terminals = expected(alloc, found.before)?;
+    let guess = likeliest_repair(alloc, found, &terminals)?;
     push_bytes(note, b"  found ")?;
-    if word.is_empty() {
-        push_bytes(note, b"the end")?;
+    if !found.word.is_empty() {
+        push_quoted(note, found.word)?;
+    } else if found.is_line {
+        push_bytes(note, b"the end of the line")?;
     } else {
-        push_quoted(note, word)?;
+        push_bytes(note, b"the end of the file")?;
     }
     push_bytes(note, b", expected ")?;
-    push_expected(note, &terminals)?;
+    push_expected(alloc, note, &terminals, guess, found.is_line)?;
     push_bytes(note, b"\n")?;
-    let mut spelt = Vec::new(alloc);
-    for terminal in terminals.iter() {
-        spelt.push(terminal.as_bytes())?;
+    match (guess, terminals.first()) {
+        (Guess::Nothing, Some(first)) if *first == "x" && is_keyword(found.word) => {
+            push_bytes(note, b"  ")?;
+            push_quoted(note, found.word)?;
+            push_bytes(note, b" is a keyword, and no name\n")
+        }
+        _ => push_guess(note, guess),
     }
-    push_meant(note, likest(word, &spelt))
+}
+
+fn push_guess(note: &mut Vec<u8>, guess: Guess) -> Result<(), NoMemory> {
+    match guess {
+        Guess::Instead(word) => {
+            push_bytes(note, b"  did you mean ")?;
+            push_quoted(note, word.as_bytes())?;
+            push_bytes(note, b"?\n")
+        }
+        Guess::Missing(word) => {
+            push_bytes(note, b"  perhaps ")?;
+            push_quoted(note, word.as_bytes())?;
+            push_bytes(note, b" is missing before it\n")
+        }
+        Guess::Extra => push_bytes(note, b"  perhaps it is one too many\n"),
+        Guess::Nothing => Ok(()),
+    }
 }

@@ -1,8 +1,12 @@
 // The faults of typing of a source, in order.
 
+use crate::clashes::{Clash, Wish, clash_at};
+use crate::first::end_of_scope;
+use crate::kinds::spelling;
 use crate::pieces::{joined, last_of, next_of, piece, piece_at};
-use crate::repair::repair;
+use crate::repair::{redeclare, repair};
 use ql_base::NoMemory;
+use ql_lang::{Kind, Program};
 use ql_lex::LexFault;
 use ql_parse::{ParseFault, parse_program};
 use ql_typing::{TypeFault, typecheck};
@@ -17,45 +21,84 @@ const ROUNDS: usize = 40;
 // The most bytes of a source that is judged.
 const BYTES: usize = 4_194_304;
 
-/// A fault of typing, and the token at which it stands, by its number.
+/// A fault of typing, the token at which it stands, by its number, and of a wrong kind which kinds they are.
 #[derive(Clone, Copy)]
 pub(crate) struct Misuse {
     pub(crate) token: usize,
     pub(crate) fault: TypeFault,
+    pub(crate) clash: Option<Clash>,
+    /// Whether the declared kind is the wrong one, and not the value's.
+    pub(crate) is_declared_wrong: bool,
 }
 
 /// The faults of typing of a source, by the bytes of its tokens: after each one something right is put in its place, and
-/// the next one is looked for behind it. One that only follows from an earlier one isn't among them.
+/// the next one is looked for after it. One that only follows from an earlier one isn't among them.
 pub(crate) fn misuses(alloc: Global, tokens: &[&[u8]]) -> Result<Vec<Misuse>, NoMemory> {
     let mut pieces = Vec::from_slice(alloc, tokens)?;
     let mut found = Vec::new(alloc);
     let mut next = 0;
     for _ in 0..ROUNDS {
-        let Some(misuse) = first_misuse(alloc, &pieces)? else {
+        let Some(first) = first_misuse(alloc, &pieces)? else {
             return Ok(found);
         };
-        if misuse.token < next || found.len() == MOST {
+        if first.token < next || found.len() == MOST {
             return Ok(found);
         }
-        next = misuse.token.saturating_add(1);
+        next = first.token.saturating_add(1);
+        let misuse = mend(alloc, &mut pieces, first)?;
         if !follows(tokens, &found, misuse) {
             found.push(misuse)?;
         }
-        repair(&mut pieces, misuse.token, misuse.fault);
     }
     Ok(found)
+}
+
+// Puts something right in the place of a fault. Where a value hasn't the kind that is declared for it, the kind is mended if the
+// next fault stands later then.
+fn mend(alloc: Global, pieces: &mut [&[u8]], misuse: Misuse) -> Result<Misuse, NoMemory> {
+    let Some(kind) = kind_of_value(misuse) else {
+        repair(pieces, misuse.token, misuse.fault);
+        return Ok(misuse);
+    };
+    let kind = spelling(kind).as_bytes();
+    let mut redeclared = Vec::from_slice(alloc, pieces)?;
+    redeclare(&mut redeclared, misuse.token, kind);
+    let mut repaired = Vec::from_slice(alloc, pieces)?;
+    repair(&mut repaired, misuse.token, misuse.fault);
+    let is_declared_wrong = token_of_first(alloc, &repaired)? < token_of_first(alloc, &redeclared)?;
+    if is_declared_wrong {
+        redeclare(pieces, misuse.token, kind);
+    } else {
+        repair(pieces, misuse.token, misuse.fault);
+    }
+    Ok(Misuse {
+        is_declared_wrong,
+        ..misuse
+    })
+}
+
+// The kind of a value that hasn't the one that is declared for it.
+fn kind_of_value(misuse: Misuse) -> Option<Kind> {
+    let clash = misuse.clash?;
+    match clash.wish {
+        Wish::Initial(_) | Wish::Emitted(_) => clash.found,
+        _ => None,
+    }
+}
+
+// The token of the first fault of typing, past all tokens where there is none.
+fn token_of_first(alloc: Global, pieces: &[&[u8]]) -> Result<usize, NoMemory> {
+    match first_misuse(alloc, pieces)? {
+        Some(misuse) => Ok(misuse.token),
+        None => Ok(usize::MAX),
+    }
 }
 
 // The first fault of typing of pieces, none where they are no source or too long.
 fn first_misuse(alloc: Global, pieces: &[&[u8]]) -> Result<Option<Misuse>, NoMemory> {
     let text = joined(alloc, pieces)?;
-    if text.len() > BYTES {
+    let Some(program) = program_of(alloc, &text)? else {
         return Ok(None);
-    }
-    let program = match parse_program(alloc, &text) {
-        Ok(program) => program,
-        Err(ParseFault::NoMemory | ParseFault::Lex(LexFault::NoMemory)) => return Err(NoMemory),
-        Err(_) => return Ok(None),
     };
     match typecheck(alloc, program) {
         Ok(_) => Ok(None),
@@ -63,7 +106,32 @@ fn first_misuse(alloc: Global, pieces: &[&[u8]]) -> Result<Option<Misuse>, NoMem
         Err(fault) => Ok(Some(Misuse {
             token: piece_at(pieces, offset_of(fault)),
             fault,
+            clash: clash_of(alloc, &text, fault)?,
+            is_declared_wrong: false,
         })),
+    }
+}
+
+// The program of a text, none where it is no source or too long.
+fn program_of(alloc: Global, text: &[u8]) -> Result<Option<Program>, NoMemory> {
+    if text.len() > BYTES {
+        return Ok(None);
+    }
+    match parse_program(alloc, text) {
+        Ok(program) => Ok(Some(program)),
+        Err(ParseFault::NoMemory | ParseFault::Lex(LexFault::NoMemory)) => Err(NoMemory),
+        Err(_) => Ok(None),
+    }
+}
+
+// Which kinds a fault of kinds is about.
+fn clash_of(alloc: Global, text: &[u8], fault: TypeFault) -> Result<Option<Clash>, NoMemory> {
+    let TypeFault::Kind(at) = fault else {
+        return Ok(None);
+    };
+    match program_of(alloc, text)? {
+        Some(program) => clash_at(alloc, &program, at),
+        None => Ok(None),
     }
 }
 
@@ -95,8 +163,8 @@ pub(crate) fn rule_of(fault: TypeFault) -> &'static [u8] {
     }
 }
 
-// Whether a fault only follows from an earlier one: the same name is unknown in one operation, or something has another
-// kind where a name is declared again.
+// Whether a fault only follows from an earlier one: the same name is unknown in one operation, something has another kind where a
+// name is declared again, or a name has the same wrong kind as before.
 fn follows(tokens: &[&[u8]], found: &[Misuse], misuse: Misuse) -> bool {
     for earlier in found {
         let is_one = match (earlier.fault, misuse.fault) {
@@ -104,15 +172,38 @@ fn follows(tokens: &[&[u8]], found: &[Misuse], misuse: Misuse) -> bool {
                 tokens,
                 earlier.token,
                 misuse.token,
+            ) && is_one_part(tokens, earlier.token, misuse.token),
+            (TypeFault::Twice(_), TypeFault::Kind(_)) => is_one_part(
+                tokens,
+                earlier.token,
+                misuse.token,
             ),
-            (TypeFault::Twice(_), TypeFault::Kind(_)) => true,
+            (TypeFault::Kind(_), TypeFault::Kind(_)) => is_one_clash(tokens, *earlier, misuse),
             _ => false,
         };
-        if is_one && is_one_part(tokens, earlier.token, misuse.token) {
+        if is_one {
             return true;
         }
     }
     false
+}
+
+// Whether one name has the same wrong kind at two places, so that its declaration may be at fault.
+fn is_one_clash(tokens: &[&[u8]], earlier: Misuse, misuse: Misuse) -> bool {
+    let (Some(one), Some(other)) = (earlier.clash, misuse.clash) else {
+        return false;
+    };
+    let is_name = one.is_name && other.is_name;
+    if !is_name
+        || !is_same(tokens, earlier.token, misuse.token)
+        || one.wish.kind() != other.wish.kind()
+    {
+        return false;
+    }
+    match end_of_scope(tokens, earlier.token) {
+        Some(end) => misuse.token < end,
+        None => true,
+    }
 }
 
 fn is_same(tokens: &[&[u8]], one: usize, other: usize) -> bool {

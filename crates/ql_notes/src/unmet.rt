@@ -4,11 +4,11 @@ ghost use Rattle.std.specs.Prelude.{◌≤◌, length};
 use crate::above::first_word;
 use crate::contracts::contract_at;
 use crate::declared::word_of;
-use crate::excerpt::{File, Spot, push_fault};
 use crate::likeness::{likest, push_meant};
 use crate::pieces::{next_of, piece, pieces, tokens_of};
-use crate::words::{has_word, line_of};
+use crate::words::has_word;
 use ql_base::NoMemory;
+use ql_excerpt::{File, Spot, line_of, push_fault};
 use std::alloc::Global;
 
 /// Appends a note for each operation that the contract names and no effect has.
@@ -42,7 +42,7 @@ pub(crate) fn push_unmet(alloc: Global, note: &mut Vec<u8>, file: File) -> Resul
     Ok(())
 }
 
-// Where the contract stands, behind the word `contract` of the first line that begins with it.
+// Where the contract stands, after the word `contract` of the first line that begins with it.
 fn contract_start(text: &[u8]) -> Option<usize> {
     for k in 0..text.len() {
         if text[k..].starts_with(b"contract ") && is_first(text, k) {

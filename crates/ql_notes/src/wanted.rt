@@ -1,25 +1,32 @@
 // What a line has where it leaves its form, and what was expected there.
 
-use crate::fits::{meaning, stands_for_itself};
+use crate::fields::{Field, field_text};
+use crate::fits::{listed_words, meaning, stands_for_itself};
 use crate::forms::Misfit;
 use crate::likeness::{likest, push_meant};
-use crate::words::{line_of, word};
-use ql_base::{NoMemory, push_bytes, push_number};
+use crate::words::word;
+use ql_base::{NoMemory, number_of, push_bytes, push_number};
+use ql_excerpt::line_of;
 use std::alloc::Global;
 
 /// Appends what was found and what was expected, and a word that was perhaps meant.
 pub(crate) fn push_wanted(
     alloc: Global,
     note: &mut Vec<u8>,
-    found: &[u8],
+    fields: &[Field],
     misfit: Misfit,
     next: u64,
 ) -> Result<(), NoMemory> {
+    let found = field_text(fields, misfit.field);
     if found.is_empty() && word(misfit.form).0.ends_with(b"..") {
-        return Ok(());
+        return push_descent(note, fields);
     }
     push_bytes(note, b"  found ")?;
-    push_found(note, found)?;
+    if fields.is_empty() {
+        push_bytes(note, b"the end of the file")?;
+    } else {
+        push_found(note, found)?;
+    }
     push_bytes(note, b", expected ")?;
     if misfit.is_choice {
         push_first_words(note, misfit.form, next)?;
@@ -31,10 +38,27 @@ pub(crate) fn push_wanted(
     push_meant(note, likest(found, &words))
 }
 
-/// Appends a word in quotes, or that there is none.
-pub(crate) fn push_found(note: &mut Vec<u8>, found: &[u8]) -> Result<(), NoMemory> {
+// Appends which effect doesn't ascend among those that an effect sees.
+fn push_descent(note: &mut Vec<u8>, fields: &[Field]) -> Result<(), NoMemory> {
+    let mut last = 0;
+    let mut is_seen = false;
+    for field in fields {
+        let number = number_of(field.text, u32::MAX as u64).unwrap_or(0);
+        if is_seen && number <= last {
+            push_bytes(note, b"  the effects that it sees ascend, and ")?;
+            push_quoted(note, field.text)?;
+            return push_bytes(note, b" doesn't\n");
+        }
+        last = number;
+        is_seen = is_seen || field.text == b"vis".as_slice();
+    }
+    Ok(())
+}
+
+// Appends a word in quotes, or that there is none.
+fn push_found(note: &mut Vec<u8>, found: &[u8]) -> Result<(), NoMemory> {
     if found.is_empty() {
-        return push_bytes(note, b"the end");
+        return push_bytes(note, b"the end of the line");
     }
     push_quoted(note, found)
 }
@@ -96,7 +120,7 @@ fn push_word(note: &mut Vec<u8>, wanted: &[u8], next: u64) -> Result<(), NoMemor
     }
 }
 
-// The words of forms that stand for themselves and may come next.
+// The words that may come next in a form: those that stand for themselves, and those that are listed.
 fn own_words(alloc: Global, misfit: Misfit) -> Result<Vec<&'static [u8]>, NoMemory> {
     let mut words = Vec::new(alloc);
     let forms = misfit.form;
@@ -106,7 +130,20 @@ fn own_words(alloc: Global, misfit: Misfit) -> Result<Vec<&'static [u8]>, NoMemo
             if stands_for_itself(first) {
                 words.push(first)?;
             }
+            push_listed_words(&mut words, listed_words(first))?;
         }
     }
     Ok(words)
+}
+
+fn push_listed_words(
+    words: &mut Vec<&'static [u8]>,
+    listed: &'static [u8],
+) -> Result<(), NoMemory> {
+    for k in 0..listed.len() {
+        if k == 0 || listed[k - 1] == b' ' {
+            words.push(word(&listed[k..]).0)?;
+        }
+    }
+    Ok(())
 }

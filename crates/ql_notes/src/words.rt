@@ -1,6 +1,8 @@
 // Words of a text, parted by blanks.
 
-/// The bytes before the first blank, and those behind it.
+use ql_excerpt::line_of;
+
+/// The bytes before the first blank, and those after it.
 pub(crate) fn word(text: &[u8]) -> (&[u8], &[u8]) {
     for k in 0..text.len() {
         if text[k] == b' ' || text[k] == b'\n' {
@@ -20,7 +22,7 @@ pub(crate) fn has_word(text: &[u8], wanted: &[u8]) -> bool {
     false
 }
 
-/// The sentence behind a word, in a text that has one on each line.
+/// The sentence after a word, in a text that has one on each line.
 pub(crate) fn sentence_of(rules: &'static str, rule: &[u8]) -> &'static [u8] {
     let text = rules.as_bytes();
     for k in 0..text.len() {
@@ -32,14 +34,4 @@ pub(crate) fn sentence_of(rules: &'static str, rule: &[u8]) -> &'static [u8] {
         }
     }
     &text[text.len()..]
-}
-
-/// The bytes before the first end of a line.
-pub(crate) fn line_of(text: &[u8]) -> &[u8] {
-    for k in 0..text.len() {
-        if text[k] == b'\n' {
-            return &text[..k];
-        }
-    }
-    text
 }

@@ -5,12 +5,12 @@
 
 use ql_app::quelea;
 use ql_base::NoMemory;
-use ql_notes::{KeptSink, Printed, note};
+use ql_notes::{KeptSink, Printed, note, wants_notes, write_reason};
 use ql_ports::{FileShelf, StdSink};
 use std::env::Env;
 use std::io::{IsTerminal, Write};
 use std::process::ExitCode;
-use std::{env, fs, io};
+use std::{env, io};
 
 // The exit statuses that aren't the top call's.
 const NO_MEMORY: u8 = 6;
@@ -44,7 +44,7 @@ fn exit_number(rt: HostRuntime, words: &Vec<String>) -> u8 {
         Ok(status) => status.number(),
         Err(NoMemory) => return NO_MEMORY,
     };
-    if wants_notes(&rt) {
+    if wants_notes(&rt, rt.stderr().is_terminal()) {
         let printed = Printed {
             first: sink.first(),
             last_line: sink.last_line(),
@@ -52,15 +52,6 @@ fn exit_number(rt: HostRuntime, words: &Vec<String>) -> u8 {
         write_note(rt, words, status, printed, &mut shelf);
     }
     status
-}
-
-// Notes are for people: on a terminal, or where QUELEA_NOTES is 1, and never where it is 0.
-fn wants_notes(rt: &HostRuntime) -> bool {
-    match env::var(rt, "QUELEA_NOTES") {
-        Ok(value) if value.as_str() == "1" => true,
-        Ok(value) if value.as_str() == "0" => false,
-        _ => rt.stderr().is_terminal(),
-    }
 }
 
 // Out of memory, or where standard error takes nothing, there is no note.
@@ -76,18 +67,5 @@ fn write_note(
     }
     if status == READ_FAULT {
         write_reason(&rt, words);
-    }
-}
-
-// Why the first file that can't be opened can't be, by the system.
-fn write_reason(rt: &HostRuntime, words: &Vec<String>) {
-    for word in words.iter().skip(1) {
-        if word.as_bytes().first() == Some(&b'-') {
-            continue;
-        }
-        if let Err(error) = fs::open(rt, word.as_str()) {
-            let _ = eprintln!(rt; "{}: {}", word.as_str(), error);
-            return;
-        }
     }
 }

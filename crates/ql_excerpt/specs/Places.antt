@@ -1,0 +1,27 @@
+-- Positions in a text, whose lines are parted by line feeds.
+use Rattle.std.specs.Prelude.{◌≡◌, ◌≢◌, ◌⊎◌, ◌==◌, ◌+◌, ◌<◌, ◌≤◌, ℕ, Bool, List, length, take, get_or}
+use Rattle.std.specs.List.{count_by}
+use Rattle.ql_excerpt.specs.declared.place.Place.{Place}
+
+abbrev pub is_line_feed : ℕ → Bool
+is_line_feed b = b == 10
+
+-- the line of an offset begins here: no line feed stands between, and one right before, but for the first line
+pub record IsLineStart (text : List ℕ) (at start : ℕ) : Type 0 where
+  pub within : start ≤ at
+  pub begins : (start ≡ 0) ⊎ ((k : ℕ) × (start ≡ k + 1) × (get_or text k 0 ≡ 10))
+  pub one_line : (k : ℕ) → start ≤ k → k < at → get_or text k 0 ≢ 10
+
+-- what a position says of an offset: its line's number, from 1, and where that line begins
+pub record IsPlace (text : List ℕ) (at : ℕ) (place : Place) : Type 0 where
+  pub is_at : place.at ≡ at
+  pub within : at ≤ length text
+  pub line : place.line ≡ count_by is_line_feed (take at text) + 1
+  pub start : IsLineStart text at place.start
+
+-- it is the first byte of a line that isn't blank
+pub record IsInLine (text : List ℕ) (number : ℕ) (place : Place) : Type 0 where
+  pub is_line : place.line ≡ number
+  pub there : place.at < length text
+  pub not_blank : get_or text place.at 0 ≢ 32
+  pub blank_before : (k : ℕ) → place.start ≤ k → k < place.at → get_or text k 0 ≡ 32

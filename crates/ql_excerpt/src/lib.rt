@@ -1,0 +1,9 @@
+// Positions in a text, and a line of it with a mark under some bytes.
+// The one contract: an offset's position is its line, counted by line feeds, and the offset at which that line begins.
+#![tactic(auto)]
+
+mod excerpt;
+mod place;
+
+pub use excerpt::{File, Spot, push_excerpt, push_fault, push_position};
+pub use place::{Place, line_of, place_of, place_of_line};

@@ -1,0 +1,324 @@
+// Which expression has another kind than is wanted of it, by the place of its first token: the kind that it has, the one that is
+// wanted, and what wants it.
+
+use crate::kinds::{
+    arity, is_base, kind_named, kind_of, kind_of_init, of_base, takes_first, wanted_after,
+};
+use ql_base::{NoMemory, Word};
+use ql_lang::{BinOp, EmitDecl, Expr, ExprNode, Field, Kind, OpDecl, Program, TypeDecl};
+use ql_typing::{Function, Known, find_function};
+use std::alloc::Global;
+
+/// An operator of one operand or of two.
+#[derive(Clone, Copy)]
+pub(crate) enum Operator {
+    Not,
+    Minus,
+    Two(BinOp),
+}
+
+/// What wants a kind.
+#[derive(Clone, Copy)]
+pub(crate) enum Wish {
+    /// An operation wants it of its answer.
+    Answer(Kind),
+    /// A field wants it of what it begins with.
+    Initial(Kind),
+    /// A field wants it of what is assigned to it.
+    Assigned(Kind),
+    /// An emitted value wants it.
+    Emitted(Kind),
+    /// `when` wants a truth value.
+    When,
+    /// `if` wants one.
+    Condition,
+    /// `else` wants the kind that `then` has.
+    Branch(Kind),
+    /// An operator wants it of an operand.
+    Operand(Operator, Kind),
+    /// `==` and `!=` want a base kind.
+    Comparable(Operator),
+    /// They want the kind that is on the left.
+    SameAsLeft(Operator, Kind),
+    /// A function wants a set or a map first.
+    First(Function),
+    /// A function wants it of its argument of a number, from 0.
+    Argument(Function, usize, Kind),
+    /// A function wants another number of arguments than there are.
+    Count(Function, usize),
+    /// Nothing is wanted.
+    Any,
+}
+
+/// An expression that hasn't the kind that is wanted. The found kind is none of `empty`, and where arguments are too many or too
+/// few.
+#[derive(Clone, Copy)]
+pub(crate) struct Clash {
+    pub(crate) found: Option<Kind>,
+    pub(crate) wish: Wish,
+    /// Whether the expression is a name.
+    pub(crate) is_name: bool,
+}
+
+impl Wish {
+    /// The one kind that is wanted, where there is one.
+    pub(crate) fn kind(self) -> Option<Kind> {
+        match self {
+            Wish::Answer(kind)
+            | Wish::Initial(kind)
+            | Wish::Assigned(kind)
+            | Wish::Emitted(kind)
+            | Wish::Branch(kind)
+            | Wish::Operand(_, kind)
+            | Wish::SameAsLeft(_, kind)
+            | Wish::Argument(_, _, kind) => Some(kind),
+            Wish::When | Wish::Condition => Some(Kind::Bool),
+            Wish::Comparable(_) | Wish::First(_) | Wish::Count(_, _) | Wish::Any => None,
+        }
+    }
+
+    fn is_met(self, kind: Kind) -> bool {
+        match self {
+            Wish::Comparable(_) => is_base(kind),
+            Wish::First(function) => takes_first(function, kind),
+            Wish::Count(_, _) => false,
+            _ => {
+                match self.kind() {
+                    Some(wanted) => wanted == kind,
+                    None => true,
+                }
+            }
+        }
+    }
+}
+
+// Where a clash is looked for: the names in scope, and the offset.
+#[derive(Clone, Copy)]
+struct Search<'a> {
+    scope: &'a [Known],
+    at: u32,
+}
+
+// The clash in an expression of which a kind is wanted.
+#[cycle(clash)]
+fn clash_of(search: Search, e: &Expr, wish: Wish) -> Option<Clash> {
+    let inner = clash_inside(search, e.at, &e.node);
+    if inner.is_some() || e.at != search.at {
+        return inner;
+    }
+    own_clash(search, &e.node, wish)
+}
+
+// The clash of the whole of an expression that begins at the place.
+fn own_clash(search: Search, node: &ExprNode, wish: Wish) -> Option<Clash> {
+    let found = kind_of(search.scope, node)?;
+    if wish.is_met(found) {
+        return None;
+    }
+    Some(Clash {
+        found: Some(found),
+        wish,
+        is_name: matches!(node, ExprNode::Var(_)),
+    })
+}
+
+// The clash in the parts of an expression that begins at an offset.
+#[cycle(clash)]
+fn clash_inside(search: Search, at: u32, node: &ExprNode) -> Option<Clash> {
+    match node {
+        ExprNode::Call(name, arguments) => {
+            let function = find_function(name.word.bytes())?;
+            let arguments = arguments.items();
+            if at == search.at && arguments.len() != arity(function) {
+                return Some(count_clash(function, arguments.len()));
+            }
+            clash_in_arguments(search, function, arguments)
+        }
+        ExprNode::If(test, left, right) => {
+            let branch = kind_of(search.scope, &left.node);
+            clash_of(search, test, Wish::Condition)
+                .or(clash_of(search, left, Wish::Any))
+                .or(clash_of(search, right, branch_wish(branch)))
+        }
+        ExprNode::Binary(op, left, right) => {
+            let kind = kind_of(search.scope, &left.node);
+            clash_of(search, left, left_wish(*op)).or(clash_of(
+                search,
+                right,
+                right_wish(*op, kind),
+            ))
+        }
+        ExprNode::Not(operand) => clash_of(
+            search,
+            operand,
+            Wish::Operand(Operator::Not, Kind::Bool),
+        ),
+        ExprNode::Neg(operand) => clash_of(
+            search,
+            operand,
+            Wish::Operand(Operator::Minus, Kind::Int),
+        ),
+        _ => None,
+    }
+}
+
+// The clash in the arguments of a function.
+#[cycle(clash)]
+fn clash_in_arguments(search: Search, function: Function, arguments: &[Expr]) -> Option<Clash> {
+    let (first, others) = arguments.split_first()?;
+    let kind = kind_of(search.scope, &first.node);
+    let mut clash = clash_of(search, first, Wish::First(function));
+    let mut number = 1usize;
+    for argument in others {
+        let wish = argument_wish(function, kind, number);
+        clash = clash.or(clash_of(search, argument, wish));
+        number = number.saturating_add(1);
+    }
+    clash
+}
+
+fn count_clash(function: Function, count: usize) -> Clash {
+    Clash {
+        found: None,
+        wish: Wish::Count(function, count),
+        is_name: false,
+    }
+}
+
+fn branch_wish(left: Option<Kind>) -> Wish {
+    match left {
+        Some(kind) => Wish::Branch(kind),
+        None => Wish::Any,
+    }
+}
+
+fn argument_wish(function: Function, first: Option<Kind>, number: usize) -> Wish {
+    let Some(first) = first else {
+        return Wish::Any;
+    };
+    match wanted_after(function, first, number) {
+        Some(kind) if takes_first(function, first) => Wish::Argument(function, number, kind),
+        _ => Wish::Any,
+    }
+}
+
+// What an operator wants of its left operand.
+fn left_wish(op: BinOp) -> Wish {
+    let operator = Operator::Two(op);
+    match op {
+        BinOp::Eq | BinOp::Ne => Wish::Comparable(operator),
+        BinOp::Or | BinOp::And => Wish::Operand(operator, Kind::Bool),
+        _ => Wish::Operand(operator, Kind::Int),
+    }
+}
+
+// What an operator wants of its right operand, by the kind of the left one.
+fn right_wish(op: BinOp, left: Option<Kind>) -> Wish {
+    match (left_wish(op), left) {
+        (Wish::Comparable(operator), Some(kind)) if is_base(kind) => Wish::SameAsLeft(
+            operator, kind,
+        ),
+        (Wish::Comparable(_), _) => Wish::Any,
+        (wish, _) => wish,
+    }
+}
+
+/// The clash at an offset of a source.
+pub(crate) fn clash_at(
+    alloc: Global,
+    program: &Program,
+    at: u32,
+) -> Result<Option<Clash>, NoMemory> {
+    for declared in program.types.items() {
+        let clash = clash_in_type(alloc, declared, at)?;
+        if clash.is_some() {
+            return Ok(clash);
+        }
+    }
+    Ok(None)
+}
+
+fn clash_in_type(alloc: Global, declared: &TypeDecl, at: u32) -> Result<Option<Clash>, NoMemory> {
+    let mut fields = Vec::new(alloc);
+    for field in declared.fields.items() {
+        if field.init.at == at {
+            return Ok(Some(initial_clash(field)));
+        }
+        fields.push(known(field.name.word, field.kind))?;
+    }
+    for op in declared.ops.items() {
+        let clash = clash_in_operation(alloc, &fields, op, at)?;
+        if clash.is_some() {
+            return Ok(clash);
+        }
+    }
+    Ok(None)
+}
+
+fn known(word: Word, kind: Kind) -> Known {
+    Known { word, kind }
+}
+
+fn initial_clash(field: &Field) -> Clash {
+    Clash {
+        found: kind_of_init(&field.init),
+        wish: Wish::Initial(field.kind),
+        is_name: false,
+    }
+}
+
+fn clash_in_operation(
+    alloc: Global,
+    fields: &[Known],
+    op: &OpDecl,
+    at: u32,
+) -> Result<Option<Clash>, NoMemory> {
+    let mut scope = Vec::from_slice(alloc, fields)?;
+    for param in op.params.items() {
+        scope.push(known(param.name.word, of_base(param.base)))?;
+    }
+    let search = Search { scope: &scope, at };
+    let clash = clash_of(search, &op.answer, Wish::Answer(op.kind));
+    match &op.effect {
+        Some(effect) if clash.is_none() => clash_in_effect(alloc, fields, search, effect),
+        _ => Ok(clash),
+    }
+}
+
+fn clash_in_effect(
+    alloc: Global,
+    fields: &[Known],
+    search: Search,
+    effect: &EmitDecl,
+) -> Result<Option<Clash>, NoMemory> {
+    let mut scope = Vec::from_slice(alloc, fields)?;
+    for bind in effect.binds.items() {
+        let kind = of_base(bind.base);
+        let clash = clash_of(search, &bind.value, Wish::Emitted(kind));
+        if clash.is_some() {
+            return Ok(clash);
+        }
+        scope.push(known(bind.name.word, kind))?;
+    }
+    let clash = clash_of(search, &effect.test, Wish::When);
+    let applied = Search {
+        scope: &scope,
+        at: search.at,
+    };
+    Ok(clash.or(clash_in_statements(applied, effect)))
+}
+
+fn clash_in_statements(search: Search, effect: &EmitDecl) -> Option<Clash> {
+    for statement in effect.stmts.items() {
+        let target = statement.target.word;
+        let wish = match kind_named(search.scope, &target) {
+            Some(kind) => Wish::Assigned(kind),
+            None => Wish::Any,
+        };
+        let clash = clash_of(search, &statement.value, wish);
+        if clash.is_some() {
+            return clash;
+        }
+    }
+    None
+}

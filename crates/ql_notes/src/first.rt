@@ -1,0 +1,149 @@
+// Where a name stands first that a source declares or lists again, and where the name of a value is declared.
+
+use crate::meant::is_bound;
+use crate::pieces::{last_of, next_of, piece};
+use crate::repair::{is_chosen, part_of};
+use crate::wanted::push_quoted;
+use crate::words::has_word;
+use ql_base::{NoMemory, push_bytes};
+use ql_excerpt::{File, place_of, push_position};
+use ql_lex::Token;
+
+/// Appends where the name at a token stands first.
+pub(crate) fn push_first(
+    note: &mut Vec<u8>,
+    file: File,
+    tokens: &[Token],
+    pieces: &[&[u8]],
+    k: usize,
+) -> Result<(), NoMemory> {
+    let Some(first) = first_of(pieces, k) else {
+        return Ok(());
+    };
+    push_declared(note, file, tokens, first, b"  first declared at ")
+}
+
+/// Appends where the name of a value that an expression uses is declared.
+pub(crate) fn push_declaration(
+    note: &mut Vec<u8>,
+    file: File,
+    tokens: &[Token],
+    pieces: &[&[u8]],
+    k: usize,
+) -> Result<(), NoMemory> {
+    let Some(first) = value_before(pieces, k) else {
+        return Ok(());
+    };
+    push_bytes(note, b"  ")?;
+    push_quoted(note, piece(pieces, k))?;
+    push_declared(note, file, tokens, first, b" is declared at ")
+}
+
+fn push_declared(
+    note: &mut Vec<u8>,
+    file: File,
+    tokens: &[Token],
+    k: usize,
+    what: &[u8],
+) -> Result<(), NoMemory> {
+    let Some(token) = tokens.get(k) else {
+        return Ok(());
+    };
+    push_bytes(note, what)?;
+    push_place(note, file, token.from as usize)
+}
+
+/// Appends the offset at which a name stands first.
+pub(crate) fn push_first_at(note: &mut Vec<u8>, file: File, at: usize) -> Result<(), NoMemory> {
+    push_bytes(note, b"  first declared at ")?;
+    push_place(note, file, at)
+}
+
+fn push_place(note: &mut Vec<u8>, file: File, at: usize) -> Result<(), NoMemory> {
+    push_position(note, file.name, place_of(file.text, at))?;
+    push_bytes(note, b"\n")
+}
+
+/// The first token of the name at a token, in the list or among the declarations where it is there again.
+pub(crate) fn first_of(pieces: &[&[u8]], k: usize) -> Option<usize> {
+    let keyword = piece(pieces, k.saturating_sub(1));
+    let part = part_of(pieces, k);
+    if has_word(b"type op transaction", keyword) {
+        return after_keyword(pieces, 0, k, keyword);
+    }
+    if part.0 == b"uses".as_slice() {
+        return same_between(pieces, part.1, k);
+    }
+    if is_chosen(pieces, k) {
+        return same_between(pieces, last_of(pieces, k, b":")?, k);
+    }
+    if part.0 == b"contract".as_slice() {
+        return same_between(pieces, part.1, k);
+    }
+    value_before(pieces, k)
+}
+
+// Where a field, a parameter or an emitted value of the name at a token is declared, before it.
+fn value_before(pieces: &[&[u8]], k: usize) -> Option<usize> {
+    let start = last_of(pieces, k, b"type")?;
+    let field = after_keyword(pieces, start, k, b"state");
+    if field.is_some() {
+        return field;
+    }
+    let part = part_of(pieces, k).0;
+    let from = if has_word(b"emit apply", part) && emits(pieces, k) {
+        last_of(pieces, k, b"emit")?
+    } else {
+        last_of(pieces, k, b"op")?
+    };
+    for (j, word) in pieces.iter().enumerate() {
+        if from < j && j < k && is_bound(pieces, j) && *word == piece(pieces, k) {
+            return Some(j);
+        }
+    }
+    None
+}
+
+// Whether a token is the name of an emitted value, or stands among the statements.
+fn emits(pieces: &[&[u8]], k: usize) -> bool {
+    is_bound(pieces, k) || part_of(pieces, k).0 == b"apply".as_slice()
+}
+
+// The name at a token after a keyword, between two places.
+fn after_keyword(pieces: &[&[u8]], from: usize, k: usize, keyword: &[u8]) -> Option<usize> {
+    for (j, word) in pieces.iter().enumerate() {
+        let before = piece(pieces, j.saturating_sub(1));
+        if from < j && j < k && *word == piece(pieces, k) && before == keyword {
+            return Some(j);
+        }
+    }
+    None
+}
+
+// The same word, between two places.
+fn same_between(pieces: &[&[u8]], from: usize, k: usize) -> Option<usize> {
+    for (j, word) in pieces.iter().enumerate() {
+        if from <= j && j < k && *word == piece(pieces, k) {
+            return Some(j);
+        }
+    }
+    None
+}
+
+/// Whether the value that is used at a token is a field.
+pub(crate) fn is_field(pieces: &[&[u8]], k: usize) -> bool {
+    match last_of(pieces, k, b"type") {
+        Some(start) => after_keyword(pieces, start, k, b"state").is_some(),
+        None => false,
+    }
+}
+
+/// Where the type or, of other names than fields, the operation ends in which a value's name is seen.
+pub(crate) fn end_of_scope(pieces: &[&[u8]], k: usize) -> Option<usize> {
+    let ends = if is_field(pieces, k) {
+        b"type transaction".as_slice()
+    } else {
+        b"type op transaction".as_slice()
+    };
+    next_of(pieces, k.saturating_add(1), ends)
+}

@@ -1,0 +1,182 @@
+// Why bytes are no token.
+
+use crate::wanted::push_quoted;
+use ql_base::{NoMemory, digit_bytes, is_word_byte, push_bytes, push_number};
+use ql_excerpt::Spot;
+
+/// Whether a rule is one of tokens.
+pub(crate) fn is_lexical(rule: &[u8]) -> bool {
+    rule == b"BadChar".as_slice()
+        || rule == b"LongWord".as_slice()
+        || rule == b"BadNumber".as_slice()
+}
+
+/// Says why bytes at an offset are no token, and answers what is marked.
+pub(crate) fn push_lexical(
+    said: &mut Vec<u8>,
+    text: &[u8],
+    rule: &[u8],
+    at: usize,
+) -> Result<Spot, NoMemory> {
+    let rest = rest_of(text, at);
+    if rule == b"BadChar".as_slice() {
+        return push_bad_byte(said, text, at);
+    }
+    let bytes = if rule == b"LongWord".as_slice() {
+        push_long(said, rest)?
+    } else {
+        push_bad_number(said, rest)?;
+        word_bytes(rest)
+    };
+    Ok(Spot { from: at, bytes })
+}
+
+fn rest_of(text: &[u8], at: usize) -> &[u8] {
+    if at < text.len() {
+        &text[at..]
+    } else {
+        b"".as_slice()
+    }
+}
+
+// Says why a byte is at fault, and answers what is marked.
+fn push_bad_byte(said: &mut Vec<u8>, text: &[u8], at: usize) -> Result<Spot, NoMemory> {
+    let byte = rest_of(text, at).first().copied().unwrap_or(b'\n');
+    let one = Spot { from: at, bytes: 1 };
+    let Some(quote) = open_quote(text, at) else {
+        push_bytes(said, b"no token begins with ")?;
+        push_byte(said, byte)?;
+        push_bytes(said, advice(byte))?;
+        return Ok(one);
+    };
+    if byte == b'\n' || byte == b'\r' {
+        push_bytes(
+            said,
+            b"this text isn't ended: a second `\"` is missing, on the same line",
+        )?;
+        return Ok(Spot {
+            from: quote,
+            bytes: at.saturating_sub(quote),
+        });
+    }
+    push_byte(said, byte)?;
+    push_bytes(
+        said,
+        b" may not stand in a text, which has bytes from space to `~` without `\"` and `\\`",
+    )?;
+    Ok(one)
+}
+
+// A byte that can be printed in quotes, and another one by its number.
+fn push_byte(said: &mut Vec<u8>, byte: u8) -> Result<(), NoMemory> {
+    if 33 <= byte && byte <= 126 {
+        return push_quoted(said, &[byte]);
+    }
+    push_bytes(said, b"the byte ")?;
+    push_number(said, byte)
+}
+
+// What to write in the place of a byte with which no token begins.
+fn advice(byte: u8) -> &'static [u8] {
+    match byte {
+        b'A'..=b'Z' => b": names and keywords have lower-case letters alone",
+        b'_' => b": a name begins with a lower-case letter",
+        b'/' => b": a comment begins with `#`, `/\\` joins contracts, and nothing divides",
+        b'\\' => b": `\\/` joins contracts, and `or` expressions",
+        b'\'' | b'`' => b": a text stands in double quotes",
+        b'!' => b": `!=` compares, and `not` denies",
+        b'%' => b": nothing divides, there are `+`, `-` and `*`",
+        128..=255 => b": other than ASCII may stand in comments alone",
+        _ => b"",
+    }
+}
+
+// Where the text begins that is open at an offset.
+fn open_quote(text: &[u8], at: usize) -> Option<usize> {
+    let mut quote = None;
+    let mut is_comment = false;
+    for (k, byte) in text.iter().enumerate() {
+        if k >= at {
+            return quote;
+        }
+        if is_comment {
+            is_comment = *byte != b'\n';
+        } else if *byte == b'"' {
+            quote = if quote.is_none() { Some(k) } else { None };
+        } else if *byte == b'#' {
+            is_comment = quote.is_none();
+        }
+    }
+    quote
+}
+
+// Says how long a name or a text is, and answers it.
+fn push_long(said: &mut Vec<u8>, rest: &[u8]) -> Result<usize, NoMemory> {
+    if rest.first() == Some(&b'"') {
+        let bytes = text_bytes(rest);
+        push_length(
+            said,
+            b"this text has ",
+            bytes,
+            b" bytes, and a text has at most 64",
+        )?;
+        return Ok(bytes.saturating_add(2));
+    }
+    let bytes = word_bytes(rest);
+    push_length(
+        said,
+        b"this name has ",
+        bytes,
+        b" bytes, and a name has at most 32",
+    )?;
+    Ok(bytes)
+}
+
+fn push_length(
+    said: &mut Vec<u8>,
+    what: &[u8],
+    bytes: usize,
+    limit: &[u8],
+) -> Result<(), NoMemory> {
+    push_bytes(said, what)?;
+    push_number(said, bytes as u64)?;
+    push_bytes(said, limit)
+}
+
+// How many bytes stand between the quotes of a text.
+fn text_bytes(rest: &[u8]) -> usize {
+    let mut count = 0usize;
+    for byte in rest.iter().skip(1) {
+        if *byte == b'"' {
+            return count;
+        }
+        count = count.saturating_add(1);
+    }
+    count
+}
+
+// How many letters, digits and `_` stand at the start.
+fn word_bytes(rest: &[u8]) -> usize {
+    let mut count = 0usize;
+    for byte in rest {
+        if !is_word_byte(*byte) {
+            return count;
+        }
+        count = count.saturating_add(1);
+    }
+    count
+}
+
+fn push_bad_number(said: &mut Vec<u8>, rest: &[u8]) -> Result<(), NoMemory> {
+    let digits = digit_bytes(rest);
+    if digits < word_bytes(rest) {
+        push_bytes(
+            said,
+            b"a letter follows this number at once: a name begins with a letter, and a space parts two tokens",
+        )
+    } else if rest.first() == Some(&b'0') {
+        push_bytes(said, b"a number has no leading zero")
+    } else {
+        push_bytes(said, b"a number is at most 9223372036854775807")
+    }
+}

@@ -1,0 +1,204 @@
+// What is said of an unknown name in a source: what was wanted there, and the names that are known.
+
+use crate::declared::{declared, place_in};
+use crate::likeness::{likest, push_meant};
+use crate::names::{push_known, push_listed};
+use crate::pieces::{last_of, next_of, piece};
+use crate::repair::{is_chosen, part_of};
+use crate::wanted::push_quoted;
+use crate::words::has_word;
+use ql_base::{NoMemory, push_bytes};
+use std::alloc::Global;
+
+// What an unknown name stands for.
+#[derive(Clone, Copy)]
+enum Meant {
+    Operation,
+    // The current effect, in a transaction's contract.
+    Current,
+    Variable,
+    Function,
+    // A field that is assigned to.
+    Target,
+    // A parameter, where statements are.
+    Parameter,
+    Value,
+}
+
+static FUNCTIONS: [&str; 9] = [
+    "has", "size", "add", "remove", "union", "put", "drop", "get", "sum",
+];
+
+static VALUES: [&str; 3] = ["true", "false", "unit"];
+
+fn meant_at(tokens: &[&[u8]], k: usize) -> Meant {
+    let part = part_of(tokens, k).0;
+    let next = piece(tokens, k.saturating_add(1));
+    if part == b"uses".as_slice() || is_chosen(tokens, k) {
+        Meant::Operation
+    } else if part == b"contract".as_slice() {
+        if piece(tokens, k) == b"cur".as_slice() {
+            Meant::Current
+        } else {
+            Meant::Variable
+        }
+    } else if next == b"(".as_slice() {
+        Meant::Function
+    } else if part != b"apply".as_slice() {
+        Meant::Value
+    } else if next == b":=".as_slice() {
+        Meant::Target
+    } else if is_parameter(tokens, k) {
+        Meant::Parameter
+    } else {
+        Meant::Value
+    }
+}
+
+/// Appends what is unknown.
+pub(crate) fn push_unknown(note: &mut Vec<u8>, tokens: &[&[u8]], k: usize) -> Result<(), NoMemory> {
+    let meant = meant_at(tokens, k);
+    if let Meant::Current = meant {
+        return push_bytes(
+            note,
+            b"a transaction's contract has no `cur`: it speaks of the effects that it quantifies",
+        );
+    }
+    push_quoted(note, piece(tokens, k))?;
+    push_bytes(note, what_is_wrong(meant))
+}
+
+fn what_is_wrong(meant: Meant) -> &'static [u8] {
+    match meant {
+        Meant::Operation => b" is no operation of this source",
+        Meant::Current | Meant::Variable => b" isn't quantified by the `forall` of this contract",
+        Meant::Function => b" is no function",
+        Meant::Target => b" is no field, and only fields are assigned to",
+        Meant::Parameter =>
+            b" is a parameter, and statements use fields and emitted values alone: emit it under another name",
+        Meant::Value => b" is no name that is known here",
+    }
+}
+
+/// Appends what was perhaps meant by an unknown name, or else the names that are known.
+pub(crate) fn push_instead(
+    alloc: Global,
+    note: &mut Vec<u8>,
+    tokens: &[&[u8]],
+    k: usize,
+) -> Result<(), NoMemory> {
+    let word = piece(tokens, k);
+    let names = match meant_at(tokens, k) {
+        Meant::Operation => declared(alloc, tokens, b"op")?,
+        Meant::Current => return push_listed(note, &variables(alloc, tokens, k)?),
+        Meant::Variable => {
+            if place_in(tokens, b"op", word).is_some() {
+                return push_effects_of(note, word);
+            }
+            variables(alloc, tokens, k)?
+        }
+        Meant::Function => words(alloc, &FUNCTIONS)?,
+        Meant::Target => fields(alloc, tokens, k)?,
+        Meant::Parameter => return push_listed(note, &values(alloc, tokens, k)?),
+        Meant::Value => {
+            let meant = likest(word, &words(alloc, &VALUES)?);
+            if meant.is_some() {
+                return push_meant(note, meant);
+            }
+            values(alloc, tokens, k)?
+        }
+    };
+    push_known(note, word, &names)
+}
+
+// An operation is named where one of its effects is wanted.
+fn push_effects_of(note: &mut Vec<u8>, operation: &[u8]) -> Result<(), NoMemory> {
+    push_bytes(note, b"  it is an operation: `forall x: ")?;
+    push_bytes(note, operation)?;
+    push_bytes(note, b".` quantifies its effects\n")
+}
+
+fn words(alloc: Global, words: &[&'static str]) -> Result<Vec<&'static [u8]>, NoMemory> {
+    let mut bytes = Vec::new(alloc);
+    for word in words {
+        bytes.push(word.as_bytes())?;
+    }
+    Ok(bytes)
+}
+
+// The variables of the contract around a token, and in an operation the current effect.
+fn variables<'a>(alloc: Global, tokens: &[&'a [u8]], k: usize) -> Result<Vec<&'a [u8]>, NoMemory> {
+    let start = part_of(tokens, k).1.saturating_add(1);
+    let mut names = Vec::new(alloc);
+    if piece(tokens, start) == b"forall".as_slice() {
+        let end = next_of(tokens, start, b".").unwrap_or(start);
+        for (j, token) in tokens.iter().enumerate() {
+            if start < j && j < end && has_word(b"forall ,", piece(tokens, j.saturating_sub(1))) {
+                names.push(*token)?;
+            }
+        }
+    }
+    let owner = piece(
+        tokens,
+        last_of(tokens, start, b"op transaction").unwrap_or(start),
+    );
+    if owner == b"op".as_slice() {
+        names.push(b"cur".as_slice())?;
+    }
+    Ok(names)
+}
+
+// The fields of the type around a token.
+fn fields<'a>(alloc: Global, tokens: &[&'a [u8]], k: usize) -> Result<Vec<&'a [u8]>, NoMemory> {
+    let start = last_of(tokens, k, b"type").unwrap_or(k);
+    let mut names = Vec::new(alloc);
+    for (j, token) in tokens.iter().enumerate() {
+        if start < j && j < k && piece(tokens, j.saturating_sub(1)) == b"state".as_slice() {
+            names.push(*token)?;
+        }
+    }
+    Ok(names)
+}
+
+// The names that an expression may use: fields, and parameters or, in a statement, emitted values.
+fn values<'a>(alloc: Global, tokens: &[&'a [u8]], k: usize) -> Result<Vec<&'a [u8]>, NoMemory> {
+    let mut names = fields(alloc, tokens, k)?;
+    let (from, to) = bindings(tokens, k);
+    for (j, token) in tokens.iter().enumerate() {
+        if from < j && j < to && is_bound(tokens, j) {
+            names.push(*token)?;
+        }
+    }
+    Ok(names)
+}
+
+// Where the names are declared that a token sees beside the fields: those of the parameters, or in a statement the emitted ones.
+fn bindings(tokens: &[&[u8]], k: usize) -> (usize, usize) {
+    if part_of(tokens, k).0 == b"apply".as_slice() {
+        let from = last_of(tokens, k, b"emit").unwrap_or(k);
+        return (from, next_of(tokens, from, b"when").unwrap_or(from));
+    }
+    parameters_before(tokens, k)
+}
+
+fn parameters_before(tokens: &[&[u8]], k: usize) -> (usize, usize) {
+    let from = last_of(tokens, k, b"op").unwrap_or(k);
+    (from, next_of(tokens, from, b")").unwrap_or(from))
+}
+
+/// Whether a token is a name with a kind after it.
+pub(crate) fn is_bound(tokens: &[&[u8]], k: usize) -> bool {
+    has_word(b"emit ( ,", piece(tokens, k.saturating_sub(1)))
+        && piece(tokens, k.saturating_add(1)) == b":".as_slice()
+}
+
+// Whether a token is the name of a parameter of the operation around it.
+fn is_parameter(tokens: &[&[u8]], k: usize) -> bool {
+    let (from, to) = parameters_before(tokens, k);
+    for (j, token) in tokens.iter().enumerate() {
+        if from < j && j < to && is_bound(tokens, j) && *token == piece(tokens, k) {
+            return true;
+        }
+    }
+    false
+}

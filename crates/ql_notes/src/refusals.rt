@@ -1,0 +1,230 @@
+// The note on a certificate or a proof that is refused: the section, the line, and what can be done.
+ghost use Rattle.std.specs.Prelude.{◌≤◌, length};
+
+use crate::above::first_word;
+use crate::declared::{declared, word_of};
+use crate::pieces::piece;
+use crate::wanted::push_quoted;
+use crate::words::{has_word, sentence_of, word};
+use ql_base::{NoMemory, number_of, push_bytes, push_number};
+use ql_excerpt::{File, Spot, line_of, push_fault};
+use std::alloc::Global;
+
+// By the rule for which a section is refused.
+const REFUSALS: &str = "BadVariable this line has a variable that the clauses don't have
+BadHint a hint of this line names a clause that isn't there, or a line that isn't earlier
+NotUnit a hint of this line names a clause that leaves open more than one literal, or is true already
+NoConflict the hints lead to no contradiction
+NoEmpty no line is the empty clause, so nothing is shown";
+
+/// What a line of an answer refuses: the rule, the section's first line, which is empty in a proof, and the number of the line,
+/// which is empty where the whole is refused.
+#[derive(Clone, Copy)]
+pub(crate) struct Refusal<'a> {
+    rule: &'a [u8],
+    section: &'a [u8],
+    line: &'a [u8],
+}
+
+/// The refusal in a line of an answer: SECTION refused LINE RULE, or `order` and a number.
+pub(crate) fn refusal_in(line: &[u8]) -> Option<Refusal> {
+    let line = line_of(line);
+    let (first, rest) = word(line);
+    if first == b"order".as_slice() {
+        return Some(Refusal {
+            rule: first,
+            section: b"".as_slice(),
+            line: word(rest).0,
+        });
+    }
+    for k in 0..line.len() {
+        if let Some(rest) = line[k..].strip_prefix(b"refused ") {
+            return Some(refusal_of(&line[..k], rest));
+        }
+    }
+    None
+}
+
+fn refusal_of<'a>(section: &'a [u8], rest: &'a [u8]) -> Refusal<'a> {
+    let section = section.strip_suffix(b" ").unwrap_or(section);
+    let (first, after) = word(rest);
+    if after.is_empty() {
+        Refusal {
+            rule: first,
+            section,
+            line: after,
+        }
+    } else {
+        Refusal {
+            rule: word(after).0,
+            section,
+            line: first,
+        }
+    }
+}
+
+/// A source: what it is called, and its tokens.
+#[derive(Clone, Copy)]
+pub(crate) struct Source<'a> {
+    pub(crate) name: &'a [u8],
+    pub(crate) tokens: &'a [&'a [u8]],
+}
+
+/// Appends what can be said of a refused certificate or proof.
+pub(crate) fn push_refusal(
+    alloc: Global,
+    note: &mut Vec<u8>,
+    file: File,
+    source: Source,
+    refusal: Refusal,
+) -> Result<(), NoMemory> {
+    let mut said = Vec::new(alloc);
+    if refusal.rule == b"order".as_slice() {
+        let number = number_of(refusal.line, u32::MAX as u64).unwrap_or(1);
+        push_order(alloc, &mut said, source, number)?;
+        push_fault(
+            note,
+            file,
+            section_spot(file.text, number),
+            refusal.rule,
+            &said,
+        )?;
+        return push_anew(note, source);
+    }
+    if !refusal.section.is_empty() {
+        push_bytes(&mut said, b"section ")?;
+        push_quoted(&mut said, refusal.section)?;
+        push_bytes(
+            &mut said,
+            if refusal.line.is_empty() {
+                b": "
+            } else {
+                b", "
+            },
+        )?;
+    }
+    if !refusal.line.is_empty() {
+        push_bytes(&mut said, b"line ")?;
+        push_bytes(&mut said, refusal.line)?;
+        push_bytes(&mut said, b": ")?;
+    }
+    push_bytes(&mut said, sentence_of(REFUSALS, refusal.rule))?;
+    push_fault(note, file, spot_of(file.text, refusal), refusal.rule, &said)?;
+    if refusal.section.is_empty() {
+        return Ok(());
+    }
+    push_levels(note, source)?;
+    push_anew(note, source)
+}
+
+// What the source has as the section of a number, from 1.
+fn push_order(
+    alloc: Global,
+    said: &mut Vec<u8>,
+    source: Source,
+    number: u64,
+) -> Result<(), NoMemory> {
+    let ops = declared(alloc, source.tokens, b"op")?;
+    let txns = declared(alloc, source.tokens, b"transaction")?;
+    let k = number.saturating_sub(1) as usize;
+    push_bytes(
+        said,
+        b"sections stand in the order of the source, and section ",
+    )?;
+    push_number(said, number)?;
+    let (keyword, name) = if k < ops.len() {
+        (b"op ".as_slice(), piece(&ops, k))
+    } else {
+        (
+            b"txn ".as_slice(),
+            piece(&txns, k.saturating_sub(ops.len())),
+        )
+    };
+    if name.is_empty() {
+        return push_bytes(said, b" is one too many");
+    }
+    push_bytes(said, b" is that of `")?;
+    push_bytes(said, keyword)?;
+    push_bytes(said, name)?;
+    push_bytes(said, b"` there")
+}
+
+fn push_levels(note: &mut Vec<u8>, source: Source) -> Result<(), NoMemory> {
+    push_bytes(note, b"  the level may be too low: `./quelea classify ")?;
+    push_bytes(note, source.name)?;
+    push_bytes(note, b"` prints the least levels that are enough\n")
+}
+
+fn push_anew(note: &mut Vec<u8>, source: Source) -> Result<(), NoMemory> {
+    push_bytes(
+        note,
+        b"  the certificate, or the source since, may be changed: `./quelea prove ",
+    )?;
+    push_bytes(note, source.name)?;
+    push_bytes(note, b"` makes it anew\n")
+}
+
+// The first line of the section of a number, or the line `end`.
+fn section_spot(text: &[u8], number: u64) -> Spot {
+    let mut count = 0u64;
+    for k in 0..text.len() {
+        if k > 0 && text[k - 1] != b'\n' {
+            continue;
+        }
+        let first = first_word(line_of(&text[k..]));
+        if has_word(b"op txn end", first) {
+            count = count.saturating_add(1);
+        }
+        if count == number || first == b"end".as_slice() {
+            return whole_line(text, k);
+        }
+    }
+    whole_line(text, text.len())
+}
+
+// The line that is refused: a numbered line of the section, or the section's first one.
+fn spot_of(text: &[u8], refusal: Refusal) -> Spot {
+    let mut is_inside = refusal.section.is_empty();
+    for k in 0..text.len() {
+        if k > 0 && text[k - 1] != b'\n' {
+            continue;
+        }
+        let line = line_of(&text[k..]);
+        if !is_inside && is_section(line, refusal.section) {
+            is_inside = true;
+            if refusal.line.is_empty() {
+                return whole_line(text, k);
+            }
+        } else if is_inside && first_word(line) == refused_word(refusal) {
+            return whole_line(text, k);
+        }
+    }
+    whole_line(text, text.len())
+}
+
+// The word with which the refused line begins; of a whole proof its end.
+fn refused_word(refusal: Refusal) -> &[u8] {
+    if refusal.line.is_empty() {
+        b"end".as_slice()
+    } else {
+        refusal.line
+    }
+}
+
+// Whether a line is the first one of a section.
+fn is_section(line: &[u8], section: &[u8]) -> bool {
+    for k in 0..3 {
+        if word_of(line, k) != word_of(section, k) {
+            return false;
+        }
+    }
+    true
+}
+
+fn whole_line(text: &[u8], start: usize) -> Spot
+    requires { start ≤ length text.now }
+{
+    let line = line_of(&text[start..]);
+    let bytes = line.strip_suffix(b"\r").unwrap_or(line).len();
+    Spot { from: start, bytes }
+}
