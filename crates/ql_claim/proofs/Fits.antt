@@ -2,10 +2,10 @@
 -- those on one object are of one type.
 use Rattle.std.proofs.Common.{◌≡◌, inl, inr, ℕ, zero, suc, ◌<◌, Bool, true, false, not, nat_eq, nat_le, List, [], ◌∷◌, ◌++◌, length, Option, None, Some, Result, Ok, Err, slice_get, arith, refl, sym, ap, subst, ◌∙◌}
 use Rattle.std.specs.Prelude.{option_map, if◌then◌else◌, slice_index, unwrap_or}
-use Rattle.std.specs.List.{find, position}
+use Rattle.std.specs.List.{position}
 use Rattle.std.specs.Option.{option_and_then, option_map_or}
 use Rattle.std.specs.Str.{bytes_eq}
-use Rattle.std.proofs.lemmas.Bool.{cases_Bool, eq-eqb, eqb-true, not-false, true≢false}
+use Rattle.std.proofs.lemmas.Bool.{cases_Bool, eq-eqb, eqb-true, not-false}
 use Rattle.std.proofs.lemmas.List.Quantifiers.{position-Some}
 use Rattle.std.proofs.lemmas.Option.{same_Some}
 use Rattle.ql_base.specs.IdLists.{IsAscending}
@@ -24,7 +24,7 @@ use Rattle.ql_execution_files.specs.declared.report_fault.LineFault.{LineFault}
 use Rattle.ql_execution_files.specs.declared.report_fault.LineFault.TheVariants.{Mixed, Stamp, TooMany, Unknown}
 use Rattle.ql_execution_files.specs.declared.told.Told.{Told}
 use Rattle.ql_execution_files.specs.Effects.{after_effect, after_known, draft_of, first_on, is_mixed, kind_of, member_of, most_effects, number_of, put_in, rule_of, with_effect, with_object}
-use Rattle.ql_execution_files.specs.ExecutionFile.{Ended, IsExecutionFile, Leads, Stage, Takes, TakesEffect, Unbegun, WithEffects, nothing_told}
+use Rattle.ql_execution_files.specs.ExecutionFile.{Ended, IsExecutionFile, Leads, Stage, Takes, TakesEffect, Unbegun, WithEffects}
 use Rattle.ql_implication.specs.Executions.{FitsProgram}
 use Rattle.ql_lang.specs.declared.program.Program.{Program}
 use Rattle.ql_lines.specs.Lines.{Ahead, Numbered}

@@ -1,5 +1,5 @@
 -- The answer of `verify` where the levels that `classify` printed are kept.
-use Rattle.std.proofs.Common.{◌≡◌, ◌⊎◌, inl, inr, ℕ, suc, ◌<◌, ◌≤◌, true, List, [], ◌∷◌, ◌++◌, length, map, Option, None, Some, slice_get, codes, refl, sym, ap, subst, ◌∙◌, arith}
+use Rattle.std.proofs.Common.{◌≡◌, inl, inr, ℕ, suc, ◌<◌, ◌≤◌, List, [], ◌∷◌, ◌++◌, length, map, Option, Some, slice_get, codes, refl, sym, ap, subst, ◌∙◌, arith}
 use Rattle.std.specs.Prelude.{IfSome}
 use Rattle.std.specs.List.{Contains}
 use Rattle.std.specs.Str.Lines.{lines}
@@ -20,7 +20,6 @@ use Rattle.ql_exec.specs.declared.effect.Effect.{Effect}
 use Rattle.ql_exec.specs.Execution.{IsExecution}
 use Rattle.ql_execution_files.specs.ExecutionFile.{FirstFault, IsExecutionFile}
 use Rattle.ql_execution_files.specs.declared.report_fault.ReportFault.{ReportFault}
-use Rattle.ql_formula.specs.Truth.{Holds, HoldsTxn}
 use Rattle.ql_implication.specs.Executions.{FitsProgram}
 use Rattle.ql_implied.specs.Commands.{TellsLevels}
 use Rattle.ql_judging.specs.Verify.{VerifySays, VerifyTells}
@@ -29,7 +28,6 @@ use Rattle.ql_judging.proofs.Begun.{under}
 use Rattle.ql_lang.specs.Formulas.{Resolved}
 use Rattle.ql_lang.specs.declared.program.Program.{Program}
 use Rattle.ql_lang.specs.Programs.{Source, source_of}
-use Rattle.ql_levels.specs.Formulas.{formula_of, txn_formula_of}
 use Rattle.ql_levels.specs.Words.{word_of, txn_word_of}
 use Rattle.ql_lines.specs.Lines.{Ahead, ahead_from}
 use Rattle.ql_parse.specs.Parsing.{IsProgramText}

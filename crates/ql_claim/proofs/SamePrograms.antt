@@ -1,22 +1,19 @@
 -- Programs that are read as one source have the same names and contracts, the same work, and the same executions.
-use Rattle.std.proofs.Common.{◌≡◌, inl, inr, ℕ, zero, suc, List, [], ◌∷◌, ◌++◌, map, length, slice_get, Option, None, Some, Err, codes, refl, sym, ap, subst, ◌∙◌}
+use Rattle.std.proofs.Common.{◌≡◌, inl, inr, ℕ, zero, suc, List, [], ◌∷◌, map, slice_get, Option, None, Some, Err, refl, sym, ap, ◌∙◌}
 use Rattle.std.specs.Prelude.{unwrap_or}
 use Rattle.std.specs.Option.{option_map_or}
 use Rattle.std.specs.Str.{bytes_eq}
 use Rattle.ql_base.specs.Numbering.{place}
-use Rattle.ql_base.specs.declared.ids.ObjId.{ObjId}
 use Rattle.ql_base.specs.declared.ids.OpId.{OpId}
 use Rattle.ql_commands.proofs.SameSource.{map_alike, same-op-kinds, same-ops, same-txns}
 use Rattle.ql_exec.specs.declared.effect.Effect.{Effect}
 use Rattle.ql_exec.specs.declared.effect.Member.{Member}
-use Rattle.ql_execution_files.specs.Effects.{after_effect, after_known, is_mixed, known_of, member_of}
+use Rattle.ql_execution_files.specs.Effects.{after_effect, after_known, known_of, member_of}
 use Rattle.ql_execution_files.specs.ExecutionFile.{Ended, IsExecutionFile, Leads, Stage, Takes, Unbegun, WithEffects}
 use Rattle.ql_execution_files.specs.declared.effect_line.EffectLine.{EffectLine}
-use Rattle.ql_execution_files.specs.declared.report_fault.LineFault.{LineFault}
 use Rattle.ql_execution_files.specs.declared.report_fault.LineFault.TheVariants.{Unknown}
 use Rattle.ql_execution_files.specs.declared.setting.Begun.{Begun}
 use Rattle.ql_execution_files.specs.declared.told.Told.{Told}
-use Rattle.ql_lang.specs.Formulas.{Resolved}
 use Rattle.ql_lang.specs.declared.operation.OpDecl.{OpDecl}
 use Rattle.ql_lang.specs.declared.program.Program.{Program}
 use Rattle.ql_lang.specs.declared.program.TxnDecl.{TxnDecl}
@@ -27,7 +24,7 @@ use Rattle.ql_typing.specs.Lookups.{txn_place}
 use Rattle.ql_typing.specs.Operations.{all_ops, op_contract, op_contracts, op_place, op_words, txn_contract, txn_contracts}
 use Rattle.ql_typing.specs.Resolved.{resolved_in}
 use Rattle.ql_typing.proofs.Positions.{op_place_of, position-map}
-use Rattle.ql_verify.specs.Work.{effects_of, runs_of, work_from, work_of}
+use Rattle.ql_verify.specs.Work.{work_of}
 
 -- an item's text, told by the texts of all
 text-at : {A : Type 0} (text : A → List ℕ) (xs : List A) (k : ℕ) → option_map_or text (slice_get xs k) [] ≡ unwrap_or (slice_get (map text xs) k) []

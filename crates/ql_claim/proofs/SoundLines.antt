@@ -1,6 +1,6 @@
 -- Texts of lines in which targets have levels: they are sound where each of these levels guarantees its contract. The answers
 -- of `classify` and of `check` are such texts.
-use Rattle.std.proofs.Common.{◌≡◌, ◌≢◌, ◌⊎◌, inl, inr, true, ℕ, zero, suc, ◌+◌, ◌-◌, ◌<◌, ◌≤◌, List, [], ◌∷◌, ◌++◌, length, map, drop, get_or, decimal, slice_get, Option, None, Some, codes, refl, sym, ap, subst, ◌∙◌, arith, append_assoc}
+use Rattle.std.proofs.Common.{◌≡◌, ◌≢◌, ◌⊎◌, inl, inr, true, ℕ, suc, ◌+◌, ◌-◌, ◌<◌, List, [], ◌∷◌, ◌++◌, length, drop, get_or, decimal, slice_get, Option, Some, codes, refl, sym, ap, subst, ◌∙◌, arith, append_assoc}
 use Rattle.std.specs.List.{AllByRecursion, Contains}
 use Rattle.std.specs.Option.{option_map_or}
 use Rattle.std.specs.Str.Lines.{lines}
@@ -16,7 +16,7 @@ use Rattle.ql_cert.specs.declared.cert.SectionLevel.TheVariants.{Op, Txn}
 use Rattle.ql_classify.specs.Targets.{op_at, txn_at}
 use Rattle.ql_commands.specs.declared.answer.Answer.{Answer}
 use Rattle.ql_commands.specs.declared.answer.Answer.TheVariants.{Done, No, Bad}
-use Rattle.ql_commands.specs.Check.{AreDue, Operation, Target, Transaction, goal_at, goal_of, order_text, refusal_end, section_text, target_named, target_of, targets_due, verdict_text}
+use Rattle.ql_commands.specs.Check.{AreDue, Operation, Transaction, goal_at, order_text, refusal_end, section_text, target_named, targets_due, verdict_text}
 use Rattle.ql_commands.specs.Judging.{AreDueFrom}
 use Rattle.ql_commands.specs.Sources.{IsSourceOf}
 use Rattle.ql_commands.proofs.Due.{due_from, due_op, due_txn, op_below, txn_above}

@@ -31,27 +31,28 @@ IsTargetWithLevel p line =
     ((o : ℕ) × (level : Level) × (o < length (all_ops p.types)) × (line ≡ op_with_level p o level))
     ⊎ ((d : ℕ) × (level : TxnLevel) × (d < length p.txns) × (line ≡ txn_with_level p d level))
 
--- The text says of a source, on its lines with an ending, which levels guarantee contracts, and that is so.
+-- A sound answer for the bytes of a source: each line of the text with this ending states an operation or a declared
+-- transaction with a level, and that level is enough.
 pub record IsSoundAnswer (ending source text : List ℕ) : Type 0 where
   -- the source reads as this program
   pub program : Program
   pub reads : IsProgramText source (source_of program)
-  -- each line with the ending has a target with its level
+  -- each line with the ending states one of its targets with a level
   pub targets : (line : List ℕ) → Contains (lines text) (line ++ ending) → IsTargetWithLevel program line
-  -- where such a line has an operation, in every execution that fits the program the level guarantees the contract of each
-  -- of its effects
+  -- where that is an operation, the level guarantees its contract at each of its effects, in every execution that fits the
+  -- program
   pub operations : (o : ℕ) (level : Level) (contract : Resolved) → Contains (lines text) (op_with_level program o level ++ ending)
       → slice_get (op_contracts program.types) o ≡ Some contract → IsImplied (op_kinds program.types) o level contract
-  -- where it has a declared transaction, the level guarantees the contract of each begun one
+  -- where it is a declared transaction, the level guarantees its contract of each begun one
   pub transactions : (d : ℕ) (level : TxnLevel) (contract : Resolved) → Contains (lines text) (txn_with_level program d level ++ ending)
       → slice_get (txn_contracts program) d ≡ Some contract → IsImpliedTxn (op_kinds program.types) level contract
 
 -- What a call of `quelea` wrote that ended with a status: the arguments, what the shelf holds under each name, and what the
 -- sink took before the call and after it.
 pub record Soundness (status : Status) (words : List (List ℕ)) (held : List ℕ → Option (List ℕ)) (was is : Option (List ℕ)) : Type 0 where
-  -- to `classify NAME` with status 0 a text of which each line is sound
+  -- to `classify NAME`, with status 0, a text that is sound in each line
   pub classify : (name source before : List ℕ) → status ≡ Done → words ≡ codes "classify" ∷ name ∷ []
       → held name ≡ Some source → was ≡ Some before → Gained before is (IsSoundAnswer (codes "") source)
-  -- to `check NAME OTHER` with status 0 or 1 a text of which each line that ends in `accepted` is
+  -- to `check NAME OTHER`, with status 0 or 1, a text that is sound in each line that ends in `accepted`
   pub check : (name other source certificate before : List ℕ) → (status ≡ Done) ⊎ (status ≡ No) → words ≡ codes "check" ∷ name ∷ other ∷ []
       → held name ≡ Some source → held other ≡ Some certificate → was ≡ Some before → Gained before is (IsSoundAnswer (codes " accepted") source)
