@@ -1,16 +1,17 @@
--- What the arguments ask for: `prove NAME` and `check NAME OTHER` are one request each.
+-- What the arguments ask for: each form of them is one call; and what is then said of the bytes of its files.
 use Rattle.std.proofs.Common.{◌≡◌, ℕ, ◌≤◌, length, List, [], ◌∷◌, Option, Some, get_or, codes, arith, sym, ap, subst, ◌∙◌}
 use Rattle.std.specs.Prelude.{IfSome}
 use Rattle.ql_app.specs.declared.outcome.Limits.{Limits}
-use Rattle.ql_app.specs.declared.status.Status.TheVariants.{Done, No}
+use Rattle.ql_app.specs.declared.status.Status.{Status}
+use Rattle.ql_app.specs.declared.words.Command.{Command}
 use Rattle.ql_app.specs.declared.words.Command.TheVariants.{Holds, Proof, Classify, ClassifyWhy, Prove, Gen, Soak}
+use Rattle.ql_app.specs.declared.words.PairCommand.{PairCommand}
 use Rattle.ql_app.specs.declared.words.PairCommand.TheVariants.{Check, Verify, Run, Slim, Restart}
 use Rattle.ql_running.specs.declared.form.Form.TheVariants.{Text, Json}
-use Rattle.ql_app.specs.Outcome.{Judges}
+use Rattle.ql_app.specs.Outcome.{CommandSays, Judges, PairSays, second_limit}
 use Rattle.ql_app.specs.Words.{Call, IsRequest, OneFile, TwoFiles}
-use Rattle.ql_commands.specs.Check.{CheckSays}
-use Rattle.ql_commands.specs.Prove.{ProveSays}
-use Rattle.ql_commands.specs.declared.answer.Answer.TheVariants as answer
+
+-- ---- the arguments
 
 -- the first byte of the first argument
 abbrev first : List (List ℕ) → ℕ
@@ -23,51 +24,93 @@ second ws = get_or (get_or ws 0 []) 1 0
 abbrev fourth : List (List ℕ) → ℕ
 fourth ws = get_or (get_or ws 0 []) 3 0
 
-module _ (limits : Limits) (held : List ℕ → Option (List ℕ)) (name source text : List ℕ) (name_held : held name ≡ Some source) where
-  told : (n : List ℕ) → n ≡ name → Judges limits held (OneFile Prove n) Done text → (length source ≤ limits.file) × ProveSays source answer.Done text
-  told n n_is says = subst (λ (h : Option (List ℕ)). IfSome h (λ bytes. (length bytes ≤ limits.file) × ProveSays bytes answer.Done text)) (ap held n_is ∙ name_held) says
+pub asks-prove : (words : List (List ℕ)) (name : List ℕ) → words ≡ codes "prove" ∷ name ∷ [] → (call : Call) → IsRequest words call → call ≡ OneFile Prove name
+asks-prove words name are (OneFile Holds n) is = absurd (let never : 112 ≡ 104 = ap first (sym are ∙ is.0) in omega (arith, never))
+asks-prove words name are (OneFile Proof n) is = absurd (let never : 118 ≡ 111 = ap fourth (sym are ∙ is.0) in omega (arith, never))
+asks-prove words name are (OneFile Classify n) is = absurd (let never : 112 ≡ 99 = ap first (sym are ∙ is.0) in omega (arith, never))
+asks-prove words name are (OneFile ClassifyWhy n) is = absurd (let never : 112 ≡ 99 = ap first (sym are ∙ is.0) in omega (arith, never))
+asks-prove words name are (OneFile Prove n) is =
+    let same : codes "prove" ∷ n ∷ [] ≡ codes "prove" ∷ name ∷ [] = sym is.0 ∙ are in
+    let one : n ≡ name = cc in
+    ap (OneFile Prove) one
+asks-prove words name are (OneFile (Gen number events) n) is = absurd (let never : 112 ≡ 103 = ap first (sym are ∙ is.0) in omega (arith, never))
+asks-prove words name are (OneFile (Soak number) n) is = absurd (let never : 112 ≡ 115 = ap first (sym are ∙ is.0) in omega (arith, never))
+asks-prove words name are (TwoFiles Check n m) is = absurd (let never : 112 ≡ 99 = ap first (sym are ∙ is.0) in omega (arith, never))
+asks-prove words name are (TwoFiles Verify n m) is = absurd (let never : 112 ≡ 118 = ap first (sym are ∙ is.0) in omega (arith, never))
+asks-prove words name are (TwoFiles (Run Text) n m) is = absurd (let never : 112 ≡ 114 = ap first (sym are ∙ is.0) in omega (arith, never))
+asks-prove words name are (TwoFiles (Run Json) n m) is = absurd (let never : 112 ≡ 114 = ap first (sym are ∙ is.0) in omega (arith, never))
+asks-prove words name are (TwoFiles Slim n m) is = absurd (let never : 112 ≡ 115 = ap first (sym are ∙ is.0) in omega (arith, never))
+asks-prove words name are (TwoFiles (Restart replica cut) n m) is = absurd (let never : 112 ≡ 114 = ap first (sym are ∙ is.0) in omega (arith, never))
 
-  pub proves : (words : List (List ℕ)) → words ≡ codes "prove" ∷ name ∷ [] → (call : Call) → IsRequest words call → Judges limits held call Done text
-      → (length source ≤ limits.file) × ProveSays source answer.Done text
-  proves words are (OneFile Holds n) is says = absurd (let never : 112 ≡ 104 = ap first (sym are ∙ is.0) in omega (arith, never))
-  proves words are (OneFile Proof n) is says = absurd (let never : 118 ≡ 111 = ap fourth (sym are ∙ is.0) in omega (arith, never))
-  proves words are (OneFile Classify n) is says = absurd (let never : 112 ≡ 99 = ap first (sym are ∙ is.0) in omega (arith, never))
-  proves words are (OneFile ClassifyWhy n) is says = absurd (let never : 112 ≡ 99 = ap first (sym are ∙ is.0) in omega (arith, never))
-  proves words are (OneFile Prove n) is says =
-      let same : codes "prove" ∷ n ∷ [] ≡ codes "prove" ∷ name ∷ [] = sym is.0 ∙ are in
-      let one : n ≡ name = cc in
-      told n one says
-  proves words are (OneFile (Gen number events) n) is says = absurd (let never : 112 ≡ 103 = ap first (sym are ∙ is.0) in omega (arith, never))
-  proves words are (OneFile (Soak number) n) is says = absurd (let never : 112 ≡ 115 = ap first (sym are ∙ is.0) in omega (arith, never))
-  proves words are (TwoFiles Check n m) is says = absurd (let never : 112 ≡ 99 = ap first (sym are ∙ is.0) in omega (arith, never))
-  proves words are (TwoFiles Verify n m) is says = absurd (let never : 112 ≡ 118 = ap first (sym are ∙ is.0) in omega (arith, never))
-  proves words are (TwoFiles (Run Text) n m) is says = absurd (let never : 112 ≡ 114 = ap first (sym are ∙ is.0) in omega (arith, never))
-  proves words are (TwoFiles (Run Json) n m) is says = absurd (let never : 112 ≡ 114 = ap first (sym are ∙ is.0) in omega (arith, never))
-  proves words are (TwoFiles Slim n m) is says = absurd (let never : 112 ≡ 115 = ap first (sym are ∙ is.0) in omega (arith, never))
-  proves words are (TwoFiles (Restart replica cut) n m) is says = absurd (let never : 112 ≡ 114 = ap first (sym are ∙ is.0) in omega (arith, never))
+pub asks-classify : (words : List (List ℕ)) (name : List ℕ) → words ≡ codes "classify" ∷ name ∷ [] → (call : Call) → IsRequest words call → call ≡ OneFile Classify name
+asks-classify words name are (OneFile Holds n) is = absurd (let never : 99 ≡ 104 = ap first (sym are ∙ is.0) in omega (arith, never))
+asks-classify words name are (OneFile Proof n) is = absurd (let never : 99 ≡ 112 = ap first (sym are ∙ is.0) in omega (arith, never))
+asks-classify words name are (OneFile Classify n) is =
+    let same : codes "classify" ∷ n ∷ [] ≡ codes "classify" ∷ name ∷ [] = sym is.0 ∙ are in
+    let one : n ≡ name = cc in
+    ap (OneFile Classify) one
+asks-classify words name are (OneFile ClassifyWhy n) is = absurd (let never : 2 ≡ 3 = ap length (sym are ∙ is.0) in omega (arith, never))
+asks-classify words name are (OneFile Prove n) is = absurd (let never : 99 ≡ 112 = ap first (sym are ∙ is.0) in omega (arith, never))
+asks-classify words name are (OneFile (Gen number events) n) is = absurd (let never : 99 ≡ 103 = ap first (sym are ∙ is.0) in omega (arith, never))
+asks-classify words name are (OneFile (Soak number) n) is = absurd (let never : 99 ≡ 115 = ap first (sym are ∙ is.0) in omega (arith, never))
+asks-classify words name are (TwoFiles Check n m) is = absurd (let never : 2 ≡ 3 = ap length (sym are ∙ is.0) in omega (arith, never))
+asks-classify words name are (TwoFiles Verify n m) is = absurd (let never : 99 ≡ 118 = ap first (sym are ∙ is.0) in omega (arith, never))
+asks-classify words name are (TwoFiles (Run Text) n m) is = absurd (let never : 99 ≡ 114 = ap first (sym are ∙ is.0) in omega (arith, never))
+asks-classify words name are (TwoFiles (Run Json) n m) is = absurd (let never : 99 ≡ 114 = ap first (sym are ∙ is.0) in omega (arith, never))
+asks-classify words name are (TwoFiles Slim n m) is = absurd (let never : 99 ≡ 115 = ap first (sym are ∙ is.0) in omega (arith, never))
+asks-classify words name are (TwoFiles (Restart replica cut) n m) is = absurd (let never : 99 ≡ 114 = ap first (sym are ∙ is.0) in omega (arith, never))
 
-module _ (limits : Limits) (held : List ℕ → Option (List ℕ)) (name other source certificate text : List ℕ) (name_held : held name ≡ Some source) (other_held : held other ≡ Some certificate) where
-  both : (n m : List ℕ) → n ≡ name → m ≡ other → Judges limits held (TwoFiles Check n m) No text → CheckSays source certificate answer.No text
-  both n m n_is m_is says =
-      let whole = subst (λ (h : Option (List ℕ)). IfSome h (λ bytes. (length bytes ≤ limits.file) × IfSome (held m) (λ more. (length more ≤ limits.second) × CheckSays bytes more answer.No text))) (ap held n_is ∙ name_held) says in
-      let all = subst (λ (h : Option (List ℕ)). IfSome h (λ more. (length more ≤ limits.second) × CheckSays source more answer.No text)) (ap held m_is ∙ other_held) whole.1 in
+pub asks-check : (words : List (List ℕ)) (name other : List ℕ) → words ≡ codes "check" ∷ name ∷ other ∷ [] → (call : Call) → IsRequest words call → call ≡ TwoFiles Check name other
+asks-check words name other are (OneFile Holds n) is = absurd (let never : 99 ≡ 104 = ap first (sym are ∙ is.0) in omega (arith, never))
+asks-check words name other are (OneFile Proof n) is = absurd (let never : 99 ≡ 112 = ap first (sym are ∙ is.0) in omega (arith, never))
+asks-check words name other are (OneFile Classify n) is = absurd (let never : 104 ≡ 108 = ap second (sym are ∙ is.0) in omega (arith, never))
+asks-check words name other are (OneFile ClassifyWhy n) is = absurd (let never : 104 ≡ 108 = ap second (sym are ∙ is.0) in omega (arith, never))
+asks-check words name other are (OneFile Prove n) is = absurd (let never : 99 ≡ 112 = ap first (sym are ∙ is.0) in omega (arith, never))
+asks-check words name other are (OneFile (Gen number events) n) is = absurd (let never : 99 ≡ 103 = ap first (sym are ∙ is.0) in omega (arith, never))
+asks-check words name other are (OneFile (Soak number) n) is = absurd (let never : 99 ≡ 115 = ap first (sym are ∙ is.0) in omega (arith, never))
+asks-check words name other are (TwoFiles Check n m) is =
+    let same : codes "check" ∷ n ∷ m ∷ [] ≡ codes "check" ∷ name ∷ other ∷ [] = sym is.0 ∙ are in
+    let one : n ≡ name = cc in
+    let two : m ≡ other = cc in
+    ap (λ (w : List ℕ). TwoFiles Check w m) one ∙ ap (TwoFiles Check name) two
+asks-check words name other are (TwoFiles Verify n m) is = absurd (let never : 99 ≡ 118 = ap first (sym are ∙ is.0) in omega (arith, never))
+asks-check words name other are (TwoFiles (Run Text) n m) is = absurd (let never : 99 ≡ 114 = ap first (sym are ∙ is.0) in omega (arith, never))
+asks-check words name other are (TwoFiles (Run Json) n m) is = absurd (let never : 99 ≡ 114 = ap first (sym are ∙ is.0) in omega (arith, never))
+asks-check words name other are (TwoFiles Slim n m) is = absurd (let never : 99 ≡ 115 = ap first (sym are ∙ is.0) in omega (arith, never))
+asks-check words name other are (TwoFiles (Restart replica cut) n m) is = absurd (let never : 99 ≡ 114 = ap first (sym are ∙ is.0) in omega (arith, never))
+
+pub asks-verify : (words : List (List ℕ)) (name other : List ℕ) → words ≡ codes "verify" ∷ name ∷ other ∷ [] → (call : Call) → IsRequest words call → call ≡ TwoFiles Verify name other
+asks-verify words name other are (OneFile Holds n) is = absurd (let never : 118 ≡ 104 = ap first (sym are ∙ is.0) in omega (arith, never))
+asks-verify words name other are (OneFile Proof n) is = absurd (let never : 118 ≡ 112 = ap first (sym are ∙ is.0) in omega (arith, never))
+asks-verify words name other are (OneFile Classify n) is = absurd (let never : 118 ≡ 99 = ap first (sym are ∙ is.0) in omega (arith, never))
+asks-verify words name other are (OneFile ClassifyWhy n) is = absurd (let never : 118 ≡ 99 = ap first (sym are ∙ is.0) in omega (arith, never))
+asks-verify words name other are (OneFile Prove n) is = absurd (let never : 118 ≡ 112 = ap first (sym are ∙ is.0) in omega (arith, never))
+asks-verify words name other are (OneFile (Gen number events) n) is = absurd (let never : 118 ≡ 103 = ap first (sym are ∙ is.0) in omega (arith, never))
+asks-verify words name other are (OneFile (Soak number) n) is = absurd (let never : 118 ≡ 115 = ap first (sym are ∙ is.0) in omega (arith, never))
+asks-verify words name other are (TwoFiles Check n m) is = absurd (let never : 118 ≡ 99 = ap first (sym are ∙ is.0) in omega (arith, never))
+asks-verify words name other are (TwoFiles Verify n m) is =
+    let same : codes "verify" ∷ n ∷ m ∷ [] ≡ codes "verify" ∷ name ∷ other ∷ [] = sym is.0 ∙ are in
+    let one : n ≡ name = cc in
+    let two : m ≡ other = cc in
+    ap (λ (w : List ℕ). TwoFiles Verify w m) one ∙ ap (TwoFiles Verify name) two
+asks-verify words name other are (TwoFiles (Run Text) n m) is = absurd (let never : 118 ≡ 114 = ap first (sym are ∙ is.0) in omega (arith, never))
+asks-verify words name other are (TwoFiles (Run Json) n m) is = absurd (let never : 118 ≡ 114 = ap first (sym are ∙ is.0) in omega (arith, never))
+asks-verify words name other are (TwoFiles Slim n m) is = absurd (let never : 118 ≡ 115 = ap first (sym are ∙ is.0) in omega (arith, never))
+asks-verify words name other are (TwoFiles (Restart replica cut) n m) is = absurd (let never : 118 ≡ 114 = ap first (sym are ∙ is.0) in omega (arith, never))
+
+-- ---- the files
+
+module _ (limits : Limits) (held : List ℕ → Option (List ℕ)) (status : Status) (text : List ℕ) where
+  pub said-of-file : (command : Command) (name source : List ℕ) → held name ≡ Some source → (call : Call) → call ≡ OneFile command name → Judges limits held call status text
+      → (length source ≤ limits.file) × CommandSays command source status text
+  said-of-file command name source name_held call is says =
+      subst (λ (h : Option (List ℕ)). IfSome h (λ bytes. (length bytes ≤ limits.file) × CommandSays command bytes status text)) name_held
+      (subst (λ (c : Call). Judges limits held c status text) is says)
+
+  pub said-of-files : (command : PairCommand) (name other source more : List ℕ) → held name ≡ Some source → held other ≡ Some more → (call : Call) → call ≡ TwoFiles command name other → Judges limits held call status text
+      → PairSays command source more status text
+  said-of-files command name other source more name_held other_held call is says =
+      let both = subst (λ (h : Option (List ℕ)). IfSome h (λ bytes. (length bytes ≤ limits.file) × IfSome (held other) (λ m. (length m ≤ second_limit limits command) × PairSays command bytes m status text))) name_held
+      (subst (λ (c : Call). Judges limits held c status text) is says) in
+      let all = subst (λ (h : Option (List ℕ)). IfSome h (λ m. (length m ≤ second_limit limits command) × PairSays command source m status text)) other_held both.1 in
       all.1
-
-  pub checks : (words : List (List ℕ)) → words ≡ codes "check" ∷ name ∷ other ∷ [] → (call : Call) → IsRequest words call → Judges limits held call No text → CheckSays source certificate answer.No text
-  checks words are (OneFile Holds n) is says = absurd (let never : 99 ≡ 104 = ap first (sym are ∙ is.0) in omega (arith, never))
-  checks words are (OneFile Proof n) is says = absurd (let never : 99 ≡ 112 = ap first (sym are ∙ is.0) in omega (arith, never))
-  checks words are (OneFile Classify n) is says = absurd (let never : 104 ≡ 108 = ap second (sym are ∙ is.0) in omega (arith, never))
-  checks words are (OneFile ClassifyWhy n) is says = absurd (let never : 104 ≡ 108 = ap second (sym are ∙ is.0) in omega (arith, never))
-  checks words are (OneFile Prove n) is says = absurd (let never : 99 ≡ 112 = ap first (sym are ∙ is.0) in omega (arith, never))
-  checks words are (OneFile (Gen number events) n) is says = absurd (let never : 99 ≡ 103 = ap first (sym are ∙ is.0) in omega (arith, never))
-  checks words are (OneFile (Soak number) n) is says = absurd (let never : 99 ≡ 115 = ap first (sym are ∙ is.0) in omega (arith, never))
-  checks words are (TwoFiles Check n m) is says =
-      let same : codes "check" ∷ n ∷ m ∷ [] ≡ codes "check" ∷ name ∷ other ∷ [] = sym is.0 ∙ are in
-      let one : n ≡ name = cc in
-      let two : m ≡ other = cc in
-      both n m one two says
-  checks words are (TwoFiles Verify n m) is says = absurd (let never : 99 ≡ 118 = ap first (sym are ∙ is.0) in omega (arith, never))
-  checks words are (TwoFiles (Run Text) n m) is says = absurd (let never : 99 ≡ 114 = ap first (sym are ∙ is.0) in omega (arith, never))
-  checks words are (TwoFiles (Run Json) n m) is says = absurd (let never : 99 ≡ 114 = ap first (sym are ∙ is.0) in omega (arith, never))
-  checks words are (TwoFiles Slim n m) is says = absurd (let never : 99 ≡ 115 = ap first (sym are ∙ is.0) in omega (arith, never))
-  checks words are (TwoFiles (Restart replica cut) n m) is says = absurd (let never : 99 ≡ 114 = ap first (sym are ∙ is.0) in omega (arith, never))

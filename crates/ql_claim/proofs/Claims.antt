@@ -8,6 +8,7 @@ use Rattle.ql_ports.specs.Written.{appended}
 use Rattle.ql_app.specs.declared.outcome.Limits.{Limits}
 use Rattle.ql_app.specs.declared.status.Status.{Status}
 use Rattle.ql_app.specs.declared.status.Status.TheVariants.{Done, No, Bad, ReadFault, WriteFault, Usage, TooLarge}
+use Rattle.ql_app.specs.declared.words.Command.TheVariants.{Prove}
 use Rattle.ql_app.specs.declared.words.PairCommand.TheVariants.{Check}
 use Rattle.ql_app.specs.Answers.{status_of}
 use Rattle.ql_app.specs.Outcome.{AreHeld, IsAnswered, NoneRose, Says, Wrote}
@@ -29,7 +30,7 @@ use Rattle.ql_typing.specs.Operations.{uses_op}
 use Rattle.ql_typing.specs.Programs.{program_faults}
 use Rattle.ql_claim.specs.Headline.{Headline}
 use Rattle.ql_claim.specs.InTurn.{AreInTurn, NothingFailed}
-use Rattle.ql_claim.proofs.Asked.{checks, proves}
+use Rattle.ql_claim.proofs.Asked.{asks-check, asks-prove, said-of-file, said-of-files}
 use Rattle.ql_claim.proofs.Certificates.{proved-certificate, proved-run}
 
 module _ (limits : Limits) (words : List (List ℕ)) (held : List ℕ → Option (List ℕ)) (before after : List ℕ → ℕ) (was is : Option (List ℕ)) (faults sums : ℕ)
@@ -40,7 +41,7 @@ module _ (limits : Limits) (words : List (List ℕ)) (held : List ℕ → Option
     where
       by : Says limits words held before after Done wrote.0 → is ≡ appended was wrote.0 → (text : List ℕ) × (is ≡ Some (start ++ text)) × (length source ≤ limits.file) × ProveSays source answer.Done text
       by (inl asks) put =
-          let told = proves limits held name source wrote.0 name_held words are asks.0 asks.1 asks.2 in
+          let told = said-of-file limits held Done wrote.0 Prove name source name_held asks.0 (asks-prove words name are asks.0 asks.1) asks.2 in
           (wrote.0, put ∙ ap (λ (w : Option (List ℕ)). appended w wrote.0) begun, told.0, told.1)
       by (inr usage) put = absurd (let never : Done ≡ Usage = usage.0 in cc)
 
@@ -87,7 +88,8 @@ module _ (tree : (bytes : List ℕ) (s t : Source) → IsProgramText bytes s →
         where
           by : Says limits next next_held next_before next_after No told.0 → No ≡ Done
           by (inl asks) =
-              let says = checks limits next_held turn.again turn.other turn.source turn.certificate told.0 turn.again_held turn.certificate_held next turn.checks asks.0 asks.1 asks.2 in
+              let says = said-of-files limits next_held No told.0 Check turn.again turn.other turn.source turn.certificate turn.again_held turn.certificate_held
+              asks.0 (asks-check next turn.again turn.other turn.checks asks.0 asks.1) asks.2 in
               ap status_of (accepted_again tree turn.source turn.certificate told.0 answer.No printed.1 says)
           by (inr usage) = absurd (let never : No ≡ Usage = usage.0 in cc)
 

@@ -1,4 +1,10 @@
+mod TextLines
+mod SamePrograms
 mod OneLevel
+mod Fits
 mod Certificates
 mod Asked
 mod Claims
+mod SoundLines
+mod SoundClaims
+mod KeptClaims

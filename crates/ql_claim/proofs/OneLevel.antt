@@ -1,12 +1,12 @@
 -- Levels that are least over all executions are one, of all programs that are read as one source.
-use Rattle.std.proofs.Common.{◌≡◌, ℕ, zero, suc, ◌+◌, ◌<◌, List, [], ◌∷◌, length, map, get_or, slice_get, Some, refl, ap, sym, subst, ◌∙◌, arith, length-append, get_or-append-add}
+use Rattle.std.proofs.Common.{◌≡◌, ℕ, zero, suc, ◌+◌, ◌<◌, List, [], ◌∷◌, length, get_or, slice_get, Some, refl, ap, sym, subst, ◌∙◌, arith, length-append, get_or-append-add}
 use Rattle.std.specs.List.{All}
 use Rattle.std.proofs.lemmas.List.{get_or_append_left, length-map}
 use Rattle.ql_base.specs.declared.ids.OpId.{OpId}
 use Rattle.ql_base.specs.declared.ids.DeclId.{DeclId}
 use Rattle.ql_classify.specs.Targets.{goals_at, goals_below, op_at, ops_from, txn_at, txns_from}
 use Rattle.ql_commands.proofs.SameProblems.{same_count}
-use Rattle.ql_commands.proofs.SameSource.{map_alike, same-op-kinds, same-ops, same-txns}
+use Rattle.ql_commands.proofs.SameSource.{same-op-kinds, same-txns}
 use Rattle.ql_counter.specs.Countermodels.{HasCounter}
 use Rattle.ql_exec.specs.declared.effect.Effect.{Effect}
 use Rattle.ql_ground.specs.declared.goal.Goal.{Goal}
@@ -16,15 +16,15 @@ use Rattle.ql_implication.specs.Executions.{IsImplied, IsImpliedTxn}
 use Rattle.ql_implied.specs.Commands.{AreLeast, GivesContract}
 use Rattle.ql_lang.specs.Formulas.{Resolved}
 use Rattle.ql_lang.specs.declared.program.Program.{Program}
-use Rattle.ql_lang.specs.Programs.{Operation, Transaction, operation_of, source_of, transaction_of}
+use Rattle.ql_lang.specs.Programs.{Transaction, source_of, transaction_of}
 use Rattle.ql_least.specs.Least.{EachFails, LowerFail}
 use Rattle.ql_levels.specs.Lists.{LevelLists}
 use Rattle.ql_levels.specs.declared.level.Level.{Level}
 use Rattle.ql_levels.specs.declared.level.Level.TheVariants.{Eventual, Causal, Wide, Strong}
 use Rattle.ql_levels.specs.declared.level.TxnLevel.{TxnLevel}
 use Rattle.ql_levels.specs.declared.level.TxnLevel.TheVariants.{Rc, Mav, Rr}
-use Rattle.ql_typing.specs.Operations.{all_ops, op_contract, op_contracts, op_kinds, op_words, txn_contract, txn_contracts}
-use Rattle.ql_typing.specs.Resolved.{resolved_in}
+use Rattle.ql_typing.specs.Operations.{op_kinds}
+use Rattle.ql_claim.proofs.SamePrograms.{same-op-contracts, same-txn-contracts}
 
 -- ---- lists
 
@@ -72,7 +72,7 @@ module _ (P : Goal → Type 0) (levels : LevelLists) (each : All P (goals_at lev
       (get_or_append_left (ops_from 0 levels.ops) (txns_from 0 levels.txns) d o (omega (arith, less, long)) ∙ op-goal levels.ops 0 o o d (omega arith) less)
       (each o d within)
 
-  of-txn : (k : ℕ) → k < length levels.txns → P (txn_at k (get_or levels.txns k Rr))
+  pub of-txn : (k : ℕ) → k < length levels.txns → P (txn_at k (get_or levels.txns k Rr))
   of-txn k less =
       let long = length-ops 0 levels.ops in
       let more = length-txns 0 levels.txns in
@@ -85,19 +85,6 @@ module _ (P : Goal → Type 0) (levels : LevelLists) (each : All P (goals_at lev
 -- ---- programs that are read as one source
 
 module _ (p q : Program) (e : source_of p ≡ source_of q) where
-  words : op_words p.types ≡ op_words q.types
-  words = map_alike operation_of (λ o. o.name.word) (λ a b s. ap (λ (o : Operation). o.name.word) s) (all_ops p.types) (all_ops q.types) (same-ops p q e)
-
-  of-ops : op_contracts p.types ≡ op_contracts q.types
-  of-ops =
-      ap (λ (ws : List (List ℕ)). map (op_contract ws) (all_ops p.types)) words
-      ∙ map_alike operation_of (op_contract (op_words q.types)) (λ a b s. ap (λ (o : Operation). resolved_in (op_words q.types) o.contract) s) (all_ops p.types) (all_ops q.types) (same-ops p q e)
-
-  of-txns : txn_contracts p ≡ txn_contracts q
-  of-txns =
-      ap (λ (ws : List (List ℕ)). map (txn_contract ws) p.txns) words
-      ∙ map_alike transaction_of (txn_contract (op_words q.types)) (λ a b s. ap (λ (t : Transaction). resolved_in (op_words q.types) t.contract) s) p.txns q.txns (same-txns p q e)
-
   kinds : op_kinds q.types ≡ op_kinds p.types
   kinds = sym (same-op-kinds p q e)
 
@@ -106,15 +93,15 @@ module _ (p q : Program) (e : source_of p ≡ source_of q) where
 
   gives : (g : Goal) → GivesContract q g → GivesContract p g
   gives (OpAt o level) h =
-      (h.0, ap (λ (fs : List Resolved). slice_get fs o.0) of-ops ∙ h.1, subst (λ (ks : List ℕ). IsImplied ks o.0 level h.0) kinds h.2)
+      (h.0, ap (λ (fs : List Resolved). slice_get fs o.0) (same-op-contracts p q e) ∙ h.1, subst (λ (ks : List ℕ). IsImplied ks o.0 level h.0) kinds h.2)
   gives (TxnAt d level) h =
-      (h.0, ap (λ (fs : List Resolved). slice_get fs d.0) of-txns ∙ h.1, subst (λ (ks : List ℕ). IsImpliedTxn ks level h.0) kinds h.2)
+      (h.0, ap (λ (fs : List Resolved). slice_get fs d.0) (same-txn-contracts p q e) ∙ h.1, subst (λ (ks : List ℕ). IsImpliedTxn ks level h.0) kinds h.2)
 
   counter : (g : Goal) → HasCounter q g → HasCounter p g
   counter (OpAt o level) (f, at, x, cur, places, is) =
-      (f, ap (λ (fs : List Resolved). slice_get fs o.0) of-ops ∙ at, x, cur, places, subst (λ (ks : List ℕ). IsCounter ks o.0 level f x cur places) kinds is)
+      (f, ap (λ (fs : List Resolved). slice_get fs o.0) (same-op-contracts p q e) ∙ at, x, cur, places, subst (λ (ks : List ℕ). IsCounter ks o.0 level f x cur places) kinds is)
   counter (TxnAt d level) (f, at, x, run, places, is) =
-      (f, ap (λ (fs : List Resolved). slice_get fs d.0) of-txns ∙ at, x, run, places, subst (λ (ks : List ℕ). IsTxnCounter ks d.0 level f x run places) kinds is)
+      (f, ap (λ (fs : List Resolved). slice_get fs d.0) (same-txn-contracts p q e) ∙ at, x, run, places, subst (λ (ks : List ℕ). IsTxnCounter ks d.0 level f x run places) kinds is)
 
   fail : (gs : List Goal) → EachFails q gs → EachFails p gs
   fail [] h = tt

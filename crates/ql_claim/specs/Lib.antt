@@ -1,2 +1,4 @@
 pub mod Headline
 pub mod InTurn
+pub mod Soundness
+pub mod Kept

@@ -1,16 +1,24 @@
 ghost use Rattle.std.specs.Prelude.{◌≡◌, ℕ, List, Option};
 ghost use Rattle.ql_app.specs.declared.outcome.Limits.{Limits};
+ghost use Rattle.ql_app.specs.declared.status.Status.{Status};
 ghost use Rattle.ql_app.specs.declared.status.Status.TheVariants.{Done};
 ghost use Rattle.ql_app.specs.Outcome.{Says, Wrote};
+ghost use Rattle.ql_exec.specs.declared.effect.Effect.{Effect};
+ghost use Rattle.ql_exec.specs.Execution.{IsExecution};
+ghost use Rattle.ql_execution_files.specs.ExecutionFile.{IsExecutionFile};
+ghost use Rattle.ql_implication.specs.Executions.{FitsProgram};
 ghost use Rattle.ql_implied.specs.Commands.{AreLeast};
 ghost use Rattle.ql_lang.specs.declared.program.Program.{Program};
 ghost use Rattle.ql_lang.specs.Programs.{source_of};
 ghost use Rattle.ql_levels.specs.Lists.{LevelLists};
+ghost use Rattle.ql_lines.specs.Lines.{Ahead};
+ghost use Rattle.ql_typing.specs.Operations.{op_kinds};
 ghost use Rattle.ql_claim.specs.Headline.{Headline};
+ghost use Rattle.ql_claim.specs.Soundness.{Soundness};
 
 use ql_app::contracts_hold_in_runs;
 use ql_implication::countermodels_refute;
-use ql_implied::strong_uses_are_told;
+use ql_implied::{accepted_lines_give_contracts, strong_uses_are_told, told_levels_give_contracts};
 use ql_parse::one_program_answer;
 
 /// The headline, of what `quelea` wrote by its clause `wrote`: with status 0, to `run` of a source and a schedule, the text
@@ -26,9 +34,26 @@ pub fn headline()
     strong_uses_are_told();
 }
 
+/// Soundness alone, of what `quelea` wrote by its clause `wrote`: in every execution that fits the source's program, each
+/// level that `classify` printed with status 0 guarantees its target's contract, and so does each that `check` accepted.
+pub fn soundness()
+    ensures { (status : Status) (limits : Limits) (words : List (List ℕ)) (held : List ℕ → Option (List ℕ)) (before after : List ℕ → ℕ) (was is : Option (List ℕ)) (faults sums : ℕ)
+        → Wrote (Says limits words held before after) was is faults sums status → Soundness status words held was is }
+{
+    accepted_lines_give_contracts();
+    told_levels_give_contracts();
+}
+
 /// Levels that are least over all executions are one, of all programs that are read as one source.
 pub fn least_levels_are_one()
     ensures { (p q : Program) → source_of p ≡ source_of q → (l k : LevelLists) → AreLeast p l → AreLeast q k → l ≡ k }
 {
     countermodels_refute();
 }
+
+/// An execution that a file reports of a program is one: it is well-formed, its effects are of the program's operations, and
+/// those on one object are of one type.
+pub fn reported_executions_fit()
+    ensures lawful { (p : Program) (file : Ahead) (x : List Effect) → IsExecutionFile p file x → IsExecution x }
+    ensures fits { (p : Program) (file : Ahead) (x : List Effect) → IsExecutionFile p file x → FitsProgram (op_kinds p.types) x }
+{}

@@ -1,10 +1,11 @@
 // What is claimed of the program, in one place, as a reader meets it.
 // The one contract: what `quelea` writes with status 0 to `run` and to `prove` is the text of a proved run and of a
-// proved certificate, and `check` accepts the certificate.
+// proved certificate, and `check` accepts the certificate; each level that `classify` prints or `check` accepts is enough,
+// and where the printed ones are kept `verify` finds no breach.
 #![tactic(auto)]
 
 mod calls;
 mod law;
 
-pub use calls::{answer, prove_and_check};
-pub use law::{headline, least_levels_are_one};
+pub use calls::{answer, classify_and_verify, prove_and_check};
+pub use law::{headline, least_levels_are_one, reported_executions_fit, soundness};

@@ -1,8 +1,11 @@
 use Rattle.ql_app.specs.declared.outcome.Limits.{Limits}
+use Rattle.ql_app.specs.declared.status.Status.{Status}
 use Rattle.ql_app.specs.Outcome.{Says}
 use Rattle.ql_app.specs.Words.{word_texts}
 use Rattle.ql_claim.specs.Headline.{Headline}
+use Rattle.ql_claim.specs.Soundness.{Soundness}
 use Rattle.ql_claim.proofs.Claims.{claim-of}
+use Rattle.ql_claim.proofs.SoundClaims.{of-call}
 use Rattle.ql_claim.proofs.calls.answer.Goals as goal
 
 pub returns : goal.returns
@@ -19,4 +22,6 @@ returns g c =
     record {
       headline = claim-of (Says limits words held before after) was is faults sums (Headline words held was is) c.quelea.result c.quelea.ensures.wrote
           (c.headline.ensures limits words held before after was is faults sums);
+      sound = of-call (Says limits words held before after) was is faults sums (λ (status : Status). Soundness status words held was is) c.quelea.result c.quelea.ensures.wrote
+          (λ status. c.soundness.ensures status limits words held before after was is faults sums);
     }
