@@ -22,18 +22,19 @@ no_feed b other is = grind (arith, other, is)
 -- after a line feed
 pub scan_feed : (text : List ℕ) (k line start : ℕ) → k < length text → is_line_feed (get_or text k 0) ≡ true → IsScanned text k line start → IsScanned text (k + 1) (line + 1) (k + 1)
 scan_feed text k line start lt is h = record {
-    counted = ap (λ n. n + 1) (h.counted ∙ sym (count_by_more_yes is_line_feed text k 0 lt is));
-    begins = record { within = omega arith; begins = inr (k, refl, feed (get_or text k 0) is); one_line = λ j p q. absurd (omega (arith, p, q)) };
-  }
+  counted = ap (λ n. n + 1) (h.counted ∙ sym (count_by_more_yes is_line_feed text k 0 lt is));
+  begins = record { within = omega arith; begins = inr (k, refl, feed (get_or text k 0) is); one_line = λ j p q. absurd (omega (arith, p, q)) };
+}
 
 none_to : (text : List ℕ) (k start : ℕ) → is_line_feed (get_or text k 0) ≡ false → IsLineStart text k start → (j : ℕ) → start ≤ j → j ≤ k → get_or text j 0 ≢ 10
 none_to text k start other h j p q = elim (eq-or-lt_of_le q) [
-    inl same ↦ λ e. no_feed (get_or text k 0) other (ap (λ i. get_or text i 0) (sym same) ∙ e)
-    | inr lt ↦ h.one_line j p lt ]
+  | inl same ↦ λ e. no_feed (get_or text k 0) other (ap (λ i. get_or text i 0) (sym same) ∙ e)
+  | inr lt ↦ h.one_line j p lt
+]
 
 -- after another byte
 pub scan_other : (text : List ℕ) (k line start : ℕ) → k < length text → is_line_feed (get_or text k 0) ≡ false → IsScanned text k line start → IsScanned text (k + 1) line start
 scan_other text k line start lt other h = record {
-    counted = h.counted ∙ ap (λ n. n + 1) (sym (count_by_more_no is_line_feed text k 0 lt other));
-    begins = record { within = omega (arith, h.begins.within); begins = h.begins.begins; one_line = λ j p q. none_to text k start other h.begins j p (omega (arith, q)) };
-  }
+  counted = h.counted ∙ ap (λ n. n + 1) (sym (count_by_more_no is_line_feed text k 0 lt other));
+  begins = record { within = omega (arith, h.begins.within); begins = h.begins.begins; one_line = λ j p q. none_to text k start other h.begins j p (omega (arith, q)) };
+}
