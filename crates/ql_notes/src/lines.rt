@@ -90,13 +90,13 @@ fn push_form_fault(
 
 // The last of the forms that a line may have.
 fn last_form(forms: &[u8]) -> &[u8] {
-    let mut start = 0;
+    let mut last = forms;
     for k in 0..forms.len() {
         if forms[k] == b'\n' {
-            start = k + 1;
+            last = &forms[k + 1..];
         }
     }
-    &forms[start..]
+    last
 }
 
 // Where a line begins; a line after the last one at the text's end.

@@ -1,5 +1,5 @@
 // The note on an answer.
-ghost use Rattle.std.specs.Prelude.{◌≤◌, IfOk, length};
+ghost use Rattle.std.specs.Prelude.{◌≡◌, ◌≤◌, IfOk, length};
 
 use crate::answer::{Fault, fault_of};
 use crate::help::{HELP, push_command};
@@ -95,7 +95,9 @@ fn push_bad_file<S: Shelf>(
     push_line_fault(alloc, note, file(name, &other), fault, &tokens)
 }
 
-fn file<'a>(name: &'a str, text: &'a [u8]) -> File<'a> {
+fn file<'a>(name: &'a str, text: &'a [u8]) -> File<'a>
+    ensures { result.text.now ≡ text.now }
+{
     File {
         name: name.as_bytes(),
         text,

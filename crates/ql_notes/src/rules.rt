@@ -42,7 +42,7 @@ Variables a contract has at most five variables
 Range there is no effect of this number
 NotForward the effect sees one that isn't earlier
 OtherObject the effect sees one on another object
-TooMany this is one effect more than the limit";
+TooMany a file has at most 4000 effects, and this is one more";
 
 const EXECUTION_RULES: &str = "Unknown the source has no operation or no transaction of this name
 Mixed the operation is of another type than the first effect on this object
@@ -50,4 +50,4 @@ NotForward the effect sees one that isn't earlier
 OtherObject the effect sees one on another object
 SplitTxn its transaction has effects of another session or under another name, or its session made another effect since
 Stamp a stamp is one more than the greatest among the effects that this one sees and the earlier ones of its session
-TooMany this is one effect more than the limit";
+TooMany a file has at most 4000 effects, and this is one more";
