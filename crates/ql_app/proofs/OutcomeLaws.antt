@@ -16,14 +16,13 @@ use Rattle.ql_app.specs.declared.words.PairCommand.TheVariants.{Check, Verify, R
 use Rattle.ql_app.specs.Words.{OneFile, TwoFiles}
 use Rattle.ql_app.specs.Outcome.{CommandSays, IsRead, IsUnread, PairSays, Tells, second_limit}
 
--- what is said of the bytes that were read is said of those that the shelf holds, where it tells
-pub of_held : (limit : ℕ) (held : Option (List ℕ)) (P : List ℕ → Type 0) (whole : List ℕ) → held ≡ Some whole → IsRead limit held P → (length whole ≤ limit) × P whole
-of_held limit held P whole told is_read =
-    let same : is_read.0 ≡ whole = subst (λ (h : Option (List ℕ)). IfSome h (λ w. is_read.0 ≡ w)) told is_read.1 in
-    subst (λ (bytes : List ℕ). (length bytes ≤ limit) × P bytes) same (is_read.2, is_read.3)
+-- what is said of the bytes that were read is said of the bytes that are held
+of_held : (bytes : List ℕ) (held : Option (List ℕ)) (P : List ℕ → Type 0) → IfSome held (λ whole. bytes ≡ whole) → P bytes → IfSome held P
+of_held bytes None P same p = tt
+of_held bytes (Some whole) P same p = subst P same p
 
 read : (limit : ℕ) (bytes : List ℕ) (held : Option (List ℕ)) (P : List ℕ → Type 0) → IfSome held (λ whole. bytes ≡ whole) → length bytes ≤ limit → P bytes → IsRead limit held P
-read limit bytes held P same short p = (bytes, same, short, p)
+read limit bytes held P same short p = of_held bytes held (λ whole. (length whole ≤ limit) × P whole) same (short, p)
 
 module _ (limits : Limits) (held : List ℕ → Option (List ℕ)) (before after : List ℕ → ℕ) where
   one : (command : Command) (name bytes : List ℕ) (status : Status) (text : List ℕ)
