@@ -1,5 +1,5 @@
 -- The lines of a stored answer.
-use Rattle.std.specs.Prelude.{◌≡◌, ℕ, Bool, true, ◌||◌, List, [], ◌∷◌, Option, None, Some, codes}
+use Rattle.std.specs.Prelude.{◌≡◌, ℕ, Bool, true, ◌||◌, List, [], ◌∷◌, None, Some, codes}
 use Rattle.std.specs.Str.{bytes_eq}
 use Rattle.ql_base.specs.Names.{IsName}
 use Rattle.ql_levels.specs.Words.{txn_word_of, word_of}

@@ -1,16 +1,15 @@
 -- A line of a stored answer makes one thing.
-use Rattle.std.proofs.Common.{◌≡◌, ◌⊎◌, inl, inr, ℕ, Bool, true, false, List, [], ◌∷◌, ◌++◌, length, get_or, Option, None, Some, Result, Ok, Err, codes, refl, sym, ap, ap₂, subst, ◌∙◌, arith}
+use Rattle.std.proofs.Common.{◌≡◌, inl, inr, ℕ, Bool, true, false, List, [], ◌∷◌, ◌++◌, length, get_or, None, Some, Result, Ok, Err, refl, sym, ap, ap₂, ◌∙◌, arith}
 use Rattle.std.proofs.lemmas.Bool.{false≢true}
-use Rattle.ql_base.specs.Names.{IsName}
 use Rattle.ql_levels.specs.declared.level.Level.{Level}
 use Rattle.ql_levels.specs.declared.level.Level.TheVariants.{Eventual, Causal, Wide, Strong}
 use Rattle.ql_levels.specs.declared.level.TxnLevel.{TxnLevel}
 use Rattle.ql_levels.specs.declared.level.TxnLevel.TheVariants.{Rc, Mav, Rr}
 use Rattle.ql_levels.specs.Words.{txn_word_of, word_of}
-use Rattle.ql_lines.specs.Fields.{Fields, fields_of}
+use Rattle.ql_lines.specs.Fields.{Fields}
 use Rattle.ql_line_files.specs.declared.fault.Broken.{Broken}
-use Rattle.ql_baseline.specs.Files.{GivesLine, closes}
-use Rattle.ql_baseline.specs.Lines.{IsStored, is_passed, stored_fields}
+use Rattle.ql_baseline.specs.Files.{GivesLine}
+use Rattle.ql_baseline.specs.Lines.{is_passed, stored_fields}
 use Rattle.ql_baseline.specs.declared.stored.BaselineRule.{BaselineRule}
 use Rattle.ql_baseline.specs.declared.stored.BaselineRule.TheVariants.{Unexpected}
 use Rattle.ql_baseline.specs.declared.stored.Stored.{Stored}

@@ -14,7 +14,7 @@ use Rattle.ql_counter.specs.Countermodels.{AreWithin, IsCounterOf, numbers}
 use Rattle.ql_counter.specs.declared.counter.At.{At}
 use Rattle.ql_counter.specs.declared.counter.At.TheVariants as at
 use Rattle.ql_counter.specs.declared.counter.Counter.{Counter}
-use Rattle.ql_explanation.specs.Explanation.{AreFindings, AreUsesOf, goal_of, unmet_of}
+use Rattle.ql_explanation.specs.Explanation.{AreFindings, AreUsesOf, IsAccepted, IsRefused, goal_of, unmet_of}
 use Rattle.ql_facts.specs.Facts.{IsTrueOf}
 use Rattle.ql_facts.specs.declared.fact.Claim.{Claim}
 use Rattle.ql_facts.specs.declared.fact.Claim.TheVariants.{Related, Inside, OneTxn}
@@ -30,7 +30,8 @@ use Rattle.ql_run_json.specs.Values.{id_data, listed, text_data}
 use Rattle.ql_explain_json.specs.declared.counter.Shown.{Shown}
 use Rattle.ql_why.specs.Why.{level_text, object_names, vars_of}
 use Rattle.ql_warnings.specs.Texts.{warning_text, warning_word}
-use Rattle.ql_warnings.specs.Warnings.{IsRuledOut, IsWarning}
+use Rattle.ql_warnings.specs.Warnings.{IsRuledOut}
+use Rattle.ql_warnings.specs.Warnings as warnings
 use Rattle.ql_warnings.specs.declared.warning.Place.{Place}
 use Rattle.ql_warnings.specs.declared.warning.Warning.{Warning}
 use Rattle.ql_warnings.specs.declared.warning.Warning.TheVariants as warning
@@ -79,9 +80,9 @@ warning_data p w =
 abbrev pub warnings_data : Program → List Warning → Data
 warnings_data p ws = listed (map (warning_data p) ws)
 
--- warnings that are so of a target's contract
+-- warnings of a target's contract
 abbrev pub AreWarnings : List ℕ → Program → Goal → Data → Type 0
-AreWarnings source p g json = (ws : List Warning) × All (IsWarning source p g) ws × (json ≡ warnings_data p ws)
+AreWarnings source p g json = (ws : List Warning) × warnings.AreWarnings source p g ws × (json ≡ warnings_data p ws)
 
 -- ---- countermodels
 
@@ -170,8 +171,8 @@ IsJsonExplanation source p text =
     (findings : List Finding) × AreFindings p findings × (targets : List Data) × AreTargets source p findings targets × (text ≡ explanation_json targets)
 
 abbrev pub ExplainJsonSays : List ℕ → Answer → List ℕ → Type 0
-ExplainJsonSays bytes Done text = (p : Program) × IsSourceOf bytes p × IsJsonExplanation bytes p text
-ExplainJsonSays bytes No text = (p : Program) × IsSourceOf bytes p × IsJsonExplanation bytes p text
+ExplainJsonSays bytes Done text = (p : Program) × IsSourceOf bytes p × IsAccepted p × IsJsonExplanation bytes p text
+ExplainJsonSays bytes No text = (p : Program) × IsSourceOf bytes p × IsRefused p × IsJsonExplanation bytes p text
 ExplainJsonSays bytes Bad text = BadSourceSays bytes text
 
 -- ---- parts of it

@@ -12,7 +12,6 @@ ghost use Rattle.ql_run_json.specs.Values.{id_data, listed, text_data};
 ghost use Rattle.ql_run_text.specs.EffectTexts.{AreNamed};
 ghost use Rattle.ql_why.specs.Why.{level_text, object_names};
 ghost use Rattle.ql_why.specs.Why as why;
-ghost use Rattle.ql_warnings.specs.Warnings.{IsRuledOut};
 ghost use Rattle.ql_explain_json.specs.JsonExplanations.{IsCounterData, IsShown, IsShownOf, at_data, counter_data, fact_data, variable_data, variables_data, warnings_data};
 
 use crate::effects::effects;
@@ -28,7 +27,7 @@ use ql_facts::{Fact, reasons};
 use ql_ground::Goal;
 use ql_lang::Var;
 use ql_typing::Typed;
-use ql_warnings::{Warning, ruled_out};
+use ql_warnings::{Warning, counter_warnings};
 use serde_json::{Map, Value as Json, put};
 use std::alloc::Global;
 
@@ -80,26 +79,8 @@ pub(crate) fn shown_value(
     ensures { IfOk result (λ json. IsCounterData t.now.program shown.now.goal (view json)) }
 {
     let facts = reasons(alloc, formula_of(t, shown.goal), &shown.counter)?;
-    let warned = of_counter(alloc, t, findings, shown)?;
+    let warned = counter_warnings(alloc, t, findings, shown.goal, &shown.counter)?;
     counter_value(alloc, t, shown.goal, &shown.counter, &facts, &warned)
-}
-
-// Whether the countermodel breaks the contract of another operation, which has a level.
-fn of_counter(
-    alloc: Global,
-    t: &Typed,
-    findings: &[Finding],
-    shown: &Shown,
-) -> Result<Vec<Warning>, NoMemory>
-    requires findings { AreFindings t.now.program findings.now }
-    requires counter { IsCounterOf t.now.program shown.now.goal shown.now.counter }
-    ensures { IfOk result (λ warned. All (IsRuledOut t.now.program shown.now.goal shown.now.counter) warned.items) }
-{
-    let mut warned = Vec::new(alloc);
-    if let Some(warning) = ruled_out(alloc, t, findings, shown.goal, &shown.counter)? {
-        warned.push(warning)?;
-    }
-    Ok(warned)
 }
 
 #[tactic(auto, using(crate::proofs::Members::counter_members))]

@@ -8,7 +8,7 @@ use crate::target::target;
 use ql_base::NoMemory;
 use ql_classify::Finding;
 use ql_commands::{Answer, bad_source, read_source};
-use ql_explanation::findings;
+use ql_explanation::{answer_of, findings};
 use ql_typing::Typed;
 use serde_json::{Map, Value as Json, put};
 use std::alloc::Global;
@@ -24,31 +24,28 @@ pub fn explain_json(alloc: Global, source: &[u8]) -> Result<(Answer, Vec<u8>), N
         Err(fault) => return Ok((Answer::Bad, bad_source(alloc, fault)?)),
     };
     let findings = findings(alloc, &typed)?;
-    let (is_fine, targets) = targets(alloc, source, &typed, &findings)?;
+    let targets = targets(alloc, source, &typed, &findings)?;
     let text = line(alloc, targets)?;
-    let answer = if is_fine { Answer::Done } else { Answer::No };
-    Ok((answer, text))
+    Ok((answer_of(&typed, &findings), text))
 }
 
-// The values of all targets, and whether nothing is wrong with any.
+// The values of all targets.
 fn targets(
     alloc: Global,
     source: &[u8],
     t: &Typed,
     findings: &[Finding],
-) -> Result<(bool, Vec<Json>), NoMemory>
+) -> Result<Vec<Json>, NoMemory>
     requires bytes { length source.now < 2 ^ 32 }
     requires findings { AreFindings t.now.program findings.now }
-    ensures { IfOk result (λ answer. AreTargets source.now t.now.program findings.now (map view answer.1.items)) }
+    ensures { IfOk result (λ targets. AreTargets source.now t.now.program findings.now (map view targets.items)) }
 {
     let mut list = Vec::new(alloc);
-    let mut is_fine = true;
     for k in 0..findings.len() {
-        let (is_right, target) = target(alloc, source, t, findings, finding_at(findings, k))?;
+        let target = target(alloc, source, t, findings, finding_at(findings, k))?;
         list.push(target)?;
-        is_fine = is_fine && is_right;
     }
-    Ok((is_fine, list))
+    Ok(list)
 }
 
 fn finding_at(findings: &[Finding], k: usize) -> &Finding

@@ -1,6 +1,7 @@
 // The JSON form of what `explain` says of a source, from its bytes to the text.
 // The one contract: the text is that of the stated value, in which each level is its target's least, each execution is a
-// countermodel of the target at the level beside it, and each fact is true of that execution.
+// countermodel of the target at the level beside it, and each fact is true of that execution; and the answer is yes exactly
+// where each target has a level and no transaction uses a strong operation.
 #![tactic(auto)]
 
 mod counter;

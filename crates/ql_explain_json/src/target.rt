@@ -22,30 +22,25 @@ use ql_typing::Typed;
 use serde_json::{Map, Value as Json, put};
 use std::alloc::Global;
 
-/// What is found of a target of a source, and whether it has a level and uses no strong operation.
+/// What is found of a target of a source.
 pub(crate) fn target(
     alloc: Global,
     source: &[u8],
     t: &Typed,
     findings: &[Finding],
     finding: &Finding,
-) -> Result<(bool, Json), NoMemory>
+) -> Result<Json, NoMemory>
     requires bytes { length source.now < 2 ^ 32 }
     requires findings { AreFindings t.now.program findings.now }
     requires finding { (target : ℕ) × IsFinding t.now.program target finding.now }
-    ensures { IfOk result (λ answer. IsTarget source.now t.now.program finding.now (view answer.1)) }
+    ensures { IfOk result (λ json. IsTarget source.now t.now.program finding.now (view json)) }
 {
     let goal = goal_of(finding);
     let uses = uses_of(alloc, t, findings, goal)?;
     let shown = shown_of(alloc, t, finding)?;
     let warnings = warnings(alloc, source, t, goal)?;
     let reason = reason(alloc, t, findings, finding, &shown)?;
-    let value = target_value(alloc, t, finding, goal, &uses, reason, warnings)?;
-    Ok((has_level(finding) && uses.is_empty(), value))
-}
-
-fn has_level(finding: &Finding) -> bool {
-    matches!(finding, Finding::Least { .. })
+    target_value(alloc, t, finding, goal, &uses, reason, warnings)
 }
 
 // The countermodel of a target, where it has one.

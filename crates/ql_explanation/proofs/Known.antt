@@ -1,10 +1,10 @@
 -- The goals of a finding, and what a target uses, are the program's.
-use Rattle.std.proofs.Common.{◌≡◌, ℕ, ◌<◌, List, [], length, None, Some, slice_get, subst, sym, arith}
+use Rattle.std.proofs.Common.{◌≡◌, ℕ, ◌<◌, List, length, None, Some, slice_get, subst, sym, arith}
 use Rattle.std.specs.List.{All}
 use Rattle.std.proofs.lemmas.Option.{same_Some}
 use Rattle.ql_base.specs.declared.ids.OpId.{OpId}
 use Rattle.ql_classify.specs.Finding.{IsFinding, IsOfTarget, IsUnmet}
-use Rattle.ql_classify.specs.Targets.{goals_below, step_level, step_txn_level}
+use Rattle.ql_classify.specs.Targets.{goals_below}
 use Rattle.ql_classify.specs.declared.finding.Finding.{Finding}
 use Rattle.ql_classify.specs.declared.finding.Finding.TheVariants.{Least, NoLevel}
 use Rattle.ql_classify.specs.declared.finding.Unmet.{Unmet}
@@ -14,7 +14,7 @@ use Rattle.ql_ground.specs.declared.goal.Goal.TheVariants.{OpAt, TxnAt}
 use Rattle.ql_lang.specs.declared.program.Program.{Program}
 use Rattle.ql_typing.specs.Operations.{all_ops}
 use Rattle.ql_why.proofs.Lower.{op_below, txn_below}
-use Rattle.ql_explanation.specs.Explanation.{AreUsesOf, IsStrongIn, goal_of, unmet_of}
+use Rattle.ql_explanation.specs.Explanation.{AreUsesOf, goal_of, unmet_of}
 
 module _ (p : Program) where
   of_target : (target : ℕ) (g : Goal) → IsOfTarget p target g → IsGoalOf p g
@@ -38,4 +38,4 @@ module _ (p : Program) where
 
   pub uses_known : (g : Goal) (uses : List OpId) → AreUsesOf p g uses → All (λ (o : OpId). o.0 < length (all_ops p.types)) uses
   uses_known (OpAt o level) uses none = subst (λ (os : List OpId). All (λ (o : OpId). o.0 < length (all_ops p.types)) os) (sym none) (λ k d less. absurd (omega (arith, less)))
-  uses_known (TxnAt d level) uses all = λ k e less. (all k e less).known
+  uses_known (TxnAt d level) uses are = λ k e less. (are.sound k e less).known

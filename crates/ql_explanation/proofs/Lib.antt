@@ -1,4 +1,6 @@
 pub mod Found
 pub mod Known
+pub mod Judged
+mod StrongUses
 pub mod Named
 mod Texts

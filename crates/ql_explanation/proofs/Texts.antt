@@ -2,6 +2,11 @@
 use Rattle.std.proofs.Common.{◌≡◌, ℕ, List, ◌++◌, Result, Ok, Err, ap, ◌∙◌, append_assoc}
 use Rattle.std.specs.Prelude.{OnOk}
 use Rattle.ql_base.specs.declared.no_memory.NoMemory.{NoMemory}
+use Rattle.ql_why.specs.Why.{Appended}
+
+pub appended_ok : {A : Type 0} (Says : List ℕ → Type 0) (old new text : List ℕ) (last : Result A NoMemory) → Says text → OnOk last (new ≡ old ++ text) → OnOk last (Appended Says old new)
+appended_ok Says old new text (Ok done) says longer = (text, says, longer)
+appended_ok Says old new text (Err e) says longer = tt
 
 -- the words stand between
 pub remarks_ok : {A : Type 0} (old one two new strong ways warned : List ℕ) (last : Result A NoMemory) → one ≡ old ++ strong → two ≡ one ++ ways → OnOk last (new ≡ two ++ warned)

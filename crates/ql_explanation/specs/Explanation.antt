@@ -1,10 +1,11 @@
 -- What `explain` says of a source: of each target its least level or that none is enough, the strong operations that it
 -- uses, warnings, and a countermodel of it at the next lower level, or at the highest.
-use Rattle.std.specs.Prelude.{ℕ, ◌≡◌, ◌<◌, Bool, true, if◌then◌else◌, List, [], ◌∷◌, ◌++◌, Option, None, Some, length, slice_get, codes}
-use Rattle.std.specs.List.{All}
+use Rattle.std.specs.Prelude.{ℕ, ◌≡◌, ◌<◌, ◌⊎◌, Bool, true, if◌then◌else◌, List, [], ◌∷◌, ◌++◌, Option, None, Some, length, map, codes}
+use Rattle.std.specs.List.{All, Contains}
+use Rattle.ql_base.specs.IdLists.{IsAscending}
 use Rattle.ql_base.specs.declared.ids.OpId.{OpId}
-use Rattle.ql_classify.specs.Finding.{IsFinding}
-use Rattle.ql_classify.specs.Targets.{IsOpLevel, targets}
+use Rattle.ql_classify.specs.Finding.{IsOfTarget}
+use Rattle.ql_classify.specs.Targets.{IsLeastLevel, IsOpLevel, targets}
 use Rattle.ql_classify.specs.declared.finding.Finding.{Finding}
 use Rattle.ql_classify.specs.declared.finding.Unmet.{Unmet}
 use Rattle.ql_classify.specs.declared.finding.Finding.TheVariants.{Least, NoLevel}
@@ -22,7 +23,7 @@ use Rattle.ql_why.specs.Why.{InTurn, counter_text, target_line}
 use Rattle.ql_counter.specs.Countermodels.{IsCounterOf}
 use Rattle.ql_counter.specs.declared.counter.Counter.{Counter}
 use Rattle.ql_warnings.specs.Texts.{warning_text}
-use Rattle.ql_warnings.specs.Warnings.{IsRuledOut, IsWarning}
+use Rattle.ql_warnings.specs.Warnings.{AreWarnings, IsRuledOut}
 use Rattle.ql_warnings.specs.Warnings as warnings
 use Rattle.ql_warnings.specs.declared.warning.Warning.{Warning}
 
@@ -53,9 +54,36 @@ pub record IsStrongIn (p : Program) (d : ℕ) (o : OpId) : Type 0 where
   pub used : uses_op p d o.0 ≡ true
   pub strong : IsOpLevel p o.0 Strong
 
+-- the strong operations that a transaction uses: all of them, each once and in order
+pub record AreStrongIn (p : Program) (d : ℕ) (uses : List OpId) : Type 0 where
+  pub sound : All (IsStrongIn p d) uses
+  pub complete : (o : OpId) → IsStrongIn p d o → Contains uses o
+  pub ascending : IsAscending (map (λ (o : OpId). o.0) uses)
+
 abbrev pub AreUsesOf : Program → Goal → List OpId → Type 0
 AreUsesOf p (OpAt o level) uses = uses ≡ []
-AreUsesOf p (TxnAt d level) uses = All (IsStrongIn p d.0) uses
+AreUsesOf p (TxnAt d level) uses = AreStrongIn p d.0 uses
+
+-- ---- the answer
+
+-- some level is the target's least one
+abbrev pub HasLeastLevel : Program → ℕ → Type 0
+HasLeastLevel p target = (g : Goal) × IsOfTarget p target g × IsLeastLevel p g
+
+-- each target has a least level, and no transaction uses an operation whose least level is strong
+pub record IsAccepted (p : Program) : Type 0 where
+  pub levels : (target : ℕ) → target < targets p → HasLeastLevel p target
+  pub weak : (d : ℕ) (o : OpId) → IsStrongIn p d o → ⊥
+
+-- some target has none, or some transaction uses such an operation
+abbrev pub IsRefused : Program → Type 0
+IsRefused p = ((target : ℕ) × (target < targets p) × (HasLeastLevel p target → ⊥)) ⊎ ((d : ℕ) × (o : OpId) × IsStrongIn p d o)
+
+-- yes or no, by that
+abbrev pub IsAnswerOf : Program → Answer → Type 0
+IsAnswerOf p Done = IsAccepted p
+IsAnswerOf p No = IsRefused p
+IsAnswerOf p Bad = ⊥
 
 -- ---- the text
 
@@ -105,9 +133,8 @@ pub record IsSection (source : List ℕ) (p : Program) (f : Finding) (text : Lis
   pub uses : List OpId
   pub are_uses : AreUsesOf p (goal_of f) uses
   pub words : List ℕ
-  -- each warning is so of the target's contract
   pub warned : List Warning
-  pub are_warned : All (IsWarning source p (goal_of f)) warned
+  pub are_warned : AreWarnings source p (goal_of f) warned
   pub reason : List ℕ
   pub is_reason : IsReason p f reason
   pub whole : text ≡ gap is_first ++ first_line p f ++ strong_lines p (goal_of f) uses ++ words ++ warned_text p warned ++ reason
@@ -116,6 +143,6 @@ abbrev pub IsExplanation : List ℕ → Program → List ℕ → Type 0
 IsExplanation source p text = (findings : List Finding) × AreFindings p findings × InTurn (IsSection source p) findings text
 
 abbrev pub ExplainSays : List ℕ → Answer → List ℕ → Type 0
-ExplainSays bytes Done text = (p : Program) × IsSourceOf bytes p × IsExplanation bytes p text
-ExplainSays bytes No text = (p : Program) × IsSourceOf bytes p × IsExplanation bytes p text
+ExplainSays bytes Done text = (p : Program) × IsSourceOf bytes p × IsAccepted p × IsExplanation bytes p text
+ExplainSays bytes No text = (p : Program) × IsSourceOf bytes p × IsRefused p × IsExplanation bytes p text
 ExplainSays bytes Bad text = BadSourceSays bytes text

@@ -3,6 +3,7 @@ ghost use Rattle.ql_classify.specs.Finding.{IsFinding};
 ghost use Rattle.ql_why.specs.Why.{Appended, InTurn};
 ghost use Rattle.ql_explanation.specs.Explanation.{AreFindings, ExplainSays, IsSection};
 
+use crate::answer::answer_of;
 use crate::finding::findings;
 use crate::sections::{Remarks, goal_of, section};
 use crate::uses::uses_of;
@@ -24,30 +25,27 @@ pub fn explain(alloc: Global, source: &[u8]) -> Result<(Answer, Vec<u8>), NoMemo
         Err(fault) => return Ok((Answer::Bad, bad_source(alloc, fault)?)),
     };
     let findings = findings(alloc, &typed)?;
-    let (is_fine, text) = sections_of(alloc, source, &typed, &findings)?;
-    let answer = if is_fine { Answer::Done } else { Answer::No };
-    Ok((answer, text))
+    let text = sections_of(alloc, source, &typed, &findings)?;
+    Ok((answer_of(&typed, &findings), text))
 }
 
-// The sections of all targets, and whether nothing is wrong with any.
+// The sections of all targets.
 fn sections_of(
     alloc: Global,
     source: &[u8],
     t: &Typed,
     findings: &[Finding],
-) -> Result<(bool, Vec<u8>), NoMemory>
+) -> Result<Vec<u8>, NoMemory>
     requires source { length source.now < 2 ^ 32 }
     requires findings { AreFindings t.now.program findings.now }
-    ensures { IfOk result (λ answer. InTurn (IsSection source.now t.now.program) findings.now answer.1.items) }
+    ensures { IfOk result (λ text. InTurn (IsSection source.now t.now.program) findings.now text.items) }
 {
     let mut text = Vec::new(alloc);
-    let mut is_fine = true;
     for k in 0..findings.len() {
         let finding = finding_at(findings, k);
-        let is_right = push_section(alloc, &mut text, source, t, findings, finding)?;
-        is_fine = is_fine && is_right;
+        push_section(alloc, &mut text, source, t, findings, finding)?;
     }
-    Ok((is_fine, text))
+    Ok(text)
 }
 
 fn finding_at(findings: &[Finding], k: usize) -> &Finding
@@ -57,7 +55,7 @@ fn finding_at(findings: &[Finding], k: usize) -> &Finding
     &findings[k]
 }
 
-// Appends the section of a target. The answer is whether it has a level and uses no strong operation.
+// Appends the section of a target.
 fn push_section(
     alloc: Global,
     text: &mut Vec<u8>,
@@ -65,7 +63,7 @@ fn push_section(
     t: &Typed,
     findings: &[Finding],
     finding: &Finding,
-) -> Result<bool, NoMemory>
+) -> Result<(), NoMemory>
     requires source { length source.now < 2 ^ 32 }
     requires findings { AreFindings t.now.program findings.now }
     requires finding { (target : ℕ) × IsFinding t.now.program target finding.now }
@@ -79,10 +77,5 @@ fn push_section(
         warned: &warned,
     };
     let section = section(alloc, t, findings, finding, goal, remarks, text.is_empty())?;
-    push_bytes(text, &section)?;
-    Ok(has_level(finding) && uses.is_empty())
-}
-
-fn has_level(finding: &Finding) -> bool {
-    matches!(finding, Finding::Least { .. })
+    push_bytes(text, &section)
 }

@@ -3,10 +3,8 @@ ghost use Rattle.std.specs.Prelude.{◌≡◌, ◌<◌, ◌++◌, ℕ, IfOk, Lis
 ghost use Rattle.std.specs.List.{All};
 ghost use Rattle.std.specs.Option.{option_copied};
 ghost use Rattle.ql_classify.specs.Finding.{IsFinding, IsUnmet};
-ghost use Rattle.ql_counter.specs.Countermodels.{IsCounterOf};
 ghost use Rattle.ql_ground.specs.OfPrograms.{IsGoalOf};
-ghost use Rattle.ql_warnings.specs.Warnings.{IsRuledOut, IsWarning};
-ghost use Rattle.ql_warnings.specs.declared.warning.Warning.{Warning};
+ghost use Rattle.ql_warnings.specs.Warnings.{AreWarnings};
 ghost use Rattle.ql_explanation.specs.Explanation.{
   AreFindings,
   AreUsesOf,
@@ -27,11 +25,11 @@ ghost use Rattle.ql_explanation.specs.Explanation.{
 use crate::words::{LOWEST, counter_words, ways_out};
 use ql_base::{DeclId, NoMemory, OpId, push_bytes};
 use ql_classify::{Finding, Unmet};
-use ql_counter::{Counter, countermodel};
+use ql_counter::countermodel;
 use ql_ground::Goal;
 use ql_report::print_strong_use;
 use ql_typing::Typed;
-use ql_warnings::{Warning, ruled_out, warning_text};
+use ql_warnings::{Warning, counter_warnings, warning_text};
 use ql_why::{push_counter, push_target_line};
 use std::alloc::Global;
 
@@ -51,7 +49,7 @@ pub(crate) fn section(
     requires target { g ≡ goal_of finding.now }
     requires known { IsGoalOf t.now.program g }
     requires uses { AreUsesOf t.now.program g remarks.uses.now }
-    ensures { IfOk result (λ text. (source : List ℕ) → All (IsWarning source t.now.program g) remarks.entry.warned.now → IsSection source t.now.program finding.now text.items) }
+    ensures { IfOk result (λ text. (source : List ℕ) → AreWarnings source t.now.program g remarks.entry.warned.now → IsSection source t.now.program finding.now text.items) }
 {
     let mut text = gap(alloc, is_first)?;
     push_first_line(&mut text, t, finding, g)?;
@@ -236,29 +234,10 @@ fn counter_part(
     ensures { IfOk result (λ text. IsCounterPart t.now.program unmet.now.goal text.items) }
 {
     let counter = countermodel(alloc, t, unmet.goal, &unmet.assignment)?;
-    let warned = of_counter(alloc, t, findings, unmet.goal, &counter)?;
+    let warned = counter_warnings(alloc, t, findings, unmet.goal, &counter)?;
     let mut text = counter_words(alloc, t, unmet.goal, &counter, is_top)?;
     push_warned(alloc, &mut text, t, &warned)?;
     push_bytes(&mut text, b"\n")?;
     push_counter(alloc, &mut text, t, unmet.goal, &counter)?;
     Ok(text)
-}
-
-// Whether the countermodel breaks the contract of another operation, which has a level.
-fn of_counter(
-    alloc: Global,
-    t: &Typed,
-    findings: &[Finding],
-    g: Goal,
-    c: &Counter,
-) -> Result<Vec<Warning>, NoMemory>
-    requires findings { AreFindings t.now.program findings.now }
-    requires counter { IsCounterOf t.now.program g c.now }
-    ensures { IfOk result (λ warned. All (IsRuledOut t.now.program g c.now) warned.items) }
-{
-    let mut warned = Vec::new(alloc);
-    if let Some(warning) = ruled_out(alloc, t, findings, g, c)? {
-        warned.push(warning)?;
-    }
-    Ok(warned)
 }

@@ -1,9 +1,9 @@
 // The strong operations that a transaction uses.
-ghost use Rattle.std.specs.Prelude.{◌≡◌, ◌<◌, IfOk, OnOk, Some, length, slice_get, true};
-ghost use Rattle.std.specs.List.{All};
+ghost use Rattle.std.specs.Prelude.{◌≡◌, ◌+◌, ◌<◌, IfOk, MatchBool, OnOk, Some, length, slice_get};
 ghost use Rattle.ql_ground.specs.OfPrograms.{IsGoalOf};
 ghost use Rattle.ql_typing.specs.Operations.{all_ops};
-ghost use Rattle.ql_explanation.specs.Explanation.{AreFindings, AreUsesOf, IsStrong, IsStrongIn};
+ghost use Rattle.ql_explanation.specs.Explanation.{AreFindings, AreStrongIn, AreUsesOf, IsStrong, IsStrongIn};
+ghost use Rattle.ql_explanation.specs.Parts.{AreStrongBelow};
 
 use ql_base::{DeclId, NoMemory, OpId};
 use ql_classify::Finding;
@@ -37,7 +37,7 @@ fn strong_uses(
 ) -> Result<Vec<OpId>, NoMemory>
     requires txn { d.0 < length t.now.program.txns }
     requires findings { AreFindings t.now.program findings.now }
-    ensures { IfOk result (λ uses. All (IsStrongIn t.now.program d.0) uses.items) }
+    ensures { IfOk result (λ uses. AreStrongIn t.now.program d.0 uses.items) }
 {
     let mut uses = Vec::new(alloc);
     for o in 0..t.ops() {
@@ -57,16 +57,26 @@ fn push_strong_use(
     requires txn { d.0 < length t.now.program.txns }
     requires op { o.0 < length (all_ops t.now.program.types) }
     requires findings { AreFindings t.now.program findings.now }
-    ensures { OnOk result (All (IsStrongIn t.now.program d.0) uses.old.items → All (IsStrongIn t.now.program d.0) uses.new.items) }
+    ensures { OnOk result (AreStrongBelow t.now.program d.0 o.0 uses.old.items → AreStrongBelow t.now.program d.0 (o.0 + 1) uses.new.items) }
 {
-    if !t.uses(d, o) {
-        return Ok(());
-    }
-    if !is_strong(finding_of(findings, o)) {
+    if !is_strong_use(t, findings, d, o) {
         return Ok(());
     }
     uses.push(o)?;
     Ok(())
+}
+
+/// Whether a transaction uses an operation and the operation's least level is strong.
+pub(crate) fn is_strong_use(t: &Typed, findings: &[Finding], d: DeclId, o: OpId) -> bool
+    requires txn { d.0 < length t.now.program.txns }
+    requires op { o.0 < length (all_ops t.now.program.types) }
+    requires findings { AreFindings t.now.program findings.now }
+    ensures { MatchBool result (IsStrongIn t.now.program d.0 o) (IsStrongIn t.now.program d.0 o → ⊥) }
+{
+    if !t.uses(d, o) {
+        return false;
+    }
+    is_strong(finding_of(findings, o))
 }
 
 fn finding_of(findings: &[Finding], o: OpId) -> &Finding
@@ -77,7 +87,7 @@ fn finding_of(findings: &[Finding], o: OpId) -> &Finding
 }
 
 fn is_strong(finding: &Finding) -> bool
-    ensures { result ≡ true → IsStrong finding.now }
+    ensures { MatchBool result (IsStrong finding.now) (IsStrong finding.now → ⊥) }
 {
     matches!(
         finding,

@@ -1,5 +1,5 @@
 -- Effects that break the contract of another operation.
-use Rattle.std.proofs.Common.{◌≡◌, ℕ, ◌+◌, ◌<◌, true, false, length, List, Option, None, Some, get_or, slice_get, refl, sym, ap, subst, ◌∙◌, arith}
+use Rattle.std.proofs.Common.{◌≡◌, ℕ, ◌<◌, false, length, List, Some, slice_get, refl, sym, ap, subst, ◌∙◌, arith}
 use Rattle.std.proofs.lemmas.Bool.{both_ways}
 use Rattle.ql_base.specs.declared.ids.EffId.{EffId}
 use Rattle.ql_base.specs.declared.ids.OpId.{OpId}

@@ -1,8 +1,8 @@
 -- What follows from known relations.
-use Rattle.std.proofs.Common.{◌≡◌, ℕ, zero, suc, ◌<◌, Bool, true, false, not, ◌&&◌, ◌||◌, inl, inr, ◌⊎◌, List, [], ◌∷◌, ◌++◌, length, Some, get_or, slice_get, Result, Ok, Err, ◌≢◌, refl, sym, subst, ◌∙◌, arith}
+use Rattle.std.proofs.Common.{◌≡◌, ℕ, zero, suc, Bool, true, false, not, ◌||◌, inl, inr, List, [], ◌∷◌, ◌++◌, Result, Ok, Err, ◌≢◌, refl, sym, subst, arith}
 use Rattle.std.specs.Prelude.{IfOk, OnOk}
 use Rattle.ql_base.specs.declared.no_memory.NoMemory.{NoMemory}
-use Rattle.std.proofs.lemmas.Bool.{and_from, cases_Bool}
+use Rattle.std.proofs.lemmas.Bool.{and_from}
 use Rattle.std.proofs.lemmas.List.Elements.{All-push}
 use Rattle.std.specs.List.{All}
 use Rattle.ql_lang.specs.Formulas.{Resolved, Statement, Always, BothOf, IfThen}
@@ -14,10 +14,10 @@ use Rattle.ql_exec.specs.declared.effect.Effect.{Effect}
 use Rattle.ql_exec.specs.Execution.{IsExecution}
 use Rattle.ql_formula.specs.Truth.{statement_true}
 use Rattle.ql_warnings.specs.Clashes.{CantHold, IsGiven}
-use Rattle.ql_warnings.specs.Known.{Gives, IsKnown, IsPartOf, PartsKept}
-use Rattle.ql_warnings.specs.Premises.{AsksNothing, IsAlways, IsContract, IsPart, IsScene, said}
+use Rattle.ql_warnings.specs.Known.{IsKnown, IsPartOf, PartsKept}
+use Rattle.ql_warnings.specs.Premises.{AsksNothing, IsAlways, IsContract, said}
 use Rattle.ql_warnings.specs.declared.known.Known.{Known}
-use Rattle.ql_warnings.proofs.Scenes.{all_at, parts_known}
+use Rattle.ql_warnings.proofs.Scenes.{parts_known}
 
 -- ---- parts that are appended
 

@@ -3,4 +3,7 @@ mod Scenes
 mod Given
 mod Kept
 mod Spans
+mod Clashing
+mod Joining
+mod Following
 mod Breaking

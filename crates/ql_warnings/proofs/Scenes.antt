@@ -1,13 +1,13 @@
 -- What is known in each scene.
-use Rattle.std.proofs.Common.{◌≡◌, ◌≢◌, ℕ, zero, suc, ◌+◌, ◌<◌, ◌≤◌, Bool, true, false, not, ◌&&◌, ◌||◌, nat_eq, inl, inr, ◌⊎◌, List, [], ◌∷◌, ◌++◌, length, Option, None, Some, get_or, slice_get, refl, sym, ap, subst, ◌∙◌, arith, eqb-true, eq-eqb}
-use Rattle.std.proofs.lemmas.Bool.{and_parts, and_from, both_ways, cases_Bool, or_cases}
+use Rattle.std.proofs.Common.{◌≡◌, ◌≢◌, ℕ, zero, suc, ◌≤◌, Bool, true, false, ◌||◌, nat_eq, inl, inr, List, [], ◌∷◌, length, Option, None, Some, get_or, slice_get, refl, sym, ap, subst, ◌∙◌, arith, eqb-true, eq-eqb}
+use Rattle.std.proofs.lemmas.Bool.{and_parts, cases_Bool, or_cases}
 use Rattle.std.proofs.lemmas.Option.{get_or_from_slice_get, same_Some, slice_get-get_or, slice_get_past, slice_get_within}
 use Rattle.std.specs.List.{All, list_any}
 use Rattle.ql_base.specs.IdLists.{has_id}
 use Rattle.ql_base.specs.declared.ids.OpId.{OpId}
 use Rattle.ql_lang.specs.Formulas.{Statement, Always, Related, BothOf, IfThen, InOneTxn}
 use Rattle.ql_lang.specs.Formulas as formula
-use Rattle.ql_lang.specs.Trees.{Relation, Basic, Union, Intersection}
+use Rattle.ql_lang.specs.Trees.{Basic}
 use Rattle.ql_lang.specs.declared.formula.OpChoice.{OpChoice}
 use Rattle.ql_lang.specs.declared.formula.OpChoice.TheVariants.{Any, OneOf}
 use Rattle.ql_lang.specs.declared.formula.Term.{Term}
@@ -20,10 +20,10 @@ use Rattle.ql_exec.specs.declared.effect.Effect.{Effect}
 use Rattle.ql_exec.specs.Effects.{both, effect_at, one}
 use Rattle.ql_exec.specs.Relations.{sameobj}
 use Rattle.ql_formula.specs.Truth.{Chosen, in_range, named, place_of, statement_true}
-use Rattle.ql_warnings.specs.Clashes.{AreApart, CantHold, IsGiven, choice_may, is_of, may_be, same_kind}
+use Rattle.ql_warnings.specs.Clashes.{AreApart, CantHold, choice_may, is_of, may_be, same_kind}
 use Rattle.ql_warnings.specs.Known.{Gives, IsKnown, IsPartOf}
 use Rattle.ql_warnings.specs.Names.{is_on_object, is_order, is_symmetric, is_within}
-use Rattle.ql_warnings.specs.Premises.{IsAlways, IsPart, IsScene, IsUnneeded, OthersTrue, said}
+use Rattle.ql_warnings.specs.Premises.{IsAlways, IsPart, IsScene, IsUnneeded, said}
 use Rattle.ql_warnings.specs.declared.known.Known.{Known}
 use Rattle.ql_warnings.proofs.Names.{no_order_back, on_object, within_holds}
 use Rattle.ql_warnings.proofs.Names as names

@@ -1,15 +1,11 @@
 -- Tokens lie within their source, and what joins two `=>` among them.
-use Rattle.std.proofs.Common.{◌≡◌, ℕ, zero, suc, ◌+◌, ◌<◌, ◌≤◌, List, [], ◌∷◌, length, Option, None, Some, slice_get, drop, refl, sym, ap, subst, ◌∙◌, add-one, arith}
-use Rattle.std.specs.Prelude.{IfSome, Ok}
+use Rattle.std.proofs.Common.{◌≡◌, ℕ, zero, suc, ◌+◌, ◌<◌, ◌≤◌, List, [], ◌∷◌, Option, None, Some, slice_get, drop, sym, ap, subst, ◌∙◌, add-one, arith}
 use Rattle.std.specs.Option.{option_map_or}
 use Rattle.std.proofs.lemmas.Option.{same_Some}
-use Rattle.ql_lex.specs.Tokens.{AreSpans, Lexes}
+use Rattle.ql_lex.specs.Tokens.{AreSpans}
 use Rattle.ql_lex.specs.declared.token.Token.{Token}
-use Rattle.ql_warnings.specs.Brackets.{IsUnbracketed, deeper, joined, met, sign_of, told, word_of}
-use Rattle.ql_warnings.specs.Places.{IsPlaceOf}
+use Rattle.ql_warnings.specs.Brackets.{deeper, joined, met, sign_of, told, word_of}
 use Rattle.ql_warnings.specs.declared.unbracketed.Sign.{Sign}
-use Rattle.ql_warnings.specs.declared.unbracketed.Sign.TheVariants.{Arrow}
-use Rattle.ql_warnings.specs.declared.warning.Place.{Place}
 
 ends_after : (at end : ℕ) (ts : List Token) → AreSpans at end ts → at ≤ end
 ends_after at end [] h = h
@@ -47,10 +43,3 @@ ends source ts k t sign depth found r at is deep same =
     ∙ ap (λ o. option_map_or (λ d. joined source d (met sign depth t.from found) (drop (suc k) ts)) o (told sign found)) deep
     ∙ ap (λ s. option_map_or (λ d. joined source d (met s depth t.from found) (drop (suc k) ts)) (deeper s depth) (told s found)) is
     ∙ sym (ap (joined source depth found) (from_one ts k t at))
-
--- what is found is a place between two `=>`
-pub unbracketed_at : (source : List ℕ) (start at : ℕ) (tokens : List Token) (k : ℕ) (arrow : Token) (r : Option Place) → Lexes 0 source (Ok tokens) → slice_get tokens k ≡ Some arrow → sign_of (word_of source arrow) ≡ Arrow
-    → start ≤ arrow.from → joined source 0 None (drop (k + 1) tokens) ≡ Some at → IfSome r (λ place. IsPlaceOf source place × (place.at ≡ at)) → IfSome r (λ place. IsPlaceOf source place × IsUnbracketed source start place.at)
-unbracketed_at source start at tokens k arrow None lexed there is behind joins placed = tt
-unbracketed_at source start at tokens k arrow (Some place) lexed there is behind joins placed =
-    (placed.0, record { tokens = tokens; lexed = lexed; place = k; arrow = arrow; there = there; is_arrow = is; behind = behind; joins = sym (ap (λ m. joined source 0 None (drop m tokens)) (add-one k)) ∙ joins ∙ ap (λ n. Some n) (sym placed.1) })

@@ -1,5 +1,5 @@
 -- Statements that stand beside each other without brackets: `a => b /\ c => d`.
-use Rattle.std.specs.Prelude.{ℕ, zero, suc, ◌+◌, ◌-◌, ◌≡◌, ◌≤◌, Bool, ◌||◌, List, [], ◌∷◌, Option, None, Some, Ok, codes, drop, slice_get, take, if◌then◌else◌}
+use Rattle.std.specs.Prelude.{ℕ, zero, suc, ◌-◌, ◌≡◌, ◌≤◌, Bool, ◌||◌, List, [], ◌∷◌, Option, None, Some, Ok, codes, drop, slice_get, take, if◌then◌else◌}
 use Rattle.std.specs.Option.{option_map_or}
 use Rattle.std.specs.Str.{bytes_eq}
 use Rattle.ql_lex.specs.Tokens.{Lexes}
@@ -54,13 +54,14 @@ joined source depth found [] = None
 joined source depth found (t ∷ ts) =
     option_map_or (λ d. joined source d (met (sign_of (word_of source t)) depth t.from found) ts) (deeper (sign_of (word_of source t)) depth) (told (sign_of (word_of source t)) found)
 
--- it stands there between two `=>`, the first of them from a place of the source on
-pub record IsUnbracketed (source : List ℕ) (start at : ℕ) : Type 0 where
-  pub tokens : List Token
-  pub lexed : Lexes 0 source (Ok tokens)
-  pub place : ℕ
+-- the token of a number is an `=>`, from an offset of the source on, and this is the offset of what joins it to the next one
+pub record IsJoinedTo (source : List ℕ) (start : ℕ) (tokens : List Token) (k at : ℕ) : Type 0 where
   pub arrow : Token
-  pub there : slice_get tokens place ≡ Some arrow
+  pub there : slice_get tokens k ≡ Some arrow
   pub is_arrow : sign_of (word_of source arrow) ≡ Arrow
   pub behind : start ≤ arrow.from
-  pub joins : joined source 0 None (drop (suc place) tokens) ≡ Some at
+  pub joins : joined source 0 None (drop (suc k) tokens) ≡ Some at
+
+-- it stands there between two `=>`, the first of them from an offset of the source on
+abbrev pub IsUnbracketed : List ℕ → ℕ → ℕ → Type 0
+IsUnbracketed source start at = (tokens : List Token) × Lexes 0 source (Ok tokens) × (k : ℕ) × IsJoinedTo source start tokens k at

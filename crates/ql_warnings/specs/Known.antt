@@ -1,5 +1,5 @@
 -- Relations by name that are known of effects, one by one.
-use Rattle.std.specs.Prelude.{ℕ, ◌≡◌, Bool, true, List}
+use Rattle.std.specs.Prelude.{ℕ, ◌≡◌, true, List}
 use Rattle.std.specs.List.{All}
 use Rattle.ql_lang.specs.Formulas.{Statement}
 use Rattle.ql_exec.specs.declared.effect.Effect.{Effect}

@@ -1,13 +1,9 @@
 -- What is always true of a contract's statements, and of what stands before their `=>`.
 use Rattle.std.specs.Prelude.{ℕ, ◌≡◌, ◌≢◌, ◌⊎◌, Bool, true, false, List, Some, slice_get}
-use Rattle.std.specs.List.{All}
-use Rattle.ql_base.specs.declared.ids.OpId.{OpId}
 use Rattle.ql_lang.specs.Formulas.{Statement, Always, Related, BothOf, IfThen, Resolved}
 use Rattle.ql_lang.specs.Trees.{Basic}
 use Rattle.ql_lang.specs.declared.formula.OpChoice.{OpChoice}
-use Rattle.ql_lang.specs.declared.formula.Term.{Term}
 use Rattle.ql_lang.specs.declared.program.Program.{Program}
-use Rattle.ql_lang.specs.declared.relation.RelName.{RelName}
 use Rattle.ql_typing.specs.Operations.{op_contracts, op_kinds, txn_contracts}
 use Rattle.ql_ground.specs.declared.goal.Goal.{Goal}
 use Rattle.ql_ground.specs.declared.goal.Goal.TheVariants.{OpAt, TxnAt}

@@ -1,15 +1,13 @@
 -- What each warning says.
-use Rattle.std.specs.Prelude.{ℕ, ◌≡◌, ◌≢◌, ◌<◌, List, [], Option, None, Some, length, slice_get}
+use Rattle.std.specs.Prelude.{ℕ, ◌≡◌, ◌≢◌, ◌<◌, ◌⊎◌, List, [], Some, length, slice_get}
 use Rattle.std.specs.Option.{option_map}
-use Rattle.std.specs.List.{All}
+use Rattle.std.specs.List.{All, Contains}
 use Rattle.ql_base.specs.declared.ids.EffId.{EffId}
 use Rattle.ql_base.specs.declared.ids.OpId.{OpId}
 use Rattle.ql_lang.specs.Formulas.{Resolved, Statement}
 use Rattle.ql_lang.specs.declared.contract.Var.{Var}
 use Rattle.ql_lang.specs.declared.formula.OpChoice.{OpChoice}
-use Rattle.ql_lang.specs.declared.operation.OpDecl.{OpDecl}
 use Rattle.ql_lang.specs.declared.program.Program.{Program}
-use Rattle.ql_lang.specs.declared.program.TxnDecl.{TxnDecl}
 use Rattle.ql_levels.specs.Formulas.{formula_of}
 use Rattle.ql_levels.specs.declared.level.Level.{Level}
 use Rattle.ql_typing.specs.Operations.{all_ops, op_contracts, op_place}
@@ -38,6 +36,20 @@ Declares p (OpAt o level) vars at =
 Declares p (TxnAt n level) vars at =
     (option_map (λ d. d.contract.vars) (slice_get p.txns n.0) ≡ Some vars) × (option_map (λ d. d.name.at) (slice_get p.txns n.0) ≡ Some at)
 
+-- the name of a target, an operation or a transaction, stands at this offset
+abbrev pub IsOpName : Program → ℕ → Type 0
+IsOpName p at = (o : ℕ) × (option_map (λ d. d.name.at) (slice_get (all_ops p.types) o) ≡ Some at)
+
+abbrev pub IsTxnName : Program → ℕ → Type 0
+IsTxnName p at = (d : ℕ) × (option_map (λ d. d.name.at) (slice_get p.txns d) ≡ Some at)
+
+abbrev pub IsTargetName : Program → ℕ → Type 0
+IsTargetName p at = IsOpName p at ⊎ IsTxnName p at
+
+-- an offset lies before the name of each target that is declared after the one whose name stands at `start`
+abbrev pub IsBeforeNext : Program → ℕ → ℕ → Type 0
+IsBeforeNext p start at = (next : ℕ) → IsTargetName p next → start < next → at < next
+
 -- a variable stands for any effect, and has the name of an operation
 pub record IsNamedAs (p : Program) (vars : List Var) (v : ℕ) (op : OpId) : Type 0 where
   pub var : Var
@@ -58,14 +70,25 @@ IsOfPremises source p g vars body w = (premise : Statement) × IsPremise body pr
 
 -- ---- a target's contract
 
--- what a warning says of a target's contract
+-- What a warning says of a target's contract. Statements without brackets stand between its target's name and the next one's.
 abbrev pub IsWarning : List ℕ → Program → Goal → Warning → Type 0
 IsWarning source p g (warning.NamedAsOperation v op) = (vars : List Var) × (at : ℕ) × Declares p g vars at × IsNamedAs p vars v op
-IsWarning source p g (warning.Unbracketed place) = (vars : List Var) × (at : ℕ) × Declares p g vars at × IsPlaceOf source place × IsUnbracketed source at place.at
+IsWarning source p g (warning.Unbracketed place) = (vars : List Var) × (at : ℕ) × Declares p g vars at × IsPlaceOf source place × IsUnbracketed source at place.at × IsBeforeNext p at place.at
 IsWarning source p g warning.AsksNothing = AsksNothing p g
 IsWarning source p g (warning.NeverApplies place) = (f : Resolved) × IsContract p g f × IsOfPremises source p g f.vars f.body (warning.NeverApplies place)
 IsWarning source p g (warning.Unneeded place) = (f : Resolved) × IsContract p g f × IsOfPremises source p g f.vars f.body (warning.Unneeded place)
 IsWarning source p g (warning.RuledOut op at) = ⊥
+
+-- it is decided by names, or by the source's tokens
+abbrev pub IsDecided : Warning → Type 0
+IsDecided (warning.NamedAsOperation v op) = Unit {0}
+IsDecided (warning.Unbracketed place) = Unit {0}
+IsDecided _ = ⊥
+
+-- Warnings of a target's contract: each is so, and each that is so is among them where names or tokens decide it.
+pub record AreWarnings (source : List ℕ) (p : Program) (g : Goal) (ws : List Warning) : Type 0 where
+  pub sound : All (IsWarning source p g) ws
+  pub complete : (w : Warning) → IsDecided w → IsWarning source p g w → Contains ws w
 
 -- ---- the execution that is shown
 

@@ -4,17 +4,18 @@ ghost use Rattle.std.specs.List.{All};
 ghost use Rattle.ql_lang.specs.Formulas.{Always, resolved_of, statement_of};
 ghost use Rattle.ql_ground.specs.OfPrograms.{IsGoalOf};
 ghost use Rattle.ql_warnings.specs.Premises.{AsksNothing, IsContract};
-ghost use Rattle.ql_warnings.specs.Warnings.{Declares, IsWarning};
+ghost use Rattle.ql_warnings.specs.Warnings.{AreWarnings, Declares, IsWarning};
 
 use crate::always::is_given;
 use crate::clash::Scene;
 use crate::named::named;
+use crate::next::next_name;
 use crate::premises::premises;
-use crate::unbracketed::unbracketed;
+use crate::unbracketed::{Extent, unbracketed};
 use crate::warning::Warning;
-use ql_base::{DeclId, NoMemory, OpId};
+use ql_base::NoMemory;
 use ql_ground::Goal;
-use ql_lang::{Body, Formula, Name, Var};
+use ql_lang::{Body, Formula, Var};
 use ql_typing::Typed;
 use std::alloc::Global;
 
@@ -22,11 +23,12 @@ use std::alloc::Global;
 pub fn warnings(alloc: Global, source: &[u8], t: &Typed, g: Goal) -> Result<Vec<Warning>, NoMemory>
     requires bytes { length source.now < 2 ^ 32 }
     requires goal { IsGoalOf t.now.program g }
-    ensures { IfOk result (λ found. All (IsWarning source.now t.now.program g) found.items) }
+    ensures { IfOk result (λ found. AreWarnings source.now t.now.program g found.items) }
 {
     let (vars, at) = declared(t, g);
+    let end = next_name(t, source, at);
     let mut found = named(alloc, t, vars)?;
-    let brackets = unbracketed(alloc, source, at, next_name(t, source, at))?;
+    let brackets = unbracketed(alloc, source, Extent { start: at, end })?;
     push_all(&mut found, &brackets)?;
     let of_contract = of_contract(alloc, source, t, g)?;
     push_all(&mut found, &of_contract)?;
@@ -54,28 +56,6 @@ fn declared(t: &Typed, g: Goal) -> (&[Var], u32)
             let txn = t.txn(d);
             (txn.contract.vars.items(), txn.name.at)
         }
-    }
-}
-
-// Where the next target's name stands, or the source's end.
-fn next_name(t: &Typed, source: &[u8], at: u32) -> u32
-    requires { length source.now < 2 ^ 32 }
-{
-    let mut next = source.len() as u32;
-    for o in 0..t.ops() {
-        next = nearer(at, next, t.op(OpId(o)).name);
-    }
-    for d in 0..t.txns() {
-        next = nearer(at, next, t.txn(DeclId(d)).name);
-    }
-    next
-}
-
-fn nearer(at: u32, next: u32, name: Name) -> u32 {
-    if at < name.at && name.at < next {
-        name.at
-    } else {
-        next
     }
 }
 

@@ -1,5 +1,6 @@
 // Countermodels that break the contracts of other operations.
 ghost use Rattle.std.specs.Prelude.{◌≡◌, ◌<◌, ◌≤◌, IfOk, IfSome, Some, length, slice_get, true};
+ghost use Rattle.std.specs.List.{All};
 ghost use Rattle.ql_classify.specs.declared.finding.Finding.{Finding};
 ghost use Rattle.ql_counter.specs.Countermodels.{IsCounterOf};
 ghost use Rattle.ql_exec.specs.Effects.{effect_at};
@@ -21,9 +22,28 @@ use ql_lang::Formula;
 use ql_typing::Typed;
 use std::alloc::Global;
 
-/// The first effect of another operation at which a countermodel breaks that operation's contract, where the operation has a
-/// level. So the execution can't be where each operation has its level.
-pub fn ruled_out(
+/// What there is to warn of in a countermodel.
+pub fn counter_warnings(
+    alloc: Global,
+    t: &Typed,
+    findings: &[Finding],
+    g: Goal,
+    c: &Counter,
+) -> Result<Vec<Warning>, NoMemory>
+    requires findings { AreFindings t.now.program findings.now }
+    requires counter { IsCounterOf t.now.program g c.now }
+    ensures { IfOk result (λ warned. All (IsRuledOut t.now.program g c.now) warned.items) }
+{
+    let mut warned = Vec::new(alloc);
+    if let Some(warning) = ruled_out(alloc, t, findings, g, c)? {
+        warned.push(warning)?;
+    }
+    Ok(warned)
+}
+
+// The first effect of another operation at which a countermodel breaks that operation's contract, where the operation has a
+// level. So the execution can't be where each operation has its level.
+fn ruled_out(
     alloc: Global,
     t: &Typed,
     findings: &[Finding],

@@ -1,4 +1,4 @@
-ghost use Rattle.std.specs.Prelude.{◌≡◌, ◌<◌, ◌≤◌, ◌^◌, IfSome, count_by, length, reverse};
+ghost use Rattle.std.specs.Prelude.{◌≡◌, ◌<◌, ◌≤◌, ◌^◌, MatchOption, count_by, length, reverse};
 ghost use Rattle.std.specs.List.{prefix_len};
 ghost use Rattle.ql_warnings.specs.Places.{IsPlaceOf, ends_line, in_line};
 
@@ -7,7 +7,7 @@ use crate::warning::Place;
 /// The line and the column of an offset, where the source is longer.
 pub(crate) fn place_in(source: &[u8], at: u32) -> Option<Place>
     requires { length source.now < 2 ^ 32 }
-    ensures { IfSome result (λ place. IsPlaceOf source.now place × (place.at ≡ at)) }
+    ensures { MatchOption result (length source.now ≤ at) (λ place. IsPlaceOf source.now place × (place.at ≡ at)) }
 {
     if (at as usize) < source.len() {
         Some(place_of(source, at))

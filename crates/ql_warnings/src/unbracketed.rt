@@ -1,13 +1,13 @@
 // `=>` and `/\` or `\/` beside each other without brackets.
-ghost use Rattle.std.specs.Prelude.{◌≡◌, ◌+◌, ◌<◌, ◌≤◌, ◌^◌, IfOk, IfSome, Ok, Some, codes, drop, length, slice_get, true};
-ghost use Rattle.std.specs.List.{All};
+ghost use Rattle.std.specs.Prelude.{◌≡◌, ◌+◌, ◌<◌, ◌≤◌, ◌⊎◌, ◌^◌, ℕ, IfOk, IfSome, MatchBool, MatchOption, Ok, OnOk, Some, codes, drop, length, slice_get};
 ghost use Rattle.ql_lex.specs.Tokens.{AreSpans, Lexes};
 ghost use Rattle.ql_lex.specs.declared.token.Token.{Token};
-ghost use Rattle.ql_warnings.specs.Kept.{IsBracketWarning};
+ghost use Rattle.ql_warnings.specs.Kept.{AreBracketWarnings, AreJoined};
 ghost use Rattle.ql_warnings.specs.Places.{IsPlaceOf};
 ghost use Rattle.ql_warnings.specs.declared.unbracketed.Sign.TheVariants.{Arrow};
+ghost use Rattle.ql_warnings.specs.declared.warning.Place.{Place};
 ghost use Rattle.std.specs.Str.{bytes_eq};
-ghost use Rattle.ql_warnings.specs.Brackets.{IsUnbracketed, closes, deeper, joined, joins, met, opens, sign_of, told, word_of};
+ghost use Rattle.ql_warnings.specs.Brackets.{IsJoinedTo, closes, deeper, joined, joins, met, opens, sign_of, told, word_of};
 
 use crate::place::place_in;
 use crate::warning::{Place, Warning};
@@ -74,17 +74,23 @@ fn ends(word: &[u8]) -> bool
     word == b";".as_slice()
 }
 
-/// A warning of each `/\` or `\/` that stands between two `=>` without brackets, where the first `=>` is from one offset of
-/// the source on and before another.
+/// What lies from one offset of a source on and before another.
+#[derive(Clone, Copy)]
+pub(crate) struct Extent {
+    pub(crate) start: u32,
+    pub(crate) end: u32,
+}
+
+/// A warning of each `/\` or `\/` of an extent that stands between two `=>` of it without brackets.
 pub(crate) fn unbracketed(
     alloc: Global,
     source: &[u8],
-    start: u32,
-    end: u32,
+    extent: Extent,
 ) -> Result<Vec<Warning>, NoMemory>
     requires { length source.now < 2 ^ 32 }
-    ensures { IfOk result (λ found. All (IsBracketWarning source.now start) found.items) }
+    ensures { IfOk result (λ found. AreBracketWarnings source.now extent.start extent.end found.items) }
 {
+    ql_lex::one_answer();
     let mut found = Vec::new(alloc);
     let tokens = match tokens(alloc, source) {
         Ok(tokens) => tokens,
@@ -92,23 +98,31 @@ pub(crate) fn unbracketed(
         Err(_) => return Ok(found),
     };
     for k in 0..tokens.len() {
-        if let Some(warning) = warning_at(source, &tokens, k, start, end) {
-            found.push(warning)?;
-        }
+        push_joined(&mut found, source, &tokens, k, extent)?;
     }
     Ok(found)
 }
 
-fn warning_at(source: &[u8], tokens: &[Token], k: usize, start: u32, end: u32) -> Option<Warning>
+// Appends the warning of what joins a token to the next `=>`, if there is one.
+fn push_joined(
+    found: &mut Vec<Warning>,
+    source: &[u8],
+    tokens: &[Token],
+    k: usize,
+    extent: Extent,
+) -> Result<(), NoMemory>
     requires few { length source.now < 2 ^ 32 }
     requires lexed { Lexes 0 source.now (Ok tokens.now) }
     requires spans { AreSpans 0 (length source.now) tokens.now }
     requires there { k < length tokens.now }
-    ensures { IfSome result (IsBracketWarning source.now start) }
+    ensures { OnOk result (AreJoined source.now extent.start extent.end tokens.now k found.old.items → AreJoined source.now extent.start extent.end tokens.now (k + 1) found.new.items) }
 {
-    match joined_at(source, tokens, k, start, end) {
-        Some(place) => Some(Warning::Unbracketed(place)),
-        None => None,
+    match joined_at(source, tokens, k, extent) {
+        Some(place) => {
+            found.push(Warning::Unbracketed(place))?;
+            Ok(())
+        }
+        None => Ok(()),
     }
 }
 
@@ -119,25 +133,45 @@ fn token_at(tokens: &[Token], k: usize) -> Token
     tokens[k]
 }
 
-// The place of what joins an `=>` to the next one, where that is from `start` on and before `end`.
-fn joined_at(source: &[u8], tokens: &[Token], k: usize, start: u32, end: u32) -> Option<Place>
+// The place of what joins a token to the next `=>`, both in an extent.
+fn joined_at(source: &[u8], tokens: &[Token], k: usize, extent: Extent) -> Option<Place>
     requires few { length source.now < 2 ^ 32 }
-    requires lexed { Lexes 0 source.now (Ok tokens.now) }
     requires spans { AreSpans 0 (length source.now) tokens.now }
     requires there { k < length tokens.now }
-    ensures { IfSome result (λ place. IsPlaceOf source.now place × IsUnbracketed source.now start place.at) }
+    ensures { MatchOption result
+        ((place : Place) → IsPlaceOf source.now place → IsJoinedTo source.now extent.start tokens.now k place.at → place.at < extent.end → ⊥)
+        (λ place. IsPlaceOf source.now place × IsJoinedTo source.now extent.start tokens.now k place.at × (place.at < extent.end)) }
+{
+    match joined_from(source, tokens, k, extent.start) {
+        Some(at) => place_before(source, at, extent.end),
+        None => None,
+    }
+}
+
+// The offset of what joins a token to the next `=>`, where it is an `=>` itself and from `start` on.
+fn joined_from(source: &[u8], tokens: &[Token], k: usize, start: u32) -> Option<u32>
+    requires spans { AreSpans 0 (length source.now) tokens.now }
+    requires there { k < length tokens.now }
+    ensures { MatchOption result ((at : ℕ) → IsJoinedTo source.now start tokens.now k at → ⊥) (IsJoinedTo source.now start tokens.now k) }
 {
     let token = token_at(tokens, k);
-    if token.from < start || end <= token.from {
+    if token.from < start {
         return None;
     }
     if !points(sign_at(source, token)) {
         return None;
     }
-    match joined(source, tokens, k + 1, 0, None) {
-        Some(at) => place_in(source, at),
-        None => None,
+    joined(source, tokens, k + 1, 0, None)
+}
+
+fn place_before(source: &[u8], at: u32, end: u32) -> Option<Place>
+    requires { length source.now < 2 ^ 32 }
+    ensures { MatchOption result ((end ≤ at) ⊎ (length source.now ≤ at)) (λ place. IsPlaceOf source.now place × (place.at ≡ at) × (at < end)) }
+{
+    if end <= at {
+        return None;
     }
+    place_in(source, at)
 }
 
 // The first `/\` or `\/` before the next `=>` from a token on, outside brackets, of which so many are open.
@@ -167,7 +201,7 @@ fn joined(
 }
 
 fn points(sign: Sign) -> bool
-    ensures { result ≡ true → sign ≡ Arrow }
+    ensures { MatchBool result (sign ≡ Arrow) (sign ≡ Arrow → ⊥) }
 {
     matches!(sign, Sign::Arrow)
 }

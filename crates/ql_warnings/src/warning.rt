@@ -12,7 +12,7 @@ pub struct Place {
 #[derive(Clone, Copy, PartialEq, Eq)]
 pub enum Warning {
     /// The variable of this number from 0 stands for any effect, though its name is this operation's.
-    NamedAsOperation { variable: u32, op: OpId },
+    NamedAsOperation { variable: usize, op: OpId },
     /// `/\` or `\/` stands here between two `=>` without brackets.
     Unbracketed(Place),
     /// The contract isn't `true`, and yet it holds in every execution, whatever the level.

@@ -1,5 +1,3 @@
-use Rattle.std.proofs.Common.{Ok, subst, sym}
-use Rattle.ql_baseline.specs.Comparison.{IsComparison}
 use Rattle.ql_baseline.proofs.Joining.{compared_said}
 use Rattle.ql_baseline.proofs.comparison.compare.Goals as goal
 

@@ -9,7 +9,7 @@ push_section-requires-clause-finding c = (c.loop-k.k, c.requires.findings.each c
 pub loop-k-preserved : goal.loop-k-preserved
 loop-k-preserved c =
     turn_more (IsSection c.args.source.now c.args.t.now.program) c.args.findings.now c.loop-k.k c.finding_at-finding.result.now c.loop-k.text.items c.push_section.new.text.items
-    c.finding_at-finding.ensures c.loop-k.invariant c.in_ok-is_right.ensures
+    c.finding_at-finding.ensures c.loop-k.invariant c.in_ok-push_section.ensures
 
 pub returns : goal.returns
 returns c = turn_all (IsSection c.args.source.now c.args.t.now.program) c.args.findings.now c.loop-k.k c.loop-k.text.items (omega arith) c.loop-k.invariant

@@ -1,4 +1,4 @@
-use Rattle.std.proofs.Common.{refl, subst, sym}
+use Rattle.std.proofs.Common.{subst, sym}
 use Rattle.std.specs.List.{All}
 use Rattle.ql_warnings.specs.Warnings.{IsRuledOut}
 use Rattle.std.specs.Prelude.{codes}

@@ -1,6 +1,5 @@
-use Rattle.std.proofs.Common.{◌≡◌, ◌++◌, ℕ, List, subst, sym}
-use Rattle.std.specs.List.{All}
-use Rattle.ql_warnings.specs.Warnings.{IsWarning}
+use Rattle.std.proofs.Common.{◌≡◌, ◌++◌, subst, sym}
+use Rattle.ql_warnings.specs.Warnings.{AreWarnings}
 use Rattle.ql_explanation.specs.Explanation.{AreUsesOf, IsReason, strong_lines, warned_text}
 use Rattle.ql_explanation.proofs.Texts.{whole_section}
 use Rattle.ql_explanation.proofs.sections.section.Goals as goal
@@ -12,7 +11,7 @@ returns c = λ source warned. record {
   are_uses = subst (λ h. AreUsesOf c.args.t.now.program h c.args.remarks.uses.now) c.requires.target c.requires.uses;
   words = c.in_ok-push_remarks.ensures.0;
   warned = c.args.remarks.warned.now;
-  are_warned = subst (λ h. All (IsWarning source c.args.t.now.program h) c.args.remarks.warned.now) c.requires.target warned;
+  are_warned = subst (λ h. AreWarnings source c.args.t.now.program h c.args.remarks.warned.now) c.requires.target warned;
   reason = c.deref.result.now;
   is_reason = subst (IsReason c.args.t.now.program c.args.finding.now) (sym c.deref.ensures.value) c.in_ok-reason.ensures;
   whole = whole_section _ _ _ _ _ _ c.in_ok-text.text.items c.push_first_line.new.out.items c.push_remarks.new.out.items c.push_bytes.new.out.items c.in_ok-text.ensures c.in_ok-push_first_line.ensures

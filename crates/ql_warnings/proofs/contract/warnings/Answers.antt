@@ -1,8 +1,8 @@
-use Rattle.std.proofs.Common.{subst, sym}
-use Rattle.std.proofs.lemmas.List.Elements.{All-append}
+use Rattle.std.proofs.Common.{◌++◌, ap, subst, sym, ◌∙◌}
 use Rattle.std.specs.List.{All}
-use Rattle.ql_warnings.specs.Warnings.{IsWarning}
-use Rattle.ql_warnings.proofs.Kept.{all_brackets, all_named}
+use Rattle.ql_warnings.specs.Kept.{AreBracketWarnings}
+use Rattle.ql_warnings.specs.Warnings.{AreWarnings, IsWarning}
+use Rattle.ql_warnings.proofs.Kept.{all_warnings}
 use Rattle.ql_warnings.proofs.contract.warnings.Goals as goal
 
 pub returns : goal.returns
@@ -12,10 +12,11 @@ returns c =
     let g = c.args.g in
     let vars = c.declared-at.result.0.now in
     let at = c.declared-at.result.1 in
-    subst (All (IsWarning source p g)) (sym c.in_ok-push_all-2.ensures)
-    (All-append (IsWarning source p g) c.push_all.new.found.items c.deref-2.result.now
-    (subst (All (IsWarning source p g)) (sym c.in_ok-push_all.ensures)
-    (All-append (IsWarning source p g) c.in_ok-found.found.items c.deref.result.now
-    (all_named source p g vars at c.in_ok-found.found.items c.declared-at.ensures c.in_ok-found.ensures)
-    (subst (All (IsWarning source p g)) (sym c.deref.ensures.value) (all_brackets source p g vars at c.in_ok-brackets.brackets.items c.declared-at.ensures c.in_ok-brackets.ensures))))
-    (subst (All (IsWarning source p g)) (sym c.deref-2.ensures.value) c.in_ok-of_contract.ensures))
+    let end = c.next_name-end.result in
+    let names = c.in_ok-found.found.items in
+    let brackets = c.deref.result.now in
+    let rest = c.deref-2.result.now in
+    let joined : AreBracketWarnings source at end brackets = subst (AreBracketWarnings source at end) (sym c.deref.ensures.value) c.in_ok-brackets.ensures in
+    let others : All (IsWarning source p g) rest = subst (All (IsWarning source p g)) (sym c.deref-2.ensures.value) c.in_ok-of_contract.ensures in
+    subst (AreWarnings source p g) (sym (c.in_ok-push_all-2.ensures ∙ ap (λ ws. ws ++ rest) c.in_ok-push_all.ensures))
+    (all_warnings source p g vars at end c.declared-at.ensures c.next_name-end.ensures names brackets rest c.in_ok-found.ensures joined others)

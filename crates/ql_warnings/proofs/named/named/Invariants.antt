@@ -1,6 +1,5 @@
-use Rattle.std.specs.List.{All}
-use Rattle.ql_warnings.specs.Kept.{IsNameWarning}
+use Rattle.ql_warnings.specs.Kept.{AreNameWarnings}
 use Rattle.ql_warnings.proofs.named.named.Given as goal
 
 abbrev pub invariant-loop-k : goal.invariant-loop-k
-invariant-loop-k l = All (IsNameWarning l.t.program l.vars) l.found.items
+invariant-loop-k l = AreNameWarnings l.t.program l.vars l.k l.found.items

@@ -1,4 +1,4 @@
-use Rattle.std.proofs.Common.{List, arith, refl, subst, sym}
+use Rattle.std.proofs.Common.{arith, refl, subst, sym}
 use Rattle.std.specs.List.{All}
 use Rattle.ql_lang.specs.Formulas.{statement_of}
 use Rattle.ql_warnings.specs.Known.{IsPartOf}

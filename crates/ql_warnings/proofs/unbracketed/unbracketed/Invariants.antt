@@ -1,6 +1,5 @@
-use Rattle.std.specs.List.{All}
-use Rattle.ql_warnings.specs.Kept.{IsBracketWarning}
+use Rattle.ql_warnings.specs.Kept.{AreJoined}
 use Rattle.ql_warnings.proofs.unbracketed.unbracketed.Given as goal
 
 abbrev pub invariant-loop-k : goal.invariant-loop-k
-invariant-loop-k l = All (IsBracketWarning l.source l.start) l.found.items
+invariant-loop-k l = AreJoined l.source l.extent.start l.extent.end l.tokens.items l.k l.found.items
