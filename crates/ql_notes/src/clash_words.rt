@@ -131,13 +131,8 @@ fn push_expected_kind(note: &mut Vec<u8>, wish: Wish) -> Result<(), NoMemory> {
 fn push_wish(note: &mut Vec<u8>, owner: &[u8], wish: Wish) -> Result<(), NoMemory> {
     match wish {
         Wish::Answer(kind) => push_named(note, b"", owner, b" answers ", kind),
-        Wish::Initial(kind) | Wish::Assigned(kind) => push_named(
-            note,
-            b"the field ",
-            owner,
-            b" is ",
-            kind,
-        ),
+        Wish::Initial(kind) => push_initial(note, owner, kind),
+        Wish::Assigned(kind) => push_named(note, b"the field ", owner, b" is ", kind),
         Wish::Emitted(kind) => push_named(note, b"the emitted value ", owner, b" is ", kind),
         Wish::When => push_bytes(note, b"`when` takes a bool"),
         Wish::Condition => push_bytes(note, b"the condition of `if` is a bool"),
@@ -152,6 +147,14 @@ fn push_wish(note: &mut Vec<u8>, owner: &[u8], wish: Wish) -> Result<(), NoMemor
         Wish::First(function) | Wish::Argument(function, _, _) | Wish::Count(function, _) =>
             push_taken(note, function),
         Wish::Any => Ok(()),
+    }
+}
+
+fn push_initial(note: &mut Vec<u8>, owner: &[u8], kind: Kind) -> Result<(), NoMemory> {
+    push_named(note, b"the field ", owner, b" is ", kind)?;
+    match kind {
+        Kind::Set(_) | Kind::Map(_, _) => push_bytes(note, b", and begins as `empty`"),
+        _ => Ok(()),
     }
 }
 

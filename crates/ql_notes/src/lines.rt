@@ -80,6 +80,8 @@ fn push_form_fault(
         sentence(fault.part, fault.rule)
     } else if last_form(found.form) == b"end".as_slice() {
         b"the file ends here, and the line `end` is missing".as_slice()
+    } else if found.form == b"execution".as_slice() {
+        b"the file ends here, and the line `execution` is missing before its first effect".as_slice()
     } else {
         b"the file ends here".as_slice()
     };

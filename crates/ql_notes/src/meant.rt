@@ -105,10 +105,37 @@ pub(crate) fn push_instead(
             if meant.is_some() {
                 return push_meant(note, meant);
             }
-            values(alloc, tokens, k)?
+            push_known(note, word, &values(alloc, tokens, k)?)?;
+            return push_unused(note, tokens, k);
         }
     };
     push_known(note, word, &names)
+}
+
+// A parameter that its operation never uses may be the unknown name, misspelt where it is declared.
+fn push_unused(note: &mut Vec<u8>, tokens: &[&[u8]], k: usize) -> Result<(), NoMemory> {
+    let (from, to) = parameters_before(tokens, k);
+    for (j, token) in tokens.iter().enumerate() {
+        if from < j && j < to && is_bound(tokens, j) && !is_used(tokens, to, token) {
+            push_bytes(note, b"  the parameter ")?;
+            push_quoted(note, token)?;
+            push_bytes(note, b" is used nowhere: perhaps it should be ")?;
+            push_quoted(note, piece(tokens, k))?;
+            push_bytes(note, b"\n")?;
+        }
+    }
+    Ok(())
+}
+
+// Whether a name stands in an operation after its parameters.
+fn is_used(tokens: &[&[u8]], to: usize, name: &[u8]) -> bool {
+    let end = next_of(tokens, to, b"op type transaction").unwrap_or(tokens.len());
+    for (j, token) in tokens.iter().enumerate() {
+        if to < j && j < end && *token == name {
+            return true;
+        }
+    }
+    false
 }
 
 // An operation is named where one of its effects is wanted.

@@ -14,8 +14,8 @@ use std::alloc::Global;
 const REFUSALS: &str = "BadVariable this line has a variable that the clauses don't have
 BadHint a hint of this line names a clause that isn't there, or a line that isn't earlier
 NotUnit a hint of this line names a clause that leaves open more than one literal, or is true already
-NoConflict the hints lead to no contradiction
-NoEmpty no line is the empty clause, so nothing is shown";
+NoConflict the hints lead to no contradiction: one is missing at the end, or one is wrong
+NoEmpty no line is the empty clause, so nothing is shown: a last line without literals, NUMBER : HINTS, is missing";
 
 /// What a line of an answer refuses: the rule, the section's first line, which is empty in a proof, and the number of the line,
 /// which is empty where the whole is refused.
@@ -91,11 +91,24 @@ pub(crate) fn push_refusal(
         )?;
         return push_anew(note, source);
     }
+    push_cause(&mut said, refusal)?;
+    push_fault(note, file, spot_of(file.text, refusal), refusal.rule, &said)?;
+    if refusal.section.is_empty() {
+        return Ok(());
+    }
+    if may_be_too_low(refusal) {
+        push_levels(note, source)?;
+    }
+    push_anew(note, source)
+}
+
+// Where the refused line stands, and why it is refused.
+fn push_cause(said: &mut Vec<u8>, refusal: Refusal) -> Result<(), NoMemory> {
     if !refusal.section.is_empty() {
-        push_bytes(&mut said, b"section ")?;
-        push_quoted(&mut said, refusal.section)?;
+        push_bytes(said, b"section ")?;
+        push_quoted(said, refusal.section)?;
         push_bytes(
-            &mut said,
+            said,
             if refusal.line.is_empty() {
                 b": "
             } else {
@@ -104,17 +117,11 @@ pub(crate) fn push_refusal(
         )?;
     }
     if !refusal.line.is_empty() {
-        push_bytes(&mut said, b"line ")?;
-        push_bytes(&mut said, refusal.line)?;
-        push_bytes(&mut said, b": ")?;
+        push_bytes(said, b"line ")?;
+        push_bytes(said, refusal.line)?;
+        push_bytes(said, b": ")?;
     }
-    push_bytes(&mut said, sentence_of(REFUSALS, refusal.rule))?;
-    push_fault(note, file, spot_of(file.text, refusal), refusal.rule, &said)?;
-    if refusal.section.is_empty() {
-        return Ok(());
-    }
-    push_levels(note, source)?;
-    push_anew(note, source)
+    push_bytes(said, sentence_of(REFUSALS, refusal.rule))
 }
 
 // What the source has as the section of a number, from 1.
@@ -147,6 +154,13 @@ fn push_order(
     push_bytes(said, keyword)?;
     push_bytes(said, name)?;
     push_bytes(said, b"` there")
+}
+
+// Whether a higher level could help: hints were found that lead nowhere, and the level isn't the highest.
+fn may_be_too_low(refusal: Refusal) -> bool {
+    has_word(b"NotUnit NoConflict NoEmpty", refusal.rule)
+        && !refusal.section.ends_with(b" strong")
+        && !refusal.section.ends_with(b" rr")
 }
 
 fn push_levels(note: &mut Vec<u8>, source: Source) -> Result<(), NoMemory> {
