@@ -19,6 +19,9 @@ feed b is = grind (arith, is)
 no_feed : (b : ℕ) → is_line_feed b ≡ false → b ≡ 10 → ⊥
 no_feed b other is = grind (arith, other, is)
 
+pub other_byte : (b : ℕ) → (b ≡ 10 → ⊥) → is_line_feed b ≡ false
+other_byte b other = grind (arith, other)
+
 -- after a line feed
 pub scan_feed : (text : List ℕ) (k line start : ℕ) → k < length text → is_line_feed (get_or text k 0) ≡ true → IsScanned text k line start → IsScanned text (k + 1) (line + 1) (k + 1)
 scan_feed text k line start lt is h = record {
@@ -37,4 +40,46 @@ pub scan_other : (text : List ℕ) (k line start : ℕ) → k < length text → 
 scan_other text k line start lt other h = record {
   counted = h.counted ∙ ap (λ n. n + 1) (sym (count_by_more_no is_line_feed text k 0 lt other));
   begins = record { within = omega (arith, h.begins.within); begins = h.begins.begins; one_line = λ j p q. none_to text k start other h.begins j p (omega (arith, q)) };
+}
+
+-- of the bytes before an offset those of a line, of a number, are blank: those of the line at the offset, and all others
+pub record AreBlank (text : List ℕ) (number k line start : ℕ) : Type 0 where
+  pub here : line ≡ number → (j : ℕ) → start ≤ j → j < k → get_or text j 0 ≡ 32
+  pub all : (j : ℕ) → j < k → count_by is_line_feed (take j text) + 1 ≡ number → get_or text j 0 ≡ 32
+
+pub blank_first : (text : List ℕ) (number line start : ℕ) → AreBlank text number 0 line start
+blank_first text number line start = record { here = λ is j p q. absurd (omega (arith, q)); all = λ j q is. absurd (omega (arith, q)) }
+
+-- the byte at the offset is blank, or of another line
+abbrev pub IsPassedOver : List ℕ → ℕ → ℕ → ℕ → Type 0
+IsPassedOver text number k line = line ≡ number → get_or text k 0 ≡ 32
+
+all_to : (text : List ℕ) (number k line start : ℕ) → IsScanned text k line start → IsPassedOver text number k line → AreBlank text number k line start
+    → (j : ℕ) → j ≤ k → count_by is_line_feed (take j text) + 1 ≡ number → get_or text j 0 ≡ 32
+all_to text number k line start scanned blank h j q is = elim (eq-or-lt_of_le q) [
+  | inl same ↦ ap (λ i. get_or text i 0) same ∙ blank (scanned.counted ∙ ap (λ i. count_by is_line_feed (take i text) + 1) (sym same) ∙ is)
+  | inr lt ↦ h.all j lt is
+]
+
+here_to : (text : List ℕ) (number k line start : ℕ) → IsPassedOver text number k line → AreBlank text number k line start
+    → line ≡ number → (j : ℕ) → start ≤ j → j ≤ k → get_or text j 0 ≡ 32
+here_to text number k line start blank h is j p q = elim (eq-or-lt_of_le q) [
+  | inl same ↦ ap (λ i. get_or text i 0) same ∙ blank is
+  | inr lt ↦ h.here is j p lt
+]
+
+-- after a line feed
+pub blank_feed : (text : List ℕ) (number k line start : ℕ) → IsScanned text k line start → IsPassedOver text number k line → AreBlank text number k line start
+    → AreBlank text number (k + 1) (line + 1) (k + 1)
+blank_feed text number k line start scanned blank h = record {
+  here = λ is j p q. absurd (omega (arith, p, q));
+  all = λ j q is. all_to text number k line start scanned blank h j (omega (arith, q)) is;
+}
+
+-- after another byte
+pub blank_other : (text : List ℕ) (number k line start : ℕ) → IsScanned text k line start → IsPassedOver text number k line → AreBlank text number k line start
+    → AreBlank text number (k + 1) line start
+blank_other text number k line start scanned blank h = record {
+  here = λ is j p q. here_to text number k line start blank h is j p (omega (arith, q));
+  all = λ j q is. all_to text number k line start scanned blank h j (omega (arith, q)) is;
 }

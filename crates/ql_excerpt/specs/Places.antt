@@ -25,3 +25,7 @@ pub record IsInLine (text : List ℕ) (number : ℕ) (place : Place) : Type 0 wh
   pub there : place.at < length text
   pub not_blank : get_or text place.at 0 ≢ 32
   pub blank_before : (k : ℕ) → place.start ≤ k → k < place.at → get_or text k 0 ≡ 32
+
+-- no byte of the line is other than a blank: it has none, or it is the last one and has blanks alone
+abbrev pub IsBlankLine : List ℕ → ℕ → Type 0
+IsBlankLine text number = (k : ℕ) → k < length text → count_by is_line_feed (take k text) + 1 ≡ number → get_or text k 0 ≡ 32

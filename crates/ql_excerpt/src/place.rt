@@ -1,6 +1,6 @@
 ghost use Rattle.std.specs.Prelude.{◌≡◌, ◌⊎◌, ◌≤◌, length, min, take};
 ghost use Rattle.std.specs.List.{position_or_len};
-ghost use Rattle.ql_excerpt.specs.Places.{IsInLine, IsPlace, is_line_feed};
+ghost use Rattle.ql_excerpt.specs.Places.{IsBlankLine, IsInLine, IsPlace, is_line_feed};
 
 /// Where something stands in a text: its line, from 1, that line's first byte, and its own.
 #[derive(Clone, Copy)]
@@ -25,10 +25,10 @@ pub fn place_of(text: &[u8], offset: usize) -> Place
     Place { line, start, at }
 }
 
-/// The position of a line's first byte that isn't blank, where it has one, or of the text's end.
+/// The position of a line's first byte that isn't blank, or of the text's end where it has none.
 pub fn place_of_line(text: &[u8], number: u64) -> Place
     ensures is { IsPlace text.now result.at result }
-    ensures on_line { IsInLine text.now number result ⊎ (result.at ≡ length text.now) }
+    ensures on_line { IsInLine text.now number result ⊎ ((result.at ≡ length text.now) × IsBlankLine text.now number) }
 {
     let (mut line, mut start) = (1, 0);
     for k in 0..text.len() {
