@@ -6,10 +6,10 @@ ghost use Rattle.ql_run_json.specs.Values.{id_data, listed};
 ghost use Rattle.ql_lang.specs.Spelling.{relation_word};
 ghost use Rattle.ql_explain_json.specs.JsonExplanations.{claim_effects, claim_text, fact_data};
 
-use crate::values::{ids, text};
 use ql_base::NoMemory;
 use ql_facts::{Claim, Fact};
 use ql_lang::RelName;
+use ql_run_json::values::{ids, text};
 use serde_json::{Map, Value as Json, put};
 use std::alloc::Global;
 

@@ -5,12 +5,10 @@
 #![tactic(auto)]
 
 mod counter;
-mod effects;
 mod explanation;
 mod facts;
 mod names;
 mod target;
-mod values;
 mod warnings;
 
 pub use explanation::explain_json;

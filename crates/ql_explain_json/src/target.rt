@@ -12,12 +12,12 @@ ghost use Rattle.ql_explain_json.specs.JsonExplanations.{IsReasonData, IsShown, 
 
 use crate::counter::{Shown, shown_of, shown_value};
 use crate::names::{kind_of, level_of, name_of};
-use crate::values::text;
 use crate::warnings::warnings;
 use ql_base::{NoMemory, OpId};
 use ql_classify::Finding;
 use ql_explanation::{goal_of, uses_of};
 use ql_ground::Goal;
+use ql_run_json::values::text;
 use ql_typing::Typed;
 use serde_json::{Map, Value as Json, put};
 use std::alloc::Global;

@@ -6,9 +6,9 @@ ghost use Rattle.ql_explain_json.specs.JsonExplanations.{AreWarnings, place_data
 ghost use Rattle.ql_run_json.specs.Values.{text_data};
 ghost use Rattle.ql_warnings.specs.Texts.{warning_text};
 
-use crate::values::{pair, text};
 use ql_base::NoMemory;
 use ql_ground::Goal;
+use ql_run_json::values::{pair, text};
 use ql_typing::Typed;
 use ql_warnings::{Place, Warning, warning_text, warning_word, warnings as warnings_of};
 use serde_json::{Map, Value as Json, put};

@@ -13,8 +13,8 @@ use ql_typing::Typed;
 use serde_json::{Map, Value as Json, put};
 use std::alloc::Global;
 
-/// The effects of an execution, in which objects have these names.
-pub(crate) fn effects(
+/// The effects of an execution, in order, each an object; objects of the store have these names.
+pub fn effects(
     alloc: Global,
     t: &Typed,
     objects: &Names,

@@ -7,6 +7,7 @@ mod effects;
 mod levels;
 mod replies;
 mod run;
-mod values;
+pub mod values;
 
+pub use effects::effects;
 pub use run::print_run_json;

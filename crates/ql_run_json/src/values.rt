@@ -1,3 +1,5 @@
+// Values, texts and ids as JSON: integers and Booleans as themselves, a text as a string, a unit as null, a set as the list
+// of its members, a map as that of its pairs.
 ghost use Rattle.std.specs.Prelude.{◌≡◌, ◌∷◌, [], IfOk, map};
 ghost use Rattle.serde_json.specs.View.{view};
 ghost use Rattle.ql_run_json.specs.Values.{
@@ -17,14 +19,14 @@ use serde_json::Value as Json;
 use std::alloc::Global;
 
 /// A text. Names, texts of values and replies are ASCII.
-pub(crate) fn text(alloc: Global, bytes: &[u8]) -> Result<Json, NoMemory>
+pub fn text(alloc: Global, bytes: &[u8]) -> Result<Json, NoMemory>
     ensures { IfOk result (λ v. view v ≡ text_data bytes.now) }
 {
     Ok(Json::String(String::from_utf8_lossy(alloc, bytes)?))
 }
 
 /// A value; a set is the list of its members, and a map that of its pairs.
-pub(crate) fn value(alloc: Global, v: &Value) -> Result<Json, NoMemory>
+pub fn value(alloc: Global, v: &Value) -> Result<Json, NoMemory>
     ensures { IfOk result (λ json. view json ≡ value_data v.now) }
 {
     match v {
@@ -38,7 +40,7 @@ pub(crate) fn value(alloc: Global, v: &Value) -> Result<Json, NoMemory>
 }
 
 /// What an effect carries.
-pub(crate) fn payload(alloc: Global, payload: &Payload) -> Result<Json, NoMemory>
+pub fn payload(alloc: Global, payload: &Payload) -> Result<Json, NoMemory>
     ensures { IfOk result (λ json. view json ≡ payload_data payload.now) }
 {
     match payload {
@@ -48,7 +50,7 @@ pub(crate) fn payload(alloc: Global, payload: &Payload) -> Result<Json, NoMemory
 }
 
 /// Values in order.
-pub(crate) fn values(alloc: Global, values: &[Value]) -> Result<Json, NoMemory>
+pub fn values(alloc: Global, values: &[Value]) -> Result<Json, NoMemory>
     ensures { IfOk result (λ json. view json ≡ listed (map value_data values.now)) }
 {
     let mut list = Vec::with_capacity(alloc, values.len())?;
@@ -59,7 +61,7 @@ pub(crate) fn values(alloc: Global, values: &[Value]) -> Result<Json, NoMemory>
 }
 
 /// Ids in order.
-pub(crate) fn ids(alloc: Global, ids: &[u32]) -> Result<Json, NoMemory>
+pub fn ids(alloc: Global, ids: &[u32]) -> Result<Json, NoMemory>
     ensures { IfOk result (λ json. view json ≡ listed (map id_data ids.now)) }
 {
     let mut list = Vec::with_capacity(alloc, ids.len())?;
@@ -90,7 +92,8 @@ fn pairs(alloc: Global, entries: &[(Scalar, Scalar)]) -> Result<Json, NoMemory>
     Ok(Json::Array(list))
 }
 
-fn pair(first: Json, second: Json, alloc: Global) -> Result<Json, NoMemory>
+/// The list of two.
+pub fn pair(first: Json, second: Json, alloc: Global) -> Result<Json, NoMemory>
     ensures { IfOk result (λ json. view json ≡ listed (view first ∷ view second ∷ [])) }
 {
     let mut list = Vec::with_capacity(alloc, 2)?;
