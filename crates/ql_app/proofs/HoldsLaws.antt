@@ -7,9 +7,9 @@ use Rattle.ql_lines.specs.Lines.{Ahead, ahead_from}
 use Rattle.ql_report.specs.declared.holds_fault.HoldsFault.{HoldsFault}
 use Rattle.ql_report.specs.declared.holds_fault.HoldsFault.TheVariants.{Unexpected, Unknown, Twice, TxnAtom, Variables, Range, NotForward, OtherObject, TooMany, NoMemory}
 use Rattle.ql_report.specs.HoldsFile.{Asked, FirstFault, IsHolding, IsRefusal}
-use Rattle.ql_app.specs.declared.status.Status.{Status}
-use Rattle.ql_app.specs.declared.status.Status.TheVariants.{Done, No, Bad, ReadFault, WriteFault, Usage, TooLarge}
-use Rattle.ql_app.specs.HoldsFile.{HoldsSays, HoldsTells, IsToldAs, fault_text, work}
+use Rattle.ql_reply.specs.declared.status.Status.{Status}
+use Rattle.ql_reply.specs.declared.status.Status.TheVariants.{Done, No, Bad, ReadFault, WriteFault, Usage, TooLarge}
+use Rattle.ql_app.specs.HoldsFile.{HoldsSays, HoldsTells, IsToldAs, holds_fault_text, work}
 
 -- a refusal that is told is the first fault
 first_fault : (file : Ahead) (f : HoldsFault) (text : List ℕ) → IsRefusal file f → IsToldAs f text → FirstFault file f
@@ -24,7 +24,7 @@ first_fault file (OtherObject line) text h told = h
 first_fault file (TooMany line) text h told = h
 first_fault file NoMemory text h told = absurd told
 
-told_text : (f : HoldsFault) (text : List ℕ) → IsToldAs f text → text ≡ fault_text f
+told_text : (f : HoldsFault) (text : List ℕ) → IsToldAs f text → text ≡ holds_fault_text f
 told_text (Unexpected line) text told = told
 told_text (Unknown line) text told = told
 told_text (Twice line) text told = told

@@ -3,13 +3,14 @@ use Rattle.std.proofs.Common.{◌≡◌, inl, inr, ℕ, ◌≤◌, length, List,
 use Rattle.std.specs.Prelude.{IfSome}
 use Rattle.ql_ports.specs.Written.{appended}
 use Rattle.ql_app.specs.declared.outcome.Limits.{Limits}
-use Rattle.ql_app.specs.declared.status.Status.{Status}
-use Rattle.ql_app.specs.declared.status.Status.TheVariants.{Done, No, Usage}
+use Rattle.ql_reply.specs.declared.status.Status.{Status}
+use Rattle.ql_reply.specs.declared.status.Status.TheVariants.{Done, No, Usage}
 use Rattle.ql_app.specs.declared.words.Command.TheVariants.{Holds, Proof, Classify, ClassifyWhy, Prove, Gen, Soak}
 use Rattle.ql_app.specs.declared.words.PairCommand.TheVariants.{Check, Verify, Run, Slim, Restart}
 use Rattle.ql_running.specs.declared.form.Form.TheVariants.{Text, Json}
 use Rattle.ql_app.specs.LeastWritten.{WritesLeast, WritesNone}
-use Rattle.ql_app.specs.Outcome.{Judges, Says, Wrote}
+use Rattle.ql_app.specs.Outcome.{Judges, Says}
+use Rattle.ql_reply.specs.Wrote.{Wrote}
 use Rattle.ql_app.specs.Words.{Call, IsRequest, OneFile, TwoFiles}
 use Rattle.ql_commands.specs.Classify.{ClassifySays}
 use Rattle.ql_commands.specs.declared.answer.Answer.TheVariants as answer

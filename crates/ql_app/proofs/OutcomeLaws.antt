@@ -7,22 +7,25 @@ use Rattle.ql_ports.specs.Faults.{Rose}
 use Rattle.ql_ports.specs.declared.whole.ReadError.{ReadError}
 use Rattle.ql_ports.specs.declared.whole.ReadError.TheVariants.{Failed, TooLong, NoMemory as NoReadMemory}
 use Rattle.ql_app.specs.declared.outcome.Limits.{Limits}
-use Rattle.ql_app.specs.declared.status.Status.{Status}
-use Rattle.ql_app.specs.declared.status.Status.TheVariants.{Done, No, Bad, ReadFault, WriteFault, Usage, TooLarge}
+use Rattle.ql_reply.specs.declared.status.Status.{Status}
+use Rattle.ql_reply.specs.declared.status.Status.TheVariants.{Done, No, Bad, ReadFault, WriteFault, Usage, TooLarge}
 use Rattle.ql_app.specs.declared.words.Command.{Command}
 use Rattle.ql_app.specs.declared.words.Command.TheVariants.{Holds, Proof, Classify, ClassifyWhy, Prove, Gen, Soak}
 use Rattle.ql_app.specs.declared.words.PairCommand.{PairCommand}
 use Rattle.ql_app.specs.declared.words.PairCommand.TheVariants.{Check, Verify, Run, Slim, Restart}
 use Rattle.ql_app.specs.Words.{OneFile, TwoFiles}
-use Rattle.ql_app.specs.Outcome.{CommandSays, IsRead, IsUnread, PairSays, Tells, second_limit}
+use Rattle.ql_app.specs.Outcome.{CommandSays, IsRead, PairSays, Tells, second_limit}
+use Rattle.ql_reply.specs.Unread.{IsUnread}
+use Rattle.ql_reply.proofs.Replies.{answer_unread}
 
--- what is said of the bytes that were read is said of the bytes that are held
-of_held : (bytes : List ℕ) (held : Option (List ℕ)) (P : List ℕ → Type 0) → IfSome held (λ whole. bytes ≡ whole) → P bytes → IfSome held P
-of_held bytes None P same p = tt
-of_held bytes (Some whole) P same p = subst P same p
+-- what is said of the bytes that were read is said of those that the shelf holds, where it reports them
+pub of_held : (limit : ℕ) (held : Option (List ℕ)) (P : List ℕ → Type 0) (whole : List ℕ) → held ≡ Some whole → IsRead limit held P → (length whole ≤ limit) × P whole
+of_held limit held P whole held_so is_read =
+    let same : is_read.bytes ≡ whole = subst (λ (h : Option (List ℕ)). IfSome h (λ w. is_read.bytes ≡ w)) held_so is_read.are_held in
+    subst (λ (bytes : List ℕ). (length bytes ≤ limit) × P bytes) same (is_read.short, is_read.is_so)
 
 read : (limit : ℕ) (bytes : List ℕ) (held : Option (List ℕ)) (P : List ℕ → Type 0) → IfSome held (λ whole. bytes ≡ whole) → length bytes ≤ limit → P bytes → IsRead limit held P
-read limit bytes held P same short p = of_held bytes held (λ whole. (length whole ≤ limit) × P whole) same (short, p)
+read limit bytes held P same short p = record { bytes = bytes; are_held = same; short = short; is_so = p }
 
 module _ (limits : Limits) (held : List ℕ → Option (List ℕ)) (before after : List ℕ → ℕ) where
   one : (command : Command) (name bytes : List ℕ) (status : Status) (text : List ℕ)
@@ -97,33 +100,9 @@ module _ (limits : Limits) (held : List ℕ → Option (List ℕ)) (before after
   two_answers command name other bytes more (Ok a) same short also few says = two command name other bytes more a.0 a.1.items same short also few says
   two_answers command name other bytes more (Err e) same short also few says = tt
 
-  unread-one : (command : Command) (name : List ℕ) (error : ReadError) (status : Status) (text : List ℕ) → IsUnread error name status text
-      → (error ≡ Failed → Rose (before name) (after name)) → (error ≡ TooLong → IfSome (held name) (λ bytes. limits.file < length bytes)) → Tells limits held before after (OneFile command name) status text
-  unread-one command name Failed Done text is f l = absurd is
-  unread-one command name Failed No text is f l = absurd is
-  unread-one command name Failed Bad text is f l = absurd is
-  unread-one command name Failed ReadFault text is f l = (f refl, is)
-  unread-one command name Failed WriteFault text is f l = absurd is
-  unread-one command name Failed Usage text is f l = absurd is
-  unread-one command name Failed TooLarge text is f l = absurd is
-  unread-one command name TooLong Done text is f l = absurd is
-  unread-one command name TooLong No text is f l = absurd is
-  unread-one command name TooLong Bad text is f l = absurd is
-  unread-one command name TooLong ReadFault text is f l = absurd is
-  unread-one command name TooLong WriteFault text is f l = absurd is
-  unread-one command name TooLong Usage text is f l = absurd is
-  unread-one command name TooLong TooLarge text is f l = inr (l refl, is)
-  unread-one command name NoReadMemory Done text is f l = absurd is
-  unread-one command name NoReadMemory No text is f l = absurd is
-  unread-one command name NoReadMemory Bad text is f l = absurd is
-  unread-one command name NoReadMemory ReadFault text is f l = absurd is
-  unread-one command name NoReadMemory WriteFault text is f l = absurd is
-  unread-one command name NoReadMemory Usage text is f l = absurd is
-  unread-one command name NoReadMemory TooLarge text is f l = absurd is
-
   -- a file that couldn't be read whole
   pub one_unread : (command : Command) (name : List ℕ) (error : ReadError) (answer : Result (Status × Vec ℕ) NoMemory) → IfOk answer (λ a. IsUnread error name a.0 a.1.items)
       → (error ≡ Failed → Rose (before name) (after name)) → (error ≡ TooLong → IfSome (held name) (λ bytes. limits.file < length bytes))
       → IfOk answer (λ a. Tells limits held before after (OneFile command name) a.0 a.1.items)
-  one_unread command name error (Ok a) is f l = unread-one command name error a.0 a.1.items is f l
-  one_unread command name error (Err e) is f l = tt
+  one_unread command name error answer is f l =
+      answer_unread (Tells limits held before after (OneFile command name)) name error answer is (λ text e says. (f e, says)) (λ text e says. inr (l e, says))

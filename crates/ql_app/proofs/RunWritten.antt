@@ -3,13 +3,14 @@ use Rattle.std.proofs.Common.{◌≡◌, ◌⊎◌, inl, inr, ℕ, ◌≤◌, le
 use Rattle.std.specs.Prelude.{IfSome}
 use Rattle.ql_ports.specs.Written.{appended}
 use Rattle.ql_app.specs.declared.outcome.Limits.{Limits}
-use Rattle.ql_app.specs.declared.status.Status.{Status}
-use Rattle.ql_app.specs.declared.status.Status.TheVariants.{Done, Usage}
+use Rattle.ql_reply.specs.declared.status.Status.{Status}
+use Rattle.ql_reply.specs.declared.status.Status.TheVariants.{Done, Usage}
 use Rattle.ql_app.specs.declared.words.Command.{Command}
 use Rattle.ql_app.specs.declared.words.Command.TheVariants.{Holds, Proof, Classify, ClassifyWhy, Prove, Gen, Soak}
 use Rattle.ql_app.specs.declared.words.PairCommand.{PairCommand}
 use Rattle.ql_app.specs.declared.words.PairCommand.TheVariants.{Check, Verify, Run, Slim, Restart}
-use Rattle.ql_app.specs.Outcome.{Judges, PairSays, Says, Tells, Wrote}
+use Rattle.ql_app.specs.Outcome.{Judges, PairSays, Says, Tells}
+use Rattle.ql_reply.specs.Wrote.{Wrote}
 use Rattle.ql_app.specs.RunWritten.{WritesRun}
 use Rattle.ql_app.specs.Words.{Call, IsRequest, OneFile, TwoFiles, pair_words}
 use Rattle.ql_running.specs.declared.form.Form.{Form}

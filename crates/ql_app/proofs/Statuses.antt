@@ -1,6 +1,6 @@
 -- What is said with an answer is said with its status.
 use Rattle.std.proofs.Common.{◌≡◌, ℕ, List, sym, subst}
-use Rattle.ql_app.specs.declared.status.Status.{Status}
+use Rattle.ql_reply.specs.declared.status.Status.{Status}
 use Rattle.ql_app.specs.Answers.{AnswerSays, JudgedSays, judged_status, status_of}
 use Rattle.ql_commands.specs.declared.answer.Answer.{Answer}
 use Rattle.ql_commands.specs.declared.answer.Answer.TheVariants.{Done, No, Bad}

@@ -1,7 +1,7 @@
 -- What is said with a status by a command that answers yes, no, or that a file is bad, and by one that judges.
 use Rattle.std.specs.Prelude.{ℕ, List}
-use Rattle.ql_app.specs.declared.status.Status.{Status}
-use Rattle.ql_app.specs.declared.status.Status.TheVariants.{Done, No, Bad, ReadFault, WriteFault, Usage, TooLarge}
+use Rattle.ql_reply.specs.declared.status.Status.{Status}
+use Rattle.ql_reply.specs.declared.status.Status.TheVariants.{Done, No, Bad, ReadFault, WriteFault, Usage, TooLarge}
 use Rattle.ql_commands.specs.declared.answer.Answer.{Answer}
 use Rattle.ql_commands.specs.declared.answer.Answer.TheVariants as answer
 use Rattle.ql_judging.specs.declared.judged.Judged.{Judged}

@@ -7,8 +7,9 @@ use Rattle.ql_formula.specs.Truth.{Holds, IsFirstFalse, none_inside}
 use Rattle.ql_report.specs.declared.holds_fault.HoldsFault.{HoldsFault}
 use Rattle.ql_report.specs.declared.holds_fault.HoldsFault.TheVariants.{Unexpected, Unknown, Twice, TxnAtom, Variables, Range, NotForward, OtherObject, TooMany, NoMemory}
 use Rattle.ql_report.specs.HoldsFile.{Asked, FirstFault, IsHolding}
-use Rattle.ql_app.specs.declared.status.Status.{Status}
-use Rattle.ql_app.specs.declared.status.Status.TheVariants.{Done, No, Bad, ReadFault, WriteFault, Usage, TooLarge}
+use Rattle.ql_reply.specs.Lines.{fault_line}
+use Rattle.ql_reply.specs.declared.status.Status.{Status}
+use Rattle.ql_reply.specs.declared.status.Status.TheVariants.{Done, No, Bad, ReadFault, WriteFault, Usage, TooLarge}
 
 -- the bytes ask this
 abbrev pub Asks : List ℕ → Asked → Type 0
@@ -32,26 +33,23 @@ places_text [] places = []
 places_text (name ∷ names) [] = []
 places_text (name ∷ names) (p ∷ places) = 32 ∷ name ++ 61 ∷ decimal p ++ places_text names places
 
-abbrev pub told_at : ℕ → List ℕ → List ℕ
-told_at line rule = codes "bad holds at " ++ decimal line ++ rule
+-- the line that reports the file's first fault
+abbrev pub holds_fault_text : HoldsFault → List ℕ
+holds_fault_text (Unexpected line) = fault_line (codes "holds") line (codes "Unexpected")
+holds_fault_text (Unknown line) = fault_line (codes "holds") line (codes "Unknown")
+holds_fault_text (Twice line) = fault_line (codes "holds") line (codes "Twice")
+holds_fault_text (TxnAtom line) = fault_line (codes "holds") line (codes "TxnAtom")
+holds_fault_text (Variables line) = fault_line (codes "holds") line (codes "Variables")
+holds_fault_text (Range line) = fault_line (codes "holds") line (codes "Range")
+holds_fault_text (NotForward line) = fault_line (codes "holds") line (codes "NotForward")
+holds_fault_text (OtherObject line) = fault_line (codes "holds") line (codes "OtherObject")
+holds_fault_text (TooMany line) = fault_line (codes "holds") line (codes "TooMany")
+holds_fault_text NoMemory = codes ""
 
--- the line that tells of the file's first fault
-abbrev pub fault_text : HoldsFault → List ℕ
-fault_text (Unexpected line) = told_at line (codes ": Unexpected\n")
-fault_text (Unknown line) = told_at line (codes ": Unknown\n")
-fault_text (Twice line) = told_at line (codes ": Twice\n")
-fault_text (TxnAtom line) = told_at line (codes ": TxnAtom\n")
-fault_text (Variables line) = told_at line (codes ": Variables\n")
-fault_text (Range line) = told_at line (codes ": Range\n")
-fault_text (NotForward line) = told_at line (codes ": NotForward\n")
-fault_text (OtherObject line) = told_at line (codes ": OtherObject\n")
-fault_text (TooMany line) = told_at line (codes ": TooMany\n")
-fault_text NoMemory = codes ""
-
--- this line tells of the fault, which isn't want of memory
+-- this line reports the fault, which isn't that memory ran out
 abbrev pub IsToldAs : HoldsFault → List ℕ → Type 0
 IsToldAs NoMemory text = ⊥
-IsToldAs fault text = text ≡ fault_text fault
+IsToldAs fault text = text ≡ holds_fault_text fault
 
 -- what is said where this is asked
 abbrev pub HoldsTells : Asked → Status → List ℕ → Type 0
@@ -67,7 +65,7 @@ HoldsTells asked Usage text = ⊥
 
 -- what is said of a file
 abbrev pub HoldsSays : List ℕ → Status → List ℕ → Type 0
-HoldsSays bytes Bad text = (IsHoldsFile bytes → ⊥) × (f : HoldsFault) × FirstFault (ahead_from 1 bytes) f × (text ≡ fault_text f)
+HoldsSays bytes Bad text = (IsHoldsFile bytes → ⊥) × (f : HoldsFault) × FirstFault (ahead_from 1 bytes) f × (text ≡ holds_fault_text f)
 HoldsSays bytes Done text = (asked : Asked) × Asks bytes asked × HoldsTells asked Done text
 HoldsSays bytes No text = (asked : Asked) × Asks bytes asked × HoldsTells asked No text
 HoldsSays bytes TooLarge text = (IsAnswerable bytes → ⊥) × (asked : Asked) × Asks bytes asked × HoldsTells asked TooLarge text

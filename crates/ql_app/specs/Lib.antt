@@ -4,6 +4,5 @@ pub mod HoldsFile
 pub mod ProofFile
 pub mod Answers
 pub mod Outcome
-pub mod ExitNumbers
 pub mod RunWritten
 pub mod LeastWritten

@@ -6,8 +6,8 @@ use Rattle.ql_ports.specs.declared.whole.ReadError.{ReadError}
 use Rattle.ql_ports.specs.declared.whole.ReadError.TheVariants.{Failed, TooLong}
 use Rattle.ql_ports.specs.Written.{appended, AppendsFront}
 use Rattle.ql_app.specs.declared.outcome.Limits.{Limits}
-use Rattle.ql_app.specs.declared.status.Status.{Status}
-use Rattle.ql_app.specs.declared.status.Status.TheVariants.{Done, No, Bad, ReadFault, WriteFault, Usage, TooLarge}
+use Rattle.ql_reply.specs.declared.status.Status.{Status}
+use Rattle.ql_reply.specs.declared.status.Status.TheVariants.{Done, No, Bad, ReadFault, WriteFault, Usage, TooLarge}
 use Rattle.ql_app.specs.declared.words.Command.{Command}
 use Rattle.ql_app.specs.declared.words.Command.TheVariants.{Holds, Proof, Classify, ClassifyWhy, Prove, Gen, Soak}
 use Rattle.ql_app.specs.declared.words.PairCommand.{PairCommand}
@@ -75,21 +75,19 @@ second_limit limits (Run form) = limits.file
 second_limit limits Slim = limits.file
 second_limit limits (Restart replica cut) = limits.file
 
--- a file was read whole: what the shelf tells of it is within a limit, and this is so of it
-abbrev pub IsRead : ℕ → Option (List ℕ) → (List ℕ → Type 0) → Type 0
-IsRead limit held P = IfSome held (λ bytes. (length bytes ≤ limit) × P bytes)
+-- a file was read whole: some bytes within a limit, which are those that the shelf holds where it reports them, and this is
+-- so of them
+pub record IsRead (limit : ℕ) (held : Option (List ℕ)) (P : List ℕ → Type 0) : Type 0 where
+  pub bytes : List ℕ
+  pub are_held : IfSome held (λ whole. bytes ≡ whole)
+  pub short : length bytes ≤ limit
+  pub is_so : P bytes
 
 -- the files were read whole, in the order of the words, and judged
 abbrev pub Judges : Limits → (List ℕ → Option (List ℕ)) → Call → Status → List ℕ → Type 0
 Judges limits held (OneFile command name) status text = IsRead limits.file (held name) (λ bytes. CommandSays command bytes status text)
 Judges limits held (TwoFiles command name other) status text =
     IsRead limits.file (held name) (λ bytes. IsRead (second_limit limits command) (held other) (λ more. PairSays command bytes more status text))
-
--- the answer where a file couldn't be read whole
-abbrev pub IsUnread : ReadError → List ℕ → Status → List ℕ → Type 0
-IsUnread Failed name ReadFault text = text ≡ codes "read fault " ++ name ++ codes "\n"
-IsUnread TooLong name TooLarge text = text ≡ codes "too large " ++ name ++ codes "\n"
-IsUnread _ _ _ _ = ⊥
 
 -- a file couldn't be read
 abbrev pub Fails : (List ℕ → ℕ) → (List ℕ → ℕ) → List ℕ → List ℕ → Type 0
@@ -144,21 +142,6 @@ AreHeld limits held (TwoFiles command name other) =
 abbrev pub NoneRose : (List ℕ → ℕ) → (List ℕ → ℕ) → Call → Type 0
 NoneRose before after (OneFile command name) = Rose (before name) (after name) → ⊥
 NoneRose before after (TwoFiles command name other) = (Rose (before name) (after name) → ⊥) × (Rose (before other) (after other) → ⊥)
-
--- the text was appended
-abbrev pub Appends : (Status → List ℕ → Type 0) → Option (List ℕ) → Option (List ℕ) → Status → Type 0
-Appends May was is status = (text : List ℕ) × May status text × (is ≡ appended was text)
-
--- What was written, by how the call ended: `was` and `is` are what the sink tells, and the counts are those of its faults.
-abbrev pub Wrote : (Status → List ℕ → Type 0) → Option (List ℕ) → Option (List ℕ) → ℕ → ℕ → Status → Type 0
-Wrote May was is before after WriteFault =
-    Rose before after × (status : Status) × (text : List ℕ) × May status text × AppendsFront was is text
-Wrote May was is before after Done = Appends May was is Done
-Wrote May was is before after No = Appends May was is No
-Wrote May was is before after Bad = Appends May was is Bad
-Wrote May was is before after ReadFault = Appends May was is ReadFault
-Wrote May was is before after Usage = Appends May was is Usage
-Wrote May was is before after TooLarge = Appends May was is TooLarge
 
 -- yes, no, or want of memory
 abbrev pub IsAnswered : Result Status NoMemory → Type 0

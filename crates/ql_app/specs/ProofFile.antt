@@ -11,8 +11,9 @@ use Rattle.ql_cert.specs.declared.fault.CertFault.TheVariants.{Unexpected, Numbe
 use Rattle.ql_cert.specs.Faults.{FirstFault, fields_in}
 use Rattle.ql_cert.specs.ProofFile as files
 use Rattle.ql_cert.specs.ProofFile.{IsProofOf}
-use Rattle.ql_app.specs.declared.status.Status.{Status}
-use Rattle.ql_app.specs.declared.status.Status.TheVariants.{Done, No, Bad, ReadFault, WriteFault, Usage, TooLarge}
+use Rattle.ql_reply.specs.Lines.{fault_line}
+use Rattle.ql_reply.specs.declared.status.Status.{Status}
+use Rattle.ql_reply.specs.declared.status.Status.TheVariants.{Done, No, Bad, ReadFault, WriteFault, Usage, TooLarge}
 
 -- the bytes are these clauses and these lines
 abbrev pub Spells : List ℕ → ClauseList → List Line → Type 0
@@ -34,11 +35,11 @@ refusal_of (NotUnit k) = refused k (codes " NotUnit\n")
 refusal_of (NoConflict k) = refused k (codes " NoConflict\n")
 refusal_of (BadVariable k) = refused k (codes " BadVariable\n")
 
--- the line that tells of the file's first fault
-abbrev pub fault_text : CertFault → List ℕ
-fault_text (Unexpected at) = codes "bad proof at " ++ decimal at ++ codes ": Unexpected\n"
-fault_text (Number at) = codes "bad proof at " ++ decimal at ++ codes ": Number\n"
-fault_text NoMemory = codes ""
+-- the line that reports the file's first fault
+abbrev pub proof_fault_text : CertFault → List ℕ
+proof_fault_text (Unexpected at) = fault_line (codes "proof") at (codes "Unexpected")
+proof_fault_text (Number at) = fault_line (codes "proof") at (codes "Number")
+proof_fault_text NoMemory = codes ""
 
 -- what is said of clauses and of lines that are to refute them
 abbrev pub ProofTells : ClauseList → List Line → Status → List ℕ → Type 0
@@ -54,7 +55,7 @@ ProofTells cs ls TooLarge text = ⊥
 abbrev pub ProofSays : List ℕ → Status → List ℕ → Type 0
 ProofSays bytes Done text = (cs : ClauseList) × (ls : List Line) × Spells bytes cs ls × ProofTells cs ls Done text
 ProofSays bytes No text = (cs : ClauseList) × (ls : List Line) × Spells bytes cs ls × ProofTells cs ls No text
-ProofSays bytes Bad text = (IsProofFile bytes → ⊥) × (f : CertFault) × FirstFault files.IsProofFile (ahead_from 1 bytes) f × (text ≡ fault_text f)
+ProofSays bytes Bad text = (IsProofFile bytes → ⊥) × (f : CertFault) × FirstFault files.IsProofFile (ahead_from 1 bytes) f × (text ≡ proof_fault_text f)
 ProofSays bytes ReadFault text = ⊥
 ProofSays bytes WriteFault text = ⊥
 ProofSays bytes Usage text = ⊥

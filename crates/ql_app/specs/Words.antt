@@ -9,10 +9,6 @@ use Rattle.ql_app.specs.declared.words.PairCommand.{PairCommand}
 use Rattle.ql_app.specs.declared.words.PairCommand.TheVariants.{Check, Verify, Run, Slim, Restart}
 use Rattle.ql_running.specs.declared.form.Form.TheVariants.{Text, Json}
 
--- the words' bytes
-abbrev pub word_texts : Vec (String Global) → List (List ℕ)
-word_texts words = map string_bytes words.items
-
 -- the name of a file has 1 to 255 bytes, and doesn't begin with '-'
 abbrev pub IsName : List ℕ → Type 0
 IsName name = (1 ≤ length name) × (length name ≤ 255) × (slice_index name 0 ≢ 45)

@@ -2,10 +2,10 @@ ghost use Rattle.std.specs.Prelude.{◌≡◌, ◌≤◌, ◌<◌, ◌^◌, ◌+
 ghost use Rattle.ql_report.specs.Readings.{asked_of};
 ghost use Rattle.ql_app.specs.HoldsFile.{HoldsSays, HoldsTells, IsToldAs, places_text};
 
-use crate::status::Status;
 use crate::text::at_line;
 use ql_base::{EffId, MAX_WORK, NoMemory, Word, push_bytes, push_number};
 use ql_formula::{Relations, holds_at};
+use ql_reply::Status;
 use ql_report::{Holding, HoldsFault, parse_holds};
 use std::alloc::Global;
 
@@ -17,24 +17,24 @@ pub fn holds(alloc: Global, bytes: &[u8]) -> Result<(Status, Vec<u8>), NoMemory>
     ql_report::one_holding();
     match parse_holds(alloc, bytes) {
         Ok(holding) => truth_of(alloc, &holding),
-        Err(fault) => Ok((Status::Bad, bad_line(alloc, fault)?)),
+        Err(fault) => Ok((Status::Bad, bad_holds(alloc, fault)?)),
     }
 }
 
-// The line that tells of a file's first fault.
-fn bad_line(alloc: Global, fault: HoldsFault) -> Result<Vec<u8>, NoMemory>
+// The line that reports a file's first fault.
+fn bad_holds(alloc: Global, fault: HoldsFault) -> Result<Vec<u8>, NoMemory>
     ensures { IfOk result (λ line. IsToldAs fault line.items) }
 {
     match fault {
-        HoldsFault::Unexpected(line) => at_line(alloc, b"bad holds at ", line, b": Unexpected\n"),
-        HoldsFault::Unknown(line) => at_line(alloc, b"bad holds at ", line, b": Unknown\n"),
-        HoldsFault::Twice(line) => at_line(alloc, b"bad holds at ", line, b": Twice\n"),
-        HoldsFault::TxnAtom(line) => at_line(alloc, b"bad holds at ", line, b": TxnAtom\n"),
-        HoldsFault::Variables(line) => at_line(alloc, b"bad holds at ", line, b": Variables\n"),
-        HoldsFault::Range(line) => at_line(alloc, b"bad holds at ", line, b": Range\n"),
-        HoldsFault::NotForward(line) => at_line(alloc, b"bad holds at ", line, b": NotForward\n"),
-        HoldsFault::OtherObject(line) => at_line(alloc, b"bad holds at ", line, b": OtherObject\n"),
-        HoldsFault::TooMany(line) => at_line(alloc, b"bad holds at ", line, b": TooMany\n"),
+        HoldsFault::Unexpected(line) => bad_line(alloc, "holds", line, "Unexpected"),
+        HoldsFault::Unknown(line) => bad_line(alloc, "holds", line, "Unknown"),
+        HoldsFault::Twice(line) => bad_line(alloc, "holds", line, "Twice"),
+        HoldsFault::TxnAtom(line) => bad_line(alloc, "holds", line, "TxnAtom"),
+        HoldsFault::Variables(line) => bad_line(alloc, "holds", line, "Variables"),
+        HoldsFault::Range(line) => bad_line(alloc, "holds", line, "Range"),
+        HoldsFault::NotForward(line) => bad_line(alloc, "holds", line, "NotForward"),
+        HoldsFault::OtherObject(line) => bad_line(alloc, "holds", line, "OtherObject"),
+        HoldsFault::TooMany(line) => bad_line(alloc, "holds", line, "TooMany"),
         HoldsFault::NoMemory => Err(NoMemory),
     }
 }

@@ -1,10 +1,11 @@
 ghost use Rattle.std.specs.Prelude.{◌≡◌, ◌⊎◌, ℕ, List, Option};
 ghost use Rattle.ql_app.specs.declared.outcome.Limits.{Limits};
-ghost use Rattle.ql_app.specs.declared.status.Status.{Status};
-ghost use Rattle.ql_app.specs.declared.status.Status.TheVariants.{Done, No, TooLarge};
+ghost use Rattle.ql_reply.specs.declared.status.Status.{Status};
+ghost use Rattle.ql_reply.specs.declared.status.Status.TheVariants.{Done, No, TooLarge};
 ghost use Rattle.ql_app.specs.declared.words.Command.TheVariants.{Gen, Prove};
 ghost use Rattle.ql_app.specs.declared.words.PairCommand.TheVariants.{Check, Run, Verify};
-ghost use Rattle.ql_app.specs.Outcome.{CommandSays, PairSays, Says, Wrote};
+ghost use Rattle.ql_app.specs.Outcome.{CommandSays, PairSays, Says};
+ghost use Rattle.ql_reply.specs.Wrote.{Wrote};
 ghost use Rattle.ql_app.specs.LeastWritten.{WritesLeast, WritesNone};
 ghost use Rattle.ql_app.specs.RunWritten.{WritesJson, WritesRun};
 ghost use Rattle.ql_app.specs.Words.{IsInRange};

@@ -9,7 +9,6 @@ mod laws;
 mod outcome;
 mod program;
 mod proof;
-mod status;
 mod text;
 mod words;
 
@@ -20,4 +19,4 @@ pub use laws::{
 };
 pub use outcome::Limits;
 pub use program::quelea;
-pub use status::Status;
+pub use ql_reply::Status;

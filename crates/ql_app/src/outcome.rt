@@ -1,7 +1,9 @@
 ghost use Rattle.std.specs.Prelude.{◌≡◌, ◌++◌, ◌<◌, ◌≤◌, ◌^◌, ℕ, List, IfOk, codes, length};
 ghost use Rattle.ql_app.specs.Answers.{AnswerSays, JudgedSays, judged_status, status_of};
-ghost use Rattle.ql_app.specs.Outcome.{CommandSays, IsUnread, PairSays, Says, Tells, second_limit};
-ghost use Rattle.ql_app.specs.Words.{IsInRange, OneFile, TwoFiles, word_texts};
+ghost use Rattle.ql_app.specs.Outcome.{CommandSays, PairSays, Says, Tells, second_limit};
+ghost use Rattle.ql_reply.specs.Unread.{IsUnread};
+ghost use Rattle.ql_app.specs.Words.{IsInRange, OneFile, TwoFiles};
+ghost use Rattle.ql_reply.specs.Arguments.{word_texts};
 ghost use Rattle.ql_commands.specs.Check.{CheckSays};
 ghost use Rattle.ql_commands.specs.Classify.{ClassifySays};
 ghost use Rattle.ql_commands.specs.Prove.{ProveSays};
@@ -16,13 +18,13 @@ ghost use Rattle.ql_why.specs.Why.{WhySays};
 
 use crate::holds::holds;
 use crate::proof::judge;
-use crate::status::Status;
 use crate::words::{Command, PairCommand, Request, parse_words};
 use ql_base::NoMemory;
 use ql_commands::{Answer, check, classify, prove};
 use ql_generated::{generate, soak};
 use ql_judging::{Judged, verify};
-use ql_ports::{ReadError, Shelf, read_whole};
+use ql_ports::{Shelf, read_whole};
+use ql_reply::{Status, unread};
 use ql_restart::restart_run;
 use ql_running::{Form, run};
 use ql_slimming::slim_run;
@@ -100,27 +102,6 @@ fn of_files<S: Shelf>(
         Err(error) => return unread(alloc, error, other),
     };
     judged_pair(alloc, command, bytes.as_slice(), more.as_slice())
-}
-
-// The answer where a file couldn't be read whole.
-fn unread(alloc: Global, error: ReadError, name: &str) -> Result<(Status, Vec<u8>), NoMemory>
-    ensures { IfOk result (λ answer. IsUnread error name.now answer.0 answer.1.items) }
-{
-    match error {
-        ReadError::Failed => Ok((Status::ReadFault, named(alloc, b"read fault ", name)?)),
-        ReadError::TooLong => Ok((Status::TooLarge, named(alloc, b"too large ", name)?)),
-        ReadError::NoMemory => Err(NoMemory),
-    }
-}
-
-// A line of a text and a name.
-fn named(alloc: Global, text: &[u8], name: &str) -> Result<Vec<u8>, NoMemory>
-    ensures { IfOk result (λ line. line.items ≡ text.now ++ name.now ++ codes "\n") }
-{
-    let mut line = Vec::from_slice(alloc, text)?;
-    line.extend_from_slice(name.as_bytes())?;
-    line.push(b'\n')?;
-    Ok(line)
 }
 
 fn judged(alloc: Global, command: Command, bytes: &[u8]) -> Result<(Status, Vec<u8>), NoMemory>

@@ -1,12 +1,14 @@
 ghost use Rattle.std.specs.Prelude.{◌≡◌, ◌≤◌, ℕ, List, IfOk, OnErr};
 ghost use Rattle.ql_ports.specs.Faults.{Rose};
-ghost use Rattle.ql_app.specs.Words.{Call, IsRequest, word_texts};
-ghost use Rattle.ql_app.specs.Outcome.{AreHeld, IsAnswered, NoneRose, Says, Wrote};
+ghost use Rattle.ql_app.specs.Words.{Call, IsRequest};
+ghost use Rattle.ql_reply.specs.Arguments.{word_texts};
+ghost use Rattle.ql_app.specs.Outcome.{AreHeld, IsAnswered, NoneRose, Says};
+ghost use Rattle.ql_reply.specs.Wrote.{Wrote};
 
 use crate::outcome::{Limits, outcome};
-use crate::status::Status;
 use ql_base::{MAX_EXECUTION_BYTES, MAX_SOURCE_BYTES, NoMemory};
 use ql_ports::{Failed, Shelf, Sink, write_whole};
+use ql_reply::Status;
 use std::alloc::Global;
 
 // Sources, schedules and the files of `holds` and `proof` have one limit, certificates and executions another.

@@ -6,12 +6,13 @@ use Rattle.ql_base.specs.declared.no_memory.NoMemory.{NoMemory}
 use Rattle.ql_ports.specs.Faults.{Rose}
 use Rattle.ql_ports.specs.Written.{appended}
 use Rattle.ql_app.specs.declared.outcome.Limits.{Limits}
-use Rattle.ql_app.specs.declared.status.Status.{Status}
-use Rattle.ql_app.specs.declared.status.Status.TheVariants.{Done, No, Bad, ReadFault, WriteFault, Usage, TooLarge}
+use Rattle.ql_reply.specs.declared.status.Status.{Status}
+use Rattle.ql_reply.specs.declared.status.Status.TheVariants.{Done, No, Bad, ReadFault, WriteFault, Usage, TooLarge}
 use Rattle.ql_app.specs.declared.words.Command.TheVariants.{Prove}
 use Rattle.ql_app.specs.declared.words.PairCommand.TheVariants.{Check}
 use Rattle.ql_app.specs.Answers.{status_of}
-use Rattle.ql_app.specs.Outcome.{AreHeld, IsAnswered, NoneRose, Says, Wrote}
+use Rattle.ql_app.specs.Outcome.{AreHeld, IsAnswered, NoneRose, Says}
+use Rattle.ql_reply.specs.Wrote.{Wrote}
 use Rattle.ql_app.specs.RunWritten.{WritesRun}
 use Rattle.ql_app.specs.Words.{Call, IsRequest, TwoFiles}
 use Rattle.ql_classify.specs.Outcome.{IsAccepted}

@@ -7,10 +7,11 @@ use Rattle.std.proofs.lemmas.Bool.{both_ways}
 use Rattle.std.proofs.lemmas.List.{append-nil, append_cancel_left, length-map}
 use Rattle.std.proofs.lemmas.Option.{same_Some, slice_get_within}
 use Rattle.ql_app.specs.declared.outcome.Limits.{Limits}
-use Rattle.ql_app.specs.declared.status.Status.{Status}
-use Rattle.ql_app.specs.declared.status.Status.TheVariants.{Done, No, Bad, ReadFault, WriteFault, Usage, TooLarge}
+use Rattle.ql_reply.specs.declared.status.Status.{Status}
+use Rattle.ql_reply.specs.declared.status.Status.TheVariants.{Done, No, Bad, ReadFault, WriteFault, Usage, TooLarge}
 use Rattle.ql_app.specs.declared.words.PairCommand.TheVariants.{Verify}
-use Rattle.ql_app.specs.Outcome.{IsOver, MeetsFault, MeetsLimit, Says, Wrote}
+use Rattle.ql_app.specs.Outcome.{IsOver, MeetsFault, MeetsLimit, Says}
+use Rattle.ql_reply.specs.Wrote.{Wrote}
 use Rattle.ql_app.specs.Words.{Call, IsName, TwoFiles}
 use Rattle.ql_commands.specs.declared.answer.Answer.TheVariants as answer
 use Rattle.ql_commands.specs.Classify.{ClassifySays}

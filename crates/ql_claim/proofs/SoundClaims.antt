@@ -4,11 +4,12 @@ use Rattle.std.specs.Prelude.{IfOk}
 use Rattle.ql_base.specs.declared.no_memory.NoMemory.{NoMemory}
 use Rattle.ql_ports.specs.Written.{appended}
 use Rattle.ql_app.specs.declared.outcome.Limits.{Limits}
-use Rattle.ql_app.specs.declared.status.Status.{Status}
-use Rattle.ql_app.specs.declared.status.Status.TheVariants.{Done, No, Usage}
+use Rattle.ql_reply.specs.declared.status.Status.{Status}
+use Rattle.ql_reply.specs.declared.status.Status.TheVariants.{Done, No, Usage}
 use Rattle.ql_app.specs.declared.words.Command.TheVariants.{Classify}
 use Rattle.ql_app.specs.declared.words.PairCommand.TheVariants.{Check}
-use Rattle.ql_app.specs.Outcome.{Says, Wrote}
+use Rattle.ql_app.specs.Outcome.{Says}
+use Rattle.ql_reply.specs.Wrote.{Wrote}
 use Rattle.ql_commands.specs.declared.answer.Answer.TheVariants as answer
 use Rattle.ql_commands.specs.Check.{CheckSays, order_text}
 use Rattle.ql_commands.specs.Classify.{ClassifySays}

@@ -3,8 +3,8 @@
 use Rattle.std.specs.Prelude.{◌≡◌, ◌⊎◌, ℕ, ◌<◌, List, [], ◌∷◌, ◌++◌, length, Option, Some, codes, slice_get}
 use Rattle.std.specs.List.{Contains}
 use Rattle.std.specs.Str.Lines.{lines}
-use Rattle.ql_app.specs.declared.status.Status.{Status}
-use Rattle.ql_app.specs.declared.status.Status.TheVariants.{Done, No}
+use Rattle.ql_reply.specs.declared.status.Status.{Status}
+use Rattle.ql_reply.specs.declared.status.Status.TheVariants.{Done, No}
 use Rattle.ql_implication.specs.Executions.{IsImplied, IsImpliedTxn}
 use Rattle.ql_lang.specs.Formulas.{Resolved}
 use Rattle.ql_lang.specs.Programs.{source_of}

@@ -1,6 +1,6 @@
 ghost use Rattle.std.specs.Prelude.{◌≡◌, IfOk};
-ghost use Rattle.ql_app.specs.declared.status.Status.TheVariants.{Done};
-ghost use Rattle.ql_app.specs.Words.{word_texts};
+ghost use Rattle.ql_reply.specs.declared.status.Status.TheVariants.{Done};
+ghost use Rattle.ql_reply.specs.Arguments.{word_texts};
 ghost use Rattle.ql_claim.specs.Headline.{Headline};
 ghost use Rattle.ql_claim.specs.InTurn.{AreInTurn, NothingFailed};
 ghost use Rattle.ql_claim.specs.Kept.{AreKeptInTurn, IsUpheld};

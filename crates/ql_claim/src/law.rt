@@ -1,8 +1,9 @@
 ghost use Rattle.std.specs.Prelude.{◌≡◌, ℕ, List, Option};
 ghost use Rattle.ql_app.specs.declared.outcome.Limits.{Limits};
-ghost use Rattle.ql_app.specs.declared.status.Status.{Status};
-ghost use Rattle.ql_app.specs.declared.status.Status.TheVariants.{Done};
-ghost use Rattle.ql_app.specs.Outcome.{Says, Wrote};
+ghost use Rattle.ql_reply.specs.declared.status.Status.{Status};
+ghost use Rattle.ql_reply.specs.declared.status.Status.TheVariants.{Done};
+ghost use Rattle.ql_app.specs.Outcome.{Says};
+ghost use Rattle.ql_reply.specs.Wrote.{Wrote};
 ghost use Rattle.ql_exec.specs.declared.effect.Effect.{Effect};
 ghost use Rattle.ql_exec.specs.Execution.{IsExecution};
 ghost use Rattle.ql_execution_files.specs.ExecutionFile.{IsExecutionFile};

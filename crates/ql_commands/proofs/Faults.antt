@@ -10,7 +10,7 @@ use Rattle.ql_typing.specs.Faults.{IsFirstOf, TellsFirst}
 use Rattle.ql_typing.specs.Programs.{program_faults}
 use Rattle.ql_typing.specs.declared.fault.TypeFault.{TypeFault}
 use Rattle.ql_typing.specs.declared.fault.TypeFault.TheVariants.{Unknown, Twice, Kind, TooMany, TxnClosure, Variables, TxnAtom, NoMemory as NoTypeMemory}
-use Rattle.ql_commands.specs.Sources.{IsSourceFault, DeniesSource, fault_text}
+use Rattle.ql_commands.specs.Sources.{IsSourceFault, DeniesSource, source_fault_text}
 use Rattle.ql_commands.specs.declared.source_fault.SourceFault.{SourceFault}
 use Rattle.ql_commands.specs.declared.source_fault.SourceFault.TheVariants.{Parse, Typing}
 use Rattle.ql_commands.proofs.SameSource.{same_faults}
@@ -19,7 +19,7 @@ no-member : (f : TypeFault) → IsFirstOf [] f → ⊥
 no-member f first = let less = first.member.1 in omega (arith, less)
 
 -- a first fault is that of a list that isn't empty, but for want of memory, which isn't told
-none-of : (faults : List TypeFault) (f : TypeFault) (text : List ℕ) → faults ≡ [] → TellsFirst faults f → fault_text (Typing f) ≡ Some text → ⊥
+none-of : (faults : List TypeFault) (f : TypeFault) (text : List ℕ) → faults ≡ [] → TellsFirst faults f → source_fault_text (Typing f) ≡ Some text → ⊥
 unfolding TellsFirst
 none-of faults (Unknown at) text empty h told = no-member (Unknown at) (subst (λ fs. IsFirstOf fs (Unknown at)) empty h)
 none-of faults (Twice at) text empty h told = no-member (Twice at) (subst (λ fs. IsFirstOf fs (Twice at)) empty h)

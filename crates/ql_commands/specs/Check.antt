@@ -17,6 +17,7 @@ use Rattle.ql_lines.specs.Lines.{ahead_from}
 use Rattle.ql_refute.specs.Verdict.{verdict}
 use Rattle.ql_refute.specs.declared.verdict.Verdict.{Verdict}
 use Rattle.ql_refute.specs.declared.verdict.Verdict.TheVariants.{Accepted, BadHint, NotUnit, NoConflict, NoEmpty, BadVariable}
+use Rattle.ql_reply.specs.Lines.{fault_line}
 use Rattle.ql_typing.specs.Operations.{all_ops}
 use Rattle.ql_commands.specs.declared.answer.Answer.{Answer}
 use Rattle.ql_commands.specs.declared.answer.Answer.TheVariants as answer
@@ -25,13 +26,10 @@ use Rattle.ql_commands.specs.Sources.{IsSource, IsSourceOf, BadSourceSays}
 
 -- ---- the certificate's text
 
--- the line that tells a certificate's first fault, and none for want of memory
-abbrev pub cert_fault_line : ℕ → List ℕ → List ℕ
-cert_fault_line line rule = codes "bad certificate at " ++ decimal line ++ codes ": " ++ rule ++ codes "\n"
-
+-- the line that reports a certificate's first fault, and none where memory ran out
 abbrev pub cert_fault_text : CertFault → Option (List ℕ)
-cert_fault_text (Unexpected line) = Some (cert_fault_line line (codes "Unexpected"))
-cert_fault_text (Number line) = Some (cert_fault_line line (codes "Number"))
+cert_fault_text (Unexpected line) = Some (fault_line (codes "certificate") line (codes "Unexpected"))
+cert_fault_text (Number line) = Some (fault_line (codes "certificate") line (codes "Number"))
 cert_fault_text NoMemory = None
 
 abbrev pub BadCertSays : List ℕ → List ℕ → Type 0

@@ -1,5 +1,5 @@
--- Which bytes are the source of a typed program, and what is told of those that aren't.
-use Rattle.std.specs.Prelude.{◌≡◌, ℕ, List, [], ◌++◌, Option, None, Some, Err, codes, decimal}
+-- Which bytes are the source of a typed program, and what is reported of those that aren't.
+use Rattle.std.specs.Prelude.{◌≡◌, ℕ, List, [], Option, None, Some, Err, codes}
 use Rattle.std.specs.Option.{option_map}
 use Rattle.ql_lang.specs.declared.program.Program.{Program}
 use Rattle.ql_lang.specs.Programs.{source_of}
@@ -8,6 +8,7 @@ use Rattle.ql_lex.specs.declared.token.LexFault.TheVariants.{BadChar, LongWord, 
 use Rattle.ql_parse.specs.declared.fault.ParseFault.{ParseFault}
 use Rattle.ql_parse.specs.declared.fault.ParseFault.TheVariants.{Lex, Unexpected, Deep, Wide, NoMemory as NoParseMemory}
 use Rattle.ql_parse.specs.Parsing.{IsProgramText, IsProgramAnswer}
+use Rattle.ql_reply.specs.Lines.{fault_line}
 use Rattle.ql_typing.specs.declared.fault.TypeFault.{TypeFault}
 use Rattle.ql_typing.specs.declared.fault.TypeFault.TheVariants.{Unknown, Twice, Kind, TooMany, TxnClosure, Variables, TxnAtom, NoMemory as NoTypeMemory}
 use Rattle.ql_typing.specs.Faults.{TellsFirst}
@@ -28,7 +29,7 @@ abbrev pub IsSourceFault : List ℕ → SourceFault → Type 0
 IsSourceFault bytes (Parse f) = IsProgramAnswer bytes (Err f)
 IsSourceFault bytes (Typing f) = (p : Program) × IsProgramText bytes (source_of p) × TellsFirst (program_faults p) f
 
--- the place of a fault and the name of its rule, and none for want of memory
+-- the offset of a fault and the name of its rule, and none where memory ran out
 abbrev pub lexical_fault : LexFault → Option (ℕ × List ℕ)
 lexical_fault (BadChar at) = Some (at, codes "BadChar")
 lexical_fault (LongWord at) = Some (at, codes "LongWord")
@@ -56,17 +57,14 @@ abbrev pub told_fault : SourceFault → Option (ℕ × List ℕ)
 told_fault (Parse f) = syntax_fault f
 told_fault (Typing f) = typing_fault f
 
--- bad source at AT: RULE
-abbrev pub fault_line : ℕ → List ℕ → List ℕ
-fault_line at rule = codes "bad source at " ++ decimal at ++ codes ": " ++ rule ++ codes "\n"
+-- the line that reports a source's first fault, and none where memory ran out
+abbrev pub source_fault_text : SourceFault → Option (List ℕ)
+source_fault_text f = option_map (λ told. fault_line (codes "source") told.0 told.1) (told_fault f)
 
-abbrev pub fault_text : SourceFault → Option (List ℕ)
-fault_text f = option_map (λ told. fault_line told.0 told.1) (told_fault f)
-
--- a fault that is told is none of a source
+-- a fault that is reported is none of a source
 abbrev pub DeniesSource : List ℕ → SourceFault → Type 0
-DeniesSource bytes f = (text : List ℕ) → fault_text f ≡ Some text → IsSource bytes → ⊥
+DeniesSource bytes f = (text : List ℕ) → source_fault_text f ≡ Some text → IsSource bytes → ⊥
 
 -- what is said of bytes that are no source of a typed program
 abbrev pub BadSourceSays : List ℕ → List ℕ → Type 0
-BadSourceSays bytes text = (IsSource bytes → ⊥) × (f : SourceFault) × IsSourceFault bytes f × (fault_text f ≡ Some text)
+BadSourceSays bytes text = (IsSource bytes → ⊥) × (f : SourceFault) × IsSourceFault bytes f × (source_fault_text f ≡ Some text)

@@ -1,11 +1,12 @@
-// What is told of a source that is none.
+// What is reported of a source that is none.
 ghost use Rattle.std.specs.Prelude.{◌≡◌, IfOk, Some};
 ghost use Rattle.std.specs.Option.{option_map};
-ghost use Rattle.ql_commands.specs.Sources.{fault_line, fault_text, lexical_fault, syntax_fault, told_fault, typing_fault};
+ghost use Rattle.ql_commands.specs.Sources.{lexical_fault, source_fault_text, syntax_fault, told_fault, typing_fault};
 
-use ql_base::{NoMemory, push_bytes, push_number};
+use ql_base::NoMemory;
 use ql_lex::LexFault;
 use ql_parse::ParseFault;
+use ql_reply::bad_line;
 use ql_typing::TypeFault;
 use std::alloc::Global;
 
@@ -18,28 +19,17 @@ pub enum SourceFault {
     Typing(TypeFault),
 }
 
-/// The line that tells a source's first fault.
+/// The line that reports a source's first fault.
 pub fn bad_source(alloc: Global, fault: SourceFault) -> Result<Vec<u8>, NoMemory>
-    ensures { IfOk result (λ text. fault_text fault ≡ Some text.items) }
+    ensures { IfOk result (λ text. source_fault_text fault ≡ Some text.items) }
 {
     match place_and_rule(fault) {
-        Some((at, rule)) => bad_at(alloc, at, rule),
+        Some((at, rule)) => bad_line(alloc, "source", u64::from(at), rule),
         None => Err(NoMemory),
     }
 }
 
-fn bad_at(alloc: Global, at: u32, rule: &str) -> Result<Vec<u8>, NoMemory>
-    ensures { IfOk result (λ text. text.items ≡ fault_line at rule.now) }
-{
-    let mut text = Vec::from_slice(alloc, b"bad source at ")?;
-    push_number(&mut text, at)?;
-    push_bytes(&mut text, b": ")?;
-    push_bytes(&mut text, rule.as_bytes())?;
-    push_bytes(&mut text, b"\n")?;
-    Ok(text)
-}
-
-// The place of a fault and the name of its rule; none for want of memory.
+// The offset of a fault and the name of its rule; none where memory ran out.
 fn place_and_rule(fault: SourceFault) -> Option<(u32, &'static str)>
     ensures { option_map (λ told. (told.0, told.1.now)) result ≡ told_fault fault }
 {

@@ -5,11 +5,13 @@ use Rattle.std.specs.Global.{Vec}
 use Rattle.ql_base.specs.declared.no_memory.NoMemory.{NoMemory}
 use Rattle.ql_ports.specs.Faults.{Rose}
 use Rattle.ql_ports.specs.declared.whole.ReadError.{ReadError}
-use Rattle.ql_ports.specs.declared.whole.ReadError.TheVariants.{Failed, TooLong, NoMemory as NoReadMemory}
-use Rattle.ql_drawing.specs.Outcomes.{IsAnswer, IsOf, IsUnread, Tells, limit_of}
+use Rattle.ql_ports.specs.declared.whole.ReadError.TheVariants.{Failed, TooLong}
+use Rattle.ql_drawing.specs.Outcomes.{IsAnswer, IsOf, Tells, limit_of}
+use Rattle.ql_reply.specs.Unread.{IsUnread}
+use Rattle.ql_reply.proofs.Replies.{answer_unread}
 use Rattle.ql_drawing.specs.Words.{Asked}
-use Rattle.ql_drawing.specs.declared.status.Status.{Status}
-use Rattle.ql_drawing.specs.declared.status.Status.TheVariants.{Done, Bad, ReadFault, WriteFault, Usage, TooLarge}
+use Rattle.ql_reply.specs.declared.status.Status.{Status}
+use Rattle.ql_reply.specs.declared.status.Status.TheVariants.{Done, No, Bad, ReadFault, WriteFault, Usage, TooLarge}
 
 -- a count that rose later rose
 rose_before : (a b c : ℕ) → a ≤ b → Rose b c → Rose a c
@@ -19,6 +21,7 @@ rose_before a b c le (inr is) = inr is
 module _ (held : List ℕ → Option (List ℕ)) (before after : List ℕ → ℕ) (a : Asked) where
   of_answer : (status : Status) (text : List ℕ) → IsAnswer status text → Tells held before after a status text
   of_answer Done text is = is
+  of_answer No text is = absurd is
   of_answer Bad text is = is
   of_answer ReadFault text is = absurd is
   of_answer WriteFault text is = absurd is
@@ -30,39 +33,19 @@ module _ (held : List ℕ → Option (List ℕ)) (before after : List ℕ → �
   one_answer (Ok x) is = of_answer x.0 x.1.items is
   one_answer (Err e) is = tt
 
-  of_unread : (name : List ℕ) (limit : ℕ) → IsOf a name → limit_of a name limit → (error : ReadError) (status : Status) (text : List ℕ) → IsUnread error name status text
-      → (error ≡ Failed → Rose (before name) (after name)) → (error ≡ TooLong → IfSome (held name) (λ bytes. limit < length bytes)) → Tells held before after a status text
-  of_unread name limit of most Failed Done text is f l = absurd is
-  of_unread name limit of most Failed Bad text is f l = absurd is
-  of_unread name limit of most Failed ReadFault text is f l = (name, of, f refl, is)
-  of_unread name limit of most Failed WriteFault text is f l = absurd is
-  of_unread name limit of most Failed Usage text is f l = absurd is
-  of_unread name limit of most Failed TooLarge text is f l = absurd is
-  of_unread name limit of most TooLong Done text is f l = absurd is
-  of_unread name limit of most TooLong Bad text is f l = absurd is
-  of_unread name limit of most TooLong ReadFault text is f l = absurd is
-  of_unread name limit of most TooLong WriteFault text is f l = absurd is
-  of_unread name limit of most TooLong Usage text is f l = absurd is
-  of_unread name limit of most TooLong TooLarge text is f l = (name, limit, most, l refl, is)
-  of_unread name limit of most NoReadMemory Done text is f l = absurd is
-  of_unread name limit of most NoReadMemory Bad text is f l = absurd is
-  of_unread name limit of most NoReadMemory ReadFault text is f l = absurd is
-  of_unread name limit of most NoReadMemory WriteFault text is f l = absurd is
-  of_unread name limit of most NoReadMemory Usage text is f l = absurd is
-  of_unread name limit of most NoReadMemory TooLarge text is f l = absurd is
-
   -- a file couldn't be read whole
   pub one_unread : (name : List ℕ) (limit : ℕ) → IsOf a name → limit_of a name limit → (error : ReadError) (answer : Result (Status × Vec ℕ) NoMemory)
       → IfOk answer (λ x. IsUnread error name x.0 x.1.items)
       → (error ≡ Failed → Rose (before name) (after name)) → (error ≡ TooLong → IfSome (held name) (λ bytes. limit < length bytes))
       → IfOk answer (λ x. Tells held before after a x.0 x.1.items)
-  one_unread name limit of most error (Ok x) is f l = of_unread name limit of most error x.0 x.1.items is f l
-  one_unread name limit of most error (Err e) is f l = tt
+  one_unread name limit of most error answer is f l =
+      answer_unread (Tells held before after a) name error answer is (λ text e says. (name, of, f e, says)) (λ text e says. (name, limit, most, l e, says))
 
 -- what is said after a file was read is said of both
 sooner : (held later : List ℕ → Option (List ℕ)) (before between after : List ℕ → ℕ) (a : Asked) → ((n : List ℕ) → later n ≡ held n) → ((n : List ℕ) → before n ≤ between n)
     → (status : Status) (text : List ℕ) → Tells later between after a status text → Tells held before after a status text
 sooner held later before between after a same less Done text is = is
+sooner held later before between after a same less No text is = absurd is
 sooner held later before between after a same less Bad text is = is
 sooner held later before between after a same less ReadFault text is = (is.0, is.1, rose_before (before is.0) (between is.0) (after is.0) (less is.0) is.2, is.3)
 sooner held later before between after a same less WriteFault text is = absurd is

@@ -6,14 +6,13 @@ use Rattle.ql_base.specs.declared.no_memory.NoMemory.{NoMemory}
 use Rattle.ql_history.specs.declared.history.History.{History}
 use Rattle.ql_layout.specs.Dots.{AreDotsOf}
 use Rattle.ql_layout.specs.declared.grid.Grid.{Grid}
-use Rattle.ql_ports.specs.Written.{appended}
 use Rattle.ql_svg.specs.Svg.{svg_text}
 use Rattle.ql_svg.specs.declared.picture.Picture.{Picture}
-use Rattle.ql_drawing.specs.Outcomes.{IsDrawn, SaysOf, Wrote}
+use Rattle.ql_drawing.specs.Outcomes.{IsDrawn, SaysOf}
 use Rattle.ql_drawing.specs.Words.{Asked}
 use Rattle.ql_drawing.specs.declared.sheet.TheConstants.{SHEET}
-use Rattle.ql_drawing.specs.declared.status.Status.{Status}
-use Rattle.ql_drawing.specs.declared.status.Status.TheVariants.{Done, Bad, ReadFault, WriteFault, Usage, TooLarge}
+use Rattle.ql_reply.specs.declared.status.Status.{Status}
+use Rattle.ql_reply.specs.declared.status.Status.TheVariants.{WriteFault}
 
 pub is_drawn : (history : History) (grid : Grid) (picture : Picture) (made : Result (Vec ℕ) NoMemory) → IfOk made (λ text. text.items ≡ svg_text SHEET.now picture)
     → AreDotsOf grid history.seats.items picture.dots.items → IfOk made (λ text. IsDrawn text.items)
@@ -28,12 +27,3 @@ IsWriteFault _ = ⊥
 pub never : (held : List ℕ → Option (List ℕ)) (before after : List ℕ → ℕ) (a : Option Asked) (text : List ℕ) → SaysOf held before after a WriteFault text → ⊥
 never held before after None text says = subst IsWriteFault says.0 tt
 never held before after (Some a) text says = says
-
-pub wrote : (May : Status → List ℕ → Type 0) (was is : Option (List ℕ)) (before after : ℕ) (status : Status) (text : List ℕ) → (May WriteFault text → ⊥)
-    → May status text → is ≡ appended was text → Wrote May was is before after status
-wrote May was is before after Done text none may same = (text, may, same)
-wrote May was is before after Bad text none may same = (text, may, same)
-wrote May was is before after ReadFault text none may same = (text, may, same)
-wrote May was is before after WriteFault text none may same = absurd (none may)
-wrote May was is before after Usage text none may same = (text, may, same)
-wrote May was is before after TooLarge text none may same = (text, may, same)

@@ -16,8 +16,9 @@ use Rattle.ql_drawing.specs.declared.help.TheConstants.{HELP}
 use Rattle.ql_drawing.specs.declared.sheet.TheConstants.{SHEET}
 use Rattle.ql_drawing.specs.declared.drawing.Why.{Why}
 use Rattle.ql_drawing.specs.declared.drawing.Why.TheVariants as why
-use Rattle.ql_drawing.specs.declared.status.Status.{Status}
-use Rattle.ql_drawing.specs.declared.status.Status.TheVariants.{Done, Bad, ReadFault, WriteFault, Usage, TooLarge}
+use Rattle.ql_reply.specs.Lines.{fault_line}
+use Rattle.ql_reply.specs.declared.status.Status.{Status}
+use Rattle.ql_reply.specs.declared.status.Status.TheVariants.{Done, No, Bad, ReadFault, WriteFault, Usage, TooLarge}
 
 -- the text of a picture with a dot for each effect of a history, in its column and its row
 pub record IsDrawn (text : List ℕ) : Type 0 where
@@ -33,14 +34,10 @@ rule_text NotForward = codes "NotForward"
 rule_text TooMany = codes "TooMany"
 rule_text Range = codes "Range"
 
--- bad schedule at 4: Range
-abbrev pub bad_text : List ℕ → ℕ → DrawnRule → List ℕ
-bad_text part line rule = part ++ decimal line ++ codes ": " ++ rule_text rule ++ codes "\n"
-
 -- the line that says why something can't be drawn
 abbrev pub IsWhyText : Why → List ℕ → Type 0
-IsWhyText (why.Run line rule) text = text ≡ bad_text (codes "bad execution at ") line rule
-IsWhyText (why.Schedule line rule) text = text ≡ bad_text (codes "bad schedule at ") line rule
+IsWhyText (why.Run line rule) text = text ≡ fault_line (codes "execution") line (rule_text rule)
+IsWhyText (why.Schedule line rule) text = text ≡ fault_line (codes "schedule") line (rule_text rule)
 IsWhyText why.Strange text = text ≡ codes "bad schedule: it is another run's\n"
 IsWhyText why.NoMemory text = ⊥
 
@@ -49,12 +46,6 @@ abbrev pub IsAnswer : Status → List ℕ → Type 0
 IsAnswer Done text = IsDrawn text
 IsAnswer Bad text = (w : Why) × IsWhyText w text
 IsAnswer _ text = ⊥
-
--- the answer where a file couldn't be read whole
-abbrev pub IsUnread : ReadError → List ℕ → Status → List ℕ → Type 0
-IsUnread Failed name ReadFault text = text ≡ codes "read fault " ++ name ++ codes "\n"
-IsUnread TooLong name TooLarge text = text ≡ codes "too large " ++ name ++ codes "\n"
-IsUnread _ _ _ _ = ⊥
 
 -- a file of a request has this name
 abbrev pub IsOf : Asked → List ℕ → Type 0
@@ -75,6 +66,7 @@ IsOver held a text =
 -- what is said of a request
 abbrev pub Tells : (List ℕ → Option (List ℕ)) → (List ℕ → ℕ) → (List ℕ → ℕ) → Asked → Status → List ℕ → Type 0
 Tells held before after a Done text = IsDrawn text
+Tells held before after a No text = ⊥
 Tells held before after a Bad text = (w : Why) × IsWhyText w text
 Tells held before after a ReadFault text = Fails before after a text
 Tells held before after a TooLarge text = IsOver held a text
@@ -89,9 +81,3 @@ SaysOf held before after (Some a) status text = Tells held before after a status
 
 abbrev pub Says : List (List ℕ) → (List ℕ → Option (List ℕ)) → (List ℕ → ℕ) → (List ℕ → ℕ) → Status → List ℕ → Type 0
 Says words held before after status text = SaysOf held before after (asked words) status text
-
--- What was written, by how the call ended: `was` and `is` are what the sink tells, and the counts are those of its faults.
-abbrev pub Wrote : (Status → List ℕ → Type 0) → Option (List ℕ) → Option (List ℕ) → ℕ → ℕ → Status → Type 0
-Wrote May was is before after WriteFault =
-    Rose before after × (status : Status) × (text : List ℕ) × May status text × AppendsFront was is text
-Wrote May was is before after status = (text : List ℕ) × May status text × (is ≡ appended was text)

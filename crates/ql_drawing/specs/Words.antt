@@ -7,10 +7,6 @@ use Rattle.std.specs.declared.string.String.{String}
 use Rattle.std.specs.String.{string_bytes}
 use Rattle.ql_drawing.specs.declared.words.Request.{Request}
 
--- the words' bytes
-abbrev pub word_texts : Vec (String Global) → List (List ℕ)
-word_texts words = map string_bytes words.items
-
 -- what is to be drawn: whether all that is seen has an arrow, the names of the files, and the words of a breach
 pub record Asked : Type 0 where
   pub all : Bool

@@ -1,5 +1,5 @@
 ghost use Rattle.std.specs.Prelude.{◌≡◌, ◌++◌, IfOk, codes, decimal};
-ghost use Rattle.ql_drawing.specs.Outcomes.{IsDrawn, IsWhyText, bad_text, rule_text};
+ghost use Rattle.ql_drawing.specs.Outcomes.{IsDrawn, IsWhyText, rule_text};
 
 use crate::sheet::SHEET;
 use ql_base::{NoMemory, push_bytes, push_number};
@@ -110,31 +110,20 @@ pub(crate) fn why_text(alloc: Global, why: Why) -> Result<Vec<u8>, NoMemory>
     ensures { IfOk result (λ text. IsWhyText why text.items) }
 {
     match why {
-        Why::Run { line, rule } => bad_line(alloc, b"bad execution at ", line, rule),
-        Why::Schedule { line, rule } => bad_line(alloc, b"bad schedule at ", line, rule),
+        Why::Run { line, rule } => bad_line(alloc, "execution", line, rule_text(rule)),
+        Why::Schedule { line, rule } => bad_line(alloc, "schedule", line, rule_text(rule)),
         Why::Strange => Ok(Vec::from_slice(alloc, b"bad schedule: it is another run's\n")?),
         Why::NoMemory => Err(NoMemory),
     }
 }
 
-fn bad_line(alloc: Global, before: &[u8], line: u64, rule: DrawnRule) -> Result<Vec<u8>, NoMemory>
-    ensures { IfOk result (λ text. text.items ≡ bad_text before.now line rule) }
-{
-    let mut text = Vec::from_slice(alloc, before)?;
-    push_number(&mut text, line)?;
-    push_bytes(&mut text, b": ")?;
-    push_bytes(&mut text, rule_text(rule))?;
-    push_bytes(&mut text, b"\n")?;
-    Ok(text)
-}
-
-fn rule_text(rule: DrawnRule) -> &'static [u8]
+fn rule_text(rule: DrawnRule) -> &'static str
     ensures { result.now ≡ rule_text rule }
 {
     match rule {
-        DrawnRule::Unexpected => b"Unexpected",
-        DrawnRule::NotForward => b"NotForward",
-        DrawnRule::TooMany => b"TooMany",
-        DrawnRule::Range => b"Range",
+        DrawnRule::Unexpected => "Unexpected",
+        DrawnRule::NotForward => "NotForward",
+        DrawnRule::TooMany => "TooMany",
+        DrawnRule::Range => "Range",
     }
 }

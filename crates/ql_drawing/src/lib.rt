@@ -8,12 +8,11 @@ mod help;
 mod outcome;
 mod program;
 mod sheet;
-mod status;
 mod words;
 
 pub use drawing::Why;
 pub use help::HELP;
 pub use program::draw;
 pub use sheet::SHEET;
-pub use status::Status;
+pub use ql_reply::Status;
 pub use words::Request;

@@ -1,13 +1,15 @@
 ghost use Rattle.std.specs.Prelude.{◌≡◌, ◌++◌, ◌≤◌, ℕ, List, Some, IfOk, codes};
-ghost use Rattle.ql_drawing.specs.Outcomes.{IsAnswer, IsUnread, Says, Tells};
-ghost use Rattle.ql_drawing.specs.Words.{asked_of, word_texts};
+ghost use Rattle.ql_drawing.specs.Outcomes.{IsAnswer, Says, Tells};
+ghost use Rattle.ql_reply.specs.Unread.{IsUnread};
+ghost use Rattle.ql_drawing.specs.Words.{asked_of};
+ghost use Rattle.ql_reply.specs.Arguments.{word_texts};
 
 use crate::drawing::{Drawing, drawing_text, why_text};
 use crate::help::HELP;
-use crate::status::Status;
 use crate::words::{Request, parse_words};
 use ql_base::{NoMemory, push_bytes};
-use ql_ports::{ReadError, Shelf, read_whole};
+use ql_ports::{Shelf, read_whole};
+use ql_reply::{Status, unread};
 use std::alloc::Global;
 
 // The greatest lengths in bytes of a run's text and of a schedule.
@@ -103,27 +105,6 @@ fn answer(
         Ok(text) => Ok((Status::Done, text)),
         Err(why) => Ok((Status::Bad, why_text(alloc, why)?)),
     }
-}
-
-// The answer where a file couldn't be read whole.
-fn unread(alloc: Global, error: ReadError, name: &str) -> Result<(Status, Vec<u8>), NoMemory>
-    ensures { IfOk result (λ answer. IsUnread error name.now answer.0 answer.1.items) }
-{
-    match error {
-        ReadError::Failed => Ok((Status::ReadFault, named(alloc, b"read fault ", name)?)),
-        ReadError::TooLong => Ok((Status::TooLarge, named(alloc, b"too large ", name)?)),
-        ReadError::NoMemory => Err(NoMemory),
-    }
-}
-
-// A line of a text and a name.
-fn named(alloc: Global, text: &[u8], name: &str) -> Result<Vec<u8>, NoMemory>
-    ensures { IfOk result (λ line. line.items ≡ text.now ++ name.now ++ codes "\n") }
-{
-    let mut line = Vec::from_slice(alloc, text)?;
-    push_bytes(&mut line, name.as_bytes())?;
-    push_bytes(&mut line, b"\n")?;
-    Ok(line)
 }
 
 // Words with a space behind each.

@@ -1,11 +1,12 @@
 ghost use Rattle.std.specs.Prelude.{◌≡◌, ◌≤◌, ℕ, List, IfOk, OnErr};
-ghost use Rattle.ql_drawing.specs.Outcomes.{Says, Wrote};
-ghost use Rattle.ql_drawing.specs.Words.{word_texts};
+ghost use Rattle.ql_drawing.specs.Outcomes.{Says};
+ghost use Rattle.ql_reply.specs.Wrote.{Wrote};
+ghost use Rattle.ql_reply.specs.Arguments.{word_texts};
 
 use crate::outcome::outcome;
-use crate::status::Status;
 use ql_base::NoMemory;
 use ql_ports::{Failed, Shelf, Sink, write_whole};
+use ql_reply::Status;
 use std::alloc::Global;
 
 /// Answers the words of the command line, without the program's own name: reads the files that they name from the shelf,

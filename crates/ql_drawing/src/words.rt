@@ -1,7 +1,8 @@
 ghost use Rattle.std.specs.Prelude.{◌≡◌, map};
 ghost use Rattle.std.specs.Option.{option_map};
 ghost use Rattle.std.specs.String.{string_bytes};
-ghost use Rattle.ql_drawing.specs.Words.{after_file, asked, asked_of, breach_of, is_name, of_files, with_breach, word_texts};
+ghost use Rattle.ql_drawing.specs.Words.{after_file, asked, asked_of, breach_of, is_name, of_files, with_breach};
+ghost use Rattle.ql_reply.specs.Arguments.{word_texts};
 
 /// What the words ask to be drawn.
 #[derive(Clone, Copy)]

@@ -8,13 +8,15 @@ use Rattle.ql_commands.specs.declared.answer.Answer.TheVariants as answer
 use Rattle.ql_ports.specs.Faults.{Rose}
 use Rattle.ql_ports.specs.Written.{appended}
 use Rattle.ql_ports.specs.declared.whole.ReadError.{ReadError}
-use Rattle.ql_ports.specs.declared.whole.ReadError.TheVariants.{Failed, TooLong, NoMemory as NoReadMemory}
+use Rattle.ql_ports.specs.declared.whole.ReadError.TheVariants.{Failed, TooLong}
 use Rattle.ql_baseline.specs.Comparison.{BaselineSays}
-use Rattle.ql_explain.specs.Outcomes.{IsAnswer, IsOf, IsUnread, Means, SaysIn, SaysOf, Tells, Wrote, status_of}
+use Rattle.ql_explain.specs.Outcomes.{IsAnswer, IsOf, Means, SaysIn, SaysOf, Tells, status_of}
+use Rattle.ql_reply.specs.Unread.{IsUnread}
+use Rattle.ql_reply.proofs.Replies.{answer_unread}
 use Rattle.ql_explain.specs.Words.{Call, Explained, Compared}
 use Rattle.ql_explain.specs.declared.asked.Form.{Form}
-use Rattle.ql_explain.specs.declared.status.Status.{Status}
-use Rattle.ql_explain.specs.declared.status.Status.TheVariants.{Done, No, Bad, ReadFault, WriteFault, Usage, TooLarge}
+use Rattle.ql_reply.specs.declared.status.Status.{Status}
+use Rattle.ql_reply.specs.declared.status.Status.TheVariants.{Done, No, Bad, ReadFault, WriteFault, Usage, TooLarge}
 
 -- what is said of the bytes is said of what the shelf tells
 of_whole : (o : Option (List ℕ)) (bytes : List ℕ) (P : List ℕ → Type 0) → IfSome o (λ whole. bytes ≡ whole) → P bytes → IfSome o P
@@ -37,36 +39,12 @@ module _ (held : List ℕ → Option (List ℕ)) (before after : List ℕ → �
   one_answer Says means (Ok x) (a, e, says) = of_answer a x.0 x.1.items e (means a x.1.items says)
   one_answer Says means (Err error) is = tt
 
-  of_unread : (name : List ℕ) → IsOf call name → (error : ReadError) (status : Status) (text : List ℕ) → IsUnread error name status text
-      → (error ≡ Failed → Rose (before name) (after name)) → (error ≡ TooLong → IfSome (held name) (λ bytes. 1048576 < length bytes)) → Tells held before after call status text
-  of_unread name of Failed Done text is f l = absurd is
-  of_unread name of Failed No text is f l = absurd is
-  of_unread name of Failed Bad text is f l = absurd is
-  of_unread name of Failed ReadFault text is f l = (name, of, f refl, is)
-  of_unread name of Failed WriteFault text is f l = absurd is
-  of_unread name of Failed Usage text is f l = absurd is
-  of_unread name of Failed TooLarge text is f l = absurd is
-  of_unread name of TooLong Done text is f l = absurd is
-  of_unread name of TooLong No text is f l = absurd is
-  of_unread name of TooLong Bad text is f l = absurd is
-  of_unread name of TooLong ReadFault text is f l = absurd is
-  of_unread name of TooLong WriteFault text is f l = absurd is
-  of_unread name of TooLong Usage text is f l = absurd is
-  of_unread name of TooLong TooLarge text is f l = (name, of, l refl, is)
-  of_unread name of NoReadMemory Done text is f l = absurd is
-  of_unread name of NoReadMemory No text is f l = absurd is
-  of_unread name of NoReadMemory Bad text is f l = absurd is
-  of_unread name of NoReadMemory ReadFault text is f l = absurd is
-  of_unread name of NoReadMemory WriteFault text is f l = absurd is
-  of_unread name of NoReadMemory Usage text is f l = absurd is
-  of_unread name of NoReadMemory TooLarge text is f l = absurd is
-
   -- a file couldn't be read whole
   pub one_unread : (name : List ℕ) → IsOf call name → (error : ReadError) (said : Result (Status × Vec ℕ) NoMemory) → IfOk said (λ x. IsUnread error name x.0 x.1.items)
       → (error ≡ Failed → Rose (before name) (after name)) → (error ≡ TooLong → IfSome (held name) (λ bytes. 1048576 < length bytes))
       → IfOk said (λ x. Tells held before after call x.0 x.1.items)
-  one_unread name of error (Ok x) is f l = of_unread name of error x.0 x.1.items is f l
-  one_unread name of error (Err e) is f l = tt
+  one_unread name of error said is f l =
+      answer_unread (Tells held before after call) name error said is (λ text e says. (name, of, f e, says)) (λ text e says. (name, of, l e, says))
 
 module _ (held : List ℕ → Option (List ℕ)) (before after : List ℕ → ℕ) where
   -- a source was read
@@ -116,13 +94,3 @@ IsWriteFault _ = ⊥
 pub never : (held : List ℕ → Option (List ℕ)) (before after : List ℕ → ℕ) (call : Option Call) (text : List ℕ) → SaysOf held before after call WriteFault text → ⊥
 never held before after None text says = subst IsWriteFault says.0 tt
 never held before after (Some call) text says = says
-
-pub wrote : (May : Status → List ℕ → Type 0) (was is : Option (List ℕ)) (before after : ℕ) (status : Status) (text : List ℕ) → (May WriteFault text → ⊥)
-    → May status text → is ≡ appended was text → Wrote May was is before after status
-wrote May was is before after Done text none may same = (text, may, same)
-wrote May was is before after No text none may same = (text, may, same)
-wrote May was is before after Bad text none may same = (text, may, same)
-wrote May was is before after ReadFault text none may same = (text, may, same)
-wrote May was is before after WriteFault text none may same = absurd (none may)
-wrote May was is before after Usage text none may same = (text, may, same)
-wrote May was is before after TooLarge text none may same = (text, may, same)

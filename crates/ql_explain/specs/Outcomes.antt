@@ -13,8 +13,8 @@ use Rattle.ql_explain.specs.Words.{Call, Explained, Compared, asked}
 use Rattle.ql_explain.specs.declared.asked.Form.{Form}
 use Rattle.ql_explain.specs.declared.asked.Form.TheVariants.{Text, Json}
 use Rattle.ql_explain.specs.declared.help.TheConstants.{HELP}
-use Rattle.ql_explain.specs.declared.status.Status.{Status}
-use Rattle.ql_explain.specs.declared.status.Status.TheVariants.{Done, No, Bad, ReadFault, WriteFault, Usage, TooLarge}
+use Rattle.ql_reply.specs.declared.status.Status.{Status}
+use Rattle.ql_reply.specs.declared.status.Status.TheVariants.{Done, No, Bad, ReadFault, WriteFault, Usage, TooLarge}
 
 -- what is found of a source, in a form
 abbrev pub SaysIn : Form → List ℕ → Answer → List ℕ → Type 0
@@ -29,12 +29,6 @@ status_of answer.Bad = Bad
 -- some answer of which this is said, as a status
 abbrev pub IsAnswer : (Answer → List ℕ → Type 0) → Status → List ℕ → Type 0
 IsAnswer Says status text = (a : Answer) × (status ≡ status_of a) × Says a text
-
--- the answer where a file couldn't be read whole
-abbrev pub IsUnread : ReadError → List ℕ → Status → List ℕ → Type 0
-IsUnread Failed name ReadFault text = text ≡ codes "read fault " ++ name ++ codes "\n"
-IsUnread TooLong name TooLarge text = text ≡ codes "too large " ++ name ++ codes "\n"
-IsUnread _ _ _ _ = ⊥
 
 -- what the files mean
 abbrev pub Means : (List ℕ → Option (List ℕ)) → Call → Answer → List ℕ → Type 0
@@ -75,9 +69,3 @@ SaysOf held before after (Some call) status text = Tells held before after call 
 
 abbrev pub Says : List (List ℕ) → (List ℕ → Option (List ℕ)) → (List ℕ → ℕ) → (List ℕ → ℕ) → Status → List ℕ → Type 0
 Says words held before after status text = SaysOf held before after (asked words) status text
-
--- What was written, by how the call ended: `was` and `is` are what the sink tells, and the counts are those of its faults.
-abbrev pub Wrote : (Status → List ℕ → Type 0) → Option (List ℕ) → Option (List ℕ) → ℕ → ℕ → Status → Type 0
-Wrote May was is before after WriteFault =
-    Rose before after × (status : Status) × (text : List ℕ) × May status text × AppendsFront was is text
-Wrote May was is before after status = (text : List ℕ) × May status text × (is ≡ appended was text)

@@ -10,10 +10,6 @@ use Rattle.ql_explain.specs.declared.asked.Asked.TheVariants as request
 use Rattle.ql_explain.specs.declared.asked.Form.{Form}
 use Rattle.ql_explain.specs.declared.asked.Form.TheVariants.{Text, Json}
 
--- the words' bytes
-abbrev pub word_texts : Vec (String Global) → List (List ℕ)
-word_texts words = map string_bytes words.items
-
 -- what is found of the source of a name, in a form; or which of its levels are higher than in the stored answer of a name
 pub data Call : Type 0 where
   Explained : Form → List ℕ → Call

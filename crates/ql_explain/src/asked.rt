@@ -1,7 +1,8 @@
 ghost use Rattle.std.specs.Prelude.{◌≡◌, map};
 ghost use Rattle.std.specs.Option.{option_map};
 ghost use Rattle.std.specs.String.{string_bytes};
-ghost use Rattle.ql_explain.specs.Words.{Compared, against_of, asked, call_of, is_name, json_of, one_name, only_name, plain_of, word_texts};
+ghost use Rattle.ql_explain.specs.Words.{Compared, against_of, asked, call_of, is_name, json_of, one_name, only_name, plain_of};
+ghost use Rattle.ql_reply.specs.Arguments.{word_texts};
 
 /// In which form it is said what is found of a source.
 #[derive(Clone, Copy)]

@@ -8,7 +8,6 @@ mod asked;
 mod help;
 mod outcome;
 mod program;
-mod status;
 
 use crate::program::explain_words;
 use ql_base::NoMemory;

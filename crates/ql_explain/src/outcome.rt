@@ -1,17 +1,19 @@
 ghost use Rattle.std.specs.Prelude.{◌≡◌, ◌<◌, ◌≤◌, ◌^◌, ◌++◌, ℕ, List, IfOk, IfSome, codes, length};
 ghost use Rattle.ql_baseline.specs.Comparison.{BaselineSays};
-ghost use Rattle.ql_explain.specs.Outcomes.{IsAnswer, IsUnread, Says, SaysIn, Tells, status_of};
-ghost use Rattle.ql_explain.specs.Words.{Compared, Explained, word_texts};
+ghost use Rattle.ql_explain.specs.Outcomes.{IsAnswer, Says, SaysIn, Tells, status_of};
+ghost use Rattle.ql_reply.specs.Unread.{IsUnread};
+ghost use Rattle.ql_explain.specs.Words.{Compared, Explained};
+ghost use Rattle.ql_reply.specs.Arguments.{word_texts};
 
 use crate::asked::{Asked, Form, Pair, parse_words};
 use crate::help::HELP;
-use crate::status::Status;
 use ql_base::{NoMemory, push_bytes};
 use ql_baseline::compare;
 use ql_commands::Answer;
 use ql_explain_json::explain_json;
 use ql_explanation::explain;
-use ql_ports::{ReadError, Shelf, read_whole};
+use ql_ports::{Shelf, read_whole};
+use ql_reply::{Status, unread};
 use std::alloc::Global;
 
 // The greatest length of a file in bytes.
@@ -112,25 +114,4 @@ fn status_of(answer: Answer) -> Status
         Answer::No => Status::No,
         Answer::Bad => Status::Bad,
     }
-}
-
-// The answer where a file couldn't be read whole.
-fn unread(alloc: Global, error: ReadError, name: &str) -> Result<(Status, Vec<u8>), NoMemory>
-    ensures { IfOk result (λ answer. IsUnread error name.now answer.0 answer.1.items) }
-{
-    match error {
-        ReadError::Failed => Ok((Status::ReadFault, named(alloc, b"read fault ", name)?)),
-        ReadError::TooLong => Ok((Status::TooLarge, named(alloc, b"too large ", name)?)),
-        ReadError::NoMemory => Err(NoMemory),
-    }
-}
-
-// A line of a text and a name.
-fn named(alloc: Global, text: &[u8], name: &str) -> Result<Vec<u8>, NoMemory>
-    ensures { IfOk result (λ line. line.items ≡ text.now ++ name.now ++ codes "\n") }
-{
-    let mut line = Vec::from_slice(alloc, text)?;
-    push_bytes(&mut line, name.as_bytes())?;
-    push_bytes(&mut line, b"\n")?;
-    Ok(line)
 }

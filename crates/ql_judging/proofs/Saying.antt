@@ -8,12 +8,12 @@ use Rattle.ql_execution_files.specs.declared.report_fault.ReportFault.TheVariant
 use Rattle.ql_lang.specs.declared.program.Program.{Program}
 use Rattle.ql_lines.specs.Lines.{Ahead, ahead_from}
 use Rattle.ql_verify.specs.Work.{work_of}
-use Rattle.ql_judging.specs.Verify.{BadExecutionSays, ExecutionSays, TellsExecution, VerifySays, fault_text}
+use Rattle.ql_judging.specs.Verify.{BadExecutionSays, ExecutionSays, TellsExecution, VerifySays, execution_fault_text}
 use Rattle.ql_judging.specs.declared.judged.Judged.{Judged}
 use Rattle.ql_judging.specs.declared.judged.Judged.TheVariants.{Holds, Fails, Bad, TooMuch}
 
 -- a refusal that is told is the first fault
-first_fault : (p : Program) (file : Ahead) (f : ReportFault) (text : List ℕ) → IsRefusal p file f → fault_text f ≡ Some text → FirstFault p file f
+first_fault : (p : Program) (file : Ahead) (f : ReportFault) (text : List ℕ) → IsRefusal p file f → execution_fault_text f ≡ Some text → FirstFault p file f
 first_fault p file (Unexpected line) text h told = h
 first_fault p file (Unknown line) text h told = h
 first_fault p file (Mixed line) text h told = h
@@ -25,7 +25,7 @@ first_fault p file (TooMany line) text h told = h
 first_fault p file NoMemory text h told = absurd (cc)
 
 pub execution_is_bad : ((p : Program) (file : Ahead) (x : List Effect) (f : ReportFault) → IsExecutionFile p file x → FirstFault p file f → ⊥)
-    → (source execution : List ℕ) (p : Program) (f : ReportFault) (text : List ℕ) → IsSourceOf source p → IsRefusal p (ahead_from 1 execution) f → fault_text f ≡ Some text
+    → (source execution : List ℕ) (p : Program) (f : ReportFault) (text : List ℕ) → IsSourceOf source p → IsRefusal p (ahead_from 1 execution) f → execution_fault_text f ≡ Some text
     → BadExecutionSays source execution text
 execution_is_bad apart source execution p f text is h told =
     let first = first_fault p (ahead_from 1 execution) f text h told in

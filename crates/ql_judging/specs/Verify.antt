@@ -10,6 +10,7 @@ use Rattle.ql_execution_files.specs.declared.report_fault.ReportFault.TheVariant
 use Rattle.ql_lang.specs.declared.contract.Var.{Var}
 use Rattle.ql_lang.specs.declared.program.Program.{Program}
 use Rattle.ql_lines.specs.Lines.{ahead_from}
+use Rattle.ql_reply.specs.Lines.{fault_line}
 use Rattle.ql_report.specs.Levels.{op_name, txn_name}
 use Rattle.ql_report.specs.Refusals.{op_vars, txn_vars}
 use Rattle.ql_verify.specs.Verdicts.{IsVerdict}
@@ -26,20 +27,17 @@ use Rattle.ql_judging.specs.declared.judged.Judged.TheVariants as judged
 abbrev pub TellsExecution : Program → List ℕ → List Effect → Type 0
 TellsExecution p bytes x = IsExecutionFile p (ahead_from 1 bytes) x
 
--- the line that tells its first fault, and none for want of memory
-abbrev pub fault_line : ℕ → List ℕ → List ℕ
-fault_line line rule = codes "bad execution at " ++ decimal line ++ codes ": " ++ rule ++ codes "\n"
-
-abbrev pub fault_text : ReportFault → Option (List ℕ)
-fault_text (Unexpected line) = Some (fault_line line (codes "Unexpected"))
-fault_text (Unknown line) = Some (fault_line line (codes "Unknown"))
-fault_text (Mixed line) = Some (fault_line line (codes "Mixed"))
-fault_text (Stamp line) = Some (fault_line line (codes "Stamp"))
-fault_text (NotForward line) = Some (fault_line line (codes "NotForward"))
-fault_text (OtherObject line) = Some (fault_line line (codes "OtherObject"))
-fault_text (SplitTxn line) = Some (fault_line line (codes "SplitTxn"))
-fault_text (TooMany line) = Some (fault_line line (codes "TooMany"))
-fault_text NoMemory = None
+-- the line that reports its first fault, and none where memory ran out
+abbrev pub execution_fault_text : ReportFault → Option (List ℕ)
+execution_fault_text (Unexpected line) = Some (fault_line (codes "execution") line (codes "Unexpected"))
+execution_fault_text (Unknown line) = Some (fault_line (codes "execution") line (codes "Unknown"))
+execution_fault_text (Mixed line) = Some (fault_line (codes "execution") line (codes "Mixed"))
+execution_fault_text (Stamp line) = Some (fault_line (codes "execution") line (codes "Stamp"))
+execution_fault_text (NotForward line) = Some (fault_line (codes "execution") line (codes "NotForward"))
+execution_fault_text (OtherObject line) = Some (fault_line (codes "execution") line (codes "OtherObject"))
+execution_fault_text (SplitTxn line) = Some (fault_line (codes "execution") line (codes "SplitTxn"))
+execution_fault_text (TooMany line) = Some (fault_line (codes "execution") line (codes "TooMany"))
+execution_fault_text NoMemory = None
 
 -- ---- the answer
 
@@ -84,7 +82,7 @@ AreJudgeable source execution =
 abbrev pub BadExecutionSays : List ℕ → List ℕ → List ℕ → Type 0
 BadExecutionSays source execution text =
     (AreJudgeable source execution → ⊥) × (p : Program) × IsSourceOf source p
-    × (f : ReportFault) × FirstFault p (ahead_from 1 execution) f × (fault_text f ≡ Some text)
+    × (f : ReportFault) × FirstFault p (ahead_from 1 execution) f × (execution_fault_text f ≡ Some text)
 
 abbrev pub VerifyTells : List ℕ → List ℕ → Judged → List ℕ → Type 0
 VerifyTells source execution j text = (p : Program) × IsSourceOf source p × (x : List Effect) × TellsExecution p execution x × ExecutionSays p x j text

@@ -16,7 +16,7 @@ use Rattle.ql_schedule.specs.declared.fault.SchedFault.{SchedFault}
 use Rattle.ql_schedule.specs.declared.schedule.Schedule.{Schedule}
 use Rattle.ql_schedule.specs.Files.{IsFirstFault, IsScheduleFile}
 use Rattle.ql_running.specs.Soundness.{IsSound}
-use Rattle.ql_running.specs.ScheduleFaults.{fault_text}
+use Rattle.ql_running.specs.ScheduleFaults.{schedule_fault_text}
 
 -- how a run is written: which texts show its program, the names of its objects, the levels, the replies and the execution
 abbrev pub Format : Type 1
@@ -49,7 +49,7 @@ AreRunnable source file = IsSource source × ((p : Program) → IsSourceOf sourc
 abbrev pub BadScheduleSays : List ℕ → List ℕ → List ℕ → Type 0
 BadScheduleSays source file text =
     (AreRunnable source file → ⊥) × (p : Program) × IsSourceOf source p
-    × (f : SchedFault) × IsFirstFault p (ahead_from 1 file) f × (fault_text f ≡ Some text)
+    × (f : SchedFault) × IsFirstFault p (ahead_from 1 file) f × (schedule_fault_text f ≡ Some text)
 
 abbrev pub RunSays : Format → List ℕ → List ℕ → Answer → List ℕ → Type 0
 RunSays format source file Done text = TellsRun format source file text

@@ -1,18 +1,15 @@
 -- The line that reports the first fault of a schedule's file.
-use Rattle.std.specs.Prelude.{ℕ, List, ◌++◌, Option, None, Some, codes, decimal}
+use Rattle.std.specs.Prelude.{ℕ, List, Option, None, Some, codes}
+use Rattle.ql_reply.specs.Lines.{fault_line}
 use Rattle.ql_schedule.specs.declared.fault.SchedFault.{SchedFault}
 use Rattle.ql_schedule.specs.declared.fault.SchedFault.TheVariants.{Unexpected, Unknown, Kind, Range, TooMany, Twice, NoMemory}
 
--- bad schedule at LINE: RULE
-abbrev pub fault_line : ℕ → List ℕ → List ℕ
-fault_line line rule = codes "bad schedule at " ++ decimal line ++ codes ": " ++ rule ++ codes "\n"
-
--- and none for running out of memory
-abbrev pub fault_text : SchedFault → Option (List ℕ)
-fault_text (Unexpected line) = Some (fault_line line (codes "Unexpected"))
-fault_text (Unknown line) = Some (fault_line line (codes "Unknown"))
-fault_text (Kind line) = Some (fault_line line (codes "Kind"))
-fault_text (Range line) = Some (fault_line line (codes "Range"))
-fault_text (TooMany line) = Some (fault_line line (codes "TooMany"))
-fault_text (Twice line) = Some (fault_line line (codes "Twice"))
-fault_text NoMemory = None
+-- bad schedule at LINE: RULE, and none where memory ran out
+abbrev pub schedule_fault_text : SchedFault → Option (List ℕ)
+schedule_fault_text (Unexpected line) = Some (fault_line (codes "schedule") line (codes "Unexpected"))
+schedule_fault_text (Unknown line) = Some (fault_line (codes "schedule") line (codes "Unknown"))
+schedule_fault_text (Kind line) = Some (fault_line (codes "schedule") line (codes "Kind"))
+schedule_fault_text (Range line) = Some (fault_line (codes "schedule") line (codes "Range"))
+schedule_fault_text (TooMany line) = Some (fault_line (codes "schedule") line (codes "TooMany"))
+schedule_fault_text (Twice line) = Some (fault_line (codes "schedule") line (codes "Twice"))
+schedule_fault_text NoMemory = None

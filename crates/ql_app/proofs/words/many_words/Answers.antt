@@ -1,7 +1,8 @@
 use Rattle.std.proofs.Common.{◌≡◌, ℕ, List, [], ◌∷◌, length, map, MatchOption, ap, refl, sym, subst, ◌∙◌, arith}
 use Rattle.std.specs.String.{string_bytes}
 use Rattle.ql_app.specs.Requests.{call_of}
-use Rattle.ql_app.specs.Words.{Call, IsRequest, word_texts}
+use Rattle.ql_app.specs.Words.{Call, IsRequest}
+use Rattle.ql_reply.specs.Arguments.{word_texts}
 use Rattle.ql_app.proofs.WordLaws.{five-words}
 use Rattle.ql_app.proofs.words.many_words.Goals as goal
 

@@ -1,7 +1,7 @@
 use Rattle.ql_app.specs.declared.outcome.Limits.{Limits}
-use Rattle.ql_app.specs.declared.status.Status.{Status}
+use Rattle.ql_reply.specs.declared.status.Status.{Status}
 use Rattle.ql_app.specs.Outcome.{Says}
-use Rattle.ql_app.specs.Words.{word_texts}
+use Rattle.ql_reply.specs.Arguments.{word_texts}
 use Rattle.ql_claim.specs.Headline.{Headline}
 use Rattle.ql_claim.specs.Soundness.{Soundness}
 use Rattle.ql_claim.proofs.Claims.{claim-of}

@@ -1,7 +1,8 @@
 use Rattle.std.proofs.Common.{subst}
 use Rattle.ql_app.specs.declared.outcome.Limits.{Limits}
-use Rattle.ql_app.specs.Outcome.{Says, Wrote}
-use Rattle.ql_app.specs.Words.{word_texts}
+use Rattle.ql_app.specs.Outcome.{Says}
+use Rattle.ql_reply.specs.Wrote.{Wrote}
+use Rattle.ql_reply.specs.Arguments.{word_texts}
 use Rattle.ql_claim.proofs.Claims.{accepted}
 use Rattle.ql_claim.proofs.calls.prove_and_check.Goals as goal
 

@@ -1,6 +1,8 @@
 use Rattle.ql_drawing.specs.Outcomes.{Says}
-use Rattle.ql_drawing.specs.Words.{asked, word_texts}
-use Rattle.ql_drawing.proofs.Writing.{never, wrote}
+use Rattle.ql_drawing.specs.Words.{asked}
+use Rattle.ql_reply.specs.Arguments.{word_texts}
+use Rattle.ql_drawing.proofs.Writing.{never}
+use Rattle.ql_reply.proofs.Replies.{wrote}
 use Rattle.ql_drawing.proofs.program.draw.Goals as goal
 
 pub returns-in-Ok-clause-wrote : goal.returns-in-Ok-clause-wrote

@@ -1,7 +1,7 @@
--- The exit statuses of the program.
+-- The exit statuses of the programs.
 use Rattle.std.specs.Prelude.{ℕ}
-use Rattle.ql_app.specs.declared.status.Status.{Status}
-use Rattle.ql_app.specs.declared.status.Status.TheVariants.{Done, No, Bad, ReadFault, WriteFault, Usage, TooLarge}
+use Rattle.ql_reply.specs.declared.status.Status.{Status}
+use Rattle.ql_reply.specs.declared.status.Status.TheVariants.{Done, No, Bad, ReadFault, WriteFault, Usage, TooLarge}
 
 abbrev pub exit_number : Status → ℕ
 exit_number Done = 0

@@ -1,0 +1,32 @@
+ghost use Rattle.std.specs.Prelude.{◌≡◌, ◌++◌, IfOk, codes};
+ghost use Rattle.ql_reply.specs.Unread.{IsUnread};
+
+use crate::status::Status;
+use ql_base::{NoMemory, push_bytes};
+use ql_ports::ReadError;
+use std::alloc::Global;
+
+/// The answer where a file of this name couldn't be read whole.
+pub fn unread(
+    alloc: Global,
+    error: ReadError,
+    name: &str,
+) -> Result<(Status, Vec<u8>), NoMemory>
+    ensures { IfOk result (λ answer. IsUnread error name.now answer.0 answer.1.items) }
+{
+    match error {
+        ReadError::Failed => Ok((Status::ReadFault, named(alloc, b"read fault ", name)?)),
+        ReadError::TooLong => Ok((Status::TooLarge, named(alloc, b"too large ", name)?)),
+        ReadError::NoMemory => Err(NoMemory),
+    }
+}
+
+// A line of a text and a name.
+fn named(alloc: Global, text: &[u8], name: &str) -> Result<Vec<u8>, NoMemory>
+    ensures { IfOk result (λ line. line.items ≡ text.now ++ name.now ++ codes "\n") }
+{
+    let mut line = Vec::from_slice(alloc, text)?;
+    push_bytes(&mut line, name.as_bytes())?;
+    push_bytes(&mut line, b"\n")?;
+    Ok(line)
+}
