@@ -1,6 +1,5 @@
 -- what is written with status 0 or 1 to `classify` says that its levels are least
 use Rattle.std.proofs.Common.{◌≡◌, inl, inr, ℕ, ◌≤◌, length, List, [], ◌∷◌, ◌++◌, Option, Some, get_or, codes, arith, sym, ap, subst, ◌∙◌}
-use Rattle.std.specs.Prelude.{IfSome}
 use Rattle.ql_ports.specs.Written.{appended}
 use Rattle.ql_app.specs.declared.outcome.Limits.{Limits}
 use Rattle.ql_reply.specs.declared.status.Status.{Status}
@@ -9,24 +8,23 @@ use Rattle.ql_app.specs.declared.words.Command.TheVariants.{Holds, Proof, Classi
 use Rattle.ql_app.specs.declared.words.PairCommand.TheVariants.{Check, Verify, Run, Slim, Restart}
 use Rattle.ql_running.specs.declared.form.Form.TheVariants.{Text, Json}
 use Rattle.ql_app.specs.LeastWritten.{WritesLeast, WritesNone}
-use Rattle.ql_app.specs.Outcome.{Judges, Says}
+use Rattle.ql_app.specs.Outcome.{IsRead, Judges, Says}
 use Rattle.ql_reply.specs.Wrote.{Wrote}
 use Rattle.ql_app.specs.Words.{Call, IsRequest, OneFile, TwoFiles}
 use Rattle.ql_commands.specs.Classify.{ClassifySays}
 use Rattle.ql_commands.specs.declared.answer.Answer.TheVariants as answer
 use Rattle.ql_implied.specs.Commands.{TellsLeast, TellsNone}
+use Rattle.ql_app.proofs.OutcomeLaws.{of_held}
 
 -- the first byte of the first argument
 abbrev first : List (List ℕ) → ℕ
 first ws = get_or (get_or ws 0 []) 0 0
 
 module _ (limits : Limits) (held : List ℕ → Option (List ℕ)) (name source text : List ℕ) (name_held : held name ≡ Some source) where
-  told : (Told : List ℕ → Type 0) (n : List ℕ) → n ≡ name → IfSome (held n) (λ bytes. (length bytes ≤ limits.file) × Told bytes) → Told source
-  told Told n n_is says =
-      let whole = subst (λ (h : Option (List ℕ)). IfSome h (λ bytes. (length bytes ≤ limits.file) × Told bytes)) (ap held n_is ∙ name_held) says in
-      whole.1
+  told : (Told : List ℕ → Type 0) (n : List ℕ) → n ≡ name → IsRead limits.file (held n) Told → Told source
+  told Told n n_is says = let whole = of_held limits.file (held n) Told source (ap held n_is ∙ name_held) says in whole.1
 
-  asked : (status : Status) (Told : List ℕ → Type 0) → ((n : List ℕ) → Judges limits held (OneFile Classify n) status text → IfSome (held n) (λ bytes. (length bytes ≤ limits.file) × Told bytes))
+  asked : (status : Status) (Told : List ℕ → Type 0) → ((n : List ℕ) → Judges limits held (OneFile Classify n) status text → IsRead limits.file (held n) Told)
       → (words : List (List ℕ)) → words ≡ codes "classify" ∷ name ∷ [] → (call : Call) → IsRequest words call → Judges limits held call status text → Told source
   asked status Told judged words are (OneFile Holds n) is says = absurd (let never : 99 ≡ 104 = ap first (sym are ∙ is.0) in omega (arith, never))
   asked status Told judged words are (OneFile Proof n) is says = absurd (let never : 99 ≡ 112 = ap first (sym are ∙ is.0) in omega (arith, never))

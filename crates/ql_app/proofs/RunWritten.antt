@@ -1,6 +1,5 @@
 -- what is written with status 0 to `run` is the text of a run
 use Rattle.std.proofs.Common.{◌≡◌, ◌⊎◌, inl, inr, ℕ, ◌≤◌, length, List, [], ◌∷◌, ◌++◌, Option, Some, None, get_or, codes, arith, refl, ap, sym, subst, ◌∙◌}
-use Rattle.std.specs.Prelude.{IfSome}
 use Rattle.ql_ports.specs.Written.{appended}
 use Rattle.ql_app.specs.declared.outcome.Limits.{Limits}
 use Rattle.ql_reply.specs.declared.status.Status.{Status}
@@ -9,7 +8,7 @@ use Rattle.ql_app.specs.declared.words.Command.{Command}
 use Rattle.ql_app.specs.declared.words.Command.TheVariants.{Holds, Proof, Classify, ClassifyWhy, Prove, Gen, Soak}
 use Rattle.ql_app.specs.declared.words.PairCommand.{PairCommand}
 use Rattle.ql_app.specs.declared.words.PairCommand.TheVariants.{Check, Verify, Run, Slim, Restart}
-use Rattle.ql_app.specs.Outcome.{Judges, PairSays, Says, Tells}
+use Rattle.ql_app.specs.Outcome.{IsRead, Judges, PairSays, Says, Tells}
 use Rattle.ql_reply.specs.Wrote.{Wrote}
 use Rattle.ql_app.specs.RunWritten.{WritesRun}
 use Rattle.ql_app.specs.Words.{Call, IsRequest, OneFile, TwoFiles, pair_words}
@@ -17,6 +16,7 @@ use Rattle.ql_running.specs.declared.form.Form.{Form}
 use Rattle.ql_running.specs.declared.form.Form.TheVariants.{Text, Json}
 use Rattle.ql_running.specs.Forms.{format_of}
 use Rattle.ql_running.specs.Runs.{TellsRun}
+use Rattle.ql_app.proofs.OutcomeLaws.{of_held}
 
 -- the first byte of the first argument
 abbrev first : List (List ℕ) → ℕ
@@ -40,8 +40,8 @@ same_files Json Text n m name other same = absurd (let never : 4 ≡ 3 = ap leng
 module _ (limits : Limits) (held : List ℕ → Option (List ℕ)) (form : Form) (name other source file text : List ℕ) (name_held : held name ≡ Some source) (other_held : held other ≡ Some file) where
   told : (f : Form) (n m : List ℕ) → f ≡ form → n ≡ name → m ≡ other → Judges limits held (TwoFiles (Run f) n m) Done text → TellsRun (format_of form) source file text
   told f n m f_is n_is m_is says =
-      let whole = subst (λ (h : Option (List ℕ)). IfSome h (λ bytes. (length bytes ≤ limits.file) × IfSome (held m) (λ more. (length more ≤ limits.file) × TellsRun (format_of f) bytes more text))) (ap held n_is ∙ name_held) says in
-      let both = subst (λ (h : Option (List ℕ)). IfSome h (λ more. (length more ≤ limits.file) × TellsRun (format_of f) source more text)) (ap held m_is ∙ other_held) whole.1 in
+      let whole = of_held limits.file (held n) (λ bytes. IsRead limits.file (held m) (λ more. TellsRun (format_of f) bytes more text)) source (ap held n_is ∙ name_held) says in
+      let both = of_held limits.file (held m) (λ more. TellsRun (format_of f) source more text) file (ap held m_is ∙ other_held) whole.1 in
       subst (λ (g : Form). TellsRun (format_of g) source file text) f_is both.1
 
   asked : (words : List (List ℕ)) → words ≡ pair_words (Run form) name other → (call : Call) → IsRequest words call → Judges limits held call Done text → TellsRun (format_of form) source file text

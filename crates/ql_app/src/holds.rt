@@ -5,7 +5,7 @@ ghost use Rattle.ql_app.specs.HoldsFile.{HoldsSays, HoldsTells, IsToldAs, places
 use crate::text::at_line;
 use ql_base::{EffId, MAX_WORK, NoMemory, Word, push_bytes, push_number};
 use ql_formula::{Relations, holds_at};
-use ql_reply::Status;
+use ql_reply::{Status, bad_line};
 use ql_report::{Holding, HoldsFault, parse_holds};
 use std::alloc::Global;
 

@@ -1,14 +1,13 @@
 ghost use Rattle.std.specs.Prelude.{◌≡◌, ◌++◌, ◌<◌, ◌^◌, IfOk, codes, decimal, length};
 ghost use Rattle.std.specs.Option.{option_map};
-ghost use Rattle.ql_cert.specs.declared.fault.CertFault.TheVariants.{Unexpected, Number};
-ghost use Rattle.ql_app.specs.ProofFile.{ProofSays, ProofTells, proof_fault_text, refusal_of};
+ghost use Rattle.ql_app.specs.ProofFile.{ProofSays, ProofTells, refusal_of};
 
 use crate::text::at_line;
 use ql_base::NoMemory;
 use ql_cert::{CertFault, parse_proof};
 use ql_cnf::Clauses;
 use ql_refute::{Refutation, Verdict, check};
-use ql_reply::Status;
+use ql_reply::{Status, bad_line};
 use std::alloc::Global;
 
 /// Whether the refutation in a proof file shows that no assignment satisfies its clauses.
@@ -18,8 +17,14 @@ pub fn judge(alloc: Global, bytes: &[u8]) -> Result<(Status, Vec<u8>), NoMemory>
 {
     match parse_proof(alloc, bytes) {
         Ok((clauses, refutation)) => verdict_on(alloc, &clauses, &refutation),
-        Err(CertFault::Unexpected(line)) => Ok((Status::Bad, bad_line(alloc, "proof", line, "Unexpected")?)),
-        Err(CertFault::Number(line)) => Ok((Status::Bad, bad_line(alloc, "proof", line, "Number")?)),
+        Err(CertFault::Unexpected(line)) => Ok((
+            Status::Bad,
+            bad_line(alloc, "proof", line, "Unexpected")?,
+        )),
+        Err(CertFault::Number(line)) => Ok((
+            Status::Bad,
+            bad_line(alloc, "proof", line, "Number")?,
+        )),
         Err(CertFault::NoMemory) => Err(NoMemory),
     }
 }

@@ -1,6 +1,5 @@
 -- What the arguments ask for: each form of them is one call; and what is then said of the bytes of its files.
 use Rattle.std.proofs.Common.{◌≡◌, ℕ, ◌≤◌, length, List, [], ◌∷◌, Option, Some, get_or, codes, arith, sym, ap, subst, ◌∙◌}
-use Rattle.std.specs.Prelude.{IfSome}
 use Rattle.ql_app.specs.declared.outcome.Limits.{Limits}
 use Rattle.ql_reply.specs.declared.status.Status.{Status}
 use Rattle.ql_app.specs.declared.words.Command.{Command}
@@ -8,8 +7,9 @@ use Rattle.ql_app.specs.declared.words.Command.TheVariants.{Holds, Proof, Classi
 use Rattle.ql_app.specs.declared.words.PairCommand.{PairCommand}
 use Rattle.ql_app.specs.declared.words.PairCommand.TheVariants.{Check, Verify, Run, Slim, Restart}
 use Rattle.ql_running.specs.declared.form.Form.TheVariants.{Text, Json}
-use Rattle.ql_app.specs.Outcome.{CommandSays, Judges, PairSays, second_limit}
+use Rattle.ql_app.specs.Outcome.{CommandSays, IsRead, Judges, PairSays, second_limit}
 use Rattle.ql_app.specs.Words.{Call, IsRequest, OneFile, TwoFiles}
+use Rattle.ql_app.proofs.OutcomeLaws.{of_held}
 
 -- ---- the arguments
 
@@ -104,13 +104,12 @@ module _ (limits : Limits) (held : List ℕ → Option (List ℕ)) (status : Sta
   pub said-of-file : (command : Command) (name source : List ℕ) → held name ≡ Some source → (call : Call) → call ≡ OneFile command name → Judges limits held call status text
       → (length source ≤ limits.file) × CommandSays command source status text
   said-of-file command name source name_held call is says =
-      subst (λ (h : Option (List ℕ)). IfSome h (λ bytes. (length bytes ≤ limits.file) × CommandSays command bytes status text)) name_held
-      (subst (λ (c : Call). Judges limits held c status text) is says)
+      of_held limits.file (held name) (λ bytes. CommandSays command bytes status text) source name_held (subst (λ (c : Call). Judges limits held c status text) is says)
 
   pub said-of-files : (command : PairCommand) (name other source more : List ℕ) → held name ≡ Some source → held other ≡ Some more → (call : Call) → call ≡ TwoFiles command name other → Judges limits held call status text
       → PairSays command source more status text
   said-of-files command name other source more name_held other_held call is says =
-      let both = subst (λ (h : Option (List ℕ)). IfSome h (λ bytes. (length bytes ≤ limits.file) × IfSome (held other) (λ m. (length m ≤ second_limit limits command) × PairSays command bytes m status text))) name_held
+      let both = of_held limits.file (held name) (λ bytes. IsRead (second_limit limits command) (held other) (λ m. PairSays command bytes m status text)) source name_held
       (subst (λ (c : Call). Judges limits held c status text) is says) in
-      let all = subst (λ (h : Option (List ℕ)). IfSome h (λ m. (length m ≤ second_limit limits command) × PairSays command source m status text)) other_held both.1 in
+      let all = of_held (second_limit limits command) (held other) (λ m. PairSays command source m status text) more other_held both.1 in
       all.1

@@ -5,30 +5,14 @@
 use ql_base::NoMemory;
 use ql_drawing::draw;
 use ql_ports::{FileShelf, StdSink};
-use std::env::Env;
+use ql_reply::{NO_MEMORY, arguments};
 use std::process::ExitCode;
-use std::{env, io};
-
-// The exit statuses that aren't the top call's.
-const NO_MEMORY: u8 = 6;
-
-const NO_WORDS: u8 = 8;
 
 fn main(rt: HostRuntime) -> ExitCode {
-    let words = match words(&rt) {
-        Ok(words) => words,
-        Err(error) if error.kind() == io::ErrorKind::OutOfMemory => {
-            return ExitCode::from(NO_MEMORY);
-        }
-        Err(_) => return ExitCode::from(NO_WORDS),
-    };
-    ExitCode::from(exit_number(rt, &words))
-}
-
-// The words of the command line, without the program's own name.
-fn words<R: Env + AllocGlobal>(rt: &R) -> io::Result<Vec<String>> {
-    let words = env::args(rt)?.skip(1).collect::<Vec<String>>(rt.alloc())?;
-    Ok(words)
+    match arguments(&rt) {
+        Ok(words) => ExitCode::from(exit_number(rt, &words)),
+        Err(number) => ExitCode::from(number),
+    }
 }
 
 fn exit_number(rt: HostRuntime, words: &Vec<String>) -> u8 {

@@ -2,10 +2,11 @@ ghost use Rattle.std.specs.Prelude.{◌≡◌, ◌++◌, IfOk, codes, decimal};
 ghost use Rattle.ql_drawing.specs.Outcomes.{IsDrawn, IsWhyText, rule_text};
 
 use crate::sheet::SHEET;
-use ql_base::{NoMemory, push_bytes, push_number};
+use ql_base::{NoMemory, push_bytes};
 use ql_history::{DrawnFault, DrawnRule, History, Plan, Run, history_of, read_plan, read_run};
 use ql_layout::{Scene, grid_of, marks_of, picture_of};
 use ql_lines::after_word;
+use ql_reply::bad_line;
 use ql_svg::svg_text;
 use std::alloc::Global;
 

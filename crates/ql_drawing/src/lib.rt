@@ -13,6 +13,6 @@ mod words;
 pub use drawing::Why;
 pub use help::HELP;
 pub use program::draw;
-pub use sheet::SHEET;
 pub use ql_reply::Status;
+pub use sheet::SHEET;
 pub use words::Request;

@@ -7,7 +7,7 @@ ghost use Rattle.ql_reply.specs.Arguments.{word_texts};
 
 use crate::asked::{Asked, Form, Pair, parse_words};
 use crate::help::HELP;
-use ql_base::{NoMemory, push_bytes};
+use ql_base::NoMemory;
 use ql_baseline::compare;
 use ql_commands::Answer;
 use ql_explain_json::explain_json;

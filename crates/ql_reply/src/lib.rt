@@ -1,12 +1,14 @@
-// What a program answers with: a status, and one text.
+// What a program is asked by and answers with: the arguments of its command line, a status, and one text.
 // The one contract: the line of a bad file names its part, the place and the rule; that of a file which couldn't be read
 // names the file.
 #![tactic(auto)]
 
+mod args;
 mod bad;
 mod status;
 mod whole;
 
+pub use args::{NO_MEMORY, arguments};
 pub use bad::bad_line;
 pub use status::Status;
 pub use whole::unread;

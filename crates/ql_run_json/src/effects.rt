@@ -14,12 +14,7 @@ use serde_json::{Map, Value as Json, put};
 use std::alloc::Global;
 
 /// The effects of an execution, in order, each an object; objects of the store have these names.
-pub fn effects(
-    alloc: Global,
-    t: &Typed,
-    objects: &Names,
-    x: &Execution,
-) -> Result<Json, NoMemory>
+pub fn effects(alloc: Global, t: &Typed, objects: &Names, x: &Execution) -> Result<Json, NoMemory>
     requires { AreNamed t.now.program (length objects.now) x.now }
     ensures { IfOk result (λ json. view json ≡ listed (effects_from t.now.program objects.now 1 x.now)) }
 {

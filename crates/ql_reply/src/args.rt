@@ -1,0 +1,26 @@
+ghost use Rattle.std.specs.Prelude.{◌≡◌, ◌⊎◌, IfErr};
+
+use std::env::Env;
+use std::{env, io};
+
+/// The exit status of a program that ran out of memory, which is no top call's answer.
+pub const NO_MEMORY: u8 = 6;
+
+// That of a program whose arguments the system doesn't give, as where one isn't UTF-8.
+const NO_ARGUMENTS: u8 = 8;
+
+/// The arguments of the command line, without the program's own name; or the exit status of a program that can't have them.
+pub fn arguments<R: Env + AllocGlobal>(rt: &R) -> Result<Vec<String>, u8>
+    ensures { IfErr result (λ number. (number ≡ 6) ⊎ (number ≡ 8)) }
+{
+    match collected(rt) {
+        Ok(words) => Ok(words),
+        Err(error) if error.kind() == io::ErrorKind::OutOfMemory => Err(NO_MEMORY),
+        Err(_) => Err(NO_ARGUMENTS),
+    }
+}
+
+fn collected<R: Env + AllocGlobal>(rt: &R) -> io::Result<Vec<String>> {
+    let words = env::args(rt)?.skip(1).collect::<Vec<String>>(rt.alloc())?;
+    Ok(words)
+}
