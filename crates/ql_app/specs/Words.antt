@@ -7,11 +7,8 @@ use Rattle.ql_app.specs.declared.words.Command.{Command}
 use Rattle.ql_app.specs.declared.words.Command.TheVariants.{Holds, Proof, Classify, ClassifyWhy, Prove, Gen, Soak}
 use Rattle.ql_app.specs.declared.words.PairCommand.{PairCommand}
 use Rattle.ql_app.specs.declared.words.PairCommand.TheVariants.{Check, Verify, Run, Slim, Restart}
+use Rattle.ql_reply.specs.Arguments.{IsFileName}
 use Rattle.ql_running.specs.declared.form.Form.TheVariants.{Text, Json}
-
--- the name of a file has 1 to 255 bytes, and doesn't begin with '-'
-abbrev pub IsName : List ℕ → Type 0
-IsName name = (1 ≤ length name) × (length name ≤ 255) × (slice_index name 0 ≢ 45)
 
 -- the words of a command on the file of a name
 abbrev pub command_words : Command → List ℕ → List (List ℕ)
@@ -50,5 +47,5 @@ pub data Call : Type 0 where
 
 -- the words ask for this
 abbrev pub IsRequest : List (List ℕ) → Call → Type 0
-IsRequest words (OneFile command name) = (words ≡ command_words command name) × IsInRange command × IsName name
-IsRequest words (TwoFiles command name other) = (words ≡ pair_words command name other) × IsPairInRange command × IsName name × IsName other
+IsRequest words (OneFile command name) = (words ≡ command_words command name) × IsInRange command × IsFileName name
+IsRequest words (TwoFiles command name other) = (words ≡ pair_words command name other) × IsPairInRange command × IsFileName name × IsFileName other

@@ -5,17 +5,17 @@ ghost use Rattle.ql_app.specs.Requests.{call_of};
 ghost use Rattle.ql_app.specs.Words.{
   Call,
   IsInRange,
-  IsName,
   IsPairInRange,
   IsRequest,
   OneFile,
   TwoFiles,
   command_words,
   pair_words,
-  word_texts,
 };
+ghost use Rattle.ql_reply.specs.Arguments.{IsFileName, word_texts};
 
 use ql_base::number_of;
+use ql_reply::is_file_name;
 use ql_running::Form;
 
 // The greatest number of a schedule.
@@ -220,9 +220,9 @@ fn restart_request<'a>(
 }
 
 fn on_one_file(command: Command, name: &str) -> Option<Request>
-    ensures { MatchOption result (IsName name.now → ⊥) (λ request. IsName name.now × (call_of request ≡ OneFile command name.now)) }
+    ensures { MatchOption result (IsFileName name.now → ⊥) (λ request. IsFileName name.now × (call_of request ≡ OneFile command name.now)) }
 {
-    if is_name(name) {
+    if is_file_name(name) {
         Some(Request::OneFile(command, name))
     } else {
         None
@@ -230,10 +230,10 @@ fn on_one_file(command: Command, name: &str) -> Option<Request>
 }
 
 fn on_two_files<'a>(command: PairCommand, name: &'a str, other: &'a str) -> Option<Request<'a>>
-    ensures { MatchOption result (IsName name.now → IsName other.now → ⊥)
-        (λ request. IsName name.now × IsName other.now × (call_of request ≡ TwoFiles command name.now other.now)) }
+    ensures { MatchOption result (IsFileName name.now → IsFileName other.now → ⊥)
+        (λ request. IsFileName name.now × IsFileName other.now × (call_of request ≡ TwoFiles command name.now other.now)) }
 {
-    if is_name(name) && is_name(other) {
+    if is_file_name(name) && is_file_name(other) {
         Some(Request::TwoFiles(command, name, other))
     } else {
         None
@@ -287,11 +287,4 @@ fn cut_of(word: &str) -> Option<u32>
 {
     let cut = number_up_to(word, MAX_CUT)?;
     if cut == 0 { None } else { Some(cut) }
-}
-
-fn is_name(word: &str) -> bool
-    ensures { IsTrue result ↔ IsName word.now }
-{
-    let bytes = word.as_bytes();
-    1 <= bytes.len() && bytes.len() <= 255 && bytes[0] != b'-'
 }

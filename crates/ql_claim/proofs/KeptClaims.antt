@@ -12,7 +12,8 @@ use Rattle.ql_reply.specs.declared.status.Status.TheVariants.{Done, No, Bad, Rea
 use Rattle.ql_app.specs.declared.words.PairCommand.TheVariants.{Verify}
 use Rattle.ql_app.specs.Outcome.{IsOver, MeetsFault, MeetsLimit, Says}
 use Rattle.ql_reply.specs.Wrote.{Wrote}
-use Rattle.ql_app.specs.Words.{Call, IsName, TwoFiles}
+use Rattle.ql_app.specs.Words.{Call, TwoFiles}
+use Rattle.ql_reply.specs.Arguments.{IsFileName}
 use Rattle.ql_commands.specs.declared.answer.Answer.TheVariants as answer
 use Rattle.ql_commands.specs.Classify.{ClassifySays}
 use Rattle.ql_commands.specs.Sources.{IsSourceOf}
@@ -132,7 +133,7 @@ module _ (tree : (bytes : List ℕ) (s t : Source) → IsProgramText bytes s →
       omega (arith, work, large)
 
   module _ (limits : Limits) (words : List (List ℕ)) (held : List ℕ → Option (List ℕ)) (before after : List ℕ → ℕ) (was is : Option (List ℕ)) (faults sums : ℕ)
-      (again other : List ℕ) (are : words ≡ codes "verify" ∷ again ∷ other ∷ []) (again_named : IsName again) (other_named : IsName other)
+      (again other : List ℕ) (are : words ≡ codes "verify" ∷ again ∷ other ∷ []) (again_named : IsFileName again) (other_named : IsFileName other)
       (again_held : held again ≡ Some source) (other_held : held other ≡ Some file)
       (small : length source ≤ limits.file) (within : length file ≤ limits.second) (nothing : NothingFailed before after again other faults sums) where
     not-no : (t : List ℕ) → Says limits words held before after No t → ⊥

@@ -1,6 +1,6 @@
 -- `prove` of a source, and then `check` of that source and of what `prove` wrote.
 use Rattle.std.specs.Prelude.{◌≡◌, ℕ, ◌≤◌, List, [], ◌∷◌, ◌++◌, length, Option, Some, codes}
-use Rattle.ql_app.specs.Words.{IsName}
+use Rattle.ql_reply.specs.Arguments.{IsFileName}
 use Rattle.ql_ports.specs.Faults.{Rose}
 
 -- The arguments of both calls, what the shelf of each holds, and what the first one's sink took before it and after it.
@@ -18,8 +18,8 @@ pub record AreInTurn (words : List (List ℕ)) (held : List ℕ → Option (List
   pub again : List ℕ
   pub other : List ℕ
   pub checks : next ≡ codes "check" ∷ again ∷ other ∷ []
-  pub again_named : IsName again
-  pub other_named : IsName other
+  pub again_named : IsFileName again
+  pub other_named : IsFileName other
   pub again_held : next_held again ≡ Some source
   pub certificate_held : next_held other ≡ Some certificate
   -- which is within the limit of certificates

@@ -4,7 +4,7 @@ use Rattle.std.specs.List.{Contains}
 use Rattle.std.specs.Str.Lines.{lines}
 use Rattle.ql_reply.specs.declared.status.Status.{Status}
 use Rattle.ql_reply.specs.declared.status.Status.TheVariants.{Done, TooLarge}
-use Rattle.ql_app.specs.Words.{IsName}
+use Rattle.ql_reply.specs.Arguments.{IsFileName}
 use Rattle.ql_base.specs.declared.ids.DeclId.{DeclId}
 use Rattle.ql_base.specs.declared.ids.RunId.{RunId}
 use Rattle.ql_exec.specs.declared.effect.Effect.{Effect}
@@ -46,8 +46,8 @@ pub record AreKeptInTurn (words : List (List ℕ)) (held : List ℕ → Option (
   pub other : List ℕ
   pub file : List ℕ
   pub verifies : next ≡ codes "verify" ∷ again ∷ other ∷ []
-  pub again_named : IsName again
-  pub other_named : IsName other
+  pub again_named : IsFileName again
+  pub other_named : IsFileName other
   pub again_held : next_held again ≡ Some source
   pub file_held : next_held other ≡ Some file
   -- which is within the limit of executions

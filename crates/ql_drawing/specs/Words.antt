@@ -5,6 +5,7 @@ use Rattle.std.specs.Option.{option_map}
 use Rattle.std.specs.Str.{bytes_eq}
 use Rattle.std.specs.declared.string.String.{String}
 use Rattle.std.specs.String.{string_bytes}
+use Rattle.ql_reply.specs.Arguments.{is_file_name}
 use Rattle.ql_drawing.specs.declared.words.Request.{Request}
 
 -- what is to be drawn: whether all that is seen has an arrow, the names of the files, and the words of a breach
@@ -13,10 +14,6 @@ pub record Asked : Type 0 where
   pub file : List ℕ
   pub schedule : Option (List ℕ)
   pub breach : List (List ℕ)
-
--- the name of a file has 1 to 255 bytes, and doesn't begin with '-'
-abbrev pub is_name : List ℕ → Bool
-is_name word = nat_le 1 (length word) && nat_le (length word) 255 && not (slice_index word 0 == 45)
 
 -- the words of a breach, which stand behind their option
 abbrev pub breach_of : List (List ℕ) → Option (List (List ℕ))
@@ -30,11 +27,11 @@ with_breach all file schedule breach = option_map (λ words. record { all = all;
 abbrev pub after_file : Bool → List ℕ → List (List ℕ) → Option Asked
 after_file all file [] = with_breach all file None (Some [])
 after_file all file (word ∷ words) =
-    if is_name word then with_breach all file (Some word) (breach_of words) else with_breach all file None (breach_of (word ∷ words))
+    if is_file_name word then with_breach all file (Some word) (breach_of words) else with_breach all file None (breach_of (word ∷ words))
 
 abbrev pub of_files : Bool → List (List ℕ) → Option Asked
 of_files all [] = None
-of_files all (word ∷ words) = if is_name word then after_file all word words else None
+of_files all (word ∷ words) = if is_file_name word then after_file all word words else None
 
 -- what the words ask for, where they ask for a picture
 abbrev pub asked : List (List ℕ) → Option Asked

@@ -1,8 +1,10 @@
 ghost use Rattle.std.specs.Prelude.{◌≡◌, map};
 ghost use Rattle.std.specs.Option.{option_map};
 ghost use Rattle.std.specs.String.{string_bytes};
-ghost use Rattle.ql_drawing.specs.Words.{after_file, asked, asked_of, breach_of, is_name, of_files, with_breach};
+ghost use Rattle.ql_drawing.specs.Words.{after_file, asked, asked_of, breach_of, of_files, with_breach};
 ghost use Rattle.ql_reply.specs.Arguments.{word_texts};
+
+use ql_reply::is_file_name;
 
 /// What the words ask to be drawn.
 #[derive(Clone, Copy)]
@@ -37,7 +39,7 @@ fn parse_files(all: bool, words: &[String]) -> Option<Request>
     match words.split_first() {
         None => None,
         Some((file, rest)) => {
-            if is_name(file.as_str()) {
+            if is_file_name(file.as_str()) {
                 parse_rest(all, file.as_str(), rest)
             } else {
                 None
@@ -53,7 +55,7 @@ fn parse_rest<'a>(all: bool, file: &'a str, words: &'a [String]) -> Option<Reque
     match words.split_first() {
         None => request_of(all, file, None, Some(words)),
         Some((name, behind)) => {
-            if is_name(name.as_str()) {
+            if is_file_name(name.as_str()) {
                 request_of(all, file, Some(name.as_str()), parse_breach(behind))
             } else {
                 request_of(all, file, None, parse_breach(words))
@@ -96,11 +98,4 @@ fn parse_breach(words: &[String]) -> Option<&[String]>
             }
         }
     }
-}
-
-fn is_name(word: &str) -> bool
-    ensures { result ≡ is_name word.now }
-{
-    let bytes = word.as_bytes();
-    1 <= bytes.len() && bytes.len() <= 255 && bytes[0] != b'-'
 }

@@ -5,6 +5,7 @@ use Rattle.std.specs.Option.{option_map}
 use Rattle.std.specs.Str.{bytes_eq}
 use Rattle.std.specs.declared.string.String.{String}
 use Rattle.std.specs.String.{string_bytes}
+use Rattle.ql_reply.specs.Arguments.{is_file_name}
 use Rattle.ql_explain.specs.declared.asked.Asked.{Asked}
 use Rattle.ql_explain.specs.declared.asked.Asked.TheVariants as request
 use Rattle.ql_explain.specs.declared.asked.Form.{Form}
@@ -15,13 +16,9 @@ pub data Call : Type 0 where
   Explained : Form → List ℕ → Call
   Compared : List ℕ → List ℕ → Call
 
--- the name of a file has 1 to 255 bytes, and doesn't begin with '-'
-abbrev pub is_name : List ℕ → Bool
-is_name word = nat_le 1 (length word) && nat_le (length word) 255 && not (slice_index word 0 == 45)
-
 -- the word that is a name, where no more follow
 abbrev pub only_name : List ℕ → List (List ℕ) → Option (List ℕ)
-only_name word [] = if is_name word then Some word else None
+only_name word [] = if is_file_name word then Some word else None
 only_name word (next ∷ words) = None
 
 abbrev pub one_name : List (List ℕ) → Option (List ℕ)
@@ -38,7 +35,7 @@ json_of words = option_map (Explained Json) (one_name words)
 -- what stands behind --baseline
 abbrev pub against_of : List (List ℕ) → Option Call
 against_of [] = None
-against_of (word ∷ words) = if is_name word then option_map (λ name. Compared word name) (one_name words) else None
+against_of (word ∷ words) = if is_file_name word then option_map (λ name. Compared word name) (one_name words) else None
 
 -- what the words ask for, where they ask for something
 abbrev pub asked : List (List ℕ) → Option Call

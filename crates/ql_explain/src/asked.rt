@@ -1,8 +1,10 @@
 ghost use Rattle.std.specs.Prelude.{◌≡◌, map};
 ghost use Rattle.std.specs.Option.{option_map};
 ghost use Rattle.std.specs.String.{string_bytes};
-ghost use Rattle.ql_explain.specs.Words.{Compared, against_of, asked, call_of, is_name, json_of, one_name, only_name, plain_of};
+ghost use Rattle.ql_explain.specs.Words.{Compared, against_of, asked, call_of, json_of, one_name, only_name, plain_of};
 ghost use Rattle.ql_reply.specs.Arguments.{word_texts};
+
+use ql_reply::is_file_name;
 
 /// In which form it is said what is found of a source.
 #[derive(Clone, Copy)]
@@ -70,7 +72,7 @@ fn against(words: &[String]) -> Option<Asked>
     match words.split_first() {
         None => None,
         Some((word, rest)) => {
-            if is_name(word.as_str()) {
+            if is_file_name(word.as_str()) {
                 compared(word.as_str(), one_name(rest))
             } else {
                 None
@@ -102,14 +104,7 @@ fn only_name<'a>(word: &'a str, rest: &[String]) -> Option<&'a str>
     ensures { option_map (λ name. name.now) result ≡ only_name word.now (map string_bytes rest.now) }
 {
     match rest.split_first() {
-        None => { if is_name(word) { Some(word) } else { None } }
+        None => { if is_file_name(word) { Some(word) } else { None } }
         Some(_) => None,
     }
-}
-
-fn is_name(word: &str) -> bool
-    ensures { result ≡ is_name word.now }
-{
-    let bytes = word.as_bytes();
-    1 <= bytes.len() && bytes.len() <= 255 && bytes[0] != b'-'
 }

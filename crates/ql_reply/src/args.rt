@@ -1,4 +1,5 @@
-ghost use Rattle.std.specs.Prelude.{◌≡◌, ◌⊎◌, IfErr};
+ghost use Rattle.std.specs.Prelude.{◌≡◌, ◌⊎◌, ◌↔◌, IfErr, IsTrue};
+ghost use Rattle.ql_reply.specs.Arguments.{IsFileName, is_file_name};
 
 use std::env::Env;
 use std::{env, io};
@@ -23,4 +24,13 @@ pub fn arguments<R: Env + AllocGlobal>(rt: &R) -> Result<Vec<String>, u8>
 fn collected<R: Env + AllocGlobal>(rt: &R) -> io::Result<Vec<String>> {
     let words = env::args(rt)?.skip(1).collect::<Vec<String>>(rt.alloc())?;
     Ok(words)
+}
+
+/// Whether an argument may name a file: it has 1 to 255 bytes, and doesn't begin with `-`.
+pub fn is_file_name(word: &str) -> bool
+    ensures name { IsTrue result ↔ IsFileName word.now }
+    ensures value { result ≡ is_file_name word.now }
+{
+    let bytes = word.as_bytes();
+    1 <= bytes.len() && bytes.len() <= 255 && bytes[0] != b'-'
 }
