@@ -122,7 +122,7 @@ Tells limits held before after call TooLarge text = Judges limits held call TooL
 abbrev pub ForRequest : List (List ℕ) → (Call → Type 0) → Type 0
 ForRequest words P = (call : Call) × IsRequest words call × P call
 
--- The text that is to be written with a status. `held` is what the shelf holds under each name, where it tells, and the
+-- The text that is to be written with a status. `held` is what the shelf holds under each name, where it reports it, and the
 -- counts are those of the shelf's faults at each name, before the call and after it.
 abbrev pub Says : Limits → List (List ℕ) → (List ℕ → Option (List ℕ)) → (List ℕ → ℕ) → (List ℕ → ℕ) → Status → List ℕ → Type 0
 Says limits words held before after status text =
@@ -143,7 +143,7 @@ abbrev pub NoneRose : (List ℕ → ℕ) → (List ℕ → ℕ) → Call → Typ
 NoneRose before after (OneFile command name) = Rose (before name) (after name) → ⊥
 NoneRose before after (TwoFiles command name other) = (Rose (before name) (after name) → ⊥) × (Rose (before other) (after other) → ⊥)
 
--- yes, no, or want of memory
+-- yes, no, or running out of memory
 abbrev pub IsAnswered : Result Status NoMemory → Type 0
 IsAnswered (Ok Done) = Unit {0}
 IsAnswered (Ok No) = Unit {0}

@@ -26,7 +26,7 @@ IsProofFile bytes = files.IsProofFile (fields_in (ahead_from 1 bytes).lines)
 abbrev pub refused : ℕ → List ℕ → Option (List ℕ)
 refused line rule = Some (codes "refused " ++ decimal line ++ rule)
 
--- the line that tells of a refusal
+-- the line that reports a refusal
 abbrev pub refusal_of : Verdict → Option (List ℕ)
 refusal_of Accepted = None
 refusal_of NoEmpty = Some (codes "refused NoEmpty\n")

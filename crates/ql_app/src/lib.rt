@@ -1,4 +1,4 @@
-// The program behind its words: it reads the named files from a shelf, judges them, and writes the
+// The program after its words: it reads the named files from a shelf, judges them, and writes the
 // answer to a sink.
 // The one contract: what `quelea` writes is what the words and the files' bytes allow with its
 // status, and each status comes only for its cause.

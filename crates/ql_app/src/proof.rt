@@ -44,7 +44,7 @@ fn verdict_on(
     }
 }
 
-// The line that tells of a refusal.
+// The line that reports a refusal.
 fn refusal(alloc: Global, verdict: Verdict) -> Result<Option<Vec<u8>>, NoMemory>
     ensures { IfOk result (λ line. option_map (λ text. text.items) line ≡ refusal_of verdict) }
 {

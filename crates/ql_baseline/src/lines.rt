@@ -79,7 +79,7 @@ fn last_word(text: &[u8]) -> Option<&[u8]>
     }
 }
 
-/// Whether a line is one that says nothing of levels: words of `explain` behind a space, or a line of a refusal or of an
+/// Whether a line is one that says nothing of levels: words of `explain` after a space, or a line of a refusal or of an
 /// execution.
 pub(crate) fn is_passed(text: &[u8]) -> bool
     ensures { result ≡ is_passed text.now }

@@ -1,4 +1,4 @@
--- The headline as a reader meets it: what stands in the sink behind a call of `quelea` that ended with status 0.
+-- The headline as a reader meets it: what stands in the sink after a call of `quelea` that ended with status 0.
 use Rattle.std.specs.Prelude.{◌≡◌, ◌≢◌, ℕ, true, List, [], ◌∷◌, ◌++◌, Option, Some, codes, slice_get}
 use Rattle.std.specs.List.{AllZip}
 use Rattle.ql_app.specs.declared.words.PairCommand.TheVariants.{Run}

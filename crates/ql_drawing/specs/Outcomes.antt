@@ -73,7 +73,7 @@ Tells held before after a TooLarge text = IsOver held a text
 Tells held before after a WriteFault text = ⊥
 Tells held before after a Usage text = ⊥
 
--- The text that is to be written with a status. `held` is what the shelf holds under each name, where it tells, and the
+-- The text that is to be written with a status. `held` is what the shelf holds under each name, where it reports it, and the
 -- counts are those of its faults at each name, before the call and after it.
 abbrev pub SaysOf : (List ℕ → Option (List ℕ)) → (List ℕ → ℕ) → (List ℕ → ℕ) → Option Asked → Status → List ℕ → Type 0
 SaysOf held before after None status text = (status ≡ Usage) × (text ≡ HELP.now)

@@ -15,7 +15,7 @@ pub record Asked : Type 0 where
   pub schedule : Option (List ℕ)
   pub breach : List (List ℕ)
 
--- the words of a breach, which stand behind their option
+-- the words of a breach, which stand after their option
 abbrev pub breach_of : List (List ℕ) → Option (List (List ℕ))
 breach_of [] = Some []
 breach_of (word ∷ words) = if bytes_eq word (codes "--breach") then Some words else None
@@ -23,7 +23,7 @@ breach_of (word ∷ words) = if bytes_eq word (codes "--breach") then Some words
 abbrev pub with_breach : Bool → List ℕ → Option (List ℕ) → Option (List (List ℕ)) → Option Asked
 with_breach all file schedule breach = option_map (λ words. record { all = all; file = file; schedule = schedule; breach = words }) breach
 
--- what stands behind the name of the first file
+-- what stands after the name of the first file
 abbrev pub after_file : Bool → List ℕ → List (List ℕ) → Option Asked
 after_file all file [] = with_breach all file None (Some [])
 after_file all file (word ∷ words) =

@@ -75,7 +75,7 @@ fn drawn(
     svg_text(alloc, SHEET.as_bytes(), &picture)
 }
 
-// The words of a breach: those that are given, behind the place that a file of `holds` says itself; else those that
+// The words of a breach: those that are given, after the place that a file of `holds` says itself; else those that
 // stand in the run's text.
 fn breach_words(alloc: Global, run: &Run, breach: &[u8]) -> Result<Vec<u8>, NoMemory> {
     if breach.is_empty() {

@@ -107,7 +107,7 @@ fn answer(
     }
 }
 
-// Words with a space behind each.
+// Words with a space after each.
 fn joined(alloc: Global, words: &[String]) -> Result<Vec<u8>, NoMemory> {
     let mut text = Vec::new(alloc);
     for word in words {

@@ -48,7 +48,7 @@ fn parse_files(all: bool, words: &[String]) -> Option<Request>
     }
 }
 
-// What stands behind the name of the first file.
+// What stands after the name of the first file.
 fn parse_rest<'a>(all: bool, file: &'a str, words: &'a [String]) -> Option<Request<'a>>
     ensures { option_map asked_of result ≡ after_file all file.now (map string_bytes words.now) }
 {
@@ -84,7 +84,7 @@ fn request_of<'a>(
     }
 }
 
-// The words behind `--breach`, or none.
+// The words after `--breach`, or none.
 fn parse_breach(words: &[String]) -> Option<&[String]>
     ensures { option_map (λ rest. map string_bytes rest.now) result ≡ breach_of (map string_bytes words.now) }
 {

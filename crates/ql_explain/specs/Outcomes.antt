@@ -61,7 +61,7 @@ Tells held before after call Usage text = ⊥
 abbrev pub IsUsage : Status → List ℕ → Type 0
 IsUsage status text = (status ≡ Usage) × (text ≡ HELP.now)
 
--- The text that is to be written with a status. `held` is what the shelf holds under each name, where it tells, and the
+-- The text that is to be written with a status. `held` is what the shelf holds under each name, where it reports it, and the
 -- counts are those of its faults at each name, before the call and after it.
 abbrev pub SaysOf : (List ℕ → Option (List ℕ)) → (List ℕ → ℕ) → (List ℕ → ℕ) → Option Call → Status → List ℕ → Type 0
 SaysOf held before after None status text = IsUsage status text

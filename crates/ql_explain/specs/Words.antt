@@ -28,11 +28,11 @@ one_name (word ∷ words) = only_name word words
 abbrev pub plain_of : List ℕ → List (List ℕ) → Option Call
 plain_of word words = option_map (Explained Text) (only_name word words)
 
--- what stands behind --json
+-- what stands after --json
 abbrev pub json_of : List (List ℕ) → Option Call
 json_of words = option_map (Explained Json) (one_name words)
 
--- what stands behind --baseline
+-- what stands after --baseline
 abbrev pub against_of : List (List ℕ) → Option Call
 against_of [] = None
 against_of (word ∷ words) = if is_file_name word then option_map (λ name. Compared word name) (one_name words) else None

@@ -65,7 +65,7 @@ fn plain<'a>(word: &'a str, rest: &[String]) -> Option<Asked<'a>>
     }
 }
 
-// What a name behind `--baseline` and another one ask for.
+// What a name after `--baseline` and another one ask for.
 fn against(words: &[String]) -> Option<Asked>
     ensures { option_map call_of result ≡ against_of (map string_bytes words.now) }
 {

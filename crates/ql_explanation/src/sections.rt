@@ -112,7 +112,7 @@ fn gap(alloc: Global, is_first: bool) -> Result<Vec<u8>, NoMemory>
     }
 }
 
-/// The target at the level that its line tells, or at the highest.
+/// The target at the level that its line reports, or at the highest.
 pub fn goal_of(finding: &Finding) -> Goal
     ensures { result ≡ goal_of finding.now }
 {

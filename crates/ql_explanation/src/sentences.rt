@@ -40,7 +40,7 @@ pub(crate) fn push_facts(
     Ok(())
 }
 
-// Whether a fact says no more than that two effects are on one object, or are two, and another one tells of both.
+// Whether a fact says no more than that two effects are on one object, or are two, and another one speaks of both.
 fn is_plain(facts: &[Fact], fact: Fact) -> bool {
     match (fact.claim, fact.holds) {
         (Claim::Related(RelName::SameObj, a, b), true)

@@ -34,7 +34,7 @@ pub record AreEnough (p : Program) (levels : LevelLists) : Type 0 where
   pub txns : length levels.txns ≡ length p.txns
   pub each : All (GivesContract p) (goals_at levels)
 
--- the text tells such levels of the source
+-- the text reports such levels of the source
 abbrev pub TellsLevels : List ℕ → List ℕ → Type 0
 TellsLevels source text = (p : Program) × IsSourceOf source p × (levels : LevelLists) × AreEnough p levels × (text ≡ levels_text p levels)
 
@@ -43,11 +43,11 @@ pub record AreLeast (p : Program) (levels : LevelLists) : Type 0 where
   pub enough : AreEnough p levels
   pub lower : All (LowerFail p) (goals_at levels)
 
--- the text tells such levels of the source
+-- the text reports such levels of the source
 abbrev pub TellsLeast : List ℕ → List ℕ → Type 0
 TellsLeast source text = (p : Program) × IsSourceOf source p × (levels : LevelLists) × AreLeast p levels × (text ≡ levels_text p levels)
 
--- the text tells why the source's program has no levels: where no level is enough for a target, its highest fails in some execution
+-- the text says why the source's program has no levels: where no level is enough for a target, its highest fails in some execution
 abbrev pub TellsNone : List ℕ → List ℕ → Type 0
 TellsNone source text = (p : Program) × IsSourceOf source p × (e : Classless) × TopFails p e × (text ≡ refusal_text p e)
 
@@ -61,7 +61,7 @@ unfoldable pub accepted_lines : List Section → List ℕ
 accepted_lines [] = []
 accepted_lines (s ∷ ss) = section_text s ++ verdict_text Accepted ++ accepted_lines ss
 
--- what stands behind the accepted lines: nothing where no section is left and the answer is yes, and else the line of
+-- what stands after the accepted lines: nothing where no section is left and the answer is yes, and else the line of
 -- the next section, with another verdict
 abbrev pub EndsWith : List Section → Answer → List ℕ → Type 0
 EndsWith [] Done end = end ≡ []
@@ -78,7 +78,7 @@ pub record AcceptsFront (p : Program) (place : ℕ) (ss : List Section) (a : Ans
   pub each : EachGives p place front
   pub ends : EndsWith others a end
 
--- The certificate has the sections that are due of the source's program, and the text is as above: each line that ends in
+-- The certificate has the sections that are expected of the source's program, and the text is as above: each line that ends in
 -- `accepted` states an implication that is valid in the store's executions.
 abbrev pub TellsAccepted : List ℕ → List ℕ → Answer → List ℕ → Type 0
 TellsAccepted source cert a text =

@@ -4,8 +4,8 @@ ghost use Rattle.ql_commands.specs.Check.{CheckSays, order_text};
 ghost use Rattle.ql_commands.specs.Classify.{ClassifySays};
 ghost use Rattle.ql_implied.specs.Commands.{TellsAccepted, TellsLeast, TellsLevels, TellsNone};
 
-/// The law of what `classify` prints: the source's program has each level that is told, and in every
-/// execution of the store that is one of this program, the level gives its target's contract.
+/// The law of what `classify` prints: the source's program has each level that is reported, and in every
+/// execution of the store that is one of this program, the level guarantees its target's contract.
 pub fn told_levels_give_contracts()
     ensures { (source text : List ℕ) → ClassifySays source Done text → TellsLevels source text }
 {}

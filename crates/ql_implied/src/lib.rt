@@ -1,5 +1,5 @@
 // What the commands on levels say, in executions as the store keeps them.
-// The one contract: a level that `classify` tells, or that `check` accepts, gives its contract in every
+// The one contract: a level that `classify` reports, or that `check` accepts, guarantees its contract in every
 // execution of the program, with the relations and the truth of whole contracts, and no lower level does.
 #![tactic(auto)]
 

@@ -25,7 +25,7 @@ pub fn uses_are_operations()
 {}
 
 /// The law of strong uses by number: of an accepted program no transaction uses an operation whose level is
-/// strong, and where a strong use is told, the transaction does use that operation, and its level is strong.
+/// strong, and where a strong use is reported, the transaction does use that operation, and its level is strong.
 pub fn strong_uses_are_told()
     ensures accepted { (p : Program) → program_faults p ≡ [] → IsAccepted p → (d o : ℕ) (level : Level) → uses_op p d o ≡ true → IsOpLevel p o level → level ≢ Strong }
     ensures told { (p : Program) (d : DeclId) (o : OpId) → FirstFails p (all_tests p) (StrongInTxn d o) → (uses_op p d.0 o.0 ≡ true) × IsOpLevel p o.0 Strong }

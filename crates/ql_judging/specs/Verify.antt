@@ -23,7 +23,7 @@ use Rattle.ql_judging.specs.declared.judged.Judged.TheVariants as judged
 
 -- ---- the execution's text
 
--- the file tells this execution of the program
+-- the file reports this execution of the program
 abbrev pub TellsExecution : Program → List ℕ → List Effect → Type 0
 TellsExecution p bytes x = IsExecutionFile p (ahead_from 1 bytes) x
 
@@ -58,7 +58,7 @@ txn_text p run name places = codes "fails txn " ++ decimal run ++ codes ":" ++ t
 abbrev pub numbers : List EffId → List ℕ
 numbers ids = map (λ id. id.0) ids
 
--- the text tells a breach: with the effect's operation, or with the transaction that the begun one is declared as
+-- the text reports a breach: with the effect's operation, or with the transaction that the begun one is declared as
 abbrev pub TellsBreach : Program → List Effect → Breach → List ℕ → Type 0
 TellsBreach p x (AtOp at places) text = (e : Effect) × (effect_at x at.0 ≡ Some e) × (text ≡ op_text p e.op.0 at.0 (numbers places))
 TellsBreach p x (AtTxn run places) text = (name : ℕ) × IsBegunOf x run.0 name × (text ≡ txn_text p run.0 name (numbers places))
@@ -72,7 +72,7 @@ ExecutionSays p x judged.Bad text = ⊥
 
 -- ---- the two files
 
--- The source is a typed program's, the other file tells an execution of it, and its work isn't above the limit. Programs
+-- The source is a typed program's, the other file reports an execution of it, and its work isn't above the limit. Programs
 -- with one source differ in nothing but where their parts are kept.
 abbrev pub AreJudgeable : List ℕ → List ℕ → Type 0
 AreJudgeable source execution =

@@ -1,4 +1,4 @@
-// The line that tells the first breach of a contract.
+// The line that reports the first breach of a contract.
 ghost use Rattle.std.specs.Prelude.{◌≡◌, ◌<◌, ◌++◌, Some, IfOk, OnErr, OnOk, length};
 ghost use Rattle.ql_typing.specs.Operations.{all_ops};
 ghost use Rattle.ql_verify.specs.Verdicts.{AreOfProgram, IsVerdict};

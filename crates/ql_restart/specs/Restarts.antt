@@ -46,7 +46,7 @@ pub record TellsRestart (source file : List ℕ) (replica cut : ℕ) (text : Lis
   pub run : Watches (rules_of program levels) schedule.replicas replica schedule.events last arrivals
   pub printed : IsRestartText last arrivals cut text
 
--- The program is accepted, and the replica isn't there behind the events of the schedule.
+-- The program is accepted, and the replica isn't there after the events of the schedule.
 pub record TellsNoReplica (source file : List ℕ) (replica : ℕ) (text : List ℕ) : Type 0 where
   pub program : Program
   pub schedule : Schedule

@@ -8,7 +8,7 @@ use ql_base::{NoMemory, push_bytes, push_number};
 use ql_exec::Payload;
 use ql_value::{Value, Values, print_value};
 
-/// Appends a text and a number behind it.
+/// Appends a text and a number after it.
 pub(crate) fn push_decimal(out: &mut Vec<u8>, text: &[u8], number: u32) -> Result<(), NoMemory>
     ensures { OnOk result (out.new.items ≡ out.old.items ++ (text.now ++ decimal number)) }
 {
@@ -16,7 +16,7 @@ pub(crate) fn push_decimal(out: &mut Vec<u8>, text: &[u8], number: u32) -> Resul
     push_number(out, number)
 }
 
-/// Appends ids, each behind a space. Out of memory, the text is as before.
+/// Appends ids, each after a space. Out of memory, the text is as before.
 pub fn push_ids(out: &mut Vec<u8>, ids: &[u32]) -> Result<(), NoMemory>
     ensures ok { OnOk result (out.new.items ≡ out.old.items ++ behind (map decimal ids.now)) }
     ensures err { OnErr result (out.new.items ≡ out.old.items) }
@@ -26,7 +26,7 @@ pub fn push_ids(out: &mut Vec<u8>, ids: &[u32]) -> Result<(), NoMemory>
     push_bytes(out, &text)
 }
 
-/// Appends ids, each behind a space. Out of memory, some of them may stand behind the text.
+/// Appends ids, each after a space. Out of memory, some of them may stand after the text.
 pub(crate) fn push_each_id(out: &mut Vec<u8>, ids: &[u32]) -> Result<(), NoMemory>
     ensures { OnOk result (out.new.items ≡ out.old.items ++ behind (map decimal ids.now)) }
 {

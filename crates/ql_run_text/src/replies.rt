@@ -92,7 +92,7 @@ fn push_answer(out: &mut Vec<u8>, id: EffId, x: &Execution) -> Result<(), NoMemo
     print_value(out, &x.get(id).answer)
 }
 
-// A word and ids behind it.
+// A word and ids after it.
 fn push_listed(out: &mut Vec<u8>, word: &[u8], ids: &[u32]) -> Result<(), NoMemory>
     ensures { OnOk result (out.new.items ≡ out.old.items ++ joined (word.now ∷ map decimal ids.now)) }
 {

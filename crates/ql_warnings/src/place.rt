@@ -37,7 +37,7 @@ fn ends_of_lines(text: &[u8]) -> usize
     text.iter().filter(|b| **b == b'\n').count()
 }
 
-// How many bytes stand behind the last line's end.
+// How many bytes stand after the last line's end.
 fn last_line(text: &[u8]) -> usize
     ensures count { result ≡ prefix_len in_line (reverse text.now) }
     ensures few { result ≤ length text.now }

@@ -56,7 +56,7 @@ fn name_in(t: &Typed, op: OpId) -> &[u8]
     }
 }
 
-// What is said of a place, behind its line and column.
+// What is said of a place, after its line and column.
 fn placed(alloc: Global, place: Place, said: &[u8]) -> Result<Vec<u8>, NoMemory>
     ensures { IfOk result (λ text. text.items ≡ placed place said.now) }
 {
