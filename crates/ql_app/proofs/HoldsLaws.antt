@@ -4,9 +4,9 @@ use Rattle.std.specs.Prelude.{IfOk}
 use Rattle.std.specs.Global.{Vec}
 use Rattle.ql_base.specs.declared.no_memory.NoMemory.{NoMemory as NoMemoryLeft}
 use Rattle.ql_lines.specs.Lines.{Ahead, ahead_from}
-use Rattle.ql_report.specs.declared.holds_fault.HoldsFault.{HoldsFault}
-use Rattle.ql_report.specs.declared.holds_fault.HoldsFault.TheVariants.{Unexpected, Unknown, Twice, TxnAtom, Variables, Range, NotForward, OtherObject, TooMany, NoMemory}
-use Rattle.ql_report.specs.HoldsFile.{Asked, FirstFault, IsHolding, IsRefusal}
+use Rattle.ql_holds_files.specs.declared.holds_fault.HoldsFault.{HoldsFault}
+use Rattle.ql_holds_files.specs.declared.holds_fault.HoldsFault.TheVariants.{Unexpected, Unknown, Twice, TxnAtom, Variables, Range, NotForward, OtherObject, TooMany, NoMemory}
+use Rattle.ql_holds_files.specs.HoldsFile.{Asked, FirstFault, IsHolding, IsRefusal}
 use Rattle.ql_reply.specs.declared.status.Status.{Status}
 use Rattle.ql_reply.specs.declared.status.Status.TheVariants.{Done, No, Bad, ReadFault, WriteFault, Usage, TooLarge}
 use Rattle.ql_app.specs.HoldsFile.{HoldsSays, HoldsTells, IsToldAs, holds_fault_text, work}

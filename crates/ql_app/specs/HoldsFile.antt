@@ -1,12 +1,12 @@
--- What is said of the files of `holds`. Their grammar and their first faults are those of ql_report, and truth is that of
+-- What is said of the files of `holds`. Their grammar and their first faults are those of ql_holds_files, and truth is that of
 -- ql_formula.
 use Rattle.std.specs.Prelude.{◌≡◌, ℕ, ◌<◌, ◌≤◌, ◌^◌, List, [], ◌∷◌, ◌++◌, length, codes, decimal}
 use Rattle.ql_base.specs.declared.limits.TheConstants.{MAX_WORK}
 use Rattle.ql_lines.specs.Lines.{ahead_from}
 use Rattle.ql_formula.specs.Truth.{Holds, IsFirstFalse, none_inside}
-use Rattle.ql_report.specs.declared.holds_fault.HoldsFault.{HoldsFault}
-use Rattle.ql_report.specs.declared.holds_fault.HoldsFault.TheVariants.{Unexpected, Unknown, Twice, TxnAtom, Variables, Range, NotForward, OtherObject, TooMany, NoMemory}
-use Rattle.ql_report.specs.HoldsFile.{Asked, FirstFault, IsHolding}
+use Rattle.ql_holds_files.specs.declared.holds_fault.HoldsFault.{HoldsFault}
+use Rattle.ql_holds_files.specs.declared.holds_fault.HoldsFault.TheVariants.{Unexpected, Unknown, Twice, TxnAtom, Variables, Range, NotForward, OtherObject, TooMany, NoMemory}
+use Rattle.ql_holds_files.specs.HoldsFile.{Asked, FirstFault, IsHolding}
 use Rattle.ql_reply.specs.Lines.{fault_line}
 use Rattle.ql_reply.specs.declared.status.Status.{Status}
 use Rattle.ql_reply.specs.declared.status.Status.TheVariants.{Done, No, Bad, ReadFault, WriteFault, Usage, TooLarge}

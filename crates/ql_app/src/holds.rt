@@ -1,12 +1,12 @@
 ghost use Rattle.std.specs.Prelude.{◌≡◌, ◌≤◌, ◌<◌, ◌^◌, ◌++◌, IfOk, OnOk, codes, decimal, length, map};
-ghost use Rattle.ql_report.specs.Readings.{asked_of};
+ghost use Rattle.ql_holds_files.specs.Readings.{asked_of};
 ghost use Rattle.ql_app.specs.HoldsFile.{HoldsSays, HoldsTells, IsToldAs, places_text};
 
 use crate::text::at_line;
 use ql_base::{EffId, MAX_WORK, NoMemory, Word, push_bytes, push_number};
 use ql_formula::{Relations, holds_at};
 use ql_reply::{Status, bad_line};
-use ql_report::{Holding, HoldsFault, parse_holds};
+use ql_holds_files::{Holding, HoldsFault, parse_holds};
 use std::alloc::Global;
 
 /// Whether the contract in a holds file is true of its effect.
@@ -14,7 +14,7 @@ pub fn holds(alloc: Global, bytes: &[u8]) -> Result<(Status, Vec<u8>), NoMemory>
     requires { length bytes.now < 2 ^ 32 }
     ensures { IfOk result (λ answer. HoldsSays bytes.now answer.0 answer.1.items) }
 {
-    ql_report::one_holding();
+    ql_holds_files::one_holding();
     match parse_holds(alloc, bytes) {
         Ok(holding) => truth_of(alloc, &holding),
         Err(fault) => Ok((Status::Bad, bad_holds(alloc, fault)?)),

@@ -1,11 +1,2 @@
 pub mod Loops
 pub mod Sizes
-pub mod ShortLines
-pub mod FirstFields
-pub mod ContractRules
-pub mod EffectLines
-pub mod Effects
-pub mod OneStage
-pub mod Leading
-pub mod OneFault
-pub mod LineRefusals

@@ -1,4 +1,4 @@
-use Rattle.ql_report.specs.declared.holds_fault.HoldsFault.TheVariants.{Unexpected, Unknown, Twice, TxnAtom, Variables, Range, NotForward, OtherObject, TooMany}
+use Rattle.ql_holds_files.specs.declared.holds_fault.HoldsFault.TheVariants.{Unexpected, Unknown, Twice, TxnAtom, Variables, Range, NotForward, OtherObject, TooMany}
 use Rattle.ql_app.proofs.HoldsLaws.{told_so}
 use Rattle.ql_app.proofs.holds.bad_holds.Goals as goal
 

@@ -1,4 +1,4 @@
-use Rattle.ql_report.specs.Readings.{asked_of}
+use Rattle.ql_holds_files.specs.Readings.{asked_of}
 use Rattle.ql_app.proofs.HoldsLaws.{answer_told, is_bad}
 use Rattle.ql_app.proofs.holds.holds.Goals as goal
 

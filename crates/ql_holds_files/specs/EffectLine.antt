@@ -1,0 +1,90 @@
+-- The other lines of a holds file: that of the current effect, those of effects, and the last one.
+use Rattle.std.specs.Prelude.{◌≡◌, ℕ, ◌≤◌, List, [], ◌∷◌, ◌++◌, map, length, codes, decimal, Option, None, Some, is_none, nat_le, if◌then◌else◌}
+use Rattle.std.specs.List.{AllByRecursion, list_any}
+use Rattle.ql_base.specs.IdLists.{IsAscending}
+use Rattle.ql_base.specs.Names.{IsName}
+use Rattle.ql_base.specs.Numbering.{with_name}
+use Rattle.ql_base.specs.declared.ids.ObjId.{ObjId}
+use Rattle.ql_base.specs.declared.ids.OpId.{OpId}
+use Rattle.ql_lines.specs.Fields.{Fields, IsId}
+use Rattle.ql_value.specs.declared.value.Value.TheVariants.{Unit as UnitValue}
+use Rattle.ql_exec.specs.declared.effect.Draft.{Draft}
+use Rattle.ql_exec.specs.declared.effect.Payload.TheVariants.{Nothing}
+use Rattle.ql_exec.specs.declared.effect.Member.TheVariants.{Alone}
+use Rattle.ql_exec.specs.Effects.{effect_at}
+use Rattle.ql_exec.specs.Execution.{effect_of, is_elsewhere}
+use Rattle.ql_typing.specs.Resolved.{number_in}
+use Rattle.ql_holds_files.specs.declared.effect_line.EffectLine.{EffectLine}
+use Rattle.ql_holds_files.specs.declared.holds_fault.LineFault.{LineFault}
+use Rattle.ql_holds_files.specs.declared.holds_fault.LineFault.TheVariants.{NotForward, OtherObject, TooMany}
+use Rattle.ql_holds_files.specs.declared.told.Told.{Told}
+
+-- ---- how lines are spelled
+
+-- at 2
+abbrev pub at_fields : ℕ → Fields
+at_fields cur = codes "at" ∷ decimal cur ∷ []
+
+-- effect 3 x w session 1 vis 1 2
+abbrev pub effect_fields : ℕ → EffectLine → Fields
+effect_fields id e = codes "effect" ∷ decimal id ∷ e.object ∷ e.op ∷ codes "session" ∷ decimal e.session ∷ codes "vis" ∷ map decimal e.seen
+
+abbrev pub end_fields : Fields
+end_fields = codes "end" ∷ []
+
+-- ---- what has a spelling
+
+pub record Fits (e : EffectLine) : Type 0 where
+  pub object : IsName e.object
+  pub op : IsName e.op
+  pub session : e.session ≤ 255
+  pub ids : AllByRecursion IsId e.seen
+  pub ascending : IsAscending e.seen
+
+-- the fields are the line of an effect with this number
+pub record IsEffectLine (fields : Fields) (id : ℕ) (e : EffectLine) : Type 0 where
+  pub fits : Fits e
+  pub is : fields ≡ effect_fields id e
+
+-- ---- what effects' lines tell
+
+-- the number of a name behind others
+abbrev pub number_of : List (List ℕ) → List ℕ → ℕ
+number_of names w = number_in (with_name names w) w
+
+-- an effect outside any transaction, of which no arguments, payload and answer are told
+abbrev pub plain_draft : ObjId → OpId → ℕ → List ℕ → Draft
+plain_draft object op session seen = record {
+  object = object;
+  op = op;
+  args = [];
+  payload = Nothing;
+  answer = UnitValue;
+  session = record { 0 = session };
+  member = Alone;
+  seen = seen;
+}
+
+abbrev pub draft_of : Told → EffectLine → Draft
+draft_of told e = plain_draft (record { 0 = number_of told.objects e.object }) (record { 0 = number_of told.ops e.op }) e.session e.seen
+
+-- one more effect
+abbrev pub told_with : Told → EffectLine → Told
+told_with told e = record {
+  objects = with_name told.objects e.object;
+  ops = with_name told.ops e.op;
+  effects = told.effects ++ effect_of told.effects (draft_of told e) ∷ [];
+}
+
+-- the most effects of a file
+abbrev pub most_effects : ℕ
+most_effects = 4000
+
+-- The lowest rule that an effect breaks behind others: an id that it sees is that of no earlier effect; one of those that
+-- it sees is on another object; there are too many.
+abbrev pub effect_rule : Told → EffectLine → Option LineFault
+effect_rule told e =
+    if list_any (λ id. is_none (effect_at told.effects id)) e.seen then Some NotForward
+    else (if list_any (λ id. is_elsewhere (draft_of told e).object (effect_at told.effects id)) e.seen then Some OtherObject
+    else (if nat_le most_effects (length told.effects) then Some TooMany
+    else None))

@@ -1,0 +1,4 @@
+pub mod ContractLine
+pub mod EffectLine
+pub mod HoldsFile
+pub mod Readings

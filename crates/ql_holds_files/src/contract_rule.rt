@@ -1,0 +1,148 @@
+ghost use Rattle.std.specs.Prelude.{◌≡◌, ◌≢◌, [], List, ℕ, false, None, Some, IfOk, map};
+ghost use Rattle.std.specs.List.{list_any};
+ghost use Rattle.ql_base.specs.Numbering.{with_name};
+ghost use Rattle.ql_lang.specs.Trees.{proposition_of, sentence_of};
+ghost use Rattle.ql_typing.specs.Faults.{each, names_met, repeats};
+ghost use Rattle.ql_typing.specs.ContractFaults.{choice_faults, point_faults, prop_faults, var_names};
+ghost use Rattle.ql_holds_files.specs.ContractLine.{faults_of, is_twice, is_txn_atom, is_unknown, lowest_rule};
+
+use crate::holds_fault::LineFault;
+use ql_base::{Names, NoMemory, Word};
+use ql_lang::{Contract, Name, Point, Prop, Var};
+use std::alloc::Global;
+
+/// The lowest rule that the faults of a contract break, which has some.
+pub(crate) fn lowest_rule(alloc: Global, contract: &Contract) -> Result<LineFault, NoMemory>
+    requires { faults_of (sentence_of contract.now) ≢ [] }
+    ensures { IfOk result (λ rule. lowest_rule (faults_of (sentence_of contract.now)) ≡ Some rule) }
+{
+    let vars = contract.vars.items();
+    let named = names_of(alloc, vars)?;
+    let met = meet(alloc, named.as_slice())?;
+    if is_open(&contract.body, &met.names) {
+        return Ok(LineFault::Unknown);
+    }
+    if met.twice {
+        return Ok(LineFault::Twice);
+    }
+    if repeats_an_operation(alloc, vars)? {
+        return Ok(LineFault::Twice);
+    }
+    if speaks_of_txn(&contract.body) {
+        Ok(LineFault::TxnAtom)
+    } else {
+        Ok(LineFault::Variables)
+    }
+}
+
+// The names of variables, in order.
+fn names_of(alloc: Global, vars: &[Var]) -> Result<Vec<Name>, NoMemory>
+    ensures { IfOk result (λ names. names.items ≡ var_names vars.now) }
+{
+    Ok(vars.iter().map(|var| var.name).collect(alloc)?)
+}
+
+// Distinct names in the order of their first occurrence, and whether one occurs twice.
+#[derive(Drop)]
+struct Met {
+    names: Names,
+    twice: bool,
+}
+
+// Meets names one after another.
+#[tactic(auto, unfolding(ql_typing::specs::Faults::names_met, ql_typing::specs::Faults::repeats))]
+fn meet(alloc: Global, list: &[Name]) -> Result<Met, NoMemory>
+    ensures names { IfOk result (λ met. met.names ≡ names_met [] list.now) }
+    ensures twice { IfOk result (λ met. met.twice ≡ list_any is_twice (repeats [] list.now)) }
+{
+    let mut names = Names::new(alloc);
+    let mut twice = false;
+    let mut rest = list;
+    while let Some((name, others)) = rest.split_first() {
+        twice = twice || names.find(name.word.bytes()).is_some();
+        put_in(&mut names, &name.word)?;
+        rest = others;
+    }
+    Ok(Met { names, twice })
+}
+
+// Puts a name in. Where 32 bits can't number it, there is no memory for it.
+fn put_in(names: &mut Names, word: &Word) -> Result<(), NoMemory>
+    ensures { IfOk result (λ _. names.new ≡ with_name names.old word.now) }
+{
+    if names.len() >= u32::MAX - 1 {
+        return Err(NoMemory);
+    }
+    names.number(word.bytes())?;
+    Ok(())
+}
+
+// Whether one of the variables names an operation twice.
+fn repeats_an_operation(alloc: Global, vars: &[Var]) -> Result<bool, NoMemory>
+    ensures { IfOk result (λ twice. twice ≡ list_any is_twice (each (choice_faults None) vars.now)) }
+{
+    let mut rest = vars;
+    while let Some((var, others)) = rest.split_first() {
+        let met = meet(alloc, var.ops.items())?;
+        if met.twice {
+            return Ok(true);
+        }
+        rest = others;
+    }
+    Ok(false)
+}
+
+// Whether a term is a variable that isn't bound.
+#[tactic(auto, unfolding(ql_typing::specs::ContractFaults::point_faults))]
+fn is_unbound(point: &Point, vars: &Names) -> bool
+    ensures { result ≡ list_any is_unknown (point_faults false vars.now point.now) }
+{
+    match point {
+        Point::CurAt(_) => false,
+        Point::Named(name) => vars.find(name.word.bytes()).is_none(),
+    }
+}
+
+fn has_unbound(points: &[Point], vars: &Names) -> bool
+    ensures { result ≡ list_any is_unknown (each (point_faults false vars.now) points.now) }
+{
+    let mut rest = points;
+    while let Some((point, others)) = rest.split_first() {
+        if is_unbound(point, vars) {
+            return true;
+        }
+        rest = others;
+    }
+    false
+}
+
+// Whether a proposition speaks of a variable that isn't bound.
+#[tactic(auto, unfolding(ql_typing::specs::ContractFaults::prop_faults), using(crate::proofs::ContractRules::unknown_application, crate::proofs::ContractRules::unknown_either))]
+fn is_open(prop: &Prop, vars: &Names) -> bool
+    ensures { result ≡ list_any is_unknown (prop_faults false vars.now (proposition_of prop.now)) }
+{
+    match prop {
+        Prop::True => false,
+        Prop::Apply(_, left, right) => is_unbound(left, vars) || is_unbound(right, vars),
+        Prop::And(left, right) | Prop::Or(left, right) | Prop::Implies(left, right) => {
+            is_open(left, vars) || is_open(right, vars)
+        }
+        Prop::Txn(_, members, others) => {
+            has_unbound(members.items(), vars) || has_unbound(others.items(), vars)
+        }
+    }
+}
+
+// Whether a proposition speaks of a transaction.
+#[tactic(auto, unfolding(ql_typing::specs::ContractFaults::prop_faults), using(crate::proofs::ContractRules::txn_application, crate::proofs::ContractRules::txn_either))]
+fn speaks_of_txn(prop: &Prop) -> bool
+    ensures { (vars : List (List ℕ)) → result ≡ list_any is_txn_atom (prop_faults false vars (proposition_of prop.now)) }
+{
+    match prop {
+        Prop::True | Prop::Apply(_, _, _) => false,
+        Prop::And(left, right) | Prop::Or(left, right) | Prop::Implies(left, right) => {
+            speaks_of_txn(left) || speaks_of_txn(right)
+        }
+        Prop::Txn(_, _, _) => true,
+    }
+}

@@ -1,0 +1,98 @@
+ghost use Rattle.std.specs.Prelude.{◌≡◌, ◌≤◌, ◌↔◌, ◌∷◌, ◌<◌, List, ℕ, IfOk, IsTrue, MatchOption, codes, decimal};
+ghost use Rattle.ql_base.specs.Names.{IsName};
+ghost use Rattle.ql_lines.specs.Fields.{fields_of, Fields, IsId};
+ghost use Rattle.ql_holds_files.specs.EffectLine.{IsEffectLine, at_fields, end_fields};
+
+use ql_base::{IdSet, NoMemory, Word};
+use ql_lines::{after_name, after_number, after_word, ascending_ids, first_field};
+use std::alloc::Global;
+
+/// What the line of an effect tells, apart from its number.
+#[derive(Drop)]
+pub(crate) struct EffectLine {
+    pub object: Word,
+    pub op: Word,
+    pub session: u32,
+    pub seen: IdSet,
+}
+
+/// The effect that a line tells, whose number is to be `id`.
+pub(crate) fn effect_line(
+    alloc: Global,
+    text: &[u8],
+    id: u32,
+) -> Result<Option<EffectLine>, NoMemory>
+    ensures { IfOk result (λ line. MatchOption line ((e : EffectLine) → IsEffectLine (fields_of text.now) id e → ⊥) (λ e. IsEffectLine (fields_of text.now) id e)) }
+{
+    let Some(rest) = after_id(text, id) else {
+        return Ok(None);
+    };
+    let Some((object, op, rest)) = two_names(rest) else {
+        return Ok(None);
+    };
+    let Some((session, rest)) = session(rest) else {
+        return Ok(None);
+    };
+    match ascending_ids(alloc, rest)? {
+        Some(seen) => Ok(Some(EffectLine {
+            object: Word::of(object),
+            op: Word::of(op),
+            session,
+            seen,
+        })),
+        None => Ok(None),
+    }
+}
+
+// What stands behind the word `effect` and this id.
+fn after_id(text: &[u8], id: u32) -> Option<&[u8]>
+    ensures { MatchOption result ((rest : Fields) → fields_of text.now ≡ codes "effect" ∷ decimal id ∷ rest → ⊥)
+        (λ behind. fields_of text.now ≡ codes "effect" ∷ decimal id ∷ fields_of behind.now) }
+{
+    let numbered = after_word(text, b"effect")?;
+    let (number, behind) = after_number(numbered, u32::MAX)?;
+    if number == id { Some(behind) } else { None }
+}
+
+// Two names, and what stands behind them.
+fn two_names(text: &[u8]) -> Option<(&[u8], &[u8], &[u8])>
+    ensures { MatchOption result ((a b : List ℕ) (rest : Fields) → IsName a → IsName b → fields_of text.now ≡ a ∷ b ∷ rest → ⊥)
+        (λ x. IsName x.0.now × IsName x.1.now × (fields_of text.now ≡ x.0.now ∷ x.1.now ∷ fields_of x.2.now)) }
+{
+    let (first, rest) = after_name(text)?;
+    let (second, behind) = after_name(rest)?;
+    Some((first, second, behind))
+}
+
+// The session between the words `session` and `vis`, and what stands behind these.
+fn session(text: &[u8]) -> Option<(u32, &[u8])>
+    ensures { MatchOption result ((s : ℕ) (rest : Fields) → s ≤ 255 → fields_of text.now ≡ codes "session" ∷ decimal s ∷ codes "vis" ∷ rest → ⊥)
+        (λ x. (x.0 ≤ 255) × (fields_of text.now ≡ codes "session" ∷ decimal x.0 ∷ codes "vis" ∷ fields_of x.1.now)) }
+{
+    let numbered = after_word(text, b"session")?;
+    let (session, rest) = after_number(numbered, 255)?;
+    let behind = after_word(rest, b"vis")?;
+    Some((session, behind))
+}
+
+/// The effect that a line tells to be the current one.
+pub(crate) fn current(text: &[u8]) -> Option<u32>
+    ensures { MatchOption result ((cur : ℕ) → IsId cur → fields_of text.now ≡ at_fields cur → ⊥) (λ cur. IsId cur × (fields_of text.now ≡ at_fields cur)) }
+{
+    let numbered = after_word(text, b"at")?;
+    let (cur, behind) = after_number(numbered, u32::MAX)?;
+    match first_field(behind) {
+        Some(_) => None,
+        None => Some(cur),
+    }
+}
+
+/// Whether a line is the last one.
+pub(crate) fn is_end(text: &[u8]) -> bool
+    ensures { IsTrue result ↔ (fields_of text.now ≡ end_fields) }
+{
+    match after_word(text, b"end") {
+        Some(behind) => first_field(behind).is_none(),
+        None => false,
+    }
+}
