@@ -22,7 +22,7 @@ impl LineFormat for Format {
 
     ghost start = { λ f. [] };
 
-    ghost room = { λ f stored more. Unit {0} };
+    ghost sound = { λ f stored more. Unit {0} };
 
     ghost gives = { λ f stored l x. GivesLine stored l.text x };
 
@@ -53,7 +53,7 @@ impl LineFormat for Format {
         Ok(state)
     }
 
-    ghost keeps_room = { λ f s t l more room given. tt };
+    ghost stays_sound = { λ f s t l more sound given. tt };
 
     ghost gives_one = { λ f s l x y p q. gives_one s l.text x y p q };
 

@@ -62,5 +62,5 @@ one_more (Within cs ls) line t (inr (inl p)) = omega (arith, ap clause_count p.t
 one_more (Within cs ls) line t (inr (inr p)) = omega (arith, ap clause_count p.to)
 one_more (Ended cs ls) line t p = absurd p
 
-pub keeps_room : (s t : ProofReading) (line : Fields) (more : ℕ) → clause_count s + suc more < 2 ^ 32 → ProofTakes s line t → clause_count t + more < 2 ^ 32
-keeps_room s t line more room p = omega (arith, one_more s line t p, room)
+pub stays_sound : (s t : ProofReading) (line : Fields) (more : ℕ) → clause_count s + suc more < 2 ^ 32 → ProofTakes s line t → clause_count t + more < 2 ^ 32
+stays_sound s t line more sound p = omega (arith, one_more s line t p, sound)

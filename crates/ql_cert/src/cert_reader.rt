@@ -4,8 +4,9 @@ ghost use Rattle.ql_base.specs.Names.{IsName};
 ghost use Rattle.ql_line_files.specs.Answers.{IsLineAnswer};
 ghost use Rattle.ql_lines.specs.Fields.{fields_of};
 ghost use Rattle.ql_cert.specs.declared.cert_reader.Reading.TheVariants.{Untitled, Within};
-ghost use Rattle.ql_cert.specs.CertFile.{Takes, end_line, heading, opened, title, with_last};
-ghost use Rattle.ql_cert.specs.Faults.{Gives};
+ghost use Rattle.ql_cert.specs.CertFile.{Takes, end_line, heading, opened, said, title, with_last};
+ghost use Rattle.ql_cert.specs.Faults.{Closes, Gives};
+ghost use Rattle.ql_cert.specs.OneLine.{closes_one, closes_some, gives_one, gives_some, one_after};
 ghost use Rattle.ql_cert.specs.Readings.{IsLevelRead, IsRead, three};
 
 use crate::cert::{Section, SectionLevel, Sections};
@@ -13,7 +14,7 @@ use crate::fault::CertRule;
 use crate::line::line_body;
 use ql_base::{NoMemory, Word, is_name, number_of};
 use ql_levels::{level_of, txn_of};
-use ql_line_files::LineFault;
+use ql_line_files::{Broken, FileFault, LineFault, LineFormat};
 use ql_lines::first_field;
 use ql_refute::{Lines, Refutation};
 use std::alloc::Global;
@@ -33,19 +34,63 @@ pub(crate) enum Reading {
     Ended(Sections),
 }
 
-/// What is read with one more line.
-pub(crate) fn take(
-    alloc: Global,
-    read: Reading,
-    text: &[u8],
-) -> Result<Reading, LineFault<CertRule>>
-    ensures { IsLineAnswer (Gives Takes read (fields_of text.now)) result }
-{
-    match read {
-        Reading::Untitled => titled(alloc, text),
-        Reading::Within(done, last) => within(alloc, done, last, text),
-        Reading::Ended(_) => Err(LineFault::Breaks(CertRule::Unexpected)),
+/// The format of certificates.
+#[derive(Clone, Copy)]
+pub(crate) struct CertFormat {
+    pub(crate) alloc: Global,
+}
+
+impl LineFormat for CertFormat {
+    type State = Reading;
+
+    type Said = Sections;
+
+    type Rule = CertRule;
+
+    ghost start = { λ f. Untitled };
+
+    ghost sound = { λ f read more. Unit {0} };
+
+    ghost gives = { λ f read l x. Gives Takes read (fields_of l.text) x };
+
+    ghost closes = { λ f read end x. Closes (said read) end x };
+
+    fn start(&self) -> Reading {
+        Reading::Untitled
     }
+
+    fn take(
+        &self,
+        state: Reading,
+        _number: u64,
+        text: &[u8],
+    ) -> Result<Reading, LineFault<CertRule>> {
+        match state {
+            Reading::Untitled => titled(self.alloc, text),
+            Reading::Within(done, last) => within(self.alloc, done, last, text),
+            Reading::Ended(_) => Err(LineFault::Breaks(CertRule::Unexpected)),
+        }
+    }
+
+    fn finish(&self, state: Reading, end: u64) -> Result<Sections, FileFault<CertRule>> {
+        match state {
+            Reading::Ended(sections) => Ok(sections),
+            _ => Err(FileFault::Broken(Broken {
+                line: end,
+                rule: CertRule::Unexpected,
+            })),
+        }
+    }
+
+    ghost stays_sound = { λ f s t l more sound given. tt };
+
+    ghost gives_one = { λ f s l x y p q. gives_one Takes one_after s (fields_of l.text) x y p q };
+
+    ghost gives_some = { λ f s l none. gives_some Takes s (fields_of l.text) none };
+
+    ghost closes_one = { λ f s end x y p q. closes_one (said s) end x y p q };
+
+    ghost closes_some = { λ f s end none. closes_some (said s) end none };
 }
 
 #[tactic(auto, using(crate::proofs::Refusals::not_titled))]
@@ -176,12 +221,11 @@ fn within(
 fn opened(alloc: Global, heading: Heading) -> Section
     ensures { result ≡ opened heading.name heading.level }
 {
+    let lines = Lines::of(Vec::new(alloc));
     Section {
         name: heading.name,
         level: heading.level,
-        refutation: Refutation {
-            lines: Lines::of(Vec::new(alloc)),
-        },
+        refutation: Refutation { lines },
     }
 }
 
@@ -211,16 +255,15 @@ fn numbered(
         return Err(LineFault::Breaks(CertRule::Number));
     }
     lines.push(line)?;
-    Ok(Reading::Within(
-        done,
-        Some(Section {
-            name,
-            level,
-            refutation: Refutation {
-                lines: Lines::of(lines),
-            },
-        }),
-    ))
+    let refutation = Refutation {
+        lines: Lines::of(lines),
+    };
+    let grown = Section {
+        name,
+        level,
+        refutation,
+    };
+    Ok(Reading::Within(done, Some(grown)))
 }
 
 // The sections with the last one among them.

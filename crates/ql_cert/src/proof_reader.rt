@@ -3,8 +3,10 @@ ghost use Rattle.std.specs.Option.{option_map};
 ghost use Rattle.ql_line_files.specs.Answers.{IsLineAnswer};
 ghost use Rattle.ql_lines.specs.Fields.{fields_of};
 ghost use Rattle.ql_cert.specs.declared.proof_reader.ProofReading.TheVariants.{Unbegun, Within};
-ghost use Rattle.ql_cert.specs.Faults.{Gives};
-ghost use Rattle.ql_cert.specs.ProofFile.{ProofTakes, clause_count, most_variables, variables_line};
+ghost use Rattle.ql_cert.specs.Faults.{Closes, Gives};
+ghost use Rattle.ql_cert.specs.OneLine.{closes_one, closes_some, gives_one, gives_some};
+ghost use Rattle.ql_cert.specs.OneProofLine.{one_after, stays_sound};
+ghost use Rattle.ql_cert.specs.ProofFile.{ProofTakes, clause_count, most_variables, proof_said, variables_line};
 ghost use Rattle.ql_cert.specs.Readings.{IsRead, two};
 
 use crate::cert_reader::is_end;
@@ -12,7 +14,7 @@ use crate::fault::CertRule;
 use crate::line::{line_body, literals};
 use ql_base::number_of;
 use ql_cnf::{Clauses, are_in_range};
-use ql_line_files::LineFault;
+use ql_line_files::{Broken, FileFault, LineFault, LineFormat};
 use ql_lines::first_field;
 use ql_refute::Lines;
 use std::alloc::Global;
@@ -28,20 +30,68 @@ pub(crate) enum ProofReading {
     Ended(Clauses, Lines),
 }
 
-/// What is read with one more line.
-pub(crate) fn take(
-    alloc: Global,
-    read: ProofReading,
-    text: &[u8],
-) -> Result<ProofReading, LineFault<CertRule>>
-    requires room { clause_count read + 1 < 2 ^ 32 }
-    ensures { IsLineAnswer (Gives ProofTakes read (fields_of text.now)) result }
-{
-    match read {
-        ProofReading::Unbegun => begun(alloc, text),
-        ProofReading::Within(clauses, lines) => within(alloc, clauses, lines, text),
-        ProofReading::Ended(_, _) => Err(LineFault::Breaks(CertRule::Unexpected)),
+/// The format of proofs.
+#[derive(Clone, Copy)]
+pub(crate) struct ProofFormat {
+    pub(crate) alloc: Global,
+}
+
+impl LineFormat for ProofFormat {
+    type State = ProofReading;
+
+    type Said = (Clauses, Lines);
+
+    type Rule = CertRule;
+
+    ghost start = { λ f. Unbegun };
+
+    // A line is one clause at most, so there are numbers for them.
+    ghost sound = { λ f read more. clause_count read + more < 2 ^ 32 };
+
+    ghost gives = { λ f read l x. Gives ProofTakes read (fields_of l.text) x };
+
+    ghost closes = { λ f read end x. Closes (proof_said read) end x };
+
+    fn start(&self) -> ProofReading {
+        ProofReading::Unbegun
     }
+
+    fn take(
+        &self,
+        state: ProofReading,
+        _number: u64,
+        text: &[u8],
+    ) -> Result<ProofReading, LineFault<CertRule>> {
+        match state {
+            ProofReading::Unbegun => begun(self.alloc, text),
+            ProofReading::Within(clauses, lines) => within(self.alloc, clauses, lines, text),
+            ProofReading::Ended(_, _) => Err(LineFault::Breaks(CertRule::Unexpected)),
+        }
+    }
+
+    fn finish(
+        &self,
+        state: ProofReading,
+        end: u64,
+    ) -> Result<(Clauses, Lines), FileFault<CertRule>> {
+        match state {
+            ProofReading::Ended(clauses, lines) => Ok((clauses, lines)),
+            _ => Err(FileFault::Broken(Broken {
+                line: end,
+                rule: CertRule::Unexpected,
+            })),
+        }
+    }
+
+    ghost stays_sound = { λ f s t l more sound given. stays_sound s t (fields_of l.text) more sound given };
+
+    ghost gives_one = { λ f s l x y p q. gives_one ProofTakes one_after s (fields_of l.text) x y p q };
+
+    ghost gives_some = { λ f s l none. gives_some ProofTakes s (fields_of l.text) none };
+
+    ghost closes_one = { λ f s end x y p q. closes_one (proof_said s) end x y p q };
+
+    ghost closes_some = { λ f s end none. closes_some (proof_said s) end none };
 }
 
 // The first line tells how many variables there are.

@@ -18,8 +18,8 @@ pub trait LineFormat {
     // What is said before the first line.
     ghost start: { Self → Self.State };
 
-    // After what the lines say there is room for so many more.
-    ghost room: { Self → Self.State → ℕ → Type 0 };
+    // What the lines say keeps this, where so many more lines come.
+    ghost sound: { Self → Self.State → ℕ → Type 0 };
 
     // What a line makes of what the lines before it say: the same with the line, or the rule that the line breaks.
     ghost gives: { Self → Self.State → Numbered → Result Self.State Self.Rule → Type 0 };
@@ -37,14 +37,14 @@ pub trait LineFormat {
         number: u64,
         text: &[u8],
     ) -> Result<Self::State, LineFault<Self::Rule>>
-        requires { (more : ℕ) × room self.now state (suc more) }
+        requires { (more : ℕ) × sound self.now state (suc more) }
         ensures { IsLineAnswer (gives self.now state (record { number = number; text = text.now })) result };
 
     /// What a file says that ends here.
     fn finish(&self, state: Self::State, end: u64) -> Result<Self::Said, FileFault<Self::Rule>>
         ensures { IsEndAnswer (closes self.now state end) result };
 
-    ghost keeps_room: { (f : Self) (s t : Self.State) (l : Numbered) (more : ℕ) → room f s (suc more) → gives f s l (Ok t) → room f t more };
+    ghost stays_sound: { (f : Self) (s t : Self.State) (l : Numbered) (more : ℕ) → sound f s (suc more) → gives f s l (Ok t) → sound f t more };
 
     // A line makes one thing, and never nothing.
     ghost gives_one: { (f : Self) (s : Self.State) (l : Numbered) (x y : Result Self.State Self.Rule) → gives f s l x → gives f s l y → x ≡ y };

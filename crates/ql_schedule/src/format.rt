@@ -26,7 +26,7 @@ impl<'a> LineFormat for Format<'a> {
 
     ghost start = { λ f. Untitled };
 
-    ghost room = { λ f read more. Unit {0} };
+    ghost sound = { λ f read more. Unit {0} };
 
     ghost gives = { λ f read l x. GivesLine f.t.now.program read l x };
 
@@ -55,7 +55,7 @@ impl<'a> LineFormat for Format<'a> {
         }
     }
 
-    ghost keeps_room = { λ f s t l more room given. tt };
+    ghost stays_sound = { λ f s t l more sound given. tt };
 
     ghost gives_one = { λ f s l x y p q. gives_one f.t.now.program s _ x y p q };
 
