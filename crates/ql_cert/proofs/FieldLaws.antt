@@ -1,12 +1,23 @@
 -- how literals are read from fields
-use Rattle.std.proofs.Common.{◌≡◌, inl, ℕ, Option, Some, None, ◌<◌, ◌≤◌, ◌^◌, Bool, true, false, List, [], ◌∷◌, ◌++◌, decimal, arith, refl, ap, sym, ◌∙◌}
+use Rattle.std.proofs.Common.{◌≡◌, inl, ℕ, Option, Some, None, ◌<◌, ◌≤◌, ◌^◌, Bool, true, false, List, [], ◌∷◌, ◌++◌, map, length, decimal, arith, refl, ap, sym, ◌∙◌}
 use Rattle.std.specs.List.{AllByRecursion}
 use Rattle.std.specs.Option.{option_map}
 use Rattle.ql_cert.specs.Readings.{IsRead}
 use Rattle.ql_cnf.specs.declared.lit.Lit.{Lit}
 use Rattle.ql_lines.proofs.Conses.{both, heads, tails}
 use Rattle.ql_cert.specs.OneField.{no_colon, no_number, one_literal}
-use Rattle.ql_cert.specs.Spelling.{IsLit, clause_fields, colon, lit_field, signed_field}
+use Rattle.ql_cert.specs.Spelling.{Fields, IsLit, clause_fields, colon, lit_field, signed_field}
+
+module _ {X : Type 0} (IsOne : X → Type 0) (field : X → List ℕ) (one : (x y : X) → IsOne x → IsOne y → field x ≡ field y → x ≡ y) where
+  -- the first of them were read, and the fields that are left are those of the others
+  pub read_on : (read xs : List X) (rest : Fields) → AllByRecursion IsOne read → AllByRecursion IsOne xs → map field read ++ rest ≡ map field xs
+      → (more : List X) × (xs ≡ read ++ more) × (rest ≡ map field more)
+  read_on [] xs rest f g e = (xs, refl, e)
+  read_on (x ∷ read) [] rest f g e = absurd (omega (arith, ap length e))
+  read_on (x ∷ read) (y ∷ xs) rest f g e =
+      let first = one x y f.0 g.0 (heads (field x) (field y) (map field read ++ rest) (map field xs) e) in
+      let others = read_on read xs rest f.1 g.1 (tails (field x) (field y) (map field read ++ rest) (map field xs) e) in
+      (others.0, both y x xs (read ++ others.0) (sym first) others.1, others.2)
 
 -- literals that were read are the first of those that stand before a colon
 pub reads_on : (read xs : List Lit) (rest hints : List (List ℕ)) → AllByRecursion IsLit read → AllByRecursion IsLit xs

@@ -7,8 +7,8 @@ use Rattle.ql_lines.proofs.Conses.{heads}
 use Rattle.ql_refute.specs.declared.refutation.Hint.{Hint}
 use Rattle.ql_cert.specs.Spelling.{Fields, IsHint, IsLit, clause_fields, colon, hint_field, lit_field}
 use Rattle.ql_cert.specs.Readings.{IsClauseBefore, IsNext, IsRead, before_colon}
-use Rattle.ql_cert.specs.OneField.{one_hint, read_on}
-use Rattle.ql_cert.proofs.FieldLaws.{reads_on}
+use Rattle.ql_cert.specs.OneField.{one_hint}
+use Rattle.ql_cert.proofs.FieldLaws.{read_on, reads_on}
 
 -- of literals that are ascending the first ones are, and one more
 above_front : (n : ℕ) (xs ys : List Lit) → AllAbove n (xs ++ ys) → AllAbove n xs

@@ -3,7 +3,7 @@ use Rattle.std.proofs.Common.{◌≡◌, inl, inr, ℕ, suc, Err, Some, None, �
 use Rattle.std.specs.Prelude.{codes}
 use Rattle.std.specs.List.{AllByRecursion}
 use Rattle.std.proofs.lemmas.Bool.{le-ltb, ne_eqb}
-use Rattle.std.proofs.lemmas.Fmt.{decimal_injective}
+use Rattle.std.proofs.lemmas.Fmt.{decimal_injective, decimal_is_IsNumeral}
 use Rattle.std.proofs.lemmas.List.{append-nil}
 use Rattle.std.proofs.lemmas.List.Elements.{All-cons, All-nil}
 use Rattle.ql_base.specs.Numbers.{Spells}
@@ -20,7 +20,8 @@ use Rattle.ql_cert.specs.Faults.{Follows, Gives}
 use Rattle.ql_cert.specs.CertFile.{end_line}
 use Rattle.ql_cert.specs.ProofFile.{GoesOn, IsGiven, ProofTakes, most_variables, variables_line}
 use Rattle.ql_cert.specs.Readings.{IsNext, IsRead, two}
-use Rattle.ql_cert.specs.OneField.{no_empty, no_number, one_literal, read_on, same_all}
+use Rattle.ql_cert.specs.OneField.{no_number, one_literal, same_all}
+use Rattle.ql_cert.proofs.FieldLaws.{read_on}
 use Rattle.ql_cert.proofs.LineLaws.{all_last, ascending_front}
 use Rattle.ql_cert.proofs.Refusals.{first}
 
@@ -82,6 +83,9 @@ not_begun line none = (
       let word = 97 ∷ 114 ∷ 105 ∷ 97 ∷ 98 ∷ 108 ∷ 101 ∷ 115 ∷ [] in
       no_number m.other m.other_small 118 word (inr (omega arith)) (ap first m.goes_on.1.is),
 )
+
+pub no_empty : (n : ℕ) → n < 2 ^ 64 → decimal n ≡ [] → ⊥
+no_empty n small e = omega (arith, (decimal_is_IsNumeral n small).0.0, ap length e)
 
 -- ---- the lines behind it
 

@@ -25,9 +25,6 @@ no_number n small b rest other e =
     let range = first_digit n small b rest e in
     elim other [ inl low ↦ omega (arith, low, range.0) | inr high ↦ omega (arith, high, range.1) ]
 
-pub no_empty : (n : ℕ) → n < 2 ^ 64 → decimal n ≡ [] → ⊥
-no_empty n small e = omega (arith, (decimal_is_IsNumeral n small).0.0, ap length e)
-
 -- ---- literals and hints
 
 module _ (v w : ℕ) (small : v < 2 ^ 32) (small' : w < 2 ^ 32) where
@@ -68,7 +65,7 @@ one_hint (Earlier m) (Given n) f g e = absurd (omega (arith, ap (λ (l : List �
 -- ---- lists of them
 
 module _ {X : Type 0} (IsOne : X → Type 0) (field : X → List ℕ) (one : (x y : X) → IsOne x → IsOne y → field x ≡ field y → x ≡ y) where
-  -- what has these fields, and others after it, is told by them
+  -- they are told by their fields
   pub same_all : (xs ys : List X) → AllByRecursion IsOne xs → AllByRecursion IsOne ys → map field xs ≡ map field ys → xs ≡ ys
   same_all [] [] f g e = refl
   same_all [] (y ∷ ys) f g e = absurd (omega (arith, ap length e))
@@ -76,16 +73,6 @@ module _ {X : Type 0} (IsOne : X → Type 0) (field : X → List ℕ) (one : (x 
   same_all (x ∷ xs) (y ∷ ys) f g e =
       both x y xs ys (one x y f.0 g.0 (heads (field x) (field y) (map field xs) (map field ys) e))
       (same_all xs ys f.1 g.1 (tails (field x) (field y) (map field xs) (map field ys) e))
-
-  -- the first of them were read, and the fields that are left are those of the others
-  pub read_on : (read xs : List X) (rest : Fields) → AllByRecursion IsOne read → AllByRecursion IsOne xs → map field read ++ rest ≡ map field xs
-      → (more : List X) × (xs ≡ read ++ more) × (rest ≡ map field more)
-  read_on [] xs rest f g e = (xs, refl, e)
-  read_on (x ∷ read) [] rest f g e = absurd (omega (arith, ap length e))
-  read_on (x ∷ read) (y ∷ xs) rest f g e =
-      let first = one x y f.0 g.0 (heads (field x) (field y) (map field read ++ rest) (map field xs) e) in
-      let others = read_on read xs rest f.1 g.1 (tails (field x) (field y) (map field read ++ rest) (map field xs) e) in
-      (others.0, both y x xs (read ++ others.0) (sym first) others.1, others.2)
 
 -- the literals before a colon are told by the fields, and so is what stands after it
 pub same_parts : (xs ys : List Lit) (hs gs : Fields) → AllByRecursion IsLit xs → AllByRecursion IsLit ys → clause_fields xs ++ colon ∷ hs ≡ clause_fields ys ++ colon ∷ gs
