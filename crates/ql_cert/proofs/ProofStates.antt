@@ -1,5 +1,5 @@
 -- Proofs are read line by line.
-use Rattle.std.proofs.Common.{◌≡◌, inl, inr, ℕ, suc, Option, Some, None, ◌<◌, ◌^◌, ◌+◌, List, [], ◌∷◌, ◌++◌, map, length, arith, refl, ap, sym, subst, ◌∙◌, append_assoc, one-add}
+use Rattle.std.proofs.Common.{◌≡◌, inl, inr, ℕ, suc, Some, ◌<◌, ◌^◌, ◌+◌, List, [], ◌∷◌, ◌++◌, map, length, arith, refl, ap, sym, subst, ◌∙◌, append_assoc, one-add}
 use Rattle.std.specs.List.{AllByRecursion}
 use Rattle.std.proofs.lemmas.List.{append-nil, length-append, map-append}
 use Rattle.ql_cnf.specs.declared.lit.Lit.{Lit}

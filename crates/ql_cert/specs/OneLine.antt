@@ -1,5 +1,5 @@
 -- What a line makes of what was read before it is one thing, and so is what a file says that ends there.
-use Rattle.std.proofs.Common.{◌≡◌, inl, inr, ℕ, suc, Option, Some, None, get_or, ◌<◌, ◌^◌, List, [], ◌∷◌, Result, Ok, Err, nat_eq, if◌then◌else◌, length, decimal, drop, arith, refl, ap, ap₂, sym, ◌∙◌}
+use Rattle.std.proofs.Common.{◌≡◌, inl, inr, ℕ, Option, Some, get_or, ◌<◌, ◌^◌, List, [], ◌∷◌, Result, Ok, Err, nat_eq, if◌then◌else◌, length, decimal, drop, arith, refl, ap, ap₂, sym, ◌∙◌}
 use Rattle.std.specs.Prelude.{unwrap_or}
 use Rattle.ql_levels.specs.declared.level.Level.TheVariants.{Eventual, Causal, Wide, Strong}
 use Rattle.ql_levels.specs.declared.level.TxnLevel.TheVariants.{Rc, Mav, Rr}
@@ -12,7 +12,7 @@ use Rattle.ql_cert.specs.declared.cert_reader.Reading.{Reading}
 use Rattle.ql_cert.specs.declared.cert_reader.Reading.TheVariants.{Untitled, Within, Ended}
 use Rattle.ql_cert.specs.declared.fault.CertRule.{CertRule}
 use Rattle.ql_cert.specs.declared.fault.CertRule.TheVariants.{Unexpected, Number}
-use Rattle.ql_cert.specs.CertFile.{Opens, GoesOn, Ends, Takes, end_line, heading, kind_word, level_word, opened, with_line, with_last}
+use Rattle.ql_cert.specs.CertFile.{Opens, GoesOn, Takes, end_line, heading, kind_word, level_word, opened, with_line, with_last}
 use Rattle.ql_cert.specs.Faults.{Closes, Follows, Gives}
 use Rattle.ql_cert.specs.OneField.{no_number, same_line}
 use Rattle.ql_cert.specs.Spelling.{Fields, body_fields, line_fields}
