@@ -22,7 +22,7 @@ impl LineFormat for Format {
 
     ghost start = { λ f. [] };
 
-    ghost sound = { λ f stored. Unit {0} };
+    ghost sound = { λ f stored more. Unit {0} };
 
     ghost gives = { λ f stored l x. GivesLine stored l.text x };
 
@@ -53,15 +53,13 @@ impl LineFormat for Format {
         Ok(state)
     }
 
-    ghost starts_sound = { λ f. tt };
-
-    ghost stays_sound = { λ f s t l sound given. tt };
+    ghost stays_sound = { λ f s t l more sound given. tt };
 
     ghost gives_one = { λ f s l x y p q. gives_one s l.text x y p q };
 
-    ghost gives_some = { λ f s l sound none. gives_some s l.text none };
+    ghost gives_some = { λ f s l none. gives_some s l.text none };
 
     ghost closes_one = { λ f s end x y p q. closes_one s x y p q };
 
-    ghost closes_some = { λ f s end sound none. closes_some s none };
+    ghost closes_some = { λ f s end none. closes_some s none };
 }

@@ -1,59 +1,23 @@
--- a field spells one literal or one hint, and no literal is a colon
-use Rattle.std.proofs.Common.{◌≡◌, inl, inr, ℕ, Option, Some, None, get_or, ◌<◌, ◌≤◌, ◌^◌, Bool, true, false, List, [], ◌∷◌, ◌++◌, map, length, decimal, arith, refl, ap, sym, ◌∙◌}
+-- how literals are read from fields
+use Rattle.std.proofs.Common.{◌≡◌, inl, ℕ, Option, Some, None, ◌<◌, ◌≤◌, ◌^◌, Bool, true, false, List, [], ◌∷◌, ◌++◌, map, length, decimal, arith, refl, ap, sym, ◌∙◌}
 use Rattle.std.specs.List.{AllByRecursion}
 use Rattle.std.specs.Option.{option_map}
 use Rattle.ql_cert.specs.Readings.{IsRead}
-use Rattle.std.proofs.lemmas.Fmt.{decimal_injective}
 use Rattle.ql_cnf.specs.declared.lit.Lit.{Lit}
-use Rattle.ql_refute.specs.declared.refutation.Hint.{Hint}
-use Rattle.ql_refute.specs.declared.refutation.Hint.TheVariants.{Given, Earlier}
-use Rattle.ql_cert.specs.Spelling.{IsHint, IsLit, clause_fields, colon, hint_field, lit_field, signed_field}
-use Rattle.ql_cert.proofs.Conses.{both, heads, tails}
-use Rattle.ql_cert.proofs.Numerals.{no_number}
+use Rattle.ql_lines.proofs.Conses.{both, heads, tails}
+use Rattle.ql_cert.specs.OneField.{no_colon, no_number, one_literal}
+use Rattle.ql_cert.specs.Spelling.{Fields, IsLit, clause_fields, colon, lit_field, signed_field}
 
-module _ (v w : ℕ) (small : v < 2 ^ 32) (small' : w < 2 ^ 32) where
-  same_variable : (s t : Bool) → signed_field v s ≡ signed_field w t → v ≡ w
-  unfolding signed_field
-  same_variable true true e = decimal_injective v w (omega (arith, small)) (omega (arith, small')) e
-  same_variable false false e = decimal_injective v w (omega (arith, small)) (omega (arith, small')) (tails 45 45 (decimal v) (decimal w) e)
-  same_variable true false e = absurd (no_number v (omega (arith, small)) 45 (decimal w) (inl (omega arith)) e)
-  same_variable false true e = absurd (no_number w (omega (arith, small')) 45 (decimal v) (inl (omega arith)) (sym e))
-
-  same_sign : (s t : Bool) → signed_field v s ≡ signed_field w t → s ≡ t
-  unfolding signed_field
-  same_sign true true e = refl
-  same_sign false false e = refl
-  same_sign true false e = absurd (no_number v (omega (arith, small)) 45 (decimal w) (inl (omega arith)) e)
-  same_sign false true e = absurd (no_number w (omega (arith, small')) 45 (decimal v) (inl (omega arith)) (sym e))
-
-pub one_literal : (x y : Lit) → IsLit x → IsLit y → lit_field x ≡ lit_field y → x ≡ y
-one_literal x y f g e =
-    ap (λ v. record { var = v; positive = x.positive }) (same_variable x.var y.var f.1 g.1 x.positive y.positive e)
-    ∙ ap (λ s. record { var = y.var; positive = s }) (same_sign x.var y.var f.1 g.1 x.positive y.positive e)
-
-signed_no_colon : (v : ℕ) (s : Bool) → v < 2 ^ 32 → signed_field v s ≡ colon → ⊥
-unfolding signed_field
-signed_no_colon v true small e = no_number v (omega (arith, small)) 58 [] (inr (omega arith)) e
-signed_no_colon v false small e = omega (arith, heads 45 58 (decimal v) [] e)
-
-pub no_colon : (x : Lit) → IsLit x → lit_field x ≡ colon → ⊥
-no_colon x f e = signed_no_colon x.var x.positive f.1 e
-
-pub one_hint : (x y : Hint) → IsHint x → IsHint y → hint_field x ≡ hint_field y → x ≡ y
-unfolding hint_field IsHint
-one_hint (Given m) (Given n) f g e = ap Given (decimal_injective m n (omega (arith, f.1)) (omega (arith, g.1)) (tails 99 99 (decimal m) (decimal n) e))
-one_hint (Earlier m) (Earlier n) f g e = ap Earlier (decimal_injective m n f.1 g.1 (tails 108 108 (decimal m) (decimal n) e))
-one_hint (Given m) (Earlier n) f g e = absurd (omega (arith, ap (λ (l : List ℕ). get_or l 0 0) e))
-one_hint (Earlier m) (Given n) f g e = absurd (omega (arith, ap (λ (l : List ℕ). get_or l 0 0) e))
-
--- hints are told by their fields
-pub same_hints : (xs ys : List Hint) → AllByRecursion IsHint xs → AllByRecursion IsHint ys → map hint_field xs ≡ map hint_field ys → xs ≡ ys
-same_hints [] [] f g e = refl
-same_hints [] (y ∷ ys) f g e = absurd (omega (arith, ap length e))
-same_hints (x ∷ xs) [] f g e = absurd (omega (arith, ap length e))
-same_hints (x ∷ xs) (y ∷ ys) f g e =
-    both x y xs ys (one_hint x y f.0 g.0 (heads (hint_field x) (hint_field y) (map hint_field xs) (map hint_field ys) e))
-    (same_hints xs ys f.1 g.1 (tails (hint_field x) (hint_field y) (map hint_field xs) (map hint_field ys) e))
+module _ {X : Type 0} (IsOne : X → Type 0) (field : X → List ℕ) (one : (x y : X) → IsOne x → IsOne y → field x ≡ field y → x ≡ y) where
+  -- the first of them were read, and the fields that are left are those of the others
+  pub read_on : (read xs : List X) (rest : Fields) → AllByRecursion IsOne read → AllByRecursion IsOne xs → map field read ++ rest ≡ map field xs
+      → (more : List X) × (xs ≡ read ++ more) × (rest ≡ map field more)
+  read_on [] xs rest f g e = (xs, refl, e)
+  read_on (x ∷ read) [] rest f g e = absurd (omega (arith, ap length e))
+  read_on (x ∷ read) (y ∷ xs) rest f g e =
+      let first = one x y f.0 g.0 (heads (field x) (field y) (map field read ++ rest) (map field xs) e) in
+      let others = read_on read xs rest f.1 g.1 (tails (field x) (field y) (map field read ++ rest) (map field xs) e) in
+      (others.0, both y x xs (read ++ others.0) (sym first) others.1, others.2)
 
 -- literals that were read are the first of those that stand before a colon
 pub reads_on : (read xs : List Lit) (rest hints : List (List ℕ)) → AllByRecursion IsLit read → AllByRecursion IsLit xs

@@ -1,5 +1,3 @@
-mod Conses
-mod Numerals
 mod FieldLaws
 mod LineLaws
 pub mod Walking

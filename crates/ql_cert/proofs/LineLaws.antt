@@ -1,15 +1,14 @@
 -- what stands behind a line's number is read in one way
-use Rattle.std.proofs.Common.{◌≡◌, ℕ, suc, ◌-◌, None, get_or, ◌<◌, List, [], ◌∷◌, ◌++◌, map, length, arith, refl, ap, sym, subst, ◌∙◌, append_assoc}
+use Rattle.std.proofs.Common.{◌≡◌, ℕ, suc, ◌-◌, None, get_or, ◌<◌, List, [], ◌∷◌, ◌++◌, map, length, arith, ap, sym, subst, ◌∙◌, append_assoc}
 use Rattle.std.specs.List.{AllByRecursion}
-use Rattle.std.proofs.lemmas.List.{append-nil}
 use Rattle.ql_cnf.specs.declared.lit.Lit.{Lit}
 use Rattle.ql_cnf.specs.Literals.{AllAbove, IsAscending}
+use Rattle.ql_lines.proofs.Conses.{heads}
 use Rattle.ql_refute.specs.declared.refutation.Hint.{Hint}
-use Rattle.ql_refute.specs.declared.refutation.Line.{Line}
-use Rattle.ql_cert.specs.Spelling.{Fields, IsHint, IsLine, IsLit, body_fields, clause_fields, colon, hint_field, lit_field}
+use Rattle.ql_cert.specs.Spelling.{Fields, IsHint, IsLit, clause_fields, colon, hint_field, lit_field}
 use Rattle.ql_cert.specs.Readings.{IsClauseBefore, IsNext, IsRead, before_colon}
-use Rattle.ql_cert.proofs.Conses.{both, heads, tails}
-use Rattle.ql_cert.proofs.FieldLaws.{no_colon, one_hint, reads_on}
+use Rattle.ql_cert.specs.OneField.{one_hint}
+use Rattle.ql_cert.proofs.FieldLaws.{read_on, reads_on}
 
 -- of literals that are ascending the first ones are, and one more
 above_front : (n : ℕ) (xs ys : List Lit) → AllAbove n (xs ++ ys) → AllAbove n xs
@@ -77,47 +76,13 @@ last_is_below (x ∷ z ∷ zs) d y some h =
     let var : (get_or (x ∷ z ∷ zs) (length (x ∷ z ∷ zs) - 1) d).var ≡ (get_or (z ∷ zs) (length (z ∷ zs) - 1) d).var = ap (λ (l : Lit). l.var) last in
     omega (arith, rest, var)
 
--- hints that were read are the first of all
-hints_on : (read xs : List Hint) (rest : Fields) → AllByRecursion IsHint read → AllByRecursion IsHint xs → map hint_field read ++ rest ≡ map hint_field xs
-    → (more : List Hint) × (xs ≡ read ++ more) × (rest ≡ map hint_field more)
-hints_on [] xs rest f g e = (xs, refl, e)
-hints_on (x ∷ read) [] rest f g e = absurd (omega (arith, ap length e))
-hints_on (x ∷ read) (y ∷ xs) rest f g e =
-    let first = one_hint x y f.0 g.0 (heads (hint_field x) (hint_field y) (map hint_field read ++ rest) (map hint_field xs) e) in
-    let others = hints_on read xs rest f.1 g.1 (tails (hint_field x) (hint_field y) (map hint_field read ++ rest) (map hint_field xs) e) in
-    (others.0, both y x xs (read ++ others.0) (sym first) others.1, others.2)
-
 -- where the next field spells no hint, the fields spell no hints
 pub no_hints : (read : List Hint) (field : List ℕ) (fields all : Fields) → all ≡ map hint_field read ++ field ∷ fields → AllByRecursion IsHint read
     → IsRead IsHint hint_field field None → IsRead (AllByRecursion IsHint) (map hint_field) all None
 no_hints read field fields all e hints none = λ xs fits is.
-    let on = hints_on read xs (field ∷ fields) hints fits (sym e ∙ sym is) in
+    let on = read_on IsHint hint_field one_hint read xs (field ∷ fields) hints fits (sym e ∙ sym is) in
     let P : List Hint → Type 0 = λ more. xs ≡ read ++ more → field ∷ fields ≡ map hint_field more → ⊥ in
     elim on.0 as P [
       | [] ↦ λ p q. omega (arith, ap length q)
       | y ∷ ys ↦ λ p q. none y (all_last IsHint read y ys (subst (AllByRecursion IsHint) p fits)) (sym (heads field (hint_field y) fields (map hint_field ys) q))
-    ] on.1 on.2
-
--- a line's clause stands before the colon
-pub clause_behind : (clause : List Lit) (rest : Fields) (l : Line) → AllByRecursion IsLit clause → IsLine l → clause_fields clause ++ colon ∷ rest ≡ body_fields l → l.clause ≡ clause
-clause_behind clause rest l lits fits e =
-    let on = reads_on clause l.clause (colon ∷ rest) (map hint_field l.hints) lits fits.clause.lits e in
-    let P : List Lit → Type 0 = λ more. l.clause ≡ clause ++ more → colon ∷ rest ≡ clause_fields more ++ colon ∷ map hint_field l.hints → l.clause ≡ clause in
-    elim on.0 as P [
-      | [] ↦ λ p q. p ∙ append-nil clause
-      | y ∷ ys ↦ λ p q.
-          let lit : IsLit y = all_last IsLit clause y ys (subst (AllByRecursion IsLit) p fits.clause.lits) in
-          absurd (no_colon y lit (sym (heads colon (lit_field y) rest (clause_fields ys ++ colon ∷ map hint_field l.hints) q)))
-    ] on.1 on.2
-
--- a line's hints stand behind the colon that ends its clause
-pub hints_behind : (clause : List Lit) (rest : Fields) (l : Line) → AllByRecursion IsLit clause → IsLine l → clause_fields clause ++ colon ∷ rest ≡ body_fields l → rest ≡ map hint_field l.hints
-hints_behind clause rest l lits fits e =
-    let on = reads_on clause l.clause (colon ∷ rest) (map hint_field l.hints) lits fits.clause.lits e in
-    let P : List Lit → Type 0 = λ more. l.clause ≡ clause ++ more → colon ∷ rest ≡ clause_fields more ++ colon ∷ map hint_field l.hints → rest ≡ map hint_field l.hints in
-    elim on.0 as P [
-      | [] ↦ λ p q. tails colon colon rest (map hint_field l.hints) q
-      | y ∷ ys ↦ λ p q.
-          let lit : IsLit y = all_last IsLit clause y ys (subst (AllByRecursion IsLit) p fits.clause.lits) in
-          absurd (no_colon y lit (sym (heads colon (lit_field y) rest (clause_fields ys ++ colon ∷ map hint_field l.hints) q)))
     ] on.1 on.2

@@ -19,7 +19,7 @@ use Rattle.ql_cert.specs.declared.cert.SectionLevel.TheVariants.{Op, Txn}
 use Rattle.ql_cert.specs.declared.cert.Section.{Section}
 use Rattle.ql_cert.specs.Spelling.{IsHint, IsLine, IsLit, body_fields, clause_fields, colon, hint_field, line_fields, lit_field, numbered, signed_field}
 use Rattle.ql_cert.specs.Faults.{fields_in}
-use Rattle.ql_cert.proofs.Numerals.{first_digit}
+use Rattle.ql_cert.specs.OneField.{first_digit}
 use Rattle.ql_cert.specs.CertFile.{IsCertOf, IsSection, cert_lines, end_line, heading, kind_word, level_word, section_lines, sections_lines, title}
 
 -- bytes that end no field, told by their places

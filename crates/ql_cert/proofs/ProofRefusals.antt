@@ -1,30 +1,28 @@
 -- which lines may not follow what was read of a proof
-use Rattle.std.proofs.Common.{◌≡◌, inl, inr, ℕ, suc, Some, None, Vec, Global, ◌<◌, ◌≤◌, ◌^◌, List, [], ◌∷◌, ◌++◌, length, drop, decimal, arith, refl, ap, sym, subst, ◌∙◌, append_assoc}
+use Rattle.std.proofs.Common.{◌≡◌, inl, inr, ℕ, suc, Err, Some, None, ◌<◌, ◌≤◌, ◌^◌, List, [], ◌∷◌, ◌++◌, length, drop, decimal, arith, refl, ap, sym, subst, ◌∙◌, append_assoc}
 use Rattle.std.specs.Prelude.{codes}
 use Rattle.std.specs.List.{AllByRecursion}
 use Rattle.std.proofs.lemmas.Bool.{le-ltb, ne_eqb}
-use Rattle.std.proofs.lemmas.Fmt.{decimal_injective}
+use Rattle.std.proofs.lemmas.Fmt.{decimal_injective, decimal_is_IsNumeral}
 use Rattle.std.proofs.lemmas.List.{append-nil}
 use Rattle.std.proofs.lemmas.List.Elements.{All-cons, All-nil}
 use Rattle.ql_base.specs.Numbers.{Spells}
 use Rattle.ql_cnf.specs.declared.lit.Lit.{Lit}
 use Rattle.ql_cnf.specs.Literals.{AllAbove, IsAscending, clause_of, with_literal, with_literals}
 use Rattle.ql_cnf.specs.Satisfaction.{AreInRange, ClauseList, with_clause}
+use Rattle.ql_lines.proofs.Conses.{heads}
 use Rattle.ql_refute.specs.declared.refutation.Line.{Line}
-use Rattle.ql_cert.specs.declared.fault.LineFault.TheVariants.{Unexpected, Number}
+use Rattle.ql_cert.specs.declared.fault.CertRule.TheVariants.{Unexpected, Number}
 use Rattle.ql_cert.specs.declared.proof_reader.ProofReading.{ProofReading}
-use Rattle.ql_cert.specs.declared.proof_reader.ProofReading.TheVariants as reading
+use Rattle.ql_cert.specs.declared.proof_reader.ProofReading.TheVariants.{Unbegun, Within}
 use Rattle.ql_cert.specs.Spelling.{Fields, IsClause, IsLine, IsLit, body_fields, clause_fields, lit_field}
-use Rattle.ql_cert.specs.Faults.{IsRefusedBy}
+use Rattle.ql_cert.specs.Faults.{Follows, Gives}
 use Rattle.ql_cert.specs.CertFile.{end_line}
-use Rattle.ql_cert.specs.ProofFile.{GoesOn, IsGiven, ProofFollows, ProofState, ProofTakes, Ended, Unbegun, Within, most_variables, variables_line}
-use Rattle.ql_cert.specs.ProofReader.{proof_state_of}
+use Rattle.ql_cert.specs.ProofFile.{GoesOn, IsGiven, ProofTakes, most_variables, variables_line}
 use Rattle.ql_cert.specs.Readings.{IsNext, IsRead, two}
-use Rattle.ql_cert.proofs.Conses.{heads}
+use Rattle.ql_cert.specs.OneField.{no_number, one_literal, same_all}
+use Rattle.ql_cert.proofs.FieldLaws.{read_on}
 use Rattle.ql_cert.proofs.LineLaws.{all_last, ascending_front}
-use Rattle.ql_cert.proofs.Numerals.{no_empty, no_number}
-use Rattle.ql_cert.proofs.ProofStates.{IsLast, same_literals}
-use Rattle.ql_cert.proofs.FieldLaws.{one_literal}
 use Rattle.ql_cert.proofs.Refusals.{first}
 
 -- ---- ascending literals are their clause
@@ -59,20 +57,11 @@ range_of n (x ∷ c) lits within = All-cons (λ (x : Lit). (1 ≤ x.var) × (x.v
 
 -- ---- literals to the end of a line
 
-literals_on : (read xs : List Lit) (rest : Fields) → AllByRecursion IsLit read → AllByRecursion IsLit xs → clause_fields read ++ rest ≡ clause_fields xs
-    → (more : List Lit) × (xs ≡ read ++ more) × (rest ≡ clause_fields more)
-literals_on [] xs rest f g e = (xs, refl, e)
-literals_on (x ∷ read) [] rest f g e = absurd (omega (arith, ap length e))
-literals_on (x ∷ read) (y ∷ xs) rest f g e =
-    let same = one_literal x y f.0 g.0 (heads (lit_field x) (lit_field y) (clause_fields read ++ rest) (clause_fields xs) e) in
-    let others = literals_on read xs rest f.1 g.1 (ap (λ (l : Fields). drop 1 l) e) in
-    (others.0, ap (λ z. z ∷ xs) (sym same) ∙ ap (λ zs. x ∷ zs) others.1, others.2)
-
 -- where the next field spells no further literal, the fields spell no clause
 pub no_literals : (read : List Lit) (field : List ℕ) (fields all : Fields) → all ≡ clause_fields read ++ field ∷ fields → AllByRecursion IsLit read
     → IsRead (IsNext read) lit_field field None → IsRead IsClause clause_fields all None
 no_literals read field fields all e lits none = λ xs fits is.
-    let on = literals_on read xs (field ∷ fields) lits fits.lits (sym e ∙ sym is) in
+    let on = read_on IsLit lit_field one_literal read xs (field ∷ fields) lits fits.lits (sym e ∙ sym is) in
     let P : List Lit → Type 0 = λ more. xs ≡ read ++ more → field ∷ fields ≡ clause_fields more → ⊥ in
     elim on.0 as P [
       | [] ↦ λ p q. omega (arith, ap length q)
@@ -87,7 +76,7 @@ no_literals read field fields all e lits none = λ xs fits is.
 pub not_two : (fields : Fields) → ((x : List ℕ × List ℕ) → Unit {0} → two x ≡ fields → ⊥) → (n : ℕ) → n ≤ most_variables → variables_line n ≡ fields → ⊥
 not_two fields none n few e = none (codes "variables", decimal n) tt e
 
-pub not_begun : (line : Fields) → ((n : ℕ) → n ≤ most_variables → variables_line n ≡ line → ⊥) → IsRefusedBy (ProofFollows Unbegun) line Unexpected
+pub not_begun : (line : Fields) → ((n : ℕ) → n ≤ most_variables → variables_line n ≡ line → ⊥) → Gives ProofTakes Unbegun line (Err Unexpected)
 not_begun line none = (
   λ p. none p.1.variables p.1.few (sym p.1.is),
   λ m.
@@ -95,23 +84,26 @@ not_begun line none = (
       no_number m.other m.other_small 118 word (inr (omega arith)) (ap first m.goes_on.1.is),
 )
 
+pub no_empty : (n : ℕ) → n < 2 ^ 64 → decimal n ≡ [] → ⊥
+no_empty n small e = omega (arith, (decimal_is_IsNumeral n small).0.0, ap length e)
+
 -- ---- the lines behind it
 
 module _ (cs : ClauseList) (ls : List Line) where
-  no_form : (line : Fields) → (line ≡ end_line → ⊥) → (first line ≡ codes "c" → ⊥) → ((n : ℕ) → n < 2 ^ 64 → first line ≡ decimal n → ⊥) → ProofFollows (Within cs ls) line → ⊥
+  no_form : (line : Fields) → (line ≡ end_line → ⊥) → (first line ≡ codes "c" → ⊥) → ((n : ℕ) → n < 2 ^ 64 → first line ≡ decimal n → ⊥) → Follows ProofTakes (Within cs ls) line → ⊥
   no_form line no_end no_given no_num (after, inl p) = no_given (ap first p.is)
   no_form line no_end no_given no_num (after, inr (inl p)) = no_num (suc (length ls)) p.few (ap first p.is)
   no_form line no_end no_given no_num (after, inr (inr p)) = no_end p.is
 
   -- a line that isn't the last and begins with neither `c` nor a number
   pub no_number_first : (field : List ℕ) (rest line : Fields) → line ≡ field ∷ rest → (line ≡ end_line → ⊥) → (field ≡ codes "c" → ⊥) → ((n : ℕ) → ¬ Spells 18446744073709551615 n field)
-      → IsRefusedBy (ProofFollows (Within cs ls)) line Unexpected
+      → Gives ProofTakes (Within cs ls) line (Err Unexpected)
   no_number_first field rest line is no_end no_given none =
       let no_num : (n : ℕ) → n < 2 ^ 64 → first line ≡ decimal n → ⊥ = λ n small e. none n (record { bounded = omega (arith, small); spelled = sym e ∙ ap first is }) in
       (no_form line no_end (λ e. no_given (sym (ap first is) ∙ e)) no_num, λ m. no_num m.number m.small (ap first m.is))
 
   -- a line of no field
-  pub nothing : (line : Fields) → line ≡ [] → IsRefusedBy (ProofFollows (Within cs ls)) line Unexpected
+  pub nothing : (line : Fields) → line ≡ [] → Gives ProofTakes (Within cs ls) line (Err Unexpected)
   nothing line is = (
     no_form line (λ e. omega (arith, ap length (sym is ∙ e))) (λ e. omega (arith, ap length (sym (ap first is) ∙ e))) (λ n small e. no_empty n small (sym e ∙ ap first is)),
     λ m. omega (arith, ap length (sym is ∙ m.is)),
@@ -121,21 +113,21 @@ module _ (cs : ClauseList) (ls : List Line) where
   given_no_number n small e = no_number n small 99 [] (inr (omega arith)) (sym e)
 
   -- a line that begins with `c` and isn't a clause that may stand here
-  pub not_given : (body : Fields) → ((c : List Lit) → ls ≡ [] → IsGiven cs.variables c → clause_fields c ≡ body → ⊥) → IsRefusedBy (ProofFollows (Within cs ls)) (codes "c" ∷ body) Unexpected
+  pub not_given : (body : Fields) → ((c : List Lit) → ls ≡ [] → IsGiven cs.variables c → clause_fields c ≡ body → ⊥) → Gives ProofTakes (Within cs ls) (codes "c" ∷ body) (Err Unexpected)
   not_given body none = (follows, λ m. given_no_number m.number m.small (ap first m.is)) where
-    follows : ProofFollows (Within cs ls) (codes "c" ∷ body) → ⊥
+    follows : Follows ProofTakes (Within cs ls) (codes "c" ∷ body) → ⊥
     follows (after, inl p) = none p.clause p.before_lines p.fits (sym (ap (λ (f : Fields). drop 1 f) p.is))
     follows (after, inr (inl p)) = given_no_number (suc (length ls)) p.few (ap first p.is)
     follows (after, inr (inr p)) = omega (arith, ap (λ (f : Fields). length (first f)) p.is)
 
   -- a numbered line goes on as one of the refutation's alone
-  goes_on_alone : (n : ℕ) (body : Fields) → n < 2 ^ 64 → ProofFollows (Within cs ls) (decimal n ∷ body) → (after : ProofState) × GoesOn cs ls (decimal n ∷ body) after
+  goes_on_alone : (n : ℕ) (body : Fields) → n < 2 ^ 64 → Follows ProofTakes (Within cs ls) (decimal n ∷ body) → (after : ProofReading) × GoesOn cs ls (decimal n ∷ body) after
   goes_on_alone n body small (after, inl p) = absurd (given_no_number n small (sym (ap first p.is)))
   goes_on_alone n body small (after, inr (inl p)) = (after, p)
   goes_on_alone n body small (after, inr (inr p)) = absurd (no_number n small 101 (110 ∷ 100 ∷ []) (inr (omega arith)) (ap first p.is))
 
   -- a numbered line whose body is none
-  pub no_body : (n : ℕ) (body : Fields) → n < 2 ^ 64 → ((l : Line) → IsLine l → body_fields l ≡ body → ⊥) → IsRefusedBy (ProofFollows (Within cs ls)) (decimal n ∷ body) Unexpected
+  pub no_body : (n : ℕ) (body : Fields) → n < 2 ^ 64 → ((l : Line) → IsLine l → body_fields l ≡ body → ⊥) → Gives ProofTakes (Within cs ls) (decimal n ∷ body) (Err Unexpected)
   no_body n body small none = (
     λ p. let g = goes_on_alone n body small p in none g.1.next g.1.fits (ap (λ (f : Fields). drop 1 f) (sym g.1.is)),
     λ m.
@@ -144,7 +136,7 @@ module _ (cs : ClauseList) (ls : List Line) where
   )
 
   -- a line that only has another number
-  pub misnumbered_line : (l : Line) (n : ℕ) → n < 2 ^ 64 → IsLine l → suc (length ls) < 2 ^ 64 → (n ≡ suc (length ls) → ⊥) → IsRefusedBy (ProofFollows (Within cs ls)) (decimal n ∷ body_fields l) Number
+  pub misnumbered_line : (l : Line) (n : ℕ) → n < 2 ^ 64 → IsLine l → suc (length ls) < 2 ^ 64 → (n ≡ suc (length ls) → ⊥) → Gives ProofTakes (Within cs ls) (decimal n ∷ body_fields l) (Err Number)
   misnumbered_line l n small fits few other = (
     λ p. let g = goes_on_alone n (body_fields l) small p in other (decimal_injective n (suc (length ls)) small g.1.few (ap first g.1.is)),
     record {
@@ -158,31 +150,18 @@ module _ (cs : ClauseList) (ls : List Line) where
     },
   )
 
--- ---- the end
-
-tag : ProofState → ℕ
-tag Unbegun = 0
-tag (Within cs ls) = 0
-tag (Ended cs ls) = 1
-
-pub not_at_end : (r : ProofReading) → ((cs : ClauseList) (ls : Vec Line Global) → r ≡ reading.Ended cs ls → ⊥) → IsLast (proof_state_of r) → ⊥
-unfolding tag
-not_at_end reading.Unbegun none last = omega (arith, ap tag last.2)
-not_at_end (reading.Within cs ls) none last = omega (arith, ap tag last.2)
-not_at_end (reading.Ended cs ls) none last = none cs ls refl
-
 -- ---- a clause that was read
 
 module _ (cs : ClauseList) (ls : List Line) (body : Fields) where
-  pub given_after_lines : (ls ≡ [] → ⊥) → IsRefusedBy (ProofFollows (Within cs ls)) (codes "c" ∷ body) Unexpected
+  pub given_after_lines : (ls ≡ [] → ⊥) → Gives ProofTakes (Within cs ls) (codes "c" ∷ body) (Err Unexpected)
   given_after_lines some = not_given cs ls body (λ c none fits is. some none)
 
-  pub no_clause_given : IsRead IsClause clause_fields body None → IsRefusedBy (ProofFollows (Within cs ls)) (codes "c" ∷ body) Unexpected
+  pub no_clause_given : IsRead IsClause clause_fields body None → Gives ProofTakes (Within cs ls) (codes "c" ∷ body) (Err Unexpected)
   no_clause_given none = not_given cs ls body (λ c empty fits is. none c fits.clause is)
 
-  pub given_out_of_range : (read : List Lit) → IsClause read → clause_fields read ≡ body → (AreInRange cs.variables read → ⊥) → IsRefusedBy (ProofFollows (Within cs ls)) (codes "c" ∷ body) Unexpected
+  pub given_out_of_range : (read : List Lit) → IsClause read → clause_fields read ≡ body → (AreInRange cs.variables read → ⊥) → Gives ProofTakes (Within cs ls) (codes "c" ∷ body) (Err Unexpected)
   given_out_of_range read fits is other = not_given cs ls body (λ c empty given same.
-      let one : c ≡ read = same_literals c read given.clause.lits fits.lits (same ∙ sym is) in
+      let one : c ≡ read = same_all IsLit lit_field one_literal c read given.clause.lits fits.lits (same ∙ sym is) in
       other (subst (AreInRange cs.variables) one (range_of cs.variables c given.clause.lits given.within)))
 
   pub gives : (read : List Lit) → ls ≡ [] → IsClause read → clause_fields read ≡ body → AreInRange cs.variables read → (after : ClauseList)

@@ -1,75 +1,33 @@
 -- Proofs are read line by line.
-use Rattle.std.proofs.Common.{◌≡◌, inl, inr, ℕ, suc, ◌<◌, ◌^◌, ◌+◌, List, [], ◌∷◌, ◌++◌, map, length, get_or, drop, arith, refl, ap, sym, subst, ◌∙◌, append_assoc, one-add}
+use Rattle.std.proofs.Common.{◌≡◌, inl, inr, ℕ, suc, Some, ◌<◌, ◌^◌, ◌+◌, List, [], ◌∷◌, ◌++◌, map, length, arith, refl, ap, sym, subst, ◌∙◌, append_assoc, one-add}
 use Rattle.std.specs.List.{AllByRecursion}
-use Rattle.std.proofs.lemmas.Fmt.{decimal_injective}
 use Rattle.std.proofs.lemmas.List.{append-nil, length-append, map-append}
 use Rattle.ql_cnf.specs.declared.lit.Lit.{Lit}
 use Rattle.ql_cnf.specs.Satisfaction.{ClauseList}
 use Rattle.ql_refute.specs.declared.refutation.Line.{Line}
-use Rattle.ql_cert.specs.Spelling.{Fields, IsLine, IsLit, body_fields, clause_fields, line_fields, lit_field, numbered}
+use Rattle.ql_cert.specs.declared.proof_reader.ProofReading.{ProofReading}
+use Rattle.ql_cert.specs.declared.proof_reader.ProofReading.TheVariants.{Unbegun, Within, Ended}
+use Rattle.ql_cert.specs.Spelling.{Fields, IsLine, line_fields, numbered}
 use Rattle.ql_cert.specs.Faults as faults
 use Rattle.ql_cert.specs.CertFile.{end_line}
-use Rattle.ql_cert.specs.ProofFile.{Begins, Ends, FitsProof, Gives, GoesOn, IsGiven, IsProofFile, IsProofState, ProofState, ProofTakes, Ended, Unbegun, Within, given_line, no_clauses, proof_lines, proof_so_far, variables_line, with_given}
-use Rattle.ql_cert.proofs.Conses.{both, heads, tails}
-use Rattle.ql_cert.proofs.FieldLaws.{one_literal}
+use Rattle.ql_cert.specs.OneProofLine.{one_after}
+use Rattle.ql_cert.specs.ProofFile.{Begins, Ends, FitsProof, Gives, GoesOn, IsGiven, IsProofFile, IsProofOf, ProofTakes, given_line, no_clauses, proof_lines, proof_said, variables_line, with_given}
 use Rattle.ql_cert.proofs.FirstFaults.{IsReader}
 use Rattle.ql_cert.proofs.LineLaws.{all_more}
-use Rattle.ql_cert.proofs.Numerals.{no_number}
 use Rattle.ql_cert.proofs.States.{numbered_more}
 use Rattle.ql_cert.proofs.Walking.{Walks, joined}
-use Rattle.ql_cert.proofs.Walks.{end_no_line, same_line}
 
--- ---- a line is of one form
+-- the lines that were read
+abbrev pub proof_so_far : ProofReading → List Fields
+proof_so_far Unbegun = []
+proof_so_far (Within cs ls) = variables_line cs.variables ∷ (map given_line cs.clauses ++ numbered 1 ls)
+proof_so_far (Ended cs ls) = proof_lines cs ls
 
--- literals are told by their fields
-pub same_literals : (xs ys : List Lit) → AllByRecursion IsLit xs → AllByRecursion IsLit ys → clause_fields xs ≡ clause_fields ys → xs ≡ ys
-same_literals [] [] f g e = refl
-same_literals [] (y ∷ ys) f g e = absurd (omega (arith, ap length e))
-same_literals (x ∷ xs) [] f g e = absurd (omega (arith, ap length e))
-same_literals (x ∷ xs) (y ∷ ys) f g e =
-    both x y xs ys (one_literal x y f.0 g.0 (heads (lit_field x) (lit_field y) (clause_fields xs) (clause_fields ys) e))
-    (same_literals xs ys f.1 g.1 (tails (lit_field x) (lit_field y) (clause_fields xs) (clause_fields ys) e))
-
--- a clause is no numbered line
-given_no_line : (c : List Lit) (number : ℕ) (next : Line) → number < 2 ^ 64 → given_line c ≡ line_fields number next → ⊥
-given_no_line c number next small e = no_number number small 99 [] (inr (omega arith)) (sym (ap (λ (f : Fields). get_or f 0 []) e))
-
--- nor the last line
-given_no_end : (c : List Lit) → given_line c ≡ end_line → ⊥
-given_no_end c e = omega (arith, ap (λ (f : Fields). length (get_or f 0 [])) e)
-
-module _ (cs : ClauseList) (ls : List Line) where
-  one_given : (line : Fields) (a b : ProofState) → Gives cs ls line a → Gives cs ls line b → a ≡ b
-  one_given line a b p q =
-      let same : p.clause ≡ q.clause = same_literals p.clause q.clause p.fits.clause.lits q.fits.clause.lits (ap (λ (f : Fields). drop 1 f) (sym p.is ∙ q.is)) in
-      p.to ∙ ap (λ c. Within (with_given cs c) ls) same ∙ sym q.to
-
-  one_step : (line : Fields) (a b : ProofState) → GoesOn cs ls line a → GoesOn cs ls line b → a ≡ b
-  one_step line a b p q =
-      let same : body_fields p.next ≡ body_fields q.next = ap (λ (f : Fields). drop 1 f) (sym p.is ∙ q.is) in
-      p.to ∙ ap (λ l. Within cs (ls ++ l ∷ [])) (same_line p.next q.next p.fits q.fits same) ∙ sym q.to
-
-  one_way : (line : Fields) (a b : ProofState) → ProofTakes (Within cs ls) line a → ProofTakes (Within cs ls) line b → a ≡ b
-  one_way line a b (inl p) (inl q) = one_given line a b p q
-  one_way line a b (inr (inl p)) (inr (inl q)) = one_step line a b p q
-  one_way line a b (inr (inr p)) (inr (inr q)) = p.to ∙ sym q.to
-  one_way line a b (inl p) (inr (inl q)) = absurd (given_no_line p.clause _ q.next q.few (sym p.is ∙ q.is))
-  one_way line a b (inr (inl p)) (inl q) = absurd (given_no_line q.clause _ p.next p.few (sym q.is ∙ p.is))
-  one_way line a b (inl p) (inr (inr q)) = absurd (given_no_end p.clause (sym p.is ∙ q.is))
-  one_way line a b (inr (inr p)) (inl q) = absurd (given_no_end q.clause (sym q.is ∙ p.is))
-  one_way line a b (inr (inl p)) (inr (inr q)) = absurd (end_no_line _ p.next p.few (sym q.is ∙ p.is))
-  one_way line a b (inr (inr p)) (inr (inl q)) = absurd (end_no_line _ q.next q.few (sym p.is ∙ q.is))
-
-one_beginning : (line : Fields) (a b : ProofState) → Begins line a → Begins line b → a ≡ b
-one_beginning line a b p q =
-    let same : p.variables ≡ q.variables =
-    decimal_injective p.variables q.variables (omega (arith, p.few)) (omega (arith, q.few)) (ap (λ (f : Fields). get_or f 1 []) (sym p.is ∙ q.is)) in
-    p.to ∙ ap (λ n. Within (no_clauses n) []) same ∙ sym q.to
-
-one_after : (s : ProofState) (line : Fields) (a b : ProofState) → ProofTakes s line a → ProofTakes s line b → a ≡ b
-one_after Unbegun line a b p q = one_beginning line a b p q
-one_after (Within cs ls) line a b p q = one_way cs ls line a b p q
-one_after (Ended cs ls) line a b p q = absurd p
+-- what is read has a spelling
+abbrev pub IsProofState : ProofReading → Type 0
+IsProofState Unbegun = Unit {0}
+IsProofState (Within cs ls) = FitsProof cs ls
+IsProofState (Ended cs ls) = FitsProof cs ls
 
 -- ---- a line that is taken stands behind the lines before it
 
@@ -94,14 +52,14 @@ begin_more : (n : ℕ) → proof_so_far (Within (no_clauses n) []) ≡ variables
 unfolding numbered
 begin_more n = refl
 
-takes_on : (s : ProofState) (line : Fields) (t : ProofState) → IsProofState s → ProofTakes s line t → proof_so_far t ≡ proof_so_far s ++ line ∷ []
+takes_on : (s : ProofReading) (line : Fields) (t : ProofReading) → IsProofState s → ProofTakes s line t → proof_so_far t ≡ proof_so_far s ++ line ∷ []
 takes_on Unbegun line t is p = ap proof_so_far p.to ∙ begin_more p.variables ∙ ap (λ f. f ∷ []) (sym p.is)
 takes_on (Within cs ls) line t is (inl p) = ap proof_so_far p.to ∙ given_more cs ls p.clause p.before_lines ∙ ap (λ f. proof_so_far (Within cs ls) ++ f ∷ []) (sym p.is)
 takes_on (Within cs ls) line t is (inr (inl p)) = ap proof_so_far p.to ∙ line_more cs ls p.next ∙ ap (λ f. proof_so_far (Within cs ls) ++ f ∷ []) (sym p.is)
 takes_on (Within cs ls) line t is (inr (inr p)) = ap proof_so_far p.to ∙ end_more cs ls ∙ ap (λ f. proof_so_far (Within cs ls) ++ f ∷ []) (sym p.is)
 takes_on (Ended cs ls) line t is p = absurd p
 
-stays_state : (s : ProofState) (line : Fields) (t : ProofState) → IsProofState s → ProofTakes s line t → IsProofState t
+stays_state : (s : ProofReading) (line : Fields) (t : ProofReading) → IsProofState s → ProofTakes s line t → IsProofState t
 stays_state Unbegun line t is p = subst IsProofState (sym p.to) (record { variables = p.few; clauses = tt; lines = tt; few = omega arith })
 stays_state (Within cs ls) line t is (inl p) =
     subst IsProofState (sym p.to) (record { variables = is.variables; clauses = all_more (IsGiven cs.variables) cs.clauses p.clause is.clauses p.fits; lines = is.lines; few = is.few })
@@ -110,7 +68,7 @@ stays_state (Within cs ls) line t is (inr (inl p)) =
 stays_state (Within cs ls) line t is (inr (inr p)) = subst IsProofState (sym p.to) is
 stays_state (Ended cs ls) line t is p = absurd p
 
-begins : (s : ProofState) → IsProofState s → faults.Begins IsProofFile (proof_so_far s)
+begins : (s : ProofReading) → IsProofState s → faults.Begins IsProofFile (proof_so_far s)
 begins Unbegun is = (proof_lines (no_clauses 0) [], (no_clauses 0, [], record { fits = record { variables = omega arith; clauses = tt; lines = tt; few = omega arith }; are = refl }))
 begins (Within cs ls) is = (end_line ∷ [], (cs, ls, record { fits = is; are = sym (end_more cs ls) }))
 begins (Ended cs ls) is = ([], (cs, ls, record { fits = is; are = append-nil (proof_lines cs ls) }))
@@ -161,21 +119,22 @@ ended_walk cs ls fits =
     subst (λ fs. Walks ProofTakes Unbegun fs (Ended cs ls)) (sym (end_more cs ls))
     (joined ProofTakes (proof_so_far (Within cs ls)) (end_line ∷ []) Unbegun (Within cs ls) (Ended cs ls) (within_walk cs ls fits) (Ended cs ls, inr (inr last), refl))
 
-state_walk : (s : ProofState) → IsProofState s → Walks ProofTakes Unbegun (proof_so_far s) s
-unfolding Walks
-state_walk Unbegun is = refl
-state_walk (Within cs ls) is = within_walk cs ls is
-state_walk (Ended cs ls) is = ended_walk cs ls is
+ends : (s : ProofReading) (p : ClauseList × List Line) → IsProofState s → proof_said s ≡ Some p → IsProofOf p.0 p.1 (proof_so_far s)
+ends Unbegun p is e = absurd cc
+ends (Within cs ls) p is e = absurd cc
+ends (Ended cs ls) p is e =
+    let same : ◌≡◌ {A = ClauseList × List Line} (cs, ls) p = cc in
+    subst (λ (q : ClauseList × List Line). IsProofOf q.0 q.1 (proof_lines cs ls)) same (record { fits = is; are = refl })
 
-abbrev pub IsLast : ProofState → Type 0
-IsLast s = (cs : ClauseList) × (ls : List Line) × (s ≡ Ended cs ls)
-
-pub proof_reader : IsReader Unbegun ProofTakes IsProofFile proof_so_far IsProofState IsLast
+pub proof_reader : IsReader Unbegun ProofTakes proof_said IsProofFile (λ p fs. IsProofOf p.0 p.1 fs) proof_so_far IsProofState
 proof_reader = record {
   one = one_after;
+  starts = (refl, tt);
   takes = takes_on;
   stays = stays_state;
   begins = begins;
-  walk = state_walk;
-  file_walk = λ fs file. (Ended file.0 file.1, subst (λ gs. Walks ProofTakes Unbegun gs (Ended file.0 file.1)) (sym file.2.are) (ended_walk file.0 file.1 file.2.fits), (file.0, file.1, refl));
+  ends = ends;
+  walk = λ p fs h. (Ended p.0 p.1, subst (λ gs. Walks ProofTakes Unbegun gs (Ended p.0 p.1)) (sym h.are) (ended_walk p.0 p.1 h.fits), refl);
+  is_file = λ p fs h. (p.0, p.1, h);
+  file_of = λ fs h. ((h.0, h.1), h.2);
 }

@@ -1,5 +1,5 @@
 -- which lines may not follow what was read of a certificate
-use Rattle.std.proofs.Common.{◌≡◌, inl, inr, ℕ, suc, Option, Some, None, get_or, unwrap_or, ◌<◌, ◌^◌, List, [], ◌∷◌, length, drop, decimal, arith, refl, ap, sym, subst, ◌∙◌}
+use Rattle.std.proofs.Common.{◌≡◌, inl, inr, ℕ, suc, Err, Option, Some, None, get_or, unwrap_or, ◌<◌, ◌^◌, List, [], ◌∷◌, length, drop, decimal, arith, refl, ap, sym, subst, ◌∙◌}
 use Rattle.std.specs.Prelude.{codes}
 use Rattle.std.proofs.lemmas.Fmt.{decimal_injective}
 use Rattle.ql_base.specs.Names.{IsName}
@@ -11,13 +11,15 @@ use Rattle.ql_refute.specs.declared.refutation.Line.{Line}
 use Rattle.ql_cert.specs.declared.cert.SectionLevel.{SectionLevel}
 use Rattle.ql_cert.specs.declared.cert.SectionLevel.TheVariants.{Op, Txn}
 use Rattle.ql_cert.specs.declared.cert.Section.{Section}
-use Rattle.ql_cert.specs.declared.fault.LineFault.TheVariants.{Unexpected, Number}
+use Rattle.ql_cert.specs.declared.fault.CertRule.TheVariants.{Unexpected, Number}
 use Rattle.ql_cert.specs.Spelling.{Fields, IsLine, body_fields}
-use Rattle.ql_cert.specs.Faults.{IsRefusedBy}
-use Rattle.ql_cert.specs.CertFile.{State, Untitled, Within, GoesOn, Follows, end_line, heading, kind_word, level_word, title, with_line}
+use Rattle.ql_cert.specs.Faults.{Follows, Gives}
+use Rattle.ql_cert.specs.declared.cert_reader.Reading.{Reading}
+use Rattle.ql_cert.specs.declared.cert_reader.Reading.TheVariants.{Untitled, Within}
+use Rattle.ql_cert.specs.CertFile.{GoesOn, Takes, end_line, heading, kind_word, level_word, title, with_line}
 use Rattle.ql_cert.specs.Readings.{IsLevelRead, three}
-use Rattle.ql_cert.proofs.Numerals.{no_number}
-use Rattle.ql_cert.proofs.Walks.{kind_no_number}
+use Rattle.ql_cert.specs.OneField.{no_number}
+use Rattle.ql_cert.specs.OneLine.{kind_no_number}
 
 -- the first field of a line
 abbrev pub first : Fields → List ℕ
@@ -55,30 +57,30 @@ not_three fields none name level e = none (kind_word level, name, level_word lev
 title_no_number : (n : ℕ) (body : Fields) → n < 2 ^ 64 → decimal n ∷ body ≡ title → ⊥
 title_no_number n body small e = no_number n small 113 (117 ∷ 101 ∷ 108 ∷ 101 ∷ 97 ∷ []) (inr (omega arith)) (ap first e)
 
-pub not_titled : (line : Fields) → (line ≡ title → ⊥) → IsRefusedBy (Follows Untitled) line Unexpected
+pub not_titled : (line : Fields) → (line ≡ title → ⊥) → Gives Takes Untitled line (Err Unexpected)
 not_titled line none = (λ p. none p.1.0, λ m. title_no_number m.other m.body m.other_small m.goes_on.1.0)
 
 -- ---- behind sections
 
 module _ (done : List Section) (last : Option Section) where
   no_form : (line : Fields) → ((name : List ℕ) (level : SectionLevel) → IsName name → heading name level ≡ line → ⊥) → (line ≡ end_line → ⊥)
-      → ((n : ℕ) → n < 2 ^ 64 → first line ≡ decimal n → ⊥) → Follows (Within done last) line → ⊥
+      → ((n : ℕ) → n < 2 ^ 64 → first line ≡ decimal n → ⊥) → Follows Takes (Within done last) line → ⊥
   no_form line no_heading no_end no_num (after, inl p) = no_heading p.name p.level p.is_name (sym p.is)
   no_form line no_heading no_end no_num (after, inr (inl p)) = no_num (suc (length p.section.refutation.lines)) p.few (ap first p.is)
   no_form line no_heading no_end no_num (after, inr (inr p)) = no_end p.is
 
   -- a line that is no heading, not the last one and begins with no number
   pub unexpected_form : (line : Fields) → ((name : List ℕ) (level : SectionLevel) → IsName name → heading name level ≡ line → ⊥) → (line ≡ end_line → ⊥)
-      → ((n : ℕ) → n < 2 ^ 64 → first line ≡ decimal n → ⊥) → IsRefusedBy (Follows (Within done last)) line Unexpected
+      → ((n : ℕ) → n < 2 ^ 64 → first line ≡ decimal n → ⊥) → Gives Takes (Within done last) line (Err Unexpected)
   unexpected_form line no_heading no_end no_num = (no_form line no_heading no_end no_num, λ m. no_num m.number m.small (ap first m.is))
 
   -- a numbered line goes on as one of the last section's lines alone
-  goes_on_alone : (n : ℕ) (body : Fields) → n < 2 ^ 64 → Follows (Within done last) (decimal n ∷ body) → (after : State) × GoesOn done last (decimal n ∷ body) after
+  goes_on_alone : (n : ℕ) (body : Fields) → n < 2 ^ 64 → Follows Takes (Within done last) (decimal n ∷ body) → (after : Reading) × GoesOn done last (decimal n ∷ body) after
   goes_on_alone n body small (after, inl p) = absurd (kind_no_number p.level n small (sym (ap first p.is)))
   goes_on_alone n body small (after, inr (inl p)) = (after, p)
   goes_on_alone n body small (after, inr (inr p)) = absurd (no_number n small 101 (110 ∷ 100 ∷ []) (inr (omega arith)) (ap first p.is))
 
-  pub unexpected_line : (n : ℕ) (body : Fields) → n < 2 ^ 64 → ((m : ℕ) (after : State) → GoesOn done last (decimal m ∷ body) after → ⊥) → IsRefusedBy (Follows (Within done last)) (decimal n ∷ body) Unexpected
+  pub unexpected_line : (n : ℕ) (body : Fields) → n < 2 ^ 64 → ((m : ℕ) (after : Reading) → GoesOn done last (decimal m ∷ body) after → ⊥) → Gives Takes (Within done last) (decimal n ∷ body) (Err Unexpected)
   unexpected_line n body small none = (
     λ p. let g = goes_on_alone n body small p in none n g.0 g.1,
     λ m.
@@ -88,7 +90,7 @@ module _ (done : List Section) (last : Option Section) where
   )
 
   pub misnumbered_line : (s : Section) (l : Line) (n : ℕ) → n < 2 ^ 64 → last ≡ Some s → IsLine l → suc (length s.refutation.lines) < 2 ^ 64 → (n ≡ suc (length s.refutation.lines) → ⊥)
-      → IsRefusedBy (Follows (Within done last)) (decimal n ∷ body_fields l) Number
+      → Gives Takes (Within done last) (decimal n ∷ body_fields l) (Err Number)
   misnumbered_line s l n small in_it fits few other = (
     λ p.
         let g = goes_on_alone n (body_fields l) small p in
@@ -108,15 +110,15 @@ module _ (done : List Section) (last : Option Section) where
   )
 
   -- a numbered line without a section
-  pub no_section : (n : ℕ) (body : Fields) → n < 2 ^ 64 → last ≡ None → IsRefusedBy (Follows (Within done last)) (decimal n ∷ body) Unexpected
+  pub no_section : (n : ℕ) (body : Fields) → n < 2 ^ 64 → last ≡ None → Gives Takes (Within done last) (decimal n ∷ body) (Err Unexpected)
   no_section n body small none = unexpected_line n body small (λ m after g. none_some g.section (sym none ∙ g.in_it))
 
   -- a numbered line whose body is none
-  pub no_body : (n : ℕ) (body : Fields) → n < 2 ^ 64 → ((l : Line) → IsLine l → body_fields l ≡ body → ⊥) → IsRefusedBy (Follows (Within done last)) (decimal n ∷ body) Unexpected
+  pub no_body : (n : ℕ) (body : Fields) → n < 2 ^ 64 → ((l : Line) → IsLine l → body_fields l ≡ body → ⊥) → Gives Takes (Within done last) (decimal n ∷ body) (Err Unexpected)
   no_body n body small none = unexpected_line n body small (λ m after g. none g.next g.fits (ap (λ (f : Fields). drop 1 f) (sym g.is)))
 
   -- a line that begins with no number
   pub no_number_first : (field : List ℕ) (rest line : Fields) → line ≡ field ∷ rest → ((name : List ℕ) (level : SectionLevel) → IsName name → heading name level ≡ line → ⊥) → (line ≡ end_line → ⊥)
-      → ((n : ℕ) → ¬ Spells 18446744073709551615 n field) → IsRefusedBy (Follows (Within done last)) line Unexpected
+      → ((n : ℕ) → ¬ Spells 18446744073709551615 n field) → Gives Takes (Within done last) line (Err Unexpected)
   no_number_first field rest line is no_heading no_end none =
       unexpected_form line no_heading no_end (λ n small e. none n (record { bounded = omega (arith, small); spelled = sym e ∙ ap first is }))

@@ -1,5 +1,5 @@
--- What was read of a certificate tells which lines may follow, and where the first fault is.
-use Rattle.std.proofs.Common.{◌≡◌, inl, inr, ℕ, suc, Option, Some, Vec, Global, ◌<◌, ◌^◌, ◌+◌, List, [], ◌∷◌, ◌++◌, length, arith, refl, ap, sym, subst, ◌∙◌, append_assoc, one-add}
+-- Certificates are read line by line.
+use Rattle.std.proofs.Common.{◌≡◌, inl, inr, ℕ, suc, Option, Some, ◌<◌, ◌^◌, ◌+◌, List, [], ◌∷◌, ◌++◌, length, arith, refl, ap, sym, subst, ◌∙◌, append_assoc, one-add}
 use Rattle.std.specs.List.{AllByRecursion}
 use Rattle.std.proofs.lemmas.List.{append-nil, length-append}
 use Rattle.ql_refute.specs.declared.refutation.Line.{Line}
@@ -7,14 +7,26 @@ use Rattle.ql_cert.specs.declared.cert.Section.{Section}
 use Rattle.ql_cert.specs.declared.cert.SectionLevel.{SectionLevel}
 use Rattle.ql_cert.specs.Spelling.{Fields, IsLine, line_fields, numbered}
 use Rattle.ql_cert.specs.Faults.{Begins}
-use Rattle.ql_cert.specs.CertFile.{State, Untitled, Within, Ended, Takes, IsCertFile, IsSection, IsState, cert_lines, end_line, heading, lines_so_far, opened, section_lines, sections_lines, title, with_last, with_line}
 use Rattle.ql_cert.specs.declared.cert_reader.Reading.{Reading}
-use Rattle.ql_cert.specs.declared.cert_reader.Reading.TheVariants as reading
-use Rattle.ql_cert.specs.Reader.{state_of}
-use Rattle.ql_cert.proofs.LineLaws.{all_last, all_more}
+use Rattle.ql_cert.specs.declared.cert_reader.Reading.TheVariants.{Untitled, Within, Ended}
+use Rattle.ql_cert.specs.CertFile.{Takes, IsCertFile, IsCertOf, IsSection, cert_lines, end_line, heading, opened, said, section_lines, sections_lines, title, with_last, with_line}
+use Rattle.ql_cert.specs.OneLine.{one_after}
 use Rattle.ql_cert.proofs.FirstFaults.{IsReader}
+use Rattle.ql_cert.proofs.LineLaws.{all_last, all_more}
 use Rattle.ql_cert.proofs.Walking.{Walks}
-use Rattle.ql_cert.proofs.Walks.{all_front, cert_walk, one_after, sections_more, state_walk}
+use Rattle.ql_cert.proofs.Walks.{all_front, cert_walk, sections_more}
+
+-- the lines that were read
+abbrev pub lines_so_far : Reading → List Fields
+lines_so_far Untitled = []
+lines_so_far (Within done last) = title ∷ sections_lines (with_last done last)
+lines_so_far (Ended ss) = cert_lines ss
+
+-- what is read has a spelling
+abbrev pub IsState : Reading → Type 0
+IsState Untitled = Unit {0}
+IsState (Within done last) = AllByRecursion IsSection (with_last done last)
+IsState (Ended ss) = AllByRecursion IsSection ss
 
 pub numbered_more : (n : ℕ) (ls : List Line) (l : Line) → numbered n (ls ++ l ∷ []) ≡ numbered n ls ++ line_fields (n + length ls) l ∷ []
 unfolding numbered
@@ -48,7 +60,7 @@ grown_section s l fits line few = record {
   few = omega (arith, few, length-append s.refutation.lines (l ∷ []));
 }
 
-pub takes_on : (s : State) (line : Fields) (t : State) → IsState s → Takes s line t → lines_so_far t ≡ lines_so_far s ++ line ∷ []
+pub takes_on : (s : Reading) (line : Fields) (t : Reading) → IsState s → Takes s line t → lines_so_far t ≡ lines_so_far s ++ line ∷ []
 takes_on Untitled line t is p = ap lines_so_far p.1 ∙ ap (λ f. f ∷ []) (sym p.0)
 takes_on (Within done last) line t is (inl p) =
     ap lines_so_far p.to ∙ ap (λ r. title ∷ r) (sections_more (with_last done last) (opened p.name p.level) ∙ ap (λ r. sections_lines (with_last done last) ++ r) (opened_lines p.name p.level ∙ ap (λ f. f ∷ []) (sym p.is)))
@@ -56,49 +68,38 @@ takes_on (Within done last) line t is (inr (inl p)) = ap lines_so_far p.to ∙ a
 takes_on (Within done last) line t is (inr (inr p)) = ap lines_so_far p.to ∙ ap (λ f. title ∷ (sections_lines (with_last done last) ++ f ∷ [])) (sym p.is)
 takes_on (Ended ss) line t is p = absurd p
 
-pub stays_state : (s : State) (line : Fields) (t : State) → IsState s → Takes s line t → IsState t
-stays_state Untitled line t is p = subst IsState (sym p.1) (tt, refl)
+pub stays_state : (s : Reading) (line : Fields) (t : Reading) → IsState s → Takes s line t → IsState t
+stays_state Untitled line t is p = subst IsState (sym p.1) tt
 stays_state (Within done last) line t is (inl p) =
-    subst IsState (sym p.to) (all_more IsSection (with_last done last) (opened p.name p.level) is.0 (record { name = p.is_name; lines = tt; few = omega arith }), tt)
+    subst IsState (sym p.to) (all_more IsSection (with_last done last) (opened p.name p.level) is (record { name = p.is_name; lines = tt; few = omega arith }))
 stays_state (Within done last) line t is (inr (inl p)) =
-    let sections : AllByRecursion IsSection (done ++ p.section ∷ []) = subst (λ o. AllByRecursion IsSection (with_last done o)) p.in_it is.0 in
+    let sections : AllByRecursion IsSection (done ++ p.section ∷ []) = subst (λ o. AllByRecursion IsSection (with_last done o)) p.in_it is in
     let section : IsSection p.section = all_last IsSection done p.section [] sections in
-    subst IsState (sym p.to) (all_more IsSection done (with_line p.section p.next) (all_front done p.section sections) (grown_section p.section p.next section p.fits p.few), tt)
-stays_state (Within done last) line t is (inr (inr p)) = subst IsState (sym p.to) is.0
+    subst IsState (sym p.to) (all_more IsSection done (with_line p.section p.next) (all_front done p.section sections) (grown_section p.section p.next section p.fits p.few))
+stays_state (Within done last) line t is (inr (inr p)) = subst IsState (sym p.to) is
 stays_state (Ended ss) line t is p = absurd p
 
 -- ---- what was read begins a certificate
 
-pub begins : (s : State) → IsState s → Begins IsCertFile (lines_so_far s)
+pub begins : (s : Reading) → IsState s → Begins IsCertFile (lines_so_far s)
 begins Untitled is = (cert_lines [], ([], record { sections = tt; are = refl }))
-begins (Within done last) is = (end_line ∷ [], (with_last done last, record { sections = is.0; are = refl }))
+begins (Within done last) is = (end_line ∷ [], (with_last done last, record { sections = is; are = refl }))
 begins (Ended ss) is = ([], (ss, record { sections = is; are = append-nil (cert_lines ss) }))
 
-abbrev pub IsLast : State → Type 0
-IsLast s = (ss : List Section) × (s ≡ Ended ss)
+ends : (s : Reading) (ss : List Section) → IsState s → said s ≡ Some ss → IsCertOf ss (lines_so_far s)
+ends Untitled ss is e = absurd cc
+ends (Within done last) ss is e = absurd cc
+ends (Ended ts) ss is e = let same : ts ≡ ss = cc in subst (λ us. IsCertOf us (cert_lines ts)) same (record { sections = is; are = refl })
 
--- certificates are read line by line
-pub cert_reader : IsReader Untitled Takes IsCertFile lines_so_far IsState IsLast
+pub cert_reader : IsReader Untitled Takes said IsCertFile IsCertOf lines_so_far IsState
 cert_reader = record {
   one = one_after;
+  starts = (refl, tt);
   takes = takes_on;
   stays = stays_state;
   begins = begins;
-  walk = state_walk;
-  file_walk = λ fs file. (Ended file.0, subst (λ gs. Walks Takes Untitled gs (Ended file.0)) (sym file.1.are) (cert_walk file.0 file.1.sections), (file.0, refl));
+  ends = ends;
+  walk = λ ss fs h. (Ended ss, subst (λ gs. Walks Takes Untitled gs (Ended ss)) (sym h.are) (cert_walk ss h.sections), refl);
+  is_file = λ ss fs h. (ss, h);
+  file_of = λ fs h. h;
 }
-
-tag : State → ℕ
-tag Untitled = 0
-tag (Within done last) = 0
-tag (Ended ss) = 1
-
--- only what was read to its end is at the end
-not_at : (r : Reading) → ((done : Vec Section Global) → r ≡ reading.Ended done → ⊥) → (ss : List Section) → state_of r ≡ Ended ss → ⊥
-unfolding tag
-not_at reading.Untitled none ss e = omega (arith, ap tag e)
-not_at (reading.Within done last) none ss e = omega (arith, ap tag e)
-not_at (reading.Ended done) none ss e = none done refl
-
-pub not_at_end : (r : Reading) → ((done : Vec Section Global) → r ≡ reading.Ended done → ⊥) → IsLast (state_of r) → ⊥
-not_at_end r none last = not_at r none last.0 last.1

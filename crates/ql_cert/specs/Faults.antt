@@ -1,11 +1,14 @@
 -- The first fault of a line file: the first line that, behind those before it, begins no file of the grammar.
-use Rattle.std.specs.Prelude.{◌≡◌, ℕ, ◌<◌, ◌^◌, List, [], ◌∷◌, ◌++◌, map, decimal}
+use Rattle.std.specs.Prelude.{◌≡◌, ℕ, ◌<◌, ◌^◌, List, [], ◌∷◌, ◌++◌, Option, Result, Ok, Err, map, decimal, ok_or}
+use Rattle.ql_line_files.specs.declared.fault.Broken.{Broken}
+use Rattle.ql_line_files.specs.declared.fault.FileFault.{FileFault}
+use Rattle.ql_line_files.specs.declared.fault.FileFault.TheVariants as file
 use Rattle.ql_lines.specs.Fields.{fields_of}
 use Rattle.ql_lines.specs.Lines.{Ahead, Numbered}
 use Rattle.ql_cert.specs.declared.fault.CertFault.{CertFault}
 use Rattle.ql_cert.specs.declared.fault.CertFault.TheVariants as fault
-use Rattle.ql_cert.specs.declared.fault.LineFault.{LineFault}
-use Rattle.ql_cert.specs.declared.fault.LineFault.TheVariants.{Unexpected, Number, NoMemory}
+use Rattle.ql_cert.specs.declared.fault.CertRule.{CertRule}
+use Rattle.ql_cert.specs.declared.fault.CertRule.TheVariants.{Unexpected, Number}
 use Rattle.ql_cert.specs.Spelling.{Fields}
 
 -- the fields of lines
@@ -45,15 +48,27 @@ abbrev pub IsRefusal : (List Fields → Type 0) → Ahead → CertFault → Type
 IsRefusal IsFile file fault.NoMemory = Unit {0}
 IsRefusal IsFile file f = FirstFault IsFile file f
 
--- ---- one line
+-- ---- line after line
 
--- a line that may not follow what was read, and whether with another number it may
-abbrev pub IsRefusedBy : (Fields → Type 0) → Fields → LineFault → Type 0
-IsRefusedBy Follows line Unexpected = (Follows line → ⊥) × (IsMisnumbered Follows line → ⊥)
-IsRefusedBy Follows line Number = (Follows line → ⊥) × IsMisnumbered Follows line
-IsRefusedBy Follows line NoMemory = Unit {0}
+module _ {State : Type 0} (Takes : State → Fields → State → Type 0) where
+  -- the lines that lead on from what was read
+  abbrev pub Follows : State → Fields → Type 0
+  Follows before line = (after : State) × Takes before line after
 
-abbrev pub fault_at : LineFault → ℕ → CertFault
+  -- what a line makes of what was read before it; or its rule, by whether with another number it would lead on
+  abbrev pub Gives : State → Fields → Result State CertRule → Type 0
+  Gives before line (Ok after) = Takes before line after
+  Gives before line (Err Unexpected) = (Follows before line → ⊥) × (IsMisnumbered (Follows before) line → ⊥)
+  Gives before line (Err Number) = (Follows before line → ⊥) × IsMisnumbered (Follows before) line
+
+-- what a file says that ends here; where it says nothing yet, the line after its last one is at fault
+abbrev pub Closes : {Said : Type 0} → Option Said → ℕ → Result Said (Broken CertRule) → Type 0
+Closes said end x = x ≡ ok_or said (record { line = end; rule = Unexpected })
+
+abbrev pub fault_at : CertRule → ℕ → CertFault
 fault_at Unexpected line = fault.Unexpected line
 fault_at Number line = fault.Number line
-fault_at NoMemory line = fault.NoMemory
+
+abbrev pub fault_of : FileFault CertRule → CertFault
+fault_of (file.Broken broken) = fault_at broken.rule broken.line
+fault_of file.NoMemory = fault.NoMemory

@@ -3,5 +3,6 @@ pub mod Faults
 pub mod CertFile
 pub mod ProofFile
 pub mod Readings
-pub mod Reader
-pub mod ProofReader
+pub mod OneField
+pub mod OneLine
+pub mod OneProofLine

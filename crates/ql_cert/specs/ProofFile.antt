@@ -1,9 +1,11 @@
 -- The files of proofs: clauses, and the lines of a refutation of them.
-use Rattle.std.specs.Prelude.{ℕ, suc, ◌≡◌, ◌<◌, ◌≤◌, ◌^◌, ◌⊎◌, List, [], ◌∷◌, ◌++◌, map, length, codes, decimal}
+use Rattle.std.specs.Prelude.{ℕ, suc, ◌≡◌, ◌<◌, ◌≤◌, ◌^◌, ◌⊎◌, Option, None, Some, List, [], ◌∷◌, ◌++◌, map, length, codes, decimal}
 use Rattle.std.specs.List.{AllByRecursion}
 use Rattle.ql_cnf.specs.declared.lit.Lit.{Lit}
 use Rattle.ql_cnf.specs.Satisfaction.{ClauseList}
 use Rattle.ql_refute.specs.declared.refutation.Line.{Line}
+use Rattle.ql_cert.specs.declared.proof_reader.ProofReading.{ProofReading}
+use Rattle.ql_cert.specs.declared.proof_reader.ProofReading.TheVariants.{Unbegun, Within, Ended}
 use Rattle.ql_cert.specs.Spelling.{Fields, IsClause, IsLine, clause_fields, line_fields, numbered}
 use Rattle.ql_cert.specs.CertFile.{end_line}
 
@@ -44,12 +46,6 @@ IsProofFile lines = (cs : ClauseList) × (ls : List Line) × IsProofOf cs ls lin
 
 -- ---- line after line
 
--- What was read: nothing; clauses, and lines behind them; all up to the end.
-pub data ProofState : Type 0 where
-  Unbegun : ProofState
-  Within : ClauseList → List Line → ProofState
-  Ended : ClauseList → List Line → ProofState
-
 abbrev pub no_clauses : ℕ → ClauseList
 no_clauses n = record { variables = n; clauses = [] }
 
@@ -57,14 +53,14 @@ abbrev pub with_given : ClauseList → List Lit → ClauseList
 with_given cs c = record { variables = cs.variables; clauses = cs.clauses ++ c ∷ [] }
 
 -- the next line tells how many variables there are
-pub record Begins (line : Fields) (after : ProofState) : Type 0 where
+pub record Begins (line : Fields) (after : ProofReading) : Type 0 where
   pub variables : ℕ
   pub few : variables ≤ most_variables
   pub is : line ≡ variables_line variables
   pub to : after ≡ Within (no_clauses variables) []
 
 -- the next line is a clause
-pub record Gives (cs : ClauseList) (ls : List Line) (line : Fields) (after : ProofState) : Type 0 where
+pub record Gives (cs : ClauseList) (ls : List Line) (line : Fields) (after : ProofReading) : Type 0 where
   pub before_lines : ls ≡ []
   pub clause : List Lit
   pub fits : IsGiven cs.variables clause
@@ -72,7 +68,7 @@ pub record Gives (cs : ClauseList) (ls : List Line) (line : Fields) (after : Pro
   pub to : after ≡ Within (with_given cs clause) ls
 
 -- the next line is one of the refutation
-pub record GoesOn (cs : ClauseList) (ls : List Line) (line : Fields) (after : ProofState) : Type 0 where
+pub record GoesOn (cs : ClauseList) (ls : List Line) (line : Fields) (after : ProofReading) : Type 0 where
   pub next : Line
   pub fits : IsLine next
   pub few : suc (length ls) < 2 ^ 64
@@ -80,28 +76,23 @@ pub record GoesOn (cs : ClauseList) (ls : List Line) (line : Fields) (after : Pr
   pub to : after ≡ Within cs (ls ++ next ∷ [])
 
 -- the next line is the last
-pub record Ends (cs : ClauseList) (ls : List Line) (line : Fields) (after : ProofState) : Type 0 where
+pub record Ends (cs : ClauseList) (ls : List Line) (line : Fields) (after : ProofReading) : Type 0 where
   pub is : line ≡ end_line
   pub to : after ≡ Ended cs ls
 
 -- what a line makes of what was read before it
-abbrev pub ProofTakes : ProofState → Fields → ProofState → Type 0
+abbrev pub ProofTakes : ProofReading → Fields → ProofReading → Type 0
 ProofTakes Unbegun line after = Begins line after
 ProofTakes (Within cs ls) line after = Gives cs ls line after ⊎ (GoesOn cs ls line after ⊎ Ends cs ls line after)
 ProofTakes (Ended cs ls) line after = ⊥
 
--- some line may follow so
-abbrev pub ProofFollows : ProofState → Fields → Type 0
-ProofFollows before line = (after : ProofState) × ProofTakes before line after
+-- what a file says that ends here, where it may
+abbrev pub proof_said : ProofReading → Option (ClauseList × List Line)
+proof_said (Ended cs ls) = Some (cs, ls)
+proof_said other = None
 
--- the lines that were read
-abbrev pub proof_so_far : ProofState → List Fields
-proof_so_far Unbegun = []
-proof_so_far (Within cs ls) = variables_line cs.variables ∷ (map given_line cs.clauses ++ numbered 1 ls)
-proof_so_far (Ended cs ls) = proof_lines cs ls
-
--- what is read has a spelling
-abbrev pub IsProofState : ProofState → Type 0
-IsProofState Unbegun = Unit {0}
-IsProofState (Within cs ls) = FitsProof cs ls
-IsProofState (Ended cs ls) = FitsProof cs ls
+-- how many clauses were read
+abbrev pub clause_count : ProofReading → ℕ
+clause_count Unbegun = 0
+clause_count (Within cs ls) = length cs.clauses
+clause_count (Ended cs ls) = length cs.clauses

@@ -1,19 +1,22 @@
-ghost use Rattle.std.specs.Prelude.{◌≡◌, ◌↔◌, ◌∷◌, ◌<◌, IfOk, IfErr, IsTrue, codes, decimal};
+ghost use Rattle.std.specs.Prelude.{◌≡◌, ◌↔◌, ◌∷◌, IfOk, IsTrue, codes, decimal};
 ghost use Rattle.std.specs.Option.{option_map};
 ghost use Rattle.ql_base.specs.Names.{IsName};
+ghost use Rattle.ql_line_files.specs.Answers.{IsLineAnswer};
 ghost use Rattle.ql_lines.specs.Fields.{fields_of};
-ghost use Rattle.ql_cert.specs.CertFile.{Follows, Takes, Untitled, Within, end_line, heading, title, with_last};
-ghost use Rattle.ql_cert.specs.Faults.{IsRefusedBy};
+ghost use Rattle.ql_cert.specs.declared.cert_reader.Reading.TheVariants.{Untitled, Within};
+ghost use Rattle.ql_cert.specs.CertFile.{Takes, end_line, heading, opened, said, title, with_last};
+ghost use Rattle.ql_cert.specs.Faults.{Closes, Gives};
+ghost use Rattle.ql_cert.specs.OneLine.{closes_one, closes_some, gives_one, gives_some, one_after};
 ghost use Rattle.ql_cert.specs.Readings.{IsLevelRead, IsRead, three};
-ghost use Rattle.ql_cert.specs.Reader.{section_of, state_of};
 
-use crate::cert::{Section, SectionLevel};
-use crate::fault::LineFault;
+use crate::cert::{Section, SectionLevel, Sections};
+use crate::fault::CertRule;
 use crate::line::line_body;
 use ql_base::{NoMemory, Word, is_name, number_of};
 use ql_levels::{level_of, txn_of};
+use ql_line_files::{Broken, FileFault, LineFault, LineFormat};
 use ql_lines::first_field;
-use ql_refute::{Line, Lines, Refutation};
+use ql_refute::{Lines, Refutation};
 use std::alloc::Global;
 
 /// The target of a section and its level.
@@ -23,45 +26,82 @@ pub(crate) struct Heading {
     level: SectionLevel,
 }
 
-/// A section that may go on.
-#[derive(Drop)]
-pub(crate) struct OpenSection {
-    heading: Heading,
-    lines: Vec<Line>,
-}
-
 /// What was read of a certificate: nothing; sections, the last of which may go on; all of it.
 #[derive(Drop)]
 pub(crate) enum Reading {
     Untitled,
-    Within(Vec<Section>, Option<OpenSection>),
-    Ended(Vec<Section>),
+    Within(Sections, Option<Section>),
+    Ended(Sections),
 }
 
-impl Reading {
-    /// What is read with one more line.
-    pub(crate) fn take(self, alloc: Global, text: &[u8]) -> Result<Reading, LineFault>
-        ensures taken { IfOk result (λ after. Takes (state_of self) (fields_of text.now) (state_of after)) }
-        ensures refused { IfErr result (λ fault. IsRefusedBy (Follows (state_of self)) (fields_of text.now) fault) }
-    {
-        match self {
-            Reading::Untitled => titled(alloc, text),
-            Reading::Within(done, last) => within(alloc, done, last, text),
-            Reading::Ended(_) => Err(LineFault::Unexpected),
+/// The format of certificates.
+#[derive(Clone, Copy)]
+pub(crate) struct CertFormat {
+    pub(crate) alloc: Global,
+}
+
+impl LineFormat for CertFormat {
+    type State = Reading;
+
+    type Said = Sections;
+
+    type Rule = CertRule;
+
+    ghost start = { λ f. Untitled };
+
+    ghost sound = { λ f read more. Unit {0} };
+
+    ghost gives = { λ f read l x. Gives Takes read (fields_of l.text) x };
+
+    ghost closes = { λ f read end x. Closes (said read) end x };
+
+    fn start(&self) -> Reading {
+        Reading::Untitled
+    }
+
+    fn take(
+        &self,
+        state: Reading,
+        _number: u64,
+        text: &[u8],
+    ) -> Result<Reading, LineFault<CertRule>> {
+        match state {
+            Reading::Untitled => titled(self.alloc, text),
+            Reading::Within(done, last) => within(self.alloc, done, last, text),
+            Reading::Ended(_) => Err(LineFault::Breaks(CertRule::Unexpected)),
         }
     }
+
+    fn finish(&self, state: Reading, end: u64) -> Result<Sections, FileFault<CertRule>> {
+        match state {
+            Reading::Ended(sections) => Ok(sections),
+            _ => Err(FileFault::Broken(Broken {
+                line: end,
+                rule: CertRule::Unexpected,
+            })),
+        }
+    }
+
+    ghost stays_sound = { λ f s t l more sound given. tt };
+
+    ghost gives_one = { λ f s l x y p q. gives_one Takes one_after s (fields_of l.text) x y p q };
+
+    ghost gives_some = { λ f s l none. gives_some Takes s (fields_of l.text) none };
+
+    ghost closes_one = { λ f s end x y p q. closes_one (said s) end x y p q };
+
+    ghost closes_some = { λ f s end none. closes_some (said s) end none };
 }
 
 #[tactic(auto, using(crate::proofs::Refusals::not_titled))]
 // The title of a certificate begins it.
-fn titled(alloc: Global, text: &[u8]) -> Result<Reading, LineFault>
-    ensures taken { IfOk result (λ after. Takes Untitled (fields_of text.now) (state_of after)) }
-    ensures refused { IfErr result (λ fault. IsRefusedBy (Follows Untitled) (fields_of text.now) fault) }
+fn titled(alloc: Global, text: &[u8]) -> Result<Reading, LineFault<CertRule>>
+    ensures { IsLineAnswer (Gives Takes Untitled (fields_of text.now)) result }
 {
     if is_title(text) {
-        Ok(Reading::Within(Vec::new(alloc), None))
+        Ok(Reading::Within(Sections::of(Vec::new(alloc)), None))
     } else {
-        Err(LineFault::Unexpected)
+        Err(LineFault::Breaks(CertRule::Unexpected))
     }
 }
 
@@ -152,72 +192,87 @@ fn txn_level(word: &[u8]) -> Option<SectionLevel>
     }
 }
 
-// A line behind sections: a heading, the last line, or one more line of the last section.
+// A line after sections: a heading, the last line, or one more line of the last section.
 fn within(
     alloc: Global,
-    done: Vec<Section>,
-    last: Option<OpenSection>,
+    done: Sections,
+    last: Option<Section>,
     text: &[u8],
-) -> Result<Reading, LineFault>
-    ensures taken { IfOk result (λ after. Takes (Within done.items (option_map section_of last)) (fields_of text.now) (state_of after)) }
-    ensures refused { IfErr result (λ fault. IsRefusedBy (Follows (Within done.items (option_map section_of last))) (fields_of text.now) fault) }
+) -> Result<Reading, LineFault<CertRule>>
+    ensures { IsLineAnswer (Gives Takes (Within done last) (fields_of text.now)) result }
 {
     if let Some(heading) = read_heading(text) {
-        let opened = OpenSection {
-            heading,
-            lines: Vec::new(alloc),
-        };
-        return Ok(Reading::Within(with_last(done, last)?, Some(opened)));
+        let all = with_last(done, last)?;
+        return Ok(Reading::Within(all, Some(opened(alloc, heading))));
     }
     if is_end(text) {
         return Ok(Reading::Ended(with_last(done, last)?));
     }
     let Some((first, body)) = first_field(text) else {
-        return Err(LineFault::Unexpected);
+        return Err(LineFault::Breaks(CertRule::Unexpected));
     };
     match number_of(first, u64::MAX) {
         Some(number) => numbered(alloc, done, last, number, body),
-        None => Err(LineFault::Unexpected),
+        None => Err(LineFault::Breaks(CertRule::Unexpected)),
+    }
+}
+
+// A section of which only the heading was read.
+fn opened(alloc: Global, heading: Heading) -> Section
+    ensures { result ≡ opened heading.name heading.level }
+{
+    let lines = Lines::of(Vec::new(alloc));
+    Section {
+        name: heading.name,
+        level: heading.level,
+        refutation: Refutation { lines },
     }
 }
 
 // A line with this number and body.
 fn numbered(
     alloc: Global,
-    done: Vec<Section>,
-    last: Option<OpenSection>,
+    done: Sections,
+    last: Option<Section>,
     number: u64,
     body: &[u8],
-) -> Result<Reading, LineFault>
-    ensures taken { IfOk result (λ after. Takes (Within done.items (option_map section_of last)) (decimal number ∷ fields_of body.now) (state_of after)) }
-    ensures refused { IfErr result (λ fault. IsRefusedBy (Follows (Within done.items (option_map section_of last))) (decimal number ∷ fields_of body.now) fault) }
+) -> Result<Reading, LineFault<CertRule>>
+    ensures { IsLineAnswer (Gives Takes (Within done last) (decimal number ∷ fields_of body.now)) result }
 {
-    let Some(mut section) = last else {
-        return Err(LineFault::Unexpected);
+    let Some(section) = last else {
+        return Err(LineFault::Breaks(CertRule::Unexpected));
     };
     let Some(line) = line_body(alloc, body)? else {
-        return Err(LineFault::Unexpected);
+        return Err(LineFault::Breaks(CertRule::Unexpected));
     };
-    if number != section.lines.len() as u64 + 1 {
-        return Err(LineFault::Number);
+    let Section {
+        name,
+        level,
+        refutation,
+    } = section;
+    let mut lines = refutation.lines.into_items();
+    if number != lines.len() as u64 + 1 {
+        return Err(LineFault::Breaks(CertRule::Number));
     }
-    section.lines.push(line)?;
-    Ok(Reading::Within(done, Some(section)))
+    lines.push(line)?;
+    let refutation = Refutation {
+        lines: Lines::of(lines),
+    };
+    let grown = Section {
+        name,
+        level,
+        refutation,
+    };
+    Ok(Reading::Within(done, Some(grown)))
 }
 
 // The sections with the last one among them.
-fn with_last(done: Vec<Section>, last: Option<OpenSection>) -> Result<Vec<Section>, NoMemory>
-    ensures { IfOk result (λ all. all.items ≡ with_last done.items (option_map section_of last)) }
+fn with_last(done: Sections, last: Option<Section>) -> Result<Sections, NoMemory>
+    ensures { IfOk result (λ all. all ≡ with_last done last) }
 {
-    let mut all = done;
+    let mut all = done.into_items();
     if let Some(section) = last {
-        all.push(Section {
-            name: section.heading.name,
-            level: section.heading.level,
-            refutation: Refutation {
-                lines: Lines::of(section.lines),
-            },
-        })?;
+        all.push(section)?;
     }
-    Ok(all)
+    Ok(Sections::of(all))
 }

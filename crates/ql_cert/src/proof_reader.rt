@@ -1,58 +1,110 @@
-ghost use Rattle.std.specs.Prelude.{◌≡◌, ◌↔◌, ◌∷◌, ◌+◌, ◌^◌, ◌<◌, ◌≤◌, IfErr, IfOk, IsTrue, codes, decimal, length};
+ghost use Rattle.std.specs.Prelude.{◌≡◌, ◌↔◌, ◌∷◌, ◌+◌, ◌^◌, ◌<◌, ◌≤◌, IsTrue, codes, decimal, length};
 ghost use Rattle.std.specs.Option.{option_map};
+ghost use Rattle.ql_line_files.specs.Answers.{IsLineAnswer};
 ghost use Rattle.ql_lines.specs.Fields.{fields_of};
-ghost use Rattle.ql_cert.specs.Faults.{IsRefusedBy};
-ghost use Rattle.ql_cert.specs.ProofFile.{ProofFollows, ProofTakes, Unbegun, Within, most_variables, proof_so_far, variables_line};
-ghost use Rattle.ql_cert.specs.ProofReader.{proof_state_of};
+ghost use Rattle.ql_cert.specs.declared.proof_reader.ProofReading.TheVariants.{Unbegun, Within};
+ghost use Rattle.ql_cert.specs.Faults.{Closes, Gives};
+ghost use Rattle.ql_cert.specs.OneLine.{closes_one, closes_some, gives_one, gives_some};
+ghost use Rattle.ql_cert.specs.OneProofLine.{one_after, stays_sound};
+ghost use Rattle.ql_cert.specs.ProofFile.{ProofTakes, clause_count, most_variables, proof_said, variables_line};
 ghost use Rattle.ql_cert.specs.Readings.{IsRead, two};
 
 use crate::cert_reader::is_end;
-use crate::fault::LineFault;
+use crate::fault::CertRule;
 use crate::line::{line_body, literals};
 use ql_base::number_of;
 use ql_cnf::{Clauses, are_in_range};
+use ql_line_files::{Broken, FileFault, LineFault, LineFormat};
 use ql_lines::first_field;
-use ql_refute::Line;
+use ql_refute::Lines;
 use std::alloc::Global;
 
 // The greatest number of variables of a proof's clauses.
 const MOST_VARIABLES: u64 = 1000;
 
-/// What was read of a proof: nothing; clauses, and lines behind them; all of it.
+/// What was read of a proof: nothing; clauses, and lines after them; all of it.
 #[derive(Drop)]
 pub(crate) enum ProofReading {
     Unbegun,
-    Within(Clauses, Vec<Line>),
-    Ended(Clauses, Vec<Line>),
+    Within(Clauses, Lines),
+    Ended(Clauses, Lines),
 }
 
-impl ProofReading {
-    /// What is read with one more line.
-    pub(crate) fn take(self, alloc: Global, text: &[u8]) -> Result<ProofReading, LineFault>
-        requires room { length (proof_so_far (proof_state_of self)) + 1 < 2 ^ 32 }
-        ensures taken { IfOk result (λ after. ProofTakes (proof_state_of self) (fields_of text.now) (proof_state_of after)) }
-        ensures refused { IfErr result (λ fault. IsRefusedBy (ProofFollows (proof_state_of self)) (fields_of text.now) fault) }
-    {
-        match self {
-            ProofReading::Unbegun => begun(alloc, text),
-            ProofReading::Within(clauses, lines) => within(alloc, clauses, lines, text),
-            ProofReading::Ended(_, _) => Err(LineFault::Unexpected),
+/// The format of proofs.
+#[derive(Clone, Copy)]
+pub(crate) struct ProofFormat {
+    pub(crate) alloc: Global,
+}
+
+impl LineFormat for ProofFormat {
+    type State = ProofReading;
+
+    type Said = (Clauses, Lines);
+
+    type Rule = CertRule;
+
+    ghost start = { λ f. Unbegun };
+
+    // A line is one clause at most, so there are numbers for them.
+    ghost sound = { λ f read more. clause_count read + more < 2 ^ 32 };
+
+    ghost gives = { λ f read l x. Gives ProofTakes read (fields_of l.text) x };
+
+    ghost closes = { λ f read end x. Closes (proof_said read) end x };
+
+    fn start(&self) -> ProofReading {
+        ProofReading::Unbegun
+    }
+
+    fn take(
+        &self,
+        state: ProofReading,
+        _number: u64,
+        text: &[u8],
+    ) -> Result<ProofReading, LineFault<CertRule>> {
+        match state {
+            ProofReading::Unbegun => begun(self.alloc, text),
+            ProofReading::Within(clauses, lines) => within(self.alloc, clauses, lines, text),
+            ProofReading::Ended(_, _) => Err(LineFault::Breaks(CertRule::Unexpected)),
         }
     }
+
+    fn finish(
+        &self,
+        state: ProofReading,
+        end: u64,
+    ) -> Result<(Clauses, Lines), FileFault<CertRule>> {
+        match state {
+            ProofReading::Ended(clauses, lines) => Ok((clauses, lines)),
+            _ => Err(FileFault::Broken(Broken {
+                line: end,
+                rule: CertRule::Unexpected,
+            })),
+        }
+    }
+
+    ghost stays_sound = { λ f s t l more sound given. stays_sound s t (fields_of l.text) more sound given };
+
+    ghost gives_one = { λ f s l x y p q. gives_one ProofTakes one_after s (fields_of l.text) x y p q };
+
+    ghost gives_some = { λ f s l none. gives_some ProofTakes s (fields_of l.text) none };
+
+    ghost closes_one = { λ f s end x y p q. closes_one (proof_said s) end x y p q };
+
+    ghost closes_some = { λ f s end none. closes_some (proof_said s) end none };
 }
 
 // The first line tells how many variables there are.
 #[tactic(auto, using(crate::proofs::ProofRefusals::not_begun))]
-fn begun(alloc: Global, text: &[u8]) -> Result<ProofReading, LineFault>
-    ensures taken { IfOk result (λ after. ProofTakes Unbegun (fields_of text.now) (proof_state_of after)) }
-    ensures refused { IfErr result (λ fault. IsRefusedBy (ProofFollows Unbegun) (fields_of text.now) fault) }
+fn begun(alloc: Global, text: &[u8]) -> Result<ProofReading, LineFault<CertRule>>
+    ensures { IsLineAnswer (Gives ProofTakes Unbegun (fields_of text.now)) result }
 {
     match variables(text) {
         Some(variables) => Ok(ProofReading::Within(
             Clauses::new(alloc, variables),
-            Vec::new(alloc),
+            Lines::of(Vec::new(alloc)),
         )),
-        None => Err(LineFault::Unexpected),
+        None => Err(LineFault::Breaks(CertRule::Unexpected)),
     }
 }
 
@@ -85,29 +137,28 @@ fn two_fields(text: &[u8]) -> Option<(&[u8], &[u8])>
     }
 }
 
-// A line behind the first: the last one, a clause, or one more line of the refutation.
+// A line after the first: the last one, a clause, or one more line of the refutation.
 fn within(
     alloc: Global,
     clauses: Clauses,
-    lines: Vec<Line>,
+    lines: Lines,
     text: &[u8],
-) -> Result<ProofReading, LineFault>
+) -> Result<ProofReading, LineFault<CertRule>>
     requires room { length clauses.clauses + 1 < 2 ^ 32 }
-    ensures taken { IfOk result (λ after. ProofTakes (Within clauses lines.items) (fields_of text.now) (proof_state_of after)) }
-    ensures refused { IfErr result (λ fault. IsRefusedBy (ProofFollows (Within clauses lines.items)) (fields_of text.now) fault) }
+    ensures { IsLineAnswer (Gives ProofTakes (Within clauses lines) (fields_of text.now)) result }
 {
     if is_end(text) {
         return Ok(ProofReading::Ended(clauses, lines));
     }
     let Some((first, body)) = first_field(text) else {
-        return Err(LineFault::Unexpected);
+        return Err(LineFault::Breaks(CertRule::Unexpected));
     };
     if is_given(first) {
         return given(alloc, clauses, lines, body);
     }
     match number_of(first, u64::MAX) {
         Some(number) => numbered(alloc, clauses, lines, number, body),
-        None => Err(LineFault::Unexpected),
+        None => Err(LineFault::Breaks(CertRule::Unexpected)),
     }
 }
 
@@ -122,21 +173,20 @@ fn is_given(field: &[u8]) -> bool
 fn given(
     alloc: Global,
     clauses: Clauses,
-    lines: Vec<Line>,
+    lines: Lines,
     body: &[u8],
-) -> Result<ProofReading, LineFault>
+) -> Result<ProofReading, LineFault<CertRule>>
     requires room { length clauses.clauses + 1 < 2 ^ 32 }
-    ensures taken { IfOk result (λ after. ProofTakes (Within clauses lines.items) (codes "c" ∷ fields_of body.now) (proof_state_of after)) }
-    ensures refused { IfErr result (λ fault. IsRefusedBy (ProofFollows (Within clauses lines.items)) (codes "c" ∷ fields_of body.now) fault) }
+    ensures { IsLineAnswer (Gives ProofTakes (Within clauses lines) (codes "c" ∷ fields_of body.now)) result }
 {
-    if !lines.is_empty() {
-        return Err(LineFault::Unexpected);
+    if !lines.items().is_empty() {
+        return Err(LineFault::Breaks(CertRule::Unexpected));
     }
     let Some(literals) = literals(alloc, body)? else {
-        return Err(LineFault::Unexpected);
+        return Err(LineFault::Breaks(CertRule::Unexpected));
     };
     if !are_in_range(literals.as_slice(), clauses.variables()) {
-        return Err(LineFault::Unexpected);
+        return Err(LineFault::Breaks(CertRule::Unexpected));
     }
     let mut more = clauses;
     more.add(literals.as_slice())?;
@@ -147,20 +197,19 @@ fn given(
 fn numbered(
     alloc: Global,
     clauses: Clauses,
-    lines: Vec<Line>,
+    lines: Lines,
     number: u64,
     body: &[u8],
-) -> Result<ProofReading, LineFault>
-    ensures taken { IfOk result (λ after. ProofTakes (Within clauses lines.items) (decimal number ∷ fields_of body.now) (proof_state_of after)) }
-    ensures refused { IfErr result (λ fault. IsRefusedBy (ProofFollows (Within clauses lines.items)) (decimal number ∷ fields_of body.now) fault) }
+) -> Result<ProofReading, LineFault<CertRule>>
+    ensures { IsLineAnswer (Gives ProofTakes (Within clauses lines) (decimal number ∷ fields_of body.now)) result }
 {
     let Some(line) = line_body(alloc, body)? else {
-        return Err(LineFault::Unexpected);
+        return Err(LineFault::Breaks(CertRule::Unexpected));
     };
-    if number != lines.len() as u64 + 1 {
-        return Err(LineFault::Number);
+    let mut more = lines.into_items();
+    if number != more.len() as u64 + 1 {
+        return Err(LineFault::Breaks(CertRule::Number));
     }
-    let mut more = lines;
     more.push(line)?;
-    Ok(ProofReading::Within(clauses, more))
+    Ok(ProofReading::Within(clauses, Lines::of(more)))
 }

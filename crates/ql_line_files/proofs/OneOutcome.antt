@@ -128,23 +128,21 @@ module _ {State Said Rule : Type 0} (gives : State → Numbered → Result State
   -- ---- never none
 
   module _
-      (sound : State → Type 0)
-      (stays : (s t : State) (l : Numbered) → sound s → gives s l (Ok t) → sound t)
-      (some : (s : State) (l : Numbered) → sound s → ((x : Result State Rule) → gives s l x → ⊥) → ⊥)
-      (some_end : (s : State) (end : ℕ) → sound s → ((x : Result Said (Broken Rule)) → closes s end x → ⊥) → ⊥)
+      (some : (s : State) (l : Numbered) → ((x : Result State Rule) → gives s l x → ⊥) → ⊥)
+      (some_end : (s : State) (end : ℕ) → ((x : Result Said (Broken Rule)) → closes s end x → ⊥) → ⊥)
       (start : State) (file : Ahead) where
     goes_on : (before : List Numbered) (l : Numbered) (rest : List Numbered) (s : State) → file.lines ≡ before ++ l ∷ rest → Leads gives closes start before s
         → ((x : Result Said (Broken Rule)) → Outcome gives closes start file x → ⊥) → ((t : State) → gives s l (Ok t) → ⊥) → (x : Result State Rule) → gives s l x → ⊥
     goes_on before l rest s are h none on (Ok t) g = on t g
     goes_on before l rest s are h none on (Err rule) g = none (Err (record { line = l.number; rule = rule })) (at_line before l rest s rule are h g)
 
-    from_here : (before rest : List Numbered) (s : State) → sound s → file.lines ≡ before ++ rest → Leads gives closes start before s
+    from_here : (before rest : List Numbered) (s : State) → file.lines ≡ before ++ rest → Leads gives closes start before s
         → ((x : Result Said (Broken Rule)) → Outcome gives closes start file x → ⊥) → ⊥
-    from_here before [] s is are h none =
-        some_end s file.end is (λ x c. none x (ends_file start s file x (subst (λ ls. Leads gives closes start ls s) (sym (are ∙ append-nil before)) h) c))
-    from_here before (l ∷ rest) s is are h none =
-        some s l is (goes_on before l rest s are h none (λ t g.
-        from_here (before ++ l ∷ []) rest t (stays s t l is g) (are ∙ sym (append_assoc before (l ∷ []) rest)) (leads_on before start s t l h g) none))
+    from_here before [] s are h none =
+        some_end s file.end (λ x c. none x (ends_file start s file x (subst (λ ls. Leads gives closes start ls s) (sym (are ∙ append-nil before)) h) c))
+    from_here before (l ∷ rest) s are h none =
+        some s l (goes_on before l rest s are h none (λ t g.
+        from_here (before ++ l ∷ []) rest t (are ∙ sym (append_assoc before (l ∷ []) rest)) (leads_on before start s t l h g) none))
 
-    pub some_outcome : sound start → ((x : Result Said (Broken Rule)) → Outcome gives closes start file x → ⊥) → ⊥
-    some_outcome is none = from_here [] file.lines start is refl (leads_nowhere start) none
+    pub some_outcome : ((x : Result Said (Broken Rule)) → Outcome gives closes start file x → ⊥) → ⊥
+    some_outcome none = from_here [] file.lines start refl (leads_nowhere start) none

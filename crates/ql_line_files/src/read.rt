@@ -1,3 +1,4 @@
+ghost use Rattle.std.specs.Prelude.{length};
 ghost use Rattle.ql_lines.specs.Lines.{ahead_from};
 ghost use Rattle.ql_line_files.specs.Answers.{IsEndAnswer};
 ghost use Rattle.ql_line_files.specs.Outcomes.{Outcome};
@@ -8,6 +9,7 @@ use ql_lines::Lines;
 
 /// What a file says, or its first fault.
 pub fn read_file<F: LineFormat>(format: &F, bytes: &[u8]) -> Result<F::Said, FileFault<F::Rule>>
+    requires sound { F.sound format.now (F.start format.now) (length (ahead_from 1 bytes.now).lines) }
     ensures { IsEndAnswer (Outcome (F.gives format.now) (F.closes format.now) (F.start format.now) (ahead_from 1 bytes.now)) result }
 {
     let mut lines = Lines::of(bytes);

@@ -36,5 +36,4 @@ module _ (p : Program) (file : Ahead) where
 
   pub some_outcome_of : ((s : Schedule) → IsScheduleFile p file s → ⊥) → ((f : SchedFault) → IsFirstFault p file f → ⊥) → ⊥
   some_outcome_of none no_fault =
-      law.some_outcome (GivesLine p) Closes (λ s. Unit {0}) (λ s t l is g. tt) (λ s l is n. gives_some p s (parts_of l.text) n) (λ s end is n. closes_some s end n) Untitled file tt
-      (both_none none no_fault)
+      law.some_outcome (GivesLine p) Closes (λ s l n. gives_some p s (parts_of l.text) n) (λ s end n. closes_some s end n) Untitled file (both_none none no_fault)

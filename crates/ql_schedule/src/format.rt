@@ -26,7 +26,7 @@ impl<'a> LineFormat for Format<'a> {
 
     ghost start = { λ f. Untitled };
 
-    ghost sound = { λ f read. Unit {0} };
+    ghost sound = { λ f read more. Unit {0} };
 
     ghost gives = { λ f read l x. GivesLine f.t.now.program read l x };
 
@@ -55,15 +55,13 @@ impl<'a> LineFormat for Format<'a> {
         }
     }
 
-    ghost starts_sound = { λ f. tt };
-
-    ghost stays_sound = { λ f s t l sound given. tt };
+    ghost stays_sound = { λ f s t l more sound given. tt };
 
     ghost gives_one = { λ f s l x y p q. gives_one f.t.now.program s _ x y p q };
 
-    ghost gives_some = { λ f s l sound none. gives_some f.t.now.program s _ none };
+    ghost gives_some = { λ f s l none. gives_some f.t.now.program s _ none };
 
     ghost closes_one = { λ f s end x y p q. closes_one s end x y p q };
 
-    ghost closes_some = { λ f s end sound none. closes_some s end none };
+    ghost closes_some = { λ f s end none. closes_some s end none };
 }

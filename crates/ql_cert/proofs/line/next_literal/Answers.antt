@@ -2,7 +2,7 @@ use Rattle.std.proofs.Common.{◌∷◌, [], ◌++◌, sym, subst, ◌∙◌}
 use Rattle.std.proofs.lemmas.Bool.{false≢true}
 use Rattle.ql_cnf.specs.declared.lit.Lit.{Lit}
 use Rattle.ql_cnf.specs.Literals.{IsAscending}
-use Rattle.ql_cert.proofs.FieldLaws.{one_literal}
+use Rattle.ql_cert.specs.OneField.{one_literal}
 use Rattle.ql_cert.proofs.line.next_literal.Goals as goal
 
 pub returns-else-goes_on : goal.returns-else-goes_on

@@ -1,37 +1,14 @@
-use Rattle.std.proofs.Common.{◌≡◌, ◌++◌, ◌∷◌, List, ap, sym, subst, ◌∙◌}
-use Rattle.std.proofs.lemmas.List.{append-nil}
-use Rattle.ql_lines.specs.Lines.{Ahead, Numbered, ahead_from}
-use Rattle.ql_cert.specs.declared.fault.CertFault.TheVariants.{Unexpected}
-use Rattle.ql_cert.specs.CertFile.{IsCertFile, IsState, Takes, Untitled, lines_so_far}
-use Rattle.ql_cert.specs.Faults.{FirstFault, IsRefusal}
-use Rattle.ql_cert.specs.Reader.{state_of}
-use Rattle.ql_cert.proofs.FirstFaults.{ended_at, refused_at, taken_at}
-use Rattle.ql_cert.proofs.States.{IsLast, cert_reader, not_at_end}
+use Rattle.std.proofs.Common.{sym, subst}
+use Rattle.ql_lines.specs.Lines.{ahead_from}
+use Rattle.ql_cert.specs.CertFile.{IsCertFile}
+use Rattle.ql_cert.specs.Faults.{IsRefusal}
+use Rattle.ql_cert.proofs.FirstFaults.{refusal, says_file}
+use Rattle.ql_cert.proofs.States.{cert_reader}
 use Rattle.ql_cert.proofs.parse.parse_cert.Goals as goal
+
+pub returns-in-Ok : goal.returns-in-Ok
+returns-in-Ok c = says_file cert_reader (ahead_from 1 c.args.bytes.now) c.in-Ok.sections c.in-Ok.ensures
 
 pub returns-in-Err : goal.returns-in-Err
 returns-in-Err c =
-    let h = c.loop-line.invariant in
-    let file : Ahead = ahead_from 1 c.args.bytes.now in
-    let line : Numbered = record { number = c.in-Some.line.number; text = c.in-Some.line.text.now } in
-    let rest = c.next_line.new.self.lines in
-    let are : file.lines ≡ h.0 ++ line ∷ rest = h.1 ∙ ap (λ (ls : List Numbered). h.0 ++ ls) c.in-Some.ensures.line in
-    subst (IsRefusal IsCertFile file) (sym c.at.ensures) (refused_at Untitled Takes IsCertFile lines_so_far IsState IsLast cert_reader file (state_of c.loop-line.read) h.4 h.0 h.3 line rest are c.in-Err.fault c.in-Err.ensures.refused)
-
-pub loop-line-preserved : goal.loop-line-preserved
-loop-line-preserved c =
-    let h = c.loop-line.invariant in
-    let file : Ahead = ahead_from 1 c.args.bytes.now in
-    let line : Numbered = record { number = c.in-Some.line.number; text = c.in-Some.line.text.now } in
-    let rest = c.next_line.new.self.lines in
-    let are : file.lines ≡ h.0 ++ line ∷ rest = h.1 ∙ ap (λ (ls : List Numbered). h.0 ++ ls) c.in-Some.ensures.line in
-    let more = taken_at Untitled Takes IsCertFile lines_so_far IsState IsLast cert_reader file (state_of c.loop-line.read) h.4 h.0 h.3 line rest (state_of c.in-Ok.more) are c.in-Ok.ensures.taken in
-    (more.0, more.1, h.2 ∙ sym c.in-Some.ensures.end, more.2, more.3)
-
-pub returns : goal.returns
-returns c =
-    let h = c.loop-line.invariant in
-    let file : Ahead = ahead_from 1 c.args.bytes.now in
-    let are : file.lines ≡ h.0 = h.1 ∙ ap (λ (ls : List Numbered). h.0 ++ ls) c.in_default.ensures.line.0 ∙ append-nil h.0 in
-    let end : file.end ≡ c.end.result = h.2 ∙ sym c.in_default.ensures.end ∙ sym c.end.ensures in
-    subst (λ at. FirstFault IsCertFile file (Unexpected at)) end (ended_at Untitled Takes IsCertFile lines_so_far IsState IsLast cert_reader file (state_of c.loop-line.read) h.4 h.0 h.3 are (not_at_end c.loop-line.read c.in_default-read.not-Ended))
+    subst (IsRefusal IsCertFile (ahead_from 1 c.args.bytes.now)) (sym c.fault_of.ensures) (refusal cert_reader (ahead_from 1 c.args.bytes.now) c.in-Err.fault c.in-Err.ensures)

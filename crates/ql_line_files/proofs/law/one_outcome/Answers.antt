@@ -13,4 +13,4 @@ returns-clause-some g c =
     let f = c.args.format.now in
     let of = g.F.LineFormat in
     let laws = g.met.F.LineFormat in
-    λ file none. law.some_outcome (of.gives f) (of.closes f) (of.sound f) (laws.stays_sound f) (laws.gives_some f) (laws.closes_some f) (of.start f) file (laws.starts_sound f) none
+    λ file none. law.some_outcome (of.gives f) (of.closes f) (laws.gives_some f) (laws.closes_some f) (of.start f) file none

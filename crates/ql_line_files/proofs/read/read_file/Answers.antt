@@ -1,4 +1,4 @@
-use Rattle.std.proofs.Common.{◌≡◌, ◌++◌, ◌∷◌, [], List, Err, ap, sym, subst, ◌∙◌, append_assoc}
+use Rattle.std.proofs.Common.{◌≡◌, ◌++◌, ◌∷◌, [], List, Err, length, ap, sym, subst, ◌∙◌, append_assoc}
 use Rattle.std.proofs.lemmas.List.{append-nil}
 use Rattle.ql_lines.specs.Lines.{Ahead, Numbered, ahead_from}
 use Rattle.ql_line_files.specs.Answers.{IsEndAnswer}
@@ -16,7 +16,7 @@ loop-line-init g c =
       ap (λ (a : Ahead). a.lines) start,
       ap (λ (a : Ahead). a.end) start,
       subst (λ s. Leads (of.gives f) (of.closes f) (of.start f) [] s) first (leads_nowhere (of.gives f) (of.closes f) (of.start f)),
-      subst (λ s. of.sound f s) first (g.met.F.LineFormat.starts_sound f),
+      subst (λ s. of.sound f s (length c.of-lines.result.lines)) first (subst (λ (a : Ahead). of.sound f (of.start f) (length a.lines)) start c.requires.sound),
     )
 
 pub returns-in-Err : goal.returns-in-Err
@@ -43,7 +43,7 @@ loop-line-preserved g c =
       are ∙ sym (append_assoc h.0 (line ∷ []) rest),
       h.2 ∙ sym c.in-Some.ensures.end,
       leads_on (of.gives f) (of.closes f) h.0 (of.start f) c.loop-line.state c.in-Ok.more line h.3 c.in-Ok.ensures,
-      g.met.F.LineFormat.stays_sound f c.loop-line.state c.in-Ok.more line h.4 c.in-Ok.ensures,
+      g.met.F.LineFormat.stays_sound f c.loop-line.state c.in-Ok.more line (length rest) (subst (λ (ls : List Numbered). of.sound f c.loop-line.state (length ls)) c.in-Some.ensures.line h.4) c.in-Ok.ensures,
     )
 
 pub returns : goal.returns
