@@ -7,6 +7,6 @@ pub mod States
 mod Refusals
 mod ProofStates
 mod ProofRefusals
-mod Printing
-mod Plainness
+pub mod Printing
+pub mod Plainness
 pub mod OneReading

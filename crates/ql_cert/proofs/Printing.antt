@@ -1,6 +1,5 @@
 -- what is printed of a list is printed item by item
 use Rattle.std.proofs.Common.{◌≡◌, ℕ, ◌<◌, ◌+◌, List, [], ◌∷◌, ◌++◌, map, take, length, decimal, get_or, arith, refl, ap, sym, ◌∙◌, append_assoc, add-one}
-use Rattle.std.specs.Prelude.{codes}
 use Rattle.std.proofs.lemmas.List.{append-nil, get_or_default, length-take-le, map-append}
 use Rattle.std.proofs.Math.Seq.{take-suc}
 use Rattle.ql_lines.specs.Texts.{behind, file_text, joined}
@@ -8,7 +7,7 @@ use Rattle.ql_lines.proofs.TextLaws.{behind-append, file_text-append, joined_beh
 use Rattle.ql_refute.specs.declared.refutation.Line.{Line}
 use Rattle.ql_cert.specs.declared.cert.Section.{Section}
 use Rattle.ql_cert.specs.Spelling.{Fields, body_fields, clause_fields, colon, hint_field, line_fields, numbered}
-use Rattle.ql_cert.specs.CertFile.{cert_lines, end_line, section_lines, sections_lines}
+use Rattle.ql_cert.specs.CertFile.{cert_lines, end_line, section_lines, sections_lines, title}
 use Rattle.ql_cert.proofs.States.{numbered_more}
 use Rattle.ql_cert.proofs.Walks.{sections_more}
 
@@ -46,14 +45,6 @@ one_more_line ls i n l out lt is number =
     append_assoc out (file_text (numbered 1 front)) (joined (line_fields n l) ++ 10 ∷ [])
     ∙ ap (λ r. out ++ r) (ap (λ k. file_text (numbered 1 front) ++ (joined (line_fields k l) ++ 10 ∷ [])) count ∙ sym text ∙ ap (λ ms. file_text (numbered 1 ms)) (sym more))
 
-pub one_more_section : (ss : List Section) (i : ℕ) (s : Section) (out : List ℕ) → i < length ss → s ≡ get_or ss i s
-    → (out ++ file_text (sections_lines (take i ss))) ++ file_text (section_lines s) ≡ out ++ file_text (sections_lines (take (i + 1) ss))
-one_more_section ss i s out lt is =
-    let front = take i ss in
-    let more : take (i + 1) ss ≡ front ++ s ∷ [] = ap (λ n. take n ss) (add-one i) ∙ take-suc ss i s lt ∙ ap (λ y. front ++ y ∷ []) (sym is) in
-    append_assoc out (file_text (sections_lines front)) (file_text (section_lines s))
-    ∙ ap (λ r. out ++ r) (sym (file_text-append (sections_lines front) (section_lines s)) ∙ ap file_text (sym (sections_more front s)) ∙ ap (λ ts. file_text (sections_lines ts)) (sym more))
-
 -- a line, piece by piece
 pub line_pieces : (out : List ℕ) (n : ℕ) (l : Line)
     → ((((out ++ decimal n) ++ behind (clause_fields l.clause)) ++ 32 ∷ colon) ++ behind (map hint_field l.hints)) ++ 10 ∷ [] ≡ out ++ (joined (line_fields n l) ++ 10 ∷ [])
@@ -77,19 +68,19 @@ pub section_pieces : (out kind name level rest : List ℕ) (lines : List Fields)
 unfolding file_text
 section_pieces out kind name level rest lines e = simp (append_assoc, e)
 
+-- a section more behind the title
+pub titled_more : (ss : List Section) (s : Section) (text now : List ℕ) → text ≡ file_text (title ∷ sections_lines ss) → now ≡ text ++ file_text (section_lines s) → now ≡ file_text (title ∷ sections_lines (ss ++ s ∷ []))
+titled_more ss s text now before made =
+    made ∙ ap (λ t. t ++ file_text (section_lines s)) before ∙ sym (file_text-append (title ∷ sections_lines ss) (section_lines s)) ∙ ap (λ ls. file_text (title ∷ ls)) (sym (sections_more ss s))
+
 -- a whole certificate
-pub cert_pieces : (ss : List Section) → ((codes "quelea certificate 1\n") ++ file_text (sections_lines ss)) ++ codes "end\n" ≡ file_text (cert_lines ss)
-unfolding file_text
-cert_pieces ss = append_assoc (codes "quelea certificate 1\n") (file_text (sections_lines ss)) (codes "end\n") ∙ ap (λ r. codes "quelea certificate 1\n" ++ r) (sym (file_text-append (sections_lines ss) (end_line ∷ [])))
+pub titled_end : (ss : List Section) (text now : List ℕ) → text ≡ file_text (title ∷ sections_lines ss) → now ≡ text ++ file_text (end_line ∷ []) → now ≡ file_text (cert_lines ss)
+titled_end ss text now before made = made ∙ ap (λ t. t ++ file_text (end_line ∷ [])) before ∙ sym (file_text-append (title ∷ sections_lines ss) (end_line ∷ []))
 
 -- nothing is printed of no item
 pub nothing_behind : (out : List ℕ) → out ≡ out ++ behind []
 unfolding behind
 nothing_behind out = sym (append-nil out)
-
-pub no_lines : (out : List ℕ) → out ≡ out ++ file_text []
-unfolding file_text
-no_lines out = sym (append-nil out)
 
 pub no_numbered : (out : List ℕ) → out ≡ out ++ file_text (numbered 1 [])
 unfolding file_text numbered

@@ -1,53 +1,49 @@
-ghost use Rattle.std.specs.Prelude.{◌≡◌, ◌++◌, ◌∷◌, [], IfOk, OnOk, map};
-ghost use Rattle.std.specs.List.{AllByRecursion};
-ghost use Rattle.ql_lines.specs.Lines.{ahead_from};
+ghost use Rattle.std.specs.Prelude.{◌≡◌, ◌++◌, ◌∷◌, [], OnOk, map};
 ghost use Rattle.ql_lines.specs.Texts.{behind, file_text, joined};
-ghost use Rattle.ql_cert.specs.CertFile.{IsCertOf, IsSection, cert_lines, kind_word, level_word, section_lines, sections_lines};
-ghost use Rattle.ql_cert.specs.Faults.{fields_in};
+ghost use Rattle.ql_cert.specs.CertFile.{end_line, kind_word, level_word, section_lines, title};
 ghost use Rattle.ql_cert.specs.Spelling.{hint_field, line_fields, lit_field, numbered};
 
-use crate::cert::{Cert, Section, SectionLevel};
-use ql_base::{NoMemory, push_bytes, push_number};
+use crate::cert::SectionLevel;
+use ql_base::{NoMemory, Word, push_bytes, push_number};
 use ql_cnf::Lit;
 use ql_levels::{level_word, txn_word};
-use ql_refute::{Hint, Line};
-use std::alloc::Global;
+use ql_refute::{Hint, Line, Refutation};
 
-#[tactic(auto, using(crate::proofs::Plainness::again, crate::proofs::Printing::cert_pieces))]
-/// The text of a certificate: its lines in order, with one space between fields. Where its sections
-/// have a spelling, they are read of it again.
-pub fn print_cert(alloc: Global, c: &Cert) -> Result<Vec<u8>, NoMemory>
-    ensures text { IfOk result (λ text. text.items ≡ file_text (cert_lines c.now.sections)) }
-    ensures again { IfOk result (λ text. AllByRecursion IsSection c.now.sections → IsCertOf c.now.sections (fields_in (ahead_from 1 text.items).lines)) }
+/// Appends the line that begins a certificate. A certificate is printed as this line, its sections in order,
+/// and the line that ends it, with one space between fields.
+#[tactic(auto, unfolding(ql_lines::specs::Texts::file_text))]
+pub fn push_title(out: &mut Vec<u8>) -> Result<(), NoMemory>
+    ensures { OnOk result (out.new.items ≡ out.old.items ++ file_text (title ∷ [])) }
 {
-    let mut text = Vec::new(alloc);
-    push_bytes(&mut text, b"quelea certificate 1\n")?;
-    push_sections(&mut text, c.sections.items())?;
-    push_bytes(&mut text, b"end\n")?;
-    Ok(text)
+    push_bytes(out, b"quelea certificate 1\n")
 }
 
-fn push_sections(out: &mut Vec<u8>, sections: &[Section]) -> Result<(), NoMemory>
-    ensures { OnOk result (out.new.items ≡ out.old.items ++ file_text (sections_lines sections.now)) }
-{
-    for section in sections {
-        push_section(out, section)?;
-    }
-    Ok(())
-}
-
+/// Appends the lines of a section.
 #[tactic(auto, using(crate::proofs::Printing::section_pieces))]
-fn push_section(out: &mut Vec<u8>, section: &Section) -> Result<(), NoMemory>
-    ensures { OnOk result (out.new.items ≡ out.old.items ++ file_text (section_lines section.now)) }
+pub fn push_section(
+    out: &mut Vec<u8>,
+    name: Word,
+    level: SectionLevel,
+    refutation: &Refutation,
+) -> Result<(), NoMemory>
+    ensures { OnOk result (out.new.items ≡ out.old.items ++ file_text (section_lines (record { name = name; level = level; refutation = refutation.now }))) }
 {
-    let (kind, level) = words(section.level);
+    let (kind, word) = words(level);
     push_bytes(out, kind.as_bytes())?;
     push_bytes(out, b" ")?;
-    push_bytes(out, section.name.bytes())?;
+    push_bytes(out, name.bytes())?;
     push_bytes(out, b" ")?;
-    push_bytes(out, level.as_bytes())?;
+    push_bytes(out, word.as_bytes())?;
     push_bytes(out, b"\n")?;
-    push_lines(out, section.refutation.lines.items())
+    push_lines(out, refutation.lines.items())
+}
+
+/// Appends the line that ends a certificate.
+#[tactic(auto, unfolding(ql_lines::specs::Texts::file_text))]
+pub fn push_end(out: &mut Vec<u8>) -> Result<(), NoMemory>
+    ensures { OnOk result (out.new.items ≡ out.old.items ++ file_text (end_line ∷ [])) }
+{
+    push_bytes(out, b"end\n")
 }
 
 // The words of a target's kind and of its level.

@@ -1,12 +1,13 @@
 -- What the analysis of a conflict keeps.
 use mathlib.Core.List.{reverse-cons}
-use Rattle.std.proofs.Common.{◌≡◌, ◌≢◌, ℕ, zero, suc, ◌+◌, ◌<◌, ◌≤◌, Bool, true, false, cond, ◌||◌, List, [], ◌∷◌, ◌++◌, Option, Some, None, length, get_or, take, drop, refl, sym, ◌∙◌, ap, subst, ◌⊎◌, inl, inr, arith, drop-cons, add-one}
+use Rattle.std.proofs.Common.{◌≡◌, ◌≢◌, ℕ, zero, suc, ◌+◌, ◌-◌, ◌<◌, ◌≤◌, ◌^◌, Bool, true, false, cond, ◌||◌, List, [], ◌∷◌, ◌++◌, Option, Some, None, length, get_or, take, drop, refl, sym, ◌∙◌, ap, subst, ◌⊎◌, inl, inr, arith, drop-cons, add-one}
 use Rattle.std.proofs.lemmas.Bool.Decides.{nat_tests}
 use Rattle.std.proofs.lemmas.List.{drop_all, take-append-drop}
 use Rattle.std.proofs.lemmas.List.Elements.{All-push}
-use Rattle.std.specs.Prelude.{◌==◌, is_some, reverse}
+use Rattle.std.specs.Prelude.{◌==◌, is_some, reverse, slice_get}
 use Rattle.std.specs.List.{AllByRecursion, filter}
 use Rattle.std.specs.Option.{option_map}
+use Rattle.ql_cnf.specs.Literals.{IsAscending}
 use Rattle.ql_cnf.specs.Satisfaction.{ClauseList, AreInRange}
 use Rattle.ql_cnf.specs.declared.lit.Lit.{Lit}
 use Rattle.ql_refute.specs.Marks.{marked, has_variable}
@@ -17,10 +18,11 @@ use Rattle.ql_refute.specs.declared.refutation.Hint.{Hint}
 use Rattle.ql_refute.specs.declared.refutation.Hint.TheVariants.{Given, Earlier}
 use Rattle.ql_refute.specs.declared.refutation.Line.{Line}
 use Rattle.ql_refute.proofs.Steps.{from_reading}
-use Rattle.ql_sat.specs.Answer.{IsNumbered}
+use Rattle.ql_sat.specs.Answer.{IsNumbered, IsNumberedLine}
 use Rattle.ql_sat.specs.Trail.{assigned_from, IsStep, IsTrail, IsSearching, IsFalseClause, is_seen, NoneSeen, NothingSeen, SeenHaveValues, IsDerived, IsAnalysis}
 use Rattle.ql_sat.specs.declared.trail.Step.{Step}
 use Rattle.ql_sat.proofs.GoodLines.{pushed_good}
+use Rattle.ql_sat.proofs.Numbers.{get_of}
 use Rattle.ql_sat.proofs.Trails.{Absent, absent, grows, trail-back, trail-more, assigned-append, head_fails, head_alone, closed_value, closed_list, derived_start, derived_skip, derived_resolve}
 
 is_same : (a b : ℕ) → (a == b) ≡ true → a ≡ b
@@ -92,18 +94,21 @@ pub all_reverse : {A : Type 0} (P : A → Type 0) (xs : List A) → AllByRecursi
 all_reverse P [] all = tt
 all_reverse P (x ∷ xs) all = subst (AllByRecursion P) (sym (reverse-cons x xs)) (all_push P (reverse xs) x (all_reverse P xs all.1) all.0)
 
--- what names a clause has a number from 1
-number_named : {X : Type 0} → (xs : List X) (n : ℕ) (x : X) → numbered xs n ≡ Some x → 1 ≤ n
-number_named xs zero x h = absurd (cc)
-number_named xs (suc n) x h = omega arith
-
-hint_numbered : (c : ClauseList) (lines : List Line) (h : Hint) (d : List Lit) → hinted c lines h ≡ Some d → IsNumbered h
-hint_numbered c lines (Given n) d names = number_named c.clauses n d names
-hint_numbered c lines (Earlier n) d names = line_named (numbered lines n) refl names
+-- what names an item has its number
+number_named : {X : Type 0} → (xs : List X) (n : ℕ) (x : X) → numbered xs n ≡ Some x → (1 ≤ n) × (n ≤ length xs)
+number_named {X} xs n x h = step (n == 0) refl h
   where
-    line_named : (o : Option Line) → numbered lines n ≡ o → option_map (λ line. line.clause) o ≡ Some d → 1 ≤ n
+    step : (b : Bool) → (n == 0) ≡ b → cond b None (slice_get xs (n - 1)) ≡ Some x → (1 ≤ n) × (n ≤ length xs)
+    step true e g = absurd (cc)
+    step false e g = let there = get_of xs (n - 1) x x g in let low : 1 ≤ n = grind (arith, nat_tests) in (low, omega (arith, low, there.0))
+
+hint_numbered : (c : ClauseList) (lines : List Line) (trail : List Step) (m : List ℕ) (h : Hint) (d : List Lit) → IsSearching c lines trail m → hinted c lines h ≡ Some d → IsNumbered h
+hint_numbered c lines trail m (Given n) d searching names = let number = number_named c.clauses n d names in (number.0, omega (arith, number.1, searching.few))
+hint_numbered c lines trail m (Earlier n) d searching names = line_named (numbered lines n) refl names
+  where
+    line_named : (o : Option Line) → numbered lines n ≡ o → option_map (λ line. line.clause) o ≡ Some d → (1 ≤ n) × (n < 2 ^ 64)
     line_named None is g = absurd (cc)
-    line_named (Some line) is g = number_named lines n line is
+    line_named (Some line) is g = let number = number_named lines n line is in (number.0, omega (arith, number.1, searching.numbered.few))
 
 -- only the variables of the conflict are seen
 pub analysis_begin : (c : ClauseList) (lines : List Line) (trail : List Step) (m : List ℕ) (before seen : List Bool) (h : Hint) (d : List Lit) → IsSearching c lines trail m → hinted c lines h ≡ Some d → reading (marked m) d ≡ AllFalse → AreInRange c.variables d → NothingSeen before → ((v : ℕ) → is_seen seen v ≡ (has_variable d v || is_seen before v)) → IsAnalysis c lines trail (length trail) seen (h ∷ [])
@@ -114,7 +119,7 @@ analysis_begin c lines trail m before seen h d searching names closed inside not
       derived = subst (λ (later : List Step). IsDerived c lines trail later seen (h ∷ [])) (sym none_left) (derived_start c lines trail seen h d names closed_there (λ v e. sees v ∙ or_left (has_variable d v) (is_seen before v) e));
       values = λ v e. valued v closed_there (from v (sym (sees v) ∙ e));
       none = subst (λ (later : List Step). NoneSeen seen later) (sym none_left) tt;
-      numbered = (hint_numbered c lines h d names, tt);
+      numbered = (hint_numbered c lines trail m h d searching names, tt);
     }
   where
     from : (v : ℕ) → (has_variable d v || is_seen before v) ≡ true → has_variable d v ≡ true
@@ -195,7 +200,7 @@ analysis_resolve c lines trail m q e seen mid now hints h d searching l reason n
       derived = subst (λ (later : List Step). IsDerived c lines trail later now (hints ++ h ∷ [])) (sym (drop-cons trail q e l)) parts.0;
       values = parts.1;
       none = subst (λ (later : List Step). NoneSeen now later) (sym (drop-cons trail q e l)) parts.2;
-      numbered = all_push IsNumbered hints h analysis.numbered (hint_numbered c lines h d names);
+      numbered = all_push IsNumbered hints h analysis.numbered (hint_numbered c lines trail m h d searching names);
     }
   where
     whole : (t xs ys : List Step) (s : Step) → t ≡ xs ++ s ∷ ys → s.reason ≡ Some h → IsTrail c lines nothing t → IsDerived c lines t ys seen hints → SeenHaveValues c.variables t seen → NoneSeen seen ys → ((v : ℕ) → is_seen now v ≡ cond (v == s.lit.var) false (is_seen mid v)) → IsDerived c lines t (s ∷ ys) now (hints ++ h ∷ []) × SeenHaveValues c.variables t now × NoneSeen now (s ∷ ys)
@@ -215,12 +220,21 @@ analysis_skip c lines trail q e seen hints l unseen analysis =
       numbered = analysis.numbered;
     }
 
+in_range_small : (n : ℕ) (xs : List Lit) → n < 2 ^ 32 → AreInRange n xs → AllByRecursion (λ (x : Lit). (1 ≤ x.var) × (x.var < 2 ^ 32)) xs
+in_range_small n [] small h = tt
+in_range_small n (x ∷ xs) small h = let first = h zero x (omega arith) in ((first.0, omega (arith, first.1, small)), in_range_small n xs small (λ k d l. h (suc k) d (omega arith)))
+
 -- a good line more
-pub searching_keep : (c : ClauseList) (lines : List Line) (trail : List Step) (m : List ℕ) (clause : List Lit) (hints : List Hint) → IsSearching c lines trail m → AreInRange c.variables clause → hints_fault c lines (length lines + 1) hints (with_all_false nothing clause) ≡ None → AllByRecursion IsNumbered hints → IsSearching c (lines ++ record { clause = clause; hints = hints } ∷ []) trail m
-searching_keep c lines trail m clause hints searching inside none numbers = record {
+pub searching_keep : (c : ClauseList) (lines : List Line) (trail : List Step) (m : List ℕ) (clause : List Lit) (hints : List Hint) → IsSearching c lines trail m → AreInRange c.variables clause → IsAscending clause → hints_fault c lines (length lines + 1) hints (with_all_false nothing clause) ≡ None → AllByRecursion IsNumbered hints → length (lines ++ record { clause = clause; hints = hints } ∷ []) < 2 ^ 64 → IsSearching c (lines ++ record { clause = clause; hints = hints } ∷ []) trail m
+searching_keep c lines trail m clause hints searching inside ascending none numbers few = record {
+  few = searching.few;
+  variables = searching.variables;
   good = pushed_good c lines clause hints searching.good inside none;
   in_range = All-push (λ (line : Line). AreInRange c.variables line.clause) lines (record { clause = clause; hints = hints }) searching.in_range inside;
-  numbered = all_push (λ (line : Line). AllByRecursion IsNumbered line.hints) lines (record { clause = clause; hints = hints }) searching.numbered numbers;
+  numbered = record {
+    each = all_push IsNumberedLine lines (record { clause = clause; hints = hints }) searching.numbered.each (record { variables = in_range_small c.variables clause searching.variables inside; ascending = ascending; hints = numbers });
+    few = few;
+  };
   steps = trail-more c lines (record { clause = clause; hints = hints } ∷ []) nothing trail searching.steps;
   values = searching.values;
   room = searching.room;

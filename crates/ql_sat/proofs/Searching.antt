@@ -1,5 +1,5 @@
 -- The steps of a search keep what holds between them.
-use Rattle.std.proofs.Common.{◌≡◌, ◌≢◌, ℕ, zero, suc, ◌+◌, ◌<◌, ◌≤◌, Bool, true, false, List, [], ◌∷◌, ◌++◌, None, length, refl, sym, ◌∙◌, ap, subst, arith, get_or-set_other}
+use Rattle.std.proofs.Common.{◌≡◌, ◌≢◌, ℕ, zero, suc, ◌+◌, ◌<◌, ◌≤◌, ◌^◌, Bool, true, false, List, [], ◌∷◌, ◌++◌, None, length, refl, sym, ◌∙◌, ap, subst, arith, get_or-set_other}
 use Rattle.std.proofs.lemmas.Bool.Decides.{nat_tests}
 use Rattle.std.proofs.Math.ListN.{length-set, replicate}
 use Rattle.std.proofs.lemmas.List.{length_push}
@@ -23,6 +23,8 @@ searching_push c lines trail marks s h below step = record {
   good = h.good;
   in_range = h.in_range;
   numbered = h.numbered;
+  few = h.few;
+  variables = h.variables;
   steps = trail-push c lines nothing trail s h.steps (subst (λ (p : Partial). IsStep c lines p s) h.values step);
   values = marked-set marks s.lit below ∙ ap (λ (p : Partial). with_true p s.lit) h.values ∙ sym (assigned-append nothing trail (s ∷ []));
   room = length-set marks s.lit.var (mark_of s.lit.positive) ∙ h.room;
@@ -48,11 +50,13 @@ clear_zeros (suc n) zero = refl
 clear_zeros (suc n) (suc v) = clear_zeros n v
 
 -- before the first step
-pub searching_start : (c : ClauseList) (marks : List ℕ) → IsClear marks → length marks ≡ c.variables + 1 → IsSearching c [] [] marks
-searching_start c marks clear long = record {
+pub searching_start : (c : ClauseList) (marks : List ℕ) → IsClear marks → length marks ≡ c.variables + 1 → length c.clauses < 2 ^ 32 → c.variables < 2 ^ 32 → IsSearching c [] [] marks
+searching_start c marks clear long few small = record {
   good = refl;
   in_range = λ k d l. absurd (omega arith);
-  numbered = tt;
+  numbered = record { each = tt; few = omega arith };
+  few = few;
+  variables = small;
   steps = tt;
   values = marked-clear marks clear;
   room = long;
@@ -89,6 +93,8 @@ searching_pop c lines trail s marks h = record {
   good = h.good;
   in_range = h.in_range;
   numbered = h.numbered;
+  few = h.few;
+  variables = h.variables;
   steps = trail-front c lines nothing trail (s ∷ []) h.steps;
   values = marked-unset (assigned_from nothing trail) s.lit marks (h.values ∙ assigned-append nothing trail (s ∷ [])) (fresh c lines (assigned_from nothing trail) s (trail-back c lines nothing trail (s ∷ []) h.steps).0);
   room = length-set marks s.lit.var 0 ∙ h.room;

@@ -1,6 +1,7 @@
 -- When an answer is right.
-use Rattle.std.specs.Prelude.{◌≡◌, ◌≤◌, List}
+use Rattle.std.specs.Prelude.{◌≡◌, ◌≤◌, ◌<◌, ◌^◌, List, length}
 use Rattle.std.specs.List.{AllByRecursion}
+use Rattle.ql_cnf.specs.Literals.{IsAscending}
 use Rattle.ql_cnf.specs.Satisfaction.{ClauseList, Satisfies}
 use Rattle.ql_refute.specs.Verdict.{verdict}
 use Rattle.ql_refute.specs.declared.refutation.Hint.{Hint}
@@ -15,16 +16,23 @@ abbrev pub IsRight : ClauseList → Decided → Type 0
 IsRight c (Model a) = Satisfies a c
 IsRight c (Refuted r) = verdict c r.lines ≡ Accepted
 
--- the number of a hint is one from 1
+-- the number of a hint counts from 1, and fits its type
 abbrev pub IsNumbered : Hint → Type 0
-IsNumbered (Given n) = 1 ≤ n
-IsNumbered (Earlier n) = 1 ≤ n
+IsNumbered (Given n) = (1 ≤ n) × (n < 2 ^ 32)
+IsNumbered (Earlier n) = (1 ≤ n) × (n < 2 ^ 64)
 
--- those of all hints of the lines are
-abbrev pub AreNumbered : List Line → Type 0
-AreNumbered lines = AllByRecursion (λ line. AllByRecursion IsNumbered line.hints) lines
+-- so do the variables of a line, which ascend, and its hints
+pub record IsNumberedLine (line : Line) : Type 0 where
+  pub variables : AllByRecursion (λ x. (1 ≤ x.var) × (x.var < 2 ^ 32)) line.clause
+  pub ascending : IsAscending line.clause
+  pub hints : AllByRecursion IsNumbered line.hints
 
--- those of a refutation are
+-- so do those of each line, and the lines themselves
+pub record AreNumbered (lines : List Line) : Type 0 where
+  pub each : AllByRecursion IsNumberedLine lines
+  pub few : length lines < 2 ^ 64
+
+-- those of a refutation do
 abbrev pub HasNumbers : Decided → Type 0
 HasNumbers (Model a) = Unit {0}
 HasNumbers (Refuted r) = AreNumbered r.lines

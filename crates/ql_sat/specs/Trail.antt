@@ -34,6 +34,8 @@ IsTrail c lines p (s ∷ ss) = IsStep c lines p s × IsTrail c lines (with_true 
 
 -- what holds between the steps of a search
 pub record IsSearching (c : ClauseList) (lines : List Line) (trail : List Step) (marks : List ℕ) : Type 0 where
+  pub few : length c.clauses < 2 ^ 32
+  pub variables : c.variables < 2 ^ 32
   pub good : AreGood c lines
   pub in_range : LinesInRange c.variables lines
   pub numbered : AreNumbered lines

@@ -1,5 +1,5 @@
 // What guides the search; no contract of the solver speaks of it.
-ghost use Rattle.std.specs.Prelude.{[], IfOk};
+ghost use Rattle.std.specs.Prelude.{◌<◌, ◌^◌, [], IfOk, OnOk, length};
 ghost use Rattle.ql_sat.specs.Settled.{IsWatched};
 
 use crate::order::Order;
@@ -18,7 +18,8 @@ pub(crate) struct Guide {
 
 impl Guide {
     pub fn new(alloc: Global, c: &Clauses) -> Result<Guide, NoMemory>
-        ensures { IfOk result (λ guide. IsWatched c.now [] guide.watches.lists.items guide.watches.pairs.items guide.queue.done) }
+        ensures few { OnOk result (length c.now.clauses < 2 ^ 32) }
+        ensures watched { IfOk result (λ guide. IsWatched c.now [] guide.watches.lists.items guide.watches.pairs.items guide.queue.done) }
     {
         Ok(Guide {
             queue: Queue::new(alloc, c)?,

@@ -1,7 +1,8 @@
 // From each conflict a learned clause, resolved backwards along the trail to one literal of the last
 // decisions.
 ghost use Rattle.std.specs.List.{AllByRecursion, slice_index_or};
-ghost use Rattle.std.specs.Prelude.{◌≡◌, ◌++◌, ◌∷◌, ◌||◌, is_some, ℕ, ◌+◌, ◌<◌, drop, [], false, length, IfNone, IfOk, IfSome, if◌then◌else◌, ◌==◌, List, MatchOption, OnOk, None, Some, take, true};
+ghost use Rattle.std.specs.Prelude.{◌≡◌, ◌++◌, ◌∷◌, ◌||◌, is_some, ℕ, ◌+◌, ◌<◌, ◌^◌, drop, [], false, length, IfNone, IfOk, IfSome, if◌then◌else◌, ◌==◌, List, MatchOption, OnOk, None, Some, take, true};
+ghost use Rattle.ql_cnf.specs.Literals.{IsAscending};
 ghost use Rattle.ql_cnf.specs.Satisfaction.{AreInRange};
 ghost use Rattle.ql_cnf.specs.declared.lit.Lit.{Lit};
 ghost use Rattle.ql_refute.specs.Marks.{AllBelow, has_variable, marked};
@@ -335,6 +336,8 @@ fn push_line(
 ) -> Result<u64, NoMemory>
     ensures pushed { OnOk result (lines.new.items ≡ lines.old.items ++ record { clause = clause.now; hints = hints.items } ∷ []) }
     ensures number { IfOk result (λ number. number ≡ length lines.old.items + 1) }
+    ensures few { OnOk result (length lines.new.items < 2 ^ 64) }
+    ensures ascending { OnOk result (IsAscending clause.now) }
 {
     let literals = Vec::from_slice(alloc, clause.items())?;
     lines.push(Line {

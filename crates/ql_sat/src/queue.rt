@@ -1,5 +1,5 @@
 // What is still to be propagated.
-ghost use Rattle.std.specs.Prelude.{◌≡◌, IfOk};
+ghost use Rattle.std.specs.Prelude.{◌≡◌, ◌<◌, ◌^◌, IfOk, length};
 
 use ql_base::NoMemory;
 use ql_cnf::Clauses;
@@ -15,7 +15,8 @@ pub(crate) struct Queue {
 
 impl Queue {
     pub fn new(alloc: Global, c: &Clauses) -> Result<Queue, NoMemory>
-        ensures { IfOk result (λ queue. queue.done ≡ 0) }
+        ensures done { IfOk result (λ queue. queue.done ≡ 0) }
+        ensures few { length c.now.clauses < 2 ^ 32 }
     {
         let mut units = Vec::new(alloc);
         for k in 0..c.len() {

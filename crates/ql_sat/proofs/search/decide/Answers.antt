@@ -16,8 +16,8 @@ turns-init c =
     let clear : IsClear c.in_ok-marks.marks.items = subst IsClear (sym zeros) (clear_zeros (c.variables.result + 1)) in
     let long : length c.in_ok-marks.marks.items ≡ c.args.c.now.variables + 1 = ap length zeros ∙ length-replicate (c.variables.result + 1) 0 ∙ ap (λ n. n + 1) c.variables.ensures in
     record {
-      searching = rw (c.new-lines.ensures.items, c.new-trail.ensures.items) (searching_start c.args.c.now c.in_ok-marks.marks.items clear long);
-      watched = rw (c.new-lines.ensures.items, c.new-trail.ensures.items, no_lines c.args.c.now) c.in_ok-guide.ensures;
+      searching = rw (c.new-lines.ensures.items, c.new-trail.ensures.items) (searching_start c.args.c.now c.in_ok-marks.marks.items clear long c.in_ok-guide.ensures.few (omega (arith, c.variables.ensures, c.variables.type_inv)));
+      watched = rw (c.new-lines.ensures.items, c.new-trail.ensures.items, no_lines c.args.c.now) c.in_ok-guide.ensures.watched;
       seen = omega (arith, c.in_ok-seen.ensures.len, c.in_ok-seen.seen.ok.0, c.variables-2.ensures);
     }
 
