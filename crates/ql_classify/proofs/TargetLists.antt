@@ -8,7 +8,7 @@ use Rattle.ql_levels.specs.declared.level.Level.{Level}
 use Rattle.ql_levels.specs.declared.level.TxnLevel.{TxnLevel}
 use Rattle.ql_typing.specs.Operations.{all_ops}
 use Rattle.ql_ground.specs.declared.goal.Goal.{Goal}
-use Rattle.ql_ground.specs.OfPrograms.{IsImplied}
+use Rattle.ql_implication.specs.Contracts.{GivesContract}
 use Rattle.ql_classify.specs.Classification.{Classification}
 use Rattle.ql_classify.specs.Goals.{IsSatisfiedBy}
 use Rattle.ql_classify.specs.Kept.{IsClassified}
@@ -104,8 +104,8 @@ module _ (p : Program) where
   pub all_least : (levels : LevelLists) (evidence : List Evidence) → AllZip (IsEvidence p) (goals_at levels) evidence → All (IsLeastLevel p) (goals_at levels)
   all_least levels evidence h = zip-all (IsEvidence p) (IsLeastLevel p) (least p) (goals_at levels) evidence h
 
-  pub all_implied : (levels : LevelLists) (evidence : List Evidence) → AllZip (IsEvidence p) (goals_at levels) evidence → All (IsImplied p) (goals_at levels)
-  all_implied levels evidence h = zip-all (IsEvidence p) (IsImplied p) (λ g e v. v.enough.2) (goals_at levels) evidence h
+  pub all_implied : (levels : LevelLists) (evidence : List Evidence) → AllZip (IsEvidence p) (goals_at levels) evidence → All (GivesContract p) (goals_at levels)
+  all_implied levels evidence h = zip-all (IsEvidence p) (GivesContract p) (λ g e v. v.enough.2) (goals_at levels) evidence h
 
   pub count_evidence : (levels : LevelLists) (evidence : List Evidence) → length levels.ops ≡ length (all_ops p.types) → length levels.txns ≡ length p.txns → AllZip (IsEvidence p) (goals_at levels) evidence → length evidence ≡ targets p
   count_evidence levels evidence n m h = omega (arith, zip-length (IsEvidence p) (goals_at levels) evidence h, length-append (ops_from 0 levels.ops) (txns_from 0 levels.txns), length-ops 0 levels.ops, length-txns 0 levels.txns, n, m)

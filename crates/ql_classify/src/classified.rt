@@ -1,7 +1,7 @@
 ghost use Rattle.std.specs.Prelude.{◌≡◌, ◌<◌, length, option_copied, slice_get, Some};
 ghost use Rattle.std.specs.List.{All};
-ghost use Rattle.ql_ground.specs.OfPrograms.{IsImplied};
 ghost use Rattle.ql_ground.specs.declared.goal.Goal.{Goal};
+ghost use Rattle.ql_implication.specs.Contracts.{GivesContract};
 ghost use Rattle.ql_typing.specs.Operations.{all_ops};
 ghost use Rattle.ql_sat.specs.Answer.{AreNumbered};
 ghost use Rattle.ql_classify.specs.Goals.{IsRefutedBy};
@@ -72,7 +72,7 @@ impl<'a> Classified<'a> {
         ensures least { All (IsLeastLevel self.now.program) (goals_at self.now.levels) }
 
         // In every execution of the program what a level promises gives its target's contract.
-        ensures implied { All (IsImplied self.now.program) (goals_at self.now.levels) }
+        ensures implied { All (GivesContract self.now.program) (goals_at self.now.levels) }
 
         // No transaction uses a strong operation.
         ensures accepted { IsAccepted self.now.program }
