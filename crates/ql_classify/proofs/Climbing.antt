@@ -19,7 +19,8 @@ use Rattle.ql_classify.specs.declared.evidence.Evidence.{Evidence}
 use Rattle.ql_classify.specs.declared.evidence.Search.{Search}
 use Rattle.ql_classify.specs.declared.evidence.Search.TheVariants as search
 use Rattle.ql_classify.specs.Found.{IsAnswer, IsSearch}
-use Rattle.ql_classify.specs.Goals.{IsSatisfiedBy, IsEnough, IsFirstRefuted, IsLastSatisfied}
+use Rattle.ql_counter.specs.Countermodels.{IsSatisfiedBy}
+use Rattle.ql_classify.specs.Goals.{IsEnough, IsFirstRefuted, IsLastSatisfied}
 
 pub zip_push : {A B : Type 0} (R : A → B → Type 0) (xs : List A) (ys : List B) (x : A) (y : B) → AllZip R xs ys → R x y → AllZip R (xs ++ x ∷ []) (ys ++ y ∷ [])
 zip_push R [] [] x y h r = (r, tt)

@@ -7,7 +7,7 @@ use Rattle.ql_typing.specs.Operations.{all_ops}
 use Rattle.ql_ground.specs.declared.goal.Goal.{Goal}
 use Rattle.ql_ground.specs.declared.goal.Goal.TheVariants.{OpAt, TxnAt}
 use Rattle.ql_implication.specs.Contracts.{GivesContract}
-use Rattle.ql_classify.specs.Goals.{IsSatisfiedBy}
+use Rattle.ql_counter.specs.Countermodels.{IsSatisfiedBy}
 use Rattle.ql_classify.specs.Targets.{IsLeastLevel, goals_below}
 use Rattle.ql_classify.specs.declared.finding.Unmet.{Unmet}
 use Rattle.ql_classify.specs.declared.finding.Finding.{Finding}

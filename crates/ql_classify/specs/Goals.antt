@@ -1,6 +1,7 @@
 -- What an answer shows of a goal, and what a search through goals finds.
 use Rattle.std.specs.Prelude.{◌≡◌, Bool, List, [], ◌∷◌}
-use Rattle.ql_cnf.specs.Satisfaction.{ClauseList, Satisfies}
+use Rattle.ql_cnf.specs.Satisfaction.{ClauseList}
+use Rattle.ql_counter.specs.Countermodels.{IsSatisfiedBy}
 use Rattle.ql_ground.specs.declared.goal.Goal.{Goal}
 use Rattle.ql_ground.specs.OfPrograms.{IsProblemOf}
 use Rattle.ql_implication.specs.Contracts.{GivesContract}
@@ -9,10 +10,6 @@ use Rattle.ql_refute.specs.Verdict.{verdict}
 use Rattle.ql_refute.specs.declared.refutation.Line.{Line}
 use Rattle.ql_refute.specs.declared.verdict.Verdict.TheVariants.{Accepted}
 use Rattle.ql_sat.specs.Answer.{AreNumbered}
-
--- the assignment satisfies the goal's problem
-abbrev pub IsSatisfiedBy : Program → Goal → List Bool → Type 0
-IsSatisfiedBy p g a = (c : ClauseList) × IsProblemOf p g c × Satisfies a c
 
 -- the checker accepts the lines as a refutation of the goal's problem
 abbrev pub IsRefutedBy : Program → Goal → List Line → Type 0

@@ -1,10 +1,7 @@
 -- What the commands on levels tell, over executions.
 use Rattle.std.proofs.Common.{◌≡◌, inl, inr, ◌⊎◌, ℕ, suc, List, [], ◌∷◌, ◌++◌, refl, sym, ap, ◌∙◌, append_assoc}
-use Rattle.std.specs.List.{slice_index_or}
 use Rattle.ql_cert.specs.declared.cert.Section.{Section}
-use Rattle.ql_classify.specs.Targets.{goals_at}
 use Rattle.ql_lang.specs.declared.program.Program.{Program}
-use Rattle.ql_levels.specs.Lists.{LevelLists}
 use Rattle.ql_refute.specs.Verdict.{verdict}
 use Rattle.ql_refute.specs.declared.verdict.Verdict.TheVariants.{Accepted}
 use Rattle.ql_commands.specs.declared.answer.Answer.{Answer}
@@ -12,29 +9,14 @@ use Rattle.ql_commands.specs.declared.answer.Answer.TheVariants.{Done, No}
 use Rattle.ql_commands.specs.Check.{CheckSays, Tells, order_text, section_text, verdict_text}
 use Rattle.ql_commands.specs.Check.Tells.{all, accepted, refused}
 use Rattle.ql_commands.specs.Classify.{ClassifySays}
-use Rattle.ql_commands.specs.Levels.{AreLevelsOf}
-use Rattle.ql_implied.specs.Commands.{AcceptsFront, AreEnough, AreLeast, TellsAccepted, TellsLeast, TellsLevels, TellsNone, accepted_lines}
-use Rattle.ql_least.proofs.Fails.{lower_fail, top_fails}
-
-pub levels_enough : (p : Program) (levels : LevelLists) → AreLevelsOf p levels → AreEnough p levels
-levels_enough p levels are = record {
-  ops = are.ops;
-  txns = are.txns;
-  each = are.implied;
-}
+use Rattle.ql_implied.specs.Commands.{AcceptsFront, TellsAccepted, TellsLeast, TellsLevels, TellsNone, accepted_lines}
+use Rattle.ql_classify.proofs.Fails.{top_fails}
 
 pub levels_told : (source text : List ℕ) → ClassifySays source Done text → TellsLevels source text
-levels_told source text says = (says.0, says.1, says.2, levels_enough says.0 says.2 says.3, says.4)
+levels_told source text says = (says.0, says.1, says.2, says.3.least.enough, says.4)
 
 pub levels_least : (source text : List ℕ) → ClassifySays source Done text → TellsLeast source text
-levels_least source text says =
-    let p = says.0 in
-    let levels = says.2 in
-    let least : AreLeast p levels = record {
-      enough = levels_enough p levels says.3;
-      lower = λ k d l. lower_fail p says.1.1 (slice_index_or (goals_at levels) k d) (says.3.least k d l);
-    } in
-    (p, says.1, levels, least, says.4)
+levels_least source text says = (says.0, says.1, says.2, says.3.least, says.4)
 
 pub none_told : (source text : List ℕ) → ClassifySays source No text → TellsNone source text
 none_told source text says = (says.0, says.1, says.2.0, top_fails says.0 says.1.1 says.2.0 says.2.1, says.2.2)
