@@ -20,7 +20,7 @@ use Rattle.ql_implication.specs.Contracts.{GivesContract}
 abbrev pub TellsLevels : List ℕ → List ℕ → Type 0
 TellsLevels source text = (p : Program) × IsSourceOf source p × (levels : LevelLists) × AreEnough p levels × (text ≡ levels_text p levels)
 
--- and each lower one fails in some execution of the program
+-- the text tells the least levels of the source
 abbrev pub TellsLeast : List ℕ → List ℕ → Type 0
 TellsLeast source text = (p : Program) × IsSourceOf source p × (levels : LevelLists) × AreLeast p levels × (text ≡ levels_text p levels)
 
