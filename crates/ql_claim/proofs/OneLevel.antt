@@ -13,7 +13,7 @@ use Rattle.ql_ground.specs.declared.goal.Goal.{Goal}
 use Rattle.ql_ground.specs.declared.goal.Goal.TheVariants.{OpAt, TxnAt}
 use Rattle.ql_implication.specs.Countermodels.{IsCounter, IsTxnCounter}
 use Rattle.ql_implication.specs.Executions.{IsImplied, IsImpliedTxn}
-use Rattle.ql_implication.specs.Contracts.{GivesContract}
+use Rattle.ql_implication.specs.OfPrograms.{GivesContract}
 use Rattle.ql_classify.specs.Least.{AreLeast, EachFails, LowerFail}
 use Rattle.ql_lang.specs.Formulas.{Resolved}
 use Rattle.ql_lang.specs.declared.program.Program.{Program}

@@ -7,7 +7,7 @@ use Rattle.ql_lang.specs.declared.program.Program.{Program}
 use Rattle.ql_refute.specs.declared.refutation.Line.{Line}
 use Rattle.ql_cnf.specs.Satisfaction.{ClauseList, IsUnsatisfiable}
 use Rattle.ql_ground.specs.OfPrograms.{IsProblemOf, IsImplied}
-use Rattle.ql_implication.proofs.Contracts.{problem_gives}
+use Rattle.ql_implication.proofs.OfPrograms.{problem_gives}
 use Rattle.ql_refute.proofs.Soundness.{accepted_is_unsatisfiable}
 use Rattle.ql_sat.specs.Answer.{HasNumbers, IsRight}
 use Rattle.ql_sat.specs.declared.decided.Decided.{Decided}

@@ -9,7 +9,7 @@ use Rattle.ql_levels.specs.declared.level.TxnLevel.{TxnLevel}
 use Rattle.ql_typing.specs.Operations.{all_ops}
 use Rattle.ql_typing.specs.Programs.{program_faults}
 use Rattle.ql_ground.specs.declared.goal.Goal.{Goal}
-use Rattle.ql_implication.specs.Contracts.{GivesContract}
+use Rattle.ql_implication.specs.OfPrograms.{GivesContract}
 use Rattle.ql_classify.specs.Classification.{Classification}
 use Rattle.ql_counter.specs.Countermodels.{IsSatisfiedBy}
 use Rattle.ql_classify.specs.Kept.{IsClassified}

@@ -4,7 +4,7 @@ use Rattle.ql_cnf.specs.Satisfaction.{ClauseList}
 use Rattle.ql_counter.specs.Countermodels.{IsSatisfiedBy}
 use Rattle.ql_ground.specs.declared.goal.Goal.{Goal}
 use Rattle.ql_ground.specs.OfPrograms.{IsProblemOf}
-use Rattle.ql_implication.specs.Contracts.{GivesContract}
+use Rattle.ql_implication.specs.OfPrograms.{GivesContract}
 use Rattle.ql_lang.specs.declared.program.Program.{Program}
 use Rattle.ql_refute.specs.Verdict.{verdict}
 use Rattle.ql_refute.specs.declared.refutation.Line.{Line}

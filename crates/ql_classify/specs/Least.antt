@@ -7,7 +7,7 @@ use Rattle.ql_levels.specs.declared.level.Level.TheVariants.{Strong}
 use Rattle.ql_levels.specs.declared.level.TxnLevel.TheVariants.{Rr}
 use Rattle.ql_typing.specs.Operations.{all_ops}
 use Rattle.ql_ground.specs.declared.goal.Goal.{Goal}
-use Rattle.ql_implication.specs.Contracts.{GivesContract}
+use Rattle.ql_implication.specs.OfPrograms.{GivesContract}
 use Rattle.ql_counter.specs.Countermodels.{HasCounter}
 use Rattle.ql_classify.specs.Outcome.{IsAccepted}
 use Rattle.ql_classify.specs.Targets.{IsLeastLevel, goals_at, goals_below, op_at, txn_at}

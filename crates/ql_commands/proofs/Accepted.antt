@@ -49,7 +49,7 @@ one-problem q (TxnAt o level) c d h g =
 
 none-refused : (q : Program) (place : ℕ) (ss : List Section) (a : Answer) (text : List ℕ) → Tells q place ss a text → AreRefuted q place ss → a ≡ No → ⊥
 none-refused q place ss a text (all k) h is = absurd (cc)
-none-refused q place ss a text (accepted k s more b rest refuted implied tells) h is = none-refused q (suc k) more b rest tells h.1 is
+none-refused q place ss a text (accepted k s more b rest refuted gives tells) h is = none-refused q (suc k) more b rest tells h.1 is
 none-refused q place ss a text (refused k s more c problem not) h is =
     not (ap (λ (d : ClauseList). verdict d s.refutation.lines) (one-problem q (goal_of q k s) c h.0.0 problem h.0.1) ∙ h.0.2)
 

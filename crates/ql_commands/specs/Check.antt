@@ -12,7 +12,7 @@ use Rattle.ql_classify.specs.Targets.{op_at, txn_at}
 use Rattle.ql_cnf.specs.Satisfaction.{ClauseList}
 use Rattle.ql_ground.specs.OfPrograms.{IsProblemOf}
 use Rattle.ql_ground.specs.declared.goal.Goal.{Goal}
-use Rattle.ql_implication.specs.Contracts.{GivesContract}
+use Rattle.ql_implication.specs.OfPrograms.{GivesContract}
 use Rattle.ql_lang.specs.declared.program.Program.{Program}
 use Rattle.ql_lines.specs.Lines.{ahead_from}
 use Rattle.ql_refute.specs.Verdict.{verdict}

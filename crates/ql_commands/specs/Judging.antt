@@ -4,7 +4,7 @@ use Rattle.ql_cert.specs.declared.cert.Section.{Section}
 use Rattle.ql_cnf.specs.Satisfaction.{ClauseList}
 use Rattle.ql_ground.specs.OfPrograms.{IsProblemOf}
 use Rattle.ql_ground.specs.declared.goal.Goal.{Goal}
-use Rattle.ql_implication.specs.Contracts.{GivesContract}
+use Rattle.ql_implication.specs.OfPrograms.{GivesContract}
 use Rattle.ql_lang.specs.declared.program.Program.{Program}
 use Rattle.ql_refute.specs.Verdict.{verdict}
 use Rattle.ql_refute.specs.declared.refutation.Line.{Line}
@@ -22,4 +22,4 @@ pub record IsVerdictOn (p : Program) (g : Goal) (lines : List Line) (v : Verdict
   pub clauses : ClauseList
   pub problem : IsProblemOf p g clauses
   pub verdict_is : verdict clauses lines ≡ v
-  pub implied : v ≡ Accepted → GivesContract p g
+  pub gives : v ≡ Accepted → GivesContract p g

@@ -1,5 +1,5 @@
 pub mod Plain
 pub mod Chains
 pub mod Same
-pub mod Contracts
+pub mod OfPrograms
 mod Promises

@@ -1,3 +1,3 @@
 pub mod Executions
 pub mod Countermodels
-pub mod Contracts
+pub mod OfPrograms

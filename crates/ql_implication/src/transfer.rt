@@ -7,7 +7,7 @@ ghost use Rattle.ql_levels.specs.declared.level.TxnLevel.{TxnLevel};
 ghost use Rattle.ql_ground.specs.Implication.{Implies, ImpliesTxn};
 ghost use Rattle.ql_ground.specs.OfPrograms as ground;
 ghost use Rattle.ql_ground.specs.declared.goal.Goal.{Goal};
-ghost use Rattle.ql_implication.specs.Contracts.{GivesContract};
+ghost use Rattle.ql_implication.specs.OfPrograms.{GivesContract};
 ghost use Rattle.ql_implication.specs.Executions.{IsImplied, IsImpliedTxn};
 
 /// The law that valid implication, which is proved of refuted problems over effects of plain numbers, is

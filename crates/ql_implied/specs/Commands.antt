@@ -14,7 +14,7 @@ use Rattle.ql_commands.specs.Certificates.{SpellsCert}
 use Rattle.ql_commands.specs.Check.{AreDue, goal_of, section_text, verdict_text}
 use Rattle.ql_commands.specs.Levels.{refusal_text}
 use Rattle.ql_commands.specs.Sources.{IsSourceOf}
-use Rattle.ql_implication.specs.Contracts.{GivesContract}
+use Rattle.ql_implication.specs.OfPrograms.{GivesContract}
 
 -- the text tells levels of the source that give their contracts
 abbrev pub TellsLevels : List ℕ → List ℕ → Type 0

@@ -1,5 +1,5 @@
 use Rattle.ql_implication.proofs.Same.{op_implied, txn_implied}
-use Rattle.ql_implication.proofs.Contracts.{problem_gives}
+use Rattle.ql_implication.proofs.OfPrograms.{problem_gives}
 use Rattle.ql_implication.proofs.transfer.implied_in_executions.Goals as goal
 
 pub returns-clause-op : goal.returns-clause-op

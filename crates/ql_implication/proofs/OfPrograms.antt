@@ -5,7 +5,7 @@ use Rattle.ql_ground.specs.declared.goal.Goal.{Goal}
 use Rattle.ql_ground.specs.declared.goal.Goal.TheVariants.{OpAt, TxnAt}
 use Rattle.ql_lang.specs.declared.program.Program.{Program}
 use Rattle.ql_typing.specs.Operations.{op_kinds}
-use Rattle.ql_implication.specs.Contracts.{GivesContract}
+use Rattle.ql_implication.specs.OfPrograms.{GivesContract}
 use Rattle.ql_implication.proofs.Same.{op_implied, txn_implied}
 
 pub problem_gives : (p : Program) (g : Goal) (c : ClauseList) → ground.IsProblemOf p g c → ground.IsImplied p g → GivesContract p g
