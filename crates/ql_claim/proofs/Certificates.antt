@@ -1,17 +1,13 @@
 -- What is proved of a run and of a certificate, from what the commands say of their bytes.
 use Rattle.std.proofs.Common.{◌≡◌, ◌≢◌, ℕ, zero, suc, ◌<◌, true, List, [], ◌∷◌, length, get_or, slice_get, Some, refl, subst, arith}
-use Rattle.std.specs.List.{slice_index_or}
 use Rattle.ql_classify.specs.Outcome.{IsAccepted}
-use Rattle.ql_classify.specs.Targets.{IsLeastLevel, IsOpLevel, goals_at}
+use Rattle.ql_classify.specs.Targets.{IsLeastLevel, IsOpLevel}
 use Rattle.ql_commands.specs.declared.answer.Answer.TheVariants.{Done}
-use Rattle.ql_commands.specs.Levels.{AreLevelsOf}
+use Rattle.ql_classify.specs.Least.{AreLeast, AreLevelsOf}
 use Rattle.ql_commands.specs.Prove.{ProveSays}
 use Rattle.ql_commands.specs.Sources.{IsSourceOf}
-use Rattle.ql_implied.specs.Commands.{AreLeast}
-use Rattle.ql_implied.proofs.Told.{levels_enough}
 use Rattle.ql_lang.specs.declared.program.Program.{Program}
 use Rattle.ql_lang.specs.Programs.{Source, source_of}
-use Rattle.ql_least.proofs.Fails.{lower_fail}
 use Rattle.ql_levels.specs.Lists.{LevelLists}
 use Rattle.ql_levels.specs.declared.level.Level.{Level}
 use Rattle.ql_levels.specs.declared.level.Level.TheVariants.{Strong}
@@ -35,18 +31,12 @@ slice_get-get_or [] k a at = absurd (cc)
 slice_get-get_or (x ∷ xs) zero a at = let same : x ≡ a = cc in same
 slice_get-get_or (x ∷ xs) (suc k) a at = slice_get-get_or xs k a at
 
-least : (p : Program) → program_faults p ≡ [] → (levels : LevelLists) → AreLevelsOf p levels → AreLeast p levels
-least p typed levels are = record {
-  enough = levels_enough p levels are;
-  lower = λ k d l. lower_fail p typed (slice_index_or (goals_at levels) k d) (are.least k d l);
-}
-
 no-strong : (weak : (p : Program) → program_faults p ≡ [] → IsAccepted p → (d o : ℕ) (level : Level) → uses_op p d o ≡ true → IsOpLevel p o level → level ≢ Strong)
     → (p : Program) → program_faults p ≡ [] → (levels : LevelLists) → AreLevelsOf p levels → UseNoStrong p levels
 no-strong weak p typed levels are d o uses at =
     let less : o < length levels.ops = slice_get-within levels.ops o Strong at in
     let same : get_or levels.ops o Strong ≡ Strong = slice_get-get_or levels.ops o Strong at in
-    weak p typed are.accepted d o Strong uses (subst (λ (l : Level). IsOpLevel p o l) same (of-op (IsLeastLevel p) levels are.least o less)) refl
+    weak p typed are.accepted d o Strong uses (subst (λ (l : Level). IsOpLevel p o l) same (of-op (IsLeastLevel p) levels are.first o less)) refl
 
 pub proved-run : (weak : (p : Program) → program_faults p ≡ [] → IsAccepted p → (d o : ℕ) (level : Level) → uses_op p d o ≡ true → IsOpLevel p o level → level ≢ Strong)
     → (form : Form) (source file text : List ℕ) → TellsRun (format_of form) source file text → IsProvedRun form source file text
@@ -56,7 +46,7 @@ proved-run weak form source file text told = record {
   schedule = told.schedule;
   is_schedule = told.is_schedule;
   levels = told.levels;
-  are_least = least told.program told.is_source.1 told.levels told.are_least;
+  are_least = told.are_least.least;
   use_no_strong = no-strong weak told.program told.is_source.1 told.levels told.are_least;
   replies = told.prints.replies;
   last = told.prints.last;
@@ -73,7 +63,7 @@ module _ (tree : (bytes : List ℕ) (s t : Source) → IsProgramText bytes s →
   pub proved-certificate : (source text : List ℕ) → ProveSays source Done text → IsProvedCertificate source text
   proved-certificate source text says =
       let p = says.0 in
-      let are = least p says.1.1 says.2 says.3 in
+      let are = says.3.least in
       let same : (q : Program) → IsSourceOf source q → source_of q ≡ source_of p = λ q is. tree source (source_of q) (source_of p) is.0 says.1.0 in
       record {
         program = p;

@@ -20,7 +20,7 @@ use Rattle.ql_classify.specs.Targets.{IsOpLevel}
 use Rattle.ql_commands.specs.declared.answer.Answer.TheVariants as answer
 use Rattle.ql_commands.specs.Prove.{ProveSays}
 use Rattle.ql_commands.proofs.Accepted.{accepted_again}
-use Rattle.ql_implied.specs.Commands.{AreLeast}
+use Rattle.ql_classify.specs.Least.{AreLeast}
 use Rattle.ql_lang.specs.declared.program.Program.{Program}
 use Rattle.ql_lang.specs.Programs.{Source, source_of}
 use Rattle.ql_levels.specs.Lists.{LevelLists}

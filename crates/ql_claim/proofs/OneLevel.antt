@@ -13,11 +13,11 @@ use Rattle.ql_ground.specs.declared.goal.Goal.{Goal}
 use Rattle.ql_ground.specs.declared.goal.Goal.TheVariants.{OpAt, TxnAt}
 use Rattle.ql_implication.specs.Countermodels.{IsCounter, IsTxnCounter}
 use Rattle.ql_implication.specs.Executions.{IsImplied, IsImpliedTxn}
-use Rattle.ql_implied.specs.Commands.{AreLeast, GivesContract}
+use Rattle.ql_implication.specs.OfPrograms.{GivesContract}
+use Rattle.ql_classify.specs.Least.{AreLeast, EachFails, LowerFail}
 use Rattle.ql_lang.specs.Formulas.{Resolved}
 use Rattle.ql_lang.specs.declared.program.Program.{Program}
 use Rattle.ql_lang.specs.Programs.{Transaction, source_of, transaction_of}
-use Rattle.ql_least.specs.Least.{EachFails, LowerFail}
 use Rattle.ql_levels.specs.Lists.{LevelLists}
 use Rattle.ql_levels.specs.declared.level.Level.{Level}
 use Rattle.ql_levels.specs.declared.level.Level.TheVariants.{Eventual, Causal, Wide, Strong}

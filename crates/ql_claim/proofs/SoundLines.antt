@@ -21,8 +21,10 @@ use Rattle.ql_commands.specs.Judging.{AreDueFrom}
 use Rattle.ql_commands.specs.Sources.{IsSourceOf}
 use Rattle.ql_commands.proofs.Due.{due_from, due_op, due_txn, op_below, txn_above}
 use Rattle.ql_commands.proofs.FoundNames.{found, op-found, txn-found}
+use Rattle.ql_implication.specs.OfPrograms.{GivesContract}
 use Rattle.ql_implication.specs.Executions.{IsImplied, IsImpliedTxn}
-use Rattle.ql_implied.specs.Commands.{AcceptsFront, AreEnough, EachGives, EndsWith, GivesContract, TellsAccepted, accepted_lines}
+use Rattle.ql_classify.specs.Least.{AreEnough}
+use Rattle.ql_implied.specs.Commands.{AcceptsFront, EachGives, EndsWith, TellsAccepted, accepted_lines}
 use Rattle.ql_lang.specs.Formulas.{Resolved}
 use Rattle.ql_lang.specs.declared.operation.OpDecl.{OpDecl}
 use Rattle.ql_lang.specs.declared.program.Program.{Program}

@@ -8,7 +8,7 @@ ghost use Rattle.ql_exec.specs.declared.effect.Effect.{Effect};
 ghost use Rattle.ql_exec.specs.Execution.{IsExecution};
 ghost use Rattle.ql_execution_files.specs.ExecutionFile.{IsExecutionFile};
 ghost use Rattle.ql_implication.specs.Executions.{FitsProgram};
-ghost use Rattle.ql_implied.specs.Commands.{AreLeast};
+ghost use Rattle.ql_classify.specs.Least.{AreLeast};
 ghost use Rattle.ql_lang.specs.declared.program.Program.{Program};
 ghost use Rattle.ql_lang.specs.Programs.{source_of};
 ghost use Rattle.ql_levels.specs.Lists.{LevelLists};

@@ -7,6 +7,7 @@ use Rattle.ql_lang.specs.declared.program.Program.{Program}
 use Rattle.ql_refute.specs.declared.refutation.Line.{Line}
 use Rattle.ql_cnf.specs.Satisfaction.{ClauseList, IsUnsatisfiable}
 use Rattle.ql_ground.specs.OfPrograms.{IsProblemOf, IsImplied}
+use Rattle.ql_implication.proofs.OfPrograms.{problem_gives}
 use Rattle.ql_refute.proofs.Soundness.{accepted_is_unsatisfiable}
 use Rattle.ql_sat.specs.Answer.{HasNumbers, IsRight}
 use Rattle.ql_sat.specs.declared.decided.Decided.{Decided}
@@ -18,7 +19,8 @@ use Rattle.ql_classify.specs.declared.evidence.Evidence.{Evidence}
 use Rattle.ql_classify.specs.declared.evidence.Search.{Search}
 use Rattle.ql_classify.specs.declared.evidence.Search.TheVariants as search
 use Rattle.ql_classify.specs.Found.{IsAnswer, IsSearch}
-use Rattle.ql_classify.specs.Goals.{IsSatisfiedBy, IsEnough, IsFirstRefuted, IsLastSatisfied}
+use Rattle.ql_counter.specs.Countermodels.{IsSatisfiedBy}
+use Rattle.ql_classify.specs.Goals.{IsEnough, IsFirstRefuted, IsLastSatisfied}
 
 pub zip_push : {A B : Type 0} (R : A → B → Type 0) (xs : List A) (ys : List B) (x : A) (y : B) → AllZip R xs ys → R x y → AllZip R (xs ++ x ∷ []) (ys ++ y ∷ [])
 zip_push R [] [] x y h r = (r, tt)
@@ -55,7 +57,7 @@ module _ (p : Program) where
   -- what the solver answers for a goal's problem
   answered : (g : Goal) (c : ClauseList) (d : Decided) → IsProblemOf p g c → (IsUnsatisfiable c → IsImplied p g) → IsRight c d → HasNumbers d → IsAnswer p g d
   answered g c (Model a) is sound h numbers = (c, is, h)
-  answered g c (Refuted r) is sound h numbers = ((c, is, h), numbers, sound (accepted_is_unsatisfiable c r.lines h))
+  answered g c (Refuted r) is sound h numbers = ((c, is, h), numbers, problem_gives p g c is (sound (accepted_is_unsatisfiable c r.lines h)))
 
   pub all_answered : {E : Type 0} (g : Goal) (c : ClauseList) (found : Result Decided E) → IsProblemOf p g c → (IsUnsatisfiable c → IsImplied p g) → IfOk found (IsRight c) → IfOk found HasNumbers → IfOk found (IsAnswer p g)
   all_answered g c (Ok d) is sound h numbers = answered g c d is sound h numbers

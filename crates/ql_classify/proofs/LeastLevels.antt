@@ -17,7 +17,8 @@ use Rattle.ql_ground.specs.Ground.{op_problem, txn_problem}
 use Rattle.ql_ground.specs.Least.{IsLeast, IsLeastTxn}
 use Rattle.ql_refute.specs.declared.refutation.Line.{Line}
 use Rattle.ql_refute.proofs.Soundness.{accepted_is_unsatisfiable}
-use Rattle.ql_classify.specs.Goals.{IsSatisfiedBy, IsEnough, IsFirstRefuted}
+use Rattle.ql_counter.specs.Countermodels.{IsSatisfiedBy}
+use Rattle.ql_classify.specs.Goals.{IsEnough, IsFirstRefuted}
 use Rattle.ql_classify.specs.Targets.{op_at, txn_at, op_goals, txn_goals, goals_below, step_level, step_txn_level, IsLeastLevel, IsEvidence}
 use Rattle.ql_classify.specs.declared.evidence.Evidence.{Evidence}
 

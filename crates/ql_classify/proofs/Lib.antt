@@ -4,3 +4,4 @@ pub mod TargetLists
 pub mod TestOrder
 pub mod OneOutcome
 pub mod NextLower
+pub mod Fails

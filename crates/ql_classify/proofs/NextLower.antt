@@ -13,7 +13,7 @@ use Rattle.ql_levels.specs.declared.level.Level.TheVariants.{Eventual, Causal, W
 use Rattle.ql_levels.specs.declared.level.TxnLevel.{TxnLevel}
 use Rattle.ql_levels.specs.declared.level.TxnLevel.TheVariants.{Rc, Mav, Rr}
 use Rattle.ql_classify.specs.Finding.{IsLastUnmet}
-use Rattle.ql_classify.specs.Goals.{IsSatisfiedBy}
+use Rattle.ql_counter.specs.Countermodels.{IsSatisfiedBy}
 use Rattle.ql_classify.specs.Targets.{goals_below, step_level, step_txn_level}
 use Rattle.ql_classify.specs.declared.finding.Unmet.{Unmet}
 

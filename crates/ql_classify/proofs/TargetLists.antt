@@ -1,21 +1,24 @@
 -- The lists of targets and of their evidence: one more item, the item of a number, all items.
 use Rattle.std.proofs.Common.{◌≡◌, ℕ, zero, suc, ◌+◌, ◌<◌, Bool, List, [], ◌∷◌, ◌++◌, length, Some, refl, sym, subst, ◌∙◌, ap, arith, length-append}
-use Rattle.std.specs.List.{All, AllZip, slice_get}
+use Rattle.std.specs.List.{All, AllZip, slice_get, slice_index_or}
 use Rattle.std.proofs.lemmas.List.Elements.{All-nil, All-cons}
 use Rattle.ql_lang.specs.declared.program.Program.{Program}
 use Rattle.ql_levels.specs.Lists.{LevelLists}
 use Rattle.ql_levels.specs.declared.level.Level.{Level}
 use Rattle.ql_levels.specs.declared.level.TxnLevel.{TxnLevel}
 use Rattle.ql_typing.specs.Operations.{all_ops}
+use Rattle.ql_typing.specs.Programs.{program_faults}
 use Rattle.ql_ground.specs.declared.goal.Goal.{Goal}
-use Rattle.ql_ground.specs.OfPrograms.{IsImplied}
+use Rattle.ql_implication.specs.OfPrograms.{GivesContract}
 use Rattle.ql_classify.specs.Classification.{Classification}
-use Rattle.ql_classify.specs.Goals.{IsSatisfiedBy}
+use Rattle.ql_counter.specs.Countermodels.{IsSatisfiedBy}
 use Rattle.ql_classify.specs.Kept.{IsClassified}
+use Rattle.ql_classify.specs.Least.{AreLevelsOf}
 use Rattle.ql_classify.specs.Outcome.{IsAccepted}
 use Rattle.ql_classify.specs.Targets.{IsLowerAnswer, op_at, txn_at, ops_from, txns_from, goals_at, targets, IsOpLevel, IsLeastLevel, IsEvidence, AreOpLevels}
 use Rattle.ql_classify.specs.declared.evidence.Evidence.{Evidence}
 use Rattle.ql_classify.proofs.Climbing.{zip_push}
+use Rattle.ql_classify.proofs.Fails.{lower_fail}
 use Rattle.ql_classify.proofs.LeastLevels.{least}
 
 pub zip-append : {A B : Type 0} (R : A → B → Type 0) (xs us : List A) (ys vs : List B) → AllZip R xs ys → AllZip R us vs → AllZip R (xs ++ us) (ys ++ vs)
@@ -104,8 +107,21 @@ module _ (p : Program) where
   pub all_least : (levels : LevelLists) (evidence : List Evidence) → AllZip (IsEvidence p) (goals_at levels) evidence → All (IsLeastLevel p) (goals_at levels)
   all_least levels evidence h = zip-all (IsEvidence p) (IsLeastLevel p) (least p) (goals_at levels) evidence h
 
-  pub all_implied : (levels : LevelLists) (evidence : List Evidence) → AllZip (IsEvidence p) (goals_at levels) evidence → All (IsImplied p) (goals_at levels)
-  all_implied levels evidence h = zip-all (IsEvidence p) (IsImplied p) (λ g e v. v.enough.2) (goals_at levels) evidence h
+  pub all_implied : (levels : LevelLists) (evidence : List Evidence) → AllZip (IsEvidence p) (goals_at levels) evidence → All (GivesContract p) (goals_at levels)
+  all_implied levels evidence h = zip-all (IsEvidence p) (GivesContract p) (λ g e v. v.enough.2) (goals_at levels) evidence h
+
+  -- what a classified program keeps shows that its levels are least
+  pub are_levels : (levels : LevelLists) (kept : List Evidence) → program_faults p ≡ [] → IsClassified p levels kept → AreLevelsOf p levels
+  are_levels levels kept typed h =
+      let first = all_least levels kept h.evidence in
+      record {
+        accepted = h.accepted;
+        least = record {
+          enough = record { ops = h.ops; txns = h.txns; each = all_implied levels kept h.evidence };
+          lower = λ k d l. lower_fail p typed (slice_index_or (goals_at levels) k d) (first k d l);
+        };
+        first = first;
+      }
 
   pub count_evidence : (levels : LevelLists) (evidence : List Evidence) → length levels.ops ≡ length (all_ops p.types) → length levels.txns ≡ length p.txns → AllZip (IsEvidence p) (goals_at levels) evidence → length evidence ≡ targets p
   count_evidence levels evidence n m h = omega (arith, zip-length (IsEvidence p) (goals_at levels) evidence h, length-append (ops_from 0 levels.ops) (txns_from 0 levels.txns), length-ops 0 levels.ops, length-txns 0 levels.txns, n, m)

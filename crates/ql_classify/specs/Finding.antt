@@ -4,10 +4,10 @@ use Rattle.ql_lang.specs.declared.program.Program.{Program}
 use Rattle.ql_levels.specs.declared.level.Level.TheVariants.{Strong}
 use Rattle.ql_levels.specs.declared.level.TxnLevel.TheVariants.{Rr}
 use Rattle.ql_typing.specs.Operations.{all_ops}
-use Rattle.ql_ground.specs.OfPrograms.{IsImplied}
 use Rattle.ql_ground.specs.declared.goal.Goal.{Goal}
 use Rattle.ql_ground.specs.declared.goal.Goal.TheVariants.{OpAt, TxnAt}
-use Rattle.ql_classify.specs.Goals.{IsSatisfiedBy}
+use Rattle.ql_implication.specs.OfPrograms.{GivesContract}
+use Rattle.ql_counter.specs.Countermodels.{IsSatisfiedBy}
 use Rattle.ql_classify.specs.Targets.{IsLeastLevel, goals_below}
 use Rattle.ql_classify.specs.declared.finding.Unmet.{Unmet}
 use Rattle.ql_classify.specs.declared.finding.Finding.{Finding}
@@ -34,5 +34,5 @@ IsLastUnmet p goals (Some u) = (k : ℕ) × (suc k ≡ length goals) × (slice_g
 
 -- the target at its least level and at the next lower one, or at the highest one where that isn't enough
 abbrev pub IsFinding : Program → ℕ → Finding → Type 0
-IsFinding p target (Least goal below) = IsOfTarget p target goal × IsLeastLevel p goal × IsImplied p goal × IsLastUnmet p (goals_below goal) below
+IsFinding p target (Least goal below) = IsOfTarget p target goal × IsLeastLevel p goal × GivesContract p goal × IsLastUnmet p (goals_below goal) below
 IsFinding p target (NoLevel u) = IsOfTarget p target u.goal × IsHighest u.goal × IsUnmet p u

@@ -4,7 +4,8 @@ use Rattle.ql_ground.specs.declared.goal.Goal.{Goal}
 use Rattle.ql_lang.specs.declared.program.Program.{Program}
 use Rattle.ql_sat.specs.declared.decided.Decided.{Decided}
 use Rattle.ql_sat.specs.declared.decided.Decided.TheVariants.{Model, Refuted}
-use Rattle.ql_classify.specs.Goals.{IsSatisfiedBy, IsEnough, IsFirstRefuted, IsLastSatisfied}
+use Rattle.ql_counter.specs.Countermodels.{IsSatisfiedBy}
+use Rattle.ql_classify.specs.Goals.{IsEnough, IsFirstRefuted, IsLastSatisfied}
 use Rattle.ql_classify.specs.declared.evidence.Search.{Search}
 use Rattle.ql_classify.specs.declared.evidence.Search.TheVariants as search
 

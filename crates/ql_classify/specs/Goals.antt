@@ -1,17 +1,15 @@
 -- What an answer shows of a goal, and what a search through goals finds.
 use Rattle.std.specs.Prelude.{◌≡◌, Bool, List, [], ◌∷◌}
-use Rattle.ql_cnf.specs.Satisfaction.{ClauseList, Satisfies}
+use Rattle.ql_cnf.specs.Satisfaction.{ClauseList}
+use Rattle.ql_counter.specs.Countermodels.{IsSatisfiedBy}
 use Rattle.ql_ground.specs.declared.goal.Goal.{Goal}
-use Rattle.ql_ground.specs.OfPrograms.{IsProblemOf, IsImplied}
+use Rattle.ql_ground.specs.OfPrograms.{IsProblemOf}
+use Rattle.ql_implication.specs.OfPrograms.{GivesContract}
 use Rattle.ql_lang.specs.declared.program.Program.{Program}
 use Rattle.ql_refute.specs.Verdict.{verdict}
 use Rattle.ql_refute.specs.declared.refutation.Line.{Line}
 use Rattle.ql_refute.specs.declared.verdict.Verdict.TheVariants.{Accepted}
 use Rattle.ql_sat.specs.Answer.{AreNumbered}
-
--- the assignment satisfies the goal's problem
-abbrev pub IsSatisfiedBy : Program → Goal → List Bool → Type 0
-IsSatisfiedBy p g a = (c : ClauseList) × IsProblemOf p g c × Satisfies a c
 
 -- the checker accepts the lines as a refutation of the goal's problem
 abbrev pub IsRefutedBy : Program → Goal → List Line → Type 0
@@ -20,7 +18,7 @@ IsRefutedBy p g lines = (c : ClauseList) × IsProblemOf p g c × (verdict c line
 -- the goal's level is enough: its problem is refuted, by lines whose hints count from 1, and in every execution the
 -- level gives the contract
 abbrev pub IsEnough : Program → Goal → List Line → Type 0
-IsEnough p g lines = IsRefutedBy p g lines × AreNumbered lines × IsImplied p g
+IsEnough p g lines = IsRefutedBy p g lines × AreNumbered lines × GivesContract p g
 
 -- The assignments satisfy the first goals' problems, one each in order, and the lines refute that of the next.
 abbrev pub IsFirstRefuted : Program → List Goal → List (List Bool) → List Line → Type 0

@@ -10,7 +10,7 @@ use Rattle.ql_levels.specs.declared.level.Level.TheVariants.{Strong}
 use Rattle.ql_levels.specs.declared.level.TxnLevel.{TxnLevel}
 use Rattle.ql_levels.specs.declared.level.TxnLevel.TheVariants.{Rr}
 use Rattle.ql_typing.specs.Operations.{all_ops}
-use Rattle.ql_classify.specs.Goals.{IsSatisfiedBy}
+use Rattle.ql_counter.specs.Countermodels.{IsSatisfiedBy}
 use Rattle.ql_classify.specs.Targets.{op_at, txn_at, IsOpLevel, IsTxnLevel, IsStrongUse, IsWeakUse}
 use Rattle.ql_classify.specs.declared.classless.Classless.{Classless}
 use Rattle.ql_classify.specs.declared.classless.Classless.TheVariants.{NoLevel, StrongInTxn, NoMemory}

@@ -12,7 +12,8 @@ use Rattle.ql_typing.specs.Operations.{all_ops, op_kinds, op_place, op_contracts
 use Rattle.ql_ground.specs.Least.{IsLeast, IsLeastTxn}
 use Rattle.ql_ground.specs.declared.goal.Goal.{Goal}
 use Rattle.ql_ground.specs.declared.goal.Goal.TheVariants.{OpAt, TxnAt}
-use Rattle.ql_classify.specs.Goals.{IsSatisfiedBy, IsEnough}
+use Rattle.ql_counter.specs.Countermodels.{IsSatisfiedBy}
+use Rattle.ql_classify.specs.Goals.{IsEnough}
 use Rattle.ql_classify.specs.declared.evidence.Evidence.{Evidence}
 
 abbrev pub op_at : ℕ → Level → Goal

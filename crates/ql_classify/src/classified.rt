@@ -1,13 +1,11 @@
 ghost use Rattle.std.specs.Prelude.{◌≡◌, ◌<◌, length, option_copied, slice_get, Some};
-ghost use Rattle.std.specs.List.{All};
-ghost use Rattle.ql_ground.specs.OfPrograms.{IsImplied};
 ghost use Rattle.ql_ground.specs.declared.goal.Goal.{Goal};
 ghost use Rattle.ql_typing.specs.Operations.{all_ops};
 ghost use Rattle.ql_sat.specs.Answer.{AreNumbered};
 ghost use Rattle.ql_classify.specs.Goals.{IsRefutedBy};
-ghost use Rattle.ql_classify.specs.Outcome.{IsAccepted};
+ghost use Rattle.ql_classify.specs.Least.{AreLevelsOf};
 ghost use Rattle.ql_classify.specs.Kept.{IsClassified};
-ghost use Rattle.ql_classify.specs.Targets.{IsLeastLevel, IsLowerAnswer, goals_at, goals_below, targets};
+ghost use Rattle.ql_classify.specs.Targets.{IsLowerAnswer, goals_at, goals_below, targets};
 
 use crate::evidence::Evidence;
 use ql_cnf::Assignment;
@@ -68,14 +66,9 @@ impl<'a> Classified<'a> {
         ensures ops { length self.now.levels.ops ≡ length (all_ops self.now.program.types) }
         ensures txns { length self.now.levels.txns ≡ length self.now.program.txns }
 
-        // Each is its target's least.
-        ensures least { All (IsLeastLevel self.now.program) (goals_at self.now.levels) }
-
-        // In every execution of the program what a level promises gives its target's contract.
-        ensures implied { All (IsImplied self.now.program) (goals_at self.now.levels) }
-
-        // No transaction uses a strong operation.
-        ensures accepted { IsAccepted self.now.program }
+        // Each gives its target's contract in every execution of the program, while each lower one fails in some;
+        // and no transaction uses a strong operation.
+        ensures levels { AreLevelsOf self.now.program self.now.levels }
     {
         &self.levels
     }

@@ -7,7 +7,7 @@ ghost use Rattle.ql_levels.specs.declared.level.Level.{Level};
 ghost use Rattle.ql_levels.specs.declared.level.TxnLevel.{TxnLevel};
 ghost use Rattle.ql_typing.specs.Operations.{all_ops};
 ghost use Rattle.ql_classify.specs.Finding.{IsFinding, IsLastUnmet};
-ghost use Rattle.ql_classify.specs.Goals.{IsSatisfiedBy};
+ghost use Rattle.ql_counter.specs.Countermodels.{IsSatisfiedBy};
 ghost use Rattle.ql_classify.specs.Targets.{goals_below, targets};
 
 use crate::classless::Classless;

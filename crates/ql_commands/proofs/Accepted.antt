@@ -25,7 +25,7 @@ use Rattle.ql_commands.specs.declared.answer.Answer.{Answer}
 use Rattle.ql_commands.specs.declared.answer.Answer.TheVariants.{Done, No, Bad}
 use Rattle.ql_commands.specs.Check.{AreDue, BeginOtherwise, CheckSays, IsOutOfOrder, Operation, Target, Tells, Transaction, goal_at, goal_of, target_named, target_of}
 use Rattle.ql_commands.specs.Check.Tells.{all, accepted, refused}
-use Rattle.ql_commands.specs.Levels.{AreLevelsOf}
+use Rattle.ql_classify.specs.Least.{AreLevelsOf}
 use Rattle.ql_commands.specs.Prove.{IsSectionOf, ProveSays, level_of, name_of}
 use Rattle.std.proofs.lemmas.List.{append_cancel_left, map-append}
 use Rattle.ql_commands.proofs.SameProblems.{same_count, same_due, same_refuted}
@@ -49,7 +49,7 @@ one-problem q (TxnAt o level) c d h g =
 
 none-refused : (q : Program) (place : ℕ) (ss : List Section) (a : Answer) (text : List ℕ) → Tells q place ss a text → AreRefuted q place ss → a ≡ No → ⊥
 none-refused q place ss a text (all k) h is = absurd (cc)
-none-refused q place ss a text (accepted k s more b rest refuted implied tells) h is = none-refused q (suc k) more b rest tells h.1 is
+none-refused q place ss a text (accepted k s more b rest refuted gives tells) h is = none-refused q (suc k) more b rest tells h.1 is
 none-refused q place ss a text (refused k s more c problem not) h is =
     not (ap (λ (d : ClauseList). verdict d s.refutation.lines) (one-problem q (goal_of q k s) c h.0.0 problem h.0.1) ∙ h.0.2)
 
@@ -83,7 +83,7 @@ txns-refuted p q d place (l ∷ levels) (s ∷ ss) is h to =
 all-refuted : (p q : Program) (levels : LevelLists) (ss : List Section) → source_of p ≡ source_of q → AreLevelsOf p levels → AllZip (IsSectionOf p) (goals_at levels) ss → AreRefuted q 0 ss
 all-refuted p q levels ss e are h =
     let to = same_refuted p q e in
-    let count : 0 + length levels.ops ≡ length (all_ops q.types) + 0 = omega (arith, are.ops, same_count p q e) in
+    let count : 0 + length levels.ops ≡ length (all_ops q.types) + 0 = omega (arith, are.least.enough.ops, same_count p q e) in
     ops-refuted p q 0 levels.ops (txns_from 0 levels.txns) ss h to (λ ts zipped. txns-refuted p q 0 (0 + length levels.ops) levels.txns ts count zipped to)
 
 -- ---- the sections are those that are due
@@ -133,8 +133,8 @@ txns-named p k (l ∷ levels) (t ∷ txns) n at =
 
 sections-due : (p : Program) (levels : LevelLists) (ss : List Section) → AreLevelsOf p levels → AllZip (IsSectionOf p) (goals_at levels) ss → AreDue p ss
 sections-due p levels ss are h =
-    let ops = ops-named p 0 levels.ops (all_ops p.types) are.ops (λ j. let place : 0 + j ≡ j = omega arith in ap (λ (n : ℕ). slice_get (all_ops p.types) n) place) in
-    let txns = txns-named p 0 levels.txns p.txns are.txns (λ j. let place : 0 + j ≡ j = omega arith in ap (λ (n : ℕ). slice_get p.txns n) place) in
+    let ops = ops-named p 0 levels.ops (all_ops p.types) are.least.enough.ops (λ j. let place : 0 + j ≡ j = omega arith in ap (λ (n : ℕ). slice_get (all_ops p.types) n) place) in
+    let txns = txns-named p 0 levels.txns p.txns are.least.enough.txns (λ j. let place : 0 + j ≡ j = omega arith in ap (λ (n : ℕ). slice_get p.txns n) place) in
     targets-zipped p (goals_at levels) ss h
     ∙ map-append (target_at p) (ops_from 0 levels.ops) (txns_from 0 levels.txns)
     ∙ ap (λ (ts : List Target). ts ++ map (target_at p) (txns_from 0 levels.txns)) ops

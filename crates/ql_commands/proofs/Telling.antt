@@ -43,7 +43,7 @@ module _ (p : Program) (place : ℕ) (ss : List Section) (s : Section) (others :
   told_accepted a new sure more =
       let tells : Tells p (suc place) others a more.0 = subst (λ n. Tells p n others a more.0) (add-one place) more.1 in
       let whole : Tells p place (s ∷ others) a (section_text s ++ verdict_text Accepted ++ more.0) =
-      accepted place s others a more.0 (judged.clauses, judged.problem, judged.verdict_is ∙ sure) (judged.implied sure) tells in
+      accepted place s others a more.0 (judged.clauses, judged.problem, judged.verdict_is ∙ sure) (judged.gives sure) tells in
       let line : second ≡ out ++ (section_text s ++ verdict_text Accepted) = pieces out (section_text s) (verdict_text Accepted) first second told (ended ∙ ap (λ w. first ++ verdict_text w) sure) in (
         section_text s ++ verdict_text Accepted ++ more.0,
         subst (λ ts. Tells p place ts a (section_text s ++ verdict_text Accepted ++ more.0)) (sym are) whole,
@@ -64,7 +64,7 @@ module _ (p : Program) (place : ℕ) (ss : List Section) (s : Section) (others :
 
 never-bad : (p : Program) (place : ℕ) (ss : List Section) (a : Answer) (text : List ℕ) → Tells p place ss a text → a ≡ Bad → ⊥
 never-bad p place ss a text (all k) is = absurd (cc)
-never-bad p place ss a text (accepted k s more b rest refuted implied tells) is = never-bad p (suc k) more b rest tells is
+never-bad p place ss a text (accepted k s more b rest refuted gives tells) is = never-bad p (suc k) more b rest tells is
 never-bad p place ss a text (refused k s more c problem not) is = absurd (cc)
 
 pub sections_say : (p : Program) (ss : List Section) (a : Answer) (start new : List ℕ) → AreDue p ss → start ≡ [] → IsTold p 0 ss a start new → SectionsSay p ss a new

@@ -10,8 +10,9 @@ use Rattle.ql_cert.specs.Faults.{FirstFault}
 use Rattle.ql_classify.specs.Goals.{IsRefutedBy}
 use Rattle.ql_classify.specs.Targets.{op_at, txn_at}
 use Rattle.ql_cnf.specs.Satisfaction.{ClauseList}
-use Rattle.ql_ground.specs.OfPrograms.{IsImplied, IsProblemOf}
+use Rattle.ql_ground.specs.OfPrograms.{IsProblemOf}
 use Rattle.ql_ground.specs.declared.goal.Goal.{Goal}
+use Rattle.ql_implication.specs.OfPrograms.{GivesContract}
 use Rattle.ql_lang.specs.declared.program.Program.{Program}
 use Rattle.ql_lines.specs.Lines.{ahead_from}
 use Rattle.ql_refute.specs.Verdict.{verdict}
@@ -108,7 +109,7 @@ verdict_text NoEmpty = codes " refused NoEmpty\n"
 pub data Tells (p : Program) : ℕ → List Section → Answer → List ℕ → Type 0 where
   all : (place : ℕ) → Tells p place [] answer.Done []
   accepted : (place : ℕ) (s : Section) (ss : List Section) (a : Answer) (text : List ℕ)
-      → IsRefutedBy p (goal_of p place s) s.refutation.lines → IsImplied p (goal_of p place s) → Tells p (suc place) ss a text
+      → IsRefutedBy p (goal_of p place s) s.refutation.lines → GivesContract p (goal_of p place s) → Tells p (suc place) ss a text
       → Tells p place (s ∷ ss) a (section_text s ++ verdict_text Accepted ++ text)
   refused : (place : ℕ) (s : Section) (ss : List Section) (c : ClauseList)
       → IsProblemOf p (goal_of p place s) c → verdict c s.refutation.lines ≢ Accepted

@@ -6,7 +6,8 @@ use Rattle.ql_report.specs.Levels.{levels_text}
 use Rattle.ql_commands.specs.declared.answer.Answer.{Answer}
 use Rattle.ql_commands.specs.declared.answer.Answer.TheVariants.{Done, No, Bad}
 use Rattle.ql_commands.specs.Sources.{IsSourceOf, BadSourceSays}
-use Rattle.ql_commands.specs.Levels.{AreLevelsOf, RefusalSays}
+use Rattle.ql_classify.specs.Least.{AreLevelsOf}
+use Rattle.ql_commands.specs.Levels.{RefusalSays}
 
 abbrev pub ClassifySays : List ℕ → Answer → List ℕ → Type 0
 ClassifySays bytes Done text = (p : Program) × IsSourceOf bytes p × (levels : LevelLists) × AreLevelsOf p levels × (text ≡ levels_text p levels)

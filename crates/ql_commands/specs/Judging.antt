@@ -2,8 +2,9 @@
 use Rattle.std.specs.Prelude.{◌≡◌, ℕ, suc, List, [], ◌∷◌, Some, slice_get}
 use Rattle.ql_cert.specs.declared.cert.Section.{Section}
 use Rattle.ql_cnf.specs.Satisfaction.{ClauseList}
-use Rattle.ql_ground.specs.OfPrograms.{IsImplied, IsProblemOf}
+use Rattle.ql_ground.specs.OfPrograms.{IsProblemOf}
 use Rattle.ql_ground.specs.declared.goal.Goal.{Goal}
+use Rattle.ql_implication.specs.OfPrograms.{GivesContract}
 use Rattle.ql_lang.specs.declared.program.Program.{Program}
 use Rattle.ql_refute.specs.Verdict.{verdict}
 use Rattle.ql_refute.specs.declared.refutation.Line.{Line}
@@ -16,9 +17,9 @@ abbrev pub AreDueFrom : Program → ℕ → List Section → Type 0
 AreDueFrom p place [] = Unit {0}
 AreDueFrom p place (s ∷ ss) = (slice_get (targets_due p) place ≡ Some (target_of s)) × AreDueFrom p (suc place) ss
 
--- the verdict on the lines as a refutation of the goal's ground problem; where it is accepted, the goal is implied
+-- the verdict on the lines as a refutation of the goal's ground problem; where it is accepted, the level gives the contract
 pub record IsVerdictOn (p : Program) (g : Goal) (lines : List Line) (v : Verdict) : Type 0 where
   pub clauses : ClauseList
   pub problem : IsProblemOf p g clauses
   pub verdict_is : verdict clauses lines ≡ v
-  pub implied : v ≡ Accepted → IsImplied p g
+  pub gives : v ≡ Accepted → GivesContract p g

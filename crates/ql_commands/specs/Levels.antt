@@ -1,24 +1,12 @@
--- What is said of a program's levels.
+-- Why a program has no levels.
 use Rattle.std.specs.Prelude.{◌≡◌, ◌<◌, ℕ, List, [], ◌-◌, length, nat_lt, if◌then◌else◌}
-use Rattle.std.specs.List.{All}
 use Rattle.ql_lang.specs.declared.program.Program.{Program}
-use Rattle.ql_levels.specs.Lists.{LevelLists}
 use Rattle.ql_typing.specs.Operations.{all_ops}
-use Rattle.ql_ground.specs.OfPrograms.{IsImplied}
-use Rattle.ql_classify.specs.Outcome.{FirstFails, IsAccepted, all_tests}
-use Rattle.ql_classify.specs.Targets.{IsLeastLevel, goals_at, targets}
+use Rattle.ql_classify.specs.Outcome.{FirstFails, all_tests}
+use Rattle.ql_classify.specs.Targets.{targets}
 use Rattle.ql_classify.specs.declared.classless.Classless.{Classless}
 use Rattle.ql_classify.specs.declared.classless.Classless.TheVariants.{NoLevel, StrongInTxn, NoMemory}
 use Rattle.ql_report.specs.Refusals.{none_op_text, none_txn_text, strong_text}
-
--- A level for each target of a program that is accepted. Each is the target's least, and in every execution what it
--- promises gives the target's contract.
-pub record AreLevelsOf (p : Program) (levels : LevelLists) : Type 0 where
-  pub accepted : IsAccepted p
-  pub ops : length levels.ops ≡ length (all_ops p.types)
-  pub txns : length levels.txns ≡ length p.txns
-  pub least : All (IsLeastLevel p) (goals_at levels)
-  pub implied : All (IsImplied p) (goals_at levels)
 
 -- the target or the operation and transaction that a refusal names are the program's
 abbrev pub NamesTargets : Program → Classless → Type 0

@@ -16,7 +16,8 @@ use Rattle.ql_report.specs.Levels.{op_name, txn_name}
 use Rattle.ql_commands.specs.declared.answer.Answer.{Answer}
 use Rattle.ql_commands.specs.declared.answer.Answer.TheVariants.{Done, No, Bad}
 use Rattle.ql_commands.specs.Certificates.{SpellsCert}
-use Rattle.ql_commands.specs.Levels.{AreLevelsOf, RefusalSays}
+use Rattle.ql_classify.specs.Least.{AreLevelsOf}
+use Rattle.ql_commands.specs.Levels.{RefusalSays}
 use Rattle.ql_commands.specs.Sources.{IsSourceOf, BadSourceSays}
 
 -- the name of a goal's target, and its level

@@ -5,7 +5,7 @@ ghost use Rattle.ql_cert.specs.CertFile.{IsSection};
 ghost use Rattle.ql_classify.specs.Targets.{goals_at, targets};
 ghost use Rattle.ql_ground.specs.declared.goal.Goal.{Goal};
 ghost use Rattle.ql_typing.specs.Operations.{all_ops};
-ghost use Rattle.ql_commands.specs.Levels.{AreLevelsOf};
+ghost use Rattle.ql_classify.specs.Least.{AreLevelsOf};
 ghost use Rattle.ql_commands.specs.Prove.{IsCertificateFor, IsSectionOf, ProveSays, level_of, name_of};
 ghost use Rattle.ql_commands.specs.Spellable.{HasNames};
 

@@ -8,7 +8,7 @@ use Rattle.std.proofs.lemmas.Bool.{cases_lt}
 use Rattle.ql_base.specs.declared.ids.OpId.{OpId}
 use Rattle.ql_classify.proofs.OneOutcome.{one_op_level, one_outcome}
 use Rattle.ql_classify.specs.Finding.{IsFinding, IsHighest, IsOfTarget}
-use Rattle.ql_classify.specs.Goals.{IsSatisfiedBy}
+use Rattle.ql_counter.specs.Countermodels.{IsSatisfiedBy}
 use Rattle.ql_classify.specs.Outcome.{OpHasLevel, Passes, Test, TxnHasLevel}
 use Rattle.ql_classify.specs.Targets.{IsLeastLevel, IsOpLevel, IsTxnLevel}
 use Rattle.ql_classify.specs.declared.classless.Classless.TheVariants as classless

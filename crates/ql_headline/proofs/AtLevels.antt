@@ -18,7 +18,8 @@ use Rattle.ql_formula.specs.Truth.{Holds, HoldsTxn}
 use Rattle.ql_ground.specs.declared.goal.Goal.{Goal}
 use Rattle.ql_ground.specs.declared.goal.Goal.TheVariants.{OpAt, TxnAt}
 use Rattle.ql_classify.specs.Targets.{goals_at, op_at, ops_from, txn_at, txns_from}
-use Rattle.ql_implied.specs.Commands.{AreEnough, GivesContract}
+use Rattle.ql_implication.specs.OfPrograms.{GivesContract}
+use Rattle.ql_classify.specs.Least.{AreEnough}
 use Rattle.ql_implication.specs.Executions.{FitsProgram}
 use Rattle.ql_machine.specs.declared.event.Event.{Event}
 use Rattle.ql_machine.specs.declared.reply.Reply.{Reply}

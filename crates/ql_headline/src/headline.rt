@@ -9,8 +9,7 @@ ghost use Rattle.ql_lang.specs.Formulas.{Resolved};
 ghost use Rattle.ql_lang.specs.declared.program.Program.{Program};
 ghost use Rattle.ql_levels.specs.Lists.{LevelLists};
 ghost use Rattle.ql_typing.specs.Operations.{op_contracts, op_kinds, txn_contracts};
-ghost use Rattle.ql_commands.specs.Levels.{AreLevelsOf};
-ghost use Rattle.ql_implied.specs.Commands.{AreEnough};
+ghost use Rattle.ql_classify.specs.Least.{AreEnough};
 ghost use Rattle.ql_implication.specs.Executions.{FitsProgram};
 ghost use Rattle.ql_machine.specs.declared.event.Event.{Event};
 ghost use Rattle.ql_machine.specs.declared.reply.Reply.{Reply};
@@ -19,14 +18,12 @@ ghost use Rattle.ql_machine.specs.Runs.{IsRun};
 ghost use Rattle.ql_machine_laws.specs.Promised.{IsUnderName};
 ghost use Rattle.ql_headline.specs.Stores.{IsScheduleFor, rules_of};
 
-/// The law of contracts in runs: the levels that `classify` reports give contracts (`reported`). For every
-/// schedule whose calls are of operations of their objects' types, the effects of its run are an execution
-/// of the program (`fits`), and each answer is the fold of its type over exactly the effects that it sees
-/// (`answers`). At levels that give contracts each effect then meets the written contract of its operation
-/// (`operations`), and each begun transaction that of its declared name, one without effects too
-/// (`transactions`).
+/// The law of contracts in runs. For every schedule whose calls are of operations of their objects' types, the
+/// effects of its run are an execution of the program (`fits`), and each answer is the fold of its type over
+/// exactly the effects that it sees (`answers`). At levels that give contracts each effect then meets the
+/// written contract of its operation (`operations`), and each begun transaction that of its declared name, one
+/// without effects too (`transactions`).
 pub fn runs_meet_contracts()
-    ensures reported { (p : Program) (levels : LevelLists) → AreLevelsOf p levels → AreEnough p levels }
     ensures fits { (p : Program) (levels : LevelLists) (kinds : List ℕ) (n : ℕ) (events : List Event) (replies : List Reply) (last : Machine) → IsRun (rules_of p levels) n events replies last
         → IsScheduleFor p kinds events → FitsProgram (op_kinds p.types) last.effects }
     ensures answers { (p : Program) (levels : LevelLists) (n : ℕ) (events : List Event) (replies : List Reply) (last : Machine) → IsRun (rules_of p levels) n events replies last

@@ -1,4 +1,5 @@
 pub mod Plain
 pub mod Chains
 pub mod Same
+pub mod OfPrograms
 mod Promises

@@ -1,2 +1,3 @@
 pub mod Executions
 pub mod Countermodels
+pub mod OfPrograms

@@ -1,9 +1,12 @@
 // What a level gives in executions: valid implication, and its countermodels.
-// The one contract: a level that has a countermodel isn't enough, and higher levels promise more.
+// The one contract: a level whose ground problem is refuted is enough in every execution, one that has a countermodel
+// isn't, and higher levels promise more.
 #![tactic(auto)]
 
 mod laws;
 mod levels;
+mod transfer;
 
 pub use laws::countermodels_refute;
 pub use levels::higher_levels_promise_more;
+pub use transfer::implied_in_executions;

@@ -1,57 +1,22 @@
 -- What the commands on levels tell, over executions.
 use Rattle.std.proofs.Common.{◌≡◌, inl, inr, ◌⊎◌, ℕ, suc, List, [], ◌∷◌, ◌++◌, refl, sym, ap, ◌∙◌, append_assoc}
-use Rattle.std.specs.List.{slice_index_or}
 use Rattle.ql_cert.specs.declared.cert.Section.{Section}
-use Rattle.ql_classify.specs.Goals.{IsRefutedBy}
-use Rattle.ql_classify.specs.Targets.{IsLeastLevel, goals_at}
-use Rattle.ql_ground.specs.OfPrograms as ground
-use Rattle.ql_ground.specs.declared.goal.Goal.{Goal}
-use Rattle.ql_ground.specs.declared.goal.Goal.TheVariants.{OpAt, TxnAt}
 use Rattle.ql_lang.specs.declared.program.Program.{Program}
-use Rattle.ql_levels.specs.Lists.{LevelLists}
 use Rattle.ql_refute.specs.Verdict.{verdict}
-use Rattle.ql_refute.specs.declared.refutation.Line.{Line}
 use Rattle.ql_refute.specs.declared.verdict.Verdict.TheVariants.{Accepted}
-use Rattle.ql_typing.specs.Operations.{op_kinds}
 use Rattle.ql_commands.specs.declared.answer.Answer.{Answer}
 use Rattle.ql_commands.specs.declared.answer.Answer.TheVariants.{Done, No}
-use Rattle.ql_commands.specs.Check.{CheckSays, Tells, goal_of, order_text, section_text, verdict_text}
+use Rattle.ql_commands.specs.Check.{CheckSays, Tells, order_text, section_text, verdict_text}
 use Rattle.ql_commands.specs.Check.Tells.{all, accepted, refused}
 use Rattle.ql_commands.specs.Classify.{ClassifySays}
-use Rattle.ql_commands.specs.Levels.{AreLevelsOf}
-use Rattle.ql_implied.specs.Commands.{AcceptsFront, AreEnough, AreLeast, GivesContract, TellsAccepted, TellsLeast, TellsLevels, TellsNone, accepted_lines}
-use Rattle.ql_implication.proofs.Same.{op_implied, txn_implied}
-use Rattle.ql_least.proofs.Fails.{lower_fail, top_fails}
-
--- a goal whose problem is refuted gives its contract
-refuted_gives : (p : Program) (g : Goal) (lines : List Line) → IsRefutedBy p g lines → ground.IsImplied p g → GivesContract p g
-refuted_gives p (OpAt o level) lines r h = (r.1.0, r.1.1, op_implied (op_kinds p.types) o.0 level r.1.0 (h r.1.0 r.1.1))
-refuted_gives p (TxnAt d level) lines r h = (r.1.0, r.1.1, txn_implied (op_kinds p.types) level r.1.0 (h r.1.0 r.1.1))
-
--- and so does a goal at its target's least level
-least_gives : (p : Program) (g : Goal) → IsLeastLevel p g → ground.IsImplied p g → GivesContract p g
-least_gives p (OpAt o level) least h = (least.0, least.1, op_implied (op_kinds p.types) o.0 level least.0 (h least.0 least.1))
-least_gives p (TxnAt d level) least h = (least.0, least.1, txn_implied (op_kinds p.types) level least.0 (h least.0 least.1))
-
-pub levels_enough : (p : Program) (levels : LevelLists) → AreLevelsOf p levels → AreEnough p levels
-levels_enough p levels are = record {
-  ops = are.ops;
-  txns = are.txns;
-  each = λ k d l. least_gives p (slice_index_or (goals_at levels) k d) (are.least k d l) (are.implied k d l);
-}
+use Rattle.ql_implied.specs.Commands.{AcceptsFront, TellsAccepted, TellsLeast, TellsLevels, TellsNone, accepted_lines}
+use Rattle.ql_classify.proofs.Fails.{top_fails}
 
 pub levels_told : (source text : List ℕ) → ClassifySays source Done text → TellsLevels source text
-levels_told source text says = (says.0, says.1, says.2, levels_enough says.0 says.2 says.3, says.4)
+levels_told source text says = (says.0, says.1, says.2, says.3.least.enough, says.4)
 
 pub levels_least : (source text : List ℕ) → ClassifySays source Done text → TellsLeast source text
-levels_least source text says =
-    let p = says.0 in
-    let levels = says.2 in
-    let least : AreLeast p levels = record {
-      enough = levels_enough p levels says.3;
-      lower = λ k d l. lower_fail p says.1.1 (slice_index_or (goals_at levels) k d) (says.3.least k d l);
-    } in
-    (p, says.1, levels, least, says.4)
+levels_least source text says = (says.0, says.1, says.2, says.3.least, says.4)
 
 pub none_told : (source text : List ℕ) → ClassifySays source No text → TellsNone source text
 none_told source text says = (says.0, says.1, says.2.0, top_fails says.0 says.1.1 says.2.0 says.2.1, says.2.2)
@@ -60,7 +25,7 @@ none_told source text says = (says.0, says.1, says.2.0, top_fails says.0 says.1.
 lines_told : (p : Program) (place : ℕ) (ss : List Section) (a : Answer) (text : List ℕ) → Tells p place ss a text → AcceptsFront p place ss a text
 unfolding accepted_lines
 lines_told p place ss a text (all k) = record { front = []; others = []; end = []; sections = refl; lines = refl; each = tt; ends = refl }
-lines_told p place ss a text (accepted k s more b rest refuted implied tells) =
+lines_told p place ss a text (accepted k s more b rest refuted gives tells) =
     let later = lines_told p (suc k) more b rest tells in
     record {
       front = s ∷ later.front;
@@ -69,7 +34,7 @@ lines_told p place ss a text (accepted k s more b rest refuted implied tells) =
       sections = ap (λ ts. s ∷ ts) later.sections;
       lines = ap (λ t. section_text s ++ verdict_text Accepted ++ t) later.lines
           ∙ sym (append_assoc (section_text s ++ verdict_text Accepted) (accepted_lines later.front) later.end);
-      each = (refuted_gives p (goal_of p k s) s.refutation.lines refuted implied, later.each);
+      each = (gives, later.each);
       ends = later.ends;
     }
 lines_told p place ss a text (refused k s more c problem not) =

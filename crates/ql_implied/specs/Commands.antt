@@ -1,17 +1,12 @@
 -- What the commands on levels say of a source, in the store's executions.
-use Rattle.std.specs.Prelude.{◌≡◌, ◌≢◌, ℕ, suc, List, [], ◌∷◌, ◌++◌, Some, length, slice_get}
-use Rattle.std.specs.List.{All}
+use Rattle.std.specs.Prelude.{◌≡◌, ◌≢◌, ℕ, suc, List, [], ◌∷◌, ◌++◌}
 use Rattle.ql_cert.specs.declared.cert.Section.{Section}
-use Rattle.ql_classify.specs.Targets.{goals_at}
+use Rattle.ql_classify.specs.Least.{AreEnough, AreLeast, TopFails}
 use Rattle.ql_classify.specs.declared.classless.Classless.{Classless}
-use Rattle.ql_ground.specs.declared.goal.Goal.{Goal}
-use Rattle.ql_ground.specs.declared.goal.Goal.TheVariants.{OpAt, TxnAt}
-use Rattle.ql_lang.specs.Formulas.{Resolved}
 use Rattle.ql_lang.specs.declared.program.Program.{Program}
 use Rattle.ql_levels.specs.Lists.{LevelLists}
 use Rattle.ql_refute.specs.declared.verdict.Verdict.{Verdict}
 use Rattle.ql_refute.specs.declared.verdict.Verdict.TheVariants.{Accepted}
-use Rattle.ql_typing.specs.Operations.{all_ops, op_contracts, op_kinds, txn_contracts}
 use Rattle.ql_report.specs.Levels.{levels_text}
 use Rattle.ql_commands.specs.declared.answer.Answer.{Answer}
 use Rattle.ql_commands.specs.declared.answer.Answer.TheVariants.{Done, No}
@@ -19,31 +14,13 @@ use Rattle.ql_commands.specs.Certificates.{SpellsCert}
 use Rattle.ql_commands.specs.Check.{AreDue, goal_of, section_text, verdict_text}
 use Rattle.ql_commands.specs.Levels.{refusal_text}
 use Rattle.ql_commands.specs.Sources.{IsSourceOf}
-use Rattle.ql_least.specs.Least.{LowerFail, TopFails}
-use Rattle.ql_implication.specs.Executions.{IsImplied, IsImpliedTxn}
+use Rattle.ql_implication.specs.OfPrograms.{GivesContract}
 
--- The target has a contract, and its level gives it: in every execution of the program, at each effect of the operation,
--- or for each begun transaction.
-abbrev pub GivesContract : Program → Goal → Type 0
-GivesContract p (OpAt o level) = (f : Resolved) × (slice_get (op_contracts p.types) o.0 ≡ Some f) × IsImplied (op_kinds p.types) o.0 level f
-GivesContract p (TxnAt d level) = (f : Resolved) × (slice_get (txn_contracts p) d.0 ≡ Some f) × IsImpliedTxn (op_kinds p.types) level f
-
--- a level for each operation and each declared transaction, that gives its contract
-pub record AreEnough (p : Program) (levels : LevelLists) : Type 0 where
-  pub ops : length levels.ops ≡ length (all_ops p.types)
-  pub txns : length levels.txns ≡ length p.txns
-  pub each : All (GivesContract p) (goals_at levels)
-
--- the text reports such levels of the source
+-- the text reports levels of the source that give their contracts
 abbrev pub TellsLevels : List ℕ → List ℕ → Type 0
 TellsLevels source text = (p : Program) × IsSourceOf source p × (levels : LevelLists) × AreEnough p levels × (text ≡ levels_text p levels)
 
--- the levels give their contracts, and each lower one fails in some execution of the program
-pub record AreLeast (p : Program) (levels : LevelLists) : Type 0 where
-  pub enough : AreEnough p levels
-  pub lower : All (LowerFail p) (goals_at levels)
-
--- the text reports such levels of the source
+-- the text reports the least levels of the source
 abbrev pub TellsLeast : List ℕ → List ℕ → Type 0
 TellsLeast source text = (p : Program) × IsSourceOf source p × (levels : LevelLists) × AreLeast p levels × (text ≡ levels_text p levels)
 

@@ -4,11 +4,9 @@
 #![tactic(auto)]
 
 mod commands;
-mod transfer;
 mod uses;
 
 pub use commands::{
     accepted_lines_give_contracts, told_levels_are_least, told_levels_give_contracts,
 };
-pub use transfer::implied_in_executions;
 pub use uses::{strong_uses_are_told, uses_are_operations};

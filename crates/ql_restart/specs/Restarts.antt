@@ -3,7 +3,8 @@ use Rattle.std.specs.Prelude.{◌≡◌, ◌⊎◌, ℕ, ◌<◌, ◌≤◌, Lis
 use Rattle.ql_classify.specs.Outcome.{IsAccepted}
 use Rattle.ql_commands.specs.declared.answer.Answer.{Answer}
 use Rattle.ql_commands.specs.declared.answer.Answer.TheVariants.{Done, No, Bad}
-use Rattle.ql_commands.specs.Levels.{AreLevelsOf, RefusalSays}
+use Rattle.ql_classify.specs.Least.{AreLevelsOf}
+use Rattle.ql_commands.specs.Levels.{RefusalSays}
 use Rattle.ql_commands.specs.Sources.{BadSourceSays, IsSourceOf}
 use Rattle.ql_headline.specs.Stores.{rules_of}
 use Rattle.ql_lang.specs.declared.program.Program.{Program}

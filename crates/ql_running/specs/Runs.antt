@@ -2,7 +2,8 @@
 use Rattle.std.specs.Prelude.{◌≡◌, ◌⊎◌, ℕ, List, Some}
 use Rattle.ql_commands.specs.declared.answer.Answer.{Answer}
 use Rattle.ql_commands.specs.declared.answer.Answer.TheVariants.{Done, No, Bad}
-use Rattle.ql_commands.specs.Levels.{AreLevelsOf, RefusalSays}
+use Rattle.ql_classify.specs.Least.{AreLevelsOf}
+use Rattle.ql_commands.specs.Levels.{RefusalSays}
 use Rattle.ql_commands.specs.Sources.{BadSourceSays, IsSource, IsSourceOf}
 use Rattle.ql_exec.specs.declared.effect.Effect.{Effect}
 use Rattle.ql_headline.specs.Stores.{rules_of}

@@ -1,5 +1,5 @@
 ghost use Rattle.std.specs.Prelude.{List, ℕ};
-ghost use Rattle.ql_commands.specs.Levels.{AreLevelsOf};
+ghost use Rattle.ql_classify.specs.Least.{AreLevelsOf};
 ghost use Rattle.ql_headline.specs.Stores.{rules_of};
 ghost use Rattle.ql_lang.specs.declared.program.Program.{Program};
 ghost use Rattle.ql_levels.specs.Lists.{LevelLists};

@@ -1,6 +1,6 @@
 ghost use Rattle.std.specs.Prelude.{◌≡◌, ◌<◌, ◌^◌, ℕ, List, length, IfOk};
 ghost use Rattle.ql_commands.specs.Sources.{IsSourceOf};
-ghost use Rattle.ql_commands.specs.Levels.{AreLevelsOf};
+ghost use Rattle.ql_classify.specs.Least.{AreLevelsOf};
 ghost use Rattle.ql_lines.specs.Lines.{ahead_from};
 ghost use Rattle.ql_schedule.specs.Files.{IsScheduleFile};
 ghost use Rattle.ql_schedule.specs.Guarantees.{IsSchedule};

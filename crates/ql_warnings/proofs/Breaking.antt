@@ -14,7 +14,6 @@ use Rattle.ql_ground.specs.declared.goal.Goal.{Goal}
 use Rattle.ql_ground.specs.declared.goal.Goal.TheVariants.{OpAt, TxnAt}
 use Rattle.ql_ground.proofs.Typing.{count_types}
 use Rattle.ql_implication.specs.Executions.{FitsProgram}
-use Rattle.ql_implication.proofs.Same.{op_implied}
 use Rattle.ql_counter.specs.declared.counter.Counter.{Counter}
 use Rattle.ql_counter.specs.Countermodels.{IsCounterOf}
 use Rattle.ql_classify.specs.Finding.{IsFinding}
@@ -56,6 +55,8 @@ module _ (p : Program) where
         broken = broken;
         level = level;
         least = subst (λ o. IsOpLevel p o level) (sym same) found.1;
-        lacks = λ holds. broken (op_implied (op_kinds p.types) n.0 level f (found.2 f (subst (λ o. slice_get (op_contracts p.types) o ≡ Some f) same contract))
-            c.execution (lawful g c is) (fits g c is) at.0 e here (ap (λ (o : OpId). o.0) of ∙ same) holds);
+        lacks = λ holds.
+            let both : Some found.2.0 ≡ Some f = sym found.2.1 ∙ subst (λ o. slice_get (op_contracts p.types) o ≡ Some f) same contract in
+            let one : found.2.0 ≡ f = cc in
+            broken (subst (λ k. Holds c.execution k at.0) one (found.2.2 c.execution (lawful g c is) (fits g c is) at.0 e here (ap (λ (o : OpId). o.0) of ∙ same) holds));
       }

@@ -4,7 +4,7 @@ ghost use Rattle.ql_classify.specs.Targets.{goals_at, goals_below, step_level, s
 ghost use Rattle.ql_ground.specs.OfPrograms.{IsGoalOf};
 ghost use Rattle.ql_ground.specs.declared.goal.Goal.{Goal};
 ghost use Rattle.ql_lang.specs.declared.program.Program.{Program};
-ghost use Rattle.ql_least.specs.Least.{highest};
+ghost use Rattle.ql_classify.specs.Least.{highest};
 ghost use Rattle.ql_typing.specs.Operations.{all_ops};
 
 use ql_base::{DeclId, OpId};

@@ -1,7 +1,7 @@
 // The targets of a classified program, each with its level and with countermodels of the lower ones.
 ghost use Rattle.std.specs.Prelude.{◌≡◌, ◌<◌, ◌++◌, Some, IfOk, OnOk, OnErr, length, slice_get};
 ghost use Rattle.ql_classify.specs.Targets.{goals_at, goals_below, targets};
-ghost use Rattle.ql_commands.specs.Levels.{AreLevelsOf};
+ghost use Rattle.ql_classify.specs.Least.{AreLevelsOf};
 ghost use Rattle.ql_ground.specs.OfPrograms.{IsGoalOf};
 ghost use Rattle.ql_typing.specs.Operations.{all_ops};
 ghost use Rattle.ql_why.specs.Why.{Appended, InTurn, IsStepText, TellsTarget, op_line, target_line, txn_line};

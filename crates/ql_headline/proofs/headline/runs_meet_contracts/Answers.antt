@@ -1,11 +1,7 @@
-use Rattle.ql_implied.proofs.Told.{levels_enough}
 use Rattle.ql_machine_laws.proofs.Growth.{answers-hold}
 use Rattle.ql_headline.specs.Stores.{rules_of}
 use Rattle.ql_headline.proofs.AtLevels.{op-contract, run-fits, txn-contract}
 use Rattle.ql_headline.proofs.headline.runs_meet_contracts.Goals as goal
-
-pub returns-clause-reported : goal.returns-clause-reported
-returns-clause-reported c = levels_enough
 
 pub returns-clause-fits : goal.returns-clause-fits
 returns-clause-fits c = run-fits

@@ -7,7 +7,7 @@ pub returns : goal.returns
 returns c = λ p levels s replies last are is run.
     (let kinds = map (λ (t : TypeId). t.0) s.kinds in
     let asked = schedule-for p (length s.objects) s.kinds s.replicas s.events is.events in
-    let enough = c.runs_meet_contracts.ensures.reported p levels are in
+    let enough = are.least.enough in
     record {
       operations = c.runs_meet_contracts.ensures.operations p levels kinds s.replicas s.events replies last run asked enough;
       transactions = c.runs_meet_contracts.ensures.transactions p levels kinds s.replicas s.events replies last run asked enough;

@@ -1,6 +1,6 @@
 use Rattle.std.proofs.Common.{subst}
 use Rattle.ql_classify.specs.Targets.{goals_at}
-use Rattle.ql_commands.specs.Levels.{AreLevelsOf}
+use Rattle.ql_classify.specs.Least.{AreLevelsOf}
 use Rattle.ql_lang.specs.declared.program.Program.{Program}
 use Rattle.ql_why.specs.Why.{InTurn, TellsTarget}
 use Rattle.ql_why.proofs.explanation.classify_with_reasons.Goals as goal

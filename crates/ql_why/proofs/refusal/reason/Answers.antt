@@ -4,7 +4,7 @@ use Rattle.ql_classify.specs.declared.classless.Classless.{Classless}
 use Rattle.ql_counter.specs.Countermodels.{IsSatisfiedBy}
 use Rattle.ql_ground.specs.OfPrograms.{IsGoalOf}
 use Rattle.ql_ground.specs.declared.goal.Goal.{Goal}
-use Rattle.ql_least.proofs.Fails.{top_satisfied}
+use Rattle.ql_classify.proofs.Fails.{top_satisfied}
 use Rattle.ql_why.proofs.refusal.reason.Goals as goal
 
 pub push_countermodel-requires-clause-goal : goal.push_countermodel-requires-clause-goal

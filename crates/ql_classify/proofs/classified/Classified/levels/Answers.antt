@@ -1,17 +1,12 @@
 use Rattle.std.proofs.Common.{subst}
-use Rattle.std.specs.List.{All}
-use Rattle.ql_ground.specs.OfPrograms.{IsImplied}
+use Rattle.ql_typing.proofs.Parts.{none_indeed}
 use Rattle.ql_classify.specs.Classification.{Classification}
-use Rattle.ql_classify.specs.Targets.{IsLeastLevel, goals_at}
-use Rattle.ql_classify.proofs.TargetLists.{all_least, all_implied}
+use Rattle.ql_classify.specs.Least.{AreLevelsOf}
+use Rattle.ql_classify.proofs.TargetLists.{are_levels}
 use Rattle.ql_classify.proofs.classified.Classified.levels.Goals as goal
 
-pub returns-clause-least : goal.returns-clause-least
-returns-clause-least c =
-    subst (λ (v : Classification). All (IsLeastLevel v.program) (goals_at v.levels)) c.self.view_is
-    (all_least c.self.inside.typed.now.program c.self.inside.levels c.self.inside.evidence.items c.self.invariant.evidence)
-
-pub returns-clause-implied : goal.returns-clause-implied
-returns-clause-implied c =
-    subst (λ (v : Classification). All (IsImplied v.program) (goals_at v.levels)) c.self.view_is
-    (all_implied c.self.inside.typed.now.program c.self.inside.levels c.self.inside.evidence.items c.self.invariant.evidence)
+pub returns-clause-levels : goal.returns-clause-levels
+returns-clause-levels c =
+    let t = c.self.inside.typed.now in
+    subst (λ (v : Classification). AreLevelsOf v.program v.levels) c.self.view_is
+    (are_levels t.program c.self.inside.levels c.self.inside.evidence.items (none_indeed _ t.well_typed) c.self.invariant)

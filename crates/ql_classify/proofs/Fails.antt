@@ -26,7 +26,7 @@ use Rattle.ql_classify.specs.declared.classless.Classless.{Classless}
 use Rattle.ql_classify.specs.declared.classless.Classless.TheVariants.{NoLevel, StrongInTxn, NoMemory}
 use Rattle.ql_counter.specs.Countermodels.{HasCounter, IsSatisfiedBy}
 use Rattle.ql_counter.proofs.Programs.{goal_fails}
-use Rattle.ql_least.specs.Least.{LowerFail, TopFails, highest}
+use Rattle.ql_classify.specs.Least.{LowerFail, TopFails, highest}
 
 module _ (p : Program) (typed : program_faults p ≡ []) where
   -- what has a contract is of the program

@@ -1,5 +1,5 @@
-use Rattle.ql_least.proofs.Fails.{lower_fail, top_fails}
-use Rattle.ql_least.proofs.laws.lower_levels_fail.Goals as goal
+use Rattle.ql_classify.proofs.Fails.{lower_fail, top_fails}
+use Rattle.ql_classify.proofs.laws.lower_levels_fail.Goals as goal
 
 pub returns-clause-lower : goal.returns-clause-lower
 returns-clause-lower c = lower_fail
