@@ -1,12 +1,11 @@
 -- The goal of a target, and the sections of goals.
-use Rattle.std.proofs.Common.{◌≡◌, ℕ, zero, suc, ◌+◌, ◌≤◌, ◌<◌, ◌^◌, List, [], ◌∷◌, ◌++◌, length, take, add-one, Some, refl, sym, ap, subst, ◌∙◌, arith}
+use Rattle.std.proofs.Common.{◌≡◌, ℕ, zero, suc, ◌+◌, ◌≤◌, List, [], ◌∷◌, ◌++◌, length, take, add-one, Some, refl, sym, ap, subst, ◌∙◌, arith}
 use Rattle.std.specs.List.{AllByRecursion, AllZip, slice_get}
 use Rattle.std.proofs.lemmas.List.{take_all, length-append}
 use Rattle.ql_base.specs.Names.{IsName}
 use Rattle.ql_cert.specs.CertFile.{IsSection}
 use Rattle.ql_cert.specs.declared.cert.Section.{Section}
 use Rattle.ql_cert.specs.declared.cert.SectionLevel.TheVariants.{Op, Txn}
-use Rattle.ql_classify.specs.Goals.{IsRefutedBy}
 use Rattle.ql_classify.specs.Targets.{op_at, txn_at, ops_from, txns_from, goals_at}
 use Rattle.ql_ground.specs.declared.goal.Goal.{Goal}
 use Rattle.ql_lang.specs.declared.operation.OpDecl.{OpDecl}
@@ -15,12 +14,11 @@ use Rattle.ql_lang.specs.declared.program.TxnDecl.{TxnDecl}
 use Rattle.ql_levels.specs.Lists.{LevelLists}
 use Rattle.ql_levels.specs.declared.level.Level.{Level}
 use Rattle.ql_levels.specs.declared.level.TxnLevel.{TxnLevel}
-use Rattle.ql_refute.specs.Verdict.{verdict}
-use Rattle.ql_refute.specs.declared.refutation.Line.{Line}
+use Rattle.ql_sat.specs.Answer.{AreNumbered}
 use Rattle.ql_typing.specs.Operations.{all_ops}
-use Rattle.ql_commands.specs.Prove.{IsSectionOf, name_of, level_of}
-use Rattle.ql_commands.specs.Spellable.{HasNames, IsNearlyLine}
-use Rattle.ql_commands.proofs.SpelledVerdicts.{have_spelling}
+use Rattle.ql_commands.specs.Names.{HasNames}
+use Rattle.ql_commands.specs.Prove.{name_of, level_of}
+use Rattle.ql_commands.proofs.SpelledLines.{spelled_lines}
 
 pub op-goal : (k : ℕ) (levels : List Level) (o : ℕ) (rest : List Goal) (l : Level) → slice_get levels o ≡ Some l → slice_get (ops_from k levels ++ rest) o ≡ Some (op_at (k + o) l)
 op-goal k [] o rest l e = absurd (cc)
@@ -88,6 +86,10 @@ pub one_more_zipped : {A B : Type 0} (R : A → B → Type 0) (gs : List A) (k :
 one_more_zipped R gs k g ss now s e is h r =
     subst (λ z. AllZip R (take (k + 1) gs) z) (sym is) (subst (λ n. AllZip R (take n gs) (ss ++ s ∷ [])) (sym (add-one k)) (zip-one R gs k g ss s e h r))
 
+pub all_more : {A : Type 0} (P : A → Type 0) (xs : List A) (x : A) → AllByRecursion P xs → P x → AllByRecursion P (xs ++ x ∷ [])
+all_more P [] x all last = (last, tt)
+all_more P (y ∷ ys) x all last = (all.0, all_more P ys x all.1 last)
+
 pub all_zipped : {A B : Type 0} (R : A → B → Type 0) (gs : List A) (k : ℕ) (ss : List B) → length gs ≤ k → AllZip R (take k gs) ss → AllZip R gs ss
 all_zipped R gs k ss l h = subst (λ z. AllZip R z ss) (take_all k gs l) h
 
@@ -121,16 +123,9 @@ txn_is_named p n d names e = named-at (λ (txn : TxnDecl). IsName txn.name.word)
 
 -- ---- a section
 
-pub section_is : (p : Program) (g : Goal) (s : Section) (lines : List Line) → s.name ≡ name_of p g → s.level ≡ level_of g → s.refutation.lines ≡ lines → IsRefutedBy p g lines → IsSectionOf p g s
-section_is p g s lines name level same refuted = record {
+pub section_spelled : (s : Section) → IsName s.name → AreNumbered s.refutation.lines → IsSection s
+section_spelled s name numbered = record {
   name = name;
-  level = level;
-  refuted = subst (IsRefutedBy p g) (sym same) refuted;
-}
-
-pub section_spelled : (p : Program) (g : Goal) (s : Section) (lines : List Line) → IsName s.name → s.refutation.lines ≡ lines → AllByRecursion IsNearlyLine s.refutation.lines → length s.refutation.lines < 2 ^ 64 → IsRefutedBy p g lines → IsSection s
-section_spelled p g s lines name same nearly few refuted = record {
-  name = name;
-  lines = have_spelling refuted.0 s.refutation.lines (ap (verdict refuted.0) same ∙ refuted.2) nearly;
-  few = few;
+  lines = spelled_lines s.refutation.lines numbered.each;
+  few = numbered.few;
 }

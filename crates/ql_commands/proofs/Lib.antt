@@ -4,8 +4,7 @@ pub mod Faults
 pub mod NameTokens
 pub mod ReadNames
 pub mod FoundNames
-pub mod SpelledVerdicts
-pub mod Copies
+pub mod SpelledLines
 pub mod Headings
 pub mod Due
 pub mod Telling

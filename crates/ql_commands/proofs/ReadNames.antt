@@ -30,7 +30,7 @@ use Rattle.ql_lang.specs.Trees.{Proposition, Relation, Sentence}
 use Rattle.ql_parse.specs.Parsing.{IsProgramText}
 use Rattle.ql_parse.specs.Readers.{lexemes_of}
 use Rattle.ql_typing.specs.Operations.{all_ops}
-use Rattle.ql_commands.specs.Spellable.{HasNames}
+use Rattle.ql_commands.specs.Names.{HasNames}
 use Rattle.ql_commands.proofs.NameTokens.{AreNamed, lexes_named}
 
 abbrev Named : List Marked → Type 0

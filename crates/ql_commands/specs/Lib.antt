@@ -3,6 +3,6 @@ pub mod Levels
 pub mod Classify
 pub mod Certificates
 pub mod Prove
-pub mod Spellable
+pub mod Names
 pub mod Check
 pub mod Judging

@@ -1,21 +1,18 @@
 ghost use Rattle.std.specs.Prelude.{◌≡◌, ◌<◌, ◌^◌, ◌+◌, length, slice_get, IfOk, OnOk, Some};
-ghost use Rattle.std.specs.List.{AllByRecursion, AllZip};
 ghost use Rattle.ql_base.specs.Names.{IsName};
-ghost use Rattle.ql_cert.specs.CertFile.{IsSection};
 ghost use Rattle.ql_classify.specs.Targets.{goals_at, targets};
 ghost use Rattle.ql_ground.specs.declared.goal.Goal.{Goal};
 ghost use Rattle.ql_typing.specs.Operations.{all_ops};
 ghost use Rattle.ql_classify.specs.Least.{AreLevelsOf};
-ghost use Rattle.ql_commands.specs.Prove.{IsCertificateFor, IsSectionOf, ProveSays, level_of, name_of};
-ghost use Rattle.ql_commands.specs.Spellable.{HasNames};
+ghost use Rattle.ql_commands.specs.Names.{HasNames};
+ghost use Rattle.ql_commands.specs.Prove.{IsCertificateFor, ProveSays, level_of, name_of};
 
 use crate::answer::Answer;
 use crate::refusals::refusal;
 use crate::source::read_source;
 use crate::source_fault::bad_source;
-use crate::spellable::spellable;
 use ql_base::{DeclId, NoMemory, OpId, Word};
-use ql_cert::{Cert, Section, SectionLevel, Sections, print_cert};
+use ql_cert::{SectionLevel, push_end, push_section, push_title};
 use ql_classify::Classified;
 use ql_levels::Levels;
 use ql_typing::Typed;
@@ -36,38 +33,22 @@ pub fn prove(alloc: Global, source: &[u8]) -> Result<(Answer, Vec<u8>), NoMemory
     }
 }
 
-// The text of the certificate of a program's levels.
+// The text of the certificate of a program's levels: a section for each target at its level.
 fn certificate(alloc: Global, classified: &Classified) -> Result<Vec<u8>, NoMemory>
     requires { HasNames classified.now.program }
     ensures levels { OnOk result (AreLevelsOf classified.now.program classified.now.levels) }
     ensures text { IfOk result (λ text. IsCertificateFor classified.now.program classified.now.levels text.items) }
 {
-    let cert = Cert {
-        sections: Sections::of(sections(alloc, classified)?),
-    };
-    print_cert(alloc, &cert)
-}
-
-// A section for each target at its level.
-fn sections(alloc: Global, classified: &Classified) -> Result<Vec<Section>, NoMemory>
-    requires { HasNames classified.now.program }
-    ensures levels { OnOk result (AreLevelsOf classified.now.program classified.now.levels) }
-    ensures targets { IfOk result (λ sections. AllZip (IsSectionOf classified.now.program) (goals_at classified.now.levels) sections.items) }
-    ensures spelled { IfOk result (λ sections. AllByRecursion IsSection sections.items) }
-{
     let typed = classified.typed();
     let levels = classified.levels();
-    let mut sections = Vec::new(alloc);
+    let mut text = Vec::new(alloc);
+    push_title(&mut text)?;
     for target in 0..typed.ops() + typed.txns() {
         let (name, level) = heading(typed, levels, target);
-        let refutation = spellable(alloc, classified.refutation(target))?;
-        sections.push(Section {
-            name,
-            level,
-            refutation,
-        })?;
+        push_section(&mut text, name, level, classified.refutation(target))?;
     }
-    Ok(sections)
+    push_end(&mut text)?;
+    Ok(text)
 }
 
 // The name of a target, and its level.

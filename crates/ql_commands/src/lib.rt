@@ -13,7 +13,6 @@ mod refusals;
 mod section_lines;
 mod source;
 mod source_fault;
-mod spellable;
 
 pub use answer::Answer;
 pub use certificate::prove;

@@ -46,7 +46,7 @@ fn is_op_due(t: &Typed, place: u32, name: &[u8]) -> bool
     if place >= t.ops() {
         return false;
     }
-    same_name(t.op(OpId(place)).name.word.bytes(), name)
+    t.op(OpId(place)).name.word.bytes() == name
 }
 
 // Whether the transaction of a name is due.
@@ -60,13 +60,7 @@ fn is_txn_due(t: &Typed, place: u32, name: &[u8]) -> bool
     if number >= t.txns() {
         return false;
     }
-    same_name(t.txn(DeclId(number)).name.word.bytes(), name)
-}
-
-fn same_name(a: &[u8], b: &[u8]) -> bool
-    ensures { IsTrue result ↔ (a.now ≡ b.now) }
-{
-    a == b
+    t.txn(DeclId(number)).name.word.bytes() == name
 }
 
 /// The line that tells the first place out of order.

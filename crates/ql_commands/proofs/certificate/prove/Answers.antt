@@ -1,6 +1,6 @@
 use Rattle.std.proofs.Common.{sym, subst}
 use Rattle.ql_lang.specs.declared.program.Program.{Program}
-use Rattle.ql_commands.specs.Spellable.{HasNames}
+use Rattle.ql_commands.specs.Names.{HasNames}
 use Rattle.ql_commands.proofs.NamedTargets.{refusal_names_targets, first_fails}
 use Rattle.ql_commands.proofs.ReadNames.{has_names}
 use Rattle.ql_commands.proofs.certificate.prove.Goals as goal
