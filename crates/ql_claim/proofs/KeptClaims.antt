@@ -15,7 +15,6 @@ use Rattle.ql_reply.specs.Wrote.{Wrote}
 use Rattle.ql_app.specs.Words.{Call, TwoFiles}
 use Rattle.ql_reply.specs.Arguments.{IsFileName}
 use Rattle.ql_commands.specs.declared.answer.Answer.TheVariants as answer
-use Rattle.ql_commands.specs.Classify.{ClassifySays}
 use Rattle.ql_commands.specs.Sources.{IsSourceOf}
 use Rattle.ql_commands.proofs.SameSource.{same-op-kinds}
 use Rattle.ql_exec.specs.declared.effect.Effect.{Effect}
@@ -23,7 +22,6 @@ use Rattle.ql_exec.specs.Execution.{IsExecution}
 use Rattle.ql_execution_files.specs.ExecutionFile.{FirstFault, IsExecutionFile}
 use Rattle.ql_execution_files.specs.declared.report_fault.ReportFault.{ReportFault}
 use Rattle.ql_implication.specs.Executions.{FitsProgram}
-use Rattle.ql_implied.specs.Commands.{TellsLevels}
 use Rattle.ql_judging.specs.Verify.{VerifySays, VerifyTells}
 use Rattle.ql_judging.specs.declared.judged.Judged.TheVariants as judged
 use Rattle.ql_judging.proofs.Begun.{under}
@@ -190,14 +188,13 @@ module _ (tree : (bytes : List ℕ) (s t : Source) → IsProgramText bytes s →
     (apart : (p : Program) (file : Ahead) (x : List Effect) (f : ReportFault) → IsExecutionFile p file x → FirstFault p file f → ⊥)
     (well : (p : Program) (file : Ahead) (x : List Effect) → IsExecutionFile p file x → IsExecution x)
     (fit : (p : Program) (file : Ahead) (x : List Effect) → IsExecutionFile p file x → FitsProgram (op_kinds p.types) x)
-    (told : (source text : List ℕ) → ClassifySays source answer.Done text → TellsLevels source text)
     (limits : Limits) (words : List (List ℕ)) (held : List ℕ → Option (List ℕ)) (before after : List ℕ → ℕ) (was is : Option (List ℕ)) (faults sums : ℕ)
     (wrote : Wrote (Says limits words held before after) was is faults sums Done)
     (next : List (List ℕ)) (next_held : List ℕ → Option (List ℕ)) (turn : AreKeptInTurn words held was is next next_held) where
   -- what was printed are these levels
   printed : (length turn.source ≤ limits.file) × IsPrinted turn.source turn.levels
   printed =
-      let text = classified limits words held before after was is faults sums turn.name turn.source turn.before turn.source_held turn.began told turn.classifies wrote in
+      let text = classified limits words held before after was is faults sums turn.name turn.source turn.before turn.source_held turn.began turn.classifies wrote in
       let both : Some (turn.before ++ text.0) ≡ Some (turn.before ++ turn.levels) = sym text.1 ∙ turn.wrote in
       let ends : turn.before ++ text.0 ≡ turn.before ++ turn.levels = same_Some (turn.before ++ text.0) (turn.before ++ turn.levels) both in
       (text.2, subst (λ (w : List ℕ). IsPrinted turn.source w) (append_cancel_left turn.before text.0 turn.levels ends) text.3)

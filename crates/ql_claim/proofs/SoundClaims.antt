@@ -13,7 +13,7 @@ use Rattle.ql_reply.specs.Wrote.{Wrote}
 use Rattle.ql_commands.specs.declared.answer.Answer.TheVariants as answer
 use Rattle.ql_commands.specs.Check.{CheckSays, order_text}
 use Rattle.ql_commands.specs.Classify.{ClassifySays}
-use Rattle.ql_implied.specs.Commands.{TellsAccepted, TellsLevels}
+use Rattle.ql_implied.specs.Commands.{TellsAccepted}
 use Rattle.ql_claim.specs.Headline.{Gained}
 use Rattle.ql_claim.specs.Soundness.{IsSoundAnswer, Soundness}
 use Rattle.ql_claim.proofs.Asked.{asks-check, asks-classify, said-of-file, said-of-files}
@@ -26,15 +26,15 @@ gained was is start text begun put = put ∙ ap (λ (w : Option (List ℕ)). app
 module _ (limits : Limits) (words : List (List ℕ)) (held : List ℕ → Option (List ℕ)) (before after : List ℕ → ℕ) (was is : Option (List ℕ)) (faults sums : ℕ)
     (name source start : List ℕ) (name_held : held name ≡ Some source) (begun : was ≡ Some start) where
   -- what `classify` appended is printed levels of the source
-  pub classified : ((source text : List ℕ) → ClassifySays source answer.Done text → TellsLevels source text) → words ≡ codes "classify" ∷ name ∷ []
+  pub classified : words ≡ codes "classify" ∷ name ∷ []
       → Wrote (Says limits words held before after) was is faults sums Done → (text : List ℕ) × (is ≡ Some (start ++ text)) × (length source ≤ limits.file) × IsPrinted source text
-  classified law are wrote = by wrote.1 wrote.2
+  classified are wrote = by wrote.1 wrote.2
     where
       by : Says limits words held before after Done wrote.0 → is ≡ appended was wrote.0 → (text : List ℕ) × (is ≡ Some (start ++ text)) × (length source ≤ limits.file) × IsPrinted source text
       by (inl asks) put =
           let said = said-of-file limits held Done wrote.0 Classify name source name_held asks.0 (asks-classify words name are asks.0 asks.1) asks.2 in
-          let levels = law source wrote.0 said.1 in
-          (wrote.0, gained was is start wrote.0 begun put, said.0, levels-printed source levels.0 levels.1 wrote.0 levels.2 levels.3 levels.4)
+          let told : ClassifySays source answer.Done wrote.0 = said.1 in
+          (wrote.0, gained was is start wrote.0 begun put, said.0, levels-printed source told.0 told.1 wrote.0 told.2 told.3.least.enough told.4)
       by (inr usage) put = absurd (let never : Done ≡ Usage = usage.0 in cc)
 
   module _ (other certificate : List ℕ) (other_held : held other ≡ Some certificate) (are : words ≡ codes "check" ∷ name ∷ other ∷ []) where
@@ -62,14 +62,13 @@ module _ (limits : Limits) (words : List (List ℕ)) (held : List ℕ → Option
             (wrote.0, gained was is start wrote.0 begun put, sound wrote.0 said (law source certificate wrote.0 said))
         by (inr usage) put = absurd (let never : No ≡ Usage = usage.0 in cc)
 
-pub all-sound : ((source text : List ℕ) → ClassifySays source answer.Done text → TellsLevels source text)
-    → ((source cert text : List ℕ) → CheckSays source cert answer.Done text → TellsAccepted source cert answer.Done text)
+pub all-sound : ((source cert text : List ℕ) → CheckSays source cert answer.Done text → TellsAccepted source cert answer.Done text)
     → ((source cert text : List ℕ) → CheckSays source cert answer.No text → ((place : ℕ) × (text ≡ order_text place)) ⊎ TellsAccepted source cert answer.No text)
     → (status : Status) (limits : Limits) (words : List (List ℕ)) (held : List ℕ → Option (List ℕ)) (before after : List ℕ → ℕ) (was is : Option (List ℕ)) (faults sums : ℕ)
     → Wrote (Says limits words held before after) was is faults sums status → Soundness status words held was is
-all-sound levels accepted refused status limits words held before after was is faults sums wrote = record {
+all-sound accepted refused status limits words held before after was is faults sums wrote = record {
   classify = λ name source start done are name_held begun.
-      (let printed = classified limits words held before after was is faults sums name source start name_held begun levels are (subst (Wrote (Says limits words held before after) was is faults sums) done wrote) in
+      (let printed = classified limits words held before after was is faults sums name source start name_held begun are (subst (Wrote (Says limits words held before after) was is faults sums) done wrote) in
       (printed.0, printed.1, printed.3.sound));
   check = λ name other source certificate start ended are name_held other_held begun. elim ended [
     | inl done ↦ accepted-all limits words held before after was is faults sums name source start name_held begun other certificate other_held are accepted

@@ -10,7 +10,6 @@ use crate::law::{headline, reported_executions_fit, soundness};
 use ql_app::{Status, quelea};
 use ql_base::NoMemory;
 use ql_execution_files::one_execution;
-use ql_implied::told_levels_give_contracts;
 use ql_parse::one_program_answer;
 use ql_ports::{Shelf, Sink};
 use std::alloc::Global;
@@ -70,7 +69,6 @@ pub fn classify_and_verify<S: Shelf, K: Sink, T: Shelf, L: Sink>(
     one_execution();
     one_program_answer();
     reported_executions_fit();
-    told_levels_give_contracts();
     let classified = quelea(alloc, words, shelf, sink)?;
     let verified = quelea(alloc, next, next_shelf, next_sink)?;
     Ok((classified, verified))

@@ -19,7 +19,7 @@ ghost use Rattle.ql_claim.specs.Soundness.{Soundness};
 
 use ql_app::contracts_hold_in_runs;
 use ql_implication::countermodels_refute;
-use ql_implied::{accepted_lines_give_contracts, strong_uses_are_told, told_levels_give_contracts};
+use ql_implied::{accepted_lines_give_contracts, strong_uses_are_told};
 use ql_parse::one_program_answer;
 
 /// The headline, of what `quelea` wrote by its clause `wrote`: with status 0, to `run` of a source and a schedule, the text
@@ -42,7 +42,6 @@ pub fn soundness()
         → Wrote (Says limits words held before after) was is faults sums status → Soundness status words held was is }
 {
     accepted_lines_give_contracts();
-    told_levels_give_contracts();
 }
 
 /// Levels that are least over all executions are one, of all programs that are read as one source.

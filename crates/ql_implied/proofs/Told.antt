@@ -9,11 +9,8 @@ use Rattle.ql_commands.specs.declared.answer.Answer.TheVariants.{Done, No}
 use Rattle.ql_commands.specs.Check.{CheckSays, Tells, order_text, section_text, verdict_text}
 use Rattle.ql_commands.specs.Check.Tells.{all, accepted, refused}
 use Rattle.ql_commands.specs.Classify.{ClassifySays}
-use Rattle.ql_implied.specs.Commands.{AcceptsFront, TellsAccepted, TellsLeast, TellsLevels, TellsNone, accepted_lines}
+use Rattle.ql_implied.specs.Commands.{AcceptsFront, TellsAccepted, TellsLeast, TellsNone, accepted_lines}
 use Rattle.ql_classify.proofs.Fails.{top_fails}
-
-pub levels_told : (source text : List ℕ) → ClassifySays source Done text → TellsLevels source text
-levels_told source text says = (says.0, says.1, says.2, says.3.least.enough, says.4)
 
 pub levels_least : (source text : List ℕ) → ClassifySays source Done text → TellsLeast source text
 levels_least source text says = (says.0, says.1, says.2, says.3.least, says.4)

@@ -1,7 +1,7 @@
 -- What the commands on levels say of a source, in the store's executions.
 use Rattle.std.specs.Prelude.{◌≡◌, ◌≢◌, ℕ, suc, List, [], ◌∷◌, ◌++◌}
 use Rattle.ql_cert.specs.declared.cert.Section.{Section}
-use Rattle.ql_classify.specs.Least.{AreEnough, AreLeast, TopFails}
+use Rattle.ql_classify.specs.Least.{AreLeast, TopFails}
 use Rattle.ql_classify.specs.declared.classless.Classless.{Classless}
 use Rattle.ql_lang.specs.declared.program.Program.{Program}
 use Rattle.ql_levels.specs.Lists.{LevelLists}
@@ -15,10 +15,6 @@ use Rattle.ql_commands.specs.Check.{AreDue, goal_of, section_text, verdict_text}
 use Rattle.ql_commands.specs.Levels.{refusal_text}
 use Rattle.ql_commands.specs.Sources.{IsSourceOf}
 use Rattle.ql_implication.specs.OfPrograms.{GivesContract}
-
--- the text reports levels of the source that give their contracts
-abbrev pub TellsLevels : List ℕ → List ℕ → Type 0
-TellsLevels source text = (p : Program) × IsSourceOf source p × (levels : LevelLists) × AreEnough p levels × (text ≡ levels_text p levels)
 
 -- the text reports the least levels of the source
 abbrev pub TellsLeast : List ℕ → List ℕ → Type 0

@@ -6,7 +6,5 @@
 mod commands;
 mod uses;
 
-pub use commands::{
-    accepted_lines_give_contracts, told_levels_are_least, told_levels_give_contracts,
-};
+pub use commands::{accepted_lines_give_contracts, told_levels_are_least};
 pub use uses::{strong_uses_are_told, uses_are_operations};

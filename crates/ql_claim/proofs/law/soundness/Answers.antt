@@ -2,4 +2,4 @@ use Rattle.ql_claim.proofs.SoundClaims.{all-sound}
 use Rattle.ql_claim.proofs.law.soundness.Goals as goal
 
 pub returns : goal.returns
-returns c = all-sound c.told_levels_give_contracts.ensures c.accepted_lines_give_contracts.ensures.yes c.accepted_lines_give_contracts.ensures.no
+returns c = all-sound c.accepted_lines_give_contracts.ensures.yes c.accepted_lines_give_contracts.ensures.no
