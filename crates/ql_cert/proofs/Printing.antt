@@ -73,6 +73,12 @@ pub titled_more : (ss : List Section) (s : Section) (text now : List ℕ) → te
 titled_more ss s text now before made =
     made ∙ ap (λ t. t ++ file_text (section_lines s)) before ∙ sym (file_text-append (title ∷ sections_lines ss) (section_lines s)) ∙ ap (λ ls. file_text (title ∷ ls)) (sym (sections_more ss s))
 
+pub titled_next : (ss : List Section) (i : ℕ) (s : Section) (text now : List ℕ) → i < length ss → s ≡ get_or ss i s → text ≡ file_text (title ∷ sections_lines (take i ss))
+    → now ≡ text ++ file_text (section_lines s) → now ≡ file_text (title ∷ sections_lines (take (i + 1) ss))
+titled_next ss i s text now lt is before made =
+    let more : take (i + 1) ss ≡ take i ss ++ s ∷ [] = ap (λ n. take n ss) (add-one i) ∙ take-suc ss i s lt ∙ ap (λ y. take i ss ++ y ∷ []) (sym is) in
+    titled_more (take i ss) s text now before made ∙ ap (λ ts. file_text (title ∷ sections_lines ts)) (sym more)
+
 -- a whole certificate
 pub titled_end : (ss : List Section) (text now : List ℕ) → text ≡ file_text (title ∷ sections_lines ss) → now ≡ text ++ file_text (end_line ∷ []) → now ≡ file_text (cert_lines ss)
 titled_end ss text now before made = made ∙ ap (λ t. t ++ file_text (end_line ∷ [])) before ∙ sym (file_text-append (title ∷ sections_lines ss) (end_line ∷ []))

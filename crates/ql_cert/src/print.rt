@@ -1,16 +1,35 @@
-ghost use Rattle.std.specs.Prelude.{◌≡◌, ◌++◌, ◌∷◌, [], OnOk, map};
+ghost use Rattle.std.specs.Prelude.{◌≡◌, ◌++◌, ◌∷◌, [], IfOk, OnOk, map};
+ghost use Rattle.std.specs.List.{AllByRecursion};
+ghost use Rattle.ql_lines.specs.Lines.{ahead_from};
 ghost use Rattle.ql_lines.specs.Texts.{behind, file_text, joined};
-ghost use Rattle.ql_cert.specs.CertFile.{end_line, kind_word, level_word, section_lines, title};
+ghost use Rattle.ql_cert.specs.CertFile.{IsCertOf, IsSection, cert_lines, end_line, kind_word, level_word, section_lines, title};
+ghost use Rattle.ql_cert.specs.Faults.{fields_in};
 ghost use Rattle.ql_cert.specs.Spelling.{hint_field, line_fields, lit_field, numbered};
 
-use crate::cert::SectionLevel;
+use crate::cert::{Cert, SectionLevel};
 use ql_base::{NoMemory, Word, push_bytes, push_number};
 use ql_cnf::Lit;
 use ql_levels::{level_word, txn_word};
 use ql_refute::{Hint, Line, Refutation};
+use std::alloc::Global;
 
-/// Appends the line that begins a certificate. A certificate is printed as this line, its sections in order,
-/// and the line that ends it, with one space between fields.
+/// The text of a certificate: its lines in order, with one space between fields. Where its sections
+/// have a spelling, they are read of it again.
+#[tactic(auto, using(crate::proofs::Plainness::again))]
+pub fn print_cert(alloc: Global, c: &Cert) -> Result<Vec<u8>, NoMemory>
+    ensures text { IfOk result (λ text. text.items ≡ file_text (cert_lines c.now.sections)) }
+    ensures again { IfOk result (λ text. AllByRecursion IsSection c.now.sections → IsCertOf c.now.sections (fields_in (ahead_from 1 text.items).lines)) }
+{
+    let mut text = Vec::new(alloc);
+    push_title(&mut text)?;
+    for section in c.sections.items() {
+        push_section(&mut text, section.name, section.level, &section.refutation)?;
+    }
+    push_end(&mut text)?;
+    Ok(text)
+}
+
+/// Appends the line that begins a certificate.
 #[tactic(auto, unfolding(ql_lines::specs::Texts::file_text))]
 pub fn push_title(out: &mut Vec<u8>) -> Result<(), NoMemory>
     ensures { OnOk result (out.new.items ≡ out.old.items ++ file_text (title ∷ [])) }
