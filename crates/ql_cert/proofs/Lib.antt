@@ -8,5 +8,5 @@ mod Refusals
 mod ProofStates
 mod ProofRefusals
 pub mod Printing
-pub mod Plainness
+mod Plainness
 pub mod OneReading

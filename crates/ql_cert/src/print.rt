@@ -1,10 +1,11 @@
-ghost use Rattle.std.specs.Prelude.{◌≡◌, ◌++◌, ◌∷◌, [], IfOk, OnOk, map};
+ghost use Rattle.std.specs.Prelude.{◌≡◌, ◌++◌, ◌∷◌, [], IfOk, List, OnOk, map};
 ghost use Rattle.std.specs.List.{AllByRecursion};
 ghost use Rattle.ql_lines.specs.Lines.{ahead_from};
 ghost use Rattle.ql_lines.specs.Texts.{behind, file_text, joined};
-ghost use Rattle.ql_cert.specs.CertFile.{IsCertOf, IsSection, cert_lines, end_line, kind_word, level_word, section_lines, title};
+ghost use Rattle.ql_cert.specs.CertFile.{IsCertOf, IsSection, cert_lines, end_line, kind_word, level_word, section_lines, sections_lines, title};
 ghost use Rattle.ql_cert.specs.Faults.{fields_in};
 ghost use Rattle.ql_cert.specs.Spelling.{hint_field, line_fields, lit_field, numbered};
+ghost use Rattle.ql_cert.specs.declared.cert.Section.{Section};
 
 use crate::cert::{Cert, SectionLevel};
 use ql_base::{NoMemory, Word, push_bytes, push_number};
@@ -15,7 +16,6 @@ use std::alloc::Global;
 
 /// The text of a certificate: its lines in order, with one space between fields. Where its sections
 /// have a spelling, they are read of it again.
-#[tactic(auto, using(crate::proofs::Plainness::again))]
 pub fn print_cert(alloc: Global, c: &Cert) -> Result<Vec<u8>, NoMemory>
     ensures text { IfOk result (λ text. text.items ≡ file_text (cert_lines c.now.sections)) }
     ensures again { IfOk result (λ text. AllByRecursion IsSection c.now.sections → IsCertOf c.now.sections (fields_in (ahead_from 1 text.items).lines)) }
@@ -58,11 +58,17 @@ pub fn push_section(
 }
 
 /// Appends the line that ends a certificate.
-#[tactic(auto, unfolding(ql_lines::specs::Texts::file_text))]
 pub fn push_end(out: &mut Vec<u8>) -> Result<(), NoMemory>
-    ensures { OnOk result (out.new.items ≡ out.old.items ++ file_text (end_line ∷ [])) }
+    ensures text { OnOk result (out.new.items ≡ out.old.items ++ file_text (end_line ∷ [])) }
+
+    // What begins with the title, and goes on with sections, is their certificate then.
+    ensures cert { OnOk result ((ss : List Section) → out.old.items ≡ file_text (title ∷ sections_lines ss) → out.new.items ≡ file_text (cert_lines ss)) }
+
+    // Where they have a spelling, they are read of it again.
+    ensures again { OnOk result ((ss : List Section) → out.old.items ≡ file_text (title ∷ sections_lines ss) → AllByRecursion IsSection ss → IsCertOf ss (fields_in (ahead_from 1 out.new.items).lines)) }
 {
-    push_bytes(out, b"end\n")
+    push_bytes(out, b"end\n")?;
+    Ok(())
 }
 
 // The words of a target's kind and of its level.

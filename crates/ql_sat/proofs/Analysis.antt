@@ -4,7 +4,7 @@ use Rattle.std.proofs.Common.{◌≡◌, ◌≢◌, ℕ, zero, suc, ◌+◌, ◌
 use Rattle.std.proofs.lemmas.Bool.Decides.{nat_tests}
 use Rattle.std.proofs.lemmas.List.{drop_all, take-append-drop}
 use Rattle.std.proofs.lemmas.List.Elements.{All-push}
-use Rattle.std.specs.Prelude.{◌==◌, is_some, reverse, slice_get}
+use Rattle.std.specs.Prelude.{◌==◌, MatchOption, is_some, reverse, slice_get}
 use Rattle.std.specs.List.{AllByRecursion, filter}
 use Rattle.std.specs.Option.{option_map}
 use Rattle.ql_cnf.specs.Literals.{IsAscending}
@@ -257,3 +257,15 @@ reason_names c lines trail m q e h searching l reason none =
         let back : IsTrail c lines (assigned_from nothing xs) (s ∷ ys) = trail-back c lines nothing xs (s ∷ ys) (subst (λ (u : List Step). IsTrail c lines nothing u) same steps) in
         let step : (d : List Lit) × (hinted c lines h ≡ Some d) × (reading (assigned_from nothing xs) d ≡ Forces s.lit) = rw why at back.0 in
         let both = none ∙ step.1 in cc
+
+-- so a step that isn't a decision has a reason that does
+pub has_reason : (c : ClauseList) (lines : List Line) (trail : List Step) (m : List ℕ) (q : ℕ) (s e : Step) → IsSearching c lines trail m → slice_get trail q ≡ Some s → is_some (get_or trail q e).reason ≡ true → MatchOption s.reason ⊥ (λ h. is_some (hinted c lines h) ≡ true)
+has_reason c lines trail m q s e searching here forced = step s.reason refl (subst (λ (x : Step). is_some x.reason ≡ true) (get_of trail q s e here).1 forced)
+  where
+    step : (o : Option Hint) → s.reason ≡ o → is_some s.reason ≡ true → MatchOption o ⊥ (λ h. is_some (hinted c lines h) ≡ true)
+    step None f some = absurd (cc)
+    step (Some h) f some = named (hinted c lines h) refl
+      where
+        named : (d : Option (List Lit)) → hinted c lines h ≡ d → is_some d ≡ true
+        named None g = absurd (let there = get_of trail q s s here in reason_names c lines trail m q s h searching there.0 (ap (λ (x : Step). x.reason) there.1 ∙ f) (sym g))
+        named (Some d) g = refl

@@ -2,6 +2,7 @@ mod Analysis
 mod Asserting
 mod Building
 mod Forcing
+mod Keeping
 mod Latest
 mod Learned
 mod Listing

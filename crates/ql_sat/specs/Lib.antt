@@ -3,3 +3,4 @@ pub mod Search
 pub mod Settled
 pub mod Trail
 pub mod Watch
+pub mod State

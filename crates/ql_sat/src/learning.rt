@@ -1,88 +1,134 @@
 // From each conflict a learned clause, resolved backwards along the trail to one literal of the last
 // decisions.
-ghost use Rattle.std.specs.List.{AllByRecursion, slice_index_or};
-ghost use Rattle.std.specs.Prelude.{◌≡◌, ◌++◌, ◌∷◌, ◌||◌, is_some, ℕ, ◌+◌, ◌<◌, ◌^◌, drop, [], false, length, IfNone, IfOk, IfSome, if◌then◌else◌, ◌==◌, List, MatchOption, OnOk, None, Some, take, true};
-ghost use Rattle.ql_cnf.specs.Literals.{IsAscending};
-ghost use Rattle.ql_cnf.specs.Satisfaction.{AreInRange};
+ghost use Rattle.std.specs.List.{slice_index_or};
+ghost use Rattle.std.specs.Prelude.{◌≡◌, ◌++◌, ◌∷◌, ◌||◌, is_some, ℕ, ◌+◌, ◌<◌, ◌^◌, drop, [], false, length, IfNone, IfOk, IfSome, if◌then◌else◌, ◌==◌, List, MatchOption, OnOk, None, Some, slice_get, take, true};
 ghost use Rattle.ql_cnf.specs.declared.lit.Lit.{Lit};
-ghost use Rattle.ql_refute.specs.Marks.{AllBelow, has_variable, marked};
-ghost use Rattle.ql_refute.specs.Partial.{nothing, reading, with_all_false};
-ghost use Rattle.ql_refute.specs.Verdict.{hinted, hints_fault};
+ghost use Rattle.ql_refute.specs.Marks.{AllBelow, LinesInRange, has_variable, marked};
+ghost use Rattle.ql_refute.specs.Partial.{reading};
+ghost use Rattle.ql_refute.specs.Verdict.{hinted};
 ghost use Rattle.ql_refute.specs.declared.marks.Reading.{Reading};
-ghost use Rattle.ql_sat.specs.Answer.{IsNumbered};
-ghost use Rattle.ql_sat.specs.Settled.{IsGuarded, IsLastSeen, IsWatched, WatchesForced, with_lines};
+ghost use Rattle.ql_sat.specs.Settled.{IsGuarded, IsLastSeen, WatchesForced, with_lines};
+ghost use Rattle.ql_sat.specs.State.{IsAnalyzed, IsConflict, IsReady, IsSound, IsSoundSearch};
+ghost use Rattle.ql_sat.specs.Trail.{IsAsserting, IsFalseClause, IsFirstAsserting, IsFirstFrom, IsLonger, IsOneSeen, IsTurn, IsUnitClause, NoneSeen, NothingSeen, is_seen, learned_to, trail_number};
+ghost use Rattle.ql_sat.specs.declared.trail.Trail.{Trail};
 ghost use Rattle.ql_sat.specs.declared.watches.Pair.{Pair};
-ghost use Rattle.ql_sat.specs.Trail.{IsAnalysis, IsAsserting, IsFalseClause, IsFirstAsserting, IsFirstFrom, IsLonger, IsOneSeen, IsSearching, IsTurn, IsUnitClause, NoneSeen, NothingSeen, is_seen, learned_to, trail_number};
 
-use crate::guide::Guide;
+use crate::known::Known;
 use crate::order::Order;
-use crate::trail::{Step, Visit, go_back, propagate_clause};
+use crate::state::Search;
+use crate::trail::{Step, Trail, Visit, go_back, propagate_clause};
 use crate::turn::Turn;
 use crate::watches::Watches;
 use ql_base::NoMemory;
 use ql_cnf::{Clause, Clauses, Lit};
 use ql_refute::{Hint, Hints, Line, hinted};
 use std::alloc::Global;
+use std::mem::replace;
+
+// The clause that is derived, by its variables, and the hints of its derivation, the last first.
+#[derive(Drop)]
+pub(crate) struct Analysis {
+    // Whether a variable is seen: it is one of the clause.
+    pub seen: Vec<bool>,
+    pub hints: Vec<Hint>,
+}
+
+impl Analysis {
+    pub fn new(alloc: Global, variables: u32) -> Result<Analysis, NoMemory>
+        ensures { IfOk result (λ analysis. length analysis.seen.items ≡ variables + 1) }
+    {
+        Ok(Analysis {
+            seen: vec![in alloc; false; variables as usize + 1]?,
+            hints: Vec::new(alloc),
+        })
+    }
+
+    // No variable is seen, and there are no hints.
+    fn clear(&mut self)
+        ensures seen { NothingSeen self.new.seen.items }
+        ensures hints { self.new.hints.items ≡ [] }
+        ensures len { length self.new.seen.items ≡ length self.old.seen.items }
+    {
+        for flag in self.seen.iter_mut() {
+            *flag = false;
+        }
+        self.hints.clear();
+    }
+
+    // Marks the variables of the clause as seen.
+    fn see(&mut self, clause: &[Lit])
+        requires { AllBelow (length self.old.seen.items) clause.now }
+        ensures seen { (v : ℕ) → is_seen self.new.seen.items v ≡ (has_variable clause.now v || is_seen self.old.seen.items v) }
+        ensures hints { self.new.hints ≡ self.old.hints }
+        ensures len { length self.new.seen.items ≡ length self.old.seen.items }
+    {
+        for lit in clause {
+            self.seen[lit.var as usize] = true;
+        }
+    }
+
+    fn forget(&mut self, var: u32)
+        ensures seen { (v : ℕ) → is_seen self.new.seen.items v ≡ (if v == var then false else is_seen self.old.seen.items v) }
+        ensures hints { self.new.hints ≡ self.old.hints }
+        ensures len { length self.new.seen.items ≡ length self.old.seen.items }
+    {
+        if (var as usize) < self.seen.len() {
+            self.seen[var as usize] = false;
+        }
+    }
+}
 
 // Keeps the clause that is learned from a conflict as a line, and goes back to where it forces a literal.
 pub(crate) fn learn(
     alloc: Global,
     c: &Clauses,
     conflict: Hint,
-    lines: &mut Vec<Line>,
-    trail: &mut Vec<Step>,
-    marks: &mut [u8],
-    seen: &mut [bool],
-    guide: &mut Guide,
+    search: &mut Search,
 ) -> Result<Turn, NoMemory>
-    requires searching { IsSearching c.now lines.old.items trail.old.items marks.old }
-    requires seen { length seen.old ≡ c.now.variables + 1 }
-    requires conflict { IsFalseClause c.now lines.old.items conflict marks.old }
-    requires guarded { IsGuarded (with_lines c.now lines.old.items) trail.old.items guide.old.watches.lists.items guide.old.watches.pairs.items }
-    ensures searching { OnOk result (IsSearching c.now lines.new.items trail.new.items marks.new) }
-    ensures watched { IfOk result (λ turn. turn ≡ Turn.More → IsWatched (with_lines c.now lines.new.items) trail.new.items guide.new.watches.lists.items guide.new.watches.pairs.items guide.new.queue.done) }
-    ensures turn { IfOk result (IsTurn c.now lines.new.items marks.new) }
-    ensures number { IfOk result (λ turn. turn ≡ Turn.More → trail_number (c.now.variables + 1) trail.old.items < trail_number (c.now.variables + 1) trail.new.items) }
+    requires sound { IsSoundSearch c.now search.old }
+    requires seen { length search.old.analysis.seen.items ≡ c.now.variables + 1 }
+    requires conflict { IsFalseClause c.now search.old.lines.items conflict search.old.trail.marks.items }
+    requires guarded { IsGuarded (with_lines c.now search.old.lines.items) search.old.trail.steps.items search.old.guide.watches.lists.items search.old.guide.watches.pairs.items }
+    ensures sound { OnOk result (IsSoundSearch c.now search.new) }
+    ensures ready { IfOk result (λ turn. turn ≡ Turn.More → IsReady c.now search.new) }
+    ensures turn { IfOk result (IsTurn c.now search.new.lines.items search.new.trail.marks.items) }
+    ensures number { IfOk result (λ turn. turn ≡ Turn.More → trail_number (c.now.variables + 1) search.old.trail.steps.items < trail_number (c.now.variables + 1) search.new.trail.steps.items) }
 {
-    let mut hints = Vec::new(alloc);
-    let found = analyze(
-        c,
-        lines,
-        conflict,
-        trail,
-        marks,
-        seen,
-        &mut hints,
-        &mut guide.order,
-    )?;
-    let clause = learned(alloc, c.variables(), marks, seen)?;
+    let known = Known {
+        given: c,
+        lines: &search.lines,
+    };
+    let order = &mut search.guide.order;
+    let found = analyze(known, conflict, &search.trail, &mut search.analysis, order)?;
+    let seen = &search.analysis.seen;
+    let clause = learned(alloc, c.variables(), &search.trail.marks, seen)?;
+    let mut hints = replace(&mut search.analysis.hints, Vec::new(alloc));
     hints.reverse();
-    let number = keep(alloc, c, &clause, hints, lines, trail, marks)?;
+    let number = keep(clause, hints, &mut search.lines)?;
     let Some(to) = found else {
         return Ok(Turn::Refuted(number));
     };
-    go_back(c, lines, to, trail, marks, &mut guide.order);
-    read_learned(c, lines, number, trail, marks)?;
-    guide.queue.done = to;
-    watch(&mut guide.watches, trail, seen, to)?;
+    go_back(to, &mut search.trail, &mut search.guide.order);
+    let known = Known {
+        given: c,
+        lines: &search.lines,
+    };
+    read_learned(known, number, &mut search.trail)?;
+    search.guide.queue.done = to;
+    let seen = &search.analysis.seen;
+    watch(&mut search.guide.watches, &search.trail.steps, seen, to)?;
     Ok(Turn::More)
 }
 
 // Reads the learned clause where it forces a literal.
-fn read_learned(
-    c: &Clauses,
-    lines: &[Line],
-    number: u64,
-    trail: &mut Vec<Step>,
-    marks: &mut [u8],
-) -> Result<(), NoMemory>
-    requires searching { IsSearching c.now lines.now trail.old.items marks.old }
-    requires unit { IsUnitClause c.now lines.now (Hint.Earlier number) marks.old }
-    ensures searching { OnOk result (IsSearching c.now lines.now trail.new.items marks.new) }
-    ensures forced { OnOk result (IsLonger Visit.Forced (c.now.variables + 1) trail.old.items trail.new.items) }
-    ensures literal { OnOk result ((d : List Lit) (x : Lit) → hinted c.now lines.now (Hint.Earlier number) ≡ Some d → reading (marked marks.old) d ≡ Reading.Forces x → marked marks.new x.var ≡ Some x.positive) }
+fn read_learned(known: Known, number: u64, trail: &mut Trail) -> Result<(), NoMemory>
+    requires sound { IsSound known trail.old }
+    requires unit { IsUnitClause known.given.now known.lines.now (Hint.Earlier number) trail.old.marks.items }
+    ensures sound { OnOk result (IsSound known.entry trail.new) }
+    ensures forced { OnOk result (IsLonger Visit.Forced (known.entry.given.now.variables + 1) trail.old.steps.items trail.new.steps.items) }
+    ensures literal { OnOk result ((d : List Lit) (x : Lit) → hinted known.entry.given.now known.entry.lines.now (Hint.Earlier number) ≡ Some d → reading (marked trail.old.marks.items) d ≡ Reading.Forces x → marked trail.new.marks.items x.var ≡ Some x.positive) }
 {
-    propagate_clause(c, lines, Hint::Earlier(number), trail, marks)?;
+    propagate_clause(known, Hint::Earlier(number), trail)?;
     Ok(())
 }
 
@@ -114,61 +160,45 @@ fn last_seen(steps: &[Step], seen: &[bool]) -> Option<Lit>
     None
 }
 
-// Appends a good line, and gives its number.
-fn keep(
-    alloc: Global,
-    c: &Clauses,
-    clause: &Clause,
-    hints: Vec<Hint>,
-    lines: &mut Vec<Line>,
-    trail: &[Step],
-    marks: &[u8],
-) -> Result<u64, NoMemory>
-    requires searching { IsSearching c.now lines.old.items trail.now marks.now }
-    requires in_range { AreInRange c.now.variables clause.now }
-    requires conflict { (k : ℕ) → hints_fault c.now lines.old.items k hints.items (with_all_false nothing clause.now) ≡ None }
-    requires numbered { AllByRecursion IsNumbered hints.items }
-    ensures searching { OnOk result (IsSearching c.now lines.new.items trail.now marks.now) }
-    ensures number { IfOk result (λ number. hinted c.now lines.new.items (Hint.Earlier number) ≡ Some clause.now) }
-    ensures pushed { OnOk result (lines.new.items ≡ lines.old.items ++ record { clause = clause.now; hints = hints.items } ∷ []) }
+// Appends a line, and gives its number.
+fn keep(clause: Clause, hints: Vec<Hint>, lines: &mut Vec<Line>) -> Result<u64, NoMemory>
+    ensures pushed { OnOk result (lines.new.items ≡ lines.old.items ++ record { clause = clause; hints = hints.items } ∷ []) }
+    ensures number { IfOk result (λ number. number ≡ length lines.old.items + 1) }
+    ensures few { OnOk result (length lines.new.items < 2 ^ 64) }
 {
-    let number = push_line(alloc, clause, hints, lines)?;
-    Ok(number)
+    lines.push(Line {
+        clause,
+        hints: Hints::of(hints),
+    })?;
+    Ok(lines.len() as u64)
 }
 
 // Resolves the conflict backwards along the trail to one literal of the last decisions. The decision that
 // is to be taken back, or none where the learned clause is empty.
 fn analyze(
-    c: &Clauses,
-    lines: &[Line],
+    known: Known,
     conflict: Hint,
-    trail: &[Step],
-    marks: &[u8],
-    seen: &mut [bool],
-    hints: &mut Vec<Hint>,
+    trail: &Trail,
+    analysis: &mut Analysis,
     order: &mut Order,
 ) -> Result<Option<usize>, NoMemory>
-    requires searching { IsSearching c.now lines.now trail.now marks.now }
-    requires seen { length seen.old ≡ c.now.variables + 1 }
-    requires conflict { IsFalseClause c.now lines.now conflict marks.now }
-    requires none { hints.old.items ≡ [] }
-    ensures analysis { OnOk result ((i : ℕ) × IsAnalysis c.now lines.now trail.now i seen.new hints.new.items) }
-    ensures found { IfOk result (λ found. MatchOption found (IsAnalysis c.now lines.now trail.now 0 seen.new hints.new.items) (λ to. IsFirstAsserting trail.now to seen.new)) }
+    requires sound { IsSound known trail.now }
+    requires seen { length analysis.old.seen.items ≡ known.given.now.variables + 1 }
+    requires conflict { IsConflict known trail.now conflict }
+    ensures analyzed { OnOk result ((i : ℕ) × IsAnalyzed known.entry trail.now i analysis.new) }
+    ensures found { IfOk result (λ found. MatchOption found (IsAnalyzed known.entry trail.now 0 analysis.new) (λ to. IsFirstAsserting trail.now.steps.items to analysis.new.seen.items)) }
+    ensures seen { OnOk result (length analysis.new.seen.items ≡ known.entry.given.now.variables + 1) }
 {
-    begin(c, lines, conflict, trail, marks, seen, hints, order)?;
+    begin(known, conflict, analysis, order)?;
     order.decay();
-    let mut place = trail.len();
+    let mut place = trail.steps.len();
     while place > 0 {
         let at = place - 1;
-        let step = trail[at];
-        if is_seen(seen, step.lit.var) {
-            if let Some(to) = asserting(trail, seen, at) {
+        if is_seen(&analysis.seen, trail.steps[at].lit.var) {
+            if let Some(to) = asserting(&trail.steps, &analysis.seen, at) {
                 return Ok(Some(to));
             }
-            let Some(reason) = step.reason else {
-                unreachable!();
-            };
-            resolve(c, lines, trail, marks, at, reason, seen, hints, order)?;
+            resolve(known, trail.steps[at], analysis, order)?;
         }
         place = at;
     }
@@ -177,67 +207,51 @@ fn analyze(
 
 // Sees the variables of the clause in conflict alone.
 fn begin(
-    c: &Clauses,
-    lines: &[Line],
+    known: Known,
     conflict: Hint,
-    trail: &[Step],
-    marks: &[u8],
-    seen: &mut [bool],
-    hints: &mut Vec<Hint>,
+    analysis: &mut Analysis,
     order: &mut Order,
 ) -> Result<(), NoMemory>
-    requires searching { IsSearching c.now lines.now trail.now marks.now }
-    requires seen { length seen.old ≡ c.now.variables + 1 }
-    requires conflict { IsFalseClause c.now lines.now conflict marks.now }
-    requires none { hints.old.items ≡ [] }
-    ensures { OnOk result (IsAnalysis c.now lines.now trail.now (length trail.now) seen.new hints.new.items) }
+    requires in_range { LinesInRange known.given.now.variables known.lines.now }
+    requires seen { length analysis.old.seen.items ≡ known.given.now.variables + 1 }
+    requires conflict { is_some (hinted known.given.now known.lines.now conflict) ≡ true }
+    ensures analyzed { OnOk result ((trail : Trail) → IsSound known.entry trail → IsConflict known.entry trail conflict → IsAnalyzed known.entry trail (length trail.steps.items) analysis.new) }
+    ensures seen { OnOk result (length analysis.new.seen.items ≡ known.entry.given.now.variables + 1) }
 {
-    let Some(clause) = hinted(c, lines, conflict) else {
+    let Some(clause) = hinted(known.given, known.lines, conflict) else {
         unreachable!();
     };
-    see_nothing(seen);
-    bump(clause, seen, order);
-    see(clause, seen);
-    hints.push(conflict)?;
+    analysis.clear();
+    bump(clause, &analysis.seen, order);
+    analysis.see(clause);
+    analysis.hints.push(conflict)?;
     Ok(())
 }
 
-// Resolves with the clause that forced the literal at a place.
+// Resolves with the clause that forced the literal of a step.
 fn resolve(
-    c: &Clauses,
-    lines: &[Line],
-    trail: &[Step],
-    marks: &[u8],
-    at: usize,
-    reason: Hint,
-    seen: &mut [bool],
-    hints: &mut Vec<Hint>,
+    known: Known,
+    step: Step,
+    analysis: &mut Analysis,
     order: &mut Order,
 ) -> Result<(), NoMemory>
-    requires searching { IsSearching c.now lines.now trail.now marks.now }
-    requires len { length seen.old ≡ c.now.variables + 1 }
-    requires at { at < length trail.now }
-    requires reason { (slice_index_or trail.now at (record { lit = record { var = 0; positive = false }; reason = None })).reason ≡ Some reason }
-    requires seen { is_seen seen.old (slice_index_or trail.now at (record { lit = record { var = 0; positive = false }; reason = None })).lit.var ≡ true }
-    requires analysis { IsAnalysis c.now lines.now trail.now (at + 1) seen.old hints.old.items }
-    ensures { OnOk result (IsAnalysis c.now lines.now trail.now at seen.new hints.new.items) }
+    requires in_range { LinesInRange known.given.now.variables known.lines.now }
+    requires seen { length analysis.old.seen.items ≡ known.given.now.variables + 1 }
+    requires reason { MatchOption step.reason ⊥ (λ reason. is_some (hinted known.given.now known.lines.now reason) ≡ true) }
+    ensures analyzed { OnOk result ((trail : Trail) (at : ℕ) → IsSound known.entry trail → slice_get trail.steps.items at ≡ Some step → IsAnalyzed known.entry trail (at + 1) analysis.old → IsAnalyzed known.entry trail at analysis.new) }
+    ensures seen { OnOk result (length analysis.new.seen.items ≡ known.entry.given.now.variables + 1) }
 {
-    let Some(clause) = hinted(c, lines, reason) else {
+    let Some(reason) = step.reason else {
         unreachable!();
     };
-    bump(clause, seen, order);
-    see(clause, seen);
-    forget(trail[at].lit.var, seen);
-    hints.push(reason)?;
+    let Some(clause) = hinted(known.given, known.lines, reason) else {
+        unreachable!();
+    };
+    bump(clause, &analysis.seen, order);
+    analysis.see(clause);
+    analysis.forget(step.lit.var);
+    analysis.hints.push(reason)?;
     Ok(())
-}
-
-fn forget(var: u32, seen: &mut [bool])
-    ensures { (v : ℕ) → is_seen seen.new v ≡ (if v == var then false else is_seen seen.old v) }
-{
-    if (var as usize) < seen.len() {
-        seen[var as usize] = false;
-    }
 }
 
 fn is_seen(seen: &[bool], var: u32) -> bool
@@ -290,24 +304,6 @@ fn bump(clause: &[Lit], seen: &[bool], order: &mut Order) {
     }
 }
 
-// Marks the variables of the clause as seen.
-fn see(clause: &[Lit], seen: &mut [bool])
-    requires { AllBelow (length seen.old) clause.now }
-    ensures { (v : ℕ) → is_seen seen.new v ≡ (has_variable clause.now v || is_seen seen.old v) }
-{
-    for lit in clause {
-        seen[lit.var as usize] = true;
-    }
-}
-
-fn see_nothing(seen: &mut [bool])
-    ensures { NothingSeen seen.new }
-{
-    for flag in seen.iter_mut() {
-        *flag = false;
-    }
-}
-
 // The clause of the seen variables, each false under the marks.
 fn learned(alloc: Global, variables: u32, marks: &[u8], seen: &[bool]) -> Result<Clause, NoMemory>
     requires marks { length marks.now ≡ variables + 1 }
@@ -325,24 +321,4 @@ fn learned(alloc: Global, variables: u32, marks: &[u8], seen: &[bool]) -> Result
         }
     }
     Ok(Clause::of(literals))
-}
-
-// Appends a line, and gives its number.
-fn push_line(
-    alloc: Global,
-    clause: &Clause,
-    hints: Vec<Hint>,
-    lines: &mut Vec<Line>,
-) -> Result<u64, NoMemory>
-    ensures pushed { OnOk result (lines.new.items ≡ lines.old.items ++ record { clause = clause.now; hints = hints.items } ∷ []) }
-    ensures number { IfOk result (λ number. number ≡ length lines.old.items + 1) }
-    ensures few { OnOk result (length lines.new.items < 2 ^ 64) }
-    ensures ascending { OnOk result (IsAscending clause.now) }
-{
-    let literals = Vec::from_slice(alloc, clause.items())?;
-    lines.push(Line {
-        clause: Clause::of(literals),
-        hints: Hints::of(hints),
-    })?;
-    Ok(lines.len() as u64)
 }

@@ -19,12 +19,14 @@
 
 mod decided;
 mod guide;
+mod known;
 mod learning;
 mod model;
 mod order;
 mod propagation;
 mod queue;
 mod search;
+mod state;
 mod trail;
 mod turn;
 mod watchers;

@@ -5,71 +5,74 @@ ghost use Rattle.ql_cnf.specs.declared.lit.Lit.{Lit};
 ghost use Rattle.ql_refute.specs.Marks.{LinesInRange, marked};
 ghost use Rattle.ql_refute.specs.Verdict.{hinted};
 ghost use Rattle.ql_sat.specs.Search.{IsQuietOnNonUnits};
-ghost use Rattle.ql_sat.specs.Settled.{IsGuarded, IsLook, IsVisiting, IsWatched, with_lines};
-ghost use Rattle.ql_sat.specs.Trail.{IsFalseClause, IsSearching, trail_number};
+ghost use Rattle.ql_sat.specs.Settled.{IsLook};
+ghost use Rattle.ql_sat.specs.State.{AreGuarded, AreVisited, AreWatched, IsConflict, IsSound, all_clauses};
+ghost use Rattle.ql_sat.specs.Trail.{trail_number};
 ghost use Rattle.ql_sat.specs.Watch.{IsAway, IsThere, index_of};
-ghost use Rattle.ql_sat.specs.declared.watches.Pair.{Pair};
+ghost use Rattle.ql_sat.specs.declared.watches.Watches.{Watches};
 
+use crate::guide::Guide;
+use crate::known::Known;
 use crate::queue::Queue;
-use crate::trail::{Step, Visit, propagate_clause};
+use crate::trail::{Trail, Visit, propagate_clause};
 use crate::watches::{Look, Watches, hint_of, inspect};
 use ql_base::NoMemory;
-use ql_cnf::{Clauses, Lit};
-use ql_refute::{Hint, Line, hinted};
+use ql_cnf::Lit;
+use ql_refute::{Hint, hinted};
+
+// A clause at a place of the list of a literal that is false, and its name in a line.
+#[derive(Clone, Copy)]
+struct Watcher {
+    falsified: Lit,
+    at: usize,
+    clause: usize,
+    hint: Hint,
+}
 
 // Propagates units to the end. The clause that is false, or none.
 pub(crate) fn propagate(
-    c: &Clauses,
-    lines: &[Line],
-    trail: &mut Vec<Step>,
-    marks: &mut [u8],
-    queue: &mut Queue,
-    watches: &mut Watches,
+    known: Known,
+    trail: &mut Trail,
+    guide: &mut Guide,
 ) -> Result<Option<Hint>, NoMemory>
-    requires searching { IsSearching c.now lines.now trail.old.items marks.old }
-    requires watched { IsWatched (with_lines c.now lines.now) trail.old.items watches.old.lists.items watches.old.pairs.items queue.old.done }
-    ensures searching { OnOk result (IsSearching c.now lines.now trail.new.items marks.new) }
-    ensures guarded { OnOk result (IsGuarded (with_lines c.now lines.now) trail.new.items watches.new.lists.items watches.new.pairs.items) }
-    ensures watched { IfOk result (λ found. IfNone found (IsWatched (with_lines c.now lines.now) trail.new.items watches.new.lists.items watches.new.pairs.items queue.new.done)) }
-    ensures all { IfOk result (λ found. IfNone found (queue.new.done ≡ length trail.new.items)) }
-    ensures quiet { IfOk result (λ found. IfNone found (IsQuietOnNonUnits (with_lines c.now lines.now).clauses marks.new)) }
-    ensures conflict { IfOk result (λ found. IfSome found (λ hint. IsFalseClause c.now lines.now hint marks.new)) }
-    ensures number { OnOk result (trail_number (c.now.variables + 1) trail.old.items ≤ trail_number (c.now.variables + 1) trail.new.items) }
+    requires sound { IsSound known trail.old }
+    requires watched { AreWatched known trail.old guide.old.watches guide.old.queue.done }
+    ensures sound { OnOk result (IsSound known.entry trail.new) }
+    ensures guarded { OnOk result (AreGuarded known.entry trail.new guide.new.watches) }
+    ensures watched { IfOk result (λ found. IfNone found (AreWatched known.entry trail.new guide.new.watches guide.new.queue.done)) }
+    ensures all { IfOk result (λ found. IfNone found (guide.new.queue.done ≡ length trail.new.steps.items)) }
+    ensures quiet { IfOk result (λ found. IfNone found (IsQuietOnNonUnits (all_clauses known.entry).clauses trail.new.marks.items)) }
+    ensures conflict { IfOk result (λ found. IfSome found (IsConflict known.entry trail.new)) }
+    ensures number { OnOk result (trail_number (known.entry.given.now.variables + 1) trail.old.steps.items ≤ trail_number (known.entry.given.now.variables + 1) trail.new.steps.items) }
 {
-    let conflict = read_units(c, lines, trail, marks, queue)?;
+    let conflict = read_units(known, trail, &mut guide.queue)?;
     if conflict.is_some() {
         return Ok(conflict);
     }
-    let mut place = queue.done;
-    while place < trail.len() {
-        let conflict = visit_watchers(c, lines, place, trail, marks, watches)?;
+    let mut place = guide.queue.done;
+    while place < trail.steps.len() {
+        let conflict = visit_watchers(known, place, trail, &mut guide.watches)?;
         if conflict.is_some() {
             return Ok(conflict);
         }
         place += 1;
     }
-    queue.done = place;
+    guide.queue.done = place;
     Ok(None)
 }
 
 // Reads the given clauses of fewer than two literals, each once.
-fn read_units(
-    c: &Clauses,
-    lines: &[Line],
-    trail: &mut Vec<Step>,
-    marks: &mut [u8],
-    queue: &mut Queue,
-) -> Result<Option<Hint>, NoMemory>
-    requires { IsSearching c.now lines.now trail.old.items marks.old }
-    ensures searching { OnOk result (IsSearching c.now lines.now trail.new.items marks.new) }
-    ensures watched { OnOk result ((lists : List (List ℕ)) (pairs : List Pair) (done : ℕ) → IsWatched (with_lines c.now lines.now) trail.old.items lists pairs done → IsWatched (with_lines c.now lines.now) trail.new.items lists pairs done) }
+fn read_units(known: Known, trail: &mut Trail, queue: &mut Queue) -> Result<Option<Hint>, NoMemory>
+    requires { IsSound known trail.old }
+    ensures sound { OnOk result (IsSound known.entry trail.new) }
+    ensures watched { OnOk result ((watches : Watches) (done : ℕ) → AreWatched known.entry trail.old watches done → AreWatched known.entry trail.new watches done) }
     ensures done { queue.new.done ≡ queue.old.done }
-    ensures conflict { IfOk result (λ found. IfSome found (λ hint. IsFalseClause c.now lines.now hint marks.new)) }
-    ensures number { OnOk result (trail_number (c.now.variables + 1) trail.old.items ≤ trail_number (c.now.variables + 1) trail.new.items) }
+    ensures conflict { IfOk result (λ found. IfSome found (IsConflict known.entry trail.new)) }
+    ensures number { OnOk result (trail_number (known.entry.given.now.variables + 1) trail.old.steps.items ≤ trail_number (known.entry.given.now.variables + 1) trail.new.steps.items) }
 {
     while let Some(number) = queue.units.pop() {
         let hint = Hint::Given(number);
-        if propagate_clause(c, lines, hint, trail, marks)? == Visit::Conflict {
+        if propagate_clause(known, hint, trail)? == Visit::Conflict {
             return Ok(Some(hint));
         }
     }
@@ -78,27 +81,31 @@ fn read_units(
 
 // Visits the clauses that watch the literal which a step made false, and no others.
 fn visit_watchers(
-    c: &Clauses,
-    lines: &[Line],
+    known: Known,
     place: usize,
-    trail: &mut Vec<Step>,
-    marks: &mut [u8],
+    trail: &mut Trail,
     watches: &mut Watches,
 ) -> Result<Option<Hint>, NoMemory>
-    requires searching { IsSearching c.now lines.now trail.old.items marks.old }
-    requires within { place < length trail.old.items }
-    requires watched { IsWatched (with_lines c.now lines.now) trail.old.items watches.old.lists.items watches.old.pairs.items place }
-    ensures searching { OnOk result (IsSearching c.now lines.now trail.new.items marks.new) }
-    ensures guarded { OnOk result (IsGuarded (with_lines c.now lines.now) trail.new.items watches.new.lists.items watches.new.pairs.items) }
-    ensures watched { IfOk result (λ found. IfNone found (IsWatched (with_lines c.now lines.now) trail.new.items watches.new.lists.items watches.new.pairs.items (place + 1))) }
-    ensures conflict { IfOk result (λ found. IfSome found (λ hint. IsFalseClause c.now lines.now hint marks.new)) }
-    ensures number { OnOk result (trail_number (c.now.variables + 1) trail.old.items ≤ trail_number (c.now.variables + 1) trail.new.items) }
+    requires sound { IsSound known trail.old }
+    requires within { place < length trail.old.steps.items }
+    requires watched { AreWatched known trail.old watches.old place }
+    ensures sound { OnOk result (IsSound known.entry trail.new) }
+    ensures guarded { OnOk result (AreGuarded known.entry trail.new watches.new) }
+    ensures watched { IfOk result (λ found. IfNone found (AreWatched known.entry trail.new watches.new (place + 1))) }
+    ensures conflict { IfOk result (λ found. IfSome found (IsConflict known.entry trail.new)) }
+    ensures number { OnOk result (trail_number (known.entry.given.now.variables + 1) trail.old.steps.items ≤ trail_number (known.entry.given.now.variables + 1) trail.new.steps.items) }
 {
-    let falsified = trail[place].lit.negated();
+    let falsified = trail.steps[place].lit.negated();
     let mut at = 0;
     while let Some(clause) = watches.watcher(falsified, at) {
-        let hint = hint_of(c, clause);
-        match visit(c, lines, falsified, at, clause, hint, trail, marks, watches)? {
+        let hint = hint_of(known.given, clause);
+        let watcher = Watcher {
+            falsified,
+            at,
+            clause,
+            hint,
+        };
+        match visit(known, watcher, trail, watches)? {
             Some(next) => at = next,
             None => return Ok(Some(hint)),
         }
@@ -106,57 +113,45 @@ fn visit_watchers(
     Ok(None)
 }
 
-// Visits a clause at a place of the literal's list. The next place to visit; none where the clause is false.
+// Visits a clause. The next place of the list to visit; none where the clause is false.
 fn visit(
-    c: &Clauses,
-    lines: &[Line],
-    falsified: Lit,
-    at: usize,
-    clause: usize,
-    hint: Hint,
-    trail: &mut Vec<Step>,
-    marks: &mut [u8],
+    known: Known,
+    watcher: Watcher,
+    trail: &mut Trail,
     watches: &mut Watches,
 ) -> Result<Option<usize>, NoMemory>
-    requires searching { IsSearching c.now lines.now trail.old.items marks.old }
-    requires there { IsThere watches.old.lists.items falsified at clause }
-    requires fits { at + 1 < 2 ^ 64 }
-    requires hint { clause < length (with_lines c.now lines.now).clauses → hinted c.now lines.now hint ≡ Some (slice_index_or (with_lines c.now lines.now).clauses clause []) }
-    ensures searching { OnOk result (IsSearching c.now lines.now trail.new.items marks.new) }
-    ensures visiting { IfOk result (λ next. (place : ℕ) → IsVisiting (with_lines c.now lines.now) trail.old.items watches.old.lists.items watches.old.pairs.items place at falsified → MatchOption next (IsGuarded (with_lines c.now lines.now) trail.new.items watches.new.lists.items watches.new.pairs.items) (λ to. IsVisiting (with_lines c.now lines.now) trail.new.items watches.new.lists.items watches.new.pairs.items place to falsified)) }
-    ensures fewer { IfOk result (λ next. IfSome next (λ to. length (slice_index_or watches.new.lists.items (index_of falsified) []) - to < length (slice_index_or watches.old.lists.items (index_of falsified) []) - at)) }
-    ensures conflict { IfOk result (λ next. IfNone next (IsFalseClause c.now lines.now hint marks.new)) }
-    ensures number { OnOk result (trail_number (c.now.variables + 1) trail.old.items ≤ trail_number (c.now.variables + 1) trail.new.items) }
+    requires sound { IsSound known trail.old }
+    requires there { IsThere watches.old.lists.items watcher.falsified watcher.at watcher.clause }
+    requires fits { watcher.at + 1 < 2 ^ 64 }
+    requires hint { watcher.clause < length (all_clauses known).clauses → hinted known.given.now known.lines.now watcher.hint ≡ Some (slice_index_or (all_clauses known).clauses watcher.clause []) }
+    ensures sound { OnOk result (IsSound known.entry trail.new) }
+    ensures visited { IfOk result (λ next. (place : ℕ) → AreVisited known.entry trail.old watches.old place watcher.at watcher.falsified → MatchOption next (AreGuarded known.entry trail.new watches.new) (λ to. AreVisited known.entry trail.new watches.new place to watcher.falsified)) }
+    ensures fewer { IfOk result (λ next. IfSome next (λ to. length (slice_index_or watches.new.lists.items (index_of watcher.falsified) []) - to < length (slice_index_or watches.old.lists.items (index_of watcher.falsified) []) - watcher.at)) }
+    ensures conflict { IfOk result (λ next. IfNone next (IsConflict known.entry trail.new watcher.hint)) }
+    ensures number { OnOk result (trail_number (known.entry.given.now.variables + 1) trail.old.steps.items ≤ trail_number (known.entry.given.now.variables + 1) trail.new.steps.items) }
 {
-    let other = watches.other(clause, falsified);
-    match look_at(c, lines, hint, falsified, other, marks) {
-        Look::Keep => Ok(Some(at + 1)),
+    let other = watches.other(watcher.clause, watcher.falsified);
+    match look_at(known, watcher, other, &trail.marks) {
+        Look::Keep => Ok(Some(watcher.at + 1)),
         Look::Move(lit) => {
-            watches.change(falsified, at, clause, lit)?;
-            Ok(Some(at))
+            watches.change(watcher.falsified, watcher.at, watcher.clause, lit)?;
+            Ok(Some(watcher.at))
         }
-        Look::Read => match propagate_clause(c, lines, hint, trail, marks)? {
+        Look::Read => match propagate_clause(known, watcher.hint, trail)? {
             Visit::Conflict => Ok(None),
-            _ => Ok(Some(at + 1)),
+            _ => Ok(Some(watcher.at + 1)),
         },
     }
 }
 
-// What becomes of the clause that the hint names.
-fn look_at(
-    c: &Clauses,
-    lines: &[Line],
-    hint: Hint,
-    falsified: Lit,
-    other: Lit,
-    marks: &[u8],
-) -> Look
-    requires { LinesInRange c.now.variables lines.now }
-    ensures away { IsAway falsified result }
-    ensures look { (d : List Lit) → hinted c.now lines.now hint ≡ Some d → IsLook d falsified other (marked marks.now) result }
+// What becomes of the clause.
+fn look_at(known: Known, watcher: Watcher, other: Lit, marks: &[u8]) -> Look
+    requires { LinesInRange known.given.now.variables known.lines.now }
+    ensures away { IsAway watcher.falsified result }
+    ensures look { (d : List Lit) → hinted known.entry.given.now known.entry.lines.now watcher.hint ≡ Some d → IsLook d watcher.falsified other (marked marks.now) result }
 {
-    match hinted(c, lines, hint) {
-        Some(clause) => inspect(clause, falsified, other, marks),
+    match hinted(known.given, known.lines, watcher.hint) {
+        Some(clause) => inspect(clause, watcher.falsified, other, marks),
         None => Look::Keep,
     }
 }

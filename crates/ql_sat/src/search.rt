@@ -4,19 +4,20 @@ ghost use Rattle.std.specs.List.{slice_index_or};
 ghost use Rattle.ql_cnf.specs.Satisfaction.{ClausesInRange};
 ghost use Rattle.ql_refute.specs.Verdict.{hinted};
 ghost use Rattle.ql_sat.specs.Answer.{HasNumbers, IsRight};
-ghost use Rattle.ql_sat.specs.Settled.{IsWatched, with_lines};
-ghost use Rattle.ql_sat.specs.Trail.{IsSearching, IsTurn, trail_number};
+ghost use Rattle.ql_sat.specs.State.{IsReady, IsSoundSearch};
+ghost use Rattle.ql_sat.specs.Trail.{IsTurn, trail_number};
 
 use crate::Decided;
-use crate::guide::Guide;
+use crate::known::Known;
 use crate::learning::learn;
 use crate::model::{assignment, greatest_unset};
 use crate::propagation::propagate;
-use crate::trail::{Step, decide_on};
+use crate::state::Search;
+use crate::trail::decide_on;
 use crate::turn::Turn;
 use ql_base::NoMemory;
 use ql_cnf::{Clauses, Lit};
-use ql_refute::{Hint, Line, Lines, Refutation};
+use ql_refute::{Hint, Lines, Refutation};
 use std::alloc::Global;
 
 /// An assignment that satisfies the clauses, or a refutation of them.
@@ -32,20 +33,14 @@ pub fn decide(alloc: Global, c: &Clauses) -> Result<Decided, NoMemory>
     // No hint of a refutation has the number 0, which names nothing.
     ensures numbered { IfOk result HasNumbers }
 {
-    let mut marks = vec![in alloc; 0; c.variables() as usize + 1]?;
-    let mut seen = vec![in alloc; false; c.variables() as usize + 1]?;
-    let mut trail = Vec::new(alloc);
-    let mut lines = Vec::new(alloc);
-    let mut guide = Guide::new(alloc, c)?;
+    let mut search = Search::new(alloc, c)?;
     'turns: loop {
-        match take_turn(
-            alloc, c, &mut lines, &mut trail, &mut marks, &mut seen, &mut guide,
-        )? {
+        match take_turn(alloc, c, &mut search)? {
             Turn::More => {}
-            Turn::Model => return Ok(Decided::Model(assignment(alloc, &marks)?)),
+            Turn::Model => return Ok(Decided::Model(assignment(alloc, &search.trail.marks)?)),
             Turn::Refuted(_) => {
                 return Ok(Decided::Refuted(Refutation {
-                    lines: Lines::of(lines),
+                    lines: Lines::of(search.lines),
                 }));
             }
         }
@@ -53,77 +48,46 @@ pub fn decide(alloc: Global, c: &Clauses) -> Result<Decided, NoMemory>
 }
 
 // Propagates, and then learns from a conflict or decides on a variable.
-fn take_turn(
-    alloc: Global,
-    c: &Clauses,
-    lines: &mut Vec<Line>,
-    trail: &mut Vec<Step>,
-    marks: &mut [u8],
-    seen: &mut [bool],
-    guide: &mut Guide,
-) -> Result<Turn, NoMemory>
-    requires searching { IsSearching c.now lines.old.items trail.old.items marks.old }
-    requires watched { IsWatched (with_lines c.now lines.old.items) trail.old.items guide.old.watches.lists.items guide.old.watches.pairs.items guide.old.queue.done }
-    requires seen { length seen.old ≡ c.now.variables + 1 }
-    ensures searching { OnOk result (IsSearching c.now lines.new.items trail.new.items marks.new) }
-    ensures watched { IfOk result (λ turn. turn ≡ Turn.More → IsWatched (with_lines c.now lines.new.items) trail.new.items guide.new.watches.lists.items guide.new.watches.pairs.items guide.new.queue.done) }
-    ensures turn { IfOk result (IsTurn c.now lines.new.items marks.new) }
-    ensures number { IfOk result (λ turn. turn ≡ Turn.More → trail_number (c.now.variables + 1) trail.old.items < trail_number (c.now.variables + 1) trail.new.items) }
+fn take_turn(alloc: Global, c: &Clauses, search: &mut Search) -> Result<Turn, NoMemory>
+    requires { IsReady c.now search.old }
+    ensures sound { OnOk result (IsSoundSearch c.now search.new) }
+    ensures ready { IfOk result (λ turn. turn ≡ Turn.More → IsReady c.now search.new) }
+    ensures turn { IfOk result (IsTurn c.now search.new.lines.items search.new.trail.marks.items) }
+    ensures number { IfOk result (λ turn. turn ≡ Turn.More → trail_number (c.now.variables + 1) search.old.trail.steps.items < trail_number (c.now.variables + 1) search.new.trail.steps.items) }
 {
-    if let Some(conflict) = propagate(
-        c,
-        lines,
-        trail,
-        marks,
-        &mut guide.queue,
-        &mut guide.watches,
-    )? {
-        return learn(alloc, c, conflict, lines, trail, marks, seen, guide);
+    let known = Known {
+        given: c,
+        lines: &search.lines,
+    };
+    if let Some(conflict) = propagate(known, &mut search.trail, &mut search.guide)? {
+        return learn(alloc, c, conflict, search);
     }
-    if let Some(var) = guide.order.next(c.variables(), marks) {
-        let positive = guide.order.phase(var);
-        decide_on(c, lines, Lit { var, positive }, trail, marks)?;
+    let order = &mut search.guide.order;
+    if let Some(var) = order.next(c.variables(), &search.trail.marks) {
+        let positive = order.phase(var);
+        decide_on(Lit { var, positive }, &mut search.trail)?;
         return Ok(Turn::More);
     }
-    finish(alloc, c, lines, trail, marks, seen, guide)
+    finish(alloc, c, search)
 }
 
 // All is propagated, and no variable is left to decide on.
-fn finish(
-    alloc: Global,
-    c: &Clauses,
-    lines: &mut Vec<Line>,
-    trail: &mut Vec<Step>,
-    marks: &mut [u8],
-    seen: &mut [bool],
-    guide: &mut Guide,
-) -> Result<Turn, NoMemory>
-    requires searching { IsSearching c.now lines.old.items trail.old.items marks.old }
-    requires watched { IsWatched (with_lines c.now lines.old.items) trail.old.items guide.old.watches.lists.items guide.old.watches.pairs.items guide.old.queue.done }
-    requires all { guide.old.queue.done ≡ length trail.old.items }
-    requires seen { length seen.old ≡ c.now.variables + 1 }
-    ensures searching { OnOk result (IsSearching c.now lines.new.items trail.new.items marks.new) }
-    ensures watched { IfOk result (λ turn. turn ≡ Turn.More → IsWatched (with_lines c.now lines.new.items) trail.new.items guide.new.watches.lists.items guide.new.watches.pairs.items guide.new.queue.done) }
-    ensures turn { IfOk result (IsTurn c.now lines.new.items marks.new) }
-    ensures number { IfOk result (λ turn. turn ≡ Turn.More → trail_number (c.now.variables + 1) trail.old.items < trail_number (c.now.variables + 1) trail.new.items) }
+fn finish(alloc: Global, c: &Clauses, search: &mut Search) -> Result<Turn, NoMemory>
+    requires ready { IsReady c.now search.old }
+    requires all { search.old.guide.queue.done ≡ length search.old.trail.steps.items }
+    ensures sound { OnOk result (IsSoundSearch c.now search.new) }
+    ensures ready { IfOk result (λ turn. turn ≡ Turn.More → IsReady c.now search.new) }
+    ensures turn { IfOk result (IsTurn c.now search.new.lines.items search.new.trail.marks.items) }
+    ensures number { IfOk result (λ turn. turn ≡ Turn.More → trail_number (c.now.variables + 1) search.old.trail.steps.items < trail_number (c.now.variables + 1) search.new.trail.steps.items) }
 {
-    if let Some(var) = greatest_unset(c.variables(), marks) {
-        let positive = guide.order.phase(var);
-        decide_on(c, lines, Lit { var, positive }, trail, marks)?;
+    if let Some(var) = greatest_unset(c.variables(), &search.trail.marks) {
+        let positive = search.guide.order.phase(var);
+        decide_on(Lit { var, positive }, &mut search.trail)?;
         return Ok(Turn::More);
     }
     match first_empty(c) {
         None => Ok(Turn::Model),
-        Some(number) => learn(
-            alloc,
-            c,
-            Hint::Given(number),
-            lines,
-            trail,
-            marks,
-            seen,
-            guide,
-        ),
+        Some(number) => learn(alloc, c, Hint::Given(number), search),
     }
 }
 

@@ -1,8 +1,7 @@
 use Rattle.std.proofs.Common.{◌≡◌, ◌∷◌, ap, take_all, ◌∙◌}
 use Rattle.ql_lines.specs.Texts.{file_text}
-use Rattle.ql_cert.specs.CertFile.{cert_lines, sections_lines, title}
-use Rattle.ql_cert.proofs.Plainness.{again}
-use Rattle.ql_cert.proofs.Printing.{titled_end, titled_next}
+use Rattle.ql_cert.specs.CertFile.{sections_lines, title}
+use Rattle.ql_cert.proofs.Printing.{titled_next}
 use Rattle.ql_cert.proofs.print.print_cert.Goals as goal
 
 pub loop-section-preserved : goal.loop-section-preserved
@@ -13,8 +12,11 @@ loop-section-preserved c =
 pub returns-clause-text : goal.returns-clause-text
 returns-clause-text c =
     let ss = c.args.c.now.sections in
-    let whole = c.loop-section.invariant ∙ ap (λ ts. file_text (title ∷ sections_lines ts)) (take_all c.loop-section.section-index ss (rw c.items-section-items.ensures at c.loop-section-test.false)) in
-    titled_end ss c.loop-section.text.items c.push_end.new.out.items whole c.in_ok-push_end.ensures
+    let printed = c.loop-section.invariant ∙ ap (λ ts. file_text (title ∷ sections_lines ts)) (take_all c.loop-section.section-index ss (rw c.items-section-items.ensures at c.loop-section-test.false)) in
+    c.in_ok-push_end.ensures.cert ss printed
 
 pub returns-clause-again : goal.returns-clause-again
-returns-clause-again c = again c.args.c.now.sections c.push_end.new.out.items (returns-clause-text c)
+returns-clause-again c =
+    let ss = c.args.c.now.sections in
+    let printed = c.loop-section.invariant ∙ ap (λ ts. file_text (title ∷ sections_lines ts)) (take_all c.loop-section.section-index ss (rw c.items-section-items.ensures at c.loop-section-test.false)) in
+    c.in_ok-push_end.ensures.again ss printed

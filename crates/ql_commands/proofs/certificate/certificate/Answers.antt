@@ -1,7 +1,6 @@
 use Rattle.std.proofs.Common.{◌≡◌, Some, [], ◌∷◌, ◌++◌, length, arith, refl, sym, subst, ap, ◌∙◌}
 use Rattle.std.specs.List.{slice_get}
-use Rattle.ql_cert.proofs.Plainness.{again}
-use Rattle.ql_cert.proofs.Printing.{titled_end, titled_more}
+use Rattle.ql_cert.proofs.Printing.{titled_more}
 use Rattle.ql_cert.specs.CertFile.{IsSection}
 use Rattle.ql_cert.specs.declared.cert.Section.{Section}
 use Rattle.ql_classify.specs.Targets.{goals_at}
@@ -50,10 +49,9 @@ returns-clause-text c =
     let of_txns = c.txns.ensures.count ∙ ap (λ (q : Program). length q.txns) c.typed-typed.ensures in
     let past = c.loop-target-test.false in
     let all = c.loop-target.invariant in
-    let printed = titled_end all.sections c.loop-target.text.items c.push_end.new.out.items all.printed c.in_ok-push_end.ensures in
     record {
       sections = all.sections;
       of_targets = all_zipped (IsSectionOf p) (goals_at levels) c.loop-target.target all.sections (omega (arith, count, ops, txns, of_ops, of_txns, past)) all.of_targets;
-      printed = printed;
-      spells = again all.sections c.push_end.new.out.items printed all.spelled;
+      printed = c.in_ok-push_end.ensures.cert all.sections all.printed;
+      spells = c.in_ok-push_end.ensures.again all.sections all.printed all.spelled;
     }

@@ -1,12 +1,14 @@
-use Rattle.std.proofs.Common.{◌≡◌, Some, sym}
+use Rattle.std.proofs.Common.{◌≡◌, Some, ap, sym, ◌∙◌}
 use Rattle.ql_refute.specs.Verdict.{hinted}
-use Rattle.ql_sat.proofs.Analysis.{analysis_resolve, reason_names}
+use Rattle.ql_sat.specs.declared.trail.Step.{Step}
+use Rattle.ql_sat.proofs.Analysis.{analysis_resolve}
+use Rattle.ql_sat.proofs.Numbers.{get_of}
 use Rattle.ql_sat.proofs.learning.resolve.Goals as goal
 
-pub unreachable-requires : goal.unreachable-requires
-unreachable-requires c = reason_names c.args.c.now c.args.lines.now c.args.trail.now c.args.marks.now c.args.at _ c.args.reason c.requires.searching c.requires.at c.requires.reason (rw c.in_default.is at c.hinted.ensures.clause)
-
-pub returns : goal.returns
-returns c =
-    let names : hinted c.args.c.now c.args.lines.now c.args.reason ≡ Some c.in-Some.clause.now = sym c.in-Some.ensures.clause in
-    rw c.in_ok-push.ensures.items (analysis_resolve c.args.c.now c.args.lines.now c.args.trail.now c.args.marks.now c.args.at _ c.args.seen.now c.see.new.seen c.forget.new.seen c.args.hints.now.items c.args.reason c.in-Some.clause.now c.requires.searching c.requires.at c.requires.reason names c.in-Some.ensures.in_range c.requires.analysis c.see.ensures c.forget.ensures)
+pub returns-clause-analyzed : goal.returns-clause-analyzed
+returns-clause-analyzed c =
+    let names : hinted c.args.known.given.now c.args.known.lines.now c.in-Some.reason ≡ Some c.in-Some-hinted.clause.now = sym c.in-Some-hinted.ensures.clause in
+    λ trail at sound here analyzed.
+    let there = get_of trail.steps.items at c.args.step c.args.step here in
+    let reason = ap (λ (s : Step). s.reason) there.1 ∙ c.in-Some.is in
+    rw (c.in_ok-push.ensures.items, c.forget.ensures.hints, c.see.ensures.hints) (analysis_resolve c.args.known.given.now c.args.known.lines.now trail.steps.items trail.marks.items at c.args.step c.args.analysis.now.seen.items c.see.new.self.seen.items c.forget.new.self.seen.items c.args.analysis.now.hints.items c.in-Some.reason c.in-Some-hinted.clause.now sound there.0 reason names c.in-Some-hinted.ensures.in_range analyzed c.see.ensures.seen (rw there.1 c.forget.ensures.seen))

@@ -1,14 +1,14 @@
 use Rattle.std.proofs.Common.{◌+◌, ◌-◌, ◌≤◌}
-use Rattle.ql_sat.specs.Settled.{with_lines, IsWatched}
-use Rattle.ql_sat.specs.Trail.{IsSearching, trail_number}
+use Rattle.ql_sat.specs.State.{AreWatched, IsSound}
+use Rattle.ql_sat.specs.Trail.{trail_number}
 use Rattle.ql_sat.proofs.propagation.propagate.Given as goal
 
 abbrev pub invariant-loop-place : goal.invariant-loop-place
 invariant-loop-place l = record {
-  searching : IsSearching l.c l.lines l.trail.items l.marks;
-  watched : IsWatched (with_lines l.c l.lines) l.trail.items l.watches.lists.items l.watches.pairs.items l.place;
-  number : trail_number (l.c.variables + 1) l.fn.trail.items ≤ trail_number (l.c.variables + 1) l.trail.items;
+  sound : IsSound l.known l.trail;
+  watched : AreWatched l.known l.trail l.guide.watches l.place;
+  number : trail_number (l.known.given.now.variables + 1) l.fn.trail.steps.items ≤ trail_number (l.known.given.now.variables + 1) l.trail.steps.items;
 }
 
 abbrev pub decreases-loop-place : goal.decreases-loop-place
-decreases-loop-place l = l.c.variables + 1 - l.place
+decreases-loop-place l = l.known.given.now.variables + 1 - l.place
