@@ -12,7 +12,6 @@ use Rattle.ql_app.specs.declared.status.Status.TheVariants.{Done, No, Bad, ReadF
 use Rattle.ql_app.specs.declared.words.PairCommand.TheVariants.{Verify}
 use Rattle.ql_app.specs.Outcome.{IsOver, MeetsFault, MeetsLimit, Says, Wrote}
 use Rattle.ql_app.specs.Words.{Call, IsName, TwoFiles}
-use Rattle.ql_commands.specs.declared.answer.Answer.TheVariants as answer
 use Rattle.ql_commands.specs.Sources.{IsSourceOf}
 use Rattle.ql_commands.proofs.SameSource.{same-op-kinds}
 use Rattle.ql_exec.specs.declared.effect.Effect.{Effect}
