@@ -14,7 +14,6 @@ use Rattle.ql_app.specs.Outcome.{IsOver, MeetsFault, MeetsLimit, Says}
 use Rattle.ql_reply.specs.Wrote.{Wrote}
 use Rattle.ql_app.specs.Words.{Call, TwoFiles}
 use Rattle.ql_reply.specs.Arguments.{IsFileName}
-use Rattle.ql_commands.specs.declared.answer.Answer.TheVariants as answer
 use Rattle.ql_commands.specs.Sources.{IsSourceOf}
 use Rattle.ql_commands.proofs.SameSource.{same-op-kinds}
 use Rattle.ql_exec.specs.declared.effect.Effect.{Effect}
