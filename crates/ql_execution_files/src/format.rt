@@ -18,7 +18,7 @@ use std::alloc::Global;
 /// What some lines say: nothing, since the first line that is `execution` is yet to come; effects;
 /// all effects, up to the end.
 #[derive(Drop)]
-pub(crate) enum Reading {
+pub enum Reading {
     Unbegun,
     WithEffects(Told),
     Ended(Told),
