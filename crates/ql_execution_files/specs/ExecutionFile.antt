@@ -71,6 +71,7 @@ Breaks p Unbegun text rule = ⊥
 Breaks p (WithEffects told) text rule = IsNoLine told text rule ⊎ BreaksRule p told text rule
 Breaks p (Ended told) text rule = rule ≡ Unexpected
 
+-- what a line makes of what the lines before it say, or the rule that it breaks
 abbrev pub Gives : Program → Reading → List ℕ → Result Reading ReportRule → Type 0
 Gives p before text (Ok after) = Takes p before text after
 Gives p before text (Err rule) = Breaks p before text rule
@@ -88,6 +89,7 @@ AreSound p (Ended told) = IsSound p told
 
 -- ---- the files
 
+-- the same of a numbered line
 abbrev pub gives : Program → Reading → Numbered → Result Reading ReportRule → Type 0
 gives p before l x = Gives p before l.text x
 
