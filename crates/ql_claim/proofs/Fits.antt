@@ -19,12 +19,15 @@ use Rattle.ql_exec.specs.Effects.{effect_at}
 use Rattle.ql_exec.specs.Execution.{IsExecution, effect_of, fault_of, stamp_of}
 use Rattle.ql_exec.proofs.Finding.{cases_pushed, sametxn_parts, so_parts}
 use Rattle.ql_exec.proofs.Law.{IsExecution-push, faultless}
-use Rattle.ql_execution_files.specs.declared.effect_line.EffectLine.{EffectLine}
-use Rattle.ql_execution_files.specs.declared.report_fault.LineFault.{LineFault}
-use Rattle.ql_execution_files.specs.declared.report_fault.LineFault.TheVariants.{Mixed, Stamp, TooMany, Unknown}
-use Rattle.ql_execution_files.specs.declared.told.Told.{Told}
-use Rattle.ql_execution_files.specs.Effects.{after_effect, after_known, draft_of, first_on, is_mixed, kind_of, member_of, most_effects, number_of, put_in, rule_of, with_effect, with_object}
-use Rattle.ql_execution_files.specs.ExecutionFile.{Ended, IsExecutionFile, Leads, Stage, Takes, TakesEffect, Unbegun, WithEffects}
+use Rattle.ql_effect_lines.specs.declared.effect_line.EffectLine.{EffectLine}
+use Rattle.ql_effect_lines.specs.declared.rules.ReportRule.{ReportRule}
+use Rattle.ql_effect_lines.specs.declared.rules.ReportRule.TheVariants.{Mixed, Stamp, TooMany, Unknown}
+use Rattle.ql_effect_lines.specs.declared.told.Told.{Told}
+use Rattle.ql_effect_lines.specs.Effects.{after_effect, after_known, draft_of, first_on, is_mixed, kind_of, member_of, most_effects, number_of, put_in, rule_of, with_effect, with_object}
+use Rattle.ql_execution_files.specs.ExecutionFile.{Closes, IsExecutionFile, Takes, TakesEffect, gives}
+use Rattle.ql_execution_files.specs.declared.format.Reading.{Reading}
+use Rattle.ql_execution_files.specs.declared.format.Reading.TheVariants.{Ended, Unbegun, WithEffects}
+use Rattle.ql_line_files.specs.Outcomes.{Leads}
 use Rattle.ql_implication.specs.Executions.{FitsProgram}
 use Rattle.ql_lang.specs.declared.program.Program.{Program}
 use Rattle.ql_lines.specs.Lines.{Ahead, Numbered}
@@ -42,10 +45,10 @@ record IsNext (p : Program) (told more : Told) (e : EffectLine) : Type 0 where
   faultless : fault_of told.effects draft ≡ None
   effects : more.effects ≡ told.effects ++ effect_of told.effects draft ∷ []
 
-abbrev ok_told : Told → Result Told LineFault
+abbrev ok_told : Told → Result Told ReportRule
 ok_told told = Ok told
 
-told_in : Told → Result Told LineFault → Told
+told_in : Told → Result Told ReportRule → Told
 told_in other (Ok told) = told
 told_in other (Err fault) = other
 
@@ -217,31 +220,36 @@ module _ (p : Program) (x : List Effect) (has : Fits p x) (draft : Draft) (known
 
 -- ---- line after line
 
-abbrev AreFitting : Program → Stage → Type 0
+abbrev AreFitting : Program → Reading → Type 0
 AreFitting p Unbegun = Unit {0}
 AreFitting p (WithEffects told) = Fits p told.effects
 AreFitting p (Ended told) = Fits p told.effects
 
-takes-effect : (p : Program) (told : Told) (text : List ℕ) (after : Stage) → Fits p told.effects → TakesEffect p told text after → AreFitting p after
+takes-effect : (p : Program) (told : Told) (text : List ℕ) (after : Reading) → Fits p told.effects → TakesEffect p told text after → AreFitting p after
 takes-effect p told text after has takes =
     let next = is-next p told takes.more takes.effect takes.lawful in
     let ascending : IsAscending next.draft.seen = subst IsAscending (sym next.seen) takes.is.setting.ascending in
     let grown = fits-more p told.effects has next.draft next.known next.unmixed ascending next.faultless in
     subst (AreFitting p) (sym takes.to) (subst (Fits p) (sym next.effects) grown)
 
-takes-line : (p : Program) (before : Stage) (l : Numbered) (after : Stage) → AreFitting p before → Takes p before l after → AreFitting p after
+takes-line : (p : Program) (before : Reading) (l : Numbered) (after : Reading) → AreFitting p before → Takes p before l.text after → AreFitting p after
 takes-line p Unbegun l after has (inl begins) = subst (AreFitting p) (sym begins.1) (fits-none p)
 takes-line p Unbegun l after has (inr skips) = subst (AreFitting p) (sym skips.1) tt
 takes-line p (WithEffects told) l after has (inl effect) = takes-effect p told l.text after has effect
 takes-line p (WithEffects told) l after has (inr end) = subst (AreFitting p) (sym end.to) has
 takes-line p (Ended told) l after has takes = absurd takes
 
-leads-on : (p : Program) (ls : List Numbered) (before after : Stage) → AreFitting p before → Leads p before ls after → AreFitting p after
+leads-on : (p : Program) (ls : List Numbered) (before after : Reading) → AreFitting p before → Leads (gives p) Closes before ls after → AreFitting p after
 unfolding Leads
 leads-on p [] before after has same = subst (AreFitting p) same has
 leads-on p (l ∷ ls) before after has leads = leads-on p ls leads.0 after (takes-line p before l leads.0 has leads.1) leads.2
 
+fits-at : (p : Program) (end : ℕ) (x : List Effect) (s : Reading) → AreFitting p s → Closes s end (Ok x) → Fits p x
+fits-at p end x Unbegun has c = absurd cc
+fits-at p end x (WithEffects told) has c = absurd cc
+fits-at p end x (Ended told) has c = let same : told.effects ≡ x = cc in subst (Fits p) same has
+
 pub reported-fits : (p : Program) (file : Ahead) (x : List Effect) → IsExecutionFile p file x → IsExecution x × FitsProgram (op_kinds p.types) x
 reported-fits p file x is =
-    let has : Fits p is.told.effects = leads-on p file.lines Unbegun (Ended is.told) tt is.leads in
-    (subst IsExecution (sym is.execution) has.lawful, subst (FitsProgram (op_kinds p.types)) (sym is.execution) has.fits)
+    let has : Fits p x = fits-at p file.end x is.state (leads-on p file.lines Unbegun is.state tt is.leads) is.ends in
+    (has.lawful, has.fits)

@@ -8,12 +8,15 @@ use Rattle.ql_base.specs.declared.ids.OpId.{OpId}
 use Rattle.ql_commands.proofs.SameSource.{map_alike, same-op-kinds, same-ops, same-txns}
 use Rattle.ql_exec.specs.declared.effect.Effect.{Effect}
 use Rattle.ql_exec.specs.declared.effect.Member.{Member}
-use Rattle.ql_execution_files.specs.Effects.{after_effect, after_known, known_of, member_of}
-use Rattle.ql_execution_files.specs.ExecutionFile.{Ended, IsExecutionFile, Leads, Stage, Takes, Unbegun, WithEffects}
-use Rattle.ql_execution_files.specs.declared.effect_line.EffectLine.{EffectLine}
-use Rattle.ql_execution_files.specs.declared.report_fault.LineFault.TheVariants.{Unknown}
-use Rattle.ql_execution_files.specs.declared.setting.Begun.{Begun}
-use Rattle.ql_execution_files.specs.declared.told.Told.{Told}
+use Rattle.ql_effect_lines.specs.Effects.{after_effect, after_known, known_of, member_of}
+use Rattle.ql_execution_files.specs.ExecutionFile.{Closes, IsExecutionFile, Takes, gives}
+use Rattle.ql_execution_files.specs.declared.format.Reading.{Reading}
+use Rattle.ql_execution_files.specs.declared.format.Reading.TheVariants.{Ended, Unbegun, WithEffects}
+use Rattle.ql_line_files.specs.Outcomes.{Leads}
+use Rattle.ql_effect_lines.specs.declared.effect_line.EffectLine.{EffectLine}
+use Rattle.ql_effect_lines.specs.declared.rules.ReportRule.TheVariants.{Unknown}
+use Rattle.ql_effect_lines.specs.declared.setting.Begun.{Begun}
+use Rattle.ql_effect_lines.specs.declared.told.Told.{Told}
 use Rattle.ql_lang.specs.declared.operation.OpDecl.{OpDecl}
 use Rattle.ql_lang.specs.declared.program.Program.{Program}
 use Rattle.ql_lang.specs.declared.program.TxnDecl.{TxnDecl}
@@ -88,7 +91,7 @@ module _ (p q : Program) (e : source_of p ≡ source_of q) where
       by None = refl
       by (Some k) = rw (same-op-kinds p q e) refl
 
-  takes : (before : Stage) (l : Numbered) (after : Stage) → Takes p before l after → Takes q before l after
+  takes : (before : Reading) (l : Numbered) (after : Reading) → Takes p before l.text after → Takes q before l.text after
   takes Unbegun l after h = h
   takes (WithEffects told) l after (inl effect) = inl (record {
     effect = effect.effect;
@@ -100,10 +103,10 @@ module _ (p q : Program) (e : source_of p ≡ source_of q) where
   takes (WithEffects told) l after (inr end) = inr end
   takes (Ended told) l after h = absurd h
 
-  leads : (ls : List Numbered) (before after : Stage) → Leads p before ls after → Leads q before ls after
+  leads : (ls : List Numbered) (before after : Reading) → Leads (gives p) Closes before ls after → Leads (gives q) Closes before ls after
   unfolding Leads
   leads [] before after h = h
   leads (l ∷ ls) before after h = (h.0, takes before l h.0 h.1, leads ls h.0 after h.2)
 
   pub same-execution : (file : Ahead) (x : List Effect) → IsExecutionFile p file x → IsExecutionFile q file x
-  same-execution file x is = record { told = is.told; leads = leads file.lines Unbegun (Ended is.told) is.leads; execution = is.execution }
+  same-execution file x is = record { state = is.state; leads = leads file.lines Unbegun is.state is.leads; ends = is.ends }

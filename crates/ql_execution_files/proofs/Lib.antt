@@ -1,7 +1,1 @@
-pub mod Options
-pub mod FirstFields
-pub mod Parts
-pub mod Txns
-pub mod Lines
-pub mod Lawful
-pub mod Stages
+pub mod Files

@@ -1,5 +1,2 @@
-pub mod Parts
-pub mod EffectLine
-pub mod Effects
 pub mod ExecutionFile
-pub mod Readings
+pub mod OneLine

@@ -1,20 +1,14 @@
 // Files of executions.
-// The one contract: a file gives the execution that it tells, or its first fault.
+// The one contract: a file is read to the execution that it says, or to its first fault; no file has both.
 #![tactic(auto)]
 
-mod effect_line;
+mod format;
 mod law;
 mod parse;
-mod part;
-mod reader;
 mod report_fault;
-mod setting;
-mod told;
 
-// The grammar of these files is in terms of the types beside `ReportFault`.
-pub use effect_line::EffectLine;
+// The files are in terms of what their lines say.
+pub use format::Reading;
 pub use law::one_execution;
 pub use parse::parse_execution;
-pub use report_fault::{LineFault, ReportFault};
-pub use setting::{Begun, Setting};
-pub use told::Told;
+pub use report_fault::ReportFault;

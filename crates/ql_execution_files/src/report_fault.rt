@@ -1,9 +1,11 @@
 ghost use Rattle.std.specs.Prelude.{◌≡◌};
+ghost use Rattle.ql_execution_files.specs.ExecutionFile.{fault_of};
 
-use std::alloc::AllocFailed;
+use ql_effect_lines::ReportRule;
+use ql_line_files::{Broken, FileFault};
 
 /// Why a text is no execution file of a program, with the line from 1 at which the first fault
-/// stands. The end of a file that ends too early is the line behind its last. Of the faults of one
+/// stands. The end of a file that ends too early is the line after its last. Of the faults of one
 /// line these count in this order: Unexpected, Unknown, Mixed, NotForward, OtherObject, SplitTxn,
 /// Stamp, TooMany.
 #[derive(Clone, Copy, Debug, PartialEq, Eq)]
@@ -28,59 +30,21 @@ pub enum ReportFault {
     NoMemory,
 }
 
-/// Why a line may not follow what was read.
-#[derive(Clone, Copy)]
-pub enum LineFault {
-    Unexpected,
-    Unknown,
-    Mixed,
-    Stamp,
-    NotForward,
-    OtherObject,
-    SplitTxn,
-    TooMany,
-    NoMemory,
-}
-
-impl LineFault {
-    ghost use Rattle.ql_execution_files.specs.ExecutionFile.{fault_at};
-
-    /// The same as a fault of the file, at a line.
-    pub(crate) fn at(self, line: u64) -> ReportFault
-        ensures { result ≡ fault_at self line }
-    {
-        match self {
-            LineFault::Unexpected => ReportFault::Unexpected(line),
-            LineFault::Unknown => ReportFault::Unknown(line),
-            LineFault::Mixed => ReportFault::Mixed(line),
-            LineFault::Stamp => ReportFault::Stamp(line),
-            LineFault::NotForward => ReportFault::NotForward(line),
-            LineFault::OtherObject => ReportFault::OtherObject(line),
-            LineFault::SplitTxn => ReportFault::SplitTxn(line),
-            LineFault::TooMany => ReportFault::TooMany(line),
-            LineFault::NoMemory => ReportFault::NoMemory,
-        }
-    }
-}
-
-impl From<ql_base::NoMemory> for LineFault {
-    ghost use Rattle.std.specs.Prelude.{◌≡◌};
-    ghost use Rattle.ql_execution_files.specs.declared.report_fault.LineFault.TheVariants.{NoMemory};
-
-    ghost from_gives = { λ _ e. e ≡ NoMemory };
-
-    fn from(_error: ql_base::NoMemory) -> LineFault {
-        LineFault::NoMemory
-    }
-}
-
-impl<T: Drop> From<AllocFailed<T>> for LineFault {
-    ghost use Rattle.std.specs.Prelude.{◌≡◌};
-    ghost use Rattle.ql_execution_files.specs.declared.report_fault.LineFault.TheVariants.{NoMemory};
-
-    ghost from_gives = { λ _ e. e ≡ NoMemory };
-
-    fn from(_error: AllocFailed<T>) -> LineFault {
-        LineFault::NoMemory
+/// The public form of a fault.
+pub(crate) fn fault_of(fault: FileFault<ReportRule>) -> ReportFault
+    ensures { result ≡ fault_of fault }
+{
+    let FileFault::Broken(Broken { line, rule }) = fault else {
+        return ReportFault::NoMemory;
+    };
+    match rule {
+        ReportRule::Unexpected => ReportFault::Unexpected(line),
+        ReportRule::Unknown => ReportFault::Unknown(line),
+        ReportRule::Mixed => ReportFault::Mixed(line),
+        ReportRule::Stamp => ReportFault::Stamp(line),
+        ReportRule::NotForward => ReportFault::NotForward(line),
+        ReportRule::OtherObject => ReportFault::OtherObject(line),
+        ReportRule::SplitTxn => ReportFault::SplitTxn(line),
+        ReportRule::TooMany => ReportFault::TooMany(line),
     }
 }

@@ -16,11 +16,11 @@ use Rattle.ql_exec.specs.declared.effect.Member.{Member}
 use Rattle.ql_exec.specs.declared.effect.Member.TheVariants.{Alone, Inside}
 use Rattle.ql_exec.specs.declared.effect.Payload.{Payload}
 use Rattle.ql_exec.specs.declared.effect.Payload.TheVariants.{Nothing, Emitted}
-use Rattle.ql_execution_files.specs.declared.effect_line.EffectLine.{EffectLine}
-use Rattle.ql_execution_files.specs.declared.setting.Begun.{Begun}
-use Rattle.ql_execution_files.specs.declared.setting.Setting.{Setting}
-use Rattle.ql_execution_files.specs.EffectLine.{CallAt, EmitAt, FitsTxn, IsEffectLine, IsSetting, PayloadAt, txn_text}
-use Rattle.ql_execution_files.specs.Parts.{FieldAt, FieldsAt, ValueAt, ValuesAt}
+use Rattle.ql_effect_lines.specs.declared.effect_line.EffectLine.{EffectLine}
+use Rattle.ql_effect_lines.specs.declared.setting.Begun.{Begun}
+use Rattle.ql_effect_lines.specs.declared.setting.Setting.{Setting}
+use Rattle.ql_effect_lines.specs.EffectLine.{CallAt, EmitAt, FitsTxn, IsEffectLine, IsSetting, PayloadAt, txn_text}
+use Rattle.ql_effect_lines.specs.Parts.{FieldAt, FieldsAt, ValueAt, ValuesAt}
 use Rattle.ql_report.specs.Levels.{op_name, txn_name}
 use Rattle.ql_run_text.specs.EffectTexts.{CarriesValues, effect_fields, member_text, object_name, payload_text, values_text}
 use Rattle.ql_printed_runs.specs.Printable.{FitsMember, IsWritable}

@@ -27,13 +27,16 @@ use Rattle.ql_exec.specs.Execution.{IsExecution, stamp_of}
 use Rattle.ql_exec.proofs.Finding.{effect_at-append, effect_at-last}
 use Rattle.ql_exec.proofs.Law.{IsExecution-front}
 use Rattle.ql_exec.proofs.Stamps.{stamp_few}
-use Rattle.ql_execution_files.specs.declared.effect_line.EffectLine.{EffectLine}
-use Rattle.ql_execution_files.specs.declared.report_fault.LineFault.{LineFault}
-use Rattle.ql_execution_files.specs.declared.report_fault.LineFault.TheVariants.{Unknown, Mixed, Stamp, TooMany}
-use Rattle.ql_execution_files.specs.declared.told.Told.{Told}
-use Rattle.ql_execution_files.specs.EffectLine.{IsEffectLine}
-use Rattle.ql_execution_files.specs.Effects.{after_effect, after_known, draft_of, first_on, is_mixed, kind_of, known_of, member_of, number_of, put_in, rule_of, with_effect, with_object}
-use Rattle.ql_execution_files.specs.ExecutionFile.{Ended, IsExecutionFile, Leads, Stage, Takes, Unbegun, WithEffects, first_fields, end_fields, nothing_told}
+use Rattle.ql_effect_lines.specs.declared.effect_line.EffectLine.{EffectLine}
+use Rattle.ql_effect_lines.specs.declared.rules.ReportRule.{ReportRule}
+use Rattle.ql_effect_lines.specs.declared.rules.ReportRule.TheVariants.{Unknown, Mixed, Stamp, TooMany}
+use Rattle.ql_effect_lines.specs.declared.told.Told.{Told}
+use Rattle.ql_effect_lines.specs.EffectLine.{IsEffectLine}
+use Rattle.ql_effect_lines.specs.Effects.{after_effect, after_known, draft_of, first_on, is_mixed, kind_of, known_of, member_of, number_of, put_in, rule_of, with_effect, with_object}
+use Rattle.ql_execution_files.specs.ExecutionFile.{Closes, IsExecutionFile, Takes, end_fields, first_fields, gives, nothing_told}
+use Rattle.ql_execution_files.specs.declared.format.Reading.{Reading}
+use Rattle.ql_execution_files.specs.declared.format.Reading.TheVariants.{Ended, Unbegun, WithEffects}
+use Rattle.ql_line_files.specs.Outcomes.{Leads}
 use Rattle.ql_report.specs.Levels.{op_name, txn_name}
 use Rattle.ql_run_text.specs.EffectTexts.{AreNamed, IsDeclared, IsNamed, effect_fields, effects_text, execution_text, object_name}
 use Rattle.ql_run_text.specs.NumberedLines.{lines_from}
@@ -219,7 +222,7 @@ module _ (p : Program) (objects : List (List ℕ)) (x : List Effect) (is : IsPri
 
     -- its line is the next effect
     its_line : (ns : List (List ℕ)) → number_of ns (object_name objects e.object.0) ≡ number e.object.0 → (l : Numbered) → l.text ≡ joined (effect_fields p objects (suc (length done)) e)
-        → Takes p (WithEffects (record { objects = ns; effects = others number done })) l
+        → Takes p (WithEffects (record { objects = ns; effects = others number done })) l.text
         (WithEffects (record { objects = with_name ns (object_name objects e.object.0); effects = others number (done ++ e ∷ []) }))
     its_line ns numbered l text = inl (record {
       effect = line_of p objects e;
@@ -245,19 +248,19 @@ module _ (p : Program) (objects : List (List ℕ)) (x : List Effect) (is : IsPri
   unfolding told file_text is_skipped
   end_lines n = (record { number = n; text = codes "end" }, refl, ap (told n) (first_line (codes "end" ∷ []) [] [] (stays_of 101 (omega arith), (stays_of 110 (omega arith), (stays_of 100 (omega arith), tt)))))
 
-  ended : (told_all : Told) (n : ℕ) → Leads p (WithEffects told_all) (told n (lines (codes "end\n"))) (Ended told_all)
+  ended : (told_all : Told) (n : ℕ) → Leads (gives p) Closes (WithEffects told_all) (told n (lines (codes "end\n"))) (Ended told_all)
   unfolding Leads
   ended told_all n =
       let l = end_lines n in
-      subst (λ ls. Leads p (WithEffects told_all) ls (Ended told_all)) (sym l.2)
+      subst (λ ls. Leads (gives p) Closes (WithEffects told_all) ls (Ended told_all)) (sym l.2)
       (Ended told_all, inr (record { is = ap fields_of l.1; to = refl }), refl)
 
   from_here : (done es : List Effect) (ns : List (List ℕ)) (k n : ℕ) → x ≡ done ++ es → k ≡ suc (length done) → grown objects ns es ≡ grown objects [] x
-      → Leads p (WithEffects (record { objects = ns; effects = others number done })) (told n (lines (file_text (lines_from (effect_fields p objects) k es) ++ codes "end\n"))) (Ended (record { objects = grown objects [] x; effects = others number x }))
+      → Leads (gives p) Closes (WithEffects (record { objects = ns; effects = others number done })) (told n (lines (file_text (lines_from (effect_fields p objects) k es) ++ codes "end\n"))) (Ended (record { objects = grown objects [] x; effects = others number x }))
   unfolding Leads grown lines_from file_text told number
   from_here done [] ns k n split at same =
       let all : others number x ≡ others number done = ap (others number) (split ∙ append-nil done) in
-      subst (λ (t : Told). Leads p (WithEffects (record { objects = ns; effects = others number done })) (told n (lines (codes "end\n"))) (Ended t))
+      subst (λ (t : Told). Leads (gives p) Closes (WithEffects (record { objects = ns; effects = others number done })) (told n (lines (codes "end\n"))) (Ended t))
       (ap (λ (es : List Effect). record { objects = ns; effects = es }) (sym all) ∙ ap (λ (m : List (List ℕ)). record { objects = m; effects = others number x }) same)
       (ended (record { objects = ns; effects = others number done }) n)
   from_here done (e ∷ es) ns k n split at same =
@@ -273,20 +276,20 @@ module _ (p : Program) (objects : List (List ℕ)) (x : List Effect) (is : IsPri
       let next : Told = record { objects = with_name ns w; effects = others number (done ++ e ∷ []) } in
       let numbered : number_of ns w ≡ number e.object.0 = next_number objects ns e es ∙ ap (λ (m : List (List ℕ)). first_of m w) same in
       let count = length-append done (e ∷ []) in
-      subst (λ ls. Leads p (WithEffects (record { objects = ns; effects = others number done })) ls (Ended (record { objects = grown objects [] x; effects = others number x }))) (sym (ap (told n) first ∙ here)) (
+      subst (λ ls. Leads (gives p) Closes (WithEffects (record { objects = ns; effects = others number done })) ls (Ended (record { objects = grown objects [] x; effects = others number x }))) (sym (ap (told n) first ∙ here)) (
         WithEffects next,
         its_line done e es split ns numbered line text,
         from_here (done ++ e ∷ []) es (with_name ns w) (k + 1) (n + 1) (split ∙ sym (append_assoc done (e ∷ []) es)) (omega (arith, id, count)) same,
       )
 
   -- the lines of an execution from its first line on
-  pub execution_leads : (n : ℕ) → Leads p Unbegun (told n (lines (execution_text p objects x))) (Ended (record { objects = grown objects [] x; effects = others number x }))
+  pub execution_leads : (n : ℕ) → Leads (gives p) Closes Unbegun (told n (lines (execution_text p objects x))) (Ended (record { objects = grown objects [] x; effects = others number x }))
   unfolding Leads told file_text is_skipped
   execution_leads n =
       let after = effects_text p objects x ++ codes "end\n" in
       let first : lines (codes "execution\n" ++ after) ≡ codes "execution" ∷ lines after =
       first_line (codes "execution" ∷ []) [] after (stays_of 101 (omega arith), (stays_of 120 (omega arith), (stays_of 101 (omega arith), (stays_of 99 (omega arith), (stays_of 117 (omega arith), (stays_of 116 (omega arith), (stays_of 105 (omega arith), (stays_of 111 (omega arith), (stays_of 110 (omega arith), tt))))))))) in
-      subst (λ ls. Leads p Unbegun (told n ls) (Ended (record { objects = grown objects [] x; effects = others number x }))) (sym first) (
+      subst (λ ls. Leads (gives p) Closes Unbegun (told n ls) (Ended (record { objects = grown objects [] x; effects = others number x }))) (sym first) (
         WithEffects nothing_told,
         inl (refl, refl),
         from_here [] x [] 1 (n + 1) refl refl refl,

@@ -19,7 +19,7 @@ use Rattle.ql_value.specs.Spelling.{bool_text, entry_text, followed, quoted, sca
 use Rattle.ql_value.specs.Texts.{IsText}
 use Rattle.ql_value.specs.ValueGrammar.{IsEntry, IsScalar, IsValue, ReadsMore}
 use Rattle.ql_value.proofs.ValueLaws.{printed_again}
-use Rattle.ql_execution_files.specs.Parts.{FieldAt, ItemsAt, ValueAt, ValuesAt, ends_field}
+use Rattle.ql_effect_lines.specs.Parts.{FieldAt, ItemsAt, ValueAt, ValuesAt, ends_field}
 use Rattle.ql_run_text.specs.EffectTexts.{values_text}
 use Rattle.ql_printed_runs.proofs.LinesAgain.{IsDigitByte, Stay, StaysIn, decimal_bytes, decimal_some, decimal_stay, stay_both, stays_of}
 

@@ -9,7 +9,7 @@ use Rattle.std.proofs.lemmas.List.Sums.{passes_at_first}
 use Rattle.std.proofs.lemmas.Slice.Eq.{bytes_eq-Decides}
 use Rattle.ql_base.specs.Numbering.{has_name, place, with_name}
 use Rattle.ql_exec.specs.declared.effect.Effect.{Effect}
-use Rattle.ql_execution_files.specs.Effects.{number_of}
+use Rattle.ql_effect_lines.specs.Effects.{number_of}
 use Rattle.ql_run_text.specs.EffectTexts.{object_name}
 
 -- the first occurrence of a name

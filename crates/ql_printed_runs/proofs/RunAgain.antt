@@ -26,7 +26,10 @@ use Rattle.ql_exec.specs.declared.effect.Effect.{Effect}
 use Rattle.ql_exec.specs.Effects.{effect_at}
 use Rattle.ql_machine.specs.declared.reply.Reply.{Reply}
 use Rattle.ql_machine.specs.declared.reply.Reply.TheVariants as reply
-use Rattle.ql_execution_files.specs.ExecutionFile.{Ended, IsExecutionFile, Leads, Stage, Unbegun, first_fields}
+use Rattle.ql_execution_files.specs.ExecutionFile.{Closes, IsExecutionFile, first_fields, gives}
+use Rattle.ql_execution_files.specs.declared.format.Reading.{Reading}
+use Rattle.ql_execution_files.specs.declared.format.Reading.TheVariants.{Ended, Unbegun}
+use Rattle.ql_line_files.specs.Outcomes.{Leads}
 use Rattle.ql_report.specs.Levels.{levels_text, op_line, op_name, txn_line, txn_name}
 use Rattle.ql_run_text.specs.EffectTexts.{execution_text}
 use Rattle.ql_run_text.specs.NumberedLines.{lines_from}
@@ -61,16 +64,16 @@ not_first l h e =
     let k = joined_begins l h in
     k.4 (first_byte k.0 k.1 (codes "execution") [] 101 (codes "xecution") k.3 (ap fields_of (sym k.2) ∙ e) refl)
 
-module _ (p : Program) (after : Stage) where
-  one_more : (n : ℕ) (l : Fields) (more : List (List ℕ)) → BeginsOtherwise l → (t : Bool) → is_skipped (joined l) ≡ t → Leads p Unbegun (told (n + 1) more) after → Leads p Unbegun (told n (joined l ∷ more)) after
+module _ (p : Program) (after : Reading) where
+  one_more : (n : ℕ) (l : Fields) (more : List (List ℕ)) → BeginsOtherwise l → (t : Bool) → is_skipped (joined l) ≡ t → Leads (gives p) Closes Unbegun (told (n + 1) more) after → Leads (gives p) Closes Unbegun (told n (joined l ∷ more)) after
   unfolding told Leads
   one_more n l more begins true skipped later = rw skipped later
   one_more n l more begins false kept later = rw kept (Unbegun, inr (not_first l begins, refl), later)
 
-  pass : (n : ℕ) (ls : List Fields) (rest : List ℕ) → AllByRecursion IsPassed ls → ((m : ℕ) → Leads p Unbegun (told m (lines rest)) after) → Leads p Unbegun (told n (lines (file_text ls ++ rest))) after
+  pass : (n : ℕ) (ls : List Fields) (rest : List ℕ) → AllByRecursion IsPassed ls → ((m : ℕ) → Leads (gives p) Closes Unbegun (told m (lines rest)) after) → Leads (gives p) Closes Unbegun (told n (lines (file_text ls ++ rest))) after
   unfolding file_text
   pass n [] rest h later = later n
-  pass n (l ∷ ls) rest h later = subst (λ ts. Leads p Unbegun (told n ts) after) (sym (first_line l ls rest h.0.stays))
+  pass n (l ∷ ls) rest h later = subst (λ ts. Leads (gives p) Closes Unbegun (told n ts) after) (sym (first_line l ls rest h.0.stays))
       (one_more n l (lines (file_text ls ++ rest)) h.0.begins (is_skipped (joined l)) refl (pass (n + 1) ls rest h.1 later))
 
 -- ---- the lines before an execution
@@ -249,7 +252,7 @@ module _ (p : Program) (objects : List (List ℕ)) (levels : LevelLists) (replie
   )
 
   -- what the reader has at the end
-  abbrev last_read : Stage
+  abbrev last_read : Reading
   last_read = Ended (record { objects = grown objects [] x; effects = others (number p objects x is) x })
 
   pub run_is_read : (y : List Effect) × IsRenumbered x y × IsExecutionFile p (ahead_from 1 (run_text p objects levels replies x)) y
@@ -257,10 +260,10 @@ module _ (p : Program) (objects : List (List ℕ)) (levels : LevelLists) (replie
     others (number p objects x is) x,
     same_execution p objects x is,
     record {
-      told = record { objects = grown objects [] x; effects = others (number p objects x is) x };
+      state = last_read;
       leads =
-          subst (λ (t : List ℕ). Leads p Unbegun (told 1 (lines t)) last_read) (sym front_text)
+          subst (λ (t : List ℕ). Leads (gives p) Closes Unbegun (told 1 (lines t)) last_read) (sym front_text)
           (pass p last_read 1 front (execution_text p objects x) front_passes (execution_leads p objects x is));
-      execution = refl;
+      ends = refl;
     },
   )

@@ -1,0 +1,6 @@
+pub mod Options
+pub mod FirstFields
+pub mod Parts
+pub mod Txns
+pub mod Lines
+pub mod Lawful

@@ -1,0 +1,132 @@
+ghost use Rattle.std.specs.Prelude.{◌≡◌, ◌∷◌, ◌↔◌, [], IsTrue, Ok};
+ghost use Rattle.ql_lang.specs.declared.program.Program.{Program};
+ghost use Rattle.ql_line_files.specs.Answers.{IsLineAnswer};
+ghost use Rattle.ql_lines.specs.Fields.{fields_of};
+ghost use Rattle.ql_effect_lines.specs.Effects.{IsSound};
+ghost use Rattle.ql_execution_files.specs.declared.format.Reading.TheVariants.{Unbegun, WithEffects};
+ghost use Rattle.ql_execution_files.specs.ExecutionFile.{AreSound, Closes, Gives};
+ghost use Rattle.ql_execution_files.specs.OneLine.{closes_one, closes_some, gives_one, gives_some, takes_sound};
+
+use ql_base::Names;
+use ql_effect_lines::{ReportRule, Told, read_line};
+use ql_exec::Execution;
+use ql_line_files::{Broken, FileFault, LineFault, LineFormat};
+use ql_lines::{after_word, first_field};
+use ql_typing::Typed;
+use std::alloc::Global;
+
+/// What some lines say: nothing, since the first line that is `execution` is yet to come; effects;
+/// all effects, up to the end.
+#[derive(Drop)]
+pub enum Reading {
+    Unbegun,
+    WithEffects(Told),
+    Ended(Told),
+}
+
+/// The format of the files of a program's executions.
+#[derive(Clone, Copy)]
+pub(crate) struct Format<'a> {
+    pub t: &'a Typed,
+    pub alloc: Global,
+}
+
+impl<'a> LineFormat for Format<'a> {
+    type State = Reading;
+
+    type Said = Execution;
+
+    type Rule = ReportRule;
+
+    ghost start = { λ f. Unbegun };
+
+    ghost sound = { λ f read more. AreSound f.t.now.program read };
+
+    ghost gives = { λ f read l x. Gives f.t.now.program read l.text x };
+
+    ghost closes = { λ f read end x. Closes read end x };
+
+    fn start(&self) -> Reading {
+        Reading::Unbegun
+    }
+
+    fn take(
+        &self,
+        state: Reading,
+        _number: u64,
+        text: &[u8],
+    ) -> Result<Reading, LineFault<ReportRule>> {
+        match state {
+            Reading::Unbegun => Ok(any_line(self.alloc, text)),
+            Reading::WithEffects(told) => one_more(self.alloc, self.t, told, text),
+            Reading::Ended(_) => Err(LineFault::Breaks(ReportRule::Unexpected)),
+        }
+    }
+
+    fn finish(&self, state: Reading, end: u64) -> Result<Execution, FileFault<ReportRule>> {
+        match state {
+            Reading::Ended(told) => Ok(told.effects),
+            _ => Err(FileFault::Broken(Broken {
+                line: end,
+                rule: ReportRule::Unexpected,
+            })),
+        }
+    }
+
+    ghost stays_sound = { λ f s t l more sound given. takes_sound f.t.now.program s l.text t sound given };
+
+    ghost gives_one = { λ f s l x y p q. gives_one f.t.now.program s l.text x y p q };
+
+    ghost gives_some = { λ f s l none. gives_some f.t.now.program s l.text none };
+
+    ghost closes_one = { λ f s end x y p q. closes_one s end x y p q };
+
+    ghost closes_some = { λ f s end none. closes_some s end none };
+}
+
+// A line before the effects.
+fn any_line(alloc: Global, text: &[u8]) -> Reading
+    ensures { (p : Program) → Gives p Unbegun text.now (Ok result) }
+{
+    if is_word(text, b"execution") {
+        Reading::WithEffects(Told {
+            objects: Names::new(alloc),
+            effects: Execution::new(alloc),
+        })
+    } else {
+        Reading::Unbegun
+    }
+}
+
+// A line after effects: the last one, or one more effect.
+fn one_more(
+    alloc: Global,
+    t: &Typed,
+    told: Told,
+    text: &[u8],
+) -> Result<Reading, LineFault<ReportRule>>
+    requires sound { IsSound t.now.program told }
+    ensures { IsLineAnswer (Gives t.now.program (WithEffects told) text.now) result }
+{
+    if is_word(text, b"end") {
+        return Ok(Reading::Ended(told));
+    }
+    let id = told.effects.len() + 1;
+    let Some(effect) = read_line(alloc, text, id)? else {
+        return Err(LineFault::Breaks(ReportRule::Unexpected));
+    };
+    match told.put(t, effect) {
+        Ok(more) => Ok(Reading::WithEffects(more)),
+        Err(fault) => Err(fault),
+    }
+}
+
+// Whether a line is this word.
+fn is_word(text: &[u8], word: &[u8]) -> bool
+    ensures { IsTrue result ↔ (fields_of text.now ≡ word.now ∷ []) }
+{
+    match after_word(text, word) {
+        Some(behind) => first_field(behind).is_none(),
+        None => false,
+    }
+}
