@@ -3,11 +3,11 @@
 // the execution make, and it reads back as that value.
 #![tactic(auto)]
 
-mod effects;
+mod execution;
 mod levels;
 mod replies;
 mod run;
 pub mod values;
 
-pub use effects::effects;
+pub use execution::effects;
 pub use run::print_run_json;

@@ -7,7 +7,7 @@ ghost use Rattle.serde_json.specs.Read.{read};
 ghost use Rattle.serde_json.specs.View.{members_view, view};
 ghost use Rattle.ql_run_json.specs.JsonRuns.{run_data, run_json};
 
-use crate::effects::effects;
+use crate::execution::effects;
 use crate::levels::levels;
 use crate::replies::replies as reply_texts;
 use ql_base::{Names, NoMemory};

@@ -6,7 +6,7 @@ use Rattle.ql_run_text.specs.EffectTexts.{IsNamed}
 use Rattle.std.specs.Prelude.{length}
 use Rattle.ql_run_json.specs.JsonRuns.{effects_from}
 use Rattle.ql_run_json.proofs.Lists.{effect_there, more_effects}
-use Rattle.ql_run_json.proofs.effects.effects.Goals as goal
+use Rattle.ql_run_json.proofs.execution.effects.Goals as goal
 
 pub loop-k-init : goal.loop-k-init
 unfolding effects_from
