@@ -1,4 +1,4 @@
--- A text is one contract at most, which the parser's law says.
+-- The law of the parser: a text is one contract at most.
 use Rattle.std.specs.Prelude.{◌≡◌, ℕ, List}
 use Rattle.ql_lang.specs.Trees.{Sentence}
 use Rattle.ql_parse.specs.Parsing.{IsContractText}

@@ -10,6 +10,7 @@ use std::alloc::Global;
 #[derive(Clone, Copy)]
 pub(crate) struct Format {
     pub(crate) alloc: Global,
+    // The parser's law, by which a line is one contract at most.
     ghost one_contract: { ∥ OneContract ∥₁ },
 }
 
