@@ -1,67 +1,90 @@
 -- what is said of holds files
-use Rattle.std.proofs.Common.{◌≡◌, List, ℕ, Result, Ok, Err, arith, ap, sym, subst}
+use Rattle.std.proofs.Common.{◌≡◌, List, ℕ, Result, Ok, Err, codes, arith, ap, refl, sym, subst, ◌∙◌}
 use Rattle.std.specs.Prelude.{IfOk}
 use Rattle.std.specs.Global.{Vec}
 use Rattle.ql_base.specs.declared.no_memory.NoMemory.{NoMemory as NoMemoryLeft}
 use Rattle.ql_lines.specs.Lines.{Ahead, ahead_from}
+use Rattle.ql_line_files.specs.declared.fault.Broken.{Broken}
 use Rattle.ql_holds_files.specs.declared.holds_fault.HoldsFault.{HoldsFault}
-use Rattle.ql_holds_files.specs.declared.holds_fault.HoldsFault.TheVariants.{Unexpected, Unknown, Twice, TxnAtom, Variables, Range, NotForward, OtherObject, TooMany, NoMemory}
-use Rattle.ql_holds_files.specs.HoldsFile.{Asked, FirstFault, IsHolding, IsRefusal}
+use Rattle.ql_holds_files.specs.declared.holds_fault.HoldsFault.TheVariants as fault
+use Rattle.ql_holds_files.specs.declared.rules.HoldsRule.{HoldsRule}
+use Rattle.ql_holds_files.specs.declared.rules.HoldsRule.TheVariants.{Unexpected, Unknown, Twice, TxnAtom, Variables, Range, NotForward, OtherObject, TooMany}
+use Rattle.ql_holds_files.specs.HoldsFile.{Asked, HoldsOutcome}
+use Rattle.ql_holds_files.specs.Holdings.{IsRefusal}
+use Rattle.ql_holds_files.specs.Rules.{rule_at}
+use Rattle.ql_reply.specs.Lines.{fault_line}
 use Rattle.ql_reply.specs.declared.status.Status.{Status}
 use Rattle.ql_reply.specs.declared.status.Status.TheVariants.{Done, No, Bad, ReadFault, WriteFault, Usage, TooLarge}
-use Rattle.ql_app.specs.HoldsFile.{HoldsSays, HoldsTells, IsToldAs, holds_fault_text, work}
+use Rattle.ql_app.specs.HoldsFaults.{IsToldAs, holds_fault_text}
+use Rattle.ql_app.specs.HoldsFile.{HoldsSays, HoldsTells, rule_word, work}
 
--- a refusal that is told is the first fault
-first_fault : (file : Ahead) (f : HoldsFault) (text : List ℕ) → IsRefusal file f → IsToldAs f text → FirstFault file f
-first_fault file (Unexpected line) text h told = h
-first_fault file (Unknown line) text h told = h
-first_fault file (Twice line) text h told = h
-first_fault file (TxnAtom line) text h told = h
-first_fault file (Variables line) text h told = h
-first_fault file (Range line) text h told = h
-first_fault file (NotForward line) text h told = h
-first_fault file (OtherObject line) text h told = h
-first_fault file (TooMany line) text h told = h
-first_fault file NoMemory text h told = absurd told
+abbrev OneOutcome : Type 0
+OneOutcome = (file : Ahead) (x y : Result Asked (Broken HoldsRule)) → HoldsOutcome file x → HoldsOutcome file y → x ≡ y
 
-told_text : (f : HoldsFault) (text : List ℕ) → IsToldAs f text → text ≡ holds_fault_text f
-told_text (Unexpected line) text told = told
-told_text (Unknown line) text told = told
-told_text (Twice line) text told = told
-told_text (TxnAtom line) text told = told
-told_text (Variables line) text told = told
-told_text (Range line) text told = told
-told_text (NotForward line) text told = told
-told_text (OtherObject line) text told = told
-told_text (TooMany line) text told = told
-told_text NoMemory text told = absurd told
+-- ---- a bad file
+
+text_is : (rule : HoldsRule) (line : ℕ) → holds_fault_text (rule_at rule line) ≡ fault_line (codes "holds") line (rule_word rule)
+text_is Unexpected line = refl
+text_is Unknown line = refl
+text_is Twice line = refl
+text_is TxnAtom line = refl
+text_is Variables line = refl
+text_is Range line = refl
+text_is NotForward line = refl
+text_is OtherObject line = refl
+text_is TooMany line = refl
+
+-- the line reports the file's first fault
+abbrev Reports : Ahead → List ℕ → Type 0
+Reports file text = (broken : Broken HoldsRule) × HoldsOutcome file (Err broken) × (text ≡ fault_line (codes "holds") broken.line (rule_word broken.rule))
+
+module _ (file : Ahead) (text : List ℕ) where
+  reported : (f : HoldsFault) → ((broken : Broken HoldsRule) × HoldsOutcome file (Err broken) × (f ≡ rule_at broken.rule broken.line)) → text ≡ holds_fault_text f → Reports file text
+  reported f (broken, first, is) told = (broken, first, told ∙ ap holds_fault_text is ∙ text_is broken.rule broken.line)
+
+  first_fault : (f : HoldsFault) → IsRefusal file f → IsToldAs f text → Reports file text
+  first_fault (fault.Unexpected line) h told = reported (fault.Unexpected line) h told
+  first_fault (fault.Unknown line) h told = reported (fault.Unknown line) h told
+  first_fault (fault.Twice line) h told = reported (fault.Twice line) h told
+  first_fault (fault.TxnAtom line) h told = reported (fault.TxnAtom line) h told
+  first_fault (fault.Variables line) h told = reported (fault.Variables line) h told
+  first_fault (fault.Range line) h told = reported (fault.Range line) h told
+  first_fault (fault.NotForward line) h told = reported (fault.NotForward line) h told
+  first_fault (fault.OtherObject line) h told = reported (fault.OtherObject line) h told
+  first_fault (fault.TooMany line) h told = reported (fault.TooMany line) h told
+  first_fault fault.NoMemory h told = absurd told
+
+apart : OneOutcome → (file : Ahead) (p : Asked) (broken : Broken HoldsRule) → HoldsOutcome file (Ok p) → HoldsOutcome file (Err broken) → ⊥
+apart one file p broken h k = let same : ◌≡◌ {A = Result Asked (Broken HoldsRule)} (Ok p) (Err broken) = one file (Ok p) (Err broken) h k in absurd cc
 
 -- a file with a first fault is bad
-pub is_bad : ((file : Ahead) (p : Asked) (f : HoldsFault) → IsHolding file p → FirstFault file f → ⊥)
-    → (bytes : List ℕ) (f : HoldsFault) (text : List ℕ) → IsRefusal (ahead_from 1 bytes) f → IsToldAs f text → HoldsSays bytes Bad text
-is_bad apart bytes f text h told =
-    let first = first_fault (ahead_from 1 bytes) f text h told in
-    ((λ file. apart (ahead_from 1 bytes) file.0 f file.1 first), f, first, told_text f text told)
+pub is_bad : OneOutcome → (bytes : List ℕ) (f : HoldsFault) (text : List ℕ) → IsRefusal (ahead_from 1 bytes) f → IsToldAs f text → HoldsSays bytes Bad text
+is_bad one bytes f text h told =
+    let first = first_fault (ahead_from 1 bytes) text f h told in
+    ((λ file. apart one (ahead_from 1 bytes) file.0 first.0 file.1 first.1), first.0, first.1, first.2)
 
--- what is told of what a file asks is said of the file
-pub is_told : ((file : Ahead) (p q : Asked) → IsHolding file p → IsHolding file q → p ≡ q)
-    → (bytes : List ℕ) (asked : Asked) (status : Status) (text : List ℕ) → IsHolding (ahead_from 1 bytes) asked → HoldsTells asked status text → HoldsSays bytes status text
+-- ---- what is asked
+
+one_asked : OneOutcome → (file : Ahead) (p q : Asked) → HoldsOutcome file (Ok p) → HoldsOutcome file (Ok q) → p ≡ q
+one_asked one file p q h k = let same : ◌≡◌ {A = Result Asked (Broken HoldsRule)} (Ok p) (Ok q) = one file (Ok p) (Ok q) h k in cc
+
+-- what is said where this is asked is said of a file that asks it
+is_told : OneOutcome → (bytes : List ℕ) (asked : Asked) (status : Status) (text : List ℕ) → HoldsOutcome (ahead_from 1 bytes) (Ok asked) → HoldsTells asked status text → HoldsSays bytes status text
 is_told one bytes asked Done text asks tells = (asked, asks, tells)
 is_told one bytes asked No text asks tells = (asked, asks, tells)
 is_told one bytes asked TooLarge text asks tells =
-    ((λ file. let same = ap work (one (ahead_from 1 bytes) file.0 asked file.1 asks) in let more = tells.0 in let less = file.2 in omega (arith, same, more, less)), asked, asks, tells)
+    ((λ file. let same = ap work (one_asked one (ahead_from 1 bytes) file.0 asked file.1 asks) in let more = tells.0 in let less = file.2 in omega (arith, same, more, less)), asked, asks, tells)
 is_told one bytes asked Bad text asks tells = absurd tells
 is_told one bytes asked ReadFault text asks tells = absurd tells
 is_told one bytes asked WriteFault text asks tells = absurd tells
 is_told one bytes asked Usage text asks tells = absurd tells
 
--- and so of the answer that tells it
-pub answer_told : ((file : Ahead) (p q : Asked) → IsHolding file p → IsHolding file q → p ≡ q)
-    → (bytes : List ℕ) (asked : Asked) (answer : Result (Status × Vec ℕ) NoMemoryLeft) → IsHolding (ahead_from 1 bytes) asked → IfOk answer (λ a. HoldsTells asked a.0 a.1.items)
-    → IfOk answer (λ a. HoldsSays bytes a.0 a.1.items)
+-- and so of the answer
+pub answer_told : OneOutcome → (bytes : List ℕ) (asked : Asked) (answer : Result (Status × Vec ℕ) NoMemoryLeft) → HoldsOutcome (ahead_from 1 bytes) (Ok asked)
+    → IfOk answer (λ a. HoldsTells asked a.0 a.1.items) → IfOk answer (λ a. HoldsSays bytes a.0 a.1.items)
 answer_told one bytes asked (Ok a) asks tells = is_told one bytes asked a.0 a.1.items asks tells
 answer_told one bytes asked (Err e) asks tells = tt
 
--- a line that tells of a fault, by another name of it
+-- a line that reports a fault, by another name of it
 pub told_so : (line : Result (Vec ℕ) NoMemoryLeft) (f fault : HoldsFault) → fault ≡ f → IfOk line (λ l. IsToldAs f l.items) → IfOk line (λ l. IsToldAs fault l.items)
 told_so line f fault e h = subst (λ g. IfOk line (λ l. IsToldAs g l.items)) (sym e) h

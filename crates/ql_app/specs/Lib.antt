@@ -1,6 +1,7 @@
 pub mod Words
 pub mod Requests
 pub mod HoldsFile
+pub mod HoldsFaults
 pub mod ProofFile
 pub mod Answers
 pub mod Outcome

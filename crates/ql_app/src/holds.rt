@@ -1,6 +1,7 @@
-ghost use Rattle.std.specs.Prelude.{◌≡◌, ◌≤◌, ◌<◌, ◌^◌, ◌++◌, IfOk, OnOk, codes, decimal, length, map};
-ghost use Rattle.ql_holds_files.specs.Readings.{asked_of};
-ghost use Rattle.ql_app.specs.HoldsFile.{HoldsSays, HoldsTells, IsToldAs, places_text};
+ghost use Rattle.std.specs.Prelude.{◌≡◌, ◌≤◌, ◌++◌, IfOk, OnOk, codes, decimal, length, map};
+ghost use Rattle.ql_holds_files.specs.Holdings.{asked_of};
+ghost use Rattle.ql_app.specs.HoldsFaults.{IsToldAs};
+ghost use Rattle.ql_app.specs.HoldsFile.{HoldsSays, HoldsTells, places_text};
 
 use crate::text::at_line;
 use ql_base::{EffId, MAX_WORK, NoMemory, Word, push_bytes, push_number};
@@ -11,7 +12,6 @@ use std::alloc::Global;
 
 /// Whether the contract in a holds file is true of its effect.
 pub fn holds(alloc: Global, bytes: &[u8]) -> Result<(Status, Vec<u8>), NoMemory>
-    requires { length bytes.now < 2 ^ 32 }
     ensures { IfOk result (λ answer. HoldsSays bytes.now answer.0 answer.1.items) }
 {
     ql_holds_files::one_holding();

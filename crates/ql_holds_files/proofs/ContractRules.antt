@@ -1,5 +1,5 @@
 -- which rules the faults of a contract break
-use Rattle.std.proofs.Common.{◌≡◌, ℕ, ◌≤◌, Bool, true, false, ◌||◌, List, [], ◌∷◌, ◌++◌, None, Some, length, drop, arith, refl, ap, sym, ◌∙◌}
+use Rattle.std.proofs.Common.{◌≡◌, ℕ, Bool, true, false, ◌||◌, List, [], ◌∷◌, ◌++◌, None, Some, drop, refl, ap, sym, ◌∙◌}
 use Rattle.std.specs.Prelude.{if◌then◌else◌}
 use Rattle.std.specs.List.{list_any}
 use Rattle.std.proofs.lemmas.List.Folds.{list_any-append}
@@ -13,11 +13,8 @@ use Rattle.ql_typing.specs.declared.fault.TypeFault.{TypeFault}
 use Rattle.ql_typing.specs.declared.fault.TypeFault.TheVariants as typing
 use Rattle.ql_typing.specs.Faults.{IsRefusal, each, first_fault, names_met, repeats, unless, where_so}
 use Rattle.ql_typing.specs.ContractFaults.{choice_faults, contract_faults, extra_var, op_faults, point_faults, prop_faults, rel_faults, var_names}
-use Rattle.ql_typing.proofs.Parts.{few_each, left_none, right_none}
-use Rattle.ql_holds_files.specs.declared.holds_fault.LineFault.{LineFault}
-use Rattle.ql_holds_files.specs.declared.holds_fault.LineFault.TheVariants.{Unexpected, Unknown, Twice, TxnAtom, Variables, NotForward, OtherObject, TooMany, NoMemory}
+use Rattle.ql_holds_files.specs.declared.rules.HoldsRule.TheVariants.{Unknown, Twice, TxnAtom, Variables}
 use Rattle.ql_holds_files.specs.ContractLine.{faults_of, is_twice, is_txn_atom, is_unknown, lowest_rule}
-use Rattle.ql_holds_files.specs.Readings.{IsRule}
 
 pub unknown_either : (xs ys : List TypeFault) → list_any is_unknown (xs ++ ys) ≡ (list_any is_unknown xs || list_any is_unknown ys)
 unknown_either xs ys = list_any-append is_unknown xs ys
@@ -46,9 +43,9 @@ module _ (p : TypeFault → Bool) {A : Type 0} (faults : A → List TypeFault) w
   unfolding each
   any_here x xs e = list_any-append p (faults x) (each faults xs) ∙ rw e refl
 
-  pub any_behind : (x : A) (xs : List A) → list_any p (faults x) ≡ false → list_any p (each faults (x ∷ xs)) ≡ list_any p (each faults xs)
+  pub any_after : (x : A) (xs : List A) → list_any p (faults x) ≡ false → list_any p (each faults (x ∷ xs)) ≡ list_any p (each faults xs)
   unfolding each
-  any_behind x xs e = list_any-append p (faults x) (each faults xs) ∙ rw e refl
+  any_after x xs e = list_any-append p (faults x) (each faults xs) ∙ rw e refl
 
   pub any_nowhere : list_any p (each faults []) ≡ false
   unfolding each
@@ -100,14 +97,6 @@ no_unknown_choice v = ap (list_any is_unknown) (choice_is v) ∙ no_unknown_repe
 
 no_txn_choice : (v : Var) → list_any is_txn_atom (choice_faults None v) ≡ false
 no_txn_choice v = ap (list_any is_txn_atom) (choice_is v) ∙ no_txn_repeat [] v.ops
-
-many : (vars : List Var) → length (var_names vars) ≡ length vars
-many [] = refl
-many (v ∷ vars) = omega (arith, many vars)
-
-wrong_extra : (n : Name) → extra_var n ≡ [] → ⊥
-unfolding extra_var
-wrong_extra n e = cc
 
 no_unknown_extra : (n : Name) → list_any is_unknown (extra_var n) ≡ false
 unfolding extra_var
@@ -201,14 +190,6 @@ module _ (c : Sentence) where
       (any_of_two is_twice (each extra_var (drop 5 vars)) (choices ++ body) _ (none_each is_twice extra_var no_twice_extra (drop 5 vars))
       (list_any-append is_twice choices body ∙ ap (λ b. list_any is_twice choices || b) (no_twice_prop (names_met [] vars) c.body) ∙ or_none (list_any is_twice choices)))
 
-  -- a contract without faults has few variables
-  pub few_variables : faults_of c ≡ [] → length c.vars ≤ 5
-  unfolding contract_faults
-  few_variables none =
-      let names = var_names c.vars in
-      let few = few_each extra_var wrong_extra 5 names (left_none _ _ (right_none (repeats [] names) _ none)) in
-      omega (arith, few, many c.vars)
-
 -- ---- the lowest rule
 
 lowest_is : (fs : List TypeFault) → (fs ≡ [] → ⊥)
@@ -250,28 +231,6 @@ module _ (c : Sentence) (some : faults_of c ≡ [] → ⊥) where
   pub lowest_variables : unknown_in ≡ false → list_any is_twice (repeats [] (var_names c.vars)) ≡ false → list_any is_twice (each (choice_faults None) c.vars) ≡ false → txn_in ≡ false
       → lowest_rule (faults_of c) ≡ Some Variables
   lowest_variables e f g h = lowest ∙ rw (e, f, g, h) refl
-
-never : (a b t : Bool) → Some (if a then Unknown else (if b then Twice else (if t then TxnAtom else Variables))) ≡ Some Unexpected → ⊥
-never true b t e = absurd cc
-never false true t e = absurd cc
-never false false true e = absurd cc
-never false false false e = absurd cc
-
-never_unexpected : (fs : List TypeFault) → lowest_rule fs ≡ Some Unexpected → ⊥
-unfolding lowest_rule
-never_unexpected [] e = absurd cc
-never_unexpected (f ∷ fs) e = never (list_any is_unknown (f ∷ fs)) (list_any is_twice (f ∷ fs)) (list_any is_txn_atom (f ∷ fs)) e
-
-pub is_rule : (fs : List TypeFault) (rule : LineFault) → lowest_rule fs ≡ Some rule → IsRule (lowest_rule fs) rule
-is_rule fs Unexpected e = never_unexpected fs e
-is_rule fs Unknown e = e
-is_rule fs Twice e = e
-is_rule fs TxnAtom e = e
-is_rule fs Variables e = e
-is_rule fs NotForward e = e
-is_rule fs OtherObject e = e
-is_rule fs TooMany e = e
-is_rule fs NoMemory e = tt
 
 -- the names of a contract's variables, step by step
 module _ (vars items : List Var) (named slice : List Name) (is_items : items ≡ vars) (is_named : named ≡ var_names items) (is_slice : slice ≡ named) where

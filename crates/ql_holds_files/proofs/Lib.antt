@@ -1,9 +1,6 @@
-pub mod ShortLines
-pub mod FirstFields
 pub mod ContractRules
-pub mod EffectLines
-pub mod Effects
-pub mod OneStage
-pub mod Leading
-pub mod OneFault
+pub mod OneEffect
 pub mod LineRefusals
+pub mod Lines
+pub mod OneFile
+pub mod Within

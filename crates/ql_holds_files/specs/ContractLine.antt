@@ -1,5 +1,5 @@
 -- The first line of a holds file, and the rules that its contract may break.
-use Rattle.std.specs.Prelude.{◌≡◌, ℕ, Bool, true, false, List, [], ◌∷◌, Option, None, Some, codes, if◌then◌else◌}
+use Rattle.std.specs.Prelude.{ℕ, Bool, true, false, List, [], ◌∷◌, Option, None, Some, codes, if◌then◌else◌}
 use Rattle.std.specs.List.{list_any}
 use Rattle.ql_lines.specs.Fields.{FirstField}
 use Rattle.ql_lang.specs.Trees.{Sentence}
@@ -7,10 +7,10 @@ use Rattle.ql_parse.specs.Parsing.{IsContractText}
 use Rattle.ql_typing.specs.declared.fault.TypeFault.{TypeFault}
 use Rattle.ql_typing.specs.declared.fault.TypeFault.TheVariants as typing
 use Rattle.ql_typing.specs.ContractFaults.{contract_faults}
-use Rattle.ql_holds_files.specs.declared.holds_fault.LineFault.{LineFault}
-use Rattle.ql_holds_files.specs.declared.holds_fault.LineFault.TheVariants.{NoMemory, Unexpected, Unknown, Twice, TxnAtom, Variables}
+use Rattle.ql_holds_files.specs.declared.rules.HoldsRule.{HoldsRule}
+use Rattle.ql_holds_files.specs.declared.rules.HoldsRule.TheVariants.{Unknown, Twice, TxnAtom, Variables}
 
--- the word `contract`, and behind it a contract
+-- the word `contract`, and then a contract
 pub record IsContractLine (text : List ℕ) (c : Sentence) : Type 0 where
   pub rest : List ℕ
   pub first : FirstField text (codes "contract") rest
@@ -33,19 +33,9 @@ is_txn_atom (typing.TxnAtom at) = true
 is_txn_atom _ = false
 
 -- The lowest rule that faults of such a contract break, wherever they stand. Only these four can be broken.
-unfoldable pub lowest_rule : List TypeFault → Option LineFault
+unfoldable pub lowest_rule : List TypeFault → Option HoldsRule
 lowest_rule [] = None
 lowest_rule (f ∷ fs) =
     Some (if list_any is_unknown (f ∷ fs) then Unknown
     else (if list_any is_twice (f ∷ fs) then Twice
     else (if list_any is_txn_atom (f ∷ fs) then TxnAtom else Variables)))
-
--- the line is no contract's, or its contract breaks a rule, and no lower one
-abbrev pub BreaksContract : List ℕ → LineFault → Type 0
-BreaksContract text Unexpected = (c : Sentence) → IsContractLine text c → ⊥
-BreaksContract text rule = (c : Sentence) × IsContractLine text c × (lowest_rule (faults_of c) ≡ Some rule)
-
--- a refusal of a line as the first one: that, or want of memory
-abbrev pub IsContractRefusal : List ℕ → LineFault → Type 0
-IsContractRefusal text NoMemory = Unit {0}
-IsContractRefusal text fault = BreaksContract text fault

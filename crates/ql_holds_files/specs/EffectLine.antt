@@ -6,6 +6,7 @@ use Rattle.ql_base.specs.Names.{IsName}
 use Rattle.ql_base.specs.Numbering.{with_name}
 use Rattle.ql_base.specs.declared.ids.ObjId.{ObjId}
 use Rattle.ql_base.specs.declared.ids.OpId.{OpId}
+use Rattle.ql_base.specs.declared.limits.TheConstants.{MAX_EFFECTS}
 use Rattle.ql_lines.specs.Fields.{Fields, IsId}
 use Rattle.ql_value.specs.declared.value.Value.TheVariants.{Unit as UnitValue}
 use Rattle.ql_exec.specs.declared.effect.Draft.{Draft}
@@ -15,9 +16,9 @@ use Rattle.ql_exec.specs.Effects.{effect_at}
 use Rattle.ql_exec.specs.Execution.{effect_of, is_elsewhere}
 use Rattle.ql_typing.specs.Resolved.{number_in}
 use Rattle.ql_holds_files.specs.declared.effect_line.EffectLine.{EffectLine}
-use Rattle.ql_holds_files.specs.declared.holds_fault.LineFault.{LineFault}
-use Rattle.ql_holds_files.specs.declared.holds_fault.LineFault.TheVariants.{NotForward, OtherObject, TooMany}
-use Rattle.ql_holds_files.specs.declared.told.Told.{Told}
+use Rattle.ql_holds_files.specs.declared.effects.NamedEffects.{NamedEffects}
+use Rattle.ql_holds_files.specs.declared.rules.HoldsRule.{HoldsRule}
+use Rattle.ql_holds_files.specs.declared.rules.HoldsRule.TheVariants.{NotForward, OtherObject, TooMany}
 
 -- ---- how lines are spelled
 
@@ -46,13 +47,13 @@ pub record IsEffectLine (fields : Fields) (id : ℕ) (e : EffectLine) : Type 0 w
   pub fits : Fits e
   pub is : fields ≡ effect_fields id e
 
--- ---- what effects' lines tell
+-- ---- what lines of effects make
 
--- the number of a name behind others
+-- the number of a name among others, or else after them
 abbrev pub number_of : List (List ℕ) → List ℕ → ℕ
 number_of names w = number_in (with_name names w) w
 
--- an effect outside any transaction, of which no arguments, payload and answer are told
+-- an effect outside any transaction, without arguments, payload and answer
 abbrev pub plain_draft : ObjId → OpId → ℕ → List ℕ → Draft
 plain_draft object op session seen = record {
   object = object;
@@ -65,26 +66,22 @@ plain_draft object op session seen = record {
   seen = seen;
 }
 
-abbrev pub draft_of : Told → EffectLine → Draft
-draft_of told e = plain_draft (record { 0 = number_of told.objects e.object }) (record { 0 = number_of told.ops e.op }) e.session e.seen
+abbrev pub draft_of : NamedEffects → EffectLine → Draft
+draft_of named e = plain_draft (record { 0 = number_of named.objects e.object }) (record { 0 = number_of named.ops e.op }) e.session e.seen
 
 -- one more effect
-abbrev pub told_with : Told → EffectLine → Told
-told_with told e = record {
-  objects = with_name told.objects e.object;
-  ops = with_name told.ops e.op;
-  effects = told.effects ++ effect_of told.effects (draft_of told e) ∷ [];
+abbrev pub with_effect : NamedEffects → EffectLine → NamedEffects
+with_effect named e = record {
+  objects = with_name named.objects e.object;
+  ops = with_name named.ops e.op;
+  effects = named.effects ++ effect_of named.effects (draft_of named e) ∷ [];
 }
 
--- the most effects of a file
-abbrev pub most_effects : ℕ
-most_effects = 4000
-
--- The lowest rule that an effect breaks behind others: an id that it sees is that of no earlier effect; one of those that
+-- The lowest rule that an effect breaks after others: an id that it sees is that of no earlier effect; one of those that
 -- it sees is on another object; there are too many.
-abbrev pub effect_rule : Told → EffectLine → Option LineFault
-effect_rule told e =
-    if list_any (λ id. is_none (effect_at told.effects id)) e.seen then Some NotForward
-    else (if list_any (λ id. is_elsewhere (draft_of told e).object (effect_at told.effects id)) e.seen then Some OtherObject
-    else (if nat_le most_effects (length told.effects) then Some TooMany
+abbrev pub effect_rule : NamedEffects → EffectLine → Option HoldsRule
+effect_rule named e =
+    if list_any (λ id. is_none (effect_at named.effects id)) e.seen then Some NotForward
+    else (if list_any (λ id. is_elsewhere (draft_of named e).object (effect_at named.effects id)) e.seen then Some OtherObject
+    else (if nat_le MAX_EFFECTS (length named.effects) then Some TooMany
     else None))

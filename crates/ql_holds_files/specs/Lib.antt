@@ -1,4 +1,9 @@
+pub mod NamedFormulas
+pub mod Rules
 pub mod ContractLine
 pub mod EffectLine
 pub mod HoldsFile
-pub mod Readings
+pub mod Uniqueness
+pub mod OneLine
+pub mod Limits
+pub mod Holdings

@@ -6,13 +6,13 @@ ghost use Rattle.ql_typing.specs.Faults.{each, names_met, repeats};
 ghost use Rattle.ql_typing.specs.ContractFaults.{choice_faults, point_faults, prop_faults, var_names};
 ghost use Rattle.ql_holds_files.specs.ContractLine.{faults_of, is_twice, is_txn_atom, is_unknown, lowest_rule};
 
-use crate::holds_fault::LineFault;
+use crate::rules::HoldsRule;
 use ql_base::{Names, NoMemory, Word};
 use ql_lang::{Contract, Name, Point, Prop, Var};
 use std::alloc::Global;
 
 /// The lowest rule that the faults of a contract break, which has some.
-pub(crate) fn lowest_rule(alloc: Global, contract: &Contract) -> Result<LineFault, NoMemory>
+pub(crate) fn lowest_rule(alloc: Global, contract: &Contract) -> Result<HoldsRule, NoMemory>
     requires { faults_of (sentence_of contract.now) ≢ [] }
     ensures { IfOk result (λ rule. lowest_rule (faults_of (sentence_of contract.now)) ≡ Some rule) }
 {
@@ -20,18 +20,18 @@ pub(crate) fn lowest_rule(alloc: Global, contract: &Contract) -> Result<LineFaul
     let named = names_of(alloc, vars)?;
     let met = meet(alloc, named.as_slice())?;
     if is_open(&contract.body, &met.names) {
-        return Ok(LineFault::Unknown);
+        return Ok(HoldsRule::Unknown);
     }
     if met.twice {
-        return Ok(LineFault::Twice);
+        return Ok(HoldsRule::Twice);
     }
     if repeats_an_operation(alloc, vars)? {
-        return Ok(LineFault::Twice);
+        return Ok(HoldsRule::Twice);
     }
     if speaks_of_txn(&contract.body) {
-        Ok(LineFault::TxnAtom)
+        Ok(HoldsRule::TxnAtom)
     } else {
-        Ok(LineFault::Variables)
+        Ok(HoldsRule::Variables)
     }
 }
 

@@ -7,7 +7,7 @@ use ql_base::{IdSet, NoMemory, Word};
 use ql_lines::{after_name, after_number, after_word, ascending_ids, first_field};
 use std::alloc::Global;
 
-/// What the line of an effect tells, apart from its number.
+/// What the line of an effect says, apart from its number.
 #[derive(Drop)]
 pub(crate) struct EffectLine {
     pub object: Word,
@@ -16,7 +16,7 @@ pub(crate) struct EffectLine {
     pub seen: IdSet,
 }
 
-/// The effect that a line tells, whose number is to be `id`.
+/// The effect of a line, whose number is to be `id`.
 pub(crate) fn effect_line(
     alloc: Global,
     text: &[u8],
@@ -44,7 +44,7 @@ pub(crate) fn effect_line(
     }
 }
 
-// What stands behind the word `effect` and this id.
+// What stands after the word `effect` and this id.
 fn after_id(text: &[u8], id: u32) -> Option<&[u8]>
     ensures { MatchOption result ((rest : Fields) → fields_of text.now ≡ codes "effect" ∷ decimal id ∷ rest → ⊥)
         (λ behind. fields_of text.now ≡ codes "effect" ∷ decimal id ∷ fields_of behind.now) }
@@ -54,7 +54,7 @@ fn after_id(text: &[u8], id: u32) -> Option<&[u8]>
     if number == id { Some(behind) } else { None }
 }
 
-// Two names, and what stands behind them.
+// Two names, and what stands after them.
 fn two_names(text: &[u8]) -> Option<(&[u8], &[u8], &[u8])>
     ensures { MatchOption result ((a b : List ℕ) (rest : Fields) → IsName a → IsName b → fields_of text.now ≡ a ∷ b ∷ rest → ⊥)
         (λ x. IsName x.0.now × IsName x.1.now × (fields_of text.now ≡ x.0.now ∷ x.1.now ∷ fields_of x.2.now)) }
@@ -64,7 +64,7 @@ fn two_names(text: &[u8]) -> Option<(&[u8], &[u8], &[u8])>
     Some((first, second, behind))
 }
 
-// The session between the words `session` and `vis`, and what stands behind these.
+// The session between the words `session` and `vis`, and what stands after these.
 fn session(text: &[u8]) -> Option<(u32, &[u8])>
     ensures { MatchOption result ((s : ℕ) (rest : Fields) → s ≤ 255 → fields_of text.now ≡ codes "session" ∷ decimal s ∷ codes "vis" ∷ rest → ⊥)
         (λ x. (x.0 ≤ 255) × (fields_of text.now ≡ codes "session" ∷ decimal x.0 ∷ codes "vis" ∷ fields_of x.1.now)) }
@@ -75,7 +75,7 @@ fn session(text: &[u8]) -> Option<(u32, &[u8])>
     Some((session, behind))
 }
 
-/// The effect that a line tells to be the current one.
+/// The current effect, where a line says it.
 pub(crate) fn current(text: &[u8]) -> Option<u32>
     ensures { MatchOption result ((cur : ℕ) → IsId cur → fields_of text.now ≡ at_fields cur → ⊥) (λ cur. IsId cur × (fields_of text.now ≡ at_fields cur)) }
 {

@@ -1,13 +1,14 @@
-ghost use Rattle.std.specs.Prelude.{◌≡◌};
+ghost use Rattle.std.specs.Prelude.{◌≡◌, Result};
 ghost use Rattle.ql_lines.specs.Lines.{Ahead};
-ghost use Rattle.ql_holds_files.specs.declared.holds_fault.HoldsFault.{HoldsFault};
-ghost use Rattle.ql_holds_files.specs.HoldsFile.{Asked, FirstFault, IsHolding};
+ghost use Rattle.ql_line_files.specs.declared.fault.Broken.{Broken};
+ghost use Rattle.ql_holds_files.specs.declared.asked.Asked.{Asked};
+ghost use Rattle.ql_holds_files.specs.declared.rules.HoldsRule.{HoldsRule};
+ghost use Rattle.ql_holds_files.specs.HoldsFile.{HoldsOutcome};
 
-/// A file asks one thing or has a first fault, and not both.
+/// A file asks one thing or has one first fault, never both, and never neither.
 pub fn one_holding()
-    ensures one { (file : Ahead) (p q : Asked) → IsHolding file p → IsHolding file q → p ≡ q }
-    ensures fault { (file : Ahead) (f g : HoldsFault) → FirstFault file f → FirstFault file g → f ≡ g }
-    ensures apart { (file : Ahead) (p : Asked) (f : HoldsFault) → IsHolding file p → FirstFault file f → ⊥ }
+    ensures one { (file : Ahead) (x y : Result Asked (Broken HoldsRule)) → HoldsOutcome file x → HoldsOutcome file y → x ≡ y }
+    ensures some { (file : Ahead) → ((x : Result Asked (Broken HoldsRule)) → HoldsOutcome file x → ⊥) → ⊥ }
 {
     ql_parse::one_answer();
 }

@@ -1,18 +1,22 @@
 // The files of `holds`: a contract, and an execution with one of its effects as the current one.
-// The one contract: a file gives what it asks or its first fault.
+// The one contract: a file is read to what it asks or to its first fault, never to both or neither.
 #![tactic(auto)]
 
+mod asked;
 mod contract_line;
 mod contract_rule;
 mod effect_line;
+mod effects;
+mod format;
 mod holding;
 mod holds_fault;
-mod holds_reader;
 mod law;
 mod parse;
-mod told;
+mod reading;
+mod rules;
 
 pub use holding::{Holding, Words};
 pub use holds_fault::HoldsFault;
 pub use law::one_holding;
 pub use parse::parse_holds;
+pub use rules::HoldsRule;

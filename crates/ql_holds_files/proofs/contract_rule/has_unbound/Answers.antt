@@ -5,7 +5,7 @@ use Rattle.ql_lang.specs.declared.contract.Point.{Point}
 use Rattle.ql_typing.specs.Faults.{each}
 use Rattle.ql_typing.specs.ContractFaults.{point_faults}
 use Rattle.ql_holds_files.specs.ContractLine.{is_unknown}
-use Rattle.ql_holds_files.proofs.ContractRules.{any_behind, any_here, any_nowhere}
+use Rattle.ql_holds_files.proofs.ContractRules.{any_after, any_here, any_nowhere}
 use Rattle.ql_holds_files.proofs.contract_rule.has_unbound.Goals as goal
 
 pub returns-then-is_unbound : goal.returns-then-is_unbound
@@ -18,7 +18,7 @@ pub loop-point-preserved : goal.loop-point-preserved
 loop-point-preserved c =
     let faults = point_faults false c.args.vars.now in
     sym (ap (λ (ps : List Point). list_any is_unknown (each faults ps)) c.in-Some.ensures.cases.0
-    ∙ any_behind is_unknown faults c.in-Some.point.now c.in-Some.others.now (sym c.is_unbound.ensures ∙ c.if-is_unbound.false)) ∙ c.loop-point.invariant
+    ∙ any_after is_unknown faults c.in-Some.point.now c.in-Some.others.now (sym c.is_unbound.ensures ∙ c.if-is_unbound.false)) ∙ c.loop-point.invariant
 
 pub returns : goal.returns
 returns c =

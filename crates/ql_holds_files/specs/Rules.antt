@@ -1,0 +1,29 @@
+-- The rules of holds files, and their faults.
+use Rattle.std.specs.Prelude.{ℕ, Option, None, Some, Result, Ok, Err}
+use Rattle.ql_line_files.specs.declared.fault.FileFault.{FileFault}
+use Rattle.ql_line_files.specs.declared.fault.FileFault.TheVariants as file
+use Rattle.ql_holds_files.specs.declared.holds_fault.HoldsFault.{HoldsFault}
+use Rattle.ql_holds_files.specs.declared.holds_fault.HoldsFault.TheVariants as fault
+use Rattle.ql_holds_files.specs.declared.rules.HoldsRule.{HoldsRule}
+use Rattle.ql_holds_files.specs.declared.rules.HoldsRule.TheVariants.{Unexpected, Unknown, Twice, TxnAtom, Variables, Range, NotForward, OtherObject, TooMany}
+
+-- what is made where no rule is broken
+abbrev pub unless_broken : {A : Type 0} → Option HoldsRule → A → Result A HoldsRule
+unless_broken None made = Ok made
+unless_broken (Some rule) made = Err rule
+
+-- a rule that is broken at a line
+abbrev pub rule_at : HoldsRule → ℕ → HoldsFault
+rule_at Unexpected line = fault.Unexpected line
+rule_at Unknown line = fault.Unknown line
+rule_at Twice line = fault.Twice line
+rule_at TxnAtom line = fault.TxnAtom line
+rule_at Variables line = fault.Variables line
+rule_at Range line = fault.Range line
+rule_at NotForward line = fault.NotForward line
+rule_at OtherObject line = fault.OtherObject line
+rule_at TooMany line = fault.TooMany line
+
+abbrev pub fault_of : FileFault HoldsRule → HoldsFault
+fault_of (file.Broken broken) = rule_at broken.rule broken.line
+fault_of file.NoMemory = fault.NoMemory

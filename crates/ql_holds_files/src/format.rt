@@ -1,0 +1,67 @@
+ghost use Rattle.ql_holds_files.specs.Uniqueness.{OneContract};
+
+use crate::asked::Asked;
+use crate::reading::{Reading, finish, take};
+use crate::rules::HoldsRule;
+use ql_line_files::{FileFault, LineFault, LineFormat};
+use std::alloc::Global;
+
+/// The format of holds files.
+#[derive(Clone, Copy)]
+pub(crate) struct Format {
+    pub(crate) alloc: Global,
+    // The parser's law, by which a line is one contract at most.
+    ghost one_contract: { ∥ OneContract ∥₁ },
+}
+
+impl LineFormat for Format {
+    ghost use Rattle.std.specs.Prelude.{◌≡◌};
+    ghost use Rattle.std.proofs.Math.Logic.{∥∥₁_elim};
+    ghost use Rattle.ql_holds_files.specs.declared.reading.Reading.TheVariants.{Unbegun};
+    ghost use Rattle.ql_holds_files.specs.HoldsFile.{Gives, closed};
+    ghost use Rattle.ql_holds_files.specs.Limits.{IsWithin, stays_within};
+    ghost use Rattle.ql_holds_files.specs.OneLine.{closes_one, closes_some, gives_one, gives_some, one_equation};
+
+    type State = Reading;
+
+    type Said = Asked;
+
+    type Rule = HoldsRule;
+
+    ghost start = { λ f. Unbegun };
+
+    ghost sound = { λ f read. IsWithin read };
+
+    ghost gives = { λ f read l x. Gives read l x };
+
+    ghost closes = { λ f read end x. x ≡ closed read end };
+
+    fn start(&self) -> Reading {
+        Reading::Unbegun
+    }
+
+    fn take(
+        &self,
+        state: Reading,
+        number: u64,
+        text: &[u8],
+    ) -> Result<Reading, LineFault<HoldsRule>> {
+        take(self.alloc, state, number, text)
+    }
+
+    fn finish(&self, state: Reading, end: u64) -> Result<Asked, FileFault<HoldsRule>> {
+        finish(state, end)
+    }
+
+    ghost starts_sound = { λ f. tt };
+
+    ghost stays_sound = { λ f s t l within given. stays_within s t l within given };
+
+    ghost gives_one = { λ f s l x y p q. ∥∥₁_elim f.one_contract (one_equation x y) (λ one. gives_one one s l x y p q) };
+
+    ghost gives_some = { λ f s l within none. gives_some s l none };
+
+    ghost closes_one = { λ f s end x y p q. closes_one s end x y p q };
+
+    ghost closes_some = { λ f s end within none. closes_some s end none };
+}

@@ -1,0 +1,170 @@
+ghost use Rattle.std.specs.Prelude.{◌≡◌, ◌≤◌, suc, nat_le, ◌&&◌, IfOk, Ok, length, map};
+ghost use Rattle.ql_base.specs.declared.limits.TheConstants.{MAX_EFFECTS};
+ghost use Rattle.ql_lang.specs.Trees.{sentence_of};
+ghost use Rattle.ql_lines.specs.Fields.{fields_of};
+ghost use Rattle.ql_line_files.specs.Answers.{IsEndAnswer, IsLineAnswer};
+ghost use Rattle.ql_line_files.specs.declared.fault.FileFault.TheVariants.{Broken as FileBroken};
+ghost use Rattle.ql_holds_files.specs.ContractLine.{IsContractLine};
+ghost use Rattle.ql_holds_files.specs.HoldsFile.{Gives, GivesAs, IsCurrentLine, IsMore, after_contract, after_more, closed};
+ghost use Rattle.ql_holds_files.specs.Limits.{IsWithin};
+ghost use Rattle.ql_holds_files.specs.declared.reading.Reading.TheVariants.{WithEffects};
+
+use crate::asked::{Asked, ReadContract};
+use crate::contract_line::contract_line;
+use crate::contract_rule::lowest_rule;
+use crate::effect_line::{current, effect_line, is_end};
+use crate::effects::NamedEffects;
+use crate::rules::HoldsRule;
+use ql_base::{EffId, Names, NoMemory, Word};
+use ql_exec::Execution;
+use ql_lang::{Contract, Var};
+use ql_line_files::{Broken, FileFault, LineFault};
+use ql_typing::{TypeFault, resolve};
+use std::alloc::Global;
+
+/// The id of the current effect, and the line that says it.
+#[derive(Clone, Copy)]
+pub(crate) struct Current {
+    pub line: u64,
+    pub id: u32,
+}
+
+/// What was read of a holds file: nothing; the contract; the current effect and effects; all of it.
+#[derive(Drop)]
+pub(crate) enum Reading {
+    Unbegun,
+    WithContract(ReadContract, NamedEffects),
+    WithEffects(ReadContract, Current, NamedEffects),
+    Ended(ReadContract, Current, NamedEffects),
+}
+
+/// What is read with one more line.
+pub(crate) fn take(
+    alloc: Global,
+    read: Reading,
+    number: u64,
+    text: &[u8],
+) -> Result<Reading, LineFault<HoldsRule>>
+    requires { IsWithin read }
+    ensures { IsLineAnswer (Gives read (record { number = number; text = text.now })) result }
+{
+    match read {
+        Reading::Unbegun => begun(alloc, text),
+        Reading::WithContract(contract, effects) => with_current(contract, effects, number, text),
+        Reading::WithEffects(contract, current, effects) => {
+            with_more(alloc, contract, current, effects, text)
+        }
+        Reading::Ended(_, _, _) => Err(LineFault::Breaks(HoldsRule::Unexpected)),
+    }
+}
+
+// The first line is the contract.
+fn begun(alloc: Global, text: &[u8]) -> Result<Reading, LineFault<HoldsRule>>
+    ensures { IsLineAnswer (GivesAs (IsContractLine text.now) after_contract) result }
+{
+    let Some(contract) = contract_line(alloc, text)? else {
+        return Err(LineFault::Breaks(HoldsRule::Unexpected));
+    };
+    with_contract(alloc, &contract)
+}
+
+// With its names resolved, or the lowest rule that it breaks.
+fn with_contract(alloc: Global, contract: &Contract) -> Result<Reading, LineFault<HoldsRule>>
+    ensures { IsLineAnswer (λ x. x ≡ after_contract (sentence_of contract.now)) result }
+{
+    let mut ops = Names::new(alloc);
+    match resolve(alloc, contract, &mut ops, false) {
+        Ok(formula) => {
+            let names = words_of(alloc, contract.vars.items())?;
+            let effects = NamedEffects {
+                objects: Names::new(alloc),
+                ops,
+                effects: Execution::new(alloc),
+            };
+            Ok(Reading::WithContract(ReadContract::of(formula, names), effects))
+        }
+        Err(fault) => match fault {
+            TypeFault::NoMemory => Err(LineFault::NoMemory),
+            _ => Err(LineFault::Breaks(lowest_rule(alloc, contract)?)),
+        },
+    }
+}
+
+// The names of variables, in order.
+fn words_of(alloc: Global, vars: &[Var]) -> Result<Vec<Word>, NoMemory>
+    ensures { IfOk result (λ words. words.items ≡ map (λ v. v.name.word) vars.now) }
+{
+    Ok(vars.iter().map(|var| var.name.word).collect(alloc)?)
+}
+
+// The second line says which effect is the current one.
+fn with_current(
+    contract: ReadContract,
+    effects: NamedEffects,
+    number: u64,
+    text: &[u8],
+) -> Result<Reading, LineFault<HoldsRule>>
+    ensures { IsLineAnswer (GivesAs (IsCurrentLine (fields_of text.now)) (λ cur. Ok (WithEffects contract (record { line = number; id = cur }) effects))) result }
+{
+    match current(text) {
+        Some(id) => {
+            let current = Current { line: number, id };
+            Ok(Reading::WithEffects(contract, current, effects))
+        }
+        None => Err(LineFault::Breaks(HoldsRule::Unexpected)),
+    }
+}
+
+// A line after these: the last one, or one more effect.
+fn with_more(
+    alloc: Global,
+    contract: ReadContract,
+    current: Current,
+    effects: NamedEffects,
+    text: &[u8],
+) -> Result<Reading, LineFault<HoldsRule>>
+    requires few { length effects.effects ≤ MAX_EFFECTS }
+    ensures { IsLineAnswer (GivesAs (IsMore (suc (length effects.effects)) (fields_of text.now)) (after_more contract current effects)) result }
+{
+    if is_end(text) {
+        return Ok(Reading::Ended(contract, current, effects));
+    }
+    let id = effects.effects.len() + 1;
+    let Some(effect) = effect_line(alloc, text, id)? else {
+        return Err(LineFault::Breaks(HoldsRule::Unexpected));
+    };
+    match effects.put(alloc, effect) {
+        Ok(more) => Ok(Reading::WithEffects(contract, current, more)),
+        Err(fault) => Err(fault),
+    }
+}
+
+/// What a file asks that ends here.
+pub(crate) fn finish(read: Reading, end: u64) -> Result<Asked, FileFault<HoldsRule>>
+    ensures { IsEndAnswer (λ x. x ≡ closed read end) result }
+{
+    let Reading::Ended(contract, current, effects) = read else {
+        return Err(broken(end, HoldsRule::Unexpected));
+    };
+    if !is_there(current.id, effects.effects.len()) {
+        return Err(broken(current.line, HoldsRule::Range));
+    }
+    Ok(Asked {
+        contract,
+        cur: EffId(current.id),
+        execution: effects.effects,
+    })
+}
+
+fn broken(line: u64, rule: HoldsRule) -> FileFault<HoldsRule>
+    ensures { result ≡ FileBroken (record { line = line; rule = rule }) }
+{
+    FileFault::Broken(Broken { line, rule })
+}
+
+// Whether an id is that of one of so many effects.
+fn is_there(id: u32, effects: u32) -> bool
+    ensures { result ≡ (nat_le 1 id && nat_le id effects) }
+{
+    1 <= id && id <= effects
+}
