@@ -1,4 +1,4 @@
--- The first fault of a line file: the first line that, behind those before it, begins no file of the grammar.
+-- The first fault of a line file: the first line with which, after those before it, no file of the grammar begins.
 use Rattle.std.specs.Prelude.{◌≡◌, ℕ, ◌<◌, ◌^◌, List, [], ◌∷◌, ◌++◌, Option, Result, Ok, Err, map, decimal, ok_or}
 use Rattle.ql_line_files.specs.declared.fault.Broken.{Broken}
 use Rattle.ql_line_files.specs.declared.fault.FileFault.{FileFault}
@@ -19,7 +19,7 @@ fields_in ls = map (λ (l : Numbered). fields_of l.text) ls
 abbrev pub Begins : (List Fields → Type 0) → List Fields → Type 0
 Begins IsFile before = (more : List Fields) × IsFile (before ++ more)
 
--- with another number at its front the line would go on
+-- with another number the line would go on
 pub record IsMisnumbered (GoesOn : Fields → Type 0) (line : Fields) : Type 0 where
   pub number : ℕ
   pub small : number < 2 ^ 64
@@ -43,7 +43,7 @@ pub data FirstFault (IsFile : List Fields → Type 0) (file : Ahead) : CertFault
       → FirstFault IsFile file (fault.Number l.number)
   ended : Begins IsFile (fields_in file.lines) → (IsFile (fields_in file.lines) → ⊥) → FirstFault IsFile file (fault.Unexpected file.end)
 
--- a refusal is the first fault, or want of memory
+-- a refusal is the first fault, or that memory has run out
 abbrev pub IsRefusal : (List Fields → Type 0) → Ahead → CertFault → Type 0
 IsRefusal IsFile file fault.NoMemory = Unit {0}
 IsRefusal IsFile file f = FirstFault IsFile file f
@@ -55,7 +55,7 @@ module _ {State : Type 0} (Takes : State → Fields → State → Type 0) where
   abbrev pub Follows : State → Fields → Type 0
   Follows before line = (after : State) × Takes before line after
 
-  -- what a line makes of what was read before it; or its rule, by whether with another number it would lead on
+  -- what a line makes of what was read before it; or the rule that it breaks: `Number` where with another number it would lead on
   abbrev pub Gives : State → Fields → Result State CertRule → Type 0
   Gives before line (Ok after) = Takes before line after
   Gives before line (Err Unexpected) = (Follows before line → ⊥) × (IsMisnumbered (Follows before) line → ⊥)

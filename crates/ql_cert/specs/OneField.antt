@@ -65,7 +65,7 @@ one_hint (Earlier m) (Given n) f g e = absurd (omega (arith, ap (λ (l : List �
 -- ---- lists of them
 
 module _ {X : Type 0} (IsOne : X → Type 0) (field : X → List ℕ) (one : (x y : X) → IsOne x → IsOne y → field x ≡ field y → x ≡ y) where
-  -- they are told by their fields
+  -- no two lists have the same fields
   pub same_all : (xs ys : List X) → AllByRecursion IsOne xs → AllByRecursion IsOne ys → map field xs ≡ map field ys → xs ≡ ys
   same_all [] [] f g e = refl
   same_all [] (y ∷ ys) f g e = absurd (omega (arith, ap length e))
@@ -74,7 +74,7 @@ module _ {X : Type 0} (IsOne : X → Type 0) (field : X → List ℕ) (one : (x 
       both x y xs ys (one x y f.0 g.0 (heads (field x) (field y) (map field xs) (map field ys) e))
       (same_all xs ys f.1 g.1 (tails (field x) (field y) (map field xs) (map field ys) e))
 
--- the literals before a colon are told by the fields, and so is what stands after it
+-- fields have one list of literals before a colon, and one rest after it
 pub same_parts : (xs ys : List Lit) (hs gs : Fields) → AllByRecursion IsLit xs → AllByRecursion IsLit ys → clause_fields xs ++ colon ∷ hs ≡ clause_fields ys ++ colon ∷ gs
     → (xs ≡ ys) × (hs ≡ gs)
 same_parts [] [] hs gs f g e = (refl, tails colon colon hs gs e)
@@ -84,7 +84,7 @@ same_parts (x ∷ xs) (y ∷ ys) hs gs f g e =
     let rest = same_parts xs ys hs gs f.1 g.1 (tails (lit_field x) (lit_field y) (clause_fields xs ++ colon ∷ hs) (clause_fields ys ++ colon ∷ gs) e) in
     (both x y xs ys (one_literal x y f.0 g.0 (heads (lit_field x) (lit_field y) (clause_fields xs ++ colon ∷ hs) (clause_fields ys ++ colon ∷ gs) e)) rest.0, rest.1)
 
--- a line is told by its fields
+-- no two lines have the same fields
 pub same_line : (l m : Line) → IsLine l → IsLine m → body_fields l ≡ body_fields m → l ≡ m
 same_line l m f g e =
     let parts = same_parts l.clause m.clause (map hint_field l.hints) (map hint_field m.hints) f.clause.lits g.clause.lits e in

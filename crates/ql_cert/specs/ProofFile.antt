@@ -52,7 +52,7 @@ no_clauses n = record { variables = n; clauses = [] }
 abbrev pub with_given : ClauseList → List Lit → ClauseList
 with_given cs c = record { variables = cs.variables; clauses = cs.clauses ++ c ∷ [] }
 
--- the next line tells how many variables there are
+-- the next line says how many variables there are
 pub record Begins (line : Fields) (after : ProofReading) : Type 0 where
   pub variables : ℕ
   pub few : variables ≤ most_variables

@@ -11,11 +11,11 @@ abbrev pub IsRead : {X F : Type 0} → (X → Type 0) → (X → F) → F → Op
 IsRead {X} Fits spell field None = (x : X) → Fits x → spell x ≡ field → ⊥
 IsRead Fits spell field (Some x) = Fits x × (spell x ≡ field)
 
--- a literal behind others, with a greater variable
+-- a literal after others, with a greater variable
 abbrev pub IsNext : List Lit → Lit → Type 0
 IsNext before x = IsLit x × IsAscending (before ++ x ∷ [])
 
--- literals up to a colon, and the fields behind it
+-- literals up to a colon, and the fields after it
 abbrev pub before_colon : (List Lit × Fields) → Fields
 before_colon x = clause_fields x.0 ++ colon ∷ x.1
 

@@ -31,7 +31,7 @@ clause_fields c = map lit_field c
 abbrev pub colon : List ℕ
 colon = codes ":"
 
--- what stands behind a line's number
+-- what stands after a line's number
 abbrev pub body_fields : Line → Fields
 body_fields l = clause_fields l.clause ++ colon ∷ map hint_field l.hints
 

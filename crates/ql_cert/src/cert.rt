@@ -12,7 +12,7 @@ pub enum SectionLevel {
     Txn(TxnLevel),
 }
 
-/// What a certificate tells of one target: its name, a level, and a refutation of the ground problem
+/// What a certificate says of one target: its name, a level, and a refutation of the ground problem
 /// of the target at that level.
 #[derive(Drop)]
 pub struct Section {

@@ -13,7 +13,7 @@ use ql_lines::first_field;
 use ql_refute::{Hint, Hints, Line};
 use std::alloc::Global;
 
-/// What stands behind a line's number: literals, a colon and hints.
+/// What stands after a line's number: literals, a colon and hints.
 pub(crate) fn line_body(alloc: Global, text: &[u8]) -> Result<Option<Line>, NoMemory>
     ensures { IfOk result (λ line. IsRead IsLine body_fields (fields_of text.now) line) }
 {
@@ -29,7 +29,7 @@ pub(crate) fn line_body(alloc: Global, text: &[u8]) -> Result<Option<Line>, NoMe
     }))
 }
 
-// The literals up to a colon, and what stands behind it.
+// The literals up to a colon, and what stands after it.
 pub(crate) fn clause_before_colon(
     alloc: Global,
     text: &[u8],
@@ -70,7 +70,7 @@ fn next_literal(field: &[u8], before: &[Lit]) -> Option<Lit>
     }
 }
 
-// Whether ascending literals stay so with one more behind them.
+// Whether ascending literals stay so with one more after them.
 fn goes_on(before: &[Lit], next: Lit) -> bool
     requires { IsAscending before.now }
     ensures { IsTrue result ↔ IsAscending (before.now ++ next ∷ []) }

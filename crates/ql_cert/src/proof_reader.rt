@@ -94,7 +94,7 @@ impl LineFormat for ProofFormat {
     ghost closes_some = { λ f s end none. closes_some (proof_said s) end none };
 }
 
-// The first line tells how many variables there are.
+// The first line says how many variables there are.
 #[tactic(auto, using(crate::proofs::ProofRefusals::not_begun))]
 fn begun(alloc: Global, text: &[u8]) -> Result<ProofReading, LineFault<CertRule>>
     ensures { IsLineAnswer (Gives ProofTakes Unbegun (fields_of text.now)) result }
@@ -108,7 +108,7 @@ fn begun(alloc: Global, text: &[u8]) -> Result<ProofReading, LineFault<CertRule>
     }
 }
 
-// How many variables the first line tells.
+// How many variables the first line says that there are.
 #[tactic(auto, using(crate::proofs::ProofRefusals::not_two))]
 fn variables(text: &[u8]) -> Option<u32>
     ensures { IsRead (λ n. n ≤ most_variables) variables_line (fields_of text.now) result }
