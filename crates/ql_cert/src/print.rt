@@ -61,10 +61,10 @@ pub fn push_section(
 pub fn push_end(out: &mut Vec<u8>) -> Result<(), NoMemory>
     ensures text { OnOk result (out.new.items ≡ out.old.items ++ file_text (end_line ∷ [])) }
 
-    // What begins with the title, and goes on with sections, is their certificate then.
+    // After the title and sections the whole is their certificate.
     ensures cert { OnOk result ((ss : List Section) → out.old.items ≡ file_text (title ∷ sections_lines ss) → out.new.items ≡ file_text (cert_lines ss)) }
 
-    // Where they have a spelling, they are read of it again.
+    // Where the sections have a spelling, it is read as them again.
     ensures again { OnOk result ((ss : List Section) → out.old.items ≡ file_text (title ∷ sections_lines ss) → AllByRecursion IsSection ss → IsCertOf ss (fields_in (ahead_from 1 out.new.items).lines)) }
 {
     push_bytes(out, b"end\n")?;

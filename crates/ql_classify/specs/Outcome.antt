@@ -65,7 +65,7 @@ abbrev pub FirstFails : Program → List Test → Classless → Type 0
 FirstFails p [] e = ⊥
 FirstFails p (t ∷ tests) e = Fails p t e ⊎ (Passes p t × FirstFails p tests e)
 
--- so each refusal but want of memory, which may come at any point
+-- so each refusal but that memory ran out, which may come at any point
 abbrev pub IsRefusal : Program → List Test → Classless → Type 0
 IsRefusal p tests NoMemory = Unit {0}
 IsRefusal p tests e = FirstFails p tests e

@@ -85,7 +85,7 @@ pub record IsEvidence (p : Program) (g : Goal) (e : Evidence) : Type 0 where
   pub lower : AllZip (IsSatisfiedBy p) (goals_below g) e.lower.items
   pub enough : IsEnough p g e.refutation.lines
 
--- the assignment that is told satisfies the lower goal's problem, and there is one where there is a lower goal
+-- the assignment that is reported satisfies the lower goal's problem, and there is one where there is a lower goal
 abbrev pub IsLowerAnswer : Program → Option Goal → Option (List Bool) → Type 0
 IsLowerAnswer p None None = Unit {0}
 IsLowerAnswer p (Some g) (Some a) = IsSatisfiedBy p g a

@@ -9,7 +9,7 @@ ghost use Rattle.ql_classify.specs.Outcome.{FirstFails, IsAccepted, all_tests};
 ghost use Rattle.ql_classify.specs.Targets.{IsLeastLevel, IsOpLevel, IsTxnLevel};
 ghost use Rattle.ql_classify.specs.declared.classless.Classless.{Classless};
 
-/// The law that a program is accepted or refused and not both. So, want of memory aside, `classify` gives
+/// The law that a program is accepted or refused and not both. So, running out of memory aside, `classify` gives
 /// levels exactly where the program is accepted, and refuses it exactly where a test fails.
 pub fn accepted_is_not_refused()
     ensures { (p : Program) (e : Classless) → IsAccepted p → FirstFails p (all_tests p) e → ⊥ }

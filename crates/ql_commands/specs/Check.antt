@@ -54,7 +54,7 @@ target_named name (Txn level) = Transaction name
 abbrev pub target_of : Section → Target
 target_of s = target_named s.name s.level
 
--- the sections are those that are due
+-- the sections are those that are expected
 abbrev pub AreDue : Program → List Section → Type 0
 AreDue p ss = map target_of ss ≡ targets_due p
 
@@ -65,7 +65,7 @@ BeginOtherwise [] (u ∷ us) = Unit {0}
 BeginOtherwise (t ∷ ts) [] = Unit {0}
 BeginOtherwise (t ∷ ts) (u ∷ us) = t ≢ u
 
--- the first place, from 1, at which the sections aren't those that are due
+-- the first place, from 1, at which the sections aren't those that are expected
 pub record IsOutOfOrder (p : Program) (ss : List Section) (place : ℕ) : Type 0 where
   pub before : List Target
   pub at : place ≡ suc (length before)
@@ -104,7 +104,7 @@ verdict_text (NoConflict line) = refusal_end line (codes "NoConflict")
 verdict_text (BadVariable line) = refusal_end line (codes "BadVariable")
 verdict_text NoEmpty = codes " refused NoEmpty\n"
 
--- The lines that tell of the sections from a place on, up to the first that is refused. Where a line ends in `accepted`,
+-- The lines that report the sections from a place on, up to the first that is refused. Where a line ends in `accepted`,
 -- the refutation is one of the section's own ground problem, and the level gives the contract in every execution.
 pub data Tells (p : Program) : ℕ → List Section → Answer → List ℕ → Type 0 where
   all : (place : ℕ) → Tells p place [] answer.Done []

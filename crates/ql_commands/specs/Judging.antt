@@ -12,7 +12,7 @@ use Rattle.ql_refute.specs.declared.verdict.Verdict.{Verdict}
 use Rattle.ql_refute.specs.declared.verdict.Verdict.TheVariants.{Accepted}
 use Rattle.ql_commands.specs.Check.{target_of, targets_due}
 
--- the sections from a place on are those that are due
+-- the sections from a place on are those that are expected
 abbrev pub AreDueFrom : Program → ℕ → List Section → Type 0
 AreDueFrom p place [] = Unit {0}
 AreDueFrom p place (s ∷ ss) = (slice_get (targets_due p) place ≡ Some (target_of s)) × AreDueFrom p (suc place) ss

@@ -7,7 +7,7 @@ use ql_report::{print_none_op, print_none_txn, print_strong_use};
 use ql_typing::Typed;
 use std::alloc::Global;
 
-/// The text that tells why a program isn't accepted.
+/// The text that says why a program isn't accepted.
 pub fn refusal(alloc: Global, t: &Typed, why: Classless) -> Result<Vec<u8>, NoMemory>
     requires { NamesTargets t.now.program why }
     ensures text { IfOk result (λ text. text.items ≡ refusal_text t.now.program why) }

@@ -25,7 +25,7 @@ pub fn read_source(alloc: Global, bytes: &[u8]) -> Result<Typed, SourceFault>
     }
 }
 
-/// The law that a source of a typed program has no fault that is told.
+/// The law that a source of a typed program has no fault that is reported.
 fn faults_deny_sources()
     ensures { (bytes : List ℕ) (f : SourceFault) → IsSourceFault bytes f → DeniesSource bytes f }
 {

@@ -1,4 +1,4 @@
--- What one more effect's line makes of what the lines before it tell, or the lowest rule that it breaks.
+-- What one more effect's line makes of what the lines before it say, or the lowest rule that it breaks.
 use Rattle.std.specs.Prelude.{◌≡◌, ℕ, ◌<◌, ◌≤◌, Bool, false, not, nat_eq, nat_le, if◌then◌else◌, List, [], ◌∷◌, ◌++◌, All, length, Option, None, Some, option_map, unwrap_or, slice_get, Result, Ok, Err}
 use Rattle.std.specs.List.{find}
 use Rattle.std.specs.Option.{option_and_then, option_map_or}
@@ -87,7 +87,7 @@ with_effect told draft = record { objects = told.objects; effects = told.effects
 abbrev pub with_object : Told → List ℕ → Told
 with_object told w = record { objects = with_name told.objects w; effects = told.effects }
 
--- an effect whose line tells this stamp
+-- an effect whose line says this stamp
 abbrev pub put_in : Told → Draft → ℕ → Result Told ReportRule
 put_in told draft stamp =
     option_map_or (λ fault. Err (rule_of fault)) (fault_of told.effects draft)
@@ -101,6 +101,6 @@ after_known p told e op member =
     if is_mixed p told.effects (record { 0 = number_of told.objects e.object }) op then Err Mixed
     else put_in (with_object told e.object) (draft_of e (record { 0 = number_of told.objects e.object }) op member) e.setting.stamp
 
--- what is told with the line of one more effect, or the lowest rule that it breaks
+-- what is said with the line of one more effect, or the lowest rule that it breaks
 abbrev pub after_effect : Program → Told → EffectLine → Result Told ReportRule
 after_effect p told e = option_map_or (λ known. after_known p told e known.0 known.1) (known_of p e) (Err Unknown)

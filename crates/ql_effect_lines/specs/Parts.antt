@@ -1,12 +1,12 @@
 -- The parts of an effect's line: fields, values, and values in round brackets. `XAt x text rest` says that `x` stands at
--- the front of `text`, and that `rest` follows it.
+-- the start of `text`, and that `rest` follows it.
 use Rattle.std.specs.Prelude.{◌≡◌, ℕ, Bool, true, Ok, List, [], ◌∷◌, ◌++◌, replicate, codes}
 use Rattle.ql_lines.specs.Fields.{Fields, FirstField, is_space}
 use Rattle.ql_value.specs.declared.value.Value.{Value}
 use Rattle.ql_value.specs.Reading.{value_at}
 use Rattle.ql_value.specs.ValueGrammar.{ReadsMore}
 
--- fields, each behind any number of spaces
+-- fields, each after any number of spaces
 abbrev pub FieldsAt : Fields → List ℕ → List ℕ → Type 0
 FieldsAt [] text rest = text ≡ rest
 FieldsAt (f ∷ fs) text rest = (behind : List ℕ) × FirstField text f behind × FieldsAt fs behind rest
@@ -14,7 +14,7 @@ FieldsAt (f ∷ fs) text rest = (behind : List ℕ) × FirstField text f behind 
 abbrev pub ValueAt : Value → List ℕ → List ℕ → Type 0
 ValueAt v text rest = value_at text ≡ Ok (v, rest)
 
--- values, and the bracket behind them: a comma and any number of spaces stand between two
+-- values, and the bracket after them: a comma and any number of spaces stand between two
 abbrev pub ItemsAt : List Value → List ℕ → List ℕ → Type 0
 ItemsAt [] text rest = ⊥
 ItemsAt (v ∷ vs) text rest = (behind : List ℕ) × ValueAt v text behind × ReadsMore ValueAt vs behind (41 ∷ rest)
@@ -29,7 +29,7 @@ abbrev pub ends_field : List ℕ → Bool
 ends_field [] = true
 ends_field (b ∷ rest) = is_space b
 
--- a part as a field: behind any number of spaces, and up to a space or the line's end
+-- a part as a field: after any number of spaces, and up to a space or the line's end
 pub record FieldAt {X : Type 0} (PartAt : X → List ℕ → List ℕ → Type 0) (x : X) (text rest : List ℕ) : Type 0 where
   pub gap : ℕ
   pub start : List ℕ

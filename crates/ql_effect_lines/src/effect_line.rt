@@ -14,7 +14,7 @@ use ql_lines::{after_name, after_number, after_word};
 use ql_value::{Value, Values};
 use std::alloc::Global;
 
-/// What the line of an effect tells, apart from its number.
+/// What the line of an effect says, apart from its number.
 #[derive(Drop)]
 pub struct EffectLine {
     pub object: Word,
@@ -25,7 +25,7 @@ pub struct EffectLine {
     pub setting: Setting,
 }
 
-/// The effect that a line tells, whose number is to be `id`.
+/// The effect that a line says, whose number is to be `id`.
 pub fn read_line(alloc: Global, text: &[u8], id: u32) -> Result<Option<EffectLine>, NoMemory>
     ensures { IfOk result (λ read. MatchOption read ((e : EffectLine) → IsEffectLine text.now id e → ⊥) (λ e. IsEffectLine text.now id e)) }
 {
@@ -51,7 +51,7 @@ pub fn read_line(alloc: Global, text: &[u8], id: u32) -> Result<Option<EffectLin
     }))
 }
 
-// The names of the object and the operation behind the word `effect` and this id.
+// The names of the object and the operation after the word `effect` and this id.
 fn names(text: &[u8], id: u32) -> Option<(&[u8], &[u8], &[u8])>
     ensures { MatchOption result ((a b : List ℕ) (rest : Fields) → IsName a → IsName b → fields_of text.now ≡ codes "effect" ∷ decimal id ∷ a ∷ b ∷ rest → ⊥)
         (λ x. IsName x.0.now × IsName x.1.now × FieldsAt (codes "effect" ∷ decimal id ∷ x.0.now ∷ x.1.now ∷ []) text.now x.2.now) }
@@ -62,7 +62,7 @@ fn names(text: &[u8], id: u32) -> Option<(&[u8], &[u8], &[u8])>
     Some((object, op, behind))
 }
 
-// What stands behind the word `effect` and this id.
+// What stands after the word `effect` and this id.
 fn after_id(text: &[u8], id: u32) -> Option<&[u8]>
     ensures { MatchOption result ((rest : Fields) → fields_of text.now ≡ codes "effect" ∷ decimal id ∷ rest → ⊥)
         (λ behind. FieldsAt (codes "effect" ∷ decimal id ∷ []) text.now behind.now) }
@@ -89,7 +89,7 @@ fn call(alloc: Global, text: &[u8]) -> Result<Option<(Values, Value, &[u8])>, No
     }
 }
 
-// The payload behind the word `emit`.
+// The payload after the word `emit`.
 fn emit(alloc: Global, text: &[u8]) -> Result<Option<(Payload, &[u8])>, NoMemory>
     ensures { IfOk result (λ read. MatchOption read ((payload : Payload) (rest : List ℕ) → EmitAt payload text.now rest → ⊥)
         (λ x. EmitAt x.0 text.now x.1.now)) }

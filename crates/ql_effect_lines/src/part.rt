@@ -9,7 +9,7 @@ use ql_base::NoMemory;
 use ql_value::{Value, ValueFault, Values, parse_value};
 use std::alloc::Global;
 
-/// Values in round brackets as a field, and what stands behind it.
+/// Values in round brackets as a field, and what stands after it.
 pub(crate) fn values_field(alloc: Global, text: &[u8]) -> Result<Option<(Values, &[u8])>, NoMemory>
     ensures { IfOk result (λ read. MatchOption read ((vs : List Value) (rest : List ℕ) → FieldAt ValuesAt vs text.now rest → ⊥)
         (λ x. FieldAt ValuesAt x.0 text.now x.1.now)) }
@@ -24,7 +24,7 @@ pub(crate) fn values_field(alloc: Global, text: &[u8]) -> Result<Option<(Values,
     }
 }
 
-/// A value as a field, and what stands behind it.
+/// A value as a field, and what stands after it.
 pub(crate) fn value_field(alloc: Global, text: &[u8]) -> Result<Option<(Value, &[u8])>, NoMemory>
     ensures { IfOk result (λ read. MatchOption read ((v : Value) (rest : List ℕ) → FieldAt ValueAt v text.now rest → ⊥)
         (λ x. FieldAt ValueAt x.0 text.now x.1.now)) }
@@ -53,7 +53,7 @@ fn values(alloc: Global, text: &[u8]) -> Result<Option<(Values, &[u8])>, NoMemor
     items(alloc, inner)
 }
 
-// One or more values, and the bracket behind them.
+// One or more values, and the bracket after them.
 fn items(alloc: Global, text: &[u8]) -> Result<Option<(Values, &[u8])>, NoMemory>
     ensures { IfOk result (λ read. MatchOption read ((vs : List Value) (rest : List ℕ) → ItemsAt vs text.now rest → ⊥)
         (λ x. ItemsAt x.0 text.now x.1.now)) }
@@ -73,7 +73,7 @@ fn items(alloc: Global, text: &[u8]) -> Result<Option<(Values, &[u8])>, NoMemory
     Ok(None)
 }
 
-// The value at the front of a text.
+// The value at the start of a text.
 fn value(alloc: Global, text: &[u8]) -> Result<Option<(Value, &[u8])>, NoMemory>
     ensures read { IfOk result (λ read. MatchOption read ((v : Value) (rest : List ℕ) → ValueAt v text.now rest → ⊥)
         (λ x. ValueAt x.0 text.now x.1.now × (length x.1.now ≤ length text.now))) }
@@ -85,7 +85,7 @@ fn value(alloc: Global, text: &[u8]) -> Result<Option<(Value, &[u8])>, NoMemory>
     }
 }
 
-/// What stands behind this byte, where a text begins with it.
+/// What stands after this byte, where a text begins with it.
 pub(crate) fn after_byte(text: &[u8], byte: u8) -> Option<&[u8]>
     ensures { MatchOption result (begins (is_byte byte) text.now ≡ false) (λ rest. text.now ≡ byte ∷ rest.now) }
 {
@@ -96,7 +96,7 @@ pub(crate) fn after_byte(text: &[u8], byte: u8) -> Option<&[u8]>
     }
 }
 
-// What stands behind the spaces at the front.
+// What stands after the spaces at the start.
 fn after_spaces(text: &[u8]) -> &[u8]
     ensures spaces { result.now ≡ after_spaces text.now }
     ensures shorter { length result.now ≤ length text.now }
@@ -105,7 +105,7 @@ fn after_spaces(text: &[u8]) -> &[u8]
     rest
 }
 
-// How many spaces stand at the front.
+// How many spaces stand at the start.
 fn spaces(text: &[u8]) -> usize
     ensures longest { result ≡ prefix_len (is_byte 32) text.now }
     ensures within { result ≤ length text.now }
@@ -113,7 +113,7 @@ fn spaces(text: &[u8]) -> usize
     text.iter().take_while(|b| **b == b' ').count()
 }
 
-// Whether a field ends at the front of a text.
+// Whether a field ends at the start of a text.
 fn ends_field(text: &[u8]) -> bool
     ensures { result ≡ ends_field text.now }
 {

@@ -23,7 +23,7 @@ pub struct Setting {
     pub seen: IdSet,
 }
 
-/// What the last fields of an effect's line tell.
+/// What the last fields of an effect's line say.
 pub(crate) fn read_setting(alloc: Global, text: &[u8]) -> Result<Option<Setting>, NoMemory>
     ensures { IfOk result (λ read. MatchOption read ((s : Setting) → IsSetting text.now s → ⊥) (λ s. IsSetting text.now s)) }
 {
@@ -47,7 +47,7 @@ pub(crate) fn read_setting(alloc: Global, text: &[u8]) -> Result<Option<Setting>
     }
 }
 
-// The session behind its word.
+// The session after its word.
 fn session(text: &[u8]) -> Option<(u32, &[u8])>
     ensures { MatchOption result ((s : ℕ) (rest : Fields) → s ≤ 255 → fields_of text.now ≡ codes "session" ∷ decimal s ∷ rest → ⊥)
         (λ x. (x.0 ≤ 255) × (fields_of text.now ≡ codes "session" ∷ decimal x.0 ∷ fields_of x.1.now)) }
@@ -57,7 +57,7 @@ fn session(text: &[u8]) -> Option<(u32, &[u8])>
     Some((session, behind))
 }
 
-// The transaction behind the word `txn`.
+// The transaction after the word `txn`.
 fn txn(text: &[u8]) -> Option<(Option<Begun>, &[u8])>
     ensures { MatchOption result ((t : Option Begun) (rest : Fields) → FitsTxn t → fields_of text.now ≡ codes "txn" ∷ txn_text t ∷ rest → ⊥)
         (λ x. FitsTxn x.0 × (fields_of text.now ≡ codes "txn" ∷ txn_text x.0 ∷ fields_of x.1.now)) }
@@ -68,7 +68,7 @@ fn txn(text: &[u8]) -> Option<(Option<Begun>, &[u8])>
     Some((txn, behind))
 }
 
-// The transaction that a field tells.
+// The transaction that a field says.
 fn txn_of(field: &[u8]) -> Option<Option<Begun>>
     ensures { MatchOption result ((t : Option Begun) → FitsTxn t → field.now ≡ txn_text t → ⊥) (λ t. FitsTxn t × (field.now ≡ txn_text t)) }
 {
@@ -79,7 +79,7 @@ fn txn_of(field: &[u8]) -> Option<Option<Begun>>
     Some(Some(begun))
 }
 
-// The begun transaction that a field tells.
+// The begun transaction that a field says.
 fn begun_of(field: &[u8]) -> Option<Begun>
     ensures { MatchOption result ((t : Begun) → FitsTxn (Some t) → field.now ≡ txn_text (Some t) → ⊥) (λ t. FitsTxn (Some t) × (field.now ≡ txn_text (Some t))) }
 {

@@ -28,7 +28,7 @@ use ql_exec::{Draft, Effect, ExecFault, Execution, Member};
 use ql_line_files::LineFault;
 use ql_typing::Typed;
 
-/// The effects that lines tell, and the names of their objects, numbered by first occurrence.
+/// The effects that lines say, and the names of their objects, numbered by first occurrence.
 #[derive(Drop)]
 pub struct Told {
     pub objects: Names,
@@ -112,7 +112,7 @@ fn known(t: &Typed, line: &EffectLine) -> Option<(OpId, Member)>
     Some((op, member))
 }
 
-// The number of a name behind others.
+// The number of a name after others.
 fn number(names: &mut Names, word: &Word) -> Result<u32, NoMemory>
     requires { length names.old + 1 < 2 ^ 32 }
     ensures names { IfOk result (λ _. names.new ≡ with_name names.old word.now) }

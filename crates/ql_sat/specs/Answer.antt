@@ -16,23 +16,23 @@ abbrev pub IsRight : ClauseList → Decided → Type 0
 IsRight c (Model a) = Satisfies a c
 IsRight c (Refuted r) = verdict c r.lines ≡ Accepted
 
--- the number of a hint counts from 1, and fits its type
+-- the number of a hint counts from 1 and fits its type
 abbrev pub IsNumbered : Hint → Type 0
 IsNumbered (Given n) = (1 ≤ n) × (n < 2 ^ 32)
 IsNumbered (Earlier n) = (1 ≤ n) × (n < 2 ^ 64)
 
--- so do the variables of a line, which ascend, and its hints
+-- the same of the variables of a line, which ascend, and of its hints
 pub record IsNumberedLine (line : Line) : Type 0 where
   pub variables : AllByRecursion (λ x. (1 ≤ x.var) × (x.var < 2 ^ 32)) line.clause
   pub ascending : IsAscending line.clause
   pub hints : AllByRecursion IsNumbered line.hints
 
--- so do those of each line, and the lines themselves
+-- the same of each line, and there are fewer than 2^64
 pub record AreNumbered (lines : List Line) : Type 0 where
   pub each : AllByRecursion IsNumberedLine lines
   pub few : length lines < 2 ^ 64
 
--- those of a refutation do
+-- the same of a refutation
 abbrev pub HasNumbers : Decided → Type 0
 HasNumbers (Model a) = Unit {0}
 HasNumbers (Refuted r) = AreNumbered r.lines
