@@ -25,7 +25,7 @@ Asked = asked.Asked
 
 -- ---- one line
 
--- A line is one thing, and gives what that makes; or it is no such thing.
+-- A line is one thing, and gives what that makes; or it is no such thing, and is Unexpected.
 abbrev pub GivesAs : {L : Type 0} → (L → Type 0) → (L → Result Reading HoldsRule) → Result Reading HoldsRule → Type 0
 GivesAs {L = L} Is makes x = ((line : L) × Is line × (x ≡ makes line)) ⊎ (((line : L) → Is line → ⊥) × (x ≡ Err Unexpected))
 
@@ -37,6 +37,7 @@ formula_of c = record { formula = resolved_in (ops_met [] c.vars) c; names = map
 abbrev pub no_effects : Sentence → NamedEffects
 no_effects c = record { objects = []; ops = ops_met [] c.vars; effects = [] }
 
+-- what a contract makes, or the lowest rule that it breaks
 abbrev pub after_contract : Sentence → Result Reading HoldsRule
 after_contract c = unless_broken (lowest_rule (faults_of c)) (WithContract (formula_of c) (no_effects c))
 
@@ -49,6 +50,7 @@ abbrev pub IsMore : ℕ → Fields → Option EffectLine → Type 0
 IsMore id fields None = fields ≡ end_fields
 IsMore id fields (Some e) = IsEffectLine fields id e
 
+-- what such a line makes, or the lowest rule that its effect breaks
 abbrev pub after_more : NamedFormula → Current → NamedEffects → Option EffectLine → Result Reading HoldsRule
 after_more formula current effects None = Ok (Ended formula current effects)
 after_more formula current effects (Some e) = unless_broken (effect_rule effects e) (WithEffects formula current (with_effect effects e))
@@ -66,7 +68,8 @@ Gives (Ended formula current effects) l x = x ≡ Err Unexpected
 abbrev pub is_there : ℕ → NamedEffects → Bool
 is_there id effects = nat_le 1 id && nat_le id (length effects.effects)
 
--- a file may end after the word `end`, where the current effect is there; before that word the line after its last one is at fault
+-- What a file asks that ends here. It may end after the word `end`, where the current effect is there, or else the line that says
+-- it is at fault; before that word the line after the last one is.
 abbrev pub closed : Reading → ℕ → Result Asked (Broken HoldsRule)
 closed (Ended formula current effects) end =
     if is_there current.id effects then Ok (record { contract = formula; cur = record { 0 = current.id }; execution = effects.effects })

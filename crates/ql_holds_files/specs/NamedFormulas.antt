@@ -1,4 +1,4 @@
--- A formula, and the names of its variables.
+-- What a contract is read to.
 use Rattle.std.specs.Prelude.{◌≡◌, ℕ, List, refl}
 use Rattle.std.specs.Coded.{Coded, code_by, coded×, coded_list, coded_ℕ}
 use Rattle.std.proofs.Common.{Box, Global}
@@ -11,6 +11,7 @@ use Rattle.ql_lang.specs.declared.formula.Formula.{Formula}
 use Rattle.ql_lang.specs.declared.formula.Body.{Body, True, Apply, And', Or', Implies', Txn}
 use Rattle.ql_lang.specs.contracts.formula.Formula as formula
 
+-- a formula, and the names of its variables in order
 pub record NamedFormula : Type 0 where
   pub formula : Resolved
   pub names : List (List ℕ)

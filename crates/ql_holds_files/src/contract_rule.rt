@@ -70,7 +70,7 @@ fn meet(alloc: Global, list: &[Name]) -> Result<Met, NoMemory>
 fn put_in(names: &mut Names, word: &Word) -> Result<(), NoMemory>
     ensures { IfOk result (λ _. names.new ≡ with_name names.old word.now) }
 {
-    if names.len() >= u32::MAX - 1 {
+    if names.len() >= u32::MAX {
         return Err(NoMemory);
     }
     names.number(word.bytes())?;

@@ -54,7 +54,7 @@ fn number(names: &mut Names, word: &Word) -> Result<u32, NoMemory>
     ensures names { IfOk result (λ _. names.new ≡ with_name names.old word.now) }
     ensures numbered { IfOk result (λ k. k ≡ number_of names.old word.now) }
 {
-    if names.len() >= u32::MAX - 1 {
+    if names.len() >= u32::MAX {
         return Err(NoMemory);
     }
     names.number(word.bytes())
