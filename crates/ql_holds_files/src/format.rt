@@ -30,7 +30,7 @@ impl LineFormat for Format {
 
     ghost start = { λ f. Unbegun };
 
-    ghost sound = { λ f read. IsWithin read };
+    ghost sound = { λ f read more. IsWithin read };
 
     ghost gives = { λ f read l x. Gives read l x };
 
@@ -53,15 +53,13 @@ impl LineFormat for Format {
         finish(state, end)
     }
 
-    ghost starts_sound = { λ f. tt };
-
-    ghost stays_sound = { λ f s t l within given. stays_within s t l within given };
+    ghost stays_sound = { λ f s t l more within given. stays_within s t l within given };
 
     ghost gives_one = { λ f s l x y p q. ∥∥₁_elim f.one_contract (one_equation x y) (λ one. gives_one one s l x y p q) };
 
-    ghost gives_some = { λ f s l within none. gives_some s l none };
+    ghost gives_some = { λ f s l none. gives_some s l none };
 
     ghost closes_one = { λ f s end x y p q. closes_one s end x y p q };
 
-    ghost closes_some = { λ f s end within none. closes_some s end none };
+    ghost closes_some = { λ f s end none. closes_some s end none };
 }
