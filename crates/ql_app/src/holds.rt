@@ -6,8 +6,8 @@ ghost use Rattle.ql_app.specs.HoldsFile.{HoldsSays, HoldsTells, places_text};
 use crate::text::at_line;
 use ql_base::{EffId, MAX_WORK, NoMemory, Word, push_bytes, push_number};
 use ql_formula::{Relations, holds_at};
-use ql_reply::{Status, bad_line};
 use ql_holds_files::{Holding, HoldsFault, parse_holds};
+use ql_reply::{Status, bad_line};
 use std::alloc::Global;
 
 /// Whether the contract in a holds file is true of its effect.
