@@ -6,3 +6,4 @@ pub mod Statuses
 mod RunWritten
 mod LeastWritten
 mod WordLaws
+mod Answered

@@ -20,11 +20,12 @@ use Rattle.ql_reply.proofs.Replies.{answer_unread}
 
 -- what is said of the bytes that were read is said of those that the shelf holds, where it reports them
 pub of_held : (limit : ℕ) (held : Option (List ℕ)) (P : List ℕ → Type 0) (whole : List ℕ) → held ≡ Some whole → IsRead limit held P → (length whole ≤ limit) × P whole
-of_held limit held P whole held_so is_read = subst (λ (h : Option (List ℕ)). IfSome h (λ bytes. (length bytes ≤ limit) × P bytes)) held_so is_read
+of_held limit held P whole held_so is_read =
+    let same : is_read.bytes ≡ whole = subst (λ (h : Option (List ℕ)). IfSome h (λ w. is_read.bytes ≡ w)) held_so is_read.are_held in
+    subst (λ (bytes : List ℕ). (length bytes ≤ limit) × P bytes) same (is_read.short, is_read.is_so)
 
 read : (limit : ℕ) (bytes : List ℕ) (held : Option (List ℕ)) (P : List ℕ → Type 0) → IfSome held (λ whole. bytes ≡ whole) → length bytes ≤ limit → P bytes → IsRead limit held P
-read limit bytes None P same short p = tt
-read limit bytes (Some whole) P same short p = subst (λ (w : List ℕ). (length w ≤ limit) × P w) same (short, p)
+read limit bytes held P same short p = record { bytes = bytes; are_held = same; short = short; is_so = p }
 
 module _ (limits : Limits) (held : List ℕ → Option (List ℕ)) (before after : List ℕ → ℕ) where
   one : (command : Command) (name bytes : List ℕ) (status : Status) (text : List ℕ)

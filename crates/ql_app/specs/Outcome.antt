@@ -75,9 +75,13 @@ second_limit limits (Run form) = limits.file
 second_limit limits Slim = limits.file
 second_limit limits (Restart replica cut) = limits.file
 
--- a file was read whole: what the shelf reports of it is within a limit, and this is so of it
-abbrev pub IsRead : ℕ → Option (List ℕ) → (List ℕ → Type 0) → Type 0
-IsRead limit held P = IfSome held (λ bytes. (length bytes ≤ limit) × P bytes)
+-- a file was read whole: some bytes within a limit, which are those that the shelf holds where it reports them, and this is
+-- so of them
+pub record IsRead (limit : ℕ) (held : Option (List ℕ)) (P : List ℕ → Type 0) : Type 0 where
+  pub bytes : List ℕ
+  pub are_held : IfSome held (λ whole. bytes ≡ whole)
+  pub short : length bytes ≤ limit
+  pub is_so : P bytes
 
 -- the files were read whole, in the order of the words, and judged
 abbrev pub Judges : Limits → (List ℕ → Option (List ℕ)) → Call → Status → List ℕ → Type 0

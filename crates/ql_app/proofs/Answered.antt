@@ -1,0 +1,67 @@
+-- a call whose files are held and in their grammars is answered with yes or no
+use Rattle.std.proofs.Common.{◌≡◌, ◌⊎◌, inl, inr, ℕ, ◌≤◌, List, length, Option, Some, None, Ok, rules, subst, codes}
+use Rattle.std.specs.Prelude.{IfSome}
+use Rattle.ql_reply.specs.declared.status.Status.{Status}
+use Rattle.ql_reply.specs.declared.status.Status.TheVariants.{Done, No, Bad, ReadFault, WriteFault, Usage, TooLarge}
+use Rattle.ql_app.specs.declared.outcome.Limits.{Limits}
+use Rattle.ql_app.specs.Words.{Call, OneFile, TwoFiles, IsRequest}
+use Rattle.ql_app.specs.Outcome.{AreHeld, CommandSays, ForRequest, IsAnswered, IsRead, Judges, MeetsFault, MeetsLimit, NoneRose, PairSays, Says, Tells, second_limit}
+
+-- what is read is so of what is held, where that is reported
+abbrev IsOfHeld : ℕ → Option (List ℕ) → (List ℕ → Type 0) → Type 0
+IsOfHeld limit held P = IfSome held (λ bytes. (length bytes ≤ limit) × P bytes)
+
+of_read : (limit : ℕ) (held : Option (List ℕ)) (P : List ℕ → Type 0) → IsRead limit held P → IsOfHeld limit held P
+of_read limit None P r = tt
+of_read limit (Some whole) P r = subst (λ (w : List ℕ). (length w ≤ limit) × P w) r.are_held (r.short, r.is_so)
+
+both : (limit second : ℕ) (held other : Option (List ℕ)) (P : List ℕ → List ℕ → Type 0) → IsRead limit held (λ bytes. IsRead second other (λ more. P bytes more))
+    → IsOfHeld limit held (λ bytes. IsOfHeld second other (λ more. P bytes more))
+both limit second None other P r = tt
+both limit second (Some whole) other P r =
+    subst (λ (w : List ℕ). (length w ≤ limit) × IsOfHeld second other (λ more. P w more)) r.are_held (r.short, of_read second other (λ more. P r.bytes more) r.is_so)
+
+-- what is said of a call, of what is held alone
+abbrev JudgesHeld : Limits → (List ℕ → Option (List ℕ)) → Call → Status → List ℕ → Type 0
+JudgesHeld limits held (OneFile command name) status text = IsOfHeld limits.file (held name) (λ bytes. CommandSays command bytes status text)
+JudgesHeld limits held (TwoFiles command name other) status text =
+    IsOfHeld limits.file (held name) (λ bytes. IsOfHeld (second_limit limits command) (held other) (λ more. PairSays command bytes more status text))
+
+abbrev TellsHeld : Limits → (List ℕ → Option (List ℕ)) → (List ℕ → ℕ) → (List ℕ → ℕ) → Call → Status → List ℕ → Type 0
+TellsHeld limits held before after call Done text = JudgesHeld limits held call Done text
+TellsHeld limits held before after call No text = JudgesHeld limits held call No text
+TellsHeld limits held before after call Bad text = JudgesHeld limits held call Bad text
+TellsHeld limits held before after call ReadFault text = MeetsFault limits held before after call text
+TellsHeld limits held before after call WriteFault text = ⊥
+TellsHeld limits held before after call Usage text = ⊥
+TellsHeld limits held before after call TooLarge text = JudgesHeld limits held call TooLarge text ⊎ MeetsLimit limits held call text
+
+abbrev pub SaysHeld : Limits → List (List ℕ) → (List ℕ → Option (List ℕ)) → (List ℕ → ℕ) → (List ℕ → ℕ) → Status → List ℕ → Type 0
+SaysHeld limits words held before after status text =
+    ForRequest words (λ call. TellsHeld limits held before after call status text)
+    ⊎ ((status ≡ Usage) × (ForRequest words (λ _. Unit {0}) → ⊥) × (text ≡ codes "usage\n"))
+
+judges_held : (limits : Limits) (held : List ℕ → Option (List ℕ)) (call : Call) (status : Status) (text : List ℕ) → Judges limits held call status text → JudgesHeld limits held call status text
+judges_held limits held (OneFile command name) status text r = of_read limits.file (held name) (λ bytes. CommandSays command bytes status text) r
+judges_held limits held (TwoFiles command name other) status text r =
+    both limits.file (second_limit limits command) (held name) (held other) (λ bytes more. PairSays command bytes more status text) r
+
+tells_held : (limits : Limits) (held : List ℕ → Option (List ℕ)) (before after : List ℕ → ℕ) (call : Call) (status : Status) (text : List ℕ)
+    → Tells limits held before after call status text → TellsHeld limits held before after call status text
+tells_held limits held before after call Done text t = judges_held limits held call Done text t
+tells_held limits held before after call No text t = judges_held limits held call No text t
+tells_held limits held before after call Bad text t = judges_held limits held call Bad text t
+tells_held limits held before after call ReadFault text t = t
+tells_held limits held before after call WriteFault text t = t
+tells_held limits held before after call Usage text t = t
+tells_held limits held before after call TooLarge text (inl t) = inl (judges_held limits held call TooLarge text t)
+tells_held limits held before after call TooLarge text (inr t) = inr t
+
+pub says_held : (limits : Limits) (words : List (List ℕ)) (held : List ℕ → Option (List ℕ)) (before after : List ℕ → ℕ) (status : Status) (text : List ℕ)
+    → Says limits words held before after status text → SaysHeld limits words held before after status text
+says_held limits words held before after status text (inl (call, request, t)) = inl (call, request, tells_held limits held before after call status text t)
+says_held limits words held before after status text (inr u) = inr u
+
+pub complete : (limits : Limits) (words : List (List ℕ)) (held : List ℕ → Option (List ℕ)) (before after : List ℕ → ℕ) (status : Status) (text : List ℕ) (call : Call)
+    → IsRequest words call → AreHeld limits held call → NoneRose before after call → SaysHeld limits words held before after status text → IsAnswered (Ok status)
+complete limits words held before after status text call request are_held none says = search rules
