@@ -1,5 +1,8 @@
 -- what is printed of a list is printed item by item
-use Rattle.std.proofs.Common.{◌≡◌, ℕ, ◌<◌, ◌+◌, List, [], ◌∷◌, ◌++◌, map, take, length, decimal, get_or, arith, refl, ap, sym, ◌∙◌, append_assoc, add-one}
+use Rattle.std.proofs.Common.{◌≡◌, ℕ, ◌<◌, ◌+◌, List, [], ◌∷◌, ◌++◌, map, take, length, decimal, get_or, arith, refl, ap, sym, ◌∙◌, append_assoc, add-one, Result, Ok, Err}
+use Rattle.std.specs.Prelude.{IfOk}
+use Rattle.std.specs.Global.{Vec}
+use Rattle.ql_base.specs.declared.no_memory.NoMemory.{NoMemory}
 use Rattle.std.proofs.lemmas.List.{append-nil, get_or_default, length-take-le, map-append}
 use Rattle.std.proofs.Math.Seq.{take-suc}
 use Rattle.ql_lines.specs.Texts.{behind, file_text, joined}
@@ -91,3 +94,9 @@ nothing_behind out = sym (append-nil out)
 pub no_numbered : (out : List ℕ) → out ≡ out ++ file_text (numbered 1 [])
 unfolding file_text numbered
 no_numbered out = sym (append-nil out)
+
+-- what is so of a text after the title and any sections is so of it after these
+pub of_made : (P : List Section → List ℕ → Type 0) (ss : List Section) (text : List ℕ) (made : Result (Vec ℕ) NoMemory) → text ≡ file_text (title ∷ sections_lines ss)
+    → IfOk made (λ more. (ts : List Section) → text ≡ file_text (title ∷ sections_lines ts) → P ts more.items) → IfOk made (λ more. P ss more.items)
+of_made P ss text (Ok more) is all = all ss is
+of_made P ss text (Err e) is all = tt

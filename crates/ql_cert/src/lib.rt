@@ -16,6 +16,6 @@ mod unique;
 pub use cert::{Cert, Section, SectionLevel, Sections};
 pub use fault::CertFault;
 pub use parse::parse_cert;
-pub use print::{print_cert, push_end, push_section, push_title};
+pub use print::{print_cert, title_text, with_end, with_section};
 pub use proof::parse_proof;
 pub use unique::{one_certificate, one_proof};

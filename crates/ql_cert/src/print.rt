@@ -20,26 +20,37 @@ pub fn print_cert(alloc: Global, c: &Cert) -> Result<Vec<u8>, NoMemory>
     ensures text { IfOk result (λ text. text.items ≡ file_text (cert_lines c.now.sections)) }
     ensures again { IfOk result (λ text. AllByRecursion IsSection c.now.sections → IsCertOf c.now.sections (fields_in (ahead_from 1 text.items).lines)) }
 {
-    let mut text = Vec::new(alloc);
-    push_title(&mut text)?;
+    let mut text = title_text(alloc)?;
     for section in c.sections.items() {
-        push_section(&mut text, section.name, section.level, &section.refutation)?;
+        text = with_section(text, section.name, section.level, &section.refutation)?;
     }
-    push_end(&mut text)?;
-    Ok(text)
+    with_end(text)
 }
 
-/// Appends the line that begins a certificate.
+/// The line that begins a certificate.
 #[tactic(auto, unfolding(ql_lines::specs::Texts::file_text))]
-pub fn push_title(out: &mut Vec<u8>) -> Result<(), NoMemory>
-    ensures { OnOk result (out.new.items ≡ out.old.items ++ file_text (title ∷ [])) }
+pub fn title_text(alloc: Global) -> Result<Vec<u8>, NoMemory>
+    ensures { IfOk result (λ text. text.items ≡ file_text (title ∷ [])) }
 {
-    push_bytes(out, b"quelea certificate 1\n")
+    Ok(Vec::from_slice(alloc, b"quelea certificate 1\n")?)
 }
 
-/// Appends the lines of a section.
+/// A text with the lines of a section after it.
+pub fn with_section(
+    text: Vec<u8>,
+    name: Word,
+    level: SectionLevel,
+    refutation: &Refutation,
+) -> Result<Vec<u8>, NoMemory>
+    ensures { IfOk result (λ more. more.items ≡ text.items ++ file_text (section_lines (record { name = name; level = level; refutation = refutation.now }))) }
+{
+    let mut more = text;
+    push_section(&mut more, name, level, refutation)?;
+    Ok(more)
+}
+
 #[tactic(auto, using(crate::proofs::Printing::section_pieces))]
-pub fn push_section(
+fn push_section(
     out: &mut Vec<u8>,
     name: Word,
     level: SectionLevel,
@@ -57,18 +68,19 @@ pub fn push_section(
     push_lines(out, refutation.lines.items())
 }
 
-/// Appends the line that ends a certificate.
-pub fn push_end(out: &mut Vec<u8>) -> Result<(), NoMemory>
-    ensures text { OnOk result (out.new.items ≡ out.old.items ++ file_text (end_line ∷ [])) }
+/// A text with the line after it that ends a certificate.
+pub fn with_end(text: Vec<u8>) -> Result<Vec<u8>, NoMemory>
+    ensures text { IfOk result (λ more. more.items ≡ text.items ++ file_text (end_line ∷ [])) }
 
     // After the title and sections the whole is their certificate.
-    ensures cert { OnOk result ((ss : List Section) → out.old.items ≡ file_text (title ∷ sections_lines ss) → out.new.items ≡ file_text (cert_lines ss)) }
+    ensures cert { IfOk result (λ more. (ss : List Section) → text.items ≡ file_text (title ∷ sections_lines ss) → more.items ≡ file_text (cert_lines ss)) }
 
     // Where the sections have a spelling, it is read as them again.
-    ensures again { OnOk result ((ss : List Section) → out.old.items ≡ file_text (title ∷ sections_lines ss) → AllByRecursion IsSection ss → IsCertOf ss (fields_in (ahead_from 1 out.new.items).lines)) }
+    ensures again { IfOk result (λ more. (ss : List Section) → text.items ≡ file_text (title ∷ sections_lines ss) → AllByRecursion IsSection ss → IsCertOf ss (fields_in (ahead_from 1 more.items).lines)) }
 {
-    push_bytes(out, b"end\n")?;
-    Ok(())
+    let mut more = text;
+    push_bytes(&mut more, b"end\n")?;
+    Ok(more)
 }
 
 // The words of a target's kind and of its level.

@@ -12,7 +12,7 @@ use crate::refusals::refusal;
 use crate::source::read_source;
 use crate::source_fault::bad_source;
 use ql_base::{DeclId, NoMemory, OpId, Word};
-use ql_cert::{SectionLevel, push_end, push_section, push_title};
+use ql_cert::{SectionLevel, title_text, with_end, with_section};
 use ql_classify::Classified;
 use ql_levels::Levels;
 use ql_typing::Typed;
@@ -41,13 +41,12 @@ fn certificate(alloc: Global, classified: &Classified) -> Result<Vec<u8>, NoMemo
 {
     let typed = classified.typed();
     let levels = classified.levels();
-    let mut text = Vec::new(alloc);
-    push_title(&mut text)?;
+    let mut text = title_text(alloc)?;
     for target in 0..typed.ops() + typed.txns() {
         let (name, level) = heading(typed, levels, target);
-        push_section(&mut text, name, level, classified.refutation(target))?;
+        text = with_section(text, name, level, classified.refutation(target))?;
     }
-    push_end(&mut text)?;
+    text = with_end(text)?;
     Ok(text)
 }
 

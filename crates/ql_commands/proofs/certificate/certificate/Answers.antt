@@ -16,7 +16,7 @@ loop-target-init c = record {
   sections = [];
   of_targets = tt;
   spelled = tt;
-  printed = rw c.new-text.ensures.items at c.in_ok-push_title.ensures;
+  printed = c.in_ok-text.ensures;
 }
 
 pub loop-target-preserved : goal.loop-target-preserved
@@ -35,7 +35,7 @@ loop-target-preserved c =
       sections = before.sections ++ s ∷ [];
       of_targets = one_more_zipped (IsSectionOf p) goals c.loop-target.target g before.sections _ s at refl before.of_targets of_target;
       spelled = all_more IsSection before.sections s before.spelled (section_spelled s c.heading-name.ensures.is_name c.refutation.ensures.numbered);
-      printed = titled_more before.sections s c.loop-target.text.items _ before.printed c.in_ok-push_section.ensures;
+      printed = titled_more before.sections s c.loop-target.text.items _ before.printed c.in_ok-text-2.ensures;
     }
 
 pub returns-clause-text : goal.returns-clause-text
@@ -52,6 +52,6 @@ returns-clause-text c =
     record {
       sections = all.sections;
       of_targets = all_zipped (IsSectionOf p) (goals_at levels) c.loop-target.target all.sections (omega (arith, count, ops, txns, of_ops, of_txns, past)) all.of_targets;
-      printed = c.in_ok-push_end.ensures.cert all.sections all.printed;
-      spells = c.in_ok-push_end.ensures.again all.sections all.printed all.spelled;
+      printed = c.in_ok-text-3.ensures.cert all.sections all.printed;
+      spells = c.in_ok-text-3.ensures.again all.sections all.printed all.spelled;
     }
