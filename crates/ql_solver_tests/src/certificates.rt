@@ -1,6 +1,6 @@
 use crate::texts::spelled;
 use ql_base::{MAX_PROOF_BYTES, NoMemory, push_bytes, push_number};
-use ql_cert::{CertFault, parse_cert, parse_proof, push_end, push_section, push_title};
+use ql_cert::{CertFault, parse_cert, parse_proof, print_cert};
 use ql_tables::check_table;
 use std::alloc::Global;
 use std::test::Fail;
@@ -94,17 +94,10 @@ fn a_certificate_is_printed_as_it_was_written(rt: HostRuntime) -> Result<(), Fai
 }
 
 fn printed(alloc: Global, file: &str) -> Result<Vec<u8>, NoMemory> {
-    let cert = match parse_cert(alloc, file.as_bytes()) {
-        Ok(cert) => cert,
-        Err(why) => return fault(alloc, why),
-    };
-    let mut text = Vec::new(alloc);
-    push_title(&mut text)?;
-    for section in cert.sections.items() {
-        push_section(&mut text, section.name, section.level, &section.refutation)?;
+    match parse_cert(alloc, file.as_bytes()) {
+        Ok(cert) => print_cert(alloc, &cert),
+        Err(why) => fault(alloc, why),
     }
-    push_end(&mut text)?;
-    Ok(text)
 }
 
 // Proofs with what they have, or their first fault and its line, from an independent implementation.
