@@ -46,7 +46,7 @@ pub record IsClean (disk : DiskBytes) : Type 0 where
   pub base : disk.base ≡ disk.content
   pub clean : (k : ℕ) → disk.dirty k ≡ false
 
--- What a stop may leave while a range of these bytes is overwritten: any bytes in that range and past the end, and the same
--- elsewhere.
+-- What a stop may leave while a range of these bytes is overwritten: any bytes in that range and past the end, and the
+-- same elsewhere.
 abbrev pub MayLeave : List ℕ → ℕ → ℕ → List ℕ → Type 0
 MayLeave content at size image = IsImage (record { content = content; base = content; dirty = in_range at size }) image

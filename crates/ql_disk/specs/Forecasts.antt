@@ -1,8 +1,8 @@
 -- What is known about the future calls of a disk.
 use Rattle.std.specs.Prelude.{◌≡◌, ◌≤◌, ℕ, ◌-◌, Bool, true, ◌&&◌, nat_le, nat_lt, Option, Some}
 
--- The next `calls` writes and syncs succeed, except a write that ends past the room, and those after them fail. A size and
--- a read succeed.
+-- The next `calls` writes and syncs succeed, except a write that ends past the room, and those after them fail. A size
+-- and a read succeed.
 pub record Forecast : Type 0 where
   pub calls : ℕ
   pub room : ℕ

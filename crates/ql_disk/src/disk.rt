@@ -52,8 +52,8 @@ pub trait Disk {
         ensures foretold { OnSome (forecast self.old) (IsOk result) }
         ensures forecast { forecast self.new ≡ forecast self.old };
 
-    /// Overwrites the bytes from the offset `at` on, and extends the file if the range ends past it. Until a sync, a stop
-    /// may leave any bytes in the range. After `Failed` the content may be any image.
+    /// Overwrites the bytes from the offset `at` on, and extends the file if the range ends past it. Until a sync, a
+    /// stop may leave any bytes in the range. After `Failed` the content may be any image.
     fn write_at(&mut self, at: u64, bytes: &[u8]) -> Result<(), Failed>
         requires begins { tells → at ≤ length (held self.old).content }
         requires ends { at + length bytes.now < 2 ^ 40 }
@@ -65,8 +65,8 @@ pub trait Disk {
         ensures foretold { IfSome (forecast self.old) (λ f. is_ok result ≡ is_done f (at + length bytes.now)) }
         ensures forecast { IfSome (forecast self.old) (λ f. forecast self.new ≡ Some (next f)) };
 
-    /// Makes the content durable: after `Ok`, a stop leaves what a read returns, with anything past its end. After `Failed`
-    /// the last good sync is still the one before.
+    /// Makes the content durable: after `Ok`, a stop leaves what a read returns, with anything past its end. After
+    /// `Failed` the last good sync is still the one before.
     fn sync(&mut self) -> Result<(), Failed>
         ensures synced { tells → OnOk result (IsSynced (held self.old) (held self.new)) }
         ensures same { OnErr result (held self.new ≡ held self.old) }

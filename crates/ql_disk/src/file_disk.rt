@@ -12,9 +12,9 @@ use std::os::unix::fs::FileExt;
 
 /// A file of the system as a disk. It keeps a count of faults and reports no bytes.
 ///
-/// A journal's theorem about these bytes relies on the system: that data is on the device after a successful sync, that a
-/// write changes no byte outside its range, and that nobody else writes the file. After a failed sync the system may have
-/// dropped what was written, so the file has to be opened again.
+/// A journal's theorem about these bytes relies on the system: that data is on the device after a successful sync, that
+/// a write changes no byte outside its range, and that nobody else writes the file. After a failed sync the system may
+/// have dropped what was written, so the file has to be opened again.
 #[derive(Drop)]
 pub struct FileDisk {
     file: File,

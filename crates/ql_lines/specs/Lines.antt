@@ -1,5 +1,5 @@
--- The lines of a line file. A line ends with a line feed or with a carriage return and a line feed, and the end of the last
--- line may be missing. Blank lines, and comments, whose first byte after spaces is `#`, are skipped, but counted.
+-- The lines of a line file. A line ends with a line feed or with a carriage return and a line feed, and the end of the
+-- last line may be missing. Blank lines, and comments, whose first byte after spaces is `#`, are skipped, but counted.
 use Rattle.std.specs.Prelude.{ℕ, Bool, true, false, ◌+◌, ◌==◌, List, [], ◌∷◌, length, if◌then◌else◌}
 use Rattle.std.specs.Str.Lines.{lines}
 use Rattle.ql_lines.specs.Fields.{fields_of}
