@@ -1,4 +1,4 @@
-// Clause lists in conjunctive normal form, and when an assignment satisfies one. The main contract:
+// Clause lists in conjunctive normal form, and when an assignment satisfies one. The one contract:
 // `add` appends exactly the ascending clause of its literals, and appends nothing where they hold both
 // signs of a variable.
 #![tactic(auto)]

@@ -1,4 +1,4 @@
-// Refutations of clause lists, and a checker for them. The main contract: if `check` accepts a
+// Refutations of clause lists, and a checker for them. The one contract: if `check` accepts a
 // refutation, no assignment satisfies the clauses, whoever made the refutation.
 #![tactic(auto)]
 

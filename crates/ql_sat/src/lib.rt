@@ -1,4 +1,4 @@
-// A solver for clause lists. The main contract: the result is an assignment that satisfies the clauses,
+// A solver for clause lists. The one contract: the result is an assignment that satisfies the clauses,
 // or a refutation that the checker accepts.
 // The contract of `decide` doesn't state how it searches: with two watched literals a clause, so that a
 // propagation visits the clauses that watch one literal and no others; from each conflict it learns the
