@@ -41,7 +41,7 @@ impl Clause {
         &self.items
     }
 
-    /// The clause with one more literal in its place; none where it has the other sign of its variable.
+    /// The clause with one more literal, in order; none if the clause has the literal's negation.
     #[tactic(auto, using(crate::proofs::Meaning::stays_ascending))]
     pub fn with(&self, alloc: Global, lit: Lit) -> Result<Option<Clause>, NoMemory>
         ensures { IfOk result (λ clause. clause ≡ with_literal lit self.now) }
@@ -63,7 +63,7 @@ impl Clause {
     }
 }
 
-// Puts the literal into its place, unless it is there; false where its negation is. A literal that
+// Inserts the literal in order, unless it is already there; false if its negation is there. A literal that
 // belongs at the end costs one comparison.
 pub(crate) fn insert(items: &mut Vec<Lit>, lit: Lit) -> Result<bool, NoMemory>
     requires { IsAscending items.old.items }
@@ -77,7 +77,7 @@ pub(crate) fn insert(items: &mut Vec<Lit>, lit: Lit) -> Result<bool, NoMemory>
     Ok(true)
 }
 
-// How many literals at the front have a smaller variable.
+// How many literals have a smaller variable: the index at which a literal of this variable belongs.
 fn place_of(items: &[Lit], var: u32) -> usize
     requires { IsAscending items.now }
     ensures { result ≡ count_below var items.now }

@@ -23,11 +23,11 @@ pub(crate) enum Axiom {
     Within(PairKind, PairKind),
     /// Equal effects are alike on the left of the relation.
     AlikeLeft(PairKind),
-    /// And on its right.
+    /// Equal effects are alike on the right of the relation.
     AlikeRight(PairKind),
-    /// Two effects after one in session order are in order themselves.
+    /// Two effects after the same one in session order are in order themselves.
     FromOne,
-    /// And so are two before one.
+    /// Two effects before the same one in session order are in order themselves.
     ToOne,
     /// Session order on one object is within happens-before on one object.
     OfSession,
@@ -41,11 +41,11 @@ pub(crate) enum TransactionAxiom {
     AlikeCurrent,
     /// A transaction is within one session.
     OneSession,
-    /// With nothing of another between its effects.
+    /// No effect of the session that isn't in the transaction is between two that are.
     Contiguous,
     /// The current effects are in one transaction.
     InOne,
-    /// And are all of it.
+    /// Any effect in a transaction with a current one is current.
     Whole,
 }
 

@@ -17,13 +17,13 @@ use ql_lang::{Body, Formula};
 use ql_levels::{Level, TxnLevel};
 use std::alloc::Global;
 
-/// How many nodes a body may have; the variables of more would have no numbers. No contract that is parsed
-/// has so many, and a larger one is answered as want of memory.
+/// The most nodes that a body may have; beyond that there would be no numbers for the variables. No contract
+/// that is parsed has so many, and a larger one is reported as out of memory.
 const MOST_GATES: u32 = 1 << 30;
 
-/// The ground problem of an operation at a level: whether what the level promises can hold at a call of the
-/// operation where its contract is false. Here `types` lists the type number of each operation of the
-/// program, and `f` is the contract of the operation `o`.
+/// The ground problem of an operation at a level: can what the level guarantees hold at a call of the operation
+/// where its contract is false? Here `types` lists the type number of each operation of the program, and `f` is
+/// the contract of the operation `o`.
 pub(crate) fn op_problem(
     alloc: Global,
     types: &[u32],
@@ -53,7 +53,7 @@ pub(crate) fn op_problem(
     Ok(c)
 }
 
-/// The ground problem of a declared transaction at a level, as `op_problem` is that of an operation.
+/// The ground problem of a declared transaction at a level, like `op_problem` for an operation.
 pub(crate) fn txn_problem(
     alloc: Global,
     types: &[u32],
@@ -103,7 +103,7 @@ fn deny(alloc: Global, body: &Body, s: Shape, c: &mut Clauses) -> Result<(), NoM
     }
 }
 
-// How many nodes but leaves there are; none where a number has no room for them.
+// How many nodes aren't leaves; none if there are too many for a 32-bit number.
 fn count_gates(g: &Ground) -> Option<u32>
     ensures { IfSome result (λ n. n ≡ gates (circuit_of g.now)) }
 {

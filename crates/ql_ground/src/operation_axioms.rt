@@ -51,7 +51,7 @@ pub(crate) fn add_some_operation(alloc: Global, s: Shape, c: &mut Clauses) -> Re
     Ok(())
 }
 
-// Appends for each operation that the effect is of it.
+// Appends, for each operation, that it is the effect's.
 fn push_operations(i: u32, s: Shape, lits: &mut Vec<Lit>) -> Result<(), NoMemory>
     requires empty { lits.old.items ≡ [] }
     requires constant { i < s.constants }
@@ -292,7 +292,7 @@ fn add_variable(
     }
 }
 
-// Appends for each of the operations that the effect is of it.
+// Appends, for each of these operations, that it is the effect's.
 fn push_named_operations(ops: &[u32], v: u32, s: Shape, lits: &mut Vec<Lit>) -> Result<(), NoMemory>
     requires empty { lits.old.items ≡ [] }
     requires operations { AreBelow s.operations ops.now }

@@ -13,7 +13,7 @@ use ql_cnf::Clauses;
 use ql_levels::{Level, TxnLevel};
 use std::alloc::Global;
 
-// What the level of an operation promises the current effect.
+// What the level of an operation guarantees at the current effect.
 pub(crate) fn add_level(
     alloc: Global,
     level: Level,
@@ -51,7 +51,7 @@ pub(crate) fn add_level(
     }
 }
 
-// What the level of a transaction promises the current one.
+// What the level of a transaction guarantees to the current one.
 pub(crate) fn add_txn_level(
     alloc: Global,
     level: TxnLevel,
@@ -74,7 +74,7 @@ pub(crate) fn add_txn_level(
     }
 }
 
-// A transaction of which an effect is seen is seen whole, on the object.
+// An effect that sees one of another transaction sees all effects of that transaction on the object.
 fn add_committed(alloc: Global, s: Shape, c: &mut Clauses) -> Result<(), NoMemory>
     requires variables { c.old.variables ≡ count_of (size_of s) }
     requires room { length c.old.clauses + 1296 < 2 ^ 32 }
@@ -92,7 +92,8 @@ fn add_committed(alloc: Global, s: Shape, c: &mut Clauses) -> Result<(), NoMemor
     add_rule(alloc, &Rule::over(3, &seen_in_part, &seen), s, c)
 }
 
-// A transaction of which an effect is seen is seen by each later effect of the current one.
+// If an effect sees one of another transaction, the later effects of the current transaction see what that other
+// transaction did on their objects.
 fn add_monotonic(alloc: Global, s: Shape, c: &mut Clauses) -> Result<(), NoMemory>
     requires variables { c.old.variables ≡ count_of (size_of s) }
     requires room { length c.old.clauses + 1296 < 2 ^ 32 }
@@ -112,7 +113,8 @@ fn add_monotonic(alloc: Global, s: Shape, c: &mut Clauses) -> Result<(), NoMemor
     add_rule(alloc, &Rule::over(4, &seen_before, &seen), s, c)
 }
 
-// A transaction of which an effect is seen is seen by each effect of the current one.
+// If an effect sees one of another transaction, all effects of the current transaction see what that other
+// transaction did on their objects.
 fn add_repeatable(alloc: Global, s: Shape, c: &mut Clauses) -> Result<(), NoMemory>
     requires variables { c.old.variables ≡ count_of (size_of s) }
     requires room { length c.old.clauses + 1296 < 2 ^ 32 }

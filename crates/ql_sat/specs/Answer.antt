@@ -1,4 +1,4 @@
--- When an answer is right.
+-- When the solver's result is right.
 use Rattle.std.specs.Prelude.{◌≡◌, ◌≤◌, ◌<◌, ◌^◌, List, length}
 use Rattle.std.specs.List.{AllByRecursion}
 use Rattle.ql_cnf.specs.Literals.{IsAscending}

@@ -1,4 +1,4 @@
--- What the two watched literals of a clause say of its truth, while literals are made true.
+-- What the two watched literals of a clause guarantee about its truth, while literals are made true.
 use Rattle.std.specs.Prelude.{ℕ, ◌+◌, ◌*◌, ◌<◌, ◌≤◌, ◌⊎◌, ◌≡◌, ◌≢◌, Bool, true, false, not, is_some, take, List, [], ◌∷◌, ◌++◌, length, map, None, Some}
 use Rattle.std.specs.List.{All, slice_index_or}
 use Rattle.ql_cnf.specs.Literals.{has_literal, negated, IsAscending}
@@ -56,21 +56,21 @@ values_to trail n = assigned_from nothing (take n trail)
 abbrev pub IsSettledTo : ClauseList → List Step → ℕ → List Pair → Type 0
 IsSettledTo c trail n pairs = AreSettled (length c.clauses) (values_to trail n) (assigned_from nothing trail) pairs
 
--- and the steps before this place are propagated
+-- and the steps before index `done` are propagated
 pub record IsWatched (c : ClauseList) (trail : List Step) (lists : List (List ℕ)) (pairs : List Pair) (done : ℕ) : Type 0 where
   pub guarded : IsGuarded c trail lists pairs
   pub within : done ≤ length trail
   pub settled : IsSettledTo c trail done pairs
 
--- the literal that the step at a place made false
+-- the literal that the step at an index made false
 abbrev pub falsified_at : List Step → ℕ → Lit
 falsified_at trail place = negated (slice_index_or trail place (record { lit = record { var = 0; positive = false }; reason = None })).lit
 
--- the clause stands in the list from this place on
+-- the clause is in the list at this index or a later one
 abbrev pub IsWaiting : ℕ → List ℕ → ℕ → Type 0
 IsWaiting at list k = count_of k (take at list) < count_of k list
 
--- what holds when the watchers of the literal that a step made false are visited, up to a place of their list
+-- what holds while the watchers of the literal that a step made false are visited, before an index of their list
 pub record IsVisiting (c : ClauseList) (trail : List Step) (lists : List (List ℕ)) (pairs : List Pair) (place at : ℕ) (falsified : Lit) : Type 0 where
   pub guarded : IsGuarded c trail lists pairs
   pub within : place < length trail
