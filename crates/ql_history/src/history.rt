@@ -16,7 +16,7 @@ pub const MOST_COLUMNS: u32 = 1000;
 pub enum Happening {
     /// A call made the effect with this number, counted from 1.
     Made(u32),
-    /// A call, a begin, a commit or a resend was refused, for this cause.
+    /// A call, a begin, a commit or a resend wasn't answered, for this cause.
     Stopped(Cause),
     /// A transaction began, or was committed.
     Opened,

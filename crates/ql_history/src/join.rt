@@ -124,7 +124,7 @@ impl Joining {
         )
     }
 
-    // A call, a begin or a commit that was refused.
+    // A call, a begin or a commit that wasn't answered.
     fn stop(
         &mut self,
         alloc: Global,
@@ -340,7 +340,7 @@ impl Joining {
     }
 }
 
-// The cause that a reply reports for a refusal; none where it reports no refusal.
+// Why an event wasn't answered; none where the reply answers it.
 fn cause_of(reply: &Reply) -> Option<Cause> {
     match (reply.word, reply.number) {
         (ReplyWord::Blocked, Some(effect)) => Some(Cause::Effect(effect)),
