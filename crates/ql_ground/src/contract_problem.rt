@@ -6,7 +6,7 @@ ghost use Rattle.ql_lang.specs.Formulas.{resolved_of, statement_of};
 ghost use Rattle.ql_ground.specs.Bodies.{body_circuit};
 ghost use Rattle.ql_ground.specs.Ground as groups;
 ghost use Rattle.ql_ground.specs.Implication.{IsContractOf, Implies, ImpliesTxn};
-ghost use Rattle.ql_ground.specs.Parts.{OverConstants};
+ghost use Rattle.ql_ground.specs.Parts.{OverConstants, most_ground_clauses};
 
 use crate::body::ground_body;
 use crate::goal_groups::{add_op_groups, add_txn_groups};
@@ -92,7 +92,7 @@ fn deny(alloc: Global, body: &Body, s: Shape, c: &mut Clauses) -> Result<(), NoM
     requires leaves { InputsInRange (count_of (size_of s)) (body_circuit (size_of s) (statement_of body.now)) }
     requires variables { c.old.variables ≡ count_of (size_of s) }
     requires few { count_of (size_of s) ≤ 450 }
-    requires room { length c.old.clauses ≤ 200000 }
+    requires room { length c.old.clauses ≤ most_ground_clauses }
     ensures variables { OnOk result (c.new.variables ≡ count_of (size_of s) + gates (body_circuit (size_of s) (statement_of body.now))) }
     ensures clauses { OnOk result (c.new.clauses ≡ c.old.clauses ++ clauses_of (denying (count_of (size_of s)) (body_circuit (size_of s) (statement_of body.now)))) }
 {

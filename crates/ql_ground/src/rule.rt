@@ -5,7 +5,7 @@ ghost use Rattle.ql_cnf.specs.Circuits.{clauses_of};
 ghost use Rattle.ql_cnf.specs.Satisfaction.{AreInRange};
 ghost use Rattle.ql_ground.specs.Ground.{at, choices, instances};
 ghost use Rattle.ql_ground.specs.Ground as groups;
-ghost use Rattle.ql_ground.specs.Parts.{IsRuleAtom, literal_of, rule_of, instance};
+ghost use Rattle.ql_ground.specs.Parts.{IsRuleAtom, literal_of, rule_of, instance, most_instances};
 
 use crate::literal::{add_clause, literal};
 use ql_atoms::{Atom, Shape};
@@ -172,10 +172,10 @@ pub(crate) fn add_rule(
     requires hypotheses { All (IsRuleAtom (size_of s)) r.now.hypotheses.now }
     requires conclusions { All (IsRuleAtom (size_of s)) r.now.conclusions.now }
     requires variables { c.old.variables ≡ count_of (size_of s) }
-    requires room { length c.old.clauses + 1296 < 2 ^ 32 }
+    requires room { length c.old.clauses + most_instances < 2 ^ 32 }
     ensures variables { c.new.variables ≡ c.old.variables }
     ensures clauses { OnOk result (c.new.clauses ≡ c.old.clauses ++ clauses_of (instances (size_of s) (rule_of r.now))) }
-    ensures counted { OnOk result (length c.new.clauses ≤ length c.old.clauses + 1296) }
+    ensures counted { OnOk result (length c.new.clauses ≤ length c.old.clauses + most_instances) }
 {
     let mut lits = Vec::new(alloc);
     add_choices(r, [0; PLACES], 0, s, &mut lits, c)
