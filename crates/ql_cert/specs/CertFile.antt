@@ -18,7 +18,7 @@ title = codes "quelea" ∷ codes "certificate" ∷ codes "1" ∷ []
 abbrev pub end_line : Fields
 end_line = codes "end" ∷ []
 
--- the word of a target's kind, and that of its level
+-- the keyword of a target's kind, and the name of its level
 unfoldable pub kind_word : SectionLevel → List ℕ
 kind_word (Op l) = codes "op"
 kind_word (Txn l) = codes "txn"
@@ -40,7 +40,7 @@ sections_lines ss = flat_map section_lines ss
 abbrev pub cert_lines : List Section → List Fields
 cert_lines ss = title ∷ (sections_lines ss ++ end_line ∷ [])
 
--- ---- what has a spelling
+-- ---- what can be spelled
 
 pub record IsSection (s : Section) : Type 0 where
   pub name : IsName s.name
@@ -91,13 +91,13 @@ pub record Ends (done : List Section) (last : Option Section) (line : Fields) (a
   pub is : line ≡ end_line
   pub to : after ≡ Ended (with_last done last)
 
--- what a line makes of what was read before it
+-- the line leads from one state of reading to the next
 abbrev pub Takes : Reading → Fields → Reading → Type 0
 Takes Untitled line after = (line ≡ title) × (after ≡ Within [] None)
 Takes (Within done last) line after = Opens done last line after ⊎ (GoesOn done last line after ⊎ Ends done last line after)
 Takes (Ended ss) line after = ⊥
 
--- what a file says that ends here, where it may
+-- the sections of a file that ends here, if it may end here
 abbrev pub said : Reading → Option (List Section)
 said (Ended ss) = Some ss
 said other = None

@@ -28,7 +28,7 @@ clause_fields c = map lit_field c
 abbrev pub colon : List ℕ
 colon = codes ":"
 
--- what stands after a line's number
+-- what follows a line's number
 abbrev pub body_fields : Line → Fields
 body_fields l = clause_fields l.clause ++ colon ∷ map hint_field l.hints
 
@@ -40,7 +40,7 @@ unfoldable pub numbered_lines : ℕ → List Line → List Fields
 numbered_lines n [] = []
 numbered_lines n (l ∷ ls) = line_fields n l ∷ numbered_lines (suc n) ls
 
--- ---- what has a spelling
+-- ---- what can be spelled
 
 abbrev pub IsLit : Lit → Type 0
 IsLit x = (1 ≤ x.var) × (x.var < 2 ^ 32)

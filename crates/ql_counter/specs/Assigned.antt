@@ -1,4 +1,4 @@
--- The relations that an assignment says of a problem's constants, as a pattern, and the execution that is built of it.
+-- The relations between a problem's constants in an assignment, as a pattern, and the execution that is built from it.
 use Rattle.std.specs.Prelude.{ℕ, suc, Bool, true, false, ◌&&◌, ◌||◌, nat_lt, List, [], ◌∷◌, length}
 use Rattle.ql_base.specs.Ids.{op}
 use Rattle.ql_base.specs.Ranges.{upto}
@@ -21,7 +21,7 @@ use Rattle.ql_blocks.specs.Patterns.{Pattern, least, class_of}
 use Rattle.ql_blocks.specs.Blocks.{no_parts, slots_of}
 use Rattle.ql_blocks.specs.Built.{built, constant_place}
 
--- the relations of an assignment, between constants of the size alone
+-- the relations of an assignment, only between constants within the size
 abbrev pub related_by : List Bool → Size → PairKind → ℕ → ℕ → Bool
 related_by a s r i j = (nat_lt i s.constants && nat_lt j s.constants) && variable_value a (number_of s (Pair r i j))
 

@@ -11,8 +11,8 @@ use Rattle.ql_grammar.specs.declared.role.Role.TheVariants.{Plain, Makes, Opens,
 use Rattle.ql_grammar.specs.Tokens.{Marked, marked}
 
 -- The grammar of expressions. `ReadsExpr part ts rest start tree` says that the tokens `ts` begin with a text
--- that reads as `tree`, that its first token stands at `start`, and that `rest` follows it. An operator's
--- tree has the place where its first operand starts, which may be that of a bracket.
+-- that reads as `tree`, that its first token is at the source offset `start`, and that `rest` follows it. An
+-- operator's tree has the offset where its first operand starts, which may be that of a bracket.
 
 -- The parts of an expression: a value, name, call or bracket with `not` and `-` before it; parts with `*` between
 -- them; with `+` and `-`; two that are compared; with `and`; with `or`; and a whole expression.

@@ -26,7 +26,7 @@ use Rattle.ql_ground.specs.Ground.{at, implication, instances, all_instances, al
 abbrev pub literal_of : Size → Bool → Atom → Lit
 literal_of s positive a = record { var = number_of s a; positive = positive }
 
--- the operations of a rule's atom are there
+-- the operations of a rule's atom are in the program
 abbrev pub IsRuleAtom : Size → Atom → Type 0
 IsRuleAtom s (Pair kind i j) = Unit {0}
 IsRuleAtom s (Current i) = Unit {0}

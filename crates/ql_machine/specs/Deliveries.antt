@@ -1,4 +1,4 @@
--- How a message is delivered, one rule for each answer in their order.
+-- How a message is delivered, one rule for each reply in their order.
 use Rattle.std.specs.Prelude.{◌≡◌, ℕ, true, false, List}
 use Rattle.ql_base.specs.IdLists.{has_id}
 use Rattle.ql_base.specs.declared.ids.EffId.{EffId}
@@ -57,6 +57,6 @@ pub data IsDelivery (s : Machine) (m : ℕ) : Machine → Reply → Type 0 where
   -- received, and something that it needs isn't: the least of that is reported
   waits : (message : Message) (a : EffId) → IsNew s m message → IsLeast (IsAwaited (after_receipt s m message) message) a.0
       → IsDelivery s m (after_receipt s m message) (Waits a)
-  -- received with all that it needs: what the replica now applies and didn't before is reported
+  -- received with all that it needs: the effects that the replica applies now and didn't before are reported
   applies : (message : Message) (ids : List ℕ) → IsNew s m message → ((a : ℕ) → Has message.carried a → Applied (after_receipt s m message) message.receiver.0 a)
       → AreThose (IsGained s (after_receipt s m message) message.receiver.0) ids → IsDelivery s m (after_receipt s m message) (Applies ids)

@@ -1,5 +1,5 @@
--- What every state of every run of the written machine keeps, in parts. Each part is said of the fields of the state that it
--- reads, so that a step which leaves these alone keeps it. No part knows how calls are answered.
+-- The invariant of every state of every run of the written machine, in parts. Each part is about those fields of the
+-- state that it reads, so that a step that leaves these alone keeps it. No part depends on how calls are answered.
 use Rattle.std.specs.Prelude.{◌≡◌, ◌⊎◌, ℕ, ◌<◌, ◌≤◌, true, false, ◌||◌, List, [], ◌∷◌, length, Some}
 use Rattle.ql_base.specs.IdLists.{IsAscending, has_id}
 use Rattle.ql_base.specs.declared.ids.DeclId.{DeclId}
@@ -152,7 +152,7 @@ pub record TxnsSee (txn_level : DeclId → TxnLevel) (x : List Effect) (open_txn
 -- ---- all of it
 
 pub record Keeps (promises : Promises) (start : ℕ) (s : Machine) : Type 0 where
-  -- no replica of the start goes
+  -- no replica of the start is lost
   pub replicas : start ≤ length s.received
   pub sound : IsSound promises.level s.effects s.open_txns s.begun
   pub history : History s.effects s.open_txns

@@ -1,4 +1,4 @@
--- What the laws on runs say, where a word is wanted.
+-- Terms of the laws on runs.
 use Rattle.std.specs.Prelude.{◌≡◌, ◌≢◌, ℕ, Bool, true, List, Some}
 use Rattle.ql_base.specs.declared.ids.DeclId.{DeclId}
 use Rattle.ql_base.specs.declared.ids.ObjId.{ObjId}
@@ -32,7 +32,7 @@ IsPlain rules s c = HasNoneOpen s c.session × (rules.level c.op ≢ Strong)
 abbrev pub at_replica : Call → ReplicaId → Call
 at_replica c r = record c { replica = r }
 
--- where an event is a call, a test passes of its object and operation
+-- if an event is a call, a test passes of its object and operation
 abbrev pub asks : (ObjId → OpId → Bool) → Event → Bool
 asks test (event.Call session replica object op args) = test object op
 asks test _ = true

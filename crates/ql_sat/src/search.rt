@@ -21,6 +21,7 @@ use ql_refute::{Hint, Lines, Refutation};
 use std::alloc::Global;
 
 /// An assignment that satisfies the clauses, or a refutation of them.
+///
 /// Conflict-driven clause learning (Marques-Silva and Sakallah, "GRASP", 1999): the learned clause is
 /// the one at the first unique implication point, and each is kept. Clauses watch two of their literals
 /// (Moskewicz and others, "Chaff", 2001). The next decision is on the unset variable that was most active
