@@ -1,4 +1,4 @@
--- The schedule of a number.
+-- The schedule for a number.
 use Rattle.std.specs.Prelude.{ℕ, zero, suc, List, [], ◌∷◌, ◌++◌, length}
 use Rattle.ql_lang.specs.declared.program.Program.{Program}
 use Rattle.ql_machine.specs.declared.event.Event.{Event}
@@ -7,7 +7,7 @@ use Rattle.ql_gen.specs.Events.{after_event, event_of}
 use Rattle.ql_gen.specs.Objects.{object_kinds, drawn_object_names}
 
 module _ (p : Program) (number : ℕ) where
-  -- the state before the event that follows so many
+  -- the state after this many events
   unfoldable pub state_after : ℕ → ℕ
   state_after zero = number
   state_after (suc n) = after_event p (state_after n)
@@ -17,7 +17,7 @@ module _ (p : Program) (number : ℕ) where
   generated_events zero = []
   generated_events (suc n) = generated_events n ++ event_of p (suc n) (state_after n) ∷ []
 
-  -- so many events at three replicas, on two objects of each type
+  -- this many events at three replicas, on two objects of each type
   abbrev pub generated : ℕ → Schedule
   generated n = record {
     version = 1;

@@ -16,7 +16,7 @@ use Rattle.ql_schedule.specs.Parts.{parts_of}
 abbrev pub GivesLine : Program → Reading → Numbered → Result Reading SchedRule → Type 0
 GivesLine p read l x = ExtendsSchedule p read (parts_of l.text) x
 
--- the file says this schedule
+-- the file spells this schedule
 abbrev pub IsScheduleFile : Program → Ahead → Schedule → Type 0
 IsScheduleFile p file s = Says (GivesLine p) Closes Untitled file s
 

@@ -6,7 +6,7 @@ use Rattle.ql_schedule.specs.declared.header.Declaration.{Declaration}
 use Rattle.ql_schedule.specs.declared.header.Declaration.TheVariants.{Object, Events}
 use Rattle.ql_schedule.specs.Numbers.{IsNumber}
 
--- the versions of the format; joins are of the second
+-- the versions of the format; only the second has joins
 abbrev pub IsVersion : ℕ → Type 0
 IsVersion version = (version ≡ 1) ⊎ (version ≡ 2)
 

@@ -36,7 +36,7 @@ event_of p s (Partition groups) = event.Partition groups
 event_of p s Heal = event.Heal
 event_of p s (Join near copy) = event.Join (record { 0 = near }) copy
 
--- how many replicas there are behind a line
+-- how many replicas there are after a line
 abbrev pub replicas_with : ℕ → EventLine → ℕ
 replicas_with replicas (Join near copy) = suc replicas
 replicas_with replicas _ = replicas

@@ -1,4 +1,4 @@
--- A line is one thing, and makes one thing of what was read before it.
+-- A line spells one thing, and leads from one state of reading to one next state.
 use Rattle.std.proofs.Common.{◌≡◌, ◌⊎◌, inl, inr, ℕ, ◌+◌, ◌*◌, ◌<◌, ◌^◌, Bool, true, false, List, [], ◌∷◌, Option, Some, None, Result, Ok, Err, length, get_or, drop, codes, arith, refl, ap, sym, subst, ◌∙◌}
 use Rattle.std.proofs.lemmas.Fmt.{decimal_injective}
 use Rattle.ql_lang.specs.declared.program.Program.{Program}
@@ -36,7 +36,7 @@ one_number field m n (inl a) (inr b) = absurd (b.1.1 m a.0 a.1)
 one_number field m n (inr a) (inl b) = absurd (a.1.1 n b.0 b.1)
 one_number field m n (inr a) (inr b) = a.0 ∙ sym b.0
 
--- the numbers of two fields that are the same
+-- the numbers in two equal fields are equal
 same_number : (f g : List ℕ) (m n : ℕ) → f ≡ g → IsNumber f m → IsNumber g n → m ≡ n
 same_number f g m n e a b = one_number g m n (subst (λ h. IsNumber h m) e a) b
 
@@ -78,7 +78,7 @@ one_numbers (p ∷ ps) (x ∷ xs) (y ∷ ys) h k = ap (λ a. a ∷ xs) (one_numb
 
 -- ---- events
 
--- a number for each kind, told by its word
+-- a number for each kind, which its keyword determines
 abbrev pub kind_no : EventLine → ℕ
 kind_no (Call c object op args) = 0
 kind_no (Begin c txn objects) = 1
@@ -110,11 +110,11 @@ no_of_word (Partition groups) = refl
 no_of_word Heal = refl
 no_of_word (Join near copy) = refl
 
--- two events of one word, by the number of its kind
+-- two events with one keyword, by the number of its kind
 same_no : (l m : EventLine) → event_word l ≡ event_word m → no_of_kind (kind_no l) ≡ no_of_kind (kind_no m)
 same_no l m e = sym (no_of_word l) ∙ ap word_no e ∙ no_of_word m
 
--- the parts behind a call's operation
+-- the parts after a call's operation
 pub one_called : (parts : Fields) (c d : Caller) (o p f g : List ℕ) (r q : Fields) → IsCalled parts c o f r → IsCalled parts d p g q → r ≡ q
 one_called parts c d o p f g r q a b =
     let caller = one_caller c d parts a.behind b.behind a.caller b.caller in
@@ -203,7 +203,7 @@ one_declaration parts (Object n k) Events h g = absurd (omega (arith, ap length 
 one_declaration parts Events (Object m l) h g = absurd (omega (arith, ap length (sym g.2 ∙ h)))
 one_declaration parts Events Events h g = refl
 
--- ---- what a line is, is one thing; then it makes one thing, and never none
+-- -- a line that spells one thing has one result, and always has one
 
 some_of : SchedRule → Option SchedRule → SchedRule
 some_of r (Some q) = q
@@ -233,7 +233,7 @@ module _ {L : Type 0} (Is : L → Type 0) (faults_of : L → Faults) (next : L �
   some_given none = none (Err Unexpected) (λ line is. by_rule none line is (lowest (faults_of line)) refl)
 
   module _ (one : (a b : L) → Is a → Is b → a ≡ b) where
-    -- a refusal as one by a rule, or as that of a line that is nothing
+    -- a refusal by a rule, or of a line that spells nothing
     abbrev IsRuled : SchedRule → Type 0
     IsRuled rule = ((rule ≡ Unexpected) × ((line : L) → Is line → ⊥)) ⊎ Violates Is faults_of next rule
 

@@ -13,7 +13,7 @@ use Rattle.ql_schedule.specs.declared.schedule.Schedule.{Schedule}
 use Rattle.ql_schedule.specs.EventLines.{join_word}
 use Rattle.ql_schedule.specs.Headers.{schedule_title}
 
--- the names of numbers
+-- the names that numbers stand for
 abbrev pub name_at : List (List ℕ) → ℕ → List ℕ
 name_at names k = option_map_or (λ w. w) (slice_get names k) []
 

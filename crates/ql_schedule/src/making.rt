@@ -72,7 +72,7 @@ fn replica(replicas: u32, number: u64) -> ReplicaId
     ReplicaId(number as u32)
 }
 
-// The values that are given as arguments.
+// The values of arguments that 64 bits can hold.
 fn values(alloc: Global, args: Arguments) -> Result<Values, NoMemory>
     ensures { IfOk result (λ values. values ≡ argument_values args) }
 {

@@ -24,9 +24,8 @@ use ql_machine::Event;
 use ql_typing::Typed;
 use std::alloc::Global;
 
-/// What was read of a schedule: nothing; its title, with the version; the number of replicas and some
-/// objects; all that stands before the events, and some events, with the number of replicas that there
-/// are behind them.
+/// How far a schedule was read: not at all; its title, with the version; the number of replicas and some
+/// objects; everything before the events, and some events, with the number of replicas after them.
 #[derive(Drop)]
 pub(crate) enum Reading {
     Untitled,
@@ -35,7 +34,7 @@ pub(crate) enum Reading {
     Running(Schedule, u32),
 }
 
-/// What is read with one more line.
+/// The state of reading after one more line.
 pub(crate) fn take(
     alloc: Global,
     t: &Typed,
@@ -52,7 +51,7 @@ pub(crate) fn take(
     }
 }
 
-// The title.
+// Reads the title.
 fn title(text: &[u8]) -> Result<Reading, LineFault<SchedRule>>
     ensures { (p : Program) → IsLineAnswer (ExtendsSchedule p Untitled (parts_of text.now)) result }
 {
@@ -62,7 +61,7 @@ fn title(text: &[u8]) -> Result<Reading, LineFault<SchedRule>>
     }
 }
 
-// The number of replicas.
+// Reads the number of replicas.
 fn count(alloc: Global, version: u32, text: &[u8]) -> Result<Reading, LineFault<SchedRule>>
     ensures { (p : Program) → IsLineAnswer (ExtendsSchedule p (Titled version) (parts_of text.now)) result }
 {
@@ -79,7 +78,7 @@ fn count(alloc: Global, version: u32, text: &[u8]) -> Result<Reading, LineFault<
     }))
 }
 
-// One more object, or the word that the events follow.
+// Reads one more object, or the keyword before the events.
 fn declare(t: &Typed, so_far: Schedule, text: &[u8]) -> Result<Reading, LineFault<SchedRule>>
     ensures { IsLineAnswer (ExtendsSchedule t.now.program (Declaring so_far) (parts_of text.now)) result }
 {
@@ -99,7 +98,7 @@ fn declare(t: &Typed, so_far: Schedule, text: &[u8]) -> Result<Reading, LineFaul
     }
 }
 
-// With one more object.
+// Adds an object.
 fn with_object(t: &Typed, so_far: Schedule, name: &Word, kind: &Word) -> Result<Schedule, NoMemory>
     requires { lowest (declaration_faults t.now.program so_far (Object name.now kind.now)) ≡ None }
     ensures { IfOk result (λ more. more ≡ with_object t.now.program so_far name.now kind.now) }
@@ -122,7 +121,7 @@ fn with_object(t: &Typed, so_far: Schedule, name: &Word, kind: &Word) -> Result<
     })
 }
 
-// One more event.
+// Reads one more event.
 fn happen(
     alloc: Global,
     t: &Typed,
@@ -143,7 +142,7 @@ fn happen(
     Ok(Reading::Running(more, behind))
 }
 
-// How many replicas there are behind a line.
+// How many replicas there are after a line.
 fn replicas_with(replicas: u32, line: &EventLine) -> u32
     requires { is_full replicas line.now ≡ false }
     ensures { result ≡ replicas_with replicas line.now }
