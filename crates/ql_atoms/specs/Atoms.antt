@@ -40,11 +40,11 @@ count_of s = relations_of s + s.constants + s.operations * s.constants
 
 -- The index of an atom, from 0: first the relations, each a square of rows; then the current
 -- effects; then the operations, each a row.
-abbrev pub place_of : Size → Atom → ℕ
-place_of s (Pair kind i j) = kind_place kind * (s.constants * s.constants) + (i * s.constants + j)
-place_of s (Current i) = relations_of s + i
-place_of s (Is o i) = relations_of s + s.constants + (o.0 * s.constants + i)
+abbrev pub atom_place : Size → Atom → ℕ
+atom_place s (Pair kind i j) = kind_place kind * (s.constants * s.constants) + (i * s.constants + j)
+atom_place s (Current i) = relations_of s + i
+atom_place s (Is o i) = relations_of s + s.constants + (o.0 * s.constants + i)
 
 -- atoms are numbered from 1
 abbrev pub number_of : Size → Atom → ℕ
-number_of s a = suc (place_of s a)
+number_of s a = suc (atom_place s a)

@@ -3,13 +3,14 @@ use Rattle.std.specs.Prelude.{ℕ, suc, ◌≡◌, ◌<◌, ◌^◌, ◌⊎◌, 
 use Rattle.std.specs.List.{AllByRecursion, flat_map}
 use Rattle.ql_base.specs.Names.{IsName}
 use Rattle.ql_levels.specs.Words.{word_of, txn_word_of}
+use Rattle.ql_lines.specs.Fields.{Fields}
 use Rattle.ql_refute.specs.declared.refutation.Line.{Line}
 use Rattle.ql_cert.specs.declared.cert.SectionLevel.{SectionLevel}
 use Rattle.ql_cert.specs.declared.cert.SectionLevel.TheVariants.{Op, Txn}
 use Rattle.ql_cert.specs.declared.cert.Section.{Section}
 use Rattle.ql_cert.specs.declared.cert_reader.Reading.{Reading}
 use Rattle.ql_cert.specs.declared.cert_reader.Reading.TheVariants.{Untitled, Within, Ended}
-use Rattle.ql_cert.specs.Spelling.{Fields, IsLine, line_fields, numbered}
+use Rattle.ql_cert.specs.Spelling.{IsLine, line_fields, numbered_lines}
 
 abbrev pub title : Fields
 title = codes "quelea" ∷ codes "certificate" ∷ codes "1" ∷ []
@@ -31,7 +32,7 @@ heading name l = kind_word l ∷ name ∷ level_word l ∷ []
 
 -- a section: its heading, then its lines, numbered from 1
 abbrev pub section_lines : Section → List Fields
-section_lines s = heading s.name s.level ∷ numbered 1 s.refutation.lines
+section_lines s = heading s.name s.level ∷ numbered_lines 1 s.refutation.lines
 
 abbrev pub sections_lines : List Section → List Fields
 sections_lines ss = flat_map section_lines ss

@@ -4,6 +4,7 @@ use Rattle.std.specs.Prelude.{unwrap_or}
 use Rattle.ql_levels.specs.declared.level.Level.TheVariants.{Eventual, Causal, Wide, Strong}
 use Rattle.ql_levels.specs.declared.level.TxnLevel.TheVariants.{Rc, Mav, Rr}
 use Rattle.ql_line_files.specs.declared.fault.Broken.{Broken}
+use Rattle.ql_lines.specs.Fields.{Fields}
 use Rattle.ql_refute.specs.declared.refutation.Line.{Line}
 use Rattle.ql_cert.specs.declared.cert.SectionLevel.{SectionLevel}
 use Rattle.ql_cert.specs.declared.cert.SectionLevel.TheVariants.{Op, Txn}
@@ -15,7 +16,7 @@ use Rattle.ql_cert.specs.declared.fault.CertRule.TheVariants.{Unexpected, Number
 use Rattle.ql_cert.specs.CertFile.{Opens, GoesOn, Takes, end_line, heading, kind_word, level_word, opened, with_line, with_last}
 use Rattle.ql_cert.specs.Faults.{Closes, Follows, Gives}
 use Rattle.ql_cert.specs.OneField.{no_number, same_line}
-use Rattle.ql_cert.specs.Spelling.{Fields, body_fields, line_fields}
+use Rattle.ql_cert.specs.Spelling.{body_fields, line_fields}
 
 -- ---- of any line file whose lines each lead to one state at most
 

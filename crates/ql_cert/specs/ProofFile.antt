@@ -3,10 +3,11 @@ use Rattle.std.specs.Prelude.{ℕ, suc, ◌≡◌, ◌<◌, ◌≤◌, ◌^◌, 
 use Rattle.std.specs.List.{AllByRecursion}
 use Rattle.ql_cnf.specs.declared.lit.Lit.{Lit}
 use Rattle.ql_cnf.specs.Satisfaction.{ClauseList}
+use Rattle.ql_lines.specs.Fields.{Fields}
 use Rattle.ql_refute.specs.declared.refutation.Line.{Line}
 use Rattle.ql_cert.specs.declared.proof_reader.ProofReading.{ProofReading}
 use Rattle.ql_cert.specs.declared.proof_reader.ProofReading.TheVariants.{Unbegun, Within, Ended}
-use Rattle.ql_cert.specs.Spelling.{Fields, IsClause, IsLine, clause_fields, line_fields, numbered}
+use Rattle.ql_cert.specs.Spelling.{IsClause, IsLine, clause_fields, line_fields, numbered_lines}
 use Rattle.ql_cert.specs.CertFile.{end_line}
 
 -- the most variables that a proof's clauses may have
@@ -21,7 +22,7 @@ abbrev pub given_line : List Lit → Fields
 given_line c = codes "c" ∷ clause_fields c
 
 abbrev pub proof_lines : ClauseList → List Line → List Fields
-proof_lines cs ls = variables_line cs.variables ∷ (map given_line cs.clauses ++ (numbered 1 ls ++ end_line ∷ []))
+proof_lines cs ls = variables_line cs.variables ∷ (map given_line cs.clauses ++ (numbered_lines 1 ls ++ end_line ∷ []))
 
 -- ---- what can be spelled
 

@@ -1,10 +1,11 @@
 -- What a reader of one field or of several returns.
 use Rattle.std.specs.Prelude.{◌≡◌, ℕ, List, [], ◌∷◌, ◌++◌, Option, None, Some}
 use Rattle.ql_cnf.specs.declared.lit.Lit.{Lit}
-use Rattle.ql_cnf.specs.Literals.{IsAscending}
+use Rattle.ql_cnf.specs.Literals.{IsAscendingByVariable}
+use Rattle.ql_lines.specs.Fields.{Fields}
 use Rattle.ql_cert.specs.declared.cert.SectionLevel.{SectionLevel}
 use Rattle.ql_cert.specs.CertFile.{kind_word, level_word}
-use Rattle.ql_cert.specs.Spelling.{Fields, IsClause, IsLit, clause_fields, colon}
+use Rattle.ql_cert.specs.Spelling.{IsClause, IsLit, clause_fields, colon}
 
 -- the value that the fields spell, or none if they spell none
 abbrev pub IsRead : {X F : Type 0} → (X → Type 0) → (X → F) → F → Option X → Type 0
@@ -13,7 +14,7 @@ IsRead Fits spell field (Some x) = Fits x × (spell x ≡ field)
 
 -- a literal after others, with a greater variable
 abbrev pub IsNext : List Lit → Lit → Type 0
-IsNext before x = IsLit x × IsAscending (before ++ x ∷ [])
+IsNext before x = IsLit x × IsAscendingByVariable (before ++ x ∷ [])
 
 -- literals up to a colon, and the fields after it
 abbrev pub before_colon : (List Lit × Fields) → Fields

@@ -2,7 +2,7 @@ ghost use Rattle.std.specs.Prelude.{◌≡◌, ◌↔◌, ◌++◌, ◌∷◌, [
 ghost use Rattle.std.specs.List.{AllByRecursion};
 ghost use Rattle.std.specs.Option.{option_map};
 ghost use Rattle.ql_lines.specs.Fields.{fields_of};
-ghost use Rattle.ql_cnf.specs.Literals.{IsAscending};
+ghost use Rattle.ql_cnf.specs.Literals.{IsAscendingByVariable};
 ghost use Rattle.ql_cert.specs.Spelling.{IsClause, IsHint, IsLine, body_fields, clause_fields, colon, hint_field, lit_field};
 ghost use Rattle.ql_cert.specs.Readings.{IsClauseBefore, IsNext, IsRead, before_colon};
 
@@ -59,7 +59,7 @@ fn is_colon(field: &[u8]) -> bool
 
 // The literal that a field spells, if its variable is greater than that of the literal before it.
 fn next_literal(field: &[u8], before: &[Lit]) -> Option<Lit>
-    requires { IsAscending before.now }
+    requires { IsAscendingByVariable before.now }
     ensures { IsRead (IsNext before.now) lit_field field.now result }
 {
     let next = literal(field)?;
@@ -72,8 +72,8 @@ fn next_literal(field: &[u8], before: &[Lit]) -> Option<Lit>
 
 // Whether ascending literals are still ascending with one more at the end.
 fn goes_on(before: &[Lit], next: Lit) -> bool
-    requires { IsAscending before.now }
-    ensures { IsTrue result ↔ IsAscending (before.now ++ next ∷ []) }
+    requires { IsAscendingByVariable before.now }
+    ensures { IsTrue result ↔ IsAscendingByVariable (before.now ++ next ∷ []) }
 {
     before.is_empty() || before[before.len() - 1].var < next.var
 }

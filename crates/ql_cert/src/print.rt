@@ -4,7 +4,7 @@ ghost use Rattle.ql_lines.specs.Lines.{ahead_from};
 ghost use Rattle.ql_lines.specs.Texts.{behind, file_text, joined};
 ghost use Rattle.ql_cert.specs.CertFile.{IsCertOf, IsSection, cert_lines, end_line, kind_word, level_word, section_lines, sections_lines, title};
 ghost use Rattle.ql_cert.specs.Faults.{fields_in};
-ghost use Rattle.ql_cert.specs.Spelling.{hint_field, line_fields, lit_field, numbered};
+ghost use Rattle.ql_cert.specs.Spelling.{hint_field, line_fields, lit_field, numbered_lines};
 ghost use Rattle.ql_cert.specs.declared.cert.Section.{Section};
 
 use crate::cert::{Cert, SectionLevel};
@@ -97,7 +97,7 @@ fn words(level: SectionLevel) -> (&'static str, &'static str)
 
 // Lines with their numbers, from 1.
 fn push_lines(out: &mut Vec<u8>, lines: &[Line]) -> Result<(), NoMemory>
-    ensures { OnOk result (out.new.items ≡ out.old.items ++ file_text (numbered 1 lines.now)) }
+    ensures { OnOk result (out.new.items ≡ out.old.items ++ file_text (numbered_lines 1 lines.now)) }
 {
     let mut number = 1;
     for line in lines {

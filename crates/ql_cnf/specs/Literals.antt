@@ -23,9 +23,9 @@ AllAbove n [] = Unit {0}
 AllAbove n (x ∷ xs) = (n < x.var) × AllAbove n xs
 
 -- strictly ascending by variable
-abbrev pub IsAscending : List Lit → Type 0
-IsAscending [] = Unit {0}
-IsAscending (x ∷ xs) = AllAbove x.var xs × IsAscending xs
+abbrev pub IsAscendingByVariable : List Lit → Type 0
+IsAscendingByVariable [] = Unit {0}
+IsAscendingByVariable (x ∷ xs) = AllAbove x.var xs × IsAscendingByVariable xs
 
 -- an ascending clause with one more literal, in order; none where it has the other sign
 abbrev pub with_literal : Lit → List Lit → Option (List Lit)

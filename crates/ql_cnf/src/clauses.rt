@@ -1,5 +1,5 @@
 ghost use Rattle.std.specs.Prelude.{◌≡◌, ℕ, suc, take, ◌+◌, ◌-◌, ◌^◌, ◌<◌, ◌≤◌, ◌↔◌, ◌&&◌, List, Bool, [], length, slice_get, IfOk, OnOk, OnErr, IfSome, IsNone, is_some, Some, None, MatchBool};
-ghost use Rattle.ql_cnf.specs.Literals.{clause_of, HasBothSigns, SameLiterals, IsAscending};
+ghost use Rattle.ql_cnf.specs.Literals.{clause_of, HasBothSigns, SameLiterals, IsAscendingByVariable};
 ghost use Rattle.ql_cnf.specs.Satisfaction.{AreInRange, ClausesInRange, with_clause, all_true, clause_true};
 ghost use Rattle.ql_cnf.specs.Circuits.{yes};
 
@@ -53,7 +53,7 @@ impl Clauses {
         ensures len { length self.new.clauses ≤ length self.old.clauses + 1 }
 
         // Which clause the literals make, and when they make none.
-        ensures clause { IfSome (clause_of lits.now) (λ c. IsAscending c × SameLiterals c lits.now) }
+        ensures clause { IfSome (clause_of lits.now) (λ c. IsAscendingByVariable c × SameLiterals c lits.now) }
         ensures tautology { IsNone (clause_of lits.now) ↔ HasBothSigns lits.now }
 
         // The list is true where it was before and one of the literals is.

@@ -1,7 +1,7 @@
 // What an assignment states about a problem's constants.
 ghost use Rattle.std.specs.Prelude.{◌≡◌, ◌<◌, ◌≤◌};
 ghost use Rattle.ql_atoms.specs.Atoms.{size_of};
-ghost use Rattle.ql_cnf.specs.Satisfaction.{value_of};
+ghost use Rattle.ql_cnf.specs.Satisfaction.{variable_value};
 ghost use Rattle.ql_blocks.specs.Patterns.{least};
 ghost use Rattle.ql_counter.specs.Assigned.{current_by, operation_by, related_by};
 
@@ -50,7 +50,7 @@ pub(crate) fn first_current(a: &[bool], s: Shape) -> u32
 // The truth value of a variable, false past the assignment.
 fn value(a: &[bool], variable: u32) -> bool
     requires { 1 ≤ variable }
-    ensures { result ≡ value_of a.now variable }
+    ensures { result ≡ variable_value a.now variable }
 {
     let place = variable as usize - 1;
     place < a.len() && a[place]

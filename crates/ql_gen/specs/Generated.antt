@@ -4,7 +4,7 @@ use Rattle.ql_lang.specs.declared.program.Program.{Program}
 use Rattle.ql_machine.specs.declared.event.Event.{Event}
 use Rattle.ql_schedule.specs.declared.schedule.Schedule.{Schedule}
 use Rattle.ql_gen.specs.Events.{after_event, event_of}
-use Rattle.ql_gen.specs.Objects.{object_kinds, object_names}
+use Rattle.ql_gen.specs.Objects.{object_kinds, drawn_object_names}
 
 module _ (p : Program) (number : ℕ) where
   -- the state after this many events
@@ -22,7 +22,7 @@ module _ (p : Program) (number : ℕ) where
   generated n = record {
     version = 1;
     replicas = 3;
-    objects = object_names (length p.types);
+    objects = drawn_object_names (length p.types);
     kinds = object_kinds (length p.types);
     events = generated_events n;
   }

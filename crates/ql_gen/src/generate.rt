@@ -11,7 +11,7 @@ use ql_schedule::{Events, Schedule};
 use ql_typing::Typed;
 use std::alloc::Global;
 
-/// The schedule with this number: as many events as asked for at three replicas, on two objects of each type.
+/// The schedule with this number and this many events, at three replicas, on two objects of each type.
 ///
 /// The number is the first state of a linear congruential generator; every program has one schedule for
 /// each number.

@@ -15,15 +15,15 @@ use Rattle.ql_formula.specs.Truth.{Chosen, Holds, HoldsTxn, none_inside, stateme
 use Rattle.ql_implication.specs.Executions.{FitsProgram}
 
 -- the most effects that a countermodel has
-abbrev pub most_effects : ℕ
-most_effects = 24
+abbrev pub most_countermodel_effects : ℕ
+most_countermodel_effects = 24
 
 -- An execution of the program with an effect of the operation at which the level's formula holds and, with these
 -- effects for its variables, the contract's body is false.
 pub record IsCounter (types : List ℕ) (o : ℕ) (level : Level) (f : Resolved) (x : List Effect) (cur : ℕ) (places : List ℕ) : Type 0 where
   pub lawful : IsExecution x
   pub fits : FitsProgram types x
-  pub few : length x ≤ most_effects
+  pub few : length x ≤ most_countermodel_effects
   pub effect : Effect
   pub there : effect_at x cur ≡ Some effect
   pub of_op : effect.op.0 ≡ o
@@ -36,7 +36,7 @@ pub record IsCounter (types : List ℕ) (o : ℕ) (level : Level) (f : Resolved)
 pub record IsTxnCounter (types : List ℕ) (d : ℕ) (level : TxnLevel) (f : Resolved) (x : List Effect) (run : ℕ) (places : List ℕ) : Type 0 where
   pub lawful : IsExecution x
   pub fits : FitsProgram types x
-  pub few : length x ≤ most_effects
+  pub few : length x ≤ most_countermodel_effects
   pub begun : 1 ≤ run
   pub declared : (a : ℕ) (e : Effect) (number : RunId) (name : DeclId) → effect_at x a ≡ Some e → e.member ≡ Inside number name → number.0 ≡ run → name.0 ≡ d
   pub holds : HoldsTxn x (txn_formula_of level) run

@@ -90,7 +90,7 @@ pub data IsStep (rules : Rules) (s : Machine) : Event → Machine → Reply → 
   repeats : (m : MsgId) (message : Message) → IsInFlight s.messages m.0 message → IsStep rules s (Repeat m) (record s { messages = repeated s.messages m.0 message }) (Sent m)
   -- lose: no copy is in flight
   none_to_lose : (m : MsgId) → IsGone s.messages m.0 → IsStep rules s (Lose m) s Gone
-  -- else there is one copy less
+  -- else there is one copy fewer
   loses : (m : MsgId) (message : Message) → IsInFlight s.messages m.0 message → IsStep rules s (Lose m) (record s { messages = spent s.messages m.0 message }) Lost
   -- resend: the first replica hasn't received the effect
   absent : (a : EffId) (sender receiver : ReplicaId) → has_id (received_at s.received sender.0) a.0 ≡ false

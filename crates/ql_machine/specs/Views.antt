@@ -29,8 +29,8 @@ PlainScope s r Causal a = Applied s r a
 PlainScope s r Wide a = Applied s r a
 PlainScope s r Strong a = Unit {0}
 
--- In a transaction: what the replica has applied together with its own effects. At repeatable read, the snapshot taken
--- when it began together with its own effects, whatever the replica.
+-- In a transaction: what the replica has applied, together with the transaction's own effects. At repeatable read: the
+-- snapshot taken when it began, together with its own effects, whatever the replica.
 abbrev pub TxnScope : Machine → OpenTxn → ℕ → TxnLevel → ℕ → Type 0
 TxnScope s t r Rc a = AppliedWithOwn s t (received_at s.received r) a
 TxnScope s t r Mav a = AppliedWithOwn s t (received_at s.received r) a

@@ -6,7 +6,7 @@ use Rattle.ql_base.specs.declared.ids.OpId.{OpId}
 use Rattle.ql_base.specs.declared.ids.ReplicaId.{ReplicaId}
 use Rattle.ql_exec.specs.declared.effect.Effect.{Effect}
 use Rattle.ql_exec.specs.Effects.{effect_at, in_run}
-use Rattle.ql_exec.specs.Execution.{has_name}
+use Rattle.ql_exec.specs.Execution.{is_declared_as}
 use Rattle.ql_needs.specs.Closed.{Has}
 use Rattle.ql_levels.specs.declared.level.Level.TheVariants.{Strong}
 use Rattle.ql_machine.specs.declared.event.Event.{Event}
@@ -18,7 +18,7 @@ use Rattle.ql_machine.specs.Calls.{HasNoneOpen}
 
 -- the effects of a begun transaction, if it has any, are under this declared name
 abbrev pub IsUnderName : List Effect → ℕ → DeclId → Type 0
-IsUnderName x run decl = (a : ℕ) (e : Effect) → effect_at x a ≡ Some e → in_run run e.member ≡ true → has_name decl e.member ≡ true
+IsUnderName x run decl = (a : ℕ) (e : Effect) → effect_at x a ≡ Some e → in_run run e.member ≡ true → is_declared_as decl e.member ≡ true
 
 -- each replica has received what every message to it carries
 abbrev pub AllArrived : Machine → Type 0

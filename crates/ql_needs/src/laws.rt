@@ -20,9 +20,9 @@ pub fn closed_part_stays()
     ensures { (x more : List Effect) (ids : List ℕ) → IsExecution (x ++ more) → AreThere x ids → JoinsNone x more ids → (a : ℕ) → Closed (Needs x) (Has ids) a ↔ Closed (Needs (x ++ more)) (Has ids) a }
 {}
 
-/// The law of packages: if a set has only whole transactions, it has all of a package or none of it, and with the
-/// package added it still has only whole transactions; and both stay true in a longer execution that adds no
-/// effect to a transaction of theirs.
+/// The law of packages: a set of whole transactions has all of a package or none of it, and with the package
+/// added it is still one; and in a longer execution that adds no effect to their transactions, the package is
+/// still a package, and the set still has whole transactions.
 pub fn packages_are_whole()
     ensures together { (x : List Effect) (ids set : List ℕ) → IsPackage x ids → AreWhole x set → (a : ℕ) → Has ids a → Has set a → (b : ℕ) → Has ids b → Has set b }
     ensures added { (x : List Effect) (before ids : List ℕ) → AreWhole x before → IsPackage x ids → AreWhole x (union_of before ids) }

@@ -4,7 +4,7 @@ use Rattle.ql_base.specs.IdLists.{has_id}
 use Rattle.ql_ranges.specs.Ranges.{ids_of, BeginAt, AreApart}
 use Rattle.ql_ranges.specs.declared.ranges.IdRange.{IdRange}
 
--- the index is that of the first range that ends at most 1 below the id
+-- the index of the first range that doesn't end 2 or more below the id, or the number of ranges if all do
 pub record IsPlace (ranges : List IdRange) (id at : ℕ) : Type 0 where
   pub bound : at ≤ length ranges
   pub before : (k : ℕ) (d : IdRange) → k < at → (slice_index_or ranges k d).to + 2 ≤ id

@@ -38,13 +38,13 @@ hints_fault c earlier k [] p = Some (NoConflict k)
 hints_fault c earlier k (h ∷ hs) p = after_hint k (hinted c earlier h) p (λ q. hints_fault c earlier k hs q)
 
 -- the variables are 1 to n
-abbrev pub in_range : ℕ → List Lit → Bool
-in_range n c = list_all (λ x. nat_le 1 x.var && nat_le x.var n) c
+abbrev pub variables_in_range : ℕ → List Lit → Bool
+variables_in_range n c = list_all (λ x. nat_le 1 x.var && nat_le x.var n) c
 
 -- why a line is refused after these lines, if it is
 abbrev pub line_fault : ClauseList → List Line → Line → Option Verdict
 line_fault c earlier line =
-    if in_range c.variables line.clause
+    if variables_in_range c.variables line.clause
     then hints_fault c earlier (length earlier + 1) line.hints (with_all_false nothing line.clause)
     else Some (BadVariable (length earlier + 1))
 

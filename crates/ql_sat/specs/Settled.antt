@@ -1,7 +1,7 @@
 -- What the two watched literals of a clause guarantee about its truth, while literals are made true.
 use Rattle.std.specs.Prelude.{ℕ, ◌+◌, ◌*◌, ◌<◌, ◌≤◌, ◌⊎◌, ◌≡◌, ◌≢◌, Bool, true, false, not, is_some, take, List, [], ◌∷◌, ◌++◌, length, map, None, Some}
 use Rattle.std.specs.List.{All, slice_index_or}
-use Rattle.ql_cnf.specs.Literals.{has_literal, negated, IsAscending}
+use Rattle.ql_cnf.specs.Literals.{has_literal, negated, IsAscendingByVariable}
 use Rattle.ql_cnf.specs.Satisfaction.{ClauseList}
 use Rattle.ql_cnf.specs.declared.lit.Lit.{Lit}
 use Rattle.ql_refute.specs.Partial.{Partial, nothing, with_true, is_open}
@@ -44,7 +44,7 @@ WatchesOwn (x ∷ xs) w = (has_literal (x ∷ xs) w.first ≡ true) × (has_lite
 pub record IsGuarded (c : ClauseList) (trail : List Step) (lists : List (List ℕ)) (pairs : List Pair) : Type 0 where
   pub counted : length pairs ≡ length c.clauses
   pub room : length lists ≡ 2 * (c.variables + 1)
-  pub ascending : (k : ℕ) → k < length c.clauses → IsAscending (slice_index_or c.clauses k [])
+  pub ascending : (k : ℕ) → k < length c.clauses → IsAscendingByVariable (slice_index_or c.clauses k [])
   pub own : (k : ℕ) → k < length c.clauses → WatchesOwn (slice_index_or c.clauses k []) (pair_at pairs k)
   pub decided : AtDecisions (λ r. AreSettled (length c.clauses) r r pairs) nothing trail
 

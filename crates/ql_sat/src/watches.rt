@@ -1,7 +1,7 @@
 // Two watched literals for each clause: while neither is false, the clause forces nothing.
 ghost use Rattle.std.specs.Prelude.{◌≡◌, ◌≢◌, ◌⊎◌, ℕ, ◌+◌, ◌-◌, ◌*◌, ◌^◌, ◌<◌, ◌≤◌, ◌++◌, ◌∷◌, [], length, IfNone, IfOk, IfSome, OnOk, false, slice_index, take, true};
 ghost use Rattle.std.specs.List.{slice_index_or};
-ghost use Rattle.ql_cnf.specs.Literals.{IsAscending};
+ghost use Rattle.ql_cnf.specs.Literals.{IsAscendingByVariable};
 ghost use Rattle.ql_cnf.specs.declared.lit.Lit.{Lit};
 ghost use Rattle.ql_refute.specs.Marks.{marked};
 ghost use Rattle.ql_refute.specs.Partial.{is_open, is_value};
@@ -121,7 +121,7 @@ impl Watches {
 
 // The first two literals of a clause, or its only one twice.
 fn first_pair(clause: &[Lit]) -> Pair
-    requires { IsAscending clause.now }
+    requires { IsAscendingByVariable clause.now }
     ensures { WatchesOwn clause.now result }
 {
     match clause {

@@ -70,5 +70,5 @@ abbrev pub given : Argument → List Value
 given (Given v) = v ∷ []
 given TooGreat = []
 
-abbrev pub values_of : List Argument → List Value
-values_of args = flat_map given args
+abbrev pub argument_values : List Argument → List Value
+argument_values args = flat_map given args

@@ -27,7 +27,7 @@ pub record IsCalled (parts : Fields) (c : Caller) (object op : List ℕ) (rest :
   pub are : behind ≡ object ∷ op ∷ rest
 
 -- the same, and arguments after it
-pub record IsCall (parts : Fields) (c : Caller) (object op : List ℕ) (args : List Argument) : Type 0 where
+pub record IsCallLine (parts : Fields) (c : Caller) (object op : List ℕ) (args : List Argument) : Type 0 where
   pub rest : Fields
   pub called : IsCalled parts c object op rest
   pub arguments : AreArguments rest args
@@ -73,21 +73,21 @@ AreNumbers (field ∷ fields) (n ∷ ns) = IsNumber field n × AreNumbers fields
 AreNumbers _ _ = ⊥
 
 -- the keyword of an event's kind
-abbrev pub kind_word : EventLine → List ℕ
-kind_word (Call c object op args) = codes "call"
-kind_word (Begin c txn objects) = codes "begin"
-kind_word (Commit c) = codes "commit"
-kind_word (Deliver n) = codes "deliver"
-kind_word (Repeat n) = codes "repeat"
-kind_word (Lose n) = codes "lose"
-kind_word (Resend effect sender receiver) = codes "resend"
-kind_word (Partition groups) = codes "partition"
-kind_word Heal = codes "heal"
-kind_word (Join near copy) = codes "join"
+abbrev pub event_word : EventLine → List ℕ
+event_word (Call c object op args) = codes "call"
+event_word (Begin c txn objects) = codes "begin"
+event_word (Commit c) = codes "commit"
+event_word (Deliver n) = codes "deliver"
+event_word (Repeat n) = codes "repeat"
+event_word (Lose n) = codes "lose"
+event_word (Resend effect sender receiver) = codes "resend"
+event_word (Partition groups) = codes "partition"
+event_word Heal = codes "heal"
+event_word (Join near copy) = codes "join"
 
 -- what follows that keyword
 abbrev pub IsRest : Fields → EventLine → Type 0
-IsRest parts (Call c object op args) = IsCall parts c object op args
+IsRest parts (Call c object op args) = IsCallLine parts c object op args
 IsRest parts (Begin c txn objects) = IsBegin parts c txn objects
 IsRest parts (Commit c) = CallerAt c parts []
 IsRest parts (Deliver n) = IsOneNumber parts n
@@ -101,7 +101,7 @@ IsRest parts (Join near copy) = IsJoin parts near copy
 -- the parts of a line are this event
 pub record IsEventLine (parts : Fields) (l : EventLine) : Type 0 where
   pub rest : Fields
-  pub are : parts ≡ kind_word l ∷ rest
+  pub are : parts ≡ event_word l ∷ rest
   pub rest_is : IsRest rest l
 
 -- a version of the format has this line
@@ -115,5 +115,5 @@ IsEventIn version parts l = IsEventLine parts l × (is_of_version version l ≡ 
 
 -- the event of this kind that the parts after its keyword spell
 abbrev pub IsKindRead : List ℕ → Fields → Option EventLine → Type 0
-IsKindRead word parts None = (l : EventLine) → kind_word l ≡ word → IsRest parts l → ⊥
-IsKindRead word parts (Some l) = (kind_word l ≡ word) × IsRest parts l
+IsKindRead word parts None = (l : EventLine) → event_word l ≡ word → IsRest parts l → ⊥
+IsKindRead word parts (Some l) = (event_word l ≡ word) × IsRest parts l

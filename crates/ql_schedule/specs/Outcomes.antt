@@ -38,10 +38,10 @@ module _ {L : Type 0} (Is : L → Type 0) (faults_of : L → Faults) (next : L �
     pub is : Is line
     pub unlawful : lowest (faults_of line) ≡ Some rule
 
-  abbrev pub GivesAs : Result Reading SchedRule → Type 0
-  GivesAs (Ok after) = Makes after
-  GivesAs (Err Unexpected) = (line : L) → Is line → ⊥
-  GivesAs (Err rule) = Violates rule
+  abbrev pub ExtendsScheduleAs : Result Reading SchedRule → Type 0
+  ExtendsScheduleAs (Ok after) = Makes after
+  ExtendsScheduleAs (Err Unexpected) = (line : L) → Is line → ⊥
+  ExtendsScheduleAs (Err rule) = Violates rule
 
 abbrev pub after_declaration : Program → Schedule → Declaration → Reading
 after_declaration p s (Object name kind) = Declaring (with_object p s name kind)
@@ -51,11 +51,11 @@ abbrev pub after_event : Program → Schedule → ℕ → EventLine → Reading
 after_event p s replicas l = Running (with_event s (event_of p s l)) (replicas_with replicas l)
 
 -- the state of reading after a line with these parts, or the lowest rule that it breaks
-abbrev pub Gives : Program → Reading → Fields → Result Reading SchedRule → Type 0
-Gives p Untitled parts = GivesAs (IsTitle parts) (λ _. no_faults) Titled
-Gives p (Titled version) parts = GivesAs (IsReplicas parts) replicas_faults (λ n. Declaring (of_replicas version n))
-Gives p (Declaring s) parts = GivesAs (IsDeclaration parts) (declaration_faults p s) (after_declaration p s)
-Gives p (Running s replicas) parts = GivesAs (IsEventIn s.version parts) (event_faults p s replicas) (after_event p s replicas)
+abbrev pub ExtendsSchedule : Program → Reading → Fields → Result Reading SchedRule → Type 0
+ExtendsSchedule p Untitled parts = ExtendsScheduleAs (IsTitle parts) (λ _. no_faults) Titled
+ExtendsSchedule p (Titled version) parts = ExtendsScheduleAs (IsReplicas parts) replicas_faults (λ n. Declaring (of_replicas version n))
+ExtendsSchedule p (Declaring s) parts = ExtendsScheduleAs (IsDeclaration parts) (declaration_faults p s) (after_declaration p s)
+ExtendsSchedule p (Running s replicas) parts = ExtendsScheduleAs (IsEventIn s.version parts) (event_faults p s replicas) (after_event p s replicas)
 
 -- ---- the end of a file
 

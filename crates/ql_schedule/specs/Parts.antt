@@ -4,8 +4,8 @@ use Rattle.std.specs.Prelude.{ℕ, ◌+◌, ◌==◌, Bool, not, nat_eq, List, [
 use Rattle.std.specs.List.{prefix_len}
 use Rattle.ql_lines.specs.Fields.{Fields, is_space}
 
-abbrev pub is_quote : ℕ → Bool
-is_quote b = b == 34
+abbrev pub is_quotation_mark : ℕ → Bool
+is_quotation_mark b = b == 34
 
 abbrev pub isn't_space : ℕ → Bool
 isn't_space b = not (b == 32)
@@ -22,7 +22,7 @@ led_by b (p ∷ ps) = (b ∷ p) ∷ ps
 unfoldable mutual
   pub parts_of : List ℕ → Fields
   parts_of [] = []
-  parts_of (b ∷ bs) = if is_space b then parts_of bs else if is_quote b then led_by b (parts_in_text bs) else led_by b (parts_in_part bs)
+  parts_of (b ∷ bs) = if is_space b then parts_of bs else if is_quotation_mark b then led_by b (parts_in_text bs) else led_by b (parts_in_part bs)
 
   pub parts_in_part : List ℕ → Fields
   parts_in_part [] = [] ∷ []
@@ -30,7 +30,7 @@ unfoldable mutual
 
   pub parts_in_text : List ℕ → Fields
   parts_in_text [] = [] ∷ []
-  parts_in_text (b ∷ bs) = if is_quote b then led_by b (parts_in_part bs) else led_by b (parts_in_text bs)
+  parts_in_text (b ∷ bs) = if is_quotation_mark b then led_by b (parts_in_part bs) else led_by b (parts_in_text bs)
 
 -- how many bytes the rest of a quoted text has, with its second quote; all bytes if that is missing
 abbrev pub text_len : List ℕ → ℕ
@@ -39,7 +39,7 @@ text_len text = if nat_eq (prefix_len isn't_quote text) (length text) then prefi
 -- the length in bytes of the quoted text at the start, 0 without a quote
 abbrev pub quoted_len : List ℕ → ℕ
 quoted_len [] = 0
-quoted_len (b ∷ bs) = if is_quote b then text_len bs + 1 else 0
+quoted_len (b ∷ bs) = if is_quotation_mark b then text_len bs + 1 else 0
 
 -- the length in bytes of the part at the start
 abbrev pub part_len : List ℕ → ℕ

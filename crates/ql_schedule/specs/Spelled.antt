@@ -11,12 +11,13 @@ use Rattle.ql_machine.specs.declared.event.Event.{Event}
 use Rattle.ql_machine.specs.declared.event.Event.TheVariants.{Call, Begin, Commit, Deliver, Repeat, Lose, Resend, Partition, Heal, Join}
 use Rattle.ql_typing.specs.Lookups.{txn_place, type_place}
 use Rattle.ql_typing.specs.Operations.{op_place}
+use Rattle.ql_typing.specs.Names.{op_name, txn_name, type_name}
 use Rattle.ql_value.specs.declared.value.Value.{Value}
 use Rattle.ql_value.specs.ValueGrammar.{IsValue}
 use Rattle.ql_schedule.specs.declared.schedule.Schedule.{Schedule}
 use Rattle.ql_schedule.specs.Arguments.{is_scalar}
 use Rattle.ql_schedule.specs.Guarantees.{IsSchedule}
-use Rattle.ql_schedule.specs.Texts.{name_at, op_name, txn_name, type_name}
+use Rattle.ql_schedule.specs.Texts.{name_at}
 
 -- names, none of which occurs earlier
 abbrev pub AreNew : List (List ℕ) → List (List ℕ) → Type 0

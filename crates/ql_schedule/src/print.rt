@@ -1,6 +1,7 @@
 ghost use Rattle.std.specs.Prelude.{◌≡◌, ◌<◌, ◌++◌, ◌∷◌, [], List, ℕ, IfOk, OnOk, All, Some, codes, decimal, length, map, slice_get};
 ghost use Rattle.ql_lines.specs.Fields.{Fields};
 ghost use Rattle.ql_lines.specs.Texts.{behind, file_text, joined};
+ghost use Rattle.ql_typing.specs.Names.{op_name, txn_name};
 ghost use Rattle.ql_value.specs.Spelling.{quoted, value_text};
 ghost use Rattle.ql_schedule.specs.Texts.{
   AreNamed,
@@ -10,9 +11,7 @@ ghost use Rattle.ql_schedule.specs.Texts.{
   name_at,
   object_fields,
   object_lines,
-  op_name,
   schedule_lines,
-  txn_name,
 };
 
 use crate::schedule::Schedule;

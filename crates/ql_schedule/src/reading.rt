@@ -7,7 +7,7 @@ ghost use Rattle.ql_schedule.specs.declared.rules.SchedRule.{SchedRule};
 ghost use Rattle.ql_schedule.specs.declared.reading.Reading.TheVariants.{Declaring, Running, Titled, Untitled};
 ghost use Rattle.ql_schedule.specs.Judging.{declaration_faults, is_full};
 ghost use Rattle.ql_schedule.specs.Makings.{replicas_with, with_event, with_object};
-ghost use Rattle.ql_schedule.specs.Outcomes.{Gives};
+ghost use Rattle.ql_schedule.specs.Outcomes.{ExtendsSchedule};
 ghost use Rattle.ql_schedule.specs.Parts.{parts_of};
 ghost use Rattle.ql_schedule.specs.Rules.{lowest};
 
@@ -41,7 +41,7 @@ pub(crate) fn take(
     read: Reading,
     text: &[u8],
 ) -> Result<Reading, LineFault<SchedRule>>
-    ensures { IsLineAnswer (Gives t.now.program read (parts_of text.now)) result }
+    ensures { IsLineAnswer (ExtendsSchedule t.now.program read (parts_of text.now)) result }
 {
     match read {
         Reading::Untitled => title(text),
@@ -53,7 +53,7 @@ pub(crate) fn take(
 
 // Reads the title.
 fn title(text: &[u8]) -> Result<Reading, LineFault<SchedRule>>
-    ensures { (p : Program) → IsLineAnswer (Gives p Untitled (parts_of text.now)) result }
+    ensures { (p : Program) → IsLineAnswer (ExtendsSchedule p Untitled (parts_of text.now)) result }
 {
     match read_title(text) {
         Some(version) => Ok(Reading::Titled(version)),
@@ -63,7 +63,7 @@ fn title(text: &[u8]) -> Result<Reading, LineFault<SchedRule>>
 
 // Reads the number of replicas.
 fn count(alloc: Global, version: u32, text: &[u8]) -> Result<Reading, LineFault<SchedRule>>
-    ensures { (p : Program) → IsLineAnswer (Gives p (Titled version) (parts_of text.now)) result }
+    ensures { (p : Program) → IsLineAnswer (ExtendsSchedule p (Titled version) (parts_of text.now)) result }
 {
     let Some(number) = read_replicas(text) else {
         return Err(LineFault::Breaks(SchedRule::Unexpected));
@@ -80,7 +80,7 @@ fn count(alloc: Global, version: u32, text: &[u8]) -> Result<Reading, LineFault<
 
 // Reads one more object, or the keyword before the events.
 fn declare(t: &Typed, so_far: Schedule, text: &[u8]) -> Result<Reading, LineFault<SchedRule>>
-    ensures { IsLineAnswer (Gives t.now.program (Declaring so_far) (parts_of text.now)) result }
+    ensures { IsLineAnswer (ExtendsSchedule t.now.program (Declaring so_far) (parts_of text.now)) result }
 {
     let Some(line) = read_declaration(text) else {
         return Err(LineFault::Breaks(SchedRule::Unexpected));
@@ -129,7 +129,7 @@ fn happen(
     replicas: u32,
     text: &[u8],
 ) -> Result<Reading, LineFault<SchedRule>>
-    ensures { IsLineAnswer (Gives t.now.program (Running so_far replicas) (parts_of text.now)) result }
+    ensures { IsLineAnswer (ExtendsSchedule t.now.program (Running so_far replicas) (parts_of text.now)) result }
 {
     let Some(line) = read_event(alloc, so_far.version, text)? else {
         return Err(LineFault::Breaks(SchedRule::Unexpected));
