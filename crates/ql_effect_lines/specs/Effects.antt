@@ -1,4 +1,4 @@
--- What one more effect's line makes of what the lines before it say, or the lowest rule that it breaks.
+-- What the lines say with one more effect's line, or the lowest rule that it breaks.
 use Rattle.std.specs.Prelude.{◌≡◌, ℕ, ◌<◌, ◌≤◌, Bool, false, not, nat_eq, nat_le, if◌then◌else◌, List, [], ◌∷◌, ◌++◌, All, length, Option, None, Some, option_map, unwrap_or, slice_get, Result, Ok, Err}
 use Rattle.std.specs.List.{find}
 use Rattle.std.specs.Option.{option_and_then, option_map_or}
@@ -21,7 +21,7 @@ use Rattle.ql_effect_lines.specs.declared.rules.ReportRule.TheVariants.{Unknown,
 use Rattle.ql_effect_lines.specs.declared.setting.Begun.{Begun}
 use Rattle.ql_effect_lines.specs.declared.told.Told.{Told}
 
--- the most effects of a file
+-- the greatest number of effects of a file
 abbrev pub most_effects : ℕ
 most_effects = 4000
 
@@ -51,12 +51,12 @@ first_on effects object = find (λ e. nat_eq e.object.0 object.0) effects
 abbrev pub is_mixed : Program → List Effect → ObjId → OpId → Bool
 is_mixed p effects object op = option_map_or (λ first. not (nat_eq (type_of_op p first.op) (type_of_op p op))) (first_on effects object) false
 
--- the membership in a begun transaction, where the program declares its name
+-- the membership in a begun transaction, if the program declares its name
 abbrev pub member_of_line : Program → Option Begun → Option Member
 member_of_line p None = Some Alone
 member_of_line p (Some t) = option_map (λ d. Inside (record { 0 = t.run }) (record { 0 = d })) (txn_place p.txns t.name)
 
--- the operation and the membership of an effect, where the program has them
+-- the operation and the membership of an effect, if the program has them
 abbrev pub known_of : Program → EffectLine → Option (OpId × Member)
 known_of p e = option_and_then (λ o. option_map (λ member. (record { 0 = o }, member)) (member_of_line p e.setting.txn)) (op_place p.types e.op)
 
@@ -74,7 +74,7 @@ draft_of_line e object op member = record {
   seen = e.setting.seen;
 }
 
--- the rule that a draft breaks which is no next effect; none is at fault because memory has run out
+-- the rule broken by a draft that can't be the next effect; running out of memory breaks none
 abbrev pub exec_rule : ExecFault → ReportRule
 exec_rule (exec.NotForward at) = NotForward
 exec_rule (exec.OtherObject at) = OtherObject
@@ -101,6 +101,6 @@ after_known p told e op member =
     if is_mixed p told.effects (record { 0 = object_number told.objects e.object }) op then Err Mixed
     else with_draft (with_object_name told e.object) (draft_of_line e (record { 0 = object_number told.objects e.object }) op member) e.setting.stamp
 
--- what is said with the line of one more effect, or the lowest rule that it breaks
+-- what the lines say with the line of one more effect, or the lowest rule that it breaks
 abbrev pub after_effect : Program → Told → EffectLine → Result Told ReportRule
 after_effect p told e = option_map_or (λ known. after_known p told e known.0 known.1) (known_of p e) (Err Unknown)

@@ -1,6 +1,6 @@
 // The lines of effects in files of executions.
-// The one contract: a line is read to the effect that it says, where it says one, and that effect joins the effects before
-// it, or breaks a rule, of several the lowest.
+// The one contract: reading a line returns the effect that it says, if it says one, and that effect is appended to the
+// effects before it, or breaks a rule; of several rules the lowest is reported.
 #![tactic(auto)]
 
 mod effect_line;

@@ -100,7 +100,7 @@ fn begun_of(field: &[u8]) -> Option<Begun>
     }
 }
 
-// The number of a begun transaction, which is from 1 on.
+// The number of a begun transaction, which is at least 1.
 fn run_of(digits: &[u8]) -> Option<u32>
     ensures { MatchOption result ((n : ℕ) → 1 ≤ n → IsId n → digits.now ≡ decimal n → ⊥) (λ n. (1 ≤ n) × IsId n × (digits.now ≡ decimal n)) }
 {

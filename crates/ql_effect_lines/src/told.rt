@@ -36,7 +36,7 @@ pub struct Told {
 }
 
 impl Told {
-    /// With one more effect, or the lowest rule that it breaks.
+    /// Appends one more effect, or returns the lowest rule that it breaks.
     pub fn put(self, t: &Typed, line: EffectLine) -> Result<Told, LineFault<ReportRule>>
         requires few { length self.effects ≤ most_effects }
         requires named { length self.objects ≤ length self.effects }
@@ -49,7 +49,7 @@ impl Told {
         }
     }
 
-    // The same of an effect with this operation and this membership.
+    // The same for an effect with this operation and this membership.
     fn put_known(
         self,
         t: &Typed,
@@ -76,7 +76,7 @@ impl Told {
         told.push(draft(line, object, op, member), stamp)
     }
 
-    // With one more effect, which is to have this stamp.
+    // Appends one more effect, which has to have this stamp.
     fn push(self, draft: Draft, stamp: u32) -> Result<Told, LineFault<ReportRule>>
         requires few { length self.effects ≤ most_effects }
         ensures { IsLineAnswer (λ x. (with_draft self draft stamp) ≡ x) result }
@@ -102,7 +102,7 @@ impl Told {
     }
 }
 
-// The operation and the membership of an effect, where the program has them.
+// The operation and the membership of an effect, if the program has them.
 fn known(t: &Typed, line: &EffectLine) -> Option<(OpId, Member)>
     ensures known { result ≡ known_of t.now.program line.now }
     ensures within { IfSome result (λ x. x.0.0 < length (all_ops t.now.program.types)) }
@@ -112,7 +112,7 @@ fn known(t: &Typed, line: &EffectLine) -> Option<(OpId, Member)>
     Some((op, member))
 }
 
-// The number of a name after others.
+// The number of a name, which is added to `names` if it is new.
 fn number(names: &mut Names, word: &Word) -> Result<u32, NoMemory>
     requires { length names.old + 1 < 2 ^ 32 }
     ensures names { IfOk result (λ _. names.new ≡ with_name names.old word.now) }
@@ -121,7 +121,7 @@ fn number(names: &mut Names, word: &Word) -> Result<u32, NoMemory>
     names.number(word.bytes())
 }
 
-// The membership in a begun transaction, where the program declares its name.
+// The membership in a begun transaction, if the program declares its name.
 fn member(t: &Typed, txn: Option<Begun>) -> Option<Member>
     ensures { result ≡ member_of_line t.now.program txn }
 {

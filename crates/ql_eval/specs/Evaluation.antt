@@ -19,8 +19,8 @@ use Rattle.ql_value.specs.Collections.{added, contains, dropped, keys, put_in, r
 use Rattle.ql_value.specs.Saturating.{saturated}
 use Rattle.ql_value.specs.ValueOrder.{value_cmp}
 
--- The value of an expression, by recursion on it, under the values of the names in scope. There is none where a name
--- isn't in scope or an operand has another kind than its operator takes.
+-- The value of an expression, by recursion on it, under the values of the names in scope. There is none if a name isn't
+-- in scope or an operand has another kind than its operator takes.
 
 -- names and their values
 abbrev pub Bindings : Type 0
@@ -31,7 +31,7 @@ unfoldable pub value_in : Bindings → List ℕ → Option Value
 value_in [] w = None
 value_in (p ∷ ps) w = if bytes_eq p.0 w then Some p.1 else value_in ps w
 
--- a literal's text, and the empty text for bytes that no literal of a source has
+-- a literal's text, or the empty text for bytes that no literal of a source has
 abbrev pub text_of : List ℕ → List ℕ
 text_of bytes = if nat_le (length bytes) 64 && list_all is_text_byte bytes then bytes else []
 
@@ -65,13 +65,13 @@ on_truths op.Or a b = Some (Truth (a || b))
 on_truths op.And a b = Some (Truth (a && b))
 on_truths _ a b = None
 
--- an operator that looks at the kind of its operands
+-- an operator that depends on the kind of its operands
 abbrev pub on_same : BinOp → Value → Value → Option Value
 on_same o (Number a) (Number b) = on_numbers o a b
 on_same o (Truth a) (Truth b) = on_truths o a b
 on_same o _ _ = None
 
--- values are equal where neither is below the other, so texts are equal by their bytes
+-- values are equal if neither is below the other, so texts are equal by their bytes
 abbrev pub on_values : BinOp → Value → Value → Option Value
 on_values op.Eq a b = Some (Truth (is_eq (value_cmp a b)))
 on_values op.Ne a b = Some (Truth (not (is_eq (value_cmp a b))))
@@ -132,7 +132,7 @@ called f a (b ∷ []) = called_with_two f a b
 called f a (b ∷ c ∷ []) = called_with_three f a b c
 called f a (b ∷ c ∷ d ∷ more) = None
 
--- a call by its first argument, where that has a value
+-- a call by its first argument, if that has a value
 abbrev pub called_on : Option Function → Option Value → List (Option Value) → Option Value
 called_on f (Some a) more = called f a more
 called_on f None more = None

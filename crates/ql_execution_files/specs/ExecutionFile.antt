@@ -1,4 +1,4 @@
--- The files of executions: what one says, or its first fault.
+-- Execution files: what one says, or its first fault.
 use Rattle.std.specs.Prelude.{◌≡◌, ◌⊎◌, ℕ, suc, List, [], ◌∷◌, length, codes, Result, Ok, Err}
 use Rattle.ql_lines.specs.Fields.{fields_of, Fields}
 use Rattle.ql_lines.specs.Lines.{Ahead, Numbered}
@@ -30,7 +30,7 @@ nothing_told = record { objects = []; effects = [] }
 
 -- ---- one line
 
--- the next line is the first that is `execution`, or it is passed over
+-- the next line is the first that is `execution`, or it is skipped
 abbrev pub TakesAny : Fields → Reading → Type 0
 TakesAny fields after = ((fields ≡ first_fields) × (after ≡ WithEffects nothing_told)) ⊎ ((fields ≡ first_fields → ⊥) × (after ≡ Unbegun))
 
@@ -47,7 +47,7 @@ pub record TakesEnd (told : Told) (fields : Fields) (after : Reading) : Type 0 w
   pub is : fields ≡ end_fields
   pub to : after ≡ Ended told
 
--- what a line makes of what the lines before it say
+-- the reading after a line, by the one before it
 abbrev pub Takes : Program → Reading → List ℕ → Reading → Type 0
 Takes p Unbegun text after = TakesAny (fields_of text) after
 Takes p (WithEffects told) text after = TakesEffect p told text after ⊎ TakesEnd told (fields_of text) after
@@ -65,18 +65,18 @@ pub record BreaksRule (p : Program) (told : Told) (text : List ℕ) (rule : Repo
   pub is : IsEffectLine text (suc (length told.effects)) effect
   pub unlawful : after_effect p told effect ≡ Err rule
 
--- the rule that a line breaks after what the lines before it say; after the end no line may follow
+-- the rule that a line breaks after the lines before it; after the end no line may follow
 abbrev pub Breaks : Program → Reading → List ℕ → ReportRule → Type 0
 Breaks p Unbegun text rule = ⊥
 Breaks p (WithEffects told) text rule = IsNoLine told text rule ⊎ BreaksRule p told text rule
 Breaks p (Ended told) text rule = rule ≡ Unexpected
 
--- what a line makes of what the lines before it say, or the rule that it breaks
+-- the reading after a line, or the rule that the line breaks
 abbrev pub ExtendsExecution : Program → Reading → List ℕ → Result Reading ReportRule → Type 0
 ExtendsExecution p before text (Ok after) = Takes p before text after
 ExtendsExecution p before text (Err rule) = Breaks p before text rule
 
--- what a file says that ends here; where it isn't ended yet, the line after its last one is at fault
+-- what a file says that ends here; if its last line is missing, the fault is on the line after the last one
 abbrev pub ClosesExecution : Reading → ℕ → Result (List Effect) (Broken ReportRule) → Type 0
 ClosesExecution (Ended told) end x = x ≡ Ok told.effects
 ClosesExecution other end x = x ≡ Err (record { line = end; rule = Unexpected })
@@ -89,7 +89,7 @@ AreSound p (Ended told) = IsSound p told
 
 -- ---- the files
 
--- the same of a numbered line
+-- the same for a numbered line
 abbrev pub gives : Program → Reading → Numbered → Result Reading ReportRule → Type 0
 gives p before l x = ExtendsExecution p before l.text x
 

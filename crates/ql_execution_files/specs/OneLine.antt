@@ -1,4 +1,4 @@
--- What a line makes of what the lines before it say is one thing, and it stays sound.
+-- The reading after a line is unique, and it stays sound.
 use Rattle.std.proofs.Common.{◌≡◌, inl, inr, ℕ, suc, ◌<◌, List, [], ◌∷◌, Result, Ok, Err, length, codes, arith, refl, ap, sym, subst, ◌∙◌}
 use Rattle.std.proofs.lemmas.List.Elements.{All-nil}
 use Rattle.ql_exec.specs.declared.effect.Effect.{Effect}
@@ -33,7 +33,7 @@ module _ (p : Program) where
   one_any fields a b (inr x) (inr y) = x.1 ∙ sym y.1
 
   module _ (told : Told) (text : List ℕ) where
-    -- what effects a line is make one thing
+    -- all effects that a line may be read as have one result
     same_after : (e f : EffectLine) → IsEffectLine text (suc (length told.effects)) e → IsEffectLine text (suc (length told.effects)) f → after_effect p told e ≡ after_effect p told f
     same_after e f x y = ap (after_effect p told) (one_effect text (suc (length told.effects)) e f x y)
 
@@ -68,7 +68,7 @@ module _ (p : Program) where
         let same : ◌≡◌ {A = Result Told ReportRule} (Err k) (Err m) = sym x.unlawful ∙ same_after x.effect y.effect x.is y.is ∙ y.unlawful in
         cc
 
-    -- an effect's line makes something
+    -- an effect's line has a result
     some_effect : (e : EffectLine) → IsEffectLine text (suc (length told.effects)) e → (r : Result Told ReportRule) → after_effect p told e ≡ r
         → ((x : Result Reading ReportRule) → ExtendsExecution p (WithEffects told) text x → ⊥) → ⊥
     some_effect e is (Ok more) h none = none (Ok (WithEffects more)) (inl (record { effect = e; more = more; is = is; lawful = h; to = refl }))

@@ -15,8 +15,8 @@ use ql_lines::{after_word, first_field};
 use ql_typing::Typed;
 use std::alloc::Global;
 
-/// What some lines say: nothing, since the first line that is `execution` is yet to come; effects;
-/// all effects, up to the end.
+/// What the lines read so far say: nothing, since the first line that is `execution` is yet to come;
+/// effects; or all effects, up to the end.
 #[derive(Drop)]
 pub enum Reading {
     Unbegun,
@@ -24,7 +24,7 @@ pub enum Reading {
     Ended(Told),
 }
 
-/// The format of the files of a program's executions.
+/// The format of a program's execution files.
 #[derive(Clone, Copy)]
 pub(crate) struct Format<'a> {
     pub t: &'a Typed,

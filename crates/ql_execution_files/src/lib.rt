@@ -1,5 +1,5 @@
-// Files of executions.
-// The one contract: a file is read to the execution that it says, or to its first fault; no file has both.
+// Execution files.
+// The one contract: reading a file returns the execution that it says, or its first fault; no file has both.
 #![tactic(auto)]
 
 mod format;

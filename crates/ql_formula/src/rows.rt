@@ -60,7 +60,7 @@ fn vis_row(alloc: Global, effects: &[Effect], k: usize) -> Result<Row, NoMemory>
     Ok(row)
 }
 
-// Adds the effects of these ids.
+// Adds the effects with these ids.
 fn mark(row: &mut Row, ids: &[u32])
     requires { (k : ℕ) → has_id ids.now k ≡ true → (1 ≤ k) × (k ≤ length row.old) }
     ensures length { length row.new ≡ length row.old }
@@ -112,7 +112,7 @@ fn closure_row(
     Ok(row)
 }
 
-// The place of the last of these effects that is before one of this key in its session.
+// The index of the last of these effects that is before one with this key in its session.
 fn last_before(keys: &[Key], key: Key, closure: Closure) -> Option<usize>
     ensures { IsLastBefore closure keys.now key result }
 {
@@ -126,7 +126,7 @@ fn last_before(keys: &[Key], key: Key, closure: Closure) -> Option<usize>
     None
 }
 
-// Whether the first effect is before the second in a session, given that it is made before it.
+// Whether the first effect is before the second in a session, given that it was made before it.
 fn follows(first: Key, second: Key, closure: Closure) -> bool
     ensures { result ≡ follows closure first second }
 {
@@ -151,7 +151,7 @@ fn visit_last(row: &mut Row, rows: &[Row], last: Option<usize>)
     }
 }
 
-// Goes to the seen effects from the last to the first, since the last bring most.
+// Visits the seen effects from the last to the first, since the last ones add most.
 fn visit_seen(row: &mut Row, rows: &[Row], seen: &[u32])
     requires lengths { (k : ℕ) → k < length rows.now → length (slice_index_or rows.now k []) ≡ k }
     requires within { (a : ℕ) → has_id seen.now a ≡ true → (1 ≤ a) × (a ≤ length rows.now) × (a ≤ length row.old) }
@@ -169,7 +169,7 @@ fn visit_seen(row: &mut Row, rows: &[Row], seen: &[u32])
     }
 }
 
-// Adds the effect of the row `earlier` and all from which that one is reached. Where the row has it
+// Adds the effect of the row `earlier` and all from which that one is reached. If the row has it
 // already, it has these too.
 fn visit(row: &mut Row, earlier: &Row)
     requires { length earlier.now < length row.old }
