@@ -7,8 +7,8 @@ use Rattle.ql_base.specs.declared.ids.OpId.{OpId}
 use Rattle.ql_classify.specs.declared.finding.Finding.{Finding}
 use Rattle.ql_classify.specs.declared.finding.Finding.TheVariants.{Least, NoLevel}
 use Rattle.ql_classify.specs.declared.finding.Unmet.{Unmet}
-use Rattle.ql_commands.specs.declared.answer.Answer.{Answer}
-use Rattle.ql_commands.specs.declared.answer.Answer.TheVariants.{Done, No, Bad}
+use Rattle.ql_reply.specs.declared.status.Status.{Status}
+use Rattle.ql_reply.specs.declared.status.Status.TheVariants.{Done, No, Bad}
 use Rattle.ql_commands.specs.Sources.{BadSourceSays, IsSourceOf}
 use Rattle.ql_counter.specs.Countermodels.{AreWithin, IsCounterOf, numbers}
 use Rattle.ql_counter.specs.declared.counter.At.{At}
@@ -170,10 +170,11 @@ abbrev pub IsJsonExplanation : List ℕ → Program → List ℕ → Type 0
 IsJsonExplanation source p text =
     (findings : List Finding) × AreFindings p findings × (targets : List Data) × AreTargets source p findings targets × (text ≡ explanation_json targets)
 
-abbrev pub ExplainJsonSays : List ℕ → Answer → List ℕ → Type 0
+abbrev pub ExplainJsonSays : List ℕ → Status → List ℕ → Type 0
 ExplainJsonSays bytes Done text = (p : Program) × IsSourceOf bytes p × IsAccepted p × IsJsonExplanation bytes p text
 ExplainJsonSays bytes No text = (p : Program) × IsSourceOf bytes p × IsRefused p × IsJsonExplanation bytes p text
 ExplainJsonSays bytes Bad text = BadSourceSays bytes text
+ExplainJsonSays bytes _ text = ⊥
 
 -- ---- parts of it
 

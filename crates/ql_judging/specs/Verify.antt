@@ -11,6 +11,8 @@ use Rattle.ql_lang.specs.declared.contract.Var.{Var}
 use Rattle.ql_lang.specs.declared.program.Program.{Program}
 use Rattle.ql_lines.specs.Lines.{ahead_from}
 use Rattle.ql_reply.specs.Lines.{fault_line}
+use Rattle.ql_reply.specs.declared.status.Status.{Status}
+use Rattle.ql_reply.specs.declared.status.Status.TheVariants.{Done, No, Bad, TooLarge}
 use Rattle.ql_report.specs.Refusals.{op_vars, txn_vars}
 use Rattle.ql_typing.specs.Names.{op_name, txn_name}
 use Rattle.ql_verify.specs.Verdicts.{IsVerdict}
@@ -18,8 +20,6 @@ use Rattle.ql_verify.specs.Work.{work_of}
 use Rattle.ql_verify.specs.declared.breach.Breach.{Breach}
 use Rattle.ql_verify.specs.declared.breach.Breach.TheVariants.{AtOp, AtTxn}
 use Rattle.ql_judging.specs.Members.{IsBegunOf}
-use Rattle.ql_judging.specs.declared.judged.Judged.{Judged}
-use Rattle.ql_judging.specs.declared.judged.Judged.TheVariants as judged
 
 -- ---- the execution's text
 
@@ -64,11 +64,11 @@ TellsBreach p x (AtOp at places) text = (e : Effect) × (effect_at x at.0 ≡ So
 TellsBreach p x (AtTxn run places) text = (name : ℕ) × IsBegunOf x run.0 name × (text ≡ txn_breach_text p run.0 name (effect_numbers places))
 
 -- what is said of an execution
-abbrev pub ExecutionSays : Program → List Effect → Judged → List ℕ → Type 0
-ExecutionSays p x judged.Holds text = (work_of p x ≤ 20000000) × IsVerdict p x None × (text ≡ codes "holds\n")
-ExecutionSays p x judged.Fails text = (work_of p x ≤ 20000000) × (b : Breach) × IsVerdict p x (Some b) × TellsBreach p x b text
-ExecutionSays p x judged.TooMuch text = (20000000 < work_of p x) × (text ≡ codes "too much " ++ decimal (work_of p x) ++ codes "\n")
-ExecutionSays p x judged.Bad text = ⊥
+abbrev pub ExecutionSays : Program → List Effect → Status → List ℕ → Type 0
+ExecutionSays p x Done text = (work_of p x ≤ 20000000) × IsVerdict p x None × (text ≡ codes "holds\n")
+ExecutionSays p x No text = (work_of p x ≤ 20000000) × (b : Breach) × IsVerdict p x (Some b) × TellsBreach p x b text
+ExecutionSays p x TooLarge text = (20000000 < work_of p x) × (text ≡ codes "too much " ++ decimal (work_of p x) ++ codes "\n")
+ExecutionSays p x _ text = ⊥
 
 -- ---- the two files
 
@@ -84,11 +84,12 @@ BadExecutionSays source execution text =
     (AreJudgeable source execution → ⊥) × (p : Program) × IsSourceOf source p
     × (f : ReportFault) × FirstExecutionFault p (ahead_from 1 execution) f × (execution_fault_text f ≡ Some text)
 
-abbrev pub VerifyTells : List ℕ → List ℕ → Judged → List ℕ → Type 0
-VerifyTells source execution j text = (p : Program) × IsSourceOf source p × (x : List Effect) × TellsExecution p execution x × ExecutionSays p x j text
+abbrev pub VerifyTells : List ℕ → List ℕ → Status → List ℕ → Type 0
+VerifyTells source execution status text = (p : Program) × IsSourceOf source p × (x : List Effect) × TellsExecution p execution x × ExecutionSays p x status text
 
-abbrev pub VerifySays : List ℕ → List ℕ → Judged → List ℕ → Type 0
-VerifySays source execution judged.Holds text = VerifyTells source execution judged.Holds text
-VerifySays source execution judged.Fails text = VerifyTells source execution judged.Fails text
-VerifySays source execution judged.TooMuch text = (AreJudgeable source execution → ⊥) × VerifyTells source execution judged.TooMuch text
-VerifySays source execution judged.Bad text = BadSourceSays source text ⊎ BadExecutionSays source execution text
+abbrev pub VerifySays : List ℕ → List ℕ → Status → List ℕ → Type 0
+VerifySays source execution Done text = VerifyTells source execution Done text
+VerifySays source execution No text = VerifyTells source execution No text
+VerifySays source execution TooLarge text = (AreJudgeable source execution → ⊥) × VerifyTells source execution TooLarge text
+VerifySays source execution Bad text = BadSourceSays source text ⊎ BadExecutionSays source execution text
+VerifySays source execution _ text = ⊥

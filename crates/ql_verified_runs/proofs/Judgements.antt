@@ -6,8 +6,8 @@ use Rattle.ql_exec.specs.declared.effect.Effect.{Effect}
 use Rattle.ql_execution_files.specs.ExecutionFile.{FirstExecutionFault, IsExecutionFile}
 use Rattle.ql_execution_files.specs.declared.report_fault.ReportFault.{ReportFault}
 use Rattle.ql_judging.specs.Verify.{VerifySays, VerifyTells}
-use Rattle.ql_judging.specs.declared.judged.Judged.{Judged}
-use Rattle.ql_judging.specs.declared.judged.Judged.TheVariants.{Holds, Fails, Bad, TooMuch}
+use Rattle.ql_reply.specs.declared.status.Status.{Status}
+use Rattle.ql_reply.specs.declared.status.Status.TheVariants.{Done, No, Bad, ReadFault, WriteFault, Usage, TooLarge}
 use Rattle.ql_lang.specs.Formulas.{Resolved}
 use Rattle.ql_lang.specs.declared.program.Program.{Program}
 use Rattle.ql_lang.specs.Programs.{Source, source_of}
@@ -56,7 +56,7 @@ module _ (tree : (bytes : List ℕ) (s t : Source) → IsProgramText bytes s →
   same-as : (q : Program) → IsSourceOf source q → source_of p ≡ source_of q
   same-as q is_q = tree source (source_of p) (source_of q) is.0 is_q.0
 
-  never-fails : (said : List ℕ) → VerifyTells source text Fails said → ⊥
+  never-fails : (said : List ℕ) → VerifyTells source text No said → ⊥
   never-fails said tells =
       let q = tells.0 in
       let same = same-as q tells.1 in
@@ -65,10 +65,13 @@ module _ (tree : (bytes : List ℕ) (s t : Source) → IsProgramText bytes s →
       let says = tells.4 in
       no-breach q x (subst (λ (z : List Effect). IsVerdict q z None) here (verdict-of p q y same holds)) says.1 says.2
 
-  judged-so : (said : List ℕ) (j : Judged) → VerifySays source text j said → (j ≡ Holds) ⊎ (j ≡ TooMuch)
-  judged-so said Holds says = inl refl
-  judged-so said TooMuch says = inr refl
-  judged-so said Fails says = absurd (never-fails said says)
+  judged-so : (said : List ℕ) (j : Status) → VerifySays source text j said → (j ≡ Done) ⊎ (j ≡ TooLarge)
+  judged-so said Done says = inl refl
+  judged-so said TooLarge says = inr refl
+  judged-so said No says = absurd (never-fails said says)
+  judged-so said ReadFault says = absurd says
+  judged-so said WriteFault says = absurd says
+  judged-so said Usage says = absurd says
   judged-so said Bad (inl bad) = absurd (bad.0 (p, is))
   judged-so said Bad (inr bad) =
       absurd (apart bad.1 (ahead_from 1 text) y bad.3 (same_execution p bad.1 (same-as bad.1 bad.2) (ahead_from 1 text) y read) bad.4)
@@ -78,8 +81,8 @@ pub run-judged : ((bytes : List ℕ) (s t : Source) → IsProgramText bytes s �
     → ((p : Program) (file : Ahead) (x : List Effect) (f : ReportFault) → IsExecutionFile p file x → FirstExecutionFault p file f → ⊥)
     → ((p : Program) (objects : List (List ℕ)) (levels : LevelLists) (replies : List Reply) (x : List Effect) → IsPrintable p objects x
     → (y : List Effect) × IsRenumbered x y × IsExecutionFile p (ahead_from 1 (run_text p objects levels replies x)) y)
-    → (source schedule text said : List ℕ) (j : Judged) (tells : TellsRun IsRunText source schedule text) → IsPrintable tells.program tells.schedule.objects tells.prints.last.effects
-    → VerifySays source text j said → (j ≡ Holds) ⊎ (j ≡ TooMuch)
+    → (source schedule text said : List ℕ) (j : Status) (tells : TellsRun IsRunText source schedule text) → IsPrintable tells.program tells.schedule.objects tells.prints.last.effects
+    → VerifySays source text j said → (j ≡ Done) ⊎ (j ≡ TooLarge)
 run-judged tree one apart again source schedule text said j tells printable says =
     let p = tells.program in
     let run = tells.prints in

@@ -5,8 +5,8 @@ use Rattle.ql_classify.specs.Outcome.{FirstFails, all_tests}
 use Rattle.ql_classify.specs.Targets.{goals_at, goals_below}
 use Rattle.ql_classify.specs.declared.classless.Classless.{Classless}
 use Rattle.ql_classify.specs.declared.classless.Classless.TheVariants.{NoLevel, StrongInTxn, NoMemory}
-use Rattle.ql_commands.specs.declared.answer.Answer.{Answer}
-use Rattle.ql_commands.specs.declared.answer.Answer.TheVariants.{Done, No, Bad}
+use Rattle.ql_reply.specs.declared.status.Status.{Status}
+use Rattle.ql_reply.specs.declared.status.Status.TheVariants.{Done, No, Bad}
 use Rattle.ql_classify.specs.Least.{AreLevelsOf, highest}
 use Rattle.ql_commands.specs.Levels.{refusal_text}
 use Rattle.ql_commands.specs.Sources.{BadSourceSays, IsSourceOf}
@@ -88,10 +88,11 @@ abbrev pub TellsRefusal : Program → List ℕ → Type 0
 TellsRefusal p text =
     (e : Classless) × FirstFails p (all_tests p) e × (counter : List ℕ) × IsTopText p e counter × (text ≡ refusal_text p e ++ counter)
 
-abbrev pub WhySays : List ℕ → Answer → List ℕ → Type 0
+abbrev pub WhySays : List ℕ → Status → List ℕ → Type 0
 WhySays bytes Done text = (p : Program) × IsSourceOf bytes p × (levels : LevelLists) × AreLevelsOf p levels × InTurn (TellsTarget p) (goals_at levels) text
 WhySays bytes No text = (p : Program) × IsSourceOf bytes p × TellsRefusal p text
 WhySays bytes Bad text = BadSourceSays bytes text
+WhySays bytes _ text = ⊥
 
 -- ---- parts of it
 

@@ -1,6 +1,6 @@
 use Rattle.std.proofs.Common.{sym}
 use Rattle.ql_implication.proofs.OfPrograms.{problem_gives}
-use Rattle.ql_commands.proofs.section_lines.judge.Goals as goal
+use Rattle.ql_commands.proofs.section_lines.verdict_on.Goals as goal
 
 pub returns : goal.returns
 returns c = record {
