@@ -1,4 +1,4 @@
-// Sources: three of examples/sources without their comments, and one to be judged.
+// Sources: three of examples/sources without their comments, and one for `verify`.
 pub(crate) const BANK: &str = r"type account {
   state balance: int = 0;
   op deposit(n: int): unit { contract true; answer unit;
@@ -51,7 +51,7 @@ pub(crate) const REGISTER: &str = r#"type reg { state v: text = "";
 pub(crate) const JUDGED: &str =
     r"type t { op w(): unit { contract forall a. soo(a, cur) => vis(a, cur); answer unit; } op n(): unit { contract true; answer unit; } } type u { op v(): unit { contract true; answer unit; } } transaction p { uses n; contract forall a, b, c. txn{a}{b, c} /\ sameobj(b, c) /\ vis(b, a) => vis(c, a); }";
 
-/// The source of a name, and any other text itself.
+/// The source with this name, or any other text itself.
 pub(crate) fn source_or_text(text: &str) -> &str {
     match text {
         "bank" => BANK,

@@ -7,12 +7,13 @@ use Rattle.ql_base.specs.Numbers.{Spells}
 use Rattle.ql_levels.specs.declared.level.Level.{Level}
 use Rattle.ql_levels.specs.declared.level.TxnLevel.{TxnLevel}
 use Rattle.ql_levels.specs.Words.{word_of, txn_word_of}
+use Rattle.ql_lines.specs.Fields.{Fields}
 use Rattle.ql_refute.specs.declared.refutation.Line.{Line}
 use Rattle.ql_cert.specs.declared.cert.SectionLevel.{SectionLevel}
 use Rattle.ql_cert.specs.declared.cert.SectionLevel.TheVariants.{Op, Txn}
 use Rattle.ql_cert.specs.declared.cert.Section.{Section}
 use Rattle.ql_cert.specs.declared.fault.CertRule.TheVariants.{Unexpected, Number}
-use Rattle.ql_cert.specs.Spelling.{Fields, IsLine, body_fields}
+use Rattle.ql_cert.specs.Spelling.{IsLine, body_fields}
 use Rattle.ql_cert.specs.Faults.{Follows, Gives}
 use Rattle.ql_cert.specs.declared.cert_reader.Reading.{Reading}
 use Rattle.ql_cert.specs.declared.cert_reader.Reading.TheVariants.{Untitled, Within}

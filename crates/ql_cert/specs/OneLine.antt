@@ -1,9 +1,10 @@
--- What a line makes of what was read before it is one thing, and so is what a file says that ends there.
+-- A line leads from one state of reading to one next state at most, and a file that ends there has one content at most.
 use Rattle.std.proofs.Common.{◌≡◌, inl, inr, ℕ, Option, Some, get_or, ◌<◌, ◌^◌, List, [], ◌∷◌, Result, Ok, Err, nat_eq, if◌then◌else◌, length, decimal, drop, arith, refl, ap, ap₂, sym, ◌∙◌}
 use Rattle.std.specs.Prelude.{unwrap_or}
 use Rattle.ql_levels.specs.declared.level.Level.TheVariants.{Eventual, Causal, Wide, Strong}
 use Rattle.ql_levels.specs.declared.level.TxnLevel.TheVariants.{Rc, Mav, Rr}
 use Rattle.ql_line_files.specs.declared.fault.Broken.{Broken}
+use Rattle.ql_lines.specs.Fields.{Fields}
 use Rattle.ql_refute.specs.declared.refutation.Line.{Line}
 use Rattle.ql_cert.specs.declared.cert.SectionLevel.{SectionLevel}
 use Rattle.ql_cert.specs.declared.cert.SectionLevel.TheVariants.{Op, Txn}
@@ -15,7 +16,7 @@ use Rattle.ql_cert.specs.declared.fault.CertRule.TheVariants.{Unexpected, Number
 use Rattle.ql_cert.specs.CertFile.{Opens, GoesOn, Takes, end_line, heading, kind_word, level_word, opened, with_line, with_last}
 use Rattle.ql_cert.specs.Faults.{Closes, Follows, Gives}
 use Rattle.ql_cert.specs.OneField.{no_number, same_line}
-use Rattle.ql_cert.specs.Spelling.{Fields, body_fields, line_fields}
+use Rattle.ql_cert.specs.Spelling.{body_fields, line_fields}
 
 -- ---- of any line file whose lines each lead to one state at most
 
@@ -45,7 +46,7 @@ closes_some said end none = none _ refl
 
 -- ---- a line of a certificate is of one form
 
--- the level whose words these are
+-- the level with this keyword of its kind and this name
 level_by : List ℕ → List ℕ → SectionLevel
 level_by kind word =
     if nat_eq (length kind) 2
@@ -65,21 +66,21 @@ by_words (Txn Rr) = refl
 same_level : (l k : SectionLevel) → kind_word l ≡ kind_word k → level_word l ≡ level_word k → l ≡ k
 same_level l k p q = sym (by_words l) ∙ ap₂ level_by p q ∙ by_words k
 
--- a kind's word is no number
+-- the keyword of a kind isn't a number
 pub kind_no_number : (l : SectionLevel) (number : ℕ) → number < 2 ^ 64 → kind_word l ≡ decimal number → ⊥
 unfolding kind_word
 kind_no_number (Op l) number small e = no_number number small 111 (112 ∷ []) (inr (omega arith)) (sym e)
 kind_no_number (Txn l) number small e = no_number number small 116 (120 ∷ 110 ∷ []) (inr (omega arith)) (sym e)
 
--- a heading is no numbered line
+-- a heading isn't a numbered line
 no_heading : (n : List ℕ) (l : SectionLevel) (number : ℕ) (next : Line) → number < 2 ^ 64 → heading n l ≡ line_fields number next → ⊥
 no_heading n l number next small e = kind_no_number l number small (ap (λ (f : Fields). get_or f 0 []) e)
 
--- nor the last line
+-- nor is it the last line
 no_end : (n : List ℕ) (l : SectionLevel) → heading n l ≡ end_line → ⊥
 no_end n l e = omega (arith, ap length e)
 
--- and that is no numbered line
+-- and the last line isn't a numbered line
 pub end_no_line : (number : ℕ) (next : Line) → number < 2 ^ 64 → end_line ≡ line_fields number next → ⊥
 end_no_line number next small e = no_number number small 101 (110 ∷ 100 ∷ []) (inr (omega arith)) (sym (ap (λ (f : Fields). get_or f 0 []) e))
 

@@ -26,7 +26,7 @@ pub(crate) struct Heading {
     level: SectionLevel,
 }
 
-/// What was read of a certificate: nothing; sections, the last of which may go on; all of it.
+/// How far a certificate was read: not at all; some sections, the last of which may continue; to its end.
 #[derive(Drop)]
 pub(crate) enum Reading {
     Untitled,
@@ -94,7 +94,7 @@ impl LineFormat for CertFormat {
 }
 
 #[tactic(auto, using(crate::proofs::Refusals::not_titled))]
-// The title of a certificate begins it.
+// The first line must be the title.
 fn titled(alloc: Global, text: &[u8]) -> Result<Reading, LineFault<CertRule>>
     ensures { IsLineAnswer (Gives Takes Untitled (fields_of text.now)) result }
 {
@@ -141,7 +141,7 @@ fn three_fields(text: &[u8]) -> Option<(&[u8], &[u8], &[u8])>
 }
 
 #[tactic(auto, using(crate::proofs::Refusals::not_three))]
-// The heading that a line is.
+// The heading on a line.
 fn read_heading(text: &[u8]) -> Option<Heading>
     ensures { IsRead (λ h. IsName h.name) (λ h. heading h.name h.level) (fields_of text.now) result }
 {
@@ -159,7 +159,7 @@ fn read_heading(text: &[u8]) -> Option<Heading>
 }
 
 #[tactic(auto, using(crate::proofs::Refusals::no_kind))]
-// The level that stands in a heading, by its kind of target and its word.
+// The level in a heading, by its kind of target and its name.
 fn section_level(kind: &[u8], word: &[u8]) -> Option<SectionLevel>
     ensures { IsLevelRead kind.now word.now result }
 {
@@ -192,7 +192,7 @@ fn txn_level(word: &[u8]) -> Option<SectionLevel>
     }
 }
 
-// A line after sections: a heading, the last line, or one more line of the last section.
+// A line after the title: a heading, the last line, or one more line of the last section.
 fn within(
     alloc: Global,
     done: Sections,
@@ -217,7 +217,7 @@ fn within(
     }
 }
 
-// A section of which only the heading was read.
+// A section of which only the heading has been read.
 fn opened(alloc: Global, heading: Heading) -> Section
     ensures { result ≡ opened heading.name heading.level }
 {

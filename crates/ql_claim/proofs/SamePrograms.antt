@@ -8,8 +8,8 @@ use Rattle.ql_base.specs.declared.ids.OpId.{OpId}
 use Rattle.ql_commands.proofs.SameSource.{map_alike, same-op-kinds, same-ops, same-txns}
 use Rattle.ql_exec.specs.declared.effect.Effect.{Effect}
 use Rattle.ql_exec.specs.declared.effect.Member.{Member}
-use Rattle.ql_effect_lines.specs.Effects.{after_effect, after_known, known_of, member_of}
-use Rattle.ql_execution_files.specs.ExecutionFile.{Closes, IsExecutionFile, Takes, gives}
+use Rattle.ql_effect_lines.specs.Effects.{after_effect, after_known, known_of, member_of_line}
+use Rattle.ql_execution_files.specs.ExecutionFile.{ClosesExecution, IsExecutionFile, Takes, gives}
 use Rattle.ql_execution_files.specs.declared.format.Reading.{Reading}
 use Rattle.ql_execution_files.specs.declared.format.Reading.TheVariants.{Ended, Unbegun, WithEffects}
 use Rattle.ql_line_files.specs.Outcomes.{Leads}
@@ -22,11 +22,11 @@ use Rattle.ql_lang.specs.declared.program.Program.{Program}
 use Rattle.ql_lang.specs.declared.program.TxnDecl.{TxnDecl}
 use Rattle.ql_lang.specs.Programs.{Operation, Transaction, operation_of, source_of, transaction_of}
 use Rattle.ql_lines.specs.Lines.{Ahead, Numbered}
-use Rattle.ql_report.specs.Levels.{op_name, txn_name}
 use Rattle.ql_typing.specs.Lookups.{txn_place}
 use Rattle.ql_typing.specs.Operations.{all_ops, op_contract, op_contracts, op_place, op_words, txn_contract, txn_contracts}
 use Rattle.ql_typing.specs.Resolved.{resolved_in}
 use Rattle.ql_typing.proofs.Positions.{op_place_of, position-map}
+use Rattle.ql_typing.specs.Names.{op_name, txn_name}
 use Rattle.ql_verify.specs.Work.{work_of}
 
 -- an item's text, told by the texts of all
@@ -77,7 +77,7 @@ module _ (p q : Program) (e : source_of p ≡ source_of q) where
       sym (position-map (bytes_eq w) (λ (d : TxnDecl). d.name.word) p.txns) ∙ ap (λ (ws : List (List ℕ)). place ws w) txn-words
       ∙ position-map (bytes_eq w) (λ (d : TxnDecl). d.name.word) q.txns
 
-  same-member : (t : Option Begun) → member_of p t ≡ member_of q t
+  same-member : (t : Option Begun) → member_of_line p t ≡ member_of_line q t
   same-member None = refl
   same-member (Some t) = rw (txn-place t.name) refl
 
@@ -103,7 +103,7 @@ module _ (p q : Program) (e : source_of p ≡ source_of q) where
   takes (WithEffects told) l after (inr end) = inr end
   takes (Ended told) l after h = absurd h
 
-  leads : (ls : List Numbered) (before after : Reading) → Leads (gives p) Closes before ls after → Leads (gives q) Closes before ls after
+  leads : (ls : List Numbered) (before after : Reading) → Leads (gives p) ClosesExecution before ls after → Leads (gives q) ClosesExecution before ls after
   unfolding Leads
   leads [] before after h = h
   leads (l ∷ ls) before after h = (h.0, takes before l h.0 h.1, leads ls h.0 after h.2)

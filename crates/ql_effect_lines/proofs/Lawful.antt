@@ -24,7 +24,7 @@ use Rattle.ql_effect_lines.specs.declared.effect_line.EffectLine.{EffectLine}
 use Rattle.ql_effect_lines.specs.declared.rules.ReportRule.{ReportRule}
 use Rattle.ql_effect_lines.specs.declared.rules.ReportRule.TheVariants.{Unknown, Mixed, Stamp, TooMany}
 use Rattle.ql_effect_lines.specs.declared.told.Told.{Told}
-use Rattle.ql_effect_lines.specs.Effects.{AreOfProgram, IsSound, after_effect, after_known, draft_of, known_of, is_mixed, member_of, most_effects, number_of, put_in, rule_of, with_effect, with_object}
+use Rattle.ql_effect_lines.specs.Effects.{AreOfProgram, IsSound, after_effect, after_known, draft_of_line, known_of, is_mixed, member_of_line, most_effects, object_number, with_draft, exec_rule, with_read_effect, with_object_name}
 
 -- what is true of all is true of the one that is found
 pub found : {X : Type 0} (p : X → Bool) (P : X → Type 0) (xs : List X) (x : X) → find p xs ≡ Some x → All P xs → P x
@@ -71,32 +71,32 @@ known_as o member = (record { 0 = o }, member)
 module _ (p : Program) (told more : Told) (e : EffectLine) where
   module _ (o : ℕ) (here : op_place p.types e.op ≡ Some o) (member : Member) where
     object : ObjId
-    object = record { 0 = number_of told.objects e.object }
+    object = record { 0 = object_number told.objects e.object }
 
     drafted : Draft
-    drafted = draft_of e (record { 0 = number_of told.objects e.object }) (record { 0 = o }) member
+    drafted = draft_of_line e (record { 0 = object_number told.objects e.object }) (record { 0 = o }) member
 
-    pushed : (full : Bool) → nat_le most_effects (length told.effects) ≡ full → (if full then Err TooMany else ok_told (with_effect (with_object told e.object) drafted)) ≡ Ok more → IsLawful p told more
+    pushed : (full : Bool) → nat_le most_effects (length told.effects) ≡ full → (if full then Err TooMany else ok_told (with_read_effect (with_object_name told e.object) drafted)) ≡ Ok more → IsLawful p told more
     unfolding drafted
     pushed true t h = absurd cc
     pushed false t h = record {
       draft = drafted;
       known = within (λ op. bytes_eq e.op op.name.word) (all_ops p.types) o here;
       room = grind (arith, nat_tests, t);
-      effects = ap (λ (m : Told). m.effects) (sym (same_told (with_effect (with_object told e.object) drafted) more h));
-      objects = let names = ap (λ (m : Told). length m.objects) (same_told (with_effect (with_object told e.object) drafted) more h) in omega (arith, names, one_name_more told.objects e.object);
+      effects = ap (λ (m : Told). m.effects) (sym (same_told (with_read_effect (with_object_name told e.object) drafted) more h));
+      objects = let names = ap (λ (m : Told). length m.objects) (same_told (with_read_effect (with_object_name told e.object) drafted) more h) in omega (arith, names, one_name_more told.objects e.object);
     }
 
-    stamped : (other : Bool) → (if other then Err Stamp else (if nat_le most_effects (length told.effects) then Err TooMany else ok_told (with_effect (with_object told e.object) drafted))) ≡ Ok more → IsLawful p told more
+    stamped : (other : Bool) → (if other then Err Stamp else (if nat_le most_effects (length told.effects) then Err TooMany else ok_told (with_read_effect (with_object_name told e.object) drafted))) ≡ Ok more → IsLawful p told more
     stamped true h = absurd cc
     stamped false h = pushed (nat_le most_effects (length told.effects)) refl h
 
-    faultless : (r : Option ExecFault) → option_map_or (λ fault. Err (rule_of fault)) r (if not (nat_eq (stamp_of told.effects drafted.session drafted.seen) e.setting.stamp) then Err Stamp
-        else (if nat_le most_effects (length told.effects) then Err TooMany else ok_told (with_effect (with_object told e.object) drafted))) ≡ Ok more → IsLawful p told more
+    faultless : (r : Option ExecFault) → option_map_or (λ fault. Err (exec_rule fault)) r (if not (nat_eq (stamp_of told.effects drafted.session drafted.seen) e.setting.stamp) then Err Stamp
+        else (if nat_le most_effects (length told.effects) then Err TooMany else ok_told (with_read_effect (with_object_name told e.object) drafted))) ≡ Ok more → IsLawful p told more
     faultless (Some f) h = absurd cc
     faultless None h = stamped (not (nat_eq (stamp_of told.effects drafted.session drafted.seen) e.setting.stamp)) h
 
-    unmixed : (mixed : Bool) → (if mixed then Err Mixed else put_in (with_object told e.object) drafted e.setting.stamp) ≡ Ok more → IsLawful p told more
+    unmixed : (mixed : Bool) → (if mixed then Err Mixed else with_draft (with_object_name told e.object) drafted e.setting.stamp) ≡ Ok more → IsLawful p told more
     unmixed true h = absurd cc
     unmixed false h = faultless (fault_of told.effects drafted) h
 
@@ -104,12 +104,12 @@ module _ (p : Program) (told more : Told) (e : EffectLine) where
       → option_map_or (λ known. after_known p told e known.0 known.1) (option_map (λ member. known_as o member) r) (Err Unknown) ≡ Ok more → IsLawful p told more
   unfolding drafted
   with_known o here None h = absurd cc
-  with_known o here (Some member) h = unmixed o here member (is_mixed p told.effects (record { 0 = number_of told.objects e.object }) (record { 0 = o })) h
+  with_known o here (Some member) h = unmixed o here member (is_mixed p told.effects (record { 0 = object_number told.objects e.object }) (record { 0 = o })) h
 
   with_place : (r : Option ℕ) → op_place p.types e.op ≡ r
-      → option_map_or (λ known. after_known p told e known.0 known.1) (option_and_then (λ o. option_map (λ member. known_as o member) (member_of p e.setting.txn)) r) (Err Unknown) ≡ Ok more → IsLawful p told more
+      → option_map_or (λ known. after_known p told e known.0 known.1) (option_and_then (λ o. option_map (λ member. known_as o member) (member_of_line p e.setting.txn)) r) (Err Unknown) ≡ Ok more → IsLawful p told more
   with_place None here h = absurd cc
-  with_place (Some o) here h = with_known o here (member_of p e.setting.txn) h
+  with_place (Some o) here h = with_known o here (member_of_line p e.setting.txn) h
 
   is_lawful : after_effect p told e ≡ Ok more → IsLawful p told more
   is_lawful h = with_place (op_place p.types e.op) refl h

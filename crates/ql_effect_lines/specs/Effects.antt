@@ -36,12 +36,12 @@ IsSound p told = (length told.effects ≤ most_effects) × AreOfProgram p told.e
 -- ---- names
 
 -- objects are numbered by their first occurrence
-abbrev pub number_of : List (List ℕ) → List ℕ → ℕ
-number_of names w = unwrap_or (place (with_name names w) w) 0
+abbrev pub object_number : List (List ℕ) → List ℕ → ℕ
+object_number names w = unwrap_or (place (with_name names w) w) 0
 
 -- the number of an operation's type
-abbrev pub kind_of : Program → OpId → ℕ
-kind_of p op = unwrap_or (slice_get (op_kinds p.types) op.0) 0
+abbrev pub type_of_op : Program → OpId → ℕ
+type_of_op p op = unwrap_or (slice_get (op_kinds p.types) op.0) 0
 
 -- the first effect on an object
 abbrev pub first_on : List Effect → ObjId → Option Effect
@@ -49,21 +49,21 @@ first_on effects object = find (λ e. nat_eq e.object.0 object.0) effects
 
 -- an operation is of another type than that of the object's first effect
 abbrev pub is_mixed : Program → List Effect → ObjId → OpId → Bool
-is_mixed p effects object op = option_map_or (λ first. not (nat_eq (kind_of p first.op) (kind_of p op))) (first_on effects object) false
+is_mixed p effects object op = option_map_or (λ first. not (nat_eq (type_of_op p first.op) (type_of_op p op))) (first_on effects object) false
 
 -- the membership in a begun transaction, if the program declares its name
-abbrev pub member_of : Program → Option Begun → Option Member
-member_of p None = Some Alone
-member_of p (Some t) = option_map (λ d. Inside (record { 0 = t.run }) (record { 0 = d })) (txn_place p.txns t.name)
+abbrev pub member_of_line : Program → Option Begun → Option Member
+member_of_line p None = Some Alone
+member_of_line p (Some t) = option_map (λ d. Inside (record { 0 = t.run }) (record { 0 = d })) (txn_place p.txns t.name)
 
 -- the operation and the membership of an effect, if the program has them
 abbrev pub known_of : Program → EffectLine → Option (OpId × Member)
-known_of p e = option_and_then (λ o. option_map (λ member. (record { 0 = o }, member)) (member_of p e.setting.txn)) (op_place p.types e.op)
+known_of p e = option_and_then (λ o. option_map (λ member. (record { 0 = o }, member)) (member_of_line p e.setting.txn)) (op_place p.types e.op)
 
 -- ---- one more effect
 
-abbrev pub draft_of : EffectLine → ObjId → OpId → Member → Draft
-draft_of e object op member = record {
+abbrev pub draft_of_line : EffectLine → ObjId → OpId → Member → Draft
+draft_of_line e object op member = record {
   object = object;
   op = op;
   args = e.args;
@@ -75,31 +75,31 @@ draft_of e object op member = record {
 }
 
 -- the rule broken by a draft that can't be the next effect; running out of memory breaks none
-abbrev pub rule_of : ExecFault → ReportRule
-rule_of (exec.NotForward at) = NotForward
-rule_of (exec.OtherObject at) = OtherObject
-rule_of (exec.SplitTxn at) = SplitTxn
-rule_of exec.NoMemory = TooMany
+abbrev pub exec_rule : ExecFault → ReportRule
+exec_rule (exec.NotForward at) = NotForward
+exec_rule (exec.OtherObject at) = OtherObject
+exec_rule (exec.SplitTxn at) = SplitTxn
+exec_rule exec.NoMemory = TooMany
 
-abbrev pub with_effect : Told → Draft → Told
-with_effect told draft = record { objects = told.objects; effects = told.effects ++ effect_of told.effects draft ∷ [] }
+abbrev pub with_read_effect : Told → Draft → Told
+with_read_effect told draft = record { objects = told.objects; effects = told.effects ++ effect_of told.effects draft ∷ [] }
 
-abbrev pub with_object : Told → List ℕ → Told
-with_object told w = record { objects = with_name told.objects w; effects = told.effects }
+abbrev pub with_object_name : Told → List ℕ → Told
+with_object_name told w = record { objects = with_name told.objects w; effects = told.effects }
 
 -- an effect whose line says this stamp
-abbrev pub put_in : Told → Draft → ℕ → Result Told ReportRule
-put_in told draft stamp =
-    option_map_or (λ fault. Err (rule_of fault)) (fault_of told.effects draft)
+abbrev pub with_draft : Told → Draft → ℕ → Result Told ReportRule
+with_draft told draft stamp =
+    option_map_or (λ fault. Err (exec_rule fault)) (fault_of told.effects draft)
     (if not (nat_eq (stamp_of told.effects draft.session draft.seen) stamp) then Err Stamp
     else (if nat_le most_effects (length told.effects) then Err TooMany
-    else Ok (with_effect told draft)))
+    else Ok (with_read_effect told draft)))
 
 -- an effect of an operation and a membership that the program has
 abbrev pub after_known : Program → Told → EffectLine → OpId → Member → Result Told ReportRule
 after_known p told e op member =
-    if is_mixed p told.effects (record { 0 = number_of told.objects e.object }) op then Err Mixed
-    else put_in (with_object told e.object) (draft_of e (record { 0 = number_of told.objects e.object }) op member) e.setting.stamp
+    if is_mixed p told.effects (record { 0 = object_number told.objects e.object }) op then Err Mixed
+    else with_draft (with_object_name told e.object) (draft_of_line e (record { 0 = object_number told.objects e.object }) op member) e.setting.stamp
 
 -- what the lines say with the line of one more effect, or the lowest rule that it breaks
 abbrev pub after_effect : Program → Told → EffectLine → Result Told ReportRule

@@ -9,15 +9,15 @@ ghost use Rattle.ql_effect_lines.specs.Effects.{
   AreOfProgram,
   after_effect,
   after_known,
-  draft_of,
+  draft_of_line,
   first_on,
   is_mixed,
-  kind_of,
+  type_of_op,
   known_of,
-  member_of,
+  member_of_line,
   most_effects,
-  number_of,
-  put_in,
+  object_number,
+  with_draft,
 };
 
 use crate::effect_line::EffectLine;
@@ -79,7 +79,7 @@ impl Told {
     // Appends one more effect, which has to have this stamp.
     fn push(self, draft: Draft, stamp: u32) -> Result<Told, LineFault<ReportRule>>
         requires few { length self.effects ≤ most_effects }
-        ensures { IsLineAnswer (λ x. (put_in self draft stamp) ≡ x) result }
+        ensures { IsLineAnswer (λ x. (with_draft self draft stamp) ≡ x) result }
     {
         let mut told = self;
         match told.effects.push(draft) {
@@ -116,14 +116,14 @@ fn known(t: &Typed, line: &EffectLine) -> Option<(OpId, Member)>
 fn number(names: &mut Names, word: &Word) -> Result<u32, NoMemory>
     requires { length names.old + 1 < 2 ^ 32 }
     ensures names { IfOk result (λ _. names.new ≡ with_name names.old word.now) }
-    ensures numbered { IfOk result (λ k. k ≡ number_of names.old word.now) }
+    ensures numbered { IfOk result (λ k. k ≡ object_number names.old word.now) }
 {
     names.number(word.bytes())
 }
 
 // The membership in a begun transaction, if the program declares its name.
 fn member(t: &Typed, txn: Option<Begun>) -> Option<Member>
-    ensures { result ≡ member_of t.now.program txn }
+    ensures { result ≡ member_of_line t.now.program txn }
 {
     match txn {
         Some(begun) => {
@@ -156,14 +156,14 @@ fn first_on(effects: &[Effect], object: ObjId) -> Option<&Effect>
 // The number of an operation's type.
 fn kind(t: &Typed, op: OpId) -> u32
     requires { op.0 < length (all_ops t.now.program.types) }
-    ensures { result ≡ kind_of t.now.program op }
+    ensures { result ≡ type_of_op t.now.program op }
 {
     t.kind_of(op).0
 }
 
 // An effect that has no stamp yet.
 fn draft(line: EffectLine, object: ObjId, op: OpId, member: Member) -> Draft
-    ensures { result ≡ draft_of line object op member }
+    ensures { result ≡ draft_of_line line object op member }
 {
     Draft {
         object,

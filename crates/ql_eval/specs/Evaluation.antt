@@ -15,7 +15,7 @@ use Rattle.ql_value.specs.declared.scalar.Scalar.{Scalar}
 use Rattle.ql_value.specs.declared.scalar.Scalar.TheVariants.{Int as IntScalar, Bool as TruthScalar, Text as TextScalar}
 use Rattle.ql_value.specs.declared.value.Value.{Value}
 use Rattle.ql_value.specs.declared.value.Value.TheVariants.{Unit as Nothing, Int as Number, Bool as Truth, Text, Set, Map}
-use Rattle.ql_value.specs.Collections.{added, contains, dropped, keys, put_in, removed, sum_of, united, value_at}
+use Rattle.ql_value.specs.Collections.{added, contains, dropped, keys, put_in, removed, sum_of, united, value_for_key}
 use Rattle.ql_value.specs.Saturating.{saturated}
 use Rattle.ql_value.specs.ValueOrder.{value_cmp}
 
@@ -85,15 +85,15 @@ abbrev pub denied : Option Value → Option Value
 denied (Some (Truth b)) = Some (Truth (not b))
 denied _ = None
 
-abbrev pub negated : Option Value → Option Value
-negated (Some (Number n)) = Some (Number (saturated (neg_ℤ n)))
-negated _ = None
+abbrev pub negative_of : Option Value → Option Value
+negative_of (Some (Number n)) = Some (Number (saturated (neg_ℤ n)))
+negative_of _ = None
 
 -- one of two parts, by a test
-abbrev pub chosen : Option Value → Option Value → Option Value → Option Value
-chosen (Some (Truth true)) a b = a
-chosen (Some (Truth false)) a b = b
-chosen _ a b = None
+abbrev pub chosen_by : Option Value → Option Value → Option Value → Option Value
+chosen_by (Some (Truth true)) a b = a
+chosen_by (Some (Truth false)) a b = b
+chosen_by _ a b = None
 
 -- functions of one argument
 abbrev pub called_with_one : Option Function → Value → Option Value
@@ -119,7 +119,7 @@ called_with_two _ a _ = None
 -- functions of a map, a key and a value
 abbrev pub with_scalars : Function → Value → Option Scalar → Option Scalar → Option Value
 with_scalars function.Put (Map m) (Some k) (Some v) = Some (Map (put_in m k v))
-with_scalars function.Get (Map m) (Some k) (Some v) = Some (single (value_at m k v))
+with_scalars function.Get (Map m) (Some k) (Some v) = Some (single (value_for_key m k v))
 with_scalars _ _ _ _ = None
 
 abbrev pub called_with_three : Option Function → Value → Option Value → Option Value → Option Value
@@ -145,10 +145,10 @@ unfoldable mutual
   value_of env (e.Nothing at) = Some Nothing
   value_of env (e.Reading at name) = value_in env name.word
   value_of env (e.Calling at name args) = call_value env name.word args
-  value_of env (e.Choosing at test a b) = chosen (value_of env test) (value_of env a) (value_of env b)
+  value_of env (e.Choosing at test a b) = chosen_by (value_of env test) (value_of env a) (value_of env b)
   value_of env (e.Combining at o a b) = combined o (value_of env a) (value_of env b)
   value_of env (e.Denying at a) = denied (value_of env a)
-  value_of env (e.Negating at a) = negated (value_of env a)
+  value_of env (e.Negating at a) = negative_of (value_of env a)
 
   pub call_value : Bindings → List ℕ → Operands → Option Value
   call_value env f NoMore = None

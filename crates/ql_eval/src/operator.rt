@@ -1,5 +1,5 @@
 ghost use Rattle.std.specs.Prelude.{◌≡◌};
-ghost use Rattle.ql_eval.specs.Evaluation.{combined, denied, negated, on_numbers, on_truths, on_values};
+ghost use Rattle.ql_eval.specs.Evaluation.{combined, denied, negative_of, on_numbers, on_truths, on_values};
 
 use ql_lang::BinOp;
 use ql_value::{Value, order, sat_add, sat_mul, sat_neg, sat_sub};
@@ -65,7 +65,7 @@ pub(crate) fn deny(operand: Option<Value>) -> Option<Value>
 
 /// The number with the opposite sign.
 pub(crate) fn negate(operand: Option<Value>) -> Option<Value>
-    ensures { result ≡ negated operand }
+    ensures { result ≡ negative_of operand }
 {
     match operand {
         Some(Value::Int(n)) => Some(Value::Int(sat_neg(n))),

@@ -9,7 +9,7 @@ use std::alloc::Global;
 use std::cmp::Ordering;
 use std::test::Fail;
 
-// Texts, and the offset behind the value that is read with its text, or the offset of the first fault; from an
+// Texts, and the offset after the value that is read with the value's text, or the offset of the first fault; from an
 // independent implementation.
 const READ: &str = r#"
 unit -> 4 unit
@@ -102,7 +102,7 @@ fn read(alloc: Global, text: &str) -> Result<Vec<u8>, NoMemory> {
     }
 }
 
-// Numbers stay at the ends of their range.
+// Numbers saturate at the ends of their range.
 const NUMBERS: &str = "
 sum 9223372036854775807 1 -> 9223372036854775807
 sum -9223372036854775808 -1 -> -9223372036854775808
@@ -135,7 +135,7 @@ fn by(operator: &str, a: i64, b: i64) -> i64 {
     }
 }
 
-// How many entries a set and a map have to which so many are added.
+// How many entries a set and a map have after this many were added.
 const FILLED: &str = "
 256 -> 256 256
 300 -> 256 256

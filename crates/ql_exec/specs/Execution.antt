@@ -56,14 +56,14 @@ SeesEarlier effects id object seen =
     ((a : ℕ) → IsTrue (has_id seen a) → (a < id) × IsOn object (effect_at effects a)) × IsAscending seen
 
 -- a membership is under a declared name, if it is in a transaction
-abbrev pub has_name : DeclId → Member → Bool
-has_name name Alone = true
-has_name name (Inside run other) = nat_eq other.0 name.0
+abbrev pub is_declared_as : DeclId → Member → Bool
+is_declared_as name Alone = true
+is_declared_as name (Inside run other) = nat_eq other.0 name.0
 
 -- two memberships are under one declared name, if both are in a transaction
 abbrev pub same_name : Member → Member → Bool
 same_name m Alone = true
-same_name m (Inside run name) = has_name name m
+same_name m (Inside run name) = is_declared_as name m
 
 pub record IsExecution (x : List Effect) : Type 0 where
   -- each effect sees earlier ones on its object
@@ -85,7 +85,7 @@ is_elsewhere object (Some effect) = not (nat_eq effect.object.0 object.0)
 
 -- an effect is of a begun transaction, and of another session or under another name
 abbrev pub strays : ℕ → SessId → DeclId → Effect → Bool
-strays run session name e = in_run run e.member && not (nat_eq e.session.0 session.0 && has_name name e.member)
+strays run session name e = in_run run e.member && not (nat_eq e.session.0 session.0 && is_declared_as name e.member)
 
 -- The next effect splits its transaction, which has effects already: one of them is of another session or under
 -- another name, or the last effect of the session isn't of this transaction.

@@ -3,7 +3,7 @@ ghost use Rattle.std.specs.List.{list_any};
 ghost use Rattle.std.specs.Option.{option_copied, option_map_or};
 ghost use Rattle.ql_base.specs.IdLists.{IsAscending};
 ghost use Rattle.ql_exec.specs.Effects.{effect_at, in_run, of_session, last};
-ghost use Rattle.ql_exec.specs.Execution.{is_elsewhere, has_name, IsExecution, splits, stamp_at, stamp_of, fault_of, next_id};
+ghost use Rattle.ql_exec.specs.Execution.{is_elsewhere, is_declared_as, IsExecution, splits, stamp_at, stamp_of, fault_of, next_id};
 ghost use Rattle.ql_exec.specs.Latest.{KnowsRuns};
 
 use crate::effect::{Draft, Effect, Member};
@@ -120,7 +120,7 @@ fn is_in_run(effect: &Effect, run: RunId) -> bool
 }
 
 fn is_under_name(effect: &Effect, name: DeclId) -> bool
-    ensures { result ≡ has_name name effect.now.member }
+    ensures { result ≡ is_declared_as name effect.now.member }
 {
     match effect.member {
         Member::Alone => true,

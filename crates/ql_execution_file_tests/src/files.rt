@@ -14,7 +14,7 @@ type u { op v(): unit { contract true; answer unit; } }
 transaction p { uses w; contract true; }
 transaction q { uses r; contract true; }";
 
-// Files, and what they tell: the object, the operation, the arguments, the answer, the payload, the session, the
+// Files, and what they contain: the object, the operation, the arguments, the answer, the payload, the session, the
 // transaction, the stamp and the seen ids of each effect, or the first fault. From an independent implementation.
 const FILES: &str = r#"
  -> Unexpected 1
@@ -49,7 +49,7 @@ fn texts_are_files(rt: HostRuntime) -> Result<(), Fail> {
     check_table(rt.alloc(), FILES, read)
 }
 
-// The same of files in which effects break rules, and of two in which one more stamp decides.
+// Files in which effects break rules, and two in which a stamp greater by one decides.
 const RULES: &str = "
 execution␊effect 1 x w (7) = unit emit (7) session 2 txn - stamp 1 vis␊effect 2 x r () = 0 emit - session 1 txn 1:p stamp 1 vis␊effect 3 x r () = 7 emit - session 1 txn 1:p stamp 2 vis 1␊end␊ -> 0 0 (7) unit (7) 2 - 1 []; 0 1 () 0 - 1 1:0 1 []; 0 1 () 7 - 1 1:0 2 [1]
 execution␊effect 1 x w (7) = unit emit (7) session 2 txn - stamp 1 vis␊effect 2 x r () = 0 emit - session 1 txn 1:p stamp 1 vis␊effect 3 x r () = 7 emit - session 1 txn 1:p stamp 1 vis 1␊end␊ -> Stamp 4

@@ -72,14 +72,14 @@ Breaks p (WithEffects told) text rule = IsNoLine told text rule ⊎ BreaksRule p
 Breaks p (Ended told) text rule = rule ≡ Unexpected
 
 -- the reading after a line, or the rule that the line breaks
-abbrev pub Gives : Program → Reading → List ℕ → Result Reading ReportRule → Type 0
-Gives p before text (Ok after) = Takes p before text after
-Gives p before text (Err rule) = Breaks p before text rule
+abbrev pub ExtendsExecution : Program → Reading → List ℕ → Result Reading ReportRule → Type 0
+ExtendsExecution p before text (Ok after) = Takes p before text after
+ExtendsExecution p before text (Err rule) = Breaks p before text rule
 
 -- what a file says that ends here; if its last line is missing, the fault is on the line after the last one
-abbrev pub Closes : Reading → ℕ → Result (List Effect) (Broken ReportRule) → Type 0
-Closes (Ended told) end x = x ≡ Ok told.effects
-Closes other end x = x ≡ Err (record { line = end; rule = Unexpected })
+abbrev pub ClosesExecution : Reading → ℕ → Result (List Effect) (Broken ReportRule) → Type 0
+ClosesExecution (Ended told) end x = x ≡ Ok told.effects
+ClosesExecution other end x = x ≡ Err (record { line = end; rule = Unexpected })
 
 -- what lines say is sound
 abbrev pub AreSound : Program → Reading → Type 0
@@ -91,11 +91,11 @@ AreSound p (Ended told) = IsSound p told
 
 -- the same for a numbered line
 abbrev pub gives : Program → Reading → Numbered → Result Reading ReportRule → Type 0
-gives p before l x = Gives p before l.text x
+gives p before l x = ExtendsExecution p before l.text x
 
 -- the file says this execution
 abbrev pub IsExecutionFile : Program → Ahead → List Effect → Type 0
-IsExecutionFile p file x = outcomes.Says (gives p) Closes Unbegun file x
+IsExecutionFile p file x = outcomes.Says (gives p) ClosesExecution Unbegun file x
 
 -- a rule that is broken at a line
 abbrev pub fault_at : ReportRule → ℕ → ReportFault
@@ -113,12 +113,12 @@ fault_of (file.Broken broken) = fault_at broken.rule broken.line
 fault_of file.NoMemory = fault.NoMemory
 
 -- the first fault of a file: its first line that breaks a rule, or that the file ends too early
-pub record FirstFault (p : Program) (file : Ahead) (f : ReportFault) : Type 0 where
+pub record FirstExecutionFault (p : Program) (file : Ahead) (f : ReportFault) : Type 0 where
   pub broken : Broken ReportRule
-  pub first : outcomes.FirstFault (gives p) Closes Unbegun file broken
+  pub first : outcomes.FirstFault (gives p) ClosesExecution Unbegun file broken
   pub is : f ≡ fault_at broken.rule broken.line
 
 -- a refusal is the first fault, or that memory has run out
 abbrev pub IsRefusal : Program → Ahead → ReportFault → Type 0
 IsRefusal p file fault.NoMemory = Unit {0}
-IsRefusal p file f = FirstFault p file f
+IsRefusal p file f = FirstExecutionFault p file f

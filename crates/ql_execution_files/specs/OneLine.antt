@@ -16,7 +16,7 @@ use Rattle.ql_effect_lines.proofs.Lawful.{stays_sound}
 use Rattle.ql_effect_lines.proofs.Lines.{no_effect_ends, one_effect}
 use Rattle.ql_execution_files.specs.declared.format.Reading.{Reading}
 use Rattle.ql_execution_files.specs.declared.format.Reading.TheVariants.{Unbegun, WithEffects, Ended}
-use Rattle.ql_execution_files.specs.ExecutionFile.{AreSound, Breaks, BreaksRule, Closes, Gives, IsNoLine, Takes, TakesAny, TakesEffect, TakesEnd, nothing_told}
+use Rattle.ql_execution_files.specs.ExecutionFile.{AreSound, Breaks, BreaksRule, ClosesExecution, ExtendsExecution, IsNoLine, Takes, TakesAny, TakesEffect, TakesEnd, nothing_told}
 
 pub takes_sound : (p : Program) (s : Reading) (text : List ℕ) (t : Reading) → AreSound p s → Takes p s text t → AreSound p t
 takes_sound p Unbegun text t sound (inl h) = subst (AreSound p) (sym h.1) (omega arith, All-nil (λ (f : Effect). f.op.0 < length (all_ops p.types)), omega arith)
@@ -70,11 +70,11 @@ module _ (p : Program) where
 
     -- an effect's line has a result
     some_effect : (e : EffectLine) → IsEffectLine text (suc (length told.effects)) e → (r : Result Told ReportRule) → after_effect p told e ≡ r
-        → ((x : Result Reading ReportRule) → Gives p (WithEffects told) text x → ⊥) → ⊥
+        → ((x : Result Reading ReportRule) → ExtendsExecution p (WithEffects told) text x → ⊥) → ⊥
     some_effect e is (Ok more) h none = none (Ok (WithEffects more)) (inl (record { effect = e; more = more; is = is; lawful = h; to = refl }))
     some_effect e is (Err rule) h none = none (Err rule) (inr (record { effect = e; is = is; unlawful = h }))
 
-  pub gives_one : (s : Reading) (text : List ℕ) (x y : Result Reading ReportRule) → Gives p s text x → Gives p s text y → x ≡ y
+  pub gives_one : (s : Reading) (text : List ℕ) (x y : Result Reading ReportRule) → ExtendsExecution p s text x → ExtendsExecution p s text y → x ≡ y
   gives_one Unbegun text (Ok a) (Ok b) x y = ap Ok (one_any (fields_of text) a b x y)
   gives_one Unbegun text (Ok a) (Err k) x y = absurd y
   gives_one Unbegun text (Err k) y x z = absurd x
@@ -86,7 +86,7 @@ module _ (p : Program) where
   gives_one (Ended told) text (Err k) (Ok a) x y = absurd y
   gives_one (Ended told) text (Err k) (Err m) x y = ap Err (x ∙ sym y)
 
-  pub gives_some : (s : Reading) (text : List ℕ) → ((x : Result Reading ReportRule) → Gives p s text x → ⊥) → ⊥
+  pub gives_some : (s : Reading) (text : List ℕ) → ((x : Result Reading ReportRule) → ExtendsExecution p s text x → ⊥) → ⊥
   gives_some Unbegun text none = none (Ok Unbegun) (inr (λ e. none (Ok (WithEffects nothing_told)) (inl (e, refl)), refl))
   gives_some (Ended told) text none = none (Err Unexpected) refl
   gives_some (WithEffects told) text none =
@@ -96,12 +96,12 @@ module _ (p : Program) where
         no_end = λ e. none (Ok (Ended told)) (inr (record { is = e; to = refl }));
       }))
 
-pub closes_one : (s : Reading) (end : ℕ) (x y : Result (List Effect) (Broken ReportRule)) → Closes s end x → Closes s end y → x ≡ y
+pub closes_one : (s : Reading) (end : ℕ) (x y : Result (List Effect) (Broken ReportRule)) → ClosesExecution s end x → ClosesExecution s end y → x ≡ y
 closes_one Unbegun end x y p q = p ∙ sym q
 closes_one (WithEffects told) end x y p q = p ∙ sym q
 closes_one (Ended told) end x y p q = p ∙ sym q
 
-pub closes_some : (s : Reading) (end : ℕ) → ((x : Result (List Effect) (Broken ReportRule)) → Closes s end x → ⊥) → ⊥
+pub closes_some : (s : Reading) (end : ℕ) → ((x : Result (List Effect) (Broken ReportRule)) → ClosesExecution s end x → ⊥) → ⊥
 closes_some Unbegun end none = none _ refl
 closes_some (WithEffects told) end none = none _ refl
 closes_some (Ended told) end none = none _ refl

@@ -4,7 +4,7 @@ ghost use Rattle.ql_line_files.specs.Answers.{IsLineAnswer};
 ghost use Rattle.ql_lines.specs.Fields.{fields_of};
 ghost use Rattle.ql_effect_lines.specs.Effects.{IsSound};
 ghost use Rattle.ql_execution_files.specs.declared.format.Reading.TheVariants.{Unbegun, WithEffects};
-ghost use Rattle.ql_execution_files.specs.ExecutionFile.{AreSound, Closes, Gives};
+ghost use Rattle.ql_execution_files.specs.ExecutionFile.{AreSound, ClosesExecution, ExtendsExecution};
 ghost use Rattle.ql_execution_files.specs.OneLine.{closes_one, closes_some, gives_one, gives_some, takes_sound};
 
 use ql_base::Names;
@@ -42,9 +42,9 @@ impl<'a> LineFormat for Format<'a> {
 
     ghost sound = { λ f read more. AreSound f.t.now.program read };
 
-    ghost gives = { λ f read l x. Gives f.t.now.program read l.text x };
+    ghost gives = { λ f read l x. ExtendsExecution f.t.now.program read l.text x };
 
-    ghost closes = { λ f read end x. Closes read end x };
+    ghost closes = { λ f read end x. ClosesExecution read end x };
 
     fn start(&self) -> Reading {
         Reading::Unbegun
@@ -86,7 +86,7 @@ impl<'a> LineFormat for Format<'a> {
 
 // A line before the effects.
 fn any_line(alloc: Global, text: &[u8]) -> Reading
-    ensures { (p : Program) → Gives p Unbegun text.now (Ok result) }
+    ensures { (p : Program) → ExtendsExecution p Unbegun text.now (Ok result) }
 {
     if is_word(text, b"execution") {
         Reading::WithEffects(Told {
@@ -106,7 +106,7 @@ fn one_more(
     text: &[u8],
 ) -> Result<Reading, LineFault<ReportRule>>
     requires sound { IsSound t.now.program told }
-    ensures { IsLineAnswer (Gives t.now.program (WithEffects told) text.now) result }
+    ensures { IsLineAnswer (ExtendsExecution t.now.program (WithEffects told) text.now) result }
 {
     if is_word(text, b"end") {
         return Ok(Reading::Ended(told));

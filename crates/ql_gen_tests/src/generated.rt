@@ -13,7 +13,7 @@ type cart { op add(item: text, n: int, gift: bool): unit { contract true; answer
 transaction fill { uses add; contract true; }
 transaction look { uses left; contract true; }";
 
-// What stands before the events of the first table.
+// What comes before the events of the first table.
 const HEADER: &str = "quelea schedule 1
 replicas 3
 object o0_0 stock
@@ -23,7 +23,7 @@ object o1_1 cart
 events
 ";
 
-// A number, how many events, and the events. Both tables are from an independent implementation.
+// A seed, how many events, and the events. Both tables are from an independent implementation.
 const EVENTS: &str = r#"
 0 9 -> call 0 at 1 o0_0 left␊deliver 2␊call 2 at 1 o0_0 restock 59␊call 3 at 0 o0_1 left␊deliver 2␊call 3 at 1 o1_0 add "t1" 96 false␊call 1 at 1 o1_0 add "t6" 51 false␊begin 3 at 1 fill o0_0 o1_0␊deliver 3
 1 9 -> call 2 at 0 o0_1 left␊commit 2 at 0␊call 2 at 1 o1_0 add "t0" 25 true␊repeat 2␊deliver 2␊begin 3 at 0 look o0_0 o1_0␊deliver 1␊call 2 at 2 o1_1 add "t4" 2 true␊commit 2 at 1
@@ -53,7 +53,7 @@ fn without_header(alloc: Global, text: &[u8]) -> Result<Vec<u8>, NoMemory> {
     Ok(Vec::from_slice(alloc, events)?)
 }
 
-// The same of a program without transactions, whole.
+// The whole schedule of a program without transactions.
 const WHOLE: &str = r#"
 0 2 -> quelea schedule 1␊replicas 3␊object o0_0 t␊object o0_1 t␊events␊call 0 at 1 o0_0 touch␊deliver 2
 5 6 -> quelea schedule 1␊replicas 3␊object o0_0 t␊object o0_1 t␊events␊deliver 1␊deliver 2␊call 0 at 2 o0_0 touch␊call 1 at 2 o0_1 touch␊heal␊call 1 at 1 o0_1 touch

@@ -40,8 +40,8 @@ pub data IsOperator : Level → Terminal → BinOp → Type 0 where
   or : IsOperator Disjunction OrWord Or
 
 -- the number that digits spell
-abbrev pub number_of : List ℕ → ℕ
-number_of digits = digits_value 10 digits
+abbrev pub number_spelled : List ℕ → ℕ
+number_spelled digits = digits_value 10 digits
 
 -- the bytes between the quotes of a text
 abbrev pub between_quotes : List ℕ → List ℕ
@@ -54,7 +54,7 @@ operands (e ∷ es) = More e (operands es)
 
 mutual
   pub data ReadsExpr : ExprPart → List Marked → List Marked → ℕ → Expression → Type 0 where
-    number : {x : List ℕ} {n : ℕ} {rest : List Marked} → ReadsExpr Unary (marked (Makes 1) IntToken x n ∷ rest) rest n (Number n (pos (number_of x)))
+    number : {x : List ℕ} {n : ℕ} {rest : List Marked} → ReadsExpr Unary (marked (Makes 1) IntToken x n ∷ rest) rest n (Number n (pos (number_spelled x)))
     text : {x : List ℕ} {n : ℕ} {rest : List Marked} → ReadsExpr Unary (marked (Makes 1) TextToken x n ∷ rest) rest n (Literal n (between_quotes x))
     true_value : {x : List ℕ} {n : ℕ} {rest : List Marked} → ReadsExpr Unary (marked (Makes 1) TrueWord x n ∷ rest) rest n (Truth n true)
     false_value : {x : List ℕ} {n : ℕ} {rest : List Marked} → ReadsExpr Unary (marked (Makes 1) FalseWord x n ∷ rest) rest n (Truth n false)

@@ -28,7 +28,7 @@ use Rattle.ql_grammar.specs.declared.role.Role.{Role}
 use Rattle.ql_grammar.specs.declared.role.Role.TheVariants.{Plain, Makes, Opens, Closes, Before}
 use Rattle.ql_grammar.specs.Terminals.{is_same}
 use Rattle.ql_grammar.specs.ContractGrammar.{RelationPart, Applied, Single, Product, Sum, PropPart, Atom, Both, Either, Whole}
-use Rattle.ql_grammar.specs.ExpressionGrammar.{ExprPart, Unary, Multiplied, Added, Compared, Conjoined, Disjoined, Chosen, between_quotes, number_of, operands}
+use Rattle.ql_grammar.specs.ExpressionGrammar.{ExprPart, Unary, Multiplied, Added, Compared, Conjoined, Disjoined, Chosen, between_quotes, number_spelled, operands}
 
 -- The grammar once more, for a machine: a stack of symbols says what is expected next, and a stack of values
 -- holds the trees that were read. This doesn't define the language: ContractGrammar, ExpressionGrammar and
@@ -263,7 +263,7 @@ operator_at l k = operator_in (operators l) k
 -- what the values become; values of another form stay as they are
 
 abbrev pub to_number : List Value → List Value
-to_number (ASpelling n x ∷ vs) = AnExpr n (Number n (pos (number_of x))) ∷ vs
+to_number (ASpelling n x ∷ vs) = AnExpr n (Number n (pos (number_spelled x))) ∷ vs
 to_number vs = vs
 
 abbrev pub to_literal : List Value → List Value
@@ -330,11 +330,11 @@ to_map (ABase c ∷ ABase b ∷ vs) = AKind (kind.Map b c) ∷ vs
 to_map vs = vs
 
 abbrev pub begin_number : List Value → List Value
-begin_number (ASpelling n x ∷ vs) = AnInit (record { at = n; node = init.Int (pos (number_of x)) }) ∷ vs
+begin_number (ASpelling n x ∷ vs) = AnInit (record { at = n; node = init.Int (pos (number_spelled x)) }) ∷ vs
 begin_number vs = vs
 
 abbrev pub begin_negative : List Value → List Value
-begin_negative (ASpelling m x ∷ APlace n ∷ vs) = AnInit (record { at = n; node = init.Int (neg_ℤ (pos (number_of x))) }) ∷ vs
+begin_negative (ASpelling m x ∷ APlace n ∷ vs) = AnInit (record { at = n; node = init.Int (neg_ℤ (pos (number_spelled x))) }) ∷ vs
 begin_negative vs = vs
 
 abbrev pub begin_text : List Value → List Value

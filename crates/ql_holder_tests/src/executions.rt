@@ -4,7 +4,7 @@ use ql_tables::number;
 use ql_value::{Value, Values};
 use std::alloc::Global;
 
-/// The execution of effects that are spelled one after another, with semicolons between them: an
+/// The execution of effects that are spelled one after another, with semicolons between them: each an
 /// object, a session, a begun transaction or 0 for none, and the ids that it sees.
 pub(crate) fn execution_of(alloc: Global, effects: &str) -> Result<Execution, NoMemory> {
     let mut execution = Execution::new(alloc);
@@ -55,7 +55,7 @@ pub(crate) fn draft(alloc: Global, object: u32, session: u32, run: u32, seen: Id
     }
 }
 
-/// Appends an effect, unless there are many or it is refused.
+/// Appends an effect, unless there are too many or it is refused.
 pub(crate) fn push(execution: &mut Execution, draft: Draft) -> Result<(), NoMemory> {
     if execution.len() >= 10_000 {
         return Ok(());

@@ -7,7 +7,7 @@ use ql_replica::Replica;
 use std::alloc::Global;
 use std::test::Fail;
 
-// Numbers that look random, each from the one before: the generator of Knuth's MMIX.
+// Pseudo-random numbers, each from the one before: the generator of Knuth's MMIX.
 #[derive(Drop)]
 struct Numbers {
     state: u64,
@@ -74,7 +74,7 @@ fn some_on(
     Ok(seen)
 }
 
-// Receives packages at random by both holders, and returns whether all that they answer is the same.
+// Lets both holders receive packages at random, and returns whether all their answers are the same.
 fn agree(alloc: Global, x: &Execution, numbers: &mut Numbers) -> Result<bool, NoMemory> {
     let mut ids = Vec::new(alloc);
     for _ in 0..120 {

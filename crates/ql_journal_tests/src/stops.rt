@@ -13,8 +13,8 @@ use ql_tables::{check_table, number};
 use std::alloc::Global;
 use std::test::Fail;
 
-// The call of the disk from which on each fails, and whether a stop leaves what was written or what was synced. Effect 2 is
-// received and then effect 1: what the last receipt answers, and what is recovered.
+// The number of the first call of the disk that fails, as all later ones do, and whether a stop leaves what was written
+// or what was synced. Effect 2 is received and then effect 1: the answer to the last receipt, and what is recovered.
 const STOPS: &str = "
 1 synced -> no journal
 2 written -> no journal

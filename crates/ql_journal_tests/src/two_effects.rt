@@ -34,7 +34,7 @@ fn draft(alloc: Global, session: u32, seen: IdSet) -> Draft {
     }
 }
 
-// Appends an effect, unless there are many or it is refused.
+// Appends an effect, unless there are too many or it is refused.
 fn push(execution: &mut Execution, draft: Draft) -> Result<(), NoMemory> {
     if execution.len() >= 1000 {
         return Ok(());

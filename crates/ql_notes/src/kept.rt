@@ -1,4 +1,4 @@
-// A sink that passes on what it is given, and keeps how it begins and how its last line does.
+// A sink that passes on its bytes, and keeps the beginning of the text and of its last line.
 ghost use Rattle.std.specs.Prelude.{◌≤◌};
 
 use ql_ports::{Failed, Sink};
@@ -59,7 +59,7 @@ impl LastLine {
     }
 }
 
-/// A sink over another one. It tells of its bytes and faults what that one does.
+/// A sink over another one, with the same bytes written and the same count of faults.
 #[derive(Drop)]
 pub struct KeptSink<K: Sink + Drop> {
     sink: K,

@@ -1,11 +1,11 @@
-// What notes ask of the system: whether they are wanted, and why a file can't be opened.
+// What notes need from the system: whether they are wanted, and why a file can't be opened.
 
 use std::env::Env;
 use std::fs::Files;
 use std::io::Eprint;
 use std::{env, fs};
 
-/// Whether notes are wanted. They are for people: on a terminal, or where QUELEA_NOTES is 1, and never where it is 0.
+/// Whether notes are wanted: always if QUELEA_NOTES is 1, never if it is 0, and otherwise on a terminal.
 pub fn wants_notes<R: Env + AllocGlobal>(rt: &R, is_terminal: bool) -> bool {
     match env::var(rt, "QUELEA_NOTES") {
         Ok(value) if value.as_str() == "1" => true,
@@ -14,7 +14,7 @@ pub fn wants_notes<R: Env + AllocGlobal>(rt: &R, is_terminal: bool) -> bool {
     }
 }
 
-/// Writes to standard error why the first file that can't be opened can't be, by the system.
+/// Writes the system's reason to standard error why a file can't be opened, for the first such argument.
 pub fn write_reason<R: Files + Eprint>(rt: &R, words: &Vec<String>) {
     for word in words.iter().skip(1) {
         if word.as_bytes().first() == Some(&b'-') {

@@ -58,8 +58,8 @@ transaction report { uses show, stock_left; contract forall a, b, c, d.
   txn{a, b}{c, d} /\ vis(c, a) /\ sameobj(d, b) => vis(d, b); }
 ";
 
-// A source, where some of its bytes are replaced, how many, and by what; and the first fault, or `source`, from
-// an independent implementation.
+// A source, the offset of some bytes in it, how many they are, and what replaces them; and the first fault, or
+// `source`, from an independent implementation.
 const REPLACED: &str = r#"
 bank 0 0  -> source
 register 0 0  -> source

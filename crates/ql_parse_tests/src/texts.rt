@@ -3,7 +3,7 @@ use ql_lex::LexFault;
 use ql_parse::ParseFault;
 use std::alloc::Global;
 
-/// The text that a row tells: itself, or of `3 times [part] in front~back` the three parts between front and back.
+/// The text of a row: itself, or for `3 times [part] in front~back` three parts between front and back.
 pub(crate) fn built(alloc: Global, row: &str) -> Result<Vec<u8>, NoMemory> {
     let Some((count, rest)) = row.split_once(" times [") else {
         return spelled(alloc, row);

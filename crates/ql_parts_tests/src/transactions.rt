@@ -36,7 +36,7 @@ fn draft(alloc: Global, session: u32, member: Member, seen: IdSet) -> Draft {
     }
 }
 
-// Session 2 made effect 1, and session 1 in a transaction effect 2, which saw these.
+// Session 2 made effect 1. Session 1 made effect 2 in a transaction, and effect 2 saw these.
 fn execution(alloc: Global, seen: &[u32]) -> Result<Execution, NoMemory>
     ensures { IfOk result (λ x. length x ≡ 2) }
 {

@@ -3,7 +3,7 @@ use ql_exec::{Draft, ExecFault, Execution, Member, Payload};
 use ql_value::{Value, Values};
 use std::alloc::Global;
 
-/// So many effects on one object, each of which sees the one before it, in 16 sessions by turns.
+/// This many effects on one object, each of which sees the one before it, in 16 sessions in rotation.
 pub(crate) fn chain(alloc: Global, count: u32) -> Result<Execution, NoMemory> {
     let mut execution = Execution::new(alloc);
     for k in 0..count {
@@ -29,7 +29,7 @@ fn draft(alloc: Global, session: u32, seen: IdSet) -> Draft {
     }
 }
 
-// Appends an effect, unless there are very many.
+// Appends an effect, unless there are too many.
 fn push(execution: &mut Execution, draft: Draft) -> Result<(), NoMemory> {
     if execution.len() >= 1_000_000 {
         return Ok(());

@@ -12,7 +12,7 @@ type cart { op add(item: text, n: int, gift: bool): unit { contract true; answer
 transaction fill { uses add; contract true; }
 transaction look { uses left; contract true; }";
 
-// Files, and how the schedule is printed that each one says, or its first fault. All tables are from an independent
+// Files, and how the schedule of each is printed, or its first fault. All tables are from an independent
 // implementation.
 const FILES: &str = r#"
  -> Unexpected 1
@@ -84,7 +84,7 @@ fn replicas_join(rt: HostRuntime) -> Result<(), Fail> {
     )
 }
 
-// What stands before the events of the next table, and is printed as it stands.
+// What comes before the events of the next table, and is printed unchanged.
 const HEADER: &str = "quelea schedule 1
 replicas 2
 object p stock
@@ -92,7 +92,7 @@ object c cart
 events
 ";
 
-// Lines of events, and how the event is printed that each one is, or the fault of the sixth line.
+// Lines of events, and how the event of each is printed, or the fault of the sixth line.
 const EVENTS: &str = r#"
 call 1 at 0 p restock 10 -> call 1 at 0 p restock 10
   call  1  at  0  p  restock  10   -> call 1 at 0 p restock 10
@@ -186,7 +186,7 @@ fn after_header(alloc: Global, line: &str) -> Result<Vec<u8>, NoMemory> {
     Ok(file)
 }
 
-// The last line of what is printed, or all of a fault.
+// The last line of what is printed, or the whole of a fault.
 fn without_header(alloc: Global, text: &[u8]) -> Result<Vec<u8>, NoMemory> {
     let last = match text.strip_prefix(HEADER.as_bytes()) {
         Some(event) => event.trim_ascii_end(),
@@ -195,7 +195,7 @@ fn without_header(alloc: Global, text: &[u8]) -> Result<Vec<u8>, NoMemory> {
     Ok(Vec::from_slice(alloc, last)?)
 }
 
-// Counts of events, of objects and of objects that a transaction declares, and the fault.
+// Numbers of events, of objects and of objects that a transaction declares, and the fault.
 const COUNTED: &str = "
 4000 1 1 -> schedule
 4001 1 1 -> TooMany 4005
@@ -219,7 +219,7 @@ fn counts_have_limits(rt: HostRuntime) -> Result<(), Fail> {
     })
 }
 
-// A file with so many events and objects, and with a last event that declares so many of them.
+// A file with this many events and objects, and with a last event that declares this many of the objects.
 fn counted(alloc: Global, events: u32, objects: u32, listed: u32) -> Result<Vec<u8>, NoMemory> {
     let mut file = Vec::from_slice(alloc, b"quelea schedule 1\nreplicas 2\n")?;
     for index in 0..objects {

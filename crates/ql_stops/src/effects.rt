@@ -3,7 +3,7 @@ use ql_exec::{Draft, ExecFault, Execution, Member, Payload};
 use ql_value::{Value, Values};
 use std::alloc::Global;
 
-/// The effects of so many transactions: 1 to 8 each, by turns, in a session of its own.
+/// The effects of this many transactions, of 1 to 8 effects in rotation, each in a session of its own.
 pub(crate) fn effects(alloc: Global, packages: u32) -> Result<Execution, NoMemory> {
     let mut execution = Execution::new(alloc);
     for run in 0..packages {
@@ -27,7 +27,7 @@ fn draft(alloc: Global, run: u32) -> Draft {
     }
 }
 
-// Appends an effect, unless there are very many.
+// Appends an effect, unless there are too many.
 fn push(execution: &mut Execution, draft: Draft) -> Result<(), NoMemory> {
     if execution.len() >= 1_000_000 {
         return Ok(());

@@ -1,5 +1,5 @@
 ghost use Rattle.std.specs.Prelude.{◌≡◌};
-ghost use Rattle.ql_typing.specs.Faults.{place_of, rule_of, comes_before, earlier};
+ghost use Rattle.ql_typing.specs.Faults.{fault_place, rule_of, stands_before, earlier};
 
 use ql_base::NoMemory;
 use std::alloc::{AllocError, AllocFailed};
@@ -60,7 +60,7 @@ impl<T: Drop> From<AllocFailed<T>> for TypeFault {
 impl TypeFault {
     /// The source offset of a fault.
     pub(crate) fn place(self) -> u32
-        ensures { result ≡ place_of self }
+        ensures { result ≡ fault_place self }
     {
         match self {
             TypeFault::Unknown(at)
@@ -91,10 +91,10 @@ impl TypeFault {
     }
 }
 
-#[tactic(auto, unfolding(crate::specs::Faults::comes_before))]
+#[tactic(auto, unfolding(crate::specs::Faults::stands_before))]
 /// Whether `a` is at a lower offset than `b`, or at the same one and breaks a lower rule.
 fn comes_first(a: TypeFault, b: TypeFault) -> bool
-    ensures { result ≡ comes_before a b }
+    ensures { result ≡ stands_before a b }
 {
     a.place() < b.place() || (a.place() == b.place() && a.rule() < b.rule())
 }

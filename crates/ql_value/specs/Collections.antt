@@ -30,8 +30,8 @@ module _ {X : Type 0} (cmp : X → X → Ordering) where
   below e xs = filter (λ x. is_lt (cmp x e)) xs
 
   -- the items above it
-  abbrev pub above : X → List X → List X
-  above e xs = filter (λ x. is_gt (cmp x e)) xs
+  abbrev pub items_above : X → List X → List X
+  items_above e xs = filter (λ x. is_gt (cmp x e)) xs
 
   -- the items other than it
   abbrev pub others : X → List X → List X
@@ -39,7 +39,7 @@ module _ {X : Type 0} (cmp : X → X → Ordering) where
 
   -- the items with it inserted in order; unchanged if there are 256 others
   abbrev pub with_item : X → List X → List X
-  with_item e xs = if nat_lt (length (others e xs)) 256 then below e xs ++ e ∷ above e xs else xs
+  with_item e xs = if nat_lt (length (others e xs)) 256 then below e xs ++ e ∷ items_above e xs else xs
 
 -- the keys of a map
 abbrev pub keys : List (Scalar × Scalar) → List Scalar
@@ -70,14 +70,14 @@ abbrev pub dropped : List (Scalar × Scalar) → Scalar → List (Scalar × Scal
 dropped m k = filter (λ entry. not (is_eq (scalar_cmp entry.0 k))) m
 
 -- the value that a map has for a key, or `d` if it has no such key
-abbrev pub value_at : List (Scalar × Scalar) → Scalar → Scalar → Scalar
-value_at m k d = option_map_or (λ entry. entry.1) (find (λ entry. is_eq (scalar_cmp entry.0 k)) m) d
+abbrev pub value_for_key : List (Scalar × Scalar) → Scalar → Scalar → Scalar
+value_for_key m k d = option_map_or (λ entry. entry.1) (find (λ entry. is_eq (scalar_cmp entry.0 k)) m) d
 
 -- the number that a scalar is, 0 if it isn't one
-abbrev pub number_in : Scalar → ℤ
-number_in (Int n) = n
-number_in other = pos 0
+abbrev pub int_of : Scalar → ℤ
+int_of (Int n) = n
+int_of other = pos 0
 
 -- the saturating sum of a map's numbers, by ascending key, from 0
 abbrev pub sum_of : List (Scalar × Scalar) → ℤ
-sum_of m = fold (λ total entry. saturated (total +ℤ number_in entry.1)) (pos 0) m
+sum_of m = fold (λ total entry. saturated (total +ℤ int_of entry.1)) (pos 0) m

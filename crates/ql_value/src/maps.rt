@@ -5,10 +5,10 @@ ghost use Rattle.ql_value.specs.Collections.{
   Ascends,
   IsMap,
   dropped,
-  number_in,
+  int_of,
   put_in,
   sum_of,
-  value_at,
+  value_for_key,
 };
 
 use crate::copying::{copy_entries, copy_scalar};
@@ -49,7 +49,7 @@ pub fn get(
     key: &Scalar,
     otherwise: &Scalar,
 ) -> Result<Scalar, NoMemory>
-    ensures { IfOk result (λ answer. answer ≡ value_at map.now key.now otherwise.now) }
+    ensures { IfOk result (λ answer. answer ≡ value_for_key map.now key.now otherwise.now) }
 {
     match map.items().iter().find(|entry| same_scalar(&entry.0, key)) {
         Some(entry) => copy_scalar(alloc, &entry.1),
@@ -71,7 +71,7 @@ pub fn sum(map: &MapVal) -> i64
 
 // The number that a scalar is, or 0 if it isn't one.
 fn number_in(scalar: &Scalar) -> i64
-    ensures { result ≡ number_in scalar.now }
+    ensures { result ≡ int_of scalar.now }
 {
     match scalar {
         Scalar::Int(n) => *n,

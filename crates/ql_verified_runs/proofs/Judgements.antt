@@ -3,7 +3,7 @@ use Rattle.std.proofs.Common.{◌≡◌, ◌⊎◌, inl, inr, ℕ, true, false, 
 use Rattle.std.proofs.lemmas.Bool.{both_ways}
 use Rattle.ql_commands.specs.Sources.{IsSourceOf}
 use Rattle.ql_exec.specs.declared.effect.Effect.{Effect}
-use Rattle.ql_execution_files.specs.ExecutionFile.{FirstFault, IsExecutionFile}
+use Rattle.ql_execution_files.specs.ExecutionFile.{FirstExecutionFault, IsExecutionFile}
 use Rattle.ql_execution_files.specs.declared.report_fault.ReportFault.{ReportFault}
 use Rattle.ql_judging.specs.Verify.{VerifySays, VerifyTells}
 use Rattle.ql_judging.specs.declared.judged.Judged.{Judged}
@@ -51,7 +51,7 @@ verdict-of p q y same holds = (
 
 module _ (tree : (bytes : List ℕ) (s t : Source) → IsProgramText bytes s → IsProgramText bytes t → s ≡ t)
     (one : (p : Program) (file : Ahead) (x y : List Effect) → IsExecutionFile p file x → IsExecutionFile p file y → x ≡ y)
-    (apart : (p : Program) (file : Ahead) (x : List Effect) (f : ReportFault) → IsExecutionFile p file x → FirstFault p file f → ⊥)
+    (apart : (p : Program) (file : Ahead) (x : List Effect) (f : ReportFault) → IsExecutionFile p file x → FirstExecutionFault p file f → ⊥)
     (source text : List ℕ) (p : Program) (is : IsSourceOf source p) (y : List Effect) (read : IsExecutionFile p (ahead_from 1 text) y) (holds : IsVerdict p y None) where
   same-as : (q : Program) → IsSourceOf source q → source_of p ≡ source_of q
   same-as q is_q = tree source (source_of p) (source_of q) is.0 is_q.0
@@ -75,7 +75,7 @@ module _ (tree : (bytes : List ℕ) (s t : Source) → IsProgramText bytes s →
 
 pub run-judged : ((bytes : List ℕ) (s t : Source) → IsProgramText bytes s → IsProgramText bytes t → s ≡ t)
     → ((p : Program) (file : Ahead) (x y : List Effect) → IsExecutionFile p file x → IsExecutionFile p file y → x ≡ y)
-    → ((p : Program) (file : Ahead) (x : List Effect) (f : ReportFault) → IsExecutionFile p file x → FirstFault p file f → ⊥)
+    → ((p : Program) (file : Ahead) (x : List Effect) (f : ReportFault) → IsExecutionFile p file x → FirstExecutionFault p file f → ⊥)
     → ((p : Program) (objects : List (List ℕ)) (levels : LevelLists) (replies : List Reply) (x : List Effect) → IsPrintable p objects x
     → (y : List Effect) × IsRenumbered x y × IsExecutionFile p (ahead_from 1 (run_text p objects levels replies x)) y)
     → (source schedule text said : List ℕ) (j : Judged) (tells : TellsRun IsRunText source schedule text) → IsPrintable tells.program tells.schedule.objects tells.prints.last.effects

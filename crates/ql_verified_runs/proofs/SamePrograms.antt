@@ -8,8 +8,8 @@ use Rattle.ql_base.specs.declared.ids.OpId.{OpId}
 use Rattle.ql_commands.proofs.SameSource.{map_alike, same-op-kinds, same-ops, same-txns}
 use Rattle.ql_exec.specs.declared.effect.Effect.{Effect}
 use Rattle.ql_exec.specs.declared.effect.Member.{Member}
-use Rattle.ql_effect_lines.specs.Effects.{after_effect, after_known, is_mixed, known_of, member_of}
-use Rattle.ql_execution_files.specs.ExecutionFile.{Closes, IsExecutionFile, Takes, gives}
+use Rattle.ql_effect_lines.specs.Effects.{after_effect, after_known, is_mixed, known_of, member_of_line}
+use Rattle.ql_execution_files.specs.ExecutionFile.{ClosesExecution, IsExecutionFile, Takes, gives}
 use Rattle.ql_execution_files.specs.declared.format.Reading.{Reading}
 use Rattle.ql_execution_files.specs.declared.format.Reading.TheVariants.{Ended, Unbegun, WithEffects}
 use Rattle.ql_line_files.specs.Outcomes.{Leads}
@@ -55,7 +55,7 @@ module _ (p q : Program) (e : source_of p ≡ source_of q) where
       ∙ ap (λ (ws : List (List ℕ)). place ws w) (map_alike transaction_of (λ d. d.name.word) (λ a b s. ap (λ (t : Transaction). t.name.word) s) p.txns q.txns (same-txns p q e))
       ∙ position-map (bytes_eq w) (λ (d : TxnDecl). d.name.word) q.txns
 
-  member-same : (t : Option Begun) → member_of p t ≡ member_of q t
+  member-same : (t : Option Begun) → member_of_line p t ≡ member_of_line q t
   member-same None = refl
   member-same (Some t) = rw (txn-place t.name) refl
 
@@ -84,7 +84,7 @@ module _ (p q : Program) (e : source_of p ≡ source_of q) where
   takes (WithEffects told) l after (inr end) = inr end
   takes (Ended told) l after h = absurd h
 
-  leads : (ls : List Numbered) (before after : Reading) → Leads (gives p) Closes before ls after → Leads (gives q) Closes before ls after
+  leads : (ls : List Numbered) (before after : Reading) → Leads (gives p) ClosesExecution before ls after → Leads (gives q) ClosesExecution before ls after
   unfolding Leads
   leads [] before after h = h
   leads (l ∷ ls) before after h = (h.0, takes before l h.0 h.1, leads ls h.0 after h.2)

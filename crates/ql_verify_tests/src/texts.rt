@@ -8,7 +8,7 @@ pub(crate) fn spelled(alloc: Global, text: &str) -> Result<Vec<u8>, NoMemory> {
     Ok(Vec::from_slice(alloc, text.as_bytes())?)
 }
 
-/// The program of a source, where it is one.
+/// The program of a source; none where the text isn't one.
 pub(crate) fn declared(alloc: Global, source: &str) -> Option<Typed> {
     if source.len() > 4096 {
         return None;
