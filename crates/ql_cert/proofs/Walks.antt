@@ -4,7 +4,7 @@ use Rattle.std.specs.List.{AllByRecursion}
 use Rattle.std.proofs.lemmas.List.{append-nil, length-append}
 use Rattle.ql_refute.specs.declared.refutation.Line.{Line}
 use Rattle.ql_cert.specs.declared.cert.Section.{Section}
-use Rattle.ql_cert.specs.declared.cert_reader.Reading.TheVariants.{Untitled, Within, Ended}
+use Rattle.ql_cert.specs.declared.cert_reader.CertReading.TheVariants.{Untitled, Within, Ended}
 use Rattle.ql_cert.specs.Spelling.{IsLine, line_fields, numbered_lines}
 use Rattle.ql_cert.specs.CertFile.{Opens, GoesOn, Ends, Takes, IsSection, cert_lines, end_line, heading, opened, section_lines, sections_lines, with_line, with_last}
 use Rattle.ql_cert.proofs.Walking.{Walks, joined}

@@ -8,8 +8,8 @@ use Rattle.ql_refute.specs.declared.refutation.Line.{Line}
 use Rattle.ql_cert.specs.declared.cert.SectionLevel.{SectionLevel}
 use Rattle.ql_cert.specs.declared.cert.SectionLevel.TheVariants.{Op, Txn}
 use Rattle.ql_cert.specs.declared.cert.Section.{Section}
-use Rattle.ql_cert.specs.declared.cert_reader.Reading.{Reading}
-use Rattle.ql_cert.specs.declared.cert_reader.Reading.TheVariants.{Untitled, Within, Ended}
+use Rattle.ql_cert.specs.declared.cert_reader.CertReading.{CertReading}
+use Rattle.ql_cert.specs.declared.cert_reader.CertReading.TheVariants.{Untitled, Within, Ended}
 use Rattle.ql_cert.specs.Spelling.{IsLine, line_fields, numbered_lines}
 
 abbrev pub title : Fields
@@ -69,7 +69,7 @@ abbrev pub with_line : Section → Line → Section
 with_line s l = record { name = s.name; level = s.level; refutation = record { lines = s.refutation.lines ++ l ∷ [] } }
 
 -- the next line is a heading
-pub record Opens (done : List Section) (last : Option Section) (line : Fields) (after : Reading) : Type 0 where
+pub record Opens (done : List Section) (last : Option Section) (line : Fields) (after : CertReading) : Type 0 where
   pub name : List ℕ
   pub level : SectionLevel
   pub is_name : IsName name
@@ -77,7 +77,7 @@ pub record Opens (done : List Section) (last : Option Section) (line : Fields) (
   pub to : after ≡ Within (with_last done last) (Some (opened name level))
 
 -- the next line is one of a refutation
-pub record GoesOn (done : List Section) (last : Option Section) (line : Fields) (after : Reading) : Type 0 where
+pub record GoesOn (done : List Section) (last : Option Section) (line : Fields) (after : CertReading) : Type 0 where
   pub section : Section
   pub in_it : last ≡ Some section
   pub next : Line
@@ -87,17 +87,17 @@ pub record GoesOn (done : List Section) (last : Option Section) (line : Fields) 
   pub to : after ≡ Within done (Some (with_line section next))
 
 -- the next line is the last
-pub record Ends (done : List Section) (last : Option Section) (line : Fields) (after : Reading) : Type 0 where
+pub record Ends (done : List Section) (last : Option Section) (line : Fields) (after : CertReading) : Type 0 where
   pub is : line ≡ end_line
   pub to : after ≡ Ended (with_last done last)
 
 -- the line leads from one state of reading to the next
-abbrev pub Takes : Reading → Fields → Reading → Type 0
+abbrev pub Takes : CertReading → Fields → CertReading → Type 0
 Takes Untitled line after = (line ≡ title) × (after ≡ Within [] None)
 Takes (Within done last) line after = Opens done last line after ⊎ (GoesOn done last line after ⊎ Ends done last line after)
 Takes (Ended ss) line after = ⊥
 
 -- the sections of a file that ends here, if it may end here
-abbrev pub said : Reading → Option (List Section)
+abbrev pub said : CertReading → Option (List Section)
 said (Ended ss) = Some ss
 said other = None

@@ -9,8 +9,8 @@ use Rattle.ql_refute.specs.declared.refutation.Line.{Line}
 use Rattle.ql_cert.specs.declared.cert.SectionLevel.{SectionLevel}
 use Rattle.ql_cert.specs.declared.cert.SectionLevel.TheVariants.{Op, Txn}
 use Rattle.ql_cert.specs.declared.cert.Section.{Section}
-use Rattle.ql_cert.specs.declared.cert_reader.Reading.{Reading}
-use Rattle.ql_cert.specs.declared.cert_reader.Reading.TheVariants.{Untitled, Within, Ended}
+use Rattle.ql_cert.specs.declared.cert_reader.CertReading.{CertReading}
+use Rattle.ql_cert.specs.declared.cert_reader.CertReading.TheVariants.{Untitled, Within, Ended}
 use Rattle.ql_cert.specs.declared.fault.CertRule.{CertRule}
 use Rattle.ql_cert.specs.declared.fault.CertRule.TheVariants.{Unexpected, Number}
 use Rattle.ql_cert.specs.CertFile.{Opens, GoesOn, Takes, end_line, heading, kind_word, level_word, opened, with_line, with_last}
@@ -85,20 +85,20 @@ pub end_no_line : (number : ℕ) (next : Line) → number < 2 ^ 64 → end_line 
 end_no_line number next small e = no_number number small 101 (110 ∷ 100 ∷ []) (inr (omega arith)) (sym (ap (λ (f : Fields). get_or f 0 []) e))
 
 module _ (done : List Section) (last : Option Section) where
-  one_opening : (line : Fields) (a b : Reading) → Opens done last line a → Opens done last line b → a ≡ b
+  one_opening : (line : Fields) (a b : CertReading) → Opens done last line a → Opens done last line b → a ≡ b
   one_opening line a b p q =
       let same : heading p.name p.level ≡ heading q.name q.level = sym p.is ∙ q.is in
       let names : p.name ≡ q.name = ap (λ (f : Fields). get_or f 1 []) same in
       let levels : p.level ≡ q.level = same_level p.level q.level (ap (λ (f : Fields). get_or f 0 []) same) (ap (λ (f : Fields). get_or f 2 []) same) in
       p.to ∙ ap₂ (λ n l. Within (with_last done last) (Some (opened n l))) names levels ∙ sym q.to
 
-  one_step : (line : Fields) (a b : Reading) → GoesOn done last line a → GoesOn done last line b → a ≡ b
+  one_step : (line : Fields) (a b : CertReading) → GoesOn done last line a → GoesOn done last line b → a ≡ b
   one_step line a b p q =
       let sections : p.section ≡ q.section = ap (λ o. unwrap_or o p.section) (sym p.in_it ∙ q.in_it) in
       let same : body_fields p.next ≡ body_fields q.next = ap (λ (f : Fields). drop 1 f) (sym p.is ∙ q.is) in
       p.to ∙ ap₂ (λ s n. Within done (Some (with_line s n))) sections (same_line p.next q.next p.fits q.fits same) ∙ sym q.to
 
-  one_way : (line : Fields) (a b : Reading) → Takes (Within done last) line a → Takes (Within done last) line b → a ≡ b
+  one_way : (line : Fields) (a b : CertReading) → Takes (Within done last) line a → Takes (Within done last) line b → a ≡ b
   one_way line a b (inl p) (inl q) = one_opening line a b p q
   one_way line a b (inr (inl p)) (inr (inl q)) = one_step line a b p q
   one_way line a b (inr (inr p)) (inr (inr q)) = p.to ∙ sym q.to
@@ -109,7 +109,7 @@ module _ (done : List Section) (last : Option Section) where
   one_way line a b (inr (inl p)) (inr (inr q)) = absurd (end_no_line _ p.next p.few (sym q.is ∙ p.is))
   one_way line a b (inr (inr p)) (inr (inl q)) = absurd (end_no_line _ q.next q.few (sym p.is ∙ q.is))
 
-pub one_after : (s : Reading) (line : Fields) (a b : Reading) → Takes s line a → Takes s line b → a ≡ b
+pub one_after : (s : CertReading) (line : Fields) (a b : CertReading) → Takes s line a → Takes s line b → a ≡ b
 one_after Untitled line a b p q = p.1 ∙ sym q.1
 one_after (Within done last) line a b p q = one_way done last line a b p q
 one_after (Ended ss) line a b p q = absurd p

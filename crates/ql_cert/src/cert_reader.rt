@@ -3,7 +3,7 @@ ghost use Rattle.std.specs.Option.{option_map};
 ghost use Rattle.ql_base.specs.Names.{IsName};
 ghost use Rattle.ql_line_files.specs.Answers.{IsLineAnswer};
 ghost use Rattle.ql_lines.specs.Fields.{fields_of};
-ghost use Rattle.ql_cert.specs.declared.cert_reader.Reading.TheVariants.{Untitled, Within};
+ghost use Rattle.ql_cert.specs.declared.cert_reader.CertReading.TheVariants.{Untitled, Within};
 ghost use Rattle.ql_cert.specs.CertFile.{Takes, end_line, heading, opened, said, title, with_last};
 ghost use Rattle.ql_cert.specs.Faults.{Closes, Gives};
 ghost use Rattle.ql_cert.specs.OneLine.{closes_one, closes_some, gives_one, gives_some, one_after};
@@ -28,7 +28,7 @@ pub(crate) struct Heading {
 
 /// How far a certificate was read: not at all; some sections, the last of which may continue; to its end.
 #[derive(Drop)]
-pub(crate) enum Reading {
+pub(crate) enum CertReading {
     Untitled,
     Within(Sections, Option<Section>),
     Ended(Sections),
@@ -41,7 +41,7 @@ pub(crate) struct CertFormat {
 }
 
 impl LineFormat for CertFormat {
-    type State = Reading;
+    type State = CertReading;
 
     type Said = Sections;
 
@@ -55,26 +55,26 @@ impl LineFormat for CertFormat {
 
     ghost closes = { λ f read end x. Closes (said read) end x };
 
-    fn start(&self) -> Reading {
-        Reading::Untitled
+    fn start(&self) -> CertReading {
+        CertReading::Untitled
     }
 
     fn take(
         &self,
-        state: Reading,
+        state: CertReading,
         _number: u64,
         text: &[u8],
-    ) -> Result<Reading, LineFault<CertRule>> {
+    ) -> Result<CertReading, LineFault<CertRule>> {
         match state {
-            Reading::Untitled => titled(self.alloc, text),
-            Reading::Within(done, last) => within(self.alloc, done, last, text),
-            Reading::Ended(_) => Err(LineFault::Breaks(CertRule::Unexpected)),
+            CertReading::Untitled => titled(self.alloc, text),
+            CertReading::Within(done, last) => within(self.alloc, done, last, text),
+            CertReading::Ended(_) => Err(LineFault::Breaks(CertRule::Unexpected)),
         }
     }
 
-    fn finish(&self, state: Reading, end: u64) -> Result<Sections, FileFault<CertRule>> {
+    fn finish(&self, state: CertReading, end: u64) -> Result<Sections, FileFault<CertRule>> {
         match state {
-            Reading::Ended(sections) => Ok(sections),
+            CertReading::Ended(sections) => Ok(sections),
             _ => Err(FileFault::Broken(Broken {
                 line: end,
                 rule: CertRule::Unexpected,
@@ -95,11 +95,11 @@ impl LineFormat for CertFormat {
 
 #[tactic(auto, using(crate::proofs::Refusals::not_titled))]
 // The first line must be the title.
-fn titled(alloc: Global, text: &[u8]) -> Result<Reading, LineFault<CertRule>>
+fn titled(alloc: Global, text: &[u8]) -> Result<CertReading, LineFault<CertRule>>
     ensures { IsLineAnswer (Gives Takes Untitled (fields_of text.now)) result }
 {
     if is_title(text) {
-        Ok(Reading::Within(Sections::of(Vec::new(alloc)), None))
+        Ok(CertReading::Within(Sections::of(Vec::new(alloc)), None))
     } else {
         Err(LineFault::Breaks(CertRule::Unexpected))
     }
@@ -198,15 +198,15 @@ fn within(
     done: Sections,
     last: Option<Section>,
     text: &[u8],
-) -> Result<Reading, LineFault<CertRule>>
+) -> Result<CertReading, LineFault<CertRule>>
     ensures { IsLineAnswer (Gives Takes (Within done last) (fields_of text.now)) result }
 {
     if let Some(heading) = read_heading(text) {
         let all = with_last(done, last)?;
-        return Ok(Reading::Within(all, Some(opened(alloc, heading))));
+        return Ok(CertReading::Within(all, Some(opened(alloc, heading))));
     }
     if is_end(text) {
-        return Ok(Reading::Ended(with_last(done, last)?));
+        return Ok(CertReading::Ended(with_last(done, last)?));
     }
     let Some((first, body)) = first_field(text) else {
         return Err(LineFault::Breaks(CertRule::Unexpected));
@@ -236,7 +236,7 @@ fn numbered(
     last: Option<Section>,
     number: u64,
     body: &[u8],
-) -> Result<Reading, LineFault<CertRule>>
+) -> Result<CertReading, LineFault<CertRule>>
     ensures { IsLineAnswer (Gives Takes (Within done last) (decimal number ∷ fields_of body.now)) result }
 {
     let Some(section) = last else {
@@ -263,7 +263,7 @@ fn numbered(
         level,
         refutation,
     };
-    Ok(Reading::Within(done, Some(grown)))
+    Ok(CertReading::Within(done, Some(grown)))
 }
 
 // The sections with the last one among them.

@@ -39,7 +39,7 @@ use Rattle.ql_claim.specs.InTurn.{NothingFailed}
 use Rattle.ql_claim.specs.Kept.{KeepsLevels, AreKeptInTurn, IsUpheld}
 use Rattle.ql_claim.specs.Soundness.{op_with_level, txn_with_level}
 use Rattle.ql_claim.proofs.Asked.{asks-verify, said-of-files}
-use Rattle.ql_claim.proofs.SamePrograms.{same-execution, same-op-contracts, same-op-name, same-txn-contracts, same-txn-name, same-work}
+use Rattle.ql_verified_runs.proofs.SamePrograms.{same-execution, same-op-contracts, same-op-name, same-txn-contracts, same-txn-name, same-work}
 use Rattle.ql_claim.proofs.SoundClaims.{classified}
 use Rattle.ql_claim.proofs.SoundLines.{IsPrinted}
 

@@ -19,7 +19,7 @@ use Rattle.ql_effect_lines.specs.declared.effect_line.EffectLine.{EffectLine}
 use Rattle.ql_effect_lines.specs.declared.rules.ReportRule.{ReportRule}
 use Rattle.ql_effect_lines.specs.declared.rules.ReportRule.TheVariants.{Unknown, Mixed, Stamp, NotForward, OtherObject, SplitTxn, TooMany}
 use Rattle.ql_effect_lines.specs.declared.setting.Begun.{Begun}
-use Rattle.ql_effect_lines.specs.declared.told.Told.{Told}
+use Rattle.ql_effect_lines.specs.declared.effects_read.EffectsRead.{EffectsRead}
 
 -- the greatest number of effects of a file
 abbrev pub most_effects : ℕ
@@ -30,8 +30,8 @@ abbrev pub AreOfProgram : Program → List Effect → Type 0
 AreOfProgram p x = All (λ e. e.op.0 < length (all_ops p.types)) x
 
 -- the effects are few, and of the program's operations; each names one object at most
-abbrev pub IsSound : Program → Told → Type 0
-IsSound p told = (length told.effects ≤ most_effects) × AreOfProgram p told.effects × (length told.objects ≤ length told.effects)
+abbrev pub IsSound : Program → EffectsRead → Type 0
+IsSound p read = (length read.effects ≤ most_effects) × AreOfProgram p read.effects × (length read.objects ≤ length read.effects)
 
 -- ---- names
 
@@ -81,26 +81,26 @@ exec_rule (exec.OtherObject at) = OtherObject
 exec_rule (exec.SplitTxn at) = SplitTxn
 exec_rule exec.NoMemory = TooMany
 
-abbrev pub with_read_effect : Told → Draft → Told
-with_read_effect told draft = record { objects = told.objects; effects = told.effects ++ effect_of told.effects draft ∷ [] }
+abbrev pub with_read_effect : EffectsRead → Draft → EffectsRead
+with_read_effect read draft = record { objects = read.objects; effects = read.effects ++ effect_of read.effects draft ∷ [] }
 
-abbrev pub with_object_name : Told → List ℕ → Told
-with_object_name told w = record { objects = with_name told.objects w; effects = told.effects }
+abbrev pub with_object_name : EffectsRead → List ℕ → EffectsRead
+with_object_name read w = record { objects = with_name read.objects w; effects = read.effects }
 
 -- an effect whose line says this stamp
-abbrev pub with_draft : Told → Draft → ℕ → Result Told ReportRule
-with_draft told draft stamp =
-    option_map_or (λ fault. Err (exec_rule fault)) (fault_of told.effects draft)
-    (if not (nat_eq (stamp_of told.effects draft.session draft.seen) stamp) then Err Stamp
-    else (if nat_le most_effects (length told.effects) then Err TooMany
-    else Ok (with_read_effect told draft)))
+abbrev pub with_draft : EffectsRead → Draft → ℕ → Result EffectsRead ReportRule
+with_draft read draft stamp =
+    option_map_or (λ fault. Err (exec_rule fault)) (fault_of read.effects draft)
+    (if not (nat_eq (stamp_of read.effects draft.session draft.seen) stamp) then Err Stamp
+    else (if nat_le most_effects (length read.effects) then Err TooMany
+    else Ok (with_read_effect read draft)))
 
 -- an effect of an operation and a membership that the program has
-abbrev pub after_known : Program → Told → EffectLine → OpId → Member → Result Told ReportRule
-after_known p told e op member =
-    if is_mixed p told.effects (record { 0 = object_number told.objects e.object }) op then Err Mixed
-    else with_draft (with_object_name told e.object) (draft_of_line e (record { 0 = object_number told.objects e.object }) op member) e.setting.stamp
+abbrev pub after_known : Program → EffectsRead → EffectLine → OpId → Member → Result EffectsRead ReportRule
+after_known p read e op member =
+    if is_mixed p read.effects (record { 0 = object_number read.objects e.object }) op then Err Mixed
+    else with_draft (with_object_name read e.object) (draft_of_line e (record { 0 = object_number read.objects e.object }) op member) e.setting.stamp
 
 -- what the lines say with the line of one more effect, or the lowest rule that it breaks
-abbrev pub after_effect : Program → Told → EffectLine → Result Told ReportRule
-after_effect p told e = option_map_or (λ known. after_known p told e known.0 known.1) (known_of p e) (Err Unknown)
+abbrev pub after_effect : Program → EffectsRead → EffectLine → Result EffectsRead ReportRule
+after_effect p read e = option_map_or (λ known. after_known p read e known.0 known.1) (known_of p e) (Err Unknown)

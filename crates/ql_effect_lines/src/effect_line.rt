@@ -80,10 +80,10 @@ fn call(alloc: Global, text: &[u8]) -> Result<Option<(Values, Value, &[u8])>, No
     let Some((args, rest)) = values_field(alloc, text)? else {
         return Ok(None);
     };
-    let Some(told) = after_word(rest, b"=") else {
+    let Some(after_mark) = after_word(rest, b"=") else {
         return Ok(None);
     };
-    match value_field(alloc, told)? {
+    match value_field(alloc, after_mark)? {
         Some((answer, behind)) => Ok(Some((args, answer, behind))),
         None => Ok(None),
     }
@@ -95,7 +95,7 @@ fn emit(alloc: Global, text: &[u8]) -> Result<Option<(Payload, &[u8])>, NoMemory
         (λ x. EmitAt x.0 text.now x.1.now)) }
 {
     match after_word(text, b"emit") {
-        Some(told) => payload(alloc, told),
+        Some(after_emit) => payload(alloc, after_emit),
         None => Ok(None),
     }
 }

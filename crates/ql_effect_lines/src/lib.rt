@@ -4,12 +4,12 @@
 #![tactic(auto)]
 
 mod effect_line;
+mod effects_read;
 mod part;
 mod rules;
 mod setting;
-mod told;
 
 pub use effect_line::{EffectLine, read_line};
+pub use effects_read::EffectsRead;
 pub use rules::ReportRule;
 pub use setting::{Begun, Setting};
-pub use told::Told;

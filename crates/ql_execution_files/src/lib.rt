@@ -8,7 +8,7 @@ mod parse;
 mod report_fault;
 
 // The files are in terms of what their lines say.
-pub use format::Reading;
+pub use format::ExecutionReading;
 pub use law::one_execution;
 pub use parse::parse_execution;
 pub use report_fault::ReportFault;

@@ -30,12 +30,12 @@ use Rattle.ql_exec.proofs.Stamps.{stamp_few}
 use Rattle.ql_effect_lines.specs.declared.effect_line.EffectLine.{EffectLine}
 use Rattle.ql_effect_lines.specs.declared.rules.ReportRule.{ReportRule}
 use Rattle.ql_effect_lines.specs.declared.rules.ReportRule.TheVariants.{Unknown, Mixed, Stamp, TooMany}
-use Rattle.ql_effect_lines.specs.declared.told.Told.{Told}
+use Rattle.ql_effect_lines.specs.declared.effects_read.EffectsRead.{EffectsRead}
 use Rattle.ql_effect_lines.specs.EffectLine.{IsEffectLine}
 use Rattle.ql_effect_lines.specs.Effects.{after_effect, after_known, draft_of_line, first_on, is_mixed, type_of_op, known_of, member_of_line, object_number, with_draft, exec_rule, with_read_effect, with_object_name}
-use Rattle.ql_execution_files.specs.ExecutionFile.{ClosesExecution, IsExecutionFile, Takes, end_fields, first_fields, gives, nothing_told}
-use Rattle.ql_execution_files.specs.declared.format.Reading.{Reading}
-use Rattle.ql_execution_files.specs.declared.format.Reading.TheVariants.{Ended, Unbegun, WithEffects}
+use Rattle.ql_execution_files.specs.ExecutionFile.{ClosesExecution, IsExecutionFile, Takes, end_fields, first_fields, gives, nothing_read}
+use Rattle.ql_execution_files.specs.declared.format.ExecutionReading.{ExecutionReading}
+use Rattle.ql_execution_files.specs.declared.format.ExecutionReading.TheVariants.{Ended, Unbegun, WithEffects}
 use Rattle.ql_line_files.specs.Outcomes.{Leads}
 use Rattle.ql_run_text.specs.EffectTexts.{AreNamed, IsDeclared, IsNamed, effect_fields, effects_text, execution_text, object_name}
 use Rattle.ql_run_text.specs.NumberedLines.{lines_from}
@@ -118,7 +118,7 @@ module _ (p : Program) (objects : List (List ℕ)) (number : ℕ → ℕ) where
         → after_effect p (record { objects = done; effects = others number x }) (line_of p objects e)
         ≡ Ok (record { objects = with_name done (object_name objects e.object.0); effects = others number (x ++ e ∷ []) })
     next-effect done x e law room is kinds numbered =
-        let before : Told = record { objects = done; effects = others number x } in
+        let before : EffectsRead = record { objects = done; effects = others number x } in
         let l = line_of p objects e in
         let w = object_name objects e.object.0 in
         let after = λ (n : ℕ). (if is_mixed p (others number x) (record { 0 = n }) e.op then Err Mixed else with_draft (with_object_name before w) (draft_of_line l (record { 0 = n }) e.op e.member) e.stamp) in
@@ -248,7 +248,7 @@ module _ (p : Program) (objects : List (List ℕ)) (x : List Effect) (is : IsPri
   unfolding told file_text is_skipped
   end_lines n = (record { number = n; text = codes "end" }, refl, ap (told n) (first_line (codes "end" ∷ []) [] [] (stays_of 101 (omega arith), (stays_of 110 (omega arith), (stays_of 100 (omega arith), tt)))))
 
-  ended : (told_all : Told) (n : ℕ) → Leads (gives p) ClosesExecution (WithEffects told_all) (told n (lines (codes "end\n"))) (Ended told_all)
+  ended : (told_all : EffectsRead) (n : ℕ) → Leads (gives p) ClosesExecution (WithEffects told_all) (told n (lines (codes "end\n"))) (Ended told_all)
   unfolding Leads
   ended told_all n =
       let l = end_lines n in
@@ -260,7 +260,7 @@ module _ (p : Program) (objects : List (List ℕ)) (x : List Effect) (is : IsPri
   unfolding Leads grown lines_from file_text told number
   from_here done [] ns k n split at same =
       let all : others number x ≡ others number done = ap (others number) (split ∙ append-nil done) in
-      subst (λ (t : Told). Leads (gives p) ClosesExecution (WithEffects (record { objects = ns; effects = others number done })) (told n (lines (codes "end\n"))) (Ended t))
+      subst (λ (t : EffectsRead). Leads (gives p) ClosesExecution (WithEffects (record { objects = ns; effects = others number done })) (told n (lines (codes "end\n"))) (Ended t))
       (ap (λ (es : List Effect). record { objects = ns; effects = es }) (sym all) ∙ ap (λ (m : List (List ℕ)). record { objects = m; effects = others number x }) same)
       (ended (record { objects = ns; effects = others number done }) n)
   from_here done (e ∷ es) ns k n split at same =
@@ -273,7 +273,7 @@ module _ (p : Program) (objects : List (List ℕ)) (x : List Effect) (is : IsPri
       first_line l (lines_from (effect_fields p objects) (k + 1) es) (codes "end\n") (subst Stay (sym text) (its_stay done e es split)) in
       let line : Numbered = record { number = n; text = joined l } in
       let here : told n (joined l ∷ lines after) ≡ line ∷ told (n + 1) (lines after) = rw (ap is_skipped text ∙ its_told done e es split) refl in
-      let next : Told = record { objects = with_name ns w; effects = others number (done ++ e ∷ []) } in
+      let next : EffectsRead = record { objects = with_name ns w; effects = others number (done ++ e ∷ []) } in
       let numbered : object_number ns w ≡ number e.object.0 = next_number objects ns e es ∙ ap (λ (m : List (List ℕ)). first_of m w) same in
       let count = length-append done (e ∷ []) in
       subst (λ ls. Leads (gives p) ClosesExecution (WithEffects (record { objects = ns; effects = others number done })) ls (Ended (record { objects = grown objects [] x; effects = others number x }))) (sym (ap (told n) first ∙ here)) (
@@ -290,7 +290,7 @@ module _ (p : Program) (objects : List (List ℕ)) (x : List Effect) (is : IsPri
       let first : lines (codes "execution\n" ++ after) ≡ codes "execution" ∷ lines after =
       first_line (codes "execution" ∷ []) [] after (stays_of 101 (omega arith), (stays_of 120 (omega arith), (stays_of 101 (omega arith), (stays_of 99 (omega arith), (stays_of 117 (omega arith), (stays_of 116 (omega arith), (stays_of 105 (omega arith), (stays_of 111 (omega arith), (stays_of 110 (omega arith), tt))))))))) in
       subst (λ ls. Leads (gives p) ClosesExecution Unbegun (told n ls) (Ended (record { objects = grown objects [] x; effects = others number x }))) (sym first) (
-        WithEffects nothing_told,
+        WithEffects nothing_read,
         inl (refl, refl),
         from_here [] x [] 1 (n + 1) refl refl refl,
       )

@@ -28,8 +28,8 @@ use Rattle.ql_exec.specs.Effects.{effect_at}
 use Rattle.ql_machine.specs.declared.reply.Reply.{Reply}
 use Rattle.ql_machine.specs.declared.reply.Reply.TheVariants as reply
 use Rattle.ql_execution_files.specs.ExecutionFile.{ClosesExecution, IsExecutionFile, first_fields, gives}
-use Rattle.ql_execution_files.specs.declared.format.Reading.{Reading}
-use Rattle.ql_execution_files.specs.declared.format.Reading.TheVariants.{Ended, Unbegun}
+use Rattle.ql_execution_files.specs.declared.format.ExecutionReading.{ExecutionReading}
+use Rattle.ql_execution_files.specs.declared.format.ExecutionReading.TheVariants.{Ended, Unbegun}
 use Rattle.ql_line_files.specs.Outcomes.{Leads}
 use Rattle.ql_report.specs.Levels.{levels_text, op_line, txn_line}
 use Rattle.ql_run_text.specs.EffectTexts.{execution_text}
@@ -65,7 +65,7 @@ not_first l h e =
     let k = joined_begins l h in
     k.4 (first_byte k.0 k.1 (codes "execution") [] 101 (codes "xecution") k.3 (ap fields_of (sym k.2) ∙ e) refl)
 
-module _ (p : Program) (after : Reading) where
+module _ (p : Program) (after : ExecutionReading) where
   one_more : (n : ℕ) (l : Fields) (more : List (List ℕ)) → BeginsOtherwise l → (t : Bool) → is_skipped (joined l) ≡ t → Leads (gives p) ClosesExecution Unbegun (told (n + 1) more) after → Leads (gives p) ClosesExecution Unbegun (told n (joined l ∷ more)) after
   unfolding told Leads
   one_more n l more begins true skipped later = rw skipped later
@@ -253,7 +253,7 @@ module _ (p : Program) (objects : List (List ℕ)) (levels : LevelLists) (replie
   )
 
   -- what the reader has at the end
-  abbrev last_read : Reading
+  abbrev last_read : ExecutionReading
   last_read = Ended (record { objects = grown objects [] x; effects = others (number p objects x is) x })
 
   pub run_is_read : (y : List Effect) × IsRenumbered x y × IsExecutionFile p (ahead_from 1 (run_text p objects levels replies x)) y

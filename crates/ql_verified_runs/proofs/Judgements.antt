@@ -24,7 +24,7 @@ use Rattle.ql_typing.specs.Operations.{op_contracts, txn_contracts}
 use Rattle.ql_verify.specs.Verdicts.{IsJudgedAt, IsJudgedOf, IsVerdict}
 use Rattle.ql_verify.specs.declared.breach.Breach.{Breach}
 use Rattle.ql_verify.specs.declared.breach.Breach.TheVariants.{AtOp, AtTxn}
-use Rattle.ql_verified_runs.proofs.SamePrograms.{same_execution, same_op_contracts, same_txn_contracts}
+use Rattle.ql_verified_runs.proofs.SamePrograms.{same-execution, same-op-contracts, same-txn-contracts}
 use Rattle.ql_verified_runs.proofs.Verdicts.{sound-verdict}
 
 -- where all contracts hold there is no breach
@@ -40,12 +40,12 @@ verdict-of p q y same holds = (
   (λ a f judged. holds.0 a f (record {
     effect = judged.effect;
     is = judged.is;
-    contract = ap (λ (fs : List Resolved). slice_get fs judged.effect.op.0) (same_op_contracts p q same) ∙ judged.contract;
+    contract = ap (λ (fs : List Resolved). slice_get fs judged.effect.op.0) (same-op-contracts p q same) ∙ judged.contract;
   })),
   (λ run f judged. holds.1 run f (record {
     name = judged.name;
     begun = judged.begun;
-    contract = ap (λ (fs : List Resolved). slice_get fs judged.name) (same_txn_contracts p q same) ∙ judged.contract;
+    contract = ap (λ (fs : List Resolved). slice_get fs judged.name) (same-txn-contracts p q same) ∙ judged.contract;
   })),
 )
 
@@ -61,7 +61,7 @@ module _ (tree : (bytes : List ℕ) (s t : Source) → IsProgramText bytes s →
       let q = tells.0 in
       let same = same-as q tells.1 in
       let x = tells.2 in
-      let here : y ≡ x = one q (ahead_from 1 text) y x (same_execution p q same (ahead_from 1 text) y read) tells.3 in
+      let here : y ≡ x = one q (ahead_from 1 text) y x (same-execution p q same (ahead_from 1 text) y read) tells.3 in
       let says = tells.4 in
       no-breach q x (subst (λ (z : List Effect). IsVerdict q z None) here (verdict-of p q y same holds)) says.1 says.2
 
@@ -74,7 +74,7 @@ module _ (tree : (bytes : List ℕ) (s t : Source) → IsProgramText bytes s →
   judged-so said Usage says = absurd says
   judged-so said Bad (inl bad) = absurd (bad.0 (p, is))
   judged-so said Bad (inr bad) =
-      absurd (apart bad.1 (ahead_from 1 text) y bad.3 (same_execution p bad.1 (same-as bad.1 bad.2) (ahead_from 1 text) y read) bad.4)
+      absurd (apart bad.1 (ahead_from 1 text) y bad.3 (same-execution p bad.1 (same-as bad.1 bad.2) (ahead_from 1 text) y read) bad.4)
 
 pub run-judged : ((bytes : List ℕ) (s t : Source) → IsProgramText bytes s → IsProgramText bytes t → s ≡ t)
     → ((p : Program) (file : Ahead) (x y : List Effect) → IsExecutionFile p file x → IsExecutionFile p file y → x ≡ y)

@@ -30,14 +30,14 @@ use ql_typing::Typed;
 
 /// The effects that lines say, and the names of their objects, numbered by first occurrence.
 #[derive(Drop)]
-pub struct Told {
+pub struct EffectsRead {
     pub objects: Names,
     pub effects: Execution,
 }
 
-impl Told {
+impl EffectsRead {
     /// Appends one more effect, or returns the lowest rule that it breaks.
-    pub fn put(self, t: &Typed, line: EffectLine) -> Result<Told, LineFault<ReportRule>>
+    pub fn put(self, t: &Typed, line: EffectLine) -> Result<EffectsRead, LineFault<ReportRule>>
         requires few { length self.effects ≤ most_effects }
         requires named { length self.objects ≤ length self.effects }
         requires known { AreOfProgram t.now.program self.effects }
@@ -56,14 +56,14 @@ impl Told {
         line: EffectLine,
         op: OpId,
         member: Member,
-    ) -> Result<Told, LineFault<ReportRule>>
+    ) -> Result<EffectsRead, LineFault<ReportRule>>
         requires few { length self.effects ≤ most_effects }
         requires named { length self.objects ≤ length self.effects }
         requires known { AreOfProgram t.now.program self.effects }
         requires op { op.0 < length (all_ops t.now.program.types) }
         ensures { IsLineAnswer (λ x. (after_known t.now.program self line op member) ≡ x) result }
     {
-        let Told {
+        let EffectsRead {
             mut objects,
             effects,
         } = self;
@@ -72,17 +72,17 @@ impl Told {
             return Err(LineFault::Breaks(ReportRule::Mixed));
         }
         let stamp = line.setting.stamp;
-        let told = Told { objects, effects };
-        told.push(draft(line, object, op, member), stamp)
+        let read = EffectsRead { objects, effects };
+        read.push(draft(line, object, op, member), stamp)
     }
 
     // Appends one more effect, which has to have this stamp.
-    fn push(self, draft: Draft, stamp: u32) -> Result<Told, LineFault<ReportRule>>
+    fn push(self, draft: Draft, stamp: u32) -> Result<EffectsRead, LineFault<ReportRule>>
         requires few { length self.effects ≤ most_effects }
         ensures { IsLineAnswer (λ x. (with_draft self draft stamp) ≡ x) result }
     {
-        let mut told = self;
-        match told.effects.push(draft) {
+        let mut read = self;
+        match read.effects.push(draft) {
             Ok(_) => {}
             Err(ExecFault::NotForward(_)) => return Err(LineFault::Breaks(ReportRule::NotForward)),
             Err(ExecFault::OtherObject(_)) => return Err(LineFault::Breaks(
@@ -91,14 +91,14 @@ impl Told {
             Err(ExecFault::SplitTxn(_)) => return Err(LineFault::Breaks(ReportRule::SplitTxn)),
             Err(ExecFault::NoMemory) => return Err(LineFault::NoMemory),
         }
-        let count = told.effects.len();
-        if told.effects.get(EffId(count)).stamp != stamp {
+        let count = read.effects.len();
+        if read.effects.get(EffId(count)).stamp != stamp {
             return Err(LineFault::Breaks(ReportRule::Stamp));
         }
         if count > MAX_EFFECTS {
             return Err(LineFault::Breaks(ReportRule::TooMany));
         }
-        Ok(told)
+        Ok(read)
     }
 }
 
