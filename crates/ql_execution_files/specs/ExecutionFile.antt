@@ -25,14 +25,14 @@ first_fields = codes "execution" ∷ []
 abbrev pub end_fields : Fields
 end_fields = codes "end" ∷ []
 
-abbrev pub no_effects : EffectsRead
-no_effects = record { objects = []; effects = [] }
+abbrev pub nothing_read : EffectsRead
+nothing_read = record { objects = []; effects = [] }
 
 -- ---- one line
 
 -- the next line is the first that is `execution`, or it is skipped
 abbrev pub TakesAny : Fields → ExecutionReading → Type 0
-TakesAny fields after = ((fields ≡ first_fields) × (after ≡ WithEffects no_effects)) ⊎ ((fields ≡ first_fields → ⊥) × (after ≡ Unbegun))
+TakesAny fields after = ((fields ≡ first_fields) × (after ≡ WithEffects nothing_read)) ⊎ ((fields ≡ first_fields → ⊥) × (after ≡ Unbegun))
 
 -- the next line is an effect that breaks no rule
 pub record TakesEffect (p : Program) (read : EffectsRead) (text : List ℕ) (after : ExecutionReading) : Type 0 where

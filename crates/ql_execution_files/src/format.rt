@@ -8,7 +8,7 @@ ghost use Rattle.ql_execution_files.specs.ExecutionFile.{AreSound, ClosesExecuti
 ghost use Rattle.ql_execution_files.specs.OneLine.{closes_one, closes_some, gives_one, gives_some, takes_sound};
 
 use ql_base::Names;
-use ql_effect_lines::{ReportRule, EffectsRead, read_line};
+use ql_effect_lines::{EffectsRead, ReportRule, read_line};
 use ql_exec::Execution;
 use ql_line_files::{Broken, FileFault, LineFault, LineFormat};
 use ql_lines::{after_word, first_field};
@@ -63,7 +63,11 @@ impl<'a> LineFormat for Format<'a> {
         }
     }
 
-    fn finish(&self, state: ExecutionReading, end: u64) -> Result<Execution, FileFault<ReportRule>> {
+    fn finish(
+        &self,
+        state: ExecutionReading,
+        end: u64,
+    ) -> Result<Execution, FileFault<ReportRule>> {
         match state {
             ExecutionReading::Ended(read) => Ok(read.effects),
             _ => Err(FileFault::Broken(Broken {

@@ -33,7 +33,7 @@ use Rattle.ql_effect_lines.specs.declared.rules.ReportRule.TheVariants.{Unknown,
 use Rattle.ql_effect_lines.specs.declared.effects_read.EffectsRead.{EffectsRead}
 use Rattle.ql_effect_lines.specs.EffectLine.{IsEffectLine}
 use Rattle.ql_effect_lines.specs.Effects.{after_effect, after_known, draft_of_line, first_on, is_mixed, type_of_op, known_of, member_of_line, object_number, with_draft, exec_rule, with_read_effect, with_object_name}
-use Rattle.ql_execution_files.specs.ExecutionFile.{ClosesExecution, IsExecutionFile, Takes, end_fields, first_fields, gives, no_effects}
+use Rattle.ql_execution_files.specs.ExecutionFile.{ClosesExecution, IsExecutionFile, Takes, end_fields, first_fields, gives, nothing_read}
 use Rattle.ql_execution_files.specs.declared.format.ExecutionReading.{ExecutionReading}
 use Rattle.ql_execution_files.specs.declared.format.ExecutionReading.TheVariants.{Ended, Unbegun, WithEffects}
 use Rattle.ql_line_files.specs.Outcomes.{Leads}
@@ -290,7 +290,7 @@ module _ (p : Program) (objects : List (List ℕ)) (x : List Effect) (is : IsPri
       let first : lines (codes "execution\n" ++ after) ≡ codes "execution" ∷ lines after =
       first_line (codes "execution" ∷ []) [] after (stays_of 101 (omega arith), (stays_of 120 (omega arith), (stays_of 101 (omega arith), (stays_of 99 (omega arith), (stays_of 117 (omega arith), (stays_of 116 (omega arith), (stays_of 105 (omega arith), (stays_of 111 (omega arith), (stays_of 110 (omega arith), tt))))))))) in
       subst (λ ls. Leads (gives p) ClosesExecution Unbegun (told n ls) (Ended (record { objects = grown objects [] x; effects = others number x }))) (sym first) (
-        WithEffects no_effects,
+        WithEffects nothing_read,
         inl (refl, refl),
         from_here [] x [] 1 (n + 1) refl refl refl,
       )
