@@ -313,7 +313,7 @@ map_again e es text rest few asc all reads =
     let whole = entries_again 256 [] e es reads.start reads.behind rest few asc fits (λ k d lt. all (suc k) d (omega arith)) reads.first reads.more in
     rw (reads.brace, first.0, first.1, read) whole
 
-plain_again : (s : Scalar) (text rest : List ℕ) → IsScalar s → begins is_digit rest ≡ false → ReadsScalar s text rest → value_at text ≡ Ok (scalar_value s, rest)
+plain_again : (s : Scalar) (text rest : List ℕ) → IsScalar s → begins is_digit rest ≡ false → ReadsScalar s text rest → value_at text ≡ Ok (value_of_scalar s, rest)
 unfolding value_at
 plain_again s text rest fits stop reads =
     let unit_not : begins (is_byte 117) text ≡ false = ap (begins (is_byte 117)) reads ∙ scalar_first s rest 117 fits refl refl refl refl refl in
