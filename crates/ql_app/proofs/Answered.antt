@@ -5,7 +5,7 @@ use Rattle.ql_reply.specs.declared.status.Status.{Status}
 use Rattle.ql_reply.specs.declared.status.Status.TheVariants.{Done, No, Bad, ReadFault, WriteFault, Usage, TooLarge}
 use Rattle.ql_app.specs.declared.outcome.Limits.{Limits}
 use Rattle.ql_app.specs.Words.{NamedRequest, OneFile, TwoFiles, IsRequest}
-use Rattle.ql_app.specs.Outcome.{AreHeld, CommandSays, ForRequest, IsAnswered, IsRead, Judges, MeetsFault, MeetsLimit, NoneRose, PairSays, Says, Reports, second_limit}
+use Rattle.ql_app.specs.Outcome.{AreHeld, CommandSays, ForRequest, IsAnswered, IsRead, Judges, MeetsFault, MeetsLimit, NoneRose, PairSays, Says, RequestSays, second_limit}
 
 -- what is read is so of what is held, where that is reported
 abbrev IsOfHeld : ℕ → Option (List ℕ) → (List ℕ → Type 0) → Type 0
@@ -47,7 +47,7 @@ judges_held limits held (TwoFiles command name other) status text r =
     both limits.file (second_limit limits command) (held name) (held other) (λ bytes more. PairSays command bytes more status text) r
 
 tells_held : (limits : Limits) (held : List ℕ → Option (List ℕ)) (before after : List ℕ → ℕ) (call : NamedRequest) (status : Status) (text : List ℕ)
-    → Reports limits held before after call status text → TellsHeld limits held before after call status text
+    → RequestSays limits held before after call status text → TellsHeld limits held before after call status text
 tells_held limits held before after call Done text t = judges_held limits held call Done text t
 tells_held limits held before after call No text t = judges_held limits held call No text t
 tells_held limits held before after call Bad text t = judges_held limits held call Bad text t

@@ -109,14 +109,14 @@ MeetsLimit limits held (TwoFiles command name other) text =
     IsOver limits.file held name text ⊎ (IsRead limits.file (held name) (λ _. Unit {0}) × IsOver (second_limit limits command) held other text)
 
 -- what is said of a call
-abbrev pub Reports : Limits → (List ℕ → Option (List ℕ)) → (List ℕ → ℕ) → (List ℕ → ℕ) → NamedRequest → Status → List ℕ → Type 0
-Reports limits held before after call Done text = Judges limits held call Done text
-Reports limits held before after call No text = Judges limits held call No text
-Reports limits held before after call Bad text = Judges limits held call Bad text
-Reports limits held before after call ReadFault text = MeetsFault limits held before after call text
-Reports limits held before after call WriteFault text = ⊥
-Reports limits held before after call Usage text = ⊥
-Reports limits held before after call TooLarge text = Judges limits held call TooLarge text ⊎ MeetsLimit limits held call text
+abbrev pub RequestSays : Limits → (List ℕ → Option (List ℕ)) → (List ℕ → ℕ) → (List ℕ → ℕ) → NamedRequest → Status → List ℕ → Type 0
+RequestSays limits held before after call Done text = Judges limits held call Done text
+RequestSays limits held before after call No text = Judges limits held call No text
+RequestSays limits held before after call Bad text = Judges limits held call Bad text
+RequestSays limits held before after call ReadFault text = MeetsFault limits held before after call text
+RequestSays limits held before after call WriteFault text = ⊥
+RequestSays limits held before after call Usage text = ⊥
+RequestSays limits held before after call TooLarge text = Judges limits held call TooLarge text ⊎ MeetsLimit limits held call text
 
 -- the words ask for something, of which this is said
 abbrev pub ForRequest : List (List ℕ) → (NamedRequest → Type 0) → Type 0
@@ -126,7 +126,7 @@ ForRequest words P = (call : NamedRequest) × IsRequest words call × P call
 -- counts are those of the shelf's faults at each name, before the call and after it.
 abbrev pub Says : Limits → List (List ℕ) → (List ℕ → Option (List ℕ)) → (List ℕ → ℕ) → (List ℕ → ℕ) → Status → List ℕ → Type 0
 Says limits words held before after status text =
-    ForRequest words (λ call. Reports limits held before after call status text)
+    ForRequest words (λ call. RequestSays limits held before after call status text)
     ⊎ ((status ≡ Usage) × (ForRequest words (λ _. Unit {0}) → ⊥) × (text ≡ codes "usage\n"))
 
 -- the files are held whole, within their limits and in their grammars

@@ -23,7 +23,7 @@ use Rattle.ql_effect_lines.specs.declared.effect_line.EffectLine.{EffectLine}
 use Rattle.ql_effect_lines.specs.declared.rules.ReportRule.{ReportRule}
 use Rattle.ql_effect_lines.specs.declared.rules.ReportRule.TheVariants.{Mixed, Stamp, TooMany, Unknown}
 use Rattle.ql_effect_lines.specs.declared.effects_read.EffectsRead.{EffectsRead}
-use Rattle.ql_effect_lines.specs.Effects.{after_effect, after_known, draft_of_line, first_on, is_mixed, type_of_op, member_of_line, most_effects, object_number, with_draft, exec_rule, with_read_effect, with_object_name}
+use Rattle.ql_effect_lines.specs.Effects.{after_effect, after_known, draft_of_line, first_on, is_mixed, type_number_of, member_of_line, most_effects, object_number, with_draft, exec_rule, with_read_effect, with_object_name}
 use Rattle.ql_execution_files.specs.ExecutionFile.{ClosesExecution, IsExecutionFile, Takes, TakesEffect, gives}
 use Rattle.ql_execution_files.specs.declared.format.ExecutionReading.{ExecutionReading}
 use Rattle.ql_execution_files.specs.declared.format.ExecutionReading.TheVariants.{Ended, Unbegun, WithEffects}
@@ -142,11 +142,11 @@ kind-is [] o = refl
 kind-is (k ∷ kinds) zero = refl
 kind-is (k ∷ kinds) (suc o) = kind-is kinds o
 
-unmixed-kind : (p : Program) (x : List Effect) (on : ObjId) (o : OpId) (g : Effect) → is_mixed p x on o ≡ false → first_on x on ≡ Some g → type_of_op p g.op ≡ type_of_op p o
+unmixed-kind : (p : Program) (x : List Effect) (on : ObjId) (o : OpId) (g : Effect) → is_mixed p x on o ≡ false → first_on x on ≡ Some g → type_number_of p g.op ≡ type_number_of p o
 unmixed-kind p x on o g unmixed first =
-    let same : not (nat_eq (type_of_op p g.op) (type_of_op p o)) ≡ false =
-    subst (λ (r : Option Effect). option_map_or (λ h. not (nat_eq (type_of_op p h.op) (type_of_op p o))) r false ≡ false) first unmixed in
-    eqb-true (type_of_op p g.op) (type_of_op p o) (not-false (nat_eq (type_of_op p g.op) (type_of_op p o)) same)
+    let same : not (nat_eq (type_number_of p g.op) (type_number_of p o)) ≡ false =
+    subst (λ (r : Option Effect). option_map_or (λ h. not (nat_eq (type_number_of p h.op) (type_number_of p o))) r false ≡ false) first unmixed in
+    eqb-true (type_number_of p g.op) (type_number_of p o) (not-false (nat_eq (type_number_of p g.op) (type_number_of p o)) same)
 
 -- ---- one effect more
 

@@ -9,7 +9,7 @@ use Rattle.ql_levels.specs.declared.level.Level.TheVariants.{Eventual, Causal, W
 use Rattle.ql_levels.specs.declared.level.TxnLevel.{TxnLevel}
 use Rattle.ql_levels.specs.declared.level.TxnLevel.TheVariants.{Rc, Mav, Rr}
 use Rattle.ql_typing.specs.Operations.{all_ops, op_kinds, op_place, op_contracts, txn_contracts}
-use Rattle.ql_ground.specs.Least.{IsLeastLevel, IsLeastTxn}
+use Rattle.ql_ground.specs.Least.{IsLeastOpLevel, IsLeastTxn}
 use Rattle.ql_ground.specs.declared.goal.Goal.{Goal}
 use Rattle.ql_ground.specs.declared.goal.Goal.TheVariants.{OpAt, TxnAt}
 use Rattle.ql_counter.specs.Countermodels.{IsSatisfiedBy}
@@ -70,7 +70,7 @@ goals_at levels = ops_from 0 levels.ops ++ txns_from 0 levels.txns
 
 -- the level is an operation's least, or a transaction's
 abbrev pub IsOpLevel : Program → ℕ → Level → Type 0
-IsOpLevel p o level = (f : Resolved) × (slice_get (op_contracts p.types) o ≡ Some f) × IsLeastLevel (op_kinds p.types) o f level
+IsOpLevel p o level = (f : Resolved) × (slice_get (op_contracts p.types) o ≡ Some f) × IsLeastOpLevel (op_kinds p.types) o f level
 
 abbrev pub IsTxnLevel : Program → ℕ → TxnLevel → Type 0
 IsTxnLevel p d level = (f : Resolved) × (slice_get (txn_contracts p) d ≡ Some f) × IsLeastTxn (op_kinds p.types) f level

@@ -40,8 +40,8 @@ abbrev pub object_number : List (List ℕ) → List ℕ → ℕ
 object_number names w = unwrap_or (place (with_name names w) w) 0
 
 -- the number of an operation's type
-abbrev pub type_of_op : Program → OpId → ℕ
-type_of_op p op = unwrap_or (slice_get (op_kinds p.types) op.0) 0
+abbrev pub type_number_of : Program → OpId → ℕ
+type_number_of p op = unwrap_or (slice_get (op_kinds p.types) op.0) 0
 
 -- the first effect on an object
 abbrev pub first_on : List Effect → ObjId → Option Effect
@@ -49,7 +49,7 @@ first_on effects object = find (λ e. nat_eq e.object.0 object.0) effects
 
 -- an operation is of another type than that of the object's first effect
 abbrev pub is_mixed : Program → List Effect → ObjId → OpId → Bool
-is_mixed p effects object op = option_map_or (λ first. not (nat_eq (type_of_op p first.op) (type_of_op p op))) (first_on effects object) false
+is_mixed p effects object op = option_map_or (λ first. not (nat_eq (type_number_of p first.op) (type_number_of p op))) (first_on effects object) false
 
 -- the membership in a begun transaction, if the program declares its name
 abbrev pub member_of_line : Program → Option Begun → Option Member

@@ -12,7 +12,7 @@ ghost use Rattle.ql_effect_lines.specs.Effects.{
   draft_of_line,
   first_on,
   is_mixed,
-  type_of_op,
+  type_number_of,
   known_of,
   member_of_line,
   most_effects,
@@ -156,7 +156,7 @@ fn first_on(effects: &[Effect], object: ObjId) -> Option<&Effect>
 // The number of an operation's type.
 fn kind(t: &Typed, op: OpId) -> u32
     requires { op.0 < length (all_ops t.now.program.types) }
-    ensures { result ≡ type_of_op t.now.program op }
+    ensures { result ≡ type_number_of t.now.program op }
 {
     t.kind_of(op).0
 }

@@ -32,7 +32,7 @@ use Rattle.ql_effect_lines.specs.declared.rules.ReportRule.{ReportRule}
 use Rattle.ql_effect_lines.specs.declared.rules.ReportRule.TheVariants.{Unknown, Mixed, Stamp, TooMany}
 use Rattle.ql_effect_lines.specs.declared.effects_read.EffectsRead.{EffectsRead}
 use Rattle.ql_effect_lines.specs.EffectLine.{IsEffectLine}
-use Rattle.ql_effect_lines.specs.Effects.{after_effect, after_known, draft_of_line, first_on, is_mixed, type_of_op, known_of, member_of_line, object_number, with_draft, exec_rule, with_read_effect, with_object_name}
+use Rattle.ql_effect_lines.specs.Effects.{after_effect, after_known, draft_of_line, first_on, is_mixed, type_number_of, known_of, member_of_line, object_number, with_draft, exec_rule, with_read_effect, with_object_name}
 use Rattle.ql_execution_files.specs.ExecutionFile.{ClosesExecution, IsExecutionFile, Takes, end_fields, first_fields, gives, nothing_read}
 use Rattle.ql_execution_files.specs.declared.format.ExecutionReading.{ExecutionReading}
 use Rattle.ql_execution_files.specs.declared.format.ExecutionReading.TheVariants.{Ended, Unbegun, WithEffects}
@@ -82,25 +82,25 @@ at-each P (f ∷ x) h (suc (suc k)) e at = at-each P x h.1 (suc k) e at
 module _ (p : Program) (objects : List (List ℕ)) (number : ℕ → ℕ) where
   -- operations on objects with one number are of one type
   abbrev IsOfKind : Effect → Effect → Type 0
-  IsOfKind e g = number g.object.0 ≡ number e.object.0 → type_of_op p g.op ≡ type_of_op p e.op
+  IsOfKind e g = number g.object.0 ≡ number e.object.0 → type_number_of p g.op ≡ type_number_of p e.op
 
-  first-kind : (x : List Effect) (e : Effect) → AllByRecursion (IsOfKind e) x → (f : Effect) → first_on (others number x) (record { 0 = number e.object.0 }) ≡ Some f → type_of_op p f.op ≡ type_of_op p e.op
+  first-kind : (x : List Effect) (e : Effect) → AllByRecursion (IsOfKind e) x → (f : Effect) → first_on (others number x) (record { 0 = number e.object.0 }) ≡ Some f → type_number_of p f.op ≡ type_number_of p e.op
   first-kind [] e h f at = absurd (let never : None ≡ Some f = at in cc)
   first-kind (g ∷ x) e h f at = by (nat_eq (number g.object.0) (number e.object.0)) refl at (λ later. first-kind x e h.1 f later)
     where
       by : (t : Bool) → nat_eq (number g.object.0) (number e.object.0) ≡ t → (if t then Some (renumbered number g) else first_on (others number x) (record { 0 = number e.object.0 })) ≡ Some f
-          → (first_on (others number x) (record { 0 = number e.object.0 }) ≡ Some f → type_of_op p f.op ≡ type_of_op p e.op) → type_of_op p f.op ≡ type_of_op p e.op
+          → (first_on (others number x) (record { 0 = number e.object.0 }) ≡ Some f → type_number_of p f.op ≡ type_number_of p e.op) → type_number_of p f.op ≡ type_number_of p e.op
       by true same is more =
           let found : renumbered number g ≡ f = same_Some (renumbered number g) f is in
-          ap (λ (q : Effect). type_of_op p q.op) (sym found) ∙ h.0 (eqb-true (number g.object.0) (number e.object.0) same)
+          ap (λ (q : Effect). type_number_of p q.op) (sym found) ∙ h.0 (eqb-true (number g.object.0) (number e.object.0) same)
       by false other is more = more is
 
   not-mixed : (x : List Effect) (e : Effect) → AllByRecursion (IsOfKind e) x → is_mixed p (others number x) (record { 0 = number e.object.0 }) e.op ≡ false
   not-mixed x e h = by (first_on (others number x) (record { 0 = number e.object.0 })) refl
     where
-      by : (r : Option Effect) → first_on (others number x) (record { 0 = number e.object.0 }) ≡ r → option_map_or (λ (first : Effect). not (nat_eq (type_of_op p first.op) (type_of_op p e.op))) r false ≡ false
+      by : (r : Option Effect) → first_on (others number x) (record { 0 = number e.object.0 }) ≡ r → option_map_or (λ (first : Effect). not (nat_eq (type_number_of p first.op) (type_number_of p e.op))) r false ≡ false
       by None is = refl
-      by (Some f) is = ap not (eq-eqb (type_of_op p f.op) (type_of_op p e.op) (first-kind x e h f is))
+      by (Some f) is = ap not (eq-eqb (type_number_of p f.op) (type_number_of p e.op) (first-kind x e h f is))
 
   module _ (names : FindsNames p) where
     member-found : (m : Member) → IsDeclared p m → member_of_line p (begun_of p m) ≡ Some m

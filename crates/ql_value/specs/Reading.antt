@@ -117,17 +117,17 @@ collection_at room text =
     else on_read (scalar_at text) (λ first rest.
     if begins (is_byte 58) rest then entries_at room [] text else elements_at room [] text)
 
-abbrev pub scalar_value : Scalar → Value
-scalar_value (Int n) = Number n
-scalar_value (Truth b) = TruthValue b
-scalar_value (Text t) = TextValue t
+abbrev pub value_of_scalar : Scalar → Value
+value_of_scalar (Int n) = Number n
+value_of_scalar (Truth b) = TruthValue b
+value_of_scalar (Text t) = TextValue t
 
 -- a value
 unfoldable pub value_at : List ℕ → Read Value
 value_at text =
     if begins (is_byte 117) text then word_at Nothing (codes "unit") text
     else if begins (is_byte 123) text then collection_at 256 (drop 1 text)
-    else on_read (scalar_at text) (λ s rest. Ok (scalar_value s, rest))
+    else on_read (scalar_at text) (λ s rest. Ok (value_of_scalar s, rest))
 
 -- what was read of `bytes` from the offset `at` on, and the offset after it; or the offset of the first fault
 abbrev pub IsRead : {X : Type 0} → (List ℕ → Read X) → List ℕ → ℕ → Result (X × ℕ) ValueFault → Type 0

@@ -10,7 +10,7 @@ ghost use Rattle.ql_value.specs.Reading.{
   follows,
   is_byte,
   value_at,
-  scalar_value,
+  value_of_scalar,
 };
 ghost use Rattle.ql_value.specs.ValueGrammar.{ReadsEach, ReadsValue};
 
@@ -48,7 +48,7 @@ fn read_value(alloc: Global, bytes: &[u8], from: usize) -> Result<(Value, usize)
 }
 
 fn value_of(scalar: Scalar) -> Value
-    ensures { result ≡ scalar_value scalar }
+    ensures { result ≡ value_of_scalar scalar }
 {
     match scalar {
         Scalar::Int(n) => Value::Int(n),
