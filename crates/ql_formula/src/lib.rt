@@ -3,6 +3,7 @@
 // exactly where its body is true at every choice of places; else the first false choice is told.
 #![tactic(auto)]
 
+mod lasts;
 mod places;
 mod relations;
 mod row;
