@@ -1,5 +1,7 @@
 -- Tables of the relations of an execution, and the invariants of building one.
 use Rattle.std.specs.Prelude.{◌≡◌, ℕ, zero, suc, ◌<◌, Bool, true, false, ◌&&◌, ◌||◌, nat_eq, nat_lt, slice_get, slice_index_or, List, [], length, Option, Some, None}
+use Rattle.std.specs.HashMap.{get}
+use Rattle.std.specs.Option.{option_eq}
 use Rattle.ql_lang.specs.Trees.{Relation, Basic, Union, Intersection}
 use Rattle.ql_lang.specs.declared.relation.RelName.{RelName}
 use Rattle.ql_lang.specs.declared.relation.RelName.TheVariants.{Vis, So, Soo, SameObj, Eq, Hb, Hbo}
@@ -9,6 +11,7 @@ use Rattle.ql_formula.specs.Truth.{named}
 use Rattle.ql_formula.specs.declared.rows.Key.{Key}
 use Rattle.ql_formula.specs.declared.rows.Closure.{Closure}
 use Rattle.ql_formula.specs.declared.rows.Closure.TheVariants.{OnOneObject, Across}
+use Rattle.ql_formula.specs.declared.lasts.Lasts.{Lasts}
 
 -- ---- how it is kept
 
@@ -103,3 +106,15 @@ IsLastBefore closure keys key None = (k : ℕ) → k < length keys → follows c
 IsLastBefore closure keys key (Some last) =
     (last < length keys) × (follows closure (slice_index_or keys last key) key ≡ true)
     × ((k : ℕ) → last < k → k < length keys → follows closure (slice_index_or keys k key) key ≡ false)
+
+-- what the last effects are kept by: the session, and the object for the closure within one object
+abbrev pub group_of : Closure → Key → ℕ × Option ℕ
+group_of OnOneObject e = (e.session.0, Some e.object.0)
+group_of Across e = (e.session.0, None)
+
+abbrev pub same_group : ℕ × Option ℕ → ℕ × Option ℕ → Bool
+same_group a b = nat_eq a.0 b.0 && option_eq nat_eq a.1 b.1
+
+-- it has the last of these effects in each session, or in each session within its object
+abbrev pub HasLasts : Lasts → List Key → Type 0
+HasLasts lasts keys = (key : Key) → IsLastBefore lasts.closure keys key (get same_group lasts.indices (group_of lasts.closure key))

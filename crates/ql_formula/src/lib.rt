@@ -4,6 +4,7 @@
 // reported.
 #![tactic(auto)]
 
+mod lasts;
 mod places;
 mod relations;
 mod row;
