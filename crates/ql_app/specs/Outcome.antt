@@ -16,7 +16,6 @@ use Rattle.ql_app.specs.Words.{NamedRequest, OneFile, TwoFiles, IsRequest}
 use Rattle.ql_app.specs.HoldsFile as holds
 use Rattle.ql_app.specs.HoldsFile.{HoldsSays}
 use Rattle.ql_app.specs.ProofFile.{ProofSays, IsProofText}
-use Rattle.ql_app.specs.Answers.{AnswerSays, JudgedSays}
 use Rattle.ql_commands.specs.Certificates.{IsCertificate}
 use Rattle.ql_commands.specs.Check.{CheckSays}
 use Rattle.ql_commands.specs.Classify.{ClassifySays}
@@ -35,19 +34,19 @@ use Rattle.ql_why.specs.Why.{WhySays}
 abbrev pub CommandSays : Command → List ℕ → Status → List ℕ → Type 0
 CommandSays Holds bytes status text = HoldsSays bytes status text
 CommandSays Proof bytes status text = ProofSays bytes status text
-CommandSays Classify bytes status text = AnswerSays (ClassifySays bytes) status text
-CommandSays ClassifyWhy bytes status text = AnswerSays (WhySays bytes) status text
-CommandSays Prove bytes status text = AnswerSays (ProveSays bytes) status text
-CommandSays (Gen number events) bytes status text = AnswerSays (GenSays bytes number events) status text
-CommandSays (Soak number) bytes status text = AnswerSays (SoakSays bytes number) status text
+CommandSays Classify bytes status text = ClassifySays bytes status text
+CommandSays ClassifyWhy bytes status text = WhySays bytes status text
+CommandSays Prove bytes status text = ProveSays bytes status text
+CommandSays (Gen number events) bytes status text = GenSays bytes number events status text
+CommandSays (Soak number) bytes status text = SoakSays bytes number status text
 
 -- and of the bytes of two files
 abbrev pub PairSays : PairCommand → List ℕ → List ℕ → Status → List ℕ → Type 0
-PairSays Check bytes more status text = AnswerSays (CheckSays bytes more) status text
-PairSays Verify bytes more status text = JudgedSays (VerifySays bytes more) status text
-PairSays (Run form) bytes more status text = AnswerSays (RunSays (format_of form) bytes more) status text
-PairSays Slim bytes more status text = AnswerSays (SlimSays bytes more) status text
-PairSays (Restart replica cut) bytes more status text = AnswerSays (RestartSays bytes more replica cut) status text
+PairSays Check bytes more status text = CheckSays bytes more status text
+PairSays Verify bytes more status text = VerifySays bytes more status text
+PairSays (Run form) bytes more status text = RunSays (format_of form) bytes more status text
+PairSays Slim bytes more status text = SlimSays bytes more status text
+PairSays (Restart replica cut) bytes more status text = RestartSays bytes more replica cut status text
 
 -- the bytes are in the grammar of the command's files, and don't ask for too much work
 abbrev pub IsAnswerable : Command → List ℕ → Type 0

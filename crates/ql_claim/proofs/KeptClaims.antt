@@ -22,7 +22,6 @@ use Rattle.ql_execution_files.specs.ExecutionFile.{FirstExecutionFault, IsExecut
 use Rattle.ql_execution_files.specs.declared.report_fault.ReportFault.{ReportFault}
 use Rattle.ql_implication.specs.Executions.{FitsProgram}
 use Rattle.ql_judging.specs.Verify.{VerifySays, VerifyTells}
-use Rattle.ql_judging.specs.declared.judged.Judged.TheVariants as judged
 use Rattle.ql_judging.proofs.Begun.{under}
 use Rattle.ql_lang.specs.Formulas.{Resolved}
 use Rattle.ql_lang.specs.declared.program.Program.{Program}
@@ -108,7 +107,7 @@ module _ (tree : (bytes : List ℕ) (s t : Source) → IsProgramText bytes s →
   same-as : (q : Program) (is : IsSourceOf source q) (y : List Effect) → IsExecutionFile q (ahead_from 1 file) y → x ≡ y
   same-as q is y read = one q (ahead_from 1 file) x y (same-execution p q (between q is.0) (ahead_from 1 file) x reports) read
 
-  never-fails : (said : List ℕ) → VerifyTells source file judged.Fails said → ⊥
+  never-fails : (said : List ℕ) → VerifyTells source file No said → ⊥
   never-fails said tells =
       let q = tells.0 in
       let says = tells.4 in
@@ -116,11 +115,11 @@ module _ (tree : (bytes : List ℕ) (s t : Source) → IsProgramText bytes s →
       no-breach source text printed p q (to-own p reads) (to-own q tells.1.0) x (well p (ahead_from 1 file) x reports) (fit p (ahead_from 1 file) x reports) kept
       says.1 (subst (λ (z : List Effect). IsVerdict q z (Some says.1)) (sym same) says.2)
 
-  never-bad : (said : List ℕ) → VerifySays source file judged.Bad said → ⊥
+  never-bad : (said : List ℕ) → VerifySays source file Bad said → ⊥
   never-bad said (inl bad) = bad.0 (its-program, (printed.sound.reads, printed.typed))
   never-bad said (inr bad) = apart bad.1 (ahead_from 1 file) x bad.3 (same-execution p bad.1 (between bad.1 bad.2.0) (ahead_from 1 file) x reports) bad.4
 
-  much-work : (said : List ℕ) → VerifySays source file judged.TooMuch said → 20000000 < work_of p x
+  much-work : (said : List ℕ) → VerifySays source file TooLarge said → 20000000 < work_of p x
   much-work said says =
       let tells = says.1 in
       let q = tells.0 in

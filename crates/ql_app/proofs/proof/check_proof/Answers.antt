@@ -1,6 +1,6 @@
 use Rattle.ql_cert.specs.declared.fault.CertFault.TheVariants.{Unexpected, Number}
 use Rattle.ql_app.proofs.ProofLaws.{is_bad}
-use Rattle.ql_app.proofs.proof.judge.Goals as goal
+use Rattle.ql_app.proofs.proof.check_proof.Goals as goal
 
 pub returns-in_ok-bad_line-in-Err-Unexpected : goal.returns-in_ok-bad_line-in-Err-Unexpected
 returns-in_ok-bad_line-in-Err-Unexpected c =
