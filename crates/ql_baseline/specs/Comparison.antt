@@ -38,7 +38,7 @@ txn_rank Rr = 2
 
 -- ---- the stored levels, of which the first of a target counts
 
--- what is said of the operation of a name, where something is
+-- the level that a stored line has for the operation with this name, if it is about that one
 abbrev pub op_in : Stored → List ℕ → Option (Option Level)
 op_in (Op other level) name = if bytes_eq other name then Some level else None
 op_in (Txn other level) name = None
@@ -110,7 +110,7 @@ IsCompared source baseline status text = (p : Program) × IsSourceOf source p ×
 abbrev pub IsBadBaseline : List ℕ → List ℕ → List ℕ → Type 0
 IsBadBaseline source baseline text = IsSource source × (fault : Broken BaselineRule) × IsBaseline baseline (Err fault) × (text ≡ bad_text fault)
 
--- what is said of the bytes of a source and of a stored answer
+-- the answer for the bytes of a source and of a stored answer
 abbrev pub BaselineSays : List ℕ → List ℕ → Status → List ℕ → Type 0
 BaselineSays source baseline Done text = IsCompared source baseline Done text
 BaselineSays source baseline No text = IsCompared source baseline No text

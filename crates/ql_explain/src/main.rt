@@ -1,6 +1,6 @@
 // The program `explain`: the command line, the system's files and standard output, given to its top call. On standard output it
 // prints nothing itself, and its exit status is the top call's. Notes on the answer go to standard error, after it.
-// The one contract: for all words and all files one text is written that the outcome allows; of a source it is what
+// The one contract: for all arguments and all files one text is written that the outcome allows; for a source it is what
 // `ql_explanation` says.
 #![tactic(auto)]
 
@@ -38,7 +38,7 @@ fn exit_number(rt: HostRuntime, words: &Vec<String>) -> u8 {
     }
 }
 
-// The words as `./quelea` got them.
+// The arguments as `./quelea` got them.
 fn with_command<R: AllocGlobal>(rt: &R, words: &Vec<String>) -> io::Result<Vec<String>> {
     let mut all = Vec::new(rt.alloc());
     all.push(String::from_str(rt.alloc(), "explain")?)?;

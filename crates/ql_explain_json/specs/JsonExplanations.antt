@@ -58,11 +58,11 @@ fact_data fact =
 
 -- ---- warnings
 
--- a place of the source, as [line,column], both from 1
+-- a position in the source, as [line,column], both from 1
 abbrev pub place_data : Place → Data
 place_data place = listed (id_data place.line ∷ id_data place.column ∷ [])
 
--- the place that a warning speaks of, where it speaks of one
+-- the position that a warning is about, if it has one
 abbrev pub place_of : Warning → Data
 place_of (warning.NamedAsOperation v op) = null
 place_of (warning.Unbracketed place) = place_data place

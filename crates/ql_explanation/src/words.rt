@@ -1,4 +1,4 @@
-// What is said of a target in words.
+// What `explain` says about a target in words.
 ghost use Rattle.std.specs.Prelude.{◌<◌, length};
 ghost use Rattle.std.specs.List.{All};
 ghost use Rattle.ql_typing.specs.Operations.{all_ops};
@@ -18,7 +18,7 @@ use ql_warnings::formula_of;
 use ql_why::{level_text, vars_of};
 use std::alloc::Global;
 
-/// Of a target at the lowest level.
+/// The line for a target at the lowest level.
 pub(crate) const LOWEST: &str = "  No level is lower.\n";
 
 /// What a countermodel shows: its effects as a table, and why the contract is false.
