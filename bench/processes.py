@@ -7,7 +7,7 @@ import tempfile
 
 
 def spent(words, seconds=None):
-    """What a run said, its status and its text, and its processor time; nothing where it takes more seconds than given."""
+    """The answer of a run, its status and its text, and its processor time; nothing where it takes more seconds than this."""
     with tempfile.TemporaryFile() as out:
         child = subprocess.Popen(words, stdout=out, stderr=subprocess.DEVNULL, preexec_fn=limited(seconds))
         _, status, usage = os.wait4(child.pid, 0)
