@@ -4,3 +4,4 @@ pub mod LineRefusals
 pub mod Lines
 pub mod OneFile
 pub mod Within
+mod ShortIds

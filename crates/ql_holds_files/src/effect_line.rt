@@ -3,8 +3,9 @@ ghost use Rattle.ql_base.specs.Names.{IsName};
 ghost use Rattle.ql_lines.specs.Fields.{fields_of, Fields, IsId};
 ghost use Rattle.ql_holds_files.specs.EffectLine.{IsHoldsEffectLine, at_fields, holds_end_fields};
 
+use crate::ids::seen_ids;
 use ql_base::{IdSet, NoMemory, Word};
-use ql_lines::{after_name, after_number, after_word, ascending_ids, first_field};
+use ql_lines::{after_name, after_number, after_word, first_field};
 use std::alloc::Global;
 
 /// What the line of an effect says, apart from its number.
@@ -33,7 +34,7 @@ pub(crate) fn effect_line(
     let Some((session, rest)) = session(rest) else {
         return Ok(None);
     };
-    match ascending_ids(alloc, rest)? {
+    match seen_ids(alloc, rest)? {
         Some(seen) => Ok(Some(EffectLine {
             object: Word::of(object),
             op: Word::of(op),

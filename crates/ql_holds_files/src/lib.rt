@@ -10,6 +10,7 @@ mod effects;
 mod format;
 mod holding;
 mod holds_fault;
+mod ids;
 mod law;
 mod parse;
 mod reading;
