@@ -17,7 +17,7 @@ use Rattle.ql_levels.specs.declared.level.TxnLevel.{TxnLevel}
 use Rattle.ql_levels.specs.declared.level.TxnLevel.TheVariants.{Rc, Mav, Rr}
 use Rattle.ql_levels.specs.Words.{txn_word_of, word_of}
 use Rattle.ql_line_files.specs.declared.fault.Broken.{Broken}
-use Rattle.ql_report.specs.Levels.{op_name, txn_name}
+use Rattle.ql_typing.specs.Names.{op_name, txn_name}
 use Rattle.ql_baseline.specs.Files.{IsBaseline}
 use Rattle.ql_baseline.specs.declared.stored.BaselineRule.{BaselineRule}
 use Rattle.ql_baseline.specs.declared.stored.Stored.{Stored}
@@ -38,7 +38,7 @@ txn_rank Rr = 2
 
 -- ---- the stored levels, of which the first of a target counts
 
--- what is said of the operation of a name, where something is
+-- the level that a stored line has for the operation with this name, if it is about that one
 abbrev pub op_in : Stored → List ℕ → Option (Option Level)
 op_in (Op other level) name = if bytes_eq other name then Some level else None
 op_in (Txn other level) name = None
@@ -110,7 +110,7 @@ IsCompared source baseline status text = (p : Program) × IsSourceOf source p ×
 abbrev pub IsBadBaseline : List ℕ → List ℕ → List ℕ → Type 0
 IsBadBaseline source baseline text = IsSource source × (fault : Broken BaselineRule) × IsBaseline baseline (Err fault) × (text ≡ bad_text fault)
 
--- what is said of the bytes of a source and of a stored answer
+-- the answer for the bytes of a source and of a stored answer
 abbrev pub BaselineSays : List ℕ → List ℕ → Status → List ℕ → Type 0
 BaselineSays source baseline Done text = IsCompared source baseline Done text
 BaselineSays source baseline No text = IsCompared source baseline No text

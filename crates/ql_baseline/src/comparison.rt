@@ -1,4 +1,4 @@
-ghost use Rattle.std.specs.Prelude.{◌≡◌, ◌<◌, ◌++◌, ◌^◌, ℕ, IfOk, OnOk, Some, length, map, slice_get};
+ghost use Rattle.std.specs.Prelude.{◌≡◌, ◌<◌, ◌++◌, ◌^◌, ℕ, IfOk, OnOk, length, map};
 ghost use Rattle.std.specs.List.{concat};
 ghost use Rattle.ql_classify.specs.Finding.{IsFinding};
 ghost use Rattle.ql_explanation.specs.Explanation.{AreFindings};
@@ -10,7 +10,7 @@ use crate::stored::{BaselineRule, Stored};
 use ql_base::{NoMemory, push_bytes, push_number};
 use ql_classify::Finding;
 use ql_commands::{bad_source, read_source};
-use ql_explanation::{findings, goal_of};
+use ql_explanation::{finding_at, findings, goal_of};
 use ql_line_files::{Broken, FileFault, read_file};
 use ql_reply::Status;
 use ql_typing::Typed;
@@ -70,13 +70,6 @@ fn rises(
         push_rise_of(&mut text, t, stored, finding_at(findings, k))?;
     }
     Ok(text)
-}
-
-fn finding_at(findings: &[Finding], k: usize) -> &Finding
-    requires { k < length findings.now }
-    ensures { slice_get findings.now k ≡ Some result.now }
-{
-    &findings[k]
 }
 
 // Appends the line of a target, where its level rose.

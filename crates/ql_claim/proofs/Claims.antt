@@ -13,7 +13,7 @@ use Rattle.ql_app.specs.declared.words.PairCommand.TheVariants.{Check}
 use Rattle.ql_app.specs.Outcome.{AreHeld, IsAnswered, NoneRose, Says}
 use Rattle.ql_reply.specs.Wrote.{Wrote}
 use Rattle.ql_app.specs.RunWritten.{WritesRun}
-use Rattle.ql_app.specs.Words.{Call, IsRequest, TwoFiles}
+use Rattle.ql_app.specs.Words.{NamedRequest, IsRequest, TwoFiles}
 use Rattle.ql_classify.specs.Outcome.{IsAccepted}
 use Rattle.ql_classify.specs.Targets.{IsOpLevel}
 use Rattle.ql_commands.specs.Prove.{ProveSays}
@@ -75,7 +75,7 @@ module _ (tree : (bytes : List ℕ) (s t : Source) → IsProgramText bytes s →
     module _ (next_before next_after : List ℕ → ℕ) (next_was next_is : Option (List ℕ)) (next_faults next_sums : ℕ) where
       -- the files are in their grammars
       answered : (result : Result Status NoMemory) → length turn.certificate ≤ limits.second
-          → ((call : Call) → IsRequest next call → AreHeld limits next_held call → NoneRose next_before next_after call → (Rose next_faults next_sums → ⊥) → IsAnswered result)
+          → ((call : NamedRequest) → IsRequest next call → AreHeld limits next_held call → NoneRose next_before next_after call → (Rose next_faults next_sums → ⊥) → IsAnswered result)
           → NothingFailed next_before next_after turn.again turn.other next_faults next_sums → IsAnswered result
       answered result within complete nothing =
           complete (TwoFiles Check turn.again turn.other) (turn.checks, tt, turn.again_named, turn.other_named)
@@ -102,7 +102,7 @@ module _ (tree : (bytes : List ℕ) (s t : Source) → IsProgramText bytes s →
       accepts TooLarge told is = absurd is
 
       pub accepted : (status : Status) → length turn.certificate ≤ limits.second
-          → ((call : Call) → IsRequest next call → AreHeld limits next_held call → NoneRose next_before next_after call → (Rose next_faults next_sums → ⊥) → IsAnswered (Ok status))
+          → ((call : NamedRequest) → IsRequest next call → AreHeld limits next_held call → NoneRose next_before next_after call → (Rose next_faults next_sums → ⊥) → IsAnswered (Ok status))
           → Wrote (Says limits next next_held next_before next_after) next_was next_is next_faults next_sums status
           → NothingFailed next_before next_after turn.again turn.other next_faults next_sums → status ≡ Done
       accepted status within complete told nothing = accepts status told (answered (Ok status) within complete nothing)

@@ -37,10 +37,11 @@ use Rattle.ql_levels.specs.declared.level.TxnLevel.{TxnLevel}
 use Rattle.ql_levels.specs.declared.level.TxnLevel.TheVariants.{Rr}
 use Rattle.ql_refute.specs.declared.verdict.Verdict.{Verdict}
 use Rattle.ql_refute.specs.declared.verdict.Verdict.TheVariants.{Accepted, BadHint, NotUnit, NoConflict, NoEmpty, BadVariable}
-use Rattle.ql_report.specs.Levels.{levels_text, op_line, op_name, txn_line, txn_name}
+use Rattle.ql_report.specs.Levels.{levels_text, op_line, txn_line}
 use Rattle.ql_typing.specs.Lookups.{txn_place}
 use Rattle.ql_typing.specs.Operations.{all_ops, op_contract, op_contracts, op_kinds, op_place, op_words, txn_contract, txn_contracts}
 use Rattle.ql_typing.specs.Programs.{program_faults}
+use Rattle.ql_typing.specs.Names.{op_name, txn_name}
 use Rattle.ql_claim.specs.Soundness.{IsSoundAnswer, IsTargetWithLevel, op_with_level, txn_with_level}
 use Rattle.ql_claim.proofs.OneLevel.{of-op, of-txn}
 use Rattle.ql_claim.proofs.TextLines.{IsOneLine, all-append, all-upto, both-line, contains-upto, ended, ended-append, ended-upto, final, final-append, final-decimal, is_solid, lines-ended, one-field, same-txn-word, same-word, solid-decimal, solid-line, solid-name, solid-txn-word, solid-word, spaced-line}

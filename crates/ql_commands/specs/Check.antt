@@ -6,7 +6,7 @@ use Rattle.ql_cert.specs.declared.cert.SectionLevel.TheVariants.{Op, Txn}
 use Rattle.ql_cert.specs.declared.fault.CertFault.{CertFault}
 use Rattle.ql_cert.specs.declared.fault.CertFault.TheVariants.{Unexpected, Number, NoMemory}
 use Rattle.ql_cert.specs.CertFile.{IsCertFile, kind_word, level_word}
-use Rattle.ql_cert.specs.Faults.{FirstFault}
+use Rattle.ql_cert.specs.Faults.{FirstFileFault}
 use Rattle.ql_classify.specs.Goals.{IsRefutedBy}
 use Rattle.ql_classify.specs.Targets.{op_at, txn_at}
 use Rattle.ql_cnf.specs.Satisfaction.{ClauseList}
@@ -34,7 +34,7 @@ cert_fault_text (Number line) = Some (fault_line (codes "certificate") line (cod
 cert_fault_text NoMemory = None
 
 abbrev pub BadCertSays : List ℕ → List ℕ → Type 0
-BadCertSays bytes text = (IsCertificate bytes → ⊥) × (f : CertFault) × FirstFault IsCertFile (ahead_from 1 bytes) f × (cert_fault_text f ≡ Some text)
+BadCertSays bytes text = (IsCertificate bytes → ⊥) × (f : CertFault) × FirstFileFault IsCertFile (ahead_from 1 bytes) f × (cert_fault_text f ≡ Some text)
 
 -- ---- the order of the sections
 

@@ -12,9 +12,9 @@ use Rattle.ql_ground.specs.declared.goal.Goal.TheVariants.{OpAt, TxnAt}
 use Rattle.ql_lang.specs.declared.program.Program.{Program}
 use Rattle.ql_levels.specs.Lists.{LevelLists}
 use Rattle.ql_lines.specs.Texts.{file_text}
-use Rattle.ql_report.specs.Levels.{op_name, txn_name}
 use Rattle.ql_reply.specs.declared.status.Status.{Status}
 use Rattle.ql_reply.specs.declared.status.Status.TheVariants.{Done, No, Bad}
+use Rattle.ql_typing.specs.Names.{op_name, txn_name}
 use Rattle.ql_commands.specs.Certificates.{SpellsCert}
 use Rattle.ql_classify.specs.Least.{AreLevelsOf}
 use Rattle.ql_commands.specs.Levels.{RefusalSays}

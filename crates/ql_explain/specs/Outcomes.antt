@@ -1,4 +1,4 @@
--- What is written: for the words, what the shelf holds and counts, and a status.
+-- What is written: for the arguments, what the shelf holds and counts, and a status.
 use Rattle.std.specs.Prelude.{◌≡◌, ◌⊎◌, ℕ, ◌<◌, List, ◌++◌, length, Option, Some, None, IfSome, codes}
 use Rattle.ql_baseline.specs.Comparison.{BaselineSays}
 use Rattle.ql_explain_json.specs.JsonExplanations.{ExplainJsonSays}
@@ -37,7 +37,7 @@ Fails before after call text = (name : List ℕ) × IsOf call name × Rose (befo
 abbrev pub IsOver : (List ℕ → Option (List ℕ)) → Call → List ℕ → Type 0
 IsOver held call text = (name : List ℕ) × IsOf call name × IfSome (held name) (λ bytes. 1048576 < length bytes) × (text ≡ codes "too large " ++ name ++ codes "\n")
 
--- what is said of the files, by the status
+-- what is reported about the files, by the status
 abbrev pub Tells : (List ℕ → Option (List ℕ)) → (List ℕ → ℕ) → (List ℕ → ℕ) → Call → Status → List ℕ → Type 0
 Tells held before after call Done text = Means held call Done text
 Tells held before after call No text = Means held call No text

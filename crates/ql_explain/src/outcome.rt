@@ -17,7 +17,8 @@ use std::alloc::Global;
 // The greatest length of a file in bytes.
 const FILE_BYTES: usize = 1_048_576;
 
-/// The status and the text that answer the words. The named files are read once, to their ends, in the order of the words.
+/// The status and the text for these arguments. The named files are each read once, to the end, in the order of the
+/// arguments.
 pub(crate) fn outcome<S: Shelf>(
     alloc: Global,
     words: &Vec<String>,

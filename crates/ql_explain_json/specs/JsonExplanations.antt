@@ -24,9 +24,9 @@ use Rattle.ql_ground.specs.declared.goal.Goal.TheVariants.{OpAt, TxnAt}
 use Rattle.ql_lang.specs.Spelling.{relation_word}
 use Rattle.ql_lang.specs.declared.contract.Var.{Var}
 use Rattle.ql_lang.specs.declared.program.Program.{Program}
-use Rattle.ql_report.specs.Levels.{op_name, txn_name}
 use Rattle.ql_run_json.specs.JsonRuns.{effects_from}
 use Rattle.ql_run_json.specs.Values.{id_data, listed, text_data}
+use Rattle.ql_typing.specs.Names.{op_name, txn_name}
 use Rattle.ql_explain_json.specs.declared.counter.Shown.{Shown}
 use Rattle.ql_why.specs.Why.{level_text, object_names, vars_of}
 use Rattle.ql_warnings.specs.Texts.{warning_text, warning_word}
@@ -58,11 +58,11 @@ fact_data fact =
 
 -- ---- warnings
 
--- a place of the source, as [line,column], both from 1
+-- a position in the source, as [line,column], both from 1
 abbrev pub place_data : Place → Data
 place_data place = listed (id_data place.line ∷ id_data place.column ∷ [])
 
--- the place that a warning speaks of, where it speaks of one
+-- the position that a warning is about, if it has one
 abbrev pub place_of : Warning → Data
 place_of (warning.NamedAsOperation v op) = null
 place_of (warning.Unbracketed place) = place_data place

@@ -1,4 +1,4 @@
-ghost use Rattle.std.specs.Prelude.{◌≡◌, ◌<◌, ◌^◌, IfOk, Some, false, length, map, slice_get};
+ghost use Rattle.std.specs.Prelude.{◌≡◌, ◌<◌, ◌^◌, IfOk, false, length, map};
 ghost use Rattle.serde_json.specs.View.{items_view, view};
 ghost use Rattle.serde_json.specs.Written.{items_have_float};
 ghost use Rattle.ql_explanation.specs.Explanation.{AreFindings};
@@ -8,7 +8,7 @@ use crate::target::target;
 use ql_base::NoMemory;
 use ql_classify::Finding;
 use ql_commands::{bad_source, read_source};
-use ql_explanation::{answer_of, findings};
+use ql_explanation::{answer_of, finding_at, findings};
 use ql_reply::Status;
 use ql_typing::Typed;
 use serde_json::{Map, Value as Json, put};
@@ -47,13 +47,6 @@ fn targets(
         list.push(target)?;
     }
     Ok(list)
-}
-
-fn finding_at(findings: &[Finding], k: usize) -> &Finding
-    requires { k < length findings.now }
-    ensures { slice_get findings.now k ≡ Some result.now }
-{
-    &findings[k]
 }
 
 // The line of the whole object.

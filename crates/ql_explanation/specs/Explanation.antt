@@ -16,9 +16,9 @@ use Rattle.ql_ground.specs.declared.goal.Goal.{Goal}
 use Rattle.ql_ground.specs.declared.goal.Goal.TheVariants.{OpAt, TxnAt}
 use Rattle.ql_lang.specs.declared.program.Program.{Program}
 use Rattle.ql_levels.specs.declared.level.Level.TheVariants.{Strong}
-use Rattle.ql_report.specs.Levels.{op_name, txn_name}
 use Rattle.ql_report.specs.Refusals.{strong_text}
 use Rattle.ql_typing.specs.Operations.{all_ops, uses_op}
+use Rattle.ql_typing.specs.Names.{op_name, txn_name}
 use Rattle.ql_why.specs.Why.{InTurn, counter_text, target_line}
 use Rattle.ql_counter.specs.Countermodels.{IsCounterOf}
 use Rattle.ql_counter.specs.declared.counter.Counter.{Counter}

@@ -5,6 +5,7 @@ ghost use Rattle.ql_classify.specs.declared.finding.Finding.{Finding};
 ghost use Rattle.ql_explanation.specs.Explanation.{AreFindings, IsAnswerOf, IsStrongIn};
 ghost use Rattle.ql_warnings.specs.Warnings.{HasLevel};
 
+use crate::finding::finding_at;
 use crate::uses::is_strong_use;
 use ql_base::{DeclId, OpId};
 use ql_classify::Finding;
@@ -36,13 +37,6 @@ fn all_have_levels(findings: &[Finding]) -> bool
         }
     }
     true
-}
-
-fn finding_at(findings: &[Finding], k: usize) -> &Finding
-    requires { k < length findings.now }
-    ensures { slice_get findings.now k ≡ Some result.now }
-{
-    &findings[k]
 }
 
 fn has_level(finding: &Finding) -> bool

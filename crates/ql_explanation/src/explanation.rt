@@ -1,10 +1,10 @@
-ghost use Rattle.std.specs.Prelude.{◌≡◌, ◌<◌, ◌^◌, ℕ, IfOk, OnOk, Some, length, slice_get};
+ghost use Rattle.std.specs.Prelude.{◌≡◌, ◌<◌, ◌^◌, ℕ, IfOk, OnOk, length};
 ghost use Rattle.ql_classify.specs.Finding.{IsFinding};
 ghost use Rattle.ql_why.specs.Why.{Appended, InTurn};
 ghost use Rattle.ql_explanation.specs.Explanation.{AreFindings, ExplainSays, IsSection};
 
 use crate::answer::answer_of;
-use crate::finding::findings;
+use crate::finding::{finding_at, findings};
 use crate::sections::{Remarks, goal_of, section};
 use crate::uses::uses_of;
 use ql_base::{NoMemory, push_bytes};
@@ -47,13 +47,6 @@ fn sections_of(
         push_section(alloc, &mut text, source, t, findings, finding)?;
     }
     Ok(text)
-}
-
-fn finding_at(findings: &[Finding], k: usize) -> &Finding
-    requires { k < length findings.now }
-    ensures { slice_get findings.now k ≡ Some result.now }
-{
-    &findings[k]
 }
 
 // Appends the section of a target.

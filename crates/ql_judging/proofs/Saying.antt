@@ -2,7 +2,7 @@
 use Rattle.std.proofs.Common.{◌≡◌, ℕ, List, Some, ap, arith}
 use Rattle.ql_commands.specs.Sources.{IsSourceOf}
 use Rattle.ql_exec.specs.declared.effect.Effect.{Effect}
-use Rattle.ql_execution_files.specs.ExecutionFile.{FirstFault, IsExecutionFile, IsRefusal}
+use Rattle.ql_execution_files.specs.ExecutionFile.{FirstExecutionFault, IsExecutionFile, IsRefusal}
 use Rattle.ql_execution_files.specs.declared.report_fault.ReportFault.{ReportFault}
 use Rattle.ql_execution_files.specs.declared.report_fault.ReportFault.TheVariants.{Unexpected, Unknown, Mixed, Stamp, NotForward, OtherObject, SplitTxn, TooMany, NoMemory}
 use Rattle.ql_lang.specs.declared.program.Program.{Program}
@@ -13,7 +13,7 @@ use Rattle.ql_verify.specs.Work.{work_of}
 use Rattle.ql_judging.specs.Verify.{BadExecutionSays, ExecutionSays, TellsExecution, VerifySays, execution_fault_text}
 
 -- a refusal that is told is the first fault
-first_fault : (p : Program) (file : Ahead) (f : ReportFault) (text : List ℕ) → IsRefusal p file f → execution_fault_text f ≡ Some text → FirstFault p file f
+first_fault : (p : Program) (file : Ahead) (f : ReportFault) (text : List ℕ) → IsRefusal p file f → execution_fault_text f ≡ Some text → FirstExecutionFault p file f
 first_fault p file (Unexpected line) text h told = h
 first_fault p file (Unknown line) text h told = h
 first_fault p file (Mixed line) text h told = h
@@ -24,7 +24,7 @@ first_fault p file (SplitTxn line) text h told = h
 first_fault p file (TooMany line) text h told = h
 first_fault p file NoMemory text h told = absurd (cc)
 
-pub execution_is_bad : ((p : Program) (file : Ahead) (x : List Effect) (f : ReportFault) → IsExecutionFile p file x → FirstFault p file f → ⊥)
+pub execution_is_bad : ((p : Program) (file : Ahead) (x : List Effect) (f : ReportFault) → IsExecutionFile p file x → FirstExecutionFault p file f → ⊥)
     → (source execution : List ℕ) (p : Program) (f : ReportFault) (text : List ℕ) → IsSourceOf source p → IsRefusal p (ahead_from 1 execution) f → execution_fault_text f ≡ Some text
     → BadExecutionSays source execution text
 execution_is_bad apart source execution p f text is h told =

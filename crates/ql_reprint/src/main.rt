@@ -1,4 +1,4 @@
-// Prints the sources of files in their one spelling. With `--check` as its first word it only tells of each file
+// Prints the sources of files in their one spelling. With `--check` as its first argument it only reports for each file
 // whether it is a source.
 #![tactic(auto)]
 
@@ -9,7 +9,7 @@ use std::alloc::Global;
 use std::env::Env;
 use std::{env, fs, io, str};
 
-// How long a source may be.
+// The most bytes of a source.
 const MOST_BYTES: usize = 1 << 20;
 
 fn main(rt: HostRuntime) -> io::Result<()> {
@@ -28,13 +28,13 @@ fn main(rt: HostRuntime) -> io::Result<()> {
     Ok(())
 }
 
-// The words of the command line, without the program's own name.
+// The arguments of the command line, without the program's own name.
 fn words<R: Env + AllocGlobal>(rt: &R) -> io::Result<Vec<String>> {
     let words = env::args(rt)?.skip(1).collect::<Vec<String>>(rt.alloc())?;
     Ok(words)
 }
 
-// What is said of a text: the source in its one spelling, or whether it is one.
+// What is printed for a text: the source in its one spelling, or whether it is one.
 fn said(alloc: Global, text: &str, check: bool) -> Result<Vec<u8>, NoMemory> {
     if text.len() > MOST_BYTES {
         return line(alloc, b"too long\n");

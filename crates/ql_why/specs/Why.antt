@@ -21,9 +21,9 @@ use Rattle.ql_lang.specs.declared.contract.Var.{Var}
 use Rattle.ql_lang.specs.declared.program.Program.{Program}
 use Rattle.ql_levels.specs.Lists.{LevelLists}
 use Rattle.ql_levels.specs.Words.{txn_word_of, word_of}
-use Rattle.ql_report.specs.Levels.{op_name, txn_name}
 use Rattle.ql_report.specs.Refusals.{op_vars, txn_vars}
 use Rattle.ql_run_text.specs.EffectTexts.{execution_text}
+use Rattle.ql_typing.specs.Names.{op_name, txn_name}
 
 -- ---- the text of a countermodel
 
@@ -58,15 +58,15 @@ IsCounterText p g text = (c : Counter) × IsCounterOf p g c × (text ≡ counter
 -- ---- the text of a program
 
 -- op F LEVEL, and txn F LEVEL
-abbrev pub op_line : Program → ℕ → List ℕ → List ℕ
-op_line p o level = codes "op " ++ op_name p o ++ codes " " ++ level ++ codes "\n"
+abbrev pub why_op_line : Program → ℕ → List ℕ → List ℕ
+why_op_line p o level = codes "op " ++ op_name p o ++ codes " " ++ level ++ codes "\n"
 
-abbrev pub txn_line : Program → ℕ → List ℕ → List ℕ
-txn_line p d level = codes "txn " ++ txn_name p d ++ codes " " ++ level ++ codes "\n"
+abbrev pub why_txn_line : Program → ℕ → List ℕ → List ℕ
+why_txn_line p d level = codes "txn " ++ txn_name p d ++ codes " " ++ level ++ codes "\n"
 
 abbrev pub target_line : Program → Goal → List ℕ
-target_line p (OpAt o level) = op_line p o.0 (word_of level)
-target_line p (TxnAt d level) = txn_line p d.0 (txn_word_of level)
+target_line p (OpAt o level) = why_op_line p o.0 (word_of level)
+target_line p (TxnAt d level) = why_txn_line p d.0 (txn_word_of level)
 
 -- a text of each, one after another
 abbrev pub InTurn : {X : Type 0} → (X → List ℕ → Type 0) → List X → List ℕ → Type 0

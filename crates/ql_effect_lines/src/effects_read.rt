@@ -9,15 +9,15 @@ ghost use Rattle.ql_effect_lines.specs.Effects.{
   AreOfProgram,
   after_effect,
   after_known,
-  draft_of,
+  draft_of_line,
   first_on,
   is_mixed,
-  kind_of,
+  type_number_of,
   known_of,
-  member_of,
+  member_of_line,
   most_effects,
-  number_of,
-  put_in,
+  object_number,
+  with_draft,
 };
 
 use crate::effect_line::EffectLine;
@@ -30,14 +30,14 @@ use ql_typing::Typed;
 
 /// The effects that lines say, and the names of their objects, numbered by first occurrence.
 #[derive(Drop)]
-pub struct Told {
+pub struct EffectsRead {
     pub objects: Names,
     pub effects: Execution,
 }
 
-impl Told {
-    /// With one more effect, or the lowest rule that it breaks.
-    pub fn put(self, t: &Typed, line: EffectLine) -> Result<Told, LineFault<ReportRule>>
+impl EffectsRead {
+    /// Appends one more effect, or returns the lowest rule that it breaks.
+    pub fn put(self, t: &Typed, line: EffectLine) -> Result<EffectsRead, LineFault<ReportRule>>
         requires few { length self.effects ≤ most_effects }
         requires named { length self.objects ≤ length self.effects }
         requires known { AreOfProgram t.now.program self.effects }
@@ -49,21 +49,21 @@ impl Told {
         }
     }
 
-    // The same of an effect with this operation and this membership.
+    // The same for an effect with this operation and this membership.
     fn put_known(
         self,
         t: &Typed,
         line: EffectLine,
         op: OpId,
         member: Member,
-    ) -> Result<Told, LineFault<ReportRule>>
+    ) -> Result<EffectsRead, LineFault<ReportRule>>
         requires few { length self.effects ≤ most_effects }
         requires named { length self.objects ≤ length self.effects }
         requires known { AreOfProgram t.now.program self.effects }
         requires op { op.0 < length (all_ops t.now.program.types) }
         ensures { IsLineAnswer (λ x. (after_known t.now.program self line op member) ≡ x) result }
     {
-        let Told {
+        let EffectsRead {
             mut objects,
             effects,
         } = self;
@@ -72,17 +72,17 @@ impl Told {
             return Err(LineFault::Breaks(ReportRule::Mixed));
         }
         let stamp = line.setting.stamp;
-        let told = Told { objects, effects };
-        told.push(draft(line, object, op, member), stamp)
+        let read = EffectsRead { objects, effects };
+        read.push(draft(line, object, op, member), stamp)
     }
 
-    // With one more effect, which is to have this stamp.
-    fn push(self, draft: Draft, stamp: u32) -> Result<Told, LineFault<ReportRule>>
+    // Appends one more effect, which has to have this stamp.
+    fn push(self, draft: Draft, stamp: u32) -> Result<EffectsRead, LineFault<ReportRule>>
         requires few { length self.effects ≤ most_effects }
-        ensures { IsLineAnswer (λ x. (put_in self draft stamp) ≡ x) result }
+        ensures { IsLineAnswer (λ x. (with_draft self draft stamp) ≡ x) result }
     {
-        let mut told = self;
-        match told.effects.push(draft) {
+        let mut read = self;
+        match read.effects.push(draft) {
             Ok(_) => {}
             Err(ExecFault::NotForward(_)) => return Err(LineFault::Breaks(ReportRule::NotForward)),
             Err(ExecFault::OtherObject(_)) => return Err(LineFault::Breaks(
@@ -91,18 +91,18 @@ impl Told {
             Err(ExecFault::SplitTxn(_)) => return Err(LineFault::Breaks(ReportRule::SplitTxn)),
             Err(ExecFault::NoMemory) => return Err(LineFault::NoMemory),
         }
-        let count = told.effects.len();
-        if told.effects.get(EffId(count)).stamp != stamp {
+        let count = read.effects.len();
+        if read.effects.get(EffId(count)).stamp != stamp {
             return Err(LineFault::Breaks(ReportRule::Stamp));
         }
         if count > MAX_EFFECTS {
             return Err(LineFault::Breaks(ReportRule::TooMany));
         }
-        Ok(told)
+        Ok(read)
     }
 }
 
-// The operation and the membership of an effect, where the program has them.
+// The operation and the membership of an effect, if the program has them.
 fn known(t: &Typed, line: &EffectLine) -> Option<(OpId, Member)>
     ensures known { result ≡ known_of t.now.program line.now }
     ensures within { IfSome result (λ x. x.0.0 < length (all_ops t.now.program.types)) }
@@ -112,18 +112,18 @@ fn known(t: &Typed, line: &EffectLine) -> Option<(OpId, Member)>
     Some((op, member))
 }
 
-// The number of a name after others.
+// The number of a name, which is added to `names` if it is new.
 fn number(names: &mut Names, word: &Word) -> Result<u32, NoMemory>
     requires { length names.old + 1 < 2 ^ 32 }
     ensures names { IfOk result (λ _. names.new ≡ with_name names.old word.now) }
-    ensures numbered { IfOk result (λ k. k ≡ number_of names.old word.now) }
+    ensures numbered { IfOk result (λ k. k ≡ object_number names.old word.now) }
 {
     names.number(word.bytes())
 }
 
-// The membership in a begun transaction, where the program declares its name.
+// The membership in a begun transaction, if the program declares its name.
 fn member(t: &Typed, txn: Option<Begun>) -> Option<Member>
-    ensures { result ≡ member_of t.now.program txn }
+    ensures { result ≡ member_of_line t.now.program txn }
 {
     match txn {
         Some(begun) => {
@@ -156,14 +156,14 @@ fn first_on(effects: &[Effect], object: ObjId) -> Option<&Effect>
 // The number of an operation's type.
 fn kind(t: &Typed, op: OpId) -> u32
     requires { op.0 < length (all_ops t.now.program.types) }
-    ensures { result ≡ kind_of t.now.program op }
+    ensures { result ≡ type_number_of t.now.program op }
 {
     t.kind_of(op).0
 }
 
 // An effect that has no stamp yet.
 fn draft(line: EffectLine, object: ObjId, op: OpId, member: Member) -> Draft
-    ensures { result ≡ draft_of line object op member }
+    ensures { result ≡ draft_of_line line object op member }
 {
     Draft {
         object,
