@@ -28,7 +28,7 @@ work asked = length asked.execution ^ length asked.contract.formula.vars
 abbrev pub IsAnswerableHolds : List ℕ → Type 0
 IsAnswerableHolds bytes = (asked : Asked) × Asks bytes asked × (work asked ≤ MAX_WORK)
 
--- the places of the variables, as ` a=1`
+-- the effects of the variables, as ` a=1`
 abbrev pub named_places_text : List (List ℕ) → List ℕ → List ℕ
 named_places_text [] places = []
 named_places_text (name ∷ names) [] = []

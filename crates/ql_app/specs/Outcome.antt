@@ -1,4 +1,4 @@
--- What may be printed: for the words, the bytes of the named files and a status.
+-- What may be printed: for the arguments, the bytes of the files that they name and a status.
 use Rattle.std.specs.Prelude.{◌≡◌, ◌⊎◌, ℕ, ◌<◌, ◌≤◌, List, ◌++◌, length, Option, Some, Result, Ok, Err, IfSome, codes}
 use Rattle.ql_base.specs.declared.no_memory.NoMemory.{NoMemory}
 use Rattle.ql_ports.specs.Faults.{Rose}
@@ -82,7 +82,7 @@ pub record IsRead (limit : ℕ) (held : Option (List ℕ)) (P : List ℕ → Typ
   pub short : length bytes ≤ limit
   pub is_so : P bytes
 
--- the files were read whole, in the order of the words, and judged
+-- the files were read whole, in the order of the arguments, and this is said of them
 abbrev pub Judges : Limits → (List ℕ → Option (List ℕ)) → NamedRequest → Status → List ℕ → Type 0
 Judges limits held (OneFile command name) status text = IsRead limits.file (held name) (λ bytes. CommandSays command bytes status text)
 Judges limits held (TwoFiles command name other) status text =
@@ -117,7 +117,7 @@ RequestSays limits held before after call WriteFault text = ⊥
 RequestSays limits held before after call Usage text = ⊥
 RequestSays limits held before after call TooLarge text = Judges limits held call TooLarge text ⊎ MeetsLimit limits held call text
 
--- the words ask for something, of which this is said
+-- the arguments ask for something, of which this is said
 abbrev pub ForRequest : List (List ℕ) → (NamedRequest → Type 0) → Type 0
 ForRequest words P = (call : NamedRequest) × IsRequest words call × P call
 

@@ -75,7 +75,7 @@ fn fails_line(alloc: Global, names: &[Word], places: &[EffId]) -> Result<Vec<u8>
     Ok(line)
 }
 
-// Appends each variable with its place.
+// Appends each variable with its effect.
 fn push_places(line: &mut Vec<u8>, names: &[Word], places: &[EffId]) -> Result<(), NoMemory>
     ensures { OnOk result (line.new.items ≡ line.old.items ++ named_places_text names.now (map (λ id. id.0) places.now)) }
 {

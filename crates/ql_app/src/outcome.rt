@@ -27,8 +27,8 @@ pub struct Limits {
     pub second: u32,
 }
 
-/// The status and the text that answer the words. The named files are read once, to their ends, in
-/// the order of the words.
+/// The status and the text that answer the arguments. The files that they name are read once, to their ends, in the order
+/// of the arguments.
 pub fn outcome<S: Shelf>(
     alloc: Global,
     words: &Vec<String>,

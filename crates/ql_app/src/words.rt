@@ -43,9 +43,9 @@ pub enum Command {
     ClassifyWhy,
     /// The certificate of these levels.
     Prove,
-    /// The schedule of a number, with so many events.
+    /// The schedule of a number, with this number of events.
     Gen { number: u32, events: u32 },
-    /// What the run of 4000 generated events comes to.
+    /// The summary of the run of 4000 generated events.
     Soak { number: u32 },
 }
 
@@ -71,7 +71,7 @@ pub enum Request<'a> {
     TwoFiles(PairCommand, &'a str, &'a str),
 }
 
-/// What the words ask for, where they are those of a command.
+/// The command that the arguments ask for, with the names of its files; none where they ask for nothing.
 pub fn parse_words(words: &Vec<String>) -> Option<Request>
     ensures { MatchOption result
         ((call : NamedRequest) → IsRequest (word_texts words.now) call → ⊥)
@@ -94,7 +94,7 @@ pub fn parse_words(words: &Vec<String>) -> Option<Request>
     many_words(words)
 }
 
-// What five words ask for, and no others but two to four.
+// What five arguments ask for. Other numbers than two to five ask for nothing.
 fn many_words(words: &Vec<String>) -> Option<Request>
     requires two { length words.now.items ≢ 2 }
     requires three { length words.now.items ≢ 3 }
@@ -240,7 +240,7 @@ fn on_two_files<'a>(command: PairCommand, name: &'a str, other: &'a str) -> Opti
     }
 }
 
-// The command that its word and a name ask for.
+// The command of a word, which is followed by the name of a file.
 fn plain_command(word: &str) -> Option<Command>
     ensures { MatchOption result
         ((command : Command) (name : List ℕ) → command_words command name ≡ word.now ∷ name ∷ [] → ⊥)
@@ -269,7 +269,7 @@ fn pair_command(word: &str) -> Option<PairCommand>
     }
 }
 
-// The number whose decimal text is a word.
+// The number that an argument spells in decimal, up to the greatest.
 fn number_up_to(word: &str, most: u32) -> Option<u32>
     ensures { MatchOption result
         ((n : ℕ) → n ≤ most → word.now ≡ decimal n → ⊥)
@@ -279,7 +279,7 @@ fn number_up_to(word: &str, most: u32) -> Option<u32>
     Some(number as u32)
 }
 
-// The number of a call of a disk that is a word, from 1.
+// The number of a call of a disk, from 1, that an argument spells.
 fn cut_of(word: &str) -> Option<u32>
     ensures { MatchOption result
         ((n : ℕ) → 1 ≤ n → n ≤ 1000000 → word.now ≡ decimal n → ⊥)

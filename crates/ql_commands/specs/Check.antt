@@ -65,7 +65,7 @@ BeginOtherwise [] (u ∷ us) = Unit {0}
 BeginOtherwise (t ∷ ts) [] = Unit {0}
 BeginOtherwise (t ∷ ts) (u ∷ us) = t ≢ u
 
--- the first place, from 1, at which the sections aren't those that are expected
+-- the first position, from 1, at which the sections aren't those that are expected
 pub record IsOutOfOrder (p : Program) (ss : List Section) (place : ℕ) : Type 0 where
   pub before : List Target
   pub at : place ≡ suc (length before)
@@ -80,7 +80,7 @@ order_text place = codes "order " ++ decimal place ++ codes "\n"
 
 -- ---- the refutations of the sections
 
--- the goal of the section at a place, from 0, of a program with so many operations
+-- the goal of the section of an index, in a program with this number of operations
 abbrev pub goal_at : ℕ → ℕ → SectionLevel → Goal
 goal_at ops place (Op level) = op_at place level
 goal_at ops place (Txn level) = txn_at (place - ops) level
@@ -104,8 +104,8 @@ verdict_text (NoConflict line) = refusal_end line (codes "NoConflict")
 verdict_text (BadVariable line) = refusal_end line (codes "BadVariable")
 verdict_text NoEmpty = codes " refused NoEmpty\n"
 
--- The lines that report the sections from a place on, up to the first that is refused. Where a line ends in `accepted`,
--- the refutation is one of the section's own ground problem, and the level gives the contract in every execution.
+-- The lines that report the sections from an index on, up to the first that is refused. Where a line ends in `accepted`,
+-- the refutation is one of the section's own ground problem, and the level guarantees the contract in every execution.
 pub data Tells (p : Program) : ℕ → List Section → Status → List ℕ → Type 0 where
   all : (place : ℕ) → Tells p place [] Done []
   accepted : (place : ℕ) (s : Section) (ss : List Section) (status : Status) (text : List ℕ)

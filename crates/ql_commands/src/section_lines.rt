@@ -1,4 +1,4 @@
-// The sections of a certificate, each judged against the ground problem of its own target.
+// The sections of a certificate, each checked against the ground problem of its own target.
 ghost use Rattle.std.specs.Prelude.{◌≡◌, ◌≤◌, ◌+◌, ◌++◌, ℕ, List, IfOk, OnOk, length, slice_get, Some};
 ghost use Rattle.ql_ground.specs.OfPrograms.{IsGoalOf};
 ghost use Rattle.ql_commands.specs.Check.{Tells, goal_of, refusal_end, section_text, target_of, targets_due, verdict_text};
@@ -13,7 +13,7 @@ use ql_reply::Status;
 use ql_typing::Typed;
 use std::alloc::Global;
 
-/// Appends a line for each section from a place on, up to the first that is refused.
+/// Appends a line for each section, the first of which has the index `place`, up to the first that is refused.
 pub(crate) fn tell_sections(
     alloc: Global,
     t: &Typed,
@@ -38,7 +38,7 @@ pub(crate) fn tell_sections(
     }
 }
 
-// The goal of the section at a place, from 0.
+// The goal of the section of an index.
 fn goal_of(t: &Typed, place: u32, section: &Section) -> Goal
     requires { slice_get (targets_due t.now.program) place ≡ Some (target_of section.now) }
     ensures value { result ≡ goal_of t.now.program place section.now }

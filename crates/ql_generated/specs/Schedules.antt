@@ -8,7 +8,7 @@ use Rattle.ql_lang.specs.declared.program.Program.{Program}
 use Rattle.ql_lines.specs.Texts.{file_text}
 use Rattle.ql_schedule.specs.Texts.{schedule_lines}
 
--- the text of the schedule of a number, with so many events, of the source's program
+-- the text of the schedule of a number, with this number of events, of the source's program
 pub record TellsSchedule (source : List ℕ) (number events : ℕ) (text : List ℕ) : Type 0 where
   pub program : Program
   pub is_source : IsSourceOf source program

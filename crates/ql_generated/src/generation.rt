@@ -8,7 +8,7 @@ use ql_reply::Status;
 use ql_schedule::print_schedule;
 use std::alloc::Global;
 
-/// The schedule of a number, with so many events, of a source's program; or the first fault of the source.
+/// The schedule of a number, with this number of events, of a source's program; or the first fault of the source.
 pub fn generate(
     alloc: Global,
     source: &[u8],

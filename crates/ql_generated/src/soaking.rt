@@ -13,7 +13,7 @@ use ql_running::sound_run;
 use ql_typing::Typed;
 use std::alloc::Global;
 
-/// What the run of 4000 generated events comes to, through a store of a source's program at the least levels; or what is
+/// The summary of the run of 4000 generated events, through a store of a source's program at the least levels; or what is
 /// wrong first: a fault of the source, or why the program has no such levels.
 pub fn soak(alloc: Global, source: &[u8], number: u32) -> Result<(Status, Vec<u8>), NoMemory>
     requires source { length source.now < 2 ^ 32 }

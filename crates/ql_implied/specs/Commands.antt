@@ -24,7 +24,7 @@ TellsLeast source text = (p : Program) × IsSourceOf source p × (levels : Level
 abbrev pub TellsNone : List ℕ → List ℕ → Type 0
 TellsNone source text = (p : Program) × IsSourceOf source p × (e : Classless) × TopFails p e × (text ≡ refusal_text p e)
 
--- the sections from a place on, each with a level that gives the contract of the target at that place
+-- the sections from an index on, each with a level that guarantees the contract of the target of its index
 abbrev pub EachGives : Program → ℕ → List Section → Type 0
 EachGives p place [] = Unit {0}
 EachGives p place (s ∷ ss) = GivesContract p (goal_of p place s) × EachGives p (suc place) ss
@@ -41,7 +41,7 @@ EndsWith [] Done end = end ≡ []
 EndsWith (s ∷ ss) No end = (v : Verdict) × (v ≢ Accepted) × (end ≡ section_text s ++ verdict_text v)
 EndsWith _ _ end = ⊥
 
--- The text has a line for each of the first sections from a place on, whose levels give their contracts, and then an end.
+-- The text has a line for each of the first sections from an index on, whose levels guarantee their contracts, and then an end.
 pub record AcceptsFront (p : Program) (place : ℕ) (ss : List Section) (status : Status) (text : List ℕ) : Type 0 where
   pub front : List Section
   pub others : List Section

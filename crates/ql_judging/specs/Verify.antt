@@ -41,7 +41,7 @@ execution_fault_text NoMemory = None
 
 -- ---- the answer
 
--- the places of a contract's variables, as ` a=1`
+-- the effects of a contract's variables, as ` a=1`
 abbrev pub places_text : List Var → List ℕ → List ℕ
 places_text [] places = []
 places_text (v ∷ vars) [] = []

@@ -12,7 +12,7 @@ use ql_typing::Typed;
 use ql_verify::Breach;
 use std::alloc::Global;
 
-/// The line of a breach, with the places of its contract's variables.
+/// The line of a breach, with the effect of each variable of its contract.
 pub(crate) fn breach_line(
     alloc: Global,
     t: &Typed,
@@ -71,7 +71,7 @@ fn txn_line(
     Ok(line)
 }
 
-/// Appends each variable with its place. Out of memory, the line is as before.
+/// Appends each variable with its effect. Out of memory, the line is as before.
 pub fn push_places(line: &mut Vec<u8>, vars: &[Var], places: &[EffId]) -> Result<(), NoMemory>
     ensures ok { OnOk result (line.new.items ≡ line.old.items ++ places_text vars.now (effect_numbers places.now)) }
     ensures err { OnErr result (line.new.items ≡ line.old.items) }

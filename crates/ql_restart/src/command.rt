@@ -9,12 +9,9 @@ ghost use Rattle.ql_restart.specs.Restarts.{RestartSays, TellsRestart};
 
 use crate::recovered::print_recovered;
 use ql_base::{NoMemory, ReplicaId, push_bytes, push_number};
-use ql_levels::Levels;
 use ql_replica::Replica;
 use ql_reply::Status;
 use ql_running::{RunInput, read_run_input};
-use ql_schedule::Schedule;
-use ql_typing::Typed;
 use ql_watched::watched_run;
 use std::alloc::Global;
 
@@ -31,39 +28,37 @@ pub fn restart_run(
     requires { length source.now < 2 ^ 32 }
     ensures { IfOk result (λ answer. RestartSays source.now schedule.now replica cut answer.0 answer.1.items) }
 {
+    let input = match read_run_input(alloc, source, schedule)? {
+        Ok(input) => input,
+        Err(reply) => return Ok(reply),
+    };
+    let replicas = input.schedule.last_replicas();
+    if replica >= replicas {
+        return Ok((Status::No, no_replica(alloc, replica)?));
+    }
+    let text = text_of(alloc, input, ReplicaId(replica), cut)?;
+    Ok((Status::Done, text))
+}
+
+// The text for a replica.
+fn text_of(
+    alloc: Global,
+    input: RunInput,
+    replica: ReplicaId,
+    cut: u64,
+) -> Result<Vec<u8>, NoMemory>
+    requires levels { AreLevelsOf input.typed.program input.levels }
+    requires schedule { IsSchedule input.typed.program input.schedule }
+    requires replica { replica.0 < replicas_behind input.schedule.replicas input.schedule.events }
+    ensures { IfOk result (λ text. (source file : List ℕ) → IsSourceOf source input.typed.program → IsScheduleFile input.typed.program (ahead_from 1 file) input.schedule
+        → TellsRestart source file replica.0 cut text.items) }
+{
     let RunInput {
         typed,
         levels,
         schedule,
-    } = match read_run_input(alloc, source, schedule)? {
-        Ok(input) => input,
-        Err(reply) => return Ok(reply),
-    };
-    let replicas = schedule.last_replicas();
-    if replica >= replicas {
-        return Ok((Status::No, no_replica(alloc, replica)?));
-    }
-    let text = text_of(alloc, &typed, &levels, schedule, ReplicaId(replica), cut)?;
-    Ok((Status::Done, text))
-}
-
-// The text for a replica of a schedule at these levels.
-fn text_of(
-    alloc: Global,
-    t: &Typed,
-    levels: &Levels,
-    schedule: Schedule,
-    replica: ReplicaId,
-    cut: u64,
-) -> Result<Vec<u8>, NoMemory>
-    requires levels { AreLevelsOf t.now.program levels.now }
-    requires schedule { IsSchedule t.now.program schedule }
-    requires replica { replica.0 < replicas_behind schedule.replicas schedule.events }
-    ensures { IfOk result (λ text. (source file : List ℕ) → IsSourceOf source t.now.program → IsScheduleFile t.now.program (ahead_from 1 file) schedule
-        → TellsRestart source file replica.0 cut text.items) }
-{
-    let same = levels.copy(alloc)?;
-    let run = watched_run::<Replica>(alloc, t, same, schedule, replica)?;
+    } = input;
+    let run = watched_run::<Replica>(alloc, &typed, levels, schedule, replica)?;
     print_recovered(alloc, &run.store, &run.arrivals, cut)
 }
 

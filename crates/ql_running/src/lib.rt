@@ -1,4 +1,5 @@
-// The command that runs a schedule through a store of a source's program, from the bytes of both files to its text.
+// The command that runs a schedule through a store of a source's program, from the bytes of both files to its text; and how
+// each command on a source and a schedule reads them.
 // The one contract: the text is the run's, and the execution that it shows meets every contract of the source.
 #![tactic(auto)]
 

@@ -20,7 +20,6 @@ use ql_machine::Reply;
 use ql_reply::Status;
 use ql_run_json::print_run_json;
 use ql_run_text::print_run;
-use ql_schedule::Schedule;
 use ql_typing::Typed;
 use std::alloc::Global;
 
@@ -35,38 +34,31 @@ pub fn run(
     requires { length source.now < 2 ^ 32 }
     ensures { IfOk result (λ answer. RunSays (format_of form) source.now schedule.now answer.0 answer.1.items) }
 {
+    match read_run_input(alloc, source, schedule)? {
+        Ok(input) => Ok((Status::Done, text_of(alloc, form, input)?)),
+        Err(reply) => Ok(reply),
+    }
+}
+
+// The text of the run, which shows it to whoever reads the program and the schedule in two files.
+fn text_of(alloc: Global, form: Form, input: RunInput) -> Result<Vec<u8>, NoMemory>
+    requires levels { AreLevelsOf input.typed.program input.levels }
+    requires schedule { IsSchedule input.typed.program input.schedule }
+    ensures { IfOk result (λ text. (source file : List ℕ) → IsSourceOf source input.typed.program → IsScheduleFile input.typed.program (ahead_from 1 file) input.schedule
+        → TellsRun (format_of form) source file text.items) }
+{
     let RunInput {
         typed,
         levels,
         schedule,
-    } = match read_run_input(alloc, source, schedule)? {
-        Ok(input) => input,
-        Err(reply) => return Ok(reply),
-    };
-    let text = text_of(alloc, form, &typed, &levels, schedule)?;
-    Ok((Status::Done, text))
-}
-
-// The text of a schedule's run at these levels, which shows it to whoever reads the program and the schedule in two files.
-fn text_of(
-    alloc: Global,
-    form: Form,
-    t: &Typed,
-    levels: &Levels,
-    schedule: Schedule,
-) -> Result<Vec<u8>, NoMemory>
-    requires levels { AreLevelsOf t.now.program levels.now }
-    requires schedule { IsSchedule t.now.program schedule }
-    ensures { IfOk result (λ text. (source file : List ℕ) → IsSourceOf source t.now.program → IsScheduleFile t.now.program (ahead_from 1 file) schedule
-        → TellsRun (format_of form) source file text.items) }
-{
-    let run = sound_run(alloc, t, levels, schedule)?;
+    } = input;
+    let run = sound_run(alloc, &typed, &levels, schedule)?;
     print_in(
         alloc,
         form,
-        t,
+        &typed,
         &run.objects,
-        levels,
+        &levels,
         &run.replies,
         run.store.execution(),
     )
