@@ -22,5 +22,5 @@ map_more f [] x = refl
 map_more f (y ∷ ys) x = ap (λ l. f y ∷ l) (map_more f ys x)
 
 -- an operand is known by where it starts and by its tree
-pub same_operand : {r : Reading} {below : List Sym} {vs : List Value} {m n : ℕ} {a b : Expression} → m ≡ n → a ≡ b → read r below (AnExpr n b ∷ vs) ≡ read r below (AnExpr m a ∷ vs)
-same_operand start tree = rw (start, tree) refl
+pub same_operand : (r : Reading) (below : List Sym) (vs : List Value) {m n : ℕ} {a b : Expression} → m ≡ n → a ≡ b → read r below (AnExpr n b ∷ vs) ≡ read r below (AnExpr m a ∷ vs)
+same_operand r below vs start tree = rw (start, tree) refl

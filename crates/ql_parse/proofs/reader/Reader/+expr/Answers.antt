@@ -161,10 +161,10 @@ more_times-returns-in_err-right-clause-refused t c =
 pub more_times-returns-in_err-product-clause-refused : goal.more_times-returns-in_err-product-clause-refused
 more_times-returns-in_err-product-clause-refused t c =
     let p = err_from_is_err_and c.from_residual-in_err-product.result c.from_residual-in_err-product.ensures.1 in
-    rw (p.1, p.2) (λ f is below vs. then-on c.args.self.now MoreTimes below _ c.requires ∙ c.in_ok-op.ensures.gave _ _ ∙ c.in_ok-right.ensures.gave _ _ ∙ read-do _ _ _ _ ∙ same_operand c.in_ok-both.ensures.start c.in_ok-both.ensures.tree ∙ c.in_err-product.ensures.refused f is _ _)
+    rw (p.1, p.2) (λ f is below vs. then-on c.args.self.now MoreTimes below _ c.requires ∙ c.in_ok-op.ensures.gave _ _ ∙ c.in_ok-right.ensures.gave _ _ ∙ read-do _ _ _ _ ∙ same_operand _ _ _ c.in_ok-both.ensures.start c.in_ok-both.ensures.tree ∙ c.in_err-product.ensures.refused f is _ _)
 
 pub more_times-returns-then-sees_operator-clause-gave : goal.more_times-returns-then-sees_operator-clause-gave
-more_times-returns-then-sees_operator-clause-gave t c = λ below vs. then-on c.args.self.now MoreTimes below _ c.requires ∙ c.in_ok-op.ensures.gave _ _ ∙ c.in_ok-right.ensures.gave _ _ ∙ read-do _ _ _ _ ∙ same_operand c.in_ok-both.ensures.start c.in_ok-both.ensures.tree ∙ c.in_ok-product.ensures.gave _ _
+more_times-returns-then-sees_operator-clause-gave t c = λ below vs. then-on c.args.self.now MoreTimes below _ c.requires ∙ c.in_ok-op.ensures.gave _ _ ∙ c.in_ok-right.ensures.gave _ _ ∙ read-do _ _ _ _ ∙ same_operand _ _ _ c.in_ok-both.ensures.start c.in_ok-both.ensures.tree ∙ c.in_ok-product.ensures.gave _ _
 
 pub more_times-returns-clause-gave : goal.more_times-returns-clause-gave
 more_times-returns-clause-gave t c = λ below vs. rw (c.in_ok-both.ensures.start, c.in_ok-both.ensures.tree) (then-on c.args.self.now MoreTimes below _ c.requires ∙ c.in_ok-op.ensures.gave _ _ ∙ c.in_ok-right.ensures.gave _ _ ∙ read-do _ _ _ _ ∙ then-past _ MoreTimes below _ (sym c.sees_operator.ensures ∙ c.if-sees_operator.false))
@@ -198,10 +198,10 @@ more_plus-returns-in_err-right-clause-refused t c =
 pub more_plus-returns-in_err-sum-clause-refused : goal.more_plus-returns-in_err-sum-clause-refused
 more_plus-returns-in_err-sum-clause-refused t c =
     let p = err_from_is_err_and c.from_residual-in_err-sum.result c.from_residual-in_err-sum.ensures.1 in
-    rw (p.1, p.2) (λ f is below vs. then-on c.args.self.now MorePlus below _ c.requires ∙ c.in_ok-op.ensures.gave _ _ ∙ c.in_ok-right.ensures.gave _ _ ∙ read-do _ _ _ _ ∙ same_operand c.in_ok-both.ensures.start c.in_ok-both.ensures.tree ∙ c.in_err-sum.ensures.refused f is _ _)
+    rw (p.1, p.2) (λ f is below vs. then-on c.args.self.now MorePlus below _ c.requires ∙ c.in_ok-op.ensures.gave _ _ ∙ c.in_ok-right.ensures.gave _ _ ∙ read-do _ _ _ _ ∙ same_operand _ _ _ c.in_ok-both.ensures.start c.in_ok-both.ensures.tree ∙ c.in_err-sum.ensures.refused f is _ _)
 
 pub more_plus-returns-then-sees_operator-clause-gave : goal.more_plus-returns-then-sees_operator-clause-gave
-more_plus-returns-then-sees_operator-clause-gave t c = λ below vs. then-on c.args.self.now MorePlus below _ c.requires ∙ c.in_ok-op.ensures.gave _ _ ∙ c.in_ok-right.ensures.gave _ _ ∙ read-do _ _ _ _ ∙ same_operand c.in_ok-both.ensures.start c.in_ok-both.ensures.tree ∙ c.in_ok-sum.ensures.gave _ _
+more_plus-returns-then-sees_operator-clause-gave t c = λ below vs. then-on c.args.self.now MorePlus below _ c.requires ∙ c.in_ok-op.ensures.gave _ _ ∙ c.in_ok-right.ensures.gave _ _ ∙ read-do _ _ _ _ ∙ same_operand _ _ _ c.in_ok-both.ensures.start c.in_ok-both.ensures.tree ∙ c.in_ok-sum.ensures.gave _ _
 
 pub more_plus-returns-clause-gave : goal.more_plus-returns-clause-gave
 more_plus-returns-clause-gave t c = λ below vs. rw (c.in_ok-both.ensures.start, c.in_ok-both.ensures.tree) (then-on c.args.self.now MorePlus below _ c.requires ∙ c.in_ok-op.ensures.gave _ _ ∙ c.in_ok-right.ensures.gave _ _ ∙ read-do _ _ _ _ ∙ then-past _ MorePlus below _ (sym c.sees_operator.ensures ∙ c.if-sees_operator.false))
@@ -235,10 +235,10 @@ more_conjoined-returns-in_err-right-clause-refused t c =
 pub more_conjoined-returns-in_err-conjunction-clause-refused : goal.more_conjoined-returns-in_err-conjunction-clause-refused
 more_conjoined-returns-in_err-conjunction-clause-refused t c =
     let p = err_from_is_err_and c.from_residual-in_err-conjunction.result c.from_residual-in_err-conjunction.ensures.1 in
-    rw (p.1, p.2) (λ f is below vs. then-on c.args.self.now MoreConjoined below _ c.requires ∙ c.in_ok-op.ensures.gave _ _ ∙ c.in_ok-right.ensures.gave _ _ ∙ read-do _ _ _ _ ∙ same_operand c.in_ok-both.ensures.start c.in_ok-both.ensures.tree ∙ c.in_err-conjunction.ensures.refused f is _ _)
+    rw (p.1, p.2) (λ f is below vs. then-on c.args.self.now MoreConjoined below _ c.requires ∙ c.in_ok-op.ensures.gave _ _ ∙ c.in_ok-right.ensures.gave _ _ ∙ read-do _ _ _ _ ∙ same_operand _ _ _ c.in_ok-both.ensures.start c.in_ok-both.ensures.tree ∙ c.in_err-conjunction.ensures.refused f is _ _)
 
 pub more_conjoined-returns-then-sees_operator-clause-gave : goal.more_conjoined-returns-then-sees_operator-clause-gave
-more_conjoined-returns-then-sees_operator-clause-gave t c = λ below vs. then-on c.args.self.now MoreConjoined below _ c.requires ∙ c.in_ok-op.ensures.gave _ _ ∙ c.in_ok-right.ensures.gave _ _ ∙ read-do _ _ _ _ ∙ same_operand c.in_ok-both.ensures.start c.in_ok-both.ensures.tree ∙ c.in_ok-conjunction.ensures.gave _ _
+more_conjoined-returns-then-sees_operator-clause-gave t c = λ below vs. then-on c.args.self.now MoreConjoined below _ c.requires ∙ c.in_ok-op.ensures.gave _ _ ∙ c.in_ok-right.ensures.gave _ _ ∙ read-do _ _ _ _ ∙ same_operand _ _ _ c.in_ok-both.ensures.start c.in_ok-both.ensures.tree ∙ c.in_ok-conjunction.ensures.gave _ _
 
 pub more_conjoined-returns-clause-gave : goal.more_conjoined-returns-clause-gave
 more_conjoined-returns-clause-gave t c = λ below vs. rw (c.in_ok-both.ensures.start, c.in_ok-both.ensures.tree) (then-on c.args.self.now MoreConjoined below _ c.requires ∙ c.in_ok-op.ensures.gave _ _ ∙ c.in_ok-right.ensures.gave _ _ ∙ read-do _ _ _ _ ∙ then-past _ MoreConjoined below _ (sym c.sees_operator.ensures ∙ c.if-sees_operator.false))
@@ -272,10 +272,10 @@ more_disjoined-returns-in_err-right-clause-refused t c =
 pub more_disjoined-returns-in_err-disjunction-clause-refused : goal.more_disjoined-returns-in_err-disjunction-clause-refused
 more_disjoined-returns-in_err-disjunction-clause-refused t c =
     let p = err_from_is_err_and c.from_residual-in_err-disjunction.result c.from_residual-in_err-disjunction.ensures.1 in
-    rw (p.1, p.2) (λ f is below vs. then-on c.args.self.now MoreDisjoined below _ c.requires ∙ c.in_ok-op.ensures.gave _ _ ∙ c.in_ok-right.ensures.gave _ _ ∙ read-do _ _ _ _ ∙ same_operand c.in_ok-both.ensures.start c.in_ok-both.ensures.tree ∙ c.in_err-disjunction.ensures.refused f is _ _)
+    rw (p.1, p.2) (λ f is below vs. then-on c.args.self.now MoreDisjoined below _ c.requires ∙ c.in_ok-op.ensures.gave _ _ ∙ c.in_ok-right.ensures.gave _ _ ∙ read-do _ _ _ _ ∙ same_operand _ _ _ c.in_ok-both.ensures.start c.in_ok-both.ensures.tree ∙ c.in_err-disjunction.ensures.refused f is _ _)
 
 pub more_disjoined-returns-then-sees_operator-clause-gave : goal.more_disjoined-returns-then-sees_operator-clause-gave
-more_disjoined-returns-then-sees_operator-clause-gave t c = λ below vs. then-on c.args.self.now MoreDisjoined below _ c.requires ∙ c.in_ok-op.ensures.gave _ _ ∙ c.in_ok-right.ensures.gave _ _ ∙ read-do _ _ _ _ ∙ same_operand c.in_ok-both.ensures.start c.in_ok-both.ensures.tree ∙ c.in_ok-disjunction.ensures.gave _ _
+more_disjoined-returns-then-sees_operator-clause-gave t c = λ below vs. then-on c.args.self.now MoreDisjoined below _ c.requires ∙ c.in_ok-op.ensures.gave _ _ ∙ c.in_ok-right.ensures.gave _ _ ∙ read-do _ _ _ _ ∙ same_operand _ _ _ c.in_ok-both.ensures.start c.in_ok-both.ensures.tree ∙ c.in_ok-disjunction.ensures.gave _ _
 
 pub more_disjoined-returns-clause-gave : goal.more_disjoined-returns-clause-gave
 more_disjoined-returns-clause-gave t c = λ below vs. rw (c.in_ok-both.ensures.start, c.in_ok-both.ensures.tree) (then-on c.args.self.now MoreDisjoined below _ c.requires ∙ c.in_ok-op.ensures.gave _ _ ∙ c.in_ok-right.ensures.gave _ _ ∙ read-do _ _ _ _ ∙ then-past _ MoreDisjoined below _ (sym c.sees_operator.ensures ∙ c.if-sees_operator.false))
