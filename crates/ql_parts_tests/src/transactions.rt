@@ -4,7 +4,7 @@ ghost use Rattle.ql_machine.specs.State.{open_of};
 ghost use Rattle.ql_shim.specs.Transactions.{open_txns};
 ghost use Rattle.ql_needs.specs.Needs.{AreThere, AreWhole, IsPackage};
 
-use ql_base::{DeclId, EffId, IdSet, NoMemory, RunId, SessId};
+use ql_base::{DeclId, EffId, IdSet, NoMemory, ObjId, RunId, SessId};
 use ql_exec::{Execution, Member};
 use ql_holder::Holder;
 use ql_levels::TxnLevel;
