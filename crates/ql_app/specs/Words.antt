@@ -41,11 +41,11 @@ IsPairInRange (Restart replica cut) = (replica ≤ 15) × (1 ≤ cut) × (cut �
 IsPairInRange _ = Unit {0}
 
 -- what can be asked for: a command on one file, or on two, by their names
-pub data Call : Type 0 where
-  OneFile : Command → List ℕ → Call
-  TwoFiles : PairCommand → List ℕ → List ℕ → Call
+pub data NamedRequest : Type 0 where
+  OneFile : Command → List ℕ → NamedRequest
+  TwoFiles : PairCommand → List ℕ → List ℕ → NamedRequest
 
 -- the words ask for this
-abbrev pub IsRequest : List (List ℕ) → Call → Type 0
+abbrev pub IsRequest : List (List ℕ) → NamedRequest → Type 0
 IsRequest words (OneFile command name) = (words ≡ command_words command name) × IsInRange command × IsFileName name
 IsRequest words (TwoFiles command name other) = (words ≡ pair_words command name other) × IsPairInRange command × IsFileName name × IsFileName other

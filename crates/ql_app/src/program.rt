@@ -1,6 +1,6 @@
 ghost use Rattle.std.specs.Prelude.{◌≡◌, ◌≤◌, ℕ, List, IfOk, OnErr};
 ghost use Rattle.ql_ports.specs.Faults.{Rose};
-ghost use Rattle.ql_app.specs.Words.{Call, IsRequest};
+ghost use Rattle.ql_app.specs.Words.{NamedRequest, IsRequest};
 ghost use Rattle.ql_reply.specs.Arguments.{word_texts};
 ghost use Rattle.ql_app.specs.Outcome.{AreHeld, IsAnswered, NoneRose, Says};
 ghost use Rattle.ql_reply.specs.Wrote.{Wrote};
@@ -39,7 +39,7 @@ pub fn quelea<S: Shelf, K: Sink>(
     ensures sink_count_stays { K.faults sink.old ≤ K.faults sink.new }
 
     // Nothing failed, and the files are in their grammars: the answer is yes or no.
-    ensures complete { (call : Call) → IsRequest (word_texts words.now) call
+    ensures complete { (call : NamedRequest) → IsRequest (word_texts words.now) call
         → AreHeld (record { file = 1048576; second = 67108864 }) (S.held shelf.old) call
         → NoneRose (S.faults shelf.old) (S.faults shelf.new) call → (Rose (K.faults sink.old) (K.faults sink.new) → ⊥)
         → IsAnswered result }

@@ -1,11 +1,13 @@
-use crate::texts::{declared, push_value, push_values, spelled};
+use crate::texts::spelled;
 use ql_base::{IdSet, NoMemory, push_bytes, push_number};
 use ql_eval::try_answer;
 use ql_exec::{Answered, Effect, Execution, Payload};
 use ql_execution_files::parse_execution;
 use ql_tables::check_table;
+use ql_test_effects::push_values;
+use ql_test_programs::declared;
 use ql_typing::Typed;
-use ql_value::{Value, Values};
+use ql_value::{Value, Values, print_value};
 use std::alloc::Global;
 use std::test::Fail;
 
@@ -141,7 +143,7 @@ fn is_answered(
 
 fn text(alloc: Global, answer: &Value, payload: &Payload) -> Result<Vec<u8>, NoMemory> {
     let mut out = Vec::new(alloc);
-    push_value(&mut out, answer)?;
+    print_value(&mut out, answer)?;
     push_bytes(&mut out, b" emit ")?;
     match payload {
         Payload::Nothing => push_bytes(&mut out, b"-")?,
@@ -181,7 +183,7 @@ fn balance(alloc: Global, row: &str) -> Result<Vec<u8>, NoMemory> {
         &execution,
         &first_ids(alloc, count)?,
     )? {
-        Some(answered) => push_value(&mut out, &answered.answer)?,
+        Some(answered) => print_value(&mut out, &answered.answer)?,
         None => push_bytes(&mut out, b"no answer")?,
     }
     Ok(out)

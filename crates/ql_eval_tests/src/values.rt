@@ -1,9 +1,9 @@
-use crate::texts::{push_value, spelled};
+use crate::texts::spelled;
 use ql_base::{NoMemory, push_bytes, push_number};
 use ql_tables::{check_table, field};
 use ql_value::{
-    MapVal, Scalar, SetVal, Value, ValueFault, add, order, parse_value, put, sat_add, sat_mul,
-    sat_neg, sat_sub, size,
+    MapVal, Scalar, SetVal, Value, ValueFault, add, order, parse_value, print_value, put, sat_add,
+    sat_mul, sat_neg, sat_sub, size,
 };
 use std::alloc::Global;
 use std::cmp::Ordering;
@@ -90,7 +90,7 @@ fn read(alloc: Global, text: &str) -> Result<Vec<u8>, NoMemory> {
             let mut out = Vec::new(alloc);
             push_number(&mut out, to)?;
             push_bytes(&mut out, b" ")?;
-            push_value(&mut out, &value)?;
+            print_value(&mut out, &value)?;
             Ok(out)
         }
         Err(ValueFault::Unexpected(at)) => {

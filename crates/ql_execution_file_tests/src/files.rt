@@ -1,9 +1,8 @@
 use ql_base::{NoMemory, push_bytes, push_number};
 use ql_exec::{Effect, Member, Payload};
 use ql_execution_files::{ReportFault, parse_execution};
-use ql_parse::parse_program;
 use ql_tables::check_table;
-use ql_typing::{Typed, typecheck};
+use ql_test_programs::declared;
 use ql_value::{Values, print_value};
 use std::alloc::Global;
 use std::test::Fail;
@@ -98,18 +97,13 @@ fn with_effects(alloc: Global, count: u32) -> Result<Vec<u8>, NoMemory> {
 }
 
 fn read_bytes(alloc: Global, file: &[u8]) -> Result<Vec<u8>, NoMemory> {
-    let Some(typed) = declared(alloc) else {
+    let Some(typed) = declared(alloc, SOURCE) else {
         return Ok(Vec::from_slice(alloc, b"no source")?);
     };
     match parse_execution(alloc, &typed, file) {
         Ok(execution) => effects_text(alloc, execution.effects()),
         Err(why) => fault(alloc, why),
     }
-}
-
-fn declared(alloc: Global) -> Option<Typed> {
-    let program = parse_program(alloc, SOURCE.as_bytes()).ok()?;
-    typecheck(alloc, program).ok()
 }
 
 fn effects_text(alloc: Global, effects: &[Effect]) -> Result<Vec<u8>, NoMemory> {

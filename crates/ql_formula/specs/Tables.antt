@@ -1,5 +1,7 @@
--- Tables of the relations of an execution, and what one that is being made has so far.
+-- Tables of the relations of an execution, and the invariants of building one.
 use Rattle.std.specs.Prelude.{◌≡◌, ℕ, zero, suc, ◌<◌, Bool, true, false, ◌&&◌, ◌||◌, nat_eq, nat_lt, slice_get, slice_index_or, List, [], length, Option, Some, None}
+use Rattle.std.specs.HashMap.{get}
+use Rattle.std.specs.Option.{option_eq}
 use Rattle.ql_lang.specs.Trees.{Relation, Basic, Union, Intersection}
 use Rattle.ql_lang.specs.declared.relation.RelName.{RelName}
 use Rattle.ql_lang.specs.declared.relation.RelName.TheVariants.{Vis, So, Soo, SameObj, Eq, Hb, Hbo}
@@ -9,6 +11,7 @@ use Rattle.ql_formula.specs.Truth.{named}
 use Rattle.ql_formula.specs.declared.rows.Key.{Key}
 use Rattle.ql_formula.specs.declared.rows.Closure.{Closure}
 use Rattle.ql_formula.specs.declared.rows.Closure.TheVariants.{OnOneObject, Across}
+use Rattle.ql_formula.specs.declared.lasts.Lasts.{Lasts}
 
 -- ---- how it is kept
 
@@ -31,7 +34,7 @@ so_in keys a b = both_keys (λ e f. nat_eq e.session.0 f.session.0 && nat_lt a b
 abbrev pub sameobj_in : List Key → ℕ → ℕ → Bool
 sameobj_in keys a b = both_keys (λ e f. nat_eq e.object.0 f.object.0) (key_at keys a) (key_at keys b)
 
--- a row, and whether it has the earlier effect of an id
+-- whether a row has the earlier effect with an id
 abbrev pub row_has : List Bool → ℕ → Bool
 row_has row zero = false
 row_has row (suc k) = slice_index_or row k false
@@ -41,7 +44,7 @@ abbrev pub cell : List (List Bool) → ℕ → ℕ → Bool
 cell rows a zero = false
 cell rows a (suc m) = row_has (slice_index_or rows m []) a
 
--- ---- what it tells
+-- ---- what it says
 
 -- Objects and sessions of the effects in order, and for each effect in order which earlier ones it sees, and which
 -- happen before it within its object and at all.
@@ -65,13 +68,13 @@ related_in t (Basic name at) a b = named_in t name a b
 related_in t (Union r s) a b = related_in t r a b || related_in t s a b
 related_in t (Intersection r s) a b = related_in t r a b && related_in t s a b
 
--- the table tells the relations of the execution
+-- the table has the relations of the execution
 abbrev pub IsTableOf : Table → List Effect → Type 0
 IsTableOf t x = (name : RelName) (a b : ℕ) → named_in t name a b ≡ named x name a b
 
 -- ---- how it is made
 
--- the row of b tells which earlier effects are related to b
+-- the row of b says which earlier effects are related to b
 abbrev pub IsRow : (ℕ → ℕ → Bool) → ℕ → List Bool → Type 0
 IsRow rel b row = (suc (length row) ≡ b) × ((k : ℕ) → slice_index_or row k false ≡ rel (suc k) b)
 
@@ -97,9 +100,21 @@ abbrev pub follows : Closure → Key → Key → Bool
 follows OnOneObject e f = nat_eq e.session.0 f.session.0 && nat_eq e.object.0 f.object.0
 follows Across e f = nat_eq e.session.0 f.session.0 && true
 
--- the last of these effects that is before one of this key in its session, or within its object
+-- the last of these effects that is before one with this key in its session, or within its object
 abbrev pub IsLastBefore : Closure → List Key → Key → Option ℕ → Type 0
 IsLastBefore closure keys key None = (k : ℕ) → k < length keys → follows closure (slice_index_or keys k key) key ≡ false
 IsLastBefore closure keys key (Some last) =
     (last < length keys) × (follows closure (slice_index_or keys last key) key ≡ true)
     × ((k : ℕ) → last < k → k < length keys → follows closure (slice_index_or keys k key) key ≡ false)
+
+-- what the last effects are kept by: the session, and the object for the closure within one object
+abbrev pub group_of : Closure → Key → ℕ × Option ℕ
+group_of OnOneObject e = (e.session.0, Some e.object.0)
+group_of Across e = (e.session.0, None)
+
+abbrev pub same_group : ℕ × Option ℕ → ℕ × Option ℕ → Bool
+same_group a b = nat_eq a.0 b.0 && option_eq nat_eq a.1 b.1
+
+-- it has the last of these effects in each session, or in each session within its object
+abbrev pub HasLasts : Lasts → List Key → Type 0
+HasLasts lasts keys = (key : Key) → IsLastBefore lasts.closure keys key (get same_group lasts.indices (group_of lasts.closure key))

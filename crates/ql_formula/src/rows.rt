@@ -1,9 +1,10 @@
-ghost use Rattle.std.specs.Prelude.{◌≡◌, ◌<◌, ◌≤◌, ◌||◌, true, suc, length, IfOk, IfSome, slice_index_or, nat_eq, false, map, ℕ, Bool, []};
+ghost use Rattle.std.specs.Prelude.{◌≡◌, ◌<◌, ◌≤◌, ◌||◌, true, suc, length, take, IfOk, OnOk, IfSome, slice_index_or, nat_eq, false, map, ℕ, Bool, []};
 ghost use Rattle.ql_exec.specs.Relations.{vis, leads};
 ghost use Rattle.ql_exec.specs.Execution.{IsExecution};
-ghost use Rattle.ql_formula.specs.Tables.{IsRow, AreRows, GoesForward, IsClosedPart, IsLastBefore, step_of, key_of, follows};
+ghost use Rattle.ql_formula.specs.Tables.{IsRow, AreRows, GoesForward, IsClosedPart, HasLasts, step_of, key_of};
 ghost use Rattle.ql_base.specs.IdLists.{has_id};
 
+use crate::lasts::Lasts;
 use crate::row::Row;
 use ql_base::{NoMemory, ObjId, SessId};
 use ql_exec::Effect;
@@ -60,7 +61,7 @@ fn vis_row(alloc: Global, effects: &[Effect], k: usize) -> Result<Row, NoMemory>
     Ok(row)
 }
 
-// Adds the effects of these ids.
+// Adds the effects with these ids.
 fn mark(row: &mut Row, ids: &[u32])
     requires { (k : ℕ) → has_id ids.now k ≡ true → (1 ≤ k) × (k ≤ length row.old) }
     ensures length { length row.new ≡ length row.old }
@@ -84,8 +85,9 @@ pub(crate) fn closure_rows(
     ensures rows { IfOk result (λ rows. AreRows (leads (step_of closure effects.now)) rows.items) }
 {
     let mut rows = Vec::with_capacity(alloc, effects.len())?;
+    let mut lasts = Lasts::new(alloc, closure);
     for _k in 0..effects.len() {
-        rows.push(closure_row(alloc, effects, keys, &rows, closure)?)?;
+        rows.push(closure_row(alloc, effects, keys, &rows, &mut lasts)?)?;
     }
     Ok(rows)
 }
@@ -97,44 +99,22 @@ fn closure_row(
     effects: &[Effect],
     keys: &[Key],
     rows: &[Row],
-    closure: Closure,
+    lasts: &mut Lasts,
 ) -> Result<Row, NoMemory>
     requires execution { IsExecution effects.now }
     requires keys { keys.now ≡ map key_of effects.now }
     requires within { length rows.now < length effects.now }
-    requires rows { AreRows (leads (step_of closure effects.now)) rows.now }
-    ensures { IfOk result (λ row. IsRow (leads (step_of closure effects.now)) (suc (length rows.now)) row) }
+    requires rows { AreRows (leads (step_of lasts.old.closure effects.now)) rows.now }
+    requires lasts { HasLasts lasts.old (take (length rows.now) keys.now) }
+    ensures row { IfOk result (λ row. IsRow (leads (step_of lasts.old.closure effects.now)) (suc (length rows.now)) row) }
+    ensures closure { lasts.new.closure ≡ lasts.old.closure }
+    ensures lasts { OnOk result (HasLasts lasts.new (take (suc (length rows.now)) keys.now)) }
 {
     let n = rows.len();
     let mut row = Row::empty(alloc, n)?;
-    visit_last(&mut row, rows, last_before(&keys[..n], keys[n], closure));
+    visit_last(&mut row, rows, lasts.replace(keys[n], n)?);
     visit_seen(&mut row, rows, effects[n].seen.items());
     Ok(row)
-}
-
-// The place of the last of these effects that is before one of this key in its session.
-fn last_before(keys: &[Key], key: Key, closure: Closure) -> Option<usize>
-    ensures { IsLastBefore closure keys.now key result }
-{
-    let mut left = keys.len();
-    while left > 0 {
-        left -= 1;
-        if follows(keys[left], key, closure) {
-            return Some(left);
-        }
-    }
-    None
-}
-
-// Whether the first effect is before the second in a session, given that it is made before it.
-fn follows(first: Key, second: Key, closure: Closure) -> bool
-    ensures { result ≡ follows closure first second }
-{
-    first.session.0 == second.session.0
-        && match closure {
-            Closure::OnOneObject => first.object.0 == second.object.0,
-            Closure::Across => true,
-        }
 }
 
 fn visit_last(row: &mut Row, rows: &[Row], last: Option<usize>)
@@ -151,7 +131,7 @@ fn visit_last(row: &mut Row, rows: &[Row], last: Option<usize>)
     }
 }
 
-// Goes to the seen effects from the last to the first, since the last bring most.
+// Visits the seen effects from the last to the first, since the last ones add most.
 fn visit_seen(row: &mut Row, rows: &[Row], seen: &[u32])
     requires lengths { (k : ℕ) → k < length rows.now → length (slice_index_or rows.now k []) ≡ k }
     requires within { (a : ℕ) → has_id seen.now a ≡ true → (1 ≤ a) × (a ≤ length rows.now) × (a ≤ length row.old) }
@@ -169,7 +149,7 @@ fn visit_seen(row: &mut Row, rows: &[Row], seen: &[u32])
     }
 }
 
-// Adds the effect of the row `earlier` and all from which that one is reached. Where the row has it
+// Adds the effect of the row `earlier` and all from which that one is reached. If the row has it
 // already, it has these too.
 fn visit(row: &mut Row, earlier: &Row)
     requires { length earlier.now < length row.old }

@@ -1,9 +1,8 @@
 use ql_base::NoMemory;
 use ql_gen::schedule_of;
-use ql_parse::parse_program;
 use ql_schedule::print_schedule;
 use ql_tables::{check_table, number};
-use ql_typing::{Typed, typecheck};
+use ql_test_programs::declared;
 use std::alloc::Global;
 use std::test::Fail;
 
@@ -69,19 +68,11 @@ fn schedules_are_generated(rt: HostRuntime) -> Result<(), Fail> {
 }
 
 fn generated(alloc: Global, source: &str, number: u32, events: u32) -> Result<Vec<u8>, NoMemory> {
-    match typed(alloc, source) {
+    match declared(alloc, source) {
         Some(typed) if number < 1 << 31 && events <= 4000 => {
             let schedule = schedule_of(alloc, &typed, number, events)?;
             print_schedule(alloc, &typed, &schedule)
         }
         _ => Ok(Vec::from_slice(alloc, b"no source")?),
     }
-}
-
-fn typed(alloc: Global, source: &str) -> Option<Typed> {
-    if source.len() > 4096 {
-        return None;
-    }
-    let program = parse_program(alloc, source.as_bytes()).ok()?;
-    typecheck(alloc, program).ok()
 }

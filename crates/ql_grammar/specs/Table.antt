@@ -28,13 +28,13 @@ use Rattle.ql_grammar.specs.declared.role.Role.{Role}
 use Rattle.ql_grammar.specs.declared.role.Role.TheVariants.{Plain, Makes, Opens, Closes, Before}
 use Rattle.ql_grammar.specs.Terminals.{is_same}
 use Rattle.ql_grammar.specs.ContractGrammar.{RelationPart, Applied, Single, Product, Sum, PropPart, Atom, Both, Either, Whole}
-use Rattle.ql_grammar.specs.ExpressionGrammar.{ExprPart, Unary, Multiplied, Added, Compared, Conjoined, Disjoined, Chosen, between_quotes, number_of, operands}
+use Rattle.ql_grammar.specs.ExpressionGrammar.{ExprPart, Unary, Multiplied, Added, Compared, Conjoined, Disjoined, Chosen, between_quotes, number_spelled, operands}
 
--- The grammar once more, as a machine reads it: a stack of symbols says what is wanted next, and a stack of
--- values has the trees that were read. This is no definition of the language, which ContractGrammar is; the
--- laws in proofs/ join the two.
+-- The grammar once more, for a machine: a stack of symbols says what is expected next, and a stack of values
+-- holds the trees that were read. This doesn't define the language: ContractGrammar, ExpressionGrammar and
+-- ProgramGrammar do, and the laws in proofs/ connect them with this.
 
--- what stands on the stack of values
+-- an item on the stack of values
 pub data Value : Type 0 where
   APlace : ℕ → Value
   AName : Name → Value
@@ -46,10 +46,10 @@ pub data Value : Type 0 where
   AVar : Var → Value
   TheVars : List Var → Value
   ASentence : Sentence → Value
-  -- a number or a text, with its place
+  -- a number or a text, with its source offset
   ASpelling : ℕ → List ℕ → Value
   AnOperator : BinOp → Value
-  -- an expression, with the place where it starts
+  -- an expression, with the source offset where it starts
   AnExpr : ℕ → Expression → Value
   TheExprs : List Expression → Value
   ABase : Base → Value
@@ -88,7 +88,7 @@ pub data Part : Type 0 where
   ListedNames : Part
   WholeSource : Part
 
--- what may follow a part, and may not
+-- what may follow a part, but need not
 pub data Rest : Type 0 where
   MoreTerms : Rest
   MoreFactors : Rest
@@ -117,8 +117,8 @@ pub data Rest : Type 0 where
   MoreTypes : Rest
   MoreTransactions : Rest
 
--- What is wanted: a fixed word, the same with its place kept, a name, a number or a text with its bytes kept, an
--- operator of a level, a change of the values that takes no token, a part, or what may follow one.
+-- What is expected: a fixed word, the same with its offset kept, a name, a number or a text with its bytes kept, an
+-- operator of a level, a change of the values that consumes no token, a part, or what may follow one.
 pub data Sym : Type 0 where
   Word : Terminal → Role → Sym
   Placed : Terminal → Role → Sym
@@ -165,7 +165,7 @@ abbrev pub vars_in : Value → List Var
 vars_in (TheVars vs) = vs
 vars_in _ = []
 
--- the values with the topmost ones, or the topmost two or more, replaced
+-- the values with the topmost one, two or three replaced
 abbrev pub on_one : (Value → Value) → List Value → List Value
 on_one f (a ∷ vs) = f a ∷ vs
 on_one f vs = vs
@@ -260,10 +260,10 @@ operator_in (row ∷ rows) k = if is_same k row.0 then Some row.1 else operator_
 unfoldable pub operator_at : Level → Terminal → Option BinOp
 operator_at l k = operator_in (operators l) k
 
--- what the values become; where they are others, they stay
+-- what the values become; values of another form stay as they are
 
 abbrev pub to_number : List Value → List Value
-to_number (ASpelling n x ∷ vs) = AnExpr n (Number n (pos (number_of x))) ∷ vs
+to_number (ASpelling n x ∷ vs) = AnExpr n (Number n (pos (number_spelled x))) ∷ vs
 to_number vs = vs
 
 abbrev pub to_literal : List Value → List Value
@@ -330,11 +330,11 @@ to_map (ABase c ∷ ABase b ∷ vs) = AKind (kind.Map b c) ∷ vs
 to_map vs = vs
 
 abbrev pub begin_number : List Value → List Value
-begin_number (ASpelling n x ∷ vs) = AnInit (record { at = n; node = init.Int (pos (number_of x)) }) ∷ vs
+begin_number (ASpelling n x ∷ vs) = AnInit (record { at = n; node = init.Int (pos (number_spelled x)) }) ∷ vs
 begin_number vs = vs
 
 abbrev pub begin_negative : List Value → List Value
-begin_negative (ASpelling m x ∷ APlace n ∷ vs) = AnInit (record { at = n; node = init.Int (neg_ℤ (pos (number_of x))) }) ∷ vs
+begin_negative (ASpelling m x ∷ APlace n ∷ vs) = AnInit (record { at = n; node = init.Int (neg_ℤ (pos (number_spelled x))) }) ∷ vs
 begin_negative vs = vs
 
 abbrev pub begin_text : List Value → List Value
@@ -424,7 +424,7 @@ abbrev pub to_source : List Value → List Value
 to_source (TheTransactions txns ∷ TheTypes types ∷ vs) = ASource (record { types = types; txns = txns }) ∷ vs
 to_source vs = vs
 
--- The ways to begin each part, with what stands below it. Each way begins with a word or a name, and no two
+-- The ways to begin each part, with what is below it on the stack. Each way begins with a word or a name, and no two
 -- ways of one part with the same one.
 
 abbrev pub term_ways : Role → List Sym → List (List Sym)
@@ -596,7 +596,7 @@ ways Beginning below = beginning_ways below
 ways ListedNames below = (ANameOf Plain ∷ Do to_names ∷ Then MoreListed ∷ below) ∷ []
 ways WholeSource below = type_symbols (Do to_types ∷ Then MoreTypes ∷ Do no_transactions ∷ Then MoreTransactions ∷ Do to_source ∷ below) ∷ []
 
--- the way to go on after a part, with what stands below
+-- the way to continue after a part, with what is below it on the stack
 abbrev pub way_on : Rest → List Sym → List Sym
 way_on MoreTerms below = Word Comma Plain ∷ APart (Term (Makes 1)) ∷ Do add_term ∷ Then MoreTerms ∷ below
 way_on MoreFactors below = Word Ampersand (Makes 1) ∷ APart (RelationAt Single) ∷ Do intersect ∷ Then MoreFactors ∷ below

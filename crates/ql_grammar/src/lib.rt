@@ -1,5 +1,5 @@
 // The grammar of the source language, as relations between tokens and trees.
-// It has the terminals that the grammar speaks of, and no reader: its definitions say what a reader must answer.
+// It has the terminals of the grammar, and no reader: its definitions say what a reader must return.
 // The one contract: the tokens of a text have one tree within the limits, or one first fault, and not both.
 #![tactic(auto)]
 

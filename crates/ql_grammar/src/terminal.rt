@@ -4,7 +4,7 @@ ghost use Rattle.ql_grammar.specs.Tokens.{terminal_of};
 
 use ql_lex::TokenKind;
 
-/// What the grammar tells apart in a token: a name, a number, a text, or one of the fixed words and marks.
+/// What the grammar distinguishes in a token: a name, a number, a text, or one of the fixed words and marks.
 #[derive(Clone, Copy, Debug, PartialEq, Eq)]
 pub enum Terminal {
     NameToken,
@@ -75,7 +75,7 @@ pub enum Terminal {
     NoTerminal,
 }
 
-/// Whether the two are one terminal.
+/// Whether two terminals are the same.
 #[tactic(auto, unfolding(crate::specs::Terminals::is_same))]
 pub fn is_same(a: Terminal, b: Terminal) -> bool
     ensures { result ≡ is_same a b }

@@ -1,9 +1,10 @@
-use crate::executions::{draft, push};
+use crate::executions::member;
 use crate::receipts::received;
 use ql_base::{IdSet, NoMemory};
 use ql_exec::Execution;
 use ql_plain_holder::PlainHolder;
 use ql_replica::Replica;
+use ql_test_effects::{draft, push};
 use std::alloc::Global;
 use std::test::Fail;
 
@@ -53,7 +54,7 @@ fn random_execution(alloc: Global, numbers: &mut Numbers) -> Result<Execution, N
         } else {
             0
         };
-        push(&mut x, draft(alloc, object, session, of, seen))?;
+        push(&mut x, draft(alloc, object, session, member(of), seen))?;
     }
     Ok(x)
 }

@@ -2,7 +2,7 @@ ghost use Rattle.std.specs.Prelude.{◌≡◌, ◌≤◌, IfOk, length};
 ghost use Rattle.ql_base.specs.Numbering.{with_name};
 ghost use Rattle.ql_base.specs.declared.limits.TheConstants.{MAX_EFFECTS};
 ghost use Rattle.ql_line_files.specs.Answers.{IsLineAnswer};
-ghost use Rattle.ql_holds_files.specs.EffectLine.{effect_rule, number_of, plain_draft, with_effect};
+ghost use Rattle.ql_holds_files.specs.EffectLine.{effect_rule, number_among, plain_draft, with_named_effect};
 ghost use Rattle.ql_holds_files.specs.Rules.{unless_broken};
 
 use crate::effect_line::EffectLine;
@@ -30,7 +30,7 @@ impl NamedEffects {
         line: EffectLine,
     ) -> Result<NamedEffects, LineFault<HoldsRule>>
         requires few { length self.effects ≤ MAX_EFFECTS }
-        ensures { IsLineAnswer (λ x. x ≡ unless_broken (effect_rule self line) (with_effect self line)) result }
+        ensures { IsLineAnswer (λ x. x ≡ unless_broken (effect_rule self line) (with_named_effect self line)) result }
     {
         let mut named = self;
         let object = ObjId(number(&mut named.objects, &line.object)?);
@@ -52,7 +52,7 @@ impl NamedEffects {
 // The number of a name among others. Where 32 bits can't number it, there is no memory for it.
 fn number(names: &mut Names, word: &Word) -> Result<u32, NoMemory>
     ensures names { IfOk result (λ _. names.new ≡ with_name names.old word.now) }
-    ensures numbered { IfOk result (λ k. k ≡ number_of names.old word.now) }
+    ensures numbered { IfOk result (λ k. k ≡ number_among names.old word.now) }
 {
     if names.len() >= u32::MAX {
         return Err(NoMemory);

@@ -1,5 +1,5 @@
 ghost use Rattle.std.specs.Prelude.{◌≡◌, ◌⊎◌, ℕ, List};
-ghost use Rattle.ql_commands.specs.declared.answer.Answer.TheVariants.{Done, No};
+ghost use Rattle.ql_reply.specs.declared.status.Status.TheVariants.{Done, No};
 ghost use Rattle.ql_commands.specs.Check.{CheckSays, order_text};
 ghost use Rattle.ql_commands.specs.Classify.{ClassifySays};
 ghost use Rattle.ql_implied.specs.Commands.{TellsAccepted, TellsLeast, TellsNone};

@@ -1,6 +1,7 @@
 // A sink that passes on its bytes, and keeps the beginning of the text and of its last line.
 ghost use Rattle.std.specs.Prelude.{◌≤◌};
 
+use crate::notes::Printed;
 use ql_ports::{Failed, Sink};
 
 // How many bytes are kept.
@@ -79,14 +80,12 @@ impl<K: Sink + Drop> KeptSink<K> {
         }
     }
 
-    /// The first bytes that were taken, at most 128.
-    pub fn first(&self) -> &[u8] {
-        self.beginning.kept()
-    }
-
-    /// The first bytes of the last line that was taken, at most 128.
-    pub fn last_line(&self) -> &[u8] {
-        self.last.beginning.kept()
+    /// How the bytes that were taken begin, and how their last line does: at most 128 bytes of each.
+    pub fn printed(&self) -> Printed {
+        Printed {
+            first: self.beginning.kept(),
+            last_line: self.last.beginning.kept(),
+        }
     }
 }
 

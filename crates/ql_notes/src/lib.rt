@@ -48,4 +48,4 @@ mod words;
 pub use help::HELP;
 pub use kept::KeptSink;
 pub use notes::{Printed, note};
-pub use system::{wants_notes, write_reason};
+pub use system::write_notes;

@@ -22,7 +22,7 @@ ghost use Rattle.std.specs.Prelude.{
   true,
 };
 ghost use Rattle.ql_grammar.specs.declared.terminal.Terminal.TheVariants.{IntToken, NameToken, TextToken};
-ghost use Rattle.ql_grammar.specs.ExpressionGrammar.{between_quotes, number_of as number_in};
+ghost use Rattle.ql_grammar.specs.ExpressionGrammar.{between_quotes, number_spelled as number_in};
 ghost use Rattle.ql_grammar.specs.Limits.{Wide, counted, with_nodes};
 ghost use Rattle.ql_grammar.specs.Table.{ANameOf, AName, AnOperator, APlace, ASpelling, Kept, Operator, Placed, Word};
 ghost use Rattle.ql_grammar.specs.Machine.{is_ahead, operator_ahead, place_ahead};

@@ -22,6 +22,19 @@ pub(crate) fn spelled(alloc: Global, text: &str) -> Result<Vec<u8>, NoMemory> {
     Ok(Vec::from_slice(alloc, text.as_bytes())?)
 }
 
+/// A printed text, where printing what is read of it yields the same text again.
+pub(crate) fn once_and_again(
+    alloc: Global,
+    once: Vec<u8>,
+    again: &[u8],
+) -> Result<Vec<u8>, NoMemory> {
+    if once.as_slice() == again {
+        Ok(once)
+    } else {
+        spelled(alloc, "another text the second time")
+    }
+}
+
 /// A fault's rule and offset.
 pub(crate) fn parse_fault(alloc: Global, fault: ParseFault) -> Result<Vec<u8>, NoMemory> {
     match fault {

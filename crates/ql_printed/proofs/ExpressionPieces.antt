@@ -17,7 +17,7 @@ use Rattle.ql_grammar.specs.declared.level.Level.TheVariants as level
 use Rattle.ql_grammar.specs.declared.role.Role.TheVariants.{Plain, Makes, Opens, Closes}
 use Rattle.ql_grammar.specs.Tokens.{Marked, marked}
 use Rattle.ql_grammar.specs.ExpressionGrammar
-use Rattle.ql_grammar.specs.ExpressionGrammar.{ReadsExpr, ReadsArguments, ExprPart, Unary, Multiplied, Added, Compared, Conjoined, Disjoined, Chosen, IsOperator, number_of, between_quotes, operands}
+use Rattle.ql_grammar.specs.ExpressionGrammar.{ReadsExpr, ReadsArguments, ExprPart, Unary, Multiplied, Added, Compared, Conjoined, Disjoined, Chosen, IsOperator, number_spelled, between_quotes, operands}
 use Rattle.ql_printed.specs.Printed.{unplaced_name}
 use Rattle.ql_printed.specs.PrintedPrograms.{unplaced_expression, unplaced_operands, ExpressionFits, OperandsFit}
 use Rattle.ql_printed.proofs.Pieces.{Piece, Blank, Said, marks_of}
@@ -174,7 +174,7 @@ combined_reads Mul a b = product_reads ExpressionGrammar.times a b
 
 -- literals
 
-pub number_back : (n : ℕ) → n ≤ most_number → number_of (decimal n) ≡ n
+pub number_back : (n : ℕ) → n ≤ most_number → number_spelled (decimal n) ≡ n
 number_back n few = (decimal_is_IsNumeral n (omega arith)).1
 
 pub text_back : (text : List ℕ) → between_quotes (quoted text) ≡ text
@@ -186,7 +186,7 @@ number_reads : (at0 : ℕ) (n : ℕ) → n ≤ most_number → (at : ℕ) (below
 unfolding expression_pieces unplaced_expression
 number_reads at0 n few at below = record {
   next = at + length (decimal n);
-  tree = Number at (pos (number_of (decimal n)));
+  tree = Number at (pos (number_spelled (decimal n)));
   reads = (at, ExpressionGrammar.number);
   same = ap (λ (m : ℕ). Number 0 (pos m)) (number_back n few);
 }

@@ -6,22 +6,22 @@ use Rattle.ql_atoms.specs.declared.atoms.Atom.{Atom}
 use Rattle.ql_atoms.specs.declared.atoms.Atom.TheVariants.{Pair, Current, Is}
 use Rattle.ql_atoms.specs.declared.atoms.PairKind.{PairKind}
 use Rattle.ql_atoms.specs.declared.atoms.PairKind.TheVariants.{Eq, So, SameObj, Vis, Hbo, Hb, SameTxn}
-use Rattle.ql_atoms.specs.Atoms.{Size, place_of}
+use Rattle.ql_atoms.specs.Atoms.{Size, atom_place}
 use Rattle.ql_base.specs.Ranges.{upto}
 use Rattle.ql_base.specs.Ids.{op}
 use Rattle.ql_lang.specs.declared.contract.Var.{Var}
 use Rattle.ql_lang.specs.declared.program.Program.{Program}
-use Rattle.ql_report.specs.Levels.{op_name}
+use Rattle.ql_typing.specs.Names.{op_name}
 
 -- the name of a relation
-abbrev pub kind_word : PairKind → List ℕ
-kind_word Eq = codes "eq"
-kind_word So = codes "so"
-kind_word SameObj = codes "sameobj"
-kind_word Vis = codes "vis"
-kind_word Hbo = codes "hbo"
-kind_word Hb = codes "hb"
-kind_word SameTxn = codes "sametxn"
+abbrev pub pair_kind_word : PairKind → List ℕ
+pair_kind_word Eq = codes "eq"
+pair_kind_word So = codes "so"
+pair_kind_word SameObj = codes "sameobj"
+pair_kind_word Vis = codes "vis"
+pair_kind_word Hbo = codes "hbo"
+pair_kind_word Hb = codes "hb"
+pair_kind_word SameTxn = codes "sametxn"
 
 -- the word of a constant: a variable of the contract by its index, and after them the current effect
 abbrev pub constant_word : List Var → ℕ → List ℕ
@@ -29,7 +29,7 @@ constant_word vars i = option_map_or (λ v. v.name.word) (slice_get vars i) (cod
 
 -- vis(a,cur), current(a), is(F,a)
 abbrev pub atom_text : Program → List Var → Atom → List ℕ
-atom_text p vars (Pair kind i j) = kind_word kind ++ codes "(" ++ constant_word vars i ++ codes "," ++ constant_word vars j ++ codes ")"
+atom_text p vars (Pair kind i j) = pair_kind_word kind ++ codes "(" ++ constant_word vars i ++ codes "," ++ constant_word vars j ++ codes ")"
 atom_text p vars (Current i) = codes "current(" ++ constant_word vars i ++ codes ")"
 atom_text p vars (Is o i) = codes "is(" ++ op_name p o.0 ++ codes "," ++ constant_word vars i ++ codes ")"
 
@@ -42,7 +42,7 @@ pub record Told : Type 0 where
 
 -- an atom after a space, if it is true
 abbrev pub told_atom : Told → Atom → List ℕ
-told_atom t atom = if unwrap_or (slice_get t.values (place_of t.size atom)) false then 32 ∷ atom_text t.program t.vars atom else []
+told_atom t atom = if unwrap_or (slice_get t.values (atom_place t.size atom)) false then 32 ∷ atom_text t.program t.vars atom else []
 
 -- a relation: all pairs, where the first constant changes slowest
 abbrev pub row_text : Told → PairKind → ℕ → List ℕ

@@ -4,7 +4,7 @@ use Rattle.std.specs.Option.{option_map_or}
 use Rattle.ql_lang.specs.declared.contract.Var.{Var}
 use Rattle.ql_lang.specs.declared.program.Program.{Program}
 use Rattle.ql_typing.specs.Operations.{all_ops}
-use Rattle.ql_report.specs.Levels.{op_name, txn_name}
+use Rattle.ql_typing.specs.Names.{op_name, txn_name}
 use Rattle.ql_report.specs.Atoms.{Told, atoms_line}
 
 -- the variables of a contract

@@ -1,8 +1,8 @@
 // The true atoms of an assignment.
 ghost use Rattle.std.specs.Prelude.{◌≡◌, ◌<◌, ◌++◌, false, length, slice_get, unwrap_or, OnOk};
-ghost use Rattle.ql_atoms.specs.Atoms.{Fits, place_of, size_of};
+ghost use Rattle.ql_atoms.specs.Atoms.{Fits, atom_place, size_of};
 ghost use Rattle.ql_typing.specs.Operations.{all_ops};
-ghost use Rattle.ql_report.specs.Atoms.{atom_text, atoms_line, constant_word, currents_text, kind_word, operation_text, operations_text, relation_text, relations_text, row_text, told_atom};
+ghost use Rattle.ql_report.specs.Atoms.{atom_text, atoms_line, constant_word, currents_text, pair_kind_word, operation_text, operations_text, relation_text, relations_text, row_text, told_atom};
 ghost use Rattle.ql_report.specs.Telling.{told_of};
 
 use crate::levels::op_name;
@@ -116,7 +116,7 @@ fn push_if_true(out: &mut Vec<u8>, told: &Telling, atom: Atom) -> Result<(), NoM
 // Whether an atom is true; an atom without a value isn't.
 fn is_true(values: &[bool], atom: Atom, shape: Shape) -> bool
     requires { Fits (size_of shape) atom }
-    ensures { result ≡ unwrap_or (slice_get values.now (place_of (size_of shape) atom)) false }
+    ensures { result ≡ unwrap_or (slice_get values.now (atom_place (size_of shape) atom)) false }
 {
     match values.get(number(atom, shape) as usize - 1) {
         Some(value) => *value,
@@ -152,7 +152,7 @@ fn push_atom(out: &mut Vec<u8>, told: &Telling, atom: Atom) -> Result<(), NoMemo
 }
 
 fn relation_word(kind: PairKind) -> &'static [u8]
-    ensures { result.now ≡ kind_word kind }
+    ensures { result.now ≡ pair_kind_word kind }
 {
     match kind {
         PairKind::Eq => b"eq",

@@ -9,11 +9,11 @@ ghost use Rattle.ql_restart.specs.Restarts.{RestartSays, TellsRestart};
 
 use crate::recovered::print_recovered;
 use ql_base::{NoMemory, ReplicaId, push_bytes, push_number};
-use ql_commands::{Answer, bad_source, read_source, refusal};
 use ql_levels::Levels;
 use ql_replica::Replica;
-use ql_running::bad_schedule;
-use ql_schedule::{Schedule, one_schedule, parse_schedule};
+use ql_reply::Status;
+use ql_running::{RunInput, read_run_input};
+use ql_schedule::Schedule;
 use ql_typing::Typed;
 use ql_watched::watched_run;
 use std::alloc::Global;
@@ -27,36 +27,24 @@ pub fn restart_run(
     schedule: &[u8],
     replica: u32,
     cut: u64,
-) -> Result<(Answer, Vec<u8>), NoMemory>
+) -> Result<(Status, Vec<u8>), NoMemory>
     requires { length source.now < 2 ^ 32 }
     ensures { IfOk result (λ answer. RestartSays source.now schedule.now replica cut answer.0 answer.1.items) }
 {
-    one_schedule();
-    let typed = match read_source(alloc, source) {
-        Ok(typed) => typed,
-        Err(fault) => return Ok((Answer::Bad, bad_source(alloc, fault)?)),
-    };
-    let schedule = match parse_schedule(alloc, &typed, schedule) {
-        Ok(schedule) => schedule,
-        Err(fault) => return Ok((Answer::Bad, bad_schedule(alloc, fault)?)),
-    };
-    let classified = match ql_classify::classify(alloc, &typed) {
-        Ok(classified) => classified,
-        Err(why) => return Ok((Answer::No, refusal(alloc, &typed, why)?)),
+    let RunInput {
+        typed,
+        levels,
+        schedule,
+    } = match read_run_input(alloc, source, schedule)? {
+        Ok(input) => input,
+        Err(reply) => return Ok(reply),
     };
     let replicas = schedule.last_replicas();
     if replica >= replicas {
-        return Ok((Answer::No, no_replica(alloc, replica)?));
+        return Ok((Status::No, no_replica(alloc, replica)?));
     }
-    let text = text_of(
-        alloc,
-        &typed,
-        classified.levels(),
-        schedule,
-        ReplicaId(replica),
-        cut,
-    )?;
-    Ok((Answer::Done, text))
+    let text = text_of(alloc, &typed, &levels, schedule, ReplicaId(replica), cut)?;
+    Ok((Status::Done, text))
 }
 
 // The text for a replica of a schedule at these levels.

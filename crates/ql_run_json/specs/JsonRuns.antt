@@ -13,9 +13,9 @@ use Rattle.ql_exec.specs.declared.effect.Effect.{Effect}
 use Rattle.ql_exec.specs.declared.effect.Member.{Member}
 use Rattle.ql_exec.specs.declared.effect.Member.TheVariants.{Alone, Inside}
 use Rattle.ql_machine.specs.declared.reply.Reply.{Reply}
-use Rattle.ql_report.specs.Levels.{op_name, txn_name}
 use Rattle.ql_run_text.specs.EffectTexts.{object_name}
 use Rattle.ql_run_text.specs.ReplyTexts.{reply_fields}
+use Rattle.ql_typing.specs.Names.{op_name, txn_name}
 use Rattle.ql_run_json.specs.Values.{id_data, listed, payload_data, text_data, value_data}
 
 -- ---- levels, as ["op","deposit","eventual"]

@@ -1,8 +1,8 @@
 ghost use Rattle.std.specs.Prelude.{◌≡◌, IfOk, OnOk, codes, length, map};
-ghost use Rattle.ql_report.specs.Levels.{op_name};
 ghost use Rattle.ql_run_text.specs.EffectTexts.{AreNamed, IsDeclared, IsNamed, object_name};
 ghost use Rattle.serde_json.specs.Data.{put as with_member};
 ghost use Rattle.serde_json.specs.View.{members_view, view};
+ghost use Rattle.ql_typing.specs.Names.{op_name};
 ghost use Rattle.ql_run_json.specs.JsonRuns.{effect_data, effects_from, member_data};
 ghost use Rattle.ql_run_json.specs.Values.{id_data, listed, payload_data, text_data, value_data};
 

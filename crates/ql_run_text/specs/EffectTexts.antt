@@ -6,6 +6,7 @@ use Rattle.ql_lang.specs.declared.program.Program.{Program}
 use Rattle.ql_lines.specs.Fields.{Fields}
 use Rattle.ql_lines.specs.Texts.{file_text}
 use Rattle.ql_typing.specs.Operations.{all_ops}
+use Rattle.ql_typing.specs.Names.{op_name, txn_name}
 use Rattle.ql_value.specs.declared.value.Value.{Value}
 use Rattle.ql_value.specs.ValueGrammar.{IsValue}
 use Rattle.ql_value.specs.Spelling.{separated, value_text}
@@ -14,7 +15,6 @@ use Rattle.ql_exec.specs.declared.effect.Member.{Member}
 use Rattle.ql_exec.specs.declared.effect.Member.TheVariants.{Alone, Inside}
 use Rattle.ql_exec.specs.declared.effect.Payload.{Payload}
 use Rattle.ql_exec.specs.declared.effect.Payload.TheVariants.{Nothing, Emitted}
-use Rattle.ql_report.specs.Levels.{op_name, txn_name}
 use Rattle.ql_run_text.specs.NumberedLines.{lines_from}
 
 -- the name of the object with this number

@@ -1,6 +1,6 @@
 ghost use Rattle.std.specs.Prelude.{◌≡◌, ◌≤◌, ◌<◌, ◌++◌, ◌∷◌, [], All, IfOk, OnOk, codes, decimal, length, map};
 ghost use Rattle.ql_lines.specs.Texts.{behind, joined};
-ghost use Rattle.ql_report.specs.Levels.{op_name};
+ghost use Rattle.ql_typing.specs.Names.{op_name};
 ghost use Rattle.ql_value.specs.Spelling.{value_text};
 ghost use Rattle.ql_value.specs.ValueGrammar.{IsValue};
 ghost use Rattle.ql_run_text.specs.EffectTexts.{

@@ -7,7 +7,7 @@ ghost use Rattle.ql_run_text.specs.ReplyTexts.{
   reply_fields,
   why_number,
 };
-ghost use Rattle.ql_run_text.specs.RunTexts.{event_fields, replies_text};
+ghost use Rattle.ql_run_text.specs.RunTexts.{numbered_reply_fields, replies_text};
 
 use crate::parts::{push_decimal, push_each_id};
 use ql_base::{EffId, NoMemory, push_bytes, push_number};
@@ -38,7 +38,7 @@ fn push_event(
     x: &Execution,
 ) -> Result<(), NoMemory>
     requires { IsAnswered x.now reply.now }
-    ensures { OnOk result (out.new.items ≡ out.old.items ++ (joined (event_fields x.now number reply.now) ++ 10 ∷ [])) }
+    ensures { OnOk result (out.new.items ≡ out.old.items ++ (joined (numbered_reply_fields x.now number reply.now) ++ 10 ∷ [])) }
 {
     push_number(out, number)?;
     push_bytes(out, b" ")?;

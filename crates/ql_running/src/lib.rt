@@ -3,13 +3,14 @@
 #![tactic(auto)]
 
 mod form;
+mod input;
 mod law;
 mod running;
 mod schedule_fault;
 mod store_run;
 
 pub use form::Form;
+pub use input::{RunInput, read_run_input};
 pub use law::runs_are_sound;
 pub use running::run;
-pub use schedule_fault::bad_schedule;
 pub use store_run::sound_run;

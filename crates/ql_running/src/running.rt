@@ -11,16 +11,16 @@ ghost use Rattle.ql_running.specs.Forms.{format_of};
 ghost use Rattle.ql_running.specs.Runs.{RunSays, TellsRun};
 
 use crate::form::Form;
-use crate::schedule_fault::bad_schedule;
+use crate::input::{RunInput, read_run_input};
 use crate::store_run::sound_run;
 use ql_base::{Names, NoMemory};
-use ql_commands::{Answer, bad_source, read_source, refusal};
 use ql_exec::Execution;
 use ql_levels::Levels;
 use ql_machine::Reply;
+use ql_reply::Status;
 use ql_run_json::print_run_json;
 use ql_run_text::print_run;
-use ql_schedule::{Schedule, one_schedule, parse_schedule};
+use ql_schedule::Schedule;
 use ql_typing::Typed;
 use std::alloc::Global;
 
@@ -31,26 +31,20 @@ pub fn run(
     form: Form,
     source: &[u8],
     schedule: &[u8],
-) -> Result<(Answer, Vec<u8>), NoMemory>
+) -> Result<(Status, Vec<u8>), NoMemory>
     requires { length source.now < 2 ^ 32 }
     ensures { IfOk result (λ answer. RunSays (format_of form) source.now schedule.now answer.0 answer.1.items) }
 {
-    one_schedule();
-    let typed = match read_source(alloc, source) {
-        Ok(typed) => typed,
-        Err(fault) => return Ok((Answer::Bad, bad_source(alloc, fault)?)),
+    let RunInput {
+        typed,
+        levels,
+        schedule,
+    } = match read_run_input(alloc, source, schedule)? {
+        Ok(input) => input,
+        Err(reply) => return Ok(reply),
     };
-    let schedule = match parse_schedule(alloc, &typed, schedule) {
-        Ok(schedule) => schedule,
-        Err(fault) => return Ok((Answer::Bad, bad_schedule(alloc, fault)?)),
-    };
-    match ql_classify::classify(alloc, &typed) {
-        Ok(classified) => Ok((
-            Answer::Done,
-            text_of(alloc, form, &typed, classified.levels(), schedule)?,
-        )),
-        Err(why) => Ok((Answer::No, refusal(alloc, &typed, why)?)),
-    }
+    let text = text_of(alloc, form, &typed, &levels, schedule)?;
+    Ok((Status::Done, text))
 }
 
 // The text of a schedule's run at these levels, which shows it to whoever reads the program and the schedule in two files.

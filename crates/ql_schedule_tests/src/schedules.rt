@@ -1,8 +1,7 @@
 use ql_base::{NoMemory, push_bytes, push_number};
-use ql_parse::parse_program;
 use ql_schedule::{SchedFault, parse_schedule, print_schedule};
-use ql_tables::{check_table, number};
-use ql_typing::{Typed, typecheck};
+use ql_tables::{SHOP, check_table, number};
+use ql_test_programs::declared;
 use std::alloc::Global;
 use std::test::Fail;
 
@@ -253,14 +252,6 @@ fn said_of(alloc: Global, source: &str, file: &[u8]) -> Result<Vec<u8>, NoMemory
     }
 }
 
-fn declared(alloc: Global, source: &str) -> Option<Typed> {
-    if source.len() > 4096 {
-        return None;
-    }
-    let program = parse_program(alloc, source.as_bytes()).ok()?;
-    typecheck(alloc, program).ok()
-}
-
 fn fault(alloc: Global, why: SchedFault) -> Result<Vec<u8>, NoMemory> {
     let (rule, line) = match why {
         SchedFault::Unexpected(line) => ("Unexpected ", line),
@@ -277,28 +268,6 @@ fn fault(alloc: Global, why: SchedFault) -> Result<Vec<u8>, NoMemory> {
 }
 
 // The shop, and its schedule of 40 events.
-const SHOP: &str = r#"type stock { state left: int = 0;
-  op restock(n: int): unit { contract true; answer unit;
-    emit p: int = n when n > 0; apply { left := left + p; } }
-  op reserve(n: int): bool {
-    contract forall a: reserve. sameobj(a, cur) => vis(a, cur) \/ vis(cur, a) \/ a = cur;
-    answer left >= n;
-    emit p: int = n when left >= n; apply { left := left - p; } }
-  op stock_left(): int { contract forall a. soo(a, cur) => vis(a, cur); answer left; } }
-type cart { state items: map(text, int) = empty;
-  op add_item(item: text, n: int): unit {
-    contract forall a, b. soo(a, b) /\ vis(b, cur) => vis(a, cur); answer unit;
-    emit i: text = item, k: int = n when n > 0;
-    apply { items := put(items, i, get(items, i, 0) + k); } }
-  op show(): map(text, int) { contract true; answer items; } }
-transaction fill { uses add_item; contract true; }
-transaction glance { uses show, stock_left;
-  contract forall a, b, c. txn{a}{b, c} /\ sameobj(b, c) /\ vis(b, a) => vis(c, a); }
-transaction follow { uses show, add_item; contract forall a, b, c, d.
-  txn{a, b}{c, d} /\ so(a, b) /\ vis(c, a) /\ sameobj(d, b) => vis(d, b); }
-transaction report { uses show, stock_left; contract forall a, b, c, d.
-  txn{a, b}{c, d} /\ vis(c, a) /\ sameobj(d, b) => vis(d, b); }"#;
-
 const SHOP_SCHEDULE: &str = r#"quelea schedule 1
 replicas 3
 object p stock

@@ -11,12 +11,12 @@ ghost use Rattle.ql_slimming.specs.Slims.{SlimSays, TellsSlim};
 use crate::answers::{Left, push_answers};
 use crate::keeping::{keep_stable, kept_effects};
 use ql_base::{NoMemory, TypeId, push_bytes, push_number};
-use ql_commands::{Answer, bad_source, read_source, refusal};
 use ql_levels::Levels;
 use ql_replica::Replica;
-use ql_running::{bad_schedule, sound_run};
+use ql_reply::Status;
+use ql_running::{RunInput, read_run_input, sound_run};
 use ql_runs::Run;
-use ql_schedule::{Schedule, one_schedule, parse_schedule};
+use ql_schedule::Schedule;
 use ql_summary::slim;
 use ql_typing::Typed;
 use std::alloc::Global;
@@ -28,26 +28,20 @@ pub fn slim_run(
     alloc: Global,
     source: &[u8],
     schedule: &[u8],
-) -> Result<(Answer, Vec<u8>), NoMemory>
+) -> Result<(Status, Vec<u8>), NoMemory>
     requires { length source.now < 2 ^ 32 }
     ensures { IfOk result (λ answer. SlimSays source.now schedule.now answer.0 answer.1.items) }
 {
-    one_schedule();
-    let typed = match read_source(alloc, source) {
-        Ok(typed) => typed,
-        Err(fault) => return Ok((Answer::Bad, bad_source(alloc, fault)?)),
+    let RunInput {
+        typed,
+        levels,
+        schedule,
+    } = match read_run_input(alloc, source, schedule)? {
+        Ok(input) => input,
+        Err(reply) => return Ok(reply),
     };
-    let schedule = match parse_schedule(alloc, &typed, schedule) {
-        Ok(schedule) => schedule,
-        Err(fault) => return Ok((Answer::Bad, bad_schedule(alloc, fault)?)),
-    };
-    match ql_classify::classify(alloc, &typed) {
-        Ok(classified) => Ok((
-            Answer::Done,
-            text_of(alloc, &typed, classified.levels(), schedule)?,
-        )),
-        Err(why) => Ok((Answer::No, refusal(alloc, &typed, why)?)),
-    }
+    let text = text_of(alloc, &typed, &levels, schedule)?;
+    Ok((Status::Done, text))
 }
 
 // The text of a schedule's last state at these levels.

@@ -2,13 +2,13 @@ use crate::levels::levels_of;
 use crate::replies::push_replies;
 use ql_base::{NoMemory, push_bytes};
 use ql_holder::Holder;
-use ql_parse::parse_program;
 use ql_plain_holder::PlainHolder;
 use ql_replica::Replica;
 use ql_runs::run_schedule;
 use ql_schedule::parse_schedule;
 use ql_tables::check_table;
-use ql_typing::{Typed, typecheck};
+use ql_test_programs::declared;
+use ql_typing::Typed;
 use std::alloc::Global;
 use std::test::Fail;
 
@@ -212,14 +212,6 @@ fn schedule_file(alloc: Global, heading: &str, events: &str) -> Result<Vec<u8>, 
         push_bytes(&mut file, b"\n")?;
     }
     Ok(file)
-}
-
-fn declared(alloc: Global, source: &str) -> Option<Typed> {
-    if source.len() > 4096 {
-        return None;
-    }
-    let program = parse_program(alloc, source.as_bytes()).ok()?;
-    typecheck(alloc, program).ok()
 }
 
 fn spelled(alloc: Global, text: &str) -> Result<Vec<u8>, NoMemory> {

@@ -1,8 +1,9 @@
-use crate::texts::{declared, push_places, spelled};
+use crate::texts::{push_places, spelled};
 use ql_base::{NoMemory, push_bytes, push_number};
 use ql_execution_files::parse_execution;
 use ql_formula::Places;
 use ql_tables::check_table;
+use ql_test_programs::declared;
 use ql_verify::{Breach, VerifyWhy, verify};
 use std::alloc::Global;
 use std::test::Fail;

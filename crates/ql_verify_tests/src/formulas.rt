@@ -1,6 +1,6 @@
 ghost use Rattle.std.specs.Prelude.{◌≤◌, IfSome, length};
 
-use crate::texts::{declared, push_places, spelled};
+use crate::texts::{push_places, spelled};
 use ql_base::{EffId, Names, NoMemory, RunId};
 use ql_exec::Execution;
 use ql_execution_files::parse_execution;
@@ -8,6 +8,7 @@ use ql_formula::{Places, Relations, holds_at, holds_txn};
 use ql_lang::{Formula, Rel, RelName};
 use ql_parse::parse_contract;
 use ql_tables::{check_table, field, number};
+use ql_test_programs::declared;
 use ql_typing::resolve;
 use std::alloc::Global;
 use std::test::Fail;

@@ -128,7 +128,8 @@ fn is_true(body: &Body) -> bool
     }
 }
 
-fn formula_of(t: &Typed, g: Goal) -> &Formula
+/// The formula of a goal's contract.
+pub fn formula_of(t: &Typed, g: Goal) -> &Formula
     requires { IsGoalOf t.now.program g }
     ensures { IsContract t.now.program g (resolved_of result.now) }
 {

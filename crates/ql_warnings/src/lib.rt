@@ -16,7 +16,7 @@ mod unbracketed;
 mod warning;
 mod words;
 
-pub use contract::warnings;
+pub use contract::{formula_of, warnings};
 pub use others::counter_warnings;
 pub use warning::{Place, Warning};
 pub use words::{warning_text, warning_word};
