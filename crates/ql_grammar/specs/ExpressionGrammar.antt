@@ -3,8 +3,8 @@ use Rattle.std.specs.Str.Parse.{digits_value}
 use Rattle.ql_lang.specs.declared.expression.BinOp.{BinOp}
 use Rattle.ql_lang.specs.declared.expression.BinOp.TheVariants.{Or, And, Eq, Ne, Lt, Le, Gt, Ge, Add, Sub, Mul}
 use Rattle.ql_lang.specs.Expressions.{Expression, Number, Literal, Truth, Nothing, Reading, Calling, Choosing, Combining, Denying, Negating, Operands, NoMore, More}
-use Rattle.ql_grammar.specs.declared.level.Level.{Level}
-use Rattle.ql_grammar.specs.declared.level.Level.TheVariants.{Product, Sum, Comparison, Conjunction, Disjunction}
+use Rattle.ql_grammar.specs.declared.precedence.Precedence.{Precedence}
+use Rattle.ql_grammar.specs.declared.precedence.Precedence.TheVariants.{Product, Sum, Comparison, Conjunction, Disjunction}
 use Rattle.ql_grammar.specs.declared.terminal.Terminal.{Terminal}
 use Rattle.ql_grammar.specs.declared.terminal.Terminal.TheVariants.{NameToken, IntToken, TextToken, TrueWord, FalseWord, UnitWord, IfWord, ThenWord, ElseWord, AndWord, OrWord, NotWord, OpenParen, CloseParen, Comma, IsEqual, NotEqual, Less, LessEqual, Greater, GreaterEqual, Plus, Minus, Times}
 use Rattle.ql_grammar.specs.declared.role.Role.TheVariants.{Plain, Makes, Opens, Closes}
@@ -25,8 +25,8 @@ pub data ExprPart : Type 0 where
   Disjoined : ExprPart
   Chosen : ExprPart
 
--- the operators of each level
-pub data IsOperator : Level → Terminal → BinOp → Type 0 where
+-- the operators of each precedence
+pub data IsOperator : Precedence → Terminal → BinOp → Type 0 where
   times : IsOperator Product Times Mul
   plus : IsOperator Sum Plus Add
   minus : IsOperator Sum Minus Sub

@@ -1,6 +1,6 @@
 use Rattle.std.specs.Prelude.{ℕ, Bool, false, List, [], ◌∷◌, Option, Some, None, Result, Ok, Err, if◌then◌else◌, is_some}
 use Rattle.ql_lang.specs.declared.expression.BinOp.{BinOp}
-use Rattle.ql_grammar.specs.declared.level.Level.{Level}
+use Rattle.ql_grammar.specs.declared.precedence.Precedence.{Precedence}
 use Rattle.ql_grammar.specs.declared.terminal.Terminal.{Terminal}
 use Rattle.ql_grammar.specs.declared.terminal.Terminal.TheVariants.{NameToken}
 use Rattle.ql_grammar.specs.Terminals.{is_same}
@@ -91,8 +91,8 @@ abbrev pub operator_of : List (Terminal × BinOp) → List Lexeme → Option Bin
 operator_of [] ts = None
 operator_of (row ∷ rows) ts = if is_ahead row.0 ts then Some row.1 else operator_of rows ts
 
--- the operator of this level that comes next
-abbrev pub operator_ahead : Level → List Lexeme → Option BinOp
+-- the operator of this precedence that comes next
+abbrev pub operator_ahead : Precedence → List Lexeme → Option BinOp
 operator_ahead p ts = operator_of (operators p) ts
 
 -- the source offset of the next token, or of the end

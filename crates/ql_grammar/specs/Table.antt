@@ -20,8 +20,8 @@ use Rattle.ql_lang.specs.declared.program.InitNode.TheVariants as init
 use Rattle.ql_lang.specs.Expressions.{Expression, Number, Literal, Nothing, Reading, Calling, Choosing, Combining, Denying, Negating}
 use Rattle.ql_lang.specs.Expressions as expr
 use Rattle.ql_lang.specs.Programs.{Binding, Assignment, Emission, Operation, Replicated, Transaction, Source}
-use Rattle.ql_grammar.specs.declared.level.Level.{Level}
-use Rattle.ql_grammar.specs.declared.level.Level.TheVariants as level
+use Rattle.ql_grammar.specs.declared.precedence.Precedence.{Precedence}
+use Rattle.ql_grammar.specs.declared.precedence.Precedence.TheVariants as precedence
 use Rattle.ql_grammar.specs.declared.terminal.Terminal.{Terminal}
 use Rattle.ql_grammar.specs.declared.terminal.Terminal.TheVariants.{IntToken, TextToken, TypeWord, StateWord, OpWord, ContractWord, AnswerWord, EmitWord, WhenWord, ApplyWord, TransactionWord, UsesWord, ForallWord, TrueWord, FalseWord, UnitWord, EmptyWord, IfWord, ThenWord, ElseWord, AndWord, OrWord, NotWord, IntWord, BoolWord, TextWord, SetWord, MapWord, CurWord, TxnWord, VisWord, SoWord, SooWord, SameObjWord, EqWord, HbWord, HboWord, OpenBrace, CloseBrace, OpenParen, CloseParen, OpenBracket, CloseBracket, Comma, Semicolon, Colon, Dot, Equals, Assign, Arrow, IsEqual, NotEqual, Less, LessEqual, Greater, GreaterEqual, Plus, Minus, Times, AndMark, OrMark, Bar, Ampersand}
 use Rattle.ql_grammar.specs.declared.role.Role.{Role}
@@ -118,13 +118,13 @@ pub data Rest : Type 0 where
   MoreTransactions : Rest
 
 -- What is expected: a fixed word, the same with its offset kept, a name, a number or a text with its bytes kept, an
--- operator of a level, a change of the values that consumes no token, a part, or what may follow one.
+-- operator of a precedence, a change of the values that consumes no token, a part, or what may follow one.
 pub data Sym : Type 0 where
   Word : Terminal → Role → Sym
   Placed : Terminal → Role → Sym
   ANameOf : Role → Sym
   Kept : Terminal → Role → Sym
-  Operator : Level → Sym
+  Operator : Precedence → Sym
   Do : (List Value → List Value) → Sym
   APart : Part → Sym
   Then : Rest → Sym
@@ -244,20 +244,20 @@ to_plain = on_one (λ a. ASentence (record { vars = []; body = prop_in a }))
 abbrev pub to_forall : List Value → List Value
 to_forall = on_two (λ a b. ASentence (record { vars = vars_in a; body = prop_in b }))
 
--- the operators of each level
-abbrev pub operators : Level → List (Terminal × BinOp)
-operators level.Product = (Times, op.Mul) ∷ []
-operators level.Sum = (Plus, op.Add) ∷ (Minus, op.Sub) ∷ []
-operators level.Comparison = (IsEqual, op.Eq) ∷ (NotEqual, op.Ne) ∷ (Less, op.Lt) ∷ (LessEqual, op.Le) ∷ (Greater, op.Gt) ∷ (GreaterEqual, op.Ge) ∷ []
-operators level.Conjunction = (AndWord, op.And) ∷ []
-operators level.Disjunction = (OrWord, op.Or) ∷ []
+-- the operators of each precedence
+abbrev pub operators : Precedence → List (Terminal × BinOp)
+operators precedence.Product = (Times, op.Mul) ∷ []
+operators precedence.Sum = (Plus, op.Add) ∷ (Minus, op.Sub) ∷ []
+operators precedence.Comparison = (IsEqual, op.Eq) ∷ (NotEqual, op.Ne) ∷ (Less, op.Lt) ∷ (LessEqual, op.Le) ∷ (Greater, op.Gt) ∷ (GreaterEqual, op.Ge) ∷ []
+operators precedence.Conjunction = (AndWord, op.And) ∷ []
+operators precedence.Disjunction = (OrWord, op.Or) ∷ []
 
 abbrev pub operator_in : List (Terminal × BinOp) → Terminal → Option BinOp
 operator_in [] k = None
 operator_in (row ∷ rows) k = if is_same k row.0 then Some row.1 else operator_in rows k
 
--- the operator of this level that a terminal is
-unfoldable pub operator_at : Level → Terminal → Option BinOp
+-- the operator of this precedence that a terminal is
+unfoldable pub operator_at : Precedence → Terminal → Option BinOp
 operator_at l k = operator_in (operators l) k
 
 -- what the values become; values of another form stay as they are
@@ -607,11 +607,11 @@ way_on MoreImplied below = Word Arrow (Makes 1) ∷ APart (PropAt Whole) ∷ Do 
 way_on MoreNames below = Word Bar Plain ∷ ANameOf Plain ∷ Do add_name ∷ Then MoreNames ∷ below
 way_on Operations below = Word Colon Plain ∷ APart BarredNames ∷ Do set_operations ∷ below
 way_on MoreVars below = Word Comma Plain ∷ APart Variable ∷ Do add_var ∷ Then MoreVars ∷ below
-way_on MoreTimes below = Operator level.Product ∷ APart (ExprAt Unary) ∷ Do combine ∷ Then MoreTimes ∷ below
-way_on MorePlus below = Operator level.Sum ∷ APart (ExprAt Multiplied) ∷ Do combine ∷ Then MorePlus ∷ below
-way_on Comparison below = Operator level.Comparison ∷ APart (ExprAt Added) ∷ Do combine ∷ below
-way_on MoreConjoined below = Operator level.Conjunction ∷ APart (ExprAt Compared) ∷ Do combine ∷ Then MoreConjoined ∷ below
-way_on MoreDisjoined below = Operator level.Disjunction ∷ APart (ExprAt Conjoined) ∷ Do combine ∷ Then MoreDisjoined ∷ below
+way_on MoreTimes below = Operator precedence.Product ∷ APart (ExprAt Unary) ∷ Do combine ∷ Then MoreTimes ∷ below
+way_on MorePlus below = Operator precedence.Sum ∷ APart (ExprAt Multiplied) ∷ Do combine ∷ Then MorePlus ∷ below
+way_on Comparison below = Operator precedence.Comparison ∷ APart (ExprAt Added) ∷ Do combine ∷ below
+way_on MoreConjoined below = Operator precedence.Conjunction ∷ APart (ExprAt Compared) ∷ Do combine ∷ Then MoreConjoined ∷ below
+way_on MoreDisjoined below = Operator precedence.Disjunction ∷ APart (ExprAt Conjoined) ∷ Do combine ∷ Then MoreDisjoined ∷ below
 way_on Called below = Word OpenParen (Opens 0) ∷ APart Arguments ∷ Word CloseParen Closes ∷ Do to_call ∷ below
 way_on MoreArguments below = Word Comma Plain ∷ APart (ExprAt Chosen) ∷ Do add_argument ∷ Then MoreArguments ∷ below
 way_on MoreFields below = field_symbols (Then MoreFields ∷ below)

@@ -47,7 +47,7 @@ ghost use Rattle.ql_parse.specs.Readings.{
 
 use crate::fault::Refusal;
 use crate::reader::Reader;
-use ql_grammar::{Level, Role, Terminal};
+use ql_grammar::{Precedence, Role, Terminal};
 use ql_lang::{BinOp, Expr, ExprNode, Exprs};
 use std::alloc::Global;
 
@@ -313,7 +313,7 @@ impl Reader<'_> {
         ensures refused { IfErr result (IsRefused (APart (ExprAt Multiplied)) self.old) }
     {
         let mut left = self.unary(alloc)?;
-        'times: while self.sees_operator(Level::Product) {
+        'times: while self.sees_operator(Precedence::Product) {
             left = self.more_times(alloc, left)?;
         }
         Ok(left)
@@ -321,12 +321,12 @@ impl Reader<'_> {
 
     #[cycle(expr)]
     fn more_times(&mut self, alloc: Global, left: Operand) -> Result<Operand, Refusal>
-        requires { is_some (operator_ahead Level.Product self.old.tokens) ≡ true }
+        requires { is_some (operator_ahead Precedence.Product self.old.tokens) ≡ true }
         ensures turned { IfOk result (λ o. Turned MoreTimes (AnExpr left.start (expression_of left.expr)) (AnExpr o.start (expression_of o.expr)) self.old self.new) }
         ensures shorter { OnOk result (length self.new.tokens < length self.old.tokens) }
         ensures refused { IfErr result (IsTurnRefused MoreTimes (AnExpr left.start (expression_of left.expr)) self.old) }
     {
-        let op = self.operator(Level::Product)?;
+        let op = self.operator(Precedence::Product)?;
         let right = self.unary(alloc)?;
         let both = combined(alloc, left, op, right)?;
         Ok(both)
@@ -341,7 +341,7 @@ impl Reader<'_> {
         ensures refused { IfErr result (IsRefused (APart (ExprAt Added)) self.old) }
     {
         let mut left = self.multiplied(alloc)?;
-        'plus: while self.sees_operator(Level::Sum) {
+        'plus: while self.sees_operator(Precedence::Sum) {
             left = self.more_plus(alloc, left)?;
         }
         Ok(left)
@@ -349,12 +349,12 @@ impl Reader<'_> {
 
     #[cycle(expr)]
     fn more_plus(&mut self, alloc: Global, left: Operand) -> Result<Operand, Refusal>
-        requires { is_some (operator_ahead Level.Sum self.old.tokens) ≡ true }
+        requires { is_some (operator_ahead Precedence.Sum self.old.tokens) ≡ true }
         ensures turned { IfOk result (λ o. Turned MorePlus (AnExpr left.start (expression_of left.expr)) (AnExpr o.start (expression_of o.expr)) self.old self.new) }
         ensures shorter { OnOk result (length self.new.tokens < length self.old.tokens) }
         ensures refused { IfErr result (IsTurnRefused MorePlus (AnExpr left.start (expression_of left.expr)) self.old) }
     {
-        let op = self.operator(Level::Sum)?;
+        let op = self.operator(Precedence::Sum)?;
         let right = self.multiplied(alloc)?;
         let both = combined(alloc, left, op, right)?;
         Ok(both)
@@ -369,7 +369,7 @@ impl Reader<'_> {
         ensures refused { IfErr result (IsRefused (APart (ExprAt Conjoined)) self.old) }
     {
         let mut left = self.compared(alloc)?;
-        'ands: while self.sees_operator(Level::Conjunction) {
+        'ands: while self.sees_operator(Precedence::Conjunction) {
             left = self.more_conjoined(alloc, left)?;
         }
         Ok(left)
@@ -377,12 +377,12 @@ impl Reader<'_> {
 
     #[cycle(expr)]
     fn more_conjoined(&mut self, alloc: Global, left: Operand) -> Result<Operand, Refusal>
-        requires { is_some (operator_ahead Level.Conjunction self.old.tokens) ≡ true }
+        requires { is_some (operator_ahead Precedence.Conjunction self.old.tokens) ≡ true }
         ensures turned { IfOk result (λ o. Turned MoreConjoined (AnExpr left.start (expression_of left.expr)) (AnExpr o.start (expression_of o.expr)) self.old self.new) }
         ensures shorter { OnOk result (length self.new.tokens < length self.old.tokens) }
         ensures refused { IfErr result (IsTurnRefused MoreConjoined (AnExpr left.start (expression_of left.expr)) self.old) }
     {
-        let op = self.operator(Level::Conjunction)?;
+        let op = self.operator(Precedence::Conjunction)?;
         let right = self.compared(alloc)?;
         let both = combined(alloc, left, op, right)?;
         Ok(both)
@@ -397,7 +397,7 @@ impl Reader<'_> {
         ensures refused { IfErr result (IsRefused (APart (ExprAt Disjoined)) self.old) }
     {
         let mut left = self.conjoined(alloc)?;
-        'ors: while self.sees_operator(Level::Disjunction) {
+        'ors: while self.sees_operator(Precedence::Disjunction) {
             left = self.more_disjoined(alloc, left)?;
         }
         Ok(left)
@@ -405,12 +405,12 @@ impl Reader<'_> {
 
     #[cycle(expr)]
     fn more_disjoined(&mut self, alloc: Global, left: Operand) -> Result<Operand, Refusal>
-        requires { is_some (operator_ahead Level.Disjunction self.old.tokens) ≡ true }
+        requires { is_some (operator_ahead Precedence.Disjunction self.old.tokens) ≡ true }
         ensures turned { IfOk result (λ o. Turned MoreDisjoined (AnExpr left.start (expression_of left.expr)) (AnExpr o.start (expression_of o.expr)) self.old self.new) }
         ensures shorter { OnOk result (length self.new.tokens < length self.old.tokens) }
         ensures refused { IfErr result (IsTurnRefused MoreDisjoined (AnExpr left.start (expression_of left.expr)) self.old) }
     {
-        let op = self.operator(Level::Disjunction)?;
+        let op = self.operator(Precedence::Disjunction)?;
         let right = self.conjoined(alloc)?;
         let both = combined(alloc, left, op, right)?;
         Ok(both)
@@ -425,8 +425,8 @@ impl Reader<'_> {
         ensures refused { IfErr result (IsRefused (APart (ExprAt Compared)) self.old) }
     {
         let left = self.added(alloc)?;
-        if self.sees_operator(Level::Comparison) {
-            let op = self.operator(Level::Comparison)?;
+        if self.sees_operator(Precedence::Comparison) {
+            let op = self.operator(Precedence::Comparison)?;
             let right = self.added(alloc)?;
             let both = combined(alloc, left, op, right)?;
             return Ok(both);

@@ -13,7 +13,7 @@ use Rattle.ql_lang.specs.Expressions.{Expression, Number, Literal, Truth, Nothin
 use Rattle.ql_lang.specs.ExpressionSpelling.{operator_word, quoted, truth_word, is_compound}
 use Rattle.ql_grammar.specs.declared.terminal.Terminal.{Terminal}
 use Rattle.ql_grammar.specs.declared.terminal.Terminal.TheVariants.{NameToken, IntToken, TextToken, TrueWord, FalseWord, UnitWord, IfWord, ThenWord, ElseWord, AndWord, OrWord, NotWord, OpenParen, CloseParen, IsEqual, NotEqual, Less, LessEqual, Greater, GreaterEqual, Plus, Minus, Times}
-use Rattle.ql_grammar.specs.declared.level.Level.TheVariants as level
+use Rattle.ql_grammar.specs.declared.precedence.Precedence.TheVariants as precedence
 use Rattle.ql_grammar.specs.declared.role.Role.TheVariants.{Plain, Makes, Opens, Closes}
 use Rattle.ql_grammar.specs.Tokens.{Marked, marked}
 use Rattle.ql_grammar.specs.ExpressionGrammar
@@ -139,24 +139,24 @@ operand_of (Combining n op a b) reads at below = in_group (Combining n op a b) r
 operand_of (Denying n a) reads at below = in_group (Denying n a) reads at below
 operand_of (Negating n a) reads at below = in_group (Negating n a) reads at below
 
--- operators between operands, by their levels
+-- operators between operands, by their precedence
 
-product_reads : {k : Terminal} {op : BinOp} {x : List ℕ} {n s t : ℕ} {ts us rest : List Marked} {a b : Expression} → IsOperator level.Product k op → Operand ts (marked (Makes 1) k x n ∷ us) s a → Operand us rest t b → ReadsExpr Chosen ts rest s (Combining s op a b)
+product_reads : {k : Terminal} {op : BinOp} {x : List ℕ} {n s t : ℕ} {ts us rest : List Marked} {a b : Expression} → IsOperator precedence.Product k op → Operand ts (marked (Makes 1) k x n ∷ us) s a → Operand us rest t b → ReadsExpr Chosen ts rest s (Combining s op a b)
 product_reads is a b = ExpressionGrammar.disjoined (ExpressionGrammar.conjoined (ExpressionGrammar.compared (ExpressionGrammar.added (ExpressionGrammar.multiplied (ExpressionGrammar.product is (ExpressionGrammar.unary a) b)))))
 
-sum_reads : {k : Terminal} {op : BinOp} {x : List ℕ} {n s t : ℕ} {ts us rest : List Marked} {a b : Expression} → IsOperator level.Sum k op → Operand ts (marked (Makes 1) k x n ∷ us) s a → Operand us rest t b → ReadsExpr Chosen ts rest s (Combining s op a b)
+sum_reads : {k : Terminal} {op : BinOp} {x : List ℕ} {n s t : ℕ} {ts us rest : List Marked} {a b : Expression} → IsOperator precedence.Sum k op → Operand ts (marked (Makes 1) k x n ∷ us) s a → Operand us rest t b → ReadsExpr Chosen ts rest s (Combining s op a b)
 sum_reads is a b = ExpressionGrammar.disjoined (ExpressionGrammar.conjoined (ExpressionGrammar.compared (ExpressionGrammar.added (ExpressionGrammar.sum is (ExpressionGrammar.multiplied (ExpressionGrammar.unary a)) (ExpressionGrammar.unary b)))))
 
-comparison_reads : {k : Terminal} {op : BinOp} {x : List ℕ} {n s t : ℕ} {ts us rest : List Marked} {a b : Expression} → IsOperator level.Comparison k op → Operand ts (marked (Makes 1) k x n ∷ us) s a → Operand us rest t b → ReadsExpr Chosen ts rest s (Combining s op a b)
+comparison_reads : {k : Terminal} {op : BinOp} {x : List ℕ} {n s t : ℕ} {ts us rest : List Marked} {a b : Expression} → IsOperator precedence.Comparison k op → Operand ts (marked (Makes 1) k x n ∷ us) s a → Operand us rest t b → ReadsExpr Chosen ts rest s (Combining s op a b)
 comparison_reads is a b = ExpressionGrammar.disjoined (ExpressionGrammar.conjoined (ExpressionGrammar.compared (ExpressionGrammar.comparison is (ExpressionGrammar.multiplied (ExpressionGrammar.unary a)) (ExpressionGrammar.multiplied (ExpressionGrammar.unary b)))))
 
 compared : {s : ℕ} {ts rest : List Marked} {e : Expression} → Operand ts rest s e → ReadsExpr Compared ts rest s e
 compared r = ExpressionGrammar.added (ExpressionGrammar.multiplied (ExpressionGrammar.unary r))
 
-conjunction_reads : {k : Terminal} {op : BinOp} {x : List ℕ} {n s t : ℕ} {ts us rest : List Marked} {a b : Expression} → IsOperator level.Conjunction k op → Operand ts (marked (Makes 1) k x n ∷ us) s a → Operand us rest t b → ReadsExpr Chosen ts rest s (Combining s op a b)
+conjunction_reads : {k : Terminal} {op : BinOp} {x : List ℕ} {n s t : ℕ} {ts us rest : List Marked} {a b : Expression} → IsOperator precedence.Conjunction k op → Operand ts (marked (Makes 1) k x n ∷ us) s a → Operand us rest t b → ReadsExpr Chosen ts rest s (Combining s op a b)
 conjunction_reads is a b = ExpressionGrammar.disjoined (ExpressionGrammar.conjoined (ExpressionGrammar.both is (ExpressionGrammar.compared (compared a)) (compared b)))
 
-disjunction_reads : {k : Terminal} {op : BinOp} {x : List ℕ} {n s t : ℕ} {ts us rest : List Marked} {a b : Expression} → IsOperator level.Disjunction k op → Operand ts (marked (Makes 1) k x n ∷ us) s a → Operand us rest t b → ReadsExpr Chosen ts rest s (Combining s op a b)
+disjunction_reads : {k : Terminal} {op : BinOp} {x : List ℕ} {n s t : ℕ} {ts us rest : List Marked} {a b : Expression} → IsOperator precedence.Disjunction k op → Operand ts (marked (Makes 1) k x n ∷ us) s a → Operand us rest t b → ReadsExpr Chosen ts rest s (Combining s op a b)
 disjunction_reads is a b = ExpressionGrammar.disjoined (ExpressionGrammar.either is (ExpressionGrammar.conjoined (ExpressionGrammar.compared (compared a))) (ExpressionGrammar.compared (compared b)))
 
 combined_reads : (op : BinOp) {x : List ℕ} {n s t : ℕ} {ts us rest : List Marked} {a b : Expression} → Operand ts (marked (Makes 1) (op_terminal op) x n ∷ us) s a → Operand us rest t b → ReadsExpr Chosen ts rest s (Combining s op a b)

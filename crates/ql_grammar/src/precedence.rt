@@ -1,6 +1,6 @@
-/// The levels of the operators of expressions, the most binding first.
+/// The precedence of the operators of expressions, the most binding first.
 #[derive(Clone, Copy, Debug, PartialEq, Eq)]
-pub enum Level {
+pub enum Precedence {
     Product,
     Sum,
     Comparison,
