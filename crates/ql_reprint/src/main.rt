@@ -16,8 +16,8 @@ fn main(rt: HostRuntime) -> io::Result<()> {
     let words = words(&rt)?;
     let check = words.first().is_some_and(|word| word.as_str() == "--check");
     for path in words.iter().skip(check as usize) {
-        let text = fs::read_to_string(&rt, path)?;
-        match said(rt.alloc(), text.as_str(), check) {
+        let text = fs::read(&rt, path)?;
+        match said(rt.alloc(), text.as_slice(), check) {
             Ok(said) => match str::from_utf8(said.as_slice()) {
                 Ok(said) => print!(rt; "{said}")?,
                 Err(_) => println!(rt; "{path}: no text")?,
@@ -35,11 +35,11 @@ fn words<R: Env + AllocGlobal>(rt: &R) -> io::Result<Vec<String>> {
 }
 
 // What is printed for a text: the source in its one spelling, or whether it is one.
-fn said(alloc: Global, text: &str, check: bool) -> Result<Vec<u8>, NoMemory> {
+fn said(alloc: Global, text: &[u8], check: bool) -> Result<Vec<u8>, NoMemory> {
     if text.len() > MOST_BYTES {
         return line(alloc, b"too long\n");
     }
-    match parse_program(alloc, text.as_bytes()) {
+    match parse_program(alloc, text) {
         Ok(_) if check => line(alloc, b"a source\n"),
         Ok(program) => print_program(alloc, &program),
         Err(ParseFault::NoMemory) => Err(NoMemory),
