@@ -59,6 +59,7 @@ pub(crate) struct Operand {
 }
 
 /// The operator with its two operands, which starts where the first one does.
+#[inline(always)]
 fn combined(alloc: Global, left: Operand, op: BinOp, right: Operand) -> Result<Operand, Refusal>
     ensures start { IfOk result (λ o. o.start ≡ left.start) }
     ensures tree { IfOk result (λ o. expression_of o.expr ≡ Combining left.start op (expression_of left.expr) (expression_of right.expr)) }
@@ -77,6 +78,7 @@ fn combined(alloc: Global, left: Operand, op: BinOp, right: Operand) -> Result<O
 }
 
 /// The choice that the word `if` at `at` begins.
+#[inline(always)]
 fn choosing(alloc: Global, at: u32, test: Expr, then: Expr, other: Expr) -> Result<Operand, Refusal>
     ensures start { IfOk result (λ o. o.start ≡ at) }
     ensures tree { IfOk result (λ o. expression_of o.expr ≡ Choosing at (expression_of test) (expression_of then) (expression_of other)) }
