@@ -1,4 +1,4 @@
-"""The files that the measurements read, made anew from fixed seeds, at the sizes that the limits allow."""
+"""The files that the measurements read, made from fixed seeds, at the sizes that the limits allow."""
 import random
 
 MEBIBYTE = 1 << 20
@@ -144,7 +144,7 @@ def full_execution(entries):
 
 
 def long_certificate(proved, most):
-    """A certificate with the refutation of each of its sections made again and again, up to so many bytes."""
+    """A certificate with the refutation of each of its sections repeated, up to this many bytes."""
     sections = []
     for line in proved.splitlines()[1:-1]:
         if line.startswith(("op ", "txn ")):

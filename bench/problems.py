@@ -10,7 +10,7 @@ def write_list(path, variables, clauses):
 
 
 def write_problems(source, folder):
-    """Writes a file for each goal at each level, and gives the paths."""
+    """Writes a file for each goal at each level, and returns the paths."""
     run = subprocess.run([PROGRAM, "--clauses", source], capture_output=True, text=True, check=True)
     paths = []
     for k, (variables, clauses) in enumerate(problems_of(run.stdout)):

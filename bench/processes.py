@@ -7,7 +7,7 @@ import tempfile
 
 
 def spent(words, seconds=None):
-    """What a run said, its status and its text, and its processor time; nothing where it takes more seconds than given."""
+    """The answer of a run, its status and its text, and its processor time; nothing where it takes more seconds than this."""
     with tempfile.TemporaryFile() as out:
         child = subprocess.Popen(words, stdout=out, stderr=subprocess.DEVNULL, preexec_fn=limited(seconds))
         _, status, usage = os.wait4(child.pid, 0)
@@ -38,11 +38,11 @@ def peak(words, folder):
     return int(report.read_text())
 
 
-def instructions(words, folder):
+def instructions(words):
     """The instructions of a run; nothing where valgrind is missing or can't run the program."""
     if not shutil.which("valgrind"):
         return None
-    counted = ["valgrind", "--tool=callgrind", f"--callgrind-out-file={folder / 'callgrind'}", *words]
+    counted = ["valgrind", "--tool=callgrind", "--callgrind-out-file=/dev/null", *words]
     run = subprocess.run(counted, capture_output=True, text=True)
     if run.returncode < 0:
         return None

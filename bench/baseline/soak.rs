@@ -54,5 +54,6 @@ fn kind(reply: &Reply) -> usize {
         Reply::Healed => 13,
         Reply::Sent(_) => 14,
         Reply::Refused(_) => 15,
+        Reply::Joined(_) => unreachable!("none is drawn"),
     }
 }

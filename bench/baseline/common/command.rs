@@ -15,9 +15,9 @@ pub fn with_store(
     let text = read(&path(1), MEBIBYTE);
     let program = parse_program(&text).unwrap_or_else(|fault| bad("source", fault));
     let typed = typecheck(&program).unwrap_or_else(|fault| bad("source", fault));
-    let levels = levels(&typed).unwrap_or_else(|line| end(&line, 1));
     let text = read(&path(2), MEBIBYTE);
     let schedule = parse_schedule(&Known::of(&program, &typed), &text).unwrap_or_else(|fault| bad("schedule", fault));
+    let levels = levels(&typed).unwrap_or_else(|line| end(&line, 1));
     let store = Store::new(&program, &typed, &levels.ops, &levels.txns, schedule.replicas as usize);
     then(&typed, &levels, &schedule, store)
 }

@@ -28,11 +28,14 @@ pub enum Event<'a> {
     Resend { effect: u32, from: u8, to: u8 },
     Partition(Vec<u8>),
     Heal,
+    Join { near: u8, copy: bool },
 }
 
 #[derive(Default)]
 pub struct Schedule<'a> {
+    version: u64,
     pub replicas: u64,
+    joined: u64,
     pub objects: Vec<&'a [u8]>,
     pub kinds: Vec<u32>,
     pub events: Vec<Event<'a>>,
@@ -65,12 +68,9 @@ impl<'a> Known<'a> {
 
 pub fn parse_schedule<'a>(known: &Known<'a>, text: &'a [u8]) -> Result<Schedule<'a>, Fault> {
     let mut lines = Lines::new(text);
-    let Some((at, mut line)) = lines.next() else { return fault(lines.past(), "Unexpected") };
-    let head = [b"quelea".as_slice(), b"schedule", b"1"];
-    if !head.iter().all(|word| field(&mut line) == Some(word)) || !line.is_empty() {
-        return fault(at, "Unexpected");
-    }
     let mut schedule = Schedule::default();
+    let Some((at, mut line)) = lines.next() else { return fault(lines.past(), "Unexpected") };
+    schedule.version = version(&mut line).ok_or(Fault { at, rule: "Unexpected" })?;
     let Some((at, mut line)) = lines.next() else { return fault(lines.past(), "Unexpected") };
     schedule.replicas = replicas(&mut line).ok_or(Fault { at, rule: "Unexpected" })?;
     if !(1..=MOST_REPLICAS).contains(&schedule.replicas) {
@@ -86,9 +86,19 @@ pub fn parse_schedule<'a>(known: &Known<'a>, text: &'a [u8]) -> Result<Schedule<
     }
     for (at, line) in lines.by_ref() {
         let event = event(known, &schedule, line).map_err(|rule| Fault { at, rule })?;
+        schedule.joined += u64::from(matches!(event, Event::Join { .. }));
         schedule.events.push(event);
     }
     Ok(schedule)
+}
+
+fn version(line: &mut &[u8]) -> Option<u64> {
+    let words = [field(line)?, field(line)?, field(line)?];
+    match words {
+        [b"quelea", b"schedule", b"1"] if line.is_empty() => Some(1),
+        [b"quelea", b"schedule", b"2"] if line.is_empty() => Some(2),
+        _ => None,
+    }
 }
 
 fn replicas(line: &mut &[u8]) -> Option<u64> {
@@ -133,9 +143,16 @@ fn caller(line: &mut &[u8]) -> Option<Caller> {
     (at == b"at").then_some(Caller { session, replica })
 }
 
+impl Schedule<'_> {
+    /// How many replicas there are after the events that were read.
+    fn present(&self) -> u64 {
+        self.replicas + self.joined
+    }
+}
+
 impl Caller {
     fn in_range(&self, schedule: &Schedule) -> Result<(u8, u8), &'static str> {
-        if self.session >= MOST_SESSIONS || self.replica >= schedule.replicas {
+        if self.session >= MOST_SESSIONS || self.replica >= schedule.present() {
             return Err("Range");
         }
         Ok((self.session as u8, self.replica as u8))
@@ -157,6 +174,7 @@ fn event<'a>(known: &Known<'a>, schedule: &Schedule<'a>, mut line: &'a [u8]) -> 
         Some(b"resend") => resend(schedule, line)?,
         Some(b"partition") => partition(schedule, line)?,
         Some(b"heal") if line.is_empty() => Event::Heal,
+        Some(b"join") if schedule.version == 2 => join(schedule, line)?,
         _ => return Err("Unexpected"),
     };
     if schedule.events.len() == MOST_EVENTS {
@@ -174,7 +192,7 @@ fn resend<'a>(schedule: &Schedule, mut line: &[u8]) -> Result<Event<'a>, &'stati
     let numbers = resend_numbers(&mut line).filter(|_| line.is_empty()).ok_or("Unexpected")?;
     let [effect, from, to] = numbers;
     let effect = effect.try_into().map_err(|_| "Range")?;
-    if from >= schedule.replicas || to >= schedule.replicas {
+    if from >= schedule.present() || to >= schedule.present() {
         return Err("Range");
     }
     Ok(Event::Resend { effect, from: from as u8, to: to as u8 })
@@ -194,10 +212,26 @@ fn partition<'a>(schedule: &Schedule, mut line: &[u8]) -> Result<Event<'a>, &'st
     while let Some(part) = field(&mut line) {
         groups.push(whole(part).ok_or("Unexpected")?);
     }
-    if groups.len() as u64 != schedule.replicas || groups.iter().any(|group| *group >= MOST_REPLICAS) {
+    if groups.len() as u64 != schedule.present() || groups.iter().any(|group| *group >= MOST_REPLICAS) {
         return Err("Range");
     }
     Ok(Event::Partition(groups.iter().map(|group| *group as u8).collect()))
+}
+
+fn join<'a>(schedule: &Schedule, mut line: &[u8]) -> Result<Event<'a>, &'static str> {
+    let copy = match field(&mut line) {
+        Some(b"copy") => true,
+        Some(b"bare") => false,
+        _ => return Err("Unexpected"),
+    };
+    let near = field(&mut line).and_then(whole).filter(|_| line.is_empty()).ok_or("Unexpected")?;
+    if near >= schedule.present() {
+        return Err("Range");
+    }
+    if schedule.present() == MOST_REPLICAS {
+        return Err("TooMany");
+    }
+    Ok(Event::Join { near: near as u8, copy })
 }
 
 fn call<'a>(known: &Known<'a>, schedule: &Schedule<'a>, mut line: &'a [u8]) -> Result<Event<'a>, &'static str> {
@@ -309,7 +343,7 @@ pub fn print_schedule(typed: &Typed, types: &[&[u8]], schedule: &Schedule) -> Ve
 }
 
 fn print(typed: &Typed, types: &[&[u8]], schedule: &Schedule, out: &mut Vec<u8>) -> std::io::Result<()> {
-    write!(out, "quelea schedule 1\nreplicas {}\n", schedule.replicas)?;
+    write!(out, "quelea schedule {}\nreplicas {}\n", schedule.version, schedule.replicas)?;
     for (name, kind) in schedule.objects.iter().zip(&schedule.kinds) {
         put(out, &[b"object ", name, b" ", types[*kind as usize], b"\n"]);
     }
@@ -357,5 +391,6 @@ fn print_event(typed: &Typed, names: &[&[u8]], event: &Event, out: &mut Vec<u8>)
             groups.iter().try_for_each(|group| write!(out, " {group}"))
         }
         Event::Heal => write!(out, "heal"),
+        Event::Join { near, copy } => write!(out, "join {} {near}", if *copy { "copy" } else { "bare" }),
     }
 }

@@ -191,12 +191,17 @@ impl Solver {
             reason = self.reasons[var(literal)];
         }
         clause[1..].iter().for_each(|literal| self.seen[var(*literal)] = false);
+        let level = self.second_level(&mut clause);
+        (clause, level)
+    }
+
+    /// Puts a literal of the greatest level but the first one's second, and returns that level.
+    fn second_level(&self, clause: &mut [Lit]) -> u32 {
         let second = (1..clause.len()).max_by_key(|k| self.levels[var(clause[*k])]);
-        let level = second.map_or(0, |k| {
+        second.map_or(0, |k| {
             clause.swap(1, k);
             self.levels[var(clause[1])]
-        });
-        (clause, level)
+        })
     }
 
     fn back_to(&mut self, level: u32) {

@@ -37,6 +37,7 @@ pub enum Reply {
     Lost,
     Split,
     Healed,
+    Joined(usize),
 }
 
 impl Reply {
@@ -62,6 +63,7 @@ impl Reply {
             Reply::Lost => write!(out, "lost"),
             Reply::Split => write!(out, "split"),
             Reply::Healed => write!(out, "healed"),
+            Reply::Joined(replica) => write!(out, "joined {replica}"),
         }
     }
 }
@@ -94,7 +96,7 @@ struct Message {
 }
 
 /// What was received and applied, by an effect's number, and the packages that wait, each with an id that it misses.
-#[derive(Default)]
+#[derive(Clone, Default)]
 struct Replica {
     received: Vec<bool>,
     applied: Vec<bool>,
@@ -116,6 +118,8 @@ pub struct Store<'p> {
     on_object: HashMap<u32, Vec<u32>>,
     before: HashMap<(u8, u32), Vec<u32>>,
     last_stamp: HashMap<u8, u32>,
+    /// The committed effects that a replica may not have received.
+    fresh: Vec<u32>,
 }
 
 fn is_in(set: &[bool], id: u32) -> bool {
@@ -152,6 +156,7 @@ impl<'p> Store<'p> {
             on_object: HashMap::new(),
             before: HashMap::new(),
             last_stamp: HashMap::new(),
+            fresh: Vec::new(),
         }
     }
 
@@ -184,6 +189,7 @@ impl<'p> Store<'p> {
                 self.groups.fill(0);
                 Reply::Healed
             }
+            Event::Join { near, copy } => self.join(*near as usize, *copy),
         }
     }
 
@@ -197,53 +203,74 @@ impl<'p> Store<'p> {
     }
 
     fn call(&mut self, session: u8, at: usize, object: u32, op: u32, args: &[schedule::Value]) -> Reply {
+        if let Some(reply) = self.refusal(session, at, object, op) {
+            return reply;
+        }
         let level = self.op_levels[op as usize];
-        let open = self.open.get(&session);
-        if let Some(open) = open {
-            if !open.objects.contains(&object) {
-                return Reply::Refused(3);
-            }
-            if !self.typed.txn_uses[self.runs[open.run].decl as usize].contains(&op) {
-                return Reply::Refused(4);
-            }
-        }
-        if level == Level::Strong {
-            if let Some(far) = (0..self.groups.len()).find(|r| self.groups[*r] != self.groups[at]) {
-                return Reply::Unavailable(far);
-            }
-            if let Some((holder, _)) = self.open.iter().find(|(_, open)| open.objects.contains(&object)) {
-                return Reply::Held(*holder);
-            }
-        }
-        let on = self.on_object.get(&object).map_or(&[][..], |ids| ids);
-        let mut missing = None;
-        let seen: Vec<u32> = match open {
-            None if level == Level::Strong => on.to_vec(),
-            None => on.iter().copied().filter(|id| is_in(&self.replicas[at].applied, *id)).collect(),
-            Some(open) => {
-                let is_rr = self.txn_level(open) == Level::Rr;
-                let base = if is_rr { &open.snapshot } else { &self.replicas[at].applied };
-                let own = self.closed_own(&self.runs[open.run].effects, base);
-                let has = |id: &u32| is_in(base, *id) || own.contains(id);
-                if self.txn_level(open) == Level::Mav {
-                    missing = open.saw.iter().copied().filter(|id| !has(id)).min();
-                }
-                on.iter().copied().filter(has).collect()
-            }
-        };
-        if level == Level::Causal {
-            let before = self.before.get(&(session, object)).map_or(&[][..], |ids| ids);
-            let unseen = before.iter().copied().find(|id| seen.binary_search(id).is_err());
-            missing = missing.into_iter().chain(unseen).min();
-        }
-        if level == Level::Wide {
-            let past = self.past(session, &seen);
-            let unseen = on.iter().copied().find(|id| past[*id as usize] && seen.binary_search(id).is_err());
-            missing = missing.into_iter().chain(unseen).min();
-        }
-        match missing {
+        let (seen, missing) = self.view(session, at, object, level);
+        let unseen = self.unseen(session, object, level, &seen);
+        match missing.into_iter().chain(unseen).min() {
             Some(missing) => Reply::Blocked(missing),
             None => self.made(session, at, object, op, args, seen),
+        }
+    }
+
+    /// Why a call isn't made, whatever there is to see.
+    fn refusal(&self, session: u8, at: usize, object: u32, op: u32) -> Option<Reply> {
+        if let Some(open) = self.open.get(&session) {
+            if !open.objects.contains(&object) {
+                return Some(Reply::Refused(3));
+            }
+            if !self.typed.txn_uses[self.runs[open.run].decl as usize].contains(&op) {
+                return Some(Reply::Refused(4));
+            }
+        }
+        if self.op_levels[op as usize] != Level::Strong {
+            return None;
+        }
+        if let Some(far) = (0..self.groups.len()).find(|r| self.groups[*r] != self.groups[at]) {
+            return Some(Reply::Unavailable(far));
+        }
+        let holder = self.open.iter().find(|(_, open)| open.objects.contains(&object));
+        holder.map(|(session, _)| Reply::Held(*session))
+    }
+
+    fn on_object(&self, object: u32) -> &[u32] {
+        self.on_object.get(&object).map_or(&[], |ids| ids)
+    }
+
+    /// What a call sees, and the least effect that its transaction saw and that is missing now.
+    fn view(&self, session: u8, at: usize, object: u32, level: Level) -> (Vec<u32>, Option<u32>) {
+        let on = self.on_object(object);
+        if level == Level::Strong {
+            return (on.to_vec(), None);
+        }
+        let applied = &self.replicas[at].applied;
+        let Some(open) = self.open.get(&session) else {
+            return (on.iter().copied().filter(|id| is_in(applied, *id)).collect(), None);
+        };
+        let run = &self.runs[open.run];
+        let level = self.txn_levels[run.decl as usize];
+        let base = if level == Level::Rr { &open.snapshot } else { applied };
+        let own = self.closed_own(&run.effects, base);
+        let has = |id: &u32| is_in(base, *id) || own.contains(id);
+        let missing = match level {
+            Level::Mav => open.saw.iter().copied().filter(|id| !has(id)).min(),
+            _ => None,
+        };
+        (on.iter().copied().filter(has).collect(), missing)
+    }
+
+    /// The least effect that the level of an operation asks a call to see, and that it doesn't.
+    fn unseen(&self, session: u8, object: u32, level: Level, seen: &[u32]) -> Option<u32> {
+        let is_unseen = |id: &u32| seen.binary_search(id).is_err();
+        match level {
+            Level::Causal => self.before.get(&(session, object))?.iter().copied().find(is_unseen),
+            Level::Wide => {
+                let past = self.past(session, seen);
+                self.on_object(object).iter().copied().find(|id| past[*id as usize] && is_unseen(id))
+            }
+            _ => None,
         }
     }
 
@@ -261,10 +288,6 @@ impl<'p> Store<'p> {
             }
         }
         past
-    }
-
-    fn txn_level(&self, open: &Open) -> Level {
-        self.txn_levels[self.runs[open.run].decl as usize]
     }
 
     /// Those effects of an open transaction that have all that they need, together with a closed set.
@@ -306,6 +329,7 @@ impl<'p> Store<'p> {
         if run.is_some() {
             return Reply::Ok(id);
         }
+        self.fresh.push(id);
         if self.op_levels[op as usize] == Level::Strong {
             self.gather();
         } else {
@@ -316,16 +340,14 @@ impl<'p> Store<'p> {
 
     /// Every replica receives every committed effect.
     fn gather(&mut self) {
-        let committed: Vec<u32> = (1..=self.effects.len() as u32)
-            .filter(|id| self.effect(*id).run.is_none_or(|run| self.runs[run].committed))
-            .collect();
         for replica in &mut self.replicas {
-            for id in &committed {
+            for id in &self.fresh {
                 insert(&mut replica.received, *id);
                 insert(&mut replica.applied, *id);
             }
             replica.waiting.clear();
         }
+        self.fresh.clear();
     }
 
     fn send(&mut self, at: usize, pack: Rc<[u32]>) {
@@ -377,6 +399,7 @@ impl<'p> Store<'p> {
         let run = &mut self.runs[open.run];
         run.committed = true;
         let own = run.effects.clone();
+        self.fresh.extend(&own);
         if !own.is_empty() {
             self.send(at, Rc::from(own.as_slice()));
         }
@@ -405,12 +428,35 @@ impl<'p> Store<'p> {
         Reply::Sent(self.messages.len())
     }
 
+    fn join(&mut self, near: usize, copy: bool) -> Reply {
+        let joined = if copy { self.replicas[near].clone() } else { self.bare() };
+        self.replicas.push(joined);
+        self.groups.push(self.groups[near]);
+        Reply::Joined(self.replicas.len() - 1)
+    }
+
+    /// A replica with the effects of strong operations and all that they need. It may lack any other one.
+    fn bare(&mut self) -> Replica {
+        let ids = 1..=self.effects.len() as u32;
+        let is_committed = |id: &u32| self.effect(*id).run.is_none_or(|run| self.runs[run].committed);
+        let is_strong = |id: &u32| self.op_levels[self.effect(*id).op as usize] == Level::Strong;
+        let strong: Vec<u32> = ids.clone().filter(is_strong).collect();
+        let fresh = ids.filter(is_committed).collect();
+        let mut replica = Replica::default();
+        for id in self.reach(&replica.applied, &strong) {
+            insert(&mut replica.received, id);
+            insert(&mut replica.applied, id);
+        }
+        self.fresh = fresh;
+        replica
+    }
+
     fn receive(&mut self, at: usize, pack: Rc<[u32]>) -> Reply {
         if is_in(&self.replicas[at].received, pack[0]) {
             return Reply::Again;
         }
         pack.iter().for_each(|id| insert(&mut self.replicas[at].received, *id));
-        let found = self.reach(at, &pack);
+        let found = self.reach(&self.replicas[at].applied, &pack);
         if let Some(missing) = self.least_missing(at, &found) {
             let waiting = &mut self.replicas[at].waiting;
             waiting.iter_mut().filter(|(_, watched)| pack.contains(watched)).for_each(|(_, watched)| *watched = missing);
@@ -426,7 +472,7 @@ impl<'p> Store<'p> {
                 still.push((other, watched));
                 continue;
             }
-            let found = self.reach(at, &other);
+            let found = self.reach(&self.replicas[at].applied, &other);
             match self.least_missing(at, &found) {
                 Some(missing) => still.push((other, missing)),
                 None => self.apply(at, found, &mut gain),
@@ -446,9 +492,8 @@ impl<'p> Store<'p> {
         gain.extend(found);
     }
 
-    /// All that a package needs, directly or through others, and that isn't applied.
-    fn reach(&self, at: usize, pack: &[u32]) -> Vec<u32> {
-        let applied = &self.replicas[at].applied;
+    /// Some effects and all that they need, directly or through others, but for what is applied.
+    fn reach(&self, applied: &[bool], effects: &[u32]) -> Vec<u32> {
         let mut met = vec![false; self.effects.len() + 1];
         let mut found: Vec<u32> = Vec::new();
         let mut meet = |id: u32, found: &mut Vec<u32>| {
@@ -457,7 +502,7 @@ impl<'p> Store<'p> {
                 found.push(id);
             }
         };
-        pack.iter().for_each(|id| meet(*id, &mut found));
+        effects.iter().for_each(|id| meet(*id, &mut found));
         let mut next = 0;
         while next < found.len() {
             let id = found[next];

@@ -170,10 +170,7 @@ fn called(name: &[u8], arguments: &[Expr], scope: Scope) -> Value {
         (b"has", Value::Map(items)) => Value::bool(items.contains_key(&next().scalar())),
         (b"size", Value::Set(items)) => Value::int(items.len() as i64),
         (b"size", Value::Map(items)) => Value::int(items.len() as i64),
-        (b"sum", Value::Map(items)) => {
-            let number = |item: &Scalar| if let Int(number) = item { *number } else { 0 };
-            Value::int(items.values().map(number).fold(0, i64::saturating_add))
-        }
+        (b"sum", Value::Map(items)) => sum(&items),
         (b"get", Value::Map(items)) => {
             let (key, otherwise) = (next().scalar(), next());
             items.get(&key).map_or(otherwise, |found| Value::Scalar(found.clone()))
@@ -182,12 +179,7 @@ fn called(name: &[u8], arguments: &[Expr], scope: Scope) -> Value {
             add(&mut items, next().scalar());
             Value::Set(items)
         }
-        (b"union", Value::Set(mut items)) => {
-            if let Value::Set(others) = next() {
-                others.into_iter().for_each(|item| add(&mut items, item));
-            }
-            Value::Set(items)
-        }
+        (b"union", Value::Set(items)) => united(items, next()),
         (b"remove", Value::Set(mut items)) => {
             items.remove(&next().scalar());
             Value::Set(items)
@@ -205,6 +197,18 @@ fn called(name: &[u8], arguments: &[Expr], scope: Scope) -> Value {
         }
         _ => unreachable!("well typed"),
     }
+}
+
+fn sum(items: &BTreeMap<Scalar, Scalar>) -> Value {
+    let number = |item: &Scalar| if let Int(number) = item { *number } else { 0 };
+    Value::int(items.values().map(number).fold(0, i64::saturating_add))
+}
+
+fn united(mut items: BTreeSet<Scalar>, others: Value) -> Value {
+    if let Value::Set(others) = others {
+        others.into_iter().for_each(|item| add(&mut items, item));
+    }
+    Value::Set(items)
 }
 
 fn add(items: &mut BTreeSet<Scalar>, item: Scalar) {

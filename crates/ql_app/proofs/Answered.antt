@@ -4,8 +4,8 @@ use Rattle.std.specs.Prelude.{IfSome}
 use Rattle.ql_reply.specs.declared.status.Status.{Status}
 use Rattle.ql_reply.specs.declared.status.Status.TheVariants.{Done, No, Bad, ReadFault, WriteFault, Usage, TooLarge}
 use Rattle.ql_app.specs.declared.outcome.Limits.{Limits}
-use Rattle.ql_app.specs.Words.{Call, OneFile, TwoFiles, IsRequest}
-use Rattle.ql_app.specs.Outcome.{AreHeld, CommandSays, ForRequest, IsAnswered, IsRead, Judges, MeetsFault, MeetsLimit, NoneRose, PairSays, Says, Tells, second_limit}
+use Rattle.ql_app.specs.Words.{NamedRequest, OneFile, TwoFiles, IsRequest}
+use Rattle.ql_app.specs.Outcome.{AreHeld, CommandSays, ForRequest, IsAnswered, IsRead, Judges, MeetsFault, MeetsLimit, NoneRose, PairSays, Says, RequestSays, second_limit}
 
 -- what is read is so of what is held, where that is reported
 abbrev IsOfHeld : ℕ → Option (List ℕ) → (List ℕ → Type 0) → Type 0
@@ -22,12 +22,12 @@ both limit second (Some whole) other P r =
     subst (λ (w : List ℕ). (length w ≤ limit) × IsOfHeld second other (λ more. P w more)) r.are_held (r.short, of_read second other (λ more. P r.bytes more) r.is_so)
 
 -- what is said of a call, of what is held alone
-abbrev JudgesHeld : Limits → (List ℕ → Option (List ℕ)) → Call → Status → List ℕ → Type 0
+abbrev JudgesHeld : Limits → (List ℕ → Option (List ℕ)) → NamedRequest → Status → List ℕ → Type 0
 JudgesHeld limits held (OneFile command name) status text = IsOfHeld limits.file (held name) (λ bytes. CommandSays command bytes status text)
 JudgesHeld limits held (TwoFiles command name other) status text =
     IsOfHeld limits.file (held name) (λ bytes. IsOfHeld (second_limit limits command) (held other) (λ more. PairSays command bytes more status text))
 
-abbrev TellsHeld : Limits → (List ℕ → Option (List ℕ)) → (List ℕ → ℕ) → (List ℕ → ℕ) → Call → Status → List ℕ → Type 0
+abbrev TellsHeld : Limits → (List ℕ → Option (List ℕ)) → (List ℕ → ℕ) → (List ℕ → ℕ) → NamedRequest → Status → List ℕ → Type 0
 TellsHeld limits held before after call Done text = JudgesHeld limits held call Done text
 TellsHeld limits held before after call No text = JudgesHeld limits held call No text
 TellsHeld limits held before after call Bad text = JudgesHeld limits held call Bad text
@@ -41,13 +41,13 @@ SaysHeld limits words held before after status text =
     ForRequest words (λ call. TellsHeld limits held before after call status text)
     ⊎ ((status ≡ Usage) × (ForRequest words (λ _. Unit {0}) → ⊥) × (text ≡ codes "usage\n"))
 
-judges_held : (limits : Limits) (held : List ℕ → Option (List ℕ)) (call : Call) (status : Status) (text : List ℕ) → Judges limits held call status text → JudgesHeld limits held call status text
+judges_held : (limits : Limits) (held : List ℕ → Option (List ℕ)) (call : NamedRequest) (status : Status) (text : List ℕ) → Judges limits held call status text → JudgesHeld limits held call status text
 judges_held limits held (OneFile command name) status text r = of_read limits.file (held name) (λ bytes. CommandSays command bytes status text) r
 judges_held limits held (TwoFiles command name other) status text r =
     both limits.file (second_limit limits command) (held name) (held other) (λ bytes more. PairSays command bytes more status text) r
 
-tells_held : (limits : Limits) (held : List ℕ → Option (List ℕ)) (before after : List ℕ → ℕ) (call : Call) (status : Status) (text : List ℕ)
-    → Tells limits held before after call status text → TellsHeld limits held before after call status text
+tells_held : (limits : Limits) (held : List ℕ → Option (List ℕ)) (before after : List ℕ → ℕ) (call : NamedRequest) (status : Status) (text : List ℕ)
+    → RequestSays limits held before after call status text → TellsHeld limits held before after call status text
 tells_held limits held before after call Done text t = judges_held limits held call Done text t
 tells_held limits held before after call No text t = judges_held limits held call No text t
 tells_held limits held before after call Bad text t = judges_held limits held call Bad text t
@@ -62,6 +62,6 @@ pub says_held : (limits : Limits) (words : List (List ℕ)) (held : List ℕ →
 says_held limits words held before after status text (inl (call, request, t)) = inl (call, request, tells_held limits held before after call status text t)
 says_held limits words held before after status text (inr u) = inr u
 
-pub complete : (limits : Limits) (words : List (List ℕ)) (held : List ℕ → Option (List ℕ)) (before after : List ℕ → ℕ) (status : Status) (text : List ℕ) (call : Call)
+pub complete : (limits : Limits) (words : List (List ℕ)) (held : List ℕ → Option (List ℕ)) (before after : List ℕ → ℕ) (status : Status) (text : List ℕ) (call : NamedRequest)
     → IsRequest words call → AreHeld limits held call → NoneRose before after call → SaysHeld limits words held before after status text → IsAnswered (Ok status)
 complete limits words held before after status text call request are_held none says = search rules

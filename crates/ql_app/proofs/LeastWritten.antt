@@ -10,9 +10,8 @@ use Rattle.ql_running.specs.declared.form.Form.TheVariants.{Text, Json}
 use Rattle.ql_app.specs.LeastWritten.{WritesLeast, WritesNone}
 use Rattle.ql_app.specs.Outcome.{IsRead, Judges, Says}
 use Rattle.ql_reply.specs.Wrote.{Wrote}
-use Rattle.ql_app.specs.Words.{Call, IsRequest, OneFile, TwoFiles}
+use Rattle.ql_app.specs.Words.{NamedRequest, IsRequest, OneFile, TwoFiles}
 use Rattle.ql_commands.specs.Classify.{ClassifySays}
-use Rattle.ql_commands.specs.declared.answer.Answer.TheVariants as answer
 use Rattle.ql_implied.specs.Commands.{TellsLeast, TellsNone}
 use Rattle.ql_app.proofs.OutcomeLaws.{of_held}
 
@@ -25,7 +24,7 @@ module _ (limits : Limits) (held : List ℕ → Option (List ℕ)) (name source 
   told Told n n_is says = let whole = of_held limits.file (held n) Told source (ap held n_is ∙ name_held) says in whole.1
 
   asked : (status : Status) (Told : List ℕ → Type 0) → ((n : List ℕ) → Judges limits held (OneFile Classify n) status text → IsRead limits.file (held n) Told)
-      → (words : List (List ℕ)) → words ≡ codes "classify" ∷ name ∷ [] → (call : Call) → IsRequest words call → Judges limits held call status text → Told source
+      → (words : List (List ℕ)) → words ≡ codes "classify" ∷ name ∷ [] → (call : NamedRequest) → IsRequest words call → Judges limits held call status text → Told source
   asked status Told judged words are (OneFile Holds n) is says = absurd (let never : 99 ≡ 104 = ap first (sym are ∙ is.0) in omega (arith, never))
   asked status Told judged words are (OneFile Proof n) is says = absurd (let never : 99 ≡ 112 = ap first (sym are ∙ is.0) in omega (arith, never))
   asked status Told judged words are (OneFile Classify n) is says =
@@ -46,7 +45,7 @@ module _ (limits : Limits) (held : List ℕ → Option (List ℕ)) (name source 
   asked status Told judged words are (TwoFiles (Restart replica cut) n m) is says = absurd (let never : 99 ≡ 114 = ap first (sym are ∙ is.0) in omega (arith, never))
 
 module _ (limits : Limits) (words : List (List ℕ)) (held : List ℕ → Option (List ℕ)) (before after : List ℕ → ℕ) (was is : Option (List ℕ)) (faults sums : ℕ) where
-  pub writes_least : ((source text : List ℕ) → ClassifySays source answer.Done text → TellsLeast source text)
+  pub writes_least : ((source text : List ℕ) → ClassifySays source Done text → TellsLeast source text)
       → Wrote (Says limits words held before after) was is faults sums Done → WritesLeast words held was is
   writes_least law wrote name source start are name_held begun = by wrote.1 wrote.2
     where
@@ -54,11 +53,11 @@ module _ (limits : Limits) (words : List (List ℕ)) (held : List ℕ → Option
       by (inl asks) put = (
         wrote.0,
         put ∙ ap (λ (w : Option (List ℕ)). appended w wrote.0) begun,
-        law source wrote.0 (asked limits held name source wrote.0 name_held Done (λ bytes. ClassifySays bytes answer.Done wrote.0) (λ n h. h) words are asks.0 asks.1 asks.2),
+        law source wrote.0 (asked limits held name source wrote.0 name_held Done (λ bytes. ClassifySays bytes Done wrote.0) (λ n h. h) words are asks.0 asks.1 asks.2),
       )
       by (inr usage) put = absurd (let never : Done ≡ Usage = usage.0 in cc)
 
-  pub writes_none : ((source text : List ℕ) → ClassifySays source answer.No text → TellsNone source text)
+  pub writes_none : ((source text : List ℕ) → ClassifySays source No text → TellsNone source text)
       → Wrote (Says limits words held before after) was is faults sums No → WritesNone words held was is
   writes_none law wrote name source start are name_held begun = by wrote.1 wrote.2
     where
@@ -66,6 +65,6 @@ module _ (limits : Limits) (words : List (List ℕ)) (held : List ℕ → Option
       by (inl asks) put = (
         wrote.0,
         put ∙ ap (λ (w : Option (List ℕ)). appended w wrote.0) begun,
-        law source wrote.0 (asked limits held name source wrote.0 name_held No (λ bytes. ClassifySays bytes answer.No wrote.0) (λ n h. h) words are asks.0 asks.1 asks.2),
+        law source wrote.0 (asked limits held name source wrote.0 name_held No (λ bytes. ClassifySays bytes No wrote.0) (λ n h. h) words are asks.0 asks.1 asks.2),
       )
       by (inr usage) put = absurd (let never : No ≡ Usage = usage.0 in cc)

@@ -2,7 +2,6 @@ pub mod Powers
 pub mod HoldsLaws
 pub mod OutcomeLaws
 pub mod ProofLaws
-pub mod Statuses
 mod RunWritten
 mod LeastWritten
 mod WordLaws

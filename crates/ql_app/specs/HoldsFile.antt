@@ -25,14 +25,14 @@ abbrev pub work : Asked → ℕ
 work asked = length asked.execution ^ length asked.contract.formula.vars
 
 -- the file is in the grammar, and doesn't ask for too much work
-abbrev pub IsAnswerable : List ℕ → Type 0
-IsAnswerable bytes = (asked : Asked) × Asks bytes asked × (work asked ≤ MAX_WORK)
+abbrev pub IsAnswerableHolds : List ℕ → Type 0
+IsAnswerableHolds bytes = (asked : Asked) × Asks bytes asked × (work asked ≤ MAX_WORK)
 
--- the places of the variables, as ` a=1`
-abbrev pub places_text : List (List ℕ) → List ℕ → List ℕ
-places_text [] places = []
-places_text (name ∷ names) [] = []
-places_text (name ∷ names) (p ∷ places) = 32 ∷ name ++ 61 ∷ decimal p ++ places_text names places
+-- the effects of the variables, as ` a=1`
+abbrev pub named_places_text : List (List ℕ) → List ℕ → List ℕ
+named_places_text [] places = []
+named_places_text (name ∷ names) [] = []
+named_places_text (name ∷ names) (p ∷ places) = 32 ∷ name ++ 61 ∷ decimal p ++ named_places_text names places
 
 -- the name of a rule
 abbrev pub rule_word : HoldsRule → List ℕ
@@ -51,7 +51,7 @@ abbrev pub HoldsTells : Asked → Status → List ℕ → Type 0
 HoldsTells asked Done text = (work asked ≤ MAX_WORK) × Holds asked.execution asked.contract.formula asked.cur.0 × (text ≡ codes "holds\n")
 HoldsTells asked No text =
     (work asked ≤ MAX_WORK) × (places : List ℕ) × IsFirstFalse asked.execution none_inside asked.cur.0 asked.contract.formula places
-    × (text ≡ codes "fails" ++ places_text asked.contract.names places ++ codes "\n")
+    × (text ≡ codes "fails" ++ named_places_text asked.contract.names places ++ codes "\n")
 HoldsTells asked TooLarge text = (MAX_WORK < work asked) × (text ≡ codes "too much " ++ decimal (work asked) ++ codes "\n")
 HoldsTells asked Bad text = ⊥
 HoldsTells asked ReadFault text = ⊥
@@ -65,7 +65,7 @@ HoldsSays bytes Bad text =
     × (text ≡ fault_line (codes "holds") broken.line (rule_word broken.rule))
 HoldsSays bytes Done text = (asked : Asked) × Asks bytes asked × HoldsTells asked Done text
 HoldsSays bytes No text = (asked : Asked) × Asks bytes asked × HoldsTells asked No text
-HoldsSays bytes TooLarge text = (IsAnswerable bytes → ⊥) × (asked : Asked) × Asks bytes asked × HoldsTells asked TooLarge text
+HoldsSays bytes TooLarge text = (IsAnswerableHolds bytes → ⊥) × (asked : Asked) × Asks bytes asked × HoldsTells asked TooLarge text
 HoldsSays bytes ReadFault text = ⊥
 HoldsSays bytes WriteFault text = ⊥
 HoldsSays bytes Usage text = ⊥

@@ -9,7 +9,7 @@ WritesOfSource Says words held was is =
     (name source before : List ℕ) → words ≡ codes "classify" ∷ name ∷ [] → held name ≡ Some source → was ≡ Some before
     → (text : List ℕ) × (is ≡ Some (before ++ text)) × Says source text
 
--- The levels of the source's operations and transactions: each gives its contract in every execution of the program, and each
+-- The levels of the source's operations and transactions: each guarantees its contract in every execution of the program, and each
 -- lower one fails in some execution of it.
 abbrev pub WritesLeast : List (List ℕ) → (List ℕ → Option (List ℕ)) → Option (List ℕ) → Option (List ℕ) → Type 0
 WritesLeast words held was is = WritesOfSource TellsLeast words held was is

@@ -3,7 +3,6 @@ pub mod Requests
 pub mod HoldsFile
 pub mod HoldsFaults
 pub mod ProofFile
-pub mod Answers
 pub mod Outcome
 pub mod RunWritten
 pub mod LeastWritten

@@ -1,4 +1,4 @@
--- What may be printed: for the words, the bytes of the named files and a status.
+-- What may be printed: for the arguments, the bytes of the files that they name and a status.
 use Rattle.std.specs.Prelude.{◌≡◌, ◌⊎◌, ℕ, ◌<◌, ◌≤◌, List, ◌++◌, length, Option, Some, Result, Ok, Err, IfSome, codes}
 use Rattle.ql_base.specs.declared.no_memory.NoMemory.{NoMemory}
 use Rattle.ql_ports.specs.Faults.{Rose}
@@ -12,11 +12,10 @@ use Rattle.ql_app.specs.declared.words.Command.{Command}
 use Rattle.ql_app.specs.declared.words.Command.TheVariants.{Holds, Proof, Classify, ClassifyWhy, Prove, Gen, Soak}
 use Rattle.ql_app.specs.declared.words.PairCommand.{PairCommand}
 use Rattle.ql_app.specs.declared.words.PairCommand.TheVariants.{Check, Verify, Run, Slim, Restart}
-use Rattle.ql_app.specs.Words.{Call, OneFile, TwoFiles, IsRequest}
+use Rattle.ql_app.specs.Words.{NamedRequest, OneFile, TwoFiles, IsRequest}
 use Rattle.ql_app.specs.HoldsFile as holds
 use Rattle.ql_app.specs.HoldsFile.{HoldsSays}
-use Rattle.ql_app.specs.ProofFile.{ProofSays, IsProofFile}
-use Rattle.ql_app.specs.Answers.{AnswerSays, JudgedSays}
+use Rattle.ql_app.specs.ProofFile.{ProofSays, IsProofText}
 use Rattle.ql_commands.specs.Certificates.{IsCertificate}
 use Rattle.ql_commands.specs.Check.{CheckSays}
 use Rattle.ql_commands.specs.Classify.{ClassifySays}
@@ -35,24 +34,24 @@ use Rattle.ql_why.specs.Why.{WhySays}
 abbrev pub CommandSays : Command → List ℕ → Status → List ℕ → Type 0
 CommandSays Holds bytes status text = HoldsSays bytes status text
 CommandSays Proof bytes status text = ProofSays bytes status text
-CommandSays Classify bytes status text = AnswerSays (ClassifySays bytes) status text
-CommandSays ClassifyWhy bytes status text = AnswerSays (WhySays bytes) status text
-CommandSays Prove bytes status text = AnswerSays (ProveSays bytes) status text
-CommandSays (Gen number events) bytes status text = AnswerSays (GenSays bytes number events) status text
-CommandSays (Soak number) bytes status text = AnswerSays (SoakSays bytes number) status text
+CommandSays Classify bytes status text = ClassifySays bytes status text
+CommandSays ClassifyWhy bytes status text = WhySays bytes status text
+CommandSays Prove bytes status text = ProveSays bytes status text
+CommandSays (Gen number events) bytes status text = GenSays bytes number events status text
+CommandSays (Soak number) bytes status text = SoakSays bytes number status text
 
 -- and of the bytes of two files
 abbrev pub PairSays : PairCommand → List ℕ → List ℕ → Status → List ℕ → Type 0
-PairSays Check bytes more status text = AnswerSays (CheckSays bytes more) status text
-PairSays Verify bytes more status text = JudgedSays (VerifySays bytes more) status text
-PairSays (Run form) bytes more status text = AnswerSays (RunSays (format_of form) bytes more) status text
-PairSays Slim bytes more status text = AnswerSays (SlimSays bytes more) status text
-PairSays (Restart replica cut) bytes more status text = AnswerSays (RestartSays bytes more replica cut) status text
+PairSays Check bytes more status text = CheckSays bytes more status text
+PairSays Verify bytes more status text = VerifySays bytes more status text
+PairSays (Run form) bytes more status text = RunSays (format_of form) bytes more status text
+PairSays Slim bytes more status text = SlimSays bytes more status text
+PairSays (Restart replica cut) bytes more status text = RestartSays bytes more replica cut status text
 
 -- the bytes are in the grammar of the command's files, and don't ask for too much work
 abbrev pub IsAnswerable : Command → List ℕ → Type 0
-IsAnswerable Holds bytes = holds.IsAnswerable bytes
-IsAnswerable Proof bytes = IsProofFile bytes
+IsAnswerable Holds bytes = holds.IsAnswerableHolds bytes
+IsAnswerable Proof bytes = IsProofText bytes
 IsAnswerable Classify bytes = IsSource bytes
 IsAnswerable ClassifyWhy bytes = IsSource bytes
 IsAnswerable Prove bytes = IsSource bytes
@@ -83,63 +82,63 @@ pub record IsRead (limit : ℕ) (held : Option (List ℕ)) (P : List ℕ → Typ
   pub short : length bytes ≤ limit
   pub is_so : P bytes
 
--- the files were read whole, in the order of the words, and judged
-abbrev pub Judges : Limits → (List ℕ → Option (List ℕ)) → Call → Status → List ℕ → Type 0
+-- the files were read whole, in the order of the arguments, and this is said of them
+abbrev pub Judges : Limits → (List ℕ → Option (List ℕ)) → NamedRequest → Status → List ℕ → Type 0
 Judges limits held (OneFile command name) status text = IsRead limits.file (held name) (λ bytes. CommandSays command bytes status text)
 Judges limits held (TwoFiles command name other) status text =
     IsRead limits.file (held name) (λ bytes. IsRead (second_limit limits command) (held other) (λ more. PairSays command bytes more status text))
 
 -- a file couldn't be read
-abbrev pub Fails : (List ℕ → ℕ) → (List ℕ → ℕ) → List ℕ → List ℕ → Type 0
-Fails before after name text = Rose (before name) (after name) × (text ≡ codes "read fault " ++ name ++ codes "\n")
+abbrev pub FailsToRead : (List ℕ → ℕ) → (List ℕ → ℕ) → List ℕ → List ℕ → Type 0
+FailsToRead before after name text = Rose (before name) (after name) × (text ≡ codes "read fault " ++ name ++ codes "\n")
 
 -- the first file that couldn't be read, after those that were
-abbrev pub MeetsFault : Limits → (List ℕ → Option (List ℕ)) → (List ℕ → ℕ) → (List ℕ → ℕ) → Call → List ℕ → Type 0
-MeetsFault limits held before after (OneFile command name) text = Fails before after name text
+abbrev pub MeetsFault : Limits → (List ℕ → Option (List ℕ)) → (List ℕ → ℕ) → (List ℕ → ℕ) → NamedRequest → List ℕ → Type 0
+MeetsFault limits held before after (OneFile command name) text = FailsToRead before after name text
 MeetsFault limits held before after (TwoFiles command name other) text =
-    Fails before after name text ⊎ (IsRead limits.file (held name) (λ _. Unit {0}) × Fails before after other text)
+    FailsToRead before after name text ⊎ (IsRead limits.file (held name) (λ _. Unit {0}) × FailsToRead before after other text)
 
 -- a file has more bytes than its limit
 abbrev pub IsOver : ℕ → (List ℕ → Option (List ℕ)) → List ℕ → List ℕ → Type 0
 IsOver limit held name text = IfSome (held name) (λ bytes. limit < length bytes) × (text ≡ codes "too large " ++ name ++ codes "\n")
 
-abbrev pub MeetsLimit : Limits → (List ℕ → Option (List ℕ)) → Call → List ℕ → Type 0
+abbrev pub MeetsLimit : Limits → (List ℕ → Option (List ℕ)) → NamedRequest → List ℕ → Type 0
 MeetsLimit limits held (OneFile command name) text = IsOver limits.file held name text
 MeetsLimit limits held (TwoFiles command name other) text =
     IsOver limits.file held name text ⊎ (IsRead limits.file (held name) (λ _. Unit {0}) × IsOver (second_limit limits command) held other text)
 
 -- what is said of a call
-abbrev pub Tells : Limits → (List ℕ → Option (List ℕ)) → (List ℕ → ℕ) → (List ℕ → ℕ) → Call → Status → List ℕ → Type 0
-Tells limits held before after call Done text = Judges limits held call Done text
-Tells limits held before after call No text = Judges limits held call No text
-Tells limits held before after call Bad text = Judges limits held call Bad text
-Tells limits held before after call ReadFault text = MeetsFault limits held before after call text
-Tells limits held before after call WriteFault text = ⊥
-Tells limits held before after call Usage text = ⊥
-Tells limits held before after call TooLarge text = Judges limits held call TooLarge text ⊎ MeetsLimit limits held call text
+abbrev pub RequestSays : Limits → (List ℕ → Option (List ℕ)) → (List ℕ → ℕ) → (List ℕ → ℕ) → NamedRequest → Status → List ℕ → Type 0
+RequestSays limits held before after call Done text = Judges limits held call Done text
+RequestSays limits held before after call No text = Judges limits held call No text
+RequestSays limits held before after call Bad text = Judges limits held call Bad text
+RequestSays limits held before after call ReadFault text = MeetsFault limits held before after call text
+RequestSays limits held before after call WriteFault text = ⊥
+RequestSays limits held before after call Usage text = ⊥
+RequestSays limits held before after call TooLarge text = Judges limits held call TooLarge text ⊎ MeetsLimit limits held call text
 
--- the words ask for something, of which this is said
-abbrev pub ForRequest : List (List ℕ) → (Call → Type 0) → Type 0
-ForRequest words P = (call : Call) × IsRequest words call × P call
+-- the arguments ask for something, of which this is said
+abbrev pub ForRequest : List (List ℕ) → (NamedRequest → Type 0) → Type 0
+ForRequest words P = (call : NamedRequest) × IsRequest words call × P call
 
 -- The text that is to be written with a status. `held` is what the shelf holds under each name, where it reports it, and the
 -- counts are those of the shelf's faults at each name, before the call and after it.
 abbrev pub Says : Limits → List (List ℕ) → (List ℕ → Option (List ℕ)) → (List ℕ → ℕ) → (List ℕ → ℕ) → Status → List ℕ → Type 0
 Says limits words held before after status text =
-    ForRequest words (λ call. Tells limits held before after call status text)
+    ForRequest words (λ call. RequestSays limits held before after call status text)
     ⊎ ((status ≡ Usage) × (ForRequest words (λ _. Unit {0}) → ⊥) × (text ≡ codes "usage\n"))
 
 -- the files are held whole, within their limits and in their grammars
 abbrev pub IsHeld : ℕ → Option (List ℕ) → (List ℕ → Type 0) → Type 0
 IsHeld limit held P = (bytes : List ℕ) × (held ≡ Some bytes) × (length bytes ≤ limit) × P bytes
 
-abbrev pub AreHeld : Limits → (List ℕ → Option (List ℕ)) → Call → Type 0
+abbrev pub AreHeld : Limits → (List ℕ → Option (List ℕ)) → NamedRequest → Type 0
 AreHeld limits held (OneFile command name) = IsHeld limits.file (held name) (IsAnswerable command)
 AreHeld limits held (TwoFiles command name other) =
     IsHeld limits.file (held name) (λ bytes. IsHeld (second_limit limits command) (held other) (λ more. AreAnswerable command bytes more))
 
 -- no file's count rose
-abbrev pub NoneRose : (List ℕ → ℕ) → (List ℕ → ℕ) → Call → Type 0
+abbrev pub NoneRose : (List ℕ → ℕ) → (List ℕ → ℕ) → NamedRequest → Type 0
 NoneRose before after (OneFile command name) = Rose (before name) (after name) → ⊥
 NoneRose before after (TwoFiles command name other) = (Rose (before name) (after name) → ⊥) × (Rose (before other) (after other) → ⊥)
 

@@ -8,7 +8,7 @@ use Rattle.ql_refute.specs.declared.verdict.Verdict.TheVariants.{Accepted, BadHi
 use Rattle.ql_refute.specs.Verdict.{verdict}
 use Rattle.ql_cert.specs.declared.fault.CertFault.{CertFault}
 use Rattle.ql_cert.specs.declared.fault.CertFault.TheVariants.{Unexpected, Number, NoMemory}
-use Rattle.ql_cert.specs.Faults.{FirstFault, fields_in}
+use Rattle.ql_cert.specs.Faults.{FirstFileFault, fields_in}
 use Rattle.ql_cert.specs.ProofFile as files
 use Rattle.ql_cert.specs.ProofFile.{IsProofOf}
 use Rattle.ql_reply.specs.Lines.{fault_line}
@@ -16,12 +16,12 @@ use Rattle.ql_reply.specs.declared.status.Status.{Status}
 use Rattle.ql_reply.specs.declared.status.Status.TheVariants.{Done, No, Bad, ReadFault, WriteFault, Usage, TooLarge}
 
 -- the bytes are these clauses and these lines
-abbrev pub Spells : List ℕ → ClauseList → List Line → Type 0
-Spells bytes cs ls = IsProofOf cs ls (fields_in (ahead_from 1 bytes).lines)
+abbrev pub SpellsProof : List ℕ → ClauseList → List Line → Type 0
+SpellsProof bytes cs ls = IsProofOf cs ls (fields_in (ahead_from 1 bytes).lines)
 
 -- the file is in the grammar
-abbrev pub IsProofFile : List ℕ → Type 0
-IsProofFile bytes = files.IsProofFile (fields_in (ahead_from 1 bytes).lines)
+abbrev pub IsProofText : List ℕ → Type 0
+IsProofText bytes = files.IsProofFile (fields_in (ahead_from 1 bytes).lines)
 
 abbrev pub refused : ℕ → List ℕ → Option (List ℕ)
 refused line rule = Some (codes "refused " ++ decimal line ++ rule)
@@ -53,9 +53,9 @@ ProofTells cs ls TooLarge text = ⊥
 
 -- what is said of a file; where its refutation is accepted no assignment satisfies its clauses
 abbrev pub ProofSays : List ℕ → Status → List ℕ → Type 0
-ProofSays bytes Done text = (cs : ClauseList) × (ls : List Line) × Spells bytes cs ls × ProofTells cs ls Done text
-ProofSays bytes No text = (cs : ClauseList) × (ls : List Line) × Spells bytes cs ls × ProofTells cs ls No text
-ProofSays bytes Bad text = (IsProofFile bytes → ⊥) × (f : CertFault) × FirstFault files.IsProofFile (ahead_from 1 bytes) f × (text ≡ proof_fault_text f)
+ProofSays bytes Done text = (cs : ClauseList) × (ls : List Line) × SpellsProof bytes cs ls × ProofTells cs ls Done text
+ProofSays bytes No text = (cs : ClauseList) × (ls : List Line) × SpellsProof bytes cs ls × ProofTells cs ls No text
+ProofSays bytes Bad text = (IsProofText bytes → ⊥) × (f : CertFault) × FirstFileFault files.IsProofFile (ahead_from 1 bytes) f × (text ≡ proof_fault_text f)
 ProofSays bytes ReadFault text = ⊥
 ProofSays bytes WriteFault text = ⊥
 ProofSays bytes Usage text = ⊥

@@ -1,4 +1,4 @@
--- The grammar of the words.
+-- The grammar of the arguments.
 use Rattle.std.specs.Prelude.{◌≡◌, ◌≢◌, ℕ, ◌≤◌, ◌<◌, ◌^◌, List, [], ◌∷◌, length, map, slice_index, codes, decimal}
 use Rattle.std.specs.Global.{Global, Vec}
 use Rattle.std.specs.declared.string.String.{String}
@@ -10,7 +10,7 @@ use Rattle.ql_app.specs.declared.words.PairCommand.TheVariants.{Check, Verify, R
 use Rattle.ql_reply.specs.Arguments.{IsFileName}
 use Rattle.ql_running.specs.declared.form.Form.TheVariants.{Text, Json}
 
--- the words of a command on the file of a name
+-- the arguments of a command on the file of a name
 abbrev pub command_words : Command → List ℕ → List (List ℕ)
 command_words Holds name = codes "holds" ∷ name ∷ []
 command_words Proof name = codes "proof" ∷ name ∷ []
@@ -26,7 +26,7 @@ IsInRange (Gen number events) = (number < 2 ^ 31) × (events ≤ 4000)
 IsInRange (Soak number) = number < 2 ^ 31
 IsInRange _ = Unit {0}
 
--- the words of a command on the files of two names
+-- the arguments of a command on the files of two names
 abbrev pub pair_words : PairCommand → List ℕ → List ℕ → List (List ℕ)
 pair_words Check name other = codes "check" ∷ name ∷ other ∷ []
 pair_words Verify name other = codes "verify" ∷ name ∷ other ∷ []
@@ -41,11 +41,11 @@ IsPairInRange (Restart replica cut) = (replica ≤ 15) × (1 ≤ cut) × (cut �
 IsPairInRange _ = Unit {0}
 
 -- what can be asked for: a command on one file, or on two, by their names
-pub data Call : Type 0 where
-  OneFile : Command → List ℕ → Call
-  TwoFiles : PairCommand → List ℕ → List ℕ → Call
+pub data NamedRequest : Type 0 where
+  OneFile : Command → List ℕ → NamedRequest
+  TwoFiles : PairCommand → List ℕ → List ℕ → NamedRequest
 
--- the words ask for this
-abbrev pub IsRequest : List (List ℕ) → Call → Type 0
+-- the arguments ask for this
+abbrev pub IsRequest : List (List ℕ) → NamedRequest → Type 0
 IsRequest words (OneFile command name) = (words ≡ command_words command name) × IsInRange command × IsFileName name
 IsRequest words (TwoFiles command name other) = (words ≡ pair_words command name other) × IsPairInRange command × IsFileName name × IsFileName other

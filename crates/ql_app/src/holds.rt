@@ -1,7 +1,7 @@
 ghost use Rattle.std.specs.Prelude.{◌≡◌, ◌≤◌, ◌++◌, IfOk, OnOk, codes, decimal, length, map};
 ghost use Rattle.ql_holds_files.specs.Holdings.{asked_of};
 ghost use Rattle.ql_app.specs.HoldsFaults.{IsToldAs};
-ghost use Rattle.ql_app.specs.HoldsFile.{HoldsSays, HoldsTells, places_text};
+ghost use Rattle.ql_app.specs.HoldsFile.{HoldsSays, HoldsTells, named_places_text};
 
 use crate::text::at_line;
 use ql_base::{EffId, MAX_WORK, NoMemory, Word, push_bytes, push_number};
@@ -67,7 +67,7 @@ fn truth_of(alloc: Global, holding: &Holding) -> Result<(Status, Vec<u8>), NoMem
 }
 
 fn fails_line(alloc: Global, names: &[Word], places: &[EffId]) -> Result<Vec<u8>, NoMemory>
-    ensures { IfOk result (λ line. line.items ≡ codes "fails" ++ places_text names.now (map (λ id. id.0) places.now) ++ codes "\n") }
+    ensures { IfOk result (λ line. line.items ≡ codes "fails" ++ named_places_text names.now (map (λ id. id.0) places.now) ++ codes "\n") }
 {
     let mut line = Vec::from_slice(alloc, b"fails")?;
     push_places(&mut line, names, places)?;
@@ -75,9 +75,9 @@ fn fails_line(alloc: Global, names: &[Word], places: &[EffId]) -> Result<Vec<u8>
     Ok(line)
 }
 
-// Appends each variable with its place.
+// Appends each variable with its effect.
 fn push_places(line: &mut Vec<u8>, names: &[Word], places: &[EffId]) -> Result<(), NoMemory>
-    ensures { OnOk result (line.new.items ≡ line.old.items ++ places_text names.now (map (λ id. id.0) places.now)) }
+    ensures { OnOk result (line.new.items ≡ line.old.items ++ named_places_text names.now (map (λ id. id.0) places.now)) }
 {
     let Some((name, other_names)) = names.split_first() else {
         return Ok(());

@@ -40,7 +40,7 @@ pub fn contracts_hold_in_runs()
 {}
 
 /// Levels are least over all executions, of what `quelea` wrote by its clause `wrote`: with status 0, to `classify` of a
-/// source, levels that give their contracts in every execution of the program, while each lower one fails in some; and with
+/// source, levels that guarantee their contracts in every execution of the program, while each lower one fails in some; and with
 /// status 1 a refusal, in which the target that no level is enough for has an execution where the highest fails.
 pub fn levels_are_least()
     ensures levels { (limits : Limits) (words : List (List ℕ)) (held : List ℕ → Option (List ℕ)) (before after : List ℕ → ℕ) (was is : Option (List ℕ)) (faults sums : ℕ)

@@ -1,7 +1,6 @@
-// The program after its words: it reads the named files from a shelf, judges them, and writes the
-// answer to a sink.
-// The one contract: what `quelea` writes is what the words and the files' bytes allow with its
-// status, and each status comes only for its cause.
+// The program without its process: it reads the files that its arguments name from a shelf, and writes the answer to a sink.
+// The one contract: what `quelea` writes is what the arguments and the files' bytes allow with its status, and each status
+// has its cause.
 #![tactic(auto)]
 
 mod holds;

@@ -1,6 +1,6 @@
 ghost use Rattle.std.specs.Prelude.{◌≡◌, ◌≤◌, ℕ, List, IfOk, OnErr};
 ghost use Rattle.ql_ports.specs.Faults.{Rose};
-ghost use Rattle.ql_app.specs.Words.{Call, IsRequest};
+ghost use Rattle.ql_app.specs.Words.{NamedRequest, IsRequest};
 ghost use Rattle.ql_reply.specs.Arguments.{word_texts};
 ghost use Rattle.ql_app.specs.Outcome.{AreHeld, IsAnswered, NoneRose, Says};
 ghost use Rattle.ql_reply.specs.Wrote.{Wrote};
@@ -17,8 +17,8 @@ const LIMITS: Limits = Limits {
     second: MAX_EXECUTION_BYTES as u32,
 };
 
-/// Answers the words, which are those of the command line without the program's own name: reads the
-/// files that they name from the shelf, and writes one text to the sink.
+/// Answers the arguments of the command line, without the program's own name: reads the files that they name from the shelf,
+/// and writes one text to the sink.
 ///
 /// The whole text is made first and then written, and writing takes no memory.
 pub fn quelea<S: Shelf, K: Sink>(
@@ -27,7 +27,7 @@ pub fn quelea<S: Shelf, K: Sink>(
     shelf: &mut S,
     sink: &mut K,
 ) -> Result<Status, NoMemory>
-    // What was written is a text that the words and the files' bytes allow with this status.
+    // What was written is a text that the arguments and the files' bytes allow with this status.
     ensures wrote { IfOk result (Wrote
         (Says (record { file = 1048576; second = 67108864 }) (word_texts words.now) (S.held shelf.old) (S.faults shelf.old) (S.faults shelf.new))
         (K.written sink.old) (K.written sink.new) (K.faults sink.old) (K.faults sink.new)) }
@@ -39,7 +39,7 @@ pub fn quelea<S: Shelf, K: Sink>(
     ensures sink_count_stays { K.faults sink.old ≤ K.faults sink.new }
 
     // Nothing failed, and the files are in their grammars: the answer is yes or no.
-    ensures complete { (call : Call) → IsRequest (word_texts words.now) call
+    ensures complete { (call : NamedRequest) → IsRequest (word_texts words.now) call
         → AreHeld (record { file = 1048576; second = 67108864 }) (S.held shelf.old) call
         → NoneRose (S.faults shelf.old) (S.faults shelf.new) call → (Rose (K.faults sink.old) (K.faults sink.new) → ⊥)
         → IsAnswered result }

@@ -11,7 +11,7 @@ use ql_reply::{Status, bad_line};
 use std::alloc::Global;
 
 /// Whether the refutation in a proof file shows that no assignment satisfies its clauses.
-pub fn judge(alloc: Global, bytes: &[u8]) -> Result<(Status, Vec<u8>), NoMemory>
+pub fn check_proof(alloc: Global, bytes: &[u8]) -> Result<(Status, Vec<u8>), NoMemory>
     requires short { length bytes.now < 2 ^ 32 }
     ensures { IfOk result (λ answer. ProofSays bytes.now answer.0 answer.1.items) }
 {

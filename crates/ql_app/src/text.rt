@@ -8,12 +8,12 @@ pub(crate) fn at_line(
     alloc: Global,
     before: &[u8],
     line: u64,
-    behind: &[u8],
+    after: &[u8],
 ) -> Result<Vec<u8>, NoMemory>
-    ensures { IfOk result (λ text. text.items ≡ before.now ++ decimal line ++ behind.now) }
+    ensures { IfOk result (λ text. text.items ≡ before.now ++ decimal line ++ after.now) }
 {
     let mut text = Vec::from_slice(alloc, before)?;
     push_number(&mut text, line)?;
-    push_bytes(&mut text, behind)?;
+    push_bytes(&mut text, after)?;
     Ok(text)
 }

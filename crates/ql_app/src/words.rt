@@ -3,7 +3,7 @@ ghost use Rattle.ql_app.specs.declared.words.Command.{Command};
 ghost use Rattle.ql_app.specs.declared.words.PairCommand.{PairCommand};
 ghost use Rattle.ql_app.specs.Requests.{call_of};
 ghost use Rattle.ql_app.specs.Words.{
-  Call,
+  NamedRequest,
   IsInRange,
   IsPairInRange,
   IsRequest,
@@ -43,9 +43,9 @@ pub enum Command {
     ClassifyWhy,
     /// The certificate of these levels.
     Prove,
-    /// The schedule of a number, with so many events.
+    /// The schedule of a number, with this number of events.
     Gen { number: u32, events: u32 },
-    /// What the run of 4000 generated events comes to.
+    /// The summary of the run of 4000 generated events.
     Soak { number: u32 },
 }
 
@@ -71,10 +71,10 @@ pub enum Request<'a> {
     TwoFiles(PairCommand, &'a str, &'a str),
 }
 
-/// What the words ask for, where they are those of a command.
+/// The command that the arguments ask for, with the names of its files; none where they ask for nothing.
 pub fn parse_words(words: &Vec<String>) -> Option<Request>
     ensures { MatchOption result
-        ((call : Call) → IsRequest (word_texts words.now) call → ⊥)
+        ((call : NamedRequest) → IsRequest (word_texts words.now) call → ⊥)
         (λ request. IsRequest (word_texts words.now) (call_of request)) }
 {
     if let [word, name] = words.as_slice() {
@@ -94,13 +94,13 @@ pub fn parse_words(words: &Vec<String>) -> Option<Request>
     many_words(words)
 }
 
-// What five words ask for, and no others but two to four.
+// What five arguments ask for. Other numbers than two to five ask for nothing.
 fn many_words(words: &Vec<String>) -> Option<Request>
     requires two { length words.now.items ≢ 2 }
     requires three { length words.now.items ≢ 3 }
     requires four { length words.now.items ≢ 4 }
     ensures { MatchOption result
-        ((call : Call) → IsRequest (word_texts words.now) call → ⊥)
+        ((call : NamedRequest) → IsRequest (word_texts words.now) call → ⊥)
         (λ request. IsRequest (word_texts words.now) (call_of request)) }
 {
     if let [word, name, other, replica, cut] = words.as_slice() {
@@ -117,7 +117,7 @@ fn many_words(words: &Vec<String>) -> Option<Request>
 
 fn three_words<'a>(word: &str, name: &'a str, last: &'a str) -> Option<Request<'a>>
     ensures { MatchOption result
-        ((call : Call) → IsRequest (word.now ∷ name.now ∷ last.now ∷ []) call → ⊥)
+        ((call : NamedRequest) → IsRequest (word.now ∷ name.now ∷ last.now ∷ []) call → ⊥)
         (λ request. IsRequest (word.now ∷ name.now ∷ last.now ∷ []) (call_of request)) }
 {
     match word {
@@ -130,7 +130,7 @@ fn three_words<'a>(word: &str, name: &'a str, last: &'a str) -> Option<Request<'
 // What `classify`, a flag and a name ask for.
 fn why_request<'a>(flag: &str, name: &'a str) -> Option<Request<'a>>
     ensures { MatchOption result
-        ((call : Call) → IsRequest (codes "classify" ∷ flag.now ∷ name.now ∷ []) call → ⊥)
+        ((call : NamedRequest) → IsRequest (codes "classify" ∷ flag.now ∷ name.now ∷ []) call → ⊥)
         (λ request. IsRequest (codes "classify" ∷ flag.now ∷ name.now ∷ []) (call_of request)) }
 {
     if flag == "--why" {
@@ -143,7 +143,7 @@ fn why_request<'a>(flag: &str, name: &'a str) -> Option<Request<'a>>
 // What `soak`, a name and a number ask for.
 fn soak_request<'a>(name: &'a str, number: &str) -> Option<Request<'a>>
     ensures { MatchOption result
-        ((call : Call) → IsRequest (codes "soak" ∷ name.now ∷ number.now ∷ []) call → ⊥)
+        ((call : NamedRequest) → IsRequest (codes "soak" ∷ name.now ∷ number.now ∷ []) call → ⊥)
         (λ request. IsRequest (codes "soak" ∷ name.now ∷ number.now ∷ []) (call_of request)) }
 {
     let number = number_up_to(number, MAX_NUMBER)?;
@@ -152,7 +152,7 @@ fn soak_request<'a>(name: &'a str, number: &str) -> Option<Request<'a>>
 
 fn four_words<'a>(word: &str, second: &'a str, third: &'a str, last: &'a str) -> Option<Request<'a>>
     ensures { MatchOption result
-        ((call : Call) → IsRequest (word.now ∷ second.now ∷ third.now ∷ last.now ∷ []) call → ⊥)
+        ((call : NamedRequest) → IsRequest (word.now ∷ second.now ∷ third.now ∷ last.now ∷ []) call → ⊥)
         (λ request. IsRequest (word.now ∷ second.now ∷ third.now ∷ last.now ∷ []) (call_of request)) }
 {
     match word {
@@ -165,7 +165,7 @@ fn four_words<'a>(word: &str, second: &'a str, third: &'a str, last: &'a str) ->
 // What `gen`, a name and two numbers ask for.
 fn gen_request<'a>(name: &'a str, number: &str, events: &str) -> Option<Request<'a>>
     ensures { MatchOption result
-        ((call : Call) → IsRequest (codes "gen" ∷ name.now ∷ number.now ∷ events.now ∷ []) call → ⊥)
+        ((call : NamedRequest) → IsRequest (codes "gen" ∷ name.now ∷ number.now ∷ events.now ∷ []) call → ⊥)
         (λ request. IsRequest (codes "gen" ∷ name.now ∷ number.now ∷ events.now ∷ []) (call_of request)) }
 {
     let number = number_up_to(number, MAX_NUMBER)?;
@@ -176,7 +176,7 @@ fn gen_request<'a>(name: &'a str, number: &str, events: &str) -> Option<Request<
 // What `run`, an option and two names ask for.
 fn json_request<'a>(option: &str, name: &'a str, other: &'a str) -> Option<Request<'a>>
     ensures { MatchOption result
-        ((call : Call) → IsRequest (codes "run" ∷ option.now ∷ name.now ∷ other.now ∷ []) call → ⊥)
+        ((call : NamedRequest) → IsRequest (codes "run" ∷ option.now ∷ name.now ∷ other.now ∷ []) call → ⊥)
         (λ request. IsRequest (codes "run" ∷ option.now ∷ name.now ∷ other.now ∷ []) (call_of request)) }
 {
     if option == "--json" {
@@ -195,7 +195,7 @@ fn five_words<'a>(
     cut: &str,
 ) -> Option<Request<'a>>
     ensures { MatchOption result
-        ((call : Call) → IsRequest (word.now ∷ name.now ∷ other.now ∷ replica.now ∷ cut.now ∷ []) call → ⊥)
+        ((call : NamedRequest) → IsRequest (word.now ∷ name.now ∷ other.now ∷ replica.now ∷ cut.now ∷ []) call → ⊥)
         (λ request. IsRequest (word.now ∷ name.now ∷ other.now ∷ replica.now ∷ cut.now ∷ []) (call_of request)) }
 {
     match word {
@@ -211,7 +211,7 @@ fn restart_request<'a>(
     cut: &str,
 ) -> Option<Request<'a>>
     ensures { MatchOption result
-        ((call : Call) → IsRequest (codes "restart" ∷ name.now ∷ other.now ∷ replica.now ∷ cut.now ∷ []) call → ⊥)
+        ((call : NamedRequest) → IsRequest (codes "restart" ∷ name.now ∷ other.now ∷ replica.now ∷ cut.now ∷ []) call → ⊥)
         (λ request. IsRequest (codes "restart" ∷ name.now ∷ other.now ∷ replica.now ∷ cut.now ∷ []) (call_of request)) }
 {
     let replica = number_up_to(replica, MAX_REPLICA)?;
@@ -240,7 +240,7 @@ fn on_two_files<'a>(command: PairCommand, name: &'a str, other: &'a str) -> Opti
     }
 }
 
-// The command that its word and a name ask for.
+// The command of a word, which is followed by the name of a file.
 fn plain_command(word: &str) -> Option<Command>
     ensures { MatchOption result
         ((command : Command) (name : List ℕ) → command_words command name ≡ word.now ∷ name ∷ [] → ⊥)
@@ -269,7 +269,7 @@ fn pair_command(word: &str) -> Option<PairCommand>
     }
 }
 
-// The number whose decimal text is a word.
+// The number that an argument spells in decimal, up to the greatest.
 fn number_up_to(word: &str, most: u32) -> Option<u32>
     ensures { MatchOption result
         ((n : ℕ) → n ≤ most → word.now ≡ decimal n → ⊥)
@@ -279,7 +279,7 @@ fn number_up_to(word: &str, most: u32) -> Option<u32>
     Some(number as u32)
 }
 
-// The number of a call of a disk that is a word, from 1.
+// The number of a call of a disk, from 1, that an argument spells.
 fn cut_of(word: &str) -> Option<u32>
     ensures { MatchOption result
         ((n : ℕ) → 1 ≤ n → n ≤ 1000000 → word.now ≡ decimal n → ⊥)

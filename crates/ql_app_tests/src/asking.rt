@@ -11,9 +11,9 @@ const ROOM: usize = 65_536;
 // The names of the files.
 const NAMES: [&str; 2] = ["source", "other"];
 
-/// The exit status and the text that the program answers to `COMMAND: FILE` or `COMMAND: FILE ~ FILE`, of which a file
-/// is its text or the name of a source. Of `3 times [effect #..] in front@back` the three parts stand between front
-/// and back, with their numbers in place of `#`.
+/// The exit status and the text that the program answers to `COMMAND: FILE` or `COMMAND: FILE ~ FILE`, where a FILE is
+/// the text of a file or the name of a source. `3 times [effect #..] in front@back` stands for three parts between
+/// front and back, with their numbers for `#`.
 pub(crate) fn asked(alloc: Global, row: &str) -> Result<Vec<u8>, NoMemory> {
     let row = built(alloc, row)?;
     let (command, files) = row.as_str().split_once(": ").unwrap_or(("", ""));
@@ -50,7 +50,7 @@ pub(crate) fn reported(alloc: Global, command: &str, files: &[&[u8]]) -> Result<
     report(alloc, status, &text)
 }
 
-/// An exit status and a text, as the tables have them.
+/// An exit status and a text, as spelled in the tables.
 pub(crate) fn report(alloc: Global, status: Status, text: &[u8]) -> Result<Vec<u8>, NoMemory> {
     let mut out = Vec::new(alloc);
     push_number(&mut out, status.number())?;
@@ -59,7 +59,7 @@ pub(crate) fn report(alloc: Global, status: Status, text: &[u8]) -> Result<Vec<u
     Ok(out)
 }
 
-/// What the program answers to a command that is followed by the names of these files.
+/// What the program answers to a command followed by the names of these files.
 pub(crate) fn answer(
     alloc: Global,
     command: &str,
@@ -80,7 +80,7 @@ pub(crate) fn words_of(alloc: Global, text: &str) -> Result<Vec<String>, NoMemor
     Ok(words)
 }
 
-/// What the program answers to all its words. It is asked twice, the second time with one byte in each fetch and in each
+/// What the program answers to its arguments. It is run twice, the second time with one byte in each fetch and in each
 /// put; where the answers differ, the text says so.
 pub(crate) fn answer_to(
     alloc: Global,
@@ -95,7 +95,8 @@ pub(crate) fn answer_to(
     Ok((status, text))
 }
 
-/// How a shelf and a sink behave: how many bytes a fetch and a put take, and which of them fails, from 1; 0 for none.
+/// How a shelf and a sink behave: how many bytes a fetch and a put take, and which of them fails, from 1, or 0 for
+/// none.
 #[derive(Drop)]
 pub(crate) struct Outside {
     pub(crate) fetched: usize,
@@ -118,7 +119,7 @@ pub(crate) const BY_BYTES: Outside = Outside {
     failing_put: 0,
 };
 
-/// What the program answers to its words, and what it wrote, over such a shelf and such a sink.
+/// What the program answers to its arguments, and what it wrote, over such a shelf and such a sink.
 pub(crate) fn answer_outside(
     alloc: Global,
     words: &Vec<String>,
@@ -137,8 +138,7 @@ pub(crate) fn answer_outside(
     Ok((status, Vec::from_slice(alloc, sink.bytes())?))
 }
 
-/// What is answered to each number of a row `FIRST LAST`, up to the first one with another answer than the first, which
-/// is then named.
+/// The answer that all numbers of a row `FIRST LAST` get. The first number with another answer is reported with it.
 pub(crate) fn answer_in_common<F: FnMut(Global, u32) -> Result<Vec<u8>, NoMemory>>(
     alloc: Global,
     row: &str,

@@ -6,7 +6,7 @@ use ql_tables::check_table;
 use std::alloc::Global;
 use std::test::Fail;
 
-// Sources with certificates, and what is said of them, from an independent implementation. Each verdict is there.
+// Sources with certificates, and the answers of an independent implementation. Each verdict occurs.
 const CHECKED: &str = r"
 check: type t { op touch(): unit { contract true; answer unit; } } ~ quelea certificate 1␊op touch eventual␊1 : c13 c14␊end␊ -> 0: op touch eventual accepted␊
 check: type t { op touch(): unit { contract true; answer unit; } } ~ quelea certificate 1␊op touch eventual␊1 : c14␊end␊ -> 1: op touch eventual refused 1 NoConflict␊
@@ -36,8 +36,8 @@ fn checks_certificates(rt: HostRuntime) -> Result<(), Fail> {
     check_table(rt.alloc(), CHECKED, asked)
 }
 
-// Clauses with proofs, from an independent implementation: a variable out of range, a hint that isn't there, and files
-// that are no proofs.
+// Clauses with proofs, and the answers of an independent implementation: a variable out of range, a hint that isn't
+// there, and files that aren't proofs.
 const PROOFS: &str = "
 proof: variables 2␊c 1 2␊c 1 -2␊c -1␊1 3 : c1␊end␊ -> 1: refused 1 BadVariable␊
 proof: variables 2␊c 1 2␊c 1 -2␊c -1␊1 1 : c4␊end␊ -> 1: refused 1 BadHint␊
@@ -51,7 +51,7 @@ fn checks_proofs(rt: HostRuntime) -> Result<(), Fail> {
     check_table(rt.alloc(), PROOFS, asked)
 }
 
-// Sources whose levels are proved, and whether each line of the levels is accepted by the proof.
+// Sources whose levels are proved, and whether `check` accepts the proof of each level.
 const PROVED: &str = "
 bank -> all accepted
 register -> all accepted
@@ -97,7 +97,7 @@ op touch eventual
 end
 ";
 
-// Of each range of numbers, the certificate is cut to so many bytes, and this is answered, by an independent
+// For each range of numbers, the certificate is cut to that many bytes, with this answer by an independent
 // implementation. The last line feed may be missing.
 const CUT: &str = "
 0 19 -> 2: bad certificate at 1: Unexpected␊

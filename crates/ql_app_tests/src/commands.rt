@@ -8,9 +8,9 @@ use ql_tables::{check_table, number};
 use std::alloc::Global;
 use std::test::Fail;
 
-// The words; how many bytes a fetch and a put take, which fetch and which put fails (0: none); and a file with its text.
-// The exit status and what was written. Sessions see their own writes, lines end with or without a carriage return, and
-// the last line without a line feed.
+// The arguments; how many bytes a fetch and a put take, and which fetch and which put fail (0 for none); and a file
+// with its text. Then the exit status and what was written. Sessions see their own writes, lines end with or without a
+// carriage return, and the last line with or without a line feed.
 const ANSWERED: &str = r"
 holds own; 1 0 0; own: contract forall a. soo(a, cur) => vis(a, cur)␊at 2␊effect 1 x w session 1 vis␊effect 2 x w session 1 vis 1␊end␊ -> 0: holds␊
 holds lost; 1 0 0; lost: contract forall a. soo(a, cur) => vis(a, cur)␊at 2␊effect 1 x w session 1 vis␊effect 2 x w session 1 vis␊end␊ -> 1: fails a=1␊

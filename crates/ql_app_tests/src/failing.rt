@@ -1,8 +1,7 @@
 use crate::asking::{BY_BYTES, Outside, answer_in_common, answer_outside, report, words_of};
-use crate::sources::BANK;
 use ql_app::Status;
 use ql_base::{NoMemory, push_bytes, push_number};
-use ql_tables::check_table;
+use ql_tables::{BANK, check_table};
 use std::alloc::Global;
 use std::test::Fail;
 
@@ -16,8 +15,8 @@ deliver 1
 call 2 at 1 x getbalance
 ";
 
-// A run of the bank, whose source has 984 bytes and whose schedule has 139. They are fetched byte by byte, and one fetch
-// more finds the end. Of each range of numbers, that fetch fails, and this is answered.
+// A run of the bank, whose source has 984 bytes and whose schedule has 139. They are fetched byte by byte, and one
+// fetch more reaches the end. For each range of numbers, that fetch fails, with this answer.
 const FETCHES: &str = "
 1 985 -> 3: read fault source␊
 986 1125 -> 3: read fault other␊
@@ -43,8 +42,8 @@ fn answered_to_failing_fetch(alloc: Global, failing: u32) -> Result<Vec<u8>, NoM
     report(alloc, status, &text)
 }
 
-// The same run, whose text has 379 bytes, put 16 at a time. Of each range of numbers, that put fails, and this is the exit
-// status, and whether what was written are the first bytes of the text, 16 for each put before.
+// The same run, whose text has 379 bytes, put 16 at a time. For each range of numbers, that put fails, with this exit
+// status, and what was written is a prefix of the text, with 16 bytes for each put before.
 const PUTS: &str = "
 1 24 -> 4: written up to there
 25 25 -> 0: written up to there

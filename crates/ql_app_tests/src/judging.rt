@@ -2,7 +2,7 @@ use crate::asking::asked;
 use ql_tables::check_table;
 use std::test::Fail;
 
-// Files of `holds`, with the exit status and what is printed, from an independent implementation. There are a
+// `holds` files, with the exit status and the text that an independent implementation prints. There are a
 // contract that holds, contracts that fail, each rule of such a file, and too much work.
 const HOLDS: &str = r"
 holds: contract forall a. soo(a, cur) => vis(a, cur)␊at 2␊effect 1 x w session 1 vis␊effect 2 x w session 1 vis␊end␊ -> 1: fails a=1␊
@@ -47,8 +47,9 @@ fn judges_contracts_at_effects(rt: HostRuntime) -> Result<(), Fail> {
     check_table(rt.alloc(), HOLDS, asked)
 }
 
-// Executions of sources, from an independent implementation: that all contracts hold, a breach of an operation's and of
-// a transaction's, each rule of an execution's file, faults of the source, and too much work.
+// Executions of sources, with the answers of an independent implementation: all contracts hold, a breach of an
+// operation's and of a transaction's contract, each rule of an execution's file, faults of the source, and too much
+// work.
 const VERIFIED: &str = r#"
 verify: shop ~ execution␊effect 1 p restock (10) = unit emit (10) session 1 txn - stamp 1 vis␊effect 2 p stock_left () = 10 emit - session 2 txn - stamp 2 vis 1␊effect 3 c add_item ("tea", 2) = unit emit ("tea", 2) session 1 txn 1:fill stamp 2 vis␊effect 4 c add_item ("cup", 1) = unit emit ("cup", 1) session 1 txn 1:fill stamp 3 vis 3␊effect 5 c show () = {:} emit - session 3 txn - stamp 1 vis␊effect 6 c show () = {"cup": 1, "tea": 2} emit - session 2 txn 2:follow stamp 4 vis 3 4␊effect 7 c add_item ("tea", 1) = unit emit ("tea", 1) session 2 txn 2:follow stamp 5 vis 3 4 6␊effect 8 p reserve (3) = true emit (3) session 4 txn - stamp 3 vis 1 2␊effect 9 c show () = {"cup": 1, "tea": 2} emit - session 3 txn 3:report stamp 4 vis 3 4 5␊effect 10 p stock_left () = 7 emit - session 3 txn 3:report stamp 5 vis 1 2 8␊effect 11 c show () = {"cup": 1, "tea": 3} emit - session 5 txn - stamp 6 vis 3 4 5 6 7 9␊effect 12 p stock_left () = 7 emit - session 5 txn - stamp 7 vis 1 2 8 10␊effect 13 p stock_left () = 7 emit - session 1 txn - stamp 4 vis 1 2 8␊effect 14 p stock_left () = 7 emit - session 1 txn - stamp 6 vis 1 2 8 10 13␊effect 15 p reserve (8) = false emit - session 4 txn - stamp 8 vis 1 2 8 10 12 13 14␊end␊ -> 0: holds␊
 verify: v ~ execution␊effect 1 x w () = unit emit - session 1 txn - stamp 1 vis␊effect 2 x w () = unit emit - session 1 txn - stamp 2 vis 1␊end␊ -> 0: holds␊

@@ -4,7 +4,7 @@ use ql_tables::check_table;
 use std::alloc::Global;
 use std::test::Fail;
 
-// The least levels of sources, or their first fault, from an independent implementation. Each rule is there.
+// The least levels of sources, or their first fault, from an independent implementation. Each rule occurs.
 const CLASSIFIED: &str = r"
 classify: type t { op touch(): unit { contract true; answer unit; } } -> 0: op touch eventual␊
 classify: bank -> 0: op deposit eventual␊op withdraw strong␊op getbalance eventual␊txn audit rr␊txn peek rc␊txn trail mav␊
@@ -42,7 +42,7 @@ fn tells_least_levels_or_the_first_fault(rt: HostRuntime) -> Result<(), Fail> {
     check_table(rt.alloc(), CLASSIFIED, asked)
 }
 
-// Sources of which no level is enough, and the front of what is printed. Which assignment is printed is open.
+// Sources for which no level is enough, and the start of what is printed. Which assignment is printed is left open.
 const NO_LEVEL: &str = "
 classify: type t { op touch(): unit { contract forall a. sameobj(a, cur) => vis(a, cur); answer unit; } } -> 1: none op touch␊atoms eq(a,a) 
 prove: type t { op touch(): unit { contract forall a. sameobj(a, cur) => vis(a, cur); answer unit; } } -> 1: none op touch␊atoms eq(a,a) 
@@ -63,7 +63,7 @@ fn front_of_asked(alloc: Global, row: &str) -> Result<Vec<u8>, NoMemory> {
     Ok(text)
 }
 
-// How many spaces a source has, and what is said of it.
+// How many spaces a source has, and the answer.
 const SPACES: &str = "
 1048577 -> 7: too large source␊
 1048576 -> 2: bad source at 1048576: Unexpected␊

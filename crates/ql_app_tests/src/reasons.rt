@@ -5,9 +5,9 @@ use ql_tables::check_table;
 use std::alloc::Global;
 use std::test::Fail;
 
-// Sources, and what `classify --why` says of them, with no atoms, up to the level of the first block; and then what `verify`
-// of the source says of that block, up to the effect. Which execution is printed is open. A block that isn't there is asked
-// as an execution of no effects.
+// Sources, and what `classify --why` prints for them, without atoms, up to the level of the first block; then what
+// `verify` prints for that block, up to the effect. Which execution is printed is left open. A missing block is
+// verified as an execution without effects.
 const FIRST_BLOCKS: &str = "
 register -> 0: op write eventual␊op read causal␊why eventual; 1: fails op read
 type t { op touch(): unit { contract true; answer unit; } } -> 0: op touch eventual␊why ; 0: holds␊
@@ -45,7 +45,7 @@ fn first_block(alloc: Global, row: &str) -> Result<Vec<u8>, NoMemory> {
     Ok(out)
 }
 
-// What `verify` says of an execution of these effects, up to the place of a breach.
+// What `verify` prints for an execution of these effects, up to the effect of a breach.
 fn push_verified(
     alloc: Global,
     out: &mut Vec<u8>,

@@ -5,7 +5,7 @@ use ql_tables::check_table;
 use std::alloc::Global;
 use std::test::Fail;
 
-// Schedules, with what is printed of their runs, from an independent implementation: each reply, each level's way to answer,
+// Schedules, with what an independent implementation prints of their runs: each reply, the way that each level answers,
 // a whole day of a shop with a partition, a loss and a resend, and faults of both files.
 const RUNS: &str = r#"
 run: bank ~ quelea schedule 1␊replicas 2␊object x account␊events␊call 1 at 0 x deposit 100␊call 2 at 1 x getbalance␊deliver 1␊call 2 at 1 x getbalance␊ -> 0: levels␊op deposit eventual␊op withdraw strong␊op getbalance eventual␊txn audit rr␊txn peek rc␊txn trail mav␊replies␊1 ok 1 unit␊2 ok 2 0␊3 applies 1␊4 ok 3 100␊execution␊effect 1 x deposit (100) = unit emit (100) session 1 txn - stamp 1 vis␊effect 2 x getbalance () = 0 emit - session 2 txn - stamp 1 vis␊effect 3 x getbalance () = 100 emit - session 2 txn - stamp 2 vis 1 2␊end␊

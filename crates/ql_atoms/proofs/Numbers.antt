@@ -6,7 +6,7 @@ use Rattle.ql_atoms.specs.declared.atoms.Atom.{Atom}
 use Rattle.ql_atoms.specs.declared.atoms.Atom.TheVariants.{Pair, Current, Is}
 use Rattle.ql_atoms.specs.declared.atoms.PairKind.{PairKind}
 use Rattle.ql_atoms.specs.declared.atoms.PairKind.TheVariants.{Eq, So, SameObj, Vis, Hbo, Hb, SameTxn}
-use Rattle.ql_atoms.specs.Atoms.{Size, Fits, kind_place, place_of, number_of, count_of, relations_of}
+use Rattle.ql_atoms.specs.Atoms.{Size, Fits, kind_place, atom_place, number_of, count_of, relations_of}
 
 kinds : List PairKind
 kinds = Eq ∷ So ∷ SameObj ∷ Vis ∷ Hbo ∷ Hb ∷ SameTxn ∷ []
@@ -34,10 +34,10 @@ few_kinds Hb = omega arith
 few_kinds SameTxn = omega arith
 
 -- a relation's atoms come before all others
-pair_below : (s : Size) (kind : PairKind) (i j : ℕ) → Fits s (Pair kind i j) → place_of s (Pair kind i j) < relations_of s
+pair_below : (s : Size) (kind : PairKind) (i j : ℕ) → Fits s (Pair kind i j) → atom_place s (Pair kind i j) < relations_of s
 pair_below s kind i j h =
     let inner : i * s.constants + j < s.constants * s.constants = mul-add-lt i s.constants j s.constants h.0 h.1 in
-    let outer : place_of s (Pair kind i j) < (s.constants * s.constants) * 7 = mul-add-lt (kind_place kind) (s.constants * s.constants) (i * s.constants + j) 7 (few_kinds kind) inner in
+    let outer : atom_place s (Pair kind i j) < (s.constants * s.constants) * 7 = mul-add-lt (kind_place kind) (s.constants * s.constants) (i * s.constants + j) 7 (few_kinds kind) inner in
     omega arith
 
 same_pair : (s : Size) (k l : PairKind) (i j p q : ℕ) → Fits s (Pair k i j) → Fits s (Pair l p q) → number_of s (Pair k i j) ≡ number_of s (Pair l p q) → Pair k i j ≡ Pair l p q

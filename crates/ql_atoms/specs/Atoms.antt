@@ -14,7 +14,7 @@ pub record Size : Type 0 where
 abbrev pub size_of : Shape → Size
 size_of s = record { constants = s.constants; operations = s.operations }
 
--- the place of a relation among the seven, from 0
+-- the index of a relation among the seven, from 0
 abbrev pub kind_place : PairKind → ℕ
 kind_place Eq = 0
 kind_place So = 1
@@ -24,7 +24,7 @@ kind_place Hbo = 4
 kind_place Hb = 5
 kind_place SameTxn = 6
 
--- the atom speaks of constants and operations of the size alone
+-- the atom has only constants and operations within the size
 abbrev pub Fits : Size → Atom → Type 0
 Fits s (Pair kind i j) = (i < s.constants) × (j < s.constants)
 Fits s (Current i) = i < s.constants
@@ -38,13 +38,13 @@ relations_of s = 7 * (s.constants * s.constants)
 abbrev pub count_of : Size → ℕ
 count_of s = relations_of s + s.constants + s.operations * s.constants
 
--- The place of an atom, from 0: first the relations, each a square of rows; then the current
+-- The index of an atom, from 0: first the relations, each a square of rows; then the current
 -- effects; then the operations, each a row.
-abbrev pub place_of : Size → Atom → ℕ
-place_of s (Pair kind i j) = kind_place kind * (s.constants * s.constants) + (i * s.constants + j)
-place_of s (Current i) = relations_of s + i
-place_of s (Is o i) = relations_of s + s.constants + (o.0 * s.constants + i)
+abbrev pub atom_place : Size → Atom → ℕ
+atom_place s (Pair kind i j) = kind_place kind * (s.constants * s.constants) + (i * s.constants + j)
+atom_place s (Current i) = relations_of s + i
+atom_place s (Is o i) = relations_of s + s.constants + (o.0 * s.constants + i)
 
 -- atoms are numbered from 1
 abbrev pub number_of : Size → Atom → ℕ
-number_of s a = suc (place_of s a)
+number_of s a = suc (atom_place s a)

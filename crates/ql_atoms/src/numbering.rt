@@ -21,7 +21,7 @@ pub fn number(a: Atom, s: Shape) -> u32
     }
 }
 
-/// The atom with a number.
+/// The atom with this number, if any; the first has number 1.
 pub fn atom_of(n: u32, s: Shape) -> Option<Atom>
     ensures counted { IsSome result ↔ ((1 ≤ n) × (n ≤ count_of (size_of s))) }
     ensures numbered { IfSome result (λ a. Fits (size_of s) a × (number_of (size_of s) a ≡ n)) }
@@ -46,7 +46,7 @@ pub fn atom_of(n: u32, s: Shape) -> Option<Atom>
     }
 }
 
-/// The row and the column of a place in rows of one width.
+/// The row and the column of an index into rows of this width.
 fn cell(place: u32, width: u32) -> (u32, u32)
     requires { 0 < width }
     ensures place { result.0 * width + result.1 ≡ place }

@@ -12,15 +12,15 @@ is_lower b = nat_le 97 b && nat_le b 122
 unfoldable pub is_digit : ℕ → Bool
 is_digit b = nat_le 48 b && nat_le b 57
 
--- what a name may go on with: a lower-case letter, a digit or `_`
+-- what a name may continue with: a lower-case letter, a digit or `_`
 unfoldable pub is_name_byte : ℕ → Bool
 is_name_byte b = nat_le 97 b && nat_le b 122 || nat_le 48 b && nat_le b 57 || (b == 95)
 
--- what may not stand straight after a number: a letter of either case, a digit or `_`
+-- what may not directly follow a number: a letter of either case, a digit or `_`
 unfoldable pub is_word_byte : ℕ → Bool
 is_word_byte b = nat_le 97 b && nat_le b 122 || nat_le 65 b && nat_le b 90 || nat_le 48 b && nat_le b 57 || (b == 95)
 
--- what may stand inside a text: printable ASCII but `"` and `\`
+-- what a text may contain: printable ASCII except `"` and `\`
 unfoldable pub is_text_byte : ℕ → Bool
 is_text_byte b = nat_le 32 b && nat_le b 126 && not (b == 34) && not (b == 92)
 

@@ -2,7 +2,7 @@ use Rattle.std.specs.Prelude.{ℕ, ◌≡◌, ◌≤◌, ◌<◌, Bool, true, fa
 use Rattle.std.specs.List.{AllPass, list_any}
 use Rattle.ql_base.specs.Bytes.{is_lower, is_name_byte}
 
--- the words that no name is
+-- the reserved words, none of which is a name
 unfoldable pub keywords : List (List ℕ)
 keywords =
     codes "type" ∷ codes "state" ∷ codes "op" ∷ codes "contract" ∷ codes "answer" ∷ codes "emit" ∷ codes "when"

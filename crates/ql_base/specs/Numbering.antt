@@ -6,15 +6,15 @@ use Rattle.std.specs.Str.{bytes_eq}
 abbrev pub has_name : List (List ℕ) → List ℕ → Bool
 has_name names w = list_any (bytes_eq w) names
 
--- the first place of a name in a list
+-- the index of the first occurrence of a name in a list
 abbrev pub place : List (List ℕ) → List ℕ → Option ℕ
 place names w = position (bytes_eq w) names
 
--- the list with the name at its end, where it wasn't there
+-- the list with the name appended, unless it is already there
 abbrev pub with_name : List (List ℕ) → List ℕ → List (List ℕ)
 with_name names w = if has_name names w then names else names ++ w ∷ []
 
--- names of 1 to 32 bytes, few enough to be numbered by 32 bits
+-- names of 1 to 32 bytes, few enough to be numbered with 32 bits
 pub record AreNames (names : List (List ℕ)) : Type 0 where
   pub some : All (λ w. 1 ≤ length w) names
   pub short : All (λ w. length w ≤ 32) names

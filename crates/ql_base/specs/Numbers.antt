@@ -13,6 +13,6 @@ pub record Spells (most n : ℕ) (text : List ℕ) : Type 0 where
   pub bounded : n ≤ most
   pub spelled : decimal n ≡ text
 
--- the answer is the number up to `most` that `text` spells, and none where it spells no such number
+-- the answer is the number up to `most` that `text` spells, or `None` if it spells no such number
 abbrev pub IsNumberOf : ℕ → List ℕ → Option ℕ → Type 0
 IsNumberOf most text answer = MatchOption answer ((n : ℕ) → ¬ Spells most n text) (λ n. Spells most n text)

@@ -1,6 +1,6 @@
 use Rattle.std.specs.Prelude.{◌≡◌, ◌≤◌, ◌-◌, ℕ, List, ◌++◌, length, take, replicate}
 
--- a name's bytes, filled up with zeros to a row of 32
+-- a name's bytes, padded with zeros to a row of 32
 abbrev pub padded : List ℕ → List ℕ
 padded bytes = bytes ++ replicate (32 - length bytes) 0
 

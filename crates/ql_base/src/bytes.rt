@@ -33,7 +33,7 @@ pub fn is_digit(b: u8) -> bool
     matches!(b, b'0'..=b'9')
 }
 
-/// What a name may go on with: a lower-case letter, a digit or `_`.
+/// What a name may continue with: a lower-case letter, a digit or `_`.
 #[tactic(auto, unfolding(crate::specs::Bytes::is_name_byte))]
 pub fn is_name_byte(b: u8) -> bool
     ensures { result ≡ is_name_byte b }
@@ -41,7 +41,7 @@ pub fn is_name_byte(b: u8) -> bool
     matches!(b, b'a'..=b'z' | b'0'..=b'9' | b'_')
 }
 
-/// What may not stand straight after a number: a letter of either case, a digit or `_`.
+/// What may not directly follow a number: a letter of either case, a digit or `_`.
 #[tactic(auto, unfolding(crate::specs::Bytes::is_word_byte))]
 pub fn is_word_byte(b: u8) -> bool
     ensures { result ≡ is_word_byte b }
@@ -49,7 +49,7 @@ pub fn is_word_byte(b: u8) -> bool
     matches!(b, b'a'..=b'z' | b'A'..=b'Z' | b'0'..=b'9' | b'_')
 }
 
-/// What may stand inside a text: printable ASCII but `"` and `\`.
+/// What a text may contain: printable ASCII except `"` and `\`.
 #[tactic(auto, unfolding(crate::specs::Bytes::is_text_byte))]
 pub fn is_text_byte(b: u8) -> bool
     ensures { result ≡ is_text_byte b }
@@ -57,7 +57,7 @@ pub fn is_text_byte(b: u8) -> bool
     matches!(b, b' '..=b'~') && b != b'"' && b != b'\\'
 }
 
-/// Whether each byte may stand inside a text. All of them are asked, which takes less time than to stop early.
+/// Whether a text may contain each of these bytes. All are tested, which is faster than stopping early.
 pub fn are_text_bytes(text: &[u8]) -> bool
     ensures { result ≡ list_all is_text_byte text.now }
 {

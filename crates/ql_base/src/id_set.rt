@@ -43,7 +43,7 @@ impl IdSet {
         self.ids.is_empty()
     }
 
-    /// The id at the place `k`, counted from 0 in ascending order.
+    /// The id at the index `k` in ascending order.
     pub fn get(&self, k: usize) -> u32
         requires { k < length self.now }
         ensures { result ≡ slice_index self.now k }
@@ -65,7 +65,7 @@ impl IdSet {
         place_of(&self.ids, id).is_ok()
     }
 
-    /// Adds an id, and tells whether it was new.
+    /// Adds an id, and returns whether it was new. After an error the set is unchanged.
     pub fn insert(&mut self, id: u32) -> Result<bool, NoMemory>
         ensures new { IfOk result (λ new. new ≡ not (has_id self.old id)) }
         ensures added { OnOk result (self.new ≡ with_id self.old id) }
@@ -96,7 +96,7 @@ impl IdSet {
     }
 }
 
-// The place of an id, or the place where it belongs. The end is tried first.
+// The index of an id, or the index where it belongs. The end is tried first.
 fn place_of(ids: &[u32], id: u32) -> Result<usize, usize>
     requires { IsAscending ids.now }
     ensures found { OnOk result ((has_id ids.now id ≡ true) × (with_id ids.now id ≡ ids.now)) }

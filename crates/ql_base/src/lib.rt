@@ -1,6 +1,6 @@
-// What every other crate shares: limits, names and the numbers given to them, sets of ids, decimal
-// numbers, and the answer for want of memory. The one contract: a set of ids is its ascending list,
-// names are the list of their first occurrences, and a number is written and read as its decimal.
+// What every other crate shares: limits, names and their numbers, sets of ids, decimal numbers, and
+// the out-of-memory error. The one contract: a set of ids is its ascending list, names are the list
+// of their first occurrences, and a number is written and read in decimal.
 #![tactic(auto)]
 
 mod bytes;

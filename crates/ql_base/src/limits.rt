@@ -84,7 +84,7 @@ pub const MAX_BODY_VARIABLES: u32 = 256;
 /// Most evaluations of a contract's body that one request may ask for.
 pub const MAX_WORK: u128 = 20_000_000;
 
-/// The limits in figures, so that a definition that cites one by its name says a number.
+/// The limits as numbers, so that a definition that cites one by its name has its value.
 pub fn limits_in_figures()
     ensures small_files { (MAX_SOURCE_BYTES ≡ 1048576) × (MAX_SCHEDULE_BYTES ≡ 1048576)
         × (MAX_HOLDS_BYTES ≡ 1048576) × (MAX_PROOF_BYTES ≡ 1048576) }

@@ -6,7 +6,7 @@ ghost use Rattle.ql_base.specs.Names.{is_keyword, IsName, IsWord};
 use crate::bytes::{is_lower, is_name_byte};
 use crate::limits::MAX_NAME_BYTES;
 
-/// Whether the source language keeps this word for itself.
+/// Whether this word is a keyword of the source language.
 #[tactic(auto, unfolding(crate::specs::Names::is_keyword, crate::specs::Names::keywords))]
 pub fn is_keyword(word: &[u8]) -> bool
     ensures { result ≡ is_keyword word.now }
@@ -14,7 +14,7 @@ pub fn is_keyword(word: &[u8]) -> bool
     !word.is_empty() && is_listed(word)
 }
 
-// Whether a word is a keyword: only those are looked at that begin with the same byte.
+// Whether a word is a keyword. It is compared only with those that begin with the same byte.
 #[tactic(auto, unfolding(crate::specs::Names::is_keyword, crate::specs::Names::keywords))]
 fn is_listed(word: &[u8]) -> bool
     requires { 0 < length word.now }
@@ -60,15 +60,15 @@ fn is_listed(word: &[u8]) -> bool
     }
 }
 
-/// How many bytes at the front of `text` a name may hold.
+/// The length in bytes of the longest prefix of `text` that a name may contain.
 pub fn name_bytes(text: &[u8]) -> usize
     ensures { result ≡ prefix_len is_name_byte text.now }
 {
     text.iter().take_while(|b| is_name_byte(**b)).count()
 }
 
-/// Whether `text` is a name: a lower-case letter, then lower-case letters, digits and `_`, of at
-/// most 32 bytes and no keyword.
+/// Whether `text` is a name: a lower-case letter, then lower-case letters, digits and `_`, at most
+/// 32 bytes long and not a keyword.
 pub fn is_name(text: &[u8]) -> bool
     ensures { IsTrue result ↔ IsName text.now }
 {
@@ -82,7 +82,7 @@ fn is_word(text: &[u8]) -> bool
     !text.is_empty() && is_lower(text[0]) && are_name_bytes(text)
 }
 
-// Whether a name may hold each byte. All of them are asked, which takes less time than to stop early.
+// Whether a name may contain each of these bytes. All are tested, which is faster than stopping early.
 fn are_name_bytes(text: &[u8]) -> bool
     ensures { result ≡ list_all is_name_byte text.now }
 {

@@ -1,6 +1,6 @@
 use std::alloc::{AllocError, AllocFailed};
 
-/// No memory was left. Any call whose result names it may answer so at any point.
+/// Out of memory. Any call whose result names this error may return it at any point.
 #[derive(Clone, Copy, Debug, PartialEq, Eq)]
 pub struct NoMemory;
 

@@ -6,14 +6,15 @@ ghost use Rattle.ql_base.specs.Numbers.{IsNumberOf, IsNumeral};
 
 use crate::bytes::is_digit;
 
-/// How many digits stand at the front of `text`.
+/// The number of digits at the start of `text`.
 pub fn digit_bytes(text: &[u8]) -> usize
     ensures { result ≡ prefix_len is_digit text.now }
 {
     text.iter().take_while(|b| is_digit(**b)).count()
 }
 
-/// The number up to `most` whose decimal text is `text`: no sign, no leading zero, no blank.
+/// The number up to `most` whose decimal text is `text`, without a sign, a leading zero or a blank;
+/// `None` if there is none.
 pub fn number_of(text: &[u8], most: u64) -> Option<u64>
     ensures { IsNumberOf most text.now result }
 {
@@ -31,7 +32,7 @@ fn is_numeral(text: &[u8]) -> bool
     digit_bytes(text) == text.len() && (text.len() == 1 || text.len() > 1 && text[0] != b'0')
 }
 
-// The value of digits, where it is at most `most`.
+// The value of decimal digits; `None` if it is greater than `most`.
 fn value_of(digits: &[u8], most: u64) -> Option<u64>
     requires { AllPass is_digit digits.now }
     ensures { MatchOption result (most < digits_value 10 digits.now)

@@ -9,7 +9,7 @@ use indexmap::IndexSet;
 use std::alloc::Global;
 use std::marker::Model;
 
-/// Distinct names, numbered from 0 by their first occurrence, seen as the list of them.
+/// Distinct names, numbered from 0 in the order of their first occurrence, seen as their list.
 #[derive(Drop)]
 pub struct Names {
     words: IndexSet<Word>,
@@ -44,7 +44,7 @@ impl Names {
         self.words.len() as u32
     }
 
-    /// The place of the name `w`, which is put at the end where it is new.
+    /// The number of the name `w`, which is added at the end if it is new. After an error nothing is added.
     pub fn number(&mut self, w: &[u8]) -> Result<u32, NoMemory>
         requires some { 1 ≤ length w.now }
         requires few { length w.now ≤ 32 }
@@ -57,7 +57,7 @@ impl Names {
         Ok(k as u32)
     }
 
-    /// The place of the name `w`.
+    /// The number of the name `w`; `None` if it isn't there.
     pub fn find(&self, w: &[u8]) -> Option<u32>
         ensures numbered { result ≡ place self.now w.now }
         ensures known { is_some result ≡ has_name self.now w.now }
@@ -70,7 +70,7 @@ impl Names {
         Some(k as u32)
     }
 
-    /// The name at place `k`.
+    /// The name with the number `k`.
     pub fn name(&self, k: u32) -> &Word
         requires { k < length self.now }
         ensures { slice_get self.now k ≡ Some result.now }
@@ -78,7 +78,7 @@ impl Names {
         &self.words.as_slice()[k as usize]
     }
 
-    /// Keeps the first `len` names alone.
+    /// Keeps only the first `len` names.
     pub fn truncate(&mut self, len: u32)
         ensures { self.new ≡ take len self.old }
     {

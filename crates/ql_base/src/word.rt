@@ -4,7 +4,7 @@ use std::marker::Model;
 
 /// A name of 1 to 32 bytes, seen as the list of its bytes.
 ///
-/// It is kept in place, so making, copying and comparing one takes no memory. Words are ordered by their bytes.
+/// It is stored inline, so making, copying and comparing one allocates nothing.
 #[derive(Clone, Copy, PartialEq, Eq, Hash)]
 pub struct Word {
     row: [u8; 32],
@@ -28,7 +28,7 @@ impl Model for Word {
 }
 
 impl Word {
-    /// The word of the bytes `b`, which number 1 to 32.
+    /// The word with the bytes `b`, of which there are 1 to 32.
     pub fn of(b: &[u8]) -> Word
         requires some { 1 ≤ length b.now }
         requires few { length b.now ≤ 32 }

@@ -6,8 +6,8 @@ use Rattle.std.specs.List.{concat}
 use Rattle.std.specs.Prelude.{IfOk}
 use Rattle.std.specs.Global.{Vec}
 use Rattle.ql_base.specs.declared.no_memory.NoMemory.{NoMemory}
-use Rattle.ql_commands.specs.declared.answer.Answer.{Answer}
-use Rattle.ql_commands.specs.declared.answer.Answer.TheVariants.{Done, No, Bad}
+use Rattle.ql_reply.specs.declared.status.Status.{Status}
+use Rattle.ql_reply.specs.declared.status.Status.TheVariants.{Done, No, Bad, ReadFault, WriteFault, Usage, TooLarge}
 use Rattle.ql_commands.specs.Sources.{IsSourceOf}
 use Rattle.ql_lang.specs.declared.program.Program.{Program}
 use Rattle.ql_baseline.specs.Comparison.{BaselineSays, IsComparison}
@@ -26,11 +26,15 @@ one_more text xs k x old new at before longer =
     longer ∙ ap (λ (l : List ℕ). l ++ text x) before ∙ sym (joined_more text (take k xs) x) ∙ sym (ap (λ ys. concat (map text ys)) more)
 
 module _ (source baseline : List ℕ) (p : Program) (stored : List Stored) (of : IsSourceOf source p) (says : IsBaseline baseline (Ok stored)) where
-  compared : (answer : Answer) (text : List ℕ) → IsComparison p stored answer text → BaselineSays source baseline answer text
+  compared : (answer : Status) (text : List ℕ) → IsComparison p stored answer text → BaselineSays source baseline answer text
   compared Done text is = (p, of, stored, says, is)
   compared No text is = (p, of, stored, says, is)
   compared Bad text is = absurd is
+  compared ReadFault text is = absurd is
+  compared WriteFault text is = absurd is
+  compared Usage text is = absurd is
+  compared TooLarge text is = absurd is
 
-  pub compared_said : (said : Result (Answer × Vec ℕ) NoMemory) → IfOk said (λ x. IsComparison p stored x.0 x.1.items) → IfOk said (λ x. BaselineSays source baseline x.0 x.1.items)
+  pub compared_said : (said : Result (Status × Vec ℕ) NoMemory) → IfOk said (λ x. IsComparison p stored x.0 x.1.items) → IfOk said (λ x. BaselineSays source baseline x.0 x.1.items)
   compared_said (Ok x) is = compared x.0 x.1.items is
   compared_said (Err e) is = tt

@@ -4,8 +4,8 @@ use Rattle.std.specs.List.{concat}
 use Rattle.std.specs.Str.{bytes_eq}
 use Rattle.ql_classify.specs.declared.finding.Finding.{Finding}
 use Rattle.ql_classify.specs.declared.finding.Finding.TheVariants.{Least, NoLevel}
-use Rattle.ql_commands.specs.declared.answer.Answer.{Answer}
-use Rattle.ql_commands.specs.declared.answer.Answer.TheVariants.{Done, No, Bad}
+use Rattle.ql_reply.specs.declared.status.Status.{Status}
+use Rattle.ql_reply.specs.declared.status.Status.TheVariants.{Done, No, Bad}
 use Rattle.ql_commands.specs.Sources.{BadSourceSays, IsSource, IsSourceOf}
 use Rattle.ql_explanation.specs.Explanation.{AreFindings}
 use Rattle.ql_ground.specs.declared.goal.Goal.{Goal}
@@ -17,7 +17,7 @@ use Rattle.ql_levels.specs.declared.level.TxnLevel.{TxnLevel}
 use Rattle.ql_levels.specs.declared.level.TxnLevel.TheVariants.{Rc, Mav, Rr}
 use Rattle.ql_levels.specs.Words.{txn_word_of, word_of}
 use Rattle.ql_line_files.specs.declared.fault.Broken.{Broken}
-use Rattle.ql_report.specs.Levels.{op_name, txn_name}
+use Rattle.ql_typing.specs.Names.{op_name, txn_name}
 use Rattle.ql_baseline.specs.Files.{IsBaseline}
 use Rattle.ql_baseline.specs.declared.stored.BaselineRule.{BaselineRule}
 use Rattle.ql_baseline.specs.declared.stored.Stored.{Stored}
@@ -38,7 +38,7 @@ txn_rank Rr = 2
 
 -- ---- the stored levels, of which the first of a target counts
 
--- what is said of the operation of a name, where something is
+-- the level that a stored line has for the operation with this name, if it is about that one
 abbrev pub op_in : Stored → List ℕ → Option (Option Level)
 op_in (Op other level) name = if bytes_eq other name then Some level else None
 op_in (Txn other level) name = None
@@ -95,23 +95,24 @@ abbrev pub AreRises : Program → List Stored → List ℕ → Type 0
 AreRises p stored text = (findings : List Finding) × AreFindings p findings × (text ≡ concat (map (rise_of p stored) findings))
 
 -- yes where there are none
-abbrev pub IsComparison : Program → List Stored → Answer → List ℕ → Type 0
+abbrev pub IsComparison : Program → List Stored → Status → List ℕ → Type 0
 IsComparison p stored Done text = AreRises p stored text × (text ≡ [])
 IsComparison p stored No text = AreRises p stored text × (text ≡ [] → ⊥)
-IsComparison p stored Bad text = ⊥
+IsComparison p stored _ text = ⊥
 
 -- bad baseline at LINE: Unexpected
 abbrev pub bad_text : Broken BaselineRule → List ℕ
 bad_text fault = codes "bad baseline at " ++ decimal fault.line ++ codes ": Unexpected\n"
 
-abbrev pub IsCompared : List ℕ → List ℕ → Answer → List ℕ → Type 0
-IsCompared source baseline answer text = (p : Program) × IsSourceOf source p × (stored : List Stored) × IsBaseline baseline (Ok stored) × IsComparison p stored answer text
+abbrev pub IsCompared : List ℕ → List ℕ → Status → List ℕ → Type 0
+IsCompared source baseline status text = (p : Program) × IsSourceOf source p × (stored : List Stored) × IsBaseline baseline (Ok stored) × IsComparison p stored status text
 
 abbrev pub IsBadBaseline : List ℕ → List ℕ → List ℕ → Type 0
 IsBadBaseline source baseline text = IsSource source × (fault : Broken BaselineRule) × IsBaseline baseline (Err fault) × (text ≡ bad_text fault)
 
--- what is said of the bytes of a source and of a stored answer
-abbrev pub BaselineSays : List ℕ → List ℕ → Answer → List ℕ → Type 0
+-- the answer for the bytes of a source and of a stored answer
+abbrev pub BaselineSays : List ℕ → List ℕ → Status → List ℕ → Type 0
 BaselineSays source baseline Done text = IsCompared source baseline Done text
 BaselineSays source baseline No text = IsCompared source baseline No text
 BaselineSays source baseline Bad text = BadSourceSays source text ⊎ IsBadBaseline source baseline text
+BaselineSays source baseline _ text = ⊥

@@ -7,7 +7,7 @@ use Rattle.ql_baseline.specs.Lines.{IsStored, is_passed}
 use Rattle.ql_baseline.specs.declared.stored.BaselineRule.{BaselineRule}
 use Rattle.ql_baseline.specs.declared.stored.Stored.{Stored}
 
--- what a line makes of what is said before it: the same, where it says nothing of levels; else the same with a target, or
+-- what a line makes of what the lines before it say: the same, if it says nothing about levels; else the same with a target, or
 -- a fault, where it is no line of an answer
 abbrev pub GivesLine : List Stored → List ℕ → Result (List Stored) BaselineRule → Type 0
 GivesLine before text (Ok after) =

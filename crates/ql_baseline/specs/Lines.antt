@@ -23,7 +23,7 @@ stored_fields (Txn name None) = codes "none" ∷ codes "txn" ∷ name ∷ []
 abbrev pub IsStored : List ℕ → Stored → Type 0
 IsStored text s = IsName (name_in s) × (fields_of text ≡ stored_fields s)
 
--- the words with which lines begin that say nothing of levels: of a refusal, and of the execution of a countermodel
+-- the first fields of lines that say nothing about levels: those of a refusal, and of the execution of a countermodel
 abbrev pub is_passed_word : List ℕ → Bool
 is_passed_word word =
     bytes_eq word (codes "strong") || (bytes_eq word (codes "atoms") || (bytes_eq word (codes "why")
@@ -33,6 +33,6 @@ abbrev pub is_passed_line : Fields → Bool
 is_passed_line [] = true
 is_passed_line (word ∷ rest) = is_passed_word word
 
--- a line that says nothing of levels; what begins with a space are words of `explain`
+-- a line that says nothing about levels; `explain` begins its explanations with a space
 abbrev pub is_passed : List ℕ → Bool
 is_passed text = begins_with 32 text || is_passed_line (fields_of text)

@@ -1,4 +1,4 @@
-ghost use Rattle.std.specs.Prelude.{◌≡◌, ◌<◌, ◌++◌, ◌^◌, ℕ, IfOk, OnOk, Some, length, map, slice_get};
+ghost use Rattle.std.specs.Prelude.{◌≡◌, ◌<◌, ◌++◌, ◌^◌, ℕ, IfOk, OnOk, length, map};
 ghost use Rattle.std.specs.List.{concat};
 ghost use Rattle.ql_classify.specs.Finding.{IsFinding};
 ghost use Rattle.ql_explanation.specs.Explanation.{AreFindings};
@@ -9,25 +9,26 @@ use crate::rises::push_rise_at;
 use crate::stored::{BaselineRule, Stored};
 use ql_base::{NoMemory, push_bytes, push_number};
 use ql_classify::Finding;
-use ql_commands::{Answer, bad_source, read_source};
-use ql_explanation::{findings, goal_of};
+use ql_commands::{bad_source, read_source};
+use ql_explanation::{finding_at, findings, goal_of};
 use ql_line_files::{Broken, FileFault, read_file};
+use ql_reply::Status;
 use ql_typing::Typed;
 use std::alloc::Global;
 
 /// The targets of a source whose levels are higher than in a stored answer, a line for each. The answer is yes where there
 /// are none.
-pub fn compare(alloc: Global, source: &[u8], baseline: &[u8]) -> Result<(Answer, Vec<u8>), NoMemory>
+pub fn compare(alloc: Global, source: &[u8], baseline: &[u8]) -> Result<(Status, Vec<u8>), NoMemory>
     requires { length source.now < 2 ^ 32 }
     ensures { IfOk result (λ answer. BaselineSays source.now baseline.now answer.0 answer.1.items) }
 {
     let typed = match read_source(alloc, source) {
         Ok(typed) => typed,
-        Err(fault) => return Ok((Answer::Bad, bad_source(alloc, fault)?)),
+        Err(fault) => return Ok((Status::Bad, bad_source(alloc, fault)?)),
     };
     match read_file(&Format { alloc }, baseline) {
         Ok(stored) => against(alloc, &typed, stored.items()),
-        Err(FileFault::Broken(fault)) => Ok((Answer::Bad, bad_baseline(alloc, fault)?)),
+        Err(FileFault::Broken(fault)) => Ok((Status::Bad, bad_baseline(alloc, fault)?)),
         Err(FileFault::NoMemory) => Err(NoMemory),
     }
 }
@@ -42,17 +43,17 @@ fn bad_baseline(alloc: Global, fault: Broken<BaselineRule>) -> Result<Vec<u8>, N
 }
 
 // What became of the levels since this answer was stored.
-fn against(alloc: Global, t: &Typed, stored: &[Stored]) -> Result<(Answer, Vec<u8>), NoMemory>
+fn against(alloc: Global, t: &Typed, stored: &[Stored]) -> Result<(Status, Vec<u8>), NoMemory>
     ensures { IfOk result (λ answer. IsComparison t.now.program stored.now answer.0 answer.1.items) }
 {
     let findings = findings(alloc, t)?;
     let text = rises(alloc, t, stored, &findings)?;
-    let answer = if text.is_empty() {
-        Answer::Done
+    let status = if text.is_empty() {
+        Status::Done
     } else {
-        Answer::No
+        Status::No
     };
-    Ok((answer, text))
+    Ok((status, text))
 }
 
 fn rises(
@@ -69,13 +70,6 @@ fn rises(
         push_rise_of(&mut text, t, stored, finding_at(findings, k))?;
     }
     Ok(text)
-}
-
-fn finding_at(findings: &[Finding], k: usize) -> &Finding
-    requires { k < length findings.now }
-    ensures { slice_get findings.now k ≡ Some result.now }
-{
-    &findings[k]
 }
 
 // Appends the line of a target, where its level rose.

@@ -13,7 +13,7 @@ use ql_base::Word;
 use ql_levels::{Level, TxnLevel, level_of, txn_of};
 use ql_lines::{after_name, after_word, first_field};
 
-/// What a line says of a target, where it does.
+/// What a line says of a target, if it is about one.
 pub(crate) fn stored_of(text: &[u8]) -> Option<Stored>
     ensures { MatchOption result ((s : Stored) → IsStored text.now s → ⊥) (λ s. IsStored text.now s) }
 {
@@ -68,7 +68,7 @@ fn none_line(text: &[u8], kind: &[u8]) -> Option<Word>
     }
 }
 
-// A word, and no more.
+// The field, if it is the only one left.
 fn last_word(text: &[u8]) -> Option<&[u8]>
     ensures { MatchOption result ((word : List ℕ) → fields_of text.now ≡ word ∷ [] → ⊥) (λ word. fields_of text.now ≡ word.now ∷ []) }
 {
@@ -79,8 +79,8 @@ fn last_word(text: &[u8]) -> Option<&[u8]>
     }
 }
 
-/// Whether a line is one that says nothing of levels: words of `explain` after a space, or a line of a refusal or of an
-/// execution.
+/// Whether a line says nothing about levels: a line of `explain` that begins with a space, or a line of a refusal or of
+/// an execution.
 pub(crate) fn is_passed(text: &[u8]) -> bool
     ensures { result ≡ is_passed text.now }
 {

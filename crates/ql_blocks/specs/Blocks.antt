@@ -1,8 +1,8 @@
 -- The blocks of effects that stand for classes of equal constants, and their order.
--- A block has the class's own effect. Where a chain of happens-before is missing, it has more: an aide, which
--- stands just before it on its object, and an opening and a closing on an object of no constant. A chain on one object
--- goes from an effect to the aide of the later one, and a chain over objects from the closing of the first to the
--- opening of the later one.
+-- A block has the class's own effect. If a chain of happens-before is missing, it has more: an aide, which comes just
+-- before it on its object, and an opening and a closing on an object of no constant. A chain on one object goes from an
+-- effect to the aide of the later one, and a chain over objects from the closing of the first to the opening of the
+-- later one.
 use Rattle.std.specs.Prelude.{ℕ, zero, suc, Bool, true, false, not, ◌&&◌, ◌==◌, if◌then◌else◌, List, [], ◌∷◌, ◌++◌}
 use Rattle.ql_base.specs.Ranges.{upto}
 use Rattle.ql_atoms.specs.declared.atoms.PairKind.TheVariants.{So, Vis, Hbo, Hb}

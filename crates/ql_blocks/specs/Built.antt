@@ -1,4 +1,4 @@
--- The execution that is built of a pattern's blocks.
+-- The execution that is built from a pattern's blocks.
 use Rattle.std.specs.Prelude.{ℕ, suc, Bool, true, false, ◌&&◌, ◌==◌, if◌then◌else◌, List, [], ◌∷◌, ◌++◌, map, length}
 use Rattle.std.specs.List.{slice_index_or}
 use Rattle.ql_atoms.specs.declared.atoms.PairKind.TheVariants.{Vis, Hbo, Hb}
@@ -39,7 +39,7 @@ op_in p Aide b = p.op b
 op_in p Opening b = p.op 0
 op_in p Closing b = p.op 0
 
--- the places of those that pass the test, counted from k
+-- the numbers of the slots that pass the test, counted from k
 abbrev pub places_from : ℕ → (Slot → Bool) → List Slot → List ℕ
 places_from k test [] = []
 places_from k test (s ∷ slots) = if test s then k ∷ places_from (suc k) test slots else places_from (suc k) test slots
@@ -56,7 +56,7 @@ draft_of p slots t = record {
   seen = places_from 1 (λ s. sees p s t) slots;
 }
 
--- the effects that drafts become after others, each stamped after those before it
+-- the effects, and after them those of the drafts, each stamped after those before it
 unfoldable pub stored_after : List Effect → List Draft → List Effect
 stored_after x [] = x
 stored_after x (d ∷ drafts) = stored_after (x ++ effect_of x d ∷ []) drafts
@@ -75,6 +75,6 @@ is_own_part _ = false
 abbrev pub is_own : ℕ → Slot → Bool
 is_own b s = (s.block == b) && is_own_part s.part
 
--- the place of the effect that stands for a constant
+-- the number of the effect that stands for a constant
 abbrev pub constant_place : Pattern → List Slot → ℕ → ℕ
 constant_place p slots c = suc (least (length slots) (λ k. is_own (leader p c) (slice_index_or slots k (slot_of 0 Own))))

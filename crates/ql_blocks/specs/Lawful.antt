@@ -1,5 +1,5 @@
--- What the relations of executions keep, of constants: equality with what is alike of equals, session order, objects, and
--- happens-before, on one object and across.
+-- What relations of executions satisfy, for constants: equality, under which equals are alike, session order, objects,
+-- and happens-before, on one object and across.
 use Rattle.std.specs.Prelude.{ℕ, suc, ◌≡◌, ◌<◌, ◌⊎◌, Bool, true}
 use Rattle.ql_atoms.specs.declared.atoms.PairKind.{PairKind}
 use Rattle.ql_atoms.specs.declared.atoms.PairKind.TheVariants.{Eq, So, SameObj, Vis, Hbo, Hb, SameTxn}
@@ -52,7 +52,7 @@ pub record IsGrouped (p : Pattern) : Type 0 where
   pub name : (i j : ℕ) → same_run (p.member i) (p.member j) ≡ true → same_name (p.member i) (p.member j) ≡ true
   pub unbroken : (i j k : ℕ) → same_run (p.member i) (p.member k) ≡ true → Has p So i j → Has p So j k → same_run (p.member i) (p.member j) ≡ true
 
--- ---- what levels promise, of constants
+-- ---- what levels guarantee, for constants
 abbrev pub Promises : Pattern → Level → ℕ → Type 0
 Promises p Eventual cur = (i j : ℕ) → Has p Hbo i j → Has p Vis j cur → Has p Vis i cur
 Promises p Causal cur = (i : ℕ) → Has p Hbo i cur → Has p Vis i cur
@@ -63,7 +63,8 @@ Promises p Strong cur = (i : ℕ) → Has p SameObj i cur → Has p Vis i cur �
 abbrev pub txn_of : Pattern → ℕ → ℕ
 txn_of p c = class_of p.count (p.rel SameTxn) c
 
--- what transactions keep, of constants of which some are current, and that each constant is in a begun transaction under one name
+-- what transactions satisfy, for constants of which some are current; each constant is in a begun transaction, all of
+-- one name
 pub record IsTxnLawful (p : Pattern) (current : ℕ → Bool) (name : DeclId) : Type 0 where
   pub txn_refl : (i : ℕ) → i < p.count → Has p SameTxn i i
   pub txn_sym : (i j : ℕ) → Has p SameTxn i j → Has p SameTxn j i

@@ -4,7 +4,7 @@ use Rattle.ql_atoms.specs.declared.atoms.PairKind.{PairKind}
 use Rattle.ql_atoms.specs.declared.atoms.PairKind.TheVariants.{Eq, So, SameObj}
 use Rattle.ql_exec.specs.declared.effect.Member.{Member}
 
--- the least number that passes the test, n where none below n does
+-- the least number that passes the test, or n if none below n does
 abbrev pub least : ℕ → (ℕ → Bool) → ℕ
 least zero test = zero
 least (suc n) test = if test zero then zero else suc (least n (λ k. test (suc k)))
@@ -13,7 +13,7 @@ least (suc n) test = if test zero then zero else suc (least n (λ k. test (suc k
 abbrev pub class_of : ℕ → (ℕ → ℕ → Bool) → ℕ → ℕ
 class_of n same c = least n (λ k. same k c)
 
--- what an execution is built of: constants that are related, each of an operation, and perhaps in a transaction
+-- what an execution is built from: constants that are related, each of an operation, and perhaps in a transaction
 pub record Pattern : Type 0 where
   pub count : ℕ
   pub rel : PairKind → ℕ → ℕ → Bool
@@ -24,7 +24,7 @@ pub record Pattern : Type 0 where
 abbrev pub leader : Pattern → ℕ → ℕ
 leader p c = class_of p.count (p.rel Eq) c
 
--- of one session: the same, or one before the other
+-- in one session: equal, or one before the other
 abbrev pub one_session : Pattern → ℕ → ℕ → Bool
 one_session p i j = p.rel So i j || (p.rel So j i || p.rel Eq i j)
 

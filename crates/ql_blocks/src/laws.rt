@@ -13,9 +13,9 @@ ghost use Rattle.ql_blocks.specs.Blocks.{no_parts, slots_of};
 ghost use Rattle.ql_blocks.specs.Built.{built, constant_place};
 ghost use Rattle.ql_blocks.specs.Naming.{Shows, named_by};
 
-/// The law of the blocks of a lawful pattern. They are an execution of at most four effects a constant. Between the
-/// effects that stand for constants each relation whose chains it shows is that of the constants, and where a level's promise
-/// is kept at a constant, its formula holds at the constant's effect.
+/// The law of the blocks of a lawful pattern. They are an execution of at most four effects a constant. Each relation
+/// whose chains they show holds between the effects that stand for constants exactly where it holds between the
+/// constants. And where a level's guarantee holds at a constant, its formula holds at the constant's effect.
 pub fn blocks_show_relations()
     ensures execution { (p : Pattern) → IsLawful p → IsGrouped p → (extra : Extra) → IsExecution (built p (slots_of p extra)) }
     ensures few { (p : Pattern) (extra : Extra) → length (built p (slots_of p extra)) ≤ 4 * p.count }
@@ -25,7 +25,7 @@ pub fn blocks_show_relations()
         → Holds (built p (slots_of p extra)) (formula_of level) (constant_place p (slots_of p extra) c) }
 {}
 
-/// The law of transactions: of a pattern with transactions, where a level's promise is kept at the current constants, its
+/// The law of transactions: in a pattern with transactions, if a level's guarantee holds at the current constants, its
 /// formula holds of their begun transaction.
 pub fn blocks_show_transactions()
     ensures execution { (p : Pattern) (current : ℕ → Bool) (name : DeclId) → IsLawful p → IsTxnLawful p current name → IsExecution (built p (slots_of p no_parts)) }

@@ -1,6 +1,6 @@
-// Executions built of relations between constants: each class of equal constants becomes a block of effects.
-// The one contract: the execution has the relations that were given, between the constants' effects, and the levels'
-// formulas hold in it where they hold of the constants.
+// Executions built from relations between constants: each class of equal constants becomes a block of effects.
+// The one contract: the execution has the pattern's relations between the constants' effects, and the levels' formulas
+// hold in it where they hold of the constants.
 #![tactic(auto)]
 
 mod laws;

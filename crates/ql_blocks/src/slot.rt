@@ -3,7 +3,7 @@
 pub enum Part {
     /// Before the constant's own effect: what happens before it by a chain over another object ends here.
     Opening,
-    /// Before it on its object: it sees what happens before it there that it doesn't see itself.
+    /// Before it on its object: sees what happens before it there that it doesn't see itself.
     Aide,
     /// The effect that the constants stand for.
     Own,
@@ -18,7 +18,7 @@ pub struct Slot {
     pub part: Part,
 }
 
-/// Which parts blocks may have beside their own effects.
+/// Which parts blocks may have besides their own effects.
 #[derive(Clone, Copy, PartialEq, Eq)]
 pub struct Extra {
     pub aides: bool,

@@ -17,7 +17,7 @@ object o t
 events
 ";
 
-/// A digest of the execution of so many calls, by 16 sessions by turns.
+/// A digest of the execution of this many calls, by 16 sessions in rotation.
 pub(crate) fn digest<H: Holder>(alloc: Global, calls: u32) -> Result<u64, NoMemory> {
     let Ok(typed) = typecheck(alloc, program(alloc)?) else {
         return Ok(0);

@@ -1,5 +1,5 @@
 // Makes 4,000 calls at one of three replicas, each of which sees all before it, and prints a digest of the
-// execution. It is measured beside a plain program.
+// execution. It is measured against a plain program.
 #![tactic(auto)]
 
 mod calling;

@@ -2,11 +2,12 @@
 use Rattle.std.proofs.Common.{◌≡◌, inl, ℕ, Option, Some, None, ◌<◌, ◌≤◌, ◌^◌, Bool, true, false, List, [], ◌∷◌, ◌++◌, map, length, decimal, arith, refl, ap, sym, ◌∙◌}
 use Rattle.std.specs.List.{AllByRecursion}
 use Rattle.std.specs.Option.{option_map}
+use Rattle.ql_lines.specs.Fields.{Fields}
 use Rattle.ql_cert.specs.Readings.{IsRead}
 use Rattle.ql_cnf.specs.declared.lit.Lit.{Lit}
 use Rattle.ql_lines.proofs.Conses.{both, heads, tails}
 use Rattle.ql_cert.specs.OneField.{no_colon, no_number, one_literal}
-use Rattle.ql_cert.specs.Spelling.{Fields, IsLit, clause_fields, colon, lit_field, signed_field}
+use Rattle.ql_cert.specs.Spelling.{IsLit, clause_fields, colon, lit_field, signed_field}
 
 module _ {X : Type 0} (IsOne : X → Type 0) (field : X → List ℕ) (one : (x y : X) → IsOne x → IsOne y → field x ≡ field y → x ≡ y) where
   -- the first of them were read, and the fields that are left are those of the others

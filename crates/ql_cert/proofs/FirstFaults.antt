@@ -1,7 +1,7 @@
 -- What a file says that is read line by line, and its first fault, once for all grammars of such files.
 use Rattle.std.proofs.Common.{◌≡◌, ℕ, Option, None, Some, Result, Ok, Err, List, [], ◌∷◌, ◌++◌, decimal, ok_or, refl, ap, sym, subst, ◌∙◌, append_assoc}
 use Rattle.std.proofs.lemmas.List.{append-nil, map-append}
-use Rattle.ql_lines.specs.Fields.{fields_of}
+use Rattle.ql_lines.specs.Fields.{fields_of, Fields}
 use Rattle.ql_lines.specs.Lines.{Ahead, Numbered}
 use Rattle.ql_line_files.specs.declared.fault.Broken.{Broken}
 use Rattle.ql_line_files.specs.declared.fault.FileFault.{FileFault}
@@ -15,9 +15,8 @@ use Rattle.ql_cert.specs.declared.fault.CertFault.{CertFault}
 use Rattle.ql_cert.specs.declared.fault.CertFault.TheVariants as fault
 use Rattle.ql_cert.specs.declared.fault.CertRule.{CertRule}
 use Rattle.ql_cert.specs.declared.fault.CertRule.TheVariants.{Unexpected, Number}
-use Rattle.ql_cert.specs.Spelling.{Fields}
-use Rattle.ql_cert.specs.Faults.FirstFault.{unexpected, number, ended}
-use Rattle.ql_cert.specs.Faults.{Begins, Closes, FirstFault, Follows, Gives, IsMisnumbered, IsRefusal, MayFollow, fault_at, fault_of, fields_in}
+use Rattle.ql_cert.specs.Faults.FirstFileFault.{unexpected, number, ended}
+use Rattle.ql_cert.specs.Faults.{BeginsFile, Closes, FirstFileFault, Follows, Gives, IsMisnumbered, IsRefusal, MayFollow, fault_at, fault_of, fields_in}
 use Rattle.ql_cert.specs.OneLine.{closes_one, gives_one}
 use Rattle.ql_cert.proofs.Walking.{Walks, joined, next_state, one_walk, parted}
 
@@ -29,7 +28,7 @@ pub record IsReader {State Said : Type 0} (first : State) (Takes : State → Fie
   pub starts : (lines first ≡ []) × IsState first
   pub takes : (s : State) (f : Fields) (t : State) → IsState s → Takes s f t → lines t ≡ lines s ++ f ∷ []
   pub stays : (s : State) (f : Fields) (t : State) → IsState s → Takes s f t → IsState t
-  pub begins : (s : State) → IsState s → Begins IsFile (lines s)
+  pub begins : (s : State) → IsState s → BeginsFile IsFile (lines s)
   pub ends : (s : State) (x : Said) → IsState s → said s ≡ Some x → IsFileOf x (lines s)
   pub walk : (x : Said) (fs : List Fields) → IsFileOf x fs → (t : State) × Walks Takes first fs t × (said t ≡ Some x)
   pub is_file : (x : Said) (fs : List Fields) → IsFileOf x fs → IsFile fs
@@ -54,7 +53,7 @@ said_none : {Said : Type 0} (said : Option Said) (end : ℕ) (b : Broken CertRul
 said_none None end b c = (refl, cc)
 said_none (Some y) end b c = absurd cc
 
-is_refusal : (IsFile : List Fields → Type 0) (file : Ahead) (rule : CertRule) (line : ℕ) → FirstFault IsFile file (fault_at rule line) → IsRefusal IsFile file (fault_at rule line)
+is_refusal : (IsFile : List Fields → Type 0) (file : Ahead) (rule : CertRule) (line : ℕ) → FirstFileFault IsFile file (fault_at rule line) → IsRefusal IsFile file (fault_at rule line)
 is_refusal IsFile file Unexpected line h = h
 is_refusal IsFile file Number line h = h
 
@@ -88,8 +87,8 @@ module _ {State Said : Type 0} {first : State} {Takes : State → Fields → Sta
   reached : (fs : List Fields) (s : State) → Walks Takes first fs s → (lines s ≡ fs) × IsState s
   reached fs s w = let at = on fs first s r.starts.1 w in (at.0 ∙ ap (λ ls. ls ++ fs) r.starts.0, at.1)
 
-  begun : (fs : List Fields) (s : State) → Walks Takes first fs s → Begins IsFile fs
-  begun fs s w = let at = reached fs s w in subst (Begins IsFile) at.0 (r.begins s at.1)
+  begun : (fs : List Fields) (s : State) → Walks Takes first fs s → BeginsFile IsFile fs
+  begun fs s w = let at = reached fs s w in subst (BeginsFile IsFile) at.0 (r.begins s at.1)
 
   file_walk : (fs : List Fields) → IsFile fs → (t : State) × Walks Takes first fs t × ((said t ≡ None) → ⊥)
   file_walk fs is =
@@ -98,7 +97,7 @@ module _ {State Said : Type 0} {first : State} {Takes : State → Fields → Sta
       (w.0, w.1, λ none. let never : Some x.0 ≡ None = sym w.2 ∙ none in absurd cc)
 
   -- what begins a file leads somewhere
-  led : (fs : List Fields) → Begins IsFile fs → (s : State) × Walks Takes first fs s
+  led : (fs : List Fields) → BeginsFile IsFile fs → (s : State) × Walks Takes first fs s
   led fs p =
       let w = file_walk (fs ++ p.0) p.1 in
       let parts = parted Takes fs p.0 first w.0 w.1 in
@@ -132,7 +131,7 @@ module _ {State Said : Type 0} {first : State} {Takes : State → Fields → Sta
         let at = reached (fields_in file.lines) h.state (walks file.lines first h.state h.leads) in
         subst (IsFileOf x) at.0 (r.ends h.state x at.1 (said_some (said h.state) file.end x h.ends))
 
-    first_fault : (b : Broken CertRule) → read.FirstFault gives closes first file b → FirstFault IsFile file (fault_at b.rule b.line)
+    first_fault : (b : Broken CertRule) → read.FirstFault gives closes first file b → FirstFileFault IsFile file (fault_at b.rule b.line)
     first_fault b (at_line before l rest s Unexpected are h g) =
         let w = walks before first s h in
         unexpected before l rest are (begun (fields_in before) s w) (λ p. g.0 (followed (fields_in before) s w (fields_of l.text) p)) (λ m. g.1 (other_followed (fields_in before) s w (fields_of l.text) m))
@@ -142,7 +141,7 @@ module _ {State Said : Type 0} {first : State} {Takes : State → Fields → Sta
     first_fault b (at_end s broken h c) =
         let w = walks file.lines first s h in
         let none = said_none (said s) file.end broken c in
-        subst (λ (d : Broken CertRule). FirstFault IsFile file (fault_at d.rule d.line)) (sym none.1) (ended (begun (fields_in file.lines) s w) (λ is.
+        subst (λ (d : Broken CertRule). FirstFileFault IsFile file (fault_at d.rule d.line)) (sym none.1) (ended (begun (fields_in file.lines) s w) (λ is.
         let whole = file_walk (fields_in file.lines) is in
         whole.2 (ap said (one_walk Takes r.one (fields_in file.lines) first whole.0 s whole.1 w) ∙ none.0)))
 
@@ -167,7 +166,7 @@ module _ {State Said : Type 0} {first : State} {Takes : State → Fields → Sta
         let at = reached (fields_in file.lines) s w in
         absurd (none (r.is_file x (fields_in file.lines) (subst (IsFileOf x) at.0 (r.ends s x at.1 e))))
 
-    comes : (f : CertFault) → FirstFault IsFile file f → Comes f
+    comes : (f : CertFault) → FirstFileFault IsFile file f → Comes f
     comes f (unexpected before l rest are begins none other) =
         let at = led (fields_in before) begins in
         let w = at.1 in
@@ -182,7 +181,7 @@ module _ {State Said : Type 0} {first : State} {Takes : State → Fields → Sta
         record { to = record { line = l.number; rule = Number }; is = at_line before l rest at.0 Number are (leads before first at.0 w) stops; here = refl }
     comes f (ended begins none) = let at = led (fields_in file.lines) begins in unended at.0 (said at.0) refl at.1 none
 
-    pub one_fault : (f g : CertFault) → FirstFault IsFile file f → FirstFault IsFile file g → f ≡ g
+    pub one_fault : (f g : CertFault) → FirstFileFault IsFile file f → FirstFileFault IsFile file g → f ≡ g
     one_fault f g h k =
         let p = comes f h in
         let q = comes g k in
@@ -205,7 +204,7 @@ goes_on IsFile before l rest is =
     (fields_in rest, subst IsFile (map-append (λ (n : Numbered). fields_of n.text) before (l ∷ rest) ∙ sym (append_assoc (fields_in before) (fields_of l.text ∷ []) (fields_in rest))) is)
 
 -- a file with a first fault is none of the grammar
-pub no_file : (IsFile : List Fields → Type 0) (file : Ahead) (f : CertFault) → FirstFault IsFile file f → IsFile (fields_in file.lines) → ⊥
+pub no_file : (IsFile : List Fields → Type 0) (file : Ahead) (f : CertFault) → FirstFileFault IsFile file f → IsFile (fields_in file.lines) → ⊥
 no_file IsFile file f (unexpected before l rest are begun none no_number) is = none (goes_on IsFile before l rest (subst (λ ls. IsFile (fields_in ls)) are is))
 no_file IsFile file f (number before l rest are begun none other) is = none (goes_on IsFile before l rest (subst (λ ls. IsFile (fields_in ls)) are is))
 no_file IsFile file f (ended begun none) is = none is

@@ -2,10 +2,11 @@
 use Rattle.std.proofs.Common.{◌≡◌, ℕ, suc, ◌-◌, None, get_or, ◌<◌, List, [], ◌∷◌, ◌++◌, map, length, arith, ap, sym, subst, ◌∙◌, append_assoc}
 use Rattle.std.specs.List.{AllByRecursion}
 use Rattle.ql_cnf.specs.declared.lit.Lit.{Lit}
-use Rattle.ql_cnf.specs.Literals.{AllAbove, IsAscending}
+use Rattle.ql_cnf.specs.Literals.{AllAbove, IsAscendingByVariable}
 use Rattle.ql_lines.proofs.Conses.{heads}
+use Rattle.ql_lines.specs.Fields.{Fields}
 use Rattle.ql_refute.specs.declared.refutation.Hint.{Hint}
-use Rattle.ql_cert.specs.Spelling.{Fields, IsHint, IsLit, clause_fields, colon, hint_field, lit_field}
+use Rattle.ql_cert.specs.Spelling.{IsHint, IsLit, clause_fields, colon, hint_field, lit_field}
 use Rattle.ql_cert.specs.Readings.{IsClauseBefore, IsNext, IsRead, before_colon}
 use Rattle.ql_cert.specs.OneField.{one_hint}
 use Rattle.ql_cert.proofs.FieldLaws.{read_on, reads_on}
@@ -20,7 +21,7 @@ above_all : (n m : ℕ) (xs : List Lit) → n < m → AllAbove m xs → AllAbove
 above_all n m [] lt h = tt
 above_all n m (x ∷ xs) lt h = (omega (arith, lt, h.0), above_all n m xs lt h.1)
 
-pub ascending_front : (xs ys : List Lit) → IsAscending (xs ++ ys) → IsAscending xs
+pub ascending_front : (xs ys : List Lit) → IsAscendingByVariable (xs ++ ys) → IsAscendingByVariable xs
 ascending_front [] ys h = tt
 ascending_front (x ∷ xs) ys h = (above_front x.var xs ys h.0, ascending_front xs ys h.1)
 
@@ -42,8 +43,8 @@ no_clause read field fields all e lits other none = λ x fits is.
       | [] ↦ λ p q. other (heads field colon fields x.1 q)
       | y ∷ ys ↦ λ p q.
           let all_lits : AllByRecursion IsLit (read ++ y ∷ ys) = subst (AllByRecursion IsLit) p fits.lits in
-          let order : IsAscending (read ++ y ∷ ys) = subst IsAscending p fits.ascending in
-          let front : IsAscending ((read ++ y ∷ []) ++ ys) = subst IsAscending (sym (append_assoc read (y ∷ []) ys)) order in
+          let order : IsAscendingByVariable (read ++ y ∷ ys) = subst IsAscendingByVariable p fits.ascending in
+          let front : IsAscendingByVariable ((read ++ y ∷ []) ++ ys) = subst IsAscendingByVariable (sym (append_assoc read (y ∷ []) ys)) order in
           none y (all_last IsLit read y ys all_lits, ascending_front (read ++ y ∷ []) ys front) (sym (heads field (lit_field y) fields (clause_fields ys ++ colon ∷ x.1) q))
     ] on.1 on.2
 
@@ -59,7 +60,7 @@ index : {X : Type 0} (x z : X) (zs : List X) → length (x ∷ z ∷ zs) - 1 ≡
 index x z zs = omega arith
 
 -- ascending literals stay so where the last one's variable is smaller than that of one more
-pub last_decides : (xs : List Lit) (d y : Lit) → 0 < length xs → IsAscending xs → (get_or xs (length xs - 1) d).var < y.var → IsAscending (xs ++ y ∷ [])
+pub last_decides : (xs : List Lit) (d y : Lit) → 0 < length xs → IsAscendingByVariable xs → (get_or xs (length xs - 1) d).var < y.var → IsAscendingByVariable (xs ++ y ∷ [])
 last_decides [] d y some h lt = absurd (omega (arith, some))
 last_decides (x ∷ []) d y some h lt = ((lt, tt), (tt, tt))
 last_decides (x ∷ z ∷ zs) d y some h lt =
@@ -67,7 +68,7 @@ last_decides (x ∷ z ∷ zs) d y some h lt =
     let rest = last_decides (z ∷ zs) d y (omega arith) h.1 (omega (arith, lt, ap (λ (l : Lit). l.var) last)) in
     ((h.0.0, above_all x.var z.var (zs ++ y ∷ []) h.0.0 rest.0), rest)
 
-pub last_is_below : (xs : List Lit) (d y : Lit) → 0 < length xs → IsAscending (xs ++ y ∷ []) → (get_or xs (length xs - 1) d).var < y.var
+pub last_is_below : (xs : List Lit) (d y : Lit) → 0 < length xs → IsAscendingByVariable (xs ++ y ∷ []) → (get_or xs (length xs - 1) d).var < y.var
 last_is_below [] d y some h = absurd (omega (arith, some))
 last_is_below (x ∷ []) d y some h = h.0.0
 last_is_below (x ∷ z ∷ zs) d y some h =

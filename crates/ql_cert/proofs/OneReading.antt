@@ -1,11 +1,11 @@
 -- The lines of a file spell at most one certificate, and at most one proof.
 use Rattle.std.proofs.Common.{◌≡◌, List, ap}
 use Rattle.ql_cnf.specs.Satisfaction.{ClauseList}
+use Rattle.ql_lines.specs.Fields.{Fields}
 use Rattle.ql_refute.specs.declared.refutation.Line.{Line}
 use Rattle.ql_cert.specs.declared.cert.Section.{Section}
 use Rattle.ql_cert.specs.CertFile.{IsCertOf}
 use Rattle.ql_cert.specs.ProofFile.{IsProofOf}
-use Rattle.ql_cert.specs.Spelling.{Fields}
 use Rattle.ql_cert.proofs.FirstFaults.{one_file}
 use Rattle.ql_cert.proofs.ProofStates.{proof_reader}
 use Rattle.ql_cert.proofs.States.{cert_reader}

@@ -17,7 +17,7 @@ use Rattle.ql_refute.specs.declared.refutation.Line.{Line}
 use Rattle.ql_cert.specs.declared.cert.SectionLevel.{SectionLevel}
 use Rattle.ql_cert.specs.declared.cert.SectionLevel.TheVariants.{Op, Txn}
 use Rattle.ql_cert.specs.declared.cert.Section.{Section}
-use Rattle.ql_cert.specs.Spelling.{IsHint, IsLine, IsLit, body_fields, clause_fields, colon, hint_field, line_fields, lit_field, numbered, signed_field}
+use Rattle.ql_cert.specs.Spelling.{IsHint, IsLine, IsLit, body_fields, clause_fields, colon, hint_field, line_fields, lit_field, numbered_lines, signed_field}
 use Rattle.ql_cert.specs.Faults.{fields_in}
 use Rattle.ql_cert.specs.OneField.{first_digit}
 use Rattle.ql_cert.specs.CertFile.{IsCertOf, IsSection, cert_lines, end_line, heading, kind_word, level_word, section_lines, sections_lines, title}
@@ -99,8 +99,8 @@ number_tells n small =
 plain_line : (n : ℕ) (l : Line) → n < 2 ^ 64 → IsLine l → IsPlainLine (line_fields n l)
 plain_line n l small f = record { plain = (plain_number n small, plain_body l f); told = number_tells n small }
 
-plain_numbered : (n : ℕ) (ls : List Line) → n + length ls ≤ 2 ^ 64 → AllByRecursion IsLine ls → AllByRecursion IsPlainLine (numbered n ls)
-unfolding numbered
+plain_numbered : (n : ℕ) (ls : List Line) → n + length ls ≤ 2 ^ 64 → AllByRecursion IsLine ls → AllByRecursion IsPlainLine (numbered_lines n ls)
+unfolding numbered_lines
 plain_numbered n [] few f = tt
 plain_numbered n (l ∷ ls) few f = (plain_line n l (omega (arith, few)) f.0, plain_numbered (suc n) ls (omega (arith, few)) f.1)
 

@@ -7,9 +7,10 @@ use Rattle.std.proofs.lemmas.List.{append-nil, get_or_default, length-take-le, m
 use Rattle.std.proofs.Math.Seq.{take-suc}
 use Rattle.ql_lines.specs.Texts.{behind, file_text, joined}
 use Rattle.ql_lines.proofs.TextLaws.{behind-append, file_text-append, joined_behind}
+use Rattle.ql_lines.specs.Fields.{Fields}
 use Rattle.ql_refute.specs.declared.refutation.Line.{Line}
 use Rattle.ql_cert.specs.declared.cert.Section.{Section}
-use Rattle.ql_cert.specs.Spelling.{Fields, body_fields, clause_fields, colon, hint_field, line_fields, numbered}
+use Rattle.ql_cert.specs.Spelling.{body_fields, clause_fields, colon, hint_field, line_fields, numbered_lines}
 use Rattle.ql_cert.specs.CertFile.{cert_lines, end_line, section_lines, sections_lines, title}
 use Rattle.ql_cert.proofs.States.{numbered_more}
 use Rattle.ql_cert.proofs.Walks.{sections_more}
@@ -38,15 +39,15 @@ unfolding file_text
 one_line l n = refl
 
 pub one_more_line : (ls : List Line) (i n : ℕ) (l : Line) (out : List ℕ) → i < length ls → l ≡ get_or ls i l → n ≡ i + 1
-    → (out ++ file_text (numbered 1 (take i ls))) ++ (joined (line_fields n l) ++ 10 ∷ []) ≡ out ++ file_text (numbered 1 (take (i + 1) ls))
+    → (out ++ file_text (numbered_lines 1 (take i ls))) ++ (joined (line_fields n l) ++ 10 ∷ []) ≡ out ++ file_text (numbered_lines 1 (take (i + 1) ls))
 one_more_line ls i n l out lt is number =
     let front = take i ls in
     let more : take (i + 1) ls ≡ front ++ l ∷ [] = ap (λ n. take n ls) (add-one i) ∙ take-suc ls i l lt ∙ ap (λ y. front ++ y ∷ []) (sym is) in
     let count : n ≡ 1 + length front = omega (arith, number, length-take-le i ls (omega (arith, lt))) in
-    let text : file_text (numbered 1 (front ++ l ∷ [])) ≡ file_text (numbered 1 front) ++ (joined (line_fields (1 + length front) l) ++ 10 ∷ []) =
-    ap file_text (numbered_more 1 front l) ∙ file_text-append (numbered 1 front) (line_fields (1 + length front) l ∷ []) ∙ ap (λ r. file_text (numbered 1 front) ++ r) (one_line l (1 + length front)) in
-    append_assoc out (file_text (numbered 1 front)) (joined (line_fields n l) ++ 10 ∷ [])
-    ∙ ap (λ r. out ++ r) (ap (λ k. file_text (numbered 1 front) ++ (joined (line_fields k l) ++ 10 ∷ [])) count ∙ sym text ∙ ap (λ ms. file_text (numbered 1 ms)) (sym more))
+    let text : file_text (numbered_lines 1 (front ++ l ∷ [])) ≡ file_text (numbered_lines 1 front) ++ (joined (line_fields (1 + length front) l) ++ 10 ∷ []) =
+    ap file_text (numbered_more 1 front l) ∙ file_text-append (numbered_lines 1 front) (line_fields (1 + length front) l ∷ []) ∙ ap (λ r. file_text (numbered_lines 1 front) ++ r) (one_line l (1 + length front)) in
+    append_assoc out (file_text (numbered_lines 1 front)) (joined (line_fields n l) ++ 10 ∷ [])
+    ∙ ap (λ r. out ++ r) (ap (λ k. file_text (numbered_lines 1 front) ++ (joined (line_fields k l) ++ 10 ∷ [])) count ∙ sym text ∙ ap (λ ms. file_text (numbered_lines 1 ms)) (sym more))
 
 -- a line, piece by piece
 pub line_pieces : (out : List ℕ) (n : ℕ) (l : Line)
@@ -91,8 +92,8 @@ pub nothing_behind : (out : List ℕ) → out ≡ out ++ behind []
 unfolding behind
 nothing_behind out = sym (append-nil out)
 
-pub no_numbered : (out : List ℕ) → out ≡ out ++ file_text (numbered 1 [])
-unfolding file_text numbered
+pub no_numbered : (out : List ℕ) → out ≡ out ++ file_text (numbered_lines 1 [])
+unfolding file_text numbered_lines
 no_numbered out = sym (append-nil out)
 
 -- what is so of a text after the title and any sections is so of it after these

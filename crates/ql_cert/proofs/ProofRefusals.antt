@@ -8,14 +8,15 @@ use Rattle.std.proofs.lemmas.List.{append-nil}
 use Rattle.std.proofs.lemmas.List.Elements.{All-cons, All-nil}
 use Rattle.ql_base.specs.Numbers.{Spells}
 use Rattle.ql_cnf.specs.declared.lit.Lit.{Lit}
-use Rattle.ql_cnf.specs.Literals.{AllAbove, IsAscending, clause_of, with_literal, with_literals}
+use Rattle.ql_cnf.specs.Literals.{AllAbove, IsAscendingByVariable, clause_of, with_literal, with_literals}
 use Rattle.ql_cnf.specs.Satisfaction.{AreInRange, ClauseList, with_clause}
 use Rattle.ql_lines.proofs.Conses.{heads}
+use Rattle.ql_lines.specs.Fields.{Fields}
 use Rattle.ql_refute.specs.declared.refutation.Line.{Line}
 use Rattle.ql_cert.specs.declared.fault.CertRule.TheVariants.{Unexpected, Number}
 use Rattle.ql_cert.specs.declared.proof_reader.ProofReading.{ProofReading}
 use Rattle.ql_cert.specs.declared.proof_reader.ProofReading.TheVariants.{Unbegun, Within}
-use Rattle.ql_cert.specs.Spelling.{Fields, IsClause, IsLine, IsLit, body_fields, clause_fields, lit_field}
+use Rattle.ql_cert.specs.Spelling.{IsClause, IsLine, IsLit, body_fields, clause_fields, lit_field}
 use Rattle.ql_cert.specs.Faults.{Follows, Gives}
 use Rattle.ql_cert.specs.CertFile.{end_line}
 use Rattle.ql_cert.specs.ProofFile.{GoesOn, IsGiven, ProofTakes, most_variables, variables_line}
@@ -31,20 +32,20 @@ last_is_above : (n : ℕ) (ys : List Lit) (x : Lit) → AllAbove n (ys ++ x ∷ 
 last_is_above n [] x h = h.0
 last_is_above n (y ∷ ys) x h = last_is_above n ys x h.1
 
-with_last : (x : Lit) (ys : List Lit) → IsAscending (ys ++ x ∷ []) → with_literal x ys ≡ Some (ys ++ x ∷ [])
+with_last : (x : Lit) (ys : List Lit) → IsAscendingByVariable (ys ++ x ∷ []) → with_literal x ys ≡ Some (ys ++ x ∷ [])
 with_last x [] h = refl
 with_last x (y ∷ ys) h =
     let less : y.var < x.var = last_is_above y.var ys x h.0 in
     rw (le-ltb x.var y.var (omega (arith, less)), ne_eqb x.var y.var (λ same. absurd (omega (arith, same, less))), with_last x ys h.1) refl
 
-with_rest : (before c : List Lit) → IsAscending (before ++ c) → with_literals before c ≡ Some (before ++ c)
+with_rest : (before c : List Lit) → IsAscendingByVariable (before ++ c) → with_literals before c ≡ Some (before ++ c)
 with_rest before [] h = ap (λ (l : List Lit). Some l) (sym (append-nil before))
 with_rest before (x ∷ c) h =
-    let whole : IsAscending ((before ++ x ∷ []) ++ c) = subst IsAscending (sym (append_assoc before (x ∷ []) c)) h in
+    let whole : IsAscendingByVariable ((before ++ x ∷ []) ++ c) = subst IsAscendingByVariable (sym (append_assoc before (x ∷ []) c)) h in
     rw (with_last x before (ascending_front (before ++ x ∷ []) c whole))
     (with_rest (before ++ x ∷ []) c whole ∙ ap (λ (l : List Lit). Some l) (append_assoc before (x ∷ []) c))
 
-pub own_clause : (c : List Lit) → IsAscending c → clause_of c ≡ Some c
+pub own_clause : (c : List Lit) → IsAscendingByVariable c → clause_of c ≡ Some c
 own_clause c h = with_rest [] c h
 
 pub within_range : (n : ℕ) (c : List Lit) → AreInRange n c → AllByRecursion (λ (x : Lit). x.var ≤ n) c
@@ -67,7 +68,7 @@ no_literals read field fields all e lits none = λ xs fits is.
       | [] ↦ λ p q. omega (arith, ap length q)
       | y ∷ ys ↦ λ p q.
           let all_lits : AllByRecursion IsLit (read ++ y ∷ ys) = subst (AllByRecursion IsLit) p fits.lits in
-          let order : IsAscending ((read ++ y ∷ []) ++ ys) = subst IsAscending (p ∙ sym (append_assoc read (y ∷ []) ys)) fits.ascending in
+          let order : IsAscendingByVariable ((read ++ y ∷ []) ++ ys) = subst IsAscendingByVariable (p ∙ sym (append_assoc read (y ∷ []) ys)) fits.ascending in
           none y (all_last IsLit read y ys all_lits, ascending_front (read ++ y ∷ []) ys order) (sym (heads field (lit_field y) fields (clause_fields ys) q))
     ] on.1 on.2
 

@@ -4,10 +4,11 @@ use Rattle.std.specs.List.{AllByRecursion}
 use Rattle.std.proofs.lemmas.List.{append-nil, length-append, map-append}
 use Rattle.ql_cnf.specs.declared.lit.Lit.{Lit}
 use Rattle.ql_cnf.specs.Satisfaction.{ClauseList}
+use Rattle.ql_lines.specs.Fields.{Fields}
 use Rattle.ql_refute.specs.declared.refutation.Line.{Line}
 use Rattle.ql_cert.specs.declared.proof_reader.ProofReading.{ProofReading}
 use Rattle.ql_cert.specs.declared.proof_reader.ProofReading.TheVariants.{Unbegun, Within, Ended}
-use Rattle.ql_cert.specs.Spelling.{Fields, IsLine, line_fields, numbered}
+use Rattle.ql_cert.specs.Spelling.{IsLine, line_fields, numbered_lines}
 use Rattle.ql_cert.specs.Faults as faults
 use Rattle.ql_cert.specs.CertFile.{end_line}
 use Rattle.ql_cert.specs.OneProofLine.{one_after}
@@ -20,7 +21,7 @@ use Rattle.ql_cert.proofs.Walking.{Walks, joined}
 -- the lines that were read
 abbrev pub proof_so_far : ProofReading → List Fields
 proof_so_far Unbegun = []
-proof_so_far (Within cs ls) = variables_line cs.variables ∷ (map given_line cs.clauses ++ numbered 1 ls)
+proof_so_far (Within cs ls) = variables_line cs.variables ∷ (map given_line cs.clauses ++ numbered_lines 1 ls)
 proof_so_far (Ended cs ls) = proof_lines cs ls
 
 -- what is read has a spelling
@@ -32,7 +33,7 @@ IsProofState (Ended cs ls) = FitsProof cs ls
 -- ---- a line that is taken stands behind the lines before it
 
 given_more : (cs : ClauseList) (ls : List Line) (c : List Lit) → ls ≡ [] → proof_so_far (Within (with_given cs c) ls) ≡ proof_so_far (Within cs ls) ++ given_line c ∷ []
-unfolding numbered
+unfolding numbered_lines
 given_more cs [] c e =
     let old = map given_line cs.clauses in
     ap (λ r. variables_line cs.variables ∷ r)
@@ -43,13 +44,13 @@ line_more : (cs : ClauseList) (ls : List Line) (l : Line) → proof_so_far (With
 line_more cs ls l =
     let old = map given_line cs.clauses in
     ap (λ r. variables_line cs.variables ∷ r)
-    (ap (λ r. old ++ r) (numbered_more 1 ls l ∙ ap (λ n. numbered 1 ls ++ line_fields n l ∷ []) (one-add (length ls))) ∙ sym (append_assoc old (numbered 1 ls) (line_fields (suc (length ls)) l ∷ [])))
+    (ap (λ r. old ++ r) (numbered_more 1 ls l ∙ ap (λ n. numbered_lines 1 ls ++ line_fields n l ∷ []) (one-add (length ls))) ∙ sym (append_assoc old (numbered_lines 1 ls) (line_fields (suc (length ls)) l ∷ [])))
 
 end_more : (cs : ClauseList) (ls : List Line) → proof_so_far (Ended cs ls) ≡ proof_so_far (Within cs ls) ++ end_line ∷ []
-end_more cs ls = ap (λ r. variables_line cs.variables ∷ r) (sym (append_assoc (map given_line cs.clauses) (numbered 1 ls) (end_line ∷ [])))
+end_more cs ls = ap (λ r. variables_line cs.variables ∷ r) (sym (append_assoc (map given_line cs.clauses) (numbered_lines 1 ls) (end_line ∷ [])))
 
 begin_more : (n : ℕ) → proof_so_far (Within (no_clauses n) []) ≡ variables_line n ∷ []
-unfolding numbered
+unfolding numbered_lines
 begin_more n = refl
 
 takes_on : (s : ProofReading) (line : Fields) (t : ProofReading) → IsProofState s → ProofTakes s line t → proof_so_far t ≡ proof_so_far s ++ line ∷ []
@@ -68,7 +69,7 @@ stays_state (Within cs ls) line t is (inr (inl p)) =
 stays_state (Within cs ls) line t is (inr (inr p)) = subst IsProofState (sym p.to) is
 stays_state (Ended cs ls) line t is p = absurd p
 
-begins : (s : ProofReading) → IsProofState s → faults.Begins IsProofFile (proof_so_far s)
+begins : (s : ProofReading) → IsProofState s → faults.BeginsFile IsProofFile (proof_so_far s)
 begins Unbegun is = (proof_lines (no_clauses 0) [], (no_clauses 0, [], record { fits = record { variables = omega arith; clauses = tt; lines = tt; few = omega arith }; are = refl }))
 begins (Within cs ls) is = (end_line ∷ [], (cs, ls, record { fits = is; are = sym (end_more cs ls) }))
 begins (Ended cs ls) is = ([], (cs, ls, record { fits = is; are = append-nil (proof_lines cs ls) }))
@@ -89,17 +90,17 @@ given_walk (c ∷ more) cs fits =
     )
 
 lines_walk : (more : List Line) (cs : ClauseList) (ls : List Line) → AllByRecursion IsLine more → length ls + length more < 2 ^ 64
-    → Walks ProofTakes (Within cs ls) (numbered (suc (length ls)) more) (Within cs (ls ++ more))
-unfolding Walks numbered
+    → Walks ProofTakes (Within cs ls) (numbered_lines (suc (length ls)) more) (Within cs (ls ++ more))
+unfolding Walks numbered_lines
 lines_walk [] cs ls fits few = ap (Within cs) (sym (append-nil ls))
 lines_walk (l ∷ more) cs ls fits few =
     let count : length (ls ++ l ∷ []) ≡ suc (length ls) = length-append ls (l ∷ []) ∙ omega arith in
     let step : GoesOn cs ls (line_fields (suc (length ls)) l) (Within cs (ls ++ l ∷ [])) = record { next = l; fits = fits.0; few = omega (arith, few); is = refl; to = refl } in
     let rest = lines_walk more cs (ls ++ l ∷ []) fits.1 (omega (arith, few, count)) in
-    let moved = subst (λ n. Walks ProofTakes (Within cs (ls ++ l ∷ [])) (numbered (suc n) more) (Within cs ((ls ++ l ∷ []) ++ more))) count rest in (
+    let moved = subst (λ n. Walks ProofTakes (Within cs (ls ++ l ∷ [])) (numbered_lines (suc n) more) (Within cs ((ls ++ l ∷ []) ++ more))) count rest in (
       Within cs (ls ++ l ∷ []),
       inr (inl step),
-      subst (λ all. Walks ProofTakes (Within cs (ls ++ l ∷ [])) (numbered (suc (suc (length ls))) more) (Within cs all)) (append_assoc ls (l ∷ []) more) moved,
+      subst (λ all. Walks ProofTakes (Within cs (ls ++ l ∷ [])) (numbered_lines (suc (suc (length ls))) more) (Within cs all)) (append_assoc ls (l ∷ []) more) moved,
     )
 
 within_walk : (cs : ClauseList) (ls : List Line) → FitsProof cs ls → Walks ProofTakes Unbegun (proof_so_far (Within cs ls)) (Within cs ls)
@@ -108,7 +109,7 @@ within_walk cs ls fits =
     let start : Begins (variables_line cs.variables) (Within (no_clauses cs.variables) []) = record { variables = cs.variables; few = fits.variables; is = refl; to = refl } in (
       Within (no_clauses cs.variables) [],
       start,
-      joined ProofTakes (map given_line cs.clauses) (numbered 1 ls) (Within (no_clauses cs.variables) []) (Within cs []) (Within cs ls)
+      joined ProofTakes (map given_line cs.clauses) (numbered_lines 1 ls) (Within (no_clauses cs.variables) []) (Within cs []) (Within cs ls)
           (given_walk cs.clauses (no_clauses cs.variables) fits.clauses) (lines_walk ls cs [] fits.lines (omega (arith, fits.few))),
     )
 

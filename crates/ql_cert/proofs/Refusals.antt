@@ -7,15 +7,16 @@ use Rattle.ql_base.specs.Numbers.{Spells}
 use Rattle.ql_levels.specs.declared.level.Level.{Level}
 use Rattle.ql_levels.specs.declared.level.TxnLevel.{TxnLevel}
 use Rattle.ql_levels.specs.Words.{word_of, txn_word_of}
+use Rattle.ql_lines.specs.Fields.{Fields}
 use Rattle.ql_refute.specs.declared.refutation.Line.{Line}
 use Rattle.ql_cert.specs.declared.cert.SectionLevel.{SectionLevel}
 use Rattle.ql_cert.specs.declared.cert.SectionLevel.TheVariants.{Op, Txn}
 use Rattle.ql_cert.specs.declared.cert.Section.{Section}
 use Rattle.ql_cert.specs.declared.fault.CertRule.TheVariants.{Unexpected, Number}
-use Rattle.ql_cert.specs.Spelling.{Fields, IsLine, body_fields}
+use Rattle.ql_cert.specs.Spelling.{IsLine, body_fields}
 use Rattle.ql_cert.specs.Faults.{Follows, Gives}
-use Rattle.ql_cert.specs.declared.cert_reader.Reading.{Reading}
-use Rattle.ql_cert.specs.declared.cert_reader.Reading.TheVariants.{Untitled, Within}
+use Rattle.ql_cert.specs.declared.cert_reader.CertReading.{CertReading}
+use Rattle.ql_cert.specs.declared.cert_reader.CertReading.TheVariants.{Untitled, Within}
 use Rattle.ql_cert.specs.CertFile.{GoesOn, Takes, end_line, heading, kind_word, level_word, title, with_line}
 use Rattle.ql_cert.specs.Readings.{IsLevelRead, three}
 use Rattle.ql_cert.specs.OneField.{no_number}
@@ -75,12 +76,12 @@ module _ (done : List Section) (last : Option Section) where
   unexpected_form line no_heading no_end no_num = (no_form line no_heading no_end no_num, λ m. no_num m.number m.small (ap first m.is))
 
   -- a numbered line goes on as one of the last section's lines alone
-  goes_on_alone : (n : ℕ) (body : Fields) → n < 2 ^ 64 → Follows Takes (Within done last) (decimal n ∷ body) → (after : Reading) × GoesOn done last (decimal n ∷ body) after
+  goes_on_alone : (n : ℕ) (body : Fields) → n < 2 ^ 64 → Follows Takes (Within done last) (decimal n ∷ body) → (after : CertReading) × GoesOn done last (decimal n ∷ body) after
   goes_on_alone n body small (after, inl p) = absurd (kind_no_number p.level n small (sym (ap first p.is)))
   goes_on_alone n body small (after, inr (inl p)) = (after, p)
   goes_on_alone n body small (after, inr (inr p)) = absurd (no_number n small 101 (110 ∷ 100 ∷ []) (inr (omega arith)) (ap first p.is))
 
-  pub unexpected_line : (n : ℕ) (body : Fields) → n < 2 ^ 64 → ((m : ℕ) (after : Reading) → GoesOn done last (decimal m ∷ body) after → ⊥) → Gives Takes (Within done last) (decimal n ∷ body) (Err Unexpected)
+  pub unexpected_line : (n : ℕ) (body : Fields) → n < 2 ^ 64 → ((m : ℕ) (after : CertReading) → GoesOn done last (decimal m ∷ body) after → ⊥) → Gives Takes (Within done last) (decimal n ∷ body) (Err Unexpected)
   unexpected_line n body small none = (
     λ p. let g = goes_on_alone n body small p in none n g.0 g.1,
     λ m.

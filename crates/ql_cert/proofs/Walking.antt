@@ -1,6 +1,6 @@
 -- walks from line to line, where each line leads from one state to at most one
 use Rattle.std.proofs.Common.{◌≡◌, List, [], ◌∷◌, ◌++◌, refl, sym, subst, ◌∙◌}
-use Rattle.ql_cert.specs.Spelling.{Fields}
+use Rattle.ql_lines.specs.Fields.{Fields}
 
 module _ {State : Type 0} (Takes : State → Fields → State → Type 0) where
   unfoldable pub Walks : State → List Fields → State → Type 0

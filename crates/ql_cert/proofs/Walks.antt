@@ -4,8 +4,8 @@ use Rattle.std.specs.List.{AllByRecursion}
 use Rattle.std.proofs.lemmas.List.{append-nil, length-append}
 use Rattle.ql_refute.specs.declared.refutation.Line.{Line}
 use Rattle.ql_cert.specs.declared.cert.Section.{Section}
-use Rattle.ql_cert.specs.declared.cert_reader.Reading.TheVariants.{Untitled, Within, Ended}
-use Rattle.ql_cert.specs.Spelling.{IsLine, line_fields, numbered}
+use Rattle.ql_cert.specs.declared.cert_reader.CertReading.TheVariants.{Untitled, Within, Ended}
+use Rattle.ql_cert.specs.Spelling.{IsLine, line_fields, numbered_lines}
 use Rattle.ql_cert.specs.CertFile.{Opens, GoesOn, Ends, Takes, IsSection, cert_lines, end_line, heading, opened, section_lines, sections_lines, with_line, with_last}
 use Rattle.ql_cert.proofs.Walking.{Walks, joined}
 
@@ -13,8 +13,8 @@ abbrev with_lines : Section → List Line → Section
 with_lines s ls = record { name = s.name; level = s.level; refutation = record { lines = s.refutation.lines ++ ls } }
 
 numbered_walk : (done : List Section) (ls : List Line) (s : Section) → AllByRecursion IsLine ls → length s.refutation.lines + length ls < 2 ^ 64
-    → Walks Takes (Within done (Some s)) (numbered (suc (length s.refutation.lines)) ls) (Within done (Some (with_lines s ls)))
-unfolding Walks numbered
+    → Walks Takes (Within done (Some s)) (numbered_lines (suc (length s.refutation.lines)) ls) (Within done (Some (with_lines s ls)))
+unfolding Walks numbered_lines
 numbered_walk done [] s fits few =
     ap (λ (ms : List Line). Within done (Some (record { name = s.name; level = s.level; refutation = record { lines = ms } }))) (sym (append-nil s.refutation.lines))
 numbered_walk done (l ∷ ls) s fits few =
@@ -23,10 +23,10 @@ numbered_walk done (l ∷ ls) s fits few =
     let count : length (before ++ l ∷ []) ≡ suc (length before) = length-append before (l ∷ []) ∙ omega arith in
     let step : GoesOn done (Some s) (line_fields (suc (length before)) l) (Within done (Some next)) = record { section = s; in_it = refl; next = l; fits = fits.0; few = omega (arith, few); is = refl; to = refl } in
     let rest = numbered_walk done ls next fits.1 (omega (arith, few, count)) in
-    let moved = subst (λ n. Walks Takes (Within done (Some next)) (numbered (suc n) ls) (Within done (Some (with_lines next ls)))) count rest in (
+    let moved = subst (λ n. Walks Takes (Within done (Some next)) (numbered_lines (suc n) ls) (Within done (Some (with_lines next ls)))) count rest in (
       Within done (Some next),
       inr (inl step),
-      subst (λ (ms : List Line). Walks Takes (Within done (Some next)) (numbered (suc (suc (length before))) ls) (Within done (Some (record { name = s.name; level = s.level; refutation = record { lines = ms } })))) (append_assoc before (l ∷ []) ls) moved,
+      subst (λ (ms : List Line). Walks Takes (Within done (Some next)) (numbered_lines (suc (suc (length before))) ls) (Within done (Some (record { name = s.name; level = s.level; refutation = record { lines = ms } })))) (append_assoc before (l ∷ []) ls) moved,
     )
 
 section_walk : (done : List Section) (last : Option Section) (s : Section) → IsSection s → Walks Takes (Within done last) (section_lines s) (Within (with_last done last) (Some s))

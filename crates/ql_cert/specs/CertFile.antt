@@ -3,13 +3,14 @@ use Rattle.std.specs.Prelude.{ℕ, suc, ◌≡◌, ◌<◌, ◌^◌, ◌⊎◌, 
 use Rattle.std.specs.List.{AllByRecursion, flat_map}
 use Rattle.ql_base.specs.Names.{IsName}
 use Rattle.ql_levels.specs.Words.{word_of, txn_word_of}
+use Rattle.ql_lines.specs.Fields.{Fields}
 use Rattle.ql_refute.specs.declared.refutation.Line.{Line}
 use Rattle.ql_cert.specs.declared.cert.SectionLevel.{SectionLevel}
 use Rattle.ql_cert.specs.declared.cert.SectionLevel.TheVariants.{Op, Txn}
 use Rattle.ql_cert.specs.declared.cert.Section.{Section}
-use Rattle.ql_cert.specs.declared.cert_reader.Reading.{Reading}
-use Rattle.ql_cert.specs.declared.cert_reader.Reading.TheVariants.{Untitled, Within, Ended}
-use Rattle.ql_cert.specs.Spelling.{Fields, IsLine, line_fields, numbered}
+use Rattle.ql_cert.specs.declared.cert_reader.CertReading.{CertReading}
+use Rattle.ql_cert.specs.declared.cert_reader.CertReading.TheVariants.{Untitled, Within, Ended}
+use Rattle.ql_cert.specs.Spelling.{IsLine, line_fields, numbered_lines}
 
 abbrev pub title : Fields
 title = codes "quelea" ∷ codes "certificate" ∷ codes "1" ∷ []
@@ -17,7 +18,7 @@ title = codes "quelea" ∷ codes "certificate" ∷ codes "1" ∷ []
 abbrev pub end_line : Fields
 end_line = codes "end" ∷ []
 
--- the word of a target's kind, and that of its level
+-- the keyword of a target's kind, and the name of its level
 unfoldable pub kind_word : SectionLevel → List ℕ
 kind_word (Op l) = codes "op"
 kind_word (Txn l) = codes "txn"
@@ -31,7 +32,7 @@ heading name l = kind_word l ∷ name ∷ level_word l ∷ []
 
 -- a section: its heading, then its lines, numbered from 1
 abbrev pub section_lines : Section → List Fields
-section_lines s = heading s.name s.level ∷ numbered 1 s.refutation.lines
+section_lines s = heading s.name s.level ∷ numbered_lines 1 s.refutation.lines
 
 abbrev pub sections_lines : List Section → List Fields
 sections_lines ss = flat_map section_lines ss
@@ -39,7 +40,7 @@ sections_lines ss = flat_map section_lines ss
 abbrev pub cert_lines : List Section → List Fields
 cert_lines ss = title ∷ (sections_lines ss ++ end_line ∷ [])
 
--- ---- what has a spelling
+-- ---- what can be spelled
 
 pub record IsSection (s : Section) : Type 0 where
   pub name : IsName s.name
@@ -68,7 +69,7 @@ abbrev pub with_line : Section → Line → Section
 with_line s l = record { name = s.name; level = s.level; refutation = record { lines = s.refutation.lines ++ l ∷ [] } }
 
 -- the next line is a heading
-pub record Opens (done : List Section) (last : Option Section) (line : Fields) (after : Reading) : Type 0 where
+pub record Opens (done : List Section) (last : Option Section) (line : Fields) (after : CertReading) : Type 0 where
   pub name : List ℕ
   pub level : SectionLevel
   pub is_name : IsName name
@@ -76,7 +77,7 @@ pub record Opens (done : List Section) (last : Option Section) (line : Fields) (
   pub to : after ≡ Within (with_last done last) (Some (opened name level))
 
 -- the next line is one of a refutation
-pub record GoesOn (done : List Section) (last : Option Section) (line : Fields) (after : Reading) : Type 0 where
+pub record GoesOn (done : List Section) (last : Option Section) (line : Fields) (after : CertReading) : Type 0 where
   pub section : Section
   pub in_it : last ≡ Some section
   pub next : Line
@@ -86,17 +87,17 @@ pub record GoesOn (done : List Section) (last : Option Section) (line : Fields) 
   pub to : after ≡ Within done (Some (with_line section next))
 
 -- the next line is the last
-pub record Ends (done : List Section) (last : Option Section) (line : Fields) (after : Reading) : Type 0 where
+pub record Ends (done : List Section) (last : Option Section) (line : Fields) (after : CertReading) : Type 0 where
   pub is : line ≡ end_line
   pub to : after ≡ Ended (with_last done last)
 
--- what a line makes of what was read before it
-abbrev pub Takes : Reading → Fields → Reading → Type 0
+-- the line leads from one state of reading to the next
+abbrev pub Takes : CertReading → Fields → CertReading → Type 0
 Takes Untitled line after = (line ≡ title) × (after ≡ Within [] None)
 Takes (Within done last) line after = Opens done last line after ⊎ (GoesOn done last line after ⊎ Ends done last line after)
 Takes (Ended ss) line after = ⊥
 
--- what a file says that ends here, where it may
-abbrev pub said : Reading → Option (List Section)
+-- the sections of a file that ends here, if it may end here
+abbrev pub said : CertReading → Option (List Section)
 said (Ended ss) = Some ss
 said other = None

@@ -3,23 +3,22 @@ use Rattle.std.specs.Prelude.{◌≡◌, ℕ, ◌<◌, ◌^◌, List, [], ◌∷
 use Rattle.ql_line_files.specs.declared.fault.Broken.{Broken}
 use Rattle.ql_line_files.specs.declared.fault.FileFault.{FileFault}
 use Rattle.ql_line_files.specs.declared.fault.FileFault.TheVariants as file
-use Rattle.ql_lines.specs.Fields.{fields_of}
+use Rattle.ql_lines.specs.Fields.{fields_of, Fields}
 use Rattle.ql_lines.specs.Lines.{Ahead, Numbered}
 use Rattle.ql_cert.specs.declared.fault.CertFault.{CertFault}
 use Rattle.ql_cert.specs.declared.fault.CertFault.TheVariants as fault
 use Rattle.ql_cert.specs.declared.fault.CertRule.{CertRule}
 use Rattle.ql_cert.specs.declared.fault.CertRule.TheVariants.{Unexpected, Number}
-use Rattle.ql_cert.specs.Spelling.{Fields}
 
 -- the fields of lines
 abbrev pub fields_in : List Numbered → List Fields
 fields_in ls = map (λ (l : Numbered). fields_of l.text) ls
 
--- some file of the grammar begins so
-abbrev pub Begins : (List Fields → Type 0) → List Fields → Type 0
-Begins IsFile before = (more : List Fields) × IsFile (before ++ more)
+-- some file of the grammar begins with these lines
+abbrev pub BeginsFile : (List Fields → Type 0) → List Fields → Type 0
+BeginsFile IsFile before = (more : List Fields) × IsFile (before ++ more)
 
--- with another number the line would go on
+-- with another number the line could follow
 pub record IsMisnumbered (GoesOn : Fields → Type 0) (line : Fields) : Type 0 where
   pub number : ℕ
   pub small : number < 2 ^ 64
@@ -31,37 +30,37 @@ pub record IsMisnumbered (GoesOn : Fields → Type 0) (line : Fields) : Type 0 w
 
 -- the lines that may follow others
 abbrev pub MayFollow : (List Fields → Type 0) → List Fields → Fields → Type 0
-MayFollow IsFile before line = Begins IsFile (before ++ line ∷ [])
+MayFollow IsFile before line = BeginsFile IsFile (before ++ line ∷ [])
 
--- The first fault of lines that are no file of the grammar. A line has the fault `Number` where only its number is wrong.
-pub data FirstFault (IsFile : List Fields → Type 0) (file : Ahead) : CertFault → Type 0 where
-  unexpected : (before : List Numbered) (l : Numbered) (rest : List Numbered) → file.lines ≡ before ++ l ∷ rest → Begins IsFile (fields_in before)
+-- The first fault of lines that are no file of the grammar. A line has the fault `Number` if only its number is wrong.
+pub data FirstFileFault (IsFile : List Fields → Type 0) (file : Ahead) : CertFault → Type 0 where
+  unexpected : (before : List Numbered) (l : Numbered) (rest : List Numbered) → file.lines ≡ before ++ l ∷ rest → BeginsFile IsFile (fields_in before)
       → (MayFollow IsFile (fields_in before) (fields_of l.text) → ⊥) → (IsMisnumbered (MayFollow IsFile (fields_in before)) (fields_of l.text) → ⊥)
-      → FirstFault IsFile file (fault.Unexpected l.number)
-  number : (before : List Numbered) (l : Numbered) (rest : List Numbered) → file.lines ≡ before ++ l ∷ rest → Begins IsFile (fields_in before)
+      → FirstFileFault IsFile file (fault.Unexpected l.number)
+  number : (before : List Numbered) (l : Numbered) (rest : List Numbered) → file.lines ≡ before ++ l ∷ rest → BeginsFile IsFile (fields_in before)
       → (MayFollow IsFile (fields_in before) (fields_of l.text) → ⊥) → IsMisnumbered (MayFollow IsFile (fields_in before)) (fields_of l.text)
-      → FirstFault IsFile file (fault.Number l.number)
-  ended : Begins IsFile (fields_in file.lines) → (IsFile (fields_in file.lines) → ⊥) → FirstFault IsFile file (fault.Unexpected file.end)
+      → FirstFileFault IsFile file (fault.Number l.number)
+  ended : BeginsFile IsFile (fields_in file.lines) → (IsFile (fields_in file.lines) → ⊥) → FirstFileFault IsFile file (fault.Unexpected file.end)
 
 -- a refusal is the first fault, or that memory has run out
 abbrev pub IsRefusal : (List Fields → Type 0) → Ahead → CertFault → Type 0
 IsRefusal IsFile file fault.NoMemory = Unit {0}
-IsRefusal IsFile file f = FirstFault IsFile file f
+IsRefusal IsFile file f = FirstFileFault IsFile file f
 
 -- ---- line after line
 
 module _ {State : Type 0} (Takes : State → Fields → State → Type 0) where
-  -- the lines that lead on from what was read
+  -- the lines that may come next after what was read
   abbrev pub Follows : State → Fields → Type 0
   Follows before line = (after : State) × Takes before line after
 
-  -- what a line makes of what was read before it; or the rule that it breaks: `Number` where with another number it would lead on
+  -- the state that a line leads to, or the rule that it breaks: `Number` if the line could follow with another number
   abbrev pub Gives : State → Fields → Result State CertRule → Type 0
   Gives before line (Ok after) = Takes before line after
   Gives before line (Err Unexpected) = (Follows before line → ⊥) × (IsMisnumbered (Follows before) line → ⊥)
   Gives before line (Err Number) = (Follows before line → ⊥) × IsMisnumbered (Follows before) line
 
--- what a file says that ends here; where it says nothing yet, the line after its last one is at fault
+-- what a file that ends here contains; if it may not end here, the fault is at the line after its last one
 abbrev pub Closes : {Said : Type 0} → Option Said → ℕ → Result Said (Broken CertRule) → Type 0
 Closes said end x = x ≡ ok_or said (record { line = end; rule = Unexpected })
 

@@ -5,10 +5,11 @@ use Rattle.std.proofs.lemmas.Fmt.{decimal_injective, decimal_is_IsNumeral}
 use Rattle.std.proofs.lemmas.Str.Parse.{digit_at}
 use Rattle.ql_cnf.specs.declared.lit.Lit.{Lit}
 use Rattle.ql_lines.proofs.Conses.{both, heads, tails}
+use Rattle.ql_lines.specs.Fields.{Fields}
 use Rattle.ql_refute.specs.declared.refutation.Hint.{Hint}
 use Rattle.ql_refute.specs.declared.refutation.Hint.TheVariants.{Given, Earlier}
 use Rattle.ql_refute.specs.declared.refutation.Line.{Line}
-use Rattle.ql_cert.specs.Spelling.{Fields, IsHint, IsLine, IsLit, body_fields, clause_fields, colon, hint_field, lit_field, signed_field}
+use Rattle.ql_cert.specs.Spelling.{IsHint, IsLine, IsLit, body_fields, clause_fields, colon, hint_field, lit_field, signed_field}
 
 -- ---- the first byte of a number's text is a digit
 

@@ -1,21 +1,22 @@
--- What a line makes of what was read before it is one thing, and so is what a file says that ends there.
+-- A line leads from one state of reading to one next state at most, and a file that ends there has one content at most.
 use Rattle.std.proofs.Common.{◌≡◌, inl, inr, ℕ, Option, Some, get_or, ◌<◌, ◌^◌, List, [], ◌∷◌, Result, Ok, Err, nat_eq, if◌then◌else◌, length, decimal, drop, arith, refl, ap, ap₂, sym, ◌∙◌}
 use Rattle.std.specs.Prelude.{unwrap_or}
 use Rattle.ql_levels.specs.declared.level.Level.TheVariants.{Eventual, Causal, Wide, Strong}
 use Rattle.ql_levels.specs.declared.level.TxnLevel.TheVariants.{Rc, Mav, Rr}
 use Rattle.ql_line_files.specs.declared.fault.Broken.{Broken}
+use Rattle.ql_lines.specs.Fields.{Fields}
 use Rattle.ql_refute.specs.declared.refutation.Line.{Line}
 use Rattle.ql_cert.specs.declared.cert.SectionLevel.{SectionLevel}
 use Rattle.ql_cert.specs.declared.cert.SectionLevel.TheVariants.{Op, Txn}
 use Rattle.ql_cert.specs.declared.cert.Section.{Section}
-use Rattle.ql_cert.specs.declared.cert_reader.Reading.{Reading}
-use Rattle.ql_cert.specs.declared.cert_reader.Reading.TheVariants.{Untitled, Within, Ended}
+use Rattle.ql_cert.specs.declared.cert_reader.CertReading.{CertReading}
+use Rattle.ql_cert.specs.declared.cert_reader.CertReading.TheVariants.{Untitled, Within, Ended}
 use Rattle.ql_cert.specs.declared.fault.CertRule.{CertRule}
 use Rattle.ql_cert.specs.declared.fault.CertRule.TheVariants.{Unexpected, Number}
 use Rattle.ql_cert.specs.CertFile.{Opens, GoesOn, Takes, end_line, heading, kind_word, level_word, opened, with_line, with_last}
 use Rattle.ql_cert.specs.Faults.{Closes, Follows, Gives}
 use Rattle.ql_cert.specs.OneField.{no_number, same_line}
-use Rattle.ql_cert.specs.Spelling.{Fields, body_fields, line_fields}
+use Rattle.ql_cert.specs.Spelling.{body_fields, line_fields}
 
 -- ---- of any line file whose lines each lead to one state at most
 
@@ -45,7 +46,7 @@ closes_some said end none = none _ refl
 
 -- ---- a line of a certificate is of one form
 
--- the level whose words these are
+-- the level with this keyword of its kind and this name
 level_by : List ℕ → List ℕ → SectionLevel
 level_by kind word =
     if nat_eq (length kind) 2
@@ -65,39 +66,39 @@ by_words (Txn Rr) = refl
 same_level : (l k : SectionLevel) → kind_word l ≡ kind_word k → level_word l ≡ level_word k → l ≡ k
 same_level l k p q = sym (by_words l) ∙ ap₂ level_by p q ∙ by_words k
 
--- a kind's word is no number
+-- the keyword of a kind isn't a number
 pub kind_no_number : (l : SectionLevel) (number : ℕ) → number < 2 ^ 64 → kind_word l ≡ decimal number → ⊥
 unfolding kind_word
 kind_no_number (Op l) number small e = no_number number small 111 (112 ∷ []) (inr (omega arith)) (sym e)
 kind_no_number (Txn l) number small e = no_number number small 116 (120 ∷ 110 ∷ []) (inr (omega arith)) (sym e)
 
--- a heading is no numbered line
+-- a heading isn't a numbered line
 no_heading : (n : List ℕ) (l : SectionLevel) (number : ℕ) (next : Line) → number < 2 ^ 64 → heading n l ≡ line_fields number next → ⊥
 no_heading n l number next small e = kind_no_number l number small (ap (λ (f : Fields). get_or f 0 []) e)
 
--- nor the last line
+-- nor is it the last line
 no_end : (n : List ℕ) (l : SectionLevel) → heading n l ≡ end_line → ⊥
 no_end n l e = omega (arith, ap length e)
 
--- and that is no numbered line
+-- and the last line isn't a numbered line
 pub end_no_line : (number : ℕ) (next : Line) → number < 2 ^ 64 → end_line ≡ line_fields number next → ⊥
 end_no_line number next small e = no_number number small 101 (110 ∷ 100 ∷ []) (inr (omega arith)) (sym (ap (λ (f : Fields). get_or f 0 []) e))
 
 module _ (done : List Section) (last : Option Section) where
-  one_opening : (line : Fields) (a b : Reading) → Opens done last line a → Opens done last line b → a ≡ b
+  one_opening : (line : Fields) (a b : CertReading) → Opens done last line a → Opens done last line b → a ≡ b
   one_opening line a b p q =
       let same : heading p.name p.level ≡ heading q.name q.level = sym p.is ∙ q.is in
       let names : p.name ≡ q.name = ap (λ (f : Fields). get_or f 1 []) same in
       let levels : p.level ≡ q.level = same_level p.level q.level (ap (λ (f : Fields). get_or f 0 []) same) (ap (λ (f : Fields). get_or f 2 []) same) in
       p.to ∙ ap₂ (λ n l. Within (with_last done last) (Some (opened n l))) names levels ∙ sym q.to
 
-  one_step : (line : Fields) (a b : Reading) → GoesOn done last line a → GoesOn done last line b → a ≡ b
+  one_step : (line : Fields) (a b : CertReading) → GoesOn done last line a → GoesOn done last line b → a ≡ b
   one_step line a b p q =
       let sections : p.section ≡ q.section = ap (λ o. unwrap_or o p.section) (sym p.in_it ∙ q.in_it) in
       let same : body_fields p.next ≡ body_fields q.next = ap (λ (f : Fields). drop 1 f) (sym p.is ∙ q.is) in
       p.to ∙ ap₂ (λ s n. Within done (Some (with_line s n))) sections (same_line p.next q.next p.fits q.fits same) ∙ sym q.to
 
-  one_way : (line : Fields) (a b : Reading) → Takes (Within done last) line a → Takes (Within done last) line b → a ≡ b
+  one_way : (line : Fields) (a b : CertReading) → Takes (Within done last) line a → Takes (Within done last) line b → a ≡ b
   one_way line a b (inl p) (inl q) = one_opening line a b p q
   one_way line a b (inr (inl p)) (inr (inl q)) = one_step line a b p q
   one_way line a b (inr (inr p)) (inr (inr q)) = p.to ∙ sym q.to
@@ -108,7 +109,7 @@ module _ (done : List Section) (last : Option Section) where
   one_way line a b (inr (inl p)) (inr (inr q)) = absurd (end_no_line _ p.next p.few (sym q.is ∙ p.is))
   one_way line a b (inr (inr p)) (inr (inl q)) = absurd (end_no_line _ q.next q.few (sym p.is ∙ q.is))
 
-pub one_after : (s : Reading) (line : Fields) (a b : Reading) → Takes s line a → Takes s line b → a ≡ b
+pub one_after : (s : CertReading) (line : Fields) (a b : CertReading) → Takes s line a → Takes s line b → a ≡ b
 one_after Untitled line a b p q = p.1 ∙ sym q.1
 one_after (Within done last) line a b p q = one_way done last line a b p q
 one_after (Ended ss) line a b p q = absurd p

@@ -1,9 +1,10 @@
--- What a line of a proof makes of what was read before it is one thing.
+-- A line of a proof leads from one state of reading to one next state at most.
 use Rattle.std.proofs.Common.{◌≡◌, inl, inr, ℕ, suc, ◌<◌, ◌≤◌, ◌^◌, ◌+◌, List, [], ◌∷◌, ◌++◌, length, get_or, drop, arith, ap, sym, ◌∙◌}
 use Rattle.std.proofs.lemmas.Fmt.{decimal_injective}
 use Rattle.std.proofs.lemmas.List.{length-append}
 use Rattle.ql_cnf.specs.declared.lit.Lit.{Lit}
 use Rattle.ql_cnf.specs.Satisfaction.{ClauseList}
+use Rattle.ql_lines.specs.Fields.{Fields}
 use Rattle.ql_refute.specs.declared.refutation.Line.{Line}
 use Rattle.ql_cert.specs.declared.proof_reader.ProofReading.{ProofReading}
 use Rattle.ql_cert.specs.declared.proof_reader.ProofReading.TheVariants.{Unbegun, Within, Ended}
@@ -11,13 +12,13 @@ use Rattle.ql_cert.specs.CertFile.{end_line}
 use Rattle.ql_cert.specs.OneField.{no_number, one_literal, same_all, same_line}
 use Rattle.ql_cert.specs.OneLine.{end_no_line}
 use Rattle.ql_cert.specs.ProofFile.{Begins, Gives, GoesOn, ProofTakes, clause_count, given_line, no_clauses, with_given}
-use Rattle.ql_cert.specs.Spelling.{Fields, IsLit, body_fields, line_fields, lit_field}
+use Rattle.ql_cert.specs.Spelling.{IsLit, body_fields, line_fields, lit_field}
 
--- a clause is no numbered line
+-- a clause isn't a numbered line
 given_no_line : (c : List Lit) (number : ℕ) (next : Line) → number < 2 ^ 64 → given_line c ≡ line_fields number next → ⊥
 given_no_line c number next small e = no_number number small 99 [] (inr (omega arith)) (sym (ap (λ (f : Fields). get_or f 0 []) e))
 
--- nor the last line
+-- nor is it the last line
 given_no_end : (c : List Lit) → given_line c ≡ end_line → ⊥
 given_no_end c e = omega (arith, ap (λ (f : Fields). length (get_or f 0 [])) e)
 

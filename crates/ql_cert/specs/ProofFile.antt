@@ -3,13 +3,14 @@ use Rattle.std.specs.Prelude.{ℕ, suc, ◌≡◌, ◌<◌, ◌≤◌, ◌^◌, 
 use Rattle.std.specs.List.{AllByRecursion}
 use Rattle.ql_cnf.specs.declared.lit.Lit.{Lit}
 use Rattle.ql_cnf.specs.Satisfaction.{ClauseList}
+use Rattle.ql_lines.specs.Fields.{Fields}
 use Rattle.ql_refute.specs.declared.refutation.Line.{Line}
 use Rattle.ql_cert.specs.declared.proof_reader.ProofReading.{ProofReading}
 use Rattle.ql_cert.specs.declared.proof_reader.ProofReading.TheVariants.{Unbegun, Within, Ended}
-use Rattle.ql_cert.specs.Spelling.{Fields, IsClause, IsLine, clause_fields, line_fields, numbered}
+use Rattle.ql_cert.specs.Spelling.{IsClause, IsLine, clause_fields, line_fields, numbered_lines}
 use Rattle.ql_cert.specs.CertFile.{end_line}
 
--- the greatest number of variables of a proof's clauses
+-- the most variables that a proof's clauses may have
 abbrev pub most_variables : ℕ
 most_variables = 1000
 
@@ -21,9 +22,9 @@ abbrev pub given_line : List Lit → Fields
 given_line c = codes "c" ∷ clause_fields c
 
 abbrev pub proof_lines : ClauseList → List Line → List Fields
-proof_lines cs ls = variables_line cs.variables ∷ (map given_line cs.clauses ++ (numbered 1 ls ++ end_line ∷ []))
+proof_lines cs ls = variables_line cs.variables ∷ (map given_line cs.clauses ++ (numbered_lines 1 ls ++ end_line ∷ []))
 
--- ---- what has a spelling
+-- ---- what can be spelled
 
 -- a clause over the variables from 1 to n
 pub record IsGiven (n : ℕ) (c : List Lit) : Type 0 where
@@ -52,7 +53,7 @@ no_clauses n = record { variables = n; clauses = [] }
 abbrev pub with_given : ClauseList → List Lit → ClauseList
 with_given cs c = record { variables = cs.variables; clauses = cs.clauses ++ c ∷ [] }
 
--- the next line says how many variables there are
+-- the next line has the number of variables
 pub record Begins (line : Fields) (after : ProofReading) : Type 0 where
   pub variables : ℕ
   pub few : variables ≤ most_variables
@@ -80,13 +81,13 @@ pub record Ends (cs : ClauseList) (ls : List Line) (line : Fields) (after : Proo
   pub is : line ≡ end_line
   pub to : after ≡ Ended cs ls
 
--- what a line makes of what was read before it
+-- the line leads from one state of reading to the next
 abbrev pub ProofTakes : ProofReading → Fields → ProofReading → Type 0
 ProofTakes Unbegun line after = Begins line after
 ProofTakes (Within cs ls) line after = Gives cs ls line after ⊎ (GoesOn cs ls line after ⊎ Ends cs ls line after)
 ProofTakes (Ended cs ls) line after = ⊥
 
--- what a file says that ends here, where it may
+-- the content of a file that ends here, if it may end here
 abbrev pub proof_said : ProofReading → Option (ClauseList × List Line)
 proof_said (Ended cs ls) = Some (cs, ls)
 proof_said other = None

@@ -3,14 +3,11 @@
 use Rattle.std.specs.Prelude.{ℕ, suc, ◌<◌, ◌≤◌, ◌^◌, List, [], ◌∷◌, ◌++◌, map, codes, decimal, Bool, true, false}
 use Rattle.std.specs.List.{AllByRecursion}
 use Rattle.ql_cnf.specs.declared.lit.Lit.{Lit}
-use Rattle.ql_cnf.specs.Literals.{IsAscending}
+use Rattle.ql_cnf.specs.Literals.{IsAscendingByVariable}
+use Rattle.ql_lines.specs.Fields.{Fields}
 use Rattle.ql_refute.specs.declared.refutation.Hint.{Hint}
 use Rattle.ql_refute.specs.declared.refutation.Hint.TheVariants.{Given, Earlier}
 use Rattle.ql_refute.specs.declared.refutation.Line.{Line}
-
--- a line of a file: its fields
-abbrev pub Fields : Type 0
-Fields = List (List ℕ)
 
 -- a variable, with `-` where it is negated
 unfoldable pub signed_field : ℕ → Bool → List ℕ
@@ -31,7 +28,7 @@ clause_fields c = map lit_field c
 abbrev pub colon : List ℕ
 colon = codes ":"
 
--- what stands after a line's number
+-- what follows a line's number
 abbrev pub body_fields : Line → Fields
 body_fields l = clause_fields l.clause ++ colon ∷ map hint_field l.hints
 
@@ -39,11 +36,11 @@ abbrev pub line_fields : ℕ → Line → Fields
 line_fields number l = decimal number ∷ body_fields l
 
 -- lines with their numbers, where the first has the number n
-unfoldable pub numbered : ℕ → List Line → List Fields
-numbered n [] = []
-numbered n (l ∷ ls) = line_fields n l ∷ numbered (suc n) ls
+unfoldable pub numbered_lines : ℕ → List Line → List Fields
+numbered_lines n [] = []
+numbered_lines n (l ∷ ls) = line_fields n l ∷ numbered_lines (suc n) ls
 
--- ---- what has a spelling
+-- ---- what can be spelled
 
 abbrev pub IsLit : Lit → Type 0
 IsLit x = (1 ≤ x.var) × (x.var < 2 ^ 32)
@@ -51,7 +48,7 @@ IsLit x = (1 ≤ x.var) × (x.var < 2 ^ 32)
 -- literals in the order of their variables
 pub record IsClause (c : List Lit) : Type 0 where
   pub lits : AllByRecursion IsLit c
-  pub ascending : IsAscending c
+  pub ascending : IsAscendingByVariable c
 
 unfoldable pub IsHint : Hint → Type 0
 IsHint (Given n) = (1 ≤ n) × (n < 2 ^ 32)

@@ -12,8 +12,8 @@ pub enum SectionLevel {
     Txn(TxnLevel),
 }
 
-/// What a certificate says of one target: its name, a level, and a refutation of the ground problem
-/// of the target at that level.
+/// One section of a certificate: a target's name, its level, and a refutation of the ground problem of the
+/// target at that level.
 #[derive(Drop)]
 pub struct Section {
     pub name: Word,

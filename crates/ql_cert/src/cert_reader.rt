@@ -3,7 +3,7 @@ ghost use Rattle.std.specs.Option.{option_map};
 ghost use Rattle.ql_base.specs.Names.{IsName};
 ghost use Rattle.ql_line_files.specs.Answers.{IsLineAnswer};
 ghost use Rattle.ql_lines.specs.Fields.{fields_of};
-ghost use Rattle.ql_cert.specs.declared.cert_reader.Reading.TheVariants.{Untitled, Within};
+ghost use Rattle.ql_cert.specs.declared.cert_reader.CertReading.TheVariants.{Untitled, Within};
 ghost use Rattle.ql_cert.specs.CertFile.{Takes, end_line, heading, opened, said, title, with_last};
 ghost use Rattle.ql_cert.specs.Faults.{Closes, Gives};
 ghost use Rattle.ql_cert.specs.OneLine.{closes_one, closes_some, gives_one, gives_some, one_after};
@@ -26,9 +26,9 @@ pub(crate) struct Heading {
     level: SectionLevel,
 }
 
-/// What was read of a certificate: nothing; sections, the last of which may go on; all of it.
+/// How far a certificate was read: not at all; some sections, the last of which may continue; to its end.
 #[derive(Drop)]
-pub(crate) enum Reading {
+pub(crate) enum CertReading {
     Untitled,
     Within(Sections, Option<Section>),
     Ended(Sections),
@@ -41,7 +41,7 @@ pub(crate) struct CertFormat {
 }
 
 impl LineFormat for CertFormat {
-    type State = Reading;
+    type State = CertReading;
 
     type Said = Sections;
 
@@ -55,26 +55,26 @@ impl LineFormat for CertFormat {
 
     ghost closes = { λ f read end x. Closes (said read) end x };
 
-    fn start(&self) -> Reading {
-        Reading::Untitled
+    fn start(&self) -> CertReading {
+        CertReading::Untitled
     }
 
     fn take(
         &self,
-        state: Reading,
+        state: CertReading,
         _number: u64,
         text: &[u8],
-    ) -> Result<Reading, LineFault<CertRule>> {
+    ) -> Result<CertReading, LineFault<CertRule>> {
         match state {
-            Reading::Untitled => titled(self.alloc, text),
-            Reading::Within(done, last) => within(self.alloc, done, last, text),
-            Reading::Ended(_) => Err(LineFault::Breaks(CertRule::Unexpected)),
+            CertReading::Untitled => titled(self.alloc, text),
+            CertReading::Within(done, last) => within(self.alloc, done, last, text),
+            CertReading::Ended(_) => Err(LineFault::Breaks(CertRule::Unexpected)),
         }
     }
 
-    fn finish(&self, state: Reading, end: u64) -> Result<Sections, FileFault<CertRule>> {
+    fn finish(&self, state: CertReading, end: u64) -> Result<Sections, FileFault<CertRule>> {
         match state {
-            Reading::Ended(sections) => Ok(sections),
+            CertReading::Ended(sections) => Ok(sections),
             _ => Err(FileFault::Broken(Broken {
                 line: end,
                 rule: CertRule::Unexpected,
@@ -94,12 +94,12 @@ impl LineFormat for CertFormat {
 }
 
 #[tactic(auto, using(crate::proofs::Refusals::not_titled))]
-// The title of a certificate begins it.
-fn titled(alloc: Global, text: &[u8]) -> Result<Reading, LineFault<CertRule>>
+// The first line must be the title.
+fn titled(alloc: Global, text: &[u8]) -> Result<CertReading, LineFault<CertRule>>
     ensures { IsLineAnswer (Gives Takes Untitled (fields_of text.now)) result }
 {
     if is_title(text) {
-        Ok(Reading::Within(Sections::of(Vec::new(alloc)), None))
+        Ok(CertReading::Within(Sections::of(Vec::new(alloc)), None))
     } else {
         Err(LineFault::Breaks(CertRule::Unexpected))
     }
@@ -141,7 +141,7 @@ fn three_fields(text: &[u8]) -> Option<(&[u8], &[u8], &[u8])>
 }
 
 #[tactic(auto, using(crate::proofs::Refusals::not_three))]
-// The heading that a line is.
+// The heading on a line.
 fn read_heading(text: &[u8]) -> Option<Heading>
     ensures { IsRead (λ h. IsName h.name) (λ h. heading h.name h.level) (fields_of text.now) result }
 {
@@ -159,7 +159,7 @@ fn read_heading(text: &[u8]) -> Option<Heading>
 }
 
 #[tactic(auto, using(crate::proofs::Refusals::no_kind))]
-// The level that stands in a heading, by its kind of target and its word.
+// The level in a heading, by its kind of target and its name.
 fn section_level(kind: &[u8], word: &[u8]) -> Option<SectionLevel>
     ensures { IsLevelRead kind.now word.now result }
 {
@@ -192,21 +192,21 @@ fn txn_level(word: &[u8]) -> Option<SectionLevel>
     }
 }
 
-// A line after sections: a heading, the last line, or one more line of the last section.
+// A line after the title: a heading, the last line, or one more line of the last section.
 fn within(
     alloc: Global,
     done: Sections,
     last: Option<Section>,
     text: &[u8],
-) -> Result<Reading, LineFault<CertRule>>
+) -> Result<CertReading, LineFault<CertRule>>
     ensures { IsLineAnswer (Gives Takes (Within done last) (fields_of text.now)) result }
 {
     if let Some(heading) = read_heading(text) {
         let all = with_last(done, last)?;
-        return Ok(Reading::Within(all, Some(opened(alloc, heading))));
+        return Ok(CertReading::Within(all, Some(opened(alloc, heading))));
     }
     if is_end(text) {
-        return Ok(Reading::Ended(with_last(done, last)?));
+        return Ok(CertReading::Ended(with_last(done, last)?));
     }
     let Some((first, body)) = first_field(text) else {
         return Err(LineFault::Breaks(CertRule::Unexpected));
@@ -217,7 +217,7 @@ fn within(
     }
 }
 
-// A section of which only the heading was read.
+// A section of which only the heading has been read.
 fn opened(alloc: Global, heading: Heading) -> Section
     ensures { result ≡ opened heading.name heading.level }
 {
@@ -236,7 +236,7 @@ fn numbered(
     last: Option<Section>,
     number: u64,
     body: &[u8],
-) -> Result<Reading, LineFault<CertRule>>
+) -> Result<CertReading, LineFault<CertRule>>
     ensures { IsLineAnswer (Gives Takes (Within done last) (decimal number ∷ fields_of body.now)) result }
 {
     let Some(section) = last else {
@@ -263,7 +263,7 @@ fn numbered(
         level,
         refutation,
     };
-    Ok(Reading::Within(done, Some(grown)))
+    Ok(CertReading::Within(done, Some(grown)))
 }
 
 // The sections with the last one among them.

@@ -3,15 +3,15 @@ ghost use Rattle.ql_cert.specs.Faults.{fault_of};
 
 use ql_line_files::{Broken, FileFault};
 
-/// Why a text is no certificate or proof, with the line from 1 at which the first fault stands. The
-/// end of a file that ends too early is the line after its last.
+/// Why a text isn't a certificate or proof, with the number of the first faulty line, from 1. If the file ends
+/// too early, that is the line after its last.
 #[derive(Clone, Copy, Debug, PartialEq, Eq)]
 pub enum CertFault {
-    /// No file goes on with this line.
+    /// No valid file has this line after the lines before it.
     Unexpected(u64),
-    /// Only the line's number isn't the one that is expected.
+    /// The line would be right with another number at its start.
     Number(u64),
-    /// No memory was left.
+    /// Out of memory.
     NoMemory,
 }
 

@@ -1,5 +1,5 @@
-// Certificates and proofs as texts. Its one contract: what is printed is in the grammar, and what is
-// read is what the text spells, or the first fault of the text; no text has both, or two of either.
+// Certificates and proofs as texts. Its one contract: what is printed is in the grammar, and reading returns
+// what the text spells, or the text's first fault; no text has both, or two of either.
 #![tactic(auto)]
 
 mod cert;

@@ -2,7 +2,7 @@ ghost use Rattle.std.specs.Prelude.{◌≡◌, ◌↔◌, ◌++◌, ◌∷◌, [
 ghost use Rattle.std.specs.List.{AllByRecursion};
 ghost use Rattle.std.specs.Option.{option_map};
 ghost use Rattle.ql_lines.specs.Fields.{fields_of};
-ghost use Rattle.ql_cnf.specs.Literals.{IsAscending};
+ghost use Rattle.ql_cnf.specs.Literals.{IsAscendingByVariable};
 ghost use Rattle.ql_cert.specs.Spelling.{IsClause, IsHint, IsLine, body_fields, clause_fields, colon, hint_field, lit_field};
 ghost use Rattle.ql_cert.specs.Readings.{IsClauseBefore, IsNext, IsRead, before_colon};
 
@@ -13,7 +13,7 @@ use ql_lines::first_field;
 use ql_refute::{Hint, Hints, Line};
 use std::alloc::Global;
 
-/// What stands after a line's number: literals, a colon and hints.
+/// What follows a line's number: literals, a colon and hints.
 pub(crate) fn line_body(alloc: Global, text: &[u8]) -> Result<Option<Line>, NoMemory>
     ensures { IfOk result (λ line. IsRead IsLine body_fields (fields_of text.now) line) }
 {
@@ -29,7 +29,7 @@ pub(crate) fn line_body(alloc: Global, text: &[u8]) -> Result<Option<Line>, NoMe
     }))
 }
 
-// The literals up to a colon, and what stands after it.
+// The literals up to a colon, and what follows it.
 pub(crate) fn clause_before_colon(
     alloc: Global,
     text: &[u8],
@@ -57,9 +57,9 @@ fn is_colon(field: &[u8]) -> bool
     field.len() == 1 && field[0] == b':'
 }
 
-// The literal that a field spells, where its variable is greater than that of the last one before it.
+// The literal that a field spells, if its variable is greater than that of the literal before it.
 fn next_literal(field: &[u8], before: &[Lit]) -> Option<Lit>
-    requires { IsAscending before.now }
+    requires { IsAscendingByVariable before.now }
     ensures { IsRead (IsNext before.now) lit_field field.now result }
 {
     let next = literal(field)?;
@@ -70,10 +70,10 @@ fn next_literal(field: &[u8], before: &[Lit]) -> Option<Lit>
     }
 }
 
-// Whether ascending literals stay so with one more after them.
+// Whether ascending literals are still ascending with one more at the end.
 fn goes_on(before: &[Lit], next: Lit) -> bool
-    requires { IsAscending before.now }
-    ensures { IsTrue result ↔ IsAscending (before.now ++ next ∷ []) }
+    requires { IsAscendingByVariable before.now }
+    ensures { IsTrue result ↔ IsAscendingByVariable (before.now ++ next ∷ []) }
 {
     before.is_empty() || before[before.len() - 1].var < next.var
 }

@@ -4,7 +4,7 @@ ghost use Rattle.ql_lines.specs.Lines.{ahead_from};
 ghost use Rattle.ql_lines.specs.Texts.{behind, file_text, joined};
 ghost use Rattle.ql_cert.specs.CertFile.{IsCertOf, IsSection, cert_lines, end_line, kind_word, level_word, section_lines, sections_lines, title};
 ghost use Rattle.ql_cert.specs.Faults.{fields_in};
-ghost use Rattle.ql_cert.specs.Spelling.{hint_field, line_fields, lit_field, numbered};
+ghost use Rattle.ql_cert.specs.Spelling.{hint_field, line_fields, lit_field, numbered_lines};
 ghost use Rattle.ql_cert.specs.declared.cert.Section.{Section};
 
 use crate::cert::{Cert, SectionLevel};
@@ -14,8 +14,8 @@ use ql_levels::{level_word, txn_word};
 use ql_refute::{Hint, Line, Refutation};
 use std::alloc::Global;
 
-/// The text of a certificate: its lines in order, with one space between fields. Where its sections
-/// have a spelling, they are read of it again.
+/// The text of a certificate: its lines in order, with one space between fields. If its sections can be
+/// spelled in the grammar, reading the text returns them.
 pub fn print_cert(alloc: Global, c: &Cert) -> Result<Vec<u8>, NoMemory>
     ensures text { IfOk result (λ text. text.items ≡ file_text (cert_lines c.now.sections)) }
     ensures again { IfOk result (λ text. AllByRecursion IsSection c.now.sections → IsCertOf c.now.sections (fields_in (ahead_from 1 text.items).lines)) }
@@ -27,7 +27,7 @@ pub fn print_cert(alloc: Global, c: &Cert) -> Result<Vec<u8>, NoMemory>
     with_end(text)
 }
 
-/// The line that begins a certificate.
+/// The first line of a certificate.
 #[tactic(auto, unfolding(ql_lines::specs::Texts::file_text))]
 pub fn title_text(alloc: Global) -> Result<Vec<u8>, NoMemory>
     ensures { IfOk result (λ text. text.items ≡ file_text (title ∷ [])) }
@@ -35,7 +35,7 @@ pub fn title_text(alloc: Global) -> Result<Vec<u8>, NoMemory>
     Ok(Vec::from_slice(alloc, b"quelea certificate 1\n")?)
 }
 
-/// A text with the lines of a section after it.
+/// Appends the lines of a section to a text.
 pub fn with_section(
     text: Vec<u8>,
     name: Word,
@@ -68,14 +68,14 @@ fn push_section(
     push_lines(out, refutation.lines.items())
 }
 
-/// A text with the line after it that ends a certificate.
+/// Appends the last line of a certificate to a text.
 pub fn with_end(text: Vec<u8>) -> Result<Vec<u8>, NoMemory>
     ensures text { IfOk result (λ more. more.items ≡ text.items ++ file_text (end_line ∷ [])) }
 
-    // After the title and sections the whole is their certificate.
+    // After the title and some sections, the result is the certificate of these sections.
     ensures cert { IfOk result (λ more. (ss : List Section) → text.items ≡ file_text (title ∷ sections_lines ss) → more.items ≡ file_text (cert_lines ss)) }
 
-    // Where the sections have a spelling, it is read as them again.
+    // If the sections can be spelled in the grammar, reading the result returns them.
     ensures again { IfOk result (λ more. (ss : List Section) → text.items ≡ file_text (title ∷ sections_lines ss) → AllByRecursion IsSection ss → IsCertOf ss (fields_in (ahead_from 1 more.items).lines)) }
 {
     let mut more = text;
@@ -83,7 +83,7 @@ pub fn with_end(text: Vec<u8>) -> Result<Vec<u8>, NoMemory>
     Ok(more)
 }
 
-// The words of a target's kind and of its level.
+// The keyword of a target's kind and the name of its level.
 #[tactic(auto, unfolding(crate::specs::CertFile::kind_word, crate::specs::CertFile::level_word))]
 fn words(level: SectionLevel) -> (&'static str, &'static str)
     ensures kind { result.0.now ≡ kind_word level }
@@ -97,7 +97,7 @@ fn words(level: SectionLevel) -> (&'static str, &'static str)
 
 // Lines with their numbers, from 1.
 fn push_lines(out: &mut Vec<u8>, lines: &[Line]) -> Result<(), NoMemory>
-    ensures { OnOk result (out.new.items ≡ out.old.items ++ file_text (numbered 1 lines.now)) }
+    ensures { OnOk result (out.new.items ≡ out.old.items ++ file_text (numbered_lines 1 lines.now)) }
 {
     let mut number = 1;
     for line in lines {

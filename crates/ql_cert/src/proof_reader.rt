@@ -19,10 +19,10 @@ use ql_lines::first_field;
 use ql_refute::Lines;
 use std::alloc::Global;
 
-// The greatest number of variables of a proof's clauses.
+// The most variables that a proof's clauses may have.
 const MOST_VARIABLES: u64 = 1000;
 
-/// What was read of a proof: nothing; clauses, and lines after them; all of it.
+/// How far a proof was read: not at all; some clauses, and lines after them; to its end.
 #[derive(Drop)]
 pub(crate) enum ProofReading {
     Unbegun,
@@ -45,7 +45,7 @@ impl LineFormat for ProofFormat {
 
     ghost start = { λ f. Unbegun };
 
-    // A line is one clause at most, so there are numbers for them.
+    // A line is one clause at most, so 32-bit numbers are enough for the clauses.
     ghost sound = { λ f read more. clause_count read + more < 2 ^ 32 };
 
     ghost gives = { λ f read l x. Gives ProofTakes read (fields_of l.text) x };
@@ -94,7 +94,7 @@ impl LineFormat for ProofFormat {
     ghost closes_some = { λ f s end none. closes_some (proof_said s) end none };
 }
 
-// The first line says how many variables there are.
+// The first line must have the number of variables.
 #[tactic(auto, using(crate::proofs::ProofRefusals::not_begun))]
 fn begun(alloc: Global, text: &[u8]) -> Result<ProofReading, LineFault<CertRule>>
     ensures { IsLineAnswer (Gives ProofTakes Unbegun (fields_of text.now)) result }
@@ -108,7 +108,7 @@ fn begun(alloc: Global, text: &[u8]) -> Result<ProofReading, LineFault<CertRule>
     }
 }
 
-// How many variables the first line says that there are.
+// The number of variables on the first line.
 #[tactic(auto, using(crate::proofs::ProofRefusals::not_two))]
 fn variables(text: &[u8]) -> Option<u32>
     ensures { IsRead (λ n. n ≤ most_variables) variables_line (fields_of text.now) result }
@@ -162,14 +162,14 @@ fn within(
     }
 }
 
-// Whether a line that begins so is a clause.
+// Whether a line with this first field is a clause.
 fn is_given(field: &[u8]) -> bool
     ensures { IsTrue result ↔ (field.now ≡ codes "c") }
 {
     field.len() == 1 && field[0] == b'c'
 }
 
-// A clause with these literals.
+// Adds the clause with these literals.
 fn given(
     alloc: Global,
     clauses: Clauses,
@@ -193,7 +193,7 @@ fn given(
     Ok(ProofReading::Within(more, lines))
 }
 
-// A line with this number and body.
+// Adds the line with this number and body.
 fn numbered(
     alloc: Global,
     clauses: Clauses,

@@ -8,7 +8,7 @@ use Rattle.ql_app.specs.declared.words.PairCommand.{PairCommand}
 use Rattle.ql_app.specs.declared.words.PairCommand.TheVariants.{Check, Verify, Run, Slim, Restart}
 use Rattle.ql_running.specs.declared.form.Form.TheVariants.{Text, Json}
 use Rattle.ql_app.specs.Outcome.{CommandSays, IsRead, Judges, PairSays, second_limit}
-use Rattle.ql_app.specs.Words.{Call, IsRequest, OneFile, TwoFiles}
+use Rattle.ql_app.specs.Words.{NamedRequest, IsRequest, OneFile, TwoFiles}
 use Rattle.ql_app.proofs.OutcomeLaws.{of_held}
 
 -- ---- the arguments
@@ -24,7 +24,7 @@ second ws = get_or (get_or ws 0 []) 1 0
 abbrev fourth : List (List ℕ) → ℕ
 fourth ws = get_or (get_or ws 0 []) 3 0
 
-pub asks-prove : (words : List (List ℕ)) (name : List ℕ) → words ≡ codes "prove" ∷ name ∷ [] → (call : Call) → IsRequest words call → call ≡ OneFile Prove name
+pub asks-prove : (words : List (List ℕ)) (name : List ℕ) → words ≡ codes "prove" ∷ name ∷ [] → (call : NamedRequest) → IsRequest words call → call ≡ OneFile Prove name
 asks-prove words name are (OneFile Holds n) is = absurd (let never : 112 ≡ 104 = ap first (sym are ∙ is.0) in omega (arith, never))
 asks-prove words name are (OneFile Proof n) is = absurd (let never : 118 ≡ 111 = ap fourth (sym are ∙ is.0) in omega (arith, never))
 asks-prove words name are (OneFile Classify n) is = absurd (let never : 112 ≡ 99 = ap first (sym are ∙ is.0) in omega (arith, never))
@@ -42,7 +42,7 @@ asks-prove words name are (TwoFiles (Run Json) n m) is = absurd (let never : 112
 asks-prove words name are (TwoFiles Slim n m) is = absurd (let never : 112 ≡ 115 = ap first (sym are ∙ is.0) in omega (arith, never))
 asks-prove words name are (TwoFiles (Restart replica cut) n m) is = absurd (let never : 112 ≡ 114 = ap first (sym are ∙ is.0) in omega (arith, never))
 
-pub asks-classify : (words : List (List ℕ)) (name : List ℕ) → words ≡ codes "classify" ∷ name ∷ [] → (call : Call) → IsRequest words call → call ≡ OneFile Classify name
+pub asks-classify : (words : List (List ℕ)) (name : List ℕ) → words ≡ codes "classify" ∷ name ∷ [] → (call : NamedRequest) → IsRequest words call → call ≡ OneFile Classify name
 asks-classify words name are (OneFile Holds n) is = absurd (let never : 99 ≡ 104 = ap first (sym are ∙ is.0) in omega (arith, never))
 asks-classify words name are (OneFile Proof n) is = absurd (let never : 99 ≡ 112 = ap first (sym are ∙ is.0) in omega (arith, never))
 asks-classify words name are (OneFile Classify n) is =
@@ -60,7 +60,7 @@ asks-classify words name are (TwoFiles (Run Json) n m) is = absurd (let never : 
 asks-classify words name are (TwoFiles Slim n m) is = absurd (let never : 99 ≡ 115 = ap first (sym are ∙ is.0) in omega (arith, never))
 asks-classify words name are (TwoFiles (Restart replica cut) n m) is = absurd (let never : 99 ≡ 114 = ap first (sym are ∙ is.0) in omega (arith, never))
 
-pub asks-check : (words : List (List ℕ)) (name other : List ℕ) → words ≡ codes "check" ∷ name ∷ other ∷ [] → (call : Call) → IsRequest words call → call ≡ TwoFiles Check name other
+pub asks-check : (words : List (List ℕ)) (name other : List ℕ) → words ≡ codes "check" ∷ name ∷ other ∷ [] → (call : NamedRequest) → IsRequest words call → call ≡ TwoFiles Check name other
 asks-check words name other are (OneFile Holds n) is = absurd (let never : 99 ≡ 104 = ap first (sym are ∙ is.0) in omega (arith, never))
 asks-check words name other are (OneFile Proof n) is = absurd (let never : 99 ≡ 112 = ap first (sym are ∙ is.0) in omega (arith, never))
 asks-check words name other are (OneFile Classify n) is = absurd (let never : 104 ≡ 108 = ap second (sym are ∙ is.0) in omega (arith, never))
@@ -79,7 +79,7 @@ asks-check words name other are (TwoFiles (Run Json) n m) is = absurd (let never
 asks-check words name other are (TwoFiles Slim n m) is = absurd (let never : 99 ≡ 115 = ap first (sym are ∙ is.0) in omega (arith, never))
 asks-check words name other are (TwoFiles (Restart replica cut) n m) is = absurd (let never : 99 ≡ 114 = ap first (sym are ∙ is.0) in omega (arith, never))
 
-pub asks-verify : (words : List (List ℕ)) (name other : List ℕ) → words ≡ codes "verify" ∷ name ∷ other ∷ [] → (call : Call) → IsRequest words call → call ≡ TwoFiles Verify name other
+pub asks-verify : (words : List (List ℕ)) (name other : List ℕ) → words ≡ codes "verify" ∷ name ∷ other ∷ [] → (call : NamedRequest) → IsRequest words call → call ≡ TwoFiles Verify name other
 asks-verify words name other are (OneFile Holds n) is = absurd (let never : 118 ≡ 104 = ap first (sym are ∙ is.0) in omega (arith, never))
 asks-verify words name other are (OneFile Proof n) is = absurd (let never : 118 ≡ 112 = ap first (sym are ∙ is.0) in omega (arith, never))
 asks-verify words name other are (OneFile Classify n) is = absurd (let never : 118 ≡ 99 = ap first (sym are ∙ is.0) in omega (arith, never))
@@ -101,15 +101,15 @@ asks-verify words name other are (TwoFiles (Restart replica cut) n m) is = absur
 -- ---- the files
 
 module _ (limits : Limits) (held : List ℕ → Option (List ℕ)) (status : Status) (text : List ℕ) where
-  pub said-of-file : (command : Command) (name source : List ℕ) → held name ≡ Some source → (call : Call) → call ≡ OneFile command name → Judges limits held call status text
+  pub said-of-file : (command : Command) (name source : List ℕ) → held name ≡ Some source → (call : NamedRequest) → call ≡ OneFile command name → Judges limits held call status text
       → (length source ≤ limits.file) × CommandSays command source status text
   said-of-file command name source name_held call is says =
-      of_held limits.file (held name) (λ bytes. CommandSays command bytes status text) source name_held (subst (λ (c : Call). Judges limits held c status text) is says)
+      of_held limits.file (held name) (λ bytes. CommandSays command bytes status text) source name_held (subst (λ (c : NamedRequest). Judges limits held c status text) is says)
 
-  pub said-of-files : (command : PairCommand) (name other source more : List ℕ) → held name ≡ Some source → held other ≡ Some more → (call : Call) → call ≡ TwoFiles command name other → Judges limits held call status text
+  pub said-of-files : (command : PairCommand) (name other source more : List ℕ) → held name ≡ Some source → held other ≡ Some more → (call : NamedRequest) → call ≡ TwoFiles command name other → Judges limits held call status text
       → PairSays command source more status text
   said-of-files command name other source more name_held other_held call is says =
       let both = of_held limits.file (held name) (λ bytes. IsRead (second_limit limits command) (held other) (λ m. PairSays command bytes m status text)) source name_held
-      (subst (λ (c : Call). Judges limits held c status text) is says) in
+      (subst (λ (c : NamedRequest). Judges limits held c status text) is says) in
       let all = of_held (second_limit limits command) (held other) (λ m. PairSays command source m status text) more other_held both.1 in
       all.1

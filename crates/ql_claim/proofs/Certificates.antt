@@ -2,7 +2,7 @@
 use Rattle.std.proofs.Common.{◌≡◌, ◌≢◌, ℕ, zero, suc, ◌<◌, true, List, [], ◌∷◌, length, get_or, slice_get, Some, refl, subst, arith}
 use Rattle.ql_classify.specs.Outcome.{IsAccepted}
 use Rattle.ql_classify.specs.Targets.{IsLeastLevel, IsOpLevel}
-use Rattle.ql_commands.specs.declared.answer.Answer.TheVariants.{Done}
+use Rattle.ql_reply.specs.declared.status.Status.TheVariants.{Done}
 use Rattle.ql_classify.specs.Least.{AreLeast, AreLevelsOf}
 use Rattle.ql_commands.specs.Prove.{ProveSays}
 use Rattle.ql_commands.specs.Sources.{IsSourceOf}

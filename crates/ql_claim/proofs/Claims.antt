@@ -10,14 +10,12 @@ use Rattle.ql_reply.specs.declared.status.Status.{Status}
 use Rattle.ql_reply.specs.declared.status.Status.TheVariants.{Done, No, Bad, ReadFault, WriteFault, Usage, TooLarge}
 use Rattle.ql_app.specs.declared.words.Command.TheVariants.{Prove}
 use Rattle.ql_app.specs.declared.words.PairCommand.TheVariants.{Check}
-use Rattle.ql_app.specs.Answers.{status_of}
 use Rattle.ql_app.specs.Outcome.{AreHeld, IsAnswered, NoneRose, Says}
 use Rattle.ql_reply.specs.Wrote.{Wrote}
 use Rattle.ql_app.specs.RunWritten.{WritesRun}
-use Rattle.ql_app.specs.Words.{Call, IsRequest, TwoFiles}
+use Rattle.ql_app.specs.Words.{NamedRequest, IsRequest, TwoFiles}
 use Rattle.ql_classify.specs.Outcome.{IsAccepted}
 use Rattle.ql_classify.specs.Targets.{IsOpLevel}
-use Rattle.ql_commands.specs.declared.answer.Answer.TheVariants as answer
 use Rattle.ql_commands.specs.Prove.{ProveSays}
 use Rattle.ql_commands.proofs.Accepted.{accepted_again}
 use Rattle.ql_classify.specs.Least.{AreLeast}
@@ -37,10 +35,10 @@ use Rattle.ql_claim.proofs.Certificates.{proved-certificate, proved-run}
 module _ (limits : Limits) (words : List (List ℕ)) (held : List ℕ → Option (List ℕ)) (before after : List ℕ → ℕ) (was is : Option (List ℕ)) (faults sums : ℕ)
     (wrote : Wrote (Says limits words held before after) was is faults sums Done) (name source start : List ℕ) (are : words ≡ codes "prove" ∷ name ∷ []) (name_held : held name ≡ Some source) (begun : was ≡ Some start) where
   -- what `prove` appended is said of the source
-  pub proved : (text : List ℕ) × (is ≡ Some (start ++ text)) × (length source ≤ limits.file) × ProveSays source answer.Done text
+  pub proved : (text : List ℕ) × (is ≡ Some (start ++ text)) × (length source ≤ limits.file) × ProveSays source Done text
   proved = by wrote.1 wrote.2
     where
-      by : Says limits words held before after Done wrote.0 → is ≡ appended was wrote.0 → (text : List ℕ) × (is ≡ Some (start ++ text)) × (length source ≤ limits.file) × ProveSays source answer.Done text
+      by : Says limits words held before after Done wrote.0 → is ≡ appended was wrote.0 → (text : List ℕ) × (is ≡ Some (start ++ text)) × (length source ≤ limits.file) × ProveSays source Done text
       by (inl asks) put =
           let told = said-of-file limits held Done wrote.0 Prove name source name_held asks.0 (asks-prove words name are asks.0 asks.1) asks.2 in
           (wrote.0, put ∙ ap (λ (w : Option (List ℕ)). appended w wrote.0) begun, told.0, told.1)
@@ -66,18 +64,18 @@ module _ (tree : (bytes : List ℕ) (s t : Source) → IsProgramText bytes s →
   module _ (limits : Limits) (words : List (List ℕ)) (held : List ℕ → Option (List ℕ)) (before after : List ℕ → ℕ) (was is : Option (List ℕ)) (faults sums : ℕ)
       (wrote : Wrote (Says limits words held before after) was is faults sums Done)
       (next : List (List ℕ)) (next_held : List ℕ → Option (List ℕ)) (turn : AreInTurn words held was is next next_held) where
-    printed : (length turn.source ≤ limits.file) × ProveSays turn.source answer.Done turn.certificate
+    printed : (length turn.source ≤ limits.file) × ProveSays turn.source Done turn.certificate
     printed =
         let told = proved limits words held before after was is faults sums wrote turn.name turn.source turn.before turn.proves turn.source_held turn.began in
         let both : Some (turn.before ++ told.0) ≡ Some (turn.before ++ turn.certificate) = sym told.1 ∙ turn.wrote in
         let ends : turn.before ++ told.0 ≡ turn.before ++ turn.certificate = cc in
         let same : told.0 ≡ turn.certificate = append_cancel_left turn.before told.0 turn.certificate ends in
-        (told.2, subst (λ (text : List ℕ). ProveSays turn.source answer.Done text) same told.3)
+        (told.2, subst (λ (text : List ℕ). ProveSays turn.source Done text) same told.3)
 
     module _ (next_before next_after : List ℕ → ℕ) (next_was next_is : Option (List ℕ)) (next_faults next_sums : ℕ) where
       -- the files are in their grammars
       answered : (result : Result Status NoMemory) → length turn.certificate ≤ limits.second
-          → ((call : Call) → IsRequest next call → AreHeld limits next_held call → NoneRose next_before next_after call → (Rose next_faults next_sums → ⊥) → IsAnswered result)
+          → ((call : NamedRequest) → IsRequest next call → AreHeld limits next_held call → NoneRose next_before next_after call → (Rose next_faults next_sums → ⊥) → IsAnswered result)
           → NothingFailed next_before next_after turn.again turn.other next_faults next_sums → IsAnswered result
       answered result within complete nothing =
           complete (TwoFiles Check turn.again turn.other) (turn.checks, tt, turn.again_named, turn.other_named)
@@ -91,7 +89,7 @@ module _ (tree : (bytes : List ℕ) (s t : Source) → IsProgramText bytes s →
           by (inl asks) =
               let says = said-of-files limits next_held No told.0 Check turn.again turn.other turn.source turn.certificate turn.again_held turn.certificate_held
               asks.0 (asks-check next turn.again turn.other turn.checks asks.0 asks.1) asks.2 in
-              ap status_of (accepted_again tree turn.source turn.certificate told.0 answer.No printed.1 says)
+              accepted_again tree turn.source turn.certificate told.0 No printed.1 says
           by (inr usage) = absurd (let never : No ≡ Usage = usage.0 in cc)
 
       accepts : (status : Status) → Wrote (Says limits next next_held next_before next_after) next_was next_is next_faults next_sums status → IsAnswered (Ok status) → status ≡ Done
@@ -104,7 +102,7 @@ module _ (tree : (bytes : List ℕ) (s t : Source) → IsProgramText bytes s →
       accepts TooLarge told is = absurd is
 
       pub accepted : (status : Status) → length turn.certificate ≤ limits.second
-          → ((call : Call) → IsRequest next call → AreHeld limits next_held call → NoneRose next_before next_after call → (Rose next_faults next_sums → ⊥) → IsAnswered (Ok status))
+          → ((call : NamedRequest) → IsRequest next call → AreHeld limits next_held call → NoneRose next_before next_after call → (Rose next_faults next_sums → ⊥) → IsAnswered (Ok status))
           → Wrote (Says limits next next_held next_before next_after) next_was next_is next_faults next_sums status
           → NothingFailed next_before next_after turn.again turn.other next_faults next_sums → status ≡ Done
       accepted status within complete told nothing = accepts status told (answered (Ok status) within complete nothing)

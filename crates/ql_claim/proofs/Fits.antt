@@ -22,11 +22,11 @@ use Rattle.ql_exec.proofs.Law.{IsExecution-push, faultless}
 use Rattle.ql_effect_lines.specs.declared.effect_line.EffectLine.{EffectLine}
 use Rattle.ql_effect_lines.specs.declared.rules.ReportRule.{ReportRule}
 use Rattle.ql_effect_lines.specs.declared.rules.ReportRule.TheVariants.{Mixed, Stamp, TooMany, Unknown}
-use Rattle.ql_effect_lines.specs.declared.told.Told.{Told}
-use Rattle.ql_effect_lines.specs.Effects.{after_effect, after_known, draft_of, first_on, is_mixed, kind_of, member_of, most_effects, number_of, put_in, rule_of, with_effect, with_object}
-use Rattle.ql_execution_files.specs.ExecutionFile.{Closes, IsExecutionFile, Takes, TakesEffect, gives}
-use Rattle.ql_execution_files.specs.declared.format.Reading.{Reading}
-use Rattle.ql_execution_files.specs.declared.format.Reading.TheVariants.{Ended, Unbegun, WithEffects}
+use Rattle.ql_effect_lines.specs.declared.effects_read.EffectsRead.{EffectsRead}
+use Rattle.ql_effect_lines.specs.Effects.{after_effect, after_known, draft_of_line, first_on, is_mixed, type_number_of, member_of_line, most_effects, object_number, with_draft, exec_rule, with_read_effect, with_object_name}
+use Rattle.ql_execution_files.specs.ExecutionFile.{ClosesExecution, IsExecutionFile, Takes, TakesEffect, gives}
+use Rattle.ql_execution_files.specs.declared.format.ExecutionReading.{ExecutionReading}
+use Rattle.ql_execution_files.specs.declared.format.ExecutionReading.TheVariants.{Ended, Unbegun, WithEffects}
 use Rattle.ql_line_files.specs.Outcomes.{Leads}
 use Rattle.ql_implication.specs.Executions.{FitsProgram}
 use Rattle.ql_lang.specs.declared.program.Program.{Program}
@@ -37,7 +37,7 @@ use Rattle.ql_typing.proofs.Flat.{length-kinds}
 -- ---- the effect that a line adds
 
 -- a draft without a fault, of an operation of the program and of its object's type
-record IsNext (p : Program) (told more : Told) (e : EffectLine) : Type 0 where
+record IsNext (p : Program) (told more : EffectsRead) (e : EffectLine) : Type 0 where
   draft : Draft
   seen : draft.seen ≡ e.setting.seen
   known : draft.op.0 < length (all_ops p.types)
@@ -45,14 +45,14 @@ record IsNext (p : Program) (told more : Told) (e : EffectLine) : Type 0 where
   faultless : fault_of told.effects draft ≡ None
   effects : more.effects ≡ told.effects ++ effect_of told.effects draft ∷ []
 
-abbrev ok_told : Told → Result Told ReportRule
+abbrev ok_told : EffectsRead → Result EffectsRead ReportRule
 ok_told told = Ok told
 
-told_in : Told → Result Told ReportRule → Told
+told_in : EffectsRead → Result EffectsRead ReportRule → EffectsRead
 told_in other (Ok told) = told
 told_in other (Err fault) = other
 
-same-told : (a b : Told) → ok_told a ≡ ok_told b → a ≡ b
+same-told : (a b : EffectsRead) → ok_told a ≡ ok_told b → a ≡ b
 unfolding told_in
 same-told a b e = ap (told_in a) e
 
@@ -60,19 +60,19 @@ within : {X : Type 0} (test : X → Bool) (xs : List X) (k : ℕ) → position t
 within test [] k e = absurd (let never : None ≡ Some k = e in cc)
 within test (x ∷ xs) k e = (position-Some test (x ∷ xs) k x e).0
 
-module _ (p : Program) (told more : Told) (e : EffectLine) where
+module _ (p : Program) (told more : EffectsRead) (e : EffectLine) where
   module _ (o : ℕ) (here : op_place p.types e.op ≡ Some o) (member : Member) where
     abbrev object : ObjId
-    object = record { 0 = number_of told.objects e.object }
+    object = record { 0 = object_number told.objects e.object }
 
     abbrev op : OpId
     op = record { 0 = o }
 
     abbrev drafted : Draft
-    drafted = draft_of e object op member
+    drafted = draft_of_line e object op member
 
-    abbrev grown : Told
-    grown = with_effect (with_object told e.object) drafted
+    abbrev grown : EffectsRead
+    grown = with_read_effect (with_object_name told e.object) drafted
 
     room : (full : Bool) → (if full then Err TooMany else ok_told grown) ≡ Ok more → grown ≡ more
     room true h = absurd (let never : Err TooMany ≡ ok_told more = h in cc)
@@ -83,19 +83,19 @@ module _ (p : Program) (told more : Told) (e : EffectLine) where
     stamped false h = room (nat_le most_effects (length told.effects)) h
 
     unfaulted : is_mixed p told.effects object op ≡ false → (r : Option ExecFault) → fault_of told.effects drafted ≡ r
-        → option_map_or (λ fault. Err (rule_of fault)) r (if not (nat_eq (stamp_of told.effects drafted.session drafted.seen) e.setting.stamp) then Err Stamp
+        → option_map_or (λ fault. Err (exec_rule fault)) r (if not (nat_eq (stamp_of told.effects drafted.session drafted.seen) e.setting.stamp) then Err Stamp
         else (if nat_le most_effects (length told.effects) then Err TooMany else ok_told grown)) ≡ Ok more → IsNext p told more e
-    unfaulted unmixed (Some fault) none h = absurd (let never : Err (rule_of fault) ≡ ok_told more = h in cc)
+    unfaulted unmixed (Some fault) none h = absurd (let never : Err (exec_rule fault) ≡ ok_told more = h in cc)
     unfaulted unmixed None none h = record {
       draft = drafted;
       seen = refl;
       known = within (λ d. bytes_eq e.op d.name.word) (all_ops p.types) o here;
       unmixed = unmixed;
       faultless = none;
-      effects = ap (λ (t : Told). t.effects) (sym (stamped (not (nat_eq (stamp_of told.effects drafted.session drafted.seen) e.setting.stamp)) h));
+      effects = ap (λ (t : EffectsRead). t.effects) (sym (stamped (not (nat_eq (stamp_of told.effects drafted.session drafted.seen) e.setting.stamp)) h));
     }
 
-    of-type : (mixed : Bool) → is_mixed p told.effects object op ≡ mixed → (if mixed then Err Mixed else put_in (with_object told e.object) drafted e.setting.stamp) ≡ Ok more → IsNext p told more e
+    of-type : (mixed : Bool) → is_mixed p told.effects object op ≡ mixed → (if mixed then Err Mixed else with_draft (with_object_name told e.object) drafted e.setting.stamp) ≡ Ok more → IsNext p told more e
     of-type true is h = absurd (let never : Err Mixed ≡ ok_told more = h in cc)
     of-type false is h = unfaulted is (fault_of told.effects drafted) refl h
 
@@ -108,9 +108,9 @@ module _ (p : Program) (told more : Told) (e : EffectLine) where
   with-member o here (Some member) h = of-type o here member (is_mixed p told.effects (object o here member) (op o here member)) refl h
 
   with-place : (r : Option ℕ) → op_place p.types e.op ≡ r
-      → option_map_or (λ known. after_known p told e known.0 known.1) (option_and_then (λ o. option_map (λ member. known_as o member) (member_of p e.setting.txn)) r) (Err Unknown) ≡ Ok more → IsNext p told more e
+      → option_map_or (λ known. after_known p told e known.0 known.1) (option_and_then (λ o. option_map (λ member. known_as o member) (member_of_line p e.setting.txn)) r) (Err Unknown) ≡ Ok more → IsNext p told more e
   with-place None here h = absurd (let never : Err Unknown ≡ ok_told more = h in cc)
-  with-place (Some o) here h = with-member o here (member_of p e.setting.txn) h
+  with-place (Some o) here h = with-member o here (member_of_line p e.setting.txn) h
 
   is-next : after_effect p told e ≡ Ok more → IsNext p told more e
   is-next h = with-place (op_place p.types e.op) refl h
@@ -142,11 +142,11 @@ kind-is [] o = refl
 kind-is (k ∷ kinds) zero = refl
 kind-is (k ∷ kinds) (suc o) = kind-is kinds o
 
-unmixed-kind : (p : Program) (x : List Effect) (on : ObjId) (o : OpId) (g : Effect) → is_mixed p x on o ≡ false → first_on x on ≡ Some g → kind_of p g.op ≡ kind_of p o
+unmixed-kind : (p : Program) (x : List Effect) (on : ObjId) (o : OpId) (g : Effect) → is_mixed p x on o ≡ false → first_on x on ≡ Some g → type_number_of p g.op ≡ type_number_of p o
 unmixed-kind p x on o g unmixed first =
-    let same : not (nat_eq (kind_of p g.op) (kind_of p o)) ≡ false =
-    subst (λ (r : Option Effect). option_map_or (λ h. not (nat_eq (kind_of p h.op) (kind_of p o))) r false ≡ false) first unmixed in
-    eqb-true (kind_of p g.op) (kind_of p o) (not-false (nat_eq (kind_of p g.op) (kind_of p o)) same)
+    let same : not (nat_eq (type_number_of p g.op) (type_number_of p o)) ≡ false =
+    subst (λ (r : Option Effect). option_map_or (λ h. not (nat_eq (type_number_of p h.op) (type_number_of p o))) r false ≡ false) first unmixed in
+    eqb-true (type_number_of p g.op) (type_number_of p o) (not-false (nat_eq (type_number_of p g.op) (type_number_of p o)) same)
 
 -- ---- one effect more
 
@@ -220,31 +220,31 @@ module _ (p : Program) (x : List Effect) (has : Fits p x) (draft : Draft) (known
 
 -- ---- line after line
 
-abbrev AreFitting : Program → Reading → Type 0
+abbrev AreFitting : Program → ExecutionReading → Type 0
 AreFitting p Unbegun = Unit {0}
 AreFitting p (WithEffects told) = Fits p told.effects
 AreFitting p (Ended told) = Fits p told.effects
 
-takes-effect : (p : Program) (told : Told) (text : List ℕ) (after : Reading) → Fits p told.effects → TakesEffect p told text after → AreFitting p after
+takes-effect : (p : Program) (told : EffectsRead) (text : List ℕ) (after : ExecutionReading) → Fits p told.effects → TakesEffect p told text after → AreFitting p after
 takes-effect p told text after has takes =
     let next = is-next p told takes.more takes.effect takes.lawful in
     let ascending : IsAscending next.draft.seen = subst IsAscending (sym next.seen) takes.is.setting.ascending in
     let grown = fits-more p told.effects has next.draft next.known next.unmixed ascending next.faultless in
     subst (AreFitting p) (sym takes.to) (subst (Fits p) (sym next.effects) grown)
 
-takes-line : (p : Program) (before : Reading) (l : Numbered) (after : Reading) → AreFitting p before → Takes p before l.text after → AreFitting p after
+takes-line : (p : Program) (before : ExecutionReading) (l : Numbered) (after : ExecutionReading) → AreFitting p before → Takes p before l.text after → AreFitting p after
 takes-line p Unbegun l after has (inl begins) = subst (AreFitting p) (sym begins.1) (fits-none p)
 takes-line p Unbegun l after has (inr skips) = subst (AreFitting p) (sym skips.1) tt
 takes-line p (WithEffects told) l after has (inl effect) = takes-effect p told l.text after has effect
 takes-line p (WithEffects told) l after has (inr end) = subst (AreFitting p) (sym end.to) has
 takes-line p (Ended told) l after has takes = absurd takes
 
-leads-on : (p : Program) (ls : List Numbered) (before after : Reading) → AreFitting p before → Leads (gives p) Closes before ls after → AreFitting p after
+leads-on : (p : Program) (ls : List Numbered) (before after : ExecutionReading) → AreFitting p before → Leads (gives p) ClosesExecution before ls after → AreFitting p after
 unfolding Leads
 leads-on p [] before after has same = subst (AreFitting p) same has
 leads-on p (l ∷ ls) before after has leads = leads-on p ls leads.0 after (takes-line p before l leads.0 has leads.1) leads.2
 
-fits-at : (p : Program) (end : ℕ) (x : List Effect) (s : Reading) → AreFitting p s → Closes s end (Ok x) → Fits p x
+fits-at : (p : Program) (end : ℕ) (x : List Effect) (s : ExecutionReading) → AreFitting p s → ClosesExecution s end (Ok x) → Fits p x
 fits-at p end x Unbegun has c = absurd cc
 fits-at p end x (WithEffects told) has c = absurd cc
 fits-at p end x (Ended told) has c = let same : told.effects ≡ x = cc in subst (Fits p) same has

@@ -12,17 +12,16 @@ use Rattle.ql_reply.specs.declared.status.Status.TheVariants.{Done, No, Bad, Rea
 use Rattle.ql_app.specs.declared.words.PairCommand.TheVariants.{Verify}
 use Rattle.ql_app.specs.Outcome.{IsOver, MeetsFault, MeetsLimit, Says}
 use Rattle.ql_reply.specs.Wrote.{Wrote}
-use Rattle.ql_app.specs.Words.{Call, TwoFiles}
+use Rattle.ql_app.specs.Words.{NamedRequest, TwoFiles}
 use Rattle.ql_reply.specs.Arguments.{IsFileName}
 use Rattle.ql_commands.specs.Sources.{IsSourceOf}
 use Rattle.ql_commands.proofs.SameSource.{same-op-kinds}
 use Rattle.ql_exec.specs.declared.effect.Effect.{Effect}
 use Rattle.ql_exec.specs.Execution.{IsExecution}
-use Rattle.ql_execution_files.specs.ExecutionFile.{FirstFault, IsExecutionFile}
+use Rattle.ql_execution_files.specs.ExecutionFile.{FirstExecutionFault, IsExecutionFile}
 use Rattle.ql_execution_files.specs.declared.report_fault.ReportFault.{ReportFault}
 use Rattle.ql_implication.specs.Executions.{FitsProgram}
 use Rattle.ql_judging.specs.Verify.{VerifySays, VerifyTells}
-use Rattle.ql_judging.specs.declared.judged.Judged.TheVariants as judged
 use Rattle.ql_judging.proofs.Begun.{under}
 use Rattle.ql_lang.specs.Formulas.{Resolved}
 use Rattle.ql_lang.specs.declared.program.Program.{Program}
@@ -39,7 +38,7 @@ use Rattle.ql_claim.specs.InTurn.{NothingFailed}
 use Rattle.ql_claim.specs.Kept.{KeepsLevels, AreKeptInTurn, IsUpheld}
 use Rattle.ql_claim.specs.Soundness.{op_with_level, txn_with_level}
 use Rattle.ql_claim.proofs.Asked.{asks-verify, said-of-files}
-use Rattle.ql_claim.proofs.SamePrograms.{same-execution, same-op-contracts, same-op-name, same-txn-contracts, same-txn-name, same-work}
+use Rattle.ql_verified_runs.proofs.SamePrograms.{same-execution, same-op-contracts, same-op-name, same-txn-contracts, same-txn-name, same-work}
 use Rattle.ql_claim.proofs.SoundClaims.{classified}
 use Rattle.ql_claim.proofs.SoundLines.{IsPrinted}
 
@@ -90,7 +89,7 @@ module _ (source text : List ℕ) (printed : IsPrinted source text) (p q : Progr
 
 module _ (tree : (bytes : List ℕ) (s t : Source) → IsProgramText bytes s → IsProgramText bytes t → s ≡ t)
     (one : (p : Program) (file : Ahead) (x y : List Effect) → IsExecutionFile p file x → IsExecutionFile p file y → x ≡ y)
-    (apart : (p : Program) (file : Ahead) (x : List Effect) (f : ReportFault) → IsExecutionFile p file x → FirstFault p file f → ⊥)
+    (apart : (p : Program) (file : Ahead) (x : List Effect) (f : ReportFault) → IsExecutionFile p file x → FirstExecutionFault p file f → ⊥)
     (well : (p : Program) (file : Ahead) (x : List Effect) → IsExecutionFile p file x → IsExecution x)
     (fit : (p : Program) (file : Ahead) (x : List Effect) → IsExecutionFile p file x → FitsProgram (op_kinds p.types) x)
     (source text file : List ℕ) (printed : IsPrinted source text) (p : Program) (reads : IsProgramText source (source_of p))
@@ -108,7 +107,7 @@ module _ (tree : (bytes : List ℕ) (s t : Source) → IsProgramText bytes s →
   same-as : (q : Program) (is : IsSourceOf source q) (y : List Effect) → IsExecutionFile q (ahead_from 1 file) y → x ≡ y
   same-as q is y read = one q (ahead_from 1 file) x y (same-execution p q (between q is.0) (ahead_from 1 file) x reports) read
 
-  never-fails : (said : List ℕ) → VerifyTells source file judged.Fails said → ⊥
+  never-fails : (said : List ℕ) → VerifyTells source file No said → ⊥
   never-fails said tells =
       let q = tells.0 in
       let says = tells.4 in
@@ -116,11 +115,11 @@ module _ (tree : (bytes : List ℕ) (s t : Source) → IsProgramText bytes s →
       no-breach source text printed p q (to-own p reads) (to-own q tells.1.0) x (well p (ahead_from 1 file) x reports) (fit p (ahead_from 1 file) x reports) kept
       says.1 (subst (λ (z : List Effect). IsVerdict q z (Some says.1)) (sym same) says.2)
 
-  never-bad : (said : List ℕ) → VerifySays source file judged.Bad said → ⊥
+  never-bad : (said : List ℕ) → VerifySays source file Bad said → ⊥
   never-bad said (inl bad) = bad.0 (its-program, (printed.sound.reads, printed.typed))
   never-bad said (inr bad) = apart bad.1 (ahead_from 1 file) x bad.3 (same-execution p bad.1 (between bad.1 bad.2.0) (ahead_from 1 file) x reports) bad.4
 
-  much-work : (said : List ℕ) → VerifySays source file judged.TooMuch said → 20000000 < work_of p x
+  much-work : (said : List ℕ) → VerifySays source file TooLarge said → 20000000 < work_of p x
   much-work said says =
       let tells = says.1 in
       let q = tells.0 in
@@ -148,7 +147,7 @@ module _ (tree : (bytes : List ℕ) (s t : Source) → IsProgramText bytes s →
     no-fault t (inr next) = nothing.second_file next.1.0
 
     not-unread : (t : List ℕ) → Says limits words held before after ReadFault t → ⊥
-    not-unread t (inl asks) = no-fault t (subst (λ (c : Call). MeetsFault limits held before after c t) (asks-verify words again other are asks.0 asks.1) asks.2)
+    not-unread t (inl asks) = no-fault t (subst (λ (c : NamedRequest). MeetsFault limits held before after c t) (asks-verify words again other are asks.0 asks.1) asks.2)
     not-unread t (inr usage) = let never : ReadFault ≡ Usage = usage.0 in cc
 
     not-usage : (t : List ℕ) → Says limits words held before after Usage t → ⊥
@@ -167,7 +166,7 @@ module _ (tree : (bytes : List ℕ) (s t : Source) → IsProgramText bytes s →
     large : (t : List ℕ) → Says limits words held before after TooLarge t → 20000000 < work_of p x
     large t (inl asks) = elim asks.2 [
       | inl judges ↦ much-work t (said-of-files limits held TooLarge t Verify again other source file again_held other_held asks.0 (asks-verify words again other are asks.0 asks.1) judges)
-      | inr limit ↦ absurd (no-limit t (subst (λ (c : Call). MeetsLimit limits held c t) (asks-verify words again other are asks.0 asks.1) limit))
+      | inr limit ↦ absurd (no-limit t (subst (λ (c : NamedRequest). MeetsLimit limits held c t) (asks-verify words again other are asks.0 asks.1) limit))
     ]
     large t (inr usage) = absurd (let never : TooLarge ≡ Usage = usage.0 in cc)
 
@@ -184,7 +183,7 @@ module _ (tree : (bytes : List ℕ) (s t : Source) → IsProgramText bytes s →
 
 module _ (tree : (bytes : List ℕ) (s t : Source) → IsProgramText bytes s → IsProgramText bytes t → s ≡ t)
     (one : (p : Program) (file : Ahead) (x y : List Effect) → IsExecutionFile p file x → IsExecutionFile p file y → x ≡ y)
-    (apart : (p : Program) (file : Ahead) (x : List Effect) (f : ReportFault) → IsExecutionFile p file x → FirstFault p file f → ⊥)
+    (apart : (p : Program) (file : Ahead) (x : List Effect) (f : ReportFault) → IsExecutionFile p file x → FirstExecutionFault p file f → ⊥)
     (well : (p : Program) (file : Ahead) (x : List Effect) → IsExecutionFile p file x → IsExecution x)
     (fit : (p : Program) (file : Ahead) (x : List Effect) → IsExecutionFile p file x → FitsProgram (op_kinds p.types) x)
     (limits : Limits) (words : List (List ℕ)) (held : List ℕ → Option (List ℕ)) (before after : List ℕ → ℕ) (was is : Option (List ℕ)) (faults sums : ℕ)

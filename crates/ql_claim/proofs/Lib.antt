@@ -1,5 +1,4 @@
 mod TextLines
-mod SamePrograms
 mod OneLevel
 mod Fits
 mod Certificates

@@ -10,7 +10,6 @@ use Rattle.ql_app.specs.declared.words.Command.TheVariants.{Classify}
 use Rattle.ql_app.specs.declared.words.PairCommand.TheVariants.{Check}
 use Rattle.ql_app.specs.Outcome.{Says}
 use Rattle.ql_reply.specs.Wrote.{Wrote}
-use Rattle.ql_commands.specs.declared.answer.Answer.TheVariants as answer
 use Rattle.ql_commands.specs.Check.{CheckSays, order_text}
 use Rattle.ql_commands.specs.Classify.{ClassifySays}
 use Rattle.ql_implied.specs.Commands.{TellsAccepted}
@@ -33,28 +32,28 @@ module _ (limits : Limits) (words : List (List ℕ)) (held : List ℕ → Option
       by : Says limits words held before after Done wrote.0 → is ≡ appended was wrote.0 → (text : List ℕ) × (is ≡ Some (start ++ text)) × (length source ≤ limits.file) × IsPrinted source text
       by (inl asks) put =
           let said = said-of-file limits held Done wrote.0 Classify name source name_held asks.0 (asks-classify words name are asks.0 asks.1) asks.2 in
-          let told : ClassifySays source answer.Done wrote.0 = said.1 in
+          let told : ClassifySays source Done wrote.0 = said.1 in
           (wrote.0, gained was is start wrote.0 begun put, said.0, levels-printed source told.0 told.1 wrote.0 told.2 told.3.least.enough told.4)
       by (inr usage) put = absurd (let never : Done ≡ Usage = usage.0 in cc)
 
   module _ (other certificate : List ℕ) (other_held : held other ≡ Some certificate) (are : words ≡ codes "check" ∷ name ∷ other ∷ []) where
-    pub accepted-all : ((source cert text : List ℕ) → CheckSays source cert answer.Done text → TellsAccepted source cert answer.Done text)
+    pub accepted-all : ((source cert text : List ℕ) → CheckSays source cert Done text → TellsAccepted source cert Done text)
         → Wrote (Says limits words held before after) was is faults sums Done → Gained start is (IsSoundAnswer (codes " accepted") source)
     accepted-all law wrote = by wrote.1 wrote.2
       where
         by : Says limits words held before after Done wrote.0 → is ≡ appended was wrote.0 → (text : List ℕ) × (is ≡ Some (start ++ text)) × IsSoundAnswer (codes " accepted") source text
         by (inl asks) put =
             let said = said-of-files limits held Done wrote.0 Check name other source certificate name_held other_held asks.0 (asks-check words name other are asks.0 asks.1) asks.2 in
-            (wrote.0, gained was is start wrote.0 begun put, check-sound source certificate answer.Done wrote.0 (law source certificate wrote.0 said))
+            (wrote.0, gained was is start wrote.0 begun put, check-sound source certificate Done wrote.0 (law source certificate wrote.0 said))
         by (inr usage) put = absurd (let never : Done ≡ Usage = usage.0 in cc)
 
-    pub accepted-some : ((source cert text : List ℕ) → CheckSays source cert answer.No text → ((place : ℕ) × (text ≡ order_text place)) ⊎ TellsAccepted source cert answer.No text)
+    pub accepted-some : ((source cert text : List ℕ) → CheckSays source cert No text → ((place : ℕ) × (text ≡ order_text place)) ⊎ TellsAccepted source cert No text)
         → Wrote (Says limits words held before after) was is faults sums No → Gained start is (IsSoundAnswer (codes " accepted") source)
     accepted-some law wrote = by wrote.1 wrote.2
       where
-        sound : (text : List ℕ) → CheckSays source certificate answer.No text → ((place : ℕ) × (text ≡ order_text place)) ⊎ TellsAccepted source certificate answer.No text → IsSoundAnswer (codes " accepted") source text
+        sound : (text : List ℕ) → CheckSays source certificate No text → ((place : ℕ) × (text ≡ order_text place)) ⊎ TellsAccepted source certificate No text → IsSoundAnswer (codes " accepted") source text
         sound text said (inl order) = order-sound source said.0 said.1 order.0 text order.1
-        sound text said (inr told) = check-sound source certificate answer.No text told
+        sound text said (inr told) = check-sound source certificate No text told
 
         by : Says limits words held before after No wrote.0 → is ≡ appended was wrote.0 → (text : List ℕ) × (is ≡ Some (start ++ text)) × IsSoundAnswer (codes " accepted") source text
         by (inl asks) put =
@@ -62,8 +61,8 @@ module _ (limits : Limits) (words : List (List ℕ)) (held : List ℕ → Option
             (wrote.0, gained was is start wrote.0 begun put, sound wrote.0 said (law source certificate wrote.0 said))
         by (inr usage) put = absurd (let never : No ≡ Usage = usage.0 in cc)
 
-pub all-sound : ((source cert text : List ℕ) → CheckSays source cert answer.Done text → TellsAccepted source cert answer.Done text)
-    → ((source cert text : List ℕ) → CheckSays source cert answer.No text → ((place : ℕ) × (text ≡ order_text place)) ⊎ TellsAccepted source cert answer.No text)
+pub all-sound : ((source cert text : List ℕ) → CheckSays source cert Done text → TellsAccepted source cert Done text)
+    → ((source cert text : List ℕ) → CheckSays source cert No text → ((place : ℕ) × (text ≡ order_text place)) ⊎ TellsAccepted source cert No text)
     → (status : Status) (limits : Limits) (words : List (List ℕ)) (held : List ℕ → Option (List ℕ)) (before after : List ℕ → ℕ) (was is : Option (List ℕ)) (faults sums : ℕ)
     → Wrote (Says limits words held before after) was is faults sums status → Soundness status words held was is
 all-sound accepted refused status limits words held before after was is faults sums wrote = record {

@@ -14,8 +14,8 @@ use Rattle.ql_cert.specs.declared.cert.Section.{Section}
 use Rattle.ql_cert.specs.declared.cert.SectionLevel.{SectionLevel}
 use Rattle.ql_cert.specs.declared.cert.SectionLevel.TheVariants.{Op, Txn}
 use Rattle.ql_classify.specs.Targets.{op_at, txn_at}
-use Rattle.ql_commands.specs.declared.answer.Answer.{Answer}
-use Rattle.ql_commands.specs.declared.answer.Answer.TheVariants.{Done, No, Bad}
+use Rattle.ql_reply.specs.declared.status.Status.{Status}
+use Rattle.ql_reply.specs.declared.status.Status.TheVariants.{Done, No, Bad, ReadFault, WriteFault, Usage, TooLarge}
 use Rattle.ql_commands.specs.Check.{AreDue, Operation, Transaction, goal_at, order_text, refusal_end, section_text, target_named, targets_due, verdict_text}
 use Rattle.ql_commands.specs.Judging.{AreDueFrom}
 use Rattle.ql_commands.specs.Sources.{IsSourceOf}
@@ -37,10 +37,11 @@ use Rattle.ql_levels.specs.declared.level.TxnLevel.{TxnLevel}
 use Rattle.ql_levels.specs.declared.level.TxnLevel.TheVariants.{Rr}
 use Rattle.ql_refute.specs.declared.verdict.Verdict.{Verdict}
 use Rattle.ql_refute.specs.declared.verdict.Verdict.TheVariants.{Accepted, BadHint, NotUnit, NoConflict, NoEmpty, BadVariable}
-use Rattle.ql_report.specs.Levels.{levels_text, op_line, op_name, txn_line, txn_name}
+use Rattle.ql_report.specs.Levels.{levels_text, op_line, txn_line}
 use Rattle.ql_typing.specs.Lookups.{txn_place}
 use Rattle.ql_typing.specs.Operations.{all_ops, op_contract, op_contracts, op_kinds, op_place, op_words, txn_contract, txn_contracts}
 use Rattle.ql_typing.specs.Programs.{program_faults}
+use Rattle.ql_typing.specs.Names.{op_name, txn_name}
 use Rattle.ql_claim.specs.Soundness.{IsSoundAnswer, IsTargetWithLevel, op_with_level, txn_with_level}
 use Rattle.ql_claim.proofs.OneLevel.{of-op, of-txn}
 use Rattle.ql_claim.proofs.TextLines.{IsOneLine, all-append, all-upto, both-line, contains-upto, ended, ended-append, ended-upto, final, final-append, final-decimal, is_solid, lines-ended, one-field, same-txn-word, same-word, solid-decimal, solid-line, solid-name, solid-txn-word, solid-word, spaced-line}
@@ -363,15 +364,23 @@ module _ (source : List ℕ) (p : Program) (is : IsSourceOf source p) where
       one-end end (w ++ codes " refused NoEmpty") (are ∙ sym (append_assoc w (codes " refused NoEmpty") (10 ∷ [])))
       (both-line w (codes " refused NoEmpty") line rest, inr (inr (unlike (w ++ codes " refused NoEmpty") (λ e. let never : 121 ≡ 100 = sym last ∙ e in omega (arith, never)))))
 
-  its-end : (next : ℕ) (others : List Section) (a : Answer) (end : List ℕ) → AreDueFrom p next others → EndsWith others a end → IsEnd end
+  its-end : (next : ℕ) (others : List Section) (a : Status) (end : List ℕ) → AreDueFrom p next others → EndsWith others a end → IsEnd end
   its-end next [] Done end due ends = record { its = []; all = tt; are = ends }
   its-end next [] No end due ends = absurd ends
   its-end next [] Bad end due ends = absurd ends
+  its-end next [] ReadFault end due ends = absurd ends
+  its-end next [] WriteFault end due ends = absurd ends
+  its-end next [] Usage end due ends = absurd ends
+  its-end next [] TooLarge end due ends = absurd ends
   its-end next (s ∷ ss) Done end due ends = absurd ends
   its-end next (s ∷ ss) No end due ends = other-verdict end (section_text s) ends.0 (section-line next s.name s.level due.0) ends.1 ends.2
   its-end next (s ∷ ss) Bad end due ends = absurd ends
+  its-end next (s ∷ ss) ReadFault end due ends = absurd ends
+  its-end next (s ∷ ss) WriteFault end due ends = absurd ends
+  its-end next (s ∷ ss) Usage end due ends = absurd ends
+  its-end next (s ∷ ss) TooLarge end due ends = absurd ends
 
-  pub accepted-sound : (ss : List Section) (a : Answer) (text : List ℕ) → AreDue p ss → AcceptsFront p 0 ss a text → IsSoundAnswer (codes " accepted") source text
+  pub accepted-sound : (ss : List Section) (a : Status) (text : List ℕ) → AreDue p ss → AcceptsFront p 0 ss a text → IsSoundAnswer (codes " accepted") source text
   accepted-sound ss a text due accepts =
       let front = accepted 0 accepts.front accepts.others (subst (λ (ts : List Section). AreDueFrom p 0 ts) accepts.sections (due_from p ss due)) accepts.each in
       let end = its-end front.next accepts.others a accepts.end front.due accepts.ends in
@@ -388,5 +397,5 @@ module _ (source : List ℕ) (p : Program) (is : IsSourceOf source p) where
       sound-text (codes " accepted") text end.its end.are end.all
 
 -- what `check` says of its files is sound
-pub check-sound : (source cert : List ℕ) (a : Answer) (text : List ℕ) → TellsAccepted source cert a text → IsSoundAnswer (codes " accepted") source text
+pub check-sound : (source cert : List ℕ) (a : Status) (text : List ℕ) → TellsAccepted source cert a text → IsSoundAnswer (codes " accepted") source text
 check-sound source cert a text told = accepted-sound source told.0 told.1 told.2 a text told.4 told.5

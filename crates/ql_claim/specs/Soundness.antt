@@ -13,8 +13,8 @@ use Rattle.ql_levels.specs.Words.{word_of, txn_word_of}
 use Rattle.ql_levels.specs.declared.level.Level.{Level}
 use Rattle.ql_levels.specs.declared.level.TxnLevel.{TxnLevel}
 use Rattle.ql_parse.specs.Parsing.{IsProgramText}
-use Rattle.ql_report.specs.Levels.{op_name, txn_name}
 use Rattle.ql_typing.specs.Operations.{all_ops, op_contracts, op_kinds, txn_contracts}
+use Rattle.ql_typing.specs.Names.{op_name, txn_name}
 use Rattle.ql_claim.specs.Headline.{Gained}
 
 -- the operation of a number with a level, as `op deposit causal`

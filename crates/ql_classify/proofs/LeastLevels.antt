@@ -14,7 +14,7 @@ use Rattle.ql_typing.specs.Operations.{op_kinds, op_contracts, txn_contracts}
 use Rattle.ql_ground.specs.declared.goal.Goal.{Goal}
 use Rattle.ql_ground.specs.declared.goal.Goal.TheVariants.{OpAt, TxnAt}
 use Rattle.ql_ground.specs.Ground.{op_problem, txn_problem}
-use Rattle.ql_ground.specs.Least.{IsLeast, IsLeastTxn}
+use Rattle.ql_ground.specs.Least.{IsLeastOpLevel, IsLeastTxn}
 use Rattle.ql_refute.specs.declared.refutation.Line.{Line}
 use Rattle.ql_refute.proofs.Soundness.{accepted_is_unsatisfiable}
 use Rattle.ql_counter.specs.Countermodels.{IsSatisfiedBy}
@@ -35,7 +35,7 @@ module _ (p : Program) where
       let same : h.1.0 ≡ f = cc in
       subst (λ k. Satisfies a (txn_problem (op_kinds p.types) level k)) same (subst (λ c. Satisfies a c) h.1.2 h.2)
 
-  op_least : (o : OpId) (level : Level) (lower : List (List Bool)) (f : Resolved) → slice_get (op_contracts p.types) o.0 ≡ Some f → AllZip (IsSatisfiedBy p) (goals_below (OpAt o level)) lower → IsUnsatisfiable (op_problem (op_kinds p.types) o.0 level f) → IsLeast (op_kinds p.types) o.0 f level
+  op_least : (o : OpId) (level : Level) (lower : List (List Bool)) (f : Resolved) → slice_get (op_contracts p.types) o.0 ≡ Some f → AllZip (IsSatisfiedBy p) (goals_below (OpAt o level)) lower → IsUnsatisfiable (op_problem (op_kinds p.types) o.0 level f) → IsLeastOpLevel (op_kinds p.types) o.0 f level
   op_least o Eventual lower f at h u = u
   op_least o Causal [] f at h u = absurd h
   op_least o Causal (a ∷ lower) f at h u = ((a, op_satisfied o Eventual a f at h.0), u)

@@ -11,7 +11,7 @@ use Rattle.ql_levels.specs.declared.level.TxnLevel.{TxnLevel}
 use Rattle.ql_levels.specs.declared.level.TxnLevel.TheVariants.{Rc, Mav, Rr}
 use Rattle.ql_typing.specs.Operations.{op_kinds}
 use Rattle.ql_ground.specs.Ground.{op_problem, txn_problem}
-use Rattle.ql_ground.specs.Least.{IsLeast, IsLeastTxn}
+use Rattle.ql_ground.specs.Least.{IsLeastOpLevel, IsLeastTxn}
 use Rattle.ql_ground.proofs.Lower.{strong_gives_wide, wide_gives_causal, causal_gives_eventual, rr_gives_mav, mav_gives_rc}
 use Rattle.ql_classify.specs.Outcome.{Test, OpHasLevel, UseIsWeak, TxnHasLevel, Passes, Fails, FirstFails}
 use Rattle.ql_classify.specs.Targets.{IsOpLevel, IsTxnLevel}
@@ -20,7 +20,7 @@ use Rattle.ql_classify.specs.declared.classless.Classless.TheVariants.{NoLevel, 
 use Rattle.ql_classify.proofs.LeastLevels.{op_satisfied, txn_satisfied}
 
 -- where the top level's problem is satisfied no level is least
-op-none : (types : List ℕ) (o : ℕ) (f : Resolved) (level : Level) (a : List Bool) → Satisfies a (op_problem types o Strong f) → IsLeast types o f level → ⊥
+op-none : (types : List ℕ) (o : ℕ) (f : Resolved) (level : Level) (a : List Bool) → Satisfies a (op_problem types o Strong f) → IsLeastOpLevel types o f level → ⊥
 op-none types o f Eventual a h u = u a (causal_gives_eventual types o f a (wide_gives_causal types o f a (strong_gives_wide types o f a h)))
 op-none types o f Causal a h u = u.1 a (wide_gives_causal types o f a (strong_gives_wide types o f a h))
 op-none types o f Wide a h u = u.2 a (strong_gives_wide types o f a h)
@@ -31,7 +31,7 @@ txn-none types f Rc a h u = u a (mav_gives_rc types f a (rr_gives_mav types f a 
 txn-none types f Mav a h u = u.1 a (rr_gives_mav types f a h)
 txn-none types f Rr a h u = u.2 a h
 
-op-one : (types : List ℕ) (o : ℕ) (f : Resolved) (l k : Level) → IsLeast types o f l → IsLeast types o f k → l ≡ k
+op-one : (types : List ℕ) (o : ℕ) (f : Resolved) (l k : Level) → IsLeastOpLevel types o f l → IsLeastOpLevel types o f k → l ≡ k
 op-one types o f Eventual Eventual h g = refl
 op-one types o f Eventual Causal h g = absurd (h g.0.0 g.0.1)
 op-one types o f Eventual Wide h g = absurd (h g.0.0 g.0.1)
@@ -65,7 +65,7 @@ module _ (p : Program) where
   one_op_level o l k h g =
       let other : Some g.0 ≡ Some h.0 = sym g.1 ∙ h.1 in
       let same : g.0 ≡ h.0 = cc in
-      op-one (op_kinds p.types) o h.0 l k h.2 (subst (λ f. IsLeast (op_kinds p.types) o f k) same g.2)
+      op-one (op_kinds p.types) o h.0 l k h.2 (subst (λ f. IsLeastOpLevel (op_kinds p.types) o f k) same g.2)
 
   pub one_txn_level : (d : ℕ) (l k : TxnLevel) → IsTxnLevel p d l → IsTxnLevel p d k → l ≡ k
   one_txn_level d l k h g =

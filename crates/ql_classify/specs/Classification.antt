@@ -1,4 +1,4 @@
--- What is seen of a classified program: its declarations, and the level of each target.
+-- A classified program as its users see it: its declarations, and the level of each target.
 use Rattle.ql_lang.specs.declared.program.Program.{Program}
 use Rattle.ql_levels.specs.Lists.{LevelLists}
 

@@ -1,4 +1,4 @@
--- What is found of one target.
+-- What is found for one target.
 use Rattle.std.specs.Prelude.{ℕ, suc, ◌+◌, ◌≡◌, ◌<◌, List, [], Option, None, Some, length, slice_get}
 use Rattle.ql_lang.specs.declared.program.Program.{Program}
 use Rattle.ql_levels.specs.declared.level.Level.TheVariants.{Strong}

@@ -1,4 +1,4 @@
--- What the solver's answer shows of a goal, and the search through the goals of a target.
+-- What the solver's result shows about a goal, and the search through the goals of a target.
 use Rattle.std.specs.Prelude.{List}
 use Rattle.ql_ground.specs.declared.goal.Goal.{Goal}
 use Rattle.ql_lang.specs.declared.program.Program.{Program}

@@ -1,4 +1,4 @@
--- What an answer shows of a goal, and what a search through goals finds.
+-- What the solver's result shows about a goal, and what a search through goals finds.
 use Rattle.std.specs.Prelude.{◌≡◌, Bool, List, [], ◌∷◌}
 use Rattle.ql_cnf.specs.Satisfaction.{ClauseList}
 use Rattle.ql_counter.specs.Countermodels.{IsSatisfiedBy}
@@ -16,7 +16,7 @@ abbrev pub IsRefutedBy : Program → Goal → List Line → Type 0
 IsRefutedBy p g lines = (c : ClauseList) × IsProblemOf p g c × (verdict c lines ≡ Accepted)
 
 -- the goal's level is enough: its problem is refuted, by lines whose hints count from 1, and in every execution the
--- level gives the contract
+-- level implies the contract
 abbrev pub IsEnough : Program → Goal → List Line → Type 0
 IsEnough p g lines = IsRefutedBy p g lines × AreNumbered lines × GivesContract p g
 

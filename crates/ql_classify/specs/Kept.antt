@@ -1,4 +1,4 @@
--- What a classified program keeps.
+-- What always holds of a classified program.
 use Rattle.std.specs.Prelude.{◌≡◌, List, length}
 use Rattle.std.specs.List.{AllZip}
 use Rattle.ql_lang.specs.declared.program.Program.{Program}

@@ -19,17 +19,17 @@ abbrev pub EachFails : Program → List Goal → Type 0
 EachFails p [] = Unit {0}
 EachFails p (g ∷ goals) = HasCounter p g × EachFails p goals
 
--- each level below a target's does
+-- each level below a target's fails in some execution of the program
 abbrev pub LowerFail : Program → Goal → Type 0
 LowerFail p g = EachFails p (goals_below g)
 
--- a level for each operation and each declared transaction, that gives its contract
+-- a level for each operation and each declared transaction that implies its contract
 pub record AreEnough (p : Program) (levels : LevelLists) : Type 0 where
   pub ops : length levels.ops ≡ length (all_ops p.types)
   pub txns : length levels.txns ≡ length p.txns
   pub each : All (GivesContract p) (goals_at levels)
 
--- the levels give their contracts, and each lower one fails in some execution of the program
+-- the levels imply their contracts, and each lower one fails in some execution of the program
 pub record AreLeast (p : Program) (levels : LevelLists) : Type 0 where
   pub enough : AreEnough p levels
   pub lower : All (LowerFail p) (goals_at levels)

@@ -1,4 +1,4 @@
--- What is judged of a program, in order, and which answer that gives.
+-- What is judged of a program, in order, and the result.
 use Rattle.std.specs.Prelude.{ℕ, ◌+◌, ◌≡◌, List, [], ◌∷◌, ◌++◌, map, length, slice_get, Option, None, Some, ◌⊎◌}
 use Rattle.std.specs.List.{All}
 use Rattle.ql_base.specs.Ranges.{upto}
@@ -27,7 +27,7 @@ abbrev pub names_used : Option TxnDecl → List Name
 names_used None = []
 names_used (Some d) = d.uses
 
--- of a transaction: each name that it uses, then its contract
+-- the tests of a transaction: each name that it uses, then its contract
 abbrev pub use_tests : Program → ℕ → List Test
 use_tests p d = map (λ n. UseIsWeak d n.word) (names_used (slice_get p.txns d))
 
@@ -65,7 +65,7 @@ abbrev pub FirstFails : Program → List Test → Classless → Type 0
 FirstFails p [] e = ⊥
 FirstFails p (t ∷ tests) e = Fails p t e ⊎ (Passes p t × FirstFails p tests e)
 
--- so each refusal but that memory ran out, which may come at any point
+-- a refusal is that of the first test that fails, or out of memory, which may come at any point
 abbrev pub IsRefusal : Program → List Test → Classless → Type 0
 IsRefusal p tests NoMemory = Unit {0}
 IsRefusal p tests e = FirstFails p tests e

@@ -9,7 +9,7 @@ use Rattle.ql_levels.specs.declared.level.Level.TheVariants.{Eventual, Causal, W
 use Rattle.ql_levels.specs.declared.level.TxnLevel.{TxnLevel}
 use Rattle.ql_levels.specs.declared.level.TxnLevel.TheVariants.{Rc, Mav, Rr}
 use Rattle.ql_typing.specs.Operations.{all_ops, op_kinds, op_place, op_contracts, txn_contracts}
-use Rattle.ql_ground.specs.Least.{IsLeast, IsLeastTxn}
+use Rattle.ql_ground.specs.Least.{IsLeastOpLevel, IsLeastTxn}
 use Rattle.ql_ground.specs.declared.goal.Goal.{Goal}
 use Rattle.ql_ground.specs.declared.goal.Goal.TheVariants.{OpAt, TxnAt}
 use Rattle.ql_counter.specs.Countermodels.{IsSatisfiedBy}
@@ -33,7 +33,7 @@ op_goals o = op_at o Eventual ∷ op_at o Causal ∷ op_at o Wide ∷ op_at o St
 abbrev pub txn_goals : ℕ → List Goal
 txn_goals d = txn_at d Rc ∷ txn_at d Mav ∷ txn_at d Rr ∷ []
 
--- the level after a number of lower ones
+-- the level above this many lower ones
 abbrev pub step_level : ℕ → Level
 step_level zero = Eventual
 step_level (suc zero) = Causal
@@ -70,7 +70,7 @@ goals_at levels = ops_from 0 levels.ops ++ txns_from 0 levels.txns
 
 -- the level is an operation's least, or a transaction's
 abbrev pub IsOpLevel : Program → ℕ → Level → Type 0
-IsOpLevel p o level = (f : Resolved) × (slice_get (op_contracts p.types) o ≡ Some f) × IsLeast (op_kinds p.types) o f level
+IsOpLevel p o level = (f : Resolved) × (slice_get (op_contracts p.types) o ≡ Some f) × IsLeastOpLevel (op_kinds p.types) o f level
 
 abbrev pub IsTxnLevel : Program → ℕ → TxnLevel → Type 0
 IsTxnLevel p d level = (f : Resolved) × (slice_get (txn_contracts p) d ≡ Some f) × IsLeastTxn (op_kinds p.types) f level
@@ -85,7 +85,7 @@ pub record IsEvidence (p : Program) (g : Goal) (e : Evidence) : Type 0 where
   pub lower : AllZip (IsSatisfiedBy p) (goals_below g) e.lower.items
   pub enough : IsEnough p g e.refutation.lines
 
--- the assignment that is reported satisfies the lower goal's problem, and there is one where there is a lower goal
+-- the assignment that is reported satisfies the lower goal's problem, and there is one if there is a lower goal
 abbrev pub IsLowerAnswer : Program → Option Goal → Option (List Bool) → Type 0
 IsLowerAnswer p None None = Unit {0}
 IsLowerAnswer p (Some g) (Some a) = IsSatisfiedBy p g a
@@ -96,7 +96,7 @@ pub record AreOpLevels (p : Program) (levels : List Level) : Type 0 where
   pub all : length levels ≡ length (all_ops p.types)
   pub each : (o : ℕ) (level : Level) → slice_get levels o ≡ Some level → IsOpLevel p o level
 
--- the operation of a name isn't strong; or it is this one, which is
+-- the operation with a name isn't strong; or it is this one, which is
 abbrev pub IsWeakUse : Program → List ℕ → Type 0
 IsWeakUse p w = (o : ℕ) → op_place p.types w ≡ Some o → (level : Level) × IsOpLevel p o level × (level ≢ Strong)
 

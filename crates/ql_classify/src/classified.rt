@@ -66,8 +66,8 @@ impl<'a> Classified<'a> {
         ensures ops { length self.now.levels.ops ≡ length (all_ops self.now.program.types) }
         ensures txns { length self.now.levels.txns ≡ length self.now.program.txns }
 
-        // Each gives its target's contract in every execution of the program, while each lower one fails in some;
-        // and no transaction uses a strong operation.
+        // Each level implies its target's contract in every execution of the program, while each lower one fails in
+        // some; and no transaction uses a strong operation.
         ensures levels { AreLevelsOf self.now.program self.now.levels }
     {
         &self.levels
@@ -85,7 +85,7 @@ impl<'a> Classified<'a> {
     }
 
     /// An assignment that satisfies the ground problem of a target at a level below its own. The step is
-    /// the level's place, 0 for the lowest; there is none where that isn't below the target's level.
+    /// the level's index, 0 for the lowest; there is none if that isn't below the target's level.
     pub fn lower(&self, target: u32, step: u32) -> Option<&Assignment>
         requires { target < targets self.now.program }
         ensures { (g : Goal) × (slice_get (goals_at self.now.levels) target ≡ Some g)

@@ -2,11 +2,11 @@ use ql_base::{DeclId, OpId};
 use ql_cnf::Assignment;
 use std::alloc::{AllocError, AllocFailed};
 
-/// Why a program isn't accepted: what fails first.
+/// Why a program isn't accepted: the first thing that fails.
 #[derive(Drop)]
 pub enum Classless {
-    /// No level is enough for the contract of the target, an operation's number or that of a declared
-    /// transaction after all operations. The assignment satisfies the ground problem at the top level.
+    /// No level is enough for the contract of the target: the number of an operation, or that of a declared
+    /// transaction counted after all operations. The assignment satisfies the ground problem at the top level.
     NoLevel { target: u32, assignment: Assignment },
     /// The transaction uses the operation, whose least level is strong.
     StrongInTxn { txn: DeclId, op: OpId },

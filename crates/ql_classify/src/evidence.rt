@@ -1,4 +1,4 @@
-// The search for a least level, and the evidence that it leaves.
+// The search for a least level, and the evidence for it.
 ghost use Rattle.std.specs.Prelude.{◌≡◌, ◌<◌, ◌≤◌, [], ◌∷◌, length, IfOk, IfErr};
 ghost use Rattle.std.specs.List.{All};
 ghost use Rattle.ql_ground.specs.OfPrograms.{IsGoalOf};
@@ -25,12 +25,12 @@ pub(crate) struct Evidence {
     pub(crate) lower: Vec<Assignment>,
 }
 
-/// What going up through the goals of a target comes to.
+/// The result of going up through the goals of a target.
 #[derive(Drop)]
 enum Search {
     /// The first goal whose problem is refuted.
     Refuted(Evidence),
-    /// None; this satisfies the last goal's.
+    /// No problem is refuted; this assignment satisfies the last goal's.
     Satisfied(Assignment),
 }
 
@@ -80,7 +80,7 @@ pub(crate) fn find_txn_level(
     }
 }
 
-// The level of an operation above those that these assignments are for.
+// The first level of an operation above those that these assignments are for.
 pub(crate) fn level_above(lower: &[Assignment]) -> Level
     ensures { result ≡ step_level (length lower.now) }
 {
@@ -92,7 +92,7 @@ pub(crate) fn level_above(lower: &[Assignment]) -> Level
     }
 }
 
-// The same of a transaction.
+// The same for a transaction.
 pub(crate) fn txn_level_above(lower: &[Assignment]) -> TxnLevel
     ensures { result ≡ step_txn_level (length lower.now) }
 {

@@ -1,4 +1,4 @@
-// What is found of one target, whatever is found of the others.
+// What is found for one target, whatever is found for the others.
 ghost use Rattle.std.specs.Prelude.{◌≡◌, ◌<◌, ◌+◌, ◌≤◌, IfOk, length};
 ghost use Rattle.std.specs.List.{AllZip};
 ghost use Rattle.ql_ground.specs.declared.goal.Goal.TheVariants.{OpAt, TxnAt};
@@ -26,17 +26,18 @@ pub struct Unmet {
     pub assignment: Assignment,
 }
 
-/// What is found of a target.
+/// What is found for a target.
 #[derive(Drop)]
 pub enum Finding {
-    /// The target at its least level, and at the next lower one, where there is one.
+    /// The target at its least level, and at the next lower one, if there is one.
     Least { goal: Goal, below: Option<Unmet> },
     /// The target at the highest level, which isn't enough.
     NoLevel(Unmet),
 }
 
-/// The least level of a target, an operation's number or that of a declared transaction after all operations; or that none
-/// is enough. What is found of other targets doesn't matter, nor which operations a transaction uses.
+/// The least level of a target, or that none is enough. The target is the number of an operation, or that of a declared
+/// transaction counted after all operations. What is found for other targets doesn't matter, nor which operations a
+/// transaction uses.
 pub fn find_target(alloc: Global, t: &Typed, target: u32) -> Result<Finding, NoMemory>
     requires { target < targets t.now.program }
     ensures { IfOk result (IsFinding t.now.program target) }
@@ -67,7 +68,7 @@ fn find_op(alloc: Global, t: &Typed, o: OpId) -> Result<Finding, NoMemory>
     }
 }
 
-// An operation at the highest of its lower levels, of which these are the assignments.
+// An operation at the highest of its lower levels; these are the assignments of the lower levels.
 fn last_of_op(o: OpId, mut lower: Vec<Assignment>) -> Option<Unmet>
     ensures { (p : Program) (level : Level) → AllZip (IsSatisfiedBy p) (goals_below (OpAt o level)) lower.items → IsLastUnmet p (goals_below (OpAt o level)) result }
 {
@@ -96,7 +97,7 @@ fn find_txn(alloc: Global, t: &Typed, d: DeclId) -> Result<Finding, NoMemory>
     }
 }
 
-// The same of a transaction.
+// The same for a transaction.
 fn last_of_txn(d: DeclId, mut lower: Vec<Assignment>) -> Option<Unmet>
     ensures { (p : Program) (level : TxnLevel) → AllZip (IsSatisfiedBy p) (goals_below (TxnAt d level)) lower.items → IsLastUnmet p (goals_below (TxnAt d level)) result }
 {

@@ -15,16 +15,16 @@ use std::alloc::Global;
 
 /// The least level of each operation and of each declared transaction of a program.
 ///
-/// Operations are judged in their order. Then come the transactions in theirs: of each, first the
-/// operations that it uses, in the order in which it names them, and then its contract. The refusal is of
-/// the first that fails. The time is that of the solver on at most three ground problems a target.
+/// Operations are judged in their order, then the transactions in theirs: for each, first the operations that
+/// it uses, in the order in which it names them, and then its contract. The first that fails is reported. The
+/// time is that of the solver on at most three ground problems a target.
 pub fn classify<'a>(alloc: Global, t: &'a Typed) -> Result<Classified<'a>, Classless>
     ensures same { IfOk result (λ c. c.program ≡ t.now.program) }
 
-    // There is an answer only where each target has a level and no transaction uses a strong operation.
+    // Levels are returned only if each target has a level and no transaction uses a strong operation.
     ensures accepted { OnOk result (IsAccepted t.now.program) }
 
-    // And a refusal but for memory only where some test fails, of the first one.
+    // A refusal other than out of memory is returned only if some test fails, and is that of the first one.
     ensures refused { IfErr result (IsRefusal t.now.program (all_tests t.now.program)) }
 {
     let (ops, mut evidence) = judge_ops(alloc, t)?;

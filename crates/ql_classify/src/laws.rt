@@ -9,8 +9,8 @@ ghost use Rattle.ql_classify.specs.Outcome.{FirstFails, IsAccepted, all_tests};
 ghost use Rattle.ql_classify.specs.Targets.{IsLeastLevel, IsOpLevel, IsTxnLevel};
 ghost use Rattle.ql_classify.specs.declared.classless.Classless.{Classless};
 
-/// The law that a program is accepted or refused and not both. So, running out of memory aside, `classify` gives
-/// levels exactly where the program is accepted, and refuses it exactly where a test fails.
+/// The law that a program is accepted or refused and not both. So, running out of memory aside, `classify` returns
+/// levels exactly if the program is accepted, and refuses it exactly if a test fails.
 pub fn accepted_is_not_refused()
     ensures { (p : Program) (e : Classless) → IsAccepted p → FirstFails p (all_tests p) e → ⊥ }
 {}
@@ -21,8 +21,8 @@ pub fn least_levels_are_unique()
     ensures txn { (p : Program) (d : ℕ) (l k : TxnLevel) → IsTxnLevel p d l → IsTxnLevel p d k → l ≡ k }
 {}
 
-/// The law of least levels. Where a level is a target's least, each lower one fails in some execution of the program; and
-/// where none is enough, which is the first test that fails, the highest does.
+/// The law of least levels. If a level is a target's least, each lower one fails in some execution of the program; and
+/// if none is enough, which is the first test that fails, the highest does.
 pub fn lower_levels_fail()
     ensures lower { (p : Program) → program_faults p ≡ [] → (g : Goal) → IsLeastLevel p g → LowerFail p g }
     ensures none { (p : Program) → program_faults p ≡ [] → (e : Classless) → FirstFails p (all_tests p) e → TopFails p e }

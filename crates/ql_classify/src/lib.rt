@@ -1,5 +1,5 @@
 // The least level of each operation and of each declared transaction of a program, with its evidence.
-// The one contract: each level is the first whose ground problem is refuted, it gives its contract in every
+// The one contract: each level is the first whose ground problem is refuted, it implies its contract in every
 // execution, and each lower one fails in some; or else the first target that has no level, or strong operation
 // that a transaction uses, is reported.
 #![tactic(auto)]

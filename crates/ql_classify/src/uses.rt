@@ -9,8 +9,8 @@ use ql_base::{DeclId, OpId};
 use ql_levels::Level;
 use ql_typing::Typed;
 
-/// Refuses a transaction for the first operation that it uses whose level is strong. Here `levels` has
-/// the least level of each operation.
+/// Refuses a transaction if an operation that it uses has the level strong, and names the first such operation.
+/// Here `levels` has the least level of each operation.
 pub(crate) fn check_uses(t: &Typed, d: DeclId, levels: &[Level]) -> Result<(), Classless>
     requires txn { d.0 < length t.now.program.txns }
     requires levels { AreOpLevels t.now.program levels.now }
@@ -25,7 +25,7 @@ pub(crate) fn check_uses(t: &Typed, d: DeclId, levels: &[Level]) -> Result<(), C
     Ok(())
 }
 
-// The operation of a name, where its level is strong.
+// The operation with this name, if its level is strong.
 fn strong_use(t: &Typed, w: &[u8], levels: &[Level]) -> Option<OpId>
     requires { AreOpLevels t.now.program levels.now }
     ensures strong { IfSome result (λ o. IsStrongUse t.now.program w.now o.0) }

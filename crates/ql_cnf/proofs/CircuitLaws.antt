@@ -8,7 +8,7 @@ use Rattle.std.specs.Bool.{beq}
 use Rattle.std.specs.List.{list_all}
 use Rattle.ql_cnf.specs.declared.lit.Lit.{Lit}
 use Rattle.ql_cnf.specs.Literals.{negated, clause_of}
-use Rattle.ql_cnf.specs.Satisfaction.{ClauseList, Satisfies, AreInRange, ClausesInRange, value_of, literal_true, clause_true, all_true}
+use Rattle.ql_cnf.specs.Satisfaction.{ClauseList, Satisfies, AreInRange, ClausesInRange, variable_value, literal_true, clause_true, all_true}
 use Rattle.ql_cnf.specs.Circuits.{Circuit, Always, Input, Both, Either, IfThen, circuit_true, InputsInRange, gates, yes, output, both_clauses, either_clauses, if_then_clauses, defining, denying, clauses_of, gate_values}
 use Rattle.ql_cnf.proofs.Truth.{added_means, left_out_means}
 
@@ -33,7 +33,7 @@ all_true-clauses_of a (xs ∷ lists) = step (clause_of xs) refl (all_true-clause
 
 -- the other sign has the other truth value
 pub negated-true : (a : List Bool) (x : Lit) → literal_true a (negated x) ≡ not (literal_true a x)
-negated-true a x = table (value_of a x.var) x.positive
+negated-true a x = table (variable_value a x.var) x.positive
   where
     table : (v p : Bool) → beq v (not p) ≡ not (beq v p)
     table true true = refl
@@ -105,7 +105,7 @@ record Connective : Type 0 where
   value : Bool → Bool → Bool
   gate : (t x y nx ny : Bool) → Bool
   clauses : ℕ → Lit → Lit → List (List Lit)
-  reads : (a : List Bool) (t : ℕ) (x y : Lit) → list_all (clause_true a) (clauses t x y) ≡ gate (value_of a t) (literal_true a x) (literal_true a y) (literal_true a (negated x)) (literal_true a (negated y))
+  reads : (a : List Bool) (t : ℕ) (x y : Lit) → list_all (clause_true a) (clauses t x y) ≡ gate (variable_value a t) (literal_true a x) (literal_true a y) (literal_true a (negated x)) (literal_true a (negated y))
   forces : (t x y : Bool) → gate t x y (not x) (not y) ≡ true → beq t true ≡ value x y
   allows : (x y : Bool) → gate (value x y) x y (not x) (not y) ≡ true
 
@@ -133,17 +133,17 @@ three-from a p q r f g h =
 -- a gate whose clauses are true has the value of its connective
 gate_forced : (c : Connective) (a : List Bool) (t : ℕ) (x y : Lit) → list_all (clause_true a) (c.clauses t x y) ≡ true → literal_true a (yes t) ≡ c.value (literal_true a x) (literal_true a y)
 gate_forced c a t x y h =
-    c.forces (value_of a t) (literal_true a x) (literal_true a y)
-    (ap (λ n. c.gate (value_of a t) (literal_true a x) (literal_true a y) n (not (literal_true a y))) (sym (negated-true a x))
-    ∙ ap (λ n. c.gate (value_of a t) (literal_true a x) (literal_true a y) (literal_true a (negated x)) n) (sym (negated-true a y))
+    c.forces (variable_value a t) (literal_true a x) (literal_true a y)
+    (ap (λ n. c.gate (variable_value a t) (literal_true a x) (literal_true a y) n (not (literal_true a y))) (sym (negated-true a x))
+    ∙ ap (λ n. c.gate (variable_value a t) (literal_true a x) (literal_true a y) (literal_true a (negated x)) n) (sym (negated-true a y))
     ∙ sym (c.reads a t x y) ∙ h)
 
 -- the clauses of a gate with the value of its connective are true
-gate_allowed : (c : Connective) (a : List Bool) (t : ℕ) (x y : Lit) → value_of a t ≡ c.value (literal_true a x) (literal_true a y) → list_all (clause_true a) (c.clauses t x y) ≡ true
+gate_allowed : (c : Connective) (a : List Bool) (t : ℕ) (x y : Lit) → variable_value a t ≡ c.value (literal_true a x) (literal_true a y) → list_all (clause_true a) (c.clauses t x y) ≡ true
 gate_allowed c a t x y e =
     c.reads a t x y
-    ∙ ap (λ n. c.gate (value_of a t) (literal_true a x) (literal_true a y) (literal_true a (negated x)) n) (negated-true a y)
-    ∙ ap (λ n. c.gate (value_of a t) (literal_true a x) (literal_true a y) n (not (literal_true a y))) (negated-true a x)
+    ∙ ap (λ n. c.gate (variable_value a t) (literal_true a x) (literal_true a y) (literal_true a (negated x)) n) (negated-true a y)
+    ∙ ap (λ n. c.gate (variable_value a t) (literal_true a x) (literal_true a y) n (not (literal_true a y))) (negated-true a x)
     ∙ ap (λ v. c.gate v (literal_true a x) (literal_true a y) (not (literal_true a x)) (not (literal_true a y))) e
     ∙ c.allows (literal_true a x) (literal_true a y)
 
@@ -169,7 +169,7 @@ forced a k (IfThen g h) all =
 
 -- the values of the variables after k are these
 pub record Reads (w : List Bool) (k : ℕ) (values : List Bool) : Type 0 where
-  pub at : (i : ℕ) → i < length values → value_of w (suc (k + i)) ≡ get_or values i false
+  pub at : (i : ℕ) → i < length values → variable_value w (suc (k + i)) ≡ get_or values i false
 
 Reads-left : (w : List Bool) (k : ℕ) (p q : List Bool) → Reads w k (p ++ q) → Reads w k p
 Reads-left w k p q r = record { at = λ i l. r.at i (omega (arith, length-append p q)) ∙ get_or_append_left p q false i l }
@@ -177,7 +177,7 @@ Reads-left w k p q r = record { at = λ i l. r.at i (omega (arith, length-append
 Reads-right : (w : List Bool) (k n : ℕ) (p q : List Bool) → length p ≡ n → Reads w k (p ++ q) → Reads w (k + n) q
 Reads-right w k n p q e r = record {
   at = λ i l.
-      ap (λ v. value_of w (suc v)) (omega arith) ∙ r.at (n + i) (omega (arith, length-append p q))
+      ap (λ v. variable_value w (suc v)) (omega arith) ∙ r.at (n + i) (omega (arith, length-append p q))
       ∙ ap (λ m. get_or (p ++ q) (m + i) false) (sym e) ∙ get_or-append-add p q i false;
 }
 
@@ -213,9 +213,9 @@ gate_values_allowed c v w k g h left right r =
     let result : Bool = c.value (circuit_true v g) (circuit_true v h) in
     let parts : List Bool = gate_values v g ++ gate_values v h in
     let size : length parts ≡ gates g + gates h = omega (arith, length-append (gate_values v g) (gate_values v h), length-gate_values v g, length-gate_values v h) in
-    let last : value_of w (suc (k + (gates g + gates h) + 0)) ≡ result = (Reads-right w k (gates g + gates h) parts (result ∷ []) size r).at 0 (omega arith) in
-    let own : value_of w (suc (k + (gates g + gates h))) ≡ result = ap (λ n. value_of w (suc n)) (omega arith) ∙ last in (
-      beq-true (value_of w (suc (k + (gates g + gates h)))) ∙ own,
+    let last : variable_value w (suc (k + (gates g + gates h) + 0)) ≡ result = (Reads-right w k (gates g + gates h) parts (result ∷ []) size r).at 0 (omega arith) in
+    let own : variable_value w (suc (k + (gates g + gates h))) ≡ result = ap (λ n. variable_value w (suc n)) (omega arith) ∙ last in (
+      beq-true (variable_value w (suc (k + (gates g + gates h)))) ∙ own,
       three-from w (defining k g) (defining (k + gates g) h) _ left.clauses right.clauses
           (gate_allowed c w (suc (k + (gates g + gates h))) (output k g) (output (k + gates g) h)
           (own ∙ ap (λ x. c.value x (circuit_true v h)) (sym left.value) ∙ ap (λ y. c.value (literal_true w (output k g)) y) (sym right.value))),
@@ -223,8 +223,8 @@ gate_values_allowed c v w k g h left right r =
 
 allowed : (v w : List Bool) (n k : ℕ) (g : Circuit) → ((l : Lit) → 1 ≤ l.var → l.var ≤ n → literal_true w l ≡ literal_true v l) → InputsInRange n g → Reads w k (gate_values v g) → IsAllowed v w k g
 allowed v w n k Always same inside r =
-    let own : value_of w (suc k) ≡ true = ap (λ i. value_of w (suc i)) (omega arith) ∙ r.at 0 (omega arith) in
-    let yes_true : literal_true w (yes (suc k)) ≡ true = beq-true (value_of w (suc k)) ∙ own in
+    let own : variable_value w (suc k) ≡ true = ap (λ i. variable_value w (suc i)) (omega arith) ∙ r.at 0 (omega arith) in
+    let yes_true : literal_true w (yes (suc k)) ≡ true = beq-true (variable_value w (suc k)) ∙ own in
     record { value = yes_true; clauses = rw yes_true refl }
 allowed v w n k (Input l) same inside r = record { value = same l inside.0 inside.1; clauses = refl }
 allowed v w n k (Both g h) same inside r =
@@ -244,7 +244,7 @@ allowed v w n k (IfThen g h) same inside r =
     record { value = both.0; clauses = both.1 }
 
 -- what comes after the variables of a clause doesn't matter to it
-value-append : (v w : List Bool) (i : ℕ) → 1 ≤ i → i ≤ length v → value_of (v ++ w) i ≡ value_of v i
+value-append : (v w : List Bool) (i : ℕ) → 1 ≤ i → i ≤ length v → variable_value (v ++ w) i ≡ variable_value v i
 value-append v w i f l = get_or_append_left v w false (i - 1) (omega arith)
 
 literal-append : (v w : List Bool) (l : Lit) → 1 ≤ l.var → l.var ≤ length v → literal_true (v ++ w) l ≡ literal_true v l

@@ -4,7 +4,7 @@ use Rattle.std.proofs.lemmas.Bool.Decides.{nat_tests}
 use Rattle.std.specs.Prelude.{nat_lt, ◌==◌, ◌↔◌, MatchOption, IfSome, IsNone, IsTrue}
 use Rattle.std.specs.Bool.{beq}
 use Rattle.std.specs.Option.{option_map, option_and_then}
-use Rattle.ql_cnf.specs.Literals.{negated, same_literal, has_literal, AllAbove, IsAscending, with_literal, with_literals, clause_of, HasBothSigns, SameLiterals}
+use Rattle.ql_cnf.specs.Literals.{negated, same_literal, has_literal, AllAbove, IsAscendingByVariable, with_literal, with_literals, clause_of, HasBothSigns, SameLiterals}
 use Rattle.ql_cnf.specs.declared.lit.Lit.{Lit}
 
 pub AllAbove-lower : (m n : ℕ) (c : List Lit) → m < n → AllAbove n c → AllAbove m c
@@ -13,7 +13,7 @@ AllAbove-lower m n (x ∷ xs) h a = (omega arith, AllAbove-lower m n xs h a.1)
 
 -- what placing x into c gives
 abbrev pub Placed : Lit → List Lit → Option (List Lit) → Type 0
-Placed x c o = MatchOption o (IsTrue (has_literal c (negated x))) (λ d. ((n : ℕ) → n < x.var → AllAbove n c → AllAbove n d) × IsAscending d × ((z : Lit) → has_literal d z ≡ (same_literal z x || has_literal c z)))
+Placed x c o = MatchOption o (IsTrue (has_literal c (negated x))) (λ d. ((n : ℕ) → n < x.var → AllAbove n c → AllAbove n d) × IsAscendingByVariable d × ((z : Lit) → has_literal d z ≡ (same_literal z x || has_literal c z)))
 
 or_twice : (a b : Bool) → (a || b) ≡ (a || (a || b))
 or_twice true b = refl
@@ -55,7 +55,7 @@ eqb_same a b h = grind (arith, nat_tests)
 pub eqb_refl : (a : ℕ) → (a == a) ≡ true
 eqb_refl a = grind (arith, nat_tests)
 
-placed_step : (x y : Lit) (ys : List Lit) (o : Option (List Lit)) → Placed x ys o → IsAscending (y ∷ ys) → (p q r : Bool) → nat_lt x.var y.var ≡ p → (x.var == y.var) ≡ q → beq x.positive y.positive ≡ r → Placed x (y ∷ ys) (cond p (Some (x ∷ y ∷ ys)) (cond q (cond r (Some (y ∷ ys)) None) (option_map (λ zs. y ∷ zs) o)))
+placed_step : (x y : Lit) (ys : List Lit) (o : Option (List Lit)) → Placed x ys o → IsAscendingByVariable (y ∷ ys) → (p q r : Bool) → nat_lt x.var y.var ≡ p → (x.var == y.var) ≡ q → beq x.positive y.positive ≡ r → Placed x (y ∷ ys) (cond p (Some (x ∷ y ∷ ys)) (cond q (cond r (Some (y ∷ ys)) None) (option_map (λ zs. y ∷ zs) o)))
 placed_step x y ys o h a true q r ep eq er =
     let l : x.var < y.var = less _ _ ep in
     (λ n below above. (below, above), ((l, AllAbove-lower _ _ ys l a.0), a), λ z. refl)
@@ -75,13 +75,13 @@ placed_step x y ys (Some d) h a false false r ep eq er =
     greater : (a b : ℕ) → nat_lt a b ≡ false → (a == b) ≡ false → b < a
     greater a b e k = grind (arith, nat_tests)
 
-pub placed : (x : Lit) (c : List Lit) → IsAscending c → Placed x c (with_literal x c)
+pub placed : (x : Lit) (c : List Lit) → IsAscendingByVariable c → Placed x c (with_literal x c)
 placed x [] a = (λ n below above. (below, tt), (tt, tt), λ z. refl)
 placed x (y ∷ ys) a = placed_step x y ys (with_literal x ys) (placed x ys a.1) a _ _ _ refl refl refl
 
 -- what placing all of xs into c gives
 abbrev pub AllPlaced : List Lit → List Lit → Option (List Lit) → Type 0
-AllPlaced c xs o = MatchOption o ((z : Lit) × IsTrue (has_literal c z || has_literal xs z) × IsTrue (has_literal c (negated z) || has_literal xs (negated z))) (λ d. IsAscending d × ((z : Lit) → has_literal d z ≡ (has_literal c z || has_literal xs z)))
+AllPlaced c xs o = MatchOption o ((z : Lit) × IsTrue (has_literal c z || has_literal xs z) × IsTrue (has_literal c (negated z) || has_literal xs (negated z))) (λ d. IsAscendingByVariable d × ((z : Lit) → has_literal d z ≡ (has_literal c z || has_literal xs z)))
 
 or_move : (a b c : Bool) → ((a || b) || c) ≡ (b || (a || c))
 or_move true true c = refl
@@ -98,12 +98,12 @@ all_placed_rest x c d xs (Some e) same h = (h.0, λ z. h.1 z ∙ moved z)
     moved : (z : Lit) → (has_literal d z || has_literal xs z) ≡ (has_literal c z || (same_literal z x || has_literal xs z))
     moved z = rw (same z) (or_move (same_literal z x) (has_literal c z) (has_literal xs z))
 
-all_placed_step : (x : Lit) (c xs : List Lit) (o : Option (List Lit)) → Placed x c o → ((d : List Lit) → IsAscending d → AllPlaced d xs (with_literals d xs)) → AllPlaced c (x ∷ xs) (option_and_then (λ d. with_literals d xs) o)
+all_placed_step : (x : Lit) (c xs : List Lit) (o : Option (List Lit)) → Placed x c o → ((d : List Lit) → IsAscendingByVariable d → AllPlaced d xs (with_literals d xs)) → AllPlaced c (x ∷ xs) (option_and_then (λ d. with_literals d xs) o)
 all_placed_step x c xs None p ih =
     (x, or_right (has_literal c x) (has_literal (x ∷ xs) x) (or_left (same_literal x x) (has_literal xs x) (rw (eqb_refl x.var, beq_refl x.positive) refl)), or_left (has_literal c (negated x)) (has_literal (x ∷ xs) (negated x)) p)
 all_placed_step x c xs (Some d) p ih = all_placed_rest x c d xs (with_literals d xs) p.2 (ih d p.1)
 
-pub all_placed : (c xs : List Lit) → IsAscending c → AllPlaced c xs (with_literals c xs)
+pub all_placed : (c xs : List Lit) → IsAscendingByVariable c → AllPlaced c xs (with_literals c xs)
 all_placed c [] a = (a, λ z. or_false (has_literal c z))
   where
     or_false : (b : Bool) → b ≡ (b || false)
@@ -148,7 +148,7 @@ AllAbove-has n (x ∷ xs) z a h = step (same_literal z x) refl (λ k. AllAbove-h
     step true e ih = let same_var : z.var ≡ x.var = var_same z x e in omega (arith, a.0)
     step false e ih = ih (rest (same_literal z x) (has_literal xs z) e h)
 
-pub one_sign : (c : List Lit) (z : Lit) → IsAscending c → has_literal c z ≡ true → has_literal c (negated z) ≡ true → ⊥
+pub one_sign : (c : List Lit) (z : Lit) → IsAscendingByVariable c → has_literal c z ≡ true → has_literal c (negated z) ≡ true → ⊥
 one_sign [] z a h k = cc
 one_sign (x ∷ xs) z a h k = step (same_literal z x) (same_literal (negated z) x) refl refl (one_sign xs z a.1)
   where
@@ -169,20 +169,20 @@ one_sign (x ∷ xs) z a h k = step (same_literal z x) (same_literal (negated z) 
     step false false e f ih =
         ih (rest (same_literal z x) (has_literal xs z) e h) (rest (same_literal (negated z) x) (has_literal xs (negated z)) f k)
 
-Placed-ascending : (x : Lit) (c d : List Lit) (o : Option (List Lit)) → o ≡ Some d → Placed x c o → IsAscending d
+Placed-ascending : (x : Lit) (c d : List Lit) (o : Option (List Lit)) → o ≡ Some d → Placed x c o → IsAscendingByVariable d
 Placed-ascending x c d None e h = absurd (cc)
-Placed-ascending x c d (Some b) e h = let same : b ≡ d = cc in subst IsAscending same h.1
+Placed-ascending x c d (Some b) e h = let same : b ≡ d = cc in subst IsAscendingByVariable same h.1
 
 -- a clause stays ascending
-pub stays_ascending : (x : Lit) (c d : List Lit) → with_literal x c ≡ Some d → IsAscending c → IsAscending d
+pub stays_ascending : (x : Lit) (c d : List Lit) → with_literal x c ≡ Some d → IsAscendingByVariable c → IsAscendingByVariable d
 stays_ascending x c d e a = Placed-ascending x c d (with_literal x c) e (placed x c a)
 
 -- the clause of the literals is ascending and has the same literals
-clause_from : (xs : List Lit) (o : Option (List Lit)) → AllPlaced [] xs o → IfSome o (λ c. IsAscending c × SameLiterals c xs)
+clause_from : (xs : List Lit) (o : Option (List Lit)) → AllPlaced [] xs o → IfSome o (λ c. IsAscendingByVariable c × SameLiterals c xs)
 clause_from xs None h = tt
 clause_from xs (Some c) h = h
 
-pub is_clause : (xs : List Lit) → IfSome (clause_of xs) (λ c. IsAscending c × SameLiterals c xs)
+pub is_clause : (xs : List Lit) → IfSome (clause_of xs) (λ c. IsAscendingByVariable c × SameLiterals c xs)
 is_clause xs = clause_from xs (clause_of xs) (all_placed [] xs tt)
 
 -- there is none where the literals hold both signs of a variable

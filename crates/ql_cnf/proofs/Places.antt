@@ -5,7 +5,7 @@ use Rattle.std.proofs.lemmas.Bool.Decides.{nat_tests}
 use Rattle.std.specs.Prelude.{nat_lt, ◌==◌, insert, MatchBool}
 use Rattle.std.specs.Bool.{beq}
 use Rattle.std.specs.Option.{option_map}
-use Rattle.ql_cnf.specs.Literals.{count_below, with_literal, IsAscending, AllAbove}
+use Rattle.ql_cnf.specs.Literals.{count_below, with_literal, IsAscendingByVariable, AllAbove}
 use Rattle.ql_cnf.specs.declared.lit.Lit.{Lit}
 
 pub count_below-none : (v x n : ℕ) → v ≤ x → cond (nat_lt x v) (suc n) 0 ≤ 0
@@ -35,7 +35,7 @@ AllAbove-at n (x ∷ xs) zero d a h = a.0
 AllAbove-at n (x ∷ xs) (suc k) d a h = let h' : k < length xs = omega arith in AllAbove-at n xs k d a.1 h'
 
 -- all before one that is below v are below v
-pub count_below-ge : (v : ℕ) (c : List Lit) (k : ℕ) (d : Lit) → IsAscending c → k < length c → (get_or c k d).var < v → suc k ≤ count_below v c
+pub count_below-ge : (v : ℕ) (c : List Lit) (k : ℕ) (d : Lit) → IsAscendingByVariable c → k < length c → (get_or c k d).var < v → suc k ≤ count_below v c
 count_below-ge v [] k d a h e = absurd (omega arith)
 count_below-ge v (x ∷ xs) zero d a h e = count_below-some v x.var (count_below v xs) 0 e (omega arith)
 count_below-ge v (x ∷ xs) (suc k) d a h e =

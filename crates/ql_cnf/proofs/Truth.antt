@@ -5,8 +5,8 @@ use Rattle.std.proofs.lemmas.List.Folds.{list_all-append, list_any_at}
 use Rattle.std.specs.Prelude.{IfSome}
 use Rattle.std.specs.Bool.{beq}
 use Rattle.std.specs.List.{All, list_any}
-use Rattle.ql_cnf.specs.Literals.{negated, same_literal, has_literal, IsAscending, clause_of, HasBothSigns, SameLiterals}
-use Rattle.ql_cnf.specs.Satisfaction.{AreInRange, ClausesInRange, value_of, literal_true, clause_true, all_true}
+use Rattle.ql_cnf.specs.Literals.{negated, same_literal, has_literal, IsAscendingByVariable, clause_of, HasBothSigns, SameLiterals}
+use Rattle.ql_cnf.specs.Satisfaction.{AreInRange, ClausesInRange, variable_value, literal_true, clause_true, all_true}
 use Rattle.ql_cnf.specs.declared.lit.Lit.{Lit}
 use Rattle.ql_cnf.proofs.Meaning.{same_literal-eq, same_literal-refl, is_clause, is_tautology}
 
@@ -60,7 +60,7 @@ both_signs_true a xs both = cases (literal_true a both.0) refl
 
     cases : (b : Bool) → literal_true a both.0 ≡ b → clause_true a xs ≡ true
     cases true e = list_any-has (literal_true a) xs both.0 both.1 e
-    cases false e = list_any-has (literal_true a) xs (negated both.0) both.2 (other (value_of a both.0.var) both.0.positive e)
+    cases false e = list_any-has (literal_true a) xs (negated both.0) both.2 (other (variable_value a both.0.var) both.0.positive e)
 
 and_alone : (b : Bool) → (b && true) ≡ b
 and_alone true = refl
@@ -68,7 +68,7 @@ and_alone false = refl
 
 pub added_means : (a : List Bool) (cs : List (List Lit)) (xs c : List Lit) → Some c ≡ clause_of xs → all_true a (cs ++ c ∷ []) ≡ (all_true a cs && clause_true a xs)
 added_means a cs xs c e =
-    let is : IsAscending c × SameLiterals c xs = (let P : Option (List Lit) → Type 0 = λ o. IfSome o (λ d. IsAscending d × SameLiterals d xs) in subst P (sym e) (is_clause xs)) in
+    let is : IsAscendingByVariable c × SameLiterals c xs = (let P : Option (List Lit) → Type 0 = λ o. IfSome o (λ d. IsAscendingByVariable d × SameLiterals d xs) in subst P (sym e) (is_clause xs)) in
     list_all-append (clause_true a) cs (c ∷ []) ∙ ap (λ b. all_true a cs && b) (and_alone (clause_true a c) ∙ list_any-same (literal_true a) c xs is.1)
 
 pub left_out_means : (a : List Bool) (cs : List (List Lit)) (xs : List Lit) → None ≡ clause_of xs → all_true a cs ≡ (all_true a cs && clause_true a xs)
@@ -89,5 +89,5 @@ has_at xs k d l = list_any_at (same_literal (get_or xs k d)) xs k d l (same_lite
 
 pub added_in_range : (n : ℕ) (cs : List (List Lit)) (xs c : List Lit) → Some c ≡ clause_of xs → AreInRange n xs → ClausesInRange n cs → ClausesInRange n (cs ++ c ∷ [])
 added_in_range n cs xs c e inside earlier =
-    let is : IsAscending c × SameLiterals c xs = (let P : Option (List Lit) → Type 0 = λ o. IfSome o (λ d. IsAscending d × SameLiterals d xs) in subst P (sym e) (is_clause xs)) in
+    let is : IsAscendingByVariable c × SameLiterals c xs = (let P : Option (List Lit) → Type 0 = λ o. IfSome o (λ d. IsAscendingByVariable d × SameLiterals d xs) in subst P (sym e) (is_clause xs)) in
     All-push (AreInRange n) cs c earlier (λ k d l. All-has (λ x. (1 ≤ x.var) × (x.var ≤ n)) xs (get_or c k d) inside (sym (is.1 (get_or c k d)) ∙ has_at c k d l))

@@ -7,7 +7,7 @@ use Rattle.ql_cnf.specs.declared.ground.Ground.{Ground, True, Leaf, And', Or', I
 use Rattle.ql_cnf.specs.Literals.{negated, clause_of}
 use Rattle.ql_cnf.specs.Satisfaction.{literal_true}
 
--- a formula over literals, without the boxes that it is kept in
+-- a formula over literals, without the boxes that hold its parts in memory
 pub data Circuit : Type 0 where
   Always : Circuit
   Input : Lit → Circuit
@@ -38,7 +38,7 @@ InputsInRange n (Both g h) = InputsInRange n g × InputsInRange n h
 InputsInRange n (Either g h) = InputsInRange n g × InputsInRange n h
 InputsInRange n (IfThen g h) = InputsInRange n g × InputsInRange n h
 
--- its gates are what isn't an input
+-- how many gates it has: the nodes that aren't inputs
 abbrev pub gates : Circuit → ℕ
 gates Always = 1
 gates (Input l) = 0
@@ -85,11 +85,11 @@ defining k (IfThen g h) =
     defining k g ++ defining (k + gates g) h
     ++ if_then_clauses (suc (k + (gates g + gates h))) (output k g) (output (k + gates g) h)
 
--- with a last one that says that the circuit is false
+-- with a last clause that states that the circuit is false
 abbrev pub denying : ℕ → Circuit → List (List Lit)
 denying k g = defining k g ++ (negated (output k g) ∷ []) ∷ []
 
--- the clauses of these lists of literals; there is none where a list holds both signs of a variable
+-- the clauses of these lists of literals; a list that holds both signs of a variable makes none
 abbrev pub clauses_of : List (List Lit) → List (List Lit)
 clauses_of lists = filter_map clause_of lists
 

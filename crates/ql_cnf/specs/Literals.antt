@@ -23,11 +23,11 @@ AllAbove n [] = Unit {0}
 AllAbove n (x ∷ xs) = (n < x.var) × AllAbove n xs
 
 -- strictly ascending by variable
-abbrev pub IsAscending : List Lit → Type 0
-IsAscending [] = Unit {0}
-IsAscending (x ∷ xs) = AllAbove x.var xs × IsAscending xs
+abbrev pub IsAscendingByVariable : List Lit → Type 0
+IsAscendingByVariable [] = Unit {0}
+IsAscendingByVariable (x ∷ xs) = AllAbove x.var xs × IsAscendingByVariable xs
 
--- an ascending clause with one more literal in its place; none where it has the other sign
+-- an ascending clause with one more literal, in order; none where it has the other sign
 abbrev pub with_literal : Lit → List Lit → Option (List Lit)
 with_literal x [] = Some (x ∷ [])
 with_literal x (y ∷ ys) =
@@ -37,7 +37,7 @@ with_literal x (y ∷ ys) =
     then (if beq x.positive y.positive then Some (y ∷ ys) else None)
     else option_map (λ zs. y ∷ zs) (with_literal x ys))
 
--- an ascending clause with all of these in their places
+-- an ascending clause with all of these, in order
 abbrev pub with_literals : List Lit → List Lit → Option (List Lit)
 with_literals c [] = Some c
 with_literals c (x ∷ xs) = option_and_then (λ d. with_literals d xs) (with_literal x c)
@@ -54,7 +54,7 @@ HasBothSigns xs = (x : Lit) × IsTrue (has_literal xs x) × IsTrue (has_literal 
 abbrev pub SameLiterals : List Lit → List Lit → Type 0
 SameLiterals xs ys = (x : Lit) → has_literal xs x ≡ has_literal ys x
 
--- how many literals at the front have a variable below v
+-- how many of the literals have a variable below v
 abbrev pub count_below : ℕ → List Lit → ℕ
 count_below v [] = 0
 count_below v (x ∷ xs) = if nat_lt x.var v then suc (count_below v xs) else 0

@@ -23,12 +23,12 @@ with_clause p None = p
 with_clause p (Some c) = record { variables = p.variables; clauses = p.clauses ++ c ∷ [] }
 
 -- the truth value of a variable
-abbrev pub value_of : List Bool → ℕ → Bool
-value_of a v = slice_index_or a (v - 1) false
+abbrev pub variable_value : List Bool → ℕ → Bool
+variable_value a v = slice_index_or a (v - 1) false
 
 -- a literal is true where its variable has its sign
 abbrev pub literal_true : List Bool → Lit → Bool
-literal_true a x = beq (value_of a x.var) x.positive
+literal_true a x = beq (variable_value a x.var) x.positive
 
 -- a clause is true where one of its literals is
 abbrev pub clause_true : List Bool → List Lit → Bool

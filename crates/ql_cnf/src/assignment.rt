@@ -4,7 +4,7 @@ ghost use Rattle.ql_cnf.specs.Satisfaction.{AreInRange, ClausesInRange, literal_
 use crate::{Clause, Clauses, Lit};
 use std::marker::Model;
 
-/// A truth value for each variable, in their order.
+/// A truth value for each variable, in the order of the variables.
 #[derive(Drop)]
 pub struct Assignment {
     items: Vec<bool>,
@@ -19,7 +19,7 @@ impl Model for Assignment {
 }
 
 impl Assignment {
-    /// The assignment of these values.
+    /// The assignment with these values, variable 1 first.
     pub fn of(items: Vec<bool>) -> Assignment
         ensures { result ≡ items.items }
     {

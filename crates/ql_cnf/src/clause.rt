@@ -1,5 +1,5 @@
 ghost use Rattle.std.specs.Prelude.{◌≡◌, Some, None, IfOk, MatchBool};
-ghost use Rattle.ql_cnf.specs.Literals.{IsAscending, count_below, with_literal};
+ghost use Rattle.ql_cnf.specs.Literals.{IsAscendingByVariable, count_below, with_literal};
 
 use crate::Lit;
 use ql_base::NoMemory;
@@ -15,19 +15,19 @@ pub struct Clause {
 impl Model for Clause {
     ghost use Rattle.std.specs.Prelude.{List};
     ghost use Rattle.ql_cnf.specs.declared.lit.Lit.{Lit};
-    ghost use Rattle.ql_cnf.specs.Literals.{IsAscending};
+    ghost use Rattle.ql_cnf.specs.Literals.{IsAscendingByVariable};
 
     ghost Value = { List Lit };
 
     ghost view = { λ c. c.items.items };
 
-    ghost invariant = { λ c. IsAscending c.items.items };
+    ghost invariant = { λ c. IsAscendingByVariable c.items.items };
 }
 
 impl Clause {
     /// The clause of these literals.
     pub fn of(items: Vec<Lit>) -> Clause
-        requires { IsAscending items.items }
+        requires { IsAscendingByVariable items.items }
         ensures { result ≡ items.items }
     {
         Clause { items }
@@ -36,12 +36,12 @@ impl Clause {
     /// The literals.
     pub fn items(&self) -> &[Lit]
         ensures same { result.now ≡ self.now }
-        ensures ascending { IsAscending self.now }
+        ensures ascending { IsAscendingByVariable self.now }
     {
         &self.items
     }
 
-    /// The clause with one more literal in its place; none where it has the other sign of its variable.
+    /// The clause with one more literal, in order; none if the clause has the literal's negation.
     #[tactic(auto, using(crate::proofs::Meaning::stays_ascending))]
     pub fn with(&self, alloc: Global, lit: Lit) -> Result<Option<Clause>, NoMemory>
         ensures { IfOk result (λ clause. clause ≡ with_literal lit self.now) }
@@ -57,16 +57,16 @@ impl Clause {
     /// The literals.
     pub fn into_items(self) -> Vec<Lit>
         ensures same { result.items ≡ self }
-        ensures ascending { IsAscending self }
+        ensures ascending { IsAscendingByVariable self }
     {
         self.items
     }
 }
 
-// Puts the literal into its place, unless it is there; false where its negation is. A literal that
+// Inserts the literal in order, unless it is already there; false if its negation is there. A literal that
 // belongs at the end costs one comparison.
 pub(crate) fn insert(items: &mut Vec<Lit>, lit: Lit) -> Result<bool, NoMemory>
-    requires { IsAscending items.old.items }
+    requires { IsAscendingByVariable items.old.items }
     ensures { IfOk result (λ fits. MatchBool fits (with_literal lit items.old.items ≡ Some items.new.items) (with_literal lit items.old.items ≡ None)) }
 {
     let place = place_of(items, lit.var);
@@ -77,9 +77,9 @@ pub(crate) fn insert(items: &mut Vec<Lit>, lit: Lit) -> Result<bool, NoMemory>
     Ok(true)
 }
 
-// How many literals at the front have a smaller variable.
+// How many literals have a smaller variable: the index at which a literal of this variable belongs.
 fn place_of(items: &[Lit], var: u32) -> usize
-    requires { IsAscending items.now }
+    requires { IsAscendingByVariable items.now }
     ensures { result ≡ count_below var items.now }
 {
     let mut place = items.len();

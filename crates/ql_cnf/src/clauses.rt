@@ -1,5 +1,5 @@
 ghost use Rattle.std.specs.Prelude.{◌≡◌, ℕ, suc, take, ◌+◌, ◌-◌, ◌^◌, ◌<◌, ◌≤◌, ◌↔◌, ◌&&◌, List, Bool, [], length, slice_get, IfOk, OnOk, OnErr, IfSome, IsNone, is_some, Some, None, MatchBool};
-ghost use Rattle.ql_cnf.specs.Literals.{clause_of, HasBothSigns, SameLiterals, IsAscending};
+ghost use Rattle.ql_cnf.specs.Literals.{clause_of, HasBothSigns, SameLiterals, IsAscendingByVariable};
 ghost use Rattle.ql_cnf.specs.Satisfaction.{AreInRange, ClausesInRange, with_clause, all_true, clause_true};
 ghost use Rattle.ql_cnf.specs.Circuits.{yes};
 
@@ -28,7 +28,7 @@ impl Model for Clauses {
 }
 
 impl Clauses {
-    /// No clauses over this many variables.
+    /// The empty list of clauses, over this many variables.
     pub fn new(alloc: Global, variables: u32) -> Clauses
         ensures variables { result.variables ≡ variables }
         ensures empty { result.clauses ≡ [] }
@@ -40,8 +40,8 @@ impl Clauses {
     }
 
     /// Appends the clause of these literals: sorted by variable, each literal once. Literals that hold
-    /// both signs of a variable are true in any assignment; nothing is appended then, and the answer
-    /// is false.
+    /// both signs of a variable are true in any assignment; then nothing is appended, and false is
+    /// returned. Out of memory leaves the list as it was.
     #[tactic(auto, using(crate::proofs::Meaning::is_clause, crate::proofs::Meaning::is_tautology, crate::proofs::Truth::added_means, crate::proofs::Truth::left_out_means, crate::proofs::Truth::added_in_range))]
     pub fn add(&mut self, lits: &[Lit]) -> Result<bool, NoMemory>
         requires in_range { AreInRange self.old.variables lits.now }
@@ -52,11 +52,11 @@ impl Clauses {
         ensures variables { self.new.variables ≡ self.old.variables }
         ensures len { length self.new.clauses ≤ length self.old.clauses + 1 }
 
-        // What the clause of the literals is, and when there is none.
-        ensures clause { IfSome (clause_of lits.now) (λ c. IsAscending c × SameLiterals c lits.now) }
+        // Which clause the literals make, and when they make none.
+        ensures clause { IfSome (clause_of lits.now) (λ c. IsAscendingByVariable c × SameLiterals c lits.now) }
         ensures tautology { IsNone (clause_of lits.now) ↔ HasBothSigns lits.now }
 
-        // What it means.
+        // The list is true where it was before and one of the literals is.
         ensures meaning { OnOk result ((a : List Bool) → all_true a self.new.clauses ≡ (all_true a self.old.clauses && clause_true a lits.now)) }
     {
         match ascending(*self.clauses.allocator(), lits)? {
@@ -76,7 +76,7 @@ impl Clauses {
         self.clauses.len() as u32
     }
 
-    /// The clause of this number, from 1.
+    /// The clause with this number; the first has number 1.
     pub fn clause(&self, k: u32) -> &Clause
         requires first { 1 ≤ k }
         requires last { k ≤ length self.now.clauses }
@@ -93,7 +93,7 @@ impl Clauses {
         &self.clauses
     }
 
-    // One more variable, the last; its literal.
+    // Adds a variable after the others, and returns its literal.
     pub(crate) fn add_variable(&mut self) -> Lit
         requires { self.old.variables + 1 < 2 ^ 32 }
         ensures literal { result ≡ yes (suc self.old.variables) }
@@ -106,7 +106,7 @@ impl Clauses {
         }
     }
 
-    // Goes back to fewer variables and clauses.
+    // Truncates the list to this many variables and clauses.
     pub(crate) fn truncate(&mut self, variables: u32, len: usize)
         requires { ClausesInRange variables (take len self.old.clauses) }
         ensures { self.new ≡ record { variables = variables; clauses = take len self.old.clauses } }
@@ -123,7 +123,7 @@ impl Clauses {
     }
 }
 
-// The ascending clause of the literals, or none where they hold both signs of a variable.
+// The ascending clause of the literals, or none if they hold both signs of a variable.
 fn ascending(alloc: Global, lits: &[Lit]) -> Result<Option<Clause>, NoMemory>
     ensures { IfOk result (λ clause. clause ≡ clause_of lits.now) }
 {

@@ -1,6 +1,6 @@
-// Clause lists in conjunctive normal form, and what it is that an assignment satisfies one. Its one
-// contract: `add` appends exactly the ascending clause of the literals it is given, and leaves out
-// those that hold both signs of a variable.
+// Clause lists in conjunctive normal form, and when an assignment satisfies one. The one contract:
+// `add` appends exactly the ascending clause of its literals, and appends nothing where they hold both
+// signs of a variable.
 #![tactic(auto)]
 
 mod assignment;

@@ -5,9 +5,9 @@ ghost use Rattle.ql_cnf.specs.Circuits.{circuit_of, circuit_true, InputsInRange,
 use crate::{Clauses, Ground, Lit};
 use ql_base::NoMemory;
 
-/// Appends clauses that say that the formula is false. Each node that isn't a leaf gets a variable of
-/// its own, after those that are there, children first from left to right, and the clauses that define
-/// it; the last clause is the root's negation.
+/// Appends clauses that state that the formula is false. Each node that isn't a leaf gets a variable of
+/// its own, after the existing ones, children first from left to right, and the clauses that define it;
+/// the last clause is the root's negation. Out of memory leaves the clauses as they were.
 pub fn clausify(g: &Ground, c: &mut Clauses) -> Result<(), NoMemory>
     requires leaves { InputsInRange c.old.variables (circuit_of g.now) }
     requires variables { c.old.variables + gates (circuit_of g.now) < 2 ^ 32 }
@@ -16,8 +16,8 @@ pub fn clausify(g: &Ground, c: &mut Clauses) -> Result<(), NoMemory>
     ensures clauses { OnOk result (c.new.clauses ≡ c.old.clauses ++ clauses_of (denying c.old.variables (circuit_of g.now))) }
     ensures err { OnErr result (c.new ≡ c.old) }
 
-    // An assignment that satisfied the clauses extends where the formula is false in it; and where all
-    // clauses are satisfied the formula is false.
+    // An assignment that satisfies the old clauses, and in which the formula is false, extends to one that
+    // satisfies the new clauses; and wherever the new clauses are satisfied, the formula is false.
     ensures extends { OnOk result ((a : List Bool) → Satisfies a c.old → circuit_true a (circuit_of g.now) ≡ false → Satisfies (a ++ gate_values a (circuit_of g.now)) c.new) }
     ensures denied { OnOk result ((a : List Bool) → Satisfies a c.new → circuit_true a (circuit_of g.now) ≡ false) }
 {
@@ -30,7 +30,7 @@ pub fn clausify(g: &Ground, c: &mut Clauses) -> Result<(), NoMemory>
     answer
 }
 
-// The same, but want of memory may leave more clauses.
+// The same, but clauses and variables may be left over when memory runs out.
 fn deny(g: &Ground, c: &mut Clauses) -> Result<(), NoMemory>
     requires leaves { InputsInRange c.old.variables (circuit_of g.now) }
     requires variables { c.old.variables + gates (circuit_of g.now) < 2 ^ 32 }
@@ -44,7 +44,7 @@ fn deny(g: &Ground, c: &mut Clauses) -> Result<(), NoMemory>
     Ok(())
 }
 
-// Appends the clauses that define the formula's nodes, and answers the literal that stands for it.
+// Appends the clauses that define the formula's nodes, and returns the literal that stands for it.
 fn define(g: &Ground, c: &mut Clauses) -> Result<Lit, NoMemory>
     requires leaves { InputsInRange c.old.variables (circuit_of g.now) }
     requires variables { c.old.variables + gates (circuit_of g.now) < 2 ^ 32 }

@@ -21,8 +21,8 @@ use Rattle.ql_parse.specs.Parsing.{IsProgramText}
 use Rattle.ql_refute.specs.Verdict.{verdict}
 use Rattle.ql_refute.specs.declared.refutation.Line.{Line}
 use Rattle.ql_typing.specs.Operations.{all_ops}
-use Rattle.ql_commands.specs.declared.answer.Answer.{Answer}
-use Rattle.ql_commands.specs.declared.answer.Answer.TheVariants.{Done, No, Bad}
+use Rattle.ql_reply.specs.declared.status.Status.{Status}
+use Rattle.ql_reply.specs.declared.status.Status.TheVariants.{Done, No, Bad, ReadFault, WriteFault, Usage, TooLarge}
 use Rattle.ql_commands.specs.Check.{AreDue, BeginOtherwise, CheckSays, IsOutOfOrder, Operation, Target, Tells, Transaction, goal_at, goal_of, target_named, target_of}
 use Rattle.ql_commands.specs.Check.Tells.{all, accepted, refused}
 use Rattle.ql_classify.specs.Least.{AreLevelsOf}
@@ -47,7 +47,7 @@ one-problem q (TxnAt o level) c d h g =
     let same : h.0 ≡ g.0 = cc in
     h.2 ∙ rw same (sym g.2)
 
-none-refused : (q : Program) (place : ℕ) (ss : List Section) (a : Answer) (text : List ℕ) → Tells q place ss a text → AreRefuted q place ss → a ≡ No → ⊥
+none-refused : (q : Program) (place : ℕ) (ss : List Section) (a : Status) (text : List ℕ) → Tells q place ss a text → AreRefuted q place ss → a ≡ No → ⊥
 none-refused q place ss a text (all k) h is = absurd (cc)
 none-refused q place ss a text (accepted k s more b rest refuted gives tells) h is = none-refused q (suc k) more b rest tells h.1 is
 none-refused q place ss a text (refused k s more c problem not) h is =
@@ -153,12 +153,16 @@ in-order q ss place due out =
     begin-alike out.given (subst (λ ts. BeginOtherwise ts out.given) rest out.differ)
 
 pub accepted_again : (tree : (bytes : List ℕ) (s t : Source) → IsProgramText bytes s → IsProgramText bytes t → s ≡ t)
-    (source cert text : List ℕ) (a : Answer) → ProveSays source Done cert → CheckSays source cert a text → a ≡ Done
+    (source cert text : List ℕ) (a : Status) → ProveSays source Done cert → CheckSays source cert a text → a ≡ Done
 accepted_again tree source cert text Done proved checked = refl
 accepted_again tree source cert text Bad proved checked = elim checked [
   | inl bad ↦ absurd (bad.0 (proved.0, proved.1))
   | inr bad ↦ absurd (bad.1.0 (proved.4.sections, proved.4.spells))
 ]
+accepted_again tree source cert text ReadFault proved checked = absurd checked
+accepted_again tree source cert text WriteFault proved checked = absurd checked
+accepted_again tree source cert text Usage proved checked = absurd checked
+accepted_again tree source cert text TooLarge proved checked = absurd checked
 accepted_again tree source cert text No proved checked =
     let p = proved.0 in
     let q = checked.0 in

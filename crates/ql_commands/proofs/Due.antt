@@ -14,7 +14,7 @@ use Rattle.ql_lang.specs.declared.operation.OpDecl.{OpDecl}
 use Rattle.ql_lang.specs.declared.program.Program.{Program}
 use Rattle.ql_lang.specs.declared.program.TxnDecl.{TxnDecl}
 use Rattle.ql_typing.specs.Operations.{all_ops}
-use Rattle.ql_report.specs.Levels.{op_name, txn_name}
+use Rattle.ql_typing.specs.Names.{op_name, txn_name}
 use Rattle.ql_commands.specs.Check.{Target, Operation, Transaction, targets_due, target_of, target_named, goal_at, AreDue, BeginOtherwise, IsOutOfOrder}
 use Rattle.ql_commands.specs.Judging.{AreDueFrom}
 

@@ -13,8 +13,8 @@ use Rattle.ql_lines.specs.Lines.{ahead_from}
 use Rattle.ql_refute.specs.Verdict.{verdict}
 use Rattle.ql_refute.specs.declared.verdict.Verdict.{Verdict}
 use Rattle.ql_refute.specs.declared.verdict.Verdict.TheVariants.{Accepted}
-use Rattle.ql_commands.specs.declared.answer.Answer.{Answer}
-use Rattle.ql_commands.specs.declared.answer.Answer.TheVariants.{Done, No, Bad}
+use Rattle.ql_reply.specs.declared.status.Status.{Status}
+use Rattle.ql_reply.specs.declared.status.Status.TheVariants.{Done, No, Bad, ReadFault, WriteFault, Usage, TooLarge}
 use Rattle.ql_commands.specs.Certificates.{SpellsCert}
 use Rattle.ql_commands.specs.Check.{AreDue, BadCertSays, CheckSays, SectionsSay, Tells, cert_fault_text, goal_of, section_text, verdict_text}
 use Rattle.ql_commands.specs.Check.Tells.{all, accepted, refused}
@@ -22,7 +22,7 @@ use Rattle.ql_commands.specs.Judging.{IsVerdictOn}
 use Rattle.ql_commands.specs.Sources.{IsSourceOf}
 
 -- some text that is told was appended
-abbrev pub IsTold : Program → ℕ → List Section → Answer → List ℕ → List ℕ → Type 0
+abbrev pub IsTold : Program → ℕ → List Section → Status → List ℕ → List ℕ → Type 0
 IsTold p place ss a out new = (text : List ℕ) × Tells p place ss a text × (new ≡ out ++ text)
 
 pub told_none : (p : Program) (place : ℕ) (ss : List Section) (out : List ℕ) → length ss ≡ 0 → IsTold p place ss Done out out
@@ -39,7 +39,7 @@ module _ (p : Program) (place : ℕ) (ss : List Section) (s : Section) (others :
   judged = subst (λ h. IsVerdictOn p h s.refutation.lines v) goal on
 
   -- the section is accepted, and so it goes on
-  pub told_accepted : (a : Answer) (new : List ℕ) → v ≡ Accepted → IsTold p (place + 1) others a second new → IsTold p place ss a out new
+  pub told_accepted : (a : Status) (new : List ℕ) → v ≡ Accepted → IsTold p (place + 1) others a second new → IsTold p place ss a out new
   told_accepted a new sure more =
       let tells : Tells p (suc place) others a more.0 = subst (λ n. Tells p n others a more.0) (add-one place) more.1 in
       let whole : Tells p place (s ∷ others) a (section_text s ++ verdict_text Accepted ++ more.0) =
@@ -62,22 +62,36 @@ module _ (p : Program) (place : ℕ) (ss : List Section) (s : Section) (others :
         line ∙ ap (λ w. out ++ (section_text s ++ verdict_text w)) (sym judged.verdict_is),
       )
 
-never-bad : (p : Program) (place : ℕ) (ss : List Section) (a : Answer) (text : List ℕ) → Tells p place ss a text → a ≡ Bad → ⊥
-never-bad p place ss a text (all k) is = absurd (cc)
-never-bad p place ss a text (accepted k s more b rest refuted gives tells) is = never-bad p (suc k) more b rest tells is
-never-bad p place ss a text (refused k s more c problem not) is = absurd (cc)
+-- sections are answered with yes or no
+abbrev IsYesOrNo : Status → Type 0
+IsYesOrNo Done = Unit {0}
+IsYesOrNo No = Unit {0}
+IsYesOrNo _ = ⊥
 
-pub sections_say : (p : Program) (ss : List Section) (a : Answer) (start new : List ℕ) → AreDue p ss → start ≡ [] → IsTold p 0 ss a start new → SectionsSay p ss a new
+yes-or-no : (p : Program) (place : ℕ) (ss : List Section) (a : Status) (text : List ℕ) → Tells p place ss a text → IsYesOrNo a
+yes-or-no p place ss a text (all k) = tt
+yes-or-no p place ss a text (accepted k s more b rest refuted gives tells) = yes-or-no p (suc k) more b rest tells
+yes-or-no p place ss a text (refused k s more c problem not) = tt
+
+pub sections_say : (p : Program) (ss : List Section) (a : Status) (start new : List ℕ) → AreDue p ss → start ≡ [] → IsTold p 0 ss a start new → SectionsSay p ss a new
 sections_say p ss Done start new due e told = (due, subst (λ t. Tells p 0 ss Done t) (sym (told.2 ∙ ap (λ (z : List ℕ). z ++ told.0) e)) told.1)
 sections_say p ss No start new due e told = inr (due, subst (λ t. Tells p 0 ss No t) (sym (told.2 ∙ ap (λ (z : List ℕ). z ++ told.0) e)) told.1)
-sections_say p ss Bad start new due e told = absurd (never-bad p 0 ss Bad told.0 told.1 refl)
+sections_say p ss Bad start new due e told = absurd (yes-or-no p 0 ss Bad told.0 told.1)
+sections_say p ss ReadFault start new due e told = absurd (yes-or-no p 0 ss ReadFault told.0 told.1)
+sections_say p ss WriteFault start new due e told = absurd (yes-or-no p 0 ss WriteFault told.0 told.1)
+sections_say p ss Usage start new due e told = absurd (yes-or-no p 0 ss Usage told.0 told.1)
+sections_say p ss TooLarge start new due e told = absurd (yes-or-no p 0 ss TooLarge told.0 told.1)
 
 pub cert_is_bad : (bytes : List ℕ) (f : CertFault) (text : List ℕ) → IsRefusal IsCertFile (ahead_from 1 bytes) f → cert_fault_text f ≡ Some text → BadCertSays bytes text
 cert_is_bad bytes (Unexpected line) text h e = (no_file IsCertFile (ahead_from 1 bytes) (Unexpected line) h, Unexpected line, h, e)
 cert_is_bad bytes (Number line) text h e = (no_file IsCertFile (ahead_from 1 bytes) (Number line) h, Number line, h, e)
 cert_is_bad bytes NoMemory text h e = absurd (cc)
 
-pub check_says : (source cert : List ℕ) (p : Program) (ss : List Section) (a : Answer) (text : List ℕ) → IsSourceOf source p → SpellsCert cert ss → SectionsSay p ss a text → CheckSays source cert a text
+pub check_says : (source cert : List ℕ) (p : Program) (ss : List Section) (a : Status) (text : List ℕ) → IsSourceOf source p → SpellsCert cert ss → SectionsSay p ss a text → CheckSays source cert a text
 check_says source cert p ss Done text is spells said = (p, is, ss, spells, said)
 check_says source cert p ss No text is spells said = (p, is, ss, spells, said)
 check_says source cert p ss Bad text is spells said = absurd said
+check_says source cert p ss ReadFault text is spells said = absurd said
+check_says source cert p ss WriteFault text is spells said = absurd said
+check_says source cert p ss Usage text is spells said = absurd said
+check_says source cert p ss TooLarge text is spells said = absurd said

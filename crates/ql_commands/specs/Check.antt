@@ -6,7 +6,7 @@ use Rattle.ql_cert.specs.declared.cert.SectionLevel.TheVariants.{Op, Txn}
 use Rattle.ql_cert.specs.declared.fault.CertFault.{CertFault}
 use Rattle.ql_cert.specs.declared.fault.CertFault.TheVariants.{Unexpected, Number, NoMemory}
 use Rattle.ql_cert.specs.CertFile.{IsCertFile, kind_word, level_word}
-use Rattle.ql_cert.specs.Faults.{FirstFault}
+use Rattle.ql_cert.specs.Faults.{FirstFileFault}
 use Rattle.ql_classify.specs.Goals.{IsRefutedBy}
 use Rattle.ql_classify.specs.Targets.{op_at, txn_at}
 use Rattle.ql_cnf.specs.Satisfaction.{ClauseList}
@@ -20,8 +20,8 @@ use Rattle.ql_refute.specs.declared.verdict.Verdict.{Verdict}
 use Rattle.ql_refute.specs.declared.verdict.Verdict.TheVariants.{Accepted, BadHint, NotUnit, NoConflict, NoEmpty, BadVariable}
 use Rattle.ql_reply.specs.Lines.{fault_line}
 use Rattle.ql_typing.specs.Operations.{all_ops}
-use Rattle.ql_commands.specs.declared.answer.Answer.{Answer}
-use Rattle.ql_commands.specs.declared.answer.Answer.TheVariants as answer
+use Rattle.ql_reply.specs.declared.status.Status.{Status}
+use Rattle.ql_reply.specs.declared.status.Status.TheVariants.{Done, No, Bad}
 use Rattle.ql_commands.specs.Certificates.{IsCertificate, SpellsCert}
 use Rattle.ql_commands.specs.Sources.{IsSource, IsSourceOf, BadSourceSays}
 
@@ -34,7 +34,7 @@ cert_fault_text (Number line) = Some (fault_line (codes "certificate") line (cod
 cert_fault_text NoMemory = None
 
 abbrev pub BadCertSays : List ℕ → List ℕ → Type 0
-BadCertSays bytes text = (IsCertificate bytes → ⊥) × (f : CertFault) × FirstFault IsCertFile (ahead_from 1 bytes) f × (cert_fault_text f ≡ Some text)
+BadCertSays bytes text = (IsCertificate bytes → ⊥) × (f : CertFault) × FirstFileFault IsCertFile (ahead_from 1 bytes) f × (cert_fault_text f ≡ Some text)
 
 -- ---- the order of the sections
 
@@ -65,7 +65,7 @@ BeginOtherwise [] (u ∷ us) = Unit {0}
 BeginOtherwise (t ∷ ts) [] = Unit {0}
 BeginOtherwise (t ∷ ts) (u ∷ us) = t ≢ u
 
--- the first place, from 1, at which the sections aren't those that are expected
+-- the first position, from 1, at which the sections aren't those that are expected
 pub record IsOutOfOrder (p : Program) (ss : List Section) (place : ℕ) : Type 0 where
   pub before : List Target
   pub at : place ≡ suc (length before)
@@ -80,7 +80,7 @@ order_text place = codes "order " ++ decimal place ++ codes "\n"
 
 -- ---- the refutations of the sections
 
--- the goal of the section at a place, from 0, of a program with so many operations
+-- the goal of the section of an index, in a program with this number of operations
 abbrev pub goal_at : ℕ → ℕ → SectionLevel → Goal
 goal_at ops place (Op level) = op_at place level
 goal_at ops place (Txn level) = txn_at (place - ops) level
@@ -104,28 +104,29 @@ verdict_text (NoConflict line) = refusal_end line (codes "NoConflict")
 verdict_text (BadVariable line) = refusal_end line (codes "BadVariable")
 verdict_text NoEmpty = codes " refused NoEmpty\n"
 
--- The lines that report the sections from a place on, up to the first that is refused. Where a line ends in `accepted`,
--- the refutation is one of the section's own ground problem, and the level gives the contract in every execution.
-pub data Tells (p : Program) : ℕ → List Section → Answer → List ℕ → Type 0 where
-  all : (place : ℕ) → Tells p place [] answer.Done []
-  accepted : (place : ℕ) (s : Section) (ss : List Section) (a : Answer) (text : List ℕ)
-      → IsRefutedBy p (goal_of p place s) s.refutation.lines → GivesContract p (goal_of p place s) → Tells p (suc place) ss a text
-      → Tells p place (s ∷ ss) a (section_text s ++ verdict_text Accepted ++ text)
+-- The lines that report the sections from an index on, up to the first that is refused. Where a line ends in `accepted`,
+-- the refutation is one of the section's own ground problem, and the level guarantees the contract in every execution.
+pub data Tells (p : Program) : ℕ → List Section → Status → List ℕ → Type 0 where
+  all : (place : ℕ) → Tells p place [] Done []
+  accepted : (place : ℕ) (s : Section) (ss : List Section) (status : Status) (text : List ℕ)
+      → IsRefutedBy p (goal_of p place s) s.refutation.lines → GivesContract p (goal_of p place s) → Tells p (suc place) ss status text
+      → Tells p place (s ∷ ss) status (section_text s ++ verdict_text Accepted ++ text)
   refused : (place : ℕ) (s : Section) (ss : List Section) (c : ClauseList)
       → IsProblemOf p (goal_of p place s) c → verdict c s.refutation.lines ≢ Accepted
-      → Tells p place (s ∷ ss) answer.No (section_text s ++ verdict_text (verdict c s.refutation.lines))
+      → Tells p place (s ∷ ss) No (section_text s ++ verdict_text (verdict c s.refutation.lines))
 
 -- what is said of a program and of sections
-abbrev pub SectionsSay : Program → List Section → Answer → List ℕ → Type 0
-SectionsSay p ss answer.Done text = AreDue p ss × Tells p 0 ss answer.Done text
-SectionsSay p ss answer.No text =
-    ((place : ℕ) × IsOutOfOrder p ss place × (text ≡ order_text place)) ⊎ (AreDue p ss × Tells p 0 ss answer.No text)
-SectionsSay p ss answer.Bad text = ⊥
+abbrev pub SectionsSay : Program → List Section → Status → List ℕ → Type 0
+SectionsSay p ss Done text = AreDue p ss × Tells p 0 ss Done text
+SectionsSay p ss No text =
+    ((place : ℕ) × IsOutOfOrder p ss place × (text ≡ order_text place)) ⊎ (AreDue p ss × Tells p 0 ss No text)
+SectionsSay p ss _ text = ⊥
 
-abbrev pub CheckTells : List ℕ → List ℕ → Answer → List ℕ → Type 0
-CheckTells source cert a text = (p : Program) × IsSourceOf source p × (ss : List Section) × SpellsCert cert ss × SectionsSay p ss a text
+abbrev pub CheckTells : List ℕ → List ℕ → Status → List ℕ → Type 0
+CheckTells source cert status text = (p : Program) × IsSourceOf source p × (ss : List Section) × SpellsCert cert ss × SectionsSay p ss status text
 
-abbrev pub CheckSays : List ℕ → List ℕ → Answer → List ℕ → Type 0
-CheckSays source cert answer.Done text = CheckTells source cert answer.Done text
-CheckSays source cert answer.No text = CheckTells source cert answer.No text
-CheckSays source cert answer.Bad text = BadSourceSays source text ⊎ (IsSource source × BadCertSays cert text)
+abbrev pub CheckSays : List ℕ → List ℕ → Status → List ℕ → Type 0
+CheckSays source cert Done text = CheckTells source cert Done text
+CheckSays source cert No text = CheckTells source cert No text
+CheckSays source cert Bad text = BadSourceSays source text ⊎ (IsSource source × BadCertSays cert text)
+CheckSays source cert _ text = ⊥

@@ -1,4 +1,4 @@
--- What a judge of sections knows.
+-- What is known where the sections of a certificate are checked.
 use Rattle.std.specs.Prelude.{◌≡◌, ℕ, suc, List, [], ◌∷◌, Some, slice_get}
 use Rattle.ql_cert.specs.declared.cert.Section.{Section}
 use Rattle.ql_cnf.specs.Satisfaction.{ClauseList}
@@ -12,12 +12,12 @@ use Rattle.ql_refute.specs.declared.verdict.Verdict.{Verdict}
 use Rattle.ql_refute.specs.declared.verdict.Verdict.TheVariants.{Accepted}
 use Rattle.ql_commands.specs.Check.{target_of, targets_due}
 
--- the sections from a place on are those that are expected
+-- the sections from an index on are those that are expected
 abbrev pub AreDueFrom : Program → ℕ → List Section → Type 0
 AreDueFrom p place [] = Unit {0}
 AreDueFrom p place (s ∷ ss) = (slice_get (targets_due p) place ≡ Some (target_of s)) × AreDueFrom p (suc place) ss
 
--- the verdict on the lines as a refutation of the goal's ground problem; where it is accepted, the level gives the contract
+-- the verdict on the lines as a refutation of the goal's ground problem; where it is accepted, the level guarantees the contract
 pub record IsVerdictOn (p : Program) (g : Goal) (lines : List Line) (v : Verdict) : Type 0 where
   pub clauses : ClauseList
   pub problem : IsProblemOf p g clauses

@@ -12,9 +12,9 @@ use Rattle.ql_ground.specs.declared.goal.Goal.TheVariants.{OpAt, TxnAt}
 use Rattle.ql_lang.specs.declared.program.Program.{Program}
 use Rattle.ql_levels.specs.Lists.{LevelLists}
 use Rattle.ql_lines.specs.Texts.{file_text}
-use Rattle.ql_report.specs.Levels.{op_name, txn_name}
-use Rattle.ql_commands.specs.declared.answer.Answer.{Answer}
-use Rattle.ql_commands.specs.declared.answer.Answer.TheVariants.{Done, No, Bad}
+use Rattle.ql_reply.specs.declared.status.Status.{Status}
+use Rattle.ql_reply.specs.declared.status.Status.TheVariants.{Done, No, Bad}
+use Rattle.ql_typing.specs.Names.{op_name, txn_name}
 use Rattle.ql_commands.specs.Certificates.{SpellsCert}
 use Rattle.ql_classify.specs.Least.{AreLevelsOf}
 use Rattle.ql_commands.specs.Levels.{RefusalSays}
@@ -42,7 +42,8 @@ pub record IsCertificateFor (p : Program) (levels : LevelLists) (text : List ℕ
   pub printed : text ≡ file_text (cert_lines sections)
   pub spells : SpellsCert text sections
 
-abbrev pub ProveSays : List ℕ → Answer → List ℕ → Type 0
+abbrev pub ProveSays : List ℕ → Status → List ℕ → Type 0
 ProveSays bytes Done text = (p : Program) × IsSourceOf bytes p × (levels : LevelLists) × AreLevelsOf p levels × IsCertificateFor p levels text
 ProveSays bytes No text = (p : Program) × IsSourceOf bytes p × RefusalSays p text
 ProveSays bytes Bad text = BadSourceSays bytes text
+ProveSays bytes _ text = ⊥

@@ -7,7 +7,6 @@ ghost use Rattle.ql_classify.specs.Least.{AreLevelsOf};
 ghost use Rattle.ql_commands.specs.Names.{HasNames};
 ghost use Rattle.ql_commands.specs.Prove.{IsCertificateFor, ProveSays, level_of, name_of};
 
-use crate::answer::Answer;
 use crate::refusals::refusal;
 use crate::source::read_source;
 use crate::source_fault::bad_source;
@@ -15,21 +14,22 @@ use ql_base::{DeclId, NoMemory, OpId, Word};
 use ql_cert::{SectionLevel, title_text, with_end, with_section};
 use ql_classify::Classified;
 use ql_levels::Levels;
+use ql_reply::Status;
 use ql_typing::Typed;
 use std::alloc::Global;
 
 /// The certificate of a source's least levels, or what fails first.
-pub fn prove(alloc: Global, source: &[u8]) -> Result<(Answer, Vec<u8>), NoMemory>
+pub fn prove(alloc: Global, source: &[u8]) -> Result<(Status, Vec<u8>), NoMemory>
     requires { length source.now < 2 ^ 32 }
     ensures { IfOk result (λ answer. ProveSays source.now answer.0 answer.1.items) }
 {
     let typed = match read_source(alloc, source) {
         Ok(typed) => typed,
-        Err(fault) => return Ok((Answer::Bad, bad_source(alloc, fault)?)),
+        Err(fault) => return Ok((Status::Bad, bad_source(alloc, fault)?)),
     };
     match ql_classify::classify(alloc, &typed) {
-        Ok(classified) => Ok((Answer::Done, certificate(alloc, &classified)?)),
-        Err(why) => Ok((Answer::No, refusal(alloc, &typed, why)?)),
+        Ok(classified) => Ok((Status::Done, certificate(alloc, &classified)?)),
+        Err(why) => Ok((Status::No, refusal(alloc, &typed, why)?)),
     }
 }
 

@@ -1,8 +1,7 @@
 // The commands on levels, from the bytes of their files to their texts.
-// The one contract: each text is one that the meaning of the files allows with its answer.
+// The one contract: each text is one that the meaning of the files allows with its status.
 #![tactic(auto)]
 
-mod answer;
 mod cert_fault;
 mod certificate;
 mod classification;
@@ -14,7 +13,6 @@ mod section_lines;
 mod source;
 mod source_fault;
 
-pub use answer::Answer;
 pub use certificate::prove;
 pub use classification::classify;
 pub use judgement::check;

@@ -7,7 +7,7 @@ use ql_cert::{Section, SectionLevel};
 use ql_typing::Typed;
 use std::alloc::Global;
 
-/// The first place, from 1, at which the sections aren't those that are expected.
+/// The first position, from 1, at which the sections aren't those that are expected.
 pub(crate) fn first_out_of_order(t: &Typed, sections: &[Section]) -> Option<u32>
     ensures order { MatchOption result (AreDue t.now.program sections.now) (IsOutOfOrder t.now.program sections.now) }
     ensures few { IfNone result (length sections.now ≤ 48) }
@@ -25,7 +25,7 @@ pub(crate) fn first_out_of_order(t: &Typed, sections: &[Section]) -> Option<u32>
     }
 }
 
-// Whether the section at a place, from 0, is of the target that is expected there.
+// Whether the section of an index is of the target that is expected there.
 fn is_due(t: &Typed, place: u32, sections: &[Section]) -> bool
     requires { place < length (targets_due t.now.program) }
     ensures { IsTrue result ↔ (slice_get (targets_due t.now.program) place ≡ slice_get (map target_of sections.now) place) }
@@ -63,7 +63,7 @@ fn is_txn_due(t: &Typed, place: u32, name: &[u8]) -> bool
     t.txn(DeclId(number)).name.word.bytes() == name
 }
 
-/// The line that reports the first place out of order.
+/// The line that reports the first position out of order.
 pub(crate) fn order_line(alloc: Global, place: u32) -> Result<Vec<u8>, NoMemory>
     ensures { IfOk result (λ text. text.items ≡ order_text place) }
 {

@@ -1,44 +1,44 @@
-// The sections of a certificate, each judged against the ground problem of its own target.
+// The sections of a certificate, each checked against the ground problem of its own target.
 ghost use Rattle.std.specs.Prelude.{◌≡◌, ◌≤◌, ◌+◌, ◌++◌, ℕ, List, IfOk, OnOk, length, slice_get, Some};
 ghost use Rattle.ql_ground.specs.OfPrograms.{IsGoalOf};
 ghost use Rattle.ql_commands.specs.Check.{Tells, goal_of, refusal_end, section_text, target_of, targets_due, verdict_text};
 ghost use Rattle.ql_commands.specs.Judging.{AreDueFrom, IsVerdictOn};
 
-use crate::answer::Answer;
 use ql_base::{DeclId, NoMemory, OpId, push_bytes, push_number};
 use ql_cert::{Section, SectionLevel};
 use ql_ground::{Goal, problem};
 use ql_levels::{level_word, txn_word};
 use ql_refute::{Refutation, Verdict, check};
+use ql_reply::Status;
 use ql_typing::Typed;
 use std::alloc::Global;
 
-/// Appends a line for each section from a place on, up to the first that is refused.
+/// Appends a line for each section, the first of which has the index `place`, up to the first that is refused.
 pub(crate) fn tell_sections(
     alloc: Global,
     t: &Typed,
     place: u32,
     sections: &[Section],
     out: &mut Vec<u8>,
-) -> Result<Answer, NoMemory>
+) -> Result<Status, NoMemory>
     requires due { AreDueFrom t.now.program place sections.now }
     requires few { place + length sections.now ≤ 48 }
-    ensures { IfOk result (λ answer. (text : List ℕ) × Tells t.now.program place sections.now answer text × (out.new.items ≡ out.old.items ++ text)) }
+    ensures { IfOk result (λ status. (text : List ℕ) × Tells t.now.program place sections.now status text × (out.new.items ≡ out.old.items ++ text)) }
 {
     let Some((section, others)) = sections.split_first() else {
-        return Ok(Answer::Done);
+        return Ok(Status::Done);
     };
     let goal = goal_of(t, place, section);
-    let verdict = judge(alloc, t, goal, &section.refutation)?;
+    let verdict = verdict_on(alloc, t, goal, &section.refutation)?;
     push_section(out, section)?;
     push_verdict(out, verdict)?;
     match verdict {
         Verdict::Accepted => tell_sections(alloc, t, place + 1, others, out),
-        _ => Ok(Answer::No),
+        _ => Ok(Status::No),
     }
 }
 
-// The goal of the section at a place, from 0.
+// The goal of the section of an index.
 fn goal_of(t: &Typed, place: u32, section: &Section) -> Goal
     requires { slice_get (targets_due t.now.program) place ≡ Some (target_of section.now) }
     ensures value { result ≡ goal_of t.now.program place section.now }
@@ -51,7 +51,12 @@ fn goal_of(t: &Typed, place: u32, section: &Section) -> Goal
 }
 
 // The verdict on a refutation of a goal's ground problem.
-fn judge(alloc: Global, t: &Typed, goal: Goal, refutation: &Refutation) -> Result<Verdict, NoMemory>
+fn verdict_on(
+    alloc: Global,
+    t: &Typed,
+    goal: Goal,
+    refutation: &Refutation,
+) -> Result<Verdict, NoMemory>
     requires { IsGoalOf t.now.program goal }
     ensures { IfOk result (IsVerdictOn t.now.program goal refutation.now.lines) }
 {

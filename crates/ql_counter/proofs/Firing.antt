@@ -11,7 +11,7 @@ use Rattle.ql_atoms.specs.Atoms.{Size, number_of}
 use Rattle.ql_cnf.specs.declared.lit.Lit.{Lit}
 use Rattle.ql_cnf.specs.Circuits.{Circuit, yes, no, circuit_true, defining, denying, output}
 use Rattle.ql_cnf.specs.Literals.{negated}
-use Rattle.ql_cnf.specs.Satisfaction.{value_of, literal_true, clause_true}
+use Rattle.ql_cnf.specs.Satisfaction.{variable_value, literal_true, clause_true}
 use Rattle.ql_cnf.proofs.CircuitLaws.{forced, negated-true}
 use Rattle.ql_ground.specs.Rules.{Rule}
 use Rattle.ql_ground.specs.Ground.{choices, at, implication, instances, all_instances}
@@ -44,7 +44,7 @@ beq-false false = refl
 
 module _ (a : List Bool) (s : Size) where
   abbrev pub value : Atom → Bool
-  value x = value_of a (number_of s x)
+  value x = variable_value a (number_of s x)
 
   -- these clauses are true
   abbrev pub AllHold : List (List Lit) → Type 0

@@ -1,4 +1,4 @@
--- The relations that an assignment says of a problem's constants, as a pattern, and the execution that is built of it.
+-- The relations between a problem's constants in an assignment, as a pattern, and the execution that is built from it.
 use Rattle.std.specs.Prelude.{ℕ, suc, Bool, true, false, ◌&&◌, ◌||◌, nat_lt, List, [], ◌∷◌, length}
 use Rattle.ql_base.specs.Ids.{op}
 use Rattle.ql_base.specs.Ranges.{upto}
@@ -6,7 +6,7 @@ use Rattle.ql_atoms.specs.declared.atoms.Atom.TheVariants.{Pair, Current, Is}
 use Rattle.ql_atoms.specs.declared.atoms.PairKind.{PairKind}
 use Rattle.ql_atoms.specs.declared.atoms.PairKind.TheVariants.{SameTxn}
 use Rattle.ql_atoms.specs.Atoms.{Size, number_of}
-use Rattle.ql_cnf.specs.Satisfaction.{value_of}
+use Rattle.ql_cnf.specs.Satisfaction.{variable_value}
 use Rattle.ql_lang.specs.Trees.{Relation, Basic, Union, Intersection}
 use Rattle.ql_lang.specs.Formulas.{Statement, Always, Related, BothOf, OneOf, IfThen, InOneTxn, Resolved}
 use Rattle.ql_lang.specs.declared.relation.RelName.{RelName}
@@ -21,17 +21,17 @@ use Rattle.ql_blocks.specs.Patterns.{Pattern, least, class_of}
 use Rattle.ql_blocks.specs.Blocks.{no_parts, slots_of}
 use Rattle.ql_blocks.specs.Built.{built, constant_place}
 
--- the relations of an assignment, between constants of the size alone
+-- the relations of an assignment, only between constants within the size
 abbrev pub related_by : List Bool → Size → PairKind → ℕ → ℕ → Bool
-related_by a s r i j = (nat_lt i s.constants && nat_lt j s.constants) && value_of a (number_of s (Pair r i j))
+related_by a s r i j = (nat_lt i s.constants && nat_lt j s.constants) && variable_value a (number_of s (Pair r i j))
 
 -- the operation of a constant
 abbrev pub operation_by : List Bool → Size → ℕ → ℕ
-operation_by a s i = least s.operations (λ o. value_of a (number_of s (Is (op o) i)))
+operation_by a s i = least s.operations (λ o. variable_value a (number_of s (Is (op o) i)))
 
 -- the constant is an effect of the current transaction
 abbrev pub current_by : List Bool → Size → ℕ → Bool
-current_by a s i = nat_lt i s.constants && value_of a (number_of s (Current i))
+current_by a s i = nat_lt i s.constants && variable_value a (number_of s (Current i))
 
 abbrev pub pattern_of : List Bool → Size → (ℕ → Member) → Pattern
 pattern_of a s member = record { count = s.constants; rel = related_by a s; op = operation_by a s; member = member }

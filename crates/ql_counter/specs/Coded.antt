@@ -17,7 +17,7 @@ use Rattle.ql_counter.specs.declared.naming.Closure.TheVariants.{OnOneObject, Ac
 use Rattle.ql_counter.specs.declared.classes.Likeness.{Likeness}
 use Rattle.ql_counter.specs.declared.classes.Likeness.TheVariants.{Equal, OneSession, OneObject, OneTxn}
 
--- the relations that an assignment says
+-- the pattern of the relations in an assignment
 abbrev pub said : List Bool → Shape → Pattern
 said a s = pattern_of a (size_of s) alone
 
@@ -27,7 +27,7 @@ alike_by p OneSession i j = one_session p i j
 alike_by p OneObject i j = p.rel SameObj i j
 alike_by p OneTxn i j = p.rel SameTxn i j
 
--- the second constant is why the first's block has the part
+-- the second constant is a reason for the first's block to have the part
 abbrev pub needs : Pattern → Part → ℕ → ℕ → Bool
 needs p Opening b i = is_link p i b
 needs p Aide b i = p.rel Hbo i b && not (p.rel Vis i b)

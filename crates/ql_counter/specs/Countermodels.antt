@@ -41,13 +41,13 @@ IsCounterOf p (OpAt o level) c =
 IsCounterOf p (TxnAt d level) c =
     (f : Resolved) × (slice_get (txn_contracts p) d.0 ≡ Some f) × (run : RunId) × (c.at ≡ at.Run run) × IsTxnCounter (op_kinds p.types) d.0 level f c.execution run.0 (numbers c.places)
 
--- ---- the numbers that its effects name
+-- ---- the objects and transactions that its effects name
 
 -- the most objects: one for each constant, and one for chains of happens-before
 abbrev pub most_objects : ℕ
 most_objects = 7
 
--- outside transactions, or in one of a name that the program declares
+-- outside transactions, or in one with a name that the program declares
 abbrev pub IsDeclared : Program → Member → Type 0
 IsDeclared p Alone = Unit {0}
 IsDeclared p (Inside run name) = name.0 < length p.txns
@@ -59,7 +59,7 @@ IsWithin p e = (e.object.0 < most_objects) × IsDeclared p e.member
 abbrev pub AreWithin : Program → List Effect → Type 0
 AreWithin p x = All (IsWithin p) x
 
--- ---- what is built of an assignment
+-- ---- what is built from an assignment
 abbrev pub IsBuiltOfOp : List Bool → List ℕ → Resolved → Counter → Type 0
 IsBuiltOfOp a types f c = (c.execution ≡ op_execution a types f) × (c.at ≡ at.Effect (record { 0 = op_current a types f })) × (numbers c.places ≡ op_places a types f)
 

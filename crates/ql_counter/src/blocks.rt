@@ -31,7 +31,7 @@ pub(crate) fn slots(
     Ok(slots)
 }
 
-// Appends the blocks before which this many constants happen.
+// Appends the blocks of the constants that have this many constants before them.
 fn push_ranked(
     a: &[bool],
     s: Shape,
@@ -120,7 +120,7 @@ fn has(a: &[bool], s: Shape, extra: Extra, c: u32, part: Part) -> bool
     }
 }
 
-// Whether some constant is why the block has the part.
+// Whether some constant is a reason for the block to have the part.
 fn is_needed(a: &[bool], s: Shape, part: Part, c: u32) -> bool
     ensures { result ≡ some_below s.constants (needs (said a.now s) part c) }
 {

@@ -1,7 +1,7 @@
-// What an assignment says of a problem's constants.
+// What an assignment states about a problem's constants.
 ghost use Rattle.std.specs.Prelude.{◌≡◌, ◌<◌, ◌≤◌};
 ghost use Rattle.ql_atoms.specs.Atoms.{size_of};
-ghost use Rattle.ql_cnf.specs.Satisfaction.{value_of};
+ghost use Rattle.ql_cnf.specs.Satisfaction.{variable_value};
 ghost use Rattle.ql_blocks.specs.Patterns.{least};
 ghost use Rattle.ql_counter.specs.Assigned.{current_by, operation_by, related_by};
 
@@ -22,7 +22,7 @@ pub(crate) fn is_current(a: &[bool], s: Shape, i: u32) -> bool
     i < s.constants && value(a, number(Atom::Current(i), s))
 }
 
-/// The operation of a constant: the first that the assignment gives it, and else the count of operations.
+/// The operation of a constant: the first that it has in the assignment, or else the count of operations.
 pub(crate) fn operation(a: &[bool], s: Shape, i: u32) -> u32
     requires { i < s.constants }
     ensures { result ≡ operation_by a.now (size_of s) i }
@@ -35,7 +35,7 @@ pub(crate) fn operation(a: &[bool], s: Shape, i: u32) -> u32
     s.operations
 }
 
-/// The first constant of the current transaction, and else the count of constants.
+/// The first constant of the current transaction, or else the count of constants.
 pub(crate) fn first_current(a: &[bool], s: Shape) -> u32
     ensures { result ≡ least s.constants (current_by a.now (size_of s)) }
 {
@@ -50,7 +50,7 @@ pub(crate) fn first_current(a: &[bool], s: Shape) -> u32
 // The truth value of a variable, false past the assignment.
 fn value(a: &[bool], variable: u32) -> bool
     requires { 1 ≤ variable }
-    ensures { result ≡ value_of a.now variable }
+    ensures { result ≡ variable_value a.now variable }
 {
     let place = variable as usize - 1;
     place < a.len() && a[place]

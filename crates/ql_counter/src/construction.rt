@@ -57,7 +57,7 @@ fn of_operation(
     })
 }
 
-// For a transaction each constant is in a begun one.
+// For a transaction, each constant is in a begun one.
 fn of_transaction(
     alloc: Global,
     f: &Formula,

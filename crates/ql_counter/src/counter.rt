@@ -9,8 +9,8 @@ pub enum At {
     Run(RunId),
 }
 
-/// A countermodel of a goal: an execution in which what the level promises holds, where the contract is false at these
-/// places of its variables.
+/// A countermodel of a goal: an execution in which the level's guarantee holds, and the contract is false with these
+/// effects for its variables.
 #[derive(Drop)]
 pub struct Counter {
     pub execution: Execution,

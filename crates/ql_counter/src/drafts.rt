@@ -87,7 +87,7 @@ fn member(a: &[bool], s: Shape, declared: Option<DeclId>, c: u32) -> Member
     }
 }
 
-// The places of the effects that one sees.
+// The numbers of the effects that one sees.
 fn seen(alloc: Global, a: &[bool], s: Shape, slots: &[Slot], t: Slot) -> Result<IdSet, NoMemory>
     requires { length slots.now < 2 ^ 32 }
     ensures { IfOk result (λ ids. ids ≡ places_from 1 (λ u. sees (said a.now s) u t) slots.now) }
@@ -113,7 +113,7 @@ fn is_seen(a: &[bool], s: Shape, u: Slot, t: Slot) -> bool
     }
 }
 
-// Adds an id above all others, where it is wanted.
+// Adds an id above all others, if it is wanted.
 fn put_if(ids: &mut IdSet, wanted: bool, id: u32) -> Result<(), NoMemory>
     ensures { OnOk result (ids.new ≡ (if wanted then with_id ids.old id else ids.old)) }
 {

@@ -1,5 +1,5 @@
 // Countermodels: an execution for each assignment that satisfies a goal's ground problem.
-// The one contract: the execution fits the program, what the level promises holds in it, and the contract is false.
+// The one contract: the execution fits the program, the level's guarantee holds in it, and the contract is false.
 #![tactic(auto)]
 
 mod blocks;

@@ -4,7 +4,7 @@ use Rattle.std.specs.Prelude.{◌≡◌, ℕ, ◌+◌, ◌<◌, ◌≤◌, Bool,
 
 -- the bytes of a disk
 pub record DiskBytes : Type 0 where
-  -- what a read gives
+  -- what a read returns
   pub content : List ℕ
   -- the content at the last good sync
   pub base : List ℕ
@@ -20,7 +20,7 @@ pub record IsImage (disk : DiskBytes) (image : List ℕ) : Type 0 where
 abbrev pub overwritten : {X : Type 0} → List X → ℕ → List X → List X
 overwritten old at bytes = take at old ++ (bytes ++ drop (at + length bytes) old)
 
--- an offset is in a range of so many bytes
+-- the offset `k` is in the range of `size` bytes from the offset `at` on
 abbrev pub in_range : ℕ → ℕ → ℕ → Bool
 in_range at size k = nat_le at k && nat_lt k (at + size)
 
@@ -46,7 +46,7 @@ pub record IsClean (disk : DiskBytes) : Type 0 where
   pub base : disk.base ≡ disk.content
   pub clean : (k : ℕ) → disk.dirty k ≡ false
 
--- What a stop may leave while so many bytes from an offset on are written over these: any bytes in that range and past the
--- end, and the same elsewhere.
+-- What a stop may leave while a range of these bytes is overwritten: any bytes in that range and past the end, and the
+-- same elsewhere.
 abbrev pub MayLeave : List ℕ → ℕ → ℕ → List ℕ → Type 0
 MayLeave content at size image = IsImage (record { content = content; base = content; dirty = in_range at size }) image

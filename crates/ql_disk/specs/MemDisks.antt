@@ -1,4 +1,4 @@
--- A disk in memory, of which each write or sync from a chosen one on fails.
+-- A disk in memory, whose writes and syncs fail from a chosen one on.
 use Rattle.std.specs.Prelude.{◌≡◌, ℕ, ◌-◌, Bool, false, List, [], Option, Some, if◌then◌else◌}
 use Rattle.ql_disk.specs.declared.mem_disk.MemDisk.{MemDisk}
 use Rattle.ql_disk.specs.Bytes.{DiskBytes}
@@ -13,18 +13,18 @@ bytes_of disk = marked_bytes disk.bytes.items disk.base.items disk.dirty.items
 abbrev pub faults_of : MemDisk → ℕ
 faults_of disk = disk.faults
 
--- for how many bytes it has room
+-- how many bytes it has room for
 abbrev pub room_of : MemDisk → ℕ
 room_of disk = disk.room
 
 abbrev pub forecast_of : MemDisk → Option Forecast
 forecast_of disk = Some (record { calls = disk.cut - 1 - disk.calls; room = disk.room })
 
--- what a read gives
+-- what a read returns
 abbrev pub content_of : MemDisk → List ℕ
 content_of disk = disk.bytes.items
 
--- a disk that has met no call
+-- a disk before its first call
 pub record IsNewDisk (room cut : ℕ) (disk : MemDisk) : Type 0 where
   pub content : content_of disk ≡ []
   pub forecast : forecast_of disk ≡ Some (record { calls = cut - 1; room = room })

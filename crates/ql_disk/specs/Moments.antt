@@ -2,7 +2,8 @@
 use Rattle.std.specs.Prelude.{ℕ, ◌≤◌, ◌⊎◌, List}
 use Rattle.ql_disk.specs.Bytes.{DiskBytes, IsImage}
 
--- Time goes on in a call: what a stop since a moment may have left, it may have left before the call, or it may leave now.
+-- Time passes in a call: what a stop since a moment may have left, it may have left before the call, or it may leave
+-- now.
 pub record Elapses (before now : ℕ) (past since : ℕ → List ℕ → Type 0) (disk : DiskBytes) : Type 0 where
   pub later : before ≤ now
   pub nothing_else : (t : ℕ) (image : List ℕ) → t ≤ before → since t image → past t image ⊎ IsImage disk image

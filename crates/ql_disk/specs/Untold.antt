@@ -1,12 +1,12 @@
--- A disk that doesn't tell its bytes.
+-- A disk that doesn't report its bytes.
 use Rattle.std.specs.Prelude.{false, [], Option, None}
 use Rattle.ql_disk.specs.Bytes.{DiskBytes}
 use Rattle.ql_disk.specs.Forecasts.{Forecast}
 
--- what stands for them
+-- the bytes that stand for those of such a disk
 abbrev pub untold : DiskBytes
 untold = record { content = []; base = []; dirty = λ k. false }
 
--- nor what is known of its calls to come
+-- the forecast of such a disk: nothing is known about its future calls
 abbrev pub unknown : Option Forecast
 unknown = None

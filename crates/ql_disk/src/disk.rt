@@ -7,18 +7,18 @@ ghost use Rattle.ql_disk.specs.Moments.{Elapses};
 
 use ql_ports::Failed;
 
-/// A file as a journal sees it. It may be stopped at any moment, in the midst of a call too.
+/// A file as a journal sees it. It may be stopped at any moment, also in the middle of a call.
 ///
-/// A disk over memory tells its bytes. One over a real file doesn't, and the clauses then say nothing
-/// of what it holds: they have `tells` as a premise.
+/// A disk in memory reports its bytes. A disk over a real file doesn't, and the clauses then say nothing
+/// about what it holds: they have `tells` as a premise.
 pub trait Disk {
-    // Whether a disk of this type tells its bytes.
+    // Whether a disk of this type reports its bytes.
     ghost tells: { Type 0 };
 
-    // The bytes of the disk, as far as it tells them.
+    // The bytes of the disk, if it reports them.
     ghost held: { Self → DiskBytes };
 
-    // The moment, as a number that doesn't fall.
+    // The moment, as a number that never decreases.
     ghost moment: { Self → ℕ };
 
     // What a stop at some moment from that one on may have left, during a call or between two.
@@ -27,10 +27,10 @@ pub trait Disk {
     // How many faults the calls have met.
     ghost faults: { Self → ℕ };
 
-    // What is known of the calls to come, where the disk tells it.
+    // What is known about future calls, if the disk reports it.
     ghost forecast: { Self → Option Forecast };
 
-    /// How many bytes there are.
+    /// The size in bytes.
     fn size(&mut self) -> Result<u64, Failed>
         ensures size { tells → IfOk result (λ size. size ≡ length (held self.old).content) }
         ensures same { held self.new ≡ held self.old }
@@ -40,7 +40,7 @@ pub trait Disk {
         ensures foretold { OnSome (forecast self.old) (IsOk result) }
         ensures forecast { forecast self.new ≡ forecast self.old };
 
-    /// Fills `into` with the bytes from the offset `at` on. After `Failed` the contents of `into` are open.
+    /// Fills `into` with the bytes from the offset `at` on. After `Failed` the contents of `into` are unspecified.
     fn read(&mut self, at: u64, into: &mut [u8]) -> Result<(), Failed>
         requires { tells → at + length into.old ≤ length (held self.old).content }
         ensures length { length into.new ≡ length into.old }
@@ -52,8 +52,8 @@ pub trait Disk {
         ensures foretold { OnSome (forecast self.old) (IsOk result) }
         ensures forecast { forecast self.new ≡ forecast self.old };
 
-    /// Writes over what is there from the offset `at` on, and past the end. Until a sync, a stop may leave any bytes in
-    /// the range. After `Failed` any image may be there.
+    /// Overwrites the bytes from the offset `at` on, and extends the file if the range ends past it. Until a sync, a
+    /// stop may leave any bytes in the range. After `Failed` the content may be any image.
     fn write_at(&mut self, at: u64, bytes: &[u8]) -> Result<(), Failed>
         requires begins { tells → at ≤ length (held self.old).content }
         requires ends { at + length bytes.now < 2 ^ 40 }
@@ -65,7 +65,8 @@ pub trait Disk {
         ensures foretold { IfSome (forecast self.old) (λ f. is_ok result ≡ is_done f (at + length bytes.now)) }
         ensures forecast { IfSome (forecast self.old) (λ f. forecast self.new ≡ Some (next f)) };
 
-    /// After it, a stop leaves what a read gives, with anything past its end.
+    /// Makes the content durable: after `Ok`, a stop leaves what a read returns, with anything past its end. After
+    /// `Failed` the last good sync is still the one before.
     fn sync(&mut self) -> Result<(), Failed>
         ensures synced { tells → OnOk result (IsSynced (held self.old) (held self.new)) }
         ensures same { OnErr result (held self.new ≡ held self.old) }
@@ -75,12 +76,12 @@ pub trait Disk {
         ensures foretold { IfSome (forecast self.old) (λ f. is_ok result ≡ is_done f 0) }
         ensures forecast { IfSome (forecast self.old) (λ f. forecast self.new ≡ Some (next f)) };
 
-    // What a read gives is an image.
+    // What a read returns is an image.
     ghost reads_an_image: { (disk : Self) → tells → IsImage (held disk) (held disk).content };
 
-    // What a stop may leave now counts for each moment up to now.
+    // What a stop may leave now, it may have left since each moment up to now.
     ghost counts_now: { (disk : Self) (t : ℕ) (image : List ℕ) → tells → t ≤ moment disk → IsImage (held disk) image → left_since disk t image };
 
-    // Since this moment there is no other.
+    // Since the present moment a stop can have left nothing else.
     ghost only_now: { (disk : Self) (image : List ℕ) → tells → left_since disk (moment disk) image → IsImage (held disk) image };
 }

@@ -8,8 +8,9 @@ ghost use Rattle.ql_disk.specs.Moments.{LeavesOnly};
 use crate::disk::Disk;
 use ql_ports::Failed;
 
-/// Writes bytes and syncs. After `Ok` they are there for good; whenever it is stopped, bytes differ in their range and past
-/// the end alone. After `Failed` the last good sync is still the one before the call.
+/// Writes bytes from the offset `at` on and syncs. After `Ok` they are durable. A stop at any moment of the call
+/// changes bytes only in their range and past the end. After `Failed` the last good sync is still the one before the
+/// call.
 pub fn write_durably<D: Disk>(disk: &mut D, at: u64, bytes: &[u8]) -> Result<(), Failed>
     requires begins { D.tells → at ≤ length (D.held disk.old).content }
     requires ends { at + length bytes.now < 2 ^ 40 }

@@ -10,11 +10,11 @@ use std::fs::File;
 use std::io;
 use std::os::unix::fs::FileExt;
 
-/// A file of the system as a disk. It keeps a count of faults and tells no bytes.
+/// A file of the system as a disk. It keeps a count of faults and reports no bytes.
 ///
-/// What a journal's theorem says of its bytes rests on the system then: that a sync which was answered is on the device,
-/// that a write changes no byte outside its range, and that nobody else writes the file. After a failed sync the system
-/// may have dropped what was written, so the file is to be opened again.
+/// A journal's theorem about these bytes relies on the system: that data is on the device after a successful sync, that
+/// a write changes no byte outside its range, and that nobody else writes the file. After a failed sync the system may
+/// have dropped what was written, so the file has to be opened again.
 #[derive(Drop)]
 pub struct FileDisk {
     file: File,

@@ -8,7 +8,7 @@ use ql_ports::Failed;
 use std::alloc::Global;
 
 /// A disk in memory. Each write or sync from a chosen one on fails, and so does a write that would end
-/// past its room. It takes all its memory when it is made.
+/// past its room. It allocates all its memory when it is made.
 #[derive(Drop)]
 pub struct MemDisk {
     bytes: Vec<u8>,
@@ -31,7 +31,7 @@ impl MemDisk {
     ghost use Rattle.std.specs.Prelude.{◌≡◌, IfOk, [], if◌then◌else◌};
     ghost use Rattle.ql_disk.specs.MemDisks.{IsNewDisk, IsCrashed, content_of};
 
-    /// An empty disk with room for so many bytes. Its writes and syncs, counted from 1, fail from number
+    /// An empty disk with room for `room` bytes. Its writes and syncs, counted from 1, fail from number
     /// `cut` on.
     pub fn new(alloc: Global, room: usize, cut: u64) -> Result<MemDisk, NoMemory>
         ensures { IfOk result (IsNewDisk room cut) }
@@ -47,8 +47,8 @@ impl MemDisk {
         })
     }
 
-    /// The disk after a stop that leaves the content where `keep` is true, and else what the last good sync
-    /// left. Nothing is dirty, and no call fails any more but a write past the room.
+    /// The disk after a stop that leaves the content if `keep` is true, and otherwise the content at the last
+    /// good sync. Nothing is dirty, and no call fails any more except a write past the room.
     pub fn crash(self, keep: bool) -> MemDisk
         ensures { IsCrashed self keep result }
     {
@@ -77,7 +77,7 @@ impl MemDisk {
         }
     }
 
-    /// What a read gives.
+    /// The content, as a read returns it.
     pub fn bytes(&self) -> &[u8]
         ensures { result.now ≡ content_of self.now }
     {
@@ -141,7 +141,7 @@ impl Disk for MemDisk {
     ghost only_now = { λ disk image told left. left };
 }
 
-// Puts other bytes in the place of those that are there.
+// Replaces all bytes of a vector.
 fn copy_over(to: &mut Vec<u8>, from: &[u8])
     requires { length from.now ≤ vec_capacity to.old }
     ensures bytes { to.new.items ≡ from.now }
@@ -151,7 +151,7 @@ fn copy_over(to: &mut Vec<u8>, from: &[u8])
     to.extend_from_slice(from).unwrap();
 }
 
-// Writes over what is there from an offset on, and past the end.
+// Overwrites the bytes from an offset on, and appends those past the end.
 fn overwrite(bytes: &mut Vec<u8>, at: usize, new: &[u8])
     requires begins { at ≤ vec_len bytes.old }
     requires ends { at + length new.now ≤ vec_capacity bytes.old }

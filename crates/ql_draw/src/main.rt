@@ -1,5 +1,5 @@
-// The program `draw`: the command line, the system's files and standard output, given to its top call. It prints nothing
-// itself, and its exit status is the top call's.
+// The program `draw`: passes the command line, the system's files and standard output to its top call. It prints
+// nothing itself, and its exit status is the top call's.
 #![tactic(auto)]
 
 use ql_base::NoMemory;

@@ -1,4 +1,4 @@
--- What is written: for the words, what the shelf holds and counts, and a status.
+-- What is written: for the arguments, what the shelf holds and counts, and a status.
 use Rattle.std.specs.Prelude.{◌≡◌, ◌⊎◌, ℕ, ◌<◌, List, ◌++◌, length, Option, Some, None, IfSome, codes, decimal}
 use Rattle.ql_history.specs.declared.fault.DrawnRule.{DrawnRule}
 use Rattle.ql_history.specs.declared.fault.DrawnRule.TheVariants.{Unexpected, NotForward, TooMany, Range}
@@ -41,13 +41,13 @@ IsWhyText (why.Schedule line rule) text = text ≡ fault_line (codes "schedule")
 IsWhyText why.Strange text = text ≡ codes "bad schedule: it is another run's\n"
 IsWhyText why.NoMemory text = ⊥
 
--- what is said of files that were read
+-- what is written once the files are read
 abbrev pub IsAnswer : Status → List ℕ → Type 0
 IsAnswer Done text = IsDrawn text
 IsAnswer Bad text = (w : Why) × IsWhyText w text
 IsAnswer _ text = ⊥
 
--- a file of a request has this name
+-- this is the name of a file of the request
 abbrev pub IsOf : Asked → List ℕ → Type 0
 IsOf a name = (name ≡ a.file) ⊎ (a.schedule ≡ Some name)
 
@@ -63,7 +63,7 @@ abbrev pub IsOver : (List ℕ → Option (List ℕ)) → Asked → List ℕ → 
 IsOver held a text =
     (name : List ℕ) × (limit : ℕ) × limit_of a name limit × IfSome (held name) (λ bytes. limit < length bytes) × (text ≡ codes "too large " ++ name ++ codes "\n")
 
--- what is said of a request
+-- what is written for a request
 abbrev pub Tells : (List ℕ → Option (List ℕ)) → (List ℕ → ℕ) → (List ℕ → ℕ) → Asked → Status → List ℕ → Type 0
 Tells held before after a Done text = IsDrawn text
 Tells held before after a No text = ⊥
@@ -73,8 +73,8 @@ Tells held before after a TooLarge text = IsOver held a text
 Tells held before after a WriteFault text = ⊥
 Tells held before after a Usage text = ⊥
 
--- The text that is to be written with a status. `held` is what the shelf holds under each name, where it reports it, and the
--- counts are those of its faults at each name, before the call and after it.
+-- The text to be written with a status. `held` is what the shelf holds under each name, where it reports it, and the
+-- counts are those of its faults at each name, before and after the call.
 abbrev pub SaysOf : (List ℕ → Option (List ℕ)) → (List ℕ → ℕ) → (List ℕ → ℕ) → Option Asked → Status → List ℕ → Type 0
 SaysOf held before after None status text = (status ≡ Usage) × (text ≡ HELP.now)
 SaysOf held before after (Some a) status text = Tells held before after a status text

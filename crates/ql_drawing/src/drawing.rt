@@ -10,8 +10,8 @@ use ql_reply::bad_line;
 use ql_svg::svg_text;
 use std::alloc::Global;
 
-/// What is to be drawn: the bytes of a run's text and of its schedule, the words of a breach, and whether all that is
-/// seen has an arrow.
+/// What to draw: the bytes of a run's text and of its schedule, the description of a breach, and whether there are
+/// arrows from all effects that are seen.
 #[derive(Clone, Copy)]
 pub struct Drawing<'a> {
     pub run: &'a [u8],
@@ -23,10 +23,10 @@ pub struct Drawing<'a> {
 /// Why something can't be drawn.
 #[derive(Clone, Copy)]
 pub enum Why {
-    /// The first line at fault of the run's text, or of the schedule's.
+    /// The first faulty line of the run's text, or of the schedule.
     Run { line: u64, rule: DrawnRule },
     Schedule { line: u64, rule: DrawnRule },
-    /// The replies aren't those to the schedule's events.
+    /// The replies aren't those to the events of the schedule.
     Strange,
     NoMemory,
 }
@@ -75,8 +75,8 @@ fn drawn(
     svg_text(alloc, SHEET.as_bytes(), &picture)
 }
 
-// The words of a breach: those that are given, after the place that a file of `holds` says itself; else those that
-// stand in the run's text.
+// The description of a breach: the given one, after the effect that a `holds` file names itself; else that in the
+// run's text.
 fn breach_words(alloc: Global, run: &Run, breach: &[u8]) -> Result<Vec<u8>, NoMemory> {
     if breach.is_empty() {
         return Ok(Vec::from_slice(alloc, &run.why)?);
@@ -106,7 +106,7 @@ fn plan_of(alloc: Global, bytes: &[u8]) -> Result<Plan, Why> {
     }
 }
 
-/// The line that says why something can't be drawn; none where memory has run out.
+/// The line that says why something can't be drawn. Fails where memory has run out.
 pub(crate) fn why_text(alloc: Global, why: Why) -> Result<Vec<u8>, NoMemory>
     ensures { IfOk result (λ text. IsWhyText why text.items) }
 {

@@ -1,4 +1,4 @@
-/// What is printed where the words ask for no picture.
+/// What is printed where the arguments ask for no picture.
 pub const HELP: &str = "usage: ./quelea draw [--all] FILE [SCHEDULE] [--breach WORD..]
 
 Writes a picture in SVG on standard output. FILE is what `run` printed, an

@@ -1,6 +1,6 @@
-// The top call of the program `draw`: from its words and the files that they name to one picture in SVG.
-// The one contract: for all words, all files and whatever the outside does, one text is written that the outcome allows;
-// a picture is the text of a value in which each effect is drawn once, in its column and its row.
+// The top call of the program `draw`: from its arguments and the files that they name to one picture in SVG.
+// The one contract: for all arguments, all files and whatever the outside does, one text is written that the outcome
+// allows; a picture is the text of a value in which each effect is drawn once, in its column and its row.
 #![tactic(auto)]
 
 mod drawing;

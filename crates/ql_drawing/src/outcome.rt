@@ -12,13 +12,13 @@ use ql_ports::{Shelf, read_whole};
 use ql_reply::{Status, unread};
 use std::alloc::Global;
 
-// The greatest lengths in bytes of a run's text and of a schedule.
+// The greatest lengths of a run's text and of a schedule, in bytes.
 const RUN_BYTES: usize = 67_108_864;
 
 const SCHEDULE_BYTES: usize = 1_048_576;
 
-/// The status and the text that answer the words. The named files are read once, to their ends, in the order of the
-/// words.
+/// The status and the text for these arguments. The named files are each read once, to the end, in the order of the
+/// arguments.
 pub fn outcome<S: Shelf>(
     alloc: Global,
     words: &Vec<String>,
@@ -49,7 +49,7 @@ fn of_request<S: Shelf>(
     }
 }
 
-// The same where the run's text was read.
+// The outcome once the run's text is read.
 fn of_run<S: Shelf>(
     alloc: Global,
     request: Request,
@@ -66,7 +66,7 @@ fn of_run<S: Shelf>(
     }
 }
 
-// The same with a schedule of this name.
+// The outcome with a schedule of this name.
 fn with_schedule<S: Shelf>(
     alloc: Global,
     request: Request,
@@ -85,7 +85,7 @@ fn with_schedule<S: Shelf>(
     }
 }
 
-// The answer where the files were read.
+// The outcome once the files are read.
 fn answer(
     alloc: Global,
     request: Request,
@@ -107,7 +107,7 @@ fn answer(
     }
 }
 
-// Words with a space after each.
+// The arguments, with a space after each.
 fn joined(alloc: Global, words: &[String]) -> Result<Vec<u8>, NoMemory> {
     let mut text = Vec::new(alloc);
     for word in words {

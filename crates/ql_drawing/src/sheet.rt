@@ -1,4 +1,4 @@
-/// The style sheet of pictures, their arrow heads and their ground.
+/// The style sheet of pictures, their arrow heads and their background.
 pub const SHEET: &str = r#"<style>
 text { font-family: "DejaVu Sans Mono", Menlo, Consolas, monospace; font-size: 11px; fill: #1b1f24; text-anchor: middle; }
 .ground { fill: #ffffff; }

@@ -6,18 +6,18 @@ ghost use Rattle.ql_reply.specs.Arguments.{word_texts};
 
 use ql_reply::is_file_name;
 
-/// What the words ask to be drawn.
+/// What the arguments ask to be drawn.
 #[derive(Clone, Copy)]
 pub struct Request<'a> {
-    /// Whether all that is seen has an arrow.
+    /// Whether there are arrows from all effects that are seen.
     pub all: bool,
     pub file: &'a str,
     pub schedule: Option<&'a str>,
-    /// The words of a breach.
+    /// The description of a breach.
     pub breach: &'a [String],
 }
 
-/// What the words ask for, where they ask for a picture.
+/// The request that the arguments make, if they ask for a picture.
 pub fn parse_words(words: &Vec<String>) -> Option<Request>
     ensures { option_map asked_of result ≡ asked (word_texts words.now) }
 {
@@ -48,7 +48,7 @@ fn parse_files(all: bool, words: &[String]) -> Option<Request>
     }
 }
 
-// What stands after the name of the first file.
+// The request from the arguments after the name of the first file.
 fn parse_rest<'a>(all: bool, file: &'a str, words: &'a [String]) -> Option<Request<'a>>
     ensures { option_map asked_of result ≡ after_file all file.now (map string_bytes words.now) }
 {
@@ -64,7 +64,7 @@ fn parse_rest<'a>(all: bool, file: &'a str, words: &'a [String]) -> Option<Reque
     }
 }
 
-// A request with the words of a breach, where these are some.
+// A request with the description of a breach; none where that is none.
 fn request_of<'a>(
     all: bool,
     file: &'a str,
@@ -84,7 +84,7 @@ fn request_of<'a>(
     }
 }
 
-// The words after `--breach`, or none.
+// The arguments after `--breach`, empty where there are no arguments; none where another one comes first.
 fn parse_breach(words: &[String]) -> Option<&[String]>
     ensures { option_map (λ rest. map string_bytes rest.now) result ≡ breach_of (map string_bytes words.now) }
 {

@@ -23,8 +23,8 @@ use Rattle.ql_exec.specs.Execution.{effect_of, fault_of, stamp_of}
 use Rattle.ql_effect_lines.specs.declared.effect_line.EffectLine.{EffectLine}
 use Rattle.ql_effect_lines.specs.declared.rules.ReportRule.{ReportRule}
 use Rattle.ql_effect_lines.specs.declared.rules.ReportRule.TheVariants.{Unknown, Mixed, Stamp, TooMany}
-use Rattle.ql_effect_lines.specs.declared.told.Told.{Told}
-use Rattle.ql_effect_lines.specs.Effects.{AreOfProgram, IsSound, after_effect, after_known, draft_of, known_of, is_mixed, member_of, most_effects, number_of, put_in, rule_of, with_effect, with_object}
+use Rattle.ql_effect_lines.specs.declared.effects_read.EffectsRead.{EffectsRead}
+use Rattle.ql_effect_lines.specs.Effects.{AreOfProgram, IsSound, after_effect, after_known, draft_of_line, known_of, is_mixed, member_of_line, most_effects, object_number, with_draft, exec_rule, with_read_effect, with_object_name}
 
 -- what is true of all is true of the one that is found
 pub found : {X : Type 0} (p : X → Bool) (P : X → Type 0) (xs : List X) (x : X) → find p xs ≡ Some x → All P xs → P x
@@ -36,28 +36,28 @@ found {X} p P (y ∷ ys) x e all =
       | false ↦ λ h. found p P ys x h (λ k d lt. all (suc k) d (omega (arith, lt)))
     ] e
 
-ok_of : Told → Result Told ReportRule → Told
-ok_of t (Ok told) = told
+ok_of : EffectsRead → Result EffectsRead ReportRule → EffectsRead
+ok_of t (Ok read) = read
 ok_of t (Err fault) = t
 
-abbrev ok_told : Told → Result Told ReportRule
-ok_told t = Ok t
+abbrev ok_read : EffectsRead → Result EffectsRead ReportRule
+ok_read t = Ok t
 
-same_told : (a b : Told) → ok_told a ≡ ok_told b → a ≡ b
+same_read : (a b : EffectsRead) → ok_read a ≡ ok_read b → a ≡ b
 unfolding ok_of
-same_told a b e = ap (ok_of a) e
+same_read a b e = ap (ok_of a) e
 
 within : {X : Type 0} (p : X → Bool) (xs : List X) (i : ℕ) → position p xs ≡ Some i → i < length xs
 within p [] i e = absurd cc
 within p (x ∷ xs) i e = (position-Some p (x ∷ xs) i x e).0
 
 -- what an effect without a fault is
-record IsLawful (p : Program) (told : Told) (more : Told) : Type 0 where
+record IsLawful (p : Program) (read : EffectsRead) (more : EffectsRead) : Type 0 where
   draft : Draft
   known : draft.op.0 < length (all_ops p.types)
-  room : length told.effects < most_effects
-  effects : more.effects ≡ told.effects ++ effect_of told.effects draft ∷ []
-  objects : length more.objects ≤ length told.objects + 1
+  room : length read.effects < most_effects
+  effects : more.effects ≡ read.effects ++ effect_of read.effects draft ∷ []
+  objects : length more.objects ≤ length read.objects + 1
 
 one_name_more : (names : List (List ℕ)) (w : List ℕ) → length (with_name names w) ≤ length names + 1
 one_name_more names w =
@@ -68,60 +68,60 @@ one_name_more names w =
 abbrev known_as : ℕ → Member → OpId × Member
 known_as o member = (record { 0 = o }, member)
 
-module _ (p : Program) (told more : Told) (e : EffectLine) where
+module _ (p : Program) (read more : EffectsRead) (e : EffectLine) where
   module _ (o : ℕ) (here : op_place p.types e.op ≡ Some o) (member : Member) where
     object : ObjId
-    object = record { 0 = number_of told.objects e.object }
+    object = record { 0 = object_number read.objects e.object }
 
     drafted : Draft
-    drafted = draft_of e (record { 0 = number_of told.objects e.object }) (record { 0 = o }) member
+    drafted = draft_of_line e (record { 0 = object_number read.objects e.object }) (record { 0 = o }) member
 
-    pushed : (full : Bool) → nat_le most_effects (length told.effects) ≡ full → (if full then Err TooMany else ok_told (with_effect (with_object told e.object) drafted)) ≡ Ok more → IsLawful p told more
+    pushed : (full : Bool) → nat_le most_effects (length read.effects) ≡ full → (if full then Err TooMany else ok_read (with_read_effect (with_object_name read e.object) drafted)) ≡ Ok more → IsLawful p read more
     unfolding drafted
     pushed true t h = absurd cc
     pushed false t h = record {
       draft = drafted;
       known = within (λ op. bytes_eq e.op op.name.word) (all_ops p.types) o here;
       room = grind (arith, nat_tests, t);
-      effects = ap (λ (m : Told). m.effects) (sym (same_told (with_effect (with_object told e.object) drafted) more h));
-      objects = let names = ap (λ (m : Told). length m.objects) (same_told (with_effect (with_object told e.object) drafted) more h) in omega (arith, names, one_name_more told.objects e.object);
+      effects = ap (λ (m : EffectsRead). m.effects) (sym (same_read (with_read_effect (with_object_name read e.object) drafted) more h));
+      objects = let names = ap (λ (m : EffectsRead). length m.objects) (same_read (with_read_effect (with_object_name read e.object) drafted) more h) in omega (arith, names, one_name_more read.objects e.object);
     }
 
-    stamped : (other : Bool) → (if other then Err Stamp else (if nat_le most_effects (length told.effects) then Err TooMany else ok_told (with_effect (with_object told e.object) drafted))) ≡ Ok more → IsLawful p told more
+    stamped : (other : Bool) → (if other then Err Stamp else (if nat_le most_effects (length read.effects) then Err TooMany else ok_read (with_read_effect (with_object_name read e.object) drafted))) ≡ Ok more → IsLawful p read more
     stamped true h = absurd cc
-    stamped false h = pushed (nat_le most_effects (length told.effects)) refl h
+    stamped false h = pushed (nat_le most_effects (length read.effects)) refl h
 
-    faultless : (r : Option ExecFault) → option_map_or (λ fault. Err (rule_of fault)) r (if not (nat_eq (stamp_of told.effects drafted.session drafted.seen) e.setting.stamp) then Err Stamp
-        else (if nat_le most_effects (length told.effects) then Err TooMany else ok_told (with_effect (with_object told e.object) drafted))) ≡ Ok more → IsLawful p told more
+    faultless : (r : Option ExecFault) → option_map_or (λ fault. Err (exec_rule fault)) r (if not (nat_eq (stamp_of read.effects drafted.session drafted.seen) e.setting.stamp) then Err Stamp
+        else (if nat_le most_effects (length read.effects) then Err TooMany else ok_read (with_read_effect (with_object_name read e.object) drafted))) ≡ Ok more → IsLawful p read more
     faultless (Some f) h = absurd cc
-    faultless None h = stamped (not (nat_eq (stamp_of told.effects drafted.session drafted.seen) e.setting.stamp)) h
+    faultless None h = stamped (not (nat_eq (stamp_of read.effects drafted.session drafted.seen) e.setting.stamp)) h
 
-    unmixed : (mixed : Bool) → (if mixed then Err Mixed else put_in (with_object told e.object) drafted e.setting.stamp) ≡ Ok more → IsLawful p told more
+    unmixed : (mixed : Bool) → (if mixed then Err Mixed else with_draft (with_object_name read e.object) drafted e.setting.stamp) ≡ Ok more → IsLawful p read more
     unmixed true h = absurd cc
-    unmixed false h = faultless (fault_of told.effects drafted) h
+    unmixed false h = faultless (fault_of read.effects drafted) h
 
   with_known : (o : ℕ) → op_place p.types e.op ≡ Some o → (r : Option Member)
-      → option_map_or (λ known. after_known p told e known.0 known.1) (option_map (λ member. known_as o member) r) (Err Unknown) ≡ Ok more → IsLawful p told more
+      → option_map_or (λ known. after_known p read e known.0 known.1) (option_map (λ member. known_as o member) r) (Err Unknown) ≡ Ok more → IsLawful p read more
   unfolding drafted
   with_known o here None h = absurd cc
-  with_known o here (Some member) h = unmixed o here member (is_mixed p told.effects (record { 0 = number_of told.objects e.object }) (record { 0 = o })) h
+  with_known o here (Some member) h = unmixed o here member (is_mixed p read.effects (record { 0 = object_number read.objects e.object }) (record { 0 = o })) h
 
   with_place : (r : Option ℕ) → op_place p.types e.op ≡ r
-      → option_map_or (λ known. after_known p told e known.0 known.1) (option_and_then (λ o. option_map (λ member. known_as o member) (member_of p e.setting.txn)) r) (Err Unknown) ≡ Ok more → IsLawful p told more
+      → option_map_or (λ known. after_known p read e known.0 known.1) (option_and_then (λ o. option_map (λ member. known_as o member) (member_of_line p e.setting.txn)) r) (Err Unknown) ≡ Ok more → IsLawful p read more
   with_place None here h = absurd cc
-  with_place (Some o) here h = with_known o here (member_of p e.setting.txn) h
+  with_place (Some o) here h = with_known o here (member_of_line p e.setting.txn) h
 
-  is_lawful : after_effect p told e ≡ Ok more → IsLawful p told more
+  is_lawful : after_effect p read e ≡ Ok more → IsLawful p read more
   is_lawful h = with_place (op_place p.types e.op) refl h
 
-  -- what is told stays sound
-  pub stays_sound : IsSound p told → after_effect p told e ≡ Ok more → IsSound p more
+  -- what is read stays sound
+  pub stays_sound : IsSound p read → after_effect p read e ≡ Ok more → IsSound p more
   stays_sound sound h =
       let is = is_lawful h in
-      let effect = effect_of told.effects is.draft in
-      let count = ap length is.effects ∙ length-append told.effects (effect ∷ []) in (
+      let effect = effect_of read.effects is.draft in
+      let count = ap length is.effects ∙ length-append read.effects (effect ∷ []) in (
         omega (arith, count, is.room),
-        subst (AreOfProgram p) (sym is.effects) (All-append (λ (f : Effect). f.op.0 < length (all_ops p.types)) told.effects (effect ∷ []) sound.1 (one_of effect is.known)),
+        subst (AreOfProgram p) (sym is.effects) (All-append (λ (f : Effect). f.op.0 < length (all_ops p.types)) read.effects (effect ∷ []) sound.1 (one_of effect is.known)),
         omega (arith, count, is.objects, sound.2),
       )
     where

@@ -59,7 +59,7 @@ pub record EmitAt (payload : Payload) (text rest : List ℕ) : Type 0 where
   pub word : FirstField text (codes "emit") behind_word
   pub carried : PayloadAt payload behind_word rest
 
--- the text is the line of an effect with this number
+-- the text is the line of this effect, with this number
 pub record IsEffectLine (text : List ℕ) (id : ℕ) (e : EffectLine) : Type 0 where
   pub object : IsName e.object
   pub op : IsName e.op

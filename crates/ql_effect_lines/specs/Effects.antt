@@ -1,4 +1,4 @@
--- What one more effect's line makes of what the lines before it say, or the lowest rule that it breaks.
+-- What the lines say with one more effect's line, or the lowest rule that it breaks.
 use Rattle.std.specs.Prelude.{◌≡◌, ℕ, ◌<◌, ◌≤◌, Bool, false, not, nat_eq, nat_le, if◌then◌else◌, List, [], ◌∷◌, ◌++◌, All, length, Option, None, Some, option_map, unwrap_or, slice_get, Result, Ok, Err}
 use Rattle.std.specs.List.{find}
 use Rattle.std.specs.Option.{option_and_then, option_map_or}
@@ -19,9 +19,9 @@ use Rattle.ql_effect_lines.specs.declared.effect_line.EffectLine.{EffectLine}
 use Rattle.ql_effect_lines.specs.declared.rules.ReportRule.{ReportRule}
 use Rattle.ql_effect_lines.specs.declared.rules.ReportRule.TheVariants.{Unknown, Mixed, Stamp, NotForward, OtherObject, SplitTxn, TooMany}
 use Rattle.ql_effect_lines.specs.declared.setting.Begun.{Begun}
-use Rattle.ql_effect_lines.specs.declared.told.Told.{Told}
+use Rattle.ql_effect_lines.specs.declared.effects_read.EffectsRead.{EffectsRead}
 
--- the most effects of a file
+-- the greatest number of effects of a file
 abbrev pub most_effects : ℕ
 most_effects = 4000
 
@@ -30,18 +30,18 @@ abbrev pub AreOfProgram : Program → List Effect → Type 0
 AreOfProgram p x = All (λ e. e.op.0 < length (all_ops p.types)) x
 
 -- the effects are few, and of the program's operations; each names one object at most
-abbrev pub IsSound : Program → Told → Type 0
-IsSound p told = (length told.effects ≤ most_effects) × AreOfProgram p told.effects × (length told.objects ≤ length told.effects)
+abbrev pub IsSound : Program → EffectsRead → Type 0
+IsSound p read = (length read.effects ≤ most_effects) × AreOfProgram p read.effects × (length read.objects ≤ length read.effects)
 
 -- ---- names
 
 -- objects are numbered by their first occurrence
-abbrev pub number_of : List (List ℕ) → List ℕ → ℕ
-number_of names w = unwrap_or (place (with_name names w) w) 0
+abbrev pub object_number : List (List ℕ) → List ℕ → ℕ
+object_number names w = unwrap_or (place (with_name names w) w) 0
 
 -- the number of an operation's type
-abbrev pub kind_of : Program → OpId → ℕ
-kind_of p op = unwrap_or (slice_get (op_kinds p.types) op.0) 0
+abbrev pub type_number_of : Program → OpId → ℕ
+type_number_of p op = unwrap_or (slice_get (op_kinds p.types) op.0) 0
 
 -- the first effect on an object
 abbrev pub first_on : List Effect → ObjId → Option Effect
@@ -49,21 +49,21 @@ first_on effects object = find (λ e. nat_eq e.object.0 object.0) effects
 
 -- an operation is of another type than that of the object's first effect
 abbrev pub is_mixed : Program → List Effect → ObjId → OpId → Bool
-is_mixed p effects object op = option_map_or (λ first. not (nat_eq (kind_of p first.op) (kind_of p op))) (first_on effects object) false
+is_mixed p effects object op = option_map_or (λ first. not (nat_eq (type_number_of p first.op) (type_number_of p op))) (first_on effects object) false
 
--- the membership in a begun transaction, where the program declares its name
-abbrev pub member_of : Program → Option Begun → Option Member
-member_of p None = Some Alone
-member_of p (Some t) = option_map (λ d. Inside (record { 0 = t.run }) (record { 0 = d })) (txn_place p.txns t.name)
+-- the membership in a begun transaction, if the program declares its name
+abbrev pub member_of_line : Program → Option Begun → Option Member
+member_of_line p None = Some Alone
+member_of_line p (Some t) = option_map (λ d. Inside (record { 0 = t.run }) (record { 0 = d })) (txn_place p.txns t.name)
 
--- the operation and the membership of an effect, where the program has them
+-- the operation and the membership of an effect, if the program has them
 abbrev pub known_of : Program → EffectLine → Option (OpId × Member)
-known_of p e = option_and_then (λ o. option_map (λ member. (record { 0 = o }, member)) (member_of p e.setting.txn)) (op_place p.types e.op)
+known_of p e = option_and_then (λ o. option_map (λ member. (record { 0 = o }, member)) (member_of_line p e.setting.txn)) (op_place p.types e.op)
 
 -- ---- one more effect
 
-abbrev pub draft_of : EffectLine → ObjId → OpId → Member → Draft
-draft_of e object op member = record {
+abbrev pub draft_of_line : EffectLine → ObjId → OpId → Member → Draft
+draft_of_line e object op member = record {
   object = object;
   op = op;
   args = e.args;
@@ -74,33 +74,33 @@ draft_of e object op member = record {
   seen = e.setting.seen;
 }
 
--- the rule that a draft breaks which is no next effect; none is at fault because memory has run out
-abbrev pub rule_of : ExecFault → ReportRule
-rule_of (exec.NotForward at) = NotForward
-rule_of (exec.OtherObject at) = OtherObject
-rule_of (exec.SplitTxn at) = SplitTxn
-rule_of exec.NoMemory = TooMany
+-- the rule broken by a draft that can't be the next effect; running out of memory breaks none
+abbrev pub exec_rule : ExecFault → ReportRule
+exec_rule (exec.NotForward at) = NotForward
+exec_rule (exec.OtherObject at) = OtherObject
+exec_rule (exec.SplitTxn at) = SplitTxn
+exec_rule exec.NoMemory = TooMany
 
-abbrev pub with_effect : Told → Draft → Told
-with_effect told draft = record { objects = told.objects; effects = told.effects ++ effect_of told.effects draft ∷ [] }
+abbrev pub with_read_effect : EffectsRead → Draft → EffectsRead
+with_read_effect read draft = record { objects = read.objects; effects = read.effects ++ effect_of read.effects draft ∷ [] }
 
-abbrev pub with_object : Told → List ℕ → Told
-with_object told w = record { objects = with_name told.objects w; effects = told.effects }
+abbrev pub with_object_name : EffectsRead → List ℕ → EffectsRead
+with_object_name read w = record { objects = with_name read.objects w; effects = read.effects }
 
 -- an effect whose line says this stamp
-abbrev pub put_in : Told → Draft → ℕ → Result Told ReportRule
-put_in told draft stamp =
-    option_map_or (λ fault. Err (rule_of fault)) (fault_of told.effects draft)
-    (if not (nat_eq (stamp_of told.effects draft.session draft.seen) stamp) then Err Stamp
-    else (if nat_le most_effects (length told.effects) then Err TooMany
-    else Ok (with_effect told draft)))
+abbrev pub with_draft : EffectsRead → Draft → ℕ → Result EffectsRead ReportRule
+with_draft read draft stamp =
+    option_map_or (λ fault. Err (exec_rule fault)) (fault_of read.effects draft)
+    (if not (nat_eq (stamp_of read.effects draft.session draft.seen) stamp) then Err Stamp
+    else (if nat_le most_effects (length read.effects) then Err TooMany
+    else Ok (with_read_effect read draft)))
 
 -- an effect of an operation and a membership that the program has
-abbrev pub after_known : Program → Told → EffectLine → OpId → Member → Result Told ReportRule
-after_known p told e op member =
-    if is_mixed p told.effects (record { 0 = number_of told.objects e.object }) op then Err Mixed
-    else put_in (with_object told e.object) (draft_of e (record { 0 = number_of told.objects e.object }) op member) e.setting.stamp
+abbrev pub after_known : Program → EffectsRead → EffectLine → OpId → Member → Result EffectsRead ReportRule
+after_known p read e op member =
+    if is_mixed p read.effects (record { 0 = object_number read.objects e.object }) op then Err Mixed
+    else with_draft (with_object_name read e.object) (draft_of_line e (record { 0 = object_number read.objects e.object }) op member) e.setting.stamp
 
--- what is said with the line of one more effect, or the lowest rule that it breaks
-abbrev pub after_effect : Program → Told → EffectLine → Result Told ReportRule
-after_effect p told e = option_map_or (λ known. after_known p told e known.0 known.1) (known_of p e) (Err Unknown)
+-- what the lines say with the line of one more effect, or the lowest rule that it breaks
+abbrev pub after_effect : Program → EffectsRead → EffectLine → Result EffectsRead ReportRule
+after_effect p read e = option_map_or (λ known. after_known p read e known.0 known.1) (known_of p e) (Err Unknown)

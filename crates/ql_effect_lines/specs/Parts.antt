@@ -1,5 +1,5 @@
--- The parts of an effect's line: fields, values, and values in round brackets. `XAt x text rest` says that `x` stands at
--- the start of `text`, and that `rest` follows it.
+-- The parts of an effect's line: fields, values, and values in round brackets. `XAt x text rest` says that `text`
+-- starts with `x`, and that `rest` follows it.
 use Rattle.std.specs.Prelude.{◌≡◌, ℕ, Bool, true, Ok, List, [], ◌∷◌, ◌++◌, replicate, codes}
 use Rattle.ql_lines.specs.Fields.{Fields, FirstField, is_space}
 use Rattle.ql_value.specs.declared.value.Value.{Value}
@@ -14,7 +14,7 @@ FieldsAt (f ∷ fs) text rest = (behind : List ℕ) × FirstField text f behind 
 abbrev pub ValueAt : Value → List ℕ → List ℕ → Type 0
 ValueAt v text rest = value_at text ≡ Ok (v, rest)
 
--- values, and the bracket after them: a comma and any number of spaces stand between two
+-- values, and the bracket after them: there are a comma and any number of spaces between two
 abbrev pub ItemsAt : List Value → List ℕ → List ℕ → Type 0
 ItemsAt [] text rest = ⊥
 ItemsAt (v ∷ vs) text rest = (behind : List ℕ) × ValueAt v text behind × ReadsMore ValueAt vs behind (41 ∷ rest)
@@ -24,7 +24,7 @@ abbrev pub ValuesAt : List Value → List ℕ → List ℕ → Type 0
 ValuesAt [] text rest = text ≡ codes "()" ++ rest
 ValuesAt (v ∷ vs) text rest = (inner : List ℕ) × (text ≡ 40 ∷ inner) × ItemsAt (v ∷ vs) inner rest
 
--- the text ends here, or a space stands here
+-- the text ends here, or a space follows
 abbrev pub ends_field : List ℕ → Bool
 ends_field [] = true
 ends_field (b ∷ rest) = is_space b

@@ -25,7 +25,7 @@ pub struct EffectLine {
     pub setting: Setting,
 }
 
-/// The effect that a line says, whose number is to be `id`.
+/// The effect that a line says, whose number has to be `id`; `None` if the line isn't one of such an effect.
 pub fn read_line(alloc: Global, text: &[u8], id: u32) -> Result<Option<EffectLine>, NoMemory>
     ensures { IfOk result (λ read. MatchOption read ((e : EffectLine) → IsEffectLine text.now id e → ⊥) (λ e. IsEffectLine text.now id e)) }
 {
@@ -62,7 +62,7 @@ fn names(text: &[u8], id: u32) -> Option<(&[u8], &[u8], &[u8])>
     Some((object, op, behind))
 }
 
-// What stands after the word `effect` and this id.
+// What follows the word `effect` and this id.
 fn after_id(text: &[u8], id: u32) -> Option<&[u8]>
     ensures { MatchOption result ((rest : Fields) → fields_of text.now ≡ codes "effect" ∷ decimal id ∷ rest → ⊥)
         (λ behind. FieldsAt (codes "effect" ∷ decimal id ∷ []) text.now behind.now) }
@@ -80,10 +80,10 @@ fn call(alloc: Global, text: &[u8]) -> Result<Option<(Values, Value, &[u8])>, No
     let Some((args, rest)) = values_field(alloc, text)? else {
         return Ok(None);
     };
-    let Some(told) = after_word(rest, b"=") else {
+    let Some(after_mark) = after_word(rest, b"=") else {
         return Ok(None);
     };
-    match value_field(alloc, told)? {
+    match value_field(alloc, after_mark)? {
         Some((answer, behind)) => Ok(Some((args, answer, behind))),
         None => Ok(None),
     }
@@ -95,12 +95,12 @@ fn emit(alloc: Global, text: &[u8]) -> Result<Option<(Payload, &[u8])>, NoMemory
         (λ x. EmitAt x.0 text.now x.1.now)) }
 {
     match after_word(text, b"emit") {
-        Some(told) => payload(alloc, told),
+        Some(after_emit) => payload(alloc, after_emit),
         None => Ok(None),
     }
 }
 
-// A payload, which is `-` where there is none.
+// A payload, which is `-` if there is none.
 fn payload(alloc: Global, text: &[u8]) -> Result<Option<(Payload, &[u8])>, NoMemory>
     ensures { IfOk result (λ read. MatchOption read ((payload : Payload) (rest : List ℕ) → PayloadAt payload text.now rest → ⊥)
         (λ x. PayloadAt x.0 text.now x.1.now)) }

@@ -9,7 +9,7 @@ use ql_base::NoMemory;
 use ql_value::{Value, ValueFault, Values, parse_value};
 use std::alloc::Global;
 
-/// Values in round brackets as a field, and what stands after it.
+/// Values in round brackets as a field, and what follows it.
 pub(crate) fn values_field(alloc: Global, text: &[u8]) -> Result<Option<(Values, &[u8])>, NoMemory>
     ensures { IfOk result (λ read. MatchOption read ((vs : List Value) (rest : List ℕ) → FieldAt ValuesAt vs text.now rest → ⊥)
         (λ x. FieldAt ValuesAt x.0 text.now x.1.now)) }
@@ -24,7 +24,7 @@ pub(crate) fn values_field(alloc: Global, text: &[u8]) -> Result<Option<(Values,
     }
 }
 
-/// A value as a field, and what stands after it.
+/// A value as a field, and what follows it.
 pub(crate) fn value_field(alloc: Global, text: &[u8]) -> Result<Option<(Value, &[u8])>, NoMemory>
     ensures { IfOk result (λ read. MatchOption read ((v : Value) (rest : List ℕ) → FieldAt ValueAt v text.now rest → ⊥)
         (λ x. FieldAt ValueAt x.0 text.now x.1.now)) }
@@ -85,7 +85,7 @@ fn value(alloc: Global, text: &[u8]) -> Result<Option<(Value, &[u8])>, NoMemory>
     }
 }
 
-/// What stands after this byte, where a text begins with it.
+/// What follows this byte, if a text begins with it.
 pub(crate) fn after_byte(text: &[u8], byte: u8) -> Option<&[u8]>
     ensures { MatchOption result (begins (is_byte byte) text.now ≡ false) (λ rest. text.now ≡ byte ∷ rest.now) }
 {
@@ -96,7 +96,7 @@ pub(crate) fn after_byte(text: &[u8], byte: u8) -> Option<&[u8]>
     }
 }
 
-// What stands after the spaces at the start.
+// What follows the spaces at the start.
 fn after_spaces(text: &[u8]) -> &[u8]
     ensures spaces { result.now ≡ after_spaces text.now }
     ensures shorter { length result.now ≤ length text.now }
@@ -105,7 +105,7 @@ fn after_spaces(text: &[u8]) -> &[u8]
     rest
 }
 
-// How many spaces stand at the start.
+// The number of spaces at the start.
 fn spaces(text: &[u8]) -> usize
     ensures longest { result ≡ prefix_len (is_byte 32) text.now }
     ensures within { result ≤ length text.now }

@@ -1,10 +1,10 @@
-/// The rules that a line of a file of an execution can break. Of those that one line breaks these
-/// count in this order: Unexpected, Unknown, Mixed, NotForward, OtherObject, SplitTxn, Stamp, TooMany.
+/// The rules that a line of an execution file can break. Of those that one line breaks, the first in
+/// this order is reported: Unexpected, Unknown, Mixed, NotForward, OtherObject, SplitTxn, Stamp, TooMany.
 #[derive(Clone, Copy)]
 pub enum ReportRule {
-    /// No file goes on with this line.
+    /// No file continues with this line.
     Unexpected,
-    /// The program lacks the operation, or the transaction.
+    /// The program has no such operation or transaction.
     Unknown,
     /// The operation is of another type than the object's first one.
     Mixed,
@@ -16,6 +16,6 @@ pub enum ReportRule {
     OtherObject,
     /// The effect splits its transaction.
     SplitTxn,
-    /// One effect more than 4,000.
+    /// The 4,001st effect.
     TooMany,
 }

@@ -62,8 +62,8 @@ fn txn(text: &[u8]) -> Option<(Option<Begun>, &[u8])>
     ensures { MatchOption result ((t : Option Begun) (rest : Fields) → FitsTxn t → fields_of text.now ≡ codes "txn" ∷ txn_text t ∷ rest → ⊥)
         (λ x. FitsTxn x.0 × (fields_of text.now ≡ codes "txn" ∷ txn_text x.0 ∷ fields_of x.1.now)) }
 {
-    let told = after_word(text, b"txn")?;
-    let (field, behind) = first_field(told)?;
+    let after_txn = after_word(text, b"txn")?;
+    let (field, behind) = first_field(after_txn)?;
     let txn = txn_of(field)?;
     Some((txn, behind))
 }
@@ -100,7 +100,7 @@ fn begun_of(field: &[u8]) -> Option<Begun>
     }
 }
 
-// The number of a begun transaction, which is from 1 on.
+// The number of a begun transaction, which is at least 1.
 fn run_of(digits: &[u8]) -> Option<u32>
     ensures { MatchOption result ((n : ℕ) → 1 ≤ n → IsId n → digits.now ≡ decimal n → ⊥) (λ n. (1 ≤ n) × IsId n × (digits.now ≡ decimal n)) }
 {

@@ -18,8 +18,8 @@ use Rattle.ql_value.specs.declared.scalar.Scalar.{Scalar}
 use Rattle.ql_value.specs.declared.scalar.Scalar.TheVariants.{Int as IntScalar, Bool as TruthScalar, Text as TextScalar}
 use Rattle.ql_value.specs.declared.value.Value.{Value}
 use Rattle.ql_value.specs.declared.value.Value.TheVariants.{Int as Number, Bool as Truth, Text, Set, Map}
-use Rattle.ql_value.specs.Collections.{added, contains, dropped, keys, put_in, removed, value_at}
-use Rattle.ql_eval.specs.Evaluation.{Bindings, called_on, called_with_three, called_with_two, chosen, combined, denied, negated, single, value_in, value_of}
+use Rattle.ql_value.specs.Collections.{added, contains, dropped, keys, put_in, removed, value_for_key}
+use Rattle.ql_eval.specs.Evaluation.{Bindings, called_on, called_with_three, called_with_two, chosen_by, combined, denied, negative_of, single, value_in, value_of}
 use Rattle.ql_eval.specs.ValueKinds.{FitsScope, HasBase, HasBases, HasKind, HasValue, IsNeverStuck}
 use Rattle.ql_eval.proofs.Preserved.{added_all, dropped_all, found_all, put_all, removed_all, united_all}
 
@@ -146,15 +146,15 @@ combined_ok o j k a b h i = where_so (meets (operand_of o j) j && meets (operand
 denied_ok : (k : Option Kind) (a : Option Value) → HasValue k a → HasValue (kept_kind kind.Bool k) (denied a)
 denied_ok k a h = where_so (meets (Some kind.Bool) k) (Some kind.Bool) (denied a) (λ m. let x = is_truth a (as_wanted (Some kind.Bool) k a m h) in rw x.1 tt)
 
-negated_ok : (k : Option Kind) (a : Option Value) → HasValue k a → HasValue (kept_kind kind.Int k) (negated a)
-negated_ok k a h = where_so (meets (Some kind.Int) k) (Some kind.Int) (negated a) (λ m. let x = is_number a (as_wanted (Some kind.Int) k a m h) in rw x.1 tt)
+negated_ok : (k : Option Kind) (a : Option Value) → HasValue k a → HasValue (kept_kind kind.Int k) (negative_of a)
+negated_ok k a h = where_so (meets (Some kind.Int) k) (Some kind.Int) (negative_of a) (λ m. let x = is_number a (as_wanted (Some kind.Int) k a m h) in rw x.1 tt)
 
-part_ok : (t : Bool) (j k : Option Kind) (a b : Option Value) → HasValue j a → HasValue k b → meets j k ≡ true → HasValue j (chosen (Some (Truth t)) a b)
+part_ok : (t : Bool) (j k : Option Kind) (a b : Option Value) → HasValue j a → HasValue k b → meets j k ≡ true → HasValue j (chosen_by (Some (Truth t)) a b)
 part_ok true j k a b h i m = h
 part_ok false j k a b h i m = as_wanted j k b m i
 
-chosen_ok : (l j k : Option Kind) (t a b : Option Value) → HasValue l t → HasValue j a → HasValue k b → HasValue (chosen_kind l j k) (chosen t a b)
-chosen_ok l j k t a b g h i = where_so (meets (Some kind.Bool) l && meets j k) j (chosen t a b)
+chosen_ok : (l j k : Option Kind) (t a b : Option Value) → HasValue l t → HasValue j a → HasValue k b → HasValue (chosen_kind l j k) (chosen_by t a b)
+chosen_ok l j k t a b g h i = where_so (meets (Some kind.Bool) l && meets j k) j (chosen_by t a b)
     (λ m. let p = both (meets (Some kind.Bool) l) (meets j k) m in
     let x = is_truth t (as_wanted (Some kind.Bool) l t p.0 g) in
     rw x.1 (part_ok x.0 j k a b h i p.1))
@@ -245,7 +245,7 @@ put_map m (TextScalar n) (IntScalar k) = refl
 put_map m (TextScalar n) (TruthScalar k) = refl
 put_map m (TextScalar n) (TextScalar k) = refl
 
-get_map : (m : List (Scalar × Scalar)) (x y : Scalar) → called_with_three (Some function.Get) (Map m) (Some (single x)) (Some (single y)) ≡ Some (single (value_at m x y))
+get_map : (m : List (Scalar × Scalar)) (x y : Scalar) → called_with_three (Some function.Get) (Map m) (Some (single x)) (Some (single y)) ≡ Some (single (value_for_key m x y))
 get_map m (IntScalar n) (IntScalar k) = refl
 get_map m (IntScalar n) (TruthScalar k) = refl
 get_map m (IntScalar n) (TextScalar k) = refl
@@ -268,7 +268,7 @@ three_ok (Some function.Put) (Some (kind.Map p q)) j l a b c h i g = where_so (m
 three_ok (Some function.Get) (Some (kind.Map p q)) j l a b c h i g = where_so (meets (Some (of_base p)) j && meets (Some (of_base q)) l) (Some (of_base q)) (called_on (Some function.Get) a (b ∷ c ∷ []))
     (λ t. let both_fit = both (meets (Some (of_base p)) j) (meets (Some (of_base q)) l) t in
     let s = is_map p q a h in let x = second_ok p j b i both_fit.0 in let y = second_ok q l c g both_fit.1 in
-    rw (s.1, x.value, y.value, get_map s.0 x.scalar y.scalar) (single_kind q (value_at s.0 x.scalar y.scalar) (found_all p q x.scalar y.scalar s.0 y.base_kind s.2)))
+    rw (s.1, x.value, y.value, get_map s.0 x.scalar y.scalar) (single_kind q (value_for_key s.0 x.scalar y.scalar) (found_all p q x.scalar y.scalar s.0 y.base_kind s.2)))
 three_ok (Some f) (Some k) j l a b c h i g = tt
 
 -- the law, by recursion on the expression

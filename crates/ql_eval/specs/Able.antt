@@ -37,7 +37,7 @@ abbrev pub AreFields : Option TypeDecl → List Value → Type 0
 AreFields None values = ⊥
 AreFields (Some t) values = AreOfKinds field_kind t.fields values
 
--- the type of an operation, where there is one
+-- the type of an operation, if there is one
 abbrev pub type_of_op : List TypeDecl → ℕ → Option TypeDecl
 type_of_op types o = option_and_then (slice_get types) (slice_get (op_kinds types) o)
 
@@ -75,7 +75,7 @@ abbrev pub IsAnswerOf : Option OpDecl → Answered → Type 0
 IsAnswerOf None given = ⊥
 IsAnswerOf (Some o) given = HasKind o.kind given.answer × FitsOp (Some o) given.payload
 
--- each call that can be answered has an answer by the definition, which is the one that is given
+-- each call that can be answered has an answer by the definition, which is the one that is returned
 abbrev pub AnswersAll : List TypeDecl → Type 0
 AnswersAll types = (o : ℕ) (args : List Value) (effects : List Effect) → IsAble types o args effects → answer_of types o args effects ≡ Some (answered_of types o args effects)
 

@@ -15,12 +15,12 @@ use Rattle.ql_value.specs.declared.scalar.Scalar.{Scalar}
 use Rattle.ql_value.specs.declared.scalar.Scalar.TheVariants.{Int as IntScalar, Bool as TruthScalar, Text as TextScalar}
 use Rattle.ql_value.specs.declared.value.Value.{Value}
 use Rattle.ql_value.specs.declared.value.Value.TheVariants.{Unit as Nothing, Int as Number, Bool as Truth, Text, Set, Map}
-use Rattle.ql_value.specs.Collections.{added, contains, dropped, keys, put_in, removed, sum_of, united, value_at}
+use Rattle.ql_value.specs.Collections.{added, contains, dropped, keys, put_in, removed, sum_of, united, value_for_key}
 use Rattle.ql_value.specs.Saturating.{saturated}
 use Rattle.ql_value.specs.ValueOrder.{value_cmp}
 
--- The value of an expression, by recursion on it, under the values of the names in scope. There is none where a name
--- isn't in scope or an operand has another kind than its operator takes.
+-- The value of an expression, by recursion on it, under the values of the names in scope. There is none if a name isn't
+-- in scope or an operand has another kind than its operator takes.
 
 -- names and their values
 abbrev pub Bindings : Type 0
@@ -31,7 +31,7 @@ unfoldable pub value_in : Bindings → List ℕ → Option Value
 value_in [] w = None
 value_in (p ∷ ps) w = if bytes_eq p.0 w then Some p.1 else value_in ps w
 
--- a literal's text, and the empty text for bytes that no literal of a source has
+-- a literal's text, or the empty text for bytes that no literal of a source has
 abbrev pub text_of : List ℕ → List ℕ
 text_of bytes = if nat_le (length bytes) 64 && list_all is_text_byte bytes then bytes else []
 
@@ -65,13 +65,13 @@ on_truths op.Or a b = Some (Truth (a || b))
 on_truths op.And a b = Some (Truth (a && b))
 on_truths _ a b = None
 
--- an operator that looks at the kind of its operands
+-- an operator that depends on the kind of its operands
 abbrev pub on_same : BinOp → Value → Value → Option Value
 on_same o (Number a) (Number b) = on_numbers o a b
 on_same o (Truth a) (Truth b) = on_truths o a b
 on_same o _ _ = None
 
--- values are equal where neither is below the other, so texts are equal by their bytes
+-- values are equal if neither is below the other, so texts are equal by their bytes
 abbrev pub on_values : BinOp → Value → Value → Option Value
 on_values op.Eq a b = Some (Truth (is_eq (value_cmp a b)))
 on_values op.Ne a b = Some (Truth (not (is_eq (value_cmp a b))))
@@ -85,15 +85,15 @@ abbrev pub denied : Option Value → Option Value
 denied (Some (Truth b)) = Some (Truth (not b))
 denied _ = None
 
-abbrev pub negated : Option Value → Option Value
-negated (Some (Number n)) = Some (Number (saturated (neg_ℤ n)))
-negated _ = None
+abbrev pub negative_of : Option Value → Option Value
+negative_of (Some (Number n)) = Some (Number (saturated (neg_ℤ n)))
+negative_of _ = None
 
 -- one of two parts, by a test
-abbrev pub chosen : Option Value → Option Value → Option Value → Option Value
-chosen (Some (Truth true)) a b = a
-chosen (Some (Truth false)) a b = b
-chosen _ a b = None
+abbrev pub chosen_by : Option Value → Option Value → Option Value → Option Value
+chosen_by (Some (Truth true)) a b = a
+chosen_by (Some (Truth false)) a b = b
+chosen_by _ a b = None
 
 -- functions of one argument
 abbrev pub called_with_one : Option Function → Value → Option Value
@@ -119,7 +119,7 @@ called_with_two _ a _ = None
 -- functions of a map, a key and a value
 abbrev pub with_scalars : Function → Value → Option Scalar → Option Scalar → Option Value
 with_scalars function.Put (Map m) (Some k) (Some v) = Some (Map (put_in m k v))
-with_scalars function.Get (Map m) (Some k) (Some v) = Some (single (value_at m k v))
+with_scalars function.Get (Map m) (Some k) (Some v) = Some (single (value_for_key m k v))
 with_scalars _ _ _ _ = None
 
 abbrev pub called_with_three : Option Function → Value → Option Value → Option Value → Option Value
@@ -132,7 +132,7 @@ called f a (b ∷ []) = called_with_two f a b
 called f a (b ∷ c ∷ []) = called_with_three f a b c
 called f a (b ∷ c ∷ d ∷ more) = None
 
--- a call by its first argument, where that has a value
+-- a call by its first argument, if that has a value
 abbrev pub called_on : Option Function → Option Value → List (Option Value) → Option Value
 called_on f (Some a) more = called f a more
 called_on f None more = None
@@ -145,10 +145,10 @@ unfoldable mutual
   value_of env (e.Nothing at) = Some Nothing
   value_of env (e.Reading at name) = value_in env name.word
   value_of env (e.Calling at name args) = call_value env name.word args
-  value_of env (e.Choosing at test a b) = chosen (value_of env test) (value_of env a) (value_of env b)
+  value_of env (e.Choosing at test a b) = chosen_by (value_of env test) (value_of env a) (value_of env b)
   value_of env (e.Combining at o a b) = combined o (value_of env a) (value_of env b)
   value_of env (e.Denying at a) = denied (value_of env a)
-  value_of env (e.Negating at a) = negated (value_of env a)
+  value_of env (e.Negating at a) = negative_of (value_of env a)
 
   pub call_value : Bindings → List ℕ → Operands → Option Value
   call_value env f NoMore = None

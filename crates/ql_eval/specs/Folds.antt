@@ -24,7 +24,7 @@ use Rattle.ql_eval.specs.Evaluation.{Bindings, text_of, value_of}
 
 -- Folds: the state of an object after effects, in a given order. A state is the fields' names with their values.
 
--- names with values, as far as both go
+-- names paired with values, up to the end of the shorter list
 abbrev pub under : {X : Type 0} → (X → List ℕ) → List X → List Value → Bindings
 under word (x ∷ xs) (v ∷ vs) = (word x, v) ∷ under word xs vs
 under word _ _ = []
@@ -38,7 +38,7 @@ param_word p = p.name.word
 abbrev pub bind_word : Bind → List ℕ
 bind_word b = b.name.word
 
--- what a field begins with; `empty` is the empty map in a map's field, and else the empty set
+-- the initial value of a field; `empty` is the empty map in a map's field, and otherwise the empty set
 abbrev pub begun_value : Kind → InitNode → Value
 begun_value k (init.Int n) = Number n
 begun_value k (init.Text text) = Text (text_of text)
@@ -56,7 +56,7 @@ unfoldable pub assigned : Bindings → List ℕ → Value → Bindings
 assigned [] w v = []
 assigned (p ∷ ps) w v = if bytes_eq p.0 w then (w, v) ∷ ps else p ∷ assigned ps w v
 
--- a statement gives its target the value that its expression has before it
+-- a statement assigns to its target the value that its expression has before the statement
 abbrev pub after_stmt : Bindings → Stmt → Option Bindings
 after_stmt env s = option_map (λ v. assigned env s.target.word v) (value_of env (expression_of s.value))
 
@@ -73,7 +73,7 @@ abbrev pub after_op : Option OpDecl → Bindings → List Value → Option Bindi
 after_op None state payload = None
 after_op (Some o) state payload = option_and_then (λ e. after_emit state e payload) o.effect
 
--- the state after an effect of one of these operations: the same where it emitted nothing
+-- the state after an effect of one of these operations: the same if it emitted nothing
 abbrev pub after_payload : List OpDecl → ℕ → Bindings → Payload → Option Bindings
 after_payload ops o state NoChange = Some state
 after_payload ops o state (Emitted payload) = after_op (slice_get ops o) state payload
@@ -101,7 +101,7 @@ unfoldable pub bound_values : Bindings → List Bind → Option (List Value)
 bound_values env [] = Some []
 bound_values env (b ∷ bs) = option_and_then (λ v. option_map (λ vs. v ∷ vs) (bound_values env bs)) (value_of env (expression_of b.value))
 
--- what is emitted: the values where the test is true, and else nothing
+-- what is emitted: the values if the test is true, and otherwise nothing
 abbrev pub emitted_when : Option Value → Option (List Value) → Option Payload
 emitted_when (Some (Truth true)) vs = option_map (λ values. Emitted values) vs
 emitted_when (Some (Truth false)) vs = Some NoChange
@@ -120,12 +120,12 @@ abbrev pub answer_over : OpDecl → List Value → Bindings → Option Answered
 answer_over o args state =
     answer_with (value_of (state ++ under param_word o.params args) (expression_of o.answer)) (emitted (state ++ under param_word o.params args) o.effect)
 
--- The answer and payload of a call that sees these effects: over the fold of its operation's type. There is none where
--- an expression has no value.
+-- The answer and payload of a call that sees these effects: over the fold of its operation's type. There is none if an
+-- expression has no value.
 abbrev pub answer_of : List TypeDecl → ℕ → List Value → List Effect → Option Answered
 answer_of types o args effects =
     option_and_then (λ op. option_and_then (λ k. option_and_then (λ state. answer_over op args state) (fold_of types k effects)) (slice_get (op_kinds types) o)) (slice_get (all_ops types) o)
 
--- the same as a function that always answers
+-- the same as a total function
 abbrev pub answered_of : List TypeDecl → ℕ → List Value → List Effect → Answered
 answered_of types o args effects = option_map_or (λ a. a) (answer_of types o args effects) (record { answer = Nothing; payload = NoChange })

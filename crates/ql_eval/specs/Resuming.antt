@@ -1,4 +1,4 @@
--- States from which a fold goes on.
+-- States from which a fold continues.
 use Rattle.std.specs.Prelude.{ℕ, ◌≡◌, List, All, Some}
 use Rattle.ql_lang.specs.declared.program.TypeDecl.{TypeDecl}
 use Rattle.ql_exec.specs.declared.effect.Effect.{Effect}

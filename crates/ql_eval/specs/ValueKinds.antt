@@ -34,7 +34,7 @@ HasKind (kind.Set b) (Set s) = All (λ x. HasBase b x) s
 HasKind (kind.Map b c) (Map m) = All (λ x. HasBases b c x) m
 HasKind _ _ = ⊥
 
--- there is a value, of the kind, where a kind is told
+-- there is a value of the kind, if a kind is known
 abbrev pub HasValue : Option Kind → Option Value → Type 0
 HasValue None v = Unit {0}
 HasValue (Some k) (Some v) = HasKind k v
@@ -55,6 +55,6 @@ FitsScope _ _ = ⊥
 abbrev pub IsNeverStuck : Expression → Type 0
 IsNeverStuck e = (scope : List Known) (env : Bindings) → FitsScope scope env → HasValue (kind_of scope e) (value_of env e)
 
--- an expression in which nothing is wrong, where a kind is wanted, has a value of that kind
+-- an expression without faults, of which a kind is expected, has a value of that kind
 abbrev pub IsAccepted : Expression → Type 0
 IsAccepted e = (scope : List Known) (env : Bindings) (wanted : Kind) → FitsScope scope env → faults_as scope (Some wanted) e ≡ [] → HasValue (Some wanted) (value_of env e)

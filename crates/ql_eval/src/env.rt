@@ -10,7 +10,7 @@ use ql_value::{Value, copy};
 use std::alloc::Global;
 use std::marker::Model;
 
-/// Names with their values, one for each name in scope. Of a name that stands again the first value counts.
+/// Names with their values, one for each name in scope. If a name is there twice, its first value counts.
 #[derive(Drop)]
 pub struct Env {
     pairs: Vec<(Word, Value)>,
@@ -40,7 +40,7 @@ impl Env {
         &self.pairs
     }
 
-    /// The names with their values, given up.
+    /// The names with their values, by value.
     pub fn into_items(self) -> Vec<(Word, Value)>
         ensures { result.items ≡ self }
     {
@@ -60,7 +60,7 @@ impl Env {
 }
 
 impl Env {
-    /// How many names there are.
+    /// The number of names.
     pub(crate) fn len(&self) -> usize
         ensures { result ≡ length self.now }
     {
@@ -75,14 +75,14 @@ impl Env {
         Ok(())
     }
 
-    /// Drops all but the first names.
+    /// Keeps only the first `len` names.
     pub(crate) fn truncate(&mut self, len: usize)
         ensures { self.new ≡ take len self.old }
     {
         self.pairs.truncate(len);
     }
 
-    /// Gives a name another value.
+    /// Assigns another value to a name.
     pub(crate) fn assign(&mut self, word: &Word, value: Value)
         ensures { self.new ≡ assigned self.old word.now value }
     {
@@ -99,7 +99,7 @@ fn assign_in(pairs: &mut [(Word, Value)], word: &Word, value: Value)
     }
 }
 
-// How many pairs at the front have another name.
+// The number of pairs before the first with this name.
 fn count_others(pairs: &[(Word, Value)], word: &Word) -> usize
     ensures { result ≡ prefix_len (λ pair. not (bytes_eq pair.0 word.now)) pairs.now }
 {

@@ -14,7 +14,7 @@ use ql_typing::{Function, find_function};
 use ql_value::{Value, copy};
 use std::alloc::Global;
 
-/// The value of an expression, which has one. It has one of its kind where it is well typed and the names in scope have
+/// The value of an expression that has one. A well-typed expression has a value of its kind if the names in scope have
 /// values of theirs.
 pub fn eval(alloc: Global, e: &Expr, env: &Env) -> Result<Value, NoMemory>
     requires { IsSome (value_of env.now (expression_of e.now)) }
@@ -28,14 +28,14 @@ pub fn eval(alloc: Global, e: &Expr, env: &Env) -> Result<Value, NoMemory>
     }
 }
 
-/// The value of an expression, where it has one.
+/// The value of an expression, if it has one.
 pub fn try_eval(alloc: Global, e: &Expr, env: &Env) -> Result<Option<Value>, NoMemory>
     ensures { IfOk result (λ value. value ≡ value_of env.now (expression_of e.now)) }
 {
     evaluate(alloc, env.items(), e)
 }
 
-// The value of an expression, where it has one.
+// The value of an expression, if it has one.
 #[cycle(evaluate)]
 #[tactic(auto, unfolding(ql_lang::specs::Expressions::node_of, crate::specs::Evaluation::value_of))]
 pub(crate) fn evaluate(
@@ -67,7 +67,7 @@ pub(crate) fn evaluate(
     }
 }
 
-// The value of a name, for keeping.
+// A copy of the value of a name.
 fn read(alloc: Global, pairs: &[(Word, Value)], word: &Word) -> Result<Option<Value>, NoMemory>
     ensures { IfOk result (λ value. value ≡ value_in pairs.now word.now) }
 {
@@ -77,7 +77,7 @@ fn read(alloc: Global, pairs: &[(Word, Value)], word: &Word) -> Result<Option<Va
     }
 }
 
-// The value of a call. Its first argument, which may be a large collection, is only lent where it is a name.
+// The value of a call. Its first argument, which may be a large collection, is borrowed if it is a name.
 #[cycle(evaluate)]
 fn call(
     alloc: Global,

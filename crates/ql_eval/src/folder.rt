@@ -19,8 +19,8 @@ use ql_typing::Typed;
 use ql_value::{Value, Values};
 use std::alloc::Global;
 
-/// Answers calls of a typed program's operations by folding what they see. It is able to answer where the operation is
-/// in range, its arguments have the kinds of its parameters, and each effect is of an operation of its type and emitted
+/// Answers calls of a typed program's operations by folding what they see. It can answer a call if the operation is in
+/// range, its arguments have the kinds of its parameters, and each effect is of an operation of its type and emitted
 /// nothing or values of that operation's kinds.
 #[derive(Drop)]
 pub struct TypedFolder<'a> {
@@ -29,8 +29,8 @@ pub struct TypedFolder<'a> {
 }
 
 impl<'a> TypedFolder<'a> {
-    /// A folder of this program. Each call that it is able to answer has an answer by the definition, and that answer
-    /// and its payload have the kinds that the operation declares.
+    /// A folder of this program. Each call that it can answer has an answer by the definition, and that answer and its
+    /// payload have the kinds that the operation declares.
     pub fn new(alloc: Global, typed: &'a Typed) -> TypedFolder<'a>
         ensures same { result.typed ≡ typed.entry }
         ensures answers { AnswersAll typed.now.program.types }
@@ -59,7 +59,7 @@ impl Folder for TypedFolder<'_> {
     }
 }
 
-/// The answer and payload of a call, where its expressions have values.
+/// The answer and payload of a call, if its expressions have values.
 pub fn try_answer(
     alloc: Global,
     t: &Typed,

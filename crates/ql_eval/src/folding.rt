@@ -16,7 +16,7 @@ use ql_typing::Typed;
 use ql_value::{MapVal, SetVal, Value, Values, copy};
 use std::alloc::Global;
 
-/// The state of an object after the effects of some ids, in order of stamp and session.
+/// The state of an object after the effects with some ids, in order of stamp and session.
 pub(crate) fn state_after(
     alloc: Global,
     t: &Typed,
@@ -59,7 +59,7 @@ fn begin_one(alloc: Global, kind: Kind, init: &InitNode) -> Result<Value, NoMemo
     }
 }
 
-/// The state after effects, one after another. Each statement runs on the state in its place.
+/// The state after effects, one after another. Each statement changes the state in place.
 pub(crate) fn fold_all(
     alloc: Global,
     t: &Typed,
@@ -126,7 +126,7 @@ pub fn apply(
     }
 }
 
-// The same, where each statement's expression has a value.
+// The same, or `None` if a statement's expression has no value.
 fn try_apply(
     alloc: Global,
     t: &Typed,
@@ -167,8 +167,8 @@ fn values_of(alloc: Global, pairs: &[(Word, Value)]) -> Result<Values, NoMemory>
     Ok(Values::of(values))
 }
 
-/// The values of an object's state after the effects of some ids, in order of stamp and session. The effects are of the
-/// object's type, and each emitted nothing or values of its operation's kinds.
+/// The values of an object's state after the effects with some ids, in order of stamp and session. The effects are of
+/// the object's type, and each emitted nothing or values of its operation's kinds.
 pub fn fold(
     alloc: Global,
     t: &Typed,
@@ -187,7 +187,7 @@ pub fn fold(
     }
 }
 
-// The same, where each expression has a value.
+// The same, or `None` if an expression has no value.
 fn try_fold(
     alloc: Global,
     t: &Typed,

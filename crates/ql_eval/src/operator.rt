@@ -1,10 +1,10 @@
 ghost use Rattle.std.specs.Prelude.{◌≡◌};
-ghost use Rattle.ql_eval.specs.Evaluation.{combined, denied, negated, on_numbers, on_truths, on_values};
+ghost use Rattle.ql_eval.specs.Evaluation.{combined, denied, negative_of, on_numbers, on_truths, on_values};
 
 use ql_lang::BinOp;
 use ql_value::{Value, order, sat_add, sat_mul, sat_neg, sat_sub};
 
-/// The value of an operator of two operands.
+/// The value of a binary operator with its operands.
 pub(crate) fn combine(op: BinOp, left: Option<Value>, right: Option<Value>) -> Option<Value>
     ensures { result ≡ combined op left right }
 {
@@ -53,7 +53,7 @@ fn on_truths(op: BinOp, left: bool, right: bool) -> Option<Value>
     }
 }
 
-/// The other truth value.
+/// The negation of a truth value.
 pub(crate) fn deny(operand: Option<Value>) -> Option<Value>
     ensures { result ≡ denied operand }
 {
@@ -63,9 +63,9 @@ pub(crate) fn deny(operand: Option<Value>) -> Option<Value>
     }
 }
 
-/// The number with the other sign.
+/// The number with the opposite sign.
 pub(crate) fn negate(operand: Option<Value>) -> Option<Value>
-    ensures { result ≡ negated operand }
+    ensures { result ≡ negative_of operand }
 {
     match operand {
         Some(Value::Int(n)) => Some(Value::Int(sat_neg(n))),

@@ -10,7 +10,7 @@ use ql_exec::{Effect, Execution};
 use std::alloc::Global;
 use std::cmp::Ordering;
 
-/// The effects of some ids, in order of stamp and session.
+/// The effects with some ids, in order of stamp and session.
 pub(crate) fn in_order<'a>(
     alloc: Global,
     execution: &'a Execution,
@@ -23,7 +23,7 @@ pub(crate) fn in_order<'a>(
     Ok(order)
 }
 
-// The effects of some ids, that of the last id first.
+// The effects with some ids, that of the last id first.
 fn found_backwards<'a>(
     alloc: Global,
     effects: &'a [Effect],
@@ -40,7 +40,7 @@ fn found_backwards<'a>(
     Ok(found)
 }
 
-// The effect of an id, counted from 1.
+// The effect with an id, counted from 1.
 fn find(effects: &[Effect], id: u32) -> Option<&Effect>
     ensures { option_copied result ≡ effect_at effects.now id }
 {

@@ -24,7 +24,7 @@ pub fn first_state(alloc: Global, t: &Typed, kind: TypeId) -> Result<Env, NoMemo
     begin(alloc, t.type_decl(kind).fields.items())
 }
 
-/// The state of an object after some effects, of which `state` is the state, and then those of some ids, in order of stamp
+/// The state of an object after some effects, which lead to `state`, and then those with some ids, in order of stamp
 /// and session. All are of the object's type, and each emitted nothing or values of its operation's kinds.
 pub fn fold_after(
     alloc: Global,
@@ -45,8 +45,9 @@ pub fn fold_after(
     }
 }
 
-/// The answer and payload of a call that sees some effects, of which `state` is the state, and then those of some ids, in
-/// order of stamp and session. All are of the operation's type, and each emitted nothing or values of its operation's kinds.
+/// The answer and payload of a call that sees some effects, which lead to `state`, and then those with some ids, in
+/// order of stamp and session. All are of the operation's type, and each emitted nothing or values of its operation's
+/// kinds.
 pub fn answer_after(
     alloc: Global,
     t: &Typed,
@@ -68,7 +69,7 @@ pub fn answer_after(
     }
 }
 
-// The state after the effects of some ids, where each expression has a value.
+// The state after the effects with some ids, or `None` if an expression has no value.
 fn try_fold_after(
     alloc: Global,
     t: &Typed,

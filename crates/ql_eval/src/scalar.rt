@@ -29,7 +29,7 @@ pub(crate) fn single(scalar: Scalar) -> Value
     }
 }
 
-/// A literal's text, and the empty text for bytes that no literal of a source has.
+/// A literal's text, or the empty text for bytes that no literal of a source has.
 pub(crate) fn literal(alloc: Global, literal: &TextLit) -> Result<TextVal, NoMemory>
     ensures { IfOk result (λ text. text ≡ text_of literal.now) }
 {

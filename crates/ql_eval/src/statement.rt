@@ -60,7 +60,7 @@ fn run_one(alloc: Global, env: Env, stmt: &Stmt) -> Result<Option<Env>, NoMemory
     }
 }
 
-/// With an operation's emitted values under their names.
+/// The names in scope, with an operation's emitted values added under their names.
 fn with_emitted(alloc: Global, env: Env, binds: &[Bind], values: &[Value]) -> Result<Env, NoMemory>
     ensures { IfOk result (λ whole. whole ≡ env ++ under bind_word binds.now values.now) }
 {
@@ -71,7 +71,7 @@ fn with_emitted(alloc: Global, env: Env, binds: &[Bind], values: &[Value]) -> Re
     Ok(env)
 }
 
-/// With an operation's arguments under their names.
+/// The names in scope, with an operation's arguments added under their names.
 pub(crate) fn with_args(
     alloc: Global,
     env: Env,

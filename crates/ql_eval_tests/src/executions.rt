@@ -100,8 +100,8 @@ fn set_of(alloc: Global, ids: &str) -> Result<IdSet, NoMemory> {
     Ok(set)
 }
 
-// An execution of which the last effect is taken back, another effect in its place, and how many effects a copy of the
-// first has.
+// An execution whose last effect is taken back, the effect that replaces it, and how many effects a copy of the first
+// execution has.
 const STEPS_BACK: &str = "
 0 1 1:5 sees; 0 2 - sees 1; 0 1 - sees 2 then 0 1 1:5 sees 1 -> effect 3 stamp 2 sees 1, copy of 3
 ";

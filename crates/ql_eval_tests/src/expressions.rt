@@ -1,10 +1,10 @@
-use crate::texts::{push_value, spelled};
+use crate::texts::spelled;
 use ql_base::{NoMemory, Word, push_bytes};
 use ql_eval::{Env, eval, try_eval};
 use ql_lang::Expr;
 use ql_parse::parse_program;
 use ql_tables::check_table;
-use ql_value::{Value, order, parse_value};
+use ql_value::{Value, order, parse_value, print_value};
 use std::alloc::Global;
 use std::cmp::Ordering;
 use std::test::Fail;
@@ -163,6 +163,6 @@ fn value_text(alloc: Global, env: &Env, expression: &Expr) -> Result<Vec<u8>, No
         return spelled(alloc, "two values");
     }
     let mut out = Vec::new(alloc);
-    push_value(&mut out, &value)?;
+    print_value(&mut out, &value)?;
     Ok(out)
 }

@@ -1,11 +1,13 @@
-use crate::texts::{declared, push_value, push_values, spelled};
+use crate::texts::spelled;
 use ql_base::{IdSet, NoMemory, push_bytes, push_number};
 use ql_eval::try_answer;
 use ql_exec::{Answered, Effect, Execution, Payload};
 use ql_execution_files::parse_execution;
 use ql_tables::check_table;
+use ql_test_effects::push_values;
+use ql_test_programs::declared;
 use ql_typing::Typed;
-use ql_value::{Value, Values};
+use ql_value::{Value, Values, print_value};
 use std::alloc::Global;
 use std::test::Fail;
 
@@ -28,8 +30,8 @@ op add_item(item: text, n: int): unit { contract true; answer unit;
   emit i: text = item, k: int = n when n > 0; apply { items := put(items, i, get(items, i, 0) + k); } }
 op show(): map(text, int) { contract true; answer items; } }";
 
-// Executions in which each call answers and emits by what it sees, from an independent implementation. At one stamp the
-// greater session comes last, whatever came first.
+// Executions in which each call answers and emits by what it sees, from an independent implementation. At equal stamps
+// the greater session comes last, in whatever order the calls were made.
 const DEPOSITS: &str = "execution
 effect 1 x deposit (10) = unit emit (10) session 1 txn - stamp 1 vis
 effect 2 x deposit (5) = unit emit (5) session 1 txn - stamp 2 vis
@@ -76,7 +78,7 @@ effect 15 x reserve (8) = false emit - session 4 txn - stamp 8 vis 1 2 8 10 12 1
 effect 16 x restock (0) = unit emit - session 4 txn - stamp 9 vis 1
 end"#;
 
-// How many effects of an execution have the answer and the payload that it tells.
+// How many effects of an execution have the answer and the payload that it states.
 const EXECUTIONS: &str = "
 bank -> 10 of 10
 register -> 11 of 11
@@ -141,7 +143,7 @@ fn is_answered(
 
 fn text(alloc: Global, answer: &Value, payload: &Payload) -> Result<Vec<u8>, NoMemory> {
     let mut out = Vec::new(alloc);
-    push_value(&mut out, answer)?;
+    print_value(&mut out, answer)?;
     push_bytes(&mut out, b" emit ")?;
     match payload {
         Payload::Nothing => push_bytes(&mut out, b"-")?,
@@ -150,7 +152,7 @@ fn text(alloc: Global, answer: &Value, payload: &Payload) -> Result<Vec<u8>, NoM
     Ok(out)
 }
 
-// How many deposits of 2 there are, and the balance that sees them all.
+// The number of deposits of 2, and the balance that sees them all.
 const BALANCES: &str = "
 4000 -> 8000
 ";
@@ -181,7 +183,7 @@ fn balance(alloc: Global, row: &str) -> Result<Vec<u8>, NoMemory> {
         &execution,
         &first_ids(alloc, count)?,
     )? {
-        Some(answered) => push_value(&mut out, &answered.answer)?,
+        Some(answered) => print_value(&mut out, &answered.answer)?,
         None => push_bytes(&mut out, b"no answer")?,
     }
     Ok(out)
@@ -195,7 +197,7 @@ fn first_ids(alloc: Global, count: u32) -> Result<IdSet, NoMemory> {
     Ok(ids)
 }
 
-// An execution of so many deposits of 2, in 64 sessions.
+// An execution of this many deposits of 2, in 64 sessions.
 fn deposits(alloc: Global, count: u32) -> Result<Vec<u8>, NoMemory> {
     let mut file = spelled(alloc, "execution\n")?;
     for index in 0..count {

@@ -1,15 +1,15 @@
-use crate::texts::{push_value, spelled};
+use crate::texts::spelled;
 use ql_base::{NoMemory, push_bytes, push_number};
 use ql_tables::{check_table, field};
 use ql_value::{
-    MapVal, Scalar, SetVal, Value, ValueFault, add, order, parse_value, put, sat_add, sat_mul,
-    sat_neg, sat_sub, size,
+    MapVal, Scalar, SetVal, Value, ValueFault, add, order, parse_value, print_value, put, sat_add,
+    sat_mul, sat_neg, sat_sub, size,
 };
 use std::alloc::Global;
 use std::cmp::Ordering;
 use std::test::Fail;
 
-// Texts, and the offset behind the value that is read with its text, or the offset of the first fault; from an
+// Texts, and the offset after the value that is read with the value's text, or the offset of the first fault; from an
 // independent implementation.
 const READ: &str = r#"
 unit -> 4 unit
@@ -90,7 +90,7 @@ fn read(alloc: Global, text: &str) -> Result<Vec<u8>, NoMemory> {
             let mut out = Vec::new(alloc);
             push_number(&mut out, to)?;
             push_bytes(&mut out, b" ")?;
-            push_value(&mut out, &value)?;
+            print_value(&mut out, &value)?;
             Ok(out)
         }
         Err(ValueFault::Unexpected(at)) => {
@@ -102,7 +102,7 @@ fn read(alloc: Global, text: &str) -> Result<Vec<u8>, NoMemory> {
     }
 }
 
-// Numbers stay at the ends of their range.
+// Numbers saturate at the ends of their range.
 const NUMBERS: &str = "
 sum 9223372036854775807 1 -> 9223372036854775807
 sum -9223372036854775808 -1 -> -9223372036854775808
@@ -135,7 +135,7 @@ fn by(operator: &str, a: i64, b: i64) -> i64 {
     }
 }
 
-// How many entries a set and a map have to which so many are added.
+// How many entries a set and a map have after this many were added.
 const FILLED: &str = "
 256 -> 256 256
 300 -> 256 256

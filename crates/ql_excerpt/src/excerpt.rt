@@ -4,7 +4,7 @@ ghost use Rattle.std.specs.Prelude.{◌≤◌, length};
 use crate::place::{Place, line_of, place_of};
 use ql_base::{NoMemory, push_bytes, push_number};
 
-// The most bytes of a line that are shown, and of those before the place.
+// The most bytes of a line that are shown, and of those before the position.
 const SHOWN: usize = 160;
 
 const BEFORE: usize = 100;
@@ -20,8 +20,8 @@ pub fn push_position(note: &mut Vec<u8>, name: &[u8], place: Place) -> Result<()
     push_number(note, (place.at - place.start).saturating_add(1))
 }
 
-/// Appends a line of a text, and below it a mark under so many bytes from the place on. Of a long line only what stands
-/// around the place.
+/// Appends a line of a text, and below it a mark under this many bytes from the position on. Of a long line only the
+/// part around the position is shown.
 pub fn push_excerpt(
     note: &mut Vec<u8>,
     text: &[u8],
@@ -40,7 +40,7 @@ pub fn push_excerpt(
     push_bytes(note, first_bytes(line_of(&text[from..]), SHOWN))?;
     push_bytes(note, b"\n    ")?;
     for byte in &text[from..place.at] {
-        // A tab stays one, so that the mark stands below its place.
+        // A tab stays one, so that the mark is right below its position.
         push_bytes(note, if *byte == b'\t' { b"\t" } else { b" " })?;
     }
     push_bytes(note, b"^")?;
@@ -50,7 +50,7 @@ pub fn push_excerpt(
     push_bytes(note, b"\n")
 }
 
-// The first bytes of a text, at most so many.
+// The first `most` bytes of a text, or all where it is shorter.
 fn first_bytes(text: &[u8], most: usize) -> &[u8] {
     if most < text.len() {
         &text[..most]
@@ -59,14 +59,14 @@ fn first_bytes(text: &[u8], most: usize) -> &[u8] {
     }
 }
 
-/// A file, and what it is called.
+/// A file and its name.
 #[derive(Clone, Copy)]
 pub struct File<'a> {
     pub name: &'a [u8],
     pub text: &'a [u8],
 }
 
-/// Some bytes of a file, from an offset on.
+/// A range of bytes in a file, from an offset on.
 #[derive(Clone, Copy)]
 pub struct Spot {
     pub from: usize,
@@ -88,7 +88,7 @@ pub fn push_fault(
     push_bytes(note, b": ")?;
     push_bytes(note, sentence)?;
     push_bytes(note, b"\n")?;
-    // On the line after the last one nothing stands.
+    // The line after the last one is empty.
     if place.start == file.text.len() {
         return Ok(());
     }

@@ -2,7 +2,7 @@ ghost use Rattle.std.specs.Prelude.{◌≡◌, ◌⊎◌, ◌≤◌, length, min
 ghost use Rattle.std.specs.List.{position_or_len};
 ghost use Rattle.ql_excerpt.specs.Places.{IsBlankLine, IsInLine, IsPlace, is_line_feed};
 
-/// Where something stands in a text: its line, from 1, that line's first byte, and its own.
+/// A position in a text: its line, from 1, and in bytes the offset of that line's first byte and its own.
 #[derive(Clone, Copy)]
 pub struct Place {
     pub line: u64,
@@ -25,7 +25,7 @@ pub fn place_of(text: &[u8], offset: usize) -> Place
     Place { line, start, at }
 }
 
-/// The position of a line's first byte that isn't blank, or of the text's end where it has none.
+/// The position of the first byte of a line that isn't blank, or of the text's end where the line has none.
 pub fn place_of_line(text: &[u8], number: u64) -> Place
     ensures is { IsPlace text.now result.at result }
     ensures on_line { IsInLine text.now number result ⊎ ((result.at ≡ length text.now) × IsBlankLine text.now number) }

@@ -15,7 +15,7 @@ use Rattle.ql_exec.specs.declared.effect.Member.TheVariants.{Alone, Inside}
 use Rattle.ql_exec.specs.declared.fault.ExecFault.{ExecFault}
 use Rattle.ql_exec.specs.Effects.{effect_at, one, both, in_run, of_session, last}
 use Rattle.ql_exec.specs.Relations.{so, sametxn, same_run}
-use Rattle.ql_exec.specs.Execution.{IsOn, SeesEarlier, IsExecution, is_elsewhere, has_name, same_name, strays, splits, fault_of, effect_of}
+use Rattle.ql_exec.specs.Execution.{IsOn, SeesEarlier, IsExecution, is_elsewhere, is_declared_as, same_name, strays, splits, fault_of, effect_of}
 use Rattle.ql_exec.proofs.Finding.{effect_at-within, effect_at-append, effect_at-last, cases_pushed, both-found, any_at, any_found, LastIs, nothing, effect, last_is, so_parts, so_from, sametxn_parts, sametxn_from, same_run-join, in_run-along, same_run-of}
 
 -- ---- what an effect sees
@@ -140,11 +140,11 @@ joins x s (Inside run name) a g whole at same =
       | inr never ↦ never
     ] in
     let parts = or_parts (list_any (strays run.0 s name) x) (not (one (λ e. in_run run.0 e.member) (last (of_session x s)))) sound in
-    let kept = not-false (nat_eq g.session.0 s.0 && has_name name g.member) (elim (and_cases (in_run run.0 g.member) (not (nat_eq g.session.0 s.0 && has_name name g.member)) (none_at (strays run.0 s name) x a g at parts.0)) [
+    let kept = not-false (nat_eq g.session.0 s.0 && is_declared_as name g.member) (elim (and_cases (in_run run.0 g.member) (not (nat_eq g.session.0 s.0 && is_declared_as name g.member)) (none_at (strays run.0 s name) x a g at parts.0)) [
       | inl never ↦ absurd (both_ways (in_run run.0 g.member) never same)
       | inr never ↦ never
     ]) in
-    let tests = and_parts (nat_eq g.session.0 s.0) (has_name name g.member) kept in
+    let tests = and_parts (nat_eq g.session.0 s.0) (is_declared_as name g.member) kept in
     let final = final_in x s (λ e. in_run run.0 e.member) (last_is x s) (not-false _ parts.1) in
     record { own_session = eqb-true g.session.0 s.0 tests.0; own_name = tests.1; id = final.0; final = final.1; final_at = final.2; final_session = final.3; final_run = final.4; highest = final.5 }
 
@@ -283,12 +283,12 @@ names_same x a b e f first second is =
     let other_effect : found.1 ≡ f = same_Some found.1 f (sym found.3 ∙ second) in
     subst (λ (g : Effect). same_name e.member g.member ≡ true) other_effect (subst (λ (g : Effect). same_name g.member found.1.member ≡ true) one_effect found.4)
 
-stray_from : (run : ℕ) (s : SessId) (name : DeclId) (f : Effect) → (in_run run f.member ≡ true → (f.session.0 ≡ s.0) × (has_name name f.member ≡ true)) → strays run s name f ≡ false
+stray_from : (run : ℕ) (s : SessId) (name : DeclId) (f : Effect) → (in_run run f.member ≡ true → (f.session.0 ≡ s.0) × (is_declared_as name f.member ≡ true)) → strays run s name f ≡ false
 stray_from run s name f kept = elim (cases_Bool (in_run run f.member)) [
   | inr out ↦ and_left (in_run run f.member) _ out
   | inl member ↦
       let is = kept member in
-      and_right (in_run run f.member) _ (not_from_true _ (and_from (nat_eq f.session.0 s.0) (has_name name f.member) (eq-eqb f.session.0 s.0 is.0) is.1))
+      and_right (in_run run f.member) _ (not_from_true _ (and_from (nat_eq f.session.0 s.0) (is_declared_as name f.member) (eq-eqb f.session.0 s.0 is.0) is.1))
 ]
 
 -- what comes after an execution splits no transaction
@@ -318,7 +318,7 @@ whole_from x e law (Inside run name) is = elim (cases_Bool (list_any (λ f. in_r
     own : (id : ℕ) (f : Effect) → effect_at x id ≡ Some f → in_run run.0 f.member ≡ true → f.session.0 ≡ e.session.0
     own id f there member = so_sessions (x ++ e ∷ []) id n f e (longer id f there) (effect_at-last x e) (law.one_session id n (below id f there) (together id f there member))
 
-    named : (id : ℕ) (f : Effect) → effect_at x id ≡ Some f → in_run run.0 f.member ≡ true → has_name name f.member ≡ true
+    named : (id : ℕ) (f : Effect) → effect_at x id ≡ Some f → in_run run.0 f.member ≡ true → is_declared_as name f.member ≡ true
     named id f there member =
         subst (λ (m : Member). same_name f.member m ≡ true) is
         (names_same (x ++ e ∷ []) id n f e (longer id f there) (effect_at-last x e) (law.one_name id n (below id f there) (together id f there member)))
@@ -360,7 +360,7 @@ fault_of-None x draft law ascending = (
 )
 
 -- ---- what the last effect of a session tells
-name_along : (run : ℕ) (name : DeclId) (m n : Member) → same_name m n ≡ true → in_run run n ≡ true → has_name name n ≡ true → has_name name m ≡ true
+name_along : (run : ℕ) (name : DeclId) (m n : Member) → same_name m n ≡ true → in_run run n ≡ true → is_declared_as name n ≡ true → is_declared_as name m ≡ true
 name_along run name m Alone same member named = absurd (false≢true member)
 name_along run name Alone (Inside r t) same member named = refl
 name_along run name (Inside q u) (Inside r t) same member named =
@@ -369,20 +369,20 @@ name_along run name (Inside q u) (Inside r t) same member named =
     eq-eqb u.0 name.0 (first ∙ second)
 
 pub splits-own : (x : List Effect) (s : SessId) (run : RunId) (name : DeclId) (l : Effect) → IsExecution x → last (of_session x s) ≡ Some l → in_run run.0 l.member ≡ true
-    → not (has_name name l.member) ≡ splits x s (Inside run name)
+    → not (is_declared_as name l.member) ≡ splits x s (Inside run name)
 splits-own x s run name l law is member = known (last_is x s)
   where
     final : one (λ e. in_run run.0 e.member) (last (of_session x s)) ≡ true
     final = ap (one (λ e. in_run run.0 e.member)) is ∙ member
 
-    known : LastIs x s → not (has_name name l.member) ≡ splits x s (Inside run name)
+    known : LastIs x s → not (is_declared_as name l.member) ≡ splits x s (Inside run name)
     known (nothing none absent) = absurd (let never : Some l ≡ None = sym is ∙ none in cc)
     known (effect k f found there own highest) =
         let same : f ≡ l = same_Some f l (sym found ∙ is) in
         let l_at : effect_at x k ≡ Some l = there ∙ ap (λ (g : Effect). Some g) same in
         let l_own : l.session.0 ≡ s.0 = ap (λ (g : Effect). g.session.0) (sym same) ∙ own in
         let some : list_any (λ e. in_run run.0 e.member) x ≡ true = any_at (λ e. in_run run.0 e.member) x k l l_at member in
-        elim (cases_Bool (has_name name l.member)) [
+        elim (cases_Bool (is_declared_as name l.member)) [
           | inl named ↦
               rw named (sym (and_right (list_any (λ e. in_run run.0 e.member) x) _ (or_from _ _
               (none_from (strays run.0 s name) x (λ id g at_id. stray_from run.0 s name g (λ inside. kept k l_at l_own highest named id g at_id inside)))
@@ -393,12 +393,12 @@ splits-own x s run name l law is member = known (last_is x s)
         ]
       where
         kept : (k : ℕ) → effect_at x k ≡ Some l → l.session.0 ≡ s.0 → ((other : ℕ) (f : Effect) → effect_at x other ≡ Some f → f.session.0 ≡ s.0 → other ≤ k)
-            → has_name name l.member ≡ true → (id : ℕ) (g : Effect) → effect_at x id ≡ Some g → in_run run.0 g.member ≡ true → (g.session.0 ≡ s.0) × (has_name name g.member ≡ true)
+            → is_declared_as name l.member ≡ true → (id : ℕ) (g : Effect) → effect_at x id ≡ Some g → in_run run.0 g.member ≡ true → (g.session.0 ≡ s.0) × (is_declared_as name g.member ≡ true)
         kept k l_at l_own highest named id g at_id inside = elim (cases_order id k) [
           | inl same ↦
               let here : Some l ≡ Some g = sym l_at ∙ ap (effect_at x) (sym same) ∙ at_id in
               let one_effect = same_Some l g here in
-              (ap (λ (h : Effect). h.session.0) (sym one_effect) ∙ l_own, subst (λ (h : Effect). has_name name h.member ≡ true) one_effect named)
+              (ap (λ (h : Effect). h.session.0) (sym one_effect) ∙ l_own, subst (λ (h : Effect). is_declared_as name h.member ≡ true) one_effect named)
           | inr (inl less) ↦
               let together = sametxn_from x id k g l at_id l_at (same_run-of run.0 g.member l.member inside member) in (
                 so_sessions x id k g l at_id l_at (law.one_session id k less together) ∙ l_own,

@@ -6,7 +6,7 @@ use Rattle.ql_exec.specs.declared.effect.Effect.{Effect}
 use Rattle.ql_exec.specs.declared.effect.Member.{Member}
 use Rattle.ql_exec.specs.declared.effect.Member.TheVariants.{Alone, Inside}
 
--- the effect of an id, counted from 1
+-- the effect with an id, counted from 1
 abbrev pub effect_at : List Effect → ℕ → Option Effect
 effect_at effects zero = None
 effect_at effects (suc k) = slice_get effects k

@@ -1,7 +1,7 @@
 -- Executions: the effects of a run in their order, each with the earlier effects that it saw.
 -- The model is that of Sivaramakrishnan, Kaki and Jagannathan, 'Declarative Programming over Eventually Consistent Data
--- Stores' (PLDI 2015): effects with visibility and session order. That effects stand in a list, that they are numbered
--- from 1, and that each sees earlier ones on its own object alone, is ours. So are the rule on transactions and the
+-- Stores' (PLDI 2015): effects with visibility and session order. That effects form a list, that they are numbered
+-- from 1, and that each sees only earlier ones on its own object, is ours. So are the rule on transactions and the
 -- stamps, which are Lamport's logical clocks ('Time, Clocks, and the Ordering of Events in a Distributed System', 1978).
 use Rattle.std.specs.Prelude.{◌≡◌, ℕ, suc, ◌<◌, max, Bool, true, false, not, ◌&&◌, ◌||◌, nat_eq, if◌then◌else◌, List, [], ◌∷◌, ◌++◌, map, length, Option, Some, None, is_none, Result, Ok, Err, IsTrue}
 use Rattle.std.specs.List.{list_any}
@@ -26,7 +26,7 @@ abbrev pub greatest : List ℕ → ℕ
 greatest [] = 0
 greatest (n ∷ more) = max n (greatest more)
 
--- the stamp of an effect, 0 where there is none
+-- the stamp of an effect, 0 if there is none
 abbrev pub stamp_at : List Effect → ℕ → ℕ
 stamp_at effects id = option_map_or (λ e. e.stamp) (effect_at effects id) 0
 
@@ -38,7 +38,8 @@ session_stamp effects session = greatest (map (λ e. e.stamp) (of_session effect
 abbrev pub seen_stamp : List Effect → List ℕ → ℕ
 seen_stamp effects seen = greatest (map (stamp_at effects) seen)
 
--- the stamp of an effect after these: one more than the greatest of the seen effects and the session's, and else 1
+-- the stamp of an effect after these: one more than the greatest of the seen effects and the session's, 1 if there are
+-- none
 abbrev pub stamp_of : List Effect → SessId → List ℕ → ℕ
 stamp_of effects session seen = suc (max (seen_stamp effects seen) (session_stamp effects session))
 
@@ -49,20 +50,20 @@ abbrev pub IsOn : ObjId → Option Effect → Type 0
 IsOn object None = ⊥
 IsOn object (Some effect) = effect.object ≡ object
 
--- an effect of an id sees effects with lower ids on its own object alone, and they ascend strictly
+-- an effect with an id sees only effects with lower ids on its own object, and they ascend strictly
 abbrev pub SeesEarlier : List Effect → ℕ → ObjId → List ℕ → Type 0
 SeesEarlier effects id object seen =
     ((a : ℕ) → IsTrue (has_id seen a) → (a < id) × IsOn object (effect_at effects a)) × IsAscending seen
 
--- a membership is under a declared name, where it is in a transaction
-abbrev pub has_name : DeclId → Member → Bool
-has_name name Alone = true
-has_name name (Inside run other) = nat_eq other.0 name.0
+-- a membership is under a declared name, if it is in a transaction
+abbrev pub is_declared_as : DeclId → Member → Bool
+is_declared_as name Alone = true
+is_declared_as name (Inside run other) = nat_eq other.0 name.0
 
--- two memberships are under one declared name, where both are in a transaction
+-- two memberships are under one declared name, if both are in a transaction
 abbrev pub same_name : Member → Member → Bool
 same_name m Alone = true
-same_name m (Inside run name) = has_name name m
+same_name m (Inside run name) = is_declared_as name m
 
 pub record IsExecution (x : List Effect) : Type 0 where
   -- each effect sees earlier ones on its object
@@ -84,10 +85,10 @@ is_elsewhere object (Some effect) = not (nat_eq effect.object.0 object.0)
 
 -- an effect is of a begun transaction, and of another session or under another name
 abbrev pub strays : ℕ → SessId → DeclId → Effect → Bool
-strays run session name e = in_run run e.member && not (nat_eq e.session.0 session.0 && has_name name e.member)
+strays run session name e = in_run run e.member && not (nat_eq e.session.0 session.0 && is_declared_as name e.member)
 
--- An effect to come splits its transaction, of which there are effects: one of them is of another session or under
--- another name, or the last effect of the session is of no such transaction.
+-- The next effect splits its transaction, which has effects already: one of them is of another session or under
+-- another name, or the last effect of the session isn't of this transaction.
 abbrev pub splits : List Effect → SessId → Member → Bool
 splits effects session Alone = false
 splits effects session (Inside run name) =
@@ -98,8 +99,8 @@ splits effects session (Inside run name) =
 abbrev pub next_id : List Effect → EffId
 next_id effects = record { 0 = suc (length effects) }
 
--- why a draft is no next effect: first, that it sees an id of no earlier effect; then, that it sees one on another
--- object; then, that it splits its transaction
+-- why a draft can't be the next effect: first, that it sees an id of no earlier effect; then, that it sees one on
+-- another object; then, that it splits its transaction
 abbrev pub fault_of : List Effect → Draft → Option ExecFault
 fault_of effects draft =
     if list_any (λ id. is_none (effect_at effects id)) draft.seen then Some (NotForward (next_id effects))
@@ -125,7 +126,7 @@ with_stamp draft stamp = record {
 abbrev pub effect_of : List Effect → Draft → Effect
 effect_of effects draft = with_stamp draft (stamp_of effects draft.session draft.seen)
 
--- what may be answered for a draft
+-- what may be returned for a draft
 abbrev pub IsPushAnswer : List Effect → Draft → Result EffId ExecFault → Type 0
 IsPushAnswer effects draft (Ok id) = (fault_of effects draft ≡ None) × (id ≡ next_id effects)
 IsPushAnswer effects draft (Err (NotForward at)) = fault_of effects draft ≡ Some (NotForward at)
@@ -139,7 +140,7 @@ made_after effects [] = Ok effects
 made_after effects (draft ∷ drafts) =
     option_map_or (λ fault. Err fault) (fault_of effects draft) (made_after (effects ++ effect_of effects draft ∷ []) drafts)
 
--- what may be answered for drafts
+-- what may be returned for drafts
 abbrev pub IsMade : List Draft → Result (List Effect) ExecFault → Type 0
 IsMade drafts (Ok x) = made_after [] drafts ≡ Ok x
 IsMade drafts (Err (NotForward at)) = made_after [] drafts ≡ Err (NotForward at)

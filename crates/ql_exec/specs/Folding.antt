@@ -11,7 +11,7 @@ use Rattle.ql_exec.specs.Execution.{IsOn}
 abbrev pub comes_before : Effect → Effect → Bool
 comes_before e f = nat_lt e.stamp f.stamp || (nat_eq e.stamp f.stamp && nat_lt e.session.0 f.session.0)
 
--- an effect in its place among others that are in order
+-- an effect inserted among others that are in order
 abbrev pub with_effect : Effect → List Effect → List Effect
 with_effect e [] = e ∷ []
 with_effect e (f ∷ effects) = if comes_before e f then e ∷ f ∷ effects else f ∷ with_effect e effects

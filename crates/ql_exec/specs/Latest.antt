@@ -9,7 +9,7 @@ use Rattle.ql_exec.specs.declared.effect.Member.TheVariants.{Alone, Inside}
 use Rattle.ql_exec.specs.declared.latest.Entry.{Entry}
 use Rattle.ql_exec.specs.Effects.{effect_at, in_run, of_session, last}
 
--- the id that the table has for a session, 0 where it has none
+-- the id that the table has for a session, 0 if it has none
 abbrev pub latest_of : List Entry → SessId → ℕ
 latest_of [] session = 0
 latest_of (entry ∷ entries) session = if nat_eq entry.session.0 session.0 then entry.last else latest_of entries session
@@ -30,7 +30,7 @@ abbrev pub FindsLast : List Entry → List Effect → Type 0
 FindsLast entries x =
     (session : SessId) → (latest_of entries session ≤ length x) × (effect_at x (latest_of entries session) ≡ last (of_session x session))
 
--- each transaction of which there is an effect is among these
+-- each transaction that has an effect is among these
 abbrev pub KnowsRuns : List ℕ → List Effect → Type 0
 KnowsRuns runs x = (run : ℕ) → list_any (λ e. in_run run e.member) x ≡ true → has_id runs run ≡ true
 

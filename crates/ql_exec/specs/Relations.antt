@@ -2,7 +2,7 @@
 -- From Sivaramakrishnan, Kaki and Jagannathan, 'Declarative Programming over Eventually Consistent Data Stores'
 -- (PLDI 2015): visibility `vis`, session order `so`, `sameobj`, `soo`, which is `so` and `sameobj` together, and the
 -- transitive closures `hb` of `so` or `vis` and `hbo` of `soo` or `vis`.
--- Ours: that session order is the order of ids within a session, since ids follow the run; that a closure is told by
+-- Ours: that session order is the order of ids within a session, since ids follow the run; that a closure is defined by
 -- recursion on the later effect; and the exact meaning of `sametxn`.
 use Rattle.std.specs.Prelude.{ℕ, zero, suc, Bool, false, ◌&&◌, ◌||◌, nat_eq, nat_lt, List}
 use Rattle.ql_base.specs.IdLists.{has_id}

@@ -10,7 +10,7 @@ pub enum Member {
     Inside(RunId, DeclId),
 }
 
-/// What an effect carries to those that see it.
+/// What an effect carries to the calls that see it.
 #[derive(Drop)]
 pub enum Payload {
     /// It changes nothing.
@@ -19,7 +19,7 @@ pub enum Payload {
     Emitted(Values),
 }
 
-/// What one call of an operation left behind.
+/// What one call of an operation left in the execution.
 #[derive(Drop)]
 pub struct Effect {
     pub object: ObjId,
@@ -30,7 +30,7 @@ pub struct Effect {
     pub session: SessId,
     pub member: Member,
     /// The Lamport stamp: one more than the greatest stamp among the seen effects and those before
-    /// it in its session, and 1 where there are none.
+    /// it in its session, and 1 if there are none.
     pub stamp: u32,
     /// The effects that the call saw.
     pub seen: IdSet,

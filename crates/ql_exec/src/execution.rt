@@ -21,7 +21,7 @@ pub struct Execution {
     effects: Vec<Effect>,
     // The last effect of each session.
     latest: Latest,
-    // Each begun transaction of which there is an effect, and maybe some of which there is none.
+    // Each begun transaction that has an effect, and possibly some that have none.
     runs: IdSet,
 }
 
@@ -52,7 +52,7 @@ impl Execution {
         }
     }
 
-    /// The pushes of these drafts in order. The first that is refused is told.
+    /// Pushes these drafts in order. The first that is refused is reported.
     pub fn from_effects(alloc: Global, drafts: Vec<Draft>) -> Result<Execution, ExecFault>
         requires { length drafts.items < 2 ^ 32 }
         ensures { IsMade drafts.items result }
@@ -79,7 +79,7 @@ impl Execution {
         self.effects.is_empty()
     }
 
-    /// The effect of an id.
+    /// The effect with an id.
     pub fn get(&self, id: EffId) -> &Effect
         requires first { 1 ≤ id.0 }
         requires last { id.0 ≤ length self.now }
@@ -97,8 +97,8 @@ impl Execution {
         &self.effects
     }
 
-    /// Appends an effect with its stamp and gives its id. A draft that is refused is dropped. Of its
-    /// faults the first is told.
+    /// Appends an effect with its stamp and returns its id. A draft that is refused is dropped, and the
+    /// first of its faults is reported.
     pub fn push(&mut self, draft: Draft) -> Result<EffId, ExecFault>
         requires room { length self.old + 1 < 2 ^ 32 }
         ensures answer { IsPushAnswer self.old draft result }
@@ -119,7 +119,7 @@ impl Execution {
         Ok(id)
     }
 
-    /// Takes the last effect away.
+    /// Removes the last effect.
     pub fn pop(&mut self)
         requires { 1 ≤ length self.old }
         ensures { self.new ≡ take (length self.old - 1) self.old }

@@ -1,15 +1,15 @@
 use ql_base::{EffId, NoMemory};
 use std::alloc::AllocFailed;
 
-/// Why a draft is no next effect of an execution. The id is the one that it would have.
+/// Why a draft can't be the next effect of an execution. The id is the one that it would have.
 #[derive(Clone, Copy, Debug, PartialEq, Eq)]
 pub enum ExecFault {
     /// It sees an id that names no earlier effect.
     NotForward(EffId),
     /// It sees an effect on another object.
     OtherObject(EffId),
-    /// It is in a begun transaction of which there are effects, and one of them is of another
-    /// session or under another declared name, or the session's last effect isn't one of them.
+    /// It is in a begun transaction that has effects, and one of them is of another session or
+    /// under another declared name, or the session's last effect isn't one of them.
     SplitTxn(EffId),
     NoMemory,
 }

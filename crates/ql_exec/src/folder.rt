@@ -10,7 +10,7 @@ use crate::execution::Execution;
 use ql_base::{IdSet, NoMemory, OpId};
 use ql_value::{Value, Values};
 
-/// What a call gives back, and what its effect carries.
+/// What a call returns, and what its effect carries.
 #[derive(Drop)]
 pub struct Answered {
     pub answer: Value,
@@ -19,7 +19,7 @@ pub struct Answered {
 
 /// Answers calls of operations from the effects that they see.
 pub trait Folder {
-    // What is answered for an operation, its arguments and the seen effects in order of stamp and session.
+    // The answer for an operation, its arguments and the seen effects in order of stamp and session.
     ghost answered: { Self → OpId → List Value → List Effect → Answered };
 
     // Whether there is an answer for these.

@@ -3,15 +3,15 @@ ghost use Rattle.std.specs.List.{list_any};
 ghost use Rattle.std.specs.Option.{option_copied, option_map_or};
 ghost use Rattle.ql_base.specs.IdLists.{IsAscending};
 ghost use Rattle.ql_exec.specs.Effects.{effect_at, in_run, of_session, last};
-ghost use Rattle.ql_exec.specs.Execution.{is_elsewhere, has_name, IsExecution, splits, stamp_at, stamp_of, fault_of, next_id};
+ghost use Rattle.ql_exec.specs.Execution.{is_elsewhere, is_declared_as, IsExecution, splits, stamp_at, stamp_of, fault_of, next_id};
 ghost use Rattle.ql_exec.specs.Latest.{KnowsRuns};
 
 use crate::effect::{Draft, Effect, Member};
 use crate::fault::ExecFault;
 use ql_base::{DeclId, EffId, IdSet, ObjId, RunId, SessId};
 
-/// What is wrong with a draft that is to have this id, the next one. `last_of_session` is the last
-/// effect of its session, and each transaction with an effect is among `runs`.
+/// What is wrong with a draft of the next effect. `last_of_session` is the last effect of its session,
+/// and each transaction with an effect is among `runs`.
 pub(crate) fn fault_in(
     effects: &[Effect],
     last_of_session: Option<&Effect>,
@@ -61,7 +61,7 @@ fn is_on_other(effects: &[Effect], object: ObjId, id: u32) -> bool
     }
 }
 
-/// The effect of an id, where there is one.
+/// The effect with an id, if there is one.
 pub(crate) fn effect(effects: &[Effect], id: u32) -> Option<&Effect>
     ensures value { option_copied result ≡ effect_at effects.now id }
     ensures there { is_none result ≡ is_none (effect_at effects.now id) }
@@ -73,8 +73,8 @@ pub(crate) fn effect(effects: &[Effect], id: u32) -> Option<&Effect>
     }
 }
 
-// Whether the next effect splits its transaction. Where the last effect of the session is of that
-// transaction, all of them are of the session.
+// Whether the next effect splits its transaction. If the last effect of the session is of that
+// transaction, all effects of the transaction are of the session.
 fn splits(
     effects: &[Effect],
     last_of_session: Option<&Effect>,
@@ -102,7 +102,7 @@ fn splits(
     }
 }
 
-// Whether there is an effect of the transaction.
+// Whether the transaction has an effect.
 fn has_begun(effects: &[Effect], runs: &IdSet, run: RunId) -> bool
     requires { KnowsRuns runs.now effects.now }
     ensures { result ≡ list_any (λ e. in_run run.0 e.member) effects.now }
@@ -120,7 +120,7 @@ fn is_in_run(effect: &Effect, run: RunId) -> bool
 }
 
 fn is_under_name(effect: &Effect, name: DeclId) -> bool
-    ensures { result ≡ has_name name effect.now.member }
+    ensures { result ≡ is_declared_as name effect.now.member }
 {
     match effect.member {
         Member::Alone => true,
@@ -153,7 +153,7 @@ fn stamp_at(effects: &[Effect], id: u32) -> u32
     stamp_or_none(effect(effects, id))
 }
 
-// The stamp of an effect, and 0 for none.
+// The stamp of an effect, or 0 if there is none.
 fn stamp_or_none(effect: Option<&Effect>) -> u32
     ensures { result ≡ option_map_or (λ e. e.stamp) (option_copied effect.entry) 0 }
 {
@@ -163,7 +163,7 @@ fn stamp_or_none(effect: Option<&Effect>) -> u32
     }
 }
 
-/// The id of the session's last effect, 0 where it has none. It goes over all effects.
+/// The id of the session's last effect, 0 if it has none. It takes time linear in the number of effects.
 pub(crate) fn last_place(effects: &[Effect], session: SessId) -> u32
     requires { length effects.now < 2 ^ 32 }
     ensures within { result ≤ length effects.now }

@@ -6,7 +6,7 @@ use ql_base::{NoMemory, SessId};
 use std::alloc::Global;
 use std::marker::Model;
 
-/// The last effect of a session, by its id. The id is 0 where the session has no effect.
+/// The last effect of a session, by its id. The id is 0 if the session has no effect.
 #[derive(Clone, Copy)]
 pub(crate) struct Entry {
     session: SessId,
@@ -49,7 +49,7 @@ impl Latest {
         0
     }
 
-    /// Makes room for the session, which changes no answer.
+    /// Makes room for the session. The last effect of each session stays the same.
     pub(crate) fn include(&mut self, session: SessId) -> Result<(), NoMemory>
         ensures same { (other : SessId) → latest_of self.new other ≡ latest_of self.old other }
         ensures there { OnOk result (has_entry self.new session ≡ true) }
@@ -77,7 +77,7 @@ impl Latest {
         Ok(Latest { entries })
     }
 
-    /// Puts another last effect to a session that there is room for.
+    /// Sets the last effect of a session that there is room for.
     pub(crate) fn put(&mut self, session: SessId, id: u32)
         ensures { self.new ≡ with_latest self.old session id }
     {

@@ -1,9 +1,8 @@
 use ql_base::{NoMemory, push_bytes, push_number};
 use ql_exec::{Effect, Member, Payload};
 use ql_execution_files::{ReportFault, parse_execution};
-use ql_parse::parse_program;
 use ql_tables::check_table;
-use ql_typing::{Typed, typecheck};
+use ql_test_programs::declared;
 use ql_value::{Values, print_value};
 use std::alloc::Global;
 use std::test::Fail;
@@ -14,7 +13,7 @@ type u { op v(): unit { contract true; answer unit; } }
 transaction p { uses w; contract true; }
 transaction q { uses r; contract true; }";
 
-// Files, and what they tell: the object, the operation, the arguments, the answer, the payload, the session, the
+// Files, and what they contain: the object, the operation, the arguments, the answer, the payload, the session, the
 // transaction, the stamp and the seen ids of each effect, or the first fault. From an independent implementation.
 const FILES: &str = r#"
  -> Unexpected 1
@@ -49,7 +48,7 @@ fn texts_are_files(rt: HostRuntime) -> Result<(), Fail> {
     check_table(rt.alloc(), FILES, read)
 }
 
-// The same of files in which effects break rules, and of two in which one more stamp decides.
+// Files in which effects break rules, and two in which a stamp greater by one decides.
 const RULES: &str = "
 execution␊effect 1 x w (7) = unit emit (7) session 2 txn - stamp 1 vis␊effect 2 x r () = 0 emit - session 1 txn 1:p stamp 1 vis␊effect 3 x r () = 7 emit - session 1 txn 1:p stamp 2 vis 1␊end␊ -> 0 0 (7) unit (7) 2 - 1 []; 0 1 () 0 - 1 1:0 1 []; 0 1 () 7 - 1 1:0 2 [1]
 execution␊effect 1 x w (7) = unit emit (7) session 2 txn - stamp 1 vis␊effect 2 x r () = 0 emit - session 1 txn 1:p stamp 1 vis␊effect 3 x r () = 7 emit - session 1 txn 1:p stamp 1 vis 1␊end␊ -> Stamp 4
@@ -98,18 +97,13 @@ fn with_effects(alloc: Global, count: u32) -> Result<Vec<u8>, NoMemory> {
 }
 
 fn read_bytes(alloc: Global, file: &[u8]) -> Result<Vec<u8>, NoMemory> {
-    let Some(typed) = declared(alloc) else {
+    let Some(typed) = declared(alloc, SOURCE) else {
         return Ok(Vec::from_slice(alloc, b"no source")?);
     };
     match parse_execution(alloc, &typed, file) {
         Ok(execution) => effects_text(alloc, execution.effects()),
         Err(why) => fault(alloc, why),
     }
-}
-
-fn declared(alloc: Global) -> Option<Typed> {
-    let program = parse_program(alloc, SOURCE.as_bytes()).ok()?;
-    typecheck(alloc, program).ok()
 }
 
 fn effects_text(alloc: Global, effects: &[Effect]) -> Result<Vec<u8>, NoMemory> {

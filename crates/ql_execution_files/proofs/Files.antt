@@ -11,47 +11,47 @@ use Rattle.ql_line_files.proofs.OneOutcome as law
 use Rattle.ql_lines.specs.Lines.{Ahead, Numbered}
 use Rattle.ql_effect_lines.specs.declared.effect_line.EffectLine.{EffectLine}
 use Rattle.ql_effect_lines.specs.declared.rules.ReportRule.{ReportRule}
-use Rattle.ql_effect_lines.specs.declared.told.Told.{Told}
+use Rattle.ql_effect_lines.specs.declared.effects_read.EffectsRead.{EffectsRead}
 use Rattle.ql_effect_lines.specs.EffectLine.{IsEffectLine}
 use Rattle.ql_effect_lines.specs.Effects.{AreOfProgram, after_effect}
-use Rattle.ql_execution_files.specs.declared.format.Reading.{Reading}
-use Rattle.ql_execution_files.specs.declared.format.Reading.TheVariants.{Unbegun, WithEffects, Ended}
+use Rattle.ql_execution_files.specs.declared.format.ExecutionReading.{ExecutionReading}
+use Rattle.ql_execution_files.specs.declared.format.ExecutionReading.TheVariants.{Unbegun, WithEffects, Ended}
 use Rattle.ql_execution_files.specs.declared.report_fault.ReportFault.{ReportFault}
-use Rattle.ql_execution_files.specs.ExecutionFile.{AreSound, Closes, FirstFault, Gives, IsExecutionFile, fault_at, gives}
+use Rattle.ql_execution_files.specs.ExecutionFile.{AreSound, ClosesExecution, FirstExecutionFault, ExtendsExecution, IsExecutionFile, fault_at, gives}
 use Rattle.ql_execution_files.specs.OneLine.{closes_one, gives_one, takes_sound}
 
 -- what an effect's line is refused for
-pub broken : (p : Program) (told : Told) (text : List ℕ) (e : EffectLine) → IsEffectLine text (suc (length told.effects)) e → (fault : LineFault ReportRule)
-    → IsLineAnswer (λ x. after_effect p told e ≡ x) (Err fault) → IsLineAnswer (Gives p (WithEffects told) text) (Err fault)
-broken p told text e is (line.Breaks rule) h = inr (record { effect = e; is = is; unlawful = h })
-broken p told text e is line.NoMemory h = tt
+pub broken : (p : Program) (read : EffectsRead) (text : List ℕ) (e : EffectLine) → IsEffectLine text (suc (length read.effects)) e → (fault : LineFault ReportRule)
+    → IsLineAnswer (λ x. after_effect p read e ≡ x) (Err fault) → IsLineAnswer (ExtendsExecution p (WithEffects read) text) (Err fault)
+broken p read text e is (line.Breaks rule) h = inr (record { effect = e; is = is; unlawful = h })
+broken p read text e is line.NoMemory h = tt
 
 module _ (p : Program) where
-  leads_sound : (ls : List Numbered) (s t : Reading) → AreSound p s → Leads (gives p) Closes s ls t → AreSound p t
+  leads_sound : (ls : List Numbered) (s t : ExecutionReading) → AreSound p s → Leads (gives p) ClosesExecution s ls t → AreSound p t
   unfolding Leads
   leads_sound [] s t sound h = subst (AreSound p) h sound
   leads_sound (l ∷ ls) s t sound h = leads_sound ls h.0 t (takes_sound p s l.text h.0 sound h.1) h.2
 
   module _ (file : Ahead) where
-    sound_at : (x : List Effect) (s : Reading) → AreSound p s → Closes s file.end (Ok x) → (length x ≤ 4000) × AreOfProgram p x
+    sound_at : (x : List Effect) (s : ExecutionReading) → AreSound p s → ClosesExecution s file.end (Ok x) → (length x ≤ 4000) × AreOfProgram p x
     sound_at x Unbegun sound c = absurd cc
-    sound_at x (WithEffects told) sound c = absurd cc
-    sound_at x (Ended told) sound c = let same : told.effects ≡ x = cc in subst (λ (y : List Effect). (length y ≤ 4000) × AreOfProgram p y) same (sound.0, sound.1)
+    sound_at x (WithEffects read) sound c = absurd cc
+    sound_at x (Ended read) sound c = let same : read.effects ≡ x = cc in subst (λ (y : List Effect). (length y ≤ 4000) × AreOfProgram p y) same (sound.0, sound.1)
 
     pub file_sound : (x : List Effect) → IsExecutionFile p file x → (length x ≤ 4000) × AreOfProgram p x
     file_sound x h = sound_at x h.state (leads_sound file.lines Unbegun h.state tt h.leads) h.ends
 
-    one : (x y : Result (List Effect) (Broken ReportRule)) → Outcome (gives p) Closes Unbegun file x → Outcome (gives p) Closes Unbegun file y → x ≡ y
-    one = law.one_outcome (gives p) Closes (λ s l x y. gives_one p s l.text x y) closes_one Unbegun file
+    one : (x y : Result (List Effect) (Broken ReportRule)) → Outcome (gives p) ClosesExecution Unbegun file x → Outcome (gives p) ClosesExecution Unbegun file y → x ≡ y
+    one = law.one_outcome (gives p) ClosesExecution (λ s l x y. gives_one p s l.text x y) closes_one Unbegun file
 
     pub one_execution : (x y : List Effect) → IsExecutionFile p file x → IsExecutionFile p file y → x ≡ y
     one_execution x y h k = let same : ◌≡◌ {A = Result (List Effect) (Broken ReportRule)} (Ok x) (Ok y) = one (Ok x) (Ok y) h k in cc
 
-    pub one_fault : (f g : ReportFault) → FirstFault p file f → FirstFault p file g → f ≡ g
+    pub one_fault : (f g : ReportFault) → FirstExecutionFault p file f → FirstExecutionFault p file g → f ≡ g
     one_fault f g h k =
         let same : ◌≡◌ {A = Result (List Effect) (Broken ReportRule)} (Err h.broken) (Err k.broken) = one (Err h.broken) (Err k.broken) h.first k.first in
         let broken : h.broken ≡ k.broken = cc in
         h.is ∙ ap (λ (b : Broken ReportRule). fault_at b.rule b.line) broken ∙ sym k.is
 
-    pub apart : (x : List Effect) (f : ReportFault) → IsExecutionFile p file x → FirstFault p file f → ⊥
+    pub apart : (x : List Effect) (f : ReportFault) → IsExecutionFile p file x → FirstExecutionFault p file f → ⊥
     apart x f h k = let same : ◌≡◌ {A = Result (List Effect) (Broken ReportRule)} (Ok x) (Err k.broken) = one (Ok x) (Err k.broken) h k.first in absurd cc

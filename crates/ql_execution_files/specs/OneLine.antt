@@ -1,4 +1,4 @@
--- What a line makes of what the lines before it say is one thing, and it stays sound.
+-- The reading after a line is unique, and it stays sound.
 use Rattle.std.proofs.Common.{◌≡◌, inl, inr, ℕ, suc, ◌<◌, List, [], ◌∷◌, Result, Ok, Err, length, codes, arith, refl, ap, sym, subst, ◌∙◌}
 use Rattle.std.proofs.lemmas.List.Elements.{All-nil}
 use Rattle.ql_exec.specs.declared.effect.Effect.{Effect}
@@ -9,99 +9,99 @@ use Rattle.ql_typing.specs.Operations.{all_ops}
 use Rattle.ql_effect_lines.specs.declared.effect_line.EffectLine.{EffectLine}
 use Rattle.ql_effect_lines.specs.declared.rules.ReportRule.{ReportRule}
 use Rattle.ql_effect_lines.specs.declared.rules.ReportRule.TheVariants.{Unexpected}
-use Rattle.ql_effect_lines.specs.declared.told.Told.{Told}
+use Rattle.ql_effect_lines.specs.declared.effects_read.EffectsRead.{EffectsRead}
 use Rattle.ql_effect_lines.specs.EffectLine.{IsEffectLine}
 use Rattle.ql_effect_lines.specs.Effects.{after_effect}
 use Rattle.ql_effect_lines.proofs.Lawful.{stays_sound}
 use Rattle.ql_effect_lines.proofs.Lines.{no_effect_ends, one_effect}
-use Rattle.ql_execution_files.specs.declared.format.Reading.{Reading}
-use Rattle.ql_execution_files.specs.declared.format.Reading.TheVariants.{Unbegun, WithEffects, Ended}
-use Rattle.ql_execution_files.specs.ExecutionFile.{AreSound, Breaks, BreaksRule, Closes, Gives, IsNoLine, Takes, TakesAny, TakesEffect, TakesEnd, nothing_told}
+use Rattle.ql_execution_files.specs.declared.format.ExecutionReading.{ExecutionReading}
+use Rattle.ql_execution_files.specs.declared.format.ExecutionReading.TheVariants.{Unbegun, WithEffects, Ended}
+use Rattle.ql_execution_files.specs.ExecutionFile.{AreSound, Breaks, BreaksRule, ClosesExecution, ExtendsExecution, IsNoLine, Takes, TakesAny, TakesEffect, TakesEnd, nothing_read}
 
-pub takes_sound : (p : Program) (s : Reading) (text : List ℕ) (t : Reading) → AreSound p s → Takes p s text t → AreSound p t
+pub takes_sound : (p : Program) (s : ExecutionReading) (text : List ℕ) (t : ExecutionReading) → AreSound p s → Takes p s text t → AreSound p t
 takes_sound p Unbegun text t sound (inl h) = subst (AreSound p) (sym h.1) (omega arith, All-nil (λ (f : Effect). f.op.0 < length (all_ops p.types)), omega arith)
 takes_sound p Unbegun text t sound (inr h) = subst (AreSound p) (sym h.1) tt
-takes_sound p (WithEffects told) text t sound (inl h) = subst (AreSound p) (sym h.to) (stays_sound p told h.more h.effect sound h.lawful)
-takes_sound p (WithEffects told) text t sound (inr h) = subst (AreSound p) (sym h.to) sound
-takes_sound p (Ended told) text t sound h = absurd h
+takes_sound p (WithEffects read) text t sound (inl h) = subst (AreSound p) (sym h.to) (stays_sound p read h.more h.effect sound h.lawful)
+takes_sound p (WithEffects read) text t sound (inr h) = subst (AreSound p) (sym h.to) sound
+takes_sound p (Ended read) text t sound h = absurd h
 
 module _ (p : Program) where
-  one_any : (fields : Fields) (a b : Reading) → TakesAny fields a → TakesAny fields b → a ≡ b
+  one_any : (fields : Fields) (a b : ExecutionReading) → TakesAny fields a → TakesAny fields b → a ≡ b
   one_any fields a b (inl x) (inl y) = x.1 ∙ sym y.1
   one_any fields a b (inl x) (inr y) = absurd (y.0 x.0)
   one_any fields a b (inr x) (inl y) = absurd (x.0 y.0)
   one_any fields a b (inr x) (inr y) = x.1 ∙ sym y.1
 
-  module _ (told : Told) (text : List ℕ) where
-    -- what effects a line is make one thing
-    same_after : (e f : EffectLine) → IsEffectLine text (suc (length told.effects)) e → IsEffectLine text (suc (length told.effects)) f → after_effect p told e ≡ after_effect p told f
-    same_after e f x y = ap (after_effect p told) (one_effect text (suc (length told.effects)) e f x y)
+  module _ (read : EffectsRead) (text : List ℕ) where
+    -- all effects that a line may be read as have one result
+    same_after : (e f : EffectLine) → IsEffectLine text (suc (length read.effects)) e → IsEffectLine text (suc (length read.effects)) f → after_effect p read e ≡ after_effect p read f
+    same_after e f x y = ap (after_effect p read) (one_effect text (suc (length read.effects)) e f x y)
 
-    one_more : (a b : Reading) → TakesEffect p told text a → TakesEffect p told text b → a ≡ b
+    one_more : (a b : ExecutionReading) → TakesEffect p read text a → TakesEffect p read text b → a ≡ b
     one_more a b x y =
-        let same : ◌≡◌ {A = Result Told ReportRule} (Ok x.more) (Ok y.more) = sym x.lawful ∙ same_after x.effect y.effect x.is y.is ∙ y.lawful in
+        let same : ◌≡◌ {A = Result EffectsRead ReportRule} (Ok x.more) (Ok y.more) = sym x.lawful ∙ same_after x.effect y.effect x.is y.is ∙ y.lawful in
         let more : x.more ≡ y.more = cc in
         x.to ∙ ap WithEffects more ∙ sym y.to
 
-    no_end : (e : EffectLine) → IsEffectLine text (suc (length told.effects)) e → fields_of text ≡ codes "end" ∷ [] → ⊥
-    no_end e x y = no_effect_ends text (suc (length told.effects)) e x (codes "end") y
+    no_end : (e : EffectLine) → IsEffectLine text (suc (length read.effects)) e → fields_of text ≡ codes "end" ∷ [] → ⊥
+    no_end e x y = no_effect_ends text (suc (length read.effects)) e x (codes "end") y
 
-    one_take : (a b : Reading) → Takes p (WithEffects told) text a → Takes p (WithEffects told) text b → a ≡ b
+    one_take : (a b : ExecutionReading) → Takes p (WithEffects read) text a → Takes p (WithEffects read) text b → a ≡ b
     one_take a b (inl x) (inl y) = one_more a b x y
     one_take a b (inr x) (inr y) = x.to ∙ sym y.to
     one_take a b (inl x) (inr y) = absurd (no_end x.effect x.is y.is)
     one_take a b (inr x) (inl y) = absurd (no_end y.effect y.is x.is)
 
-    stands : (a : Reading) (rule : ReportRule) → Takes p (WithEffects told) text a → Breaks p (WithEffects told) text rule → ⊥
+    stands : (a : ExecutionReading) (rule : ReportRule) → Takes p (WithEffects read) text a → Breaks p (WithEffects read) text rule → ⊥
     stands a rule (inl x) (inl y) = y.no_effect x.effect x.is
     stands a rule (inr x) (inl y) = y.no_end x.is
     stands a rule (inr x) (inr y) = no_end y.effect y.is x.is
     stands a rule (inl x) (inr y) =
-        let never : ◌≡◌ {A = Result Told ReportRule} (Ok x.more) (Err rule) = sym x.lawful ∙ same_after x.effect y.effect x.is y.is ∙ y.unlawful in
+        let never : ◌≡◌ {A = Result EffectsRead ReportRule} (Ok x.more) (Err rule) = sym x.lawful ∙ same_after x.effect y.effect x.is y.is ∙ y.unlawful in
         absurd cc
 
-    one_rule : (k m : ReportRule) → Breaks p (WithEffects told) text k → Breaks p (WithEffects told) text m → k ≡ m
+    one_rule : (k m : ReportRule) → Breaks p (WithEffects read) text k → Breaks p (WithEffects read) text m → k ≡ m
     one_rule k m (inl x) (inl y) = x.is ∙ sym y.is
     one_rule k m (inl x) (inr y) = absurd (x.no_effect y.effect y.is)
     one_rule k m (inr x) (inl y) = absurd (y.no_effect x.effect x.is)
     one_rule k m (inr x) (inr y) =
-        let same : ◌≡◌ {A = Result Told ReportRule} (Err k) (Err m) = sym x.unlawful ∙ same_after x.effect y.effect x.is y.is ∙ y.unlawful in
+        let same : ◌≡◌ {A = Result EffectsRead ReportRule} (Err k) (Err m) = sym x.unlawful ∙ same_after x.effect y.effect x.is y.is ∙ y.unlawful in
         cc
 
-    -- an effect's line makes something
-    some_effect : (e : EffectLine) → IsEffectLine text (suc (length told.effects)) e → (r : Result Told ReportRule) → after_effect p told e ≡ r
-        → ((x : Result Reading ReportRule) → Gives p (WithEffects told) text x → ⊥) → ⊥
+    -- an effect's line has a result
+    some_effect : (e : EffectLine) → IsEffectLine text (suc (length read.effects)) e → (r : Result EffectsRead ReportRule) → after_effect p read e ≡ r
+        → ((x : Result ExecutionReading ReportRule) → ExtendsExecution p (WithEffects read) text x → ⊥) → ⊥
     some_effect e is (Ok more) h none = none (Ok (WithEffects more)) (inl (record { effect = e; more = more; is = is; lawful = h; to = refl }))
     some_effect e is (Err rule) h none = none (Err rule) (inr (record { effect = e; is = is; unlawful = h }))
 
-  pub gives_one : (s : Reading) (text : List ℕ) (x y : Result Reading ReportRule) → Gives p s text x → Gives p s text y → x ≡ y
+  pub gives_one : (s : ExecutionReading) (text : List ℕ) (x y : Result ExecutionReading ReportRule) → ExtendsExecution p s text x → ExtendsExecution p s text y → x ≡ y
   gives_one Unbegun text (Ok a) (Ok b) x y = ap Ok (one_any (fields_of text) a b x y)
   gives_one Unbegun text (Ok a) (Err k) x y = absurd y
   gives_one Unbegun text (Err k) y x z = absurd x
-  gives_one (WithEffects told) text (Ok a) (Ok b) x y = ap Ok (one_take told text a b x y)
-  gives_one (WithEffects told) text (Ok a) (Err k) x y = absurd (stands told text a k x y)
-  gives_one (WithEffects told) text (Err k) (Ok a) x y = absurd (stands told text a k y x)
-  gives_one (WithEffects told) text (Err k) (Err m) x y = ap Err (one_rule told text k m x y)
-  gives_one (Ended told) text (Ok a) y x z = absurd x
-  gives_one (Ended told) text (Err k) (Ok a) x y = absurd y
-  gives_one (Ended told) text (Err k) (Err m) x y = ap Err (x ∙ sym y)
+  gives_one (WithEffects read) text (Ok a) (Ok b) x y = ap Ok (one_take read text a b x y)
+  gives_one (WithEffects read) text (Ok a) (Err k) x y = absurd (stands read text a k x y)
+  gives_one (WithEffects read) text (Err k) (Ok a) x y = absurd (stands read text a k y x)
+  gives_one (WithEffects read) text (Err k) (Err m) x y = ap Err (one_rule read text k m x y)
+  gives_one (Ended read) text (Ok a) y x z = absurd x
+  gives_one (Ended read) text (Err k) (Ok a) x y = absurd y
+  gives_one (Ended read) text (Err k) (Err m) x y = ap Err (x ∙ sym y)
 
-  pub gives_some : (s : Reading) (text : List ℕ) → ((x : Result Reading ReportRule) → Gives p s text x → ⊥) → ⊥
-  gives_some Unbegun text none = none (Ok Unbegun) (inr (λ e. none (Ok (WithEffects nothing_told)) (inl (e, refl)), refl))
-  gives_some (Ended told) text none = none (Err Unexpected) refl
-  gives_some (WithEffects told) text none =
+  pub gives_some : (s : ExecutionReading) (text : List ℕ) → ((x : Result ExecutionReading ReportRule) → ExtendsExecution p s text x → ⊥) → ⊥
+  gives_some Unbegun text none = none (Ok Unbegun) (inr (λ e. none (Ok (WithEffects nothing_read)) (inl (e, refl)), refl))
+  gives_some (Ended read) text none = none (Err Unexpected) refl
+  gives_some (WithEffects read) text none =
       none (Err Unexpected) (inl (record {
         is = refl;
-        no_effect = λ e is. some_effect told text e is (after_effect p told e) refl none;
-        no_end = λ e. none (Ok (Ended told)) (inr (record { is = e; to = refl }));
+        no_effect = λ e is. some_effect read text e is (after_effect p read e) refl none;
+        no_end = λ e. none (Ok (Ended read)) (inr (record { is = e; to = refl }));
       }))
 
-pub closes_one : (s : Reading) (end : ℕ) (x y : Result (List Effect) (Broken ReportRule)) → Closes s end x → Closes s end y → x ≡ y
+pub closes_one : (s : ExecutionReading) (end : ℕ) (x y : Result (List Effect) (Broken ReportRule)) → ClosesExecution s end x → ClosesExecution s end y → x ≡ y
 closes_one Unbegun end x y p q = p ∙ sym q
-closes_one (WithEffects told) end x y p q = p ∙ sym q
-closes_one (Ended told) end x y p q = p ∙ sym q
+closes_one (WithEffects read) end x y p q = p ∙ sym q
+closes_one (Ended read) end x y p q = p ∙ sym q
 
-pub closes_some : (s : Reading) (end : ℕ) → ((x : Result (List Effect) (Broken ReportRule)) → Closes s end x → ⊥) → ⊥
+pub closes_some : (s : ExecutionReading) (end : ℕ) → ((x : Result (List Effect) (Broken ReportRule)) → ClosesExecution s end x → ⊥) → ⊥
 closes_some Unbegun end none = none _ refl
-closes_some (WithEffects told) end none = none _ refl
-closes_some (Ended told) end none = none _ refl
+closes_some (WithEffects read) end none = none _ refl
+closes_some (Ended read) end none = none _ refl

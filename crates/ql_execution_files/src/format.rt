@@ -3,28 +3,28 @@ ghost use Rattle.ql_lang.specs.declared.program.Program.{Program};
 ghost use Rattle.ql_line_files.specs.Answers.{IsLineAnswer};
 ghost use Rattle.ql_lines.specs.Fields.{fields_of};
 ghost use Rattle.ql_effect_lines.specs.Effects.{IsSound};
-ghost use Rattle.ql_execution_files.specs.declared.format.Reading.TheVariants.{Unbegun, WithEffects};
-ghost use Rattle.ql_execution_files.specs.ExecutionFile.{AreSound, Closes, Gives};
+ghost use Rattle.ql_execution_files.specs.declared.format.ExecutionReading.TheVariants.{Unbegun, WithEffects};
+ghost use Rattle.ql_execution_files.specs.ExecutionFile.{AreSound, ClosesExecution, ExtendsExecution};
 ghost use Rattle.ql_execution_files.specs.OneLine.{closes_one, closes_some, gives_one, gives_some, takes_sound};
 
 use ql_base::Names;
-use ql_effect_lines::{ReportRule, Told, read_line};
+use ql_effect_lines::{EffectsRead, ReportRule, read_line};
 use ql_exec::Execution;
 use ql_line_files::{Broken, FileFault, LineFault, LineFormat};
 use ql_lines::{after_word, first_field};
 use ql_typing::Typed;
 use std::alloc::Global;
 
-/// What some lines say: nothing, since the first line that is `execution` is yet to come; effects;
-/// all effects, up to the end.
+/// What the lines read so far say: nothing, since the first line that is `execution` is yet to come;
+/// effects; or all effects, up to the end.
 #[derive(Drop)]
-pub enum Reading {
+pub enum ExecutionReading {
     Unbegun,
-    WithEffects(Told),
-    Ended(Told),
+    WithEffects(EffectsRead),
+    Ended(EffectsRead),
 }
 
-/// The format of the files of a program's executions.
+/// The format of a program's execution files.
 #[derive(Clone, Copy)]
 pub(crate) struct Format<'a> {
     pub t: &'a Typed,
@@ -32,7 +32,7 @@ pub(crate) struct Format<'a> {
 }
 
 impl<'a> LineFormat for Format<'a> {
-    type State = Reading;
+    type State = ExecutionReading;
 
     type Said = Execution;
 
@@ -42,30 +42,34 @@ impl<'a> LineFormat for Format<'a> {
 
     ghost sound = { λ f read more. AreSound f.t.now.program read };
 
-    ghost gives = { λ f read l x. Gives f.t.now.program read l.text x };
+    ghost gives = { λ f read l x. ExtendsExecution f.t.now.program read l.text x };
 
-    ghost closes = { λ f read end x. Closes read end x };
+    ghost closes = { λ f read end x. ClosesExecution read end x };
 
-    fn start(&self) -> Reading {
-        Reading::Unbegun
+    fn start(&self) -> ExecutionReading {
+        ExecutionReading::Unbegun
     }
 
     fn take(
         &self,
-        state: Reading,
+        state: ExecutionReading,
         _number: u64,
         text: &[u8],
-    ) -> Result<Reading, LineFault<ReportRule>> {
+    ) -> Result<ExecutionReading, LineFault<ReportRule>> {
         match state {
-            Reading::Unbegun => Ok(any_line(self.alloc, text)),
-            Reading::WithEffects(told) => one_more(self.alloc, self.t, told, text),
-            Reading::Ended(_) => Err(LineFault::Breaks(ReportRule::Unexpected)),
+            ExecutionReading::Unbegun => Ok(any_line(self.alloc, text)),
+            ExecutionReading::WithEffects(read) => one_more(self.alloc, self.t, read, text),
+            ExecutionReading::Ended(_) => Err(LineFault::Breaks(ReportRule::Unexpected)),
         }
     }
 
-    fn finish(&self, state: Reading, end: u64) -> Result<Execution, FileFault<ReportRule>> {
+    fn finish(
+        &self,
+        state: ExecutionReading,
+        end: u64,
+    ) -> Result<Execution, FileFault<ReportRule>> {
         match state {
-            Reading::Ended(told) => Ok(told.effects),
+            ExecutionReading::Ended(read) => Ok(read.effects),
             _ => Err(FileFault::Broken(Broken {
                 line: end,
                 rule: ReportRule::Unexpected,
@@ -85,16 +89,16 @@ impl<'a> LineFormat for Format<'a> {
 }
 
 // A line before the effects.
-fn any_line(alloc: Global, text: &[u8]) -> Reading
-    ensures { (p : Program) → Gives p Unbegun text.now (Ok result) }
+fn any_line(alloc: Global, text: &[u8]) -> ExecutionReading
+    ensures { (p : Program) → ExtendsExecution p Unbegun text.now (Ok result) }
 {
     if is_word(text, b"execution") {
-        Reading::WithEffects(Told {
+        ExecutionReading::WithEffects(EffectsRead {
             objects: Names::new(alloc),
             effects: Execution::new(alloc),
         })
     } else {
-        Reading::Unbegun
+        ExecutionReading::Unbegun
     }
 }
 
@@ -102,21 +106,21 @@ fn any_line(alloc: Global, text: &[u8]) -> Reading
 fn one_more(
     alloc: Global,
     t: &Typed,
-    told: Told,
+    read: EffectsRead,
     text: &[u8],
-) -> Result<Reading, LineFault<ReportRule>>
-    requires sound { IsSound t.now.program told }
-    ensures { IsLineAnswer (Gives t.now.program (WithEffects told) text.now) result }
+) -> Result<ExecutionReading, LineFault<ReportRule>>
+    requires sound { IsSound t.now.program read }
+    ensures { IsLineAnswer (ExtendsExecution t.now.program (WithEffects read) text.now) result }
 {
     if is_word(text, b"end") {
-        return Ok(Reading::Ended(told));
+        return Ok(ExecutionReading::Ended(read));
     }
-    let id = told.effects.len() + 1;
+    let id = read.effects.len() + 1;
     let Some(effect) = read_line(alloc, text, id)? else {
         return Err(LineFault::Breaks(ReportRule::Unexpected));
     };
-    match told.put(t, effect) {
-        Ok(more) => Ok(Reading::WithEffects(more)),
+    match read.put(t, effect) {
+        Ok(more) => Ok(ExecutionReading::WithEffects(more)),
         Err(fault) => Err(fault),
     }
 }

@@ -3,11 +3,11 @@ ghost use Rattle.ql_lines.specs.Lines.{Ahead};
 ghost use Rattle.ql_lang.specs.declared.program.Program.{Program};
 ghost use Rattle.ql_exec.specs.declared.effect.Effect.{Effect};
 ghost use Rattle.ql_execution_files.specs.declared.report_fault.ReportFault.{ReportFault};
-ghost use Rattle.ql_execution_files.specs.ExecutionFile.{FirstFault, IsExecutionFile};
+ghost use Rattle.ql_execution_files.specs.ExecutionFile.{FirstExecutionFault, IsExecutionFile};
 
-/// A file reports one execution of a program or has a first fault, and not both.
+/// A file says one execution of a program or has one first fault, and not both.
 pub fn one_execution()
     ensures one { (p : Program) (file : Ahead) (x y : List Effect) → IsExecutionFile p file x → IsExecutionFile p file y → x ≡ y }
-    ensures fault { (p : Program) (file : Ahead) (f g : ReportFault) → FirstFault p file f → FirstFault p file g → f ≡ g }
-    ensures apart { (p : Program) (file : Ahead) (x : List Effect) (f : ReportFault) → IsExecutionFile p file x → FirstFault p file f → ⊥ }
+    ensures fault { (p : Program) (file : Ahead) (f g : ReportFault) → FirstExecutionFault p file f → FirstExecutionFault p file g → f ≡ g }
+    ensures apart { (p : Program) (file : Ahead) (x : List Effect) (f : ReportFault) → IsExecutionFile p file x → FirstExecutionFault p file f → ⊥ }
 {}

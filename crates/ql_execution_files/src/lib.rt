@@ -1,5 +1,5 @@
-// Files of executions.
-// The one contract: a file is read to the execution that it says, or to its first fault; no file has both.
+// Execution files.
+// The one contract: reading a file returns the execution that it says, or its first fault; no file has both.
 #![tactic(auto)]
 
 mod format;
@@ -8,7 +8,7 @@ mod parse;
 mod report_fault;
 
 // The files are in terms of what their lines say.
-pub use format::Reading;
+pub use format::ExecutionReading;
 pub use law::one_execution;
 pub use parse::parse_execution;
 pub use report_fault::ReportFault;

@@ -4,15 +4,15 @@ ghost use Rattle.ql_execution_files.specs.ExecutionFile.{fault_of};
 use ql_effect_lines::ReportRule;
 use ql_line_files::{Broken, FileFault};
 
-/// Why a text is no execution file of a program, with the line from 1 at which the first fault
-/// stands. The end of a file that ends too early is the line after its last. Of the faults of one
-/// line these count in this order: Unexpected, Unknown, Mixed, NotForward, OtherObject, SplitTxn,
-/// Stamp, TooMany.
+/// Why a text isn't an execution file of a program, with the line of the first fault, counted from 1.
+/// If a file ends too early, that is the line after its last one. Of the faults of one line, the first
+/// in this order is reported: Unexpected, Unknown, Mixed, NotForward, OtherObject, SplitTxn, Stamp,
+/// TooMany.
 #[derive(Clone, Copy, Debug, PartialEq, Eq)]
 pub enum ReportFault {
-    /// No file goes on with this line.
+    /// No file continues with this line.
     Unexpected(u64),
-    /// The program lacks the operation, or the transaction.
+    /// The program has no such operation or transaction.
     Unknown(u64),
     /// The operation is of another type than the object's first one.
     Mixed(u64),
@@ -24,9 +24,9 @@ pub enum ReportFault {
     OtherObject(u64),
     /// The effect splits its transaction.
     SplitTxn(u64),
-    /// One effect more than 4,000.
+    /// The 4,001st effect.
     TooMany(u64),
-    /// No memory was left.
+    /// Out of memory.
     NoMemory,
 }
 

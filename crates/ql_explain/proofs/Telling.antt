@@ -3,18 +3,17 @@ use Rattle.std.proofs.Common.{◌≡◌, inl, inr, ℕ, ◌<◌, ◌≤◌, List
 use Rattle.std.specs.Prelude.{IfOk, IfSome}
 use Rattle.std.specs.Global.{Vec}
 use Rattle.ql_base.specs.declared.no_memory.NoMemory.{NoMemory}
-use Rattle.ql_commands.specs.declared.answer.Answer.{Answer}
-use Rattle.ql_commands.specs.declared.answer.Answer.TheVariants as answer
 use Rattle.ql_ports.specs.Faults.{Rose}
 use Rattle.ql_ports.specs.Written.{appended}
 use Rattle.ql_ports.specs.declared.whole.ReadError.{ReadError}
 use Rattle.ql_ports.specs.declared.whole.ReadError.TheVariants.{Failed, TooLong}
 use Rattle.ql_baseline.specs.Comparison.{BaselineSays}
-use Rattle.ql_explain.specs.Outcomes.{IsAnswer, IsOf, Means, SaysIn, SaysOf, Tells, status_of}
+use Rattle.ql_explain.specs.Outcomes.{IsOf, Means, SaysIn, SaysOf, Tells}
 use Rattle.ql_reply.specs.Unread.{IsUnread}
 use Rattle.ql_reply.proofs.Replies.{answer_unread}
 use Rattle.ql_explain.specs.Words.{Call, Explained, Compared}
 use Rattle.ql_explain.specs.declared.asked.Form.{Form}
+use Rattle.ql_explain.specs.declared.asked.Form.TheVariants.{Text, Json}
 use Rattle.ql_reply.specs.declared.status.Status.{Status}
 use Rattle.ql_reply.specs.declared.status.Status.TheVariants.{Done, No, Bad, ReadFault, WriteFault, Usage, TooLarge}
 
@@ -28,16 +27,50 @@ rose_before : (a b c : ℕ) → a ≤ b → Rose b c → Rose a c
 rose_before a b c le (inl less) = inl (omega (arith, le, less))
 rose_before a b c le (inr is) = inr is
 
-module _ (held : List ℕ → Option (List ℕ)) (before after : List ℕ → ℕ) (call : Call) where
-  of_answer : (a : Answer) (status : Status) (text : List ℕ) → status ≡ status_of a → Means held call a text → Tells held before after call status text
-  of_answer answer.Done status text e means = subst (λ (s : Status). Tells held before after call s text) (sym e) means
-  of_answer answer.No status text e means = subst (λ (s : Status). Tells held before after call s text) (sym e) means
-  of_answer answer.Bad status text e means = subst (λ (s : Status). Tells held before after call s text) (sym e) means
+-- yes, no, or a bad file
+abbrev IsAnswered : Status → Type 0
+IsAnswered Done = Unit {0}
+IsAnswered No = Unit {0}
+IsAnswered Bad = Unit {0}
+IsAnswered _ = ⊥
 
-  one_answer : (Says : Answer → List ℕ → Type 0) → ((a : Answer) (text : List ℕ) → Says a text → Means held call a text)
-      → (said : Result (Status × Vec ℕ) NoMemory) → IfOk said (λ x. IsAnswer Says x.0 x.1.items) → IfOk said (λ x. Tells held before after call x.0 x.1.items)
-  one_answer Says means (Ok x) (a, e, says) = of_answer a x.0 x.1.items e (means a x.1.items says)
-  one_answer Says means (Err error) is = tt
+source_answered : (form : Form) (bytes : List ℕ) (status : Status) (text : List ℕ) → SaysIn form bytes status text → IsAnswered status
+source_answered form bytes Done text says = tt
+source_answered form bytes No text says = tt
+source_answered form bytes Bad text says = tt
+source_answered Text bytes ReadFault text says = absurd says
+source_answered Json bytes ReadFault text says = absurd says
+source_answered Text bytes WriteFault text says = absurd says
+source_answered Json bytes WriteFault text says = absurd says
+source_answered Text bytes Usage text says = absurd says
+source_answered Json bytes Usage text says = absurd says
+source_answered Text bytes TooLarge text says = absurd says
+source_answered Json bytes TooLarge text says = absurd says
+
+pair_answered : (source baseline : List ℕ) (status : Status) (text : List ℕ) → BaselineSays source baseline status text → IsAnswered status
+pair_answered source baseline Done text says = tt
+pair_answered source baseline No text says = tt
+pair_answered source baseline Bad text says = tt
+pair_answered source baseline ReadFault text says = absurd says
+pair_answered source baseline WriteFault text says = absurd says
+pair_answered source baseline Usage text says = absurd says
+pair_answered source baseline TooLarge text says = absurd says
+
+module _ (held : List ℕ → Option (List ℕ)) (before after : List ℕ → ℕ) (call : Call) where
+  of_answer : (status : Status) (text : List ℕ) → IsAnswered status → Means held call status text → Tells held before after call status text
+  of_answer Done text answered means = means
+  of_answer No text answered means = means
+  of_answer Bad text answered means = means
+  of_answer ReadFault text answered means = absurd answered
+  of_answer WriteFault text answered means = absurd answered
+  of_answer Usage text answered means = absurd answered
+  of_answer TooLarge text answered means = absurd answered
+
+  one_answer : (Says : Status → List ℕ → Type 0) → ((status : Status) (text : List ℕ) → Says status text → IsAnswered status)
+      → ((status : Status) (text : List ℕ) → Says status text → Means held call status text)
+      → (said : Result (Status × Vec ℕ) NoMemory) → IfOk said (λ x. Says x.0 x.1.items) → IfOk said (λ x. Tells held before after call x.0 x.1.items)
+  one_answer Says answered means (Ok x) says = of_answer x.0 x.1.items (answered x.0 x.1.items says) (means x.0 x.1.items says)
+  one_answer Says answered means (Err error) is = tt
 
   -- a file couldn't be read whole
   pub one_unread : (name : List ℕ) → IsOf call name → (error : ReadError) (said : Result (Status × Vec ℕ) NoMemory) → IfOk said (λ x. IsUnread error name x.0 x.1.items)
@@ -49,29 +82,29 @@ module _ (held : List ℕ → Option (List ℕ)) (before after : List ℕ → �
 module _ (held : List ℕ → Option (List ℕ)) (before after : List ℕ → ℕ) where
   -- a source was read
   pub source_said : (form : Form) (name bytes source : List ℕ) → source ≡ bytes → IfSome (held name) (λ whole. bytes ≡ whole)
-      → (said : Result (Status × Vec ℕ) NoMemory) → IfOk said (λ x. IsAnswer (SaysIn form source) x.0 x.1.items) → IfOk said (λ x. Tells held before after (Explained form name) x.0 x.1.items)
+      → (said : Result (Status × Vec ℕ) NoMemory) → IfOk said (λ x. SaysIn form source x.0 x.1.items) → IfOk said (λ x. Tells held before after (Explained form name) x.0 x.1.items)
   source_said form name bytes source e same said is =
-      one_answer held before after (Explained form name) (SaysIn form source)
+      one_answer held before after (Explained form name) (SaysIn form source) (source_answered form source)
       (λ a text says. of_whole (held name) bytes (λ b. SaysIn form b a text) same (subst (λ b. SaysIn form b a text) e says)) said is
 
   -- a stored answer and a source were read
   pub pair_said : (file name baseline bytes source : List ℕ) → source ≡ bytes → IfSome (held file) (λ whole. baseline ≡ whole) → IfSome (held name) (λ whole. bytes ≡ whole)
-      → (said : Result (Status × Vec ℕ) NoMemory) → IfOk said (λ x. IsAnswer (BaselineSays source baseline) x.0 x.1.items) → IfOk said (λ x. Tells held before after (Compared file name) x.0 x.1.items)
+      → (said : Result (Status × Vec ℕ) NoMemory) → IfOk said (λ x. BaselineSays source baseline x.0 x.1.items) → IfOk said (λ x. Tells held before after (Compared file name) x.0 x.1.items)
   pair_said file name baseline bytes source e stored same said is =
-      one_answer held before after (Compared file name) (BaselineSays source baseline)
+      one_answer held before after (Compared file name) (BaselineSays source baseline) (pair_answered source baseline)
       (λ a text says. of_whole (held file) baseline (λ b. IfSome (held name) (λ s. BaselineSays s b a text)) stored
       (of_whole (held name) bytes (λ s. BaselineSays s baseline a text) same (subst (λ s. BaselineSays s baseline a text) e says))) said is
 
 -- what is said after a file was read is said of both
 module _ (held later : List ℕ → Option (List ℕ)) (before between after : List ℕ → ℕ) (file name : List ℕ) (same : (n : List ℕ) → later n ≡ held n) (less : (n : List ℕ) → before n ≤ between n) where
-  means_sooner : (a : Answer) (text : List ℕ) → Means later (Compared file name) a text → Means held (Compared file name) a text
+  means_sooner : (a : Status) (text : List ℕ) → Means later (Compared file name) a text → Means held (Compared file name) a text
   means_sooner a text is = subst (λ (h : Option (List ℕ)). IfSome h (λ baseline. IfSome (held name) (λ source. BaselineSays source baseline a text))) (same file)
       (subst (λ (h : Option (List ℕ)). IfSome (later file) (λ baseline. IfSome h (λ source. BaselineSays source baseline a text))) (same name) is)
 
   sooner : (status : Status) (text : List ℕ) → Tells later between after (Compared file name) status text → Tells held before after (Compared file name) status text
-  sooner Done text is = means_sooner answer.Done text is
-  sooner No text is = means_sooner answer.No text is
-  sooner Bad text is = means_sooner answer.Bad text is
+  sooner Done text is = means_sooner Done text is
+  sooner No text is = means_sooner No text is
+  sooner Bad text is = means_sooner Bad text is
   sooner ReadFault text is = (is.0, is.1, rose_before (before is.0) (between is.0) (after is.0) (less is.0) is.2, is.3)
   sooner WriteFault text is = absurd is
   sooner Usage text is = absurd is

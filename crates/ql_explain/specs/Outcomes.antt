@@ -1,8 +1,6 @@
--- What is written: for the words, what the shelf holds and counts, and a status.
+-- What is written: for the arguments, what the shelf holds and counts, and a status.
 use Rattle.std.specs.Prelude.{◌≡◌, ◌⊎◌, ℕ, ◌<◌, List, ◌++◌, length, Option, Some, None, IfSome, codes}
 use Rattle.ql_baseline.specs.Comparison.{BaselineSays}
-use Rattle.ql_commands.specs.declared.answer.Answer.{Answer}
-use Rattle.ql_commands.specs.declared.answer.Answer.TheVariants as answer
 use Rattle.ql_explain_json.specs.JsonExplanations.{ExplainJsonSays}
 use Rattle.ql_explanation.specs.Explanation.{ExplainSays}
 use Rattle.ql_ports.specs.Faults.{Rose}
@@ -17,23 +15,14 @@ use Rattle.ql_reply.specs.declared.status.Status.{Status}
 use Rattle.ql_reply.specs.declared.status.Status.TheVariants.{Done, No, Bad, ReadFault, WriteFault, Usage, TooLarge}
 
 -- what is found of a source, in a form
-abbrev pub SaysIn : Form → List ℕ → Answer → List ℕ → Type 0
-SaysIn Text bytes a text = ExplainSays bytes a text
-SaysIn Json bytes a text = ExplainJsonSays bytes a text
-
-abbrev pub status_of : Answer → Status
-status_of answer.Done = Done
-status_of answer.No = No
-status_of answer.Bad = Bad
-
--- some answer of which this is said, as a status
-abbrev pub IsAnswer : (Answer → List ℕ → Type 0) → Status → List ℕ → Type 0
-IsAnswer Says status text = (a : Answer) × (status ≡ status_of a) × Says a text
+abbrev pub SaysIn : Form → List ℕ → Status → List ℕ → Type 0
+SaysIn Text bytes status text = ExplainSays bytes status text
+SaysIn Json bytes status text = ExplainJsonSays bytes status text
 
 -- what the files mean
-abbrev pub Means : (List ℕ → Option (List ℕ)) → Call → Answer → List ℕ → Type 0
-Means held (Explained form name) a text = IfSome (held name) (λ bytes. SaysIn form bytes a text)
-Means held (Compared file name) a text = IfSome (held file) (λ baseline. IfSome (held name) (λ source. BaselineSays source baseline a text))
+abbrev pub Means : (List ℕ → Option (List ℕ)) → Call → Status → List ℕ → Type 0
+Means held (Explained form name) status text = IfSome (held name) (λ bytes. SaysIn form bytes status text)
+Means held (Compared file name) status text = IfSome (held file) (λ baseline. IfSome (held name) (λ source. BaselineSays source baseline status text))
 
 -- a file that is asked about has this name
 abbrev pub IsOf : Call → List ℕ → Type 0
@@ -48,11 +37,11 @@ Fails before after call text = (name : List ℕ) × IsOf call name × Rose (befo
 abbrev pub IsOver : (List ℕ → Option (List ℕ)) → Call → List ℕ → Type 0
 IsOver held call text = (name : List ℕ) × IsOf call name × IfSome (held name) (λ bytes. 1048576 < length bytes) × (text ≡ codes "too large " ++ name ++ codes "\n")
 
--- what is said of the files, by the status
+-- what is reported about the files, by the status
 abbrev pub Tells : (List ℕ → Option (List ℕ)) → (List ℕ → ℕ) → (List ℕ → ℕ) → Call → Status → List ℕ → Type 0
-Tells held before after call Done text = Means held call answer.Done text
-Tells held before after call No text = Means held call answer.No text
-Tells held before after call Bad text = Means held call answer.Bad text
+Tells held before after call Done text = Means held call Done text
+Tells held before after call No text = Means held call No text
+Tells held before after call Bad text = Means held call Bad text
 Tells held before after call ReadFault text = Fails before after call text
 Tells held before after call TooLarge text = IsOver held call text
 Tells held before after call WriteFault text = ⊥

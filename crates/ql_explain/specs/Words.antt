@@ -1,4 +1,4 @@
--- The words that ask for something:  SOURCE, or  --json SOURCE, or  --baseline FILE SOURCE
+-- The arguments that make a request:  SOURCE, or  --json SOURCE, or  --baseline FILE SOURCE
 use Rattle.std.specs.Prelude.{ℕ, Bool, ◌&&◌, ◌==◌, not, nat_le, if◌then◌else◌, List, [], ◌∷◌, Option, Some, None, length, map, slice_index, codes}
 use Rattle.std.specs.Global.{Global, Vec}
 use Rattle.std.specs.Option.{option_map}
@@ -16,7 +16,7 @@ pub data Call : Type 0 where
   Explained : Form → List ℕ → Call
   Compared : List ℕ → List ℕ → Call
 
--- the word that is a name, where no more follow
+-- the argument, if it is a name and no more follow
 abbrev pub only_name : List ℕ → List (List ℕ) → Option (List ℕ)
 only_name word [] = if is_file_name word then Some word else None
 only_name word (next ∷ words) = None
@@ -37,7 +37,7 @@ abbrev pub against_of : List (List ℕ) → Option Call
 against_of [] = None
 against_of (word ∷ words) = if is_file_name word then option_map (λ name. Compared word name) (one_name words) else None
 
--- what the words ask for, where they ask for something
+-- the request that the arguments make, if they make one
 abbrev pub asked : List (List ℕ) → Option Call
 asked [] = None
 asked (word ∷ words) =

@@ -6,7 +6,7 @@ ghost use Rattle.ql_reply.specs.Arguments.{word_texts};
 
 use ql_reply::is_file_name;
 
-/// In which form it is said what is found of a source.
+/// The form of an explanation.
 #[derive(Clone, Copy)]
 pub(crate) enum Form {
     Text,
@@ -20,7 +20,7 @@ pub(crate) struct Pair<'a> {
     pub(crate) source: &'a str,
 }
 
-/// What the words ask for.
+/// A request.
 #[derive(Clone, Copy)]
 pub(crate) enum Asked<'a> {
     /// What is found of the source of a name.
@@ -29,7 +29,7 @@ pub(crate) enum Asked<'a> {
     Compared(Pair<'a>),
 }
 
-/// What the words ask for, where they ask for something.
+/// The request that the arguments make, if they make one.
 pub(crate) fn parse_words(words: &Vec<String>) -> Option<Asked>
     ensures { option_map call_of result ≡ asked (word_texts words.now) }
 {
@@ -90,7 +90,7 @@ fn compared<'a>(baseline: &'a str, source: Option<&'a str>) -> Option<Asked<'a>>
     }
 }
 
-// A name, where it is all words.
+// The name, if it is the only argument.
 fn one_name(words: &[String]) -> Option<&str>
     ensures { option_map (λ name. name.now) result ≡ one_name (map string_bytes words.now) }
 {

@@ -1,12 +1,12 @@
-/// What is printed where the words ask for nothing.
+/// What is printed if the arguments are no request.
 pub(crate) const HELP: &str = "usage: ./quelea explain [--json] SOURCE
        ./quelea explain --baseline FILE SOURCE
 
-Tells of each operation and each transaction of a source its level, or that it
+Reports the level of each operation and each transaction of a source, or that it
 has none, and why no lower level is enough: an execution in which all holds that
 the next lower level guarantees and the contract is false, as a table, in words,
-and as a file of `verify`. Of a transaction that uses a strong operation it tells
-why it may not.
+and as a file of `verify`. For a transaction that uses a strong operation, it
+reports why it may not.
 
   --json           the same as one JSON object on a line
   --baseline FILE  instead, a line for each operation and transaction whose level

@@ -1,6 +1,6 @@
 // The program `explain`: the command line, the system's files and standard output, given to its top call. On standard output it
 // prints nothing itself, and its exit status is the top call's. Notes on the answer go to standard error, after it.
-// The one contract: for all words and all files one text is written that the outcome allows; of a source it is what
+// The one contract: for all arguments and all files one text is written that the outcome allows; for a source it is what
 // `ql_explanation` says.
 #![tactic(auto)]
 
@@ -11,15 +11,11 @@ mod program;
 
 use crate::program::explain_words;
 use ql_base::NoMemory;
-use ql_notes::{KeptSink, Printed, note, wants_notes, write_reason};
+use ql_notes::{KeptSink, write_notes};
 use ql_ports::{FileShelf, StdSink};
 use ql_reply::{NO_MEMORY, arguments};
 use std::io;
-use std::io::{IsTerminal, Write};
 use std::process::ExitCode;
-
-// The exit status of a file that can't be read.
-const READ_FAULT: u8 = 3;
 
 fn main(rt: HostRuntime) -> ExitCode {
     match arguments(&rt) {
@@ -31,40 +27,18 @@ fn main(rt: HostRuntime) -> ExitCode {
 fn exit_number(rt: HostRuntime, words: &Vec<String>) -> u8 {
     let mut shelf = FileShelf::new(rt.alloc(), rt);
     let mut sink = KeptSink::over(StdSink::new(rt));
-    let status = match explain_words(rt.alloc(), words, &mut shelf, &mut sink) {
-        Ok(status) => status.number(),
-        Err(NoMemory) => return NO_MEMORY,
-    };
-    if wants_notes(&rt, rt.stderr().is_terminal()) {
-        let printed = Printed {
-            first: sink.first(),
-            last_line: sink.last_line(),
-        };
-        write_note(rt, words, status, printed, &mut shelf);
-    }
-    status
-}
-
-// Out of memory, or where standard error takes nothing, there is no note.
-fn write_note(
-    rt: HostRuntime,
-    words: &Vec<String>,
-    status: u8,
-    printed: Printed,
-    shelf: &mut FileShelf<HostRuntime>,
-) {
-    let Ok(words) = with_command(&rt, words) else {
-        return;
-    };
-    if let Ok(text) = note(rt.alloc(), &words, status, printed, shelf) {
-        let _ = rt.stderr().write_all(&text);
-    }
-    if status == READ_FAULT {
-        write_reason(&rt, &words);
+    match explain_words(rt.alloc(), words, &mut shelf, &mut sink) {
+        Ok(status) => {
+            if let Ok(words) = with_command(&rt, words) {
+                write_notes(rt, &words, status.number(), sink.printed(), &mut shelf);
+            }
+            status.number()
+        }
+        Err(NoMemory) => NO_MEMORY,
     }
 }
 
-// The words as `./quelea` got them.
+// The arguments as `./quelea` got them.
 fn with_command<R: AllocGlobal>(rt: &R, words: &Vec<String>) -> io::Result<Vec<String>> {
     let mut all = Vec::new(rt.alloc());
     all.push(String::from_str(rt.alloc(), "explain")?)?;

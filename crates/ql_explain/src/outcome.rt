@@ -1,6 +1,5 @@
 ghost use Rattle.std.specs.Prelude.{◌≡◌, ◌<◌, ◌≤◌, ◌^◌, ◌++◌, ℕ, List, IfOk, IfSome, codes, length};
-ghost use Rattle.ql_baseline.specs.Comparison.{BaselineSays};
-ghost use Rattle.ql_explain.specs.Outcomes.{IsAnswer, Says, SaysIn, Tells, status_of};
+ghost use Rattle.ql_explain.specs.Outcomes.{Says, SaysIn, Tells};
 ghost use Rattle.ql_reply.specs.Unread.{IsUnread};
 ghost use Rattle.ql_explain.specs.Words.{Compared, Explained};
 ghost use Rattle.ql_reply.specs.Arguments.{word_texts};
@@ -9,7 +8,6 @@ use crate::asked::{Asked, Form, Pair, parse_words};
 use crate::help::HELP;
 use ql_base::NoMemory;
 use ql_baseline::compare;
-use ql_commands::Answer;
 use ql_explain_json::explain_json;
 use ql_explanation::explain;
 use ql_ports::{Shelf, read_whole};
@@ -19,7 +17,8 @@ use std::alloc::Global;
 // The greatest length of a file in bytes.
 const FILE_BYTES: usize = 1_048_576;
 
-/// The status and the text that answer the words. The named files are read once, to their ends, in the order of the words.
+/// The status and the text for these arguments. The named files are each read once, to the end, in the order of the
+/// arguments.
 pub(crate) fn outcome<S: Shelf>(
     alloc: Global,
     words: &Vec<String>,
@@ -80,7 +79,7 @@ fn with_baseline<S: Shelf>(
     ensures counts_stay { (other : List ℕ) → S.faults shelf.old other ≤ S.faults shelf.new other }
 {
     match read_whole(alloc, shelf, pair.source, FILE_BYTES) {
-        Ok(source) => comparison(alloc, &source, baseline),
+        Ok(source) => compare(alloc, &source, baseline),
         Err(error) => unread(alloc, error, pair.source),
     }
 }
@@ -88,30 +87,10 @@ fn with_baseline<S: Shelf>(
 // What is found of a source that was read.
 fn answer(alloc: Global, form: Form, source: &[u8]) -> Result<(Status, Vec<u8>), NoMemory>
     requires { length source.now < 2 ^ 32 }
-    ensures { IfOk result (λ answer. IsAnswer (SaysIn form source.now) answer.0 answer.1.items) }
+    ensures { IfOk result (λ answer. SaysIn form source.now answer.0 answer.1.items) }
 {
-    let (answer, text) = match form {
-        Form::Text => explain(alloc, source)?,
-        Form::Json => explain_json(alloc, source)?,
-    };
-    Ok((status_of(answer), text))
-}
-
-// What became of its levels since the answer was stored.
-fn comparison(alloc: Global, source: &[u8], baseline: &[u8]) -> Result<(Status, Vec<u8>), NoMemory>
-    requires { length source.now < 2 ^ 32 }
-    ensures { IfOk result (λ answer. IsAnswer (BaselineSays source.now baseline.now) answer.0 answer.1.items) }
-{
-    let (answer, text) = compare(alloc, source, baseline)?;
-    Ok((status_of(answer), text))
-}
-
-fn status_of(answer: Answer) -> Status
-    ensures { result ≡ status_of answer }
-{
-    match answer {
-        Answer::Done => Status::Done,
-        Answer::No => Status::No,
-        Answer::Bad => Status::Bad,
+    match form {
+        Form::Text => explain(alloc, source),
+        Form::Json => explain_json(alloc, source),
     }
 }

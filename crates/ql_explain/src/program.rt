@@ -9,21 +9,23 @@ use ql_ports::{Failed, Shelf, Sink, write_whole};
 use ql_reply::Status;
 use std::alloc::Global;
 
-/// Answers the words of the command line, without the program's own name: reads the file that they name from the shelf, and
-/// writes one text to the sink. The whole text is made first and then written, and writing takes no memory.
+/// Carries out the arguments of the command line, without the program's own name: reads the files that they name from the
+/// shelf, and writes one text to the sink.
+///
+/// The whole text is made first and then written, and writing takes no memory.
 pub(crate) fn explain_words<S: Shelf, K: Sink>(
     alloc: Global,
     words: &Vec<String>,
     shelf: &mut S,
     sink: &mut K,
 ) -> Result<Status, NoMemory>
-    // What was written is a text that the words allow with this status.
+    // What was written is a text that the arguments allow with this status.
     ensures wrote { IfOk result (Wrote
         (Says (word_texts words.now) (S.held shelf.old) (S.faults shelf.old) (S.faults shelf.new))
         (K.written sink.old) (K.written sink.new) (K.faults sink.old) (K.faults sink.new)) }
     ensures no_memory { OnErr result (K.written sink.new ≡ K.written sink.old) }
 
-    // The files are as they were, and no count of faults falls.
+    // The files are unchanged, and no count of faults falls.
     ensures same_contents { (other : List ℕ) → S.held shelf.new other ≡ S.held shelf.old other }
     ensures counts_stay { (other : List ℕ) → S.faults shelf.old other ≤ S.faults shelf.new other }
     ensures sink_count_stays { K.faults sink.old ≤ K.faults sink.new }

@@ -20,29 +20,15 @@ use Rattle.ql_levels.specs.Lists.{LevelLists}
 use Rattle.ql_lang.specs.declared.program.Program.{Program}
 use Rattle.ql_run_json.specs.JsonRuns.{effects_from, run_data}
 use Rattle.ql_run_json.specs.Values.{id_data, listed}
-use Rattle.ql_run_json.proofs.Floats.{run_none}
+use Rattle.ql_run_json.proofs.Floats.{HasNone, HaveNone, each_none, neither, run_none}
 use Rattle.ql_why.specs.Why.{object_names, vars_of}
 use Rattle.ql_warnings.specs.declared.warning.Warning.{Warning}
 use Rattle.ql_warnings.specs.declared.warning.Warning.TheVariants as warning
 use Rattle.ql_explain_json.specs.JsonExplanations.{AreTargets, AreWarnings, IsCounterData, IsReasonOf, IsTarget, at_data, claim_effects, counter_data, fact_data, level_data, place_of, target_data, use_data, variables_data, warning_data, warnings_data}
 
-abbrev HasNone : Data → Type 0
-HasNone d = has_float d ≡ false
-
-abbrev HaveNone : List Data → Type 0
-HaveNone ds = items_have_float (items_of ds) ≡ false
-
-neither : (a b : Bool) → a ≡ false → b ≡ false → (a || b) ≡ false
-neither false b h k = k
-neither true b h k = h
-
 first : (a b : Bool) → (a || b) ≡ false → a ≡ false
 first false b e = refl
 first true b e = e
-
-each_none : {X : Type 0} (f : X → Data) → ((x : X) → HasNone (f x)) → (xs : List X) → HaveNone (map f xs)
-each_none f none [] = refl
-each_none f none (x ∷ xs) = neither (has_float (f x)) (items_have_float (items_of (map f xs))) (none x) (each_none f none xs)
 
 -- an execution is part of a run, which has none
 execution_none : (p : Program) (x : List Effect) → HasNone (listed (effects_from p object_names 1 x))

@@ -10,8 +10,8 @@ use Rattle.ql_classify.proofs.Climbing.{zip_push}
 use Rattle.ql_classify.specs.declared.finding.Finding.{Finding}
 use Rattle.ql_lang.specs.declared.program.Program.{Program}
 use Rattle.ql_commands.specs.Sources.{IsSourceOf}
-use Rattle.ql_commands.specs.declared.answer.Answer.{Answer}
-use Rattle.ql_commands.specs.declared.answer.Answer.TheVariants.{Done, No, Bad}
+use Rattle.ql_reply.specs.declared.status.Status.{Status}
+use Rattle.ql_reply.specs.declared.status.Status.TheVariants.{Done, No, Bad, ReadFault, WriteFault, Usage, TooLarge}
 use Rattle.ql_explanation.specs.Explanation.{IsAnswerOf}
 use Rattle.ql_explain_json.specs.JsonExplanations.{AreTargets, ExplainJsonSays, IsJsonExplanation, IsTarget}
 
@@ -28,7 +28,11 @@ module _ (source : List ℕ) (p : Program) (findings : List Finding) (k : ℕ) w
   all_of_them values l are = subst (λ (fs : List Finding). AreTargets source p fs (map view values)) (take_all k findings l) are
 
 -- what is said with an answer
-pub explained : (source text : List ℕ) (p : Program) (answer : Answer) → IsSourceOf source p → IsAnswerOf p answer → IsJsonExplanation source p text → ExplainJsonSays source answer text
+pub explained : (source text : List ℕ) (p : Program) (answer : Status) → IsSourceOf source p → IsAnswerOf p answer → IsJsonExplanation source p text → ExplainJsonSays source answer text
 explained source text p Done of is told = (p, of, is, told)
 explained source text p No of is told = (p, of, is, told)
 explained source text p Bad of is told = absurd is
+explained source text p ReadFault of is told = absurd is
+explained source text p WriteFault of is told = absurd is
+explained source text p Usage of is told = absurd is
+explained source text p TooLarge of is told = absurd is

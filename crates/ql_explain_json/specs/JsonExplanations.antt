@@ -7,8 +7,8 @@ use Rattle.ql_base.specs.declared.ids.OpId.{OpId}
 use Rattle.ql_classify.specs.declared.finding.Finding.{Finding}
 use Rattle.ql_classify.specs.declared.finding.Finding.TheVariants.{Least, NoLevel}
 use Rattle.ql_classify.specs.declared.finding.Unmet.{Unmet}
-use Rattle.ql_commands.specs.declared.answer.Answer.{Answer}
-use Rattle.ql_commands.specs.declared.answer.Answer.TheVariants.{Done, No, Bad}
+use Rattle.ql_reply.specs.declared.status.Status.{Status}
+use Rattle.ql_reply.specs.declared.status.Status.TheVariants.{Done, No, Bad}
 use Rattle.ql_commands.specs.Sources.{BadSourceSays, IsSourceOf}
 use Rattle.ql_counter.specs.Countermodels.{AreWithin, IsCounterOf, numbers}
 use Rattle.ql_counter.specs.declared.counter.At.{At}
@@ -24,9 +24,9 @@ use Rattle.ql_ground.specs.declared.goal.Goal.TheVariants.{OpAt, TxnAt}
 use Rattle.ql_lang.specs.Spelling.{relation_word}
 use Rattle.ql_lang.specs.declared.contract.Var.{Var}
 use Rattle.ql_lang.specs.declared.program.Program.{Program}
-use Rattle.ql_report.specs.Levels.{op_name, txn_name}
 use Rattle.ql_run_json.specs.JsonRuns.{effects_from}
 use Rattle.ql_run_json.specs.Values.{id_data, listed, text_data}
+use Rattle.ql_typing.specs.Names.{op_name, txn_name}
 use Rattle.ql_explain_json.specs.declared.counter.Shown.{Shown}
 use Rattle.ql_why.specs.Why.{level_text, object_names, vars_of}
 use Rattle.ql_warnings.specs.Texts.{warning_text, warning_word}
@@ -58,11 +58,11 @@ fact_data fact =
 
 -- ---- warnings
 
--- a place of the source, as [line,column], both from 1
+-- a position in the source, as [line,column], both from 1
 abbrev pub place_data : Place → Data
 place_data place = listed (id_data place.line ∷ id_data place.column ∷ [])
 
--- the place that a warning speaks of, where it speaks of one
+-- the position that a warning is about, if it has one
 abbrev pub place_of : Warning → Data
 place_of (warning.NamedAsOperation v op) = null
 place_of (warning.Unbracketed place) = place_data place
@@ -170,10 +170,11 @@ abbrev pub IsJsonExplanation : List ℕ → Program → List ℕ → Type 0
 IsJsonExplanation source p text =
     (findings : List Finding) × AreFindings p findings × (targets : List Data) × AreTargets source p findings targets × (text ≡ explanation_json targets)
 
-abbrev pub ExplainJsonSays : List ℕ → Answer → List ℕ → Type 0
+abbrev pub ExplainJsonSays : List ℕ → Status → List ℕ → Type 0
 ExplainJsonSays bytes Done text = (p : Program) × IsSourceOf bytes p × IsAccepted p × IsJsonExplanation bytes p text
 ExplainJsonSays bytes No text = (p : Program) × IsSourceOf bytes p × IsRefused p × IsJsonExplanation bytes p text
 ExplainJsonSays bytes Bad text = BadSourceSays bytes text
+ExplainJsonSays bytes _ text = ⊥
 
 -- ---- parts of it
 

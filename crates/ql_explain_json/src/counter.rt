@@ -15,7 +15,6 @@ ghost use Rattle.ql_why.specs.Why as why;
 ghost use Rattle.ql_explain_json.specs.JsonExplanations.{IsCounterData, IsShown, IsShownOf, at_data, counter_data, fact_data, variable_data, variables_data, warnings_data};
 
 use crate::facts::facts as facts_value;
-use crate::names::{formula_of, level_of, object_names, vars_of};
 use crate::warnings::warnings_value;
 use ql_base::{EffId, NoMemory};
 use ql_classify::{Finding, Unmet};
@@ -27,7 +26,8 @@ use ql_lang::Var;
 use ql_run_json::effects;
 use ql_run_json::values::{pair, text};
 use ql_typing::Typed;
-use ql_warnings::{Warning, counter_warnings};
+use ql_warnings::{Warning, counter_warnings, formula_of};
+use ql_why::{level_text, object_names, vars_of};
 use serde_json::{Map, Value as Json, put};
 use std::alloc::Global;
 
@@ -151,7 +151,7 @@ fn put_breach(
         members,
         alloc,
         "level",
-        text(alloc, level_of(g).as_bytes())?,
+        text(alloc, level_text(g).as_bytes())?,
     )?;
     put(
         members,

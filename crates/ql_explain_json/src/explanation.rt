@@ -1,4 +1,4 @@
-ghost use Rattle.std.specs.Prelude.{◌≡◌, ◌<◌, ◌^◌, IfOk, Some, false, length, map, slice_get};
+ghost use Rattle.std.specs.Prelude.{◌≡◌, ◌<◌, ◌^◌, IfOk, false, length, map};
 ghost use Rattle.serde_json.specs.View.{items_view, view};
 ghost use Rattle.serde_json.specs.Written.{items_have_float};
 ghost use Rattle.ql_explanation.specs.Explanation.{AreFindings};
@@ -7,21 +7,22 @@ ghost use Rattle.ql_explain_json.specs.JsonExplanations.{AreTargets, ExplainJson
 use crate::target::target;
 use ql_base::NoMemory;
 use ql_classify::Finding;
-use ql_commands::{Answer, bad_source, read_source};
-use ql_explanation::{answer_of, findings};
+use ql_commands::{bad_source, read_source};
+use ql_explanation::{answer_of, finding_at, findings};
+use ql_reply::Status;
 use ql_typing::Typed;
 use serde_json::{Map, Value as Json, put};
 use std::alloc::Global;
 
 /// What is found of each target of a source, as one JSON object on a line. The answer is yes where each has a level and no
 /// transaction uses a strong operation.
-pub fn explain_json(alloc: Global, source: &[u8]) -> Result<(Answer, Vec<u8>), NoMemory>
+pub fn explain_json(alloc: Global, source: &[u8]) -> Result<(Status, Vec<u8>), NoMemory>
     requires { length source.now < 2 ^ 32 }
     ensures { IfOk result (λ answer. ExplainJsonSays source.now answer.0 answer.1.items) }
 {
     let typed = match read_source(alloc, source) {
         Ok(typed) => typed,
-        Err(fault) => return Ok((Answer::Bad, bad_source(alloc, fault)?)),
+        Err(fault) => return Ok((Status::Bad, bad_source(alloc, fault)?)),
     };
     let findings = findings(alloc, &typed)?;
     let targets = targets(alloc, source, &typed, &findings)?;
@@ -46,13 +47,6 @@ fn targets(
         list.push(target)?;
     }
     Ok(list)
-}
-
-fn finding_at(findings: &[Finding], k: usize) -> &Finding
-    requires { k < length findings.now }
-    ensures { slice_get findings.now k ≡ Some result.now }
-{
-    &findings[k]
 }
 
 // The line of the whole object.

@@ -11,7 +11,7 @@ ghost use Rattle.ql_typing.specs.Operations.{all_ops};
 ghost use Rattle.ql_explain_json.specs.JsonExplanations.{IsReasonData, IsShown, IsTarget, kind_text, level_data, name_text, target_data, use_data};
 
 use crate::counter::{Shown, shown_of, shown_value};
-use crate::names::{kind_of, level_of, name_of};
+use crate::names::{kind_of, name_of};
 use crate::warnings::warnings;
 use ql_base::{NoMemory, OpId};
 use ql_classify::Finding;
@@ -19,6 +19,7 @@ use ql_explanation::{goal_of, uses_of};
 use ql_ground::Goal;
 use ql_run_json::values::text;
 use ql_typing::Typed;
+use ql_why::level_text;
 use serde_json::{Map, Value as Json, put};
 use std::alloc::Global;
 
@@ -116,7 +117,7 @@ fn level(alloc: Global, finding: &Finding) -> Result<Json, NoMemory>
     ensures { IfOk result (λ json. view json ≡ level_data finding.now) }
 {
     match finding {
-        Finding::Least { goal, .. } => text(alloc, level_of(*goal).as_bytes()),
+        Finding::Least { goal, .. } => text(alloc, level_text(*goal).as_bytes()),
         Finding::NoLevel(_) => Ok(Json::Null),
     }
 }

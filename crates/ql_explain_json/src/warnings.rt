@@ -51,7 +51,7 @@ fn warning(alloc: Global, t: &Typed, warning: Warning) -> Result<Json, NoMemory>
     Ok(Json::Object(members))
 }
 
-// The place that a warning speaks of, where it speaks of one.
+// The position that a warning is about, if it has one.
 fn place(alloc: Global, warning: Warning) -> Result<Json, NoMemory>
     ensures { IfOk result (λ json. view json ≡ place_of warning) }
 {

@@ -14,8 +14,8 @@ use Rattle.ql_classify.specs.Targets.{IsLeastLevel, IsOpLevel, IsTxnLevel}
 use Rattle.ql_classify.specs.declared.classless.Classless.TheVariants as classless
 use Rattle.ql_classify.specs.declared.finding.Finding.{Finding}
 use Rattle.ql_classify.specs.declared.finding.Finding.TheVariants.{Least, NoLevel}
-use Rattle.ql_commands.specs.declared.answer.Answer.{Answer}
-use Rattle.ql_commands.specs.declared.answer.Answer.TheVariants.{Done, No, Bad}
+use Rattle.ql_reply.specs.declared.status.Status.{Status}
+use Rattle.ql_reply.specs.declared.status.Status.TheVariants.{Done, No, Bad, ReadFault, WriteFault, Usage, TooLarge}
 use Rattle.ql_commands.specs.Sources.{IsSourceOf}
 use Rattle.ql_ground.specs.declared.goal.Goal.{Goal}
 use Rattle.ql_ground.specs.declared.goal.Goal.TheVariants.{OpAt, TxnAt}
@@ -111,7 +111,11 @@ module _ (p : Program) where
     }
 
 -- what is said with an answer
-pub explained : (source text : List ℕ) (p : Program) (answer : Answer) → IsSourceOf source p → IsAnswerOf p answer → IsExplanation source p text → ExplainSays source answer text
+pub explained : (source text : List ℕ) (p : Program) (answer : Status) → IsSourceOf source p → IsAnswerOf p answer → IsExplanation source p text → ExplainSays source answer text
 explained source text p Done of is told = (p, of, is, told)
 explained source text p No of is told = (p, of, is, told)
 explained source text p Bad of is told = absurd is
+explained source text p ReadFault of is told = absurd is
+explained source text p WriteFault of is told = absurd is
+explained source text p Usage of is told = absurd is
+explained source text p TooLarge of is told = absurd is

@@ -9,16 +9,16 @@ use Rattle.ql_classify.specs.Targets.{IsLeastLevel, IsOpLevel, targets}
 use Rattle.ql_classify.specs.declared.finding.Finding.{Finding}
 use Rattle.ql_classify.specs.declared.finding.Unmet.{Unmet}
 use Rattle.ql_classify.specs.declared.finding.Finding.TheVariants.{Least, NoLevel}
-use Rattle.ql_commands.specs.declared.answer.Answer.{Answer}
-use Rattle.ql_commands.specs.declared.answer.Answer.TheVariants.{Done, No, Bad}
+use Rattle.ql_reply.specs.declared.status.Status.{Status}
+use Rattle.ql_reply.specs.declared.status.Status.TheVariants.{Done, No, Bad}
 use Rattle.ql_commands.specs.Sources.{BadSourceSays, IsSourceOf}
 use Rattle.ql_ground.specs.declared.goal.Goal.{Goal}
 use Rattle.ql_ground.specs.declared.goal.Goal.TheVariants.{OpAt, TxnAt}
 use Rattle.ql_lang.specs.declared.program.Program.{Program}
 use Rattle.ql_levels.specs.declared.level.Level.TheVariants.{Strong}
-use Rattle.ql_report.specs.Levels.{op_name, txn_name}
 use Rattle.ql_report.specs.Refusals.{strong_text}
 use Rattle.ql_typing.specs.Operations.{all_ops, uses_op}
+use Rattle.ql_typing.specs.Names.{op_name, txn_name}
 use Rattle.ql_why.specs.Why.{InTurn, counter_text, target_line}
 use Rattle.ql_counter.specs.Countermodels.{IsCounterOf}
 use Rattle.ql_counter.specs.declared.counter.Counter.{Counter}
@@ -80,10 +80,10 @@ abbrev pub IsRefused : Program → Type 0
 IsRefused p = ((target : ℕ) × (target < targets p) × (HasLeastLevel p target → ⊥)) ⊎ ((d : ℕ) × (o : OpId) × IsStrongIn p d o)
 
 -- yes or no, by that
-abbrev pub IsAnswerOf : Program → Answer → Type 0
+abbrev pub IsAnswerOf : Program → Status → Type 0
 IsAnswerOf p Done = IsAccepted p
 IsAnswerOf p No = IsRefused p
-IsAnswerOf p Bad = ⊥
+IsAnswerOf p _ = ⊥
 
 -- ---- the text
 
@@ -142,7 +142,8 @@ pub record IsSection (source : List ℕ) (p : Program) (f : Finding) (text : Lis
 abbrev pub IsExplanation : List ℕ → Program → List ℕ → Type 0
 IsExplanation source p text = (findings : List Finding) × AreFindings p findings × InTurn (IsSection source p) findings text
 
-abbrev pub ExplainSays : List ℕ → Answer → List ℕ → Type 0
+abbrev pub ExplainSays : List ℕ → Status → List ℕ → Type 0
 ExplainSays bytes Done text = (p : Program) × IsSourceOf bytes p × IsAccepted p × IsExplanation bytes p text
 ExplainSays bytes No text = (p : Program) × IsSourceOf bytes p × IsRefused p × IsExplanation bytes p text
 ExplainSays bytes Bad text = BadSourceSays bytes text
+ExplainSays bytes _ text = ⊥

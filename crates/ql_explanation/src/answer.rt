@@ -5,24 +5,25 @@ ghost use Rattle.ql_classify.specs.declared.finding.Finding.{Finding};
 ghost use Rattle.ql_explanation.specs.Explanation.{AreFindings, IsAnswerOf, IsStrongIn};
 ghost use Rattle.ql_warnings.specs.Warnings.{HasLevel};
 
+use crate::finding::finding_at;
 use crate::uses::is_strong_use;
 use ql_base::{DeclId, OpId};
 use ql_classify::Finding;
-use ql_commands::Answer;
+use ql_reply::Status;
 use ql_typing::Typed;
 
 /// Yes where each target has a level and no transaction uses a strong operation, else no.
-pub fn answer_of(t: &Typed, findings: &[Finding]) -> Answer
+pub fn answer_of(t: &Typed, findings: &[Finding]) -> Status
     requires { AreFindings t.now.program findings.now }
     ensures { IsAnswerOf t.now.program result }
 {
     if !all_have_levels(findings) {
-        return Answer::No;
+        return Status::No;
     }
     if has_strong_use(t, findings) {
-        return Answer::No;
+        return Status::No;
     }
-    Answer::Done
+    Status::Done
 }
 
 fn all_have_levels(findings: &[Finding]) -> bool
@@ -36,13 +37,6 @@ fn all_have_levels(findings: &[Finding]) -> bool
         }
     }
     true
-}
-
-fn finding_at(findings: &[Finding], k: usize) -> &Finding
-    requires { k < length findings.now }
-    ensures { slice_get findings.now k ≡ Some result.now }
-{
-    &findings[k]
 }
 
 fn has_level(finding: &Finding) -> bool

@@ -1,28 +1,29 @@
-ghost use Rattle.std.specs.Prelude.{◌≡◌, ◌<◌, ◌^◌, ℕ, IfOk, OnOk, Some, length, slice_get};
+ghost use Rattle.std.specs.Prelude.{◌≡◌, ◌<◌, ◌^◌, ℕ, IfOk, OnOk, length};
 ghost use Rattle.ql_classify.specs.Finding.{IsFinding};
 ghost use Rattle.ql_why.specs.Why.{Appended, InTurn};
 ghost use Rattle.ql_explanation.specs.Explanation.{AreFindings, ExplainSays, IsSection};
 
 use crate::answer::answer_of;
-use crate::finding::findings;
+use crate::finding::{finding_at, findings};
 use crate::sections::{Remarks, goal_of, section};
 use crate::uses::uses_of;
 use ql_base::{NoMemory, push_bytes};
 use ql_classify::Finding;
-use ql_commands::{Answer, bad_source, read_source};
+use ql_commands::{bad_source, read_source};
+use ql_reply::Status;
 use ql_typing::Typed;
 use ql_warnings::warnings;
 use std::alloc::Global;
 
 /// What is found of each target of a source, with a countermodel where it has a lower level or none is enough. The answer is
 /// yes where each has a level and no transaction uses a strong operation.
-pub fn explain(alloc: Global, source: &[u8]) -> Result<(Answer, Vec<u8>), NoMemory>
+pub fn explain(alloc: Global, source: &[u8]) -> Result<(Status, Vec<u8>), NoMemory>
     requires { length source.now < 2 ^ 32 }
     ensures { IfOk result (λ answer. ExplainSays source.now answer.0 answer.1.items) }
 {
     let typed = match read_source(alloc, source) {
         Ok(typed) => typed,
-        Err(fault) => return Ok((Answer::Bad, bad_source(alloc, fault)?)),
+        Err(fault) => return Ok((Status::Bad, bad_source(alloc, fault)?)),
     };
     let findings = findings(alloc, &typed)?;
     let text = sections_of(alloc, source, &typed, &findings)?;
@@ -46,13 +47,6 @@ fn sections_of(
         push_section(alloc, &mut text, source, t, findings, finding)?;
     }
     Ok(text)
-}
-
-fn finding_at(findings: &[Finding], k: usize) -> &Finding
-    requires { k < length findings.now }
-    ensures { slice_get findings.now k ≡ Some result.now }
-{
-    &findings[k]
 }
 
 // Appends the section of a target.

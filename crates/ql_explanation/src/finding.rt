@@ -1,5 +1,5 @@
 // What is found of each target.
-ghost use Rattle.std.specs.Prelude.{◌<◌, IfOk};
+ghost use Rattle.std.specs.Prelude.{◌≡◌, ◌<◌, IfOk, Some, length, slice_get};
 ghost use Rattle.ql_classify.specs.Targets.{targets};
 ghost use Rattle.ql_explanation.specs.Explanation.{AreFindings};
 
@@ -17,4 +17,12 @@ pub fn findings(alloc: Global, t: &Typed) -> Result<Vec<Finding>, NoMemory>
         found.push(find_target(alloc, t, target)?)?;
     }
     Ok(found)
+}
+
+/// The finding of the target at an index.
+pub fn finding_at(findings: &[Finding], k: usize) -> &Finding
+    requires { k < length findings.now }
+    ensures { slice_get findings.now k ≡ Some result.now }
+{
+    &findings[k]
 }

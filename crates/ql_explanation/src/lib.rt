@@ -15,6 +15,6 @@ mod words;
 
 pub use answer::answer_of;
 pub use explanation::explain;
-pub use finding::findings;
+pub use finding::{finding_at, findings};
 pub use sections::{goal_of, unmet_of};
 pub use uses::uses_of;

@@ -59,7 +59,7 @@ pub(crate) fn section(
     Ok(text)
 }
 
-/// What is said of a target beside its level: the strong operations that it uses, and warnings.
+/// What is reported about a target besides its level: the strong operations that it uses, and warnings.
 #[derive(Clone, Copy)]
 pub(crate) struct Remarks<'a> {
     pub(crate) uses: &'a [OpId],

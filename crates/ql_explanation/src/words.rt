@@ -1,4 +1,4 @@
-// What is said of a target in words.
+// What `explain` says about a target in words.
 ghost use Rattle.std.specs.Prelude.{◌<◌, length};
 ghost use Rattle.std.specs.List.{All};
 ghost use Rattle.ql_typing.specs.Operations.{all_ops};
@@ -12,12 +12,13 @@ use ql_counter::{At, Counter};
 use ql_facts::reasons;
 use ql_ground::Goal;
 use ql_judging::push_places;
-use ql_lang::{Formula, Name, Var};
-use ql_levels::{level_word, txn_word};
+use ql_lang::Name;
 use ql_typing::Typed;
+use ql_warnings::formula_of;
+use ql_why::{level_text, vars_of};
 use std::alloc::Global;
 
-/// Of a target at the lowest level.
+/// The line for a target at the lowest level.
 pub(crate) const LOWEST: &str = "  No level is lower.\n";
 
 /// What a countermodel shows: its effects as a table, and why the contract is false.
@@ -32,7 +33,7 @@ pub(crate) fn counter_words(
     requires named { AreNamed t.now.program 7 c.now.execution }
 {
     let mut text = Vec::from_slice(alloc, b"  ")?;
-    push_bytes(&mut text, level_of(g).as_bytes())?;
+    push_bytes(&mut text, level_text(g).as_bytes())?;
     let not = if is_top { ", the highest level," } else { "" };
     push_bytes(&mut text, not.as_bytes())?;
     push_bytes(
@@ -70,37 +71,12 @@ fn push_at(text: &mut Vec<u8>, c: &Counter) -> Result<(), NoMemory> {
     push_bytes(text, with.as_bytes())
 }
 
-fn level_of(g: Goal) -> &'static str {
-    match g {
-        Goal::OpAt(_, level) => level_word(level),
-        Goal::TxnAt(_, level) => txn_word(level),
-    }
-}
-
 fn name_of(t: &Typed, g: Goal) -> Name
     requires { IsGoalOf t.now.program g }
 {
     match g {
         Goal::OpAt(o, _) => t.op(o).name,
         Goal::TxnAt(d, _) => t.txn(d).name,
-    }
-}
-
-fn vars_of(t: &Typed, g: Goal) -> &[Var]
-    requires { IsGoalOf t.now.program g }
-{
-    match g {
-        Goal::OpAt(o, _) => t.op(o).contract.vars.items(),
-        Goal::TxnAt(d, _) => t.txn(d).contract.vars.items(),
-    }
-}
-
-fn formula_of(t: &Typed, g: Goal) -> &Formula
-    requires { IsGoalOf t.now.program g }
-{
-    match g {
-        Goal::OpAt(o, _) => t.op_formula(o),
-        Goal::TxnAt(d, _) => t.txn_formula(d),
     }
 }
 

@@ -1,4 +1,4 @@
--- What facts say of an execution.
+-- What facts mean in an execution.
 use Rattle.std.specs.Prelude.{ℕ, ◌≡◌, Bool, List, map}
 use Rattle.std.specs.List.{All}
 use Rattle.ql_base.specs.declared.ids.EffId.{EffId}
@@ -28,14 +28,14 @@ claim_true x current (Related name a b) = named x name a.0 b.0
 claim_true x current (Inside a) = current a.0
 claim_true x current (OneTxn a b) = sametxn x a.0 b.0
 
--- the fact is true of an execution of which the contract speaks at this place
+-- the fact is true of an execution in which the contract is judged here
 abbrev pub IsTrueOf : List Effect → At → Fact → Type 0
 IsTrueOf x here fact = claim_true x (inside_of x here) fact.claim ≡ fact.holds
 
--- what was appended is true
+-- the new facts are true if the old ones are
 abbrev pub KeepsTrue : List Effect → At → List Fact → List Fact → Type 0
 KeepsTrue x here old new = All (IsTrueOf x here) old → All (IsTrueOf x here) new
 
--- nothing was appended, of which any execution could be false
+-- in every execution, the new facts are true if the old ones are
 abbrev pub KeepsAny : List Fact → List Fact → Type 0
 KeepsAny old new = (x : List Effect) (here : At) → KeepsTrue x here old new

@@ -15,7 +15,7 @@ use ql_exec::{Effect, Execution, Member};
 use ql_formula::Relations;
 use ql_lang::{Rel, Term};
 
-/// An execution, of what its contract speaks, and the effects of the contract's variables.
+/// An execution, where the contract is judged in it, and the effects of the contract's variables.
 #[derive(Clone, Copy)]
 pub(crate) struct Scene<'a> {
     pub(crate) execution: &'a Execution,

@@ -1,12 +1,12 @@
 use ql_base::EffId;
 use ql_lang::RelName;
 
-/// What may be said of one effect of an execution, or of two.
+/// A statement about one effect of an execution, or about two.
 #[derive(Clone, Copy, PartialEq, Eq)]
 pub enum Claim {
     /// The first is related to the second.
     Related(RelName, EffId, EffId),
-    /// The effect is in the transaction of which the contract speaks.
+    /// The effect is in the transaction for which the contract is judged.
     Inside(EffId),
     /// They are one effect, or two of one begun transaction.
     OneTxn(EffId, EffId),

@@ -28,7 +28,7 @@ pub fn reasons(alloc: Global, formula: &Formula, c: &Counter) -> Result<Vec<Fact
     Ok(facts)
 }
 
-// Appends facts that give the body this value, where it has it; else its answer is false.
+// Appends facts by which the body has this value, if it has it; returns whether it does.
 fn tell(facts: &mut Vec<Fact>, scene: Scene, body: &Body, value: bool) -> Result<bool, NoMemory>
     requires { IsTableOf scene.relations.now scene.execution.now }
     ensures { OnOk result (KeepsTrue scene.entry.execution.now scene.entry.at facts.old.items facts.new.items) }
@@ -67,8 +67,8 @@ fn tell(facts: &mut Vec<Fact>, scene: Scene, body: &Body, value: bool) -> Result
     }
 }
 
-// Whether the left one of two parts settles the value, where it takes both or one of them. What the left one told is taken
-// back where it takes the right one alone.
+// Whether the left of two parts settles if the body has the value. The value takes both parts if `both`, else one of
+// them. If the right part has to be tried instead of the left, the facts of the left one are dropped.
 fn is_settled(facts: &mut Vec<Fact>, mark: usize, told: bool, both: bool) -> bool
     ensures { KeepsAny facts.old.items facts.new.items }
 {
@@ -133,7 +133,7 @@ fn tell_claim(
     Ok(is_so)
 }
 
-// That the members are in the current transaction, and that the others aren't and are in one.
+// The members are in the current transaction; the others aren't, and are in one transaction.
 fn tell_txn(
     facts: &mut Vec<Fact>,
     scene: Scene,
@@ -168,7 +168,7 @@ fn tell_txn(
     tell_all(facts, scene, &asked, value)
 }
 
-// That all of these hold; or the first that doesn't.
+// Appends that all of these hold, or for the value false the first that doesn't.
 fn tell_all(
     facts: &mut Vec<Fact>,
     scene: Scene,

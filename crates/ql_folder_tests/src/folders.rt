@@ -5,9 +5,10 @@ ghost use Rattle.ql_eval.specs.Able.{AreArgs, AreFields, FitsOp, type_of_op};
 use ql_base::{IdSet, NoMemory, OpId, push_bytes};
 use ql_eval::{TypedFolder, apply, fold};
 use ql_exec::{Answered, Execution, Folder, Payload};
-use ql_parse::parse_program;
 use ql_tables::check_table;
-use ql_typing::{Typed, typecheck};
+use ql_test_effects::push_values;
+use ql_test_programs::declared;
+use ql_typing::Typed;
 use ql_value::{Values, print_value};
 use std::alloc::Global;
 use std::test::Fail;
@@ -92,24 +93,6 @@ fn answered_alone(alloc: Global, typed: &Typed, op: OpId) -> Result<Answered, No
     folder.answer(op, &none, &execution, &seen)
 }
 
-fn declared(alloc: Global, source: &str) -> Option<Typed> {
-    if source.len() > 4096 {
-        return None;
-    }
-    let program = parse_program(alloc, source.as_bytes()).ok()?;
-    typecheck(alloc, program).ok()
-}
-
 fn spelled(alloc: Global, text: &str) -> Result<Vec<u8>, NoMemory> {
     Ok(Vec::from_slice(alloc, text.as_bytes())?)
-}
-
-fn push_values(out: &mut Vec<u8>, values: &Values) -> Result<(), NoMemory> {
-    let mut mark: &[u8] = b"(";
-    for value in values.items() {
-        push_bytes(out, mark)?;
-        print_value(out, value)?;
-        mark = b", ";
-    }
-    push_bytes(out, b")")
 }

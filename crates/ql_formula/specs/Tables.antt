@@ -1,4 +1,4 @@
--- Tables of the relations of an execution, and what one that is being made has so far.
+-- Tables of the relations of an execution, and the invariants of building one.
 use Rattle.std.specs.Prelude.{◌≡◌, ℕ, zero, suc, ◌<◌, Bool, true, false, ◌&&◌, ◌||◌, nat_eq, nat_lt, slice_get, slice_index_or, List, [], length, Option, Some, None}
 use Rattle.std.specs.HashMap.{get}
 use Rattle.std.specs.Option.{option_eq}
@@ -34,7 +34,7 @@ so_in keys a b = both_keys (λ e f. nat_eq e.session.0 f.session.0 && nat_lt a b
 abbrev pub sameobj_in : List Key → ℕ → ℕ → Bool
 sameobj_in keys a b = both_keys (λ e f. nat_eq e.object.0 f.object.0) (key_at keys a) (key_at keys b)
 
--- a row, and whether it has the earlier effect of an id
+-- whether a row has the earlier effect with an id
 abbrev pub row_has : List Bool → ℕ → Bool
 row_has row zero = false
 row_has row (suc k) = slice_index_or row k false
@@ -44,7 +44,7 @@ abbrev pub cell : List (List Bool) → ℕ → ℕ → Bool
 cell rows a zero = false
 cell rows a (suc m) = row_has (slice_index_or rows m []) a
 
--- ---- what it tells
+-- ---- what it says
 
 -- Objects and sessions of the effects in order, and for each effect in order which earlier ones it sees, and which
 -- happen before it within its object and at all.
@@ -68,13 +68,13 @@ related_in t (Basic name at) a b = named_in t name a b
 related_in t (Union r s) a b = related_in t r a b || related_in t s a b
 related_in t (Intersection r s) a b = related_in t r a b && related_in t s a b
 
--- the table tells the relations of the execution
+-- the table has the relations of the execution
 abbrev pub IsTableOf : Table → List Effect → Type 0
 IsTableOf t x = (name : RelName) (a b : ℕ) → named_in t name a b ≡ named x name a b
 
 -- ---- how it is made
 
--- the row of b tells which earlier effects are related to b
+-- the row of b says which earlier effects are related to b
 abbrev pub IsRow : (ℕ → ℕ → Bool) → ℕ → List Bool → Type 0
 IsRow rel b row = (suc (length row) ≡ b) × ((k : ℕ) → slice_index_or row k false ≡ rel (suc k) b)
 
@@ -100,7 +100,7 @@ abbrev pub follows : Closure → Key → Key → Bool
 follows OnOneObject e f = nat_eq e.session.0 f.session.0 && nat_eq e.object.0 f.object.0
 follows Across e f = nat_eq e.session.0 f.session.0 && true
 
--- the last of these effects that is before one of this key in its session, or within its object
+-- the last of these effects that is before one with this key in its session, or within its object
 abbrev pub IsLastBefore : Closure → List Key → Key → Option ℕ → Type 0
 IsLastBefore closure keys key None = (k : ℕ) → k < length keys → follows closure (slice_index_or keys k key) key ≡ false
 IsLastBefore closure keys key (Some last) =

@@ -1,8 +1,8 @@
 -- The truth of contracts in an execution: at an effect, and of a begun transaction.
 -- From Sivaramakrishnan, Kaki and Jagannathan, 'Declarative Programming over Eventually Consistent Data Stores'
--- (PLDI 2015): that a contract quantifies universally over effects and speaks of one current effect, its relations, and
--- their unions and intersections. Ours: that a variable's places are counted in order, the exact meaning of `txn`, and
--- that an effect outside any transaction is a transaction by itself.
+-- (PLDI 2015): that a contract quantifies universally over effects and refers to one current effect, its relations, and
+-- their unions and intersections. Ours: the order of the choices of effects for the variables, the exact meaning of
+-- `txn`, and that an effect outside any transaction is a transaction by itself.
 use Rattle.std.specs.Prelude.{◌≡◌, ◌⊎◌, ℕ, ◌<◌, Bool, true, false, not, ◌&&◌, ◌||◌, nat_eq, List, [], ◌∷◌, slice_index}
 use Rattle.std.specs.List.{list_all}
 use Rattle.ql_base.specs.IdLists.{has_id}
@@ -35,9 +35,9 @@ related x (Basic name at) a b = named x name a b
 related x (Union r s) a b = related x r a b || related x s a b
 related x (Intersection r s) a b = related x r a b && related x s a b
 
--- ---- a body at a choice of places
+-- ---- a body at a choice of effects
 
--- the effect of a term: the current one, or the one at its variable's place
+-- the effect of a term: the current one, or the one chosen for its variable
 abbrev pub place_of : List ℕ → ℕ → Term → ℕ
 place_of places cur Cur = cur
 place_of places cur (Var v) = slice_index places v
@@ -47,12 +47,12 @@ abbrev pub together : List Effect → (Term → ℕ) → List Term → Bool
 together x place [] = true
 together x place (t ∷ others) = list_all (λ u. sametxn x (place t) (place u)) (t ∷ others)
 
--- the members are in the current transaction; the others aren't, and are in one
+-- the members are in the current transaction; the others aren't, and are together in one
 abbrev pub in_one_txn : List Effect → (ℕ → Bool) → (Term → ℕ) → List Term → List Term → Bool
 in_one_txn x current place members others =
     list_all (λ t. current (place t)) members && (list_all (λ t. not (current (place t))) others && together x place others)
 
--- what a formula says, by cases; `current` tells the effects of the current transaction
+-- what a formula says, by cases; `current` is true of the effects of the current transaction
 abbrev pub statement_true : List Effect → (ℕ → Bool) → List ℕ → ℕ → Statement → Bool
 statement_true x current places cur Always = true
 statement_true x current places cur (Related r t u) = related x r (place_of places cur t) (place_of places cur u)
@@ -61,14 +61,14 @@ statement_true x current places cur (formula.OneOf p q) = statement_true x curre
 statement_true x current places cur (IfThen p q) = not (statement_true x current places cur p) || statement_true x current places cur q
 statement_true x current places cur (InOneTxn members others) = in_one_txn x current (place_of places cur) members others
 
--- ---- choices of places
+-- ---- choices of effects
 
 -- an effect is one of those over which the variable ranges
 abbrev pub in_range : List Effect → OpChoice → ℕ → Bool
 in_range x Any p = one (λ e. true) (effect_at x p)
 in_range x (OneOf ops) p = one (λ e. has_id ops e.op.0) (effect_at x p)
 
--- a place for each variable, an effect over which it ranges
+-- an effect for each variable, one over which it ranges
 abbrev pub Chosen : List Effect → List OpChoice → List ℕ → Type 0
 Chosen x [] [] = Unit {0}
 Chosen x (choice ∷ vars) (p ∷ places) = (in_range x choice p ≡ true) × Chosen x vars places
@@ -83,7 +83,7 @@ IsBefore (q ∷ others) (p ∷ places) = (q < p) ⊎ ((q ≡ p) × IsBefore othe
 
 -- ---- truth
 
--- at every choice of places the body is true
+-- at every choice of effects the body is true
 abbrev pub HoldsFor : List Effect → (ℕ → Bool) → ℕ → Resolved → Type 0
 HoldsFor x current cur f = (places : List ℕ) → Chosen x f.vars places → statement_true x current places cur f.body ≡ true
 
@@ -93,7 +93,7 @@ pub record IsFirstFalse (x : List Effect) (current : ℕ → Bool) (cur : ℕ) (
   pub is_false : statement_true x current places cur f.body ≡ false
   pub first : (others : List ℕ) → Chosen x f.vars others → IsBefore others places → statement_true x current others cur f.body ≡ true
 
--- no effect is inside a transaction of which an operation's contract could speak
+-- no effect is inside a transaction to which an operation's contract could refer
 abbrev pub none_inside : ℕ → Bool
 none_inside a = false
 

@@ -1,6 +1,7 @@
 // The truth of contracts in an execution.
-// The one contract: the tables are the relations of the execution, and a formula is told to hold
-// exactly where its body is true at every choice of places; else the first false choice is told.
+// The one contract: the tables are the relations of the execution, and a formula is reported to hold
+// exactly if its body is true at every choice of effects; otherwise the first false choice is
+// reported.
 #![tactic(auto)]
 
 mod lasts;

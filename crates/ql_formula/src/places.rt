@@ -3,7 +3,7 @@ ghost use Rattle.std.specs.Prelude.{◌≡◌, ◌≤◌, length, map};
 use ql_base::EffId;
 use std::marker::Model;
 
-/// The places of a formula's variables in one choice: at most five ids, seen as their list.
+/// The effects chosen for a formula's variables: at most five ids, seen as their list.
 #[derive(Drop)]
 pub struct Places {
     row: [EffId; 5],
@@ -22,7 +22,7 @@ impl Model for Places {
 }
 
 impl Places {
-    /// The places of these ids, which are at most five.
+    /// The choice of these ids, which are at most five.
     pub fn of(ids: &[EffId]) -> Places
         requires { length ids.now ≤ 5 }
         ensures { result ≡ ids.now }

@@ -25,7 +25,7 @@ impl Model for Row {
 }
 
 impl Row {
-    /// The row that has none of so many effects.
+    /// The row that has none of `count` effects.
     pub(crate) fn empty(alloc: Global, count: usize) -> Result<Row, NoMemory>
         ensures { IfOk result (λ row. row ≡ replicate count false) }
     {
@@ -35,14 +35,14 @@ impl Row {
         })
     }
 
-    /// How many earlier effects there are.
+    /// The number of earlier effects.
     pub(crate) fn len(&self) -> usize
         ensures { result ≡ length self.now }
     {
         self.count
     }
 
-    /// Whether the row has the effect at the place `k`, counted from 0.
+    /// Whether the row has the effect at the index `k`, counted from 0.
     pub(crate) fn get(&self, k: usize) -> bool
         ensures { result ≡ slice_index_or self.now k false }
     {
@@ -52,14 +52,14 @@ impl Row {
         }
     }
 
-    /// Whether the row has the effect of an id.
+    /// Whether the row has the effect with an id, counted from 1.
     pub(crate) fn has(&self, id: u32) -> bool
         ensures { result ≡ row_has self.now id }
     {
         id > 0 && self.get(id as usize - 1)
     }
 
-    /// Adds the effect at the place `k`.
+    /// Adds the effect at the index `k`, counted from 0.
     pub(crate) fn set(&mut self, k: usize)
         requires { k < length self.old }
         ensures length { length self.new ≡ length self.old }

@@ -61,7 +61,7 @@ fn vis_row(alloc: Global, effects: &[Effect], k: usize) -> Result<Row, NoMemory>
     Ok(row)
 }
 
-// Adds the effects of these ids.
+// Adds the effects with these ids.
 fn mark(row: &mut Row, ids: &[u32])
     requires { (k : ℕ) → has_id ids.now k ≡ true → (1 ≤ k) × (k ≤ length row.old) }
     ensures length { length row.new ≡ length row.old }
@@ -131,7 +131,7 @@ fn visit_last(row: &mut Row, rows: &[Row], last: Option<usize>)
     }
 }
 
-// Goes to the seen effects from the last to the first, since the last bring most.
+// Visits the seen effects from the last to the first, since the last ones add most.
 fn visit_seen(row: &mut Row, rows: &[Row], seen: &[u32])
     requires lengths { (k : ℕ) → k < length rows.now → length (slice_index_or rows.now k []) ≡ k }
     requires within { (a : ℕ) → has_id seen.now a ≡ true → (1 ≤ a) × (a ≤ length rows.now) × (a ≤ length row.old) }
@@ -149,7 +149,7 @@ fn visit_seen(row: &mut Row, rows: &[Row], seen: &[u32])
     }
 }
 
-// Adds the effect of the row `earlier` and all from which that one is reached. Where the row has it
+// Adds the effect of the row `earlier` and all from which that one is reached. If the row has it
 // already, it has these too.
 fn visit(row: &mut Row, earlier: &Row)
     requires { length earlier.now < length row.old }

@@ -14,15 +14,15 @@ use ql_base::{EffId, RunId};
 use ql_exec::{Effect, Execution, Member};
 use ql_lang::{Body, OpChoice, Term};
 
-/// Of what a formula speaks: an effect, or a begun transaction.
+/// What a formula refers to: an effect, or a begun transaction.
 #[derive(Clone, Copy, PartialEq, Eq)]
 pub(crate) enum Current {
     AtEffect(EffId),
     OfRun(RunId),
 }
 
-/// Whether the body is false at some choice that begins with the places before those of `vars`,
-/// which are the last ones. The first such choice is left in `places`.
+/// Whether the body is false at some choice that keeps the effects in `places` of all variables except
+/// the last ones, which are `vars`. The first such choice is left in `places`.
 pub(crate) fn breaks(
     body: &Body,
     vars: &[OpChoice],
@@ -69,7 +69,7 @@ fn is_in_range(effects: &[Effect], choice: &OpChoice, id: u32) -> bool
     }
 }
 
-// Whether what a formula says is true at a choice of places.
+// Whether what a formula says is true at a choice of effects.
 fn is_true(
     body: &Body,
     execution: &Execution,
@@ -139,7 +139,7 @@ fn cur_of(current: Current) -> u32
     }
 }
 
-// Whether the members are in the current transaction, and the others aren't and are in one.
+// Whether the members are in the current transaction, and the others aren't and are together in one.
 fn are_one_txn(
     effects: &[Effect],
     current: Current,
@@ -181,7 +181,7 @@ fn are_together(effects: &[Effect], current: Current, places: &[u32], terms: &[T
     }
 }
 
-// Whether each is in one transaction with the effect of the id.
+// Whether each is in one transaction with the effect with the id.
 fn are_with(effects: &[Effect], id: u32, current: Current, places: &[u32], terms: &[Term]) -> bool
     ensures { result ≡ list_all (λ t. sametxn effects.now id (place_of places.now (cur_of current) t)) terms.now }
 {
@@ -207,7 +207,7 @@ fn is_in_run(effect: &Effect, run: RunId) -> bool
     }
 }
 
-// Whether two ids are one, or two effects of one begun transaction.
+// Whether two ids are equal, or are two effects of one begun transaction.
 fn is_one_txn(effects: &[Effect], a: u32, b: u32) -> bool
     ensures { result ≡ sametxn effects.now a b }
 {

@@ -12,9 +12,9 @@ use ql_base::{EffId, RunId};
 use ql_exec::Execution;
 use ql_lang::Formula;
 
-/// The places of the variables in the first choice at which the formula is false of the effect,
-/// where it is false at some choice. Choices are in order of the first variable's place, then of the
-/// second's, and so on.
+/// The first choice of effects for the variables at which the formula is false of the effect;
+/// `None` if it is true at every choice. Choices are ordered by the first variable's effect, then
+/// by the second's, and so on.
 pub fn holds_at(
     formula: &Formula,
     execution: &Execution,
@@ -29,7 +29,7 @@ pub fn holds_at(
     first_false(formula, execution, relations, Current::AtEffect(cur))
 }
 
-/// As `holds_at`, of a begun transaction. It may have no effects.
+/// The same as `holds_at` for a begun transaction, which may have no effects.
 pub fn holds_txn(
     formula: &Formula,
     execution: &Execution,
@@ -65,7 +65,7 @@ fn first_false(
     }
 }
 
-// The places of some numbers, which are at most five.
+// The choice of some ids, which are at most five.
 fn places_of(numbers: &[u32]) -> Places
     requires { length numbers.now ≤ 5 }
     ensures { map (λ id. id.0) result ≡ numbers.now }

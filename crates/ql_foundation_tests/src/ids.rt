@@ -3,7 +3,7 @@ use ql_tables::{check_table, field, number};
 use std::alloc::Global;
 use std::test::Fail;
 
-// Ids in the order in which they are added, one more, and the set.
+// Ids in the order in which they are added, one more id, and the set.
 const ADDED: &str = "
 7 3 9 3 1 + 7 -> known: 1 3 7 9
 7 3 9 3 1 + 8 -> new: 1 3 7 8 9
@@ -75,7 +75,7 @@ fn spelled(alloc: Global, word: &str, ids: &[u32]) -> Result<Vec<u8>, NoMemory> 
     Ok(out)
 }
 
-// Names, and their numbers: each by its first occurrence.
+// Names, and their numbers by first occurrence.
 const NUMBERED: &str = "
 a b a c -> numbers: 0 1 0 2
 b -> numbers: 0
@@ -97,7 +97,7 @@ fn numbered(alloc: Global, row: &str) -> Result<Vec<u8>, NoMemory> {
     spelled(alloc, "numbers:", &numbers)
 }
 
-// A text, a number of 64 bits and one of 128, each appended in turn.
+// A text, a 64-bit number and a 128-bit number, appended one after another.
 const APPENDED: &str = "
 n 4294967295 -20 -170141183460469231731687303715884105728 -> n 4294967295 -20 -170141183460469231731687303715884105728
 ";

@@ -1,5 +1,5 @@
 // Tests of the lowest crates: sets of ids, names, shelves and sinks, lines and atoms, with answers from outside.
-// It has no contract of its own, and nothing stands on this crate.
+// It has no contract of its own, and no crate depends on it.
 #![tactic(auto)]
 
 #[cfg(test)]

@@ -4,7 +4,7 @@ use ql_tables::check_table;
 use std::alloc::Global;
 use std::test::Fail;
 
-// Files with their lines that tell something, as number and fields, and the place of the end.
+// Files with their lines that aren't blank or comments, as number and fields, and the line number of the end.
 const FILES: &str = "
  -> end 1
 ␊ -> end 2
@@ -86,7 +86,7 @@ fn spelled(alloc: Global, ids: &[u32]) -> Result<Vec<u8>, NoMemory> {
     Ok(out)
 }
 
-// What is asked for at the front of a text, the text, and what stands behind that field.
+// What a text has to begin with, the text, and what comes after that field.
 const FRONTS: &str = "
 word   vis 1 -> [ 1]
 word visit 1 -> none

@@ -6,7 +6,7 @@ use std::test::Fail;
 
 const TEXT: &[u8] = b"seven b";
 
-// How many bytes a fetch gives, which fetch fails (0: none), the name and the most bytes, and how it ends.
+// How many bytes a fetch returns, which fetch fails (0 for none), the name and the most bytes, and how it ends.
 const READ: &str = "
 1 0 text 7 -> seven b
 1 9 text 100 -> seven b
@@ -44,7 +44,7 @@ fn outcome(alloc: Global, read: Result<Vec<u8>, ReadError>) -> Result<Vec<u8>, N
     }
 }
 
-// How many bytes there is room for, how many a put takes and which put fails (0: none), and what was written.
+// How many bytes fit, how many a put takes and which put fails (0 for none), and what was written.
 const WRITTEN: &str = "
 7 1 0 -> all [seven b]
 100 100 0 -> all [seven b]

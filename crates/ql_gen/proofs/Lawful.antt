@@ -25,7 +25,7 @@ use Rattle.ql_schedule.specs.Guarantees.{AreFit, FitsEvent, IsCaller, IsOfVersio
 use Rattle.ql_gen.specs.Draws.{draw, next}
 use Rattle.ql_gen.specs.Events.{arg_of, args_of, begin_of, call_at, call_of, event_of, message_of, network_of, op_of, params_of, replica_of, session_of}
 use Rattle.ql_gen.specs.Generated.{generated, generated_events, state_after}
-use Rattle.ql_gen.specs.Objects.{first_objects, object_kinds, object_names}
+use Rattle.ql_gen.specs.Objects.{first_objects, object_kinds, drawn_object_names}
 use Rattle.ql_gen.proofs.ObjectLaws.{AreBelow, first_below, length_names}
 
 pub draw_below : (m x : ℕ) → 1 ≤ m → draw m x < m
@@ -132,9 +132,9 @@ if_both false P e f first second = second refl
 
 module _ (p : Program) where
   abbrev Fits : Event → Type 0
-  Fits = FitsEvent p 3 (length (object_names (length p.types))) (object_kinds (length p.types))
+  Fits = FitsEvent p 3 (length (drawn_object_names (length p.types))) (object_kinds (length p.types))
 
-  caller : (x : ℕ) → IsCaller p 3 (length (object_names (length p.types))) (object_kinds (length p.types)) (session_of x) (replica_of x)
+  caller : (x : ℕ) → IsCaller p 3 (length (drawn_object_names (length p.types))) (object_kinds (length p.types)) (session_of x) (replica_of x)
   caller x = record {
     is_session = (let less : draw 4 x < 4 = draw_below 4 x (omega arith) in omega (arith, less));
     is_replica = draw_below 3 (next x) (omega arith);
@@ -174,7 +174,7 @@ module _ (p : Program) where
   begin_fits x = if_both (nat_eq (length p.txns) 0) Fits _ _ (λ none. tt) (λ some. (
     caller x,
     draw_below (length p.txns) (next (next x)) (positive (length p.txns) some),
-    firsts (first_objects (length p.types)) (2 * length p.types) (first_below (length p.types)) (length (object_names (length p.types))) (omega (arith, length_names (length p.types))),
+    firsts (first_objects (length p.types)) (2 * length p.types) (first_below (length p.types)) (length (drawn_object_names (length p.types))) (omega (arith, length_names (length p.types))),
   ))
 
   network_fits : (j x : ℕ) → Fits (network_of j x)
@@ -226,11 +226,11 @@ module _ (p : Program) where
   as_many n (Join near copy) is = absurd (omega (arith, is))
 
   fit_along : (events : List Event) → AllByRecursion Fits events → AllByRecursion (IsOfVersion 1) events
-      → AreFit p (length (object_names (length p.types))) (object_kinds (length p.types)) 3 events
+      → AreFit p (length (drawn_object_names (length p.types))) (object_kinds (length p.types)) 3 events
   fit_along [] fits plain = tt
   fit_along (e ∷ events) fits plain = (
     fits.0,
-    subst (λ (n : ℕ). AreFit p (length (object_names (length p.types))) (object_kinds (length p.types)) n events) (sym (as_many 3 e plain.0)) (fit_along events fits.1 plain.1),
+    subst (λ (n : ℕ). AreFit p (length (drawn_object_names (length p.types))) (object_kinds (length p.types)) n events) (sym (as_many 3 e plain.0)) (fit_along events fits.1 plain.1),
   )
 
   module _ (number : ℕ) where
@@ -266,7 +266,7 @@ module _ (p : Program) where
 
 -- the same of its parts, once they are made
 pub made_schedule : (p : Program) (number n types : ℕ) (objects : List (List ℕ)) (kinds : List TypeId) (events : List Event)
-    → types ≡ length p.types → types ≤ 16 → n ≤ 4000 → objects ≡ object_names types → kinds ≡ object_kinds types → events ≡ generated_events p number n
+    → types ≡ length p.types → types ≤ 16 → n ≤ 4000 → objects ≡ drawn_object_names types → kinds ≡ object_kinds types → events ≡ generated_events p number n
     → IsSchedule p (record { version = 1; replicas = 3; objects = objects; kinds = kinds; events = events })
 made_schedule p number n types objects kinds events count few_types few names of_types are =
     rw (names, of_types, are, count) (is_schedule p number n few (omega (arith, few_types, count)))

@@ -21,7 +21,7 @@ use Rattle.ql_typing.specs.Operations.{all_ops}
 use Rattle.ql_gen.specs.Draws.{draw, next}
 use Rattle.ql_gen.specs.Events.{arg_of, args_of, begin_of, call_of, event_of, network_of, op_of, params_of}
 use Rattle.ql_gen.specs.Generated.{generated_events, state_after}
-use Rattle.ql_gen.specs.Objects.{first_objects, object_name, object_names}
+use Rattle.ql_gen.specs.Objects.{first_objects, drawn_object_name, drawn_object_names}
 use Rattle.ql_gen.proofs.Lawful.{all_more, draw_below, if_both}
 use Rattle.ql_gen.proofs.Numbers.{numbered_text}
 use Rattle.ql_gen.proofs.ObjectLaws.{AreBelow, absent, absent_second, first_below, name_short, parts}
@@ -69,7 +69,7 @@ free : (digits rest : List ℕ) → AllPass is_digit digits → 0 < length digit
 free [] rest are some = absurd (omega (arith, some))
 free (d ∷ ds) rest are some = no_keyword d (ds ++ rest) (are 0 0 (omega arith))
 
-named : (i k : ℕ) → i < 16 → k < 10 → IsName (object_name i k)
+named : (i k : ℕ) → i < 16 → k < 10 → IsName (drawn_object_name i k)
 named i k is_i is_k =
     let digits : AllPass is_digit (decimal i) = digits_decimal digits_model i (omega (arith, is_i)) in
     let rest : List ℕ = codes "_" ++ decimal k in
@@ -83,14 +83,14 @@ named i k is_i is_k =
       free = free (decimal i) rest digits (decimal_nonempty i (omega (arith, is_i)));
     })
 
-pub names_new : (n : ℕ) → n ≤ 16 → AreNew [] (object_names n)
-unfolding object_names
+pub names_new : (n : ℕ) → n ≤ 16 → AreNew [] (drawn_object_names n)
+unfolding drawn_object_names
 names_new zero few = tt
 names_new (suc i) few =
-    let before = object_names i in
-    let one = new_more [] before (object_name i 0) (names_new i (omega (arith, few))) (named i 0 (omega (arith, few)) (omega arith)) (absent i i 0 (omega arith) (omega (arith, few)) (omega arith)) in
-    let two = new_more [] (before ++ object_name i 0 ∷ []) (object_name i 1) one (named i 1 (omega (arith, few)) (omega arith)) (absent_second i (omega (arith, few))) in
-    subst (AreNew []) (append_assoc before (object_name i 0 ∷ []) (object_name i 1 ∷ [])) two
+    let before = drawn_object_names i in
+    let one = new_more [] before (drawn_object_name i 0) (names_new i (omega (arith, few))) (named i 0 (omega (arith, few)) (omega arith)) (absent i i 0 (omega arith) (omega (arith, few)) (omega arith)) in
+    let two = new_more [] (before ++ drawn_object_name i 0 ∷ []) (drawn_object_name i 1) one (named i 1 (omega (arith, few)) (omega arith)) (absent_second i (omega (arith, few))) in
+    subst (AreNew []) (append_assoc before (drawn_object_name i 0 ∷ []) (drawn_object_name i 1 ∷ [])) two
 
 -- ---- arguments
 

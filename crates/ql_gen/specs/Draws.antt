@@ -2,10 +2,10 @@
 -- with the multiplier and the increment of the example of `rand` in the C standard (ISO/IEC 9899:1999, section 7.20.2.2).
 use Rattle.std.specs.Prelude.{ℕ, zero, suc, ◌+◌, ◌*◌, ◌/◌, ◌%◌, ◌^◌}
 
--- the state after one draw more
+-- the state after one more draw
 abbrev pub next : ℕ → ℕ
 next x = (x * 1103515245 + 12345) % 2 ^ 31
 
--- what the next draw is: the upper bits of the state after it, below m
+-- the next draw: the upper bits of the state after it, below m
 abbrev pub draw : ℕ → ℕ → ℕ
 draw m x = next x / 65536 % m

@@ -25,7 +25,7 @@ session_of x = record { 0 = draw 4 x }
 abbrev pub replica_of : ℕ → ReplicaId
 replica_of x = record { 0 = draw 3 (next x) }
 
--- of event j, one of the first j messages
+-- one of the first j messages, for event j
 abbrev pub message_of : ℕ → ℕ → MsgId
 message_of j x = record { 0 = suc (draw j x) }
 
@@ -57,7 +57,7 @@ module _ (p : Program) where
   call_at session replica o k x =
       Call session replica (record { 0 = 2 * slice_index_or (op_kinds p.types) o 0 + k }) (record { 0 = o }) (args_of (params_of o) x)
 
-  -- a session, a replica, an operation, which of the two objects, and an argument for each parameter; `heal` where there
+  -- a session, a replica, an operation, which of the two objects, and an argument for each parameter; `heal` if there
   -- is no operation
   abbrev pub call_of : ℕ → Event
   call_of x = if nat_eq (length (all_ops p.types)) 0 then Heal
@@ -69,7 +69,7 @@ module _ (p : Program) where
 
   -- ---- transactions
 
-  -- a session, a replica and a transaction, on the first object of each type; `heal` where there is no transaction
+  -- a session, a replica and a transaction, on the first object of each type; `heal` if there is no transaction
   abbrev pub begin_of : ℕ → Event
   begin_of x = if nat_eq (length p.txns) 0 then Heal
       else Begin (session_of x) (replica_of x) (record { 0 = draw (length p.txns) (next (next x)) }) (first_objects (length p.types))
@@ -88,7 +88,7 @@ network_of j x =
 abbrev pub after_network : ℕ → ℕ
 after_network x = if nat_lt (draw 4 x) 2 then next x else next (next x)
 
--- ---- events, of a kind that is one of twelve
+-- -- events, each of one of twelve kinds
 
 module _ (p : Program) where
   abbrev pub event_of_kind : ℕ → ℕ → ℕ → Event

@@ -1,13 +1,13 @@
--- The schedule of a number.
+-- The schedule for a number.
 use Rattle.std.specs.Prelude.{ℕ, zero, suc, List, [], ◌∷◌, ◌++◌, length}
 use Rattle.ql_lang.specs.declared.program.Program.{Program}
 use Rattle.ql_machine.specs.declared.event.Event.{Event}
 use Rattle.ql_schedule.specs.declared.schedule.Schedule.{Schedule}
 use Rattle.ql_gen.specs.Events.{after_event, event_of}
-use Rattle.ql_gen.specs.Objects.{object_kinds, object_names}
+use Rattle.ql_gen.specs.Objects.{object_kinds, drawn_object_names}
 
 module _ (p : Program) (number : ℕ) where
-  -- the state before the event that follows so many
+  -- the state after this many events
   unfoldable pub state_after : ℕ → ℕ
   state_after zero = number
   state_after (suc n) = after_event p (state_after n)
@@ -17,12 +17,12 @@ module _ (p : Program) (number : ℕ) where
   generated_events zero = []
   generated_events (suc n) = generated_events n ++ event_of p (suc n) (state_after n) ∷ []
 
-  -- so many events at three replicas, on two objects of each type
+  -- this many events at three replicas, on two objects of each type
   abbrev pub generated : ℕ → Schedule
   generated n = record {
     version = 1;
     replicas = 3;
-    objects = object_names (length p.types);
+    objects = drawn_object_names (length p.types);
     kinds = object_kinds (length p.types);
     events = generated_events n;
   }

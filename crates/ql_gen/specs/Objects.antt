@@ -2,13 +2,13 @@
 use Rattle.std.specs.Prelude.{ℕ, zero, suc, ◌*◌, List, [], ◌∷◌, ◌++◌, codes, decimal}
 use Rattle.ql_base.specs.declared.ids.TypeId.{TypeId}
 
-abbrev pub object_name : ℕ → ℕ → List ℕ
-object_name i k = codes "o" ++ decimal i ++ codes "_" ++ decimal k
+abbrev pub drawn_object_name : ℕ → ℕ → List ℕ
+drawn_object_name i k = codes "o" ++ decimal i ++ codes "_" ++ decimal k
 
 -- the names of the objects of the first types
-unfoldable pub object_names : ℕ → List (List ℕ)
-object_names zero = []
-object_names (suc i) = object_names i ++ object_name i 0 ∷ object_name i 1 ∷ []
+unfoldable pub drawn_object_names : ℕ → List (List ℕ)
+drawn_object_names zero = []
+drawn_object_names (suc i) = drawn_object_names i ++ drawn_object_name i 0 ∷ drawn_object_name i 1 ∷ []
 
 -- their types
 unfoldable pub object_kinds : ℕ → List TypeId

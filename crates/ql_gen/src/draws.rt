@@ -3,7 +3,7 @@ ghost use Rattle.ql_gen.specs.Draws.{draw, next};
 
 use std::marker::Model;
 
-/// A generator of pseudorandom numbers, seen as its state.
+/// A generator of pseudorandom numbers, viewed as its state.
 #[derive(Drop)]
 pub(crate) struct Draws {
     state: u32,
@@ -24,7 +24,7 @@ impl Draws {
         Draws { state: number }
     }
 
-    /// The next number, below `most`.
+    /// The next number, from 0 and below `most`.
     pub(crate) fn below(&mut self, most: u32) -> u32
         requires { 1 ≤ most }
         ensures drawn { result ≡ draw most self.old }

@@ -27,7 +27,7 @@ use ql_typing::Typed;
 use ql_value::{TextVal, Value, Values};
 use std::alloc::Global;
 
-/// The event of a number from 1.
+/// The event with this number, counted from 1.
 pub(crate) fn draw_event(
     alloc: Global,
     t: &Typed,

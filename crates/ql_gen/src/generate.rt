@@ -11,9 +11,9 @@ use ql_schedule::{Events, Schedule};
 use ql_typing::Typed;
 use std::alloc::Global;
 
-/// The schedule of a number: so many events at three replicas, on two objects of each type.
+/// The schedule with this number and this many events, at three replicas, on two objects of each type.
 ///
-/// The number is the first state of a linear congruential generator; every program has one schedule of
+/// The number is the first state of a linear congruential generator; every program has one schedule for
 /// each number.
 pub fn schedule_of(alloc: Global, t: &Typed, number: u32, events: u32) -> Result<Schedule, NoMemory>
     requires number { number < 2 ^ 31 }

@@ -1,5 +1,5 @@
 // Schedules drawn from a number, for randomized testing.
-// The one contract: the schedule of a number is the stated one, and one that a store can step through.
+// The one contract: the schedule for a number is the stated one, and one that a store can step through.
 #![tactic(auto)]
 
 mod draws;

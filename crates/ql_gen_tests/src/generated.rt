@@ -1,9 +1,8 @@
 use ql_base::NoMemory;
 use ql_gen::schedule_of;
-use ql_parse::parse_program;
 use ql_schedule::print_schedule;
 use ql_tables::{check_table, number};
-use ql_typing::{Typed, typecheck};
+use ql_test_programs::declared;
 use std::alloc::Global;
 use std::test::Fail;
 
@@ -13,7 +12,7 @@ type cart { op add(item: text, n: int, gift: bool): unit { contract true; answer
 transaction fill { uses add; contract true; }
 transaction look { uses left; contract true; }";
 
-// What stands before the events of the first table.
+// What comes before the events of the first table.
 const HEADER: &str = "quelea schedule 1
 replicas 3
 object o0_0 stock
@@ -23,7 +22,7 @@ object o1_1 cart
 events
 ";
 
-// A number, how many events, and the events. Both tables are from an independent implementation.
+// A seed, how many events, and the events. Both tables are from an independent implementation.
 const EVENTS: &str = r#"
 0 9 -> call 0 at 1 o0_0 left␊deliver 2␊call 2 at 1 o0_0 restock 59␊call 3 at 0 o0_1 left␊deliver 2␊call 3 at 1 o1_0 add "t1" 96 false␊call 1 at 1 o1_0 add "t6" 51 false␊begin 3 at 1 fill o0_0 o1_0␊deliver 3
 1 9 -> call 2 at 0 o0_1 left␊commit 2 at 0␊call 2 at 1 o1_0 add "t0" 25 true␊repeat 2␊deliver 2␊begin 3 at 0 look o0_0 o1_0␊deliver 1␊call 2 at 2 o1_1 add "t4" 2 true␊commit 2 at 1
@@ -53,7 +52,7 @@ fn without_header(alloc: Global, text: &[u8]) -> Result<Vec<u8>, NoMemory> {
     Ok(Vec::from_slice(alloc, events)?)
 }
 
-// The same of a program without transactions, whole.
+// The whole schedule of a program without transactions.
 const WHOLE: &str = r#"
 0 2 -> quelea schedule 1␊replicas 3␊object o0_0 t␊object o0_1 t␊events␊call 0 at 1 o0_0 touch␊deliver 2
 5 6 -> quelea schedule 1␊replicas 3␊object o0_0 t␊object o0_1 t␊events␊deliver 1␊deliver 2␊call 0 at 2 o0_0 touch␊call 1 at 2 o0_1 touch␊heal␊call 1 at 1 o0_1 touch
@@ -69,19 +68,11 @@ fn schedules_are_generated(rt: HostRuntime) -> Result<(), Fail> {
 }
 
 fn generated(alloc: Global, source: &str, number: u32, events: u32) -> Result<Vec<u8>, NoMemory> {
-    match typed(alloc, source) {
+    match declared(alloc, source) {
         Some(typed) if number < 1 << 31 && events <= 4000 => {
             let schedule = schedule_of(alloc, &typed, number, events)?;
             print_schedule(alloc, &typed, &schedule)
         }
         _ => Ok(Vec::from_slice(alloc, b"no source")?),
     }
-}
-
-fn typed(alloc: Global, source: &str) -> Option<Typed> {
-    if source.len() > 4096 {
-        return None;
-    }
-    let program = parse_program(alloc, source.as_bytes()).ok()?;
-    typecheck(alloc, program).ok()
 }

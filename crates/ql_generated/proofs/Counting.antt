@@ -6,17 +6,17 @@ use Rattle.std.specs.Option.{option_map}
 use Rattle.std.specs.Str.{bytes_eq}
 use Rattle.ql_exec.specs.declared.effect.Effect.{Effect}
 use Rattle.ql_machine.specs.declared.reply.Reply.{Reply}
-use Rattle.ql_generated.specs.Summaries.{count, last_stamp, seen_count, word_of}
+use Rattle.ql_generated.specs.Summaries.{count, last_stamp, seen_count, reply_word}
 
 abbrev pub one_if : Bool → ℕ
 one_if b = if b then 1 else 0
 
-pub count_more : (word : List ℕ) (rs : List Reply) (k : ℕ) (r : Reply) → slice_get rs k ≡ Some r → count word (take (suc k) rs) ≡ count word (take k rs) + one_if (bytes_eq (word_of r) word)
+pub count_more : (word : List ℕ) (rs : List Reply) (k : ℕ) (r : Reply) → slice_get rs k ≡ Some r → count word (take (suc k) rs) ≡ count word (take k rs) + one_if (bytes_eq (reply_word r) word)
 unfolding count
 count_more word [] k r at = let no : ⊥ = cc in absurd no
 count_more word (x ∷ xs) zero r at =
     let same : x ≡ r = cc in
-    subst (λ (y : Reply). one_if (bytes_eq (word_of x) word) + 0 ≡ 0 + one_if (bytes_eq (word_of y) word)) same (omega arith)
+    subst (λ (y : Reply). one_if (bytes_eq (reply_word x) word) + 0 ≡ 0 + one_if (bytes_eq (reply_word y) word)) same (omega arith)
 count_more word (x ∷ xs) (suc k) r at = omega (arith, count_more word xs k r at)
 
 pub one_small : (b : Bool) → one_if b ≤ 1

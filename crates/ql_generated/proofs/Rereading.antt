@@ -22,15 +22,16 @@ use Rattle.ql_machine.specs.Runs.{replicas_after}
 use Rattle.ql_schedule.specs.Files.{IsScheduleFile}
 use Rattle.ql_schedule.specs.Guarantees.{AreFit, FitsEvent, IsSchedule}
 use Rattle.ql_schedule.specs.Spelled.{AreNew, IsFound, IsSpelled, IsSpelledEvent, IsSpelledType}
-use Rattle.ql_schedule.specs.Texts.{op_name, schedule_lines, txn_name, type_name}
+use Rattle.ql_schedule.specs.Texts.{schedule_lines}
 use Rattle.ql_schedule.proofs.ObjectNames.{found_by_name}
 use Rattle.ql_typing.specs.Lookups.{txn_place, type_place}
 use Rattle.ql_typing.specs.Operations.{all_ops, op_place}
 use Rattle.ql_typing.proofs.FaultFree.{few_types}
 use Rattle.ql_gen.specs.Generated.{generated}
-use Rattle.ql_gen.specs.Objects.{object_kinds, object_names}
+use Rattle.ql_gen.specs.Objects.{object_kinds, drawn_object_names}
 use Rattle.ql_gen.proofs.Lawful.{all_more, is_schedule}
 use Rattle.ql_gen.proofs.Spelling.{Spells, events_spell, names_new}
+use Rattle.ql_typing.specs.Names.{op_name, txn_name, type_name}
 use Rattle.ql_generated.specs.Schedules.{TellsSchedule}
 use Rattle.ql_generated.proofs.SameSchedules.{same-lines}
 
@@ -102,7 +103,7 @@ module _ (source : List ℕ) (p : Program) (is : IsSourceOf source p) where
         objects = new;
         types = types-spelled (length p.types) (omega arith);
         events =
-            events-spelled (object_names (length p.types)) (object_kinds (length p.types)) new 3 (generated p number n).events lawful.events
+            events-spelled (drawn_object_names (length p.types)) (object_kinds (length p.types)) new 3 (generated p number n).events lawful.events
             (events_spell p (has_types source p is.0) few_of_types number n few);
       }
 

@@ -10,14 +10,15 @@ use Rattle.ql_lines.specs.Fields.{Fields}
 use Rattle.ql_machine.specs.declared.event.Event.{Event}
 use Rattle.ql_machine.specs.declared.event.Event.TheVariants.{Begin, Call, Commit, Deliver, Heal, Join, Lose, Partition, Repeat, Resend}
 use Rattle.ql_schedule.specs.declared.schedule.Schedule.{Schedule}
-use Rattle.ql_schedule.specs.Headers.{title}
-use Rattle.ql_schedule.specs.Texts.{caller_fields, event_fields, name_at, object_fields, object_lines, op_name, schedule_lines, txn_name, type_name}
+use Rattle.ql_schedule.specs.Headers.{schedule_title}
+use Rattle.ql_schedule.specs.Texts.{caller_fields, event_fields, name_at, object_fields, object_lines, schedule_lines}
 use Rattle.ql_typing.specs.Operations.{all_ops}
+use Rattle.ql_typing.specs.Names.{op_name, txn_name, type_name}
 use Rattle.ql_value.specs.Spelling.{value_text}
 use Rattle.ql_gen.specs.Draws.{draw, next}
 use Rattle.ql_gen.specs.Events.{after_begin, after_call, after_event, begin_of, call_of, event_of, params_of}
 use Rattle.ql_gen.specs.Generated.{generated, generated_events, state_after}
-use Rattle.ql_gen.specs.Objects.{object_kinds, object_names}
+use Rattle.ql_gen.specs.Objects.{object_kinds, drawn_object_names}
 
 -- what two lists agree on in each item, they agree on at each place
 at-same : {A B C : Type 0} (f : A → B) (g : A → C) → ((x y : A) → f x ≡ f y → g x ≡ g y) → (d : C) (xs ys : List A) → map f xs ≡ map f ys
@@ -84,8 +85,8 @@ module _ (p q : Program) (e : source_of p ≡ source_of q) where
 
   schedule-same : (number n : ℕ) → generated p number n ≡ generated q number n
   schedule-same number n =
-      ap (λ (count : ℕ). record { version = 1; replicas = 3; objects = object_names count; kinds = object_kinds count; events = generated_events p number n }) count-types
-      ∙ ap (λ (es : List Event). record { version = 1; replicas = 3; objects = object_names (length q.types); kinds = object_kinds (length q.types); events = es }) (events-same number n)
+      ap (λ (count : ℕ). record { version = 1; replicas = 3; objects = drawn_object_names count; kinds = object_kinds count; events = generated_events p number n }) count-types
+      ∙ ap (λ (es : List Event). record { version = 1; replicas = 3; objects = drawn_object_names (length q.types); kinds = object_kinds (length q.types); events = es }) (events-same number n)
 
   -- ---- its text
 
@@ -120,8 +121,8 @@ module _ (p q : Program) (e : source_of p ≡ source_of q) where
 
   lines-same : (s : Schedule) → schedule_lines p s ≡ schedule_lines q s
   lines-same s =
-      ap (λ (ls : List Fields). title s.version ∷ (codes "replicas" ∷ decimal s.replicas ∷ []) ∷ (ls ++ (codes "events" ∷ []) ∷ map (event_fields p s.objects) s.events)) (objects-same s.objects s.kinds)
-      ∙ ap (λ (ls : List Fields). title s.version ∷ (codes "replicas" ∷ decimal s.replicas ∷ []) ∷ (object_lines q s.objects s.kinds ++ (codes "events" ∷ []) ∷ ls)) (all-fields-same s.objects s.events)
+      ap (λ (ls : List Fields). schedule_title s.version ∷ (codes "replicas" ∷ decimal s.replicas ∷ []) ∷ (ls ++ (codes "events" ∷ []) ∷ map (event_fields p s.objects) s.events)) (objects-same s.objects s.kinds)
+      ∙ ap (λ (ls : List Fields). schedule_title s.version ∷ (codes "replicas" ∷ decimal s.replicas ∷ []) ∷ (object_lines q s.objects s.kinds ++ (codes "events" ∷ []) ∷ ls)) (all-fields-same s.objects s.events)
 
   pub same-lines : (number n : ℕ) → schedule_lines p (generated p number n) ≡ schedule_lines q (generated q number n)
   same-lines number n = ap (schedule_lines p) (schedule-same number n) ∙ lines-same (generated q number n)

@@ -1,7 +1,7 @@
 -- What `soak` says of a source.
 use Rattle.std.specs.Prelude.{ℕ, List}
-use Rattle.ql_commands.specs.declared.answer.Answer.{Answer}
-use Rattle.ql_commands.specs.declared.answer.Answer.TheVariants.{Done, No, Bad}
+use Rattle.ql_reply.specs.declared.status.Status.{Status}
+use Rattle.ql_reply.specs.declared.status.Status.TheVariants.{Done, No, Bad}
 use Rattle.ql_classify.specs.Least.{AreLevelsOf}
 use Rattle.ql_commands.specs.Levels.{RefusalSays}
 use Rattle.ql_commands.specs.Sources.{BadSourceSays, IsSourceOf}
@@ -20,7 +20,8 @@ pub record TellsSoak (source : List ℕ) (number : ℕ) (text : List ℕ) : Type
   pub are_least : AreLevelsOf program levels
   pub prints : PrintsRun IsSummary program levels (generated program number 4000) text
 
-abbrev pub SoakSays : List ℕ → ℕ → Answer → List ℕ → Type 0
+abbrev pub SoakSays : List ℕ → ℕ → Status → List ℕ → Type 0
 SoakSays source number Done text = TellsSoak source number text
 SoakSays source number No text = (p : Program) × IsSourceOf source p × RefusalSays p text
 SoakSays source number Bad text = BadSourceSays source text
+SoakSays source number _ text = ⊥

@@ -8,29 +8,29 @@ use Rattle.ql_machine.specs.declared.reply.Reply.TheVariants as reply
 use Rattle.ql_running.specs.Runs.{Format}
 
 -- the word that a reply begins with
-abbrev pub word_of : Reply → List ℕ
-word_of (reply.Ok e) = codes "ok"
-word_of reply.Begun = codes "begun"
-word_of (reply.Committed ids) = codes "committed"
-word_of (reply.Blocked e) = codes "blocked"
-word_of (reply.Unavailable r) = codes "unavailable"
-word_of (reply.Held s) = codes "held"
-word_of reply.Cut = codes "cut"
-word_of reply.Gone = codes "gone"
-word_of reply.Again = codes "again"
-word_of (reply.Waits e) = codes "waits"
-word_of (reply.Applies ids) = codes "applies"
-word_of reply.Lost = codes "lost"
-word_of reply.Split = codes "split"
-word_of reply.Healed = codes "healed"
-word_of (reply.Joined r) = codes "joined"
-word_of (reply.Sent m) = codes "sent"
-word_of (reply.Refused why) = codes "refused"
+abbrev pub reply_word : Reply → List ℕ
+reply_word (reply.Ok e) = codes "ok"
+reply_word reply.Begun = codes "begun"
+reply_word (reply.Committed ids) = codes "committed"
+reply_word (reply.Blocked e) = codes "blocked"
+reply_word (reply.Unavailable r) = codes "unavailable"
+reply_word (reply.Held s) = codes "held"
+reply_word reply.Cut = codes "cut"
+reply_word reply.Gone = codes "gone"
+reply_word reply.Again = codes "again"
+reply_word (reply.Waits e) = codes "waits"
+reply_word (reply.Applies ids) = codes "applies"
+reply_word reply.Lost = codes "lost"
+reply_word reply.Split = codes "split"
+reply_word reply.Healed = codes "healed"
+reply_word (reply.Joined r) = codes "joined"
+reply_word (reply.Sent m) = codes "sent"
+reply_word (reply.Refused why) = codes "refused"
 
 -- how many replies begin with a word
 unfoldable pub count : List ℕ → List Reply → ℕ
 count word [] = 0
-count word (r ∷ rs) = (if bytes_eq (word_of r) word then 1 else 0) + count word rs
+count word (r ∷ rs) = (if bytes_eq (reply_word r) word then 1 else 0) + count word rs
 
 -- how many ids are seen by the effects together
 unfoldable pub seen_count : List Effect → ℕ

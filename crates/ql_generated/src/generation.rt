@@ -2,18 +2,19 @@ ghost use Rattle.std.specs.Prelude.{◌<◌, ◌≤◌, ◌^◌, length, IfOk};
 ghost use Rattle.ql_generated.specs.Schedules.{GenSays};
 
 use ql_base::NoMemory;
-use ql_commands::{Answer, bad_source, read_source};
+use ql_commands::{bad_source, read_source};
 use ql_gen::schedule_of;
+use ql_reply::Status;
 use ql_schedule::print_schedule;
 use std::alloc::Global;
 
-/// The schedule of a number, with so many events, of a source's program; or the first fault of the source.
+/// The schedule of a number, with this number of events, of a source's program; or the first fault of the source.
 pub fn generate(
     alloc: Global,
     source: &[u8],
     number: u32,
     events: u32,
-) -> Result<(Answer, Vec<u8>), NoMemory>
+) -> Result<(Status, Vec<u8>), NoMemory>
     requires source { length source.now < 2 ^ 32 }
     requires number { number < 2 ^ 31 }
     requires few { events ≤ 4000 }
@@ -21,8 +22,8 @@ pub fn generate(
 {
     let typed = match read_source(alloc, source) {
         Ok(typed) => typed,
-        Err(fault) => return Ok((Answer::Bad, bad_source(alloc, fault)?)),
+        Err(fault) => return Ok((Status::Bad, bad_source(alloc, fault)?)),
     };
     let schedule = schedule_of(alloc, &typed, number, events)?;
-    Ok((Answer::Done, print_schedule(alloc, &typed, &schedule)?))
+    Ok((Status::Done, print_schedule(alloc, &typed, &schedule)?))
 }

@@ -11,7 +11,7 @@ ghost use Rattle.ql_generated.specs.Summaries.{
   network_lines,
   seen_count,
   summary_text,
-  word_of,
+  reply_word,
 };
 
 use ql_base::{EffId, NoMemory, push_bytes, push_number};
@@ -105,14 +105,14 @@ fn count(replies: &[Reply], word: &str) -> usize
 
 // 1 for a reply that begins with a word.
 fn one_for(reply: &Reply, word: &str) -> usize
-    ensures { result ≡ (if bytes_eq (word_of reply.now) word.now then 1 else 0) }
+    ensures { result ≡ (if bytes_eq (reply_word reply.now) word.now then 1 else 0) }
 {
     if word_of(reply) == word { 1 } else { 0 }
 }
 
 // The word that a reply begins with.
 fn word_of(reply: &Reply) -> &'static str
-    ensures { result.now ≡ word_of reply.now }
+    ensures { result.now ≡ reply_word reply.now }
 {
     match reply {
         Reply::Ok(_) => "ok",

@@ -1,7 +1,7 @@
 use Rattle.std.proofs.Common.{◌≡◌, ℕ, List, [], ◌∷◌, Some, None, false, refl}
 use Rattle.ql_lang.specs.declared.expression.BinOp.{BinOp}
 use Rattle.ql_lang.specs.Expressions.{Expression}
-use Rattle.ql_grammar.specs.declared.level.Level.TheVariants.{Product, Sum, Comparison as Compare, Conjunction, Disjunction}
+use Rattle.ql_grammar.specs.declared.precedence.Precedence.TheVariants.{Product, Sum, Comparison as Compare, Conjunction, Disjunction}
 use Rattle.ql_grammar.specs.declared.terminal.Terminal.{Terminal}
 use Rattle.ql_grammar.specs.declared.terminal.Terminal.TheVariants.{IfWord, ThenWord, ElseWord, WhenWord, OpenParen, CloseParen, Comma, Semicolon}
 use Rattle.ql_grammar.specs.Terminals.{is_same, number as number_in}

@@ -6,8 +6,8 @@ use Rattle.ql_grammar.specs.declared.role.Role.{Role}
 use Rattle.ql_grammar.specs.Tokens.{Lexeme, Marked, marked, lexemes}
 use Rattle.ql_grammar.specs.Limits.{Fault, Counts, counted, counted_all, if_within}
 use Rattle.ql_grammar.specs.Table.{Value, Sym, Do, APart, Then, Part, Rest, ways, way_on, MoreTerms, MoreFactors, MoreSummands, MoreAnds, MoreOrs, MoreImplied, MoreNames, Operations, MoreVars, MoreTimes, MorePlus, Comparison, MoreConjoined, MoreDisjoined, Called, MoreArguments, MoreFields, SomeParams, MoreParams, MoreListed, MoreBindings, MoreAssignments, Effect, MoreOperations, MoreTypes, MoreTransactions, operator_at}
-use Rattle.ql_grammar.specs.declared.level.Level.{Level}
-use Rattle.ql_grammar.specs.declared.level.Level.TheVariants as level
+use Rattle.ql_grammar.specs.declared.precedence.Precedence.{Precedence}
+use Rattle.ql_grammar.specs.declared.precedence.Precedence.TheVariants as precedence
 use Rattle.ql_grammar.specs.Machine.{lead, first_fit, step, finish, run, go_on}
 
 -- the first token, or the end, is the same to both stacks
@@ -72,18 +72,18 @@ mark_of MoreTypes = TypeWord
 mark_of MoreTransactions = TransactionWord
 mark_of _ = NoTerminal
 
--- the first token, if any, is no operator of this level
-abbrev pub IsNoOperator : Level → List Marked → Type 0
+-- the first token, if any, is no operator of this precedence
+abbrev pub IsNoOperator : Precedence → List Marked → Type 0
 IsNoOperator l [] = Unit {0}
 IsNoOperator l (m ∷ ms) = operator_at l m.lexeme.what ≡ None
 
 -- nothing more follows
 abbrev pub IsOver : Rest → List Marked → Type 0
-IsOver MoreTimes ts = IsNoOperator level.Product ts
-IsOver MorePlus ts = IsNoOperator level.Sum ts
-IsOver Comparison ts = IsNoOperator level.Comparison ts
-IsOver MoreConjoined ts = IsNoOperator level.Conjunction ts
-IsOver MoreDisjoined ts = IsNoOperator level.Disjunction ts
+IsOver MoreTimes ts = IsNoOperator precedence.Product ts
+IsOver MorePlus ts = IsNoOperator precedence.Sum ts
+IsOver Comparison ts = IsNoOperator precedence.Comparison ts
+IsOver MoreConjoined ts = IsNoOperator precedence.Conjunction ts
+IsOver MoreDisjoined ts = IsNoOperator precedence.Disjunction ts
 IsOver l ts = IsClear (mark_of l) ts
 
 no_lead : (l : Rest) (below : List Sym) (vs : List Value) (m : Marked) (ms : List Marked) → IsOver l (m ∷ ms) → lead (way_on l below) vs m.lexeme.what m.lexeme.text m.lexeme.at ≡ None

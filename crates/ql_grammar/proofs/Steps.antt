@@ -8,7 +8,7 @@ use Rattle.ql_grammar.specs.Tokens.{Marked, marked}
 use Rattle.ql_grammar.specs.ContractGrammar.{vis, current, variable, one, Applied, Single, Product, Sum, applied_named, named, single, product, Atom, Both, Either, Whole, truth, atom, both, either, free, plain}
 use Rattle.ql_grammar.specs.Limits.{Fault, Unexpected}
 use Rattle.ql_lang.specs.declared.expression.BinOp.{BinOp}
-use Rattle.ql_grammar.specs.declared.level.Level.{Level}
+use Rattle.ql_grammar.specs.declared.precedence.Precedence.{Precedence}
 use Rattle.ql_grammar.specs.ExpressionGrammar as expression
 use Rattle.ql_grammar.specs.ExpressionGrammar.{IsOperator, Unary, Multiplied, Added, Compared, Conjoined, Disjoined, Chosen}
 use Rattle.ql_grammar.specs.ProgramGrammar as program
@@ -41,7 +41,7 @@ kept_sound : (j k : Terminal) (r : Role) (below : List Sym) (vs : List Value) (x
 kept_sound j k r below vs x n true same = λ out ts h. subst (λ i. Has (Kept i r ∷ below) vs (marked r k x n ∷ ts) out) (same refl) (kept h)
 kept_sound j k r below vs x n false same = tt
 
-operator_sound : (p : Level) (k : Terminal) (below : List Sym) (vs : List Value) (x : List ℕ) (n : ℕ) (o : Option BinOp) → Found p k o → IsSound (Operator p ∷ below) vs k x n (operator_taken o below vs)
+operator_sound : (p : Precedence) (k : Terminal) (below : List Sym) (vs : List Value) (x : List ℕ) (n : ℕ) (o : Option BinOp) → Found p k o → IsSound (Operator p ∷ below) vs k x n (operator_taken o below vs)
 operator_sound p k below vs x n (Some o) is = λ out ts h. operator is h
 operator_sound p k below vs x n None is = tt
 

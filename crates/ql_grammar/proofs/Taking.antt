@@ -5,7 +5,7 @@ use Rattle.ql_grammar.specs.declared.role.Role.{Role}
 use Rattle.ql_grammar.specs.Tokens.{Lexeme}
 use Rattle.ql_grammar.specs.Limits.{Unexpected, Counts, counted, if_within}
 use Rattle.ql_lang.specs.declared.expression.BinOp.{BinOp}
-use Rattle.ql_grammar.specs.declared.level.Level.{Level}
+use Rattle.ql_grammar.specs.declared.precedence.Precedence.{Precedence}
 use Rattle.ql_grammar.specs.declared.role.Role.TheVariants.{Makes}
 use Rattle.ql_grammar.specs.Table.{ASpelling, AnOperator, Kept, Operator, operator_at, Value, APlace, AName, Sym, Word, Placed, ANameOf}
 use Rattle.ql_grammar.proofs.Operators.{ahead_is, none_ahead}
@@ -62,22 +62,22 @@ unfolding run step lead is_ahead finish
 kept_not_at [] c end k role below vs sees = refl
 kept_not_at (t ∷ ts) c end k role below vs sees = rw sees refl
 
-operator_found_at : (ts : List Lexeme) (c : Counts) (end : ℕ) (l : Level) (o : BinOp) (below : List Sym) (vs : List Value) → operator_ahead l ts ≡ Some o → run ts (Operator l ∷ below) vs c end ≡ if_within (counted c (Makes 1) (place_ahead ts end)) (λ d. run (drop 1 ts) below (AnOperator o ∷ vs) d end)
+operator_found_at : (ts : List Lexeme) (c : Counts) (end : ℕ) (l : Precedence) (o : BinOp) (below : List Sym) (vs : List Value) → operator_ahead l ts ≡ Some o → run ts (Operator l ∷ below) vs c end ≡ if_within (counted c (Makes 1) (place_ahead ts end)) (λ d. run (drop 1 ts) below (AnOperator o ∷ vs) d end)
 unfolding run step lead
 operator_found_at [] c end l o below vs sees = let e : None ≡ Some o = sym (none_ahead l) ∙ sees in cc
 operator_found_at (t ∷ ts) c end l o below vs sees = let e : operator_at l t.what ≡ Some o = sym (ahead_is l t ts) ∙ sees in rw e refl
 
-operator_not_at : (ts : List Lexeme) (c : Counts) (end : ℕ) (l : Level) (below : List Sym) (vs : List Value) → operator_ahead l ts ≡ None → run ts (Operator l ∷ below) vs c end ≡ Err (Unexpected (place_ahead ts end))
+operator_not_at : (ts : List Lexeme) (c : Counts) (end : ℕ) (l : Precedence) (below : List Sym) (vs : List Value) → operator_ahead l ts ≡ None → run ts (Operator l ∷ below) vs c end ≡ Err (Unexpected (place_ahead ts end))
 unfolding run step lead finish
 operator_not_at [] c end l below vs misses = refl
 operator_not_at (t ∷ ts) c end l below vs misses = let e : operator_at l t.what ≡ None = sym (ahead_is l t ts) ∙ misses in rw e refl
 
-pub operator_missing : (r : Reading) (l : Level) (below : List Sym) (vs : List Value) → operator_ahead l r.tokens ≡ None → read r (Operator l ∷ below) vs ≡ Err (Unexpected (place_ahead r.tokens r.end))
+pub operator_missing : (r : Reading) (l : Precedence) (below : List Sym) (vs : List Value) → operator_ahead l r.tokens ≡ None → read r (Operator l ∷ below) vs ≡ Err (Unexpected (place_ahead r.tokens r.end))
 unfolding read
 operator_missing r l below vs misses = operator_not_at r.tokens r.counts r.end l below vs misses
 
 -- where an operator comes next, there is a token
-pub some_operator_ahead : (l : Level) (o : BinOp) (ts : List Lexeme) → operator_ahead l ts ≡ Some o → (t : Lexeme) × (us : List Lexeme) × (ts ≡ t ∷ us)
+pub some_operator_ahead : (l : Precedence) (o : BinOp) (ts : List Lexeme) → operator_ahead l ts ≡ Some o → (t : Lexeme) × (us : List Lexeme) × (ts ≡ t ∷ us)
 some_operator_ahead l o [] sees = let e : None ≡ Some o = sym (none_ahead l) ∙ sees in cc
 some_operator_ahead l o (t ∷ ts) sees = (t, ts, refl)
 
@@ -89,7 +89,7 @@ pub kept_missing : (r : Reading) (k : Terminal) (role : Role) (below : List Sym)
 unfolding read
 kept_missing r k role below vs sees = kept_not_at r.tokens r.counts r.end k role below vs sees
 
-pub operator_counted : (r : Reading) (l : Level) (o : BinOp) (below : List Sym) (vs : List Value) → operator_ahead l r.tokens ≡ Some o → read r (Operator l ∷ below) vs ≡ if_within (counted r.counts (Makes 1) (place_ahead r.tokens r.end)) (λ d. read (behind r d) below (AnOperator o ∷ vs))
+pub operator_counted : (r : Reading) (l : Precedence) (o : BinOp) (below : List Sym) (vs : List Value) → operator_ahead l r.tokens ≡ Some o → read r (Operator l ∷ below) vs ≡ if_within (counted r.counts (Makes 1) (place_ahead r.tokens r.end)) (λ d. read (behind r d) below (AnOperator o ∷ vs))
 unfolding read
 operator_counted r l o below vs sees = operator_found_at r.tokens r.counts r.end l o below vs sees
 

@@ -9,7 +9,7 @@ use Rattle.ql_lang.specs.declared.operation.Kind.{Kind}
 use Rattle.ql_lang.specs.declared.program.Init.{Init}
 use Rattle.ql_lang.specs.Expressions.{Expression}
 use Rattle.ql_lang.specs.Programs.{Source}
-use Rattle.ql_grammar.specs.declared.level.Level.{Level}
+use Rattle.ql_grammar.specs.declared.precedence.Precedence.{Precedence}
 use Rattle.ql_grammar.specs.declared.terminal.Terminal.{Terminal}
 use Rattle.ql_grammar.specs.declared.terminal.Terminal.TheVariants.{NameToken, Comma, Bar}
 use Rattle.ql_grammar.specs.declared.role.Role.{Role}
@@ -28,7 +28,7 @@ pub data Has : List Sym → List Value → List Marked → List Value → Type 0
   placed : {k : Terminal} {r : Role} {x : List ℕ} {n : ℕ} {below : List Sym} {vs out : List Value} {ts : List Marked} → Has below (APlace n ∷ vs) ts out → Has (Placed k r ∷ below) vs (marked r k x n ∷ ts) out
   name : {r : Role} {x : List ℕ} {n : ℕ} {below : List Sym} {vs out : List Value} {ts : List Marked} → Has below (AName (record { word = x; at = n }) ∷ vs) ts out → Has (ANameOf r ∷ below) vs (marked r NameToken x n ∷ ts) out
   kept : {k : Terminal} {r : Role} {x : List ℕ} {n : ℕ} {below : List Sym} {vs out : List Value} {ts : List Marked} → Has below (ASpelling n x ∷ vs) ts out → Has (Kept k r ∷ below) vs (marked r k x n ∷ ts) out
-  operator : {p : Level} {k : Terminal} {o : BinOp} {x : List ℕ} {n : ℕ} {below : List Sym} {vs out : List Value} {ts : List Marked} → IsOperator p k o → Has below (AnOperator o ∷ vs) ts out → Has (Operator p ∷ below) vs (marked (Makes 1) k x n ∷ ts) out
+  operator : {p : Precedence} {k : Terminal} {o : BinOp} {x : List ℕ} {n : ℕ} {below : List Sym} {vs out : List Value} {ts : List Marked} → IsOperator p k o → Has below (AnOperator o ∷ vs) ts out → Has (Operator p ∷ below) vs (marked (Makes 1) k x n ∷ ts) out
   change : {f : List Value → List Value} {below : List Sym} {vs out : List Value} {ts : List Marked} → Has below (f vs) ts out → Has (Do f ∷ below) vs ts out
   term : {r : Role} {p : Point} {below : List Sym} {vs out : List Value} {ts rest : List Marked} → ReadsTerm r ts rest p → Has below (ATerm p ∷ vs) rest out → Has (APart (Term r) ∷ below) vs ts out
   terms : {ps : List Point} {below : List Sym} {vs out : List Value} {ts rest : List Marked} → ReadsTerms ts rest ps → Has below (TheTerms ps ∷ vs) rest out → Has (APart TermList ∷ below) vs ts out

@@ -13,8 +13,8 @@ use Rattle.ql_grammar.specs.declared.role.Role.TheVariants.{Plain, Makes, Opens,
 use Rattle.ql_grammar.specs.Tokens.{Marked, marked}
 
 -- The grammar of contracts. `ReadsX part ts rest tree` says that the tokens `ts` begin with a text that
--- reads as `tree`, and that `rest` follows it. A rule stands on a line; operators of one level group to
--- the left, `=>` to the right, and brackets may stand round any part. The role of each token says which
+-- reads as `tree`, and that `rest` follows it. Each rule has its own line; operators of one level group to
+-- the left, `=>` to the right, and there may be brackets around any part. The role of each token says which
 -- nodes it makes and which brackets it opens.
 
 pub data IsRelationWord : Terminal → RelName → Type 0 where
@@ -75,7 +75,7 @@ pub data ReadsProp : PropPart → List Marked → List Marked → Proposition �
   either : {ts rest : List Marked} {p : Proposition} → ReadsProp Either ts rest p → ReadsProp Whole ts rest p
   implies : {x : List ℕ} {n : ℕ} {ts us rest : List Marked} {p q : Proposition} → ReadsProp Either ts (marked (Makes 1) Arrow x n ∷ us) p → ReadsProp Whole us rest q → ReadsProp Whole ts rest (Implication p q)
 
--- names with a mark between them
+-- names with a separator between them
 pub data ReadsNames : Terminal → List Marked → List Marked → List Name → Type 0 where
   one : {k : Terminal} {x : List ℕ} {n : ℕ} {rest : List Marked} → ReadsNames k (marked Plain NameToken x n ∷ rest) rest (record { word = x; at = n } ∷ [])
   more : {k : Terminal} {x y : List ℕ} {n m : ℕ} {ts rest : List Marked} {names : List Name} → ReadsNames k ts (marked Plain k y m ∷ marked Plain NameToken x n ∷ rest) names → ReadsNames k ts rest (names ++ record { word = x; at = n } ∷ [])

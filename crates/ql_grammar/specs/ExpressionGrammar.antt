@@ -3,16 +3,16 @@ use Rattle.std.specs.Str.Parse.{digits_value}
 use Rattle.ql_lang.specs.declared.expression.BinOp.{BinOp}
 use Rattle.ql_lang.specs.declared.expression.BinOp.TheVariants.{Or, And, Eq, Ne, Lt, Le, Gt, Ge, Add, Sub, Mul}
 use Rattle.ql_lang.specs.Expressions.{Expression, Number, Literal, Truth, Nothing, Reading, Calling, Choosing, Combining, Denying, Negating, Operands, NoMore, More}
-use Rattle.ql_grammar.specs.declared.level.Level.{Level}
-use Rattle.ql_grammar.specs.declared.level.Level.TheVariants.{Product, Sum, Comparison, Conjunction, Disjunction}
+use Rattle.ql_grammar.specs.declared.precedence.Precedence.{Precedence}
+use Rattle.ql_grammar.specs.declared.precedence.Precedence.TheVariants.{Product, Sum, Comparison, Conjunction, Disjunction}
 use Rattle.ql_grammar.specs.declared.terminal.Terminal.{Terminal}
 use Rattle.ql_grammar.specs.declared.terminal.Terminal.TheVariants.{NameToken, IntToken, TextToken, TrueWord, FalseWord, UnitWord, IfWord, ThenWord, ElseWord, AndWord, OrWord, NotWord, OpenParen, CloseParen, Comma, IsEqual, NotEqual, Less, LessEqual, Greater, GreaterEqual, Plus, Minus, Times}
 use Rattle.ql_grammar.specs.declared.role.Role.TheVariants.{Plain, Makes, Opens, Closes}
 use Rattle.ql_grammar.specs.Tokens.{Marked, marked}
 
 -- The grammar of expressions. `ReadsExpr part ts rest start tree` says that the tokens `ts` begin with a text
--- that reads as `tree`, that its first token stands at `start`, and that `rest` follows it. An operator's
--- tree has the place where its first operand starts, which may be that of a bracket.
+-- that reads as `tree`, that its first token is at the source offset `start`, and that `rest` follows it. An
+-- operator's tree has the offset where its first operand starts, which may be that of a bracket.
 
 -- The parts of an expression: a value, name, call or bracket with `not` and `-` before it; parts with `*` between
 -- them; with `+` and `-`; two that are compared; with `and`; with `or`; and a whole expression.
@@ -25,8 +25,8 @@ pub data ExprPart : Type 0 where
   Disjoined : ExprPart
   Chosen : ExprPart
 
--- the operators of each level
-pub data IsOperator : Level → Terminal → BinOp → Type 0 where
+-- the operators of each precedence
+pub data IsOperator : Precedence → Terminal → BinOp → Type 0 where
   times : IsOperator Product Times Mul
   plus : IsOperator Sum Plus Add
   minus : IsOperator Sum Minus Sub
@@ -40,8 +40,8 @@ pub data IsOperator : Level → Terminal → BinOp → Type 0 where
   or : IsOperator Disjunction OrWord Or
 
 -- the number that digits spell
-abbrev pub number_of : List ℕ → ℕ
-number_of digits = digits_value 10 digits
+abbrev pub number_spelled : List ℕ → ℕ
+number_spelled digits = digits_value 10 digits
 
 -- the bytes between the quotes of a text
 abbrev pub between_quotes : List ℕ → List ℕ
@@ -54,7 +54,7 @@ operands (e ∷ es) = More e (operands es)
 
 mutual
   pub data ReadsExpr : ExprPart → List Marked → List Marked → ℕ → Expression → Type 0 where
-    number : {x : List ℕ} {n : ℕ} {rest : List Marked} → ReadsExpr Unary (marked (Makes 1) IntToken x n ∷ rest) rest n (Number n (pos (number_of x)))
+    number : {x : List ℕ} {n : ℕ} {rest : List Marked} → ReadsExpr Unary (marked (Makes 1) IntToken x n ∷ rest) rest n (Number n (pos (number_spelled x)))
     text : {x : List ℕ} {n : ℕ} {rest : List Marked} → ReadsExpr Unary (marked (Makes 1) TextToken x n ∷ rest) rest n (Literal n (between_quotes x))
     true_value : {x : List ℕ} {n : ℕ} {rest : List Marked} → ReadsExpr Unary (marked (Makes 1) TrueWord x n ∷ rest) rest n (Truth n true)
     false_value : {x : List ℕ} {n : ℕ} {rest : List Marked} → ReadsExpr Unary (marked (Makes 1) FalseWord x n ∷ rest) rest n (Truth n false)

@@ -4,13 +4,13 @@ use Rattle.ql_grammar.specs.declared.role.Role.{Role}
 use Rattle.ql_grammar.specs.declared.role.Role.TheVariants.{Plain, Makes, Opens, Closes, Before}
 use Rattle.ql_grammar.specs.Tokens.{Marked}
 
--- Why tokens are refused, with the place.
+-- Why tokens are refused, with the source offset.
 pub data Fault : Type 0 where
-  -- no text of the grammar goes on with this token, or the text ends too early
+  -- no text of the grammar continues with this token, or the text ends too early
   Unexpected : ℕ → Fault
-  -- a bracket too many is open at once within one expression or contract
+  -- one bracket too many is open at once within one expression or contract
   Deep : ℕ → Fault
-  -- the token makes a node too many in one expression or contract
+  -- the token makes one node too many in one expression or contract
   Wide : ℕ → Fault
 
 -- the brackets that are open, and the nodes so far, in one expression or contract
@@ -24,7 +24,7 @@ nothing_yet = record { open_brackets = 0; nodes = 0 }
 unfoldable pub with_nodes : Counts → ℕ → ℕ → Result Counts Fault
 with_nodes c n at = if nat_lt MAX_NODES (c.nodes + n) then Err (Wide at) else Ok (record c { nodes = c.nodes + n })
 
--- the counts after a token of this role, or that it goes past a limit
+-- the counts after a token of this role, or the fault if it exceeds a limit
 unfoldable pub counted : Counts → Role → ℕ → Result Counts Fault
 counted c Plain at = Ok c
 counted c (Makes n) at = with_nodes c n at
@@ -38,7 +38,7 @@ abbrev pub if_within : {A : Type 0} → Result Counts Fault → (Counts → Resu
 if_within (Err f) go = Err f
 if_within (Ok c) go = go c
 
--- the counts after these tokens, or the first that goes past a limit
+-- the counts after these tokens, or the fault of the first that exceeds a limit
 unfoldable pub counted_all : Counts → List Marked → Result Counts Fault
 counted_all c [] = Ok c
 counted_all c (m ∷ ms) = if_within (counted c m.role m.lexeme.at) (λ d. counted_all d ms)

@@ -1,6 +1,6 @@
 use Rattle.std.specs.Prelude.{ℕ, Bool, false, List, [], ◌∷◌, Option, Some, None, Result, Ok, Err, if◌then◌else◌, is_some}
 use Rattle.ql_lang.specs.declared.expression.BinOp.{BinOp}
-use Rattle.ql_grammar.specs.declared.level.Level.{Level}
+use Rattle.ql_grammar.specs.declared.precedence.Precedence.{Precedence}
 use Rattle.ql_grammar.specs.declared.terminal.Terminal.{Terminal}
 use Rattle.ql_grammar.specs.declared.terminal.Terminal.TheVariants.{NameToken}
 use Rattle.ql_grammar.specs.Terminals.{is_same}
@@ -10,7 +10,7 @@ use Rattle.ql_grammar.specs.Tokens.{Lexeme}
 use Rattle.ql_grammar.specs.Limits.{Fault, Unexpected, Counts, counted, if_within}
 use Rattle.ql_grammar.specs.Table.{Value, APlace, AName, ASpelling, AnOperator, Sym, Word, Placed, ANameOf, Kept, Operator, Do, APart, Then, operator_at, operators, ways, way_on}
 
--- what a token does: its role, and the stacks behind it
+-- what a token does: its role, and the stacks after it
 pub record Taken : Type 0 where
   pub role : Role
   pub stack : List Sym
@@ -20,7 +20,7 @@ abbrev pub or_else : Option Taken → Option Taken → Option Taken
 or_else (Some t) other = Some t
 or_else None other = other
 
--- the stacks behind an operator
+-- the stacks after an operator
 abbrev pub operator_taken : Option BinOp → List Sym → List Value → Option Taken
 operator_taken (Some o) below vs = Some (record { role = Makes 1; stack = below; values = AnOperator o ∷ vs })
 operator_taken None below vs = None
@@ -39,7 +39,7 @@ unfoldable pub first_fit : List (List Sym) → List Value → Terminal → List 
 first_fit [] vs k x n = None
 first_fit (way ∷ more) vs k x n = or_else (lead way vs k x n) (first_fit more vs k x n)
 
--- a token on the stacks; a `Then` that it doesn't continue is passed over
+-- a token on the stacks; a `Then` that it doesn't continue is skipped
 unfoldable pub step : List Sym → List Value → Terminal → List ℕ → ℕ → Option Taken
 step [] vs k x n = None
 step (Do f ∷ below) vs k x n = step below (f vs) k x n
@@ -51,7 +51,7 @@ step (ANameOf r ∷ below) vs k x n = lead (ANameOf r ∷ below) vs k x n
 step (Kept j r ∷ below) vs k x n = lead (Kept j r ∷ below) vs k x n
 step (Operator p ∷ below) vs k x n = lead (Operator p ∷ below) vs k x n
 
--- the values at the end of the text, where nothing more is wanted
+-- the values at the end of the text, if nothing more is expected
 unfoldable pub finish : List Sym → List Value → ℕ → Result (List Value) Fault
 finish [] vs end = Ok vs
 finish (Do f ∷ below) vs end = finish below (f vs) end
@@ -63,12 +63,12 @@ finish (ANameOf r ∷ below) vs end = Err (Unexpected end)
 finish (Kept j r ∷ below) vs end = Err (Unexpected end)
 finish (Operator p ∷ below) vs end = Err (Unexpected end)
 
--- go on behind a token, or tell the fault that stands at it
+-- continue after a token, or report the fault at it
 abbrev pub go_on : Option Taken → Counts → ℕ → (List Sym → List Value → Counts → Result (List Value) Fault) → Result (List Value) Fault
 go_on None c at go = Err (Unexpected at)
 go_on (Some t) c at go = if_within (counted c t.role at) (go t.stack t.values)
 
--- what is left to read: its tokens, the counts so far, and the place where the source ends
+-- what is left to read: its tokens, the counts so far, and the offset where the source ends
 pub record Reading : Type 0 where
   pub tokens : List Lexeme
   pub counts : Counts
@@ -91,11 +91,11 @@ abbrev pub operator_of : List (Terminal × BinOp) → List Lexeme → Option Bin
 operator_of [] ts = None
 operator_of (row ∷ rows) ts = if is_ahead row.0 ts then Some row.1 else operator_of rows ts
 
--- the operator of this level that comes next
-abbrev pub operator_ahead : Level → List Lexeme → Option BinOp
+-- the operator of this precedence that comes next
+abbrev pub operator_ahead : Precedence → List Lexeme → Option BinOp
 operator_ahead p ts = operator_of (operators p) ts
 
--- where the next token stands, or the end
+-- the source offset of the next token, or of the end
 abbrev pub place_ahead : List Lexeme → ℕ → ℕ
 place_ahead [] end = end
 place_ahead (t ∷ ts) end = t.at

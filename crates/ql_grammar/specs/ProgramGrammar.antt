@@ -15,7 +15,7 @@ use Rattle.ql_grammar.specs.declared.terminal.Terminal.TheVariants.{NameToken, I
 use Rattle.ql_grammar.specs.declared.role.Role.TheVariants.{Plain, Before}
 use Rattle.ql_grammar.specs.Tokens.{Marked, marked}
 use Rattle.ql_grammar.specs.ContractGrammar.{ReadsContract, ReadsNames}
-use Rattle.ql_grammar.specs.ExpressionGrammar.{Chosen, ReadsExpr, number_of, between_quotes}
+use Rattle.ql_grammar.specs.ExpressionGrammar.{Chosen, ReadsExpr, number_spelled, between_quotes}
 
 -- The grammar of declarations and whole sources. As in the grammar of contracts, `ReadsX ts rest tree` says that
 -- `ts` begins with a text that reads as `tree`, and that `rest` follows it. The tokens after which an
@@ -36,10 +36,10 @@ pub data ReadsKind : List Marked → List Marked → Kind → Type 0 where
   set : {x1 x2 x3 : List ℕ} {n1 n2 n3 : ℕ} {ts rest : List Marked} {b : Base} → ReadsBase ts (marked Plain CloseParen x3 n3 ∷ rest) b → ReadsKind (marked Plain SetWord x1 n1 ∷ marked Plain OpenParen x2 n2 ∷ ts) rest (kind.Set b)
   map : {x1 x2 x3 x4 : List ℕ} {n1 n2 n3 n4 : ℕ} {ts us rest : List Marked} {b c : Base} → ReadsBase ts (marked Plain Comma x3 n3 ∷ us) b → ReadsBase us (marked Plain CloseParen x4 n4 ∷ rest) c → ReadsKind (marked Plain MapWord x1 n1 ∷ marked Plain OpenParen x2 n2 ∷ ts) rest (kind.Map b c)
 
--- what a state field begins with
+-- the initial value of a state field
 pub data ReadsInit : List Marked → List Marked → Init → Type 0 where
-  number : {x1 : List ℕ} {n1 : ℕ} {rest : List Marked} → ReadsInit (marked Plain IntToken x1 n1 ∷ rest) rest (record { at = n1; node = init.Int (pos (number_of x1)) })
-  negative : {x1 x2 : List ℕ} {n1 n2 : ℕ} {rest : List Marked} → ReadsInit (marked Plain Minus x1 n1 ∷ marked Plain IntToken x2 n2 ∷ rest) rest (record { at = n1; node = init.Int (neg_ℤ (pos (number_of x2))) })
+  number : {x1 : List ℕ} {n1 : ℕ} {rest : List Marked} → ReadsInit (marked Plain IntToken x1 n1 ∷ rest) rest (record { at = n1; node = init.Int (pos (number_spelled x1)) })
+  negative : {x1 x2 : List ℕ} {n1 n2 : ℕ} {rest : List Marked} → ReadsInit (marked Plain Minus x1 n1 ∷ marked Plain IntToken x2 n2 ∷ rest) rest (record { at = n1; node = init.Int (neg_ℤ (pos (number_spelled x2))) })
   text : {x1 : List ℕ} {n1 : ℕ} {rest : List Marked} → ReadsInit (marked Plain TextToken x1 n1 ∷ rest) rest (record { at = n1; node = init.Text (between_quotes x1) })
   true_value : {x1 : List ℕ} {n1 : ℕ} {rest : List Marked} → ReadsInit (marked Plain TrueWord x1 n1 ∷ rest) rest (record { at = n1; node = init.Bool true })
   false_value : {x1 : List ℕ} {n1 : ℕ} {rest : List Marked} → ReadsInit (marked Plain FalseWord x1 n1 ∷ rest) rest (record { at = n1; node = init.Bool false })

@@ -20,21 +20,21 @@ use Rattle.ql_lang.specs.declared.program.InitNode.TheVariants as init
 use Rattle.ql_lang.specs.Expressions.{Expression, Number, Literal, Nothing, Reading, Calling, Choosing, Combining, Denying, Negating}
 use Rattle.ql_lang.specs.Expressions as expr
 use Rattle.ql_lang.specs.Programs.{Binding, Assignment, Emission, Operation, Replicated, Transaction, Source}
-use Rattle.ql_grammar.specs.declared.level.Level.{Level}
-use Rattle.ql_grammar.specs.declared.level.Level.TheVariants as level
+use Rattle.ql_grammar.specs.declared.precedence.Precedence.{Precedence}
+use Rattle.ql_grammar.specs.declared.precedence.Precedence.TheVariants as precedence
 use Rattle.ql_grammar.specs.declared.terminal.Terminal.{Terminal}
 use Rattle.ql_grammar.specs.declared.terminal.Terminal.TheVariants.{IntToken, TextToken, TypeWord, StateWord, OpWord, ContractWord, AnswerWord, EmitWord, WhenWord, ApplyWord, TransactionWord, UsesWord, ForallWord, TrueWord, FalseWord, UnitWord, EmptyWord, IfWord, ThenWord, ElseWord, AndWord, OrWord, NotWord, IntWord, BoolWord, TextWord, SetWord, MapWord, CurWord, TxnWord, VisWord, SoWord, SooWord, SameObjWord, EqWord, HbWord, HboWord, OpenBrace, CloseBrace, OpenParen, CloseParen, OpenBracket, CloseBracket, Comma, Semicolon, Colon, Dot, Equals, Assign, Arrow, IsEqual, NotEqual, Less, LessEqual, Greater, GreaterEqual, Plus, Minus, Times, AndMark, OrMark, Bar, Ampersand}
 use Rattle.ql_grammar.specs.declared.role.Role.{Role}
 use Rattle.ql_grammar.specs.declared.role.Role.TheVariants.{Plain, Makes, Opens, Closes, Before}
 use Rattle.ql_grammar.specs.Terminals.{is_same}
 use Rattle.ql_grammar.specs.ContractGrammar.{RelationPart, Applied, Single, Product, Sum, PropPart, Atom, Both, Either, Whole}
-use Rattle.ql_grammar.specs.ExpressionGrammar.{ExprPart, Unary, Multiplied, Added, Compared, Conjoined, Disjoined, Chosen, between_quotes, number_of, operands}
+use Rattle.ql_grammar.specs.ExpressionGrammar.{ExprPart, Unary, Multiplied, Added, Compared, Conjoined, Disjoined, Chosen, between_quotes, number_spelled, operands}
 
--- The grammar once more, as a machine reads it: a stack of symbols says what is wanted next, and a stack of
--- values has the trees that were read. This is no definition of the language, which ContractGrammar is; the
--- laws in proofs/ join the two.
+-- The grammar once more, for a machine: a stack of symbols says what is expected next, and a stack of values
+-- holds the trees that were read. This doesn't define the language: ContractGrammar, ExpressionGrammar and
+-- ProgramGrammar do, and the laws in proofs/ connect them with this.
 
--- what stands on the stack of values
+-- an item on the stack of values
 pub data Value : Type 0 where
   APlace : ℕ → Value
   AName : Name → Value
@@ -46,10 +46,10 @@ pub data Value : Type 0 where
   AVar : Var → Value
   TheVars : List Var → Value
   ASentence : Sentence → Value
-  -- a number or a text, with its place
+  -- a number or a text, with its source offset
   ASpelling : ℕ → List ℕ → Value
   AnOperator : BinOp → Value
-  -- an expression, with the place where it starts
+  -- an expression, with the source offset where it starts
   AnExpr : ℕ → Expression → Value
   TheExprs : List Expression → Value
   ABase : Base → Value
@@ -88,7 +88,7 @@ pub data Part : Type 0 where
   ListedNames : Part
   WholeSource : Part
 
--- what may follow a part, and may not
+-- what may follow a part, but need not
 pub data Rest : Type 0 where
   MoreTerms : Rest
   MoreFactors : Rest
@@ -117,14 +117,14 @@ pub data Rest : Type 0 where
   MoreTypes : Rest
   MoreTransactions : Rest
 
--- What is wanted: a fixed word, the same with its place kept, a name, a number or a text with its bytes kept, an
--- operator of a level, a change of the values that takes no token, a part, or what may follow one.
+-- What is expected: a fixed word, the same with its offset kept, a name, a number or a text with its bytes kept, an
+-- operator of a precedence, a change of the values that consumes no token, a part, or what may follow one.
 pub data Sym : Type 0 where
   Word : Terminal → Role → Sym
   Placed : Terminal → Role → Sym
   ANameOf : Role → Sym
   Kept : Terminal → Role → Sym
-  Operator : Level → Sym
+  Operator : Precedence → Sym
   Do : (List Value → List Value) → Sym
   APart : Part → Sym
   Then : Rest → Sym
@@ -165,7 +165,7 @@ abbrev pub vars_in : Value → List Var
 vars_in (TheVars vs) = vs
 vars_in _ = []
 
--- the values with the topmost ones, or the topmost two or more, replaced
+-- the values with the topmost one, two or three replaced
 abbrev pub on_one : (Value → Value) → List Value → List Value
 on_one f (a ∷ vs) = f a ∷ vs
 on_one f vs = vs
@@ -244,26 +244,26 @@ to_plain = on_one (λ a. ASentence (record { vars = []; body = prop_in a }))
 abbrev pub to_forall : List Value → List Value
 to_forall = on_two (λ a b. ASentence (record { vars = vars_in a; body = prop_in b }))
 
--- the operators of each level
-abbrev pub operators : Level → List (Terminal × BinOp)
-operators level.Product = (Times, op.Mul) ∷ []
-operators level.Sum = (Plus, op.Add) ∷ (Minus, op.Sub) ∷ []
-operators level.Comparison = (IsEqual, op.Eq) ∷ (NotEqual, op.Ne) ∷ (Less, op.Lt) ∷ (LessEqual, op.Le) ∷ (Greater, op.Gt) ∷ (GreaterEqual, op.Ge) ∷ []
-operators level.Conjunction = (AndWord, op.And) ∷ []
-operators level.Disjunction = (OrWord, op.Or) ∷ []
+-- the operators of each precedence
+abbrev pub operators : Precedence → List (Terminal × BinOp)
+operators precedence.Product = (Times, op.Mul) ∷ []
+operators precedence.Sum = (Plus, op.Add) ∷ (Minus, op.Sub) ∷ []
+operators precedence.Comparison = (IsEqual, op.Eq) ∷ (NotEqual, op.Ne) ∷ (Less, op.Lt) ∷ (LessEqual, op.Le) ∷ (Greater, op.Gt) ∷ (GreaterEqual, op.Ge) ∷ []
+operators precedence.Conjunction = (AndWord, op.And) ∷ []
+operators precedence.Disjunction = (OrWord, op.Or) ∷ []
 
 abbrev pub operator_in : List (Terminal × BinOp) → Terminal → Option BinOp
 operator_in [] k = None
 operator_in (row ∷ rows) k = if is_same k row.0 then Some row.1 else operator_in rows k
 
--- the operator of this level that a terminal is
-unfoldable pub operator_at : Level → Terminal → Option BinOp
+-- the operator of this precedence that a terminal is
+unfoldable pub operator_at : Precedence → Terminal → Option BinOp
 operator_at l k = operator_in (operators l) k
 
--- what the values become; where they are others, they stay
+-- what the values become; values of another form stay as they are
 
 abbrev pub to_number : List Value → List Value
-to_number (ASpelling n x ∷ vs) = AnExpr n (Number n (pos (number_of x))) ∷ vs
+to_number (ASpelling n x ∷ vs) = AnExpr n (Number n (pos (number_spelled x))) ∷ vs
 to_number vs = vs
 
 abbrev pub to_literal : List Value → List Value
@@ -330,11 +330,11 @@ to_map (ABase c ∷ ABase b ∷ vs) = AKind (kind.Map b c) ∷ vs
 to_map vs = vs
 
 abbrev pub begin_number : List Value → List Value
-begin_number (ASpelling n x ∷ vs) = AnInit (record { at = n; node = init.Int (pos (number_of x)) }) ∷ vs
+begin_number (ASpelling n x ∷ vs) = AnInit (record { at = n; node = init.Int (pos (number_spelled x)) }) ∷ vs
 begin_number vs = vs
 
 abbrev pub begin_negative : List Value → List Value
-begin_negative (ASpelling m x ∷ APlace n ∷ vs) = AnInit (record { at = n; node = init.Int (neg_ℤ (pos (number_of x))) }) ∷ vs
+begin_negative (ASpelling m x ∷ APlace n ∷ vs) = AnInit (record { at = n; node = init.Int (neg_ℤ (pos (number_spelled x))) }) ∷ vs
 begin_negative vs = vs
 
 abbrev pub begin_text : List Value → List Value
@@ -424,7 +424,7 @@ abbrev pub to_source : List Value → List Value
 to_source (TheTransactions txns ∷ TheTypes types ∷ vs) = ASource (record { types = types; txns = txns }) ∷ vs
 to_source vs = vs
 
--- The ways to begin each part, with what stands below it. Each way begins with a word or a name, and no two
+-- The ways to begin each part, with what is below it on the stack. Each way begins with a word or a name, and no two
 -- ways of one part with the same one.
 
 abbrev pub term_ways : Role → List Sym → List (List Sym)
@@ -596,7 +596,7 @@ ways Beginning below = beginning_ways below
 ways ListedNames below = (ANameOf Plain ∷ Do to_names ∷ Then MoreListed ∷ below) ∷ []
 ways WholeSource below = type_symbols (Do to_types ∷ Then MoreTypes ∷ Do no_transactions ∷ Then MoreTransactions ∷ Do to_source ∷ below) ∷ []
 
--- the way to go on after a part, with what stands below
+-- the way to continue after a part, with what is below it on the stack
 abbrev pub way_on : Rest → List Sym → List Sym
 way_on MoreTerms below = Word Comma Plain ∷ APart (Term (Makes 1)) ∷ Do add_term ∷ Then MoreTerms ∷ below
 way_on MoreFactors below = Word Ampersand (Makes 1) ∷ APart (RelationAt Single) ∷ Do intersect ∷ Then MoreFactors ∷ below
@@ -607,11 +607,11 @@ way_on MoreImplied below = Word Arrow (Makes 1) ∷ APart (PropAt Whole) ∷ Do 
 way_on MoreNames below = Word Bar Plain ∷ ANameOf Plain ∷ Do add_name ∷ Then MoreNames ∷ below
 way_on Operations below = Word Colon Plain ∷ APart BarredNames ∷ Do set_operations ∷ below
 way_on MoreVars below = Word Comma Plain ∷ APart Variable ∷ Do add_var ∷ Then MoreVars ∷ below
-way_on MoreTimes below = Operator level.Product ∷ APart (ExprAt Unary) ∷ Do combine ∷ Then MoreTimes ∷ below
-way_on MorePlus below = Operator level.Sum ∷ APart (ExprAt Multiplied) ∷ Do combine ∷ Then MorePlus ∷ below
-way_on Comparison below = Operator level.Comparison ∷ APart (ExprAt Added) ∷ Do combine ∷ below
-way_on MoreConjoined below = Operator level.Conjunction ∷ APart (ExprAt Compared) ∷ Do combine ∷ Then MoreConjoined ∷ below
-way_on MoreDisjoined below = Operator level.Disjunction ∷ APart (ExprAt Conjoined) ∷ Do combine ∷ Then MoreDisjoined ∷ below
+way_on MoreTimes below = Operator precedence.Product ∷ APart (ExprAt Unary) ∷ Do combine ∷ Then MoreTimes ∷ below
+way_on MorePlus below = Operator precedence.Sum ∷ APart (ExprAt Multiplied) ∷ Do combine ∷ Then MorePlus ∷ below
+way_on Comparison below = Operator precedence.Comparison ∷ APart (ExprAt Added) ∷ Do combine ∷ below
+way_on MoreConjoined below = Operator precedence.Conjunction ∷ APart (ExprAt Compared) ∷ Do combine ∷ Then MoreConjoined ∷ below
+way_on MoreDisjoined below = Operator precedence.Disjunction ∷ APart (ExprAt Conjoined) ∷ Do combine ∷ Then MoreDisjoined ∷ below
 way_on Called below = Word OpenParen (Opens 0) ∷ APart Arguments ∷ Word CloseParen Closes ∷ Do to_call ∷ below
 way_on MoreArguments below = Word Comma Plain ∷ APart (ExprAt Chosen) ∷ Do add_argument ∷ Then MoreArguments ∷ below
 way_on MoreFields below = field_symbols (Then MoreFields ∷ below)

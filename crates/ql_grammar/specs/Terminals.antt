@@ -71,11 +71,11 @@ number Bar = 62
 number Ampersand = 63
 number NoTerminal = 64
 
--- the two are one terminal
+-- two terminals are the same
 unfoldable pub is_same : Terminal → Terminal → Bool
 is_same a b = nat_eq (number a) (number b)
 
--- the two lists of bytes are one
+-- two lists of bytes are equal
 abbrev pub is_spelled : List ℕ → List ℕ → Bool
 is_spelled text word = pointwise nat_eq text word
 

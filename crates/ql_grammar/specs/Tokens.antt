@@ -7,7 +7,7 @@ use Rattle.ql_grammar.specs.declared.terminal.Terminal.TheVariants.{NameToken, I
 use Rattle.ql_grammar.specs.declared.role.Role.{Role}
 use Rattle.ql_grammar.specs.Terminals.{keyword, mark}
 
--- a token as the grammar sees it: its terminal, its bytes and its place in the source
+-- a token as the grammar sees it: its terminal, its bytes and its source offset
 pub record Lexeme : Type 0 where
   pub what : Terminal
   pub text : List ℕ

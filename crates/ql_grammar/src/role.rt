@@ -3,9 +3,9 @@
 pub enum Role {
     /// Nothing.
     Plain,
-    /// It makes so many nodes.
+    /// It makes this many nodes.
     Makes(usize),
-    /// It opens a bracket and makes so many nodes.
+    /// It opens a bracket and makes this many nodes.
     Opens(usize),
     /// It closes a bracket.
     Closes,

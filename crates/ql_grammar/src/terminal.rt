@@ -1,10 +1,10 @@
-ghost use Rattle.std.specs.Prelude.{◌≡◌};
-ghost use Rattle.ql_grammar.specs.Terminals.{is_same, keyword, expression_word, logic_word, relation_word, mark, operator};
+ghost use Rattle.std.specs.Prelude.{◌≡◌, ◌<◌, ◌≤◌, ◌∷◌, [], length, slice_index};
+ghost use Rattle.ql_grammar.specs.Terminals.{is_same, keyword, mark};
 ghost use Rattle.ql_grammar.specs.Tokens.{terminal_of};
 
 use ql_lex::TokenKind;
 
-/// What the grammar tells apart in a token: a name, a number, a text, or one of the fixed words and marks.
+/// What the grammar distinguishes in a token: a name, a number, a text, or one of the fixed words and marks.
 #[derive(Clone, Copy, Debug, PartialEq, Eq)]
 pub enum Terminal {
     NameToken,
@@ -75,7 +75,7 @@ pub enum Terminal {
     NoTerminal,
 }
 
-/// Whether the two are one terminal.
+/// Whether two terminals are the same.
 #[tactic(auto, unfolding(crate::specs::Terminals::is_same))]
 pub fn is_same(a: Terminal, b: Terminal) -> bool
     ensures { result ≡ is_same a b }
@@ -83,235 +83,133 @@ pub fn is_same(a: Terminal, b: Terminal) -> bool
     a as u8 == b as u8
 }
 
-/// The names of relations.
-#[tactic(auto, unfolding(crate::specs::Terminals::relation_word))]
-fn relation_word(text: &[u8]) -> Terminal
-    ensures { result ≡ relation_word text.now }
+/// The keywords from `answer` to `int`: only those with the same first byte are compared.
+#[tactic(auto, unfolding(crate::specs::Terminals::keyword, crate::specs::Terminals::expression_word, crate::specs::Terminals::logic_word, crate::specs::Terminals::relation_word))]
+fn keyword_to_i(text: &[u8]) -> Terminal
+    requires some { 0 < length text.now }
+    requires first { slice_index text.now 0 ≤ 105 }
+    ensures { result ≡ keyword text.now }
 {
-    if text == b"vis".as_slice() {
-        return Terminal::VisWord;
+    match text[0] {
+        b'a' if text == b"answer".as_slice() => Terminal::AnswerWord,
+        b'a' if text == b"apply".as_slice() => Terminal::ApplyWord,
+        b'a' if text == b"and".as_slice() => Terminal::AndWord,
+        b'b' if text == b"bool".as_slice() => Terminal::BoolWord,
+        b'c' if text == b"contract".as_slice() => Terminal::ContractWord,
+        b'c' if text == b"cur".as_slice() => Terminal::CurWord,
+        b'e' if text == b"emit".as_slice() => Terminal::EmitWord,
+        b'e' if text == b"else".as_slice() => Terminal::ElseWord,
+        b'e' if text == b"empty".as_slice() => Terminal::EmptyWord,
+        b'e' if text == b"eq".as_slice() => Terminal::EqWord,
+        b'f' if text == b"forall".as_slice() => Terminal::ForallWord,
+        b'f' if text == b"false".as_slice() => Terminal::FalseWord,
+        b'h' if text == b"hb".as_slice() => Terminal::HbWord,
+        b'h' if text == b"hbo".as_slice() => Terminal::HboWord,
+        b'i' if text == b"if".as_slice() => Terminal::IfWord,
+        b'i' if text == b"int".as_slice() => Terminal::IntWord,
+        _ => Terminal::NoTerminal,
     }
-    if text == b"so".as_slice() {
-        return Terminal::SoWord;
-    }
-    if text == b"soo".as_slice() {
-        return Terminal::SooWord;
-    }
-    if text == b"sameobj".as_slice() {
-        return Terminal::SameObjWord;
-    }
-    if text == b"eq".as_slice() {
-        return Terminal::EqWord;
-    }
-    if text == b"hb".as_slice() {
-        return Terminal::HbWord;
-    }
-    if text == b"hbo".as_slice() {
-        return Terminal::HboWord;
-    }
-    Terminal::NoTerminal
 }
 
-/// The words of contracts and values.
-#[tactic(auto, unfolding(crate::specs::Terminals::logic_word))]
-fn logic_word(text: &[u8]) -> Terminal
-    ensures { result ≡ logic_word text.now }
+/// The keywords from `map` to `when`.
+#[tactic(auto, unfolding(crate::specs::Terminals::keyword, crate::specs::Terminals::expression_word, crate::specs::Terminals::logic_word, crate::specs::Terminals::relation_word))]
+fn keyword_from_j(text: &[u8]) -> Terminal
+    requires some { 0 < length text.now }
+    requires first { 105 < slice_index text.now 0 }
+    ensures { result ≡ keyword text.now }
 {
-    if text == b"forall".as_slice() {
-        return Terminal::ForallWord;
+    match text[0] {
+        b'm' if text == b"map".as_slice() => Terminal::MapWord,
+        b'n' if text == b"not".as_slice() => Terminal::NotWord,
+        b'o' if text == b"op".as_slice() => Terminal::OpWord,
+        b'o' if text == b"or".as_slice() => Terminal::OrWord,
+        b's' if text == b"state".as_slice() => Terminal::StateWord,
+        b's' if text == b"set".as_slice() => Terminal::SetWord,
+        b's' if text == b"so".as_slice() => Terminal::SoWord,
+        b's' if text == b"soo".as_slice() => Terminal::SooWord,
+        b's' if text == b"sameobj".as_slice() => Terminal::SameObjWord,
+        b't' if text == b"type".as_slice() => Terminal::TypeWord,
+        b't' if text == b"transaction".as_slice() => Terminal::TransactionWord,
+        b't' if text == b"then".as_slice() => Terminal::ThenWord,
+        b't' if text == b"text".as_slice() => Terminal::TextWord,
+        b't' if text == b"true".as_slice() => Terminal::TrueWord,
+        b't' if text == b"txn".as_slice() => Terminal::TxnWord,
+        b'u' if text == b"uses".as_slice() => Terminal::UsesWord,
+        b'u' if text == b"unit".as_slice() => Terminal::UnitWord,
+        b'v' if text == b"vis".as_slice() => Terminal::VisWord,
+        b'w' if text == b"when".as_slice() => Terminal::WhenWord,
+        _ => Terminal::NoTerminal,
     }
-    if text == b"true".as_slice() {
-        return Terminal::TrueWord;
-    }
-    if text == b"false".as_slice() {
-        return Terminal::FalseWord;
-    }
-    if text == b"unit".as_slice() {
-        return Terminal::UnitWord;
-    }
-    if text == b"empty".as_slice() {
-        return Terminal::EmptyWord;
-    }
-    if text == b"cur".as_slice() {
-        return Terminal::CurWord;
-    }
-    if text == b"txn".as_slice() {
-        return Terminal::TxnWord;
-    }
-    relation_word(text)
 }
 
-/// The words of expressions and kinds.
-#[tactic(auto, unfolding(crate::specs::Terminals::expression_word))]
-fn expression_word(text: &[u8]) -> Terminal
-    ensures { result ≡ expression_word text.now }
-{
-    if text == b"if".as_slice() {
-        return Terminal::IfWord;
-    }
-    if text == b"then".as_slice() {
-        return Terminal::ThenWord;
-    }
-    if text == b"else".as_slice() {
-        return Terminal::ElseWord;
-    }
-    if text == b"and".as_slice() {
-        return Terminal::AndWord;
-    }
-    if text == b"or".as_slice() {
-        return Terminal::OrWord;
-    }
-    if text == b"not".as_slice() {
-        return Terminal::NotWord;
-    }
-    if text == b"int".as_slice() {
-        return Terminal::IntWord;
-    }
-    if text == b"bool".as_slice() {
-        return Terminal::BoolWord;
-    }
-    if text == b"text".as_slice() {
-        return Terminal::TextWord;
-    }
-    if text == b"set".as_slice() {
-        return Terminal::SetWord;
-    }
-    if text == b"map".as_slice() {
-        return Terminal::MapWord;
-    }
-    logic_word(text)
-}
-
-/// The words of declarations.
-#[tactic(auto, unfolding(crate::specs::Terminals::keyword))]
+/// The keywords.
+#[tactic(auto, unfolding(crate::specs::Terminals::keyword, crate::specs::Terminals::expression_word, crate::specs::Terminals::logic_word, crate::specs::Terminals::relation_word))]
 fn keyword(text: &[u8]) -> Terminal
     ensures { result ≡ keyword text.now }
 {
-    if text == b"type".as_slice() {
-        return Terminal::TypeWord;
+    match text.first() {
+        None => Terminal::NoTerminal,
+        Some(first) if *first <= b'i' => keyword_to_i(text),
+        Some(_) => keyword_from_j(text),
     }
-    if text == b"state".as_slice() {
-        return Terminal::StateWord;
-    }
-    if text == b"op".as_slice() {
-        return Terminal::OpWord;
-    }
-    if text == b"contract".as_slice() {
-        return Terminal::ContractWord;
-    }
-    if text == b"answer".as_slice() {
-        return Terminal::AnswerWord;
-    }
-    if text == b"emit".as_slice() {
-        return Terminal::EmitWord;
-    }
-    if text == b"when".as_slice() {
-        return Terminal::WhenWord;
-    }
-    if text == b"apply".as_slice() {
-        return Terminal::ApplyWord;
-    }
-    if text == b"transaction".as_slice() {
-        return Terminal::TransactionWord;
-    }
-    if text == b"uses".as_slice() {
-        return Terminal::UsesWord;
-    }
-    expression_word(text)
 }
 
-/// The operators.
-#[tactic(auto, unfolding(crate::specs::Terminals::operator))]
-fn operator(text: &[u8]) -> Terminal
-    ensures { result ≡ operator text.now }
+/// The marks of one byte.
+#[tactic(auto, unfolding(crate::specs::Terminals::mark, crate::specs::Terminals::operator))]
+fn single_mark(byte: u8) -> Terminal
+    ensures { result ≡ mark (byte ∷ []) }
 {
-    if text == b"=".as_slice() {
-        return Terminal::Equals;
+    match byte {
+        b'{' => Terminal::OpenBrace,
+        b'}' => Terminal::CloseBrace,
+        b'(' => Terminal::OpenParen,
+        b')' => Terminal::CloseParen,
+        b'[' => Terminal::OpenBracket,
+        b']' => Terminal::CloseBracket,
+        b',' => Terminal::Comma,
+        b';' => Terminal::Semicolon,
+        b':' => Terminal::Colon,
+        b'.' => Terminal::Dot,
+        b'=' => Terminal::Equals,
+        b'<' => Terminal::Less,
+        b'>' => Terminal::Greater,
+        b'+' => Terminal::Plus,
+        b'-' => Terminal::Minus,
+        b'*' => Terminal::Times,
+        b'|' => Terminal::Bar,
+        b'&' => Terminal::Ampersand,
+        _ => Terminal::NoTerminal,
     }
-    if text == b":=".as_slice() {
-        return Terminal::Assign;
-    }
-    if text == b"=>".as_slice() {
-        return Terminal::Arrow;
-    }
-    if text == b"==".as_slice() {
-        return Terminal::IsEqual;
-    }
-    if text == b"!=".as_slice() {
-        return Terminal::NotEqual;
-    }
-    if text == b"<".as_slice() {
-        return Terminal::Less;
-    }
-    if text == b"<=".as_slice() {
-        return Terminal::LessEqual;
-    }
-    if text == b">".as_slice() {
-        return Terminal::Greater;
-    }
-    if text == b">=".as_slice() {
-        return Terminal::GreaterEqual;
-    }
-    if text == b"+".as_slice() {
-        return Terminal::Plus;
-    }
-    if text == b"-".as_slice() {
-        return Terminal::Minus;
-    }
-    if text == b"*".as_slice() {
-        return Terminal::Times;
-    }
-    if text == b"/\\".as_slice() {
-        return Terminal::AndMark;
-    }
-    if text == b"\\/".as_slice() {
-        return Terminal::OrMark;
-    }
-    if text == b"|".as_slice() {
-        return Terminal::Bar;
-    }
-    if text == b"&".as_slice() {
-        return Terminal::Ampersand;
-    }
-    Terminal::NoTerminal
 }
 
-/// The brackets and separators.
-#[tactic(auto, unfolding(crate::specs::Terminals::mark))]
+/// The marks of two bytes.
+#[tactic(auto, unfolding(crate::specs::Terminals::mark, crate::specs::Terminals::operator))]
+fn paired_mark(first: u8, second: u8) -> Terminal
+    ensures { result ≡ mark (first ∷ second ∷ []) }
+{
+    match (first, second) {
+        (b':', b'=') => Terminal::Assign,
+        (b'=', b'>') => Terminal::Arrow,
+        (b'=', b'=') => Terminal::IsEqual,
+        (b'!', b'=') => Terminal::NotEqual,
+        (b'<', b'=') => Terminal::LessEqual,
+        (b'>', b'=') => Terminal::GreaterEqual,
+        (b'/', b'\\') => Terminal::AndMark,
+        (b'\\', b'/') => Terminal::OrMark,
+        _ => Terminal::NoTerminal,
+    }
+}
+
+/// The marks.
+#[tactic(auto, unfolding(crate::specs::Terminals::mark, crate::specs::Terminals::operator))]
 fn mark(text: &[u8]) -> Terminal
     ensures { result ≡ mark text.now }
 {
-    if text == b"{".as_slice() {
-        return Terminal::OpenBrace;
+    match text {
+        [byte] => single_mark(*byte),
+        [first, second] => paired_mark(*first, *second),
+        _ => Terminal::NoTerminal,
     }
-    if text == b"}".as_slice() {
-        return Terminal::CloseBrace;
-    }
-    if text == b"(".as_slice() {
-        return Terminal::OpenParen;
-    }
-    if text == b")".as_slice() {
-        return Terminal::CloseParen;
-    }
-    if text == b"[".as_slice() {
-        return Terminal::OpenBracket;
-    }
-    if text == b"]".as_slice() {
-        return Terminal::CloseBracket;
-    }
-    if text == b",".as_slice() {
-        return Terminal::Comma;
-    }
-    if text == b";".as_slice() {
-        return Terminal::Semicolon;
-    }
-    if text == b":".as_slice() {
-        return Terminal::Colon;
-    }
-    if text == b".".as_slice() {
-        return Terminal::Dot;
-    }
-    operator(text)
 }
 
 /// The terminal of a token of this kind with these bytes.

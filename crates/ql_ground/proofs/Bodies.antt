@@ -10,7 +10,7 @@ use Rattle.ql_atoms.specs.declared.atoms.Atom.TheVariants.{Pair, Current}
 use Rattle.ql_atoms.specs.declared.atoms.PairKind.TheVariants as kind
 use Rattle.ql_atoms.specs.Atoms.{Size, Fits, number_of}
 use Rattle.ql_cnf.specs.Circuits.{Circuit, Both, circuit_true}
-use Rattle.ql_cnf.specs.Satisfaction.{value_of}
+use Rattle.ql_cnf.specs.Satisfaction.{variable_value}
 use Rattle.ql_lang.specs.Trees.{Relation, Basic, Union, Intersection}
 use Rattle.ql_lang.specs.Formulas.{Statement, Always, Related, BothOf, OneOf, IfThen, InOneTxn}
 use Rattle.ql_lang.specs.declared.relation.RelName.{RelName}
@@ -57,10 +57,10 @@ module _ (x : List Effect) (current : ℕ → Bool) (closed : (a b : ℕ) → cu
   place i = slice_index effects i
 
   holds-true : (a : Atom) → Fits s a → circuit_true assigned (holds s a) ≡ atom_true x current effects a
-  holds-true a f = beq-true (value_of assigned (number_of s a)) ∙ reads.value a f
+  holds-true a f = beq-true (variable_value assigned (number_of s a)) ∙ reads.value a f
 
   fails-true : (a : Atom) → Fits s a → circuit_true assigned (fails s a) ≡ not (atom_true x current effects a)
-  fails-true a f = beq-false (value_of assigned (number_of s a)) ∙ ap not (reads.value a f)
+  fails-true a f = beq-false (variable_value assigned (number_of s a)) ∙ ap not (reads.value a f)
 
   named-true : (name : RelName) (i j : ℕ) → i < s.constants → j < s.constants → circuit_true assigned (named_circuit s name i j) ≡ named x name (place i) (place j)
   named-true Vis i j l m = holds-true (Pair kind.Vis i j) (l, m)

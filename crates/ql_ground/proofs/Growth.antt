@@ -12,6 +12,7 @@ use Rattle.ql_typing.specs.WellFormed.{AreBelow}
 use Rattle.ql_ground.specs.Rules.{Rule}
 use Rattle.ql_base.specs.Ranges.{upto}
 use Rattle.ql_ground.specs.Ground.{choices, instances, all_instances}
+use Rattle.ql_ground.specs.Parts.{most_instances}
 
 pub then : (old mid new a b : List (List Lit)) → mid ≡ old ++ clauses_of a → new ≡ mid ++ clauses_of b → new ≡ old ++ clauses_of (a ++ b)
 then old mid new a b h g =
@@ -78,7 +79,7 @@ pow_next n places depth l = ap (λ e. n ^ e) (omega arith) ∙ pow-suc n (places
 pub room_next : (n k rest : ℕ) → k < n → k * rest + rest ≤ rest * n
 room_next n k rest l = omega (arith, suc-mul k rest, mul-le-mul_right {m = suc k} {n = n} rest (omega arith), mul_comm n rest)
 
-pub few_choices : (n places : ℕ) → n ≤ 6 → places ≤ 4 → n ^ places ≤ 1296
+pub few_choices : (n places : ℕ) → n ≤ 6 → places ≤ 4 → n ^ places ≤ most_instances
 few_choices n places few p = omega (arith, pow-le-pow_left few places, pow-le-pow_right {n = 6} (omega arith) p)
 
 -- one more constant for a place

@@ -9,7 +9,7 @@ use Rattle.ql_atoms.specs.declared.atoms.Atom.TheVariants.{Pair, Current, Is}
 use Rattle.ql_atoms.specs.Atoms.{Size, Fits, number_of}
 use Rattle.ql_cnf.specs.declared.lit.Lit.{Lit}
 use Rattle.ql_cnf.specs.Circuits.{yes, no}
-use Rattle.ql_cnf.specs.Satisfaction.{value_of, literal_true, clause_true}
+use Rattle.ql_cnf.specs.Satisfaction.{variable_value, literal_true, clause_true}
 use Rattle.ql_ground.specs.Rules.{Rule}
 use Rattle.ql_ground.specs.Ground.{implication, chosen, at, instances}
 use Rattle.ql_ground.proofs.Upto.{ForEach, AllBelow, each-at, choices-all}
@@ -71,13 +71,13 @@ module _ (assigned : List Bool) (s : Size) (t : Atom → Bool) (reads : ReadsOff
   no_true : (atoms : List Atom) → AllFit s atoms → list_any (literal_true assigned) (map (λ a. no (number_of s a)) atoms) ≡ list_any not (map t atoms)
   no_true [] h = refl
   no_true (a ∷ atoms) h =
-      ap (λ b. b || list_any (literal_true assigned) (map (λ c. no (number_of s c)) atoms)) (beq-false (value_of assigned (number_of s a)) ∙ ap not (reads.value a h.0))
+      ap (λ b. b || list_any (literal_true assigned) (map (λ c. no (number_of s c)) atoms)) (beq-false (variable_value assigned (number_of s a)) ∙ ap not (reads.value a h.0))
       ∙ ap (λ b. not (t a) || b) (no_true atoms h.1)
 
   yes_true : (atoms : List Atom) → AllFit s atoms → list_any (literal_true assigned) (map (λ a. yes (number_of s a)) atoms) ≡ list_any (λ b. b) (map t atoms)
   yes_true [] h = refl
   yes_true (a ∷ atoms) h =
-      ap (λ b. b || list_any (literal_true assigned) (map (λ c. yes (number_of s c)) atoms)) (beq-true (value_of assigned (number_of s a)) ∙ reads.value a h.0)
+      ap (λ b. b || list_any (literal_true assigned) (map (λ c. yes (number_of s c)) atoms)) (beq-true (variable_value assigned (number_of s a)) ∙ reads.value a h.0)
       ∙ ap (λ b. t a || b) (yes_true atoms h.1)
 
   pub implication-true : (hs cs : List Atom) → AllFit s hs → AllFit s cs → implied (map t hs) (map t cs) ≡ true → clause_true assigned (implication s hs cs) ≡ true

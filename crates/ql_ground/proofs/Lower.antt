@@ -12,7 +12,7 @@ use Rattle.ql_atoms.specs.declared.atoms.PairKind.TheVariants.{Eq, SameObj, Vis,
 use Rattle.ql_atoms.specs.Atoms.{Size, number_of, count_of}
 use Rattle.ql_cnf.specs.declared.lit.Lit.{Lit}
 use Rattle.ql_cnf.specs.Circuits.{yes, no, denying}
-use Rattle.ql_cnf.specs.Satisfaction.{value_of, literal_true, clause_true}
+use Rattle.ql_cnf.specs.Satisfaction.{variable_value, literal_true, clause_true}
 use Rattle.ql_cnf.proofs.CircuitLaws.{all_true-clauses_of}
 use Rattle.ql_lang.specs.declared.formula.OpChoice.{OpChoice}
 use Rattle.ql_levels.specs.declared.level.Level.{Level}
@@ -75,7 +75,7 @@ fires hs cs h all = some-true cs (sym (ap (λ b. b || list_any (λ c. c) cs) (no
 
 module _ (a : List Bool) (s : Size) where
   abbrev value : Atom → Bool
-  value x = value_of a (number_of s x)
+  value x = variable_value a (number_of s x)
 
   no-true : (atoms : List Atom) → list_any (literal_true a) (map (λ x. no (number_of s x)) atoms) ≡ list_any not (map value atoms)
   no-true [] = refl

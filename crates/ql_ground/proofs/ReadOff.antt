@@ -6,9 +6,9 @@ use Rattle.ql_atoms.specs.declared.atoms.Atom.{Atom}
 use Rattle.ql_atoms.specs.declared.atoms.Atom.TheVariants.{Pair, Current, Is}
 use Rattle.ql_atoms.specs.declared.atoms.PairKind.{PairKind}
 use Rattle.ql_atoms.specs.declared.atoms.PairKind.TheVariants.{Eq, So, SameObj, Vis, Hbo, Hb, SameTxn}
-use Rattle.ql_atoms.specs.Atoms.{Size, Fits, kind_place, place_of, number_of, count_of, relations_of}
+use Rattle.ql_atoms.specs.Atoms.{Size, Fits, kind_place, atom_place, number_of, count_of, relations_of}
 use Rattle.ql_atoms.proofs.Numbers.{counted}
-use Rattle.ql_cnf.specs.Satisfaction.{value_of}
+use Rattle.ql_cnf.specs.Satisfaction.{variable_value}
 use Rattle.ql_base.specs.Ranges.{upto}
 use Rattle.ql_base.specs.Ids.{op}
 use Rattle.ql_ground.proofs.Upto.{length-upto, upto-at}
@@ -81,7 +81,7 @@ module _ (s : Size) (t : Atom → Bool) where
   unfolding read_off
   length-read_off = omega (arith, length-append (relations ++ currents) operations, length-append relations currents, length-relations, length-currents, length-operations)
 
-  pair-at : (r : PairKind) (i j : ℕ) → i < s.constants → j < s.constants → get_or relations (place_of s (Pair r i j)) false ≡ t (Pair r i j)
+  pair-at : (r : PairKind) (i j : ℕ) → i < s.constants → j < s.constants → get_or relations (atom_place s (Pair r i j)) false ≡ t (Pair r i j)
   unfolding relations
   pair-at r i j l m =
       let n : ℕ = s.constants in
@@ -90,17 +90,17 @@ module _ (s : Size) (t : Atom → Bool) where
       ∙ cells-at (λ p q'. t (Pair (kind_at (kind_place r)) p q')) n n i j l m
       ∙ ap (λ q. t (Pair q i j)) (kind_at-place r)
 
-  pair-below : (r : PairKind) (i j : ℕ) → i < s.constants → j < s.constants → place_of s (Pair r i j) < relations_of s
+  pair-below : (r : PairKind) (i j : ℕ) → i < s.constants → j < s.constants → atom_place s (Pair r i j) < relations_of s
   pair-below r i j l m =
       let n : ℕ = s.constants in
       let inner : i * n + j < n * n = mul-add-lt i n j n l m in
       omega (arith, mul-add-lt (kind_place r) (n * n) (i * n + j) 7 (few_kinds r) inner)
 
-  read_off-at : (a : Atom) → Fits s a → get_or read_off (place_of s a) false ≡ t a
+  read_off-at : (a : Atom) → Fits s a → get_or read_off (atom_place s a) false ≡ t a
   unfolding read_off currents operations
   read_off-at (Pair r i j) h =
-      get_or_append_left (relations ++ currents) operations false (place_of s (Pair r i j)) (omega (arith, length-append relations currents, length-relations, pair-below r i j h.0 h.1))
-      ∙ get_or_append_left relations currents false (place_of s (Pair r i j)) (omega (arith, length-relations, pair-below r i j h.0 h.1))
+      get_or_append_left (relations ++ currents) operations false (atom_place s (Pair r i j)) (omega (arith, length-append relations currents, length-relations, pair-below r i j h.0 h.1))
+      ∙ get_or_append_left relations currents false (atom_place s (Pair r i j)) (omega (arith, length-relations, pair-below r i j h.0 h.1))
       ∙ pair-at r i j h.0 h.1
   read_off-at (Current i) h =
       get_or_append_left (relations ++ currents) operations false (relations_of s + i) (omega (arith, length-append relations currents, length-relations, length-currents))
@@ -115,13 +115,13 @@ module _ (s : Size) (t : Atom → Bool) where
 
 -- the variable of each atom has the atom's truth value
 pub record ReadsOff (a : List Bool) (s : Size) (t : Atom → Bool) : Type 0 where
-  pub value : (atom : Atom) → Fits s atom → value_of a (number_of s atom) ≡ t atom
+  pub value : (atom : Atom) → Fits s atom → variable_value a (number_of s atom) ≡ t atom
 
 -- the assignment that is read off, whatever comes after
 pub reads_off : (s : Size) (t : Atom → Bool) (more : List Bool) → ReadsOff (read_off s t ++ more) s t
 reads_off s t more = record {
   value = λ atom h.
       ap (λ p. get_or (read_off s t ++ more) p false) (omega arith)
-      ∙ get_or_append_left (read_off s t) more false (place_of s atom) (omega (arith, length-read_off s t, counted s atom h))
+      ∙ get_or_append_left (read_off s t) more false (atom_place s atom) (omega (arith, length-read_off s t, counted s atom h))
       ∙ read_off-at s t atom h;
 }

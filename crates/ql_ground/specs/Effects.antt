@@ -1,5 +1,5 @@
 -- Effects, and executions as lists of them.
--- They have only what ground problems speak of, as plain numbers, so that this crate needs no store; the effects of
+-- They have only what ground problems are about, as plain numbers, so that this crate needs no store; the effects of
 -- `ql_exec` carry values and stamps as well, and the law of `ql_implied` joins the two.
 use Rattle.std.specs.Prelude.{ℕ, zero, suc, List, Option, None, slice_get}
 
@@ -16,7 +16,7 @@ pub record Effect : Type 0 where
   pub member : Member
   pub seen : List ℕ
 
--- the effect of a number; the first has number 1
+-- the effect with this number; the first has number 1
 abbrev pub effect_at : List Effect → ℕ → Option Effect
 effect_at x zero = None
 effect_at x (suc k) = slice_get x k

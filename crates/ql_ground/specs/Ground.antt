@@ -19,16 +19,16 @@ use Rattle.ql_levels.specs.declared.level.TxnLevel.{TxnLevel}
 use Rattle.ql_ground.specs.Rules.{Rule, equality_rules, alike_op, alike_current, session_rules, object_rules, object_order_rules, order_rules, transaction_rules, level_rule, txn_level_rules}
 use Rattle.ql_ground.specs.Bodies.{current_effect, body_circuit}
 
--- f of every choice of numbers below n for some places, the first slowest
+-- f of every choice of numbers below n for some variables, concatenated; the first number varies slowest
 abbrev pub choices : {A : Type 0} → ℕ → ℕ → (List ℕ → List A) → List A
 choices n zero f = f []
 choices n (suc places) f = upto n (λ first. choices n places (λ rest. f (first ∷ rest)))
 
--- where all hypotheses hold one of the conclusions does
+-- if all hypotheses hold, one of the conclusions does
 abbrev pub implication : Size → List Atom → List Atom → List Lit
 implication s hypotheses conclusions = map (λ a. no (number_of s a)) hypotheses ++ map (λ a. yes (number_of s a)) conclusions
 
--- the chosen constant of a place, and the current effect past the places
+-- the constant chosen for a variable, and the current effect past the chosen ones
 unfoldable pub chosen : Size → List ℕ → ℕ → ℕ
 chosen s constants place = slice_index_or constants place (current_effect s)
 
@@ -54,7 +54,7 @@ alike_operations s = upto s.operations (λ o. instances s (alike_op (op o)))
 abbrev pub some_operation : Size → List (List Lit)
 some_operation s = upto s.constants (λ i. implication s [] (upto s.operations (λ o. Is (op o) i ∷ [])) ∷ [])
 
--- 23: and no two
+-- 23: and no effect has two
 abbrev pub one_operation : Size → List (List Lit)
 one_operation s = upto s.constants (λ i. upto s.operations (λ o. upto s.operations (λ p.
     if nat_lt o p then implication s (Is (op o) i ∷ Is (op p) i ∷ []) [] ∷ [] else [])))

@@ -12,13 +12,13 @@ use Rattle.ql_ground.specs.Ground.{op_problem, txn_problem}
 abbrev pub IsSatisfied : ClauseList → Type 0
 IsSatisfied p = (a : List Bool) × Satisfies a p
 
-abbrev pub IsLeast : List ℕ → ℕ → Resolved → Level → Type 0
-IsLeast types o f Eventual = IsUnsatisfiable (op_problem types o Eventual f)
-IsLeast types o f Causal = IsSatisfied (op_problem types o Eventual f) × IsUnsatisfiable (op_problem types o Causal f)
-IsLeast types o f Wide =
+abbrev pub IsLeastOpLevel : List ℕ → ℕ → Resolved → Level → Type 0
+IsLeastOpLevel types o f Eventual = IsUnsatisfiable (op_problem types o Eventual f)
+IsLeastOpLevel types o f Causal = IsSatisfied (op_problem types o Eventual f) × IsUnsatisfiable (op_problem types o Causal f)
+IsLeastOpLevel types o f Wide =
     IsSatisfied (op_problem types o Eventual f) × IsSatisfied (op_problem types o Causal f)
     × IsUnsatisfiable (op_problem types o Wide f)
-IsLeast types o f Strong =
+IsLeastOpLevel types o f Strong =
     IsSatisfied (op_problem types o Eventual f) × IsSatisfied (op_problem types o Causal f)
     × IsSatisfied (op_problem types o Wide f) × IsUnsatisfiable (op_problem types o Strong f)
 

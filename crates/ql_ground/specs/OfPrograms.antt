@@ -21,7 +21,7 @@ IsProblemOf p (OpAt o level) c =
 IsProblemOf p (TxnAt d level) c =
     (f : Resolved) × (slice_get (txn_contracts p) d.0 ≡ Some f) × (c ≡ txn_problem (op_kinds p.types) level f)
 
--- valid implication: in every execution of the program what the level promises gives the goal's contract
+-- valid implication: in every execution of the program the level's guarantee implies the goal's contract
 abbrev pub IsImplied : Program → Goal → Type 0
 IsImplied p (OpAt o level) = (f : Resolved) → slice_get (op_contracts p.types) o.0 ≡ Some f → Implies (op_kinds p.types) o.0 level f
 IsImplied p (TxnAt d level) = (f : Resolved) → slice_get (txn_contracts p) d.0 ≡ Some f → ImpliesTxn (op_kinds p.types) level f

@@ -10,7 +10,7 @@ use Rattle.ql_ground.specs.Ground.{op_problem, txn_problem}
 abbrev pub SatisfiesToo : ClauseList → ClauseList → Type 0
 SatisfiesToo p q = (a : List Bool) → Satisfies a p → Satisfies a q
 
--- the problem of the higher level has what the problem of the lower one asks
+-- the problem of the higher level requires all that the problem of the lower one does
 abbrev pub GivesLevel : Level → Level → Type 0
 GivesLevel higher lower = (types : List ℕ) (o : ℕ) (f : Resolved) → SatisfiesToo (op_problem types o higher f) (op_problem types o lower f)
 

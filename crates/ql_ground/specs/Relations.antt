@@ -81,7 +81,7 @@ hbo x a b = leads (hbo_step x) a b
 abbrev pub hb : List Effect → ℕ → ℕ → Bool
 hb x a b = leads (hb_step x) a b
 
--- What every execution keeps: an effect sees earlier ones on its own object, and the effects of a begun
+-- What holds in every execution: an effect sees earlier ones on its own object, and the effects of a begun
 -- transaction are in one session, with no effect of another between them there.
 pub record IsExecution (x : List Effect) : Type 0 where
   pub sees_earlier : (a b : ℕ) → vis x a b ≡ true → a < b

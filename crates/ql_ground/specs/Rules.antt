@@ -10,7 +10,7 @@ use Rattle.ql_levels.specs.declared.level.Level.TheVariants.{Eventual, Causal, W
 use Rattle.ql_levels.specs.declared.level.TxnLevel.{TxnLevel}
 use Rattle.ql_levels.specs.declared.level.TxnLevel.TheVariants.{Rc, Mav, Rr}
 
--- For every choice of an effect for each place, where all hypotheses hold one of the conclusions does.
+-- For every choice of effects for the variables, if all hypotheses hold, one of the conclusions does.
 pub record Rule : Type 0 where
   pub places : ℕ
   pub hypotheses : List Atom
@@ -19,7 +19,7 @@ pub record Rule : Type 0 where
 abbrev pub rule : ℕ → List Atom → List Atom → Rule
 rule places hypotheses conclusions = record { places = places; hypotheses = hypotheses; conclusions = conclusions }
 
--- the places; no rule has a fifth, which stands for the current effect
+-- the variables; no rule has a fifth, which stands for the current effect
 abbrev pub i : ℕ
 i = 0
 
@@ -76,7 +76,7 @@ alike_op o = rule 2 (Pair Eq i j ∷ Is o i ∷ []) (Is o j ∷ [])
 abbrev pub alike_current : Rule
 alike_current = rule 2 (Pair Eq i j ∷ Current i ∷ []) (Current j ∷ [])
 
--- effects after one are in order, and effects before one
+-- effects after one are in order, and so are effects before one
 abbrev pub from_one_rule : Rule
 from_one_rule = rule 3 (Pair So i j ∷ Pair So i k ∷ []) (Pair So j k ∷ Pair So k j ∷ Pair Eq j k ∷ [])
 
@@ -106,7 +106,7 @@ order_rules = within Hbo Hb ∷ within So Hb ∷ within Vis Hb ∷ transitive Hb
 abbrev pub one_session_rule : Rule
 one_session_rule = rule 2 (Pair SameTxn i j ∷ []) (Pair So i j ∷ Pair So j i ∷ Pair Eq i j ∷ [])
 
--- with nothing of another between its effects
+-- with no other effect of the session between its effects
 abbrev pub contiguous_rule : Rule
 contiguous_rule = rule 3 (Pair SameTxn i k ∷ Pair So i j ∷ Pair So j k ∷ []) (Pair SameTxn i j ∷ [])
 
@@ -130,14 +130,14 @@ current_rules = in_one_rule ∷ whole_rule ∷ []
 abbrev pub transaction_rules : List Rule
 transaction_rules = reflexive SameTxn ∷ symmetric SameTxn ∷ transitive SameTxn ∷ contiguous_rules ++ current_rules
 
--- 32: what the level of an operation promises the current effect
+-- 32: what the level of an operation guarantees at the current effect
 abbrev pub level_rule : Level → Rule
 level_rule Eventual = rule 2 (Pair Hbo i j ∷ Pair Vis j cur ∷ []) (Pair Vis i cur ∷ [])
 level_rule Causal = rule 1 (Pair Hbo i cur ∷ []) (Pair Vis i cur ∷ [])
 level_rule Wide = rule 1 (Pair Hb i cur ∷ Pair SameObj i cur ∷ []) (Pair Vis i cur ∷ [])
 level_rule Strong = rule 1 (Pair SameObj i cur ∷ []) (Pair Vis i cur ∷ Pair Vis cur i ∷ Pair Eq i cur ∷ [])
 
--- 32: what the level of a transaction promises the current one; that an effect isn't current stands among the conclusions
+-- 32: what the level of a transaction guarantees to the current one; that an effect isn't current is a conclusion
 abbrev pub committed_rule : Rule
 committed_rule = rule 3 (Current i ∷ Pair SameTxn j k ∷ Pair SameObj j k ∷ Pair Vis j i ∷ []) (Current j ∷ Pair Vis k i ∷ [])
 

@@ -34,7 +34,7 @@ in_one_txn x current members [] = list_all current members
 in_one_txn x current members (c ∷ others) =
     list_all current members && (list_all (λ d. not (current d)) (c ∷ others) && list_all (sametxn x c) (c ∷ others))
 
--- the effect of a term: the current one, or the one at its variable's place
+-- the effect of a term: the current one, or the one chosen for its variable
 abbrev pub place_of : List ℕ → ℕ → Term → ℕ
 place_of places cur Cur = cur
 place_of places cur (Var v) = slice_index places v
@@ -47,19 +47,19 @@ statement_true x current places cur (formula.OneOf p q) = statement_true x curre
 statement_true x current places cur (IfThen p q) = not (statement_true x current places cur p) || statement_true x current places cur q
 statement_true x current places cur (InOneTxn members others) = in_one_txn x current (map (place_of places cur) members) (map (place_of places cur) others)
 
--- an effect is one of those over which the variable ranges
+-- the effect is one of those over which the variable ranges
 abbrev pub in_range : List Effect → OpChoice → ℕ → Bool
 in_range x Any p = one (λ e. true) (effect_at x p)
 in_range x (OneOf ops) p = one (λ e. list_any (λ o. e.op == o) ops) (effect_at x p)
 
--- a place for each variable, an effect over which it ranges
+-- the number of an effect for each variable, one over which it ranges
 abbrev pub Chosen : List Effect → List OpChoice → List ℕ → Type 0
 Chosen x [] [] = Unit {0}
 Chosen x (choice ∷ vars) (p ∷ places) = (in_range x choice p ≡ true) × Chosen x vars places
 Chosen x [] (p ∷ places) = ⊥
 Chosen x (choice ∷ vars) [] = ⊥
 
--- the formula holds at the effect: for every choice of places its body is true
+-- the formula holds at the effect: for every choice of effects its body is true
 abbrev pub Holds : List Effect → Resolved → ℕ → Type 0
 Holds x f cur = (places : List ℕ) → Chosen x f.vars places → statement_true x (λ a. false) places cur f.body ≡ true
 

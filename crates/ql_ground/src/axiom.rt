@@ -2,7 +2,7 @@ ghost use Rattle.std.specs.Prelude.{◌≡◌, ◌+◌, ◌*◌, ◌^◌, ◌<�
 ghost use Rattle.ql_atoms.specs.Atoms.{size_of, count_of};
 ghost use Rattle.ql_cnf.specs.Circuits.{clauses_of};
 ghost use Rattle.ql_ground.specs.Ground.{instances, all_instances};
-ghost use Rattle.ql_ground.specs.Parts.{axiom_of, transaction_axiom_of};
+ghost use Rattle.ql_ground.specs.Parts.{axiom_of, transaction_axiom_of, most_instances};
 
 use crate::rule::{I, J, K, Rule, add_rule};
 use ql_atoms::Atom::{Current, Pair};
@@ -23,11 +23,11 @@ pub(crate) enum Axiom {
     Within(PairKind, PairKind),
     /// Equal effects are alike on the left of the relation.
     AlikeLeft(PairKind),
-    /// And on its right.
+    /// Equal effects are alike on the right of the relation.
     AlikeRight(PairKind),
-    /// Two effects after one in session order are in order themselves.
+    /// Two effects after the same one in session order are in order themselves.
     FromOne,
-    /// And so are two before one.
+    /// Two effects before the same one in session order are in order themselves.
     ToOne,
     /// Session order on one object is within happens-before on one object.
     OfSession,
@@ -41,11 +41,11 @@ pub(crate) enum TransactionAxiom {
     AlikeCurrent,
     /// A transaction is within one session.
     OneSession,
-    /// With nothing of another between its effects.
+    /// No effect of the session that isn't in the transaction is between two that are.
     Contiguous,
     /// The current effects are in one transaction.
     InOne,
-    /// And are all of it.
+    /// Any effect in a transaction with a current one is current.
     Whole,
 }
 
@@ -57,10 +57,10 @@ pub(crate) fn add_axioms(
     c: &mut Clauses,
 ) -> Result<(), NoMemory>
     requires variables { c.old.variables ≡ count_of (size_of s) }
-    requires room { length c.old.clauses + length names.now * 1296 < 2 ^ 32 }
+    requires room { length c.old.clauses + length names.now * most_instances < 2 ^ 32 }
     ensures variables { c.new.variables ≡ c.old.variables }
     ensures clauses { OnOk result (c.new.clauses ≡ c.old.clauses ++ clauses_of (all_instances (size_of s) (map axiom_of names.now))) }
-    ensures counted { OnOk result (length c.new.clauses ≤ length c.old.clauses + length names.now * 1296) }
+    ensures counted { OnOk result (length c.new.clauses ≤ length c.old.clauses + length names.now * most_instances) }
 {
     for name in names {
         add_axiom(alloc, *name, s, c)?;
@@ -76,10 +76,10 @@ pub(crate) fn add_axiom(
     c: &mut Clauses,
 ) -> Result<(), NoMemory>
     requires variables { c.old.variables ≡ count_of (size_of s) }
-    requires room { length c.old.clauses + 1296 < 2 ^ 32 }
+    requires room { length c.old.clauses + most_instances < 2 ^ 32 }
     ensures variables { c.new.variables ≡ c.old.variables }
     ensures clauses { OnOk result (c.new.clauses ≡ c.old.clauses ++ clauses_of (instances (size_of s) (axiom_of name))) }
-    ensures counted { OnOk result (length c.new.clauses ≤ length c.old.clauses + 1296) }
+    ensures counted { OnOk result (length c.new.clauses ≤ length c.old.clauses + most_instances) }
 {
     match name {
         Axiom::Reflexive(r) => add_rule(alloc, &Rule::over(1, &[], &[Pair(r, I, I)]), s, c),
@@ -130,10 +130,10 @@ fn add_transaction_axiom(
     c: &mut Clauses,
 ) -> Result<(), NoMemory>
     requires variables { c.old.variables ≡ count_of (size_of s) }
-    requires room { length c.old.clauses + 1296 < 2 ^ 32 }
+    requires room { length c.old.clauses + most_instances < 2 ^ 32 }
     ensures variables { c.new.variables ≡ c.old.variables }
     ensures clauses { OnOk result (c.new.clauses ≡ c.old.clauses ++ clauses_of (instances (size_of s) (transaction_axiom_of name))) }
-    ensures counted { OnOk result (length c.new.clauses ≤ length c.old.clauses + 1296) }
+    ensures counted { OnOk result (length c.new.clauses ≤ length c.old.clauses + most_instances) }
 {
     match name {
         TransactionAxiom::AlikeCurrent => {

@@ -53,8 +53,8 @@ pub(crate) const ORDER: [Axiom; 5] = [
     Irreflexive(Hb),
 ];
 
-/// Transactions: an equivalence, each class within one session with nothing of another between its
-/// effects; and the effects of the current one are a class.
+/// Transactions: an equivalence, each class within one session, with no other effect of the session between
+/// its effects; and the current effects are one class.
 pub(crate) const TRANSACTIONS: [Axiom; 7] = [
     Reflexive(SameTxn),
     Symmetric(SameTxn),

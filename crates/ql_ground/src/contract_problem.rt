@@ -6,7 +6,7 @@ ghost use Rattle.ql_lang.specs.Formulas.{resolved_of, statement_of};
 ghost use Rattle.ql_ground.specs.Bodies.{body_circuit};
 ghost use Rattle.ql_ground.specs.Ground as groups;
 ghost use Rattle.ql_ground.specs.Implication.{IsContractOf, Implies, ImpliesTxn};
-ghost use Rattle.ql_ground.specs.Parts.{OverConstants};
+ghost use Rattle.ql_ground.specs.Parts.{OverConstants, most_ground_clauses};
 
 use crate::body::ground_body;
 use crate::goal_groups::{add_op_groups, add_txn_groups};
@@ -17,13 +17,13 @@ use ql_lang::{Body, Formula};
 use ql_levels::{Level, TxnLevel};
 use std::alloc::Global;
 
-/// How many nodes a body may have; the variables of more would have no numbers. No contract that is parsed
-/// has so many, and a larger one is answered as want of memory.
+/// The most nodes that a body may have; beyond that there would be no numbers for the variables. No contract
+/// that is parsed has so many, and a larger one is reported as out of memory.
 const MOST_GATES: u32 = 1 << 30;
 
-/// The ground problem of an operation at a level: whether what the level promises can hold at a call of the
-/// operation where its contract is false. Here `types` lists the type number of each operation of the
-/// program, and `f` is the contract of the operation `o`.
+/// The ground problem of an operation at a level: can what the level guarantees hold at a call of the operation
+/// where its contract is false? Here `types` lists the type number of each operation of the program, and `f` is
+/// the contract of the operation `o`.
 pub(crate) fn op_problem(
     alloc: Global,
     types: &[u32],
@@ -53,7 +53,7 @@ pub(crate) fn op_problem(
     Ok(c)
 }
 
-/// The ground problem of a declared transaction at a level, as `op_problem` is that of an operation.
+/// The ground problem of a declared transaction at a level, like `op_problem` for an operation.
 pub(crate) fn txn_problem(
     alloc: Global,
     types: &[u32],
@@ -92,7 +92,7 @@ fn deny(alloc: Global, body: &Body, s: Shape, c: &mut Clauses) -> Result<(), NoM
     requires leaves { InputsInRange (count_of (size_of s)) (body_circuit (size_of s) (statement_of body.now)) }
     requires variables { c.old.variables ≡ count_of (size_of s) }
     requires few { count_of (size_of s) ≤ 450 }
-    requires room { length c.old.clauses ≤ 200000 }
+    requires room { length c.old.clauses ≤ most_ground_clauses }
     ensures variables { OnOk result (c.new.variables ≡ count_of (size_of s) + gates (body_circuit (size_of s) (statement_of body.now))) }
     ensures clauses { OnOk result (c.new.clauses ≡ c.old.clauses ++ clauses_of (denying (count_of (size_of s)) (body_circuit (size_of s) (statement_of body.now)))) }
 {
@@ -103,7 +103,7 @@ fn deny(alloc: Global, body: &Body, s: Shape, c: &mut Clauses) -> Result<(), NoM
     }
 }
 
-// How many nodes but leaves there are; none where a number has no room for them.
+// How many nodes aren't leaves; none if there are too many for a 32-bit number.
 fn count_gates(g: &Ground) -> Option<u32>
     ensures { IfSome result (λ n. n ≡ gates (circuit_of g.now)) }
 {

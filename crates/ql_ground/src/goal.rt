@@ -10,7 +10,7 @@ use ql_levels::{Level, TxnLevel};
 use ql_typing::Typed;
 use std::alloc::Global;
 
-/// What a ground problem asks: whether a level is enough for an operation, or for a declared transaction.
+/// The question of a ground problem: is a level enough for an operation, or for a declared transaction?
 #[derive(Clone, Copy, Debug, PartialEq, Eq)]
 pub enum Goal {
     OpAt(OpId, Level),
@@ -18,14 +18,14 @@ pub enum Goal {
 }
 
 /// The ground problem of a goal. Each assignment that satisfies it is one way in which what the level
-/// promises could hold where the contract is false.
+/// guarantees could hold where the contract is false.
 pub fn problem(alloc: Global, t: &Typed, g: Goal) -> Result<Clauses, NoMemory>
     requires { IsGoalOf t.now.program g }
 
     // The clauses are the written ones, in their order.
     ensures list { IfOk result (λ c. IsProblemOf t.now.program g c) }
 
-    // Where no assignment satisfies them, the level gives the contract in every execution of the program.
+    // Where no assignment satisfies them, the level implies the contract in every execution of the program.
     ensures sound { IfOk result (λ c. IsUnsatisfiable c → IsImplied t.now.program g) }
 {
     let types = types_of_operations(alloc, t)?;

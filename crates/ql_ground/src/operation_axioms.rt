@@ -8,7 +8,7 @@ ghost use Rattle.ql_base.specs.Ids.{op};
 ghost use Rattle.ql_ground.specs.Ground.{implication};
 ghost use Rattle.ql_ground.specs.Ground as groups;
 ghost use Rattle.ql_ground.specs.Bodies.{current_effect};
-ghost use Rattle.ql_ground.specs.Parts.{not_both, not_another, one_operation_of, other_type, other_types, one_type_between, one_type_from};
+ghost use Rattle.ql_ground.specs.Parts.{not_both, not_another, one_operation_of, other_type, other_types, one_type_between, one_type_from, most_instances};
 ghost use Rattle.ql_typing.specs.WellFormed.{AreBelow, AreChoicesOf};
 
 use crate::literal::{add_clause, literal};
@@ -22,10 +22,10 @@ use std::alloc::Global;
 // Equal effects are of one operation.
 pub(crate) fn add_alike_operations(alloc: Global, s: Shape, c: &mut Clauses) -> Result<(), NoMemory>
     requires variables { c.old.variables ≡ count_of (size_of s) }
-    requires room { length c.old.clauses + 32 * 1296 < 2 ^ 32 }
+    requires room { length c.old.clauses + 32 * most_instances < 2 ^ 32 }
     ensures variables { c.new.variables ≡ c.old.variables }
     ensures clauses { OnOk result (c.new.clauses ≡ c.old.clauses ++ clauses_of (groups.alike_operations (size_of s))) }
-    ensures counted { OnOk result (length c.new.clauses ≤ length c.old.clauses + 32 * 1296) }
+    ensures counted { OnOk result (length c.new.clauses ≤ length c.old.clauses + 32 * most_instances) }
 {
     for o in 0..s.operations {
         let equal = [Atom::Pair(PairKind::Eq, I, J), Atom::Is(OpId(o), I)];
@@ -51,7 +51,7 @@ pub(crate) fn add_some_operation(alloc: Global, s: Shape, c: &mut Clauses) -> Re
     Ok(())
 }
 
-// Appends for each operation that the effect is of it.
+// Appends, for each operation, that it is the effect's.
 fn push_operations(i: u32, s: Shape, lits: &mut Vec<Lit>) -> Result<(), NoMemory>
     requires empty { lits.old.items ≡ [] }
     requires constant { i < s.constants }
@@ -292,7 +292,7 @@ fn add_variable(
     }
 }
 
-// Appends for each of the operations that the effect is of it.
+// Appends, for each of these operations, that it is the effect's.
 fn push_named_operations(ops: &[u32], v: u32, s: Shape, lits: &mut Vec<Lit>) -> Result<(), NoMemory>
     requires empty { lits.old.items ≡ [] }
     requires operations { AreBelow s.operations ops.now }

@@ -3,6 +3,7 @@ ghost use Rattle.ql_atoms.specs.Atoms.{size_of, count_of};
 ghost use Rattle.ql_cnf.specs.Circuits.{clauses_of};
 ghost use Rattle.ql_ground.specs.Ground.{instances, all_instances};
 ghost use Rattle.ql_ground.specs.Rules as rules;
+ghost use Rattle.ql_ground.specs.Parts.{most_instances};
 
 use crate::rule::{CUR, I, J, K, L, Rule, add_rule};
 use ql_atoms::Atom::{Current, Pair};
@@ -13,7 +14,7 @@ use ql_cnf::Clauses;
 use ql_levels::{Level, TxnLevel};
 use std::alloc::Global;
 
-// What the level of an operation promises the current effect.
+// What the level of an operation guarantees at the current effect.
 pub(crate) fn add_level(
     alloc: Global,
     level: Level,
@@ -21,10 +22,10 @@ pub(crate) fn add_level(
     c: &mut Clauses,
 ) -> Result<(), NoMemory>
     requires variables { c.old.variables ≡ count_of (size_of s) }
-    requires room { length c.old.clauses + 1296 < 2 ^ 32 }
+    requires room { length c.old.clauses + most_instances < 2 ^ 32 }
     ensures variables { c.new.variables ≡ c.old.variables }
     ensures clauses { OnOk result (c.new.clauses ≡ c.old.clauses ++ clauses_of (instances (size_of s) (rules.level_rule level))) }
-    ensures counted { OnOk result (length c.new.clauses ≤ length c.old.clauses + 1296) }
+    ensures counted { OnOk result (length c.new.clauses ≤ length c.old.clauses + most_instances) }
 {
     match level {
         // It sees what is before an effect that it sees, on one object.
@@ -51,7 +52,7 @@ pub(crate) fn add_level(
     }
 }
 
-// What the level of a transaction promises the current one.
+// What the level of a transaction guarantees to the current one.
 pub(crate) fn add_txn_level(
     alloc: Global,
     level: TxnLevel,
@@ -59,10 +60,10 @@ pub(crate) fn add_txn_level(
     c: &mut Clauses,
 ) -> Result<(), NoMemory>
     requires variables { c.old.variables ≡ count_of (size_of s) }
-    requires room { length c.old.clauses + 2 * 1296 < 2 ^ 32 }
+    requires room { length c.old.clauses + 2 * most_instances < 2 ^ 32 }
     ensures variables { c.new.variables ≡ c.old.variables }
     ensures clauses { OnOk result (c.new.clauses ≡ c.old.clauses ++ clauses_of (all_instances (size_of s) (rules.txn_level_rules level))) }
-    ensures counted { OnOk result (length c.new.clauses ≤ length c.old.clauses + 2 * 1296) }
+    ensures counted { OnOk result (length c.new.clauses ≤ length c.old.clauses + 2 * most_instances) }
 {
     match level {
         TxnLevel::Rc => add_committed(alloc, s, c),
@@ -74,13 +75,13 @@ pub(crate) fn add_txn_level(
     }
 }
 
-// A transaction of which an effect is seen is seen whole, on the object.
+// An effect that sees one of another transaction sees all effects of that transaction on the object.
 fn add_committed(alloc: Global, s: Shape, c: &mut Clauses) -> Result<(), NoMemory>
     requires variables { c.old.variables ≡ count_of (size_of s) }
-    requires room { length c.old.clauses + 1296 < 2 ^ 32 }
+    requires room { length c.old.clauses + most_instances < 2 ^ 32 }
     ensures variables { c.new.variables ≡ c.old.variables }
     ensures clauses { OnOk result (c.new.clauses ≡ c.old.clauses ++ clauses_of (instances (size_of s) rules.committed_rule)) }
-    ensures counted { OnOk result (length c.new.clauses ≤ length c.old.clauses + 1296) }
+    ensures counted { OnOk result (length c.new.clauses ≤ length c.old.clauses + most_instances) }
 {
     let seen_in_part = [
         Current(I),
@@ -92,13 +93,14 @@ fn add_committed(alloc: Global, s: Shape, c: &mut Clauses) -> Result<(), NoMemor
     add_rule(alloc, &Rule::over(3, &seen_in_part, &seen), s, c)
 }
 
-// A transaction of which an effect is seen is seen by each later effect of the current one.
+// If an effect sees one of another transaction, the later effects of the current transaction see what that other
+// transaction did on their objects.
 fn add_monotonic(alloc: Global, s: Shape, c: &mut Clauses) -> Result<(), NoMemory>
     requires variables { c.old.variables ≡ count_of (size_of s) }
-    requires room { length c.old.clauses + 1296 < 2 ^ 32 }
+    requires room { length c.old.clauses + most_instances < 2 ^ 32 }
     ensures variables { c.new.variables ≡ c.old.variables }
     ensures clauses { OnOk result (c.new.clauses ≡ c.old.clauses ++ clauses_of (instances (size_of s) rules.monotonic_rule)) }
-    ensures counted { OnOk result (length c.new.clauses ≤ length c.old.clauses + 1296) }
+    ensures counted { OnOk result (length c.new.clauses ≤ length c.old.clauses + most_instances) }
 {
     let seen_before = [
         Current(I),
@@ -112,13 +114,14 @@ fn add_monotonic(alloc: Global, s: Shape, c: &mut Clauses) -> Result<(), NoMemor
     add_rule(alloc, &Rule::over(4, &seen_before, &seen), s, c)
 }
 
-// A transaction of which an effect is seen is seen by each effect of the current one.
+// If an effect sees one of another transaction, all effects of the current transaction see what that other
+// transaction did on their objects.
 fn add_repeatable(alloc: Global, s: Shape, c: &mut Clauses) -> Result<(), NoMemory>
     requires variables { c.old.variables ≡ count_of (size_of s) }
-    requires room { length c.old.clauses + 1296 < 2 ^ 32 }
+    requires room { length c.old.clauses + most_instances < 2 ^ 32 }
     ensures variables { c.new.variables ≡ c.old.variables }
     ensures clauses { OnOk result (c.new.clauses ≡ c.old.clauses ++ clauses_of (instances (size_of s) rules.repeatable_rule)) }
-    ensures counted { OnOk result (length c.new.clauses ≤ length c.old.clauses + 1296) }
+    ensures counted { OnOk result (length c.new.clauses ≤ length c.old.clauses + most_instances) }
 {
     let seen_by_one = [
         Current(I),

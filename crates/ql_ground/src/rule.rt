@@ -5,7 +5,7 @@ ghost use Rattle.ql_cnf.specs.Circuits.{clauses_of};
 ghost use Rattle.ql_cnf.specs.Satisfaction.{AreInRange};
 ghost use Rattle.ql_ground.specs.Ground.{at, choices, instances};
 ghost use Rattle.ql_ground.specs.Ground as groups;
-ghost use Rattle.ql_ground.specs.Parts.{IsRuleAtom, literal_of, rule_of, instance};
+ghost use Rattle.ql_ground.specs.Parts.{IsRuleAtom, literal_of, rule_of, instance, most_instances};
 
 use crate::literal::{add_clause, literal};
 use ql_atoms::{Atom, Shape};
@@ -13,7 +13,7 @@ use ql_base::NoMemory;
 use ql_cnf::{Clauses, Lit};
 use std::alloc::Global;
 
-/// The places of rules.
+/// The variables of rules.
 pub(crate) const I: u32 = 0;
 
 pub(crate) const J: u32 = 1;
@@ -22,14 +22,14 @@ pub(crate) const K: u32 = 2;
 
 pub(crate) const L: u32 = 3;
 
-/// It stands for the current effect, since no rule has a fifth place.
+/// Stands for the current effect, since no rule has a fifth variable.
 pub(crate) const CUR: u32 = 4;
 
-/// How many places a rule may have.
+/// The most variables that a rule may have.
 const PLACES: usize = 4;
 
-/// For every choice of a constant for each place, where all hypotheses hold one of the conclusions does.
-/// The atoms are over the places, numbered from 0, and over the current effect, `CUR`.
+/// For every choice of constants for the variables, if all hypotheses hold, one of the conclusions does.
+/// The atoms are over the variables, numbered from 0, and over the current effect, `CUR`.
 #[derive(Clone, Copy)]
 pub(crate) struct Rule<'a> {
     pub places: u32,
@@ -41,7 +41,7 @@ impl<'a> Rule<'a> {
     ghost use Rattle.std.specs.Prelude.{◌≡◌};
     ghost use Rattle.ql_ground.specs.Parts.{rule_of};
 
-    /// The rule of these hypotheses and conclusions, over so many places.
+    /// The rule with these hypotheses and conclusions, over this many variables.
     pub(crate) fn over(places: u32, hypotheses: &'a [Atom], conclusions: &'a [Atom]) -> Rule<'a>
         ensures { rule_of result ≡ record { places = places; hypotheses = hypotheses.now; conclusions = conclusions.now } }
     {
@@ -53,7 +53,7 @@ impl<'a> Rule<'a> {
     }
 }
 
-// The constant at a place; past the chosen ones stands the current effect, which is the last constant.
+// The constant chosen for a variable; past the chosen ones it is the current effect, which is the last constant.
 #[tactic(auto, unfolding(crate::specs::Ground::chosen))]
 fn constant(place: u32, constants: &[u32], s: Shape) -> u32
     requires some { 0 < s.constants }
@@ -172,10 +172,10 @@ pub(crate) fn add_rule(
     requires hypotheses { All (IsRuleAtom (size_of s)) r.now.hypotheses.now }
     requires conclusions { All (IsRuleAtom (size_of s)) r.now.conclusions.now }
     requires variables { c.old.variables ≡ count_of (size_of s) }
-    requires room { length c.old.clauses + 1296 < 2 ^ 32 }
+    requires room { length c.old.clauses + most_instances < 2 ^ 32 }
     ensures variables { c.new.variables ≡ c.old.variables }
     ensures clauses { OnOk result (c.new.clauses ≡ c.old.clauses ++ clauses_of (instances (size_of s) (rule_of r.now))) }
-    ensures counted { OnOk result (length c.new.clauses ≤ length c.old.clauses + 1296) }
+    ensures counted { OnOk result (length c.new.clauses ≤ length c.old.clauses + most_instances) }
 {
     let mut lits = Vec::new(alloc);
     add_choices(r, [0; PLACES], 0, s, &mut lits, c)

@@ -6,8 +6,8 @@ ghost use Rattle.ql_levels.specs.declared.level.TxnLevel.{TxnLevel};
 ghost use Rattle.ql_ground.specs.Ground.{op_problem, txn_problem};
 ghost use Rattle.ql_ground.specs.Implication.{IsContractOf, Implies, ImpliesTxn};
 
-/// The law of operations' problems: where no assignment satisfies one, in every execution of the program,
-/// of any length, each effect of the operation that has what the level promises meets the contract.
+/// The law of operations' problems: where no assignment satisfies one, then in every execution of the program,
+/// of any length, each effect of the operation for which the level's guarantee holds meets the contract.
 pub fn refuted_op_is_implied()
     ensures { (types : List ℕ) (o : ℕ) (level : Level) (f : Resolved) → IsContractOf types true f → IsUnsatisfiable (op_problem types o level f) → Implies types o level f }
 {}

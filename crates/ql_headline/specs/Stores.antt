@@ -1,4 +1,4 @@
--- The written machine of a program at given levels, and schedules for it.
+-- The written machine of a program at some levels, and schedules for it.
 use Rattle.std.specs.Prelude.{◌≡◌, ℕ, Bool, true, ◌&&◌, nat_eq, nat_lt, List, length, slice_index, slice_index_or}
 use Rattle.std.specs.List.{list_all}
 use Rattle.ql_base.specs.declared.ids.ObjId.{ObjId}
@@ -13,14 +13,14 @@ use Rattle.ql_machine.specs.declared.event.Event.{Event}
 use Rattle.ql_machine.specs.Rules.{Promises, Rules}
 use Rattle.ql_machine_laws.specs.Promised.{asks}
 
--- a level for each operation and each declared transaction; the highest for what isn't there
+-- a level for each operation and each declared transaction; the highest one where none is listed
 abbrev pub promises_of : LevelLists → Promises
 promises_of levels = record {
   level = λ op. slice_index_or levels.ops op.0 Strong;
   txn_level = λ decl. slice_index_or levels.txns decl.0 Rr;
 }
 
--- the program's operations at these levels, answered by folding what they see
+-- the program's operations at these levels, answered by folding the effects that they see
 abbrev pub rules_of : Program → LevelLists → Rules
 rules_of p levels = record {
   promises = promises_of levels;
@@ -28,10 +28,10 @@ rules_of p levels = record {
   answer = λ op args seen. answered_of p.types op.0 args seen;
 }
 
--- an operation is one of the program's, and of the type of an object
+-- the operation is one of the program's, and of the type of its object
 abbrev pub is_of_type : Program → List ℕ → ObjId → OpId → Bool
 is_of_type p kinds object op = nat_lt op.0 (length (op_kinds p.types)) && nat_eq (slice_index (op_kinds p.types) op.0) (slice_index kinds object.0)
 
--- each call of a schedule is of an operation of its object's type, where objects have the types of a list
+-- each call of a schedule is of an operation of its object's type; `kinds` lists the types of the objects
 abbrev pub IsScheduleFor : Program → List ℕ → List Event → Type 0
 IsScheduleFor p kinds events = list_all (asks (is_of_type p kinds)) events ≡ true

@@ -20,9 +20,9 @@ ghost use Rattle.ql_headline.specs.Stores.{IsScheduleFor, rules_of};
 
 /// The law of contracts in runs. For every schedule whose calls are of operations of their objects' types, the
 /// effects of its run are an execution of the program (`fits`), and each answer is the fold of its type over
-/// exactly the effects that it sees (`answers`). At levels that give contracts each effect then meets the
-/// written contract of its operation (`operations`), and each begun transaction that of its declared name, one
-/// without effects too (`transactions`).
+/// exactly the effects that it sees (`answers`). At levels that guarantee the contracts, each effect then meets the
+/// written contract of its operation (`operations`), and each begun transaction that of its declared name, even one
+/// without effects (`transactions`).
 pub fn runs_meet_contracts()
     ensures fits { (p : Program) (levels : LevelLists) (kinds : List ℕ) (n : ℕ) (events : List Event) (replies : List Reply) (last : Machine) → IsRun (rules_of p levels) n events replies last
         → IsScheduleFor p kinds events → FitsProgram (op_kinds p.types) last.effects }

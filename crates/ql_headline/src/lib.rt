@@ -1,5 +1,5 @@
-// The first half and the second joined: contracts hold in every run of a program's store.
-// The one contract: at levels that give contracts, as those that `classify` reports, every effect of every
+// Levels and the store joined: contracts hold in every run of a program's store.
+// The one contract: at levels that guarantee the contracts, as those that `classify` reports, every effect of every
 // run meets its written contract, and every begun transaction its own.
 #![tactic(auto)]
 

@@ -2,14 +2,14 @@ ghost use Rattle.std.specs.Prelude.{MatchOption};
 
 use ql_base::{Word, is_name, number_of};
 
-/// A begun transaction: its number, from 1, and the name of the declared one.
+/// A begun transaction: its number, from 1, and the name of its declaration.
 #[derive(Clone, Copy)]
 pub struct Begun {
     pub number: u32,
     pub name: Word,
 }
 
-/// The begun transaction that a field spells, as `2:move`.
+/// Parses a begun transaction, as `2:move`.
 pub(crate) fn begun_of(field: &[u8]) -> Option<Begun> {
     let colon = field.iter().position(|b| *b == b':')?;
     let number = number_of(&field[..colon], u64::from(u32::MAX))?;

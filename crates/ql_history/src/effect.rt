@@ -7,10 +7,10 @@ use std::alloc::Global;
 /// An effect as a picture shows it.
 #[derive(Drop)]
 pub struct Effect {
-    /// The number of its object's name.
+    /// The index of its object's name.
     pub object: u32,
     pub op: Word,
-    /// The operation with its arguments, and the answer, where they are told.
+    /// The operation with its arguments, and the answer, where the text has them.
     pub call: Vec<u8>,
     pub answer: Vec<u8>,
     pub session: u32,
@@ -18,7 +18,7 @@ pub struct Effect {
     pub seen: IdSet,
 }
 
-/// What the line of an effect says, as it is spelled.
+/// The fields of an effect's line, as they are spelled.
 #[derive(Clone, Copy)]
 pub(crate) struct Spelled<'a> {
     pub object: &'a [u8],
@@ -30,7 +30,7 @@ pub(crate) struct Spelled<'a> {
     pub seen: &'a [u8],
 }
 
-/// What the line of the effect of this number says.
+/// The fields of the line of the effect with this number.
 pub(crate) fn read_spelled(text: &[u8], id: u32) -> Option<Spelled> {
     let (object, op, rest) = heading(text, id)?;
     match after_word(rest, b"session") {
@@ -39,7 +39,7 @@ pub(crate) fn read_spelled(text: &[u8], id: u32) -> Option<Spelled> {
     }
 }
 
-// The names of the object and the operation behind the word `effect` and the number.
+// The names of the object and the operation, after the word `effect` and the number.
 fn heading(text: &[u8], id: u32) -> Option<(&[u8], &[u8], &[u8])> {
     let rest = after_word(text, b"effect")?;
     let (number, rest) = after_number(rest, u32::MAX)?;
@@ -52,7 +52,7 @@ fn heading(text: &[u8], id: u32) -> Option<(&[u8], &[u8], &[u8])> {
     }
 }
 
-// An effect of a file of `holds`: its session and what it sees.
+// An effect of a `holds` file: its session and what it sees.
 fn bare<'a>(object: &'a [u8], op: &'a [u8], text: &'a [u8]) -> Option<Spelled<'a>> {
     let (session, rest) = after_number(text, 255)?;
     let seen = after_word(rest, b"vis")?;
@@ -67,7 +67,7 @@ fn bare<'a>(object: &'a [u8], op: &'a [u8], text: &'a [u8]) -> Option<Spelled<'a
     })
 }
 
-// An effect of an execution: its call, and then its setting.
+// An effect of an execution: its call, then its session and what it sees.
 fn full<'a>(object: &'a [u8], op: &'a [u8], text: &'a [u8]) -> Option<Spelled<'a>> {
     let (args, answer, rest) = call(text)?;
     let (session, txn, seen) = setting(rest)?;
@@ -82,7 +82,7 @@ fn full<'a>(object: &'a [u8], op: &'a [u8], text: &'a [u8]) -> Option<Spelled<'a
     })
 }
 
-// The arguments and the answer of a call, and what stands behind its payload.
+// The arguments and the answer of a call, and the rest of the line after its payload.
 fn call(text: &[u8]) -> Option<(&[u8], &[u8], &[u8])> {
     let (args, rest) = first_part(text)?;
     let rest = after_word(rest, b"=")?;
@@ -92,7 +92,7 @@ fn call(text: &[u8]) -> Option<(&[u8], &[u8], &[u8])> {
     Some((args, answer, behind))
 }
 
-// The session, the field of the begun transaction, and what stands behind the word `vis`.
+// The session, the field of the begun transaction, and the rest of the line after the word `vis`.
 fn setting(text: &[u8]) -> Option<(u32, &[u8], &[u8])> {
     let rest = after_word(text, b"session")?;
     let (session, rest) = after_number(rest, 255)?;
@@ -106,7 +106,7 @@ fn setting(text: &[u8]) -> Option<(u32, &[u8], &[u8])> {
     }
 }
 
-// What stands behind the stamp and the word `vis`.
+// The rest of the line after the stamp and the word `vis`.
 fn after_stamp(text: &[u8]) -> Option<&[u8]> {
     let rest = after_word(text, b"stamp")?;
     let (_, rest) = after_number(rest, u32::MAX)?;
@@ -114,7 +114,7 @@ fn after_stamp(text: &[u8]) -> Option<&[u8]> {
     Some(behind)
 }
 
-/// The effect that is spelled so, on the object of a number. None where it sees ids that don't ascend.
+/// The effect with these fields, on the object with this index. None where the ids that it sees don't ascend.
 pub(crate) fn effect_of(
     alloc: Global,
     spelled: Spelled,
@@ -147,7 +147,7 @@ fn named(word: &[u8]) -> Option<Word> {
     }
 }
 
-// A word, and another one behind it where there is one.
+// A word, and a second one after it if there is one.
 fn joined(alloc: Global, word: &[u8], other: &[u8]) -> Result<Vec<u8>, NoMemory> {
     let mut text = Vec::from_slice(alloc, word)?;
     if !other.is_empty() {

@@ -3,22 +3,22 @@ use std::alloc::{AllocError, AllocFailed};
 /// What is wrong with a line.
 #[derive(Clone, Copy)]
 pub enum DrawnRule {
-    /// It isn't of its form.
+    /// It doesn't have the form of its kind of line.
     Unexpected,
     /// An effect sees one that isn't earlier.
     NotForward,
-    /// It is an effect or an event above the limit of 4,000, or an object above that of 1,024.
+    /// It exceeds the limit of 4,000 effects or events, or of 1,024 objects.
     TooMany,
-    /// It is a number out of its range, or a replica or a session.
+    /// A number, a replica or a session is out of range.
     Range,
 }
 
 /// Why a file can't be drawn.
 #[derive(Clone, Copy)]
 pub enum DrawnFault {
-    /// The first line at fault, counted from 1. That of a file that ends too early is the line after its last one.
+    /// The first faulty line, counted from 1. Where a file ends too early, the line after its last one.
     Bad { line: u64, rule: DrawnRule },
-    /// No memory was left.
+    /// Out of memory.
     NoMemory,
 }
 
@@ -30,7 +30,7 @@ pub(crate) enum LineFault {
 }
 
 impl LineFault {
-    /// The same as a fault of a file, at a line.
+    /// The fault of the file, at this line.
     pub(crate) fn at(self, line: u64) -> DrawnFault {
         match self {
             LineFault::Breaks(rule) => DrawnFault::Bad { line, rule },

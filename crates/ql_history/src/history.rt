@@ -6,7 +6,7 @@ use crate::seat::{Seat, seat_of};
 use ql_base::NoMemory;
 use std::alloc::Global;
 
-/// The most effects that are drawn, and the most events.
+/// How many effects, and how many events, are drawn at most.
 pub const MOST_DRAWN: u32 = 200;
 
 pub const MOST_COLUMNS: u32 = 1000;
@@ -14,20 +14,20 @@ pub const MOST_COLUMNS: u32 = 1000;
 /// What happened at an event.
 #[derive(Clone, Copy)]
 pub enum Happening {
-    /// A call made the effect of a number, counted from 1.
+    /// A call made the effect with this number, counted from 1.
     Made(u32),
-    /// A call, a begin, a commit or a resend was not answered, for this cause.
+    /// A call, a begin, a commit or a resend wasn't answered, for this cause.
     Stopped(Cause),
     /// A transaction began, or was committed.
     Opened,
     Closed,
     /// Something happened to a message.
     Noted,
-    /// The replicas were parted or joined.
+    /// The replicas were partitioned, or the partition was healed.
     Parted,
 }
 
-/// What stood against a call.
+/// What kept a call from being answered.
 #[derive(Clone, Copy)]
 pub enum Cause {
     Effect(u32),
@@ -45,21 +45,22 @@ pub struct Column {
     pub begun: Option<u32>,
 }
 
-/// What is drawn of a run. Without a schedule each effect is an event, at the one replica 0, and `replicas` is 0.
+/// The part of a run that is drawn. Without a schedule each effect is an event at the one replica 0, and `replicas`
+/// is 0.
 #[derive(Drop)]
 pub struct History {
     /// How many replicas there are at the end.
     pub replicas: u32,
-    /// The events by which the last of them joined, in order.
+    /// The events by which replicas joined, in order; the replicas that joined are the last ones.
     pub joins: Vec<u32>,
     pub columns: Vec<Column>,
-    /// A seat for each effect that is drawn, in order.
+    /// One seat for each effect that is drawn, in order.
     pub seats: Vec<Seat>,
     pub passages: Vec<Passage>,
     pub spans: Vec<Span>,
 }
 
-/// What is drawn of a run, at most its first effects and events. None where the schedule isn't the run's.
+/// The part of a run that is drawn: its effects and events up to the limit. None where the schedule isn't the run's.
 pub fn history_of(
     alloc: Global,
     run: &Run,
@@ -92,7 +93,7 @@ fn joined(alloc: Global, run: &Run, plan: &Plan) -> Result<Option<History>, NoMe
     }
 }
 
-// The effects alone.
+// The history of a run without a schedule.
 fn bare(alloc: Global, run: &Run) -> Result<History, NoMemory> {
     let mut history = History::new(alloc, 0);
     for (k, effect) in run.effects.iter().enumerate() {
@@ -119,14 +120,14 @@ fn bare(alloc: Global, run: &Run) -> Result<History, NoMemory> {
 }
 
 impl History {
-    /// The event by which a replica joined; none for a replica of the start.
+    /// The event by which a replica joined; none for a replica that was there at the start.
     pub fn join_of(&self, replica: u32) -> Option<u32> {
         let behind = self.replicas.checked_sub(replica)? as usize;
         let place = self.joins.len().checked_sub(behind)?;
         self.joins.get(place).copied()
     }
 
-    /// Nothing, of so many replicas.
+    /// An empty history of this many replicas.
     pub(crate) fn new(alloc: Global, replicas: u32) -> History {
         History {
             replicas,

@@ -11,7 +11,7 @@ use crate::step::{Caller, Step};
 use ql_base::{NoMemory, push_bytes};
 use std::alloc::Global;
 
-/// A schedule whose events are joined to their replies, one after another.
+/// A schedule whose events are being matched with their replies, one after another.
 #[derive(Drop)]
 pub(crate) struct Joining {
     history: History,
@@ -28,14 +28,14 @@ impl Joining {
         }
     }
 
-    /// How many effects were made.
+    /// How many effects were made so far.
     pub(crate) fn made(&self) -> u32
         ensures { result ≤ 200 }
     {
         self.history.seats.len().min(MOST_DRAWN as usize) as u32
     }
 
-    /// Whether no more is drawn.
+    /// Whether a limit on what is drawn has been reached.
     pub(crate) fn is_full(&self) -> bool {
         self.made() >= MOST_DRAWN || self.column() >= MOST_COLUMNS
     }
@@ -57,7 +57,7 @@ impl Joining {
         }
     }
 
-    /// Joins one more event; false where the reply is none to it.
+    /// Adds the next event with its reply; false where the reply doesn't fit the event.
     pub(crate) fn join(
         &mut self,
         alloc: Global,
@@ -101,7 +101,7 @@ impl Joining {
         }
     }
 
-    // The next effect is made.
+    // Adds the next effect.
     fn make(
         &mut self,
         alloc: Global,
@@ -124,7 +124,7 @@ impl Joining {
         )
     }
 
-    // A call, a begin or a commit that isn't done.
+    // A call, a begin or a commit that wasn't answered.
     fn stop(
         &mut self,
         alloc: Global,
@@ -189,7 +189,7 @@ impl Joining {
         self.pass(alloc, number, fate, reply)
     }
 
-    // A message comes to its end, or isn't under way.
+    // A message arrives or is lost, or isn't under way.
     fn pass(
         &mut self,
         alloc: Global,
@@ -211,7 +211,7 @@ impl Joining {
         }
     }
 
-    // An event that changes nothing, at a replica.
+    // An event at a replica that changes nothing.
     fn note(&mut self, alloc: Global, replica: u32, reply: &Reply) -> Result<bool, NoMemory> {
         let spot = self.spot(replica, None);
         self.push(alloc, spot, Happening::Noted, b"", &reply.text)?;
@@ -279,7 +279,7 @@ impl Joining {
         self.part(alloc, reply)
     }
 
-    // A replica more, which has the next number and stands in the group of another.
+    // Adds a replica, which gets the next number and joins the group of another.
     fn add(&mut self, alloc: Global, near: u32, reply: &Reply) -> Result<bool, NoMemory> {
         let joined = self.history.replicas;
         if reply.word != ReplyWord::Joined || reply.number != Some(joined) {
@@ -293,7 +293,7 @@ impl Joining {
         Ok(true)
     }
 
-    // In a partition that lasts, the new replica has the group of another.
+    // While a partition lasts, a new replica joins the group of another.
     fn join_group(&mut self, near: u32) -> Result<(), NoMemory> {
         if let Some(span) = self.history.spans.last_mut() {
             if span.last.is_none() {
@@ -310,7 +310,7 @@ impl Joining {
         Ok(true)
     }
 
-    // The last partition ends here, where it hasn't ended.
+    // Ends the last partition here, unless it has ended.
     fn end_span(&mut self) {
         let column = self.column();
         if let Some(span) = self.history.spans.last_mut() {
@@ -340,7 +340,7 @@ impl Joining {
     }
 }
 
-// What stood against a call, where that is what the reply says.
+// Why an event wasn't answered; none where the reply answers it.
 fn cause_of(reply: &Reply) -> Option<Cause> {
     match (reply.word, reply.number) {
         (ReplyWord::Blocked, Some(effect)) => Some(Cause::Effect(effect)),

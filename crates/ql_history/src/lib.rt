@@ -1,6 +1,6 @@
 // What happened in a run, as a picture shows it: read from the text that `run` prints or from any execution, and from
 // the schedule of the run.
-// The one contract: every text is read, to what it says or to the line that is at fault.
+// The one contract: reading ends for every text, with what it says or with its first faulty line.
 #![tactic(auto)]
 
 mod begun;

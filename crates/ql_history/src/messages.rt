@@ -1,7 +1,7 @@
 use ql_base::NoMemory;
 use std::alloc::Global;
 
-/// Where something is drawn: the event at which it happened, counted from 0, its replica, and its session where it has
+/// Where something is drawn: the event at which it happened, counted from 0, its replica, and its session if it has
 /// one.
 #[derive(Clone, Copy)]
 pub struct Spot {
@@ -14,14 +14,14 @@ pub struct Spot {
 #[derive(Clone, Copy)]
 pub enum Fate {
     Arrived,
-    /// It arrived where an earlier copy had arrived.
+    /// It arrived where a copy had arrived before.
     Repeated,
     Lost,
     /// It was cut off by a partition.
     Cut,
 }
 
-/// The way of a copy of a message.
+/// The passage of a copy of a message, from where it was sent to where it arrived or was lost.
 #[derive(Clone, Copy)]
 pub struct Passage {
     pub fate: Fate,
@@ -29,7 +29,7 @@ pub struct Passage {
     pub to: Spot,
 }
 
-/// A partition: the event that begins it, the one that ends it, where one does, and the group of each replica.
+/// A partition: the event that begins it, the one that ends it if any, and the group of each replica.
 #[derive(Drop)]
 pub struct Span {
     pub first: u32,
@@ -57,7 +57,7 @@ impl Messages {
         }
     }
 
-    /// The message of a number, counted from 1.
+    /// The message with this number, counted from 1.
     pub(crate) fn numbered(&self, number: u32) -> Option<Message> {
         if number == 0 {
             return None;
@@ -70,7 +70,7 @@ impl Messages {
         Ok(())
     }
 
-    /// One to each other replica of so many.
+    /// Sends one message to each of the other replicas.
     pub(crate) fn send_to_others(&mut self, from: Spot, replicas: u32) -> Result<(), NoMemory> {
         for to in 0..replicas {
             if to != from.replica {

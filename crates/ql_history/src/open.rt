@@ -8,7 +8,7 @@ struct OpenOne {
     number: u32,
 }
 
-/// The open transactions, and how many were begun.
+/// The open transactions, and how many have begun.
 #[derive(Drop)]
 pub(crate) struct Open {
     open: Vec<OpenOne>,

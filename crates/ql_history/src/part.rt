@@ -2,7 +2,7 @@ ghost use Rattle.std.specs.Prelude.{◌≤◌, length};
 
 use ql_lines::first_field;
 
-/// The first part of a line and what stands behind it. A part ends at a space that stands neither between quotes nor
+/// The first part of a line, and the rest after it. A part ends at a space that is neither between quotes nor
 /// in brackets, so a value is one part.
 pub(crate) fn first_part(text: &[u8]) -> Option<(&[u8], &[u8])> {
     let start = without_spaces(text);
@@ -12,13 +12,13 @@ pub(crate) fn first_part(text: &[u8]) -> Option<(&[u8], &[u8])> {
     Some(start.split_at(part_bytes(start)))
 }
 
-/// What stands behind the spaces at the front.
+/// The rest of a line after its leading spaces.
 pub(crate) fn without_spaces(text: &[u8]) -> &[u8] {
     let (_, rest) = text.split_at(spaces(text));
     rest
 }
 
-/// Whether a line has this word and nothing else.
+/// Whether a line consists of this word.
 pub(crate) fn is_word(text: &[u8], word: &[u8]) -> bool {
     match first_field(text) {
         Some((field, behind)) => field == word && first_field(behind).is_none(),
@@ -32,7 +32,7 @@ fn spaces(text: &[u8]) -> usize
     text.iter().take_while(|b| **b == b' ').count()
 }
 
-// How many bytes stand before the first space that ends a part.
+// The length in bytes of the first part.
 fn part_bytes(text: &[u8]) -> usize
     ensures { result ≤ length text.now }
 {
@@ -46,7 +46,7 @@ fn part_bytes(text: &[u8]) -> usize
     text.len()
 }
 
-// In what a byte stands: quotes, so many brackets, or neither.
+// What encloses a byte: quotes, brackets to a depth, or neither.
 #[derive(Clone, Copy)]
 enum Inside {
     Nothing,

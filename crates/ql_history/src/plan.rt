@@ -16,17 +16,17 @@ pub struct Plan {
     pub events: Vec<Step>,
 }
 
-// How far a schedule is read.
+// The state of reading a schedule.
 #[derive(Clone, Copy)]
 struct Place {
     stage: Stage,
     /// Whether replicas may join.
     has_joins: bool,
-    /// How many replicas there are behind the events that were read.
+    /// How many replicas there are after the events that were read.
     replicas: u32,
 }
 
-// Which line comes next.
+// Which kind of line comes next.
 #[derive(Clone, Copy)]
 enum Stage {
     Title,
@@ -35,7 +35,7 @@ enum Stage {
     Events,
 }
 
-/// The schedule that a text says. The kinds of objects and arguments aren't asked for.
+/// Parses a schedule. The sorts of objects and of arguments aren't checked.
 pub fn read_plan(alloc: Global, bytes: &[u8]) -> Result<Plan, DrawnFault> {
     let mut plan = Plan {
         replicas: 1,
@@ -140,7 +140,7 @@ fn take_event(
     Ok(more)
 }
 
-// How far a schedule is read behind an event.
+// The state after an event.
 fn behind(place: Place, step: &Step) -> Result<Place, LineFault> {
     match step {
         Step::Join(_) if !place.has_joins => Err(LineFault::Breaks(DrawnRule::Unexpected)),

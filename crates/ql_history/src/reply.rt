@@ -25,17 +25,17 @@ pub enum ReplyWord {
     Joined,
 }
 
-/// What an event was replied.
+/// The reply to an event.
 #[derive(Drop)]
 pub struct Reply {
     pub word: ReplyWord,
-    /// The number behind the word, where one stands there.
+    /// The number after the word, if there is one.
     pub number: Option<u32>,
-    /// All of it, as it was printed.
+    /// The whole reply, as it was printed.
     pub text: Vec<u8>,
 }
 
-/// The reply that a line says, whose number is to be this one.
+/// The reply on a line that has to have this number.
 pub(crate) fn reply_of(alloc: Global, text: &[u8], number: u32) -> Result<Option<Reply>, NoMemory> {
     let Some((text, word, number)) = spelled(text, number) else {
         return Ok(None);
@@ -44,7 +44,7 @@ pub(crate) fn reply_of(alloc: Global, text: &[u8], number: u32) -> Result<Option
     Ok(Some(Reply { word, number, text }))
 }
 
-// The text of a reply, its word, and the number behind that.
+// The text of a reply, its word, and the number after that.
 fn spelled(text: &[u8], number: u32) -> Option<(&[u8], ReplyWord, Option<u32>)> {
     let (told, rest) = after_number(text, u32::MAX)?;
     let (field, behind) = first_field(rest)?;

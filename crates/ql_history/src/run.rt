@@ -8,7 +8,7 @@ use ql_base::{Names, NoMemory, Word};
 use ql_lines::{Line, Lines, after_name, after_number, after_word, first_field};
 use std::alloc::Global;
 
-// The most effects and replies of a file, and the most objects.
+// The most effects and the most replies of a file, and its most objects.
 const MOST: usize = 4000;
 
 const MOST_OBJECTS: u32 = 1024;
@@ -21,19 +21,20 @@ pub struct Level {
     pub level: Vec<u8>,
 }
 
-/// What the text of a run says, that of a countermodel, an execution, or a file of `holds`. What isn't there is empty.
+/// The contents of the text of a run, of a countermodel, of an execution, or of a `holds` file. Parts that the text
+/// lacks are empty.
 #[derive(Drop)]
 pub struct Run {
     pub levels: Vec<Level>,
     pub replies: Vec<Reply>,
     pub objects: Names,
     pub effects: Vec<Effect>,
-    /// The words of a countermodel behind its level, as `at 2 a=1`, or where a contract of `holds` is judged.
+    /// What a countermodel says after its level, as `at 2 a=1`, or the effect at which a contract of `holds` is judged.
     pub why: Vec<u8>,
 }
 
 impl Run {
-    /// The level of an operation or of a transaction, empty where none is told.
+    /// The level of an operation or of a transaction, empty where the text has none.
     pub fn level_of(&self, is_txn: bool, name: Word) -> &[u8] {
         match self
             .levels
@@ -50,7 +51,7 @@ impl Run {
         self.level_of(false, effect.op) == b"strong".as_slice()
     }
 
-    /// The name of the object of a number.
+    /// The name of the object with this index.
     pub fn object_name(&self, number: u32) -> &[u8] {
         if number < self.objects.len() {
             self.objects.name(number).bytes()
@@ -60,21 +61,21 @@ impl Run {
     }
 }
 
-// Where a line stands.
+// In which section a line is.
 #[derive(Clone, Copy)]
 enum Stage {
     /// Before the effects.
     Ahead,
-    /// Behind the word `replies`.
+    /// After the word `replies`.
     Replying,
-    /// Behind the contract of a file of `holds`.
+    /// After the contract of a `holds` file.
     Judging,
     Effects,
     Ended,
 }
 
-/// What a text says, up to the first line `end` behind its effects. Before these, lines that say nothing of a run are
-/// passed over.
+/// Reads a text up to the first line `end` after its effects. Before the effects, lines that say nothing of a run are
+/// skipped.
 pub fn read_run(alloc: Global, bytes: &[u8]) -> Result<Run, DrawnFault> {
     let mut run = empty(alloc);
     let mut stage = Stage::Ahead;
@@ -108,7 +109,7 @@ fn take(alloc: Global, run: &mut Run, stage: Stage, line: Line) -> Result<Stage,
     }
 }
 
-// A line before the effects, which is no reply.
+// A line before the effects that isn't a reply.
 fn take_ahead(alloc: Global, run: &mut Run, text: &[u8]) -> Result<Stage, LineFault> {
     match first_field(text) {
         Some((b"execution", _)) if is_word(text, b"execution") => return Ok(Stage::Effects),
@@ -134,7 +135,7 @@ fn push_level(alloc: Global, run: &mut Run, is_txn: bool, text: &[u8]) -> Result
     Ok(())
 }
 
-// The line behind a contract says at which effect it is judged.
+// The line after a contract, which names the effect at which it is judged.
 fn take_place(alloc: Global, run: &mut Run, text: &[u8]) -> Result<Stage, LineFault> {
     match after_word(text, b"at") {
         Some(behind) if after_number(behind, u32::MAX).is_some() => {
@@ -174,7 +175,7 @@ fn take_effect(alloc: Global, run: &mut Run, text: &[u8]) -> Result<Stage, LineF
     Ok(Stage::Effects)
 }
 
-// One more effect, behind so many.
+// The next effect, after `before` others.
 fn push_effect(
     alloc: Global,
     run: &mut Run,
@@ -195,7 +196,7 @@ fn push_effect(
     Ok(())
 }
 
-// The number of an object's name; none where there are too many.
+// The index of an object's name; none where there are too many.
 fn object_number(objects: &mut Names, name: &[u8]) -> Result<Option<u32>, NoMemory> {
     if objects.len() >= MOST_OBJECTS || name.is_empty() || name.len() > 32 {
         return Ok(None);

@@ -4,7 +4,7 @@ use crate::run::Run;
 use ql_base::{NoMemory, push_bytes, push_number};
 use std::alloc::Global;
 
-/// An effect where it is drawn, with the number of its object, whether its operation is strong, and its line in short.
+/// An effect where it is drawn, with the index of its object, whether its operation is strong, and its line in short.
 #[derive(Drop)]
 pub struct Seat {
     pub spot: Spot,
@@ -13,7 +13,7 @@ pub struct Seat {
     pub title: Vec<u8>,
 }
 
-/// The seat of the effect of a number at a spot.
+/// The seat of the effect with this number at a spot.
 pub(crate) fn seat_of(
     alloc: Global,
     run: &Run,
@@ -41,7 +41,7 @@ fn title(alloc: Global, run: &Run, effect: &Effect, number: u32) -> Result<Vec<u
     Ok(text)
 }
 
-// An answer behind its sign, where there is one.
+// An answer after its sign, if there is one.
 fn push_answer(text: &mut Vec<u8>, answer: &[u8]) -> Result<(), NoMemory> {
     if answer.is_empty() {
         return Ok(());

@@ -3,7 +3,7 @@ use ql_base::NoMemory;
 use ql_lines::{after_name, after_number, after_word, first_field};
 use std::alloc::Global;
 
-/// An event of a schedule, as far as a picture shows it.
+/// An event of a schedule, in as much detail as a picture shows.
 #[derive(Drop)]
 pub enum Step {
     /// A session's call, with its operation and arguments as they are written.
@@ -21,7 +21,7 @@ pub enum Step {
     Deliver(u32),
     Repeat(u32),
     Lose(u32),
-    /// A replica sends an effect once more to another.
+    /// A replica sends an effect to another once more.
     Resend {
         from: u32,
         to: u32,
@@ -29,18 +29,18 @@ pub enum Step {
     /// The group of each replica.
     Partition(Vec<u32>),
     Heal,
-    /// A replica joins in the group of another, as a copy of it or bare.
+    /// A replica joins the group of another, as a copy of it or bare.
     Join(u32),
 }
 
-/// A session, and the replica at which it does something.
+/// A session, and the replica where it acts.
 #[derive(Clone, Copy)]
 pub struct Caller {
     pub session: u32,
     pub replica: u32,
 }
 
-/// The event that a line says, in a store of so many replicas.
+/// The event on a line, in a store of this many replicas.
 pub(crate) fn step_of(alloc: Global, text: &[u8], replicas: u32) -> Result<Option<Step>, NoMemory> {
     let Some((word, rest)) = first_field(text) else {
         return Ok(None);
@@ -53,7 +53,7 @@ pub(crate) fn step_of(alloc: Global, text: &[u8], replicas: u32) -> Result<Optio
     }
 }
 
-// An event that has numbers alone.
+// An event that consists of numbers only.
 fn other(word: &[u8], rest: &[u8], replicas: u32) -> Option<Step> {
     match word {
         b"commit" => commit(rest, replicas),
@@ -78,7 +78,7 @@ fn call(alloc: Global, text: &[u8], replicas: u32) -> Result<Option<Step>, NoMem
     }))
 }
 
-// Who calls, the name of the object, and the rest of the line from the operation on.
+// The caller, the name of the object, and the rest of the line from the operation on.
 fn called(text: &[u8], replicas: u32) -> Option<(Caller, &[u8], &[u8])> {
     let (caller, rest) = after_caller(text, replicas)?;
     let (object, rest) = after_name(rest)?;
@@ -123,7 +123,7 @@ fn resend(text: &[u8], replicas: u32) -> Option<Step> {
     }
 }
 
-// A replica that joins near another.
+// A replica that joins the group of another.
 fn join(text: &[u8], replicas: u32) -> Option<Step> {
     let near = match first_field(text) {
         Some((b"copy" | b"bare", near)) => last_number(near)?,
@@ -136,7 +136,7 @@ fn join(text: &[u8], replicas: u32) -> Option<Step> {
     }
 }
 
-// A session, and a replica of so many.
+// A session, and one of this many replicas.
 fn after_caller(text: &[u8], replicas: u32) -> Option<(Caller, &[u8])> {
     let (session, rest) = after_number(text, 255)?;
     let rest = after_word(rest, b"at")?;
@@ -148,7 +148,7 @@ fn after_caller(text: &[u8], replicas: u32) -> Option<(Caller, &[u8])> {
     }
 }
 
-// A number with which a line ends.
+// The number at the end of a line.
 fn last_number(text: &[u8]) -> Option<u32> {
     let (number, behind) = after_number(text, u32::MAX)?;
     match first_field(behind) {
@@ -157,7 +157,7 @@ fn last_number(text: &[u8]) -> Option<u32> {
     }
 }
 
-// The groups, as many as there are replicas.
+// The groups, one for each replica.
 fn partition(alloc: Global, text: &[u8], replicas: u32) -> Result<Option<Step>, NoMemory> {
     let mut groups = Vec::new(alloc);
     let mut rest = text;

@@ -1,4 +1,4 @@
--- What a receipt comes to. The lists are what was received before it and after it.
+-- The result of receiving a package. The lists are what was received before it and after it.
 use Rattle.std.specs.Prelude.{◌≡◌, ◌↔◌, ◌≤◌, ℕ, false, List, Result, Ok, Err}
 use Rattle.ql_base.specs.IdLists.{IsAscending, has_id, union_of}
 use Rattle.ql_base.specs.declared.no_memory.NoMemory.{NoMemory}
@@ -28,14 +28,14 @@ pub record IsNew (before ids after : List ℕ) : Type 0 where
   pub none_before : (a : ℕ) → Has ids a → has_id before a ≡ false
   pub added : after ≡ union_of before ids
 
--- what is answered for a package
+-- the result for a package
 abbrev pub IsArrival : List Effect → List ℕ → List ℕ → List ℕ → Arrival → Type 0
 IsArrival x before ids after Again = ((a : ℕ) → Has ids a → Has before a) × (after ≡ before)
 IsArrival x before ids after (Waits missing) = IsNew before ids after × IsLeastMissing x after ids missing.0
 IsArrival x before ids after (Applies gain) =
     IsNew before ids after × ((a : ℕ) → Has ids a → Applied x after a) × IsGain x before after gain
 
--- the answers after which a holder is as it was
+-- the results after which a holder is as it was
 abbrev pub ChangesNothing : Result Arrival NoMemory → Type 0
 ChangesNothing (Ok Again) = Unit {0}
 ChangesNothing (Ok (Waits missing)) = ⊥

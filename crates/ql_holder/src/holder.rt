@@ -13,11 +13,11 @@ use std::alloc::Global;
 /// The effects that a replica received, and which of them are applied.
 ///
 /// An effect needs the effects that it sees, those before it in its session on its object, and the
-/// others of its transaction. It is applied where all that it needs, directly or through other
+/// others of its transaction. It is applied if all that it needs, directly or through other
 /// effects, was received. A package is all effects of one transaction; an effect outside any is a
 /// transaction by itself.
 ///
-/// Executions grow while a holder stays: it speaks of each execution that it fits.
+/// Executions grow while a holder exists: its contract covers each execution that it fits.
 pub trait Holder: Drop {
     // The list of what was received.
     ghost received: { Self → List ℕ };
@@ -25,7 +25,7 @@ pub trait Holder: Drop {
     // What the holder keeps is right for an execution.
     ghost fits: { Self → List Effect → Type 0 };
 
-    /// A holder that received nothing.
+    /// A holder that has received nothing.
     fn empty(alloc: Global) -> Self
         ensures nothing { received result ≡ [] }
         ensures fits { (x : List Effect) → fits result x };
@@ -46,17 +46,17 @@ pub trait Holder: Drop {
     fn applied(&self, e: EffId) -> bool
         ensures { (x : List Effect) → fits self.now x → (result ≡ true) ↔ Applied x (received self.now) e.0 };
 
-    /// A holder that received the same.
+    /// A holder that has received the same effects.
     fn copy(&self) -> Result<Self, NoMemory>
         ensures received { IfOk result (λ copied. received copied ≡ received self.now) }
         ensures fits { IfOk result (λ copied. (x : List Effect) → fits copied x ↔ fits self.now x) };
 
-    // What was received ascends.
+    // The ids that were received ascend.
     ghost fits_ascending: { (holder : Self) (x : List Effect) → fits holder x → IsAscending (received holder) };
 
-    // What was received is whole transactions of each execution that the holder fits.
+    // In each execution that the holder fits, only whole transactions were received.
     ghost fits_whole: { (holder : Self) (x : List Effect) → fits holder x → AreWhole x (received holder) };
 
-    // The holder fits a longer execution too, where that adds no effect to a transaction of which it received a member.
+    // The holder fits a longer execution too, if that adds no effect to a transaction of which it received one.
     ghost fits_more: { (holder : Self) (x more : List Effect) → IsExecution (x ++ more) → fits holder x → JoinsNone x more (received holder) → fits holder (x ++ more) };
 }

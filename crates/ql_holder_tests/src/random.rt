@@ -1,13 +1,14 @@
-use crate::executions::{draft, push};
+use crate::executions::member;
 use crate::receipts::received;
 use ql_base::{IdSet, NoMemory};
 use ql_exec::Execution;
 use ql_plain_holder::PlainHolder;
 use ql_replica::Replica;
+use ql_test_effects::{draft, push};
 use std::alloc::Global;
 use std::test::Fail;
 
-// Numbers that look random, each from the one before: the generator of Knuth's MMIX.
+// Pseudo-random numbers, each from the one before: the generator of Knuth's MMIX.
 #[derive(Drop)]
 struct Numbers {
     state: u64,
@@ -53,7 +54,7 @@ fn random_execution(alloc: Global, numbers: &mut Numbers) -> Result<Execution, N
         } else {
             0
         };
-        push(&mut x, draft(alloc, object, session, of, seen))?;
+        push(&mut x, draft(alloc, object, session, member(of), seen))?;
     }
     Ok(x)
 }
@@ -74,7 +75,7 @@ fn some_on(
     Ok(seen)
 }
 
-// Receives packages at random by both holders, and returns whether all that they answer is the same.
+// Lets both holders receive packages at random, and returns whether all their answers are the same.
 fn agree(alloc: Global, x: &Execution, numbers: &mut Numbers) -> Result<bool, NoMemory> {
     let mut ids = Vec::new(alloc);
     for _ in 0..120 {

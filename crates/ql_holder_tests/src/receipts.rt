@@ -8,7 +8,7 @@ use ql_tables::{check_table, number};
 use std::alloc::Global;
 use std::test::Fail;
 
-// Effects, and what is answered as their packages are received in an order, each named by one of its effects.
+// Effects, and the answers as their packages are received in some order, each named by one of its effects.
 const RECEIVED: &str = "
 0 1 0; 0 2 0 sees 1; 0 3 0 sees 1 2; 0 4 0 sees 1 2 3 in order 4 2 1 3 -> waits 1, waits 1, applies 1 2, applies 3 4
 0 1 0; 0 1 0; 1 1 0; 0 1 0 in order 4 3 2 2 1 1 -> waits 1, applies 3, waits 1, again, applies 1 2 4, again
@@ -34,7 +34,7 @@ fn a_plain_holder_receives(rt: HostRuntime) -> Result<(), Fail> {
     })
 }
 
-// What a holder answers as the packages of these effects come.
+// What a holder answers as it receives the packages of these effects.
 fn answers<H: Holder>(alloc: Global, x: &Execution, order: &str) -> Result<Vec<u8>, NoMemory> {
     let mut ids = Vec::new(alloc);
     for id in order.split_whitespace() {
@@ -45,7 +45,7 @@ fn answers<H: Holder>(alloc: Global, x: &Execution, order: &str) -> Result<Vec<u
     Ok(out)
 }
 
-/// A holder that received the packages of these effects. Spells its answers, and where it is asked what
+/// A holder that received the packages of these effects. Spells its answers and, on request, what
 /// it has received and applied after each.
 pub(crate) fn received<H: Holder>(
     alloc: Global,

@@ -14,10 +14,10 @@ use Rattle.ql_typing.specs.declared.fault.TypeFault.TheVariants as typing
 use Rattle.ql_typing.specs.Faults.{IsRefusal, each, first_fault, names_met, repeats, unless, where_so}
 use Rattle.ql_typing.specs.ContractFaults.{choice_faults, contract_faults, extra_var, op_faults, point_faults, prop_faults, rel_faults, var_names}
 use Rattle.ql_holds_files.specs.declared.rules.HoldsRule.TheVariants.{Unknown, Twice, TxnAtom, Variables}
-use Rattle.ql_holds_files.specs.ContractLine.{faults_of, is_twice, is_txn_atom, is_unknown, lowest_rule}
+use Rattle.ql_holds_files.specs.ContractLine.{sentence_faults, is_repeat, is_txn_atom, is_unknown_name, lowest_rule}
 
-pub unknown_either : (xs ys : List TypeFault) → list_any is_unknown (xs ++ ys) ≡ (list_any is_unknown xs || list_any is_unknown ys)
-unknown_either xs ys = list_any-append is_unknown xs ys
+pub unknown_either : (xs ys : List TypeFault) → list_any is_unknown_name (xs ++ ys) ≡ (list_any is_unknown_name xs || list_any is_unknown_name ys)
+unknown_either xs ys = list_any-append is_unknown_name xs ys
 
 pub txn_either : (xs ys : List TypeFault) → list_any is_txn_atom (xs ++ ys) ≡ (list_any is_txn_atom xs || list_any is_txn_atom ys)
 txn_either xs ys = list_any-append is_txn_atom xs ys
@@ -53,12 +53,12 @@ module _ (p : TypeFault → Bool) {A : Type 0} (faults : A → List TypeFault) w
 
 -- ---- names that repeat others
 
-no_unknown_repeat : (before : List (List ℕ)) (ns : List Name) → list_any is_unknown (repeats before ns) ≡ false
+no_unknown_repeat : (before : List (List ℕ)) (ns : List Name) → list_any is_unknown_name (repeats before ns) ≡ false
 unfolding repeats
 no_unknown_repeat before [] = refl
 no_unknown_repeat before (n ∷ ns) =
     let rest = no_unknown_repeat (with_name before n.word) ns in
-    let P : Bool → Type 0 = λ t. list_any is_unknown (where_so t (typing.Twice n.at) ++ repeats (with_name before n.word) ns) ≡ false in
+    let P : Bool → Type 0 = λ t. list_any is_unknown_name (where_so t (typing.Twice n.at) ++ repeats (with_name before n.word) ns) ≡ false in
     elim (has_name before n.word) as P [ true ↦ rest | false ↦ rest ]
 
 no_txn_repeat : (before : List (List ℕ)) (ns : List Name) → list_any is_txn_atom (repeats before ns) ≡ false
@@ -70,11 +70,11 @@ no_txn_repeat before (n ∷ ns) =
     elim (has_name before n.word) as P [ true ↦ rest | false ↦ rest ]
 
 -- one more name
-pub twice_repeat : (before : List (List ℕ)) (n : Name) (ns : List Name) → list_any is_twice (repeats before (n ∷ ns)) ≡ (has_name before n.word || list_any is_twice (repeats (with_name before n.word) ns))
+pub twice_repeat : (before : List (List ℕ)) (n : Name) (ns : List Name) → list_any is_repeat (repeats before (n ∷ ns)) ≡ (has_name before n.word || list_any is_repeat (repeats (with_name before n.word) ns))
 unfolding repeats
 twice_repeat before n ns =
     let rest = repeats (with_name before n.word) ns in
-    let P : Bool → Type 0 = λ t. list_any is_twice (where_so t (typing.Twice n.at) ++ rest) ≡ (t || list_any is_twice rest) in
+    let P : Bool → Type 0 = λ t. list_any is_repeat (where_so t (typing.Twice n.at) ++ rest) ≡ (t || list_any is_repeat rest) in
     elim (has_name before n.word) as P [ true ↦ refl | false ↦ refl ]
 
 -- ---- operations, of which any may be named
@@ -92,13 +92,13 @@ choice_is v = rw (no_op v.ops) (append-none (repeats [] v.ops))
     append-none [] = refl
     append-none (f ∷ fs) = ap (λ r. f ∷ r) (append-none fs)
 
-no_unknown_choice : (v : Var) → list_any is_unknown (choice_faults None v) ≡ false
-no_unknown_choice v = ap (list_any is_unknown) (choice_is v) ∙ no_unknown_repeat [] v.ops
+no_unknown_choice : (v : Var) → list_any is_unknown_name (choice_faults None v) ≡ false
+no_unknown_choice v = ap (list_any is_unknown_name) (choice_is v) ∙ no_unknown_repeat [] v.ops
 
 no_txn_choice : (v : Var) → list_any is_txn_atom (choice_faults None v) ≡ false
 no_txn_choice v = ap (list_any is_txn_atom) (choice_is v) ∙ no_txn_repeat [] v.ops
 
-no_unknown_extra : (n : Name) → list_any is_unknown (extra_var n) ≡ false
+no_unknown_extra : (n : Name) → list_any is_unknown_name (extra_var n) ≡ false
 unfolding extra_var
 no_unknown_extra n = refl
 
@@ -106,7 +106,7 @@ no_txn_extra : (n : Name) → list_any is_txn_atom (extra_var n) ≡ false
 unfolding extra_var
 no_txn_extra n = refl
 
-no_twice_extra : (n : Name) → list_any is_twice (extra_var n) ≡ false
+no_twice_extra : (n : Name) → list_any is_repeat (extra_var n) ≡ false
 unfolding extra_var
 no_twice_extra n = refl
 
@@ -120,11 +120,11 @@ no_relation (Union r s) = rw (no_relation r, no_relation s) refl
 no_relation (Intersection r s) = rw (no_relation r, no_relation s) refl
 
 module _ (vars : List (List ℕ)) where
-  no_twice_point : (x : Point) → list_any is_twice (point_faults false vars x) ≡ false
+  no_twice_point : (x : Point) → list_any is_repeat (point_faults false vars x) ≡ false
   unfolding point_faults
   no_twice_point (CurAt at) = refl
   no_twice_point (Named n) =
-      let P : Bool → Type 0 = λ t. list_any is_twice (unless t (typing.Unknown n.at)) ≡ false in
+      let P : Bool → Type 0 = λ t. list_any is_repeat (unless t (typing.Unknown n.at)) ≡ false in
       elim (has_name vars n.word) as P [ true ↦ refl | false ↦ refl ]
 
   pub no_txn_point : (x : Point) → list_any is_txn_atom (point_faults false vars x) ≡ false
@@ -134,18 +134,18 @@ module _ (vars : List (List ℕ)) where
       let P : Bool → Type 0 = λ t. list_any is_txn_atom (unless t (typing.Unknown n.at)) ≡ false in
       elim (has_name vars n.word) as P [ true ↦ refl | false ↦ refl ]
 
-  no_twice_prop : (q : Proposition) → list_any is_twice (prop_faults false vars q) ≡ false
+  no_twice_prop : (q : Proposition) → list_any is_repeat (prop_faults false vars q) ≡ false
   unfolding prop_faults
   no_twice_prop Truth = refl
   no_twice_prop (Application r x y) =
-      any_of_two is_twice (rel_faults false r) _ false (ap (list_any is_twice) (no_relation r))
-      (any_of_two is_twice (point_faults false vars x) (point_faults false vars y) false (no_twice_point x) (no_twice_point y))
-  no_twice_prop (Conjunction a b) = any_of_two is_twice (prop_faults false vars a) (prop_faults false vars b) false (no_twice_prop a) (no_twice_prop b)
-  no_twice_prop (Disjunction a b) = any_of_two is_twice (prop_faults false vars a) (prop_faults false vars b) false (no_twice_prop a) (no_twice_prop b)
-  no_twice_prop (Implication a b) = any_of_two is_twice (prop_faults false vars a) (prop_faults false vars b) false (no_twice_prop a) (no_twice_prop b)
+      any_of_two is_repeat (rel_faults false r) _ false (ap (list_any is_repeat) (no_relation r))
+      (any_of_two is_repeat (point_faults false vars x) (point_faults false vars y) false (no_twice_point x) (no_twice_point y))
+  no_twice_prop (Conjunction a b) = any_of_two is_repeat (prop_faults false vars a) (prop_faults false vars b) false (no_twice_prop a) (no_twice_prop b)
+  no_twice_prop (Disjunction a b) = any_of_two is_repeat (prop_faults false vars a) (prop_faults false vars b) false (no_twice_prop a) (no_twice_prop b)
+  no_twice_prop (Implication a b) = any_of_two is_repeat (prop_faults false vars a) (prop_faults false vars b) false (no_twice_prop a) (no_twice_prop b)
   no_twice_prop (InTxn at members others) =
-      any_of_two is_twice (each (point_faults false vars) members) (each (point_faults false vars) others) false
-      (none_each is_twice (point_faults false vars) no_twice_point members) (none_each is_twice (point_faults false vars) no_twice_point others)
+      any_of_two is_repeat (each (point_faults false vars) members) (each (point_faults false vars) others) false
+      (none_each is_repeat (point_faults false vars) no_twice_point members) (none_each is_repeat (point_faults false vars) no_twice_point others)
 
   pub txn_application : (r : Relation) (x y : Point) → list_any is_txn_atom (prop_faults false vars (Application r x y)) ≡ false
   unfolding prop_faults
@@ -153,22 +153,22 @@ module _ (vars : List (List ℕ)) where
       any_of_two is_txn_atom (rel_faults false r) _ false (ap (list_any is_txn_atom) (no_relation r))
       (any_of_two is_txn_atom (point_faults false vars x) (point_faults false vars y) false (no_txn_point x) (no_txn_point y))
 
-  pub unknown_application : (r : Relation) (x y : Point) → list_any is_unknown (prop_faults false vars (Application r x y)) ≡ (list_any is_unknown (point_faults false vars x) || list_any is_unknown (point_faults false vars y))
+  pub unknown_application : (r : Relation) (x y : Point) → list_any is_unknown_name (prop_faults false vars (Application r x y)) ≡ (list_any is_unknown_name (point_faults false vars x) || list_any is_unknown_name (point_faults false vars y))
   unfolding prop_faults
   unknown_application r x y =
-      any_of_two is_unknown (rel_faults false r) _ _ (ap (list_any is_unknown) (no_relation r)) (list_any-append is_unknown (point_faults false vars x) (point_faults false vars y))
+      any_of_two is_unknown_name (rel_faults false r) _ _ (ap (list_any is_unknown_name) (no_relation r)) (list_any-append is_unknown_name (point_faults false vars x) (point_faults false vars y))
 
 -- ---- the whole contract
 
 module _ (c : Sentence) where
-  pub any_unknown : list_any is_unknown (faults_of c) ≡ list_any is_unknown (prop_faults false (names_met [] (var_names c.vars)) c.body)
+  pub any_unknown : list_any is_unknown_name (sentence_faults c) ≡ list_any is_unknown_name (prop_faults false (names_met [] (var_names c.vars)) c.body)
   unfolding contract_faults
   any_unknown =
-      any_of_two is_unknown (repeats [] (var_names c.vars)) _ _ (no_unknown_repeat [] (var_names c.vars))
-      (any_of_two is_unknown (each extra_var (drop 5 (var_names c.vars))) _ _ (none_each is_unknown extra_var no_unknown_extra (drop 5 (var_names c.vars)))
-      (any_of_two is_unknown (each (choice_faults None) c.vars) _ _ (none_each is_unknown (choice_faults None) no_unknown_choice c.vars) refl))
+      any_of_two is_unknown_name (repeats [] (var_names c.vars)) _ _ (no_unknown_repeat [] (var_names c.vars))
+      (any_of_two is_unknown_name (each extra_var (drop 5 (var_names c.vars))) _ _ (none_each is_unknown_name extra_var no_unknown_extra (drop 5 (var_names c.vars)))
+      (any_of_two is_unknown_name (each (choice_faults None) c.vars) _ _ (none_each is_unknown_name (choice_faults None) no_unknown_choice c.vars) refl))
 
-  pub any_txn_atom : list_any is_txn_atom (faults_of c) ≡ list_any is_txn_atom (prop_faults false (names_met [] (var_names c.vars)) c.body)
+  pub any_txn_atom : list_any is_txn_atom (sentence_faults c) ≡ list_any is_txn_atom (prop_faults false (names_met [] (var_names c.vars)) c.body)
   unfolding contract_faults
   any_txn_atom =
       any_of_two is_txn_atom (repeats [] (var_names c.vars)) _ _ (no_txn_repeat [] (var_names c.vars))
@@ -179,57 +179,57 @@ module _ (c : Sentence) where
   or_none true = refl
   or_none false = refl
 
-  pub any_twice : list_any is_twice (faults_of c) ≡ (list_any is_twice (repeats [] (var_names c.vars)) || list_any is_twice (each (choice_faults None) c.vars))
+  pub any_twice : list_any is_repeat (sentence_faults c) ≡ (list_any is_repeat (repeats [] (var_names c.vars)) || list_any is_repeat (each (choice_faults None) c.vars))
   unfolding contract_faults
   any_twice =
       let vars = var_names c.vars in
       let body = prop_faults false (names_met [] vars) c.body in
       let choices = each (choice_faults None) c.vars in
-      list_any-append is_twice (repeats [] vars) _
-      ∙ ap (λ b. list_any is_twice (repeats [] vars) || b)
-      (any_of_two is_twice (each extra_var (drop 5 vars)) (choices ++ body) _ (none_each is_twice extra_var no_twice_extra (drop 5 vars))
-      (list_any-append is_twice choices body ∙ ap (λ b. list_any is_twice choices || b) (no_twice_prop (names_met [] vars) c.body) ∙ or_none (list_any is_twice choices)))
+      list_any-append is_repeat (repeats [] vars) _
+      ∙ ap (λ b. list_any is_repeat (repeats [] vars) || b)
+      (any_of_two is_repeat (each extra_var (drop 5 vars)) (choices ++ body) _ (none_each is_repeat extra_var no_twice_extra (drop 5 vars))
+      (list_any-append is_repeat choices body ∙ ap (λ b. list_any is_repeat choices || b) (no_twice_prop (names_met [] vars) c.body) ∙ or_none (list_any is_repeat choices)))
 
 -- ---- the lowest rule
 
 lowest_is : (fs : List TypeFault) → (fs ≡ [] → ⊥)
-    → lowest_rule fs ≡ Some (if list_any is_unknown fs then Unknown else (if list_any is_twice fs then Twice else (if list_any is_txn_atom fs then TxnAtom else Variables)))
+    → lowest_rule fs ≡ Some (if list_any is_unknown_name fs then Unknown else (if list_any is_repeat fs then Twice else (if list_any is_txn_atom fs then TxnAtom else Variables)))
 unfolding lowest_rule
 lowest_is [] some = absurd (some refl)
 lowest_is (f ∷ fs) some = refl
 
-module _ (c : Sentence) (some : faults_of c ≡ [] → ⊥) where
+module _ (c : Sentence) (some : sentence_faults c ≡ [] → ⊥) where
   abbrev unknown_in : Bool
-  unknown_in = list_any is_unknown (prop_faults false (names_met [] (var_names c.vars)) c.body)
+  unknown_in = list_any is_unknown_name (prop_faults false (names_met [] (var_names c.vars)) c.body)
 
   abbrev twice_in : Bool
-  twice_in = list_any is_twice (repeats [] (var_names c.vars)) || list_any is_twice (each (choice_faults None) c.vars)
+  twice_in = list_any is_repeat (repeats [] (var_names c.vars)) || list_any is_repeat (each (choice_faults None) c.vars)
 
   abbrev txn_in : Bool
   txn_in = list_any is_txn_atom (prop_faults false (names_met [] (var_names c.vars)) c.body)
 
-  lowest : lowest_rule (faults_of c) ≡ Some (if unknown_in then Unknown else (if twice_in then Twice else (if txn_in then TxnAtom else Variables)))
+  lowest : lowest_rule (sentence_faults c) ≡ Some (if unknown_in then Unknown else (if twice_in then Twice else (if txn_in then TxnAtom else Variables)))
   lowest =
-      lowest_is (faults_of c) some
-      ∙ ap (λ b. Some (if b then Unknown else (if list_any is_twice (faults_of c) then Twice else (if list_any is_txn_atom (faults_of c) then TxnAtom else Variables)))) (any_unknown c)
-      ∙ ap (λ b. Some (if unknown_in then Unknown else (if b then Twice else (if list_any is_txn_atom (faults_of c) then TxnAtom else Variables)))) (any_twice c)
+      lowest_is (sentence_faults c) some
+      ∙ ap (λ b. Some (if b then Unknown else (if list_any is_repeat (sentence_faults c) then Twice else (if list_any is_txn_atom (sentence_faults c) then TxnAtom else Variables)))) (any_unknown c)
+      ∙ ap (λ b. Some (if unknown_in then Unknown else (if b then Twice else (if list_any is_txn_atom (sentence_faults c) then TxnAtom else Variables)))) (any_twice c)
       ∙ ap (λ b. Some (if unknown_in then Unknown else (if twice_in then Twice else (if b then TxnAtom else Variables)))) (any_txn_atom c)
 
-  pub lowest_unknown : unknown_in ≡ true → lowest_rule (faults_of c) ≡ Some Unknown
+  pub lowest_unknown : unknown_in ≡ true → lowest_rule (sentence_faults c) ≡ Some Unknown
   lowest_unknown e = lowest ∙ rw e refl
 
-  pub lowest_twice : unknown_in ≡ false → list_any is_twice (repeats [] (var_names c.vars)) ≡ true → lowest_rule (faults_of c) ≡ Some Twice
+  pub lowest_twice : unknown_in ≡ false → list_any is_repeat (repeats [] (var_names c.vars)) ≡ true → lowest_rule (sentence_faults c) ≡ Some Twice
   lowest_twice e f = lowest ∙ rw (e, f) refl
 
-  pub lowest_twice_op : unknown_in ≡ false → list_any is_twice (repeats [] (var_names c.vars)) ≡ false → list_any is_twice (each (choice_faults None) c.vars) ≡ true → lowest_rule (faults_of c) ≡ Some Twice
+  pub lowest_twice_op : unknown_in ≡ false → list_any is_repeat (repeats [] (var_names c.vars)) ≡ false → list_any is_repeat (each (choice_faults None) c.vars) ≡ true → lowest_rule (sentence_faults c) ≡ Some Twice
   lowest_twice_op e f g = lowest ∙ rw (e, f, g) refl
 
-  pub lowest_txn : unknown_in ≡ false → list_any is_twice (repeats [] (var_names c.vars)) ≡ false → list_any is_twice (each (choice_faults None) c.vars) ≡ false → txn_in ≡ true
-      → lowest_rule (faults_of c) ≡ Some TxnAtom
+  pub lowest_txn : unknown_in ≡ false → list_any is_repeat (repeats [] (var_names c.vars)) ≡ false → list_any is_repeat (each (choice_faults None) c.vars) ≡ false → txn_in ≡ true
+      → lowest_rule (sentence_faults c) ≡ Some TxnAtom
   lowest_txn e f g h = lowest ∙ rw (e, f, g, h) refl
 
-  pub lowest_variables : unknown_in ≡ false → list_any is_twice (repeats [] (var_names c.vars)) ≡ false → list_any is_twice (each (choice_faults None) c.vars) ≡ false → txn_in ≡ false
-      → lowest_rule (faults_of c) ≡ Some Variables
+  pub lowest_variables : unknown_in ≡ false → list_any is_repeat (repeats [] (var_names c.vars)) ≡ false → list_any is_repeat (each (choice_faults None) c.vars) ≡ false → txn_in ≡ false
+      → lowest_rule (sentence_faults c) ≡ Some Variables
   lowest_variables e f g h = lowest ∙ rw (e, f, g, h) refl
 
 -- the names of a contract's variables, step by step
@@ -240,15 +240,15 @@ module _ (vars items : List Var) (named slice : List Name) (is_items : items ≡
   pub names_are : (names : List (List ℕ)) → names ≡ names_met [] slice → names ≡ names_met [] (var_names vars)
   names_are names is = is ∙ ap (λ (ns : List Name). names_met [] ns) list_is
 
-  pub open_is : (names : List (List ℕ)) (q : Proposition) (b t : Bool) → names ≡ names_met [] slice → b ≡ list_any is_unknown (prop_faults false names q) → b ≡ t
-      → list_any is_unknown (prop_faults false (names_met [] (var_names vars)) q) ≡ t
-  open_is names q b t is e f = sym (e ∙ ap (λ (ns : List (List ℕ)). list_any is_unknown (prop_faults false ns q)) (names_are names is)) ∙ f
+  pub open_is : (names : List (List ℕ)) (q : Proposition) (b t : Bool) → names ≡ names_met [] slice → b ≡ list_any is_unknown_name (prop_faults false names q) → b ≡ t
+      → list_any is_unknown_name (prop_faults false (names_met [] (var_names vars)) q) ≡ t
+  open_is names q b t is e f = sym (e ∙ ap (λ (ns : List (List ℕ)). list_any is_unknown_name (prop_faults false ns q)) (names_are names is)) ∙ f
 
-  pub twice_is : (b t : Bool) → b ≡ list_any is_twice (repeats [] slice) → b ≡ t → list_any is_twice (repeats [] (var_names vars)) ≡ t
-  twice_is b t e f = sym (e ∙ ap (λ (ns : List Name). list_any is_twice (repeats [] ns)) list_is) ∙ f
+  pub twice_is : (b t : Bool) → b ≡ list_any is_repeat (repeats [] slice) → b ≡ t → list_any is_repeat (repeats [] (var_names vars)) ≡ t
+  twice_is b t e f = sym (e ∙ ap (λ (ns : List Name). list_any is_repeat (repeats [] ns)) list_is) ∙ f
 
-  pub op_twice_is : (b t : Bool) → b ≡ list_any is_twice (each (choice_faults None) items) → b ≡ t → list_any is_twice (each (choice_faults None) vars) ≡ t
-  op_twice_is b t e f = sym (e ∙ ap (λ (vs : List Var). list_any is_twice (each (choice_faults None) vs)) is_items) ∙ f
+  pub op_twice_is : (b t : Bool) → b ≡ list_any is_repeat (each (choice_faults None) items) → b ≡ t → list_any is_repeat (each (choice_faults None) vars) ≡ t
+  op_twice_is b t e f = sym (e ∙ ap (λ (vs : List Var). list_any is_repeat (each (choice_faults None) vs)) is_items) ∙ f
 
 -- ---- what typing refuses has faults
 

@@ -10,7 +10,7 @@ use Rattle.std.proofs.lemmas.List.Sums.{position_or_len_is}
 use Rattle.std.proofs.lemmas.Map.Keys.{apart_from_distinct}
 use Rattle.std.proofs.lemmas.Option.{get_or_from_slice_get, slice_get_within}
 use Rattle.ql_base.specs.Numbering.{place, with_name}
-use Rattle.ql_holds_files.specs.EffectLine.{number_of}
+use Rattle.ql_holds_files.specs.EffectLine.{number_among}
 
 module _ (names : List (List ℕ)) (w : List ℕ) (k : ℕ) (at : slice_get names k ≡ Some w) where
   inside : k < length names
@@ -30,7 +30,7 @@ module _ (names : List (List ℕ)) (w : List ℕ) (k : ℕ) (at : slice_get name
       both_ways (bytes_eq (get_or names j []) (get_or names k [])) (apart_from_distinct bytes_eq names j k [] distinct less inside)
       ((bytes_eq-Decides (get_or names j []) (get_or names k [])).1 (sym equal ∙ sym is_w)))
 
-  pub known_number : IsDistinct bytes_eq names → number_of names w ≡ k
+  pub known_number : IsDistinct bytes_eq names → number_among names w ≡ k
   known_number distinct =
       let first : position_or_len (bytes_eq w) names ≡ k = position_or_len_is (bytes_eq w) names k [] (omega (arith, inside)) (apart distinct) (λ _. here) in
       ap (λ (l : List (List ℕ)). unwrap_or (place l w) 0) known_name ∙ rw first (rw (lt-ltb k (length names) inside) refl)

@@ -8,10 +8,10 @@ use Rattle.ql_holds_files.specs.declared.asked.Asked.{Asked}
 use Rattle.ql_holds_files.specs.declared.reading.Stage.{Stage}
 use Rattle.ql_holds_files.specs.declared.reading.Stage.TheVariants.{Unbegun, WithContract, WithEffects, Ended}
 use Rattle.ql_holds_files.specs.declared.rules.HoldsRule.{HoldsRule}
-use Rattle.ql_holds_files.specs.HoldsFile.{Gives, HoldsOutcome, closed, is_there}
+use Rattle.ql_holds_files.specs.HoldsFile.{ExtendsHolds, HoldsOutcome, closed, is_there}
 use Rattle.ql_holds_files.specs.Limits.{IsWithin, stays_within}
 
-leads_within : (ls : List Numbered) (s t : Stage) → IsWithin s → Leads Gives (λ s end y. y ≡ closed s end) s ls t → IsWithin t
+leads_within : (ls : List Numbered) (s t : Stage) → IsWithin s → Leads ExtendsHolds (λ s end y. y ≡ closed s end) s ls t → IsWithin t
 unfolding Leads
 leads_within [] s t within h = subst IsWithin h within
 leads_within (l ∷ ls) s t within h = leads_within ls h.0 t (stays_within s h.0 l within h.1) h.2

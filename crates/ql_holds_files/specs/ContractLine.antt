@@ -17,16 +17,16 @@ pub record IsContractLine (text : List ℕ) (c : Sentence) : Type 0 where
   pub contract : IsContractText rest c
 
 -- the faults of a contract that may name any operations, and may not use transactions
-abbrev pub faults_of : Sentence → List TypeFault
-faults_of c = contract_faults None false c
+abbrev pub sentence_faults : Sentence → List TypeFault
+sentence_faults c = contract_faults None false c
 
-abbrev pub is_unknown : TypeFault → Bool
-is_unknown (typing.Unknown at) = true
-is_unknown _ = false
+abbrev pub is_unknown_name : TypeFault → Bool
+is_unknown_name (typing.Unknown at) = true
+is_unknown_name _ = false
 
-abbrev pub is_twice : TypeFault → Bool
-is_twice (typing.Twice at) = true
-is_twice _ = false
+abbrev pub is_repeat : TypeFault → Bool
+is_repeat (typing.Twice at) = true
+is_repeat _ = false
 
 abbrev pub is_txn_atom : TypeFault → Bool
 is_txn_atom (typing.TxnAtom at) = true
@@ -36,6 +36,6 @@ is_txn_atom _ = false
 unfoldable pub lowest_rule : List TypeFault → Option HoldsRule
 lowest_rule [] = None
 lowest_rule (f ∷ fs) =
-    Some (if list_any is_unknown (f ∷ fs) then Unknown
-    else (if list_any is_twice (f ∷ fs) then Twice
+    Some (if list_any is_unknown_name (f ∷ fs) then Unknown
+    else (if list_any is_repeat (f ∷ fs) then Twice
     else (if list_any is_txn_atom (f ∷ fs) then TxnAtom else Variables)))

@@ -27,11 +27,11 @@ abbrev pub at_fields : ℕ → Fields
 at_fields cur = codes "at" ∷ decimal cur ∷ []
 
 -- effect 3 x w session 1 vis 1 2
-abbrev pub effect_fields : ℕ → EffectLine → Fields
-effect_fields id e = codes "effect" ∷ decimal id ∷ e.object ∷ e.op ∷ codes "session" ∷ decimal e.session ∷ codes "vis" ∷ map decimal e.seen
+abbrev pub holds_effect_fields : ℕ → EffectLine → Fields
+holds_effect_fields id e = codes "effect" ∷ decimal id ∷ e.object ∷ e.op ∷ codes "session" ∷ decimal e.session ∷ codes "vis" ∷ map decimal e.seen
 
-abbrev pub end_fields : Fields
-end_fields = codes "end" ∷ []
+abbrev pub holds_end_fields : Fields
+holds_end_fields = codes "end" ∷ []
 
 -- ---- what has a spelling
 
@@ -43,15 +43,15 @@ pub record Fits (e : EffectLine) : Type 0 where
   pub ascending : IsAscending e.seen
 
 -- the fields are the line of an effect with this number
-pub record IsEffectLine (fields : Fields) (id : ℕ) (e : EffectLine) : Type 0 where
+pub record IsHoldsEffectLine (fields : Fields) (id : ℕ) (e : EffectLine) : Type 0 where
   pub fits : Fits e
-  pub is : fields ≡ effect_fields id e
+  pub is : fields ≡ holds_effect_fields id e
 
 -- ---- what lines of effects make
 
 -- the number of a name among others, or else after them
-abbrev pub number_of : List (List ℕ) → List ℕ → ℕ
-number_of names w = number_in (with_name names w) w
+abbrev pub number_among : List (List ℕ) → List ℕ → ℕ
+number_among names w = number_in (with_name names w) w
 
 -- an effect outside any transaction, without arguments, payload and answer
 abbrev pub plain_draft : ObjId → OpId → ℕ → List ℕ → Draft
@@ -66,15 +66,15 @@ plain_draft object op session seen = record {
   seen = seen;
 }
 
-abbrev pub draft_of : NamedEffects → EffectLine → Draft
-draft_of named e = plain_draft (record { 0 = number_of named.objects e.object }) (record { 0 = number_of named.ops e.op }) e.session e.seen
+abbrev pub named_draft : NamedEffects → EffectLine → Draft
+named_draft named e = plain_draft (record { 0 = number_among named.objects e.object }) (record { 0 = number_among named.ops e.op }) e.session e.seen
 
 -- one more effect
-abbrev pub with_effect : NamedEffects → EffectLine → NamedEffects
-with_effect named e = record {
+abbrev pub with_named_effect : NamedEffects → EffectLine → NamedEffects
+with_named_effect named e = record {
   objects = with_name named.objects e.object;
   ops = with_name named.ops e.op;
-  effects = named.effects ++ effect_of named.effects (draft_of named e) ∷ [];
+  effects = named.effects ++ effect_of named.effects (named_draft named e) ∷ [];
 }
 
 -- The lowest rule that an effect breaks after others: no earlier effect has an id that it sees; one that it sees is on
@@ -82,6 +82,6 @@ with_effect named e = record {
 abbrev pub effect_rule : NamedEffects → EffectLine → Option HoldsRule
 effect_rule named e =
     if list_any (λ id. is_none (effect_at named.effects id)) e.seen then Some NotForward
-    else (if list_any (λ id. is_elsewhere (draft_of named e).object (effect_at named.effects id)) e.seen then Some OtherObject
+    else (if list_any (λ id. is_elsewhere (named_draft named e).object (effect_at named.effects id)) e.seen then Some OtherObject
     else (if nat_le MAX_EFFECTS (length named.effects) then Some TooMany
     else None))

@@ -14,8 +14,8 @@ use Rattle.ql_holds_files.specs.declared.reading.Stage.{Stage}
 use Rattle.ql_holds_files.specs.declared.reading.Stage.TheVariants.{Unbegun, WithContract, WithEffects, Ended}
 use Rattle.ql_holds_files.specs.declared.rules.HoldsRule.{HoldsRule}
 use Rattle.ql_holds_files.specs.declared.rules.HoldsRule.TheVariants.{Unexpected, Range}
-use Rattle.ql_holds_files.specs.ContractLine.{IsContractLine, faults_of, lowest_rule}
-use Rattle.ql_holds_files.specs.EffectLine.{IsEffectLine, at_fields, effect_rule, end_fields, with_effect}
+use Rattle.ql_holds_files.specs.ContractLine.{IsContractLine, sentence_faults, lowest_rule}
+use Rattle.ql_holds_files.specs.EffectLine.{IsHoldsEffectLine, at_fields, effect_rule, holds_end_fields, with_named_effect}
 use Rattle.ql_holds_files.specs.NamedFormulas.{NamedFormula}
 use Rattle.ql_holds_files.specs.Rules.{unless_broken}
 
@@ -26,12 +26,12 @@ Asked = asked.Asked
 -- ---- one line
 
 -- The line is of a kind, and yields what its content makes; or it is not, and is Unexpected.
-abbrev pub GivesAs : {L : Type 0} → (L → Type 0) → (L → Result Stage HoldsRule) → Result Stage HoldsRule → Type 0
-GivesAs {L = L} Is makes x = ((line : L) × Is line × (x ≡ makes line)) ⊎ (((line : L) → Is line → ⊥) × (x ≡ Err Unexpected))
+abbrev pub ExtendsHoldsAs : {L : Type 0} → (L → Type 0) → (L → Result Stage HoldsRule) → Result Stage HoldsRule → Type 0
+ExtendsHoldsAs {L = L} Is makes x = ((line : L) × Is line × (x ≡ makes line)) ⊎ (((line : L) → Is line → ⊥) × (x ≡ Err Unexpected))
 
 -- a contract's formula, where operations are numbered by first occurrence
-abbrev pub formula_of : Sentence → NamedFormula
-formula_of c = record { formula = resolved_in (ops_met [] c.vars) c; names = map (λ v. v.name.word) c.vars }
+abbrev pub named_formula_of : Sentence → NamedFormula
+named_formula_of c = record { formula = resolved_in (ops_met [] c.vars) c; names = map (λ v. v.name.word) c.vars }
 
 -- no effects yet, after a contract
 abbrev pub no_effects : Sentence → NamedEffects
@@ -39,7 +39,7 @@ no_effects c = record { objects = []; ops = ops_met [] c.vars; effects = [] }
 
 -- what a contract makes, or the lowest rule that it breaks
 abbrev pub after_contract : Sentence → Result Stage HoldsRule
-after_contract c = unless_broken (lowest_rule (faults_of c)) (WithContract (formula_of c) (no_effects c))
+after_contract c = unless_broken (lowest_rule (sentence_faults c)) (WithContract (named_formula_of c) (no_effects c))
 
 -- the line has the id of the current effect
 abbrev pub IsCurrentLine : Fields → ℕ → Type 0
@@ -47,20 +47,20 @@ IsCurrentLine fields cur = IsId cur × (fields ≡ at_fields cur)
 
 -- the line is the last, or an effect with this number
 abbrev pub IsMore : ℕ → Fields → Option EffectLine → Type 0
-IsMore id fields None = fields ≡ end_fields
-IsMore id fields (Some e) = IsEffectLine fields id e
+IsMore id fields None = fields ≡ holds_end_fields
+IsMore id fields (Some e) = IsHoldsEffectLine fields id e
 
 -- what such a line makes, or the lowest rule that its effect breaks
 abbrev pub after_more : NamedFormula → Current → NamedEffects → Option EffectLine → Result Stage HoldsRule
 after_more formula current effects None = Ok (Ended formula current effects)
-after_more formula current effects (Some e) = unless_broken (effect_rule effects e) (WithEffects formula current (with_effect effects e))
+after_more formula current effects (Some e) = unless_broken (effect_rule effects e) (WithEffects formula current (with_named_effect effects e))
 
 -- what a line makes of what was read before it, or the lowest rule that it breaks
-abbrev pub Gives : Stage → Numbered → Result Stage HoldsRule → Type 0
-Gives Unbegun l x = GivesAs (IsContractLine l.text) after_contract x
-Gives (WithContract formula effects) l x = GivesAs (IsCurrentLine (fields_of l.text)) (λ cur. Ok (WithEffects formula (record { line = l.number; id = cur }) effects)) x
-Gives (WithEffects formula current effects) l x = GivesAs (IsMore (suc (length effects.effects)) (fields_of l.text)) (after_more formula current effects) x
-Gives (Ended formula current effects) l x = x ≡ Err Unexpected
+abbrev pub ExtendsHolds : Stage → Numbered → Result Stage HoldsRule → Type 0
+ExtendsHolds Unbegun l x = ExtendsHoldsAs (IsContractLine l.text) after_contract x
+ExtendsHolds (WithContract formula effects) l x = ExtendsHoldsAs (IsCurrentLine (fields_of l.text)) (λ cur. Ok (WithEffects formula (record { line = l.number; id = cur }) effects)) x
+ExtendsHolds (WithEffects formula current effects) l x = ExtendsHoldsAs (IsMore (suc (length effects.effects)) (fields_of l.text)) (after_more formula current effects) x
+ExtendsHolds (Ended formula current effects) l x = x ≡ Err Unexpected
 
 -- ---- the end of a file
 
@@ -80,4 +80,4 @@ closed other end = Err (record { line = end; rule = Unexpected })
 
 -- the question of the file, or its first fault: the first line that breaks a rule, and the lowest rule that it breaks; or its end
 abbrev pub HoldsOutcome : Ahead → Result Asked (Broken HoldsRule) → Type 0
-HoldsOutcome file x = Outcome Gives (λ read end y. y ≡ closed read end) Unbegun file x
+HoldsOutcome file x = Outcome ExtendsHolds (λ read end y. y ≡ closed read end) Unbegun file x

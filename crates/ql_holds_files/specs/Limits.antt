@@ -23,9 +23,9 @@ use Rattle.ql_holds_files.specs.declared.reading.Stage.{Stage}
 use Rattle.ql_holds_files.specs.declared.reading.Stage.TheVariants.{Unbegun, WithContract, WithEffects, Ended}
 use Rattle.ql_holds_files.specs.declared.rules.HoldsRule.{HoldsRule}
 use Rattle.ql_holds_files.specs.declared.rules.HoldsRule.TheVariants.{Unexpected, NotForward, OtherObject, TooMany}
-use Rattle.ql_holds_files.specs.ContractLine.{faults_of, lowest_rule}
-use Rattle.ql_holds_files.specs.EffectLine.{draft_of, effect_rule, with_effect}
-use Rattle.ql_holds_files.specs.HoldsFile.{Gives, formula_of}
+use Rattle.ql_holds_files.specs.ContractLine.{sentence_faults, lowest_rule}
+use Rattle.ql_holds_files.specs.EffectLine.{named_draft, effect_rule, with_named_effect}
+use Rattle.ql_holds_files.specs.HoldsFile.{ExtendsHolds, named_formula_of}
 use Rattle.ql_holds_files.specs.NamedFormulas.{NamedFormula}
 use Rattle.ql_holds_files.specs.Rules.{unless_broken}
 
@@ -61,7 +61,7 @@ wrong_extra : (n : Name) → extra_var n ≡ [] → ⊥
 unfolding extra_var
 wrong_extra n e = cc
 
-few_vars : (c : Sentence) → faults_of c ≡ [] → length c.vars ≤ 5
+few_vars : (c : Sentence) → sentence_faults c ≡ [] → length c.vars ≤ 5
 unfolding contract_faults
 few_vars c none =
     let names = var_names c.vars in
@@ -73,11 +73,11 @@ unfolding lowest_rule
 no_faults [] e = refl
 no_faults (f ∷ fs) e = absurd cc
 
-few_variables : (c : Sentence) → lowest_rule (faults_of c) ≡ None → length (formula_of c).formula.vars ≤ 5
+few_variables : (c : Sentence) → lowest_rule (sentence_faults c) ≡ None → length (named_formula_of c).formula.vars ≤ 5
 unfolding resolved_in
 few_variables c none =
     let same = length-map c.vars (λ (v : Var). choice_of (ops_met [] c.vars) v.ops) in
-    let few = few_vars c (no_faults (faults_of c) none) in
+    let few = few_vars c (no_faults (sentence_faults c) none) in
     omega (arith, same, few)
 
 -- ---- effects
@@ -91,29 +91,29 @@ has_room false true t e = absurd cc
 has_room false false true e = absurd cc
 has_room false false false e = refl
 
-few_effects : (named : NamedEffects) (e : EffectLine) → effect_rule named e ≡ None → length (with_effect named e).effects ≤ MAX_EFFECTS
+few_effects : (named : NamedEffects) (e : EffectLine) → effect_rule named e ≡ None → length (with_named_effect named e).effects ≤ MAX_EFFECTS
 few_effects named e none =
     let t : nat_le MAX_EFFECTS (length named.effects) ≡ false =
-    has_room (list_any (λ id. is_none (effect_at named.effects id)) e.seen) (list_any (λ id. is_elsewhere (draft_of named e).object (effect_at named.effects id)) e.seen) _ none in
+    has_room (list_any (λ id. is_none (effect_at named.effects id)) e.seen) (list_any (λ id. is_elsewhere (named_draft named e).object (effect_at named.effects id)) e.seen) _ none in
     let few : length named.effects < MAX_EFFECTS = grind (arith, nat_tests) in
-    omega (arith, few, length-append named.effects (effect_of named.effects (draft_of named e) ∷ []))
+    omega (arith, few, length-append named.effects (effect_of named.effects (named_draft named e) ∷ []))
 
 -- ---- objects
 
-one_more : (names : List (List ℕ)) (w : List ℕ) → length (with_name names w) ≤ length names + 1
-one_more names w = by (has_name names w)
+one_name_more : (names : List (List ℕ)) (w : List ℕ) → length (with_name names w) ≤ length names + 1
+one_name_more names w = by (has_name names w)
   where
     by : (b : Bool) → length (if b then names else names ++ w ∷ []) ≤ length names + 1
     by true = omega arith
     by false = omega (arith, length-append names (w ∷ []))
 
-few_objects : (named : NamedEffects) (e : EffectLine) → length named.objects ≤ length named.effects → length (with_effect named e).objects ≤ length (with_effect named e).effects
+few_objects : (named : NamedEffects) (e : EffectLine) → length named.objects ≤ length named.effects → length (with_named_effect named e).objects ≤ length (with_named_effect named e).effects
 few_objects named e few =
-    omega (arith, few, one_more named.objects e.object, length-append named.effects (effect_of named.effects (draft_of named e) ∷ []))
+    omega (arith, few, one_name_more named.objects e.object, length-append named.effects (effect_of named.effects (named_draft named e) ∷ []))
 
 -- ---- lines
 
-pub stays_within : (s t : Stage) (l : Numbered) → IsWithin s → Gives s l (Ok t) → IsWithin t
+pub stays_within : (s t : Stage) (l : Numbered) → IsWithin s → ExtendsHolds s l (Ok t) → IsWithin t
 stays_within Unbegun t l within (inl (c, is, e)) = let made = made_is _ _ t e in subst IsWithin (sym made.1) (few_variables c made.0, omega arith, omega arith)
 stays_within Unbegun t l within (inr (none, e)) = absurd (not_given t e)
 stays_within (WithContract formula effects) t l within (inl (cur, is, e)) = subst IsWithin (sym (given_is _ t e)) within

@@ -18,8 +18,8 @@ use Rattle.ql_holds_files.specs.declared.reading.Stage.TheVariants.{Unbegun, Wit
 use Rattle.ql_holds_files.specs.declared.rules.HoldsRule.{HoldsRule}
 use Rattle.ql_holds_files.specs.declared.rules.HoldsRule.TheVariants.{Unexpected}
 use Rattle.ql_holds_files.specs.ContractLine.{IsContractLine}
-use Rattle.ql_holds_files.specs.EffectLine.{IsEffectLine, effect_fields, end_fields}
-use Rattle.ql_holds_files.specs.HoldsFile.{Gives, GivesAs, IsCurrentLine, IsMore, closed}
+use Rattle.ql_holds_files.specs.EffectLine.{IsHoldsEffectLine, holds_effect_fields, holds_end_fields}
+use Rattle.ql_holds_files.specs.HoldsFile.{ExtendsHolds, ExtendsHoldsAs, IsCurrentLine, IsMore, closed}
 use Rattle.ql_holds_files.specs.Uniqueness.{OneContract}
 
 -- ---- the contract
@@ -51,9 +51,9 @@ same_ids (x ∷ xs) (y ∷ ys) f g e =
     both x y xs ys (decimal_injective x y (omega (arith, f.0)) (omega (arith, g.0)) (heads (decimal x) (decimal y) (map decimal xs) (map decimal ys) e))
     (same_ids xs ys f.1 g.1 (tails (decimal x) (decimal y) (map decimal xs) (map decimal ys) e))
 
-one_effect : (fields : Fields) (id : ℕ) (e f : EffectLine) → IsEffectLine fields id e → IsEffectLine fields id f → e ≡ f
+one_effect : (fields : Fields) (id : ℕ) (e f : EffectLine) → IsHoldsEffectLine fields id e → IsHoldsEffectLine fields id f → e ≡ f
 one_effect fields id e f p q =
-    let same : effect_fields id e ≡ effect_fields id f = sym p.is ∙ q.is in
+    let same : holds_effect_fields id e ≡ holds_effect_fields id f = sym p.is ∙ q.is in
     let object : e.object ≡ f.object = ap (λ (fs : Fields). get_or fs 2 []) same in
     let op : e.op ≡ f.op = ap (λ (fs : Fields). get_or fs 3 []) same in
     let session : e.session ≡ f.session =
@@ -64,7 +64,7 @@ one_effect fields id e f p q =
     ∙ ap (λ s. record { object = f.object; op = f.op; session = s; seen = e.seen }) session
     ∙ ap (λ s. record { object = f.object; op = f.op; session = f.session; seen = s }) seen
 
-no_end : (fields : Fields) (id : ℕ) (e : EffectLine) → IsEffectLine fields id e → fields ≡ end_fields → ⊥
+no_end : (fields : Fields) (id : ℕ) (e : EffectLine) → IsHoldsEffectLine fields id e → fields ≡ holds_end_fields → ⊥
 no_end fields id e p end = omega (arith, ap length (sym p.is ∙ end))
 
 one_more : (id : ℕ) (fields : Fields) (e f : Option EffectLine) → IsMore id fields e → IsMore id fields f → e ≡ f
@@ -76,22 +76,22 @@ one_more id fields (Some e) (Some f) p q = ap Some (one_effect fields id e f p q
 -- ---- what a line yields
 
 module _ {L : Type 0} (Is : L → Type 0) (makes : L → Result Stage HoldsRule) where
-  one_given : ((a b : L) → Is a → Is b → a ≡ b) → (x y : Result Stage HoldsRule) → GivesAs Is makes x → GivesAs Is makes y → x ≡ y
+  one_given : ((a b : L) → Is a → Is b → a ≡ b) → (x y : Result Stage HoldsRule) → ExtendsHoldsAs Is makes x → ExtendsHoldsAs Is makes y → x ≡ y
   one_given one x y (inl p) (inl q) = p.2 ∙ ap makes (one p.0 q.0 p.1 q.1) ∙ sym q.2
   one_given one x y (inl p) (inr q) = absurd (q.0 p.0 p.1)
   one_given one x y (inr p) (inl q) = absurd (p.0 q.0 q.1)
   one_given one x y (inr p) (inr q) = p.1 ∙ sym q.1
 
-  some_given : ((x : Result Stage HoldsRule) → GivesAs Is makes x → ⊥) → ⊥
+  some_given : ((x : Result Stage HoldsRule) → ExtendsHoldsAs Is makes x → ⊥) → ⊥
   some_given none = none (Err Unexpected) (inr ((λ line is. none (makes line) (inl (line, is, refl))), refl))
 
-pub gives_one : OneContract → (s : Stage) (l : Numbered) (x y : Result Stage HoldsRule) → Gives s l x → Gives s l y → x ≡ y
+pub gives_one : OneContract → (s : Stage) (l : Numbered) (x y : Result Stage HoldsRule) → ExtendsHolds s l x → ExtendsHolds s l y → x ≡ y
 gives_one one Unbegun l x y p q = one_given _ _ (one_contract one l.text) x y p q
 gives_one one (WithContract formula effects) l x y p q = one_given _ _ (one_current (fields_of l.text)) x y p q
 gives_one one (WithEffects formula current effects) l x y p q = one_given _ _ (one_more (suc (length effects.effects)) (fields_of l.text)) x y p q
 gives_one one (Ended formula current effects) l x y p q = p ∙ sym q
 
-pub gives_some : (s : Stage) (l : Numbered) → ((x : Result Stage HoldsRule) → Gives s l x → ⊥) → ⊥
+pub gives_some : (s : Stage) (l : Numbered) → ((x : Result Stage HoldsRule) → ExtendsHolds s l x → ⊥) → ⊥
 gives_some Unbegun l none = some_given _ _ none
 gives_some (WithContract formula effects) l none = some_given _ _ none
 gives_some (WithEffects formula current effects) l none = some_given _ _ none

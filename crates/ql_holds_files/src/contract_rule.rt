@@ -4,7 +4,7 @@ ghost use Rattle.ql_base.specs.Numbering.{with_name};
 ghost use Rattle.ql_lang.specs.Trees.{proposition_of, sentence_of};
 ghost use Rattle.ql_typing.specs.Faults.{each, names_met, repeats};
 ghost use Rattle.ql_typing.specs.ContractFaults.{choice_faults, point_faults, prop_faults, var_names};
-ghost use Rattle.ql_holds_files.specs.ContractLine.{faults_of, is_twice, is_txn_atom, is_unknown, lowest_rule};
+ghost use Rattle.ql_holds_files.specs.ContractLine.{sentence_faults, is_repeat, is_txn_atom, is_unknown_name, lowest_rule};
 
 use crate::rules::HoldsRule;
 use ql_base::{Names, NoMemory, Word};
@@ -13,8 +13,8 @@ use std::alloc::Global;
 
 /// The lowest rule that a contract with faults breaks.
 pub(crate) fn lowest_rule(alloc: Global, contract: &Contract) -> Result<HoldsRule, NoMemory>
-    requires { faults_of (sentence_of contract.now) ≢ [] }
-    ensures { IfOk result (λ rule. lowest_rule (faults_of (sentence_of contract.now)) ≡ Some rule) }
+    requires { sentence_faults (sentence_of contract.now) ≢ [] }
+    ensures { IfOk result (λ rule. lowest_rule (sentence_faults (sentence_of contract.now)) ≡ Some rule) }
 {
     let vars = contract.vars.items();
     let named = names_of(alloc, vars)?;
@@ -53,7 +53,7 @@ struct Met {
 #[tactic(auto, unfolding(ql_typing::specs::Faults::names_met, ql_typing::specs::Faults::repeats))]
 fn meet(alloc: Global, list: &[Name]) -> Result<Met, NoMemory>
     ensures names { IfOk result (λ met. met.names ≡ names_met [] list.now) }
-    ensures twice { IfOk result (λ met. met.twice ≡ list_any is_twice (repeats [] list.now)) }
+    ensures twice { IfOk result (λ met. met.twice ≡ list_any is_repeat (repeats [] list.now)) }
 {
     let mut names = Names::new(alloc);
     let mut twice = false;
@@ -79,7 +79,7 @@ fn put_in(names: &mut Names, word: &Word) -> Result<(), NoMemory>
 
 // Whether one of the variables names an operation twice.
 fn repeats_an_operation(alloc: Global, vars: &[Var]) -> Result<bool, NoMemory>
-    ensures { IfOk result (λ twice. twice ≡ list_any is_twice (each (choice_faults None) vars.now)) }
+    ensures { IfOk result (λ twice. twice ≡ list_any is_repeat (each (choice_faults None) vars.now)) }
 {
     let mut rest = vars;
     while let Some((var, others)) = rest.split_first() {
@@ -95,7 +95,7 @@ fn repeats_an_operation(alloc: Global, vars: &[Var]) -> Result<bool, NoMemory>
 // Whether a term is a variable that the contract doesn't bind.
 #[tactic(auto, unfolding(ql_typing::specs::ContractFaults::point_faults))]
 fn is_unbound(point: &Point, vars: &Names) -> bool
-    ensures { result ≡ list_any is_unknown (point_faults false vars.now point.now) }
+    ensures { result ≡ list_any is_unknown_name (point_faults false vars.now point.now) }
 {
     match point {
         Point::CurAt(_) => false,
@@ -104,7 +104,7 @@ fn is_unbound(point: &Point, vars: &Names) -> bool
 }
 
 fn has_unbound(points: &[Point], vars: &Names) -> bool
-    ensures { result ≡ list_any is_unknown (each (point_faults false vars.now) points.now) }
+    ensures { result ≡ list_any is_unknown_name (each (point_faults false vars.now) points.now) }
 {
     let mut rest = points;
     while let Some((point, others)) = rest.split_first() {
@@ -119,7 +119,7 @@ fn has_unbound(points: &[Point], vars: &Names) -> bool
 // Whether a proposition uses a variable that the contract doesn't bind.
 #[tactic(auto, unfolding(ql_typing::specs::ContractFaults::prop_faults), using(crate::proofs::ContractRules::unknown_application, crate::proofs::ContractRules::unknown_either))]
 fn is_open(prop: &Prop, vars: &Names) -> bool
-    ensures { result ≡ list_any is_unknown (prop_faults false vars.now (proposition_of prop.now)) }
+    ensures { result ≡ list_any is_unknown_name (prop_faults false vars.now (proposition_of prop.now)) }
 {
     match prop {
         Prop::True => false,

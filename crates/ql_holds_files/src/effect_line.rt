@@ -1,7 +1,7 @@
 ghost use Rattle.std.specs.Prelude.{◌≡◌, ◌≤◌, ◌↔◌, ◌∷◌, ◌<◌, List, ℕ, IfOk, IsTrue, MatchOption, codes, decimal};
 ghost use Rattle.ql_base.specs.Names.{IsName};
 ghost use Rattle.ql_lines.specs.Fields.{fields_of, Fields, IsId};
-ghost use Rattle.ql_holds_files.specs.EffectLine.{IsEffectLine, at_fields, end_fields};
+ghost use Rattle.ql_holds_files.specs.EffectLine.{IsHoldsEffectLine, at_fields, holds_end_fields};
 
 use crate::ids::seen_ids;
 use ql_base::{IdSet, NoMemory, Word};
@@ -23,7 +23,7 @@ pub(crate) fn effect_line(
     text: &[u8],
     id: u32,
 ) -> Result<Option<EffectLine>, NoMemory>
-    ensures { IfOk result (λ line. MatchOption line ((e : EffectLine) → IsEffectLine (fields_of text.now) id e → ⊥) (λ e. IsEffectLine (fields_of text.now) id e)) }
+    ensures { IfOk result (λ line. MatchOption line ((e : EffectLine) → IsHoldsEffectLine (fields_of text.now) id e → ⊥) (λ e. IsHoldsEffectLine (fields_of text.now) id e)) }
 {
     let Some(rest) = after_id(text, id) else {
         return Ok(None);
@@ -90,7 +90,7 @@ pub(crate) fn current(text: &[u8]) -> Option<u32>
 
 /// Whether a line is the word `end`.
 pub(crate) fn is_end(text: &[u8]) -> bool
-    ensures { IsTrue result ↔ (fields_of text.now ≡ end_fields) }
+    ensures { IsTrue result ↔ (fields_of text.now ≡ holds_end_fields) }
 {
     match after_word(text, b"end") {
         Some(behind) => first_field(behind).is_none(),

@@ -3,7 +3,7 @@ ghost use Rattle.std.specs.Option.{option_map_or};
 ghost use Rattle.ql_base.specs.Numbering.{with_name};
 ghost use Rattle.ql_base.specs.declared.limits.TheConstants.{MAX_EFFECTS};
 ghost use Rattle.ql_line_files.specs.Answers.{IsLineAnswer};
-ghost use Rattle.ql_holds_files.specs.EffectLine.{effect_rule, number_of, plain_draft, with_effect};
+ghost use Rattle.ql_holds_files.specs.EffectLine.{effect_rule, number_among, plain_draft, with_named_effect};
 ghost use Rattle.ql_holds_files.specs.Rules.{unless_broken};
 
 use crate::effect_line::EffectLine;
@@ -32,7 +32,7 @@ impl NamedEffects {
     ) -> Result<NamedEffects, LineFault<HoldsRule>>
         requires few { length self.effects ≤ MAX_EFFECTS }
         requires objects { length self.objects ≤ length self.effects }
-        ensures { IsLineAnswer (λ x. x ≡ unless_broken (effect_rule self line) (with_effect self line)) result }
+        ensures { IsLineAnswer (λ x. x ≡ unless_broken (effect_rule self line) (with_named_effect self line)) result }
     {
         let mut named = self;
         let (last_object, last_op) = last_numbers(named.effects.effects());
@@ -71,7 +71,7 @@ fn last_numbers(effects: &[Effect]) -> (u32, u32)
 fn number(names: &mut Names, word: &Word, likely: u32) -> Result<u32, NoMemory>
     requires room { length names.old + 1 < 2 ^ 32 }
     ensures names { IfOk result (λ _. names.new ≡ with_name names.old word.now) }
-    ensures numbered { IfOk result (λ k. k ≡ number_of names.old word.now) }
+    ensures numbered { IfOk result (λ k. k ≡ number_among names.old word.now) }
 {
     let bytes = word.bytes();
     if likely < names.len() && names.name(likely).bytes() == bytes {

@@ -18,7 +18,7 @@ impl LineFormat for Format {
     ghost use Rattle.std.specs.Prelude.{◌≡◌};
     ghost use Rattle.std.proofs.Math.Logic.{∥∥₁_elim};
     ghost use Rattle.ql_holds_files.specs.declared.reading.Stage.TheVariants.{Unbegun};
-    ghost use Rattle.ql_holds_files.specs.HoldsFile.{Gives, closed};
+    ghost use Rattle.ql_holds_files.specs.HoldsFile.{ExtendsHolds, closed};
     ghost use Rattle.ql_holds_files.specs.Limits.{IsWithin, stays_within};
     ghost use Rattle.ql_holds_files.specs.OneLine.{closes_one, closes_some, gives_one, gives_some, one_equation};
 
@@ -32,7 +32,7 @@ impl LineFormat for Format {
 
     ghost sound = { λ f read more. IsWithin read };
 
-    ghost gives = { λ f read l x. Gives read l x };
+    ghost gives = { λ f read l x. ExtendsHolds read l x };
 
     ghost closes = { λ f read end x. x ≡ closed read end };
 
@@ -40,12 +40,7 @@ impl LineFormat for Format {
         Stage::Unbegun
     }
 
-    fn take(
-        &self,
-        state: Stage,
-        number: u64,
-        text: &[u8],
-    ) -> Result<Stage, LineFault<HoldsRule>> {
+    fn take(&self, state: Stage, number: u64, text: &[u8]) -> Result<Stage, LineFault<HoldsRule>> {
         take(self.alloc, state, number, text)
     }
 

@@ -5,7 +5,7 @@ ghost use Rattle.ql_lines.specs.Fields.{fields_of};
 ghost use Rattle.ql_line_files.specs.Answers.{IsEndAnswer, IsLineAnswer};
 ghost use Rattle.ql_line_files.specs.declared.fault.FileFault.TheVariants.{Broken as FileBroken};
 ghost use Rattle.ql_holds_files.specs.ContractLine.{IsContractLine};
-ghost use Rattle.ql_holds_files.specs.HoldsFile.{Gives, GivesAs, IsCurrentLine, IsMore, after_contract, after_more, closed};
+ghost use Rattle.ql_holds_files.specs.HoldsFile.{ExtendsHolds, ExtendsHoldsAs, IsCurrentLine, IsMore, after_contract, after_more, closed};
 ghost use Rattle.ql_holds_files.specs.Limits.{IsWithin};
 ghost use Rattle.ql_holds_files.specs.declared.reading.Stage.TheVariants.{WithEffects};
 
@@ -47,7 +47,7 @@ pub(crate) fn take(
     text: &[u8],
 ) -> Result<Stage, LineFault<HoldsRule>>
     requires { IsWithin read }
-    ensures { IsLineAnswer (Gives read (record { number = number; text = text.now })) result }
+    ensures { IsLineAnswer (ExtendsHolds read (record { number = number; text = text.now })) result }
 {
     match read {
         Stage::Unbegun => begun(alloc, text),
@@ -61,7 +61,7 @@ pub(crate) fn take(
 
 // The first line is the contract.
 fn begun(alloc: Global, text: &[u8]) -> Result<Stage, LineFault<HoldsRule>>
-    ensures { IsLineAnswer (GivesAs (IsContractLine text.now) after_contract) result }
+    ensures { IsLineAnswer (ExtendsHoldsAs (IsContractLine text.now) after_contract) result }
 {
     let Some(contract) = contract_line(alloc, text)? else {
         return Err(LineFault::Breaks(HoldsRule::Unexpected));
@@ -105,7 +105,7 @@ fn with_current(
     number: u64,
     text: &[u8],
 ) -> Result<Stage, LineFault<HoldsRule>>
-    ensures { IsLineAnswer (GivesAs (IsCurrentLine (fields_of text.now)) (λ cur. Ok (WithEffects contract (record { line = number; id = cur }) effects))) result }
+    ensures { IsLineAnswer (ExtendsHoldsAs (IsCurrentLine (fields_of text.now)) (λ cur. Ok (WithEffects contract (record { line = number; id = cur }) effects))) result }
 {
     match current(text) {
         Some(id) => {
@@ -126,7 +126,7 @@ fn with_more(
 ) -> Result<Stage, LineFault<HoldsRule>>
     requires few { length effects.effects ≤ MAX_EFFECTS }
     requires objects { length effects.objects ≤ length effects.effects }
-    ensures { IsLineAnswer (GivesAs (IsMore (suc (length effects.effects)) (fields_of text.now)) (after_more contract current effects)) result }
+    ensures { IsLineAnswer (ExtendsHoldsAs (IsMore (suc (length effects.effects)) (fields_of text.now)) (after_more contract current effects)) result }
 {
     if is_end(text) {
         return Ok(Stage::Ended(contract, current, effects));

@@ -1,4 +1,4 @@
--- Countermodels: executions in which a level's promise is kept and the contract is false.
+-- Countermodels: executions in which a level's guarantee holds and the contract is false.
 use Rattle.std.specs.Prelude.{ℕ, ◌≡◌, ◌≤◌, false, List, Some, length}
 use Rattle.ql_lang.specs.Formulas.{Resolved}
 use Rattle.ql_levels.specs.declared.level.Level.{Level}
@@ -15,15 +15,15 @@ use Rattle.ql_formula.specs.Truth.{Chosen, Holds, HoldsTxn, none_inside, stateme
 use Rattle.ql_implication.specs.Executions.{FitsProgram}
 
 -- the most effects that a countermodel has
-abbrev pub most_effects : ℕ
-most_effects = 24
+abbrev pub most_countermodel_effects : ℕ
+most_countermodel_effects = 24
 
--- An execution of the program with an effect of the operation at which the level's formula holds and, at these places, the
--- contract's body is false.
+-- An execution of the program with an effect of the operation at which the level's formula holds and, with these
+-- effects for its variables, the contract's body is false.
 pub record IsCounter (types : List ℕ) (o : ℕ) (level : Level) (f : Resolved) (x : List Effect) (cur : ℕ) (places : List ℕ) : Type 0 where
   pub lawful : IsExecution x
   pub fits : FitsProgram types x
-  pub few : length x ≤ most_effects
+  pub few : length x ≤ most_countermodel_effects
   pub effect : Effect
   pub there : effect_at x cur ≡ Some effect
   pub of_op : effect.op.0 ≡ o
@@ -31,12 +31,12 @@ pub record IsCounter (types : List ℕ) (o : ℕ) (level : Level) (f : Resolved)
   pub chosen : Chosen x f.vars places
   pub broken : statement_true x none_inside places cur f.body ≡ false
 
--- An execution of the program with a begun transaction, whose effects, if any, are declared under d, of which the level's formula
--- holds and, at these places, the contract's body is false.
+-- An execution of the program with a begun transaction, whose effects, if any, are declared under d. The level's
+-- formula holds of it and, with these effects for its variables, the contract's body is false.
 pub record IsTxnCounter (types : List ℕ) (d : ℕ) (level : TxnLevel) (f : Resolved) (x : List Effect) (run : ℕ) (places : List ℕ) : Type 0 where
   pub lawful : IsExecution x
   pub fits : FitsProgram types x
-  pub few : length x ≤ most_effects
+  pub few : length x ≤ most_countermodel_effects
   pub begun : 1 ≤ run
   pub declared : (a : ℕ) (e : Effect) (number : RunId) (name : DeclId) → effect_at x a ≡ Some e → e.member ≡ Inside number name → number.0 ≡ run → name.0 ≡ d
   pub holds : HoldsTxn x (txn_formula_of level) run

@@ -6,7 +6,7 @@ ghost use Rattle.ql_levels.specs.Formulas.{formula_of, txn_formula_of};
 ghost use Rattle.ql_levels.specs.declared.level.Level.TheVariants.{Causal, Eventual, Strong, Wide};
 ghost use Rattle.ql_levels.specs.declared.level.TxnLevel.TheVariants.{Mav, Rc, Rr};
 
-/// The law that in every execution each level promises what the levels below it do.
+/// The law that in every execution each level guarantees all that the levels below it do.
 pub fn higher_levels_promise_more()
     ensures strong { (x : List Effect) → IsExecution x → (cur : ℕ) → Holds x (formula_of Strong) cur → Holds x (formula_of Wide) cur }
     ensures wide { (x : List Effect) → IsExecution x → (cur : ℕ) → Holds x (formula_of Wide) cur → Holds x (formula_of Causal) cur }

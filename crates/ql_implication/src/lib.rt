@@ -1,6 +1,6 @@
-// What a level gives in executions: valid implication, and its countermodels.
+// What a level implies in executions: valid implication, and its countermodels.
 // The one contract: a level whose ground problem is refuted is enough in every execution, one that has a countermodel
-// isn't, and higher levels promise more.
+// isn't, and higher levels guarantee more.
 #![tactic(auto)]
 
 mod laws;

@@ -10,8 +10,8 @@ ghost use Rattle.ql_ground.specs.declared.goal.Goal.{Goal};
 ghost use Rattle.ql_implication.specs.OfPrograms.{GivesContract};
 ghost use Rattle.ql_implication.specs.Executions.{IsImplied, IsImpliedTxn};
 
-/// The law that valid implication, which is proved of refuted problems over effects of plain numbers, is
-/// that over the store's executions: `op` for operations, `txn` for transactions, and `goal` for a goal of a
+/// The law that carries valid implication over to the store's executions; it is proved of refuted problems over
+/// effects of plain numbers. `op` is the law for operations, `txn` for transactions, and `goal` for a goal of a
 /// program that has a ground problem.
 pub fn implied_in_executions()
     ensures op { (types : List ℕ) (o : ℕ) (level : Level) (f : Resolved) → Implies types o level f → IsImplied types o level f }

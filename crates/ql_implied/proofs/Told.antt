@@ -4,8 +4,8 @@ use Rattle.ql_cert.specs.declared.cert.Section.{Section}
 use Rattle.ql_lang.specs.declared.program.Program.{Program}
 use Rattle.ql_refute.specs.Verdict.{verdict}
 use Rattle.ql_refute.specs.declared.verdict.Verdict.TheVariants.{Accepted}
-use Rattle.ql_commands.specs.declared.answer.Answer.{Answer}
-use Rattle.ql_commands.specs.declared.answer.Answer.TheVariants.{Done, No}
+use Rattle.ql_reply.specs.declared.status.Status.{Status}
+use Rattle.ql_reply.specs.declared.status.Status.TheVariants.{Done, No}
 use Rattle.ql_commands.specs.Check.{CheckSays, Tells, order_text, section_text, verdict_text}
 use Rattle.ql_commands.specs.Check.Tells.{all, accepted, refused}
 use Rattle.ql_commands.specs.Classify.{ClassifySays}
@@ -19,7 +19,7 @@ pub none_told : (source text : List ℕ) → ClassifySays source No text → Tel
 none_told source text says = (says.0, says.1, says.2.0, top_fails says.0 says.1.1 says.2.0 says.2.1, says.2.2)
 
 -- the lines of the sections from a place on
-lines_told : (p : Program) (place : ℕ) (ss : List Section) (a : Answer) (text : List ℕ) → Tells p place ss a text → AcceptsFront p place ss a text
+lines_told : (p : Program) (place : ℕ) (ss : List Section) (a : Status) (text : List ℕ) → Tells p place ss a text → AcceptsFront p place ss a text
 unfolding accepted_lines
 lines_told p place ss a text (all k) = record { front = []; others = []; end = []; sections = refl; lines = refl; each = tt; ends = refl }
 lines_told p place ss a text (accepted k s more b rest refuted gives tells) =

@@ -8,8 +8,8 @@ use Rattle.ql_levels.specs.Lists.{LevelLists}
 use Rattle.ql_refute.specs.declared.verdict.Verdict.{Verdict}
 use Rattle.ql_refute.specs.declared.verdict.Verdict.TheVariants.{Accepted}
 use Rattle.ql_report.specs.Levels.{levels_text}
-use Rattle.ql_commands.specs.declared.answer.Answer.{Answer}
-use Rattle.ql_commands.specs.declared.answer.Answer.TheVariants.{Done, No}
+use Rattle.ql_reply.specs.declared.status.Status.{Status}
+use Rattle.ql_reply.specs.declared.status.Status.TheVariants.{Done, No}
 use Rattle.ql_commands.specs.Certificates.{SpellsCert}
 use Rattle.ql_commands.specs.Check.{AreDue, goal_of, section_text, verdict_text}
 use Rattle.ql_commands.specs.Levels.{refusal_text}
@@ -24,7 +24,7 @@ TellsLeast source text = (p : Program) × IsSourceOf source p × (levels : Level
 abbrev pub TellsNone : List ℕ → List ℕ → Type 0
 TellsNone source text = (p : Program) × IsSourceOf source p × (e : Classless) × TopFails p e × (text ≡ refusal_text p e)
 
--- the sections from a place on, each with a level that gives the contract of the target at that place
+-- the sections from an index on, each with a level that guarantees the contract of the target of its index
 abbrev pub EachGives : Program → ℕ → List Section → Type 0
 EachGives p place [] = Unit {0}
 EachGives p place (s ∷ ss) = GivesContract p (goal_of p place s) × EachGives p (suc place) ss
@@ -36,23 +36,23 @@ accepted_lines (s ∷ ss) = section_text s ++ verdict_text Accepted ++ accepted_
 
 -- what stands after the accepted lines: nothing where no section is left and the answer is yes, and else the line of
 -- the next section, with another verdict
-abbrev pub EndsWith : List Section → Answer → List ℕ → Type 0
+abbrev pub EndsWith : List Section → Status → List ℕ → Type 0
 EndsWith [] Done end = end ≡ []
 EndsWith (s ∷ ss) No end = (v : Verdict) × (v ≢ Accepted) × (end ≡ section_text s ++ verdict_text v)
 EndsWith _ _ end = ⊥
 
--- The text has a line for each of the first sections from a place on, whose levels give their contracts, and then an end.
-pub record AcceptsFront (p : Program) (place : ℕ) (ss : List Section) (a : Answer) (text : List ℕ) : Type 0 where
+-- The text has a line for each of the first sections from an index on, whose levels guarantee their contracts, and then an end.
+pub record AcceptsFront (p : Program) (place : ℕ) (ss : List Section) (status : Status) (text : List ℕ) : Type 0 where
   pub front : List Section
   pub others : List Section
   pub end : List ℕ
   pub sections : ss ≡ front ++ others
   pub lines : text ≡ accepted_lines front ++ end
   pub each : EachGives p place front
-  pub ends : EndsWith others a end
+  pub ends : EndsWith others status end
 
 -- The certificate has the sections that are expected of the source's program, and the text is as above: each line that ends in
 -- `accepted` states an implication that is valid in the store's executions.
-abbrev pub TellsAccepted : List ℕ → List ℕ → Answer → List ℕ → Type 0
-TellsAccepted source cert a text =
-    (p : Program) × IsSourceOf source p × (ss : List Section) × SpellsCert cert ss × AreDue p ss × AcceptsFront p 0 ss a text
+abbrev pub TellsAccepted : List ℕ → List ℕ → Status → List ℕ → Type 0
+TellsAccepted source cert status text =
+    (p : Program) × IsSourceOf source p × (ss : List Section) × SpellsCert cert ss × AreDue p ss × AcceptsFront p 0 ss status text

@@ -5,7 +5,7 @@ use Rattle.ql_lang.specs.declared.program.Program.{Program}
 use Rattle.ql_lang.specs.declared.program.TxnDecl.{TxnDecl}
 use Rattle.ql_typing.specs.Operations.{op_place}
 
--- the transaction of a number names the operation of a number, at a place of its list
+-- the transaction of a number names the operation of a number, at an index of its list
 pub record NamesOp (p : Program) (d o : ℕ) : Type 0 where
   pub txn : TxnDecl
   pub declared : slice_get p.txns d ≡ Some txn

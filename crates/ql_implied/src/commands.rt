@@ -1,5 +1,5 @@
 ghost use Rattle.std.specs.Prelude.{◌≡◌, ◌⊎◌, ℕ, List};
-ghost use Rattle.ql_commands.specs.declared.answer.Answer.TheVariants.{Done, No};
+ghost use Rattle.ql_reply.specs.declared.status.Status.TheVariants.{Done, No};
 ghost use Rattle.ql_commands.specs.Check.{CheckSays, order_text};
 ghost use Rattle.ql_commands.specs.Classify.{ClassifySays};
 ghost use Rattle.ql_implied.specs.Commands.{TellsAccepted, TellsLeast, TellsNone};
@@ -12,9 +12,9 @@ pub fn told_levels_are_least()
     ensures no { (source text : List ℕ) → ClassifySays source No text → TellsNone source text }
 {}
 
-/// The law of what `check` prints: each line that ends in `accepted` states a level that gives its contract. With yes
-/// there is one for each target of the program; with no there is the line of a place out of order alone,
-/// or the first sections' lines and then the one of a section that isn't accepted.
+/// The law of what `check` prints: each line that ends in `accepted` states a level that guarantees its contract. With yes
+/// there is one for each target of the program; with no there is only the line of a section out of order, or the lines of
+/// the first sections and then that of a section that isn't accepted.
 pub fn accepted_lines_give_contracts()
     ensures yes { (source cert text : List ℕ) → CheckSays source cert Done text → TellsAccepted source cert Done text }
     ensures no { (source cert text : List ℕ) → CheckSays source cert No text → ((place : ℕ) × (text ≡ order_text place)) ⊎ TellsAccepted source cert No text }

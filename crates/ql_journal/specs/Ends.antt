@@ -13,18 +13,18 @@ IsKnown x committed ids = IsPackage x ids × ((a : ℕ) → Has ids a → Has co
 abbrev pub AreKnown : List Effect → List ℕ → List (List ℕ) → Type 0
 AreKnown x committed records = AllByRecursion (λ ids. IsLawful ids × IsKnown x committed ids) records
 
--- a gate is due and isn't there, or an open gate has no lawful record behind it
+-- a gate is expected and isn't there, or no lawful record follows an open gate
 abbrev pub IsBroken : List ℕ → Type 0
 IsBroken [] = Unit {0}
 IsBroken (gate ∷ rest) = (gate ≡ 1) × ((ids more : List ℕ) → IsLawful ids → rest ≡ body ids ++ more → ⊥)
 
--- a lawful record whose ids are no package of committed effects
+-- a lawful record whose ids aren't a package of committed effects
 abbrev pub IsStrange : List Effect → List ℕ → List ℕ → Type 0
 IsStrange x committed [] = ⊥
 IsStrange x committed (gate ∷ rest) =
     (gate ≡ 1) × (ids : List ℕ) × (more : List ℕ) × IsLawful ids × (rest ≡ body ids ++ more) × (IsKnown x committed ids → ⊥)
 
--- known records stand in the file up to an offset, and there stands what has a property
+-- the file has known records up to an offset, and what follows them has a property
 pub record EndsIn (x : List Effect) (committed file : List ℕ) (at : ℕ) (P : List ℕ → Type 0) : Type 0 where
   pub records : List (List ℕ)
   pub known : AreKnown x committed records
@@ -33,10 +33,10 @@ pub record EndsIn (x : List Effect) (committed file : List ℕ) (at : ℕ) (P : 
   pub place : at ≡ length (records_of records)
   pub ends : P end
 
--- the first gate or record that isn't whole and lawful stands at the offset, and each record before it is known
+-- the first gate or record that isn't whole and lawful is at the offset, and each record before it is known
 abbrev pub IsDamaged : List Effect → List ℕ → List ℕ → ℕ → Type 0
 IsDamaged x committed file at = EndsIn x committed file at IsBroken
 
--- the first lawful record that isn't known stands at the offset, and each record before it is known
+-- the first lawful record that isn't known is at the offset, and each record before it is known
 abbrev pub IsStranger : List Effect → List ℕ → List ℕ → ℕ → Type 0
 IsStranger x committed file at = EndsIn x committed file at (IsStrange x committed)

@@ -1,4 +1,4 @@
--- What stands first in the rest of a file.
+-- What comes first in the rest of a file.
 use Rattle.std.specs.Prelude.{ℕ, ◌≢◌, List, [], ◌∷◌}
 
 -- no open gate

@@ -6,7 +6,7 @@ use Rattle.ql_journal.specs.Records.{HasRecords, IsLawful, body, records_of}
 abbrev pub IsBeforeOrAfter : List (List ℕ) → List ℕ → List ℕ → Type 0
 IsBeforeOrAfter records pack image = HasRecords records image ⊎ HasRecords (records ++ pack ∷ []) image
 
--- the file has the records, and at the gate behind them the bytes of a lawful package are to be appended
+-- the file has the records, and at the gate after them the bytes of a lawful package are to be appended
 pub record IsAppended (records : List (List ℕ)) (pack : List ℕ) (gate : ℕ) (bytes file : List ℕ) : Type 0 where
   pub lawful : IsLawful pack
   pub has : HasRecords records file

@@ -1,5 +1,5 @@
--- The file of a journal: records, each of an open gate, a count and so many ids, and behind the last of them a closed gate.
--- A gate is a byte, open where it is 1. A number is four bytes, the greatest first.
+-- The file of a journal: records, each of an open gate, a count and that many ids, and after the last of them a closed
+-- gate. A gate is a byte, open if it is 1. A number is four bytes, the most significant first.
 use Rattle.std.specs.Prelude.{◌≡◌, ◌≢◌, ℕ, ◌<◌, ◌≤◌, ◌^◌, Bool, false, ◌||◌, List, [], ◌∷◌, ◌++◌, length}
 use Rattle.std.specs.Int.{w32, to_be_bytes}
 use Rattle.std.specs.List.{AllByRecursion}
@@ -12,7 +12,7 @@ abbrev pub numbers : List ℕ → List ℕ
 numbers [] = []
 numbers (n ∷ ns) = number n ++ numbers ns
 
--- what stands behind the gate of a record
+-- what follows the gate of a record
 abbrev pub body : List ℕ → List ℕ
 body ids = number (length ids) ++ numbers ids
 
@@ -26,18 +26,18 @@ pub record AreIds (ids : List ℕ) : Type 0 where
   pub ascending : IsAscending (0 ∷ ids)
   pub small : AllByRecursion (λ id. id < 2 ^ 32) ids
 
--- what a record may have: 1 to 4000 ids
+-- the ids that a record may have: 1 to 4000 of them
 pub record IsLawful (ids : List ℕ) : Type 0 where
   pub are_ids : AreIds ids
   pub some : 1 ≤ length ids
   pub few : length ids ≤ 4000
 
--- a closed gate stands first
+-- a closed gate comes first
 abbrev pub IsClosed : List ℕ → Type 0
 IsClosed [] = ⊥
 IsClosed (gate ∷ rest) = gate ≢ 1
 
--- the file has these records: they stand in it from its start, and behind them a closed gate with anything behind it
+-- the file has these records: it starts with them, and a closed gate follows, with anything after it
 pub record HasRecords (records : List (List ℕ)) (file : List ℕ) : Type 0 where
   pub lawful : AllByRecursion IsLawful records
   pub end : List ℕ

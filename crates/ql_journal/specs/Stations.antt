@@ -1,4 +1,4 @@
--- A station: what it keeps beside its holder, and the disk that agrees with it.
+-- A station: what it keeps besides its holder, and the disk that agrees with it.
 use Rattle.std.specs.Prelude.{◌≡◌, ℕ, ◌+◌, Bool, true, false, List, Option, [], ◌∷◌, ◌++◌, length, Result, Ok, Err}
 use Rattle.ql_base.specs.IdLists.{has_id}
 use Rattle.ql_disk.specs.Bytes.{DiskBytes, IsClean}
@@ -21,12 +21,12 @@ holder_of station = station.holder
 abbrev pub end_of : {H : Type 0} → Station H → ℕ
 end_of station = station.end
 
--- a receipt answered `Failed`
+-- a receipt returned `Failed`
 abbrev pub is_stopped : {H : Type 0} → Station H → Bool
 is_stopped station = station.stopped
 
--- The disk agrees with a station: its records have exactly what the station's holder received, a closed gate stands behind
--- them, where the station has their end, and nothing is dirty.
+-- The disk agrees with a station: its records have exactly what the station's holder received, a closed gate follows
+-- them at the end that the station keeps, and nothing is dirty.
 pub record Agrees {H : Type 0} (received : H → List ℕ) (disk : DiskBytes) (station : Station H) : Type 0 where
   pub records : List (List ℕ)
   pub has : HasRecords records disk.content
@@ -48,7 +48,7 @@ records_after Again records pack = records
 records_after (Waits missing) records pack = records ++ pack ∷ []
 records_after (Applies gain) records pack = records ++ pack ∷ []
 
--- the causes that a receipt tells
+-- the causes that a receipt may return
 abbrev pub IsOfReceipt : StationWhy → Type 0
 IsOfReceipt why.Failed = Unit {0}
 IsOfReceipt why.Reopen = Unit {0}
@@ -62,7 +62,7 @@ end_after Again end count = end
 end_after (Waits missing) end count = end + record_size count
 end_after (Applies gain) end count = end + record_size count
 
--- a receipt of a package that is new makes four calls of the disk, as they were foretold
+-- a receipt of a new package makes four calls of the disk, as they were foretold
 abbrev pub IsForetold : Forecast → ℕ → Result Arrival StationWhy → Option Forecast → Type 0
 IsForetold forecast end (Ok Again) after = Unit {0}
 IsForetold forecast end (Ok (Waits missing)) after = Foretold forecast 4 end true after
@@ -73,7 +73,7 @@ IsForetold forecast end (Err (why.Damaged at)) after = Unit {0}
 IsForetold forecast end (Err (why.Stranger at)) after = Unit {0}
 IsForetold forecast end (Err why.NoMemory) after = Unit {0}
 
--- an answer that is no fault of the file
+-- a result other than a fault of the file
 abbrev pub IsSound : {T : Type 0} → Result T StationWhy → Type 0
 IsSound (Ok value) = Unit {0}
 IsSound (Err why.Failed) = Unit {0}
@@ -82,7 +82,7 @@ IsSound (Err (why.Damaged at)) = ⊥
 IsSound (Err (why.Stranger at)) = ⊥
 IsSound (Err why.NoMemory) = Unit {0}
 
--- a cause is told, unless the answer is of the disk or of memory
+-- this cause is returned, unless the disk fails or memory runs out
 abbrev pub TellsUnlessNone : {T : Type 0} → StationWhy → Result T StationWhy → Type 0
 TellsUnlessNone cause (Ok value) = ⊥
 TellsUnlessNone cause (Err why.Failed) = Unit {0}
@@ -91,8 +91,8 @@ TellsUnlessNone cause (Err (why.Damaged at)) = cause ≡ why.Damaged at
 TellsUnlessNone cause (Err (why.Stranger at)) = cause ≡ why.Stranger at
 TellsUnlessNone cause (Err why.NoMemory) = Unit {0}
 
--- what a recovery from a file tells, unless the disk fails or no memory is left: something of its known records, or where it is
--- damaged, or where its first stranger stands
+-- the result of a recovery from a file, unless the disk fails or memory runs out: something of its known records, or
+-- where it is damaged, or where its first stranger is
 abbrev pub Recovers : {T : Type 0} → (T → Type 0) → List Effect → List ℕ → List ℕ → Result T StationWhy → Type 0
 Recovers P x committed file (Ok value) = P value
 Recovers P x committed file (Err why.Failed) = Unit {0}
@@ -101,7 +101,7 @@ Recovers P x committed file (Err (why.Damaged at)) = IsDamaged x committed file 
 Recovers P x committed file (Err (why.Stranger at)) = IsStranger x committed file at
 Recovers P x committed file (Err why.NoMemory) = Unit {0}
 
--- the causes that a recovery tells
+-- the causes that a recovery may return
 abbrev pub IsOfRecovery : StationWhy → Type 0
 IsOfRecovery why.Failed = Unit {0}
 IsOfRecovery why.Reopen = ⊥
@@ -109,7 +109,7 @@ IsOfRecovery (why.Damaged at) = Unit {0}
 IsOfRecovery (why.Stranger at) = Unit {0}
 IsOfRecovery why.NoMemory = Unit {0}
 
--- the causes that a reading of a disk tells
+-- the causes that a reading of a disk may return
 abbrev pub IsOfReading : StationWhy → Type 0
 IsOfReading why.Failed = Unit {0}
 IsOfReading why.Reopen = ⊥
@@ -117,7 +117,7 @@ IsOfReading (why.Damaged at) = ⊥
 IsOfReading (why.Stranger at) = ⊥
 IsOfReading why.NoMemory = Unit {0}
 
--- the causes that a reading of bytes tells
+-- the causes that a reading of bytes may return
 abbrev pub IsOfBytes : StationWhy → Type 0
 IsOfBytes why.Failed = ⊥
 IsOfBytes why.Reopen = ⊥

@@ -10,7 +10,7 @@ ghost use Rattle.ql_journal.specs.Records.{HasRecords};
 use ql_disk::{Disk, write_durably};
 use ql_ports::Failed;
 
-/// Writes what stands behind the gate of a record, with a closed gate behind it, and then opens the record's gate.
+/// Writes what follows the gate of a record, with a closed gate after it, and then opens the record's gate.
 pub(crate) fn append_record<D: Disk>(disk: &mut D, gate: u64, bytes: &[u8]) -> Result<(), Failed>
     requires ends { gate + 1 + length bytes.now < 2 ^ 40 }
     requires inside { D.tells → gate < length (D.held disk.old).content }

@@ -1,7 +1,7 @@
-// A station: a replica that journals what it receives on a disk, and is recovered after a stop at any moment with what it
-// had received before that receipt or after it.
-// The one contract: whatever a stop since the start of a receipt may leave has the records from before it, or these with the
-// package; after `Ok` it has the package; and from each of them a station is recovered that received exactly that.
+// A station: a replica that journals what it receives on a disk. After a stop at any moment it is recovered with what
+// it had received before that receipt, or after it.
+// The one contract: whatever a stop since the start of a receipt may leave on the disk has the records from before it,
+// or these with the package; after `Ok` it has the package; and a station recovered from it has received exactly that.
 #![tactic(auto)]
 
 mod appending;

@@ -4,7 +4,7 @@ ghost use Rattle.ql_journal.specs.Records.{AreIds, IsLawful, body, number, numbe
 use ql_base::{IdSet, MAX_EVENTS, NoMemory};
 use std::alloc::Global;
 
-/// The ids of the record whose gate stands right before these bytes, where it is whole and lawful.
+/// The ids of the record whose gate is right before these bytes, if it is whole and lawful.
 pub(crate) fn ids_of_record(alloc: Global, bytes: &[u8]) -> Result<Option<IdSet>, NoMemory>
     ensures { IfOk result (λ found. MatchOption found ((ids more : List ℕ) → IsLawful ids → bytes.now ≡ body ids ++ more → ⊥)
         (λ ids. IsLawful ids × (bytes.now ≡ body ids ++ drop (4 + 4 * length ids) bytes.now))) }
@@ -20,14 +20,14 @@ pub(crate) fn ids_of_record(alloc: Global, bytes: &[u8]) -> Result<Option<IdSet>
     ids_in(alloc, &rest[..4 * count])
 }
 
-// Whether so many ids are allowed and fit into so many bytes.
+// Whether a record may have `count` ids, and `room` bytes are enough for them.
 fn is_whole(count: usize, room: usize) -> bool
     ensures { (result ≡ true) ↔ ((1 ≤ count) × (count ≤ 4000) × (4 * count ≤ room)) }
 {
     1 <= count && count <= MAX_EVENTS && count <= room / 4
 }
 
-// The ids that the bytes spell, where they ascend from 1 on.
+// The ids that the bytes spell, if they ascend from 1 on.
 fn ids_in(alloc: Global, bytes: &[u8]) -> Result<Option<IdSet>, NoMemory>
     requires { (n : ℕ) × (length bytes.now ≡ 4 * n) }
     ensures { IfOk result (λ found. MatchOption found ((ids : List ℕ) → AreIds ids → bytes.now ≡ numbers ids → ⊥)
@@ -49,7 +49,7 @@ fn ids_in(alloc: Global, bytes: &[u8]) -> Result<Option<IdSet>, NoMemory>
     Ok(Some(ids))
 }
 
-// The number of four bytes, the greatest first.
+// The number in four bytes, the most significant first.
 fn number_of(bytes: &[u8]) -> u32
     requires { length bytes.now ≡ 4 }
     ensures { number result ≡ bytes.now }

@@ -31,7 +31,7 @@ pub(crate) fn read_file<D: Disk>(alloc: Global, disk: &mut D) -> Result<Vec<u8>,
     Ok(bytes)
 }
 
-/// A holder that received the records of a file, and where they end.
+/// A holder that received the records of a file, and the offset at which they end.
 pub(crate) fn received_in<H: Holder>(
     alloc: Global,
     bytes: &[u8],
@@ -61,7 +61,7 @@ pub(crate) fn received_in<H: Holder>(
     Ok((holder, (bytes.len() - rest.len()) as u64))
 }
 
-// What stands behind an open gate.
+// The bytes after an open gate.
 fn opened(bytes: &[u8]) -> Option<&[u8]>
     ensures { MatchOption result (IsShut bytes.now) (λ entry. bytes.now ≡ 1 ∷ entry.now) }
 {

@@ -45,13 +45,13 @@ use std::alloc::Global;
 pub struct Station<H: Holder> {
     alloc: Global,
     holder: H,
-    // Where the closed gate stands, behind the last record.
+    // The offset of the closed gate, after the last record.
     end: u64,
-    // A receipt answered `Failed`, and what the disk holds isn't known.
+    // A receipt returned `Failed`, and what the disk holds isn't known.
     stopped: bool,
 }
 
-/// A station that received nothing, on an empty disk. It writes the closed gate, and takes no memory.
+/// A station that has received nothing, on an empty disk. It writes the closed gate, and allocates nothing.
 pub fn create<H: Holder, D: Disk>(alloc: Global, disk: &mut D) -> Result<Station<H>, StationWhy>
     requires { D.tells → (D.held disk.old).content ≡ [] }
     ensures nothing { IfOk result (λ station. H.received (holder_of station) ≡ []) }
@@ -73,18 +73,18 @@ pub fn create<H: Holder, D: Disk>(alloc: Global, disk: &mut D) -> Result<Station
     })
 }
 
-/// The station that a disk's records are of, after a stop. It syncs first, and writes nothing.
+/// The station of a disk's records, after a stop. It syncs first, and writes nothing.
 pub fn recover<H: Holder, D: Disk>(
     alloc: Global,
     disk: &mut D,
     x: &Execution,
     committed: &IdSet,
 ) -> Result<Station<H>, StationWhy>
-    // What is told of a file.
+    // What the result means for the file.
     ensures recovers { D.tells → Recovers (λ station. Received H.received x.now committed.now (D.held disk.old).content (holder_of station) (end_of station))
         x.now committed.now (D.held disk.old).content result }
 
-    // And of which files it is told.
+    // Which files have which result.
     ensures sound { D.tells → (records : List (List ℕ)) → AreKnown x.now committed.now records → HasRecords records (D.held disk.old).content → IsSound result }
     ensures damaged { D.tells → (at : ℕ) → IsDamaged x.now committed.now (D.held disk.old).content at → TellsUnlessNone (why.Damaged at) result }
     ensures strange { D.tells → (at : ℕ) → IsStranger x.now committed.now (D.held disk.old).content at → TellsUnlessNone (why.Stranger at) result }
@@ -117,15 +117,15 @@ impl<H: Holder> Station<H> {
         &self.holder
     }
 
-    /// Where the next record goes.
+    /// The offset in bytes of the next record.
     pub fn end(&self) -> u64
         ensures { result ≡ end_of self.now }
     {
         self.end
     }
 
-    /// Receives a package and journals it. One that is there already is answered without a call of the disk. After `Failed`
-    /// the station is to be recovered.
+    /// Receives a package and journals it. If it was received before, the disk isn't called. After `Failed` the
+    /// station has to be recovered.
     pub fn receive<D: Disk>(
         &mut self,
         disk: &mut D,
@@ -142,7 +142,7 @@ impl<H: Holder> Station<H> {
         ensures as_before { OnErr result (holder_of self.new ≡ holder_of self.old) }
         ensures causes { IfErr result IsOfReceipt }
 
-        // `Reopen` is answered exactly where an earlier receipt answered `Failed`.
+        // `Reopen` is returned exactly if an earlier receipt returned `Failed`.
         ensures reopen { IsErrOf result why.Reopen ↔ (is_stopped self.old ≡ true) }
         ensures stopped { (is_stopped self.new ≡ true) ↔ ((is_stopped self.old ≡ true) ⊎ IsErrOf result why.Failed) }
         ensures untouched { IsErrOf result why.Reopen ⊎ IsErrOf result why.NoMemory ⊎ (result ≡ Ok Again) → (self.new ≡ self.old) × (disk.new ≡ disk.old) }

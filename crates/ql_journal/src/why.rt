@@ -10,11 +10,11 @@ use std::alloc::{AllocError, AllocFailed};
 pub enum StationWhy {
     /// The disk failed, and has counted the fault.
     Failed,
-    /// An earlier receipt of this station answered `Failed`: it is to be recovered.
+    /// An earlier receipt of this station returned `Failed`: it has to be recovered.
     Reopen,
-    /// At this offset of the file no gate or whole record stands, where one is due.
+    /// At this offset of the file, in bytes, a gate or a whole record was expected and isn't there.
     Damaged(u64),
-    /// The record at this offset is no package of committed effects.
+    /// The record at this offset, in bytes, isn't a package of committed effects.
     Stranger(u64),
     NoMemory,
 }

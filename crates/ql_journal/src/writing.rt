@@ -6,7 +6,7 @@ ghost use Rattle.ql_journal.specs.Sizes.{record_size};
 use ql_base::{IdSet, NoMemory};
 use std::alloc::Global;
 
-/// What is written behind the gate of a record: its count, its ids, and a closed gate behind them.
+/// What is written after the gate of a record: its count, its ids, and a closed gate at the end.
 pub(crate) fn body_of(alloc: Global, ids: &IdSet) -> Result<Vec<u8>, NoMemory>
     requires { length ids.now ≤ 4000 }
     ensures { IfOk result (λ bytes. bytes.items ≡ body ids.now ++ 0 ∷ []) }

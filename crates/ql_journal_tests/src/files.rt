@@ -1,9 +1,10 @@
-use crate::two_effects::{ids, push_held, push_why, two_effects};
+use crate::two_effects::{push_held, push_why, two_effects};
 use ql_base::NoMemory;
 use ql_disk::{Disk, MemDisk};
 use ql_journal::recover;
 use ql_plain_holder::PlainHolder;
 use ql_tables::{check_table, number};
+use ql_test_effects::id_set;
 use std::alloc::Global;
 use std::test::Fail;
 
@@ -51,7 +52,7 @@ fn a_file_is_recovered(rt: HostRuntime) -> Result<(), Fail> {
 // What is recovered from a disk with these bytes.
 fn recovered(alloc: Global, bytes: &[u8]) -> Result<Vec<u8>, NoMemory> {
     let execution = two_effects(alloc)?;
-    let committed = ids(alloc, &[1, 2])?;
+    let committed = id_set(alloc, &[1, 2])?;
     let mut disk = MemDisk::new(alloc, 100, 1000)?;
     if bytes.len() < 100 {
         let _ = disk.write_at(0, bytes);

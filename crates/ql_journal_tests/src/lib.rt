@@ -1,5 +1,5 @@
 // Tests of the journal: what is recovered from bytes, and after a failure at each call of the disk.
-// It has no contract of its own, and nothing stands on this crate.
+// It has no contract of its own, and no crate depends on it.
 #![tactic(auto)]
 
 #[cfg(test)]

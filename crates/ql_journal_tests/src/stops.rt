@@ -2,7 +2,7 @@ ghost use Rattle.std.specs.Prelude.{◌≡◌, ◌≤◌, false, length};
 ghost use Rattle.ql_disk.specs.MemDisks.{bytes_of};
 ghost use Rattle.ql_journal.specs.Stations.{Agrees, holder_of, is_stopped};
 
-use crate::two_effects::{ids, push_held, push_why, two_effects};
+use crate::two_effects::{push_held, push_why, two_effects};
 use ql_base::{NoMemory, push_bytes};
 use ql_disk::MemDisk;
 use ql_exec::Execution;
@@ -10,11 +10,12 @@ use ql_holder::Holder;
 use ql_journal::{Station, StationWhy, create, recover};
 use ql_plain_holder::{PlainHolder, package_of};
 use ql_tables::{check_table, number};
+use ql_test_effects::id_set;
 use std::alloc::Global;
 use std::test::Fail;
 
-// The call of the disk from which on each fails, and whether a stop leaves what was written or what was synced. Effect 2 is
-// received and then effect 1: what the last receipt answers, and what is recovered.
+// The number of the first call of the disk that fails, as all later ones do, and whether a stop leaves what was written
+// or what was synced. Effect 2 is received and then effect 1: the answer to the last receipt, and what is recovered.
 const STOPS: &str = "
 1 synced -> no journal
 2 written -> no journal
@@ -105,7 +106,7 @@ fn push_recovered(
     disk: &mut MemDisk,
     x: &Execution,
 ) -> Result<(), NoMemory> {
-    let committed = ids(alloc, &[1, 2])?;
+    let committed = id_set(alloc, &[1, 2])?;
     match recover::<PlainHolder, MemDisk>(alloc, disk, x, &committed) {
         Ok(station) => push_held(out, station.holder(), x.len()),
         Err(why) => push_why(out, why),

@@ -1,48 +1,18 @@
-use ql_base::{EffId, IdSet, NoMemory, ObjId, OpId, SessId, push_bytes, push_number};
-use ql_exec::{Draft, ExecFault, Execution, Member, Payload};
+use ql_base::{EffId, NoMemory, push_bytes, push_number};
+use ql_exec::{Execution, Member};
 use ql_holder::Holder;
 use ql_journal::StationWhy;
-use ql_value::{Value, Values};
+use ql_test_effects::{draft, id_set, push};
 use std::alloc::Global;
 
 /// Two effects on one object, of two sessions. The second sees the first.
 pub(crate) fn two_effects(alloc: Global) -> Result<Execution, NoMemory> {
     let mut execution = Execution::new(alloc);
-    push(&mut execution, draft(alloc, 0, ids(alloc, &[])?))?;
-    push(&mut execution, draft(alloc, 1, ids(alloc, &[1])?))?;
+    let first = draft(alloc, 0, 0, Member::Alone, id_set(alloc, &[])?);
+    push(&mut execution, first)?;
+    let second = draft(alloc, 0, 1, Member::Alone, id_set(alloc, &[1])?);
+    push(&mut execution, second)?;
     Ok(execution)
-}
-
-pub(crate) fn ids(alloc: Global, items: &[u32]) -> Result<IdSet, NoMemory> {
-    let mut ids = IdSet::new(alloc);
-    for id in items {
-        ids.insert(*id)?;
-    }
-    Ok(ids)
-}
-
-fn draft(alloc: Global, session: u32, seen: IdSet) -> Draft {
-    Draft {
-        object: ObjId(0),
-        op: OpId(0),
-        args: Values::of(Vec::new(alloc)),
-        payload: Payload::Nothing,
-        answer: Value::Unit,
-        session: SessId(session),
-        member: Member::Alone,
-        seen,
-    }
-}
-
-// Appends an effect, unless there are many or it is refused.
-fn push(execution: &mut Execution, draft: Draft) -> Result<(), NoMemory> {
-    if execution.len() >= 1000 {
-        return Ok(());
-    }
-    match execution.push(draft) {
-        Err(ExecFault::NoMemory) => Err(NoMemory),
-        _ => Ok(()),
-    }
 }
 
 /// What a holder received and what it applied.

@@ -4,22 +4,22 @@ use Rattle.ql_base.specs.declared.ids.EffId.{EffId}
 use Rattle.ql_commands.specs.Sources.{IsSource, IsSourceOf, BadSourceSays}
 use Rattle.ql_exec.specs.declared.effect.Effect.{Effect}
 use Rattle.ql_exec.specs.Effects.{effect_at}
-use Rattle.ql_execution_files.specs.ExecutionFile.{FirstFault, IsExecutionFile}
+use Rattle.ql_execution_files.specs.ExecutionFile.{FirstExecutionFault, IsExecutionFile}
 use Rattle.ql_execution_files.specs.declared.report_fault.ReportFault.{ReportFault}
 use Rattle.ql_execution_files.specs.declared.report_fault.ReportFault.TheVariants.{Unexpected, Unknown, Mixed, Stamp, NotForward, OtherObject, SplitTxn, TooMany, NoMemory}
 use Rattle.ql_lang.specs.declared.contract.Var.{Var}
 use Rattle.ql_lang.specs.declared.program.Program.{Program}
 use Rattle.ql_lines.specs.Lines.{ahead_from}
 use Rattle.ql_reply.specs.Lines.{fault_line}
-use Rattle.ql_report.specs.Levels.{op_name, txn_name}
+use Rattle.ql_reply.specs.declared.status.Status.{Status}
+use Rattle.ql_reply.specs.declared.status.Status.TheVariants.{Done, No, Bad, TooLarge}
 use Rattle.ql_report.specs.Refusals.{op_vars, txn_vars}
+use Rattle.ql_typing.specs.Names.{op_name, txn_name}
 use Rattle.ql_verify.specs.Verdicts.{IsVerdict}
 use Rattle.ql_verify.specs.Work.{work_of}
 use Rattle.ql_verify.specs.declared.breach.Breach.{Breach}
 use Rattle.ql_verify.specs.declared.breach.Breach.TheVariants.{AtOp, AtTxn}
 use Rattle.ql_judging.specs.Members.{IsBegunOf}
-use Rattle.ql_judging.specs.declared.judged.Judged.{Judged}
-use Rattle.ql_judging.specs.declared.judged.Judged.TheVariants as judged
 
 -- ---- the execution's text
 
@@ -41,7 +41,7 @@ execution_fault_text NoMemory = None
 
 -- ---- the answer
 
--- the places of a contract's variables, as ` a=1`
+-- the effects of a contract's variables, as ` a=1`
 abbrev pub places_text : List Var → List ℕ → List ℕ
 places_text [] places = []
 places_text (v ∷ vars) [] = []
@@ -52,23 +52,23 @@ abbrev pub op_text : Program → ℕ → ℕ → List ℕ → List ℕ
 op_text p op at places = codes "fails op " ++ op_name p op ++ codes " at " ++ decimal at ++ places_text (op_vars p op) places ++ codes "\n"
 
 -- fails txn K:F
-abbrev pub txn_text : Program → ℕ → ℕ → List ℕ → List ℕ
-txn_text p run name places = codes "fails txn " ++ decimal run ++ codes ":" ++ txn_name p name ++ places_text (txn_vars p name) places ++ codes "\n"
+abbrev pub txn_breach_text : Program → ℕ → ℕ → List ℕ → List ℕ
+txn_breach_text p run name places = codes "fails txn " ++ decimal run ++ codes ":" ++ txn_name p name ++ places_text (txn_vars p name) places ++ codes "\n"
 
-abbrev pub numbers : List EffId → List ℕ
-numbers ids = map (λ id. id.0) ids
+abbrev pub effect_numbers : List EffId → List ℕ
+effect_numbers ids = map (λ id. id.0) ids
 
 -- the text reports a breach: with the effect's operation, or with the transaction that the begun one is declared as
 abbrev pub TellsBreach : Program → List Effect → Breach → List ℕ → Type 0
-TellsBreach p x (AtOp at places) text = (e : Effect) × (effect_at x at.0 ≡ Some e) × (text ≡ op_text p e.op.0 at.0 (numbers places))
-TellsBreach p x (AtTxn run places) text = (name : ℕ) × IsBegunOf x run.0 name × (text ≡ txn_text p run.0 name (numbers places))
+TellsBreach p x (AtOp at places) text = (e : Effect) × (effect_at x at.0 ≡ Some e) × (text ≡ op_text p e.op.0 at.0 (effect_numbers places))
+TellsBreach p x (AtTxn run places) text = (name : ℕ) × IsBegunOf x run.0 name × (text ≡ txn_breach_text p run.0 name (effect_numbers places))
 
 -- what is said of an execution
-abbrev pub ExecutionSays : Program → List Effect → Judged → List ℕ → Type 0
-ExecutionSays p x judged.Holds text = (work_of p x ≤ 20000000) × IsVerdict p x None × (text ≡ codes "holds\n")
-ExecutionSays p x judged.Fails text = (work_of p x ≤ 20000000) × (b : Breach) × IsVerdict p x (Some b) × TellsBreach p x b text
-ExecutionSays p x judged.TooMuch text = (20000000 < work_of p x) × (text ≡ codes "too much " ++ decimal (work_of p x) ++ codes "\n")
-ExecutionSays p x judged.Bad text = ⊥
+abbrev pub ExecutionSays : Program → List Effect → Status → List ℕ → Type 0
+ExecutionSays p x Done text = (work_of p x ≤ 20000000) × IsVerdict p x None × (text ≡ codes "holds\n")
+ExecutionSays p x No text = (work_of p x ≤ 20000000) × (b : Breach) × IsVerdict p x (Some b) × TellsBreach p x b text
+ExecutionSays p x TooLarge text = (20000000 < work_of p x) × (text ≡ codes "too much " ++ decimal (work_of p x) ++ codes "\n")
+ExecutionSays p x _ text = ⊥
 
 -- ---- the two files
 
@@ -82,13 +82,14 @@ AreJudgeable source execution =
 abbrev pub BadExecutionSays : List ℕ → List ℕ → List ℕ → Type 0
 BadExecutionSays source execution text =
     (AreJudgeable source execution → ⊥) × (p : Program) × IsSourceOf source p
-    × (f : ReportFault) × FirstFault p (ahead_from 1 execution) f × (execution_fault_text f ≡ Some text)
+    × (f : ReportFault) × FirstExecutionFault p (ahead_from 1 execution) f × (execution_fault_text f ≡ Some text)
 
-abbrev pub VerifyTells : List ℕ → List ℕ → Judged → List ℕ → Type 0
-VerifyTells source execution j text = (p : Program) × IsSourceOf source p × (x : List Effect) × TellsExecution p execution x × ExecutionSays p x j text
+abbrev pub VerifyTells : List ℕ → List ℕ → Status → List ℕ → Type 0
+VerifyTells source execution status text = (p : Program) × IsSourceOf source p × (x : List Effect) × TellsExecution p execution x × ExecutionSays p x status text
 
-abbrev pub VerifySays : List ℕ → List ℕ → Judged → List ℕ → Type 0
-VerifySays source execution judged.Holds text = VerifyTells source execution judged.Holds text
-VerifySays source execution judged.Fails text = VerifyTells source execution judged.Fails text
-VerifySays source execution judged.TooMuch text = (AreJudgeable source execution → ⊥) × VerifyTells source execution judged.TooMuch text
-VerifySays source execution judged.Bad text = BadSourceSays source text ⊎ BadExecutionSays source execution text
+abbrev pub VerifySays : List ℕ → List ℕ → Status → List ℕ → Type 0
+VerifySays source execution Done text = VerifyTells source execution Done text
+VerifySays source execution No text = VerifyTells source execution No text
+VerifySays source execution TooLarge text = (AreJudgeable source execution → ⊥) × VerifyTells source execution TooLarge text
+VerifySays source execution Bad text = BadSourceSays source text ⊎ BadExecutionSays source execution text
+VerifySays source execution _ text = ⊥

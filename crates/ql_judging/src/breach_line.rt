@@ -2,7 +2,7 @@
 ghost use Rattle.std.specs.Prelude.{◌≡◌, ◌<◌, ◌++◌, Some, IfOk, OnErr, OnOk, length};
 ghost use Rattle.ql_typing.specs.Operations.{all_ops};
 ghost use Rattle.ql_verify.specs.Verdicts.{AreOfProgram, IsVerdict};
-ghost use Rattle.ql_judging.specs.Verify.{TellsBreach, numbers, op_text, places_text, txn_text};
+ghost use Rattle.ql_judging.specs.Verify.{TellsBreach, effect_numbers, op_text, places_text, txn_breach_text};
 
 use crate::member::declared_of;
 use ql_base::{DeclId, EffId, NoMemory, OpId, RunId, push_bytes, push_number};
@@ -12,7 +12,7 @@ use ql_typing::Typed;
 use ql_verify::Breach;
 use std::alloc::Global;
 
-/// The line of a breach, with the places of its contract's variables.
+/// The line of a breach, with the effect of each variable of its contract.
 pub(crate) fn breach_line(
     alloc: Global,
     t: &Typed,
@@ -39,7 +39,7 @@ fn op_line(
     places: &[EffId],
 ) -> Result<Vec<u8>, NoMemory>
     requires { op.0 < length (all_ops t.now.program.types) }
-    ensures { IfOk result (λ text. text.items ≡ op_text t.now.program op.0 at.0 (numbers places.now)) }
+    ensures { IfOk result (λ text. text.items ≡ op_text t.now.program op.0 at.0 (effect_numbers places.now)) }
 {
     let decl = t.op(op);
     let mut line = Vec::from_slice(alloc, b"fails op ")?;
@@ -59,7 +59,7 @@ fn txn_line(
     places: &[EffId],
 ) -> Result<Vec<u8>, NoMemory>
     requires { name.0 < length t.now.program.txns }
-    ensures { IfOk result (λ text. text.items ≡ txn_text t.now.program run.0 name.0 (numbers places.now)) }
+    ensures { IfOk result (λ text. text.items ≡ txn_breach_text t.now.program run.0 name.0 (effect_numbers places.now)) }
 {
     let decl = t.txn(name);
     let mut line = Vec::from_slice(alloc, b"fails txn ")?;
@@ -71,9 +71,9 @@ fn txn_line(
     Ok(line)
 }
 
-/// Appends each variable with its place. Out of memory, the line is as before.
+/// Appends each variable with its effect. Out of memory, the line is as before.
 pub fn push_places(line: &mut Vec<u8>, vars: &[Var], places: &[EffId]) -> Result<(), NoMemory>
-    ensures ok { OnOk result (line.new.items ≡ line.old.items ++ places_text vars.now (numbers places.now)) }
+    ensures ok { OnOk result (line.new.items ≡ line.old.items ++ places_text vars.now (effect_numbers places.now)) }
     ensures err { OnErr result (line.new.items ≡ line.old.items) }
 {
     let mut text = Vec::new(*line.allocator());
@@ -82,7 +82,7 @@ pub fn push_places(line: &mut Vec<u8>, vars: &[Var], places: &[EffId]) -> Result
 }
 
 fn push_each(line: &mut Vec<u8>, vars: &[Var], places: &[EffId]) -> Result<(), NoMemory>
-    ensures { OnOk result (line.new.items ≡ line.old.items ++ places_text vars.now (numbers places.now)) }
+    ensures { OnOk result (line.new.items ≡ line.old.items ++ places_text vars.now (effect_numbers places.now)) }
 {
     let Some((var, other_vars)) = vars.split_first() else {
         return Ok(());

@@ -4,41 +4,41 @@ ghost use Rattle.ql_judging.specs.Verify.{ExecutionSays, VerifySays};
 
 use crate::breach_line::breach_line;
 use crate::execution_fault::bad_execution;
-use crate::judged::Judged;
 use ql_base::{NoMemory, push_bytes, push_number};
 use ql_commands::{bad_source, read_source};
 use ql_exec::Execution;
 use ql_execution_files::{one_execution, parse_execution};
+use ql_reply::Status;
 use ql_typing::Typed;
 use ql_verify::VerifyWhy;
 use std::alloc::Global;
 
 /// Whether all contracts of a source hold in an execution, or the first breach.
-pub fn verify(alloc: Global, source: &[u8], execution: &[u8]) -> Result<(Judged, Vec<u8>), NoMemory>
+pub fn verify(alloc: Global, source: &[u8], execution: &[u8]) -> Result<(Status, Vec<u8>), NoMemory>
     requires { length source.now < 2 ^ 32 }
     ensures { IfOk result (λ answer. VerifySays source.now execution.now answer.0 answer.1.items) }
 {
     one_execution();
     let typed = match read_source(alloc, source) {
         Ok(typed) => typed,
-        Err(fault) => return Ok((Judged::Bad, bad_source(alloc, fault)?)),
+        Err(fault) => return Ok((Status::Bad, bad_source(alloc, fault)?)),
     };
-    let told = match parse_execution(alloc, &typed, execution) {
-        Ok(told) => told,
-        Err(fault) => return Ok((Judged::Bad, bad_execution(alloc, fault)?)),
+    let execution = match parse_execution(alloc, &typed, execution) {
+        Ok(execution) => execution,
+        Err(fault) => return Ok((Status::Bad, bad_execution(alloc, fault)?)),
     };
-    judge(alloc, &typed, &told)
+    verify_execution(alloc, &typed, &execution)
 }
 
-fn judge(alloc: Global, t: &Typed, x: &Execution) -> Result<(Judged, Vec<u8>), NoMemory>
+fn verify_execution(alloc: Global, t: &Typed, x: &Execution) -> Result<(Status, Vec<u8>), NoMemory>
     requires few { length x.now ≤ 4000 }
     requires ops { AreOfProgram t.now.program x.now }
     ensures { IfOk result (λ answer. ExecutionSays t.now.program x.now answer.0 answer.1.items) }
 {
     match ql_verify::verify(alloc, t, x) {
-        Ok(None) => Ok((Judged::Holds, Vec::from_slice(alloc, b"holds\n")?)),
-        Ok(Some(breach)) => Ok((Judged::Fails, breach_line(alloc, t, x, &breach)?)),
-        Err(VerifyWhy::TooMuch(work)) => Ok((Judged::TooMuch, too_much(alloc, work)?)),
+        Ok(None) => Ok((Status::Done, Vec::from_slice(alloc, b"holds\n")?)),
+        Ok(Some(breach)) => Ok((Status::No, breach_line(alloc, t, x, &breach)?)),
+        Err(VerifyWhy::TooMuch(work)) => Ok((Status::TooLarge, too_much(alloc, work)?)),
         Err(VerifyWhy::NoMemory) => Err(NoMemory),
     }
 }

@@ -5,9 +5,9 @@ use Rattle.ql_lang.specs.declared.expression.BinOp.TheVariants.{Or, And, Eq, Ne,
 use Rattle.ql_lang.specs.Expressions.{Expression, Number, Literal, Truth, Nothing, Reading, Calling, Choosing, Combining, Denying, Negating, Operands, NoMore, More}
 use Rattle.ql_lang.specs.Spelling.{in_brackets, listed}
 
--- How expressions are spelled: one text for each tree, whatever its places. A blank stands on both sides of an operator
--- of two operands and behind `not` and a comma, and none behind a minus before its operand. Brackets stand round each
--- operand that an operator or an `if` makes, and round the arguments of a call, and no others.
+-- How expressions are spelled: one text for each tree, whatever its source offsets. There is a blank on both sides of a
+-- binary operator and after `not` and a comma, and none between a minus and its operand. There are brackets around each
+-- operand that is made by an operator or an `if`, and around the arguments of a call, and no others.
 
 abbrev pub operator_word : BinOp → List ℕ
 operator_word Or = codes "or"
@@ -29,7 +29,7 @@ truth_word false = codes "false"
 abbrev pub quoted : List ℕ → List ℕ
 quoted text = codes "\"" ++ text ++ codes "\""
 
--- whether an operator or an `if` makes an expression
+-- whether an expression is made by an operator or an `if`
 abbrev pub is_compound : Expression → Bool
 is_compound (Choosing at test a b) = true
 is_compound (Combining at op a b) = true

@@ -6,7 +6,7 @@ use Rattle.ql_lang.specs.declared.expression.ExprNode.{ExprNode}
 use Rattle.ql_lang.specs.declared.expression.Exprs.{Exprs}
 use Rattle.ql_lang.specs.declared.expression.ExprNode.TheBlock as node
 
--- The trees of expressions as such, without the boxes that they are kept in. Each has its place first.
+-- The trees of expressions as such, without the boxes that hold them. Each has its source offset first.
 mutual
   pub data Expression : Type 0 where
     Number : ℕ → ℤ → Expression

@@ -5,7 +5,7 @@ use Rattle.ql_lang.specs.declared.formula.OpChoice.{OpChoice}
 use Rattle.ql_lang.specs.declared.formula.Term.{Term}
 use Rattle.ql_lang.specs.declared.formula.Body.{Body, True, Apply, And', Or', Implies', Txn}
 
--- The trees of formulas as such, without the boxes that they are kept in.
+-- The trees of formulas as such, without the boxes that hold them.
 
 -- what a formula says
 pub data Statement : Type 0 where

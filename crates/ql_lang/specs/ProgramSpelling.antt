@@ -14,8 +14,8 @@ use Rattle.ql_lang.specs.Programs.{Binding, Assignment, Emission, Operation, Rep
 use Rattle.ql_lang.specs.Spelling.{contract_text, listed, word_of}
 use Rattle.ql_lang.specs.ExpressionSpelling.{expression_text, quoted, truth_word}
 
--- How declarations and whole sources are spelled: one text for each tree, whatever its places. Each field, contract,
--- answer, emission and statement has a line of its own, two blanks further in than what it belongs to.
+-- How declarations and whole sources are spelled: one text for each tree, whatever its source offsets. Each field,
+-- contract, answer, emission and statement has its own line, indented by two blanks more than what it belongs to.
 
 abbrev pub base_word : Base → List ℕ
 base_word base.Int = codes "int"

@@ -14,7 +14,7 @@ use Rattle.ql_lang.specs.declared.program.Program.{Program}
 use Rattle.ql_lang.specs.Expressions.{Expression, expression_of}
 use Rattle.ql_lang.specs.Trees.{Sentence, sentence_of}
 
--- The trees of declarations as such, without the boxes that their parts are kept in.
+-- The trees of declarations as such, without the boxes that hold their parts.
 
 -- a value that an operation emits, under a name
 pub record Binding : Type 0 where
@@ -27,7 +27,7 @@ pub record Assignment : Type 0 where
   pub target : Name
   pub value : Expression
 
--- what an operation emits, when it does, and how that is applied to a state
+-- what an operation emits and when, and how that is applied to a state
 pub record Emission : Type 0 where
   pub binds : List Binding
   pub test : Expression

@@ -8,11 +8,11 @@ use Rattle.ql_lang.specs.declared.contract.Point.TheVariants.{CurAt, Named}
 use Rattle.ql_lang.specs.declared.contract.Var.{Var}
 use Rattle.ql_lang.specs.Trees.{Relation, Basic, Union, Intersection, Proposition, Truth, Application, Conjunction, Disjunction, Implication, InTxn, Sentence}
 
--- How contracts are spelled: one text for each tree, whatever its places. A blank stands on both sides of an
--- operator and behind a comma, a colon and the dot. Round brackets stand round each operand of a connective that
--- a connective makes itself, square brackets round each union and each intersection, and no others.
+-- How contracts are spelled: one text for each tree, whatever its source offsets. There is a blank on both sides of an
+-- operator and after a comma, a colon and the dot. There are round brackets around each operand of a connective that
+-- is made by a connective itself, square brackets around each union and each intersection, and no others.
 
--- texts with a mark between them
+-- texts with a separator between them
 abbrev pub listed : List ℕ → List (List ℕ) → List ℕ
 listed mark [] = []
 listed mark (t ∷ ts) = t ++ concat (map (λ u. mark ++ u) ts)
@@ -38,12 +38,12 @@ relation_text (Basic name at) = relation_word name
 relation_text (Union r s) = codes "[" ++ relation_text r ++ codes " | " ++ relation_text s ++ codes "]"
 relation_text (Intersection r s) = codes "[" ++ relation_text r ++ codes " & " ++ relation_text s ++ codes "]"
 
--- equality is spelled by its mark
+-- equality is spelled `=`
 abbrev pub application_text : Relation → Point → Point → List ℕ
 application_text (Basic Eq at) a b = term_text a ++ codes " = " ++ term_text b
 application_text r a b = relation_text r ++ codes "(" ++ term_text a ++ codes ", " ++ term_text b ++ codes ")"
 
--- whether a statement is made by an operator
+-- whether a statement is made by a connective
 abbrev pub is_joined : Proposition → Bool
 is_joined (Conjunction p q) = true
 is_joined (Disjunction p q) = true

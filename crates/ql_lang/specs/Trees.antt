@@ -6,9 +6,9 @@ use Rattle.ql_lang.specs.declared.contract.Var.{Var}
 use Rattle.ql_lang.specs.declared.contract.Prop.{Prop, True, Apply, And', Or', Implies', Txn}
 use Rattle.ql_lang.specs.declared.contract.Contract.{Contract}
 
--- The trees of contracts as such, without the boxes that they are kept in.
+-- The trees of contracts as such, without the boxes that hold them.
 
--- a relation: a named one with its place, or the union or intersection of two
+-- a relation: a named one with its source offset, or the union or intersection of two
 pub data Relation : Type 0 where
   Basic : RelName → ℕ → Relation
   Union : Relation → Relation → Relation

@@ -11,7 +11,7 @@ pub struct Contract {
     pub body: Prop,
 }
 
-/// A variable. Where it names operations, it ranges over their effects alone.
+/// A variable. If it names operations, it ranges only over their effects.
 #[derive(Drop)]
 pub struct Var {
     pub name: Name,
@@ -53,7 +53,7 @@ impl Vars {
     }
 }
 
-/// What a contract says. `Txn` has the place of the word `txn`.
+/// What a contract says. `Txn` has the source offset of the word `txn`.
 #[derive(Drop)]
 pub enum Prop {
     True,
@@ -64,7 +64,7 @@ pub enum Prop {
     Txn(u32, Points, Points),
 }
 
-/// A term: the current effect, with its place, or a variable.
+/// A term: the current effect, with its source offset, or a variable.
 #[derive(Clone, Copy, PartialEq, Eq)]
 pub enum Point {
     CurAt(u32),

@@ -5,7 +5,7 @@ ghost use Rattle.ql_lang.specs.Expressions.{operands_in, operands_of};
 use crate::name::Name;
 use std::marker::Model;
 
-/// An expression and the place of its first token, without parentheses round the whole of it.
+/// An expression and the source offset of its first token. Parentheses around the whole of it don't count.
 #[cycle(expression)]
 #[derive(Drop)]
 pub struct Expr {
@@ -13,7 +13,7 @@ pub struct Expr {
     pub node: ExprNode,
 }
 
-/// What an expression is made of.
+/// The operator, value, name or call at the root of an expression, with its operands.
 #[cycle(expression)]
 #[derive(Drop)]
 pub enum ExprNode {
@@ -57,7 +57,7 @@ impl Exprs {
     }
 }
 
-/// The operators of two operands.
+/// The binary operators.
 #[derive(Clone, Copy, PartialEq, Eq)]
 pub enum BinOp {
     Or,

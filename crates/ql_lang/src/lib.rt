@@ -1,7 +1,7 @@
 // The trees of the contract language, as the parser makes them and the later passes read them.
 // Each tree follows the grammar node for node, and each list of trees is seen as a list.
-// The one contract: trees and lists are seen as plain data, and what is printed of a contract or of a
-// source is its one spelling.
+// The one contract: trees and lists are seen as plain data, and a contract or a source is printed in
+// its one spelling.
 #![tactic(auto)]
 
 mod contract;

@@ -3,7 +3,7 @@ ghost use Rattle.std.specs.Prelude.{◌≡◌};
 use ql_base::Word;
 use std::marker::Model;
 
-/// A name of the source and the place of its first byte.
+/// A name of the source and the source offset of its first byte.
 #[derive(Clone, Copy, PartialEq, Eq)]
 pub struct Name {
     pub word: Word,

@@ -161,7 +161,7 @@ impl Stmts {
     }
 }
 
-/// What an operation emits, when it does, and the statements that apply it to a state.
+/// What an operation emits and when, and the statements that apply it to a state.
 #[derive(Drop)]
 pub struct EmitDecl {
     pub binds: Binds,
@@ -169,7 +169,7 @@ pub struct EmitDecl {
     pub stmts: Stmts,
 }
 
-/// An operation, and the place of the word `op`.
+/// An operation, and the source offset of the word `op`.
 #[derive(Drop)]
 pub struct OpDecl {
     pub at: u32,

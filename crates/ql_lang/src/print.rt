@@ -23,7 +23,7 @@ use crate::relation::{Rel, RelName};
 use ql_base::{NoMemory, push_bytes};
 use std::alloc::Global;
 
-/// The text of a contract: its tree has this one spelling, whatever the places.
+/// The text of a contract: its tree has this one spelling, whatever the source offsets.
 pub fn print_contract(alloc: Global, contract: &Contract) -> Result<Vec<u8>, NoMemory>
     ensures { IfOk result (λ text. text.items ≡ contract_text (sentence_of contract.now)) }
 {
@@ -40,7 +40,7 @@ pub(crate) fn push_contract(out: &mut Vec<u8>, contract: &Contract) -> Result<()
     push_prop(out, &contract.body)
 }
 
-// The word `forall` and the variables, where there are any.
+// The word `forall` and the variables, if there are any.
 fn push_quantifier(out: &mut Vec<u8>, vars: &[Var]) -> Result<(), NoMemory>
     ensures { OnOk result (out.new.items ≡ out.old.items ++ vars_text vars.now) }
 {
@@ -74,7 +74,7 @@ fn push_var(out: &mut Vec<u8>, var: &Var) -> Result<(), NoMemory>
     push_operations(out, var.ops.items())
 }
 
-// A colon and the operations of a variable, where it names some.
+// A colon and the operations of a variable, if it names any.
 fn push_operations(out: &mut Vec<u8>, ops: &[Name]) -> Result<(), NoMemory>
     ensures { OnOk result (out.new.items ≡ out.old.items ++ operations_text ops.now) }
 {
@@ -85,7 +85,7 @@ fn push_operations(out: &mut Vec<u8>, ops: &[Name]) -> Result<(), NoMemory>
     push_names(out, ops, b" | ")
 }
 
-// Names with a mark between them.
+// Names with a separator between them.
 pub(crate) fn push_names(out: &mut Vec<u8>, names: &[Name], mark: &[u8]) -> Result<(), NoMemory>
     ensures { OnOk result (out.new.items ≡ out.old.items ++ listed mark.now (map word_of names.now)) }
 {
@@ -126,7 +126,7 @@ fn push_prop(out: &mut Vec<u8>, prop: &Prop) -> Result<(), NoMemory>
     }
 }
 
-// A statement, in brackets where an operator makes it.
+// A statement, in brackets if it is made by a connective.
 #[cycle(prop)]
 fn push_operand(out: &mut Vec<u8>, prop: &Prop) -> Result<(), NoMemory>
     ensures { OnOk result (out.new.items ≡ out.old.items ++ in_brackets (is_joined (proposition_of prop.now)) (prop_text (proposition_of prop.now))) }
@@ -139,7 +139,7 @@ fn push_operand(out: &mut Vec<u8>, prop: &Prop) -> Result<(), NoMemory>
     push_bytes(out, b")")
 }
 
-// Whether an operator makes this statement.
+// Whether a statement is made by a connective.
 fn is_joined(prop: &Prop) -> bool
     ensures { result ≡ is_joined (proposition_of prop.now) }
 {

@@ -57,7 +57,7 @@ pub(crate) fn push_expression(out: &mut Vec<u8>, e: &Expr) -> Result<(), NoMemor
     }
 }
 
-// An expression, in brackets where an operator or an `if` makes it.
+// An expression, in brackets if it is made by an operator or an `if`.
 #[cycle(expression)]
 fn push_operand(out: &mut Vec<u8>, e: &Expr) -> Result<(), NoMemory>
     ensures { OnOk result (out.new.items ≡ out.old.items ++ in_brackets (is_compound (expression_of e.now)) (expression_text (expression_of e.now))) }
@@ -87,7 +87,7 @@ fn push_arguments(out: &mut Vec<u8>, args: &[Expr]) -> Result<(), NoMemory>
     Ok(())
 }
 
-// Whether an operator or an `if` makes this expression.
+// Whether an expression is made by an operator or an `if`.
 #[tactic(auto, unfolding(crate::specs::Expressions::node_of))]
 fn is_compound(e: &Expr) -> bool
     ensures { result ≡ is_compound (expression_of e.now) }

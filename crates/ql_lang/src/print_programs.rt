@@ -40,8 +40,8 @@ use crate::program::{Field, InitNode, Program, TxnDecl, TypeDecl};
 use ql_base::{NoMemory, push_bytes, push_number};
 use std::alloc::Global;
 
-/// The text of a whole source: its tree has this one spelling, whatever the places. A line each for fields, contracts,
-/// answers, emissions and statements, two blanks further in than what they belong to.
+/// The text of a whole source: its tree has this one spelling, whatever the source offsets. Each field, contract,
+/// answer, emission and statement has its own line, indented by two blanks more than what it belongs to.
 pub fn print_program(alloc: Global, program: &Program) -> Result<Vec<u8>, NoMemory>
     ensures { IfOk result (λ text. text.items ≡ program_text (source_of program.now)) }
 {

@@ -6,14 +6,14 @@ use crate::name::{Name, NameList};
 use crate::operation::{Kind, OpDecls};
 use std::marker::Model;
 
-/// What a state field begins with, and the place of its first token.
+/// The initial value of a state field, and the source offset of its first token.
 #[derive(Drop)]
 pub struct Init {
     pub at: u32,
     pub node: InitNode,
 }
 
-/// A value that a field can begin with.
+/// An initial value.
 #[derive(Drop)]
 pub enum InitNode {
     Int(i64),
@@ -23,7 +23,7 @@ pub enum InitNode {
     Empty,
 }
 
-/// A state field, and the place of the word `state`.
+/// A state field, and the source offset of the word `state`.
 #[derive(Drop)]
 pub struct Field {
     pub at: u32,
@@ -67,7 +67,7 @@ impl Fields {
     }
 }
 
-/// A replicated type, and the place of the word `type`.
+/// A replicated type, and the source offset of the word `type`.
 #[derive(Drop)]
 pub struct TypeDecl {
     pub at: u32,
@@ -118,7 +118,7 @@ impl TypeDecls {
     }
 }
 
-/// A transaction, the operations that it uses, and the place of the word `transaction`.
+/// A transaction, the operations that it uses, and the source offset of the word `transaction`.
 #[derive(Drop)]
 pub struct TxnDecl {
     pub at: u32,

@@ -1,5 +1,5 @@
-/// A relation between two effects. `Base` has the place of the relation's name, or of the `=` that stands
-/// for equality, and 0 in a formula that comes from no source.
+/// A relation between two effects. `Base` has the source offset of the relation's name, or of the `=` that
+/// stands for equality, and 0 in a formula that comes from no source.
 #[derive(Drop)]
 pub enum Rel {
     Base(RelName, u32),

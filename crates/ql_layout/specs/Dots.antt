@@ -8,7 +8,7 @@ use Rattle.ql_svg.specs.declared.kind.Style.{Style}
 use Rattle.ql_svg.specs.declared.shape.Dot.{Dot}
 use Rattle.ql_svg.specs.declared.shape.Point.{Point}
 
--- what is seen of a dot
+-- what is visible of a dot
 pub record Seen : Type 0 where
   pub style : Style
   pub at : Point
@@ -17,14 +17,14 @@ pub record Seen : Type 0 where
 abbrev pub seen : Dot → Seen
 seen dot = record { style = dot.style; at = dot.at; title = dot.title.items }
 
--- in the colour of its object, of which there are eight
+-- the style of an effect's dot, in the colour of its object, of which there are eight
 abbrev pub dot_style : Seat → Style
 dot_style seat = record { kind = (if seat.is_strong then StrongEffect else Effect); colour = seat.object % 8 }
 
--- an effect's dot: in the column of its event, in the row of its session at its replica, with its text
+-- an effect's dot: in the column of its event, in the row of its session at its replica, with its title
 abbrev pub dot_of : Grid → Seat → Seen
 dot_of grid seat = record { style = dot_style seat; at = point_of grid seat.spot; title = seat.title.items }
 
--- dots are those of these effects, one for each, in order
+-- the dots are those of these effects, one for each, in order
 abbrev pub AreDotsOf : Grid → List Seat → List Dot → Type 0
 AreDotsOf grid seats dots = map seen dots ≡ map (dot_of grid) seats

@@ -1,4 +1,4 @@
--- Where things stand in a picture.
+-- The coordinates of spots in a picture.
 use Rattle.std.specs.Prelude.{ℕ, Bool, true, false, ◌==◌, ◌&&◌, Option, Some, None, slice_index, position}
 use Rattle.std.specs.Option.{option_map_or}
 use Rattle.ql_history.specs.declared.messages.Spot.{Spot}
@@ -15,11 +15,11 @@ same_session _ _ = false
 abbrev pub is_lane_of : Spot → Lane → Bool
 is_lane_of spot lane = (lane.replica == spot.replica) && same_session lane.session spot.session
 
--- the place of a column from the left, 0 where there is none
+-- the x coordinate of a column, 0 where there is none
 abbrev pub x_of : Grid → ℕ → ℕ
 x_of grid column = slice_index grid.columns column
 
--- the place of the row of a spot from the top, 0 where it has none
+-- the y coordinate of the row of a spot, 0 where it has none
 abbrev pub y_of : Grid → Spot → ℕ
 y_of grid spot = option_map_or (slice_index grid.rows.items) (position (is_lane_of spot) grid.lanes.items) 0
 

@@ -3,13 +3,13 @@ use ql_base::{IdSet, NoMemory};
 use ql_history::{Column, Spot};
 use std::alloc::Global;
 
-/// How many bytes of a text are shown.
+/// How many bytes of a text are shown at most.
 pub(crate) const MOST_SHOWN: usize = 30;
 
-/// The width of a letter.
+/// The width of a letter, in pixels.
 pub(crate) const LETTER: u32 = 7;
 
-/// Where columns begin, behind the names of rows.
+/// Where columns begin, to the right of the names of rows.
 pub(crate) const LEFT: u32 = 100;
 
 /// Where rows begin, below the numbers of events.
@@ -20,7 +20,7 @@ const STEP: u32 = 44;
 
 const NARROWEST: u32 = 21;
 
-/// Half of the width of each column, for the longer one of its texts.
+/// Half of the width of each column, wide enough for the longer of its texts.
 pub(crate) fn halves(alloc: Global, columns: &[Column]) -> Result<Vec<u32>, NoMemory> {
     let mut halves = Vec::new(alloc);
     for column in columns {
@@ -29,17 +29,17 @@ pub(crate) fn halves(alloc: Global, columns: &[Column]) -> Result<Vec<u32>, NoMe
     Ok(halves)
 }
 
-/// Half of the room that a text takes, with some space about it.
+/// Half of the width that a text takes, with some space around it.
 pub(crate) fn half_width(text: &[u8]) -> u32 {
     (text_width(text) / 2).saturating_add(9).max(NARROWEST)
 }
 
-/// The room that a text takes.
+/// The width that a text takes.
 pub(crate) fn text_width(text: &[u8]) -> u32 {
     (text.len().min(MOST_SHOWN) as u32).saturating_mul(LETTER)
 }
 
-/// The places of columns from the left: each behind the one before it, and behind the texts of its own row.
+/// The x coordinates of columns: each to the right of the one before it and of the texts in its own row.
 pub(crate) fn column_places(
     alloc: Global,
     columns: &[Column],
@@ -56,7 +56,7 @@ pub(crate) fn column_places(
     Ok(places)
 }
 
-// Where the texts of a row end, among the columns that have their places.
+// Where the texts of a row end, among the columns that have their coordinates.
 fn row_end(columns: &[Column], places: &[u32], halves: &[u32], spot: Spot) -> u32 {
     let mut end = LEFT;
     for ((column, x), half) in columns.iter().zip(places.iter()).zip(halves.iter()) {
@@ -67,7 +67,7 @@ fn row_end(columns: &[Column], places: &[u32], halves: &[u32], spot: Spot) -> u3
     end
 }
 
-/// The places of rows from the top.
+/// The y coordinates of rows.
 pub(crate) fn row_places(alloc: Global, lanes: &[Lane]) -> Result<Vec<u32>, NoMemory> {
     let mut places = Vec::new(alloc);
     let mut y = TOP;
@@ -79,7 +79,7 @@ pub(crate) fn row_places(alloc: Global, lanes: &[Lane]) -> Result<Vec<u32>, NoMe
     Ok(places)
 }
 
-/// The room that a row takes above its line.
+/// The height that a row takes above its line.
 pub(crate) fn room_above(lane: Lane) -> u32 {
     match lane.session {
         Some(_) => 54,
@@ -87,7 +87,7 @@ pub(crate) fn room_above(lane: Lane) -> u32 {
     }
 }
 
-/// The room that a row takes below its line.
+/// The height that a row takes below its line.
 pub(crate) fn room_below(lane: Lane) -> u32 {
     match lane.session {
         Some(_) => 52,

@@ -9,7 +9,7 @@ use ql_history::{Cause, Column, Happening, History, Spot};
 use ql_svg::{Kind, Point};
 use std::alloc::Global;
 
-/// The texts and marks of all events, which stand above the dots.
+/// The texts and marks of all events, drawn above the dots.
 pub(crate) fn draw_events(
     alloc: Global,
     pen: &mut Pen,
@@ -77,7 +77,7 @@ fn draw_event(alloc: Global, pen: &mut Pen, column: &Column, at: Point) -> Resul
     }
 }
 
-// What stands above and below the mark of an event.
+// The texts above and below the mark of an event.
 fn draw_texts(
     alloc: Global,
     pen: &mut Pen,
@@ -109,7 +109,7 @@ fn draw_sign(pen: &mut Pen, at: Point) -> Result<(), NoMemory> {
     pen.line(Kind::Stroke, point(near.x, far.y), point(far.x, near.y))
 }
 
-// The variables of an effect, above its call, and a ring about it.
+// The variables of an effect, above its call, and a ring around it.
 fn draw_mark(
     alloc: Global,
     pen: &mut Pen,
@@ -133,7 +133,7 @@ fn draw_mark(
     )
 }
 
-// The place of an effect that is drawn, counted from 1.
+// The point of an effect that is drawn, counted from 1.
 fn place_of(history: &History, grid: &Grid, effect: u32) -> Option<Point> {
     if effect == 0 {
         return None;

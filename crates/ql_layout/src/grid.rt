@@ -8,18 +8,18 @@ use ql_history::{History, Spot};
 use ql_svg::Point;
 use std::alloc::Global;
 
-/// Where the columns and the rows of a picture stand. Columns are a set of places, so they ascend.
+/// The coordinates of the columns and rows of a picture. Those of columns are a set of numbers, so they ascend.
 #[derive(Drop)]
 pub struct Grid {
-    /// The places of columns from the left, and half of the width of each.
+    /// The x coordinates of columns, and half of the width of each.
     pub columns: IdSet,
     pub halves: Vec<u32>,
-    /// The rows, and the place of each from the top.
+    /// The rows, and the y coordinate of each.
     pub lanes: Vec<Lane>,
     pub rows: Vec<u32>,
 }
 
-/// The places of what a history shows.
+/// The coordinates of what a history shows.
 pub fn grid_of(alloc: Global, history: &History) -> Result<Grid, NoMemory> {
     let halves = halves(alloc, &history.columns)?;
     let lanes = lanes_of(alloc, history)?;
@@ -35,14 +35,14 @@ impl Grid {
     ghost use Rattle.std.specs.Prelude.{◌≡◌};
     ghost use Rattle.ql_layout.specs.Places.{point_of, x_of, y_of};
 
-    /// The place of a column from the left; 0 where there is none.
+    /// The x coordinate of a column; 0 where there is none.
     pub(crate) fn x(&self, column: u32) -> u32
         ensures { result ≡ x_of self.now column }
     {
         number_at(self.columns.items(), column as usize)
     }
 
-    /// The place of a spot's row from the top; 0 where there is none.
+    /// The y coordinate of a spot's row; 0 where there is none.
     pub(crate) fn y(&self, spot: Spot) -> u32
         ensures { result ≡ y_of self.now spot }
     {
@@ -52,7 +52,7 @@ impl Grid {
         }
     }
 
-    /// The place of a spot.
+    /// The point of a spot.
     pub(crate) fn point(&self, spot: Spot) -> Point
         ensures { result ≡ point_of self.now spot }
     {
@@ -62,7 +62,7 @@ impl Grid {
         }
     }
 
-    /// The place of a replica's line.
+    /// The y coordinate of a replica's line.
     pub(crate) fn replica_y(&self, replica: u32) -> u32 {
         self.y(Spot {
             column: 0,
@@ -86,7 +86,7 @@ impl Grid {
     }
 }
 
-// The number at a place, or 0.
+// The number at an index, or 0.
 fn number_at(numbers: &[u32], at: usize) -> u32
     ensures { result ≡ slice_index numbers.now at }
 {

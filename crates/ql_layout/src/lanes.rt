@@ -12,7 +12,7 @@ pub struct Lane {
     pub session: Option<u32>,
 }
 
-/// The row of a spot, where it has one.
+/// The index of a spot's row, if it has one.
 pub(crate) fn row_of(lanes: &[Lane], spot: Spot) -> Option<usize>
     ensures { result ≡ position (is_lane_of spot) lanes.now }
 {
@@ -35,12 +35,12 @@ fn same_session(one: Option<u32>, other: Option<u32>) -> bool
     }
 }
 
-/// Whether two spots are of one session at one replica.
+/// Whether two spots belong to one session at one replica.
 pub(crate) fn is_in_lane(one: Spot, other: Spot) -> bool {
     one.replica == other.replica && same_session(one.session, other.session)
 }
 
-/// The rows of a history: each replica's line, where there are replicas, and below it those of its sessions.
+/// The rows of a history: each replica's line, if there are replicas, and below it those of its sessions.
 pub(crate) fn lanes_of(alloc: Global, history: &History) -> Result<Vec<Lane>, NoMemory> {
     let mut lanes = Vec::new(alloc);
     for replica in 0..history.replicas.max(1) {
@@ -65,7 +65,7 @@ fn push_sessions(lanes: &mut Vec<Lane>, replica: u32, sessions: &IdSet) -> Resul
     Ok(())
 }
 
-// The sessions that did something at a replica.
+// The sessions that acted at a replica.
 fn sessions_at(alloc: Global, columns: &[Column], replica: u32) -> Result<IdSet, NoMemory> {
     let mut sessions = IdSet::new(alloc);
     for column in columns {

@@ -6,10 +6,10 @@ use ql_base::{NoMemory, push_bytes, push_number};
 use ql_svg::{Kind, Style};
 use std::alloc::Global;
 
-// For how many bytes of a caption there is room at most.
+// The most bytes of a caption that count for its width.
 const MOST_WORDS: usize = 2000;
 
-/// The objects with their colours, in a line at a height. Gives where the line ends.
+/// Draws the objects with their colours, in a line at a height. Returns where the line ends.
 pub(crate) fn draw_objects(
     alloc: Global,
     pen: &mut Pen,
@@ -30,7 +30,7 @@ pub(crate) fn draw_objects(
     Ok(x)
 }
 
-/// Says how much is drawn, where that isn't all. Gives where the line ends.
+/// Says how many effects are drawn, unless all are. Returns where the line ends.
 pub(crate) fn draw_note(
     alloc: Global,
     pen: &mut Pen,
@@ -51,7 +51,7 @@ pub(crate) fn draw_note(
     Ok(LEFT.saturating_add(text_width(&text)))
 }
 
-/// The words of a breach. Gives where the line ends.
+/// Draws the description of a breach. Returns where the line ends.
 pub(crate) fn draw_caption(
     alloc: Global,
     pen: &mut Pen,

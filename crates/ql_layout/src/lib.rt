@@ -1,6 +1,6 @@
-// The picture of a history: where everything stands, and the shapes that are drawn there.
-// The one contract: the dots of a picture are one for each effect that is drawn, in order, each in the column of its
-// event and in the row of its session and replica; columns stand from left to right.
+// The picture of a history: the coordinates of everything, and the shapes that are drawn there.
+// The one contract: a picture has one dot for each effect that is drawn, in order, each in the column of its
+// event and in the row of its session and replica; columns go from left to right.
 #![tactic(auto)]
 
 mod axes;

@@ -2,15 +2,15 @@ use ql_base::{NoMemory, number_of, push_bytes};
 use ql_lines::first_field;
 use std::alloc::Global;
 
-/// An effect, counted from 1, with the variables that stand for it, as `a` or `a cur`.
+/// An effect, counted from 1, with the variables that denote it, as `a` or `a cur`.
 #[derive(Drop)]
 pub struct Marked {
     pub effect: u32,
     pub names: Vec<u8>,
 }
 
-/// The effects that the words of a breach name: `a=3` is effect 3 as `a`, and `at 2` effect 2 as `cur`. All other words
-/// say nothing.
+/// The effects that the description of a breach names: `a=3` is effect 3 as `a`, and `at 2` effect 2 as `cur`. All
+/// other words are skipped.
 pub fn marks_of(alloc: Global, words: &[u8]) -> Result<Vec<Marked>, NoMemory> {
     let mut marks = Vec::new(alloc);
     let mut rest = words;
@@ -29,7 +29,7 @@ pub fn marks_of(alloc: Global, words: &[u8]) -> Result<Vec<Marked>, NoMemory> {
     Ok(marks)
 }
 
-// The name and the effect of a word.
+// The name and the effect that a word denotes.
 fn named(field: &[u8], is_behind_at: bool) -> Option<(&[u8], u32)> {
     if is_behind_at {
         return Some((b"cur", effect_number(field)?));
@@ -44,7 +44,7 @@ fn effect_number(field: &[u8]) -> Option<u32> {
     Some(number as u32)
 }
 
-// One more name of an effect.
+// Adds a name of an effect.
 fn put_mark(
     alloc: Global,
     marks: &mut Vec<Marked>,

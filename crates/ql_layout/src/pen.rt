@@ -3,16 +3,16 @@ use ql_base::{NoMemory, push_bytes};
 use ql_svg::{Kind, Point, Shape, Style};
 use std::alloc::Global;
 
-// How many bytes are kept of a longer one.
+// How many bytes of a longer text are kept.
 const KEPT: usize = 28;
 
-/// What is drawn, one shape above another.
+/// The shapes drawn so far, from the lowest to the highest.
 #[derive(Drop)]
 pub(crate) struct Pen {
     pub shapes: Vec<Shape>,
 }
 
-/// A style that needs no colour.
+/// A style without a colour of its own.
 pub(crate) fn plain(kind: Kind) -> Style {
     Style { kind, colour: 0 }
 }
@@ -65,7 +65,7 @@ impl Pen {
         Ok(())
     }
 
-    /// A text, cut where it is long.
+    /// A text, shortened where it is long.
     pub(crate) fn label(
         &mut self,
         alloc: Global,
@@ -82,7 +82,7 @@ impl Pen {
         Ok(())
     }
 
-    /// A line of text below the picture, whole.
+    /// A line of text below the picture, in full.
     pub(crate) fn note(&mut self, alloc: Global, at: Point, text: &[u8]) -> Result<(), NoMemory> {
         let text = Vec::from_slice(alloc, text)?;
         let style = plain(Kind::Note);
@@ -91,7 +91,7 @@ impl Pen {
     }
 }
 
-// As much of a text as there is room for, with dots for the rest.
+// As much of a text as fits, with dots for the rest.
 fn shown(alloc: Global, text: &[u8]) -> Result<Vec<u8>, NoMemory> {
     if text.len() <= MOST_SHOWN {
         return Ok(Vec::from_slice(alloc, text)?);

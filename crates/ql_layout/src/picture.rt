@@ -16,8 +16,8 @@ use ql_history::{History, Run};
 use ql_svg::Picture;
 use std::alloc::Global;
 
-/// What a picture shows: a run and what happened in it, the effects of a breach, and whether all that is seen has an
-/// arrow, or only what no third effect implies.
+/// What a picture shows: a run and what happened in it, the effects of a breach, and whether there are arrows from all
+/// effects that are seen, or only from those that no third effect implies.
 #[derive(Clone, Copy)]
 pub struct Scene<'a> {
     pub run: &'a Run,
@@ -49,7 +49,7 @@ pub fn picture_of(
     })
 }
 
-// What lies under the dots.
+// The shapes under the dots.
 fn ground(alloc: Global, scene: Scene, grid: &Grid) -> Result<Vec<ql_svg::Shape>, NoMemory> {
     let mut pen = Pen::new(alloc);
     draw_spans(&mut pen, scene.history, grid)?;
@@ -68,7 +68,7 @@ fn draw_arrows(pen: &mut Pen, scene: Scene, grid: &Grid) -> Result<(), NoMemory>
     draw_visibility(pen, scene, grid)
 }
 
-// The lines below the rows, and where the longest one ends.
+// Draws the lines below the rows. Returns where the longest one ends.
 fn legend(
     alloc: Global,
     pen: &mut Pen,

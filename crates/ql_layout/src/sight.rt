@@ -8,7 +8,7 @@ pub(crate) fn sees(run: &Run, effect: u32, other: u32) -> bool {
     }
 }
 
-/// Whether an effect sees a third one that sees another.
+/// Whether an effect sees some effect that sees another.
 pub(crate) fn is_implied(run: &Run, effect: u32, other: u32) -> bool {
     match numbered(run, effect) {
         Some(effect) => one_sees(run, effect.seen.items(), other),

@@ -7,14 +7,14 @@ use ql_svg::{Kind, Style};
 
 const GROUPS: u32 = 4;
 
-// From where to where something goes.
+// An interval of coordinates.
 #[derive(Clone, Copy)]
 struct Reach {
     from: u32,
     to: u32,
 }
 
-/// The ground of each replica in each partition, and a wall between neighbours that are in different groups.
+/// The background of each replica in each partition, and a wall between neighbours in different groups.
 pub(crate) fn draw_spans(pen: &mut Pen, history: &History, grid: &Grid) -> Result<(), NoMemory> {
     for span in &history.spans {
         let across = Reach {
@@ -59,7 +59,7 @@ fn draw_walls(pen: &mut Pen, grid: &Grid, span: &Span, across: Reach) -> Result<
     Ok(())
 }
 
-// From where to where the rows of a replica go.
+// The interval of y coordinates that the rows of a replica take.
 fn band_of(grid: &Grid, replica: u32) -> Reach {
     let mut from = u32::MAX;
     let mut to = 0u32;

@@ -7,7 +7,7 @@ use ql_history::{Begun, Column, Spot};
 use ql_svg::Kind;
 use std::alloc::Global;
 
-// What a transaction did at one replica: where it began and ended there.
+// A transaction at one replica: its first and its last spot there.
 #[derive(Clone, Copy)]
 struct Stay {
     number: u32,
@@ -15,7 +15,7 @@ struct Stay {
     last: Spot,
 }
 
-/// A box about what each transaction did at each replica, with its number, name and level.
+/// A box around what each transaction did at each replica, with its number, name and level.
 pub(crate) fn draw_transactions(
     alloc: Global,
     pen: &mut Pen,
@@ -39,7 +39,7 @@ fn stays_of(alloc: Global, columns: &[Column]) -> Result<Vec<Stay>, NoMemory> {
     Ok(stays)
 }
 
-// A transaction did something at a spot.
+// Extends a transaction's stay at a replica by a spot, or begins it.
 fn put_stay(stays: &mut Vec<Stay>, number: u32, spot: Spot) -> Result<(), NoMemory> {
     for stay in stays.iter_mut() {
         if stay.number == number && stay.first.replica == spot.replica {
@@ -86,7 +86,7 @@ fn draw_stay(
     )
 }
 
-// The number of a transaction, its name where an effect tells it, and its level.
+// The number of a transaction, and its name and level if one of its effects names it.
 fn name_of(alloc: Global, scene: Scene, number: u32) -> Result<Vec<u8>, NoMemory> {
     let mut name = Vec::from_slice(alloc, b"txn ")?;
     push_number(&mut name, number)?;
@@ -99,7 +99,7 @@ fn name_of(alloc: Global, scene: Scene, number: u32) -> Result<Vec<u8>, NoMemory
     Ok(name)
 }
 
-/// The level of a begun transaction, empty where it isn't known.
+/// The level of a begun transaction, empty where it is unknown.
 pub(crate) fn level_of(scene: Scene, number: u32) -> &[u8] {
     match begun_of(scene, number) {
         Some(begun) => scene.run.level_of(true, begun.name),

@@ -54,7 +54,7 @@ fn left_of(history: &History, grid: &Grid, replica: u32) -> u32 {
     }
 }
 
-// A text and a number.
+// A text followed by a number.
 fn numbered(alloc: Global, text: &[u8], number: u32) -> Result<Vec<u8>, NoMemory> {
     let mut name = Vec::new(alloc);
     push_bytes(&mut name, text)?;
@@ -77,7 +77,7 @@ fn draw_lane(pen: &mut Pen, history: &History, grid: &Grid, lane: Spot) -> Resul
     }
 }
 
-/// The ways of sessions from one replica to another.
+/// The moves of sessions from one replica to another.
 pub(crate) fn draw_moves(pen: &mut Pen, history: &History, grid: &Grid) -> Result<(), NoMemory> {
     for (k, column) in history.columns.iter().enumerate() {
         if column.spot.session.is_none() {
@@ -92,7 +92,7 @@ pub(crate) fn draw_moves(pen: &mut Pen, history: &History, grid: &Grid) -> Resul
     Ok(())
 }
 
-// Where the session of a spot did something last, among the first so many events.
+// The last spot of a session among the first `count` events.
 fn last_before(history: &History, spot: Spot, count: usize) -> Option<Spot> {
     let mut last = None;
     for column in history.columns.iter().take(count) {
@@ -103,7 +103,7 @@ fn last_before(history: &History, spot: Spot, count: usize) -> Option<Spot> {
     last
 }
 
-/// The messages, each to where it came.
+/// The messages, each as far as it got.
 pub(crate) fn draw_passages(pen: &mut Pen, history: &History, grid: &Grid) -> Result<(), NoMemory> {
     for passage in &history.passages {
         draw_passage(pen, grid, *passage)?;
@@ -122,7 +122,7 @@ fn draw_passage(pen: &mut Pen, grid: &Grid, passage: Passage) -> Result<(), NoMe
     }
 }
 
-// The point after so many quarters of the way.
+// The point after this many quarters of the way.
 fn on_way(from: Point, to: Point, quarters: u32) -> Point {
     point(
         part_way(from.x, to.x, quarters),

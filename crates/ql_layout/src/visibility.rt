@@ -8,11 +8,11 @@ use ql_base::NoMemory;
 use ql_history::{Seat, Spot};
 use ql_svg::{Kind, Point, Style};
 
-// How far an arrow stays away from the middle of a dot.
+// The distance of an arrow from the centre of a dot, in pixels.
 const EDGE: u32 = 13;
 
 /// An arrow to each effect from those that it sees: from all of them, or from those that no third one implies. And a
-/// dotted line from each that it doesn't see, though it sees one that does.
+/// dotted line from each effect that it doesn't see, though it sees one that does.
 pub(crate) fn draw_visibility(pen: &mut Pen, scene: Scene, grid: &Grid) -> Result<(), NoMemory> {
     let mut to = 0u32;
     for seat in &scene.history.seats {
@@ -72,7 +72,7 @@ fn draw_arrow(
     }
 }
 
-// It doesn't see the effect at the first spot.
+// The dotted line from an effect that isn't seen.
 fn draw_gap(pen: &mut Pen, scene: Scene, grid: &Grid, spots: [Spot; 2]) -> Result<(), NoMemory> {
     let style = plain(Kind::Unseen);
     let ends = [grid.point(spots[0]), grid.point(spots[1])];
@@ -83,7 +83,7 @@ fn draw_gap(pen: &mut Pen, scene: Scene, grid: &Grid, spots: [Spot; 2]) -> Resul
     }
 }
 
-// Whether something of the same lane stands between two of its spots.
+// Whether an event of the same lane lies between two of its spots.
 fn is_between(scene: Scene, from: Spot, to: Spot) -> bool {
     scene.history.columns.iter().any(|column| {
         is_in_lane(column.spot, from)
@@ -92,14 +92,14 @@ fn is_between(scene: Scene, from: Spot, to: Spot) -> bool {
     })
 }
 
-// In a lane to the next one.
+// An arrow to the next spot of its lane.
 fn draw_straight(pen: &mut Pen, style: Style, ends: [Point; 2]) -> Result<(), NoMemory> {
     let from = point(ends[0].x.saturating_add(EDGE), ends[0].y);
     let to = point(ends[1].x.saturating_sub(EDGE), ends[1].y);
     pen.curve(style, [from, to], [from, to])
 }
 
-// In a lane, above what stands between.
+// An arrow within a lane, above what is in between.
 fn draw_arc(pen: &mut Pen, style: Style, ends: [Point; 2]) -> Result<(), NoMemory> {
     let from = point(ends[0].x.saturating_add(8), ends[0].y.saturating_sub(9));
     let to = point(ends[1].x.saturating_sub(8), ends[1].y.saturating_sub(10));
@@ -108,7 +108,7 @@ fn draw_arc(pen: &mut Pen, style: Style, ends: [Point; 2]) -> Result<(), NoMemor
     pen.curve(style, [from, to], [first, second])
 }
 
-// From one lane to another: it leaves the one and comes to the other along it.
+// An arrow between lanes, horizontal at both ends.
 fn draw_bend(pen: &mut Pen, style: Style, ends: [Point; 2]) -> Result<(), NoMemory> {
     let from = point(ends[0].x.saturating_add(EDGE - 3), ends[0].y);
     let to = point(ends[1].x.saturating_sub(EDGE), ends[1].y);

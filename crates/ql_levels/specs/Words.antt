@@ -1,4 +1,4 @@
--- The words of the levels. All but `wide`, which is ours, are names of Sivaramakrishnan, Kaki and Jagannathan (PLDI 2015).
+-- The names of the levels. All but `wide`, which is ours, are from Sivaramakrishnan, Kaki and Jagannathan (PLDI 2015).
 use Rattle.std.specs.Prelude.{ℕ, List, codes}
 use Rattle.ql_levels.specs.declared.level.Level.{Level}
 use Rattle.ql_levels.specs.declared.level.Level.TheVariants.{Eventual, Causal, Wide, Strong}

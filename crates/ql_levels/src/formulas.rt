@@ -17,7 +17,7 @@ const C: Term = Term::Var(2);
 
 const D: Term = Term::Var(3);
 
-/// The formula of a level: what it promises of the current effect.
+/// The formula of a level: what the store guarantees of the current effect.
 pub fn formula(alloc: Global, l: Level) -> Result<Formula, NoMemory>
     ensures { IfOk result (λ f. resolved_of f ≡ formula_of l) }
 {
@@ -70,7 +70,7 @@ pub fn formula(alloc: Global, l: Level) -> Result<Formula, NoMemory>
     }
 }
 
-/// The formula of a transaction's level: what it promises of the current transaction.
+/// The formula of a transaction's level: what the store guarantees of the current transaction.
 pub fn txn_formula(alloc: Global, l: TxnLevel) -> Result<Formula, NoMemory>
     ensures { IfOk result (λ f. resolved_of f ≡ txn_formula_of l) }
 {

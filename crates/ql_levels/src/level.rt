@@ -1,4 +1,4 @@
-/// What the store promises a call of an operation, in ascending order.
+/// What the store guarantees to a call of an operation, in ascending order.
 #[derive(Clone, Copy, Debug, PartialEq, Eq)]
 pub enum Level {
     Eventual,
@@ -7,7 +7,7 @@ pub enum Level {
     Strong,
 }
 
-/// What the store promises a transaction, in ascending order: read committed, monotonic atomic view,
+/// What the store guarantees to a transaction, in ascending order: read committed, monotonic atomic view,
 /// repeatable read.
 #[derive(Clone, Copy, Debug, PartialEq, Eq)]
 pub enum TxnLevel {

@@ -1,5 +1,5 @@
 // The store's levels: four for operations and three for transactions, each in ascending order.
-// The one contract: the formula of a level is the written one, and its word is its name both ways.
+// The one contract: the formula of a level is the written one, and each level is found by its name alone.
 #![tactic(auto)]
 
 mod formulas;

@@ -5,7 +5,7 @@ ghost use Rattle.ql_levels.specs.Words.{word_of, txn_word_of};
 
 use crate::level::{Level, TxnLevel};
 
-/// The word of a level.
+/// The name of a level, as it is written in files.
 pub fn level_word(l: Level) -> &'static str
     ensures { result.now ≡ word_of l }
 {
@@ -17,7 +17,7 @@ pub fn level_word(l: Level) -> &'static str
     }
 }
 
-/// The word of a transaction's level.
+/// The name of a transaction's level, as it is written in files.
 pub fn txn_word(l: TxnLevel) -> &'static str
     ensures { result.now ≡ txn_word_of l }
 {
@@ -28,7 +28,7 @@ pub fn txn_word(l: TxnLevel) -> &'static str
     }
 }
 
-/// The level of a word; none where it is no level's.
+/// The level with this name, if any.
 pub fn level_of(w: &[u8]) -> Option<Level>
     ensures found { IfSome result (λ l. word_of l ≡ w.now) }
     ensures only { (l : Level) → word_of l ≡ w.now → result ≡ Some l }
@@ -46,7 +46,7 @@ pub fn level_of(w: &[u8]) -> Option<Level>
     }
 }
 
-/// The transaction level of a word; none where it is no level's.
+/// The transaction level with this name, if any.
 pub fn txn_of(w: &[u8]) -> Option<TxnLevel>
     ensures found { IfSome result (λ l. txn_word_of l ≡ w.now) }
     ensures only { (l : TxnLevel) → txn_word_of l ≡ w.now → result ≡ Some l }

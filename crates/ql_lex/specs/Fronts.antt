@@ -9,7 +9,7 @@ use Rattle.ql_lex.specs.declared.token.TokenKind.TheVariants.{Name, Int, Text, M
 use Rattle.ql_lex.specs.declared.front.Front.{Front}
 use Rattle.ql_lex.specs.declared.front.Front.TheVariants.{Gap, Lexeme, NoToken, TooLong, NoNumber}
 
--- the greatest number that may stand in a text
+-- the greatest number that a source may contain
 abbrev pub most_number : ℕ
 most_number = 9223372036854775807
 
@@ -21,7 +21,7 @@ pub record BeginsNothing (b : ℕ) : Type 0 where
   pub digit : is_digit b ≡ false
   pub quote : is_quote b ≡ false
 
--- what stands at the front of a text: a gap or a token, as long as it can be, or a fault
+-- what a text starts with: a gap or a token, as long as possible, or a fault
 pub data IsFront : List ℕ → Front → Type 0 where
   blank : {b : ℕ} {rest : List ℕ} → is_blank b ≡ true → IsFront (b ∷ rest) (Gap 1)
   comment : (line rest : List ℕ) → AllPass is_in_line line → StopsBefore is_in_line rest → IsFront (35 ∷ line ++ rest) (Gap (length line + 1))

@@ -7,12 +7,12 @@ use Rattle.ql_lex.specs.declared.token.TokenKind.{TokenKind}
 use Rattle.ql_lex.specs.declared.token.LexFault.{LexFault}
 use Rattle.ql_lex.specs.declared.token.LexFault.TheVariants.{BadChar, LongWord, BadNumber, NoMemory}
 
--- an answer, with the tokens that were found before it
+-- a result, with the tokens that were found before it
 abbrev pub preceded : List Token → Result (List Token) LexFault → Result (List Token) LexFault
 preceded ts (Ok us) = Ok (ts ++ us)
 preceded ts (Err fault) = Err fault
 
--- a text from place `at` on is gaps and tokens, or has its first fault
+-- a text that starts at the offset `at` consists of gaps and tokens, or has a first fault
 pub data Lexes : ℕ → List ℕ → Result (List Token) LexFault → Type 0 where
   ends : {at : ℕ} → Lexes at [] (Ok [])
   gap : {at n : ℕ} {text : List ℕ} {r : Result (List Token) LexFault} → IsFront text (Gap n) → Lexes (at + n) (drop n text) r → Lexes at text r
@@ -21,17 +21,17 @@ pub data Lexes : ℕ → List ℕ → Result (List Token) LexFault → Type 0 wh
   too_long : {at : ℕ} {text : List ℕ} → IsFront text TooLong → Lexes at text (Err (LongWord at))
   no_number : {at : ℕ} {text : List ℕ} → IsFront text NoNumber → Lexes at text (Err (BadNumber at))
 
--- the fault is the text's first; want of memory says nothing of the text
+-- the fault is the text's first; running out of memory says nothing about the text
 abbrev pub IsFirstFault : List ℕ → LexFault → Type 0
 IsFirstFault text NoMemory = Unit {0}
 IsFirstFault text fault = Lexes 0 text (Err fault)
 
--- tokens that aren't empty, in ascending order, from place `at` up to `end`
+-- tokens that aren't empty, in ascending order, from the offset `at` up to `end`
 abbrev pub AreSpans : ℕ → ℕ → List Token → Type 0
 AreSpans at end [] = at ≤ end
 AreSpans at end (t ∷ ts) = (at ≤ t.from) × (t.from < t.to) × AreSpans t.to end ts
 
--- a front doesn't go past its text, and gaps and tokens aren't empty
+-- what a text starts with isn't longer than the text, and gaps and tokens aren't empty
 abbrev pub FitsIn : ℕ → Front → Type 0
 FitsIn len (Gap n) = (0 < n) × (n ≤ len)
 FitsIn len (Lexeme what n) = (0 < n) × (n ≤ len)

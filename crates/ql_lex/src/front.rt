@@ -16,7 +16,7 @@ const QUOTE: u8 = b'"';
 
 const MOST_NUMBER: u64 = 9_223_372_036_854_775_807;
 
-// What stands at the front of a text, with how many bytes it takes or how far its fault is.
+// What a text starts with, and its length or the offset of its fault, in bytes.
 #[derive(Clone, Copy, PartialEq, Eq)]
 pub enum Front {
     Gap(usize),
@@ -30,7 +30,7 @@ impl Front {
     ghost use Rattle.ql_lex.specs.Fronts.{IsFront, BeginsNothing};
     ghost use Rattle.ql_lex.specs.Tokens.{FitsIn};
 
-    // The front of a text that isn't at its end.
+    // What a text that isn't empty starts with.
     #[tactic(auto, using(crate::proofs::Classes::blank_is, crate::proofs::Within::front_within), unfolding(ql_base::specs::Bytes::is_blank, ql_base::specs::Bytes::is_lower, ql_base::specs::Bytes::is_digit))]
     pub(crate) fn of(text: &[u8]) -> Front
         requires { 0 < length text.now }
@@ -120,7 +120,7 @@ impl Front {
     }
 }
 
-// How many bytes stand before the line's end.
+// The number of bytes before the end of the line.
 fn line_bytes(text: &[u8]) -> usize
     ensures longest { result ≡ prefix_len is_in_line text.now }
     ensures within { result ≤ length text.now }
@@ -128,7 +128,7 @@ fn line_bytes(text: &[u8]) -> usize
     text.iter().take_while(|b| **b != b'\n').count()
 }
 
-// How many bytes at the front may stand inside a text.
+// The length of the longest prefix that a text may contain.
 fn text_bytes(text: &[u8]) -> usize
     ensures longest { result ≡ prefix_len is_text_byte text.now }
     ensures within { result ≤ length text.now }
@@ -136,7 +136,7 @@ fn text_bytes(text: &[u8]) -> usize
     text.iter().take_while(|b| is_text_byte(**b)).count()
 }
 
-// Whether the text goes on with what may not stand straight after a number.
+// Whether the text continues with a byte that may not directly follow a number.
 fn begins_word(text: &[u8]) -> bool
     ensures { result ≡ begins is_word_byte text.now }
 {
@@ -146,7 +146,7 @@ fn begins_word(text: &[u8]) -> bool
     }
 }
 
-// Whether the text goes on with a quote.
+// Whether the text continues with a quote.
 fn begins_quote(text: &[u8]) -> bool
     ensures { result ≡ begins is_quote text.now }
 {

@@ -1,6 +1,6 @@
 // Cuts a source text into tokens.
-// Its one contract: `tokens` answers the tokens of the text, longest mark first, or the first place
-// that fits no token.
+// Its one contract: `tokens` returns the tokens of the text, each as long as possible, or the first
+// offset that fits no token.
 #![tactic(auto)]
 
 mod front;

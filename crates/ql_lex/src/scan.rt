@@ -5,8 +5,8 @@ use crate::front::Front;
 use crate::token::{LexFault, Token};
 use std::alloc::Global;
 
-/// The tokens of a source text of fewer than 2^32 bytes, in order, blanks and comments left out; or
-/// the first place that fits no token.
+/// The tokens of a source text of fewer than 2^32 bytes, in order, without blanks and comments; or
+/// the fault at the first offset that fits no token.
 #[tactic(auto, using(crate::proofs::Steps::after_gap, crate::proofs::Steps::after_token, crate::proofs::Steps::at_no_token, crate::proofs::Steps::at_too_long, crate::proofs::Steps::at_no_number, crate::proofs::Steps::at_end, crate::proofs::Spans::tokens_spans))]
 pub fn tokens(alloc: Global, bytes: &[u8]) -> Result<Vec<Token>, LexFault>
     requires { length bytes.now < 2 ^ 32 }

@@ -11,11 +11,11 @@ pub enum TokenKind {
     Text,
     /// A mark of one or two bytes.
     Mark,
-    /// One of the words that no name is.
+    /// A reserved word.
     Keyword,
 }
 
-/// A token: its bytes are those of the source from `from` up to `to`, which is past the last.
+/// A token: the bytes of the source from the offset `from` up to the offset `to`, which is excluded.
 #[derive(Clone, Copy, Debug, PartialEq, Eq)]
 pub struct Token {
     pub what: TokenKind,
@@ -23,18 +23,19 @@ pub struct Token {
     pub to: u32,
 }
 
-/// Why a source has no tokens, with the place of the first fault as a byte offset from 0.
+/// Why a source can't be cut into tokens, with the byte offset of the first fault, counted from 0.
 #[derive(Clone, Copy, Debug, PartialEq, Eq)]
 pub enum LexFault {
-    /// A byte that begins no token, or that may not stand inside a text. A text that doesn't end
-    /// has this fault at the source's end.
+    /// A byte that begins no token, or that a text may not contain. A text that doesn't end has
+    /// this fault at the source's end.
     BadChar(u32),
-    /// A name of more than 32 bytes at its first byte, or a text of more than 64 at its first quote.
+    /// A name of more than 32 bytes, reported at its first byte, or a text of more than 64 bytes,
+    /// reported at its first quote.
     LongWord(u32),
-    /// A number that is too great, begins with a zero that isn't needed, or is followed by a letter
-    /// or `_`, at its first digit.
+    /// A number that is too great, has a leading zero, or is followed by a letter or `_`, reported
+    /// at its first digit.
     BadNumber(u32),
-    /// No memory was left.
+    /// Out of memory.
     NoMemory,
 }
 

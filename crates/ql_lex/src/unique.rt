@@ -3,7 +3,7 @@ ghost use Rattle.ql_lex.specs.Tokens.{Lexes};
 ghost use Rattle.ql_lex.specs.declared.token.LexFault.{LexFault};
 ghost use Rattle.ql_lex.specs.declared.token.Token.{Token};
 
-/// Each text has one answer: its tokens, or the first place that fits none, and not both.
+/// Each text has exactly one result: its tokens, or its first fault.
 pub fn one_answer()
     ensures some { (text : List ℕ) → (r : Result (List Token) LexFault) × Lexes 0 text r }
     ensures one { (text : List ℕ) (r s : Result (List Token) LexFault) → Lexes 0 text r → Lexes 0 text s → r ≡ s }

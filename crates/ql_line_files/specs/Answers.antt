@@ -1,4 +1,4 @@
--- What the readers of a line and of a file's end answer: the one thing that is given, or that memory has run out.
+-- What the readers of a line and of a file's end return: the given result, or that memory has run out.
 use Rattle.std.specs.Prelude.{ℕ, Result, Ok, Err}
 use Rattle.ql_line_files.specs.declared.fault.Broken.{Broken}
 use Rattle.ql_line_files.specs.declared.fault.FileFault.{FileFault}
@@ -16,7 +16,7 @@ IsEndAnswer given (Ok said) = given (Ok said)
 IsEndAnswer given (Err (file.Broken fault)) = given (Err fault)
 IsEndAnswer given (Err file.NoMemory) = Unit {0}
 
--- a line's fault as one of the file, at the line's number
+-- a line's fault as a fault of the file, at the line's number
 abbrev pub fault_at : {Rule : Type 0} → LineFault Rule → ℕ → FileFault Rule
 fault_at (line.Breaks rule) number = file.Broken (record { line = number; rule = rule })
 fault_at line.NoMemory number = file.NoMemory

@@ -1,10 +1,10 @@
--- What a line file comes to: what it says, or its first fault.
+-- The outcome of a line file: what it says, or its first fault.
 use Rattle.std.specs.Prelude.{ℕ, ◌≡◌, List, [], ◌∷◌, ◌++◌, Result, Ok, Err}
 use Rattle.ql_lines.specs.Lines.{Ahead, Numbered}
 use Rattle.ql_line_files.specs.declared.fault.Broken.{Broken}
 
 module _ {State Said Rule : Type 0} (gives : State → Numbered → Result State Rule → Type 0) (closes : State → ℕ → Result Said (Broken Rule) → Type 0) where
-  -- what lines make of what is said before them, one after another
+  -- lines, read one after another, lead from one state to another
   unfoldable pub Leads : State → List Numbered → State → Type 0
   Leads before [] after = before ≡ after
   Leads before (l ∷ ls) after = (next : State) × gives before l (Ok next) × Leads next ls after
@@ -16,7 +16,7 @@ module _ {State Said Rule : Type 0} (gives : State → Numbered → Result State
       pub leads : Leads start file.lines state
       pub ends : closes state file.end (Ok said)
 
-    -- the first fault: the first line that breaks a rule, or one for which the file may not end where it does
+    -- the first fault: the first line that breaks a rule, or else a rule that the file's end breaks
     pub data FirstFault : Broken Rule → Type 0 where
       at_line : (before : List Numbered) (l : Numbered) (rest : List Numbered) (state : State) (rule : Rule) → file.lines ≡ before ++ l ∷ rest → Leads start before state
           → gives state l (Err rule) → FirstFault (record { line = l.number; rule = rule })

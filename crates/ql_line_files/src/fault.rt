@@ -5,14 +5,14 @@ use std::alloc::AllocFailed;
 /// Why a line may not follow the lines before it.
 #[derive(Clone, Copy)]
 pub enum LineFault<R> {
-    /// The rule that it breaks. Where it breaks several, the format says which one counts.
+    /// The rule that it breaks. If it breaks several, the format says which one is reported.
     Breaks(R),
-    /// No memory was left.
+    /// Out of memory.
     NoMemory,
 }
 
 /// The first fault of a file: a line, counted from 1, and the rule that it breaks. A file that ends
-/// too early has its fault on the line after its last one, where its format says nothing else.
+/// too early has its fault on the line after its last one, unless its format says otherwise.
 #[derive(Clone, Copy)]
 pub struct Broken<R> {
     pub line: u64,
@@ -23,7 +23,7 @@ pub struct Broken<R> {
 #[derive(Clone, Copy)]
 pub enum FileFault<R> {
     Broken(Broken<R>),
-    /// No memory was left.
+    /// Out of memory.
     NoMemory,
 }
 

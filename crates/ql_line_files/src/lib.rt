@@ -1,5 +1,5 @@
 // Line files of any format, read line by line.
-// The one contract: a file is read to what it says, or to its first fault, which is a line and the
+// The one contract: reading a file returns what it says, or its first fault, which is a line and the
 // rule that it breaks; no file has two of these, and none has neither.
 #![tactic(auto)]
 

@@ -7,7 +7,7 @@ use crate::fault::FileFault;
 use crate::format::LineFormat;
 use ql_lines::Lines;
 
-/// What a file says, or its first fault.
+/// Reads a file: what it says, or its first fault.
 pub fn read_file<F: LineFormat>(format: &F, bytes: &[u8]) -> Result<F::Said, FileFault<F::Rule>>
     requires sound { F.sound format.now (F.start format.now) (length (ahead_from 1 bytes.now).lines) }
     ensures { IsEndAnswer (Outcome (F.gives format.now) (F.closes format.now) (F.start format.now) (ahead_from 1 bytes.now)) result }

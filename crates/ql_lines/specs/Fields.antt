@@ -14,12 +14,12 @@ isn't_empty part = not (length part == 0)
 abbrev pub fields_of : List ℕ → Fields
 fields_of text = filter isn't_empty (slice_split is_space text)
 
--- the first field of a line, behind spaces, and what stands straight behind it
+-- the first field of a line, after spaces, and what directly follows it
 pub record FirstField (text field rest : List ℕ) : Type 0 where
   pub fields : fields_of text ≡ field ∷ fields_of rest
   pub spaces : ℕ
   pub stands : text ≡ replicate spaces 32 ++ field ++ rest
 
--- the ids of files are numbers of 32 bits
+-- an id in a file is a number of 32 bits
 abbrev pub IsId : ℕ → Type 0
 IsId n = n < 2 ^ 32

@@ -1,5 +1,5 @@
--- The lines of a line file. A line ends at a line feed, before which a carriage return doesn't count, and the end of the
--- last line may be missing. Lines that are blank or whose first byte but spaces is `#` tell nothing, and are counted.
+-- The lines of a line file. A line ends with a line feed or with a carriage return and a line feed, and the end of the
+-- last line may be missing. Blank lines, and comments, whose first byte after spaces is `#`, are skipped, but counted.
 use Rattle.std.specs.Prelude.{ℕ, Bool, true, false, ◌+◌, ◌==◌, List, [], ◌∷◌, length, if◌then◌else◌}
 use Rattle.std.specs.Str.Lines.{lines}
 use Rattle.ql_lines.specs.Fields.{fields_of}
@@ -24,12 +24,12 @@ tell_nothing (f ∷ fs) = begins_with 35 f
 unfoldable pub is_skipped : List ℕ → Bool
 is_skipped line = tell_nothing (fields_of line)
 
--- the lines that tell something, where the first line has the number n
+-- the lines that aren't skipped, where the first line has the number n
 unfoldable pub told : ℕ → List (List ℕ) → List Numbered
 told n [] = []
 told n (l ∷ ls) = if is_skipped l then told (n + 1) ls else record { number = n; text = l } ∷ told (n + 1) ls
 
--- what a reader has before it: lines, and the place of the file's end, which is one more than the number of its last line
+-- what is left to read: lines, and the line number of the file's end, which is one more than that of its last line
 pub record Ahead : Type 0 where
   pub lines : List Numbered
   pub end : ℕ

@@ -8,7 +8,7 @@ joined [] = []
 joined (f ∷ []) = f
 joined (f ∷ g ∷ fs) = f ++ 32 ∷ joined (g ∷ fs)
 
--- each field behind a space
+-- each field after a space
 unfoldable pub behind : List (List ℕ) → List ℕ
 behind [] = []
 behind (f ∷ fs) = 32 ∷ f ++ behind fs
@@ -17,7 +17,7 @@ unfoldable pub file_text : List (List (List ℕ)) → List ℕ
 file_text [] = []
 file_text (l ∷ ls) = joined l ++ 10 ∷ file_text ls
 
--- a byte that may stand in a field that is written: no space and no line's end
+-- a byte that a written field may not contain: a space or the end of a line
 abbrev pub is_ender : ℕ → Bool
 is_ender b = (b == 32) || (b == 10) || (b == 13)
 
@@ -30,7 +30,7 @@ pub record IsPlain (f : List ℕ) : Type 0 where
   pub some : 0 < length f
   pub plain : EndsNothing f
 
--- fields that are read as they are written, and tell something
+-- fields that are read as they are written, of a line that isn't skipped
 pub record IsPlainLine (fields : List (List ℕ)) : Type 0 where
   pub plain : AllByRecursion IsPlain fields
   pub told : tell_nothing fields ≡ false

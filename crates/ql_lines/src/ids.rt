@@ -8,7 +8,7 @@ use crate::leading::after_number;
 use ql_base::{IdSet, NoMemory};
 use std::alloc::Global;
 
-/// The ascending ids that the fields of a text spell; `None` where a field is no id, or isn't above
+/// The ascending ids that the fields of a text spell; `None` if a field isn't an id, or isn't above
 /// the one before it.
 pub fn ascending_ids(alloc: Global, text: &[u8]) -> Result<Option<IdSet>, NoMemory>
     ensures { IfOk result (λ ids. MatchOption ids ((seen : List ℕ) → AllByRecursion IsId seen → IsAscending seen → fields_of text.now ≡ map decimal seen → ⊥)
@@ -29,7 +29,7 @@ pub fn ascending_ids(alloc: Global, text: &[u8]) -> Result<Option<IdSet>, NoMemo
     }
 }
 
-// Whether an id is greater than the last of ascending ids, where there are any.
+// Whether an id is greater than the last of ascending ids, if there are any.
 fn is_above(ids: &[u32], id: u32) -> bool
     requires { IsAscending ids.now }
     ensures { IsTrue result ↔ IsAscending (ids.now ++ id ∷ []) }

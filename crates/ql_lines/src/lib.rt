@@ -1,7 +1,7 @@
 // The lines of a line file, with their numbers, and the fields of a line.
-// Its one contract: `Lines` gives the lines that tell something, in order and each with its number,
-// and `first_field` the parts of a line that stand between spaces; words, names, numbers and ids are
-// read from a line's front.
+// Its one contract: `Lines` yields the lines that aren't skipped, in order and each with its number,
+// and `first_field` returns the parts of a line that stand between spaces; words, names, numbers and
+// ids are read from the start of a line.
 #![tactic(auto)]
 
 mod fields;

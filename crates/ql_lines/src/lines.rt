@@ -6,7 +6,7 @@ use crate::fields::first_field;
 use crate::search::bytes_before;
 use std::marker::Model;
 
-/// A line of a line file that tells something, without its end.
+/// A line of a line file that isn't skipped, without its end.
 #[derive(Clone, Copy, Debug)]
 pub struct Line<'a> {
     /// The line's number, from 1.
@@ -14,8 +14,8 @@ pub struct Line<'a> {
     pub text: &'a [u8],
 }
 
-/// Reads the lines of a line file from first to last, and passes over those that tell nothing: the
-/// blank ones and the comments, which begin with `#` after spaces.
+/// Reads the lines of a line file from first to last, and skips blank lines and comments, which begin
+/// with `#` after spaces.
 #[derive(Drop)]
 pub struct Lines<'a> {
     rest: &'a [u8],
@@ -46,7 +46,7 @@ impl<'a> Lines<'a> {
         }
     }
 
-    /// The next line that tells something.
+    /// The next line that isn't skipped.
     pub fn next_line(&mut self) -> Option<Line<'a>>
         ensures line { MatchOption result ((self.old.lines ≡ []) × (self.new.lines ≡ [])) (λ l. self.old.lines ≡ record { number = l.number; text = l.text.now } ∷ self.new.lines) }
         ensures end { self.new.end ≡ self.old.end }
@@ -62,7 +62,7 @@ impl<'a> Lines<'a> {
         None
     }
 
-    /// The place of the file's end: one more than the number of its last line.
+    /// The line number of the file's end: one more than the number of its last line.
     pub fn end(&self) -> u64
         ensures { result ≡ self.now.end }
     {
@@ -76,7 +76,7 @@ impl<'a> Lines<'a> {
     }
 }
 
-// The first line of a file and what stands behind its end.
+// The first line of a file and what follows its end; `None` if nothing is left.
 fn first_line(bytes: &[u8]) -> Option<(&[u8], &[u8])>
     ensures { MatchOption result (length bytes.now ≡ 0) (λ x. (length x.1.now < length bytes.now) × (lines bytes.now ≡ x.0.now ∷ lines x.1.now)) }
 {
@@ -91,7 +91,7 @@ fn first_line(bytes: &[u8]) -> Option<(&[u8], &[u8])>
     }
 }
 
-// A line without the one carriage return at its end, where it has one.
+// A line without the one carriage return at its end, if it has one.
 fn without_return(line: &[u8]) -> &[u8]
     ensures { result.now ≡ strip_carriage_return line.now }
 {

@@ -3,7 +3,7 @@ ghost use Rattle.std.specs.List.{position_or_len};
 
 use memchr::memchr;
 
-/// How many bytes stand before the first one that is `byte`. Where none is, they are all.
+/// The number of bytes before the first `byte`, or of all bytes if there is none.
 pub fn bytes_before(text: &[u8], byte: u8) -> usize
     ensures longest { result ≡ position_or_len (λ b. b == byte) text.now }
     ensures within { result ≤ length text.now }

@@ -1,5 +1,5 @@
 -- What a call must find before it is answered, by the level of its operation and by that of an open transaction.
--- A store that waits until the call can be answered is the article's; that the call is answered `Blocked` is ours.
+-- A store that waits until the call can be answered is the article's; that the reply is `Blocked` is ours.
 use Rattle.std.specs.Prelude.{◌≡◌, ◌⊎◌, ℕ, true, false, List, Option, Some, None}
 use Rattle.ql_base.specs.declared.ids.SessId.{SessId}
 use Rattle.ql_exec.specs.declared.effect.Effect.{Effect}
@@ -15,7 +15,7 @@ use Rattle.ql_machine.specs.State.{Machine, received_at, open_of}
 use Rattle.ql_machine.specs.Rules.{Rules, Call}
 use Rattle.ql_machine.specs.Views.{InView, AppliedWithOwn}
 
--- an effect is there, and of a session
+-- there is an effect, and it is of a session
 abbrev pub IsOf : SessId → Option Effect → Type 0
 IsOf session None = ⊥
 IsOf session (Some effect) = effect.session ≡ session

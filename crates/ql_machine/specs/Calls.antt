@@ -1,5 +1,5 @@
--- How a call is answered. There is one rule for each answer, in their order: an earlier one decides, and a later one
--- says that no earlier one does. What a rule doesn't name stays as it was.
+-- How a call is answered. There is one rule for each reply, in their order: an earlier one decides, and a later one
+-- requires that no earlier one applies. What a rule doesn't name stays as it was.
 use Rattle.std.specs.Prelude.{◌≡◌, ◌≢◌, ℕ, ◌<◌, true, false, List, [], ◌∷◌, ◌++◌, Some, None}
 use Rattle.ql_base.specs.IdLists.{has_id}
 use Rattle.ql_base.specs.declared.ids.EffId.{EffId}
@@ -55,14 +55,14 @@ pub record MayCall (rules : Rules) (s : Machine) (c : Call) : Type 0 where
   pub connected : rules.level c.op ≡ Strong → IsConnected s c.replica
   pub free : rules.level c.op ≡ Strong → IsFree s c.object
 
--- nor is it blocked: it is answered at a replica that there is, and sees exactly its view
+-- nor is it blocked: it is answered at an existing replica, and sees exactly its view
 pub record MayAnswer (rules : Rules) (s : Machine) (c : Call) (seen : List ℕ) : Type 0 where
   pub may : MayCall rules s c
   pub none_missing : NoneMissing rules s c
   pub in_range : c.replica.0 < replicas s
   pub view : AreThose (InView rules s c) seen
 
--- ---- what a call that is answered leaves behind
+-- -- the state after a call is answered
 
 -- outside a transaction and below strong: its replica receives the effect, and sends it to each other one
 abbrev pub after_plain : Rules → Machine → Call → List ℕ → Machine

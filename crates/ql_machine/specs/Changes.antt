@@ -1,4 +1,4 @@
--- What events make of the parts of the state: messages, what was received, open transactions and the execution.
+-- How events change the parts of the state: messages, what was received, open transactions and the execution.
 use Rattle.std.specs.Prelude.{◌≡◌, ℕ, zero, suc, ◌+◌, ◌-◌, ◌<◌, Bool, not, ◌&&◌, nat_eq, if◌then◌else◌, List, [], ◌∷◌, ◌++◌, map, length, slice_set, filter, Option, Some, None}
 use Rattle.std.specs.List.{list_any}
 use Rattle.ql_base.specs.IdLists.{has_id, union_of}
@@ -48,7 +48,7 @@ to_others zero sender ids = []
 to_others (suc r) sender ids =
     to_others r sender ids ++ (if nat_eq r sender.0 then [] else message_of sender (record { 0 = r }) ids ∷ [])
 
--- the same where there is something to carry
+-- the same if there is something to carry
 abbrev pub package_to_others : ℕ → ReplicaId → List ℕ → List Message
 package_to_others n sender [] = []
 package_to_others n sender (a ∷ ids) = to_others n sender (a ∷ ids)
@@ -77,13 +77,13 @@ received_by_all received ids = map (λ held. union_of held ids) received
 abbrev pub next_replica : Machine → ReplicaId
 next_replica s = record { 0 = replicas s }
 
--- there is one replica more, with what it has received, in the group of another
+-- there is one more replica, with what it has received, in the group of another
 abbrev pub after_join : Machine → ReplicaId → List ℕ → Machine
 after_join s near ids = record s { received = s.received ++ ids ∷ []; groups = s.groups ++ group_at s.groups near.0 ∷ [] }
 
 -- ---- open transactions
 
--- a session has none open
+-- a session has no open transaction
 abbrev pub without : List OpenTxn → SessId → List OpenTxn
 without open_txns session = filter (λ t. not (nat_eq t.session.0 session.0)) open_txns
 

@@ -1,4 +1,4 @@
--- How a message is delivered, one rule for each answer in their order.
+-- How a message is delivered, one rule for each reply in their order.
 use Rattle.std.specs.Prelude.{◌≡◌, ℕ, true, false, List}
 use Rattle.ql_base.specs.IdLists.{has_id}
 use Rattle.ql_base.specs.declared.ids.EffId.{EffId}
@@ -12,8 +12,8 @@ use Rattle.ql_machine.specs.Views.{Applied}
 use Rattle.ql_machine.specs.Changes.{IsGone, IsInFlight, received_by, spent}
 
 -- sender and receiver are in one group
-abbrev pub Passes : Machine → Message → Type 0
-Passes s message = group_at s.groups message.sender.0 ≡ group_at s.groups message.receiver.0
+abbrev pub IsInOneGroup : Machine → Message → Type 0
+IsInOneGroup s message = group_at s.groups message.sender.0 ≡ group_at s.groups message.receiver.0
 
 -- the receiver has received all that the message carries
 abbrev pub IsKnown : Machine → Message → Type 0
@@ -34,7 +34,7 @@ after_receipt s m message =
 -- a copy is in flight and passes, and the receiver hasn't received all that the message carries
 pub record IsNew (s : Machine) (m : ℕ) (message : Message) : Type 0 where
   pub in_flight : IsInFlight s.messages m message
-  pub passes : Passes s message
+  pub passes : IsInOneGroup s message
   pub unknown : has_all (received_at s.received message.receiver.0) message.carried ≡ false
 
 -- what a message carries needs an effect, directly or through others, that the receiver hasn't received
@@ -51,12 +51,12 @@ pub data IsDelivery (s : Machine) (m : ℕ) : Machine → Reply → Type 0 where
   -- no copy is in flight
   gone : IsGone s.messages m → IsDelivery s m s Gone
   -- sender and receiver are in different groups: it stays in flight
-  cut : (message : Message) → IsInFlight s.messages m message → (Passes s message → ⊥) → IsDelivery s m s Cut
+  cut : (message : Message) → IsInFlight s.messages m message → (IsInOneGroup s message → ⊥) → IsDelivery s m s Cut
   -- the receiver has received it already: the copy is spent
-  again : (message : Message) → IsInFlight s.messages m message → Passes s message → IsKnown s message → IsDelivery s m (after_copy s m message) Again
+  again : (message : Message) → IsInFlight s.messages m message → IsInOneGroup s message → IsKnown s message → IsDelivery s m (after_copy s m message) Again
   -- received, and something that it needs isn't: the least of that is reported
   waits : (message : Message) (a : EffId) → IsNew s m message → IsLeast (IsAwaited (after_receipt s m message) message) a.0
       → IsDelivery s m (after_receipt s m message) (Waits a)
-  -- received with all that it needs: what the replica now applies and didn't before is reported
+  -- received with all that it needs: the effects that the replica applies now and didn't before are reported
   applies : (message : Message) (ids : List ℕ) → IsNew s m message → ((a : ℕ) → Has message.carried a → Applied (after_receipt s m message) message.receiver.0 a)
       → AreThose (IsGained s (after_receipt s m message) message.receiver.0) ids → IsDelivery s m (after_receipt s m message) (Applies ids)

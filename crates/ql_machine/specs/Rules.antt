@@ -1,4 +1,5 @@
--- What the machine is given: levels, the operations that transactions use, and how calls are answered. And one call.
+-- The parameters of the machine: levels, the operations that transactions use, and how calls are answered. And one
+-- call.
 use Rattle.std.specs.Prelude.{Bool, List}
 use Rattle.ql_base.specs.declared.ids.DeclId.{DeclId}
 use Rattle.ql_base.specs.declared.ids.ObjId.{ObjId}
@@ -11,7 +12,7 @@ use Rattle.ql_exec.specs.declared.folder.Answered.{Answered}
 use Rattle.ql_levels.specs.declared.level.Level.{Level}
 use Rattle.ql_levels.specs.declared.level.TxnLevel.{TxnLevel}
 
--- the level of each operation and of each declared transaction: what the store promises
+-- the level of each operation and of each declared transaction: what the store guarantees
 pub record Promises : Type 0 where
   pub level : OpId → Level
   pub txn_level : DeclId → TxnLevel

@@ -13,11 +13,11 @@ pub data Leads (rules : Rules) : Machine → List Event → List Reply → Machi
   step : (s : Machine) (event : Event) (next : Machine) (reply : Reply) (events : List Event) (replies : List Reply) (last : Machine)
       → IsStep rules s event next reply → Leads rules next events replies last → Leads rules s (event ∷ events) (reply ∷ replies) last
 
--- a run with a number of replicas, which begins with nothing
+-- a run with this many replicas, from the initial state
 abbrev pub IsRun : Rules → ℕ → List Event → List Reply → Machine → Type 0
 IsRun rules n events replies last = Leads rules (empty n) events replies last
 
--- how many replicas there are behind an event, and behind several
+-- how many replicas there are after an event, and after several
 abbrev pub replicas_after : ℕ → Event → ℕ
 replicas_after n (event.Join near copy) = suc n
 replicas_after n _ = n

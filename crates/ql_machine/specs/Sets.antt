@@ -8,13 +8,13 @@ abbrev pub has_all : List ℕ → List ℕ → Bool
 has_all ids [] = true
 has_all ids (a ∷ others) = has_id ids a && has_all ids others
 
--- these are the ids of which something holds, in ascending order
+-- the ids of which something holds, in ascending order
 pub record AreThose (holds : ℕ → Type 0) (ids : List ℕ) : Type 0 where
   pub ascending : IsAscending ids
   pub all : (a : ℕ) → holds a → Has ids a
   pub only : (a : ℕ) → Has ids a → holds a
 
--- something holds of a number, and of no lower one
+-- the least number of which something holds
 pub record IsLeast (holds : ℕ → Type 0) (a : ℕ) : Type 0 where
   pub fits : holds a
   pub least : (b : ℕ) → holds b → a ≤ b

@@ -43,7 +43,7 @@ received_at received r = slice_index_or received r []
 abbrev pub group_at : List ℕ → ℕ → ℕ
 group_at groups r = slice_index groups r
 
--- the message of a number, counted from 1
+-- the message with this number, counted from 1
 abbrev pub message_at : List Message → ℕ → Option Message
 message_at messages zero = None
 message_at messages (suc k) = slice_get messages k

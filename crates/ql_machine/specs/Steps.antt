@@ -57,7 +57,7 @@ after_begin s session decl objects snapshot =
       begun = suc s.begun;
     }
 
--- the transaction is closed; the replica receives its effects, and sends them to each other one where there are any
+-- the transaction is closed; the replica receives its effects and sends them, if there are any, to each other replica
 abbrev pub after_commit : Machine → SessId → ReplicaId → List ℕ → Machine
 after_commit s session replica own =
     record s {
@@ -74,7 +74,7 @@ pub data IsStep (rules : Rules) (s : Machine) : Event → Machine → Reply → 
   -- begin: the session has a transaction open
   already_open : (session : SessId) (replica : ReplicaId) (decl : DeclId) (objects : List ℕ) (t : OpenTxn) → HasOpen s session t
       → IsStep rules s (Begin session replica decl objects) s (Refused AlreadyOpen)
-  -- else a transaction begins with what the replica has applied as its snapshot
+  -- else a transaction begins, with what the replica has applied as its snapshot
   begins : (session : SessId) (replica : ReplicaId) (decl : DeclId) (objects snapshot : List ℕ) → HasNoneOpen s session → replica.0 < replicas s
       → AreThose (Applied s replica.0) snapshot → IsStep rules s (Begin session replica decl objects) (after_begin s session decl objects snapshot) Begun
   -- commit: the session has none open
@@ -86,7 +86,7 @@ pub data IsStep (rules : Rules) (s : Machine) : Event → Machine → Reply → 
   delivers : (m : MsgId) (after : Machine) (r : Reply) → IsDelivery s m.0 after r → IsStep rules s (Deliver m) after r
   -- repeat: no copy is in flight
   none_to_repeat : (m : MsgId) → IsGone s.messages m.0 → IsStep rules s (Repeat m) s Gone
-  -- else there is one copy more
+  -- else there is one more copy
   repeats : (m : MsgId) (message : Message) → IsInFlight s.messages m.0 message → IsStep rules s (Repeat m) (record s { messages = repeated s.messages m.0 message }) (Sent m)
   -- lose: no copy is in flight
   none_to_lose : (m : MsgId) → IsGone s.messages m.0 → IsStep rules s (Lose m) s Gone
@@ -99,7 +99,7 @@ pub data IsStep (rules : Rules) (s : Machine) : Event → Machine → Reply → 
   resends : (a : EffId) (sender receiver : ReplicaId) (package_ids : List ℕ) → has_id (received_at s.received sender.0) a.0 ≡ true
       → AreThose (λ b. sametxn s.effects a.0 b ≡ true) package_ids
       → IsStep rules s (Resend a sender receiver) (record s { messages = s.messages ++ message_of sender receiver package_ids ∷ [] }) (Sent (next_message s.messages))
-  -- a partition gives each replica its group
+  -- a partition puts each replica into its group
   splits : (groups : List ℕ) → IsStep rules s (Partition groups) (record s { groups = groups }) Split
   -- heal: there is one group
   heals : IsStep rules s Heal (record s { groups = replicate (replicas s) 0 }) Healed

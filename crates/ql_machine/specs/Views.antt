@@ -18,7 +18,7 @@ use Rattle.ql_machine.specs.Rules.{Rules, Call}
 abbrev pub Applied : Machine → ℕ → ℕ → Type 0
 Applied s r a = Closed (NeedsNow s.effects s.open_txns) (Has (received_at s.received r)) a
 
--- the same of some ids that the transaction's own effects join
+-- the same of some ids together with the transaction's own effects
 abbrev pub AppliedWithOwn : Machine → OpenTxn → List ℕ → ℕ → Type 0
 AppliedWithOwn s t ids a = Closed (NeedsNow s.effects s.open_txns) (λ b. Has ids b ⊎ (inside s.effects t.run.0 b ≡ true)) a
 
@@ -29,8 +29,8 @@ PlainScope s r Causal a = Applied s r a
 PlainScope s r Wide a = Applied s r a
 PlainScope s r Strong a = Unit {0}
 
--- In a transaction: what the replica has applied, its own effects joined. At repeatable read what stood in the snapshot
--- when it began, its own effects joined, whatever the replica.
+-- In a transaction: what the replica has applied, together with the transaction's own effects. At repeatable read: the
+-- snapshot taken when it began, together with its own effects, whatever the replica.
 abbrev pub TxnScope : Machine → OpenTxn → ℕ → TxnLevel → ℕ → Type 0
 TxnScope s t r Rc a = AppliedWithOwn s t (received_at s.received r) a
 TxnScope s t r Mav a = AppliedWithOwn s t (received_at s.received r) a

@@ -2,7 +2,7 @@ use crate::groups::Groups;
 use ql_base::{DeclId, EffId, IdSet, MsgId, ObjId, OpId, ReplicaId, SessId};
 use ql_value::Values;
 
-/// What happens to a store, one step of a schedule.
+/// An event of a store, one step of a schedule.
 #[derive(Drop)]
 pub enum Event {
     /// A session calls an operation on an object, at a replica.
@@ -41,7 +41,7 @@ pub enum Event {
     Partition(Groups),
     /// The network is whole again.
     Heal,
-    /// A replica joins in the group of another one: as a copy of it, or bare, which is with the
+    /// A replica joins in the group of another one: as a copy of it, or bare, that is, with the
     /// effects of strong operations and all that they need.
     Join {
         near: ReplicaId,

@@ -2,7 +2,7 @@ ghost use Rattle.std.specs.Prelude.{◌≡◌};
 
 use std::marker::Model;
 
-/// The group of each replica in order. Messages pass within a group alone.
+/// The group of each replica, in order. Messages pass only within a group.
 #[derive(Drop)]
 pub struct Groups {
     numbers: Vec<u32>,

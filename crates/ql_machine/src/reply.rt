@@ -11,7 +11,7 @@ pub enum Reply {
     Committed(IdSet),
     /// The call can't be answered yet: the least effect that is missing.
     Blocked(EffId),
-    /// A strong call can't reach all replicas: the least that it can't.
+    /// A strong call can't reach all replicas: the least one that it can't reach.
     Unavailable(ReplicaId),
     /// A strong call is on an object that an open transaction declared: the least session with one.
     Held(SessId),
@@ -31,9 +31,9 @@ pub enum Reply {
     Split,
     /// The network is whole.
     Healed,
-    /// The replica of this number is there.
+    /// The replica with this number has joined.
     Joined(ReplicaId),
-    /// The message of this number is in flight.
+    /// The message with this number is in flight.
     Sent(MsgId),
     /// The event isn't allowed.
     Refused(Why),

@@ -25,7 +25,7 @@ use Rattle.ql_machine.specs.Views.{Applied, InView}
 use Rattle.ql_machine.specs.Blocking.{IsMissing, MissingInTxn, NoneMissing, NoneMissingInTxn}
 use Rattle.ql_machine.specs.Changes.{IsGone, IsInFlight, after_join, message_of, repeated, spent}
 use Rattle.ql_machine.specs.Calls.{HasNoneOpen, HasOpen, IsAllowed, IsCall, IsConnected, IsFree, IsHeldBy, IsOutside, MayAnswer, MayCall, after_own, after_plain, after_strong, blocked, held, makes, makes_own, makes_strong, unavailable, undeclared, unused}
-use Rattle.ql_machine.specs.Deliveries.{IsAwaited, IsDelivery, IsGained, IsKnown, IsNew, Passes, after_copy, after_receipt, again, applies, cut, gone, waits}
+use Rattle.ql_machine.specs.Deliveries.{IsAwaited, IsDelivery, IsGained, IsKnown, IsNew, IsInOneGroup, after_copy, after_receipt, again, applies, cut, gone, waits}
 use Rattle.ql_machine.specs.Steps.{IsStep, IsUnderStrong, absent, after_begin, after_commit, already_open, begins, calls, commits, delivers, heals, joins_bare, joins_copy, loses, none_open, none_to_lose, none_to_repeat, repeats, resends, splits}
 
 -- ---- sets and least ids
@@ -169,8 +169,8 @@ module _ (s : Machine) (m : ℕ) where
 
   -- of one message that is in flight
   data IsHandled (message : Message) : Machine → Reply → Type 0 where
-    is_cut : (Passes s message → ⊥) → IsHandled message s reply.Cut
-    is_again : Passes s message → IsKnown s message → IsHandled message (after_copy s m message) reply.Again
+    is_cut : (IsInOneGroup s message → ⊥) → IsHandled message s reply.Cut
+    is_again : IsInOneGroup s message → IsKnown s message → IsHandled message (after_copy s m message) reply.Again
     is_waiting : (a : EffId) → IsNew s m message → IsLeast (IsAwaited (after_receipt s m message) message) a.0 → IsHandled message (after_receipt s m message) (reply.Waits a)
     is_applied : (ids : List ℕ) → IsNew s m message → ((a : ℕ) → Has message.carried a → Applied (after_receipt s m message) message.receiver.0 a)
         → AreThose (IsGained s (after_receipt s m message) message.receiver.0) ids → IsHandled message (after_receipt s m message) (reply.Applies ids)

@@ -9,7 +9,7 @@ use Rattle.ql_exec.specs.declared.effect.Effect.{Effect}
 use Rattle.ql_exec.specs.declared.effect.Member.{Member}
 use Rattle.ql_exec.specs.declared.effect.Member.TheVariants.{Alone, Inside}
 use Rattle.ql_exec.specs.Effects.{effect_at, both, in_run}
-use Rattle.ql_exec.specs.Execution.{has_name}
+use Rattle.ql_exec.specs.Execution.{is_declared_as}
 use Rattle.ql_exec.specs.Relations.{hb, so, vis, sameobj, soo, same_run, inside}
 use Rattle.ql_exec.proofs.Finding.{both-found, cases_pushed, effect_at-append, effect_at-last, effect_at-within, in_run-along, so_parts}
 use Rattle.ql_levels.specs.declared.level.Level.{Level}
@@ -70,7 +70,7 @@ module _ (promises : Promises) (x : List Effect) (o : List OpenTxn) (begun : ℕ
           let one : now.0 ≡ t = same_Some now.0 t (sym now.1 ∙ ap (open_of o) (same_session e.session session same) ∙ is_open) in
           record {
             in_session = same;
-            under_name = ap (has_name t.decl) now.3 ∙ eq-eqb now.0.decl.0 t.decl.0 (ap (λ (u : OpenTxn). u.decl.0) one);
+            under_name = ap (is_declared_as t.decl) now.3 ∙ eq-eqb now.0.decl.0 t.decl.0 (ap (λ (u : OpenTxn). u.decl.0) one);
             declared_object = (made.if_open t (ap (open_of o) (same_session e.session session same) ∙ is_open)).declared;
           }
 

@@ -9,7 +9,7 @@ use Rattle.ql_exec.specs.declared.effect.Effect.{Effect}
 use Rattle.ql_exec.specs.declared.effect.Member.{Member}
 use Rattle.ql_exec.specs.declared.effect.Member.TheVariants.{Alone, Inside}
 use Rattle.ql_exec.specs.Effects.{effect_at, both, in_run}
-use Rattle.ql_exec.specs.Execution.{IsOn, has_name}
+use Rattle.ql_exec.specs.Execution.{IsOn, is_declared_as}
 use Rattle.ql_exec.specs.Relations.{so, soo, vis, sameobj, sametxn, same_run, inside}
 use Rattle.ql_exec.proofs.Finding.{both-found, cases_pushed, effect_at-append, effect_at-last, effect_at-within, in_run-along, same_run-of, so_parts}
 use Rattle.ql_levels.specs.declared.level.TxnLevel.TheVariants.{Mav, Rr}
@@ -145,14 +145,14 @@ module _ (promises : Promises) (x : List Effect) (o : List OpenTxn) (begun : ℕ
     its_run : txn.run.0 ≡ run
     its_decl : txn.decl.0 ≡ decl.0
 
-  new-in : (run : ℕ) (decl : DeclId) (f : Effect) → f ≡ e → in_run run f.member ≡ true → has_name decl f.member ≡ true → IsNewIn run decl
+  new-in : (run : ℕ) (decl : DeclId) (f : Effect) → f ≡ e → in_run run f.member ≡ true → is_declared_as decl f.member ≡ true → IsNewIn run decl
   new-in run decl f is in_it named =
       let now = member-open o e.session run e.member made.joined (subst (λ (g : Effect). in_run run g.member ≡ true) is in_it) in
       record {
         txn = now.0;
         now = now.1;
         its_run = now.2;
-        its_decl = eqb-true now.0.decl.0 decl.0 (sym (ap (has_name decl) now.3) ∙ subst (λ (g : Effect). has_name decl g.member ≡ true) is named);
+        its_decl = eqb-true now.0.decl.0 decl.0 (sym (ap (is_declared_as decl) now.3) ∙ subst (λ (g : Effect). is_declared_as decl g.member ≡ true) is named);
       }
 
   level-of : (t : OpenTxn) (decl : DeclId) (level : TxnLevel) → t.decl.0 ≡ decl.0 → promises.txn_level decl ≡ level → promises.txn_level t.decl ≡ level
@@ -187,7 +187,7 @@ module _ (promises : Promises) (x : List Effect) (o : List OpenTxn) (begun : ℕ
   ]
 
   module _ (see : TxnsSee promises.txn_level x o) where
-    monotonic-new : (run : ℕ) (decl : DeclId) → promises.txn_level decl ≡ Mav → (a b c d : ℕ) (f : Effect) → IsInTxn (x ++ e ∷ []) b f run → has_name decl f.member ≡ true
+    monotonic-new : (run : ℕ) (decl : DeclId) → promises.txn_level decl ≡ Mav → (a b c d : ℕ) (f : Effect) → IsInTxn (x ++ e ∷ []) b f run → is_declared_as decl f.member ≡ true
         → inside (x ++ e ∷ []) run a ≡ true → so (x ++ e ∷ []) a b ≡ true → vis (x ++ e ∷ []) c a ≡ true → inside (x ++ e ∷ []) run c ≡ false → sametxn (x ++ e ∷ []) c d ≡ true
         → sameobj (x ++ e ∷ []) d b ≡ true → vis (x ++ e ∷ []) d b ≡ true
     monotonic-new run decl level a b c d f is named in_it order seen out same on =
@@ -253,7 +253,7 @@ module _ (promises : Promises) (x : List Effect) (o : List OpenTxn) (begun : ℕ
                 ((made.if_open t now).shown level d has (record { effect = found.0; at = at; on_object = beside promises x o begun e txns made d a found.0 at new.0 on }))
           ]
 
-      repeatable-new : (run : ℕ) (decl : DeclId) → promises.txn_level decl ≡ Rr → (a b c d : ℕ) (f : Effect) → IsInTxn (x ++ e ∷ []) b f run → has_name decl f.member ≡ true
+      repeatable-new : (run : ℕ) (decl : DeclId) → promises.txn_level decl ≡ Rr → (a b c d : ℕ) (f : Effect) → IsInTxn (x ++ e ∷ []) b f run → is_declared_as decl f.member ≡ true
           → inside (x ++ e ∷ []) run a ≡ true → vis (x ++ e ∷ []) c a ≡ true → inside (x ++ e ∷ []) run c ≡ false → sametxn (x ++ e ∷ []) c d ≡ true
           → sameobj (x ++ e ∷ []) d b ≡ true → vis (x ++ e ∷ []) d b ≡ true
       repeatable-new run decl level a b c d f is named in_it seen out same on = elim (cases_pushed x e f b is.0) [
@@ -288,7 +288,7 @@ module _ (promises : Promises) (x : List Effect) (o : List OpenTxn) (begun : ℕ
               inside-from (x ++ e ∷ []) t.run.0 b f is.0 (subst (λ (n : ℕ). in_run n f.member ≡ true) (sym its_run) is.1) in
               shown-new t now level_t b d b_inside (snapshot-whole t now c d has same).1 on
 
-          one_name : (m : Member) (r : ℕ) → in_run r m ≡ true → {t : DeclId} → has_name t m ≡ true → has_name decl m ≡ true → t.0 ≡ decl.0
+          one_name : (m : Member) (r : ℕ) → in_run r m ≡ true → {t : DeclId} → is_declared_as t m ≡ true → is_declared_as decl m ≡ true → t.0 ≡ decl.0
           one_name Alone r is first second = absurd (false≢true is)
           one_name (Inside q u) r is {t} first second = sym (eqb-true u.0 t.0 first) ∙ eqb-true u.0 decl.0 second
 

@@ -1,5 +1,5 @@
--- A schedule with two replicas: a session writes twice at the first one, the second message comes first to the other replica
--- and waits, then the first message comes, and both effects apply.
+-- A schedule with two replicas: a session writes twice at the first one. The second message reaches the other replica
+-- first and waits; then the first message arrives, and both effects are applied.
 use Rattle.std.specs.Prelude.{false, List, [], ◌∷◌}
 use Rattle.ql_value.specs.declared.value.Value.TheVariants as value
 use Rattle.ql_exec.specs.declared.effect.Payload.TheVariants.{Nothing}
@@ -17,7 +17,7 @@ use Rattle.ql_machine.specs.Calls.{after_plain}
 use Rattle.ql_machine.specs.Deliveries.{after_receipt}
 use Rattle.ql_machine.specs.Changes.{message_of}
 
--- every operation is eventual and answers nothing
+-- every operation is eventual and returns nothing
 abbrev pub rules : Rules
 rules = record {
   promises = record { level = λ op. Eventual; txn_level = λ decl. Rc };

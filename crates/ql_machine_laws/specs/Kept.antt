@@ -1,5 +1,5 @@
--- What every state of every run of the written machine keeps, in parts. Each part is said of the fields of the state that it
--- reads, so that a step which leaves these alone keeps it. No part knows how calls are answered.
+-- The invariant of every state of every run of the written machine, in parts. Each part is about those fields of the
+-- state that it reads, so that a step that leaves these alone keeps it. No part depends on how calls are answered.
 use Rattle.std.specs.Prelude.{◌≡◌, ◌⊎◌, ℕ, ◌<◌, ◌≤◌, true, false, ◌||◌, List, [], ◌∷◌, length, Some}
 use Rattle.ql_base.specs.IdLists.{IsAscending, has_id}
 use Rattle.ql_base.specs.declared.ids.DeclId.{DeclId}
@@ -9,7 +9,7 @@ use Rattle.ql_exec.specs.declared.effect.Effect.{Effect}
 use Rattle.ql_exec.specs.declared.effect.Member.{Member}
 use Rattle.ql_exec.specs.declared.effect.Member.TheVariants.{Alone, Inside}
 use Rattle.ql_exec.specs.Effects.{effect_at, in_run}
-use Rattle.ql_exec.specs.Execution.{IsExecution, has_name}
+use Rattle.ql_exec.specs.Execution.{IsExecution, is_declared_as}
 use Rattle.ql_exec.specs.Relations.{so, vis, sameobj, sametxn, inside, hb, hbo_step}
 use Rattle.ql_levels.specs.declared.level.Level.{Level}
 use Rattle.ql_levels.specs.declared.level.Level.TheVariants.{Causal, Wide, Strong}
@@ -48,7 +48,7 @@ IsNumbered begun (Inside run decl) = run.0 ≤ begun
 -- an effect of a transaction that a session has open
 pub record IsOwn (session : SessId) (t : OpenTxn) (e : Effect) : Type 0 where
   pub in_session : e.session.0 ≡ session.0
-  pub under_name : has_name t.decl e.member ≡ true
+  pub under_name : is_declared_as t.decl e.member ≡ true
   pub declared_object : has_id t.objects e.object.0 ≡ true
 
 pub record TxnsKept (x : List Effect) (open_txns : List OpenTxn) (begun : ℕ) : Type 0 where
@@ -140,10 +140,10 @@ pub record TxnsSee (txn_level : DeclId → TxnLevel) (x : List Effect) (open_txn
   -- whoever sees an effect of another transaction sees all of that transaction on its object
   pub whole : (a b c : ℕ) → vis x b a ≡ true → sametxn x a b ≡ false → sametxn x b c ≡ true → sameobj x b c ≡ true → vis x c a ≡ true
   -- at monotonic atomic view, what an earlier effect of the transaction saw of another one, a later one sees all of on its object
-  pub monotonic : (run : ℕ) (decl : DeclId) → txn_level decl ≡ Mav → (a b c d : ℕ) (e : Effect) → IsInTxn x b e run → has_name decl e.member ≡ true
+  pub monotonic : (run : ℕ) (decl : DeclId) → txn_level decl ≡ Mav → (a b c d : ℕ) (e : Effect) → IsInTxn x b e run → is_declared_as decl e.member ≡ true
       → inside x run a ≡ true → so x a b ≡ true → vis x c a ≡ true → inside x run c ≡ false → sametxn x c d ≡ true → sameobj x d b ≡ true → vis x d b ≡ true
   -- at repeatable read, what any effect of the transaction saw
-  pub repeatable : (run : ℕ) (decl : DeclId) → txn_level decl ≡ Rr → (a b c d : ℕ) (e : Effect) → IsInTxn x b e run → has_name decl e.member ≡ true
+  pub repeatable : (run : ℕ) (decl : DeclId) → txn_level decl ≡ Rr → (a b c d : ℕ) (e : Effect) → IsInTxn x b e run → is_declared_as decl e.member ≡ true
       → inside x run a ≡ true → vis x c a ≡ true → inside x run c ≡ false → sametxn x c d ≡ true → sameobj x d b ≡ true → vis x d b ≡ true
   -- what an open transaction at repeatable read sees of others is its snapshot's part on the object
   pub taken : (session : SessId) (t : OpenTxn) → IsOpen open_txns session t → txn_level t.decl ≡ Rr → (a c : ℕ) → inside x t.run.0 a ≡ true → vis x c a ≡ true → inside x t.run.0 c ≡ false → Has t.snapshot c
@@ -152,7 +152,7 @@ pub record TxnsSee (txn_level : DeclId → TxnLevel) (x : List Effect) (open_txn
 -- ---- all of it
 
 pub record Keeps (promises : Promises) (start : ℕ) (s : Machine) : Type 0 where
-  -- no replica of the start goes
+  -- no replica of the start is lost
   pub replicas : start ≤ length s.received
   pub sound : IsSound promises.level s.effects s.open_txns s.begun
   pub history : History s.effects s.open_txns

@@ -1,4 +1,4 @@
--- What the laws on runs say, where a word is wanted.
+-- Terms of the laws on runs.
 use Rattle.std.specs.Prelude.{◌≡◌, ◌≢◌, ℕ, Bool, true, List, Some}
 use Rattle.ql_base.specs.declared.ids.DeclId.{DeclId}
 use Rattle.ql_base.specs.declared.ids.ObjId.{ObjId}
@@ -6,7 +6,7 @@ use Rattle.ql_base.specs.declared.ids.OpId.{OpId}
 use Rattle.ql_base.specs.declared.ids.ReplicaId.{ReplicaId}
 use Rattle.ql_exec.specs.declared.effect.Effect.{Effect}
 use Rattle.ql_exec.specs.Effects.{effect_at, in_run}
-use Rattle.ql_exec.specs.Execution.{has_name}
+use Rattle.ql_exec.specs.Execution.{is_declared_as}
 use Rattle.ql_needs.specs.Closed.{Has}
 use Rattle.ql_levels.specs.declared.level.Level.TheVariants.{Strong}
 use Rattle.ql_machine.specs.declared.event.Event.{Event}
@@ -18,7 +18,7 @@ use Rattle.ql_machine.specs.Calls.{HasNoneOpen}
 
 -- the effects of a begun transaction, if it has any, are under this declared name
 abbrev pub IsUnderName : List Effect → ℕ → DeclId → Type 0
-IsUnderName x run decl = (a : ℕ) (e : Effect) → effect_at x a ≡ Some e → in_run run e.member ≡ true → has_name decl e.member ≡ true
+IsUnderName x run decl = (a : ℕ) (e : Effect) → effect_at x a ≡ Some e → in_run run e.member ≡ true → is_declared_as decl e.member ≡ true
 
 -- each replica has received what every message to it carries
 abbrev pub AllArrived : Machine → Type 0
@@ -32,7 +32,7 @@ IsPlain rules s c = HasNoneOpen s c.session × (rules.level c.op ≢ Strong)
 abbrev pub at_replica : Call → ReplicaId → Call
 at_replica c r = record c { replica = r }
 
--- where an event is a call, a test passes of its object and operation
+-- if an event is a call, a test passes of its object and operation
 abbrev pub asks : (ObjId → OpId → Bool) → Event → Bool
 asks test (event.Call session replica object op args) = test object op
 asks test _ = true

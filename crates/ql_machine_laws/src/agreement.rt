@@ -14,8 +14,8 @@ ghost use Rattle.ql_machine.specs.Calls.{IsCall};
 ghost use Rattle.ql_machine.specs.Runs.{IsRun};
 ghost use Rattle.ql_machine_laws.specs.Promised.{AllArrived, IsPlain, at_replica};
 
-/// The law of agreement between the replicas of the start. A committed effect that one of them hasn't
-/// received was sent to it (`sent`). Where all messages have arrived, each has received exactly the
+/// The law of agreement between the replicas that were there at the start. A committed effect that one of them
+/// hasn't received was sent to it (`sent`). If all messages have arrived, each has received exactly the
 /// committed effects (`received`) and applied them (`applied`); a call outside any transaction and below
 /// strong is blocked at none of them (`not_blocked`), and it has the same view at each (`same_view`) and
 /// the same effect (`same_effect`).

@@ -12,9 +12,9 @@ ghost use Rattle.ql_machine.specs.Rules.{Rules};
 ghost use Rattle.ql_machine.specs.Runs.{IsRun};
 ghost use Rattle.ql_machine_laws.specs.Promised.{asks};
 
-/// The law of where effects come from: what holds of the object and the operation of every call of a
-/// schedule holds of every effect of its run (`asked`), and the answer and payload of each effect are
-/// those of the effects that it sees, in order of stamp and session, in the last execution too
+/// The law of where effects come from. If something holds of the object and the operation of every call of a
+/// schedule, it holds of those of every effect of its run (`asked`). The answer and payload of each effect are
+/// computed from the effects that it sees, in order of stamp and session, in the last execution too
 /// (`answered`).
 pub fn calls_make_effects()
     ensures asked { (rules : Rules) (test : ObjId → OpId → Bool) (n : ℕ) (events : List Event) (replies : List Reply) (last : Machine) → IsRun rules n events replies last

@@ -7,9 +7,9 @@ ghost use Rattle.ql_machine.specs.Steps.{IsStep};
 ghost use Rattle.ql_machine.specs.Runs.{IsRun};
 ghost use Rattle.ql_machine_laws.specs.Example.{both_applied, both_written, events, replies, rules};
 
-/// The example shows that the rules aren't empty: two writes are answered, the second message waits for
-/// the first, and with that both effects apply (`run`). That the second message applies at once is no
-/// step (`no_step`).
+/// An example, which shows that the rules can be met: two writes are answered, the second message waits for
+/// the first, and once that arrives both effects are applied (`run`). It isn't a step for the second message
+/// to apply at once (`no_step`).
 pub fn example_runs()
     ensures run { IsRun rules 2 events replies both_applied }
     ensures no_step { (after : Machine) (ids : List ℕ) → IsStep rules both_written (Deliver (record { 0 = 2 })) after (Applies ids) → ⊥ }

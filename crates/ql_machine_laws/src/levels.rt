@@ -45,8 +45,8 @@ pub fn strong_effects_are_everywhere()
         → (a : ℕ) (e : Effect) → effect_at last.effects a ≡ Some e → rules.level e.op ≡ Strong → (r : ℕ) → r < replicas last → Applied last r a }
 {}
 
-/// The law of transactions: each begun transaction meets the formula of its declared name's level, one
-/// that has no effects too. It is given by its number, and by a name that its effects have, if there are
+/// The law of transactions: each begun transaction meets the formula of its declared name's level, even one
+/// without effects. It is identified by its number, and by a name that its effects have, if there are
 /// any.
 pub fn transactions_meet_their_levels()
     ensures { (rules : Rules) (n : ℕ) (events : List Event) (replies : List Reply) (last : Machine) → IsRun rules n events replies last

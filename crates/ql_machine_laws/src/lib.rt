@@ -1,6 +1,6 @@
-// What the runs of the written machine keep, whatever the schedule.
-// The one contract: in every state of every run the effects are an execution in which each operation and
-// each begun transaction has what its level promises.
+// What always holds in the runs of the written machine, whatever the schedule.
+// The one contract: in every state of every run the effects are an execution in which the level of each operation
+// and of each begun transaction is guaranteed.
 #![tactic(auto)]
 
 mod agreement;

@@ -28,8 +28,8 @@ pub fn packages_are_whole()
         → (m : ℕ) (message : Message) → message_at last.messages m ≡ Some message → IsPackage last.effects message.carried }
 {}
 
-/// The law by which a replica judges with every transaction taken as committed, since it can't tell
-/// which are. In every state that keeps what runs keep, a committed effect reaches the same (`reached`),
+/// The law by which a replica judges as if every transaction were committed, since it can't know
+/// which are. In every state with the invariant of runs, a committed effect reaches the same (`reached`),
 /// and what a replica has applied is the same (`applied`). In the view of an open transaction, a
 /// committed effect is applied with the transaction's own effects exactly where it is without them
 /// (`others`), and an own effect where all that is one step before it is (`own`).
@@ -43,8 +43,8 @@ pub fn replicas_judge_alone()
         → (ids : List ℕ) (a : ℕ) → inside s.effects t.run.0 a ≡ true → AppliedWithOwn s t ids a ↔ ((b : ℕ) → hbo_step s.effects b a ≡ true → AppliedWithOwn s t ids b) }
 {}
 
-/// The law of what a strong call gives: where every replica receives all committed effects, each has
-/// just these.
+/// The law of what a strong call does: if every replica receives all committed effects, each has exactly
+/// these.
 pub fn strong_calls_give_all()
     ensures { (promises : Promises) (n : ℕ) (s : Machine) → Keeps promises n s → (ids : List ℕ) → AreThose (λ a. committed s.effects s.open_txns a ≡ true) ids
         → received_by_all s.received ids ≡ replicate (length s.received) ids }

@@ -7,7 +7,7 @@ use Rattle.ql_exec.specs.declared.effect.Effect.{Effect}
 use Rattle.ql_exec.specs.Relations.{hbo_step, sametxn}
 use Rattle.ql_needs.specs.Closed.{Reaches, Has}
 
--- effect a needs effect b, where `committed` tells the effects of committed transactions
+-- effect a needs effect b, where `committed` holds of the effects of committed transactions
 abbrev pub NeedsWhen : (ℕ → Bool) → List Effect → ℕ → ℕ → Type 0
 NeedsWhen committed x a b = (hbo_step x b a ≡ true) ⊎ ((committed a ≡ true) × (sametxn x a b ≡ true))
 
@@ -37,6 +37,6 @@ pub record IsPackage (x : List Effect) (ids : List ℕ) : Type 0 where
 abbrev pub IsNeeded : List Effect → List ℕ → ℕ → Type 0
 IsNeeded x ids a = (e : ℕ) × Has ids e × Reaches (Needs x) e a
 
--- no effect that comes behind is of a transaction with one of these
+-- no later effect is of a transaction with one of these
 abbrev pub JoinsNone : List Effect → List Effect → List ℕ → Type 0
 JoinsNone x more ids = (a b : ℕ) → Has ids a → length x < b → sametxn (x ++ more) a b ≡ false

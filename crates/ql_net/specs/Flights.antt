@@ -7,7 +7,7 @@ use Rattle.ql_machine.specs.State.{group_at}
 use Rattle.ql_machine.specs.Changes.{IsGone, IsInFlight}
 use Rattle.ql_net.specs.Network.{Network}
 
--- what a delivery of the message of a number finds
+-- whether the message with this number can be delivered
 abbrev pub IsFlight : Network → ℕ → Flight → Type 0
 IsFlight net m Gone = IsGone net.messages m
 IsFlight net m Cut =

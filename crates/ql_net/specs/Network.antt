@@ -1,4 +1,4 @@
--- The network's part of the machine's state, and what is done to it.
+-- The network's part of the machine's state, and how it changes.
 use Rattle.std.specs.Prelude.{◌≡◌, ◌≢◌, ℕ, ◌<◌, List, Option, Some, None, length}
 use Rattle.ql_base.specs.declared.ids.ReplicaId.{ReplicaId}
 use Rattle.ql_machine.specs.declared.message.Message.{Message}
@@ -31,7 +31,7 @@ abbrev pub IsLeastOutside : List ℕ → ReplicaId → Option ReplicaId → Type
 IsLeastOutside groups r None = (q : ℕ) → q < length groups → group_at groups q ≡ group_at groups r.0
 IsLeastOutside groups r (Some least) = IsLeast (IsOutside groups r) least.0
 
--- the message of a number where a copy of it is in flight, and else nothing
+-- the message with this number, if a copy of it is in flight
 abbrev pub IsFound : List Message → ℕ → Option Message → Type 0
 IsFound messages m None = IsGone messages m
 IsFound messages m (Some message) = IsInFlight messages m message

@@ -16,7 +16,7 @@ use std::marker::Model;
 /// The messages between replicas, and the groups of the replicas.
 ///
 /// Messages are numbered from 1 in the order in which they were sent, and stay when no copy is left.
-/// A call takes constant time, but for `new`, `send_to_others`, `heal` and `outside`, which go over the
+/// A call takes constant time, except for `new`, `send_to_others`, `heal` and `outside`, which go over the
 /// replicas once.
 #[derive(Drop)]
 pub struct Net {
@@ -36,7 +36,7 @@ impl Model for Net {
 }
 
 impl Net {
-    /// Replicas in one group, and no messages.
+    /// A network of this many replicas in one group, without messages.
     pub fn new(alloc: Global, replicas: u32) -> Result<Net, NoMemory>
         ensures { IfOk result (λ net. net ≡ record { messages = []; groups = replicate replicas 0 }) }
     {
@@ -59,7 +59,7 @@ impl Net {
         self.messages.is_empty()
     }
 
-    /// Sends one copy of a message, and gives its number.
+    /// Sends one copy of a message, and returns its number. Out of memory changes nothing.
     pub fn send(
         &mut self,
         from: ReplicaId,
@@ -77,7 +77,8 @@ impl Net {
         Ok(MsgId(self.messages.len() as u32))
     }
 
-    /// Sends these effects to each other replica in ascending order, where there are any.
+    /// Sends these effects to each other replica in ascending order; if there are none, sends nothing. Out of memory
+    /// changes nothing.
     pub fn send_to_others(&mut self, from: ReplicaId, carried: &IdSet) -> Result<(), NoMemory>
         requires room { length self.old.messages + length self.old.groups < 2 ^ 32 }
         ensures sent { OnOk result (self.new ≡ record self.old {
@@ -98,7 +99,7 @@ impl Net {
         }
     }
 
-    /// Takes away every message with a greater number than `n`.
+    /// Removes every message with a number above `n`.
     pub fn forget(&mut self, n: u32)
         requires { n ≤ length self.old.messages }
         ensures { self.new ≡ record self.old { messages = take n self.old.messages } }
@@ -106,7 +107,7 @@ impl Net {
         self.messages.truncate(n as usize);
     }
 
-    /// What a delivery of the message finds.
+    /// Whether the message can be delivered.
     pub fn look(&self, m: MsgId) -> Flight
         ensures { IsFlight self.now m.0 result }
     {
@@ -131,7 +132,7 @@ impl Net {
         &self.messages[m.0 as usize - 1].carried
     }
 
-    /// Takes a copy of the message out of flight, as it is delivered.
+    /// Takes a copy of the message out of flight when it is delivered.
     pub fn spend(&mut self, m: MsgId)
         requires { (message : Message) × IsInFlight self.old.messages m.0 message }
         ensures { IsSpent self.old self.new m.0 }
@@ -140,7 +141,7 @@ impl Net {
         message.copies -= 1;
     }
 
-    /// Makes one copy of the message more, and tells whether one was in flight.
+    /// Adds a copy of the message, if one is in flight; returns whether one was.
     pub fn repeat(&mut self, m: MsgId) -> bool
         requires room { (message : Message) → message_at self.old.messages m.0 ≡ Some message → message.copies + 1 < 2 ^ 32 }
         ensures repeated { OnTrue result (IsRepeated self.old self.new m.0) }
@@ -154,7 +155,7 @@ impl Net {
         true
     }
 
-    /// Loses a copy of the message, and tells whether one was in flight.
+    /// Loses a copy of the message, if one is in flight; returns whether one was.
     pub fn lose(&mut self, m: MsgId) -> bool
         ensures lost { OnTrue result (IsSpent self.old self.new m.0) }
         ensures gone { OnFalse result (IsGone self.old.messages m.0 × (self.new ≡ self.old)) }
@@ -166,7 +167,8 @@ impl Net {
         true
     }
 
-    /// Adds a replica to the group of another, and gives its number. No message is sent.
+    /// Adds a replica to the group of another, and returns its number. No message is sent. Out of memory changes
+    /// nothing.
     pub fn join(&mut self, near: ReplicaId) -> Result<ReplicaId, NoMemory>
         requires room { length self.old.groups + 1 < 2 ^ 32 }
         ensures number { IfOk result (λ joined. joined.0 ≡ length self.old.groups) }
@@ -180,7 +182,7 @@ impl Net {
         Ok(joined)
     }
 
-    /// Gives each replica its group.
+    /// Puts each replica into its group.
     pub fn partition(&mut self, groups: Groups)
         requires { length groups ≡ length self.old.groups }
         ensures { self.new ≡ record self.old { groups = groups } }
@@ -239,7 +241,7 @@ fn push_to_others(
     Ok(())
 }
 
-// The message, where a copy of it is in flight.
+// The message, if a copy of it is in flight.
 fn in_flight(messages: &[Message], m: MsgId) -> Option<&Message>
     ensures { IsFound messages.now m.0 (option_copied result) }
 {

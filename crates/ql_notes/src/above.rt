@@ -1,17 +1,17 @@
-// What stands above a line of a line file.
+// What precedes a line in a line file.
 ghost use Rattle.std.specs.Prelude.{◌≤◌, length};
 
 use crate::words::word;
 use ql_base::is_digit;
 use ql_excerpt::line_of;
 
-/// What is counted and met in the lines above a line, those that aren't blank or comments.
+/// Counts and marks of the lines above a line, without blank lines and comments.
 #[derive(Clone, Copy)]
 pub(crate) struct Above {
     pub(crate) lines: u64,
     /// How many effects there are.
     pub(crate) effects: u64,
-    /// How many numbered lines there are since the last one that isn't.
+    /// How many numbered lines there are since the last line without a number.
     pub(crate) numbered: u64,
     /// How many replicas join.
     pub(crate) joins: u64,
@@ -20,8 +20,7 @@ pub(crate) struct Above {
     pub(crate) is_ended: bool,
 }
 
-/// What stands above the line that begins at an offset. Of an execution's file only what follows the line `execution`
-/// counts.
+/// What precedes the line that begins at an offset. In an execution's file only the lines from `execution` on count.
 pub(crate) fn lines_above(text: &[u8], start: usize, is_execution: bool) -> Above
     requires { start ≤ length text.now }
 {
@@ -50,7 +49,7 @@ const NOTHING: Above = Above {
 };
 
 impl Above {
-    // The same with one more line, by its first word.
+    // Counts one more line, by its first word.
     fn and(self, first: &[u8]) -> Above {
         let mut more = self;
         more.lines = more.lines.saturating_add(1);

@@ -1,17 +1,17 @@
-// What an answer says of a fault: bad PART at AT: RULE
+// The fault that an answer reports: bad PART at AT: RULE
 use crate::words::word;
 use ql_base::number_of;
 
-/// A fault that an answer names.
+/// A fault that an answer reports.
 #[derive(Clone, Copy)]
 pub(crate) struct Fault<'a> {
     pub(crate) part: &'a [u8],
-    /// An offset in a source, from 0, and else a line, from 1.
+    /// The offset in a source, from 0, or the line in another file, from 1.
     pub(crate) at: u64,
     pub(crate) rule: &'a [u8],
 }
 
-/// The fault that an answer names, where it names one.
+/// The fault that an answer reports, if it reports one.
 pub(crate) fn fault_of(answer: &[u8]) -> Option<Fault> {
     let (bad, rest) = word(answer);
     let (part, rest) = word(rest);

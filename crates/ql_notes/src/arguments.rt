@@ -15,7 +15,7 @@ const OPERATION: usize = 5;
 
 const FIRST: usize = 6;
 
-/// The field at which a call's operation or its arguments don't fit.
+/// The index of the field where a call's operation or its arguments don't fit.
 pub(crate) fn misfit(line: FaultyLine) -> usize {
     let Some(op) = own_operation(line) else {
         return OPERATION;
@@ -33,7 +33,7 @@ pub(crate) fn misfit(line: FaultyLine) -> usize {
     FIRST.saturating_add(taken.min(given))
 }
 
-// Where the source declares the operation of a call, if that is one of the object's type.
+// The token that declares the operation of a call, if that is one of the object's type.
 fn own_operation(line: FaultyLine) -> Option<usize> {
     let op = place_in(line.source, b"op", field_text(line.fields, OPERATION))?;
     let declared = word_after(line.above, b"object", field_text(line.fields, OBJECT));
@@ -44,7 +44,7 @@ fn own_operation(line: FaultyLine) -> Option<usize> {
     }
 }
 
-// How many parameters an operation has: each is a name, a colon, a kind, and a comma or a bracket.
+// How many parameters an operation has: each takes four tokens, a name, a colon, a kind, and a comma or a bracket.
 fn count(source: &[&[u8]], op: usize) -> usize {
     let (from, to) = parameters(source, op);
     to.saturating_sub(from) / 4

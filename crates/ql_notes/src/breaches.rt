@@ -1,4 +1,4 @@
-// What is wrong in a line of a file that is of its form.
+// What is wrong with a line that has its form.
 
 use crate::above::first_word;
 use crate::arguments::push_misfit;
@@ -12,7 +12,7 @@ use crate::wanted::push_quoted;
 use ql_base::{NoMemory, push_bytes};
 use ql_excerpt::{File, line_of, place_of, push_position};
 
-/// Appends what is wrong in a field of a line, of a file with this text.
+/// Appends what is wrong with a field of a line, of a file with this text.
 pub(crate) fn push_breach(
     said: &mut Vec<u8>,
     line: FaultyLine,
@@ -63,7 +63,7 @@ fn push_unknown_name(said: &mut Vec<u8>, line: FaultyLine, k: usize) -> Result<(
     push_bytes(said, what)
 }
 
-// Which limit of a schedule a line passes.
+// Which limit of a schedule a line exceeds.
 fn size_sentence(line: FaultyLine) -> &'static [u8] {
     let first = field_text(line.fields, 0);
     if first == b"object".as_slice() {
@@ -77,7 +77,7 @@ fn size_sentence(line: FaultyLine) -> &'static [u8] {
     }
 }
 
-/// Appends where the name in a field stands first, where it is declared or listed again.
+/// Appends the position where the name in a field occurs first, if it is declared or listed again.
 pub(crate) fn push_first_line(
     note: &mut Vec<u8>,
     file: File,
@@ -95,7 +95,7 @@ pub(crate) fn push_first_line(
     push_bytes(note, b"\n")
 }
 
-// Where the name in a field stands first: as an object above, or earlier in the line.
+// The offset where the name in a field occurs first: as an object above, or earlier in the line.
 fn first_offset(line: FaultyLine, k: usize) -> Option<usize> {
     let name = field_text(line.fields, k);
     if field_text(line.fields, 0) != b"object".as_slice() {
@@ -117,7 +117,7 @@ fn first_offset(line: FaultyLine, k: usize) -> Option<usize> {
     None
 }
 
-// Where the second word of a line begins.
+// The offset of the second word of a line.
 fn offset_of_second(line: &[u8]) -> usize {
     let mut count = 0usize;
     let mut before = b' ';

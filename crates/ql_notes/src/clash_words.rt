@@ -1,4 +1,4 @@
-// A wrong kind in words: what was found, what was expected, and what wants it.
+// A wrong kind as a sentence: what was found, what was expected, and what requires it.
 
 use crate::clashes::{Clash, Operator, Wish};
 use crate::kinds::{arity, spelling};
@@ -9,7 +9,7 @@ use ql_base::{NoMemory, push_bytes, push_number};
 use ql_lang::{BinOp, Kind};
 use ql_typing::Function;
 
-// What each function takes first, and what all its arguments are.
+// What each function takes as its first argument, and as all its arguments.
 const FIRST: &str = "has a set or a map
 size a set or a map
 add a set
@@ -30,7 +30,7 @@ drop a map, then a key
 get a map, then a key, then the value where the key isn't there
 sum a map to int";
 
-/// Appends both kinds at a token, and what wants the one.
+/// Appends the found and the expected kind at a token, and what requires the expected one.
 pub(crate) fn push_clash(
     note: &mut Vec<u8>,
     tokens: &[&[u8]],
@@ -51,7 +51,7 @@ pub(crate) fn push_clash(
     push_wish(note, owner(tokens, k, clash.wish), clash.wish)
 }
 
-// The name of what wants a kind at a token: an operation, a field or an emitted value.
+// The name of what requires a kind at a token: an operation, a field or an emitted value.
 fn owner<'a>(tokens: &[&'a [u8]], k: usize, wish: Wish) -> &'a [u8] {
     match wish {
         Wish::Answer(_) => after_last(tokens, k, b"op"),
@@ -127,7 +127,7 @@ fn push_expected_kind(note: &mut Vec<u8>, wish: Wish) -> Result<(), NoMemory> {
     }
 }
 
-// What wants the kind.
+// Appends what requires the kind.
 fn push_wish(note: &mut Vec<u8>, owner: &[u8], wish: Wish) -> Result<(), NoMemory> {
     match wish {
         Wish::Answer(kind) => push_named(note, b"", owner, b" answers ", kind),
@@ -227,7 +227,7 @@ fn name_of(function: Function) -> &'static str {
     }
 }
 
-/// Appends which kind was perhaps meant in the declaration of a value that begins at a token.
+/// Appends the kind that was perhaps meant in the declaration of a value that begins at a token.
 pub(crate) fn push_redeclared(
     note: &mut Vec<u8>,
     tokens: &[&[u8]],

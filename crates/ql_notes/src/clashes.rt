@@ -1,5 +1,5 @@
-// Which expression has another kind than is wanted of it, by the place of its first token: the kind that it has, the one that is
-// wanted, and what wants it.
+// Which expression doesn't have the required kind, found by the offset of its first token: the kind that it has, the
+// required one, and what requires it.
 
 use crate::kinds::{
     arity, is_base, kind_named, kind_of, kind_of_init, of_base, takes_first, wanted_after,
@@ -9,7 +9,7 @@ use ql_lang::{BinOp, EmitDecl, Expr, ExprNode, Field, Kind, OpDecl, Program, Typ
 use ql_typing::{Function, Known, find_function};
 use std::alloc::Global;
 
-/// An operator of one operand or of two.
+/// A unary or binary operator.
 #[derive(Clone, Copy)]
 pub(crate) enum Operator {
     Not,
@@ -17,41 +17,41 @@ pub(crate) enum Operator {
     Two(BinOp),
 }
 
-/// What wants a kind.
+/// What requires a kind of an expression, and which one.
 #[derive(Clone, Copy)]
 pub(crate) enum Wish {
-    /// An operation wants it of its answer.
+    /// An operation, of its answer.
     Answer(Kind),
-    /// A field wants it of what it begins with.
+    /// A field, of its initial value.
     Initial(Kind),
-    /// A field wants it of what is assigned to it.
+    /// A field, of what is assigned to it.
     Assigned(Kind),
-    /// An emitted value wants it.
+    /// An emitted value.
     Emitted(Kind),
-    /// `when` wants a truth value.
+    /// `when` requires a Boolean.
     When,
-    /// `if` wants one.
+    /// The condition of `if`, a Boolean.
     Condition,
-    /// `else` wants the kind that `then` has.
+    /// `else` requires the kind of `then`.
     Branch(Kind),
-    /// An operator wants it of an operand.
+    /// An operator, of an operand.
     Operand(Operator, Kind),
-    /// `==` and `!=` want a base kind.
+    /// `==` and `!=` require a base kind.
     Comparable(Operator),
-    /// They want the kind that is on the left.
+    /// `==` and `!=` require the kind of the left operand.
     SameAsLeft(Operator, Kind),
-    /// A function wants a set or a map first.
+    /// A function requires a set or a map as its first argument.
     First(Function),
-    /// A function wants it of its argument of a number, from 0.
+    /// A function, of its argument at an index.
     Argument(Function, usize, Kind),
-    /// A function wants another number of arguments than there are.
+    /// A function takes another number of arguments than this.
     Count(Function, usize),
-    /// Nothing is wanted.
+    /// Nothing is required.
     Any,
 }
 
-/// An expression that hasn't the kind that is wanted. The found kind is none of `empty`, and where arguments are too many or too
-/// few.
+/// An expression that doesn't have the required kind. `found` is `None` for `empty`, and for a wrong number of
+/// arguments.
 #[derive(Clone, Copy)]
 pub(crate) struct Clash {
     pub(crate) found: Option<Kind>,
@@ -61,7 +61,7 @@ pub(crate) struct Clash {
 }
 
 impl Wish {
-    /// The one kind that is wanted, where there is one.
+    /// The required kind, if there is exactly one.
     pub(crate) fn kind(self) -> Option<Kind> {
         match self {
             Wish::Answer(kind)
@@ -92,14 +92,14 @@ impl Wish {
     }
 }
 
-// Where a clash is looked for: the names in scope, and the offset.
+// What is searched for a clash: the names in scope, and the offset of the expression.
 #[derive(Clone, Copy)]
 struct Search<'a> {
     scope: &'a [Known],
     at: u32,
 }
 
-// The clash in an expression of which a kind is wanted.
+// The clash in an expression of which a kind is required.
 #[cycle(clash)]
 fn clash_of(search: Search, e: &Expr, wish: Wish) -> Option<Clash> {
     let inner = clash_inside(search, e.at, &e.node);
@@ -109,7 +109,7 @@ fn clash_of(search: Search, e: &Expr, wish: Wish) -> Option<Clash> {
     own_clash(search, &e.node, wish)
 }
 
-// The clash of the whole of an expression that begins at the place.
+// The clash of a whole expression that begins at the offset.
 fn own_clash(search: Search, node: &ExprNode, wish: Wish) -> Option<Clash> {
     let found = kind_of(search.scope, node)?;
     if wish.is_met(found) {
@@ -202,7 +202,7 @@ fn argument_wish(function: Function, first: Option<Kind>, number: usize) -> Wish
     }
 }
 
-// What an operator wants of its left operand.
+// What an operator requires of its left operand.
 fn left_wish(op: BinOp) -> Wish {
     let operator = Operator::Two(op);
     match op {
@@ -212,7 +212,7 @@ fn left_wish(op: BinOp) -> Wish {
     }
 }
 
-// What an operator wants of its right operand, by the kind of the left one.
+// What an operator requires of its right operand, by the kind of the left one.
 fn right_wish(op: BinOp, left: Option<Kind>) -> Wish {
     match (left_wish(op), left) {
         (Wish::Comparable(operator), Some(kind)) if is_base(kind) => Wish::SameAsLeft(

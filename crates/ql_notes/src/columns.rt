@@ -9,7 +9,7 @@ use crate::words::has_word;
 use ql_base::number_of;
 use ql_excerpt::line_of;
 
-/// A line at fault: the kind of its file, the rule, its fields, what stands above it, and the tokens of the source that
+/// A faulty line: the kind of its file, the rule, its fields, the text above it, and the tokens of the source that
 /// the file belongs to.
 #[derive(Clone, Copy)]
 pub(crate) struct FaultyLine<'a> {
@@ -33,10 +33,10 @@ const STAMP: usize = 14;
 
 const SEEN: usize = 16;
 
-// The first effect that is seen in a file of `holds`.
+// The field of the first effect that is seen in a `holds` file.
 const SEEN_IN_HOLDS: usize = 7;
 
-/// The number of the field that breaks the rule, from 0.
+/// The index of the field that breaks the rule.
 pub(crate) fn column(line: FaultyLine) -> usize {
     let first = if line.part == b"holds".as_slice() {
         SEEN_IN_HOLDS
@@ -112,7 +112,7 @@ fn on_other_object(line: FaultyLine, first: usize) -> usize {
     0
 }
 
-// The field of an effect that is seen, 0 where it isn't.
+// The index of the field with an effect that is seen, 0 where it isn't.
 fn place_of_id(line: FaultyLine, first: usize, id: &[u8]) -> usize {
     for (k, field) in line.fields.iter().enumerate() {
         if first <= k && field.text == id {
@@ -157,7 +157,7 @@ fn unknown(line: FaultyLine, first: &[u8]) -> usize {
     5
 }
 
-// The number that is out of its range.
+// The number that is out of range.
 fn out_of_range(line: FaultyLine, first: &[u8]) -> usize {
     if has_word(b"call begin commit", first) {
         if number_of(field_text(line.fields, 1), 255).is_none() {
@@ -184,7 +184,7 @@ fn out_of_range(line: FaultyLine, first: &[u8]) -> usize {
     }
 }
 
-// The first argument that is beyond 64 bits.
+// The first argument that doesn't fit in 64 bits.
 fn great_argument(line: FaultyLine) -> usize {
     for (k, argument) in line.fields.iter().enumerate() {
         if k > 5 && is_too_great(argument.text) {
@@ -201,7 +201,7 @@ fn is_replica(line: FaultyLine, k: usize) -> bool {
     }
 }
 
-// The first group above 15, or the first one too many, or where one is missing.
+// The first group above 15, or the first surplus one, or the line's end where one is missing.
 fn group(line: FaultyLine) -> usize {
     for (k, number) in line.fields.iter().enumerate() {
         if k > line.replicas as usize || (k > 0 && number_of(number.text, 15).is_none()) {
@@ -211,7 +211,7 @@ fn group(line: FaultyLine) -> usize {
     line.fields.len()
 }
 
-// The name that is there twice.
+// The name that occurs twice.
 fn twice(line: FaultyLine, first: &[u8]) -> usize {
     if first == b"object".as_slice() {
         return 1;

@@ -1,4 +1,4 @@
-// Notes on the contract of a file of `holds`.
+// Notes on the contract of a `holds` file.
 ghost use Rattle.std.specs.Prelude.{◌<◌, ◌≤◌, ◌^◌, length};
 
 use crate::answer::Fault;
@@ -17,21 +17,21 @@ use ql_parse::{ParseFault, parse_contract};
 use ql_typing::{TypeFault, resolve};
 use std::alloc::Global;
 
-// The most bytes of a contract of which something is said.
+// The most bytes of a contract that gets a note.
 const BYTES: usize = 65_536;
 
 // The most bytes of a source.
 const SOURCE_BYTES: usize = 1_048_576;
 
-// What stands around a contract in a source.
+// A source around a contract: what comes before and after it.
 const BEFORE: &[u8] = b"type t { op f(): unit { contract ";
 
 const AFTER: &[u8] = b"; answer unit; } }";
 
-// How many tokens stand before it there.
+// How many tokens come before the contract there.
 const TOKENS_BEFORE: usize = 11;
 
-/// The text of the contract that stands after an offset, up to the end of its line; nothing where it is long.
+/// The text of the contract at an offset, up to the end of its line; empty where it is too long.
 pub(crate) fn contract_at(text: &[u8], from: usize) -> &[u8]
     ensures { length result.now ≤ 65536 }
 {
@@ -46,7 +46,7 @@ pub(crate) fn contract_at(text: &[u8], from: usize) -> &[u8]
     }
 }
 
-// A contract of a file, and where it begins.
+// A contract of a file, and the offset at which it begins.
 #[derive(Clone, Copy)]
 struct Placed<'a> {
     file: File<'a>,
@@ -54,14 +54,14 @@ struct Placed<'a> {
     from: usize,
 }
 
-// The first fault of a contract: its offset, and the rule that it breaks in a source.
+// The first fault of a contract: its offset in the contract, and the rule that it breaks in a source.
 #[derive(Clone, Copy)]
 struct ContractFault {
     at: usize,
     rule: &'static [u8],
 }
 
-/// Appends what can be said of a fault in a contract that stands after an offset.
+/// Appends a note on a fault in the contract at an offset.
 pub(crate) fn push_contract_fault(
     alloc: Global,
     note: &mut Vec<u8>,
@@ -89,7 +89,7 @@ pub(crate) fn push_contract_fault(
     push_contract_misuse(alloc, note, contract, found, &tokens)
 }
 
-// What was expected in a contract: the grammar of contracts stands inside that of sources.
+// What was expected in a contract, whose grammar is a part of that of sources.
 fn push_contract_syntax(
     alloc: Global,
     note: &mut Vec<u8>,
@@ -131,7 +131,7 @@ fn push_contract_place(
     push_fault(note, contract.file, spot, rule, said)
 }
 
-// A fault of the names in a contract, by its tokens inside a source.
+// A fault of the names in a contract, by the contract's tokens inside a source.
 fn push_contract_misuse(
     alloc: Global,
     note: &mut Vec<u8>,
@@ -175,7 +175,7 @@ fn push_contract_misuse(
     }
 }
 
-// What the answer calls a rule: what is wrong in the form of a contract is `Unexpected`.
+// The rule as the answer reports it: a contract that doesn't have its form is `Unexpected`.
 fn shown_rule(rule: &'static [u8]) -> &'static [u8] {
     if rule == b"Deep".as_slice() || rule == b"Wide".as_slice() {
         b"Unexpected".as_slice()
@@ -184,7 +184,7 @@ fn shown_rule(rule: &'static [u8]) -> &'static [u8] {
     }
 }
 
-// The number of the token at an offset.
+// The index of the token at an offset.
 fn number_at(tokens: &[Token], at: usize) -> usize {
     for (k, token) in tokens.iter().enumerate() {
         if token.from as usize == at {
@@ -194,7 +194,7 @@ fn number_at(tokens: &[Token], at: usize) -> usize {
     tokens.len()
 }
 
-// The offset of a token of a contract, by its number inside a source.
+// The offset of a token of a contract, by its index inside a source.
 fn offset_in(tokens: &[Token], k: usize) -> usize {
     match tokens.get(k.saturating_sub(TOKENS_BEFORE)) {
         Some(token) => token.from as usize,
@@ -202,7 +202,7 @@ fn offset_in(tokens: &[Token], k: usize) -> usize {
     }
 }
 
-// The first fault of a contract; where there is none, a place with no rule.
+// The first fault of a contract; where there is none, offset 0 and no rule.
 fn fault_in(alloc: Global, contract: &[u8]) -> Result<ContractFault, NoMemory>
     requires { length contract.now < 2 ^ 32 }
 {

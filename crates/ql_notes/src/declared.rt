@@ -7,7 +7,7 @@ use ql_base::NoMemory;
 use ql_excerpt::line_of;
 use std::alloc::Global;
 
-/// The names that stand after a keyword, of the tokens of a source.
+/// The names after each occurrence of a keyword, among the tokens of a source.
 pub(crate) fn declared<'a>(
     alloc: Global,
     source: &[&'a [u8]],
@@ -22,7 +22,7 @@ pub(crate) fn declared<'a>(
     Ok(names)
 }
 
-/// Where a source declares a name after a keyword: the keyword's place.
+/// The index of the keyword after which a source declares a name.
 pub(crate) fn place_in(source: &[&[u8]], keyword: &[u8], name: &[u8]) -> Option<usize> {
     for (k, token) in source.iter().enumerate() {
         if *token == keyword && piece(source, k.saturating_add(1)) == name {
@@ -32,7 +32,7 @@ pub(crate) fn place_in(source: &[&[u8]], keyword: &[u8], name: &[u8]) -> Option<
     None
 }
 
-/// The type that has the operation at a place.
+/// The type that has the operation at a token.
 pub(crate) fn type_at<'a>(source: &[&'a [u8]], op: usize) -> &'a [u8] {
     match last_of(source, op, b"type") {
         Some(declared) => piece(source, declared.saturating_add(1)),
@@ -40,14 +40,14 @@ pub(crate) fn type_at<'a>(source: &[&'a [u8]], op: usize) -> &'a [u8] {
     }
 }
 
-/// The parameters of the operation at a place, from bracket to bracket.
+/// The parameters of the operation at a token, from bracket to bracket.
 pub(crate) fn parameters(source: &[&[u8]], op: usize) -> (usize, usize) {
     let from = op.saturating_add(2);
     let to = next_of(source, from, b")").unwrap_or(from);
     (from, to)
 }
 
-/// The names after a word that begins a line, as `object`.
+/// The second words of the lines that begin with a word, as the names after `object`.
 pub(crate) fn named<'a>(
     alloc: Global,
     text: &'a [u8],
@@ -65,7 +65,7 @@ pub(crate) fn named<'a>(
     Ok(names)
 }
 
-/// The word that follows another one, in the first line of a text that begins with two words; nothing where there is none.
+/// The third word of the first line that begins with these two; empty where there is none.
 pub(crate) fn word_after<'a>(text: &'a [u8], first: &[u8], second: &[u8]) -> &'a [u8] {
     for k in 0..text.len() {
         if k == 0 || text[k - 1] == b'\n' {
@@ -78,7 +78,7 @@ pub(crate) fn word_after<'a>(text: &'a [u8], first: &[u8], second: &[u8]) -> &'a
     b"".as_slice()
 }
 
-/// The word of a number of a line, from 0.
+/// The word of a line at an index.
 pub(crate) fn word_of(line: &[u8], number: usize) -> &[u8] {
     let mut rest = line;
     for _ in 0..number {
@@ -87,7 +87,7 @@ pub(crate) fn word_of(line: &[u8], number: usize) -> &[u8] {
     first_word(rest)
 }
 
-// What stands after the first word of a line.
+// The rest of a line after its first word.
 fn after_first(line: &[u8]) -> &[u8] {
     for k in 0..line.len() {
         if line[k] != b' ' {

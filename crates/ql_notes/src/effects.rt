@@ -1,4 +1,4 @@
-// Why an effect of an execution can't stand where it does.
+// Why an effect of an execution can't be where it is.
 
 use crate::above::first_word;
 use crate::columns::FaultyLine;
@@ -33,7 +33,7 @@ pub(crate) fn push_not_earlier(said: &mut Vec<u8>, line: FaultyLine) -> Result<(
     push_number(said, number.saturating_sub(1))
 }
 
-/// Appends on which objects an effect is and the one in a field, which it sees.
+/// Appends the object of an effect, and that of the effect in a field, which it sees.
 pub(crate) fn push_other_object(
     said: &mut Vec<u8>,
     line: FaultyLine,
@@ -50,7 +50,7 @@ pub(crate) fn push_other_object(
     push_quoted(said, field_text(line.fields, OBJECT))
 }
 
-/// Appends of which types the operation of an effect is and that of the first effect on its object.
+/// Appends the type of an effect's operation, and that of the operation of the first effect on its object.
 pub(crate) fn push_mixed(said: &mut Vec<u8>, line: FaultyLine) -> Result<(), NoMemory> {
     let operation = field_text(line.fields, OPERATION);
     let first = effect_line(line.above, OBJECT, field_text(line.fields, OBJECT));
@@ -73,7 +73,7 @@ fn type_of<'a>(source: &[&'a [u8]], operation: &[u8]) -> &'a [u8] {
     }
 }
 
-// The first line of an effect that has a word at a number.
+// The first line of an effect that has a word at an index.
 fn effect_line<'a>(text: &'a [u8], number: usize, word: &[u8]) -> &'a [u8] {
     for k in 0..text.len() {
         if k == 0 || text[k - 1] == b'\n' {
@@ -86,7 +86,7 @@ fn effect_line<'a>(text: &'a [u8], number: usize, word: &[u8]) -> &'a [u8] {
     b"".as_slice()
 }
 
-/// Appends why an effect can't be one of its transaction.
+/// Appends why an effect can't belong to its transaction.
 pub(crate) fn push_split(said: &mut Vec<u8>, line: FaultyLine) -> Result<(), NoMemory> {
     let (own, session) = (
         field_text(line.fields, TXN),

@@ -1,7 +1,7 @@
-// What the grammar has where it doesn't have what a source has there.
+// What the grammar allows at an offset where a source has something else.
 //
-// Each terminal is tried: the text before the place is read with the terminal after it. Where the first fault isn't at the
-// terminal, the grammar has it there.
+// Each terminal is tried: the text before the offset is read with the terminal after it. Where the first fault isn't at
+// the terminal, the grammar allows it there.
 ghost use Rattle.std.specs.Prelude.{◌≤◌, length};
 
 use crate::guesses::Guess;
@@ -82,7 +82,7 @@ static TERMINALS: [&str; 64] = [
 // How many are listed at most.
 const MOST: usize = 12;
 
-/// The terminals that the grammar has after the first bytes of a source.
+/// The terminals that the grammar allows after the first bytes of a source.
 pub(crate) fn expected(alloc: Global, before: &[u8]) -> Result<Vec<&'static str>, NoMemory>
     requires { length before.now ≤ 1048576 }
 {
@@ -95,7 +95,7 @@ pub(crate) fn expected(alloc: Global, before: &[u8]) -> Result<Vec<&'static str>
     Ok(found)
 }
 
-// Whether the grammar has a terminal after these bytes.
+// Whether the grammar allows a terminal after these bytes.
 fn is_allowed(alloc: Global, before: &[u8], terminal: &str) -> Result<bool, NoMemory>
     requires { length before.now ≤ 1048576 }
 {
@@ -115,8 +115,8 @@ fn is_allowed(alloc: Global, before: &[u8], terminal: &str) -> Result<bool, NoMe
     }
 }
 
-/// Appends what was expected, a few of them: first what was perhaps meant, then what ends or parts
-/// something. In a line its end stands for a semicolon.
+/// Appends some of what was expected: first what was perhaps meant, then what ends or separates something. In a line
+/// its end stands for a semicolon.
 pub(crate) fn push_expected(
     alloc: Global,
     note: &mut Vec<u8>,
@@ -144,7 +144,7 @@ pub(crate) fn push_expected(
     Ok(())
 }
 
-// Terminals by how likely they were meant.
+// Terminals by how likely it is that they were meant.
 fn ordered(
     alloc: Global,
     terminals: &[&'static str],

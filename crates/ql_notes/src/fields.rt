@@ -5,14 +5,14 @@ use ql_base::NoMemory;
 use ql_excerpt::line_of;
 use std::alloc::Global;
 
-/// A field of a line, and where it stands in the file.
+/// A field of a line, and its offset in the file.
 #[derive(Clone, Copy)]
 pub(crate) struct Field<'a> {
     pub(crate) text: &'a [u8],
     pub(crate) from: usize,
 }
 
-/// The fields of the line that begins at an offset. A space in quotes or brackets ends none.
+/// The fields of the line that begins at an offset. A space in quotes or brackets doesn't end a field.
 pub(crate) fn fields(alloc: Global, text: &[u8], start: usize) -> Result<Vec<Field>, NoMemory>
     requires { start ≤ length text.now }
 {
@@ -50,7 +50,7 @@ fn without_return(line: &[u8]) -> &[u8] {
     line.strip_suffix(b"\r").unwrap_or(line)
 }
 
-/// The bytes of a field, none where it isn't there.
+/// The bytes of a field, empty where it isn't there.
 pub(crate) fn field_text<'a>(fields: &[Field<'a>], k: usize) -> &'a [u8] {
     match fields.get(k) {
         Some(field) => field.text,
@@ -58,7 +58,7 @@ pub(crate) fn field_text<'a>(fields: &[Field<'a>], k: usize) -> &'a [u8] {
     }
 }
 
-// Whether a place is in quotes, and how many brackets are open there.
+// Whether a byte is in quotes, and how many brackets are open there.
 #[derive(Clone, Copy)]
 struct Nesting {
     is_quoted: bool,

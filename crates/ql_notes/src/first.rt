@@ -1,4 +1,4 @@
-// Where a name stands first that a source declares or lists again, and where the name of a value is declared.
+// Where a name that a source declares or lists again occurs first, and where the name of a value is declared.
 
 use crate::meant::is_bound;
 use crate::pieces::{last_of, next_of, piece};
@@ -9,7 +9,7 @@ use ql_base::{NoMemory, push_bytes};
 use ql_excerpt::{File, place_of, push_position};
 use ql_lex::Token;
 
-/// Appends where the name at a token stands first.
+/// Appends the position where the name at a token occurs first.
 pub(crate) fn push_first(
     note: &mut Vec<u8>,
     file: File,
@@ -23,7 +23,7 @@ pub(crate) fn push_first(
     push_declared(note, file, tokens, first, b"  first declared at ")
 }
 
-/// Appends where the name of a value that an expression uses is declared.
+/// Appends the position where the name of a value that an expression uses is declared.
 pub(crate) fn push_declaration(
     note: &mut Vec<u8>,
     file: File,
@@ -53,7 +53,7 @@ fn push_declared(
     push_place(note, file, token.from as usize)
 }
 
-/// Appends the offset at which a name stands first.
+/// Appends the position of the offset at which a name occurs first.
 pub(crate) fn push_first_at(note: &mut Vec<u8>, file: File, at: usize) -> Result<(), NoMemory> {
     push_bytes(note, b"  first declared at ")?;
     push_place(note, file, at)
@@ -64,7 +64,7 @@ fn push_place(note: &mut Vec<u8>, file: File, at: usize) -> Result<(), NoMemory>
     push_bytes(note, b"\n")
 }
 
-/// The first token of the name at a token, in the list or among the declarations where it is there again.
+/// The first token with the name at a token, in the same list or among the declarations of the same sort.
 pub(crate) fn first_of(pieces: &[&[u8]], k: usize) -> Option<usize> {
     let keyword = piece(pieces, k.saturating_sub(1));
     let part = part_of(pieces, k);
@@ -83,7 +83,7 @@ pub(crate) fn first_of(pieces: &[&[u8]], k: usize) -> Option<usize> {
     value_before(pieces, k)
 }
 
-// Where a field, a parameter or an emitted value of the name at a token is declared, before it.
+// The token that declares a field, a parameter or an emitted value with the name at a token, before it.
 fn value_before(pieces: &[&[u8]], k: usize) -> Option<usize> {
     let start = last_of(pieces, k, b"type")?;
     let field = after_keyword(pieces, start, k, b"state");
@@ -104,12 +104,12 @@ fn value_before(pieces: &[&[u8]], k: usize) -> Option<usize> {
     None
 }
 
-// Whether a token is the name of an emitted value, or stands among the statements.
+// Whether a token is the name of an emitted value, or is among the statements.
 fn emits(pieces: &[&[u8]], k: usize) -> bool {
     is_bound(pieces, k) || part_of(pieces, k).0 == b"apply".as_slice()
 }
 
-// The name at a token after a keyword, between two places.
+// The first token with the name at a token and right after a keyword, between two tokens.
 fn after_keyword(pieces: &[&[u8]], from: usize, k: usize, keyword: &[u8]) -> Option<usize> {
     for (j, word) in pieces.iter().enumerate() {
         let before = piece(pieces, j.saturating_sub(1));
@@ -120,7 +120,7 @@ fn after_keyword(pieces: &[&[u8]], from: usize, k: usize, keyword: &[u8]) -> Opt
     None
 }
 
-// The same word, between two places.
+// The first token with the word at a token, between two tokens.
 fn same_between(pieces: &[&[u8]], from: usize, k: usize) -> Option<usize> {
     for (j, word) in pieces.iter().enumerate() {
         if from <= j && j < k && *word == piece(pieces, k) {
@@ -138,7 +138,7 @@ pub(crate) fn is_field(pieces: &[&[u8]], k: usize) -> bool {
     }
 }
 
-/// Where the type or, of other names than fields, the operation ends in which a value's name is seen.
+/// Where the scope of a value's name ends: with the type for a field, and with the operation for other names.
 pub(crate) fn end_of_scope(pieces: &[&[u8]], k: usize) -> Option<usize> {
     let ends = if is_field(pieces, k) {
         b"type transaction".as_slice()

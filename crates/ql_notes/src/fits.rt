@@ -1,9 +1,9 @@
-// What a field of a line may be, by the word of a form.
+// What a field of a line may be, for each word of a form.
 
 use crate::words::{has_word, word};
 use ql_base::{digit_bytes, is_name, number_of};
 
-// What the words of forms stand for, each on a line with its word.
+// What the words of forms stand for, one word on each line.
 const MEANINGS: &str = "NAME a name
 NUMBER a number
 DIGITS a number
@@ -25,12 +25,12 @@ TARGET `op` or `txn`
 VERSION `1` or `2`
 CONTRACT.. a contract";
 
-/// What a word of a form stands for, nothing where it stands for itself.
+/// What a word of a form stands for, empty where it stands for itself.
 pub(crate) fn meaning(wanted: &[u8]) -> &'static [u8] {
     crate::words::sentence_of(MEANINGS, wanted)
 }
 
-/// Whether a word of a form stands for itself: it begins with no capital.
+/// Whether a word of a form stands for itself: it doesn't begin with a capital.
 pub(crate) fn stands_for_itself(wanted: &[u8]) -> bool {
     match wanted.first() {
         Some(byte) => *byte < b'A' || b'Z' < *byte,
@@ -38,7 +38,7 @@ pub(crate) fn stands_for_itself(wanted: &[u8]) -> bool {
     }
 }
 
-/// Whether a field is what a word of a form asks for. `next` is the number of the next effect.
+/// Whether a field fits a word of a form. `next` is the number of the next effect.
 pub(crate) fn fits(wanted: &[u8], field: &[u8], next: u64) -> bool {
     if field.is_empty() || wanted.is_empty() {
         false
@@ -82,7 +82,7 @@ fn is_listed(wanted: &[u8], field: &[u8]) -> bool {
     words.is_empty() || has_word(words, field)
 }
 
-/// The words that a word of a form lists, none where it lists none.
+/// The words that a word of a form allows, empty where it doesn't list them.
 pub(crate) fn listed_words(wanted: &[u8]) -> &'static [u8] {
     if wanted == b"OP_LEVEL".as_slice() {
         b"eventual causal wide strong".as_slice()
@@ -99,7 +99,7 @@ pub(crate) fn listed_words(wanted: &[u8]) -> &'static [u8] {
     }
 }
 
-// Whether a field stands in round brackets, with spaces after commas and colons alone.
+// Whether a field is in parentheses, with spaces only after commas and colons.
 fn is_bracketed(field: &[u8]) -> bool {
     field.starts_with(b"(") && field.ends_with(b")") && !has_stray_space(field)
 }
@@ -117,7 +117,7 @@ fn has_stray_space(field: &[u8]) -> bool {
     false
 }
 
-// Whether a field begins as a value does, and a text ends as one.
+// Whether a field begins as a value does, and ends as one if it is a text.
 fn is_value(field: &[u8]) -> bool {
     match field.first() {
         Some(b'"') => field.len() > 1 && field.ends_with(b"\""),

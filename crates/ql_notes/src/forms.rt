@@ -1,7 +1,7 @@
-// The forms of lines, and where a line leaves them.
+// The forms of lines, and where a line deviates from them.
 //
-// A form is a row of words, as docs/FILES.md has it: capitals stand for what is to be filled in, and with two points for any
-// number of it.
+// A form is a row of words, as in docs/FILES.md: capitals stand for what is to be filled in, and two dots after them
+// for any number of it.
 
 use crate::above::Above;
 use crate::fields::{Field, field_text};
@@ -36,7 +36,7 @@ const OF_BASELINE: &str = "op NAME OP_LEVEL
 txn NAME TXN_LEVEL
 none TARGET NAME";
 
-/// The forms that a line may have, each on a line, by what stands above it.
+/// The forms that a line may have, each on a line, depending on the lines above.
 pub(crate) fn forms(part: &[u8], above: Above) -> &'static str {
     if above.is_ended && part != b"baseline".as_slice() {
         ""
@@ -92,8 +92,8 @@ fn of_proof(above: Above) -> &'static str {
     }
 }
 
-/// Where a line leaves its form: the field's number, and what is left of the form there. Where no form begins as the line does
-/// the forms themselves.
+/// Where a line deviates from its form: the index of the field, and the rest of the form there. Where no form begins as
+/// the line does, all the forms.
 #[derive(Clone, Copy)]
 pub(crate) struct Misfit {
     pub(crate) field: usize,
@@ -101,7 +101,7 @@ pub(crate) struct Misfit {
     pub(crate) is_choice: bool,
 }
 
-/// Where a line leaves the forms that it may have. `next` is the number of the next effect.
+/// Where a line deviates from the forms that it may have. `next` is the number of the next effect.
 pub(crate) fn find_misfit(forms: &'static str, fields: &[Field], next: u64) -> Misfit {
     let text = forms.as_bytes();
     for k in 0..text.len() {
@@ -124,7 +124,7 @@ fn misfit_of(form: &'static [u8], fields: &[Field], next: u64) -> Misfit {
     for (k, field) in fields.iter().enumerate() {
         let (first, after) = word(form);
         let is_list = first.ends_with(b"..");
-        // A list ends where what stands after it fits.
+        // A list ends where the word after it fits.
         if is_list && word(after).0 == field.text {
             form = word(after).1;
         } else if !fits(first, field.text, next) {

@@ -1,5 +1,5 @@
-// What was perhaps meant where a text leaves the grammar: each repair is tried, and the one that lets most of the text be read is
-// the likeliest.
+// What was perhaps meant where a text doesn't follow the grammar: each repair is tried, and the one with which most of
+// the text can be read is the likeliest.
 
 use crate::likeness::likest;
 use crate::syntax::Break;
@@ -9,22 +9,22 @@ use ql_lex::LexFault;
 use ql_parse::{ParseFault, parse_program};
 use std::alloc::Global;
 
-// The most bytes of a text of which repairs are tried.
+// The most bytes of a text for which repairs are tried.
 const BYTES: usize = 65_536;
 
 /// How a text was perhaps meant.
 #[derive(Clone, Copy)]
 pub(crate) enum Guess {
-    /// A word in the place of the one that is there.
+    /// This word instead of the one that is there.
     Instead(&'static str),
-    /// A word before it.
+    /// This word before the one that is there.
     Missing(&'static str),
-    /// Without it.
+    /// The text without the word that is there.
     Extra,
     Nothing,
 }
 
-// The words that are taken for others, each on a line with those that may be meant.
+// Words that are mistaken for others, each on a line with those that may be meant.
 const CONFUSIONS: &str = "= == :=
 == = :=
 := = ==
@@ -53,7 +53,7 @@ txn vis";
 const FORGOTTEN: &[u8] =
     b"; ) } ] . , { ( : = := => == then else when apply contract answer uses emit op";
 
-/// The likeliest repair, by the terminals that the grammar has in the place of the word.
+/// The likeliest repair, by the terminals that the grammar allows instead of the word.
 pub(crate) fn likeliest_repair(
     alloc: Global,
     found: Break,
@@ -85,7 +85,7 @@ pub(crate) fn likeliest_repair(
     Ok(best.guess)
 }
 
-// A text without the blanks at its start.
+// A text without its leading blanks.
 fn without_blanks(text: &[u8]) -> &[u8] {
     for k in 0..text.len() {
         if !is_blank(text[k]) {
@@ -115,7 +115,7 @@ struct Best {
 }
 
 impl Best {
-    // Takes a repair where it leaves less.
+    // Takes a repair if it leaves fewer bytes unread.
     fn try_repair(&mut self, alloc: Global, found: Break, guess: Guess) -> Result<(), NoMemory> {
         let left = match guess {
             Guess::Instead(word) => unread(alloc, found, word, b"")?,
@@ -130,7 +130,7 @@ impl Best {
     }
 }
 
-// How many bytes are left after the first fault, where two words stand in the place of the one that is there.
+// How many bytes are left after the first fault, where two words replace the one that is there.
 fn unread(alloc: Global, found: Break, first: &str, second: &[u8]) -> Result<usize, NoMemory> {
     let mut text = Vec::from_slice(alloc, found.before)?;
     for part in [first.as_bytes(), second, found.rest] {

@@ -1,11 +1,11 @@
-// What can be asked of the program.
+// The help text of the commands.
 
 use crate::likeness::likest;
 use crate::wanted::push_quoted;
 use ql_base::{NoMemory, push_bytes};
 use std::alloc::Global;
 
-/// What can be asked of the program.
+/// The help text of the commands.
 pub const HELP: &str = "usage: ./quelea COMMAND ..
 
   classify [--why] SOURCE     the least level of each operation and transaction;
@@ -41,7 +41,7 @@ static COMMANDS: [&str; 13] = [
     "soak", "proof", "draw",
 ];
 
-/// Appends a command that was perhaps meant, where the first word is none.
+/// Appends the command that was perhaps meant, if the first argument isn't a command.
 pub(crate) fn push_command(
     alloc: Global,
     note: &mut Vec<u8>,

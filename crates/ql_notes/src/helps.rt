@@ -1,4 +1,4 @@
-// What would be right in a line at fault.
+// What would be right in a faulty line.
 
 use crate::above::Above;
 use crate::arguments::push_operation;
@@ -12,8 +12,8 @@ use ql_base::{NoMemory, push_bytes, push_number};
 use ql_excerpt::place_of;
 use std::alloc::Global;
 
-/// Appends what would be right in the field of a number: the stamp, the line's number, a name that was perhaps meant, or what
-/// the operation takes.
+/// Appends what would be right in the field at an index: the stamp, the line's number, a name that was perhaps meant,
+/// or what the operation takes.
 pub(crate) fn push_help(
     alloc: Global,
     note: &mut Vec<u8>,
@@ -65,7 +65,7 @@ fn name_in(field: &[u8]) -> &[u8] {
     field
 }
 
-// The names that may stand in the field of a number: those of the source, or the objects.
+// The names that are allowed in the field at an index: those of the source, or the objects.
 fn candidates<'a>(
     alloc: Global,
     line: FaultyLine<'a>,

@@ -1,6 +1,7 @@
-// A sink that passes on what it is given, and keeps how it begins and how its last line does.
+// A sink that passes on its bytes, and keeps the beginning of the text and of its last line.
 ghost use Rattle.std.specs.Prelude.{◌≤◌};
 
+use crate::notes::Printed;
 use ql_ports::{Failed, Sink};
 
 // How many bytes are kept.
@@ -59,7 +60,7 @@ impl LastLine {
     }
 }
 
-/// A sink over another one. It tells of its bytes and faults what that one does.
+/// A sink over another one, with the same bytes written and the same count of faults.
 #[derive(Drop)]
 pub struct KeptSink<K: Sink + Drop> {
     sink: K,
@@ -79,14 +80,12 @@ impl<K: Sink + Drop> KeptSink<K> {
         }
     }
 
-    /// The first bytes that were taken, at most 128.
-    pub fn first(&self) -> &[u8] {
-        self.beginning.kept()
-    }
-
-    /// The first bytes of the last line that was taken, at most 128.
-    pub fn last_line(&self) -> &[u8] {
-        self.last.beginning.kept()
+    /// How the bytes that were taken begin, and how their last line does: at most 128 bytes of each.
+    pub fn printed(&self) -> Printed {
+        Printed {
+            first: self.beginning.kept(),
+            last_line: self.last.beginning.kept(),
+        }
     }
 }
 

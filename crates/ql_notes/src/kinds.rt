@@ -1,10 +1,10 @@
-// The kinds of expressions, as far as they can be told.
+// The kinds of expressions, as far as they can be determined.
 
 use ql_base::Word;
 use ql_lang::{Base, BinOp, Expr, ExprNode, Init, InitNode, Kind};
 use ql_typing::{Function, Known, find_function};
 
-/// The kind of a name in scope. Of a name that is there twice the first kind counts.
+/// The kind of a name in scope. If a name occurs twice, the first kind counts.
 pub(crate) fn kind_named(scope: &[Known], word: &Word) -> Option<Kind> {
     for known in scope {
         if known.word.bytes() == word.bytes() {
@@ -14,7 +14,7 @@ pub(crate) fn kind_named(scope: &[Known], word: &Word) -> Option<Kind> {
     None
 }
 
-/// The kind of an expression, where its parts have the kinds that are wanted of them.
+/// The kind of an expression, provided that its parts have the required kinds.
 #[cycle(kind)]
 pub(crate) fn kind_of(scope: &[Known], node: &ExprNode) -> Option<Kind> {
     match node {
@@ -62,7 +62,7 @@ pub(crate) fn arity(function: Function) -> usize {
     }
 }
 
-/// Whether a function may have a first argument of a kind.
+/// Whether a function accepts a first argument of a kind.
 pub(crate) fn takes_first(function: Function, kind: Kind) -> bool {
     match function {
         Function::Has | Function::Size => matches!(kind, Kind::Set(_) | Kind::Map(_, _)),
@@ -72,7 +72,7 @@ pub(crate) fn takes_first(function: Function, kind: Kind) -> bool {
     }
 }
 
-/// The kind that a function wants of its argument of a number, from 0, by the kind of its first.
+/// The kind that a function requires of its argument at an index, by the kind of the first one.
 pub(crate) fn wanted_after(function: Function, first: Kind, number: usize) -> Option<Kind> {
     match (function, first) {
         (Function::Union, _) => Some(first),
@@ -92,7 +92,7 @@ pub(crate) fn of_base(base: Base) -> Kind {
     }
 }
 
-/// The kind of what a field begins with; none of `empty`.
+/// The kind of a field's initial value; none for `empty`.
 pub(crate) fn kind_of_init(init: &Init) -> Option<Kind> {
     match init.node {
         InitNode::Int(_) => Some(Kind::Int),

@@ -1,17 +1,17 @@
-// Why bytes are no token.
+// Why bytes aren't a token.
 
 use crate::wanted::push_quoted;
 use ql_base::{NoMemory, digit_bytes, is_word_byte, push_bytes, push_number};
 use ql_excerpt::Spot;
 
-/// Whether a rule is one of tokens.
+/// Whether a rule is about tokens.
 pub(crate) fn is_lexical(rule: &[u8]) -> bool {
     rule == b"BadChar".as_slice()
         || rule == b"LongWord".as_slice()
         || rule == b"BadNumber".as_slice()
 }
 
-/// Says why bytes at an offset are no token, and answers what is marked.
+/// Appends why the bytes at an offset aren't a token, and returns the bytes to mark.
 pub(crate) fn push_lexical(
     said: &mut Vec<u8>,
     text: &[u8],
@@ -39,7 +39,7 @@ fn rest_of(text: &[u8], at: usize) -> &[u8] {
     }
 }
 
-// Says why a byte is at fault, and answers what is marked.
+// Appends why a byte is wrong, and returns the bytes to mark.
 fn push_bad_byte(said: &mut Vec<u8>, text: &[u8], at: usize) -> Result<Spot, NoMemory> {
     let byte = rest_of(text, at).first().copied().unwrap_or(b'\n');
     let one = Spot { from: at, bytes: 1 };
@@ -67,7 +67,7 @@ fn push_bad_byte(said: &mut Vec<u8>, text: &[u8], at: usize) -> Result<Spot, NoM
     Ok(one)
 }
 
-// A byte that can be printed in quotes, and another one by its number.
+// Appends a printable byte in quotes, and any other byte as a number.
 fn push_byte(said: &mut Vec<u8>, byte: u8) -> Result<(), NoMemory> {
     if 33 <= byte && byte <= 126 {
         return push_quoted(said, &[byte]);
@@ -76,7 +76,7 @@ fn push_byte(said: &mut Vec<u8>, byte: u8) -> Result<(), NoMemory> {
     push_number(said, byte)
 }
 
-// What to write in the place of a byte with which no token begins.
+// What to write instead of a byte with which no token begins.
 fn advice(byte: u8) -> &'static [u8] {
     match byte {
         b'A'..=b'Z' => b": names and keywords have lower-case letters alone",
@@ -91,7 +91,7 @@ fn advice(byte: u8) -> &'static [u8] {
     }
 }
 
-// Where the text begins that is open at an offset.
+// The offset of the quote that is open at an offset, if there is one.
 fn open_quote(text: &[u8], at: usize) -> Option<usize> {
     let mut quote = None;
     let mut is_comment = false;
@@ -110,7 +110,7 @@ fn open_quote(text: &[u8], at: usize) -> Option<usize> {
     quote
 }
 
-// Says how long a name or a text is, and answers it.
+// Appends how long a name or a text is. Returns the bytes to mark, with the quotes of a text.
 fn push_long(said: &mut Vec<u8>, rest: &[u8]) -> Result<usize, NoMemory> {
     if rest.first() == Some(&b'"') {
         let bytes = text_bytes(rest);
@@ -143,7 +143,7 @@ fn push_length(
     push_bytes(said, limit)
 }
 
-// How many bytes stand between the quotes of a text.
+// How many bytes there are between the quotes of a text.
 fn text_bytes(rest: &[u8]) -> usize {
     let mut count = 0usize;
     for byte in rest.iter().skip(1) {
@@ -155,7 +155,7 @@ fn text_bytes(rest: &[u8]) -> usize {
     count
 }
 
-// How many letters, digits and `_` stand at the start.
+// How many letters, digits and `_` the bytes begin with.
 fn word_bytes(rest: &[u8]) -> usize {
     let mut count = 0usize;
     for byte in rest {

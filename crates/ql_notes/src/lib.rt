@@ -1,6 +1,6 @@
-// Notes beside an answer, for people: where a fault stands, the line with a mark under the place, what is wrong in a sentence,
-// what the grammar has there, and names that were perhaps meant. They say nothing that an answer depends on.
-// The one contract: every function is safe and returns, whatever the files have in them.
+// Notes to an answer, for people: the position of a fault, its line with a mark, a sentence on what is wrong, what the
+// grammar allows there, and names that were perhaps meant. No answer depends on them.
+// The one contract: every function is safe and returns, whatever the files contain.
 #![tactic(auto)]
 
 mod above;
@@ -48,4 +48,4 @@ mod words;
 pub use help::HELP;
 pub use kept::KeptSink;
 pub use notes::{Printed, note};
-pub use system::{wants_notes, write_reason};
+pub use system::write_notes;

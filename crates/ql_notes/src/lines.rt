@@ -15,7 +15,7 @@ use ql_base::NoMemory;
 use ql_excerpt::{File, Spot, place_of_line, push_fault};
 use std::alloc::Global;
 
-/// Appends what can be said of a fault in a line file. `source` has the tokens of the source that it belongs to.
+/// Appends a note on a fault in a line file. `source` has the tokens of the source that the file belongs to.
 pub(crate) fn push_line_fault<'x>(
     alloc: Global,
     note: &mut Vec<u8>,
@@ -57,7 +57,7 @@ pub(crate) fn push_line_fault<'x>(
     push_help(alloc, note, line, k, above, file.text)
 }
 
-// Where a line begins, its fields, and what stands above it.
+// The offset of a line, its fields, and what precedes it.
 #[derive(Clone, Copy)]
 struct Line<'a> {
     start: usize,
@@ -65,7 +65,7 @@ struct Line<'a> {
     above: Above,
 }
 
-// Appends what can be said of a line that isn't of its form.
+// Appends a note on a line that doesn't have its form.
 fn push_form_fault(
     alloc: Global,
     note: &mut Vec<u8>,
@@ -101,7 +101,7 @@ fn last_form(forms: &[u8]) -> &[u8] {
     last
 }
 
-// Where a line begins; a line after the last one at the text's end.
+// The offset of a line; the text's length for a line after the last one.
 fn start_of(text: &[u8], number: u64) -> usize
     ensures { result ≤ length text.now }
 {
@@ -113,7 +113,7 @@ fn start_of(text: &[u8], number: u64) -> usize
     }
 }
 
-// The bytes of a field; after the last one there is one.
+// The bytes of a field; one byte after the last field.
 fn spot(fields: &[Field], k: usize, start: usize) -> Spot {
     match fields.get(k) {
         Some(field) => Spot {
@@ -127,7 +127,7 @@ fn spot(fields: &[Field], k: usize, start: usize) -> Spot {
     }
 }
 
-// Where a field ends, or else the last one.
+// The end of a field, or of the last one if there is none at the index.
 fn end_of(fields: &[Field], k: usize, start: usize) -> usize {
     match fields.get(k).or(fields.last()) {
         Some(field) => field.from.saturating_add(field.text.len()),

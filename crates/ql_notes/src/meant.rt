@@ -1,4 +1,4 @@
-// What is said of an unknown name in a source: what was wanted there, and the names that are known.
+// What the note says of an unknown name in a source: what was required there, and the names that are known.
 
 use crate::declared::{declared, place_in};
 use crate::likeness::{likest, push_meant};
@@ -127,7 +127,7 @@ fn push_unused(note: &mut Vec<u8>, tokens: &[&[u8]], k: usize) -> Result<(), NoM
     Ok(())
 }
 
-// Whether a name stands in an operation after its parameters.
+// Whether a name occurs in an operation after its parameters.
 fn is_used(tokens: &[&[u8]], to: usize, name: &[u8]) -> bool {
     let end = next_of(tokens, to, b"op type transaction").unwrap_or(tokens.len());
     for (j, token) in tokens.iter().enumerate() {
@@ -138,7 +138,7 @@ fn is_used(tokens: &[&[u8]], to: usize, name: &[u8]) -> bool {
     false
 }
 
-// An operation is named where one of its effects is wanted.
+// Appends how to quantify the effects of an operation whose name is used as an effect.
 fn push_effects_of(note: &mut Vec<u8>, operation: &[u8]) -> Result<(), NoMemory> {
     push_bytes(note, b"  it is an operation: `forall x: ")?;
     push_bytes(note, operation)?;
@@ -199,7 +199,8 @@ fn values<'a>(alloc: Global, tokens: &[&'a [u8]], k: usize) -> Result<Vec<&'a [u
     Ok(names)
 }
 
-// Where the names are declared that a token sees beside the fields: those of the parameters, or in a statement the emitted ones.
+// The tokens between which a token's names other than fields are declared: the parameters, or in a statement the
+// emitted values.
 fn bindings(tokens: &[&[u8]], k: usize) -> (usize, usize) {
     if part_of(tokens, k).0 == b"apply".as_slice() {
         let from = last_of(tokens, k, b"emit").unwrap_or(k);

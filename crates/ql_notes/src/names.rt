@@ -45,7 +45,7 @@ fn push_names(note: &mut Vec<u8>, names: &[&[u8]]) -> Result<(), NoMemory> {
     Ok(())
 }
 
-// Whether a name stands before a place.
+// Whether a name occurs before an index.
 fn has_before(names: &[&[u8]], k: usize, name: &[u8]) -> bool {
     for (j, other) in names.iter().enumerate() {
         if j < k && *other == name {

@@ -21,18 +21,18 @@ const SOURCE_BYTES: usize = 1_048_576;
 // The most bytes of other files.
 const FILE_BYTES: usize = 67_108_864;
 
-// The status for words that ask for nothing.
+// The status for arguments that don't ask for anything.
 const USAGE: u8 = 5;
 
-/// How an answer begins, and its last line.
+/// The beginning of an answer, and its last line.
 #[derive(Clone, Copy)]
 pub struct Printed<'a> {
     pub first: &'a [u8],
     pub last_line: &'a [u8],
 }
 
-/// What can be said of an answer beside it: of a fault in a file where it stands and what the rule is, of words that ask
-/// for nothing what can be asked, and of an answer that isn't yes what it means. Empty where there is nothing to say.
+/// A note to an answer: for a fault in a file, its position and the rule; for arguments that don't ask for anything,
+/// the help text; and for an answer that isn't yes, what it means. Empty where there is nothing to say.
 pub fn note<S: Shelf>(
     alloc: Global,
     words: &Vec<String>,
@@ -65,7 +65,7 @@ fn command(words: &Vec<String>) -> &[u8] {
     }
 }
 
-// What was refused, of a command that judges.
+// The refusal that a command reports, if it judges certificates or proofs.
 fn refusal_of<'a>(words: &Vec<String>, status: u8, printed: Printed<'a>) -> Option<Refusal<'a>> {
     if status == NO && has_word(b"check proof", command(words)) {
         refusal_in(printed.last_line)
@@ -74,7 +74,7 @@ fn refusal_of<'a>(words: &Vec<String>, status: u8, printed: Printed<'a>) -> Opti
     }
 }
 
-// What can be said of a file that is at fault.
+// Appends a note on a faulty file.
 fn push_bad_file<S: Shelf>(
     alloc: Global,
     note: &mut Vec<u8>,
@@ -104,7 +104,7 @@ fn file<'a>(name: &'a str, text: &'a [u8]) -> File<'a>
     }
 }
 
-// What can be said of a source that is at fault.
+// Appends a note on a faulty source.
 fn push_bad_source<S: Shelf>(
     alloc: Global,
     note: &mut Vec<u8>,
@@ -130,7 +130,7 @@ fn name_of_part<'a>(words: &'a Vec<String>, part: &[u8]) -> Option<&'a str> {
     }
 }
 
-// What can be said of a certificate or a proof that is refused.
+// Appends a note on a refused certificate or proof.
 fn push_refused<S: Shelf>(
     alloc: Global,
     note: &mut Vec<u8>,
@@ -153,7 +153,7 @@ fn push_refused<S: Shelf>(
     push_refusal(alloc, note, file(name, &other), source, refusal)
 }
 
-// What can be said of a contract that holds.
+// Appends a note on a contract that holds.
 fn push_holding<S: Shelf>(
     alloc: Global,
     note: &mut Vec<u8>,
@@ -169,7 +169,7 @@ fn push_holding<S: Shelf>(
     }
 }
 
-// The file of a number, from 0, after the command and its options.
+// The file at an index among the arguments after the command and its options.
 fn file_of(words: &Vec<String>, number: usize) -> Option<&str> {
     let mut count = 0usize;
     let mut is_operand = false;
@@ -208,7 +208,7 @@ fn source_text<S: Shelf>(alloc: Global, shelf: &mut S, name: &str) -> Result<Vec
     }
 }
 
-// The bytes of another file, likewise.
+// The bytes of another file; none where it can't be read again.
 fn file_text<S: Shelf>(alloc: Global, shelf: &mut S, name: &str) -> Result<Vec<u8>, NoMemory> {
     match read_whole(alloc, shelf, name, FILE_BYTES) {
         Ok(text) => Ok(text),

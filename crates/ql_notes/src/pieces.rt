@@ -1,4 +1,4 @@
-// The tokens of a source as words that others may be put in the place of.
+// The tokens of a source as words that can be replaced.
 ghost use Rattle.std.specs.Prelude.{◌≤◌, length};
 
 use crate::words::has_word;
@@ -6,7 +6,7 @@ use ql_base::{NoMemory, push_bytes};
 use ql_lex::{LexFault, Token, tokens};
 use std::alloc::Global;
 
-/// The tokens of a text, none where it isn't one of tokens.
+/// The tokens of a text, empty where some of it isn't a token.
 pub(crate) fn tokens_of(alloc: Global, text: &[u8]) -> Result<Vec<Token>, NoMemory>
     requires { length text.now ≤ 1048576 }
 {
@@ -40,7 +40,7 @@ pub(crate) fn part(text: &[u8], token: Token) -> &[u8] {
     }
 }
 
-/// The piece of a number, nothing where there is none.
+/// The piece at an index, empty where there is none.
 pub(crate) fn piece<'a>(pieces: &[&'a [u8]], k: usize) -> &'a [u8] {
     match pieces.get(k) {
         Some(piece) => *piece,
@@ -48,21 +48,21 @@ pub(crate) fn piece<'a>(pieces: &[&'a [u8]], k: usize) -> &'a [u8] {
     }
 }
 
-/// Puts a word in the place of a piece.
+/// Replaces a piece by a word.
 pub(crate) fn put<'a>(pieces: &mut [&'a [u8]], k: usize, word: &'a [u8]) {
     if k < pieces.len() {
         pieces[k] = word;
     }
 }
 
-/// Puts nothing in the place of some pieces.
+/// Replaces pieces by empty ones.
 pub(crate) fn clear(pieces: &mut [&[u8]], from: usize, to: usize) {
     for k in from..to {
         put(pieces, k, b"".as_slice());
     }
 }
 
-/// The last piece up to a place that is one of some words.
+/// The last piece up to an index, inclusive, that is one of some words.
 pub(crate) fn last_of(pieces: &[&[u8]], k: usize, words: &[u8]) -> Option<usize> {
     let mut found = None;
     for (j, piece) in pieces.iter().enumerate() {
@@ -73,7 +73,7 @@ pub(crate) fn last_of(pieces: &[&[u8]], k: usize, words: &[u8]) -> Option<usize>
     found
 }
 
-/// The first piece from a place on that is one of some words.
+/// The first piece from an index on that is one of some words.
 pub(crate) fn next_of(pieces: &[&[u8]], k: usize, words: &[u8]) -> Option<usize> {
     for (j, piece) in pieces.iter().enumerate() {
         if k <= j && has_word(words, piece) {
@@ -83,7 +83,7 @@ pub(crate) fn next_of(pieces: &[&[u8]], k: usize, words: &[u8]) -> Option<usize>
     None
 }
 
-/// The piece before a place, of those that are something.
+/// The last non-empty piece before an index, or the index itself where there is none.
 pub(crate) fn before(pieces: &[&[u8]], k: usize) -> usize {
     let mut found = k;
     for (j, piece) in pieces.iter().enumerate() {
@@ -94,7 +94,7 @@ pub(crate) fn before(pieces: &[&[u8]], k: usize) -> usize {
     found
 }
 
-/// The piece after a place, of those that are something.
+/// The first non-empty piece after an index, or the index itself where there is none.
 pub(crate) fn after(pieces: &[&[u8]], k: usize) -> usize {
     for (j, piece) in pieces.iter().enumerate() {
         if k < j && !piece.is_empty() {
@@ -114,7 +114,7 @@ pub(crate) fn joined(alloc: Global, pieces: &[&[u8]]) -> Result<Vec<u8>, NoMemor
     Ok(text)
 }
 
-/// The piece that stands at an offset of their text, or before it.
+/// The index of the piece at an offset of their joined text.
 pub(crate) fn piece_at(pieces: &[&[u8]], offset: usize) -> usize {
     let mut from = 0usize;
     for (k, piece) in pieces.iter().enumerate() {
@@ -126,7 +126,7 @@ pub(crate) fn piece_at(pieces: &[&[u8]], offset: usize) -> usize {
     pieces.len()
 }
 
-/// The bytes of the token at an offset; none where no token begins.
+/// The bytes of the token at an offset; empty where no token begins.
 pub(crate) fn word_at<'a>(text: &'a [u8], found: &[Token], at: usize) -> &'a [u8] {
     for token in found {
         if token.from as usize == at {

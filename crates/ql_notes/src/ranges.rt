@@ -1,4 +1,4 @@
-// The range of a number that is out of it.
+// The range of a number that is out of range.
 
 use crate::above::first_word;
 use crate::columns::FaultyLine;
@@ -37,7 +37,7 @@ pub(crate) fn push_range(
     }
 }
 
-// Whether a replica stands in a field of an event.
+// Whether a field of an event is a replica.
 fn is_replica_field(first: &[u8], k: usize) -> bool {
     if first == b"join".as_slice() {
         k == 2
@@ -92,7 +92,7 @@ fn effects(text: &[u8]) -> u64 {
     count
 }
 
-/// Whether an argument is a number beyond 64 bits.
+/// Whether an argument is a number that doesn't fit in 64 bits.
 pub(crate) fn is_too_great(argument: &[u8]) -> bool {
     let (digits, most) = match argument.strip_prefix(b"-") {
         Some(digits) => (digits, 9_223_372_036_854_775_808),

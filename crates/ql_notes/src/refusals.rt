@@ -1,4 +1,4 @@
-// The note on a certificate or a proof that is refused: the section, the line, and what can be done.
+// Notes on a certificate or a proof that is refused: the section, the line, and what can be done.
 ghost use Rattle.std.specs.Prelude.{◌≤◌, length};
 
 use crate::above::first_word;
@@ -10,15 +10,15 @@ use ql_base::{NoMemory, number_of, push_bytes, push_number};
 use ql_excerpt::{File, Spot, line_of, push_fault};
 use std::alloc::Global;
 
-// By the rule for which a section is refused.
+// Sentences by the rule for which a section is refused.
 const REFUSALS: &str = "BadVariable this line has a variable that the clauses don't have
 BadHint a hint of this line names a clause that isn't there, or a line that isn't earlier
 NotUnit a hint of this line names a clause that leaves open more than one literal, or is true already
 NoConflict the hints lead to no contradiction: one is missing at the end, or one is wrong
 NoEmpty no line is the empty clause, so nothing is shown: a last line without literals, NUMBER : HINTS, is missing";
 
-/// What a line of an answer refuses: the rule, the section's first line, which is empty in a proof, and the number of the line,
-/// which is empty where the whole is refused.
+/// What a line of an answer refuses: the rule, the first line of the section, which is empty in a proof, and the number
+/// of the line, which is empty where the whole section is refused.
 #[derive(Clone, Copy)]
 pub(crate) struct Refusal<'a> {
     rule: &'a [u8],
@@ -63,14 +63,14 @@ fn refusal_of<'a>(section: &'a [u8], rest: &'a [u8]) -> Refusal<'a> {
     }
 }
 
-/// A source: what it is called, and its tokens.
+/// A source: its name, and its tokens.
 #[derive(Clone, Copy)]
 pub(crate) struct Source<'a> {
     pub(crate) name: &'a [u8],
     pub(crate) tokens: &'a [&'a [u8]],
 }
 
-/// Appends what can be said of a refused certificate or proof.
+/// Appends a note on a refused certificate or proof.
 pub(crate) fn push_refusal(
     alloc: Global,
     note: &mut Vec<u8>,
@@ -102,7 +102,7 @@ pub(crate) fn push_refusal(
     push_anew(note, source)
 }
 
-// Where the refused line stands, and why it is refused.
+// The refused line, and why it is refused.
 fn push_cause(said: &mut Vec<u8>, refusal: Refusal) -> Result<(), NoMemory> {
     if !refusal.section.is_empty() {
         push_bytes(said, b"section ")?;
@@ -124,7 +124,7 @@ fn push_cause(said: &mut Vec<u8>, refusal: Refusal) -> Result<(), NoMemory> {
     push_bytes(said, sentence_of(REFUSALS, refusal.rule))
 }
 
-// What the source has as the section of a number, from 1.
+// Appends what the source has as the section with a number, from 1.
 fn push_order(
     alloc: Global,
     said: &mut Vec<u8>,
@@ -156,7 +156,7 @@ fn push_order(
     push_bytes(said, b"` there")
 }
 
-// Whether a higher level could help: hints were found that lead nowhere, and the level isn't the highest.
+// Whether a higher level could help: the hints lead nowhere, and the level isn't the highest.
 fn may_be_too_low(refusal: Refusal) -> bool {
     has_word(b"NotUnit NoConflict NoEmpty", refusal.rule)
         && !refusal.section.ends_with(b" strong")
@@ -178,7 +178,7 @@ fn push_anew(note: &mut Vec<u8>, source: Source) -> Result<(), NoMemory> {
     push_bytes(note, b"` makes it anew\n")
 }
 
-// The first line of the section of a number, or the line `end`.
+// The first line of the section with a number, or the line `end`.
 fn section_spot(text: &[u8], number: u64) -> Spot {
     let mut count = 0u64;
     for k in 0..text.len() {
@@ -196,7 +196,7 @@ fn section_spot(text: &[u8], number: u64) -> Spot {
     whole_line(text, text.len())
 }
 
-// The line that is refused: a numbered line of the section, or the section's first one.
+// The refused line: a numbered line of the section, or the section's first one.
 fn spot_of(text: &[u8], refusal: Refusal) -> Spot {
     let mut is_inside = refusal.section.is_empty();
     for k in 0..text.len() {
@@ -216,7 +216,7 @@ fn spot_of(text: &[u8], refusal: Refusal) -> Spot {
     whole_line(text, text.len())
 }
 
-// The word with which the refused line begins; of a whole proof its end.
+// The word with which the refused line begins; `end` where a whole proof is refused.
 fn refused_word(refusal: Refusal) -> &[u8] {
     if refusal.line.is_empty() {
         b"end".as_slice()

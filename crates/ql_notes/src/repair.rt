@@ -1,8 +1,8 @@
-// What is put in the place of a fault of typing, so that the next one is found.
+// What replaces a fault of typing, so that the next one is found.
 //
-// No declaration is taken away, so that what is found next doesn't follow from that. A name that is declared again gets
-// another name; an expression becomes one of its kind, and a statement nothing; an unknown effect of a contract becomes another
-// effect, an unknown operation nothing, and where that isn't enough the contract becomes `true`.
+// No declaration is removed, so that later faults don't follow from that. A name that is declared again gets another
+// name; an expression becomes one of its kind, and a statement is dropped; an unknown effect of a contract becomes
+// another effect, an unknown operation is dropped, and where that isn't enough the contract becomes `true`.
 
 use crate::pieces::{after, before, clear, last_of, next_of, piece, put};
 use crate::words::has_word;
@@ -11,13 +11,13 @@ use ql_typing::TypeFault;
 // The words with which the parts of a source begin.
 const PARTS: &[u8] = b"type state op contract answer emit when apply transaction uses";
 
-// Names that stand for those that are declared again.
+// Names for those that are declared again.
 static FRESH: [&str; 10] = [
     "other_0", "other_1", "other_2", "other_3", "other_4", "other_5", "other_6", "other_7",
     "other_8", "other_9",
 ];
 
-/// Puts something right in the place of a fault that stands at a piece. Where it knows nothing the pieces stay.
+/// Replaces a fault at a piece by something right. Faults without a repair stay.
 pub(crate) fn repair(pieces: &mut [&[u8]], k: usize, fault: TypeFault) {
     match fault {
         TypeFault::Unknown(_) => unknown(pieces, k),
@@ -29,7 +29,7 @@ pub(crate) fn repair(pieces: &mut [&[u8]], k: usize, fault: TypeFault) {
     }
 }
 
-/// The word with which the part of a source begins in which a piece stands, and where.
+/// The word that begins the part of a source around a piece, and its index.
 pub(crate) fn part_of<'a>(pieces: &[&'a [u8]], k: usize) -> (&'a [u8], usize) {
     let start = last_of(pieces, k, PARTS).unwrap_or(0);
     (piece(pieces, start), start)
@@ -59,13 +59,13 @@ fn twice(pieces: &mut [&[u8]], k: usize) {
     }
 }
 
-/// Whether a piece is an operation of a variable.
+/// Whether a piece is one of the operations of a variable.
 pub(crate) fn is_chosen(pieces: &[&[u8]], k: usize) -> bool {
     part_of(pieces, k).0 == b"contract".as_slice()
         && has_word(b": |", piece(pieces, before(pieces, k)))
 }
 
-// Leaves an operation out of those of a variable, and with the last one their colon.
+// Drops an operation of a variable, and with the only one the colon.
 fn drop_chosen(pieces: &mut [&[u8]], k: usize) {
     let (mark, next) = (before(pieces, k), after(pieces, k));
     let other = if piece(pieces, mark) == b":".as_slice()
@@ -79,7 +79,7 @@ fn drop_chosen(pieces: &mut [&[u8]], k: usize) {
     put(pieces, other, b"".as_slice());
 }
 
-// Leaves an operation out of those that a transaction uses, or puts the first of all in its place.
+// Drops an operation that a transaction uses, or replaces the only one by the first operation of the source.
 fn drop_used(pieces: &mut [&[u8]], k: usize) {
     let (mark, next) = (before(pieces, k), after(pieces, k));
     let other = if piece(pieces, mark) == b",".as_slice() {
@@ -98,7 +98,7 @@ fn drop_used(pieces: &mut [&[u8]], k: usize) {
     }
 }
 
-// Gives a name that is declared again another one.
+// Gives another name to a name that is declared again.
 fn rename(pieces: &mut [&[u8]], k: usize) {
     for name in FRESH.iter() {
         if next_of(pieces, 0, name.as_bytes()).is_none() {
@@ -108,7 +108,7 @@ fn rename(pieces: &mut [&[u8]], k: usize) {
     }
 }
 
-// Puts an effect that is there in the place of an unknown one, wherever the contract that begins at a place names it.
+// Replaces an unknown effect by a known one, wherever the contract that begins at an index names it.
 fn effect(pieces: &mut [&[u8]], start: usize, k: usize) {
     let Some(name) = known_effect(pieces, start) else {
         return contract(pieces, k);
@@ -121,7 +121,7 @@ fn effect(pieces: &mut [&[u8]], start: usize, k: usize) {
     }
 }
 
-// An effect that a contract may name: the current one of an operation, of a transaction the first that is quantified.
+// An effect that a contract may name: in an operation the current one, in a transaction the first quantified one.
 fn known_effect<'a>(pieces: &[&'a [u8]], start: usize) -> Option<&'a [u8]> {
     let owner = last_of(pieces, start, b"op transaction")?;
     if piece(pieces, owner) == b"op".as_slice() {
@@ -135,7 +135,7 @@ fn known_effect<'a>(pieces: &[&'a [u8]], start: usize) -> Option<&'a [u8]> {
     }
 }
 
-// The contract around a piece becomes `true`.
+// Replaces the contract around a piece by `true`.
 fn contract(pieces: &mut [&[u8]], k: usize) {
     let (_, start) = part_of(pieces, k);
     replace(
@@ -151,13 +151,13 @@ fn end_of(pieces: &[&[u8]], k: usize) -> usize {
     next_of(pieces, k, b";").unwrap_or(k)
 }
 
-// Puts one word in the place of some pieces.
+// Replaces some pieces by one word.
 fn replace<'a>(pieces: &mut [&'a [u8]], from: usize, to: usize, word: &'a [u8]) {
     clear(pieces, from, to);
     put(pieces, from, word);
 }
 
-// The expression around a piece becomes one of its kind.
+// Replaces the expression around a piece by one of its kind.
 fn expression(pieces: &mut [&[u8]], k: usize) {
     let (part, start) = part_of(pieces, k);
     let from = start.saturating_add(1);
@@ -174,7 +174,7 @@ fn expression(pieces: &mut [&[u8]], k: usize) {
     }
 }
 
-// An answer and its kind become `unit`.
+// Replaces an answer and its kind by `unit`.
 fn answer(pieces: &mut [&[u8]], from: usize, k: usize) {
     replace(pieces, from, end_of(pieces, k), b"unit".as_slice());
     let op = last_of(pieces, from, b"op").unwrap_or(from);
@@ -183,7 +183,7 @@ fn answer(pieces: &mut [&[u8]], from: usize, k: usize) {
     replace(pieces, bracket.saturating_add(2), end, b"unit".as_slice());
 }
 
-// A value that is emitted.
+// Replaces an emitted value by one of its kind.
 fn bound(pieces: &mut [&[u8]], k: usize) {
     let sign = last_of(pieces, k, b"=").unwrap_or(k);
     let value = value_of(piece(pieces, before(pieces, sign)));
@@ -192,7 +192,7 @@ fn bound(pieces: &mut [&[u8]], k: usize) {
     replace(pieces, from, to, value);
 }
 
-// Where the value that begins at a place ends: at a comma outside its brackets, or at `when`.
+// Where the value that begins at an index ends: at a comma outside its brackets, or at `when`.
 fn end_of_bound(pieces: &[&[u8]], from: usize) -> usize {
     let mut depth = 0usize;
     for (j, piece) in pieces.iter().enumerate() {
@@ -212,7 +212,7 @@ fn end_of_bound(pieces: &[&[u8]], from: usize) -> usize {
     from
 }
 
-// What a field begins with.
+// Replaces the initial value of a field by one of its kind.
 fn initial(pieces: &mut [&[u8]], start: usize, k: usize) {
     let colon = next_of(pieces, start, b":").unwrap_or(k);
     let sign = next_of(pieces, start, b"=").unwrap_or(k);
@@ -220,7 +220,7 @@ fn initial(pieces: &mut [&[u8]], start: usize, k: usize) {
     replace(pieces, sign.saturating_add(1), end_of(pieces, k), value);
 }
 
-/// Gives the field or the emitted value whose value begins at a piece another kind.
+/// Gives another kind to the field or the emitted value whose value begins at a piece.
 pub(crate) fn redeclare<'a>(pieces: &mut [&'a [u8]], k: usize, kind: &'a [u8]) {
     let sign = last_of(pieces, k, b"=").unwrap_or(k);
     let colon = last_of(pieces, sign, b":").unwrap_or(sign);
@@ -242,7 +242,7 @@ fn value_of(kind: &[u8]) -> &'static [u8] {
     }
 }
 
-// A statement becomes nothing.
+// Drops a statement.
 fn statement(pieces: &mut [&[u8]], k: usize) {
     let from = last_of(pieces, k, b"{ ;").unwrap_or(k).saturating_add(1);
     let to = end_of(pieces, k).saturating_add(1);

@@ -1,8 +1,8 @@
-// The rules that a file can break, each in a sentence.
+// The rules that a file can break, each as a sentence.
 
 use crate::words::sentence_of;
 
-/// What a rule says of a part of the input.
+/// The sentence of a rule, for a part of the input.
 pub(crate) fn sentence(part: &[u8], rule: &[u8]) -> &'static [u8] {
     if part == b"source".as_slice() {
         sentence_of(SOURCE_RULES, rule)

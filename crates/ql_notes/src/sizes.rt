@@ -1,9 +1,9 @@
-// What there is too much of in a source.
+// The limits of a source.
 
 use crate::pieces::piece;
 use crate::repair::part_of;
 
-/// Which limit of a source is passed at a token.
+/// The limit of a source that is exceeded at a token.
 pub(crate) fn size_sentence(pieces: &[&[u8]], k: usize) -> &'static [u8] {
     let word = piece(pieces, k);
     let part = part_of(pieces, k).0;

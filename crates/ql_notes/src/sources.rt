@@ -1,4 +1,4 @@
-// The note on a source.
+// Notes on a source.
 ghost use Rattle.std.specs.Prelude.{◌≤◌, length};
 
 use crate::answer::Fault;
@@ -18,7 +18,7 @@ use ql_lex::Token;
 use ql_typing::TypeFault;
 use std::alloc::Global;
 
-/// Appends what can be said of a source's fault, and of typing all further ones, up to ten.
+/// Appends a note on a source's fault, and on further faults of typing, up to ten.
 pub(crate) fn push_source_fault(
     alloc: Global,
     note: &mut Vec<u8>,
@@ -45,7 +45,7 @@ pub(crate) fn push_source_fault(
     Ok(())
 }
 
-// Appends what can be said where a source leaves the grammar.
+// Appends a note where a source doesn't follow the grammar.
 fn push_parse_fault(
     alloc: Global,
     note: &mut Vec<u8>,
@@ -74,7 +74,7 @@ fn push_parse_fault(
     push_syntax(alloc, note, found)
 }
 
-/// What a rule of forms says at a word, or at the end of a text.
+/// The sentence of a rule of syntax, at a word or at the end of a text.
 pub(crate) fn form_sentence(rule: &[u8], word: &[u8]) -> &'static [u8] {
     if word.is_empty() {
         b"something is missing at the end".as_slice()
@@ -83,7 +83,7 @@ pub(crate) fn form_sentence(rule: &[u8], word: &[u8]) -> &'static [u8] {
     }
 }
 
-/// What stands after a word at the start of a text.
+/// The rest of a text after its first word.
 pub(crate) fn after_word<'a>(text: &'a [u8], word: &[u8]) -> &'a [u8] {
     text.strip_prefix(word).unwrap_or(text)
 }
@@ -124,7 +124,7 @@ fn push_misuse(
     }
 }
 
-// Says what is wrong at a token.
+// Appends what is wrong at a token.
 fn push_sentence(said: &mut Vec<u8>, found: &[&[u8]], misuse: Misuse) -> Result<(), NoMemory> {
     let k = misuse.token;
     match (misuse.fault, misuse.clash) {

@@ -15,7 +15,8 @@ pub(crate) struct EffectLine<'a> {
     pub(crate) seen: &'a [u8],
 }
 
-/// One more than the greatest stamp among the effects that the effect of a line sees and the earlier ones of its session.
+/// One more than the greatest stamp among the effects that the effect of a line sees and the earlier ones of its
+/// session.
 pub(crate) fn right_stamp(text: &[u8], place: Place) -> Option<u64>
     requires line { place.start ≤ place.at }
     requires within { place.at ≤ length text.now }
@@ -56,7 +57,7 @@ pub(crate) fn effect_of(line: &[u8]) -> Option<EffectLine> {
     })
 }
 
-// What stands after the last place where a text has some bytes.
+// The rest of a text after the last occurrence of some bytes.
 fn after_last<'a>(text: &'a [u8], part: &[u8]) -> Option<&'a [u8]> {
     let mut found = None;
     for k in 0..text.len() {

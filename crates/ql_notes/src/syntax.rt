@@ -1,4 +1,4 @@
-// What was found and what was expected, where a text leaves the grammar of sources.
+// What was found and what was expected, where a text doesn't follow the grammar of sources.
 
 use crate::expected::{expected, push_expected};
 use crate::guesses::{Guess, likeliest_repair};
@@ -9,13 +9,13 @@ use std::alloc::Global;
 // The most bytes of a source.
 const SOURCE_BYTES: usize = 1_048_576;
 
-/// Where a text leaves the grammar: what stands before, the word there, and what follows it.
+/// Where a text doesn't follow the grammar: the text before, the word there, and the rest after it.
 #[derive(Clone, Copy)]
 pub(crate) struct Break<'a> {
     pub(crate) before: &'a [u8],
     pub(crate) word: &'a [u8],
     pub(crate) rest: &'a [u8],
-    /// Whether the text is a line, and ends where a semicolon would stand in a source.
+    /// Whether the text is a line, which ends where a source would have a semicolon.
     pub(crate) is_line: bool,
 }
 

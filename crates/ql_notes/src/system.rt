@@ -1,12 +1,37 @@
-// What notes ask of the system: whether they are wanted, and why a file can't be opened.
+// What notes need from the system: whether they are wanted, where they are written, and why a file can't be opened.
 
+use crate::notes::{Printed, note};
+use ql_ports::Shelf;
 use std::env::Env;
 use std::fs::Files;
-use std::io::Eprint;
+use std::io::{Eprint, IsTerminal, Write};
 use std::{env, fs};
 
-/// Whether notes are wanted. They are for people: on a terminal, or where QUELEA_NOTES is 1, and never where it is 0.
-pub fn wants_notes<R: Env + AllocGlobal>(rt: &R, is_terminal: bool) -> bool {
+// The exit status of a file that can't be read.
+const READ_FAULT: u8 = 3;
+
+/// Writes the note on an answer to standard error, if notes are wanted; for a file that can't be read, also the system's
+/// reason. Out of memory, or if standard error fails, no note is written.
+pub fn write_notes<S: Shelf>(
+    rt: HostRuntime,
+    words: &Vec<String>,
+    status: u8,
+    printed: Printed,
+    shelf: &mut S,
+) {
+    if !wants_notes(&rt, rt.stderr().is_terminal()) {
+        return;
+    }
+    if let Ok(text) = note(rt.alloc(), words, status, printed, shelf) {
+        let _ = rt.stderr().write_all(&text);
+    }
+    if status == READ_FAULT {
+        write_reason(&rt, words);
+    }
+}
+
+// Whether notes are wanted: always if QUELEA_NOTES is 1, never if it is 0, and otherwise on a terminal.
+fn wants_notes<R: Env + AllocGlobal>(rt: &R, is_terminal: bool) -> bool {
     match env::var(rt, "QUELEA_NOTES") {
         Ok(value) if value.as_str() == "1" => true,
         Ok(value) if value.as_str() == "0" => false,
@@ -14,8 +39,8 @@ pub fn wants_notes<R: Env + AllocGlobal>(rt: &R, is_terminal: bool) -> bool {
     }
 }
 
-/// Writes to standard error why the first file that can't be opened can't be, by the system.
-pub fn write_reason<R: Files + Eprint>(rt: &R, words: &Vec<String>) {
+// Writes the system's reason to standard error why a file can't be opened, for the first such argument.
+fn write_reason<R: Files + Eprint>(rt: &R, words: &Vec<String>) {
     for word in words.iter().skip(1) {
         if word.as_bytes().first() == Some(&b'-') {
             continue;

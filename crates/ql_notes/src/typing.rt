@@ -12,16 +12,16 @@ use ql_parse::{ParseFault, parse_program};
 use ql_typing::{TypeFault, typecheck};
 use std::alloc::Global;
 
-// The most faults that are found.
+// The most faults that are reported.
 const MOST: usize = 10;
 
-// The most times that a source is judged.
+// The most times that a source is typechecked.
 const ROUNDS: usize = 40;
 
-// The most bytes of a source that is judged.
+// The most bytes of a source that is typechecked.
 const BYTES: usize = 4_194_304;
 
-/// A fault of typing, the token at which it stands, by its number, and of a wrong kind which kinds they are.
+/// A fault of typing, the index of its token, and for a wrong kind the kinds.
 #[derive(Clone, Copy)]
 pub(crate) struct Misuse {
     pub(crate) token: usize,
@@ -31,8 +31,8 @@ pub(crate) struct Misuse {
     pub(crate) is_declared_wrong: bool,
 }
 
-/// The faults of typing of a source, by the bytes of its tokens: after each one something right is put in its place, and
-/// the next one is looked for after it. One that only follows from an earlier one isn't among them.
+/// The faults of typing of a source, by the bytes of its tokens: each one is repaired, and the search for the next one
+/// goes on after it. Faults that only follow from earlier ones are left out.
 pub(crate) fn misuses(alloc: Global, tokens: &[&[u8]]) -> Result<Vec<Misuse>, NoMemory> {
     let mut pieces = Vec::from_slice(alloc, tokens)?;
     let mut found = Vec::new(alloc);
@@ -53,8 +53,8 @@ pub(crate) fn misuses(alloc: Global, tokens: &[&[u8]]) -> Result<Vec<Misuse>, No
     Ok(found)
 }
 
-// Puts something right in the place of a fault. Where a value hasn't the kind that is declared for it, the kind is mended if the
-// next fault stands later then.
+// Repairs a fault. Where a value doesn't have its declared kind, the declaration is repaired if the next fault comes
+// later then.
 fn mend(alloc: Global, pieces: &mut [&[u8]], misuse: Misuse) -> Result<Misuse, NoMemory> {
     let Some(kind) = kind_of_value(misuse) else {
         repair(pieces, misuse.token, misuse.fault);
@@ -77,7 +77,7 @@ fn mend(alloc: Global, pieces: &mut [&[u8]], misuse: Misuse) -> Result<Misuse, N
     })
 }
 
-// The kind of a value that hasn't the one that is declared for it.
+// The kind of a value that doesn't have its declared kind.
 fn kind_of_value(misuse: Misuse) -> Option<Kind> {
     let clash = misuse.clash?;
     match clash.wish {
@@ -86,7 +86,7 @@ fn kind_of_value(misuse: Misuse) -> Option<Kind> {
     }
 }
 
-// The token of the first fault of typing, past all tokens where there is none.
+// The index of the token of the first fault of typing, past all tokens where there is none.
 fn token_of_first(alloc: Global, pieces: &[&[u8]]) -> Result<usize, NoMemory> {
     match first_misuse(alloc, pieces)? {
         Some(misuse) => Ok(misuse.token),
@@ -94,7 +94,7 @@ fn token_of_first(alloc: Global, pieces: &[&[u8]]) -> Result<usize, NoMemory> {
     }
 }
 
-// The first fault of typing of pieces, none where they are no source or too long.
+// The first fault of typing of pieces, none where they aren't a source or are too long.
 fn first_misuse(alloc: Global, pieces: &[&[u8]]) -> Result<Option<Misuse>, NoMemory> {
     let text = joined(alloc, pieces)?;
     let Some(program) = program_of(alloc, &text)? else {
@@ -112,7 +112,7 @@ fn first_misuse(alloc: Global, pieces: &[&[u8]]) -> Result<Option<Misuse>, NoMem
     }
 }
 
-// The program of a text, none where it is no source or too long.
+// The program of a text, none where it isn't a source or is too long.
 fn program_of(alloc: Global, text: &[u8]) -> Result<Option<Program>, NoMemory> {
     if text.len() > BYTES {
         return Ok(None);
@@ -124,7 +124,7 @@ fn program_of(alloc: Global, text: &[u8]) -> Result<Option<Program>, NoMemory> {
     }
 }
 
-// Which kinds a fault of kinds is about.
+// The kinds that a fault of kinds is about.
 fn clash_of(alloc: Global, text: &[u8], fault: TypeFault) -> Result<Option<Clash>, NoMemory> {
     let TypeFault::Kind(at) = fault else {
         return Ok(None);
@@ -163,8 +163,8 @@ pub(crate) fn rule_of(fault: TypeFault) -> &'static [u8] {
     }
 }
 
-// Whether a fault only follows from an earlier one: the same name is unknown in one operation, something has another kind where a
-// name is declared again, or a name has the same wrong kind as before.
+// Whether a fault only follows from an earlier one: the same name is unknown in one operation, something has another
+// kind where a name is declared again, or a name has the same wrong kind as before.
 fn follows(tokens: &[&[u8]], found: &[Misuse], misuse: Misuse) -> bool {
     for earlier in found {
         let is_one = match (earlier.fault, misuse.fault) {
@@ -188,7 +188,7 @@ fn follows(tokens: &[&[u8]], found: &[Misuse], misuse: Misuse) -> bool {
     false
 }
 
-// Whether one name has the same wrong kind at two places, so that its declaration may be at fault.
+// Whether one name has the same wrong kind at two tokens, so that its declaration may be wrong.
 fn is_one_clash(tokens: &[&[u8]], earlier: Misuse, misuse: Misuse) -> bool {
     let (Some(one), Some(other)) = (earlier.clash, misuse.clash) else {
         return false;
@@ -213,7 +213,8 @@ fn is_same(tokens: &[&[u8]], one: usize, other: usize) -> bool {
     }
 }
 
-// Whether what is declared at a place is seen at a later one: up to the end of its operation, transaction or, of a field, type.
+// Whether a declaration is in scope at a later token: up to the end of its operation or transaction, or of its type for
+// a field.
 fn is_one_part(tokens: &[&[u8]], from: usize, to: usize) -> bool {
     let part = last_of(tokens, from, b"type state op transaction").unwrap_or(from);
     let ends = if piece(tokens, part) == b"state".as_slice() {

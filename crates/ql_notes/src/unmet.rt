@@ -1,4 +1,4 @@
-// What a file of `holds` names in its contract and no effect has.
+// Operations that the contract of a `holds` file names, though no effect has them.
 ghost use Rattle.std.specs.Prelude.{◌≤◌, length};
 
 use crate::above::first_word;
@@ -11,7 +11,7 @@ use ql_base::NoMemory;
 use ql_excerpt::{File, Spot, line_of, push_fault};
 use std::alloc::Global;
 
-/// Appends a note for each operation that the contract names and no effect has.
+/// Appends a note for each operation that the contract names though no effect has it.
 pub(crate) fn push_unmet(alloc: Global, note: &mut Vec<u8>, file: File) -> Result<(), NoMemory> {
     let Some(from) = contract_start(file.text) else {
         return Ok(());
@@ -42,7 +42,7 @@ pub(crate) fn push_unmet(alloc: Global, note: &mut Vec<u8>, file: File) -> Resul
     Ok(())
 }
 
-// Where the contract stands, after the word `contract` of the first line that begins with it.
+// The offset of the contract, after the word `contract` of the first line that begins with it.
 fn contract_start(text: &[u8]) -> Option<usize> {
     for k in 0..text.len() {
         if text[k..].starts_with(b"contract ") && is_first(text, k) {
@@ -52,7 +52,7 @@ fn contract_start(text: &[u8]) -> Option<usize> {
     None
 }
 
-// Whether nothing but spaces stands before a place in its line.
+// Whether only spaces come before an offset in its line.
 fn is_first(text: &[u8], at: usize) -> bool
     requires { at ≤ length text.now }
 {

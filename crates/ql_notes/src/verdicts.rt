@@ -1,21 +1,21 @@
-// What an answer means that isn't yes, in a sentence.
+// What an answer that isn't yes means, as a sentence.
 
 use crate::notes::Printed;
 use crate::words::{sentence_of, word};
 use ql_base::{NoMemory, push_bytes};
 
-// The statuses of no and of what is too large.
+// The statuses for no and for too large.
 pub(crate) const NO: u8 = 1;
 
 const TOO_LARGE: u8 = 7;
 
-// By the first word of an answer.
+// Sentences by the first word of an answer.
 const ANSWERS: &str =
     "none no level is enough for this contract; `./quelea explain SOURCE` shows an execution in which the strongest isn't
 strong a transaction can't use a strong operation; `./quelea explain SOURCE` says what one can do
 fails the contract is false at this effect or transaction, where its variables stand for the effects named here";
 
-// What is too large.
+// Sentences by the second word of an answer that something is too large.
 const LIMITS: &str =
     "large a source has at most 1 MiB, and a certificate or an execution at most 64 MiB
 much all choices of effects are tried: fewer effects or fewer variables need less, and at most 20000000 is done";

@@ -1,4 +1,4 @@
-// What a line has where it leaves its form, and what was expected there.
+// What a line has where it deviates from its form, and what was expected there.
 
 use crate::fields::{Field, field_text};
 use crate::fits::{listed_words, meaning, stands_for_itself};
@@ -38,7 +38,7 @@ pub(crate) fn push_wanted(
     push_meant(note, likest(found, &words))
 }
 
-// Appends which effect doesn't ascend among those that an effect sees.
+// Appends which of the effects that an effect sees isn't in ascending order.
 fn push_descent(note: &mut Vec<u8>, fields: &[Field]) -> Result<(), NoMemory> {
     let mut last = 0;
     let mut is_seen = false;
@@ -55,7 +55,7 @@ fn push_descent(note: &mut Vec<u8>, fields: &[Field]) -> Result<(), NoMemory> {
     Ok(())
 }
 
-// Appends a word in quotes, or that there is none.
+// Appends a word in quotes, or that the line ends.
 fn push_found(note: &mut Vec<u8>, found: &[u8]) -> Result<(), NoMemory> {
     if found.is_empty() {
         return push_bytes(note, b"the end of the line");
@@ -91,7 +91,7 @@ fn push_first_words(note: &mut Vec<u8>, forms: &[u8], next: u64) -> Result<(), N
     Ok(())
 }
 
-// The next word of a form, and where that stands for itself what follows it.
+// Appends what comes next in a form: its next word, and the one after it if the first stands for itself.
 fn push_next_words(note: &mut Vec<u8>, form: &[u8], next: u64) -> Result<(), NoMemory> {
     let (first, rest) = word(form);
     push_word(note, first, next)?;

@@ -1,4 +1,4 @@
-// Words of a text, parted by blanks.
+// Words of a text, separated by blanks.
 
 use ql_excerpt::line_of;
 

@@ -11,7 +11,7 @@ use Rattle.std.specs.Str.Parse.{digits_value}
 use Rattle.std.proofs.lemmas.Fmt.{decimal_is_IsNumeral}
 use Rattle.ql_lang.specs.declared.expression.BinOp.{BinOp}
 use Rattle.ql_lex.specs.Fronts.{most_number}
-use Rattle.ql_grammar.specs.declared.level.Level.{Level}
+use Rattle.ql_grammar.specs.declared.precedence.Precedence.{Precedence}
 use Rattle.ql_grammar.specs.declared.role.Role.TheVariants.{Makes}
 use Rattle.ql_grammar.proofs.Fixed.{name_token, int_token, text_token}
 use Rattle.ql_grammar.proofs.TerminalLemmas.{same_terminal}
@@ -151,13 +151,13 @@ kept_refused r k role misses f is below vs = let e : limits.Unexpected (place_ah
 -- operators
 
 -- an operator is ahead and is counted
-pub record TakesOperator (old new : Reading) (l : Level) (o : BinOp) : Type 0 where
+pub record TakesOperator (old new : Reading) (l : Precedence) (o : BinOp) : Type 0 where
   pub sees : operator_ahead l old.tokens ≡ Some o
   pub counts : counted old.counts (Makes 1) (place_ahead old.tokens old.end) ≡ Ok new.counts
   pub tokens : new.tokens ≡ drop 1 old.tokens
   pub end : new.end ≡ old.end
 
-pub operator_passed : {old mid new : Reading} {l : Level} {o : BinOp} {at : ℕ} → operator_ahead l old.tokens ≡ Some o → at ≡ place_ahead old.tokens old.end → counted old.counts (Makes 1) at ≡ Ok mid.counts → mid.tokens ≡ old.tokens → mid.end ≡ old.end → new ≡ record mid { tokens = drop 1 mid.tokens } → TakesOperator old new l o
+pub operator_passed : {old mid new : Reading} {l : Precedence} {o : BinOp} {at : ℕ} → operator_ahead l old.tokens ≡ Some o → at ≡ place_ahead old.tokens old.end → counted old.counts (Makes 1) at ≡ Ok mid.counts → mid.tokens ≡ old.tokens → mid.end ≡ old.end → new ≡ record mid { tokens = drop 1 mid.tokens } → TakesOperator old new l o
 operator_passed {old = old} sees place counts tokens end new = record {
   sees = sees;
   counts = rw (← place) (counts ∙ ap (λ (r : Reading). Ok r.counts) (sym new));
@@ -165,23 +165,23 @@ operator_passed {old = old} sees place counts tokens end new = record {
   end = ap (λ (r : Reading). r.end) new ∙ end;
 }
 
-pub takes_operator : {old new : Reading} {l : Level} {o : BinOp} → TakesOperator old new l o → Gave (Operator l) (AnOperator o) old new
+pub takes_operator : {old new : Reading} {l : Precedence} {o : BinOp} → TakesOperator old new l o → Gave (Operator l) (AnOperator o) old new
 takes_operator {old = old} {new = new} {l = l} {o = o} m below vs =
     let e : drop 1 old.tokens ≡ new.tokens = sym m.tokens in
     let f : old.end ≡ new.end = sym m.end in
     let same : behind old new.counts ≡ new = rw (e, f) refl in
     operator_counted old l o below vs m.sees ∙ ap (λ w. if_within w (λ d. read (behind old d) below (AnOperator o ∷ vs))) m.counts ∙ ap (λ r. read r below (AnOperator o ∷ vs)) same
 
-pub operator_past : (r : Reading) (l : Level) (o : BinOp) (e : Refusal) → operator_ahead l r.tokens ≡ Some o → IsPast r.counts (Makes 1) (place_ahead r.tokens r.end) e → IsRefused (Operator l) r e
+pub operator_past : (r : Reading) (l : Precedence) (o : BinOp) (e : Refusal) → operator_ahead l r.tokens ≡ Some o → IsPast r.counts (Makes 1) (place_ahead r.tokens r.end) e → IsRefused (Operator l) r e
 operator_past r l o e sees over f is below vs = operator_counted r l o below vs sees ∙ ap (λ w. if_within w (λ d. read (behind r d) below (AnOperator o ∷ vs))) (over f is)
 
-pub operator_refused : (r : Reading) (l : Level) → operator_ahead l r.tokens ≡ None → IsRefused (Operator l) r (Unexpected (place_ahead r.tokens r.end))
+pub operator_refused : (r : Reading) (l : Precedence) → operator_ahead l r.tokens ≡ None → IsRefused (Operator l) r (Unexpected (place_ahead r.tokens r.end))
 operator_refused r l misses f is below vs = let e : limits.Unexpected (place_ahead r.tokens r.end) ≡ f = cc in rw (← e) (operator_missing r l below vs misses)
 
-pub operator_not_empty : (l : Level) (o : BinOp) (ts : List Lexeme) → operator_ahead l ts ≡ Some o → 0 < length ts
+pub operator_not_empty : (l : Precedence) (o : BinOp) (ts : List Lexeme) → operator_ahead l ts ≡ Some o → 0 < length ts
 operator_not_empty l o ts sees = let some = some_operator_ahead l o ts sees in let e : ts ≡ some.0 ∷ some.1 = some.2 in rw e (omega arith)
 
-pub operator_shorter : {old new : Reading} {l : Level} {o : BinOp} → TakesOperator old new l o → length new.tokens < length old.tokens
+pub operator_shorter : {old new : Reading} {l : Precedence} {o : BinOp} → TakesOperator old new l o → length new.tokens < length old.tokens
 operator_shorter {old = old} {new = new} {l = l} {o = o} m =
     let some = some_operator_ahead l o old.tokens m.sees in
     let e : old.tokens ≡ some.0 ∷ some.1 = some.2 in

@@ -30,7 +30,7 @@ pub record IsFaultAs {A : Type 0} (Reads : List Marked → List Marked → A →
   pub lexes : Lexes 0 bytes (Ok tokens)
   pub first : FirstFault (IsTextOf Reads) (lexemes_of bytes tokens) (length bytes) f
 
--- what an answer says of the bytes; want of memory says nothing
+-- what a result says about the bytes; running out of memory says nothing
 abbrev pub IsAnswer : {A T : Type 0} → (List Marked → List Marked → A → Type 0) → (T → A) → List ℕ → Result T ParseFault → Type 0
 IsAnswer Reads tree_of bytes (Ok t) = IsTextAs Reads bytes (tree_of t)
 IsAnswer Reads tree_of bytes (Err (Lex f)) = Lexes 0 bytes (Err f)

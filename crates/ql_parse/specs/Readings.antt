@@ -19,30 +19,30 @@ use Rattle.ql_grammar.specs.Machine.{Reading, chosen, read, is_ahead}
 use Rattle.ql_parse.specs.declared.fault.Refusal.{Refusal}
 use Rattle.ql_parse.specs.declared.fault.Refusal.TheVariants.{Unexpected, Deep, Wide, NoMemory}
 
--- A symbol was read, and gave no value: whatever is wanted behind it, it is read from the new place on.
+-- A symbol was read, and yielded no value: whatever is expected after it, it is read from the new reading on.
 abbrev pub Took : Sym → Reading → Reading → Type 0
 Took s old new = (below : List Sym) (vs : List Value) → read old (s ∷ below) vs ≡ read new below vs
 
--- A symbol was read and gave this value.
+-- A symbol was read and yielded this value.
 abbrev pub Gave : Sym → Value → Reading → Reading → Type 0
 Gave s v old new = (below : List Sym) (vs : List Value) → read old (s ∷ below) vs ≡ read new below (v ∷ vs)
 
--- A symbol is not read, and the first fault is this one, whatever is wanted behind it.
+-- A symbol is not read, and the first fault is this one, whatever is expected after it.
 abbrev pub Faults : Sym → Reading → limits.Fault → Type 0
 Faults s old f = (below : List Sym) (vs : List Value) → read old (s ∷ below) vs ≡ Err f
 
--- what a refusal says of the text
+-- what a refusal says about the text
 abbrev pub fault_of : Refusal → Option limits.Fault
 fault_of (Unexpected at) = Some (limits.Unexpected at)
 fault_of (Deep at) = Some (limits.Deep at)
 fault_of (Wide at) = Some (limits.Wide at)
 fault_of NoMemory = None
 
--- A symbol is refused: where that isn't for want of memory, its first fault is this one.
+-- A symbol is refused: unless memory ran out, its first fault is this one.
 abbrev pub IsRefused : Sym → Reading → Refusal → Type 0
 IsRefused s old e = (f : limits.Fault) → fault_of e ≡ Some f → Faults s old f
 
--- a token of this role goes past a limit
+-- a token of this role exceeds a limit
 abbrev pub IsPast : limits.Counts → Role → ℕ → Refusal → Type 0
 IsPast c role at e = (f : limits.Fault) → fault_of e ≡ Some f → limits.counted c role at ≡ Err f
 
@@ -63,12 +63,12 @@ relation_ahead ts =
     if is_ahead EqWord ts then (EqWord, Eq) else (
     if is_ahead HbWord ts then (HbWord, Hb) else (HboWord, Hbo))))))
 
--- A symbol was begun and gave a value so far; something may follow.
+-- A symbol was begun and yielded a value so far; something may follow.
 pub record Started (s : Sym) (l : Rest) (v : Value) (old new : Reading) : Type 0 where
   pub so_far : (below : List Sym) (vs : List Value) → read old (s ∷ below) vs ≡ read new (Then l ∷ below) (v ∷ vs)
   pub shorter : length new.tokens < length old.tokens
 
--- Several symbols were read, and gave this value.
+-- Several symbols were read, and yielded this value.
 abbrev pub GaveAll : (List Sym → List Sym) → Value → Reading → Reading → Type 0
 GaveAll want v old new = (below : List Sym) (vs : List Value) → read old (want below) vs ≡ read new below (v ∷ vs)
 
@@ -105,28 +105,28 @@ EndsHere r = (vs : List Value) → read r [] vs ≡ Ok vs
 abbrev pub EndsNot : Reading → Refusal → Type 0
 EndsNot r e = (f : limits.Fault) → fault_of e ≡ Some f → (vs : List Value) → read r [] vs ≡ Err f
 
--- The next token began one of these ways, and it gave this value.
+-- The next token began one of these ways, which yielded this value.
 abbrev pub GaveOneOf : (List Sym → List (List Sym)) → Value → Reading → Reading → Type 0
 GaveOneOf ways v old new = (below : List Sym) (vs : List Value) → chosen old (ways below) vs ≡ read new below (v ∷ vs)
 
 abbrev pub IsOneOfRefused : (List Sym → List (List Sym)) → Reading → Refusal → Type 0
 IsOneOfRefused ways old e = (f : limits.Fault) → fault_of e ≡ Some f → (below : List Sym) (vs : List Value) → chosen old (ways below) vs ≡ Err f
 
--- the arguments of a call in their brackets, and an expression behind a word
+-- the arguments of a call in their brackets, and an expression after a word
 abbrev pub bracketed_arguments : List Sym → List Sym
 bracketed_arguments below = Word OpenParen (Opens 0) ∷ APart Arguments ∷ Word CloseParen Closes ∷ below
 
 abbrev pub branch_symbols : Terminal → List Sym → List Sym
 branch_symbols k below = Word k Plain ∷ APart (ExprAt Chosen) ∷ below
 
--- what may follow was read wholly, and what was found so far became another value
+-- what may follow was read completely, and what was found so far became another value
 abbrev pub GaveRest : Rest → Value → Value → Reading → Reading → Type 0
 GaveRest l a b old new = (below : List Sym) (vs : List Value) → read old (Then l ∷ below) (a ∷ vs) ≡ read new below (b ∷ vs)
 
 abbrev pub IsRestRefused : Rest → Value → Reading → Refusal → Type 0
 IsRestRefused = IsTurnRefused
 
--- symbols were read, and gave one item more of a list
+-- symbols were read, and yielded one more item of a list
 abbrev pub Added : {A : Type 0} → (List Sym → List Sym) → (List A → Value) → A → Reading → Reading → Type 0
 Added {A = A} want value a old new = (below : List Sym) (vs : List Value) (items : List A) → read old (want below) (value items ∷ vs) ≡ read new below (value (items ++ a ∷ []) ∷ vs)
 
@@ -138,17 +138,17 @@ pub record Collecting (l : Rest) (a b : Value) (old new : Reading) : Type 0 wher
   pub so_far : Turned l a b old new
   pub within : length new.tokens ≤ length old.tokens
 
--- the same, where something else may follow behind the first item
+-- the same, where something else may follow the first item
 pub record Gathering (l : Rest) (a : Value) (m : Rest) (b : Value) (old new : Reading) : Type 0 where
   pub so_far : (below : List Sym) (vs : List Value) → read old (Then l ∷ below) (a ∷ vs) ≡ read new (Then m ∷ below) (b ∷ vs)
   pub within : length new.tokens ≤ length old.tokens
 
--- symbols were begun and gave a value so far; something may follow
+-- symbols were begun and yielded a value so far; something may follow
 pub record StartedAll (want : List Sym → List Sym) (l : Rest) (v : Value) (old new : Reading) : Type 0 where
   pub so_far : (below : List Sym) (vs : List Value) → read old (want below) vs ≡ read new (Then l ∷ below) (v ∷ vs)
   pub shorter : length new.tokens < length old.tokens
 
--- symbols of kinds and of what fields begin with
+-- symbols of kinds and of the initial values of fields
 
 abbrev pub set_symbols : List Sym → List Sym
 set_symbols below = Word SetWord Plain ∷ Word OpenParen Plain ∷ APart BaseKind ∷ Word CloseParen Plain ∷ Do to_set ∷ below
@@ -194,14 +194,14 @@ ending_symbols below = Do no_effect ∷ Then Effect ∷ Word CloseBrace Plain �
 abbrev pub types_symbols : List Sym → List Sym
 types_symbols below = type_symbols (Do to_types ∷ Then MoreTypes ∷ below)
 
--- what is emitted, in place of nothing
+-- what is emitted, instead of nothing
 abbrev pub GaveEmission : Emission → Reading → Reading → Type 0
 GaveEmission e old new = (below : List Sym) (vs : List Value) → read old (effect_symbols below) (AnEffect None ∷ vs) ≡ read new below (AnEffect (Some e) ∷ vs)
 
 abbrev pub AreEmissionsRefused : Reading → Refusal → Type 0
 AreEmissionsRefused old e = (f : limits.Fault) → fault_of e ≡ Some f → (below : List Sym) (vs : List Value) → read old (effect_symbols below) (AnEffect None ∷ vs) ≡ Err f
 
--- the heading of an operation, and the operation behind it
+-- the heading of an operation, and the operation after it
 abbrev pub GaveHeading : ℕ → Name → List Param → Kind → Reading → Reading → Type 0
 GaveHeading n name ps k old new = (below : List Sym) (vs : List Value) → read old (heading_symbols below) vs ≡ read new below (AKind k ∷ TheParams ps ∷ AName name ∷ APlace n ∷ vs)
 

@@ -243,6 +243,7 @@ impl Reader<'_> {
     }
 
     /// The expression behind a word that stands before one.
+    #[inline(always)]
     fn value_behind(&mut self, alloc: Global, word: Terminal) -> Result<Operand, Refusal>
         ensures gave { IfOk result (λ o. GaveAll (value_symbols word) (AnExpr o.start (expression_of o.expr)) self.old self.new) }
         ensures shorter { OnOk result (length self.new.tokens < length self.old.tokens) }

@@ -37,17 +37,17 @@ ghost use Rattle.ql_parse.specs.Readings.{
   Gave,
   GaveAll,
   GaveOneOf,
+  GaveRest,
   IsOneOfRefused,
   IsRefused,
-  IsTurnRefused,
-  Turned,
+  IsRestRefused,
   bracketed_arguments,
   branch_symbols,
 };
 
 use crate::fault::Refusal;
 use crate::reader::Reader;
-use ql_grammar::{Level, Role, Terminal};
+use ql_grammar::{Precedence, Role, Terminal};
 use ql_lang::{BinOp, Expr, ExprNode, Exprs};
 use std::alloc::Global;
 
@@ -59,6 +59,7 @@ pub(crate) struct Operand {
 }
 
 /// The operator with its two operands, which starts where the first one does.
+#[inline(always)]
 fn combined(alloc: Global, left: Operand, op: BinOp, right: Operand) -> Result<Operand, Refusal>
     ensures start { IfOk result (λ o. o.start ≡ left.start) }
     ensures tree { IfOk result (λ o. expression_of o.expr ≡ Combining left.start op (expression_of left.expr) (expression_of right.expr)) }
@@ -77,6 +78,7 @@ fn combined(alloc: Global, left: Operand, op: BinOp, right: Operand) -> Result<O
 }
 
 /// The choice that the word `if` at `at` begins.
+#[inline(always)]
 fn choosing(alloc: Global, at: u32, test: Expr, then: Expr, other: Expr) -> Result<Operand, Refusal>
     ensures start { IfOk result (λ o. o.start ≡ at) }
     ensures tree { IfOk result (λ o. expression_of o.expr ≡ Choosing at (expression_of test) (expression_of then) (expression_of other)) }
@@ -306,127 +308,146 @@ impl Reader<'_> {
 
     /// Expressions with `*` between them.
     #[cycle(expr)]
-    #[inline(always)]
     fn multiplied(&mut self, alloc: Global) -> Result<Operand, Refusal>
         ensures gave { IfOk result (λ o. Gave (APart (ExprAt Multiplied)) (AnExpr o.start (expression_of o.expr)) self.old self.new) }
         ensures shorter { OnOk result (length self.new.tokens < length self.old.tokens) }
         ensures refused { IfErr result (IsRefused (APart (ExprAt Multiplied)) self.old) }
     {
-        let mut left = self.unary(alloc)?;
-        'times: while self.sees_operator(Level::Product) {
-            left = self.more_times(alloc, left)?;
+        let left = self.unary(alloc)?;
+        if self.sees_operator(Precedence::Product) {
+            let product = self.more_times(alloc, left)?;
+            return Ok(product);
         }
         Ok(left)
     }
 
+    /// The rest of a product, from its next operator on.
     #[cycle(expr)]
     fn more_times(&mut self, alloc: Global, left: Operand) -> Result<Operand, Refusal>
-        requires { is_some (operator_ahead Level.Product self.old.tokens) ≡ true }
-        ensures turned { IfOk result (λ o. Turned MoreTimes (AnExpr left.start (expression_of left.expr)) (AnExpr o.start (expression_of o.expr)) self.old self.new) }
+        requires { is_some (operator_ahead Precedence.Product self.old.tokens) ≡ true }
+        ensures gave { IfOk result (λ o. GaveRest MoreTimes (AnExpr left.start (expression_of left.expr)) (AnExpr o.start (expression_of o.expr)) self.old self.new) }
         ensures shorter { OnOk result (length self.new.tokens < length self.old.tokens) }
-        ensures refused { IfErr result (IsTurnRefused MoreTimes (AnExpr left.start (expression_of left.expr)) self.old) }
+        ensures refused { IfErr result (IsRestRefused MoreTimes (AnExpr left.start (expression_of left.expr)) self.old) }
     {
-        let op = self.operator(Level::Product)?;
+        let op = self.operator(Precedence::Product)?;
         let right = self.unary(alloc)?;
         let both = combined(alloc, left, op, right)?;
+        if self.sees_operator(Precedence::Product) {
+            let product = self.more_times(alloc, both)?;
+            return Ok(product);
+        }
         Ok(both)
     }
 
     /// Expressions with `+` and `-` between them.
     #[cycle(expr)]
-    #[inline(always)]
     fn added(&mut self, alloc: Global) -> Result<Operand, Refusal>
         ensures gave { IfOk result (λ o. Gave (APart (ExprAt Added)) (AnExpr o.start (expression_of o.expr)) self.old self.new) }
         ensures shorter { OnOk result (length self.new.tokens < length self.old.tokens) }
         ensures refused { IfErr result (IsRefused (APart (ExprAt Added)) self.old) }
     {
-        let mut left = self.multiplied(alloc)?;
-        'plus: while self.sees_operator(Level::Sum) {
-            left = self.more_plus(alloc, left)?;
+        let left = self.multiplied(alloc)?;
+        if self.sees_operator(Precedence::Sum) {
+            let sum = self.more_plus(alloc, left)?;
+            return Ok(sum);
         }
         Ok(left)
     }
 
+    /// The rest of a sum, from its next operator on.
     #[cycle(expr)]
     fn more_plus(&mut self, alloc: Global, left: Operand) -> Result<Operand, Refusal>
-        requires { is_some (operator_ahead Level.Sum self.old.tokens) ≡ true }
-        ensures turned { IfOk result (λ o. Turned MorePlus (AnExpr left.start (expression_of left.expr)) (AnExpr o.start (expression_of o.expr)) self.old self.new) }
+        requires { is_some (operator_ahead Precedence.Sum self.old.tokens) ≡ true }
+        ensures gave { IfOk result (λ o. GaveRest MorePlus (AnExpr left.start (expression_of left.expr)) (AnExpr o.start (expression_of o.expr)) self.old self.new) }
         ensures shorter { OnOk result (length self.new.tokens < length self.old.tokens) }
-        ensures refused { IfErr result (IsTurnRefused MorePlus (AnExpr left.start (expression_of left.expr)) self.old) }
+        ensures refused { IfErr result (IsRestRefused MorePlus (AnExpr left.start (expression_of left.expr)) self.old) }
     {
-        let op = self.operator(Level::Sum)?;
+        let op = self.operator(Precedence::Sum)?;
         let right = self.multiplied(alloc)?;
         let both = combined(alloc, left, op, right)?;
+        if self.sees_operator(Precedence::Sum) {
+            let sum = self.more_plus(alloc, both)?;
+            return Ok(sum);
+        }
         Ok(both)
     }
 
     /// Expressions with `and` between them.
     #[cycle(expr)]
-    #[inline(always)]
     fn conjoined(&mut self, alloc: Global) -> Result<Operand, Refusal>
         ensures gave { IfOk result (λ o. Gave (APart (ExprAt Conjoined)) (AnExpr o.start (expression_of o.expr)) self.old self.new) }
         ensures shorter { OnOk result (length self.new.tokens < length self.old.tokens) }
         ensures refused { IfErr result (IsRefused (APart (ExprAt Conjoined)) self.old) }
     {
-        let mut left = self.compared(alloc)?;
-        'ands: while self.sees_operator(Level::Conjunction) {
-            left = self.more_conjoined(alloc, left)?;
+        let left = self.compared(alloc)?;
+        if self.sees_operator(Precedence::Conjunction) {
+            let conjunction = self.more_conjoined(alloc, left)?;
+            return Ok(conjunction);
         }
         Ok(left)
     }
 
+    /// The rest of a conjunction, from its next operator on.
     #[cycle(expr)]
     fn more_conjoined(&mut self, alloc: Global, left: Operand) -> Result<Operand, Refusal>
-        requires { is_some (operator_ahead Level.Conjunction self.old.tokens) ≡ true }
-        ensures turned { IfOk result (λ o. Turned MoreConjoined (AnExpr left.start (expression_of left.expr)) (AnExpr o.start (expression_of o.expr)) self.old self.new) }
+        requires { is_some (operator_ahead Precedence.Conjunction self.old.tokens) ≡ true }
+        ensures gave { IfOk result (λ o. GaveRest MoreConjoined (AnExpr left.start (expression_of left.expr)) (AnExpr o.start (expression_of o.expr)) self.old self.new) }
         ensures shorter { OnOk result (length self.new.tokens < length self.old.tokens) }
-        ensures refused { IfErr result (IsTurnRefused MoreConjoined (AnExpr left.start (expression_of left.expr)) self.old) }
+        ensures refused { IfErr result (IsRestRefused MoreConjoined (AnExpr left.start (expression_of left.expr)) self.old) }
     {
-        let op = self.operator(Level::Conjunction)?;
+        let op = self.operator(Precedence::Conjunction)?;
         let right = self.compared(alloc)?;
         let both = combined(alloc, left, op, right)?;
+        if self.sees_operator(Precedence::Conjunction) {
+            let conjunction = self.more_conjoined(alloc, both)?;
+            return Ok(conjunction);
+        }
         Ok(both)
     }
 
     /// Expressions with `or` between them.
     #[cycle(expr)]
-    #[inline(always)]
     fn disjoined(&mut self, alloc: Global) -> Result<Operand, Refusal>
         ensures gave { IfOk result (λ o. Gave (APart (ExprAt Disjoined)) (AnExpr o.start (expression_of o.expr)) self.old self.new) }
         ensures shorter { OnOk result (length self.new.tokens < length self.old.tokens) }
         ensures refused { IfErr result (IsRefused (APart (ExprAt Disjoined)) self.old) }
     {
-        let mut left = self.conjoined(alloc)?;
-        'ors: while self.sees_operator(Level::Disjunction) {
-            left = self.more_disjoined(alloc, left)?;
+        let left = self.conjoined(alloc)?;
+        if self.sees_operator(Precedence::Disjunction) {
+            let disjunction = self.more_disjoined(alloc, left)?;
+            return Ok(disjunction);
         }
         Ok(left)
     }
 
+    /// The rest of a disjunction, from its next operator on.
     #[cycle(expr)]
     fn more_disjoined(&mut self, alloc: Global, left: Operand) -> Result<Operand, Refusal>
-        requires { is_some (operator_ahead Level.Disjunction self.old.tokens) ≡ true }
-        ensures turned { IfOk result (λ o. Turned MoreDisjoined (AnExpr left.start (expression_of left.expr)) (AnExpr o.start (expression_of o.expr)) self.old self.new) }
+        requires { is_some (operator_ahead Precedence.Disjunction self.old.tokens) ≡ true }
+        ensures gave { IfOk result (λ o. GaveRest MoreDisjoined (AnExpr left.start (expression_of left.expr)) (AnExpr o.start (expression_of o.expr)) self.old self.new) }
         ensures shorter { OnOk result (length self.new.tokens < length self.old.tokens) }
-        ensures refused { IfErr result (IsTurnRefused MoreDisjoined (AnExpr left.start (expression_of left.expr)) self.old) }
+        ensures refused { IfErr result (IsRestRefused MoreDisjoined (AnExpr left.start (expression_of left.expr)) self.old) }
     {
-        let op = self.operator(Level::Disjunction)?;
+        let op = self.operator(Precedence::Disjunction)?;
         let right = self.conjoined(alloc)?;
         let both = combined(alloc, left, op, right)?;
+        if self.sees_operator(Precedence::Disjunction) {
+            let disjunction = self.more_disjoined(alloc, both)?;
+            return Ok(disjunction);
+        }
         Ok(both)
     }
 
     /// Two expressions that are compared, or one.
     #[cycle(expr)]
-    #[inline(always)]
     fn compared(&mut self, alloc: Global) -> Result<Operand, Refusal>
         ensures gave { IfOk result (λ o. Gave (APart (ExprAt Compared)) (AnExpr o.start (expression_of o.expr)) self.old self.new) }
         ensures shorter { OnOk result (length self.new.tokens < length self.old.tokens) }
         ensures refused { IfErr result (IsRefused (APart (ExprAt Compared)) self.old) }
     {
         let left = self.added(alloc)?;
-        if self.sees_operator(Level::Comparison) {
-            let op = self.operator(Level::Comparison)?;
+        if self.sees_operator(Precedence::Comparison) {
+            let op = self.operator(Precedence::Comparison)?;
             let right = self.added(alloc)?;
             let both = combined(alloc, left, op, right)?;
             return Ok(both);

@@ -1,5 +1,5 @@
-// Reads contracts and whole sources, and says where the first fault of a text stands that isn't one.
-// Its one contract: the answer is the tree that the grammar has for the text, and else the first fault.
+// Reads contracts and whole sources, and reports the first fault of a text that isn't one.
+// Its one contract: the result is the tree that the grammar has for the text, or else its first fault.
 #![tactic(auto)]
 
 mod again;

@@ -22,7 +22,7 @@ ghost use Rattle.std.specs.Prelude.{
   true,
 };
 ghost use Rattle.ql_grammar.specs.declared.terminal.Terminal.TheVariants.{IntToken, NameToken, TextToken};
-ghost use Rattle.ql_grammar.specs.ExpressionGrammar.{between_quotes, number_of as number_in};
+ghost use Rattle.ql_grammar.specs.ExpressionGrammar.{between_quotes, number_spelled as number_in};
 ghost use Rattle.ql_grammar.specs.Limits.{Wide, counted, with_nodes};
 ghost use Rattle.ql_grammar.specs.Table.{ANameOf, AName, AnOperator, APlace, ASpelling, Kept, Operator, Placed, Word};
 ghost use Rattle.ql_grammar.specs.Machine.{is_ahead, operator_ahead, place_ahead};
@@ -32,7 +32,7 @@ ghost use Rattle.ql_parse.specs.Readings.{EndsHere, EndsNot, Gave, IsPast, IsRef
 
 use crate::fault::Refusal;
 use ql_base::{MAX_BRACKETS, MAX_NODES, number_of};
-use ql_grammar::{Level, Role, Terminal, is_same, terminal_of};
+use ql_grammar::{Precedence, Role, Terminal, is_same, terminal_of};
 use ql_lang::{BinOp, Name, TextLit};
 use ql_lex::Token;
 use std::alloc::Global;
@@ -265,7 +265,7 @@ impl<'a> Reader<'a> {
 
     /// The comparison that comes next.
     fn comparison_ahead(&self) -> Option<BinOp>
-        ensures { result ≡ operator_ahead Level.Comparison self.now.tokens }
+        ensures { result ≡ operator_ahead Precedence.Comparison self.now.tokens }
     {
         if self.sees(Terminal::IsEqual) {
             Some(BinOp::Eq)
@@ -293,7 +293,7 @@ impl<'a> Reader<'a> {
 
     /// The `+` or `-` that comes next.
     fn sum_ahead(&self) -> Option<BinOp>
-        ensures { result ≡ operator_ahead Level.Sum self.now.tokens }
+        ensures { result ≡ operator_ahead Precedence.Sum self.now.tokens }
     {
         if self.sees(Terminal::Plus) {
             Some(BinOp::Add)
@@ -302,45 +302,45 @@ impl<'a> Reader<'a> {
         }
     }
 
-    /// The operator of this level that comes next.
-    fn operator_ahead(&self, level: Level) -> Option<BinOp>
-        ensures { result ≡ operator_ahead level self.now.tokens }
+    /// The operator of this precedence that comes next.
+    fn operator_ahead(&self, precedence: Precedence) -> Option<BinOp>
+        ensures { result ≡ operator_ahead precedence self.now.tokens }
     {
-        match level {
-            Level::Product => self.operator_if(Terminal::Times, BinOp::Mul),
-            Level::Sum => self.sum_ahead(),
-            Level::Comparison => self.comparison_ahead(),
-            Level::Conjunction => self.operator_if(Terminal::AndWord, BinOp::And),
-            Level::Disjunction => self.operator_if(Terminal::OrWord, BinOp::Or),
+        match precedence {
+            Precedence::Product => self.operator_if(Terminal::Times, BinOp::Mul),
+            Precedence::Sum => self.sum_ahead(),
+            Precedence::Comparison => self.comparison_ahead(),
+            Precedence::Conjunction => self.operator_if(Terminal::AndWord, BinOp::And),
+            Precedence::Disjunction => self.operator_if(Terminal::OrWord, BinOp::Or),
         }
     }
 
-    /// Whether an operator of this level comes next.
-    pub(crate) fn sees_operator(&self, level: Level) -> bool
-        ensures { result ≡ is_some (operator_ahead level self.now.tokens) }
+    /// Whether an operator of this precedence comes next.
+    pub(crate) fn sees_operator(&self, precedence: Precedence) -> bool
+        ensures { result ≡ is_some (operator_ahead precedence self.now.tokens) }
     {
-        self.operator_ahead(level).is_some()
+        self.operator_ahead(precedence).is_some()
     }
 
-    /// The operator of this level that comes next, which has to be one, with its place.
-    fn expect_operator(&self, level: Level) -> Result<BinOp, Refusal>
-        ensures sees { IfOk result (λ op. operator_ahead level self.now.tokens ≡ Some op) }
+    /// The operator of this precedence that comes next, which has to be one, with its place.
+    fn expect_operator(&self, precedence: Precedence) -> Result<BinOp, Refusal>
+        ensures sees { IfOk result (λ op. operator_ahead precedence self.now.tokens ≡ Some op) }
         ensures err { IfErr result (λ e. e ≡ Refusal.Unexpected (place_ahead self.now.tokens self.now.end)) }
-        ensures misses { OnErr result (operator_ahead level self.now.tokens ≡ None) }
+        ensures misses { OnErr result (operator_ahead precedence self.now.tokens ≡ None) }
     {
-        match self.operator_ahead(level) {
+        match self.operator_ahead(precedence) {
             Some(op) => Ok(op),
             None => Err(Refusal::Unexpected(self.place())),
         }
     }
 
-    /// Takes the next token, which has to be an operator of this level.
-    pub(crate) fn operator(&mut self, level: Level) -> Result<BinOp, Refusal>
-        ensures gave { IfOk result (λ op. Gave (Operator level) (AnOperator op) self.old self.new) }
+    /// Takes the next token, which has to be an operator of this precedence.
+    pub(crate) fn operator(&mut self, precedence: Precedence) -> Result<BinOp, Refusal>
+        ensures gave { IfOk result (λ op. Gave (Operator precedence) (AnOperator op) self.old self.new) }
         ensures shorter { OnOk result (length self.new.tokens < length self.old.tokens) }
-        ensures refused { IfErr result (IsRefused (Operator level) self.old) }
+        ensures refused { IfErr result (IsRefused (Operator precedence) self.old) }
     {
-        let op = self.expect_operator(level)?;
+        let op = self.expect_operator(precedence)?;
         let at = self.place();
         self.count(Role::Makes(1), at)?;
         self.advance();

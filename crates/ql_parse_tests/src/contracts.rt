@@ -1,4 +1,4 @@
-use crate::texts::{built, parse_fault, spelled};
+use crate::texts::{built, once_and_again, parse_fault, spelled};
 use ql_base::NoMemory;
 use ql_lang::print_contract;
 use ql_parse::parse_contract;
@@ -162,11 +162,7 @@ fn printed_as_elsewhere(rt: HostRuntime) -> Result<(), Fail> {
 fn printed_twice(alloc: Global, row: &str) -> Result<Vec<u8>, NoMemory> {
     let once = printed(alloc, row.as_bytes())?;
     let twice = printed(alloc, &once)?;
-    if once.as_slice() == twice.as_slice() {
-        Ok(once)
-    } else {
-        spelled(alloc, "another text the second time")
-    }
+    once_and_again(alloc, once, &twice)
 }
 
 fn printed(alloc: Global, text: &[u8]) -> Result<Vec<u8>, NoMemory> {

@@ -1,5 +1,5 @@
-// Tests of tokens and of the parsers on texts: trees, first faults, and what is printed of what was read.
-// The trees and faults are from outside, and nothing stands on this crate.
+// Tests of tokens and of the parsers on texts: trees, first faults, and printed trees.
+// The trees and faults are from outside, and no crate depends on this one.
 #![tactic(auto)]
 
 #[cfg(test)]

@@ -1,65 +1,16 @@
-use crate::texts::{built, parse_fault, spelled};
+use crate::texts::{built, once_and_again, parse_fault, spelled};
 use ql_base::{NoMemory, push_bytes};
 use ql_lang::print_program;
 use ql_parse::parse_program;
-use ql_tables::{check_table, field, number};
+use ql_tables::{BANK, REGISTER, SHOP, check_table, field, number};
 use std::alloc::Global;
 use std::test::Fail;
-
-const BANK: &str = r"type account {
-  state balance: int = 0;
-  op deposit(n: int): unit { contract true; answer unit;
-    emit p: int = n when true; apply { balance := balance + p; } }
-  op withdraw(n: int): bool {
-    contract forall a: withdraw. sameobj(a, cur) => vis(a, cur) \/ vis(cur, a) \/ a = cur;
-    answer balance >= n;
-    emit p: int = n when balance >= n; apply { balance := balance - p; } }
-  op getbalance(): int {
-    contract forall a, b. vis(a, b) /\ vis(b, cur) => vis(a, cur); answer balance; }
-}
-transaction audit { uses deposit, getbalance;
-  contract forall a, b, c, d. txn{a, b}{c, d} /\ vis(c, a) /\ sameobj(d, b) => vis(d, b); }
-transaction peek { uses deposit, getbalance;
-  contract forall a, b, c. txn{a}{b, c} /\ sameobj(b, c) /\ vis(b, a) => vis(c, a); }
-transaction trail { uses deposit, getbalance;
-  contract forall a, b, c, d. (txn{a}{b, c} /\ sameobj(b, c) /\ vis(b, a) => vis(c, a))
-    /\ (txn{a, b}{c, d} /\ so(a, b) /\ vis(c, a) /\ sameobj(d, b) => vis(d, b)); }
-";
-
-const REGISTER: &str = r#"type reg { state v: text = "";
-  op write(t: text): unit { contract true; answer unit;
-    emit p: text = t when true; apply { v := p; } }
-  op read(): text { contract forall a. soo(a, cur) => vis(a, cur); answer v; } }
-"#;
 
 const TOUCH: &str = "type t { op touch(): unit { contract true; answer unit; } }
 ";
 
-const SHOP: &str = r"type stock { state left: int = 0;
-  op restock(n: int): unit { contract true; answer unit;
-    emit p: int = n when n > 0; apply { left := left + p; } }
-  op reserve(n: int): bool {
-    contract forall a: reserve. sameobj(a, cur) => vis(a, cur) \/ vis(cur, a) \/ a = cur;
-    answer left >= n;
-    emit p: int = n when left >= n; apply { left := left - p; } }
-  op stock_left(): int { contract forall a. soo(a, cur) => vis(a, cur); answer left; } }
-type cart { state items: map(text, int) = empty;
-  op add_item(item: text, n: int): unit {
-    contract forall a, b. soo(a, b) /\ vis(b, cur) => vis(a, cur); answer unit;
-    emit i: text = item, k: int = n when n > 0;
-    apply { items := put(items, i, get(items, i, 0) + k); } }
-  op show(): map(text, int) { contract true; answer items; } }
-transaction fill { uses add_item; contract true; }
-transaction glance { uses show, stock_left;
-  contract forall a, b, c. txn{a}{b, c} /\ sameobj(b, c) /\ vis(b, a) => vis(c, a); }
-transaction follow { uses show, add_item; contract forall a, b, c, d.
-  txn{a, b}{c, d} /\ so(a, b) /\ vis(c, a) /\ sameobj(d, b) => vis(d, b); }
-transaction report { uses show, stock_left; contract forall a, b, c, d.
-  txn{a, b}{c, d} /\ vis(c, a) /\ sameobj(d, b) => vis(d, b); }
-";
-
-// A source, where some of its bytes are replaced, how many, and by what; and the first fault, or `source`, from
-// an independent implementation.
+// A source, the offset of some bytes in it, how many they are, and what replaces them; and the first fault, or
+// `source`, from an independent implementation.
 const REPLACED: &str = r#"
 bank 0 0  -> source
 register 0 0  -> source
@@ -303,11 +254,7 @@ fn printed_as_elsewhere(rt: HostRuntime) -> Result<(), Fail> {
 fn printed_twice(alloc: Global, row: &str) -> Result<Vec<u8>, NoMemory> {
     let once = printed(alloc, row.as_bytes())?;
     let twice = printed(alloc, &once)?;
-    if once.as_slice() == twice.as_slice() {
-        Ok(once)
-    } else {
-        spelled(alloc, "another text the second time")
-    }
+    once_and_again(alloc, once, &twice)
 }
 
 fn printed(alloc: Global, text: &[u8]) -> Result<Vec<u8>, NoMemory> {

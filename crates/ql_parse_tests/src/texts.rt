@@ -3,7 +3,7 @@ use ql_lex::LexFault;
 use ql_parse::ParseFault;
 use std::alloc::Global;
 
-/// The text that a row tells: itself, or of `3 times [part] in front~back` the three parts between front and back.
+/// The text of a row: itself, or for `3 times [part] in front~back` three parts between front and back.
 pub(crate) fn built(alloc: Global, row: &str) -> Result<Vec<u8>, NoMemory> {
     let Some((count, rest)) = row.split_once(" times [") else {
         return spelled(alloc, row);
@@ -20,6 +20,19 @@ pub(crate) fn built(alloc: Global, row: &str) -> Result<Vec<u8>, NoMemory> {
 
 pub(crate) fn spelled(alloc: Global, text: &str) -> Result<Vec<u8>, NoMemory> {
     Ok(Vec::from_slice(alloc, text.as_bytes())?)
+}
+
+/// A printed text, where printing what is read of it yields the same text again.
+pub(crate) fn once_and_again(
+    alloc: Global,
+    once: Vec<u8>,
+    again: &[u8],
+) -> Result<Vec<u8>, NoMemory> {
+    if once.as_slice() == again {
+        Ok(once)
+    } else {
+        spelled(alloc, "another text the second time")
+    }
 }
 
 /// A fault's rule and offset.

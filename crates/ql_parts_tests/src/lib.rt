@@ -1,6 +1,6 @@
 // Tests of the store's parts: messages, notes of sessions, open transactions and the synchronous step,
 // with answers from outside.
-// It has no contract of its own, and nothing stands on this crate.
+// It has no contract of its own, and no crate depends on it.
 #![tactic(auto)]
 
 #[cfg(test)]

@@ -29,7 +29,7 @@ fn deliver(net: &mut Net) -> bool {
     }
 }
 
-// Two replicas fall apart and meet again.
+// Two replicas are partitioned and then healed.
 #[test]
 fn a_message_passes_within_a_group(rt: HostRuntime) -> Result<(), Fail> {
     let alloc = rt.alloc();

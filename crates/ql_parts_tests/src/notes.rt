@@ -1,10 +1,10 @@
 ghost use Rattle.std.specs.Prelude.{◌≡◌, ◌+◌, ◌^◌, ◌<◌, IfOk, OnOk, length};
 ghost use Rattle.ql_session.specs.Executions.{notes_of};
 
-use ql_base::{EffId, IdSet, NoMemory, ObjId, OpId, SessId};
-use ql_exec::{Draft, Effect, Execution, Member, Payload};
+use ql_base::{EffId, IdSet, NoMemory, ObjId, SessId};
+use ql_exec::{Effect, Execution, Member};
 use ql_session::Sessions;
-use ql_value::{Value, Values};
+use ql_test_effects::draft;
 use std::alloc::Global;
 use std::test::Fail;
 
@@ -53,17 +53,7 @@ fn push(
     requires { length x.old < 9 }
     ensures { OnOk result (length x.new ≡ length x.old + 1) }
 {
-    let draft = Draft {
-        object: ObjId(object),
-        op: OpId(0),
-        args: Values::of(Vec::new(alloc)),
-        payload: Payload::Nothing,
-        answer: Value::Unit,
-        session: SessId(session),
-        member: Member::Alone,
-        seen,
-    };
-    match x.push(draft) {
+    match x.push(draft(alloc, object, session, Member::Alone, seen)) {
         Err(_) => Err(NoMemory),
         Ok(_) => Ok(()),
     }

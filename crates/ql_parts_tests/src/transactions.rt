@@ -4,49 +4,29 @@ ghost use Rattle.ql_machine.specs.State.{open_of};
 ghost use Rattle.ql_shim.specs.Transactions.{open_txns};
 ghost use Rattle.ql_needs.specs.Needs.{AreThere, AreWhole, IsPackage};
 
-use ql_base::{DeclId, EffId, IdSet, NoMemory, ObjId, OpId, RunId, SessId};
-use ql_exec::{Draft, Execution, Member, Payload};
+use ql_base::{DeclId, EffId, IdSet, NoMemory, ObjId, RunId, SessId};
+use ql_exec::{Execution, Member};
 use ql_holder::Holder;
 use ql_levels::TxnLevel;
 use ql_replica::Replica;
 use ql_shim::Shim;
 use ql_strong::{bare, package_of, sync};
-use ql_value::{Value, Values};
+use ql_test_effects::{draft, id_set};
 use std::alloc::Global;
 use std::test::Fail;
 
-fn set(alloc: Global, ids: &[u32]) -> Result<IdSet, NoMemory> {
-    let mut set = IdSet::new(alloc);
-    for id in ids {
-        set.insert(*id)?;
-    }
-    Ok(set)
-}
-
-fn draft(alloc: Global, session: u32, member: Member, seen: IdSet) -> Draft {
-    Draft {
-        object: ObjId(0),
-        op: OpId(0),
-        args: Values::of(Vec::new(alloc)),
-        payload: Payload::Nothing,
-        answer: Value::Unit,
-        session: SessId(session),
-        member,
-        seen,
-    }
-}
-
-// Session 2 made effect 1, and session 1 in a transaction effect 2, which saw these.
+// Session 2 made effect 1. Session 1 made effect 2 in a transaction, and effect 2 saw these.
 fn execution(alloc: Global, seen: &[u32]) -> Result<Execution, NoMemory>
     ensures { IfOk result (λ x. length x ≡ 2) }
 {
     let mut x = Execution::new(alloc);
-    let alone = draft(alloc, 2, Member::Alone, IdSet::new(alloc));
+    let alone = draft(alloc, 0, 2, Member::Alone, IdSet::new(alloc));
     let inside = draft(
         alloc,
+        0,
         1,
         Member::Inside(RunId(1), DeclId(0)),
-        set(alloc, seen)?,
+        id_set(alloc, seen)?,
     );
     match x.push(alone) {
         Err(_) => Err(NoMemory),
@@ -71,8 +51,13 @@ fn opened(alloc: Global, seen: &[u32]) -> Result<Shim, NoMemory>
     ensures { IfOk result (λ shim. (t : OpenTxn) × (open_of (open_txns shim) (record { 0 = 1 }) ≡ Some t)) }
 {
     let mut shim = Shim::new(alloc);
-    shim.begin(SessId(1), DeclId(0), set(alloc, &[0])?, IdSet::new(alloc))?;
-    shim.note(SessId(1), EffId(2), &set(alloc, seen)?)?;
+    shim.begin(
+        SessId(1),
+        DeclId(0),
+        id_set(alloc, &[0])?,
+        IdSet::new(alloc),
+    )?;
+    shim.note(SessId(1), EffId(2), &id_set(alloc, seen)?)?;
     Ok(shim)
 }
 
@@ -88,7 +73,12 @@ fn both(x: &Execution) -> &'static [u32]
 fn an_open_transaction(rt: HostRuntime) -> Result<(), Fail> {
     let alloc = rt.alloc();
     let mut shim = Shim::new(alloc);
-    shim.begin(SessId(1), DeclId(4), set(alloc, &[0])?, IdSet::new(alloc))?;
+    shim.begin(
+        SessId(1),
+        DeclId(4),
+        id_set(alloc, &[0])?,
+        IdSet::new(alloc),
+    )?;
     shim.note(SessId(1), EffId(2), &IdSet::new(alloc))?;
     assert!(rt; shim.run_of(SessId(1)) == Some((RunId(1), DeclId(4))));
     assert!(rt; shim.declares(SessId(1), ObjId(0)) && !shim.declares(SessId(0), ObjId(0)));

@@ -12,7 +12,7 @@ use ql_ranges::Ranges;
 use ql_reach::reach;
 use std::alloc::Global;
 
-/// Those of some effects from which all that they need, directly or through others, is one of them.
+/// Those of some effects for which all that they need, directly or through others, is among these effects.
 pub(crate) fn closed_part(
     alloc: Global,
     x: &Execution,
@@ -116,7 +116,7 @@ fn is_same_run(member: Member, other: Member) -> bool
     }
 }
 
-/// The first id that the others lack.
+/// The first of the ids that the others lack.
 pub(crate) fn first_missing(ids: &[u32], others: &IdSet) -> Option<u32>
     requires { IsAscending ids.now }
     ensures { IsFirstMissing ids.now others.now result }
@@ -129,7 +129,7 @@ pub(crate) fn first_missing(ids: &[u32], others: &IdSet) -> Option<u32>
     None
 }
 
-/// The ids that the others lack.
+/// Those of the ids that the others lack.
 pub(crate) fn without(alloc: Global, ids: &[u32], others: &IdSet) -> Result<IdSet, NoMemory>
     ensures lacks { IfOk result (λ rest. (a : ℕ) → has_id rest a ≡ (has_id ids.now a && not (has_id others.now a))) }
     ensures ascending { IfOk result IsAscending }

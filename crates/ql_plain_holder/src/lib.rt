@@ -1,4 +1,4 @@
-// A holder in few lines, to compare others with: it keeps two lists, and finds the closed part anew at
+// A holder in a few lines, to compare others with: it keeps two lists, and computes the closed part anew at
 // each receipt.
 // The one contract: the laws of a holder.
 #![tactic(auto)]

@@ -7,7 +7,7 @@ use Rattle.ql_ports.specs.Memory.{Files, bytes_under, count_under, bytes_given, 
 abbrev pub files_of : MemShelf → Files
 files_of shelf = shelf.files.items
 
--- how many bytes a fetch gives at most
+-- how many bytes a fetch returns at most
 abbrev pub piece_of : MemShelf → ℕ
 piece_of shelf = shelf.piece
 
@@ -27,18 +27,18 @@ held_of shelf name = bytes_under shelf.files.items name
 abbrev pub count_of : MemShelf → List ℕ → ℕ
 count_of shelf name = count_under shelf.files.items shelf.counts.items shelf.missing name
 
--- how many bytes a fetch gives: none where it is to fail, or where its file is missing
+-- how many bytes a fetch returns: `None` if it is to fail, or if its file is missing
 abbrev pub given : Bool → ℕ → ℕ → ℕ → Option (List ℕ) → Option ℕ
 given true piece at room found = None
 given false piece at room None = None
 given false piece at room (Some bytes) = Some (bytes_given piece at room bytes)
 
--- how many bytes the next fetch of a shelf gives, where it doesn't fail
+-- how many bytes the next fetch of a shelf returns, if it doesn't fail
 abbrev pub fetched : MemShelf → List ℕ → ℕ → ℕ → Option ℕ
 fetched shelf name at room =
     given (is_failing (failing_of shelf) (next_count_of (fetches_of shelf))) (piece_of shelf) at room (held_of shelf name)
 
--- a shelf that has met no fetch
+-- a shelf before its first fetch
 pub record IsNewShelf (files : Files) (piece : ℕ) (failing : List ℕ) (shelf : MemShelf) : Type 0 where
   pub holds : files_of shelf ≡ files
   pub gives : piece_of shelf ≡ piece

@@ -7,7 +7,7 @@ use Rattle.ql_ports.specs.Memory.{is_failing}
 abbrev pub taken_of : MemSink → List ℕ
 taken_of sink = sink.taken.items
 
--- for how many bytes it has room in all
+-- how many bytes it has room for in total
 abbrev pub room_of : MemSink → ℕ
 room_of sink = sink.room
 
@@ -27,17 +27,17 @@ puts_of sink = sink.puts
 abbrev pub count_of : MemSink → ℕ
 count_of sink = sink.faults
 
--- how many bytes a put takes: none where it is to fail, or where no room is left for them
+-- how many bytes a put takes: `None` if it is to fail, or if no room is left for them
 abbrev pub taken : Bool → ℕ → ℕ → ℕ → Option ℕ
 taken true piece left size = None
 taken false piece left size = if nat_eq left 0 && not (nat_eq size 0) then None else Some (min (min piece left) size)
 
--- how many bytes the next put of a sink takes, where it doesn't fail
+-- how many bytes the next put of a sink takes, if it doesn't fail
 abbrev pub put_of : MemSink → List ℕ → Option ℕ
 put_of sink bytes =
     taken (is_failing (failing_of sink) (next_count_of (puts_of sink))) (piece_of sink) (room_of sink - length (taken_of sink)) (length bytes)
 
--- a sink that has met no put
+-- a sink before its first put
 pub record IsNewSink (room piece : ℕ) (failing : List ℕ) (sink : MemSink) : Type 0 where
   pub empty : taken_of sink ≡ []
   pub has_room : room_of sink ≡ room

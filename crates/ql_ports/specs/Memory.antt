@@ -16,7 +16,7 @@ is_named name file = bytes_eq (string_bytes file.0) name
 abbrev pub bytes_under : Files → List ℕ → Option (List ℕ)
 bytes_under files name = option_map (λ file. file.1.items) (find (is_named name) files)
 
--- the place of the first file of a name, or the number of files
+-- the index of the first file with a name, or the number of files
 abbrev pub place_of : Files → List ℕ → ℕ
 place_of files name = position_or_len (is_named name) files
 
@@ -24,10 +24,10 @@ place_of files name = position_or_len (is_named name) files
 abbrev pub count_under : Files → List ℕ → ℕ → List ℕ → ℕ
 count_under files counts missing name = slice_index_or counts (place_of files name) missing
 
--- how many bytes a fetch gives from a place on, at most a piece, into so much room
+-- how many bytes a fetch returns from the offset `at` on: at most a piece, and at most `room`
 abbrev pub bytes_given : ℕ → ℕ → ℕ → List ℕ → ℕ
 bytes_given piece at room bytes = min (min piece room) (length bytes - at)
 
--- the call of this number is to fail
+-- the call with this number is to fail
 abbrev pub is_failing : List ℕ → ℕ → Bool
 is_failing failing number = list_any (λ n. nat_eq n number) failing

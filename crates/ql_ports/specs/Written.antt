@@ -1,11 +1,11 @@
 use Rattle.std.specs.Prelude.{◌≡◌, ℕ, ◌≤◌, List, ◌++◌, length, take, Option, Some, None}
 
--- what a sink tells after some bytes more, where it tells anything
+-- what a sink reports after more bytes were appended, if it reports anything
 abbrev pub appended : Option (List ℕ) → List ℕ → Option (List ℕ)
 appended None bytes = None
 appended (Some was) bytes = Some (was ++ bytes)
 
--- a front of the bytes was appended, and no more
+-- a prefix of the bytes was appended, and no more
 abbrev pub AppendsFront : Option (List ℕ) → Option (List ℕ) → List ℕ → Type 0
 AppendsFront before after bytes =
     (count : ℕ) × (count ≤ length bytes) × (after ≡ appended before (take count bytes))

@@ -1,7 +1,7 @@
-// The outside: where bytes come from and where they go, each as a trait with memory and real
-// implementations. The one contract: what was read whole is what the shelf holds, what was written
-// whole was appended to the sink, and each answers `Failed` only where the outside's own count of
-// faults rose.
+// Input and output: where bytes come from and where they go, each as a trait with an implementation
+// in memory and a real one. The one contract: what was read whole is what the shelf holds, what was
+// written whole was appended to the sink, and each returns `Failed` only if its own count of faults
+// rose.
 #![tactic(auto)]
 
 mod faults;

@@ -6,7 +6,7 @@ use crate::ports::{Failed, Shelf};
 use ql_base::NoMemory;
 use std::alloc::Global;
 
-/// A shelf in memory, for tests: it gives its files in pieces and fails at chosen fetches.
+/// A shelf in memory, for tests: it returns its files in pieces and fails at chosen fetches.
 #[derive(Drop)]
 pub struct MemShelf {
     files: Vec<(String, Vec<u8>)>,
@@ -23,9 +23,8 @@ impl MemShelf {
     ghost use Rattle.std.specs.Prelude.{◌≤◌, IfOk};
     ghost use Rattle.ql_ports.specs.MemShelf.{IsNewShelf};
 
-    /// A shelf of named files. `piece` is the greatest count of bytes that a fetch gives, and
-    /// `failing` has the numbers of the fetches that fail, counted from 1. Of two files with one
-    /// name the first counts.
+    /// A shelf of named files. A fetch returns at most `piece` bytes, and `failing` has the numbers
+    /// of the fetches that fail, counted from 1. Of two files with the same name the first counts.
     pub fn new(
         alloc: Global,
         files: Vec<(String, Vec<u8>)>,
@@ -68,7 +67,7 @@ impl Shelf for MemShelf {
         ensures same_contents { (other : List ℕ) → held_of self.new other ≡ held_of self.old other }
         ensures counts_stay { (other : List ℕ) → count_of self.old other ≤ count_of self.new other }
 
-        // What this shelf answers.
+        // What this shelf returns.
         ensures answer { result_ok result ≡ fetched self.old name.now at (length into.new) }
         ensures no_fault { OnOk result ((other : List ℕ) → count_of self.new other ≡ count_of self.old other) }
         ensures fetched { IsFetchedShelf self.old self.new }
@@ -87,7 +86,7 @@ impl Shelf for MemShelf {
     }
 }
 
-// The place of a name's file, or the number of files.
+// The index of the first file with a name, or the number of files.
 fn place_named(files: &[(String, Vec<u8>)], name: &str) -> usize
     ensures value { result ≡ place_of files.now name.now }
     ensures in_range { result ≤ length files.now }
@@ -104,7 +103,8 @@ fn first_named(files: &[(String, Vec<u8>)], name: &str) -> Option<usize>
     files.iter().position(|file| file.0.as_str() == name)
 }
 
-// Copies bytes from a place on into the front of `into`, at most a piece, and gives their count.
+// Copies the bytes from the offset `at` on to the start of `into`, at most a piece, and returns
+// their count.
 fn copy_piece(bytes: &[u8], at: u64, piece: usize, into: &mut [u8]) -> usize
     ensures count { result ≡ bytes_given piece at (length into.new) bytes.now }
     ensures copied { take result into.new ≡ take result (drop at bytes.now) }

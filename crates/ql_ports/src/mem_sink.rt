@@ -24,8 +24,8 @@ impl MemSink {
     ghost use Rattle.std.specs.Prelude.{◌≡◌, ◌≤◌, IfOk};
     ghost use Rattle.ql_ports.specs.MemSink.{IsNewSink, taken_of};
 
-    /// An empty sink with room for so many bytes. `piece` is the greatest count of bytes that a put
-    /// takes, and `failing` has the numbers of the puts that fail, counted from 1.
+    /// An empty sink with room for `room` bytes. A put takes at most `piece` bytes, and `failing` has
+    /// the numbers of the puts that fail, counted from 1.
     pub fn new(
         alloc: Global,
         room: usize,
@@ -74,7 +74,7 @@ impl Sink for MemSink {
         ensures failed { OnErr result (Rose (count_of self.old) (count_of self.new)) }
         ensures count_stays { count_of self.old ≤ count_of self.new }
 
-        // What this sink answers.
+        // What this sink returns.
         ensures answer { result_ok result ≡ put_of self.old bytes.now }
         ensures no_fault { OnOk result (count_of self.new ≡ count_of self.old) }
         ensures put { IsPutSink self.old self.new }

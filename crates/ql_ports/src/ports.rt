@@ -8,18 +8,18 @@ pub struct Failed;
 
 /// Named byte strings that are read piece by piece.
 ///
-/// A shelf over memory tells what it holds. A shelf of real files tells nothing, and the clauses
-/// then say nothing of the bytes that it gives.
+/// A shelf in memory reports what it holds. A shelf of real files reports nothing, and the clauses
+/// then say nothing about the bytes that it returns.
 pub trait Shelf {
-    // The bytes under a name, where the shelf tells them.
+    // The bytes under a name, if the shelf reports them.
     ghost held: { Self → List ℕ → Option (List ℕ) };
 
     // How many faults the fetches of a name have met.
     ghost faults: { Self → List ℕ → ℕ };
 
-    /// Fills the front of `into` with the bytes under `name` from the place `at` on, and gives how
-    /// many they are. No bytes for a buffer that isn't empty means the end. A name that the shelf
-    /// doesn't have is a fault. After `Failed` the contents of `into` are open.
+    /// Copies the bytes under `name` from the offset `at` on to the start of `into`, and returns their
+    /// count. A count of 0 for a buffer that isn't empty means the end. A name that the shelf doesn't
+    /// have is a fault. After `Failed` the contents of `into` are unspecified.
     fn fetch(&mut self, name: &str, at: u64, into: &mut [u8]) -> Result<usize, Failed>
         ensures within { IfOk result (λ count. count ≤ length into.new) }
         ensures bytes { IfOk result (λ count. IfSome (held self.old name.now)
@@ -33,13 +33,14 @@ pub trait Shelf {
 
 /// Where bytes are written, piece by piece.
 pub trait Sink {
-    // The bytes taken so far, where the sink tells them.
+    // The bytes taken so far, if the sink reports them.
     ghost written: { Self → Option (List ℕ) };
 
     // How many faults the puts have met.
     ghost faults: { Self → ℕ };
 
-    /// Takes a front of `bytes` and gives its length: at least one byte where there are any.
+    /// Takes a prefix of `bytes` and returns its length: at least one byte if there are any. After
+    /// `Failed` nothing was taken.
     fn put(&mut self, bytes: &[u8]) -> Result<usize, Failed>
         ensures within { IfOk result (λ count. count ≤ length bytes.now) }
         ensures some { IfOk result (λ count. bytes.now ≢ [] → 0 < count) }

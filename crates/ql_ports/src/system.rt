@@ -8,9 +8,9 @@ use std::rt::Files;
 use std::{fs, io};
 
 /// The system's files, each named by its path. It keeps one count of faults for all names, and
-/// tells no contents.
+/// reports no contents.
 ///
-/// A file is read on from where the last fetch of it ended, so a pipe can be read too.
+/// A fetch that continues where the last one ended reads on without a seek, so a pipe can be read too.
 #[derive(Drop)]
 pub struct FileShelf<R: Files + Drop> {
     system: R,
@@ -19,7 +19,7 @@ pub struct FileShelf<R: Files + Drop> {
     faults: u64,
 }
 
-// A file, and the place of the byte that a read gives next.
+// An open file, and the offset of the byte that its next read returns.
 #[derive(Drop)]
 struct OpenFile<F: Drop> {
     name: String,
@@ -28,7 +28,7 @@ struct OpenFile<F: Drop> {
 }
 
 impl<R: Files + Drop> FileShelf<R> {
-    /// A shelf of the system's files. `alloc` serves the system's calls alone.
+    /// A shelf of the system's files. `alloc` is only used to remember the open file's name.
     pub fn new(alloc: Global, system: R) -> FileShelf<R>
         ensures no_fault { (name : List ℕ) → ⟦<FileShelf<R> as Shelf>⟧.faults result name ≡ 0 }
     {
@@ -88,8 +88,8 @@ impl<R: Files + Drop> Shelf for FileShelf<R> {
         ensures same_contents { (other : List ℕ) → unreported ≡ unreported }
         ensures counts_stay { (other : List ℕ) → self.old.faults ≤ self.new.faults }
 
-        // What this shelf counts: each fault and nothing else. At the end of its range the count
-        // can't rise, so every fetch fails there.
+        // What this shelf counts: each fault and nothing else. At its maximum the count can't rise,
+        // so every fetch fails there.
         ensures no_fault { OnOk result (self.new.faults ≡ self.old.faults) }
         ensures counted { OnErr result (self.new.faults ≡ next_count_of self.old.faults) }
         ensures full { OnOk result (IsCountable self.old.faults) }
@@ -107,7 +107,7 @@ impl<R: Files + Drop> Shelf for FileShelf<R> {
     }
 }
 
-/// The standard output. It keeps a count of faults and tells no contents. A write that takes
+/// The standard output. It keeps a count of faults and reports no contents. A write that takes
 /// nothing of a piece that isn't empty is a fault.
 #[derive(Drop)]
 pub struct StdSink<P: Print + Drop> {
@@ -144,8 +144,8 @@ impl<P: Print + Drop> Sink for StdSink<P> {
         ensures failed { OnErr result (Rose self.old.faults self.new.faults) }
         ensures count_stays { self.old.faults ≤ self.new.faults }
 
-        // What this sink counts: each fault and nothing else. At the end of its range the count
-        // can't rise, so every put fails there.
+        // What this sink counts: each fault and nothing else. At its maximum the count can't rise,
+        // so every put fails there.
         ensures no_fault { OnOk result (self.new.faults ≡ self.old.faults) }
         ensures counted { OnErr result (self.new.faults ≡ next_count_of self.old.faults) }
         ensures full { OnOk result (IsCountable self.old.faults) }

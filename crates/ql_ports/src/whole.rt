@@ -75,7 +75,7 @@ fn make_buffer(alloc: Global, size: usize) -> Result<Vec<u8>, NoMemory>
     Ok(vec![in alloc; 0; size]?)
 }
 
-// One turn of reading: true where bytes were added, false at the end.
+// Reads one piece: true if bytes were added, false at the end.
 fn read_piece<S: Shelf>(
     shelf: &mut S,
     name: &str,
@@ -109,7 +109,7 @@ fn read_piece<S: Shelf>(
     Ok(true)
 }
 
-/// Writes all the bytes, in their order. After `Failed` a front of them was appended.
+/// Writes all the bytes, in their order. After `Failed` a prefix of them was appended.
 pub fn write_whole<K: Sink>(sink: &mut K, bytes: &[u8]) -> Result<(), Failed>
     ensures whole { OnOk result (K.written sink.new ≡ appended (K.written sink.old) bytes.now) }
     ensures failed { OnErr result (Rose (K.faults sink.old) (K.faults sink.new)) }

@@ -13,11 +13,11 @@ use Rattle.ql_lang.specs.Expressions.{Expression, Number, Literal, Truth, Nothin
 use Rattle.ql_lang.specs.ExpressionSpelling.{operator_word, quoted, truth_word, is_compound}
 use Rattle.ql_grammar.specs.declared.terminal.Terminal.{Terminal}
 use Rattle.ql_grammar.specs.declared.terminal.Terminal.TheVariants.{NameToken, IntToken, TextToken, TrueWord, FalseWord, UnitWord, IfWord, ThenWord, ElseWord, AndWord, OrWord, NotWord, OpenParen, CloseParen, IsEqual, NotEqual, Less, LessEqual, Greater, GreaterEqual, Plus, Minus, Times}
-use Rattle.ql_grammar.specs.declared.level.Level.TheVariants as level
+use Rattle.ql_grammar.specs.declared.precedence.Precedence.TheVariants as precedence
 use Rattle.ql_grammar.specs.declared.role.Role.TheVariants.{Plain, Makes, Opens, Closes}
 use Rattle.ql_grammar.specs.Tokens.{Marked, marked}
 use Rattle.ql_grammar.specs.ExpressionGrammar
-use Rattle.ql_grammar.specs.ExpressionGrammar.{ReadsExpr, ReadsArguments, ExprPart, Unary, Multiplied, Added, Compared, Conjoined, Disjoined, Chosen, IsOperator, number_of, between_quotes, operands}
+use Rattle.ql_grammar.specs.ExpressionGrammar.{ReadsExpr, ReadsArguments, ExprPart, Unary, Multiplied, Added, Compared, Conjoined, Disjoined, Chosen, IsOperator, number_spelled, between_quotes, operands}
 use Rattle.ql_printed.specs.Printed.{unplaced_name}
 use Rattle.ql_printed.specs.PrintedPrograms.{unplaced_expression, unplaced_operands, ExpressionFits, OperandsFit}
 use Rattle.ql_printed.proofs.Pieces.{Piece, Blank, Said, marks_of}
@@ -139,24 +139,24 @@ operand_of (Combining n op a b) reads at below = in_group (Combining n op a b) r
 operand_of (Denying n a) reads at below = in_group (Denying n a) reads at below
 operand_of (Negating n a) reads at below = in_group (Negating n a) reads at below
 
--- operators between operands, by their levels
+-- operators between operands, by their precedence
 
-product_reads : {k : Terminal} {op : BinOp} {x : List ℕ} {n s t : ℕ} {ts us rest : List Marked} {a b : Expression} → IsOperator level.Product k op → Operand ts (marked (Makes 1) k x n ∷ us) s a → Operand us rest t b → ReadsExpr Chosen ts rest s (Combining s op a b)
+product_reads : {k : Terminal} {op : BinOp} {x : List ℕ} {n s t : ℕ} {ts us rest : List Marked} {a b : Expression} → IsOperator precedence.Product k op → Operand ts (marked (Makes 1) k x n ∷ us) s a → Operand us rest t b → ReadsExpr Chosen ts rest s (Combining s op a b)
 product_reads is a b = ExpressionGrammar.disjoined (ExpressionGrammar.conjoined (ExpressionGrammar.compared (ExpressionGrammar.added (ExpressionGrammar.multiplied (ExpressionGrammar.product is (ExpressionGrammar.unary a) b)))))
 
-sum_reads : {k : Terminal} {op : BinOp} {x : List ℕ} {n s t : ℕ} {ts us rest : List Marked} {a b : Expression} → IsOperator level.Sum k op → Operand ts (marked (Makes 1) k x n ∷ us) s a → Operand us rest t b → ReadsExpr Chosen ts rest s (Combining s op a b)
+sum_reads : {k : Terminal} {op : BinOp} {x : List ℕ} {n s t : ℕ} {ts us rest : List Marked} {a b : Expression} → IsOperator precedence.Sum k op → Operand ts (marked (Makes 1) k x n ∷ us) s a → Operand us rest t b → ReadsExpr Chosen ts rest s (Combining s op a b)
 sum_reads is a b = ExpressionGrammar.disjoined (ExpressionGrammar.conjoined (ExpressionGrammar.compared (ExpressionGrammar.added (ExpressionGrammar.sum is (ExpressionGrammar.multiplied (ExpressionGrammar.unary a)) (ExpressionGrammar.unary b)))))
 
-comparison_reads : {k : Terminal} {op : BinOp} {x : List ℕ} {n s t : ℕ} {ts us rest : List Marked} {a b : Expression} → IsOperator level.Comparison k op → Operand ts (marked (Makes 1) k x n ∷ us) s a → Operand us rest t b → ReadsExpr Chosen ts rest s (Combining s op a b)
+comparison_reads : {k : Terminal} {op : BinOp} {x : List ℕ} {n s t : ℕ} {ts us rest : List Marked} {a b : Expression} → IsOperator precedence.Comparison k op → Operand ts (marked (Makes 1) k x n ∷ us) s a → Operand us rest t b → ReadsExpr Chosen ts rest s (Combining s op a b)
 comparison_reads is a b = ExpressionGrammar.disjoined (ExpressionGrammar.conjoined (ExpressionGrammar.compared (ExpressionGrammar.comparison is (ExpressionGrammar.multiplied (ExpressionGrammar.unary a)) (ExpressionGrammar.multiplied (ExpressionGrammar.unary b)))))
 
 compared : {s : ℕ} {ts rest : List Marked} {e : Expression} → Operand ts rest s e → ReadsExpr Compared ts rest s e
 compared r = ExpressionGrammar.added (ExpressionGrammar.multiplied (ExpressionGrammar.unary r))
 
-conjunction_reads : {k : Terminal} {op : BinOp} {x : List ℕ} {n s t : ℕ} {ts us rest : List Marked} {a b : Expression} → IsOperator level.Conjunction k op → Operand ts (marked (Makes 1) k x n ∷ us) s a → Operand us rest t b → ReadsExpr Chosen ts rest s (Combining s op a b)
+conjunction_reads : {k : Terminal} {op : BinOp} {x : List ℕ} {n s t : ℕ} {ts us rest : List Marked} {a b : Expression} → IsOperator precedence.Conjunction k op → Operand ts (marked (Makes 1) k x n ∷ us) s a → Operand us rest t b → ReadsExpr Chosen ts rest s (Combining s op a b)
 conjunction_reads is a b = ExpressionGrammar.disjoined (ExpressionGrammar.conjoined (ExpressionGrammar.both is (ExpressionGrammar.compared (compared a)) (compared b)))
 
-disjunction_reads : {k : Terminal} {op : BinOp} {x : List ℕ} {n s t : ℕ} {ts us rest : List Marked} {a b : Expression} → IsOperator level.Disjunction k op → Operand ts (marked (Makes 1) k x n ∷ us) s a → Operand us rest t b → ReadsExpr Chosen ts rest s (Combining s op a b)
+disjunction_reads : {k : Terminal} {op : BinOp} {x : List ℕ} {n s t : ℕ} {ts us rest : List Marked} {a b : Expression} → IsOperator precedence.Disjunction k op → Operand ts (marked (Makes 1) k x n ∷ us) s a → Operand us rest t b → ReadsExpr Chosen ts rest s (Combining s op a b)
 disjunction_reads is a b = ExpressionGrammar.disjoined (ExpressionGrammar.either is (ExpressionGrammar.conjoined (ExpressionGrammar.compared (compared a))) (ExpressionGrammar.compared (compared b)))
 
 combined_reads : (op : BinOp) {x : List ℕ} {n s t : ℕ} {ts us rest : List Marked} {a b : Expression} → Operand ts (marked (Makes 1) (op_terminal op) x n ∷ us) s a → Operand us rest t b → ReadsExpr Chosen ts rest s (Combining s op a b)
@@ -174,7 +174,7 @@ combined_reads Mul a b = product_reads ExpressionGrammar.times a b
 
 -- literals
 
-pub number_back : (n : ℕ) → n ≤ most_number → number_of (decimal n) ≡ n
+pub number_back : (n : ℕ) → n ≤ most_number → number_spelled (decimal n) ≡ n
 number_back n few = (decimal_is_IsNumeral n (omega arith)).1
 
 pub text_back : (text : List ℕ) → between_quotes (quoted text) ≡ text
@@ -186,7 +186,7 @@ number_reads : (at0 : ℕ) (n : ℕ) → n ≤ most_number → (at : ℕ) (below
 unfolding expression_pieces unplaced_expression
 number_reads at0 n few at below = record {
   next = at + length (decimal n);
-  tree = Number at (pos (number_of (decimal n)));
+  tree = Number at (pos (number_spelled (decimal n)));
   reads = (at, ExpressionGrammar.number);
   same = ap (λ (m : ℕ). Number 0 (pos m)) (number_back n few);
 }

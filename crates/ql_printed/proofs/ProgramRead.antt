@@ -20,7 +20,7 @@ use Rattle.ql_grammar.specs.declared.terminal.Terminal.TheVariants.{NameToken, C
 use Rattle.ql_grammar.specs.declared.role.Role.TheVariants.{Plain, Before}
 use Rattle.ql_grammar.specs.Tokens.{marked}
 use Rattle.ql_grammar.specs.ContractGrammar.{ReadsNames}
-use Rattle.ql_grammar.specs.ExpressionGrammar.{number_of, between_quotes}
+use Rattle.ql_grammar.specs.ExpressionGrammar.{number_spelled, between_quotes}
 use Rattle.ql_grammar.specs.ProgramGrammar.{ReadsBase, ReadsKind, ReadsInit, ReadsField, ReadsFields, ReadsParam, ReadsParams, ReadsAnyParams, ReadsBinding, ReadsBindings, ReadsAssignment, ReadsAssignments, ReadsEffect, ReadsOperation, ReadsOperations, ReadsReplicated, ReadsTypes, ReadsTransaction, ReadsTransactions, ReadsProgram}
 use Rattle.ql_printed.specs.Printed.{unplaced_name}
 use Rattle.ql_printed.specs.PrintedPrograms.{unplaced_init, unplaced_field, unplaced_param, unplaced_binding, unplaced_assignment, unplaced_emission, unplaced_operation, unplaced_type, unplaced_transaction, unplaced_source, InitFits, FieldFits, BindingFits, AssignmentFits, EffectFits, OperationFits, TypeFits, TransactionFits, SourceFits}
@@ -56,13 +56,13 @@ kind_reads (kind.Map b c) at below =
 init_reads : (n0 : ℕ) (i : InitNode) → InitFits i → (at : ℕ) (below : List Piece) → Reads Init ReadsInit unplaced_init at (init_pieces i below) below (record { at = n0; node = i })
 init_reads n0 (init.Int (pos n)) fits at below = record {
   next = at + length (decimal n);
-  tree = record { at = at; node = init.Int (pos (number_of (decimal n))) };
+  tree = record { at = at; node = init.Int (pos (number_spelled (decimal n))) };
   reads = ReadsInit.number;
   same = ap (λ (m : ℕ). record { at = 0; node = init.Int (pos m) }) (number_back n fits);
 }
 init_reads n0 (init.Int (negsuc n)) fits at below = record {
   next = at + 1 + length (decimal (suc n));
-  tree = record { at = at; node = init.Int (neg_ℤ (pos (number_of (decimal (suc n))))) };
+  tree = record { at = at; node = init.Int (neg_ℤ (pos (number_spelled (decimal (suc n))))) };
   reads = ReadsInit.negative;
   same = ap (λ (m : ℕ). record { at = 0; node = init.Int (neg_ℤ (pos m)) }) (number_back (suc n) (omega arith));
 }

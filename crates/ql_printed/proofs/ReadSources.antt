@@ -21,7 +21,7 @@ use Rattle.ql_grammar.specs.Limits.{Counts, counted, counted_all, nothing_yet}
 use Rattle.ql_grammar.specs.Tokens.{Marked, marked}
 use Rattle.ql_grammar.specs.ContractGrammar.{ReadsContract, ReadsNames}
 use Rattle.ql_grammar.specs.ExpressionGrammar as e
-use Rattle.ql_grammar.specs.ExpressionGrammar.{ReadsExpr, ReadsArguments, ExprPart, Chosen, number_of, between_quotes, operands}
+use Rattle.ql_grammar.specs.ExpressionGrammar.{ReadsExpr, ReadsArguments, ExprPart, Chosen, number_spelled, between_quotes, operands}
 use Rattle.ql_grammar.specs.ProgramGrammar.{ReadsBase, ReadsKind, ReadsInit, ReadsField, ReadsFields, ReadsParam, ReadsParams, ReadsAnyParams, ReadsBinding, ReadsBindings, ReadsAssignment, ReadsAssignments, ReadsEffect, ReadsOperation, ReadsOperations, ReadsReplicated, ReadsTypes, ReadsTransaction, ReadsTransactions, ReadsProgram}
 use Rattle.ql_parse.specs.Readers.{lexemes_of}
 use Rattle.ql_parse.specs.Parsing.{IsProgramText}
@@ -33,11 +33,11 @@ use Rattle.ql_printed.proofs.ReadNodes.{MakesNodes, said, joined, as_many, contr
 
 -- literals
 
-numeral_fits : (x : List ℕ) → (n : ℕ) × Spells most_number n x → number_of x ≤ most_number
+numeral_fits : (x : List ℕ) → (n : ℕ) × Spells most_number n x → number_spelled x ≤ most_number
 numeral_fits x spelled =
     let few : spelled.0 ≤ most_number = spelled.1.bounded in
-    let back : number_of (decimal spelled.0) ≡ spelled.0 = number_back spelled.0 few in
-    let is : number_of x ≡ spelled.0 = ap number_of (sym spelled.1.spelled) ∙ back in
+    let back : number_spelled (decimal spelled.0) ≡ spelled.0 = number_back spelled.0 few in
+    let is : number_spelled x ≡ spelled.0 = ap number_spelled (sym spelled.1.spelled) ∙ back in
     omega arith
 
 quoted_fits : (x : List ℕ) → (t : List ℕ) × (x ≡ quoted t) × TextFits t → TextFits (between_quotes x)
@@ -203,7 +203,7 @@ negative_fits (suc n) few = omega arith
 
 init_in : {end : Counts} {ts rest : List Marked} {i : Init} → ReadsInit ts rest i → GoesOn end ts → InitFits i.node × GoesOn end rest
 init_in (ReadsInit.number {x1}) g = (numeral_fits x1 (g.kindly.0.numbered refl), skip g)
-init_in (ReadsInit.negative {x2 = x2}) g = (negative_fits (number_of x2) (numeral_fits x2 (g.kindly.1.0.numbered refl)), skip (skip g))
+init_in (ReadsInit.negative {x2 = x2}) g = (negative_fits (number_spelled x2) (numeral_fits x2 (g.kindly.1.0.numbered refl)), skip (skip g))
 init_in (ReadsInit.text {x1}) g = (quoted_fits x1 (g.kindly.0.quoted refl), skip g)
 init_in ReadsInit.true_value g = (tt, skip g)
 init_in ReadsInit.false_value g = (tt, skip g)

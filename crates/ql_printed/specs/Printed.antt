@@ -17,9 +17,9 @@ use Rattle.ql_parse.specs.Readers.{lexemes_of}
 use Rattle.ql_parse.specs.declared.fault.ParseFault.{ParseFault}
 use Rattle.ql_parse.specs.declared.fault.ParseFault.TheVariants.{NoMemory}
 
--- What is printed of a contract, and read again.
+-- Contracts that are printed and read again.
 
--- Trees without their places: each place is 0.
+-- Trees without their source offsets: each offset is 0.
 
 abbrev pub unplaced_name : Name → Name
 unplaced_name name = record { word = name.word; at = 0 }
@@ -99,18 +99,18 @@ pub record IsInGrammarAs {A : Type 0} (Reads : List Marked → List Marked → A
 abbrev pub IsInGrammar : List ℕ → Sentence → Type 0
 IsInGrammar = IsInGrammarAs ReadsContract
 
--- whether a text goes on inside quotes after a byte
+-- whether a text continues inside quotes after a byte
 abbrev pub quoted_after : Bool → ℕ → Bool
 quoted_after quoted byte = if byte == 34 then not quoted else quoted
 
--- how many brackets are open after a byte, where so many were before it; inside quotes none opens or closes
+-- how many brackets are open after a byte, by how many were open before it; inside quotes none opens or closes
 abbrev pub open_after : Bool → ℕ → ℕ → ℕ
 open_after true before byte = before
 open_after false before byte =
     if (byte == 40) || (byte == 91) then before + 1 else (
     if (byte == 41) || (byte == 93) then before - 1 else before)
 
--- a text never has more than `most` brackets open, where so many are open before it
+-- a text never has more than `most` brackets open, by how many are open before it
 abbrev pub OpensAtMost : ℕ → Bool → ℕ → List ℕ → Type 0
 OpensAtMost most quoted before [] = before ≤ most
 OpensAtMost most quoted before (b ∷ bs) = (before ≤ most) × OpensAtMost most (quoted_after quoted b) (open_after quoted before b) bs
@@ -124,7 +124,7 @@ pub record IsReadable (s : Sentence) : Type 0 where
   pub few_nodes : prop_nodes s.body ≤ MAX_NODES
   pub few_brackets : OpensFew (contract_text s)
 
--- an answer is this tree, places aside, or want of memory
+-- a result is this tree, up to source offsets, or out of memory
 abbrev pub IsTreeAgain : {A T : Type 0} → (T → A) → (A → A) → A → Result T ParseFault → Type 0
 IsTreeAgain tree_of bare a (Ok t) = bare (tree_of t) ≡ bare a
 IsTreeAgain tree_of bare a (Err e) = e ≡ NoMemory

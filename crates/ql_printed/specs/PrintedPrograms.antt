@@ -18,9 +18,9 @@ use Rattle.ql_grammar.specs.ProgramGrammar.{ReadsProgram}
 use Rattle.ql_parse.specs.declared.fault.ParseFault.{ParseFault}
 use Rattle.ql_printed.specs.Printed.{unplaced, unplaced_name, Fits, NameFits, prop_nodes, OpensFew, IsInGrammarAs, IsTreeAgain}
 
--- What is printed of a source, and read again.
+-- Sources that are printed and read again.
 
--- Trees without their places: each place is 0.
+-- Trees without their source offsets: each offset is 0.
 
 unfoldable mutual
   pub unplaced_expression : Expression → Expression
@@ -77,7 +77,7 @@ unplaced_transaction t = record { at = 0; name = unplaced_name t.name; uses = ma
 abbrev pub unplaced_source : Source → Source
 unplaced_source p = record { types = map unplaced_type p.types; txns = map unplaced_transaction p.txns }
 
--- Trees that have a text: names, numbers and texts are those of the language, and what has to have some part has some.
+-- Trees that have a text: names, numbers and texts are those of the language, and no required part is missing.
 
 abbrev pub NumberFits : ℤ → Type 0
 NumberFits (pos n) = n ≤ most_number

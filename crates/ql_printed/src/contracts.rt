@@ -7,14 +7,14 @@ ghost use Rattle.ql_parse.specs.declared.fault.ParseFault.{ParseFault};
 ghost use Rattle.ql_parse.specs.Parsing.{IsContractAnswer, IsContractText};
 ghost use Rattle.ql_printed.specs.Printed.{Fits, IsInGrammar, IsReadable, IsReadAs, OpensFew, prop_nodes, unplaced};
 
-/// What is printed of a contract is that contract again, places aside.
+/// A contract that is printed and read again is the same contract, up to source offsets.
 ///
-/// The places of a tree don't change its text (`places`).
-/// It is in the grammar for each tree whose names are names of the language and in which no group of a `txn` is
-/// empty (`grammar`), as are the trees that are read (`fits`, `few`). It is read again where it is within the limits
-/// (`text`, `answer`): the tree has few nodes, and the text opens few brackets at once, which that of a long chain
-/// of operators may not do. So what is printed of a contract that was read is read as the same one where it opens
-/// few brackets at once (`again`).
+/// The source offsets of a tree don't change its text (`places`).
+/// The text is in the grammar for each tree whose names are names of the language and in which no group of a `txn` is
+/// empty (`grammar`), and the trees that are read are such trees (`fits`, `few`). It is read again if it is within the
+/// limits (`text`, `answer`): the tree has few nodes, and the text opens few brackets at once; a long chain of
+/// operators may open too many. So the printed text of a contract that was read is read as the same contract if it
+/// opens few brackets at once (`again`).
 pub fn printed_again()
     ensures places { (s : Sentence) → contract_text (unplaced s) ≡ contract_text s }
     ensures grammar { (s : Sentence) → Fits s → (t : Sentence) × IsInGrammar (contract_text s) t × (unplaced t ≡ unplaced s) }

@@ -1,6 +1,5 @@
-// What is printed of contracts and sources, and read again.
-// Its one contract: what is printed of a tree is in the grammar as that tree, places aside, and is read as it within the
-// limits.
+// Contracts and sources that are printed and read again. Its one contract: the printed text of a tree is in the grammar
+// as that tree, up to source offsets, and is read as that tree within the limits.
 #![tactic(auto)]
 
 mod contracts;

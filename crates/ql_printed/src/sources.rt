@@ -13,14 +13,13 @@ ghost use Rattle.ql_printed.specs.PrintedPrograms.{
   unplaced_source,
 };
 
-/// What is printed of a source is that source again, places aside.
+/// A source that is printed and read again is the same source, up to source offsets.
 ///
-/// The places of a tree don't change its text (`places`).
-/// It is in the grammar for each tree that has a text (`grammar`), as the trees that are read have, with few nodes in
-/// each contract and each expression (`fits`, `few`). It is read again where it is within the limits (`text`,
-/// `answer`). So what is printed of a source that was read is read as the same one where the printed text opens few
-/// brackets at once within each contract and each expression, which that of a long chain of operators may not do
-/// (`again`).
+/// The source offsets of a tree don't change its text (`places`).
+/// The text is in the grammar for each tree that has one (`grammar`); the trees that are read have one, with few nodes
+/// in each contract and each expression (`fits`, `few`). It is read again if it is within the limits (`text`,
+/// `answer`). So the printed text of a source that was read is read as the same source if it opens few brackets at
+/// once within each contract and each expression (`again`); a long chain of operators may open too many.
 pub fn source_printed_again()
     ensures places { (p : Source) → program_text (unplaced_source p) ≡ program_text p }
     ensures grammar { (p : Source) → SourceFits p → (q : Source) × IsSourceInGrammar (program_text p) q × (unplaced_source q ≡ unplaced_source p) }

@@ -8,6 +8,7 @@ use Rattle.ql_lines.specs.Fields.{Fields, FirstField, IsId, fields_of, is_space}
 use Rattle.ql_lines.specs.Lines.{is_skipped}
 use Rattle.ql_lines.specs.Texts.{behind, joined}
 use Rattle.ql_lines.proofs.TextLaws.{joined_behind}
+use Rattle.ql_typing.specs.Names.{op_name, txn_name}
 use Rattle.ql_value.specs.declared.value.Value.{Value}
 use Rattle.ql_value.specs.Spelling.{value_text}
 use Rattle.ql_value.specs.ValueGrammar.{IsValue}
@@ -21,7 +22,6 @@ use Rattle.ql_effect_lines.specs.declared.setting.Begun.{Begun}
 use Rattle.ql_effect_lines.specs.declared.setting.Setting.{Setting}
 use Rattle.ql_effect_lines.specs.EffectLine.{CallAt, EmitAt, FitsTxn, IsEffectLine, IsSetting, PayloadAt, txn_text}
 use Rattle.ql_effect_lines.specs.Parts.{FieldAt, FieldsAt, ValueAt, ValuesAt}
-use Rattle.ql_report.specs.Levels.{op_name, txn_name}
 use Rattle.ql_run_text.specs.EffectTexts.{CarriesValues, effect_fields, member_text, object_name, payload_text, values_text}
 use Rattle.ql_printed_runs.specs.Printable.{FitsMember, IsWritable}
 use Rattle.ql_printed_runs.proofs.FieldsAgain.{IsOneField, fields_behind, first_field, high_stay, name_bytes, name_field, next_field, number_field, part_field, txn_field, value_part, value_stay, values_part, values_stay}

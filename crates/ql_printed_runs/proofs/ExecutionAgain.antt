@@ -30,16 +30,16 @@ use Rattle.ql_exec.proofs.Stamps.{stamp_few}
 use Rattle.ql_effect_lines.specs.declared.effect_line.EffectLine.{EffectLine}
 use Rattle.ql_effect_lines.specs.declared.rules.ReportRule.{ReportRule}
 use Rattle.ql_effect_lines.specs.declared.rules.ReportRule.TheVariants.{Unknown, Mixed, Stamp, TooMany}
-use Rattle.ql_effect_lines.specs.declared.told.Told.{Told}
+use Rattle.ql_effect_lines.specs.declared.effects_read.EffectsRead.{EffectsRead}
 use Rattle.ql_effect_lines.specs.EffectLine.{IsEffectLine}
-use Rattle.ql_effect_lines.specs.Effects.{after_effect, after_known, draft_of, first_on, is_mixed, kind_of, known_of, member_of, number_of, put_in, rule_of, with_effect, with_object}
-use Rattle.ql_execution_files.specs.ExecutionFile.{Closes, IsExecutionFile, Takes, end_fields, first_fields, gives, nothing_told}
-use Rattle.ql_execution_files.specs.declared.format.Reading.{Reading}
-use Rattle.ql_execution_files.specs.declared.format.Reading.TheVariants.{Ended, Unbegun, WithEffects}
+use Rattle.ql_effect_lines.specs.Effects.{after_effect, after_known, draft_of_line, first_on, is_mixed, type_number_of, known_of, member_of_line, object_number, with_draft, exec_rule, with_read_effect, with_object_name}
+use Rattle.ql_execution_files.specs.ExecutionFile.{ClosesExecution, IsExecutionFile, Takes, end_fields, first_fields, gives, nothing_read}
+use Rattle.ql_execution_files.specs.declared.format.ExecutionReading.{ExecutionReading}
+use Rattle.ql_execution_files.specs.declared.format.ExecutionReading.TheVariants.{Ended, Unbegun, WithEffects}
 use Rattle.ql_line_files.specs.Outcomes.{Leads}
-use Rattle.ql_report.specs.Levels.{op_name, txn_name}
 use Rattle.ql_run_text.specs.EffectTexts.{AreNamed, IsDeclared, IsNamed, effect_fields, effects_text, execution_text, object_name}
 use Rattle.ql_run_text.specs.NumberedLines.{lines_from}
+use Rattle.ql_typing.specs.Names.{op_name, txn_name}
 use Rattle.ql_printed_runs.specs.Printable.{AreObjects, FindsNames, IsPrintable, IsWritable}
 use Rattle.ql_printed_runs.specs.Renumbered.{IsRenumbered, renumbered}
 use Rattle.ql_printed_runs.proofs.EffectAgain.{NamedMember, begun_of, effect_stays, effect_told, is_effect_line, line_of}
@@ -82,46 +82,46 @@ at-each P (f ∷ x) h (suc (suc k)) e at = at-each P x h.1 (suc k) e at
 module _ (p : Program) (objects : List (List ℕ)) (number : ℕ → ℕ) where
   -- operations on objects with one number are of one type
   abbrev IsOfKind : Effect → Effect → Type 0
-  IsOfKind e g = number g.object.0 ≡ number e.object.0 → kind_of p g.op ≡ kind_of p e.op
+  IsOfKind e g = number g.object.0 ≡ number e.object.0 → type_number_of p g.op ≡ type_number_of p e.op
 
-  first-kind : (x : List Effect) (e : Effect) → AllByRecursion (IsOfKind e) x → (f : Effect) → first_on (others number x) (record { 0 = number e.object.0 }) ≡ Some f → kind_of p f.op ≡ kind_of p e.op
+  first-kind : (x : List Effect) (e : Effect) → AllByRecursion (IsOfKind e) x → (f : Effect) → first_on (others number x) (record { 0 = number e.object.0 }) ≡ Some f → type_number_of p f.op ≡ type_number_of p e.op
   first-kind [] e h f at = absurd (let never : None ≡ Some f = at in cc)
   first-kind (g ∷ x) e h f at = by (nat_eq (number g.object.0) (number e.object.0)) refl at (λ later. first-kind x e h.1 f later)
     where
       by : (t : Bool) → nat_eq (number g.object.0) (number e.object.0) ≡ t → (if t then Some (renumbered number g) else first_on (others number x) (record { 0 = number e.object.0 })) ≡ Some f
-          → (first_on (others number x) (record { 0 = number e.object.0 }) ≡ Some f → kind_of p f.op ≡ kind_of p e.op) → kind_of p f.op ≡ kind_of p e.op
+          → (first_on (others number x) (record { 0 = number e.object.0 }) ≡ Some f → type_number_of p f.op ≡ type_number_of p e.op) → type_number_of p f.op ≡ type_number_of p e.op
       by true same is more =
           let found : renumbered number g ≡ f = same_Some (renumbered number g) f is in
-          ap (λ (q : Effect). kind_of p q.op) (sym found) ∙ h.0 (eqb-true (number g.object.0) (number e.object.0) same)
+          ap (λ (q : Effect). type_number_of p q.op) (sym found) ∙ h.0 (eqb-true (number g.object.0) (number e.object.0) same)
       by false other is more = more is
 
   not-mixed : (x : List Effect) (e : Effect) → AllByRecursion (IsOfKind e) x → is_mixed p (others number x) (record { 0 = number e.object.0 }) e.op ≡ false
   not-mixed x e h = by (first_on (others number x) (record { 0 = number e.object.0 })) refl
     where
-      by : (r : Option Effect) → first_on (others number x) (record { 0 = number e.object.0 }) ≡ r → option_map_or (λ (first : Effect). not (nat_eq (kind_of p first.op) (kind_of p e.op))) r false ≡ false
+      by : (r : Option Effect) → first_on (others number x) (record { 0 = number e.object.0 }) ≡ r → option_map_or (λ (first : Effect). not (nat_eq (type_number_of p first.op) (type_number_of p e.op))) r false ≡ false
       by None is = refl
-      by (Some f) is = ap not (eq-eqb (kind_of p f.op) (kind_of p e.op) (first-kind x e h f is))
+      by (Some f) is = ap not (eq-eqb (type_number_of p f.op) (type_number_of p e.op) (first-kind x e h f is))
 
   module _ (names : FindsNames p) where
-    member-found : (m : Member) → IsDeclared p m → member_of p (begun_of p m) ≡ Some m
+    member-found : (m : Member) → IsDeclared p m → member_of_line p (begun_of p m) ≡ Some m
     member-found Alone h = refl
     member-found (Inside run decl) h = ap (option_map (λ d. Inside (record { 0 = run.0 }) (record { 0 = d }))) (names.txn decl.0 h).1
 
     known-found : (e : Effect) → IsNamed p (length objects) e → known_of p (line_of p objects e) ≡ Some (e.op, e.member)
     known-found e is =
-        ap (option_and_then (λ o. option_map (λ member. (record { 0 = o }, member)) (member_of p (begun_of p e.member)))) (names.op e.op.0 is.op).1
+        ap (option_and_then (λ o. option_map (λ member. (record { 0 = o }, member)) (member_of_line p (begun_of p e.member)))) (names.op e.op.0 is.op).1
         ∙ ap (option_map (λ member. (record { 0 = e.op.0 }, member))) (member-found e.member is.txn)
 
     -- what the line of the next effect makes of those before it
     next-effect : (done : List (List ℕ)) (x : List Effect) (e : Effect) → IsExecution (x ++ e ∷ []) → length x < 4000 → IsNamed p (length objects) e → AllByRecursion (IsOfKind e) x
-        → number_of done (object_name objects e.object.0) ≡ number e.object.0
+        → object_number done (object_name objects e.object.0) ≡ number e.object.0
         → after_effect p (record { objects = done; effects = others number x }) (line_of p objects e)
         ≡ Ok (record { objects = with_name done (object_name objects e.object.0); effects = others number (x ++ e ∷ []) })
     next-effect done x e law room is kinds numbered =
-        let before : Told = record { objects = done; effects = others number x } in
+        let before : EffectsRead = record { objects = done; effects = others number x } in
         let l = line_of p objects e in
         let w = object_name objects e.object.0 in
-        let after = λ (n : ℕ). (if is_mixed p (others number x) (record { 0 = n }) e.op then Err Mixed else put_in (with_object before w) (draft_of l (record { 0 = n }) e.op e.member) e.stamp) in
+        let after = λ (n : ℕ). (if is_mixed p (others number x) (record { 0 = n }) e.op then Err Mixed else with_draft (with_object_name before w) (draft_of_line l (record { 0 = n }) e.op e.member) e.stamp) in
         let draft = draft_from e (record { 0 = number e.object.0 }) in
         let count = length-map x (renumbered number) in
         let few : nat_le 4000 (length (others number x)) ≡ false = (let n : length (others number x) < 4000 = omega (arith, count, room) in grind (arith, nat_tests, n)) in
@@ -221,7 +221,7 @@ module _ (p : Program) (objects : List (List ℕ)) (x : List Effect) (is : IsPri
     kinds = all-left (IsOfKind p objects number e) done (e ∷ rest) (subst (AllByRecursion (IsOfKind p objects number e)) split (kinds-of (suc (length done)) e here))
 
     -- its line is the next effect
-    its_line : (ns : List (List ℕ)) → number_of ns (object_name objects e.object.0) ≡ number e.object.0 → (l : Numbered) → l.text ≡ joined (effect_fields p objects (suc (length done)) e)
+    its_line : (ns : List (List ℕ)) → object_number ns (object_name objects e.object.0) ≡ number e.object.0 → (l : Numbered) → l.text ≡ joined (effect_fields p objects (suc (length done)) e)
         → Takes p (WithEffects (record { objects = ns; effects = others number done })) l.text
         (WithEffects (record { objects = with_name ns (object_name objects e.object.0); effects = others number (done ++ e ∷ []) }))
     its_line ns numbered l text = inl (record {
@@ -248,19 +248,19 @@ module _ (p : Program) (objects : List (List ℕ)) (x : List Effect) (is : IsPri
   unfolding told file_text is_skipped
   end_lines n = (record { number = n; text = codes "end" }, refl, ap (told n) (first_line (codes "end" ∷ []) [] [] (stays_of 101 (omega arith), (stays_of 110 (omega arith), (stays_of 100 (omega arith), tt)))))
 
-  ended : (told_all : Told) (n : ℕ) → Leads (gives p) Closes (WithEffects told_all) (told n (lines (codes "end\n"))) (Ended told_all)
+  ended : (told_all : EffectsRead) (n : ℕ) → Leads (gives p) ClosesExecution (WithEffects told_all) (told n (lines (codes "end\n"))) (Ended told_all)
   unfolding Leads
   ended told_all n =
       let l = end_lines n in
-      subst (λ ls. Leads (gives p) Closes (WithEffects told_all) ls (Ended told_all)) (sym l.2)
+      subst (λ ls. Leads (gives p) ClosesExecution (WithEffects told_all) ls (Ended told_all)) (sym l.2)
       (Ended told_all, inr (record { is = ap fields_of l.1; to = refl }), refl)
 
   from_here : (done es : List Effect) (ns : List (List ℕ)) (k n : ℕ) → x ≡ done ++ es → k ≡ suc (length done) → grown objects ns es ≡ grown objects [] x
-      → Leads (gives p) Closes (WithEffects (record { objects = ns; effects = others number done })) (told n (lines (file_text (lines_from (effect_fields p objects) k es) ++ codes "end\n"))) (Ended (record { objects = grown objects [] x; effects = others number x }))
+      → Leads (gives p) ClosesExecution (WithEffects (record { objects = ns; effects = others number done })) (told n (lines (file_text (lines_from (effect_fields p objects) k es) ++ codes "end\n"))) (Ended (record { objects = grown objects [] x; effects = others number x }))
   unfolding Leads grown lines_from file_text told number
   from_here done [] ns k n split at same =
       let all : others number x ≡ others number done = ap (others number) (split ∙ append-nil done) in
-      subst (λ (t : Told). Leads (gives p) Closes (WithEffects (record { objects = ns; effects = others number done })) (told n (lines (codes "end\n"))) (Ended t))
+      subst (λ (t : EffectsRead). Leads (gives p) ClosesExecution (WithEffects (record { objects = ns; effects = others number done })) (told n (lines (codes "end\n"))) (Ended t))
       (ap (λ (es : List Effect). record { objects = ns; effects = es }) (sym all) ∙ ap (λ (m : List (List ℕ)). record { objects = m; effects = others number x }) same)
       (ended (record { objects = ns; effects = others number done }) n)
   from_here done (e ∷ es) ns k n split at same =
@@ -273,24 +273,24 @@ module _ (p : Program) (objects : List (List ℕ)) (x : List Effect) (is : IsPri
       first_line l (lines_from (effect_fields p objects) (k + 1) es) (codes "end\n") (subst Stay (sym text) (its_stay done e es split)) in
       let line : Numbered = record { number = n; text = joined l } in
       let here : told n (joined l ∷ lines after) ≡ line ∷ told (n + 1) (lines after) = rw (ap is_skipped text ∙ its_told done e es split) refl in
-      let next : Told = record { objects = with_name ns w; effects = others number (done ++ e ∷ []) } in
-      let numbered : number_of ns w ≡ number e.object.0 = next_number objects ns e es ∙ ap (λ (m : List (List ℕ)). first_of m w) same in
+      let next : EffectsRead = record { objects = with_name ns w; effects = others number (done ++ e ∷ []) } in
+      let numbered : object_number ns w ≡ number e.object.0 = next_number objects ns e es ∙ ap (λ (m : List (List ℕ)). first_of m w) same in
       let count = length-append done (e ∷ []) in
-      subst (λ ls. Leads (gives p) Closes (WithEffects (record { objects = ns; effects = others number done })) ls (Ended (record { objects = grown objects [] x; effects = others number x }))) (sym (ap (told n) first ∙ here)) (
+      subst (λ ls. Leads (gives p) ClosesExecution (WithEffects (record { objects = ns; effects = others number done })) ls (Ended (record { objects = grown objects [] x; effects = others number x }))) (sym (ap (told n) first ∙ here)) (
         WithEffects next,
         its_line done e es split ns numbered line text,
         from_here (done ++ e ∷ []) es (with_name ns w) (k + 1) (n + 1) (split ∙ sym (append_assoc done (e ∷ []) es)) (omega (arith, id, count)) same,
       )
 
   -- the lines of an execution from its first line on
-  pub execution_leads : (n : ℕ) → Leads (gives p) Closes Unbegun (told n (lines (execution_text p objects x))) (Ended (record { objects = grown objects [] x; effects = others number x }))
+  pub execution_leads : (n : ℕ) → Leads (gives p) ClosesExecution Unbegun (told n (lines (execution_text p objects x))) (Ended (record { objects = grown objects [] x; effects = others number x }))
   unfolding Leads told file_text is_skipped
   execution_leads n =
       let after = effects_text p objects x ++ codes "end\n" in
       let first : lines (codes "execution\n" ++ after) ≡ codes "execution" ∷ lines after =
       first_line (codes "execution" ∷ []) [] after (stays_of 101 (omega arith), (stays_of 120 (omega arith), (stays_of 101 (omega arith), (stays_of 99 (omega arith), (stays_of 117 (omega arith), (stays_of 116 (omega arith), (stays_of 105 (omega arith), (stays_of 111 (omega arith), (stays_of 110 (omega arith), tt))))))))) in
-      subst (λ ls. Leads (gives p) Closes Unbegun (told n ls) (Ended (record { objects = grown objects [] x; effects = others number x }))) (sym first) (
-        WithEffects nothing_told,
+      subst (λ ls. Leads (gives p) ClosesExecution Unbegun (told n ls) (Ended (record { objects = grown objects [] x; effects = others number x }))) (sym first) (
+        WithEffects nothing_read,
         inl (refl, refl),
         from_here [] x [] 1 (n + 1) refl refl refl,
       )

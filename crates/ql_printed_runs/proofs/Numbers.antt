@@ -9,7 +9,7 @@ use Rattle.std.proofs.lemmas.List.Sums.{passes_at_first}
 use Rattle.std.proofs.lemmas.Slice.Eq.{bytes_eq-Decides}
 use Rattle.ql_base.specs.Numbering.{has_name, place, with_name}
 use Rattle.ql_exec.specs.declared.effect.Effect.{Effect}
-use Rattle.ql_effect_lines.specs.Effects.{number_of}
+use Rattle.ql_effect_lines.specs.Effects.{object_number}
 use Rattle.ql_run_text.specs.EffectTexts.{object_name}
 
 -- the first occurrence of a name
@@ -43,7 +43,7 @@ there names w = elim (has_name names w) as (λ t. has_name names w ≡ t → has
     at_end (n ∷ ns) = elim (bytes_eq w n) as (λ t. (t || has_name (ns ++ w ∷ []) w) ≡ true) [ true ↦ refl | false ↦ at_end ns ]
 
 -- the number that a reader gives a name
-numbered_as : (names : List (List ℕ)) (w : List ℕ) → number_of names w ≡ first_of (with_name names w) w
+numbered_as : (names : List (List ℕ)) (w : List ℕ) → object_number names w ≡ first_of (with_name names w) w
 numbered_as names w = rw (lt-ltb (first_of (with_name names w) w) (length (with_name names w)) (found w (with_name names w) (there names w))) refl
 
 -- putting in keeps what is there
@@ -76,7 +76,7 @@ module _ (objects : List (List ℕ)) where
   known_stays w names es h = let more = grown_more es names in ap (λ ns. first_of ns w) more.1 ∙ stays w names more.0 h
 
   -- the number that a reader gives the next effect's object is that of the last list of names
-  pub next_number : (names : List (List ℕ)) (e : Effect) (es : List Effect) → number_of names (name_of e) ≡ first_of (grown names (e ∷ es)) (name_of e)
+  pub next_number : (names : List (List ℕ)) (e : Effect) (es : List Effect) → object_number names (name_of e) ≡ first_of (grown names (e ∷ es)) (name_of e)
   unfolding grown
   next_number names e es =
       numbered_as names (name_of e) ∙ sym (known_stays (name_of e) (with_name names (name_of e)) es (there names (name_of e)))

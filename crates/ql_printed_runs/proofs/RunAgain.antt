@@ -21,20 +21,21 @@ use Rattle.ql_lines.specs.Lines.{Numbered, ahead_from, is_skipped, told}
 use Rattle.ql_lines.specs.Texts.{file_text, joined}
 use Rattle.ql_lines.proofs.TextLaws.{file_text-append}
 use Rattle.ql_typing.specs.Operations.{all_ops}
+use Rattle.ql_typing.specs.Names.{op_name, txn_name}
 use Rattle.ql_value.specs.Spelling.{value_text}
 use Rattle.ql_exec.specs.declared.effect.Effect.{Effect}
 use Rattle.ql_exec.specs.Effects.{effect_at}
 use Rattle.ql_machine.specs.declared.reply.Reply.{Reply}
 use Rattle.ql_machine.specs.declared.reply.Reply.TheVariants as reply
-use Rattle.ql_execution_files.specs.ExecutionFile.{Closes, IsExecutionFile, first_fields, gives}
-use Rattle.ql_execution_files.specs.declared.format.Reading.{Reading}
-use Rattle.ql_execution_files.specs.declared.format.Reading.TheVariants.{Ended, Unbegun}
+use Rattle.ql_execution_files.specs.ExecutionFile.{ClosesExecution, IsExecutionFile, first_fields, gives}
+use Rattle.ql_execution_files.specs.declared.format.ExecutionReading.{ExecutionReading}
+use Rattle.ql_execution_files.specs.declared.format.ExecutionReading.TheVariants.{Ended, Unbegun}
 use Rattle.ql_line_files.specs.Outcomes.{Leads}
-use Rattle.ql_report.specs.Levels.{levels_text, op_line, op_name, txn_line, txn_name}
+use Rattle.ql_report.specs.Levels.{levels_text, op_line, txn_line}
 use Rattle.ql_run_text.specs.EffectTexts.{execution_text}
 use Rattle.ql_run_text.specs.NumberedLines.{lines_from}
 use Rattle.ql_run_text.specs.ReplyTexts.{answer_text, reply_fields, why_number}
-use Rattle.ql_run_text.specs.RunTexts.{event_fields, replies_text, run_text}
+use Rattle.ql_run_text.specs.RunTexts.{numbered_reply_fields, replies_text, run_text}
 use Rattle.ql_printed_runs.specs.Printable.{FindsNames, IsPrintable, IsWritable}
 use Rattle.ql_printed_runs.specs.Renumbered.{IsRenumbered}
 use Rattle.ql_printed_runs.proofs.ExecutionAgain.{at-each, execution_leads, number, same_execution}
@@ -64,16 +65,16 @@ not_first l h e =
     let k = joined_begins l h in
     k.4 (first_byte k.0 k.1 (codes "execution") [] 101 (codes "xecution") k.3 (ap fields_of (sym k.2) ∙ e) refl)
 
-module _ (p : Program) (after : Reading) where
-  one_more : (n : ℕ) (l : Fields) (more : List (List ℕ)) → BeginsOtherwise l → (t : Bool) → is_skipped (joined l) ≡ t → Leads (gives p) Closes Unbegun (told (n + 1) more) after → Leads (gives p) Closes Unbegun (told n (joined l ∷ more)) after
+module _ (p : Program) (after : ExecutionReading) where
+  one_more : (n : ℕ) (l : Fields) (more : List (List ℕ)) → BeginsOtherwise l → (t : Bool) → is_skipped (joined l) ≡ t → Leads (gives p) ClosesExecution Unbegun (told (n + 1) more) after → Leads (gives p) ClosesExecution Unbegun (told n (joined l ∷ more)) after
   unfolding told Leads
   one_more n l more begins true skipped later = rw skipped later
   one_more n l more begins false kept later = rw kept (Unbegun, inr (not_first l begins, refl), later)
 
-  pass : (n : ℕ) (ls : List Fields) (rest : List ℕ) → AllByRecursion IsPassed ls → ((m : ℕ) → Leads (gives p) Closes Unbegun (told m (lines rest)) after) → Leads (gives p) Closes Unbegun (told n (lines (file_text ls ++ rest))) after
+  pass : (n : ℕ) (ls : List Fields) (rest : List ℕ) → AllByRecursion IsPassed ls → ((m : ℕ) → Leads (gives p) ClosesExecution Unbegun (told m (lines rest)) after) → Leads (gives p) ClosesExecution Unbegun (told n (lines (file_text ls ++ rest))) after
   unfolding file_text
   pass n [] rest h later = later n
-  pass n (l ∷ ls) rest h later = subst (λ ts. Leads (gives p) Closes Unbegun (told n ts) after) (sym (first_line l ls rest h.0.stays))
+  pass n (l ∷ ls) rest h later = subst (λ ts. Leads (gives p) ClosesExecution Unbegun (told n ts) after) (sym (first_line l ls rest h.0.stays))
       (one_more n l (lines (file_text ls ++ rest)) h.0.begins (is_skipped (joined l)) refl (pass (n + 1) ls rest h.1 later))
 
 -- ---- the lines before an execution
@@ -168,13 +169,13 @@ module _ (p : Program) (objects : List (List ℕ)) (levels : LevelLists) (replie
   reply_stays (reply.Sent m) = (word (codes "sent") refl, (decimal_stay m.0, tt))
   reply_stays (reply.Refused why) = (word (codes "refused") refl, (decimal_stay (why_number why), tt))
 
-  event_passes : (n : ℕ) (r : Reply) → IsPassed (event_fields x n r)
+  event_passes : (n : ℕ) (r : Reply) → IsPassed (numbered_reply_fields x n r)
   event_passes n r = record {
-    stays = joined_stay (event_fields x n r) (decimal_stay n, reply_stays r);
+    stays = joined_stay (numbered_reply_fields x n r) (decimal_stay n, reply_stays r);
     begins = digit_begins (decimal n) (decimal_some n) (decimal_bytes n);
   }
 
-  events_pass : (n : ℕ) (rs : List Reply) → AllByRecursion IsPassed (lines_from (event_fields x) n rs)
+  events_pass : (n : ℕ) (rs : List Reply) → AllByRecursion IsPassed (lines_from (numbered_reply_fields x) n rs)
   unfolding lines_from
   events_pass n [] = tt
   events_pass n (r ∷ rs) = (event_passes n r, events_pass (n + 1) rs)
@@ -220,7 +221,7 @@ module _ (p : Program) (objects : List (List ℕ)) (levels : LevelLists) (replie
   -- ---- the whole text
 
   unfoldable front : List Fields
-  front = (codes "levels" ∷ []) ∷ ((ops ++ txns) ++ (codes "replies" ∷ []) ∷ lines_from (event_fields x) 1 replies)
+  front = (codes "levels" ∷ []) ∷ ((ops ++ txns) ++ (codes "replies" ∷ []) ∷ lines_from (numbered_reply_fields x) 1 replies)
 
   front_text : run_text p objects levels replies x ≡ file_text front ++ execution_text p objects x
   unfolding front file_text ops txns
@@ -231,8 +232,8 @@ module _ (p : Program) (objects : List (List ℕ)) (levels : LevelLists) (replie
       let e = execution_text p objects x in
       let of_levels : levels_text p levels ≡ a ++ b = ap (λ t. t ++ upto (length p.txns) (txn_line p levels)) (rows_text op_fields (op_line p levels) op_same (length (all_ops p.types)))
       ∙ ap (λ t. a ++ t) (rows_text txn_fields (txn_line p levels) txn_same (length p.txns)) in
-      let of_front : file_text ((ops ++ txns) ++ (codes "replies" ∷ []) ∷ lines_from (event_fields x) 1 replies) ≡ (a ++ b) ++ (codes "replies\n" ++ c) =
-      file_text-append (ops ++ txns) ((codes "replies" ∷ []) ∷ lines_from (event_fields x) 1 replies) ∙ ap (λ t. t ++ (codes "replies\n" ++ c)) (file_text-append ops txns) in
+      let of_front : file_text ((ops ++ txns) ++ (codes "replies" ∷ []) ∷ lines_from (numbered_reply_fields x) 1 replies) ≡ (a ++ b) ++ (codes "replies\n" ++ c) =
+      file_text-append (ops ++ txns) ((codes "replies" ∷ []) ∷ lines_from (numbered_reply_fields x) 1 replies) ∙ ap (λ t. t ++ (codes "replies\n" ++ c)) (file_text-append ops txns) in
       ap (λ t. codes "levels\n" ++ t ++ codes "replies\n" ++ c ++ e) of_levels ∙ pieces a b c e ∙ ap (λ t. (codes "levels\n" ++ t) ++ e) (sym of_front)
     where
       pieces : (a b c e : List ℕ) → codes "levels\n" ++ (a ++ b) ++ codes "replies\n" ++ c ++ e ≡ (codes "levels\n" ++ ((a ++ b) ++ (codes "replies\n" ++ c))) ++ e
@@ -246,13 +247,13 @@ module _ (p : Program) (objects : List (List ℕ)) (levels : LevelLists) (replie
   unfolding front ops txns
   front_passes = (
     record { stays = word (codes "levels") refl; begins = (108, codes "evels", refl, refl, λ e. omega (arith, e)) },
-    both_pass (ops ++ txns) ((codes "replies" ∷ []) ∷ lines_from (event_fields x) 1 replies)
+    both_pass (ops ++ txns) ((codes "replies" ∷ []) ∷ lines_from (numbered_reply_fields x) 1 replies)
         (both_pass ops txns (rows_pass op_fields (op_line p levels) op_same (length (all_ops p.types)) op_passes) (rows_pass txn_fields (txn_line p levels) txn_same (length p.txns) txn_passes))
         (record { stays = word (codes "replies") refl; begins = (114, codes "eplies", refl, refl, λ e. omega (arith, e)) }, events_pass 1 replies),
   )
 
   -- what the reader has at the end
-  abbrev last_read : Reading
+  abbrev last_read : ExecutionReading
   last_read = Ended (record { objects = grown objects [] x; effects = others (number p objects x is) x })
 
   pub run_is_read : (y : List Effect) × IsRenumbered x y × IsExecutionFile p (ahead_from 1 (run_text p objects levels replies x)) y
@@ -262,7 +263,7 @@ module _ (p : Program) (objects : List (List ℕ)) (levels : LevelLists) (replie
     record {
       state = last_read;
       leads =
-          subst (λ (t : List ℕ). Leads (gives p) Closes Unbegun (told 1 (lines t)) last_read) (sym front_text)
+          subst (λ (t : List ℕ). Leads (gives p) ClosesExecution Unbegun (told 1 (lines t)) last_read) (sym front_text)
           (pass p last_read 1 front (execution_text p objects x) front_passes (execution_leads p objects x is));
       ends = refl;
     },

@@ -1,4 +1,4 @@
--- The executions that are read again as they are printed: an execution of a program, in which each name is found by
+-- The executions that read back as they are printed: an execution of a program in which each name is found by
 -- itself, and whose values can be written.
 use Rattle.std.specs.Prelude.{ℕ, ◌≡◌, ◌<◌, ◌≤◌, ◌^◌, List, Some, length, slice_index}
 use Rattle.std.specs.List.{AllByRecursion}
@@ -11,15 +11,15 @@ use Rattle.ql_exec.specs.declared.effect.Member.{Member}
 use Rattle.ql_exec.specs.declared.effect.Member.TheVariants.{Alone, Inside}
 use Rattle.ql_exec.specs.Effects.{effect_at}
 use Rattle.ql_exec.specs.Execution.{IsExecution}
-use Rattle.ql_report.specs.Levels.{op_name, txn_name}
 use Rattle.ql_run_text.specs.EffectTexts.{AreNamed, HasValues, object_name}
+use Rattle.ql_typing.specs.Names.{op_name, txn_name}
 
 -- operations and declared transactions have names, and are found by them
 pub record FindsNames (p : Program) : Type 0 where
   pub op : (o : ℕ) → o < length (all_ops p.types) → IsName (op_name p o) × (op_place p.types (op_name p o) ≡ Some o)
   pub txn : (d : ℕ) → d < length p.txns → IsName (txn_name p d) × (txn_place p.txns (txn_name p d) ≡ Some d)
 
--- names of objects, no two of them the same
+-- the names of objects, no two of them the same
 pub record AreObjects (objects : List (List ℕ)) : Type 0 where
   pub named : (o : ℕ) → o < length objects → IsName (object_name objects o)
   pub apart : (o q : ℕ) → o < length objects → q < length objects → object_name objects o ≡ object_name objects q → o ≡ q
@@ -29,7 +29,7 @@ abbrev pub FitsMember : Member → Type 0
 FitsMember Alone = Unit {0}
 FitsMember (Inside run decl) = (1 ≤ run.0) × (run.0 < 2 ^ 32)
 
--- what an effect has can be written
+-- the values of an effect can be written
 pub record IsWritable (e : Effect) : Type 0 where
   pub values : HasValues e
   pub session : e.session.0 ≤ 255

@@ -1,9 +1,9 @@
--- Executions that differ in nothing but the numbers of their objects.
+-- Executions that differ only in the numbers of their objects.
 use Rattle.std.specs.Prelude.{◌≡◌, ℕ, List, Some, map}
 use Rattle.ql_exec.specs.declared.effect.Effect.{Effect}
 use Rattle.ql_exec.specs.Effects.{effect_at}
 
--- an effect on an object of another number
+-- an effect with another number for its object
 abbrev pub renumbered : (ℕ → ℕ) → Effect → Effect
 renumbered number e = record e { object = record { 0 = number e.object.0 } }
 

@@ -9,8 +9,8 @@ ghost use Rattle.ql_run_text.specs.RunTexts.{run_text};
 ghost use Rattle.ql_printed_runs.specs.Printable.{IsPrintable};
 ghost use Rattle.ql_printed_runs.specs.Renumbered.{IsRenumbered};
 
-/// The text of a run is a file of an execution, and says the run's own: it is read with objects numbered by their
-/// first occurrence, and is the same in all else.
+/// The text of a run is an execution's file, and reads back as the run's own execution: objects are numbered by their
+/// first occurrence, and all else is the same.
 pub fn printed_runs_are_read_again()
     ensures { (p : Program) (objects : List (List ℕ)) (levels : LevelLists) (replies : List Reply) (x : List Effect) → IsPrintable p objects x
         → (y : List Effect) × IsRenumbered x y × IsExecutionFile p (ahead_from 1 (run_text p objects levels replies x)) y }

@@ -1,4 +1,4 @@
-// Laws of the texts of runs: the files of executions are read as what was printed.
+// Laws of the texts of runs: executions' files read back as what was printed.
 #![tactic(auto)]
 
 mod law;

@@ -7,7 +7,7 @@ use ql_typing::Typed;
 use std::alloc::Global;
 use std::fmt::Write;
 
-// The offset and the prime of the hash of Fowler, Noll and Vo at 64 bits.
+// The offset basis and the prime of the 64-bit hash of Fowler, Noll and Vo.
 const OFFSET: u64 = 0xcbf29ce484222325;
 
 const PRIME: u64 = 0x100000001b3;
@@ -59,7 +59,7 @@ fn list_clause(clause: &Clause, out: &mut String) -> Result<(), NoMemory> {
     Ok(())
 }
 
-// The checksum with the literals of a clause, and a 0 after them.
+// Adds the literals of a clause and then a 0 to the checksum.
 fn with_clause(sum: u64, clause: &Clause) -> u64 {
     let mut sum = sum;
     for lit in clause.items() {

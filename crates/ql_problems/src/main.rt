@@ -1,5 +1,5 @@
 // Prints the ground problem of each goal of a source: its variables, its clauses, and a checksum over all
-// literals in their order. With `--clauses` as its first word it prints the clauses themselves.
+// literals in their order. With `--clauses` as its first argument it prints the clauses themselves.
 #![tactic(auto)]
 
 mod listing;
@@ -12,7 +12,7 @@ use std::alloc::Global;
 use std::env::Env;
 use std::{env, fs, io};
 
-// How long a source may be.
+// The most bytes of a source.
 const MOST_BYTES: usize = 1 << 20;
 
 fn main(rt: HostRuntime) -> io::Result<()> {
@@ -31,7 +31,7 @@ fn main(rt: HostRuntime) -> io::Result<()> {
     Ok(())
 }
 
-// The words of the command line, without the program's own name.
+// The arguments of the command line, without the program's own name.
 fn words<R: Env + AllocGlobal>(rt: &R) -> io::Result<Vec<String>> {
     let words = env::args(rt)?.skip(1).collect::<Vec<String>>(rt.alloc())?;
     Ok(words)

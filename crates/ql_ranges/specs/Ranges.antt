@@ -1,4 +1,4 @@
--- Sets of ids as ranges that lie apart.
+-- Sets of ids as ranges that aren't adjacent.
 use Rattle.std.specs.Prelude.{ℕ, suc, ◌+◌, ◌-◌, ◌≤◌, List, [], ◌∷◌, ◌++◌}
 use Rattle.std.specs.List.{range_with_len}
 use Rattle.ql_ranges.specs.declared.ranges.IdRange.{IdRange}
@@ -7,7 +7,7 @@ use Rattle.ql_ranges.specs.declared.ranges.IdRange.{IdRange}
 abbrev pub ids_in : IdRange → List ℕ
 ids_in range = range_with_len range.from (suc range.to - range.from)
 
--- the ids of ranges, one range behind the other
+-- the ids of ranges, one range after the other
 abbrev pub ids_of : List IdRange → List ℕ
 ids_of [] = []
 ids_of (range ∷ ranges) = ids_in range ++ ids_of ranges

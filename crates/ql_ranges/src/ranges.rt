@@ -9,17 +9,17 @@ use ql_base::{IdSet, NoMemory};
 use std::alloc::Global;
 use std::marker::Model;
 
-/// All ids from one to another, both of them included.
+/// All ids from the first to the last, both included.
 #[derive(Clone, Copy)]
 pub struct IdRange {
     pub from: u32,
     pub to: u32,
 }
 
-/// A set of ids, seen as the list of its ranges. They ascend, none is empty, and between two of them
+/// A set of ids, viewed as the list of its ranges. They ascend, none is empty, and between two of them
 /// at least one id is missing.
 ///
-/// An id is found in the logarithm of the number of ranges.
+/// Looking up an id takes time logarithmic in the number of ranges.
 #[derive(Drop)]
 pub struct Ranges {
     ranges: Vec<IdRange>,
@@ -62,7 +62,7 @@ impl Ranges {
         has_in(&self.ranges, id)
     }
 
-    /// Whether all ids from one to another are there, found in the time of one.
+    /// Whether the set has all ids from one to another, in the time of one lookup.
     pub fn has_all(&self, from: u32, to: u32) -> bool
         requires { from ≤ to }
         ensures { IsTrue result ↔ ((id : ℕ) → from ≤ id → id ≤ to → has_id (ids_of self.now) id ≡ true) }
@@ -70,7 +70,7 @@ impl Ranges {
         has_all_in(&self.ranges, from, to)
     }
 
-    /// Whether all ids from the first to the last of some are there, found in the time of one. Then the others are too.
+    /// Whether the set has all ids from the first to the last of these, in the time of one lookup; then it has these.
     pub fn spans(&self, ids: &[u32]) -> bool
         requires { IsAscending ids.now }
         ensures exact { IsTrue result ↔ ((id : ℕ) → IsBetween ids.now id → has_id (ids_of self.now) id ≡ true) }
@@ -79,7 +79,7 @@ impl Ranges {
         ids.is_empty() || self.has_all(ids[0], ids[ids.len() - 1])
     }
 
-    /// An id up to which there are all from 1 on, and 0 where 1 is missing.
+    /// An id such that the set has all from 1 to it; 0 if 1 is missing.
     pub fn whole_to(&self) -> u32
         ensures { (id : ℕ) → 1 ≤ id → id ≤ result → has_id (ids_of self.now) id ≡ true }
     {
@@ -89,7 +89,7 @@ impl Ranges {
         }
     }
 
-    /// Adds an id.
+    /// Adds an id. Out of memory leaves the set as it was.
     pub fn insert(&mut self, id: u32) -> Result<(), NoMemory>
         ensures added { OnOk result (ids_of self.new ≡ with_id (ids_of self.old) id) }
         ensures err { OnErr result (self.new ≡ self.old) }
@@ -97,7 +97,7 @@ impl Ranges {
         insert_in(&mut self.ranges, id)
     }
 
-    /// The set with more ids.
+    /// The union with more ids, as a new set.
     pub fn union(&self, ids: &IdSet) -> Result<Ranges, NoMemory>
         ensures united { IfOk result (λ both. ids_of both ≡ union_of (ids_of self.now) ids.now) }
         ensures ascending { IfOk result (λ both. IsAscending (ids_of both)) }
@@ -149,7 +149,7 @@ fn has_in(ranges: &[IdRange], id: u32) -> bool
     }
 }
 
-// One range has all of them, since between two ranges an id is missing.
+// If the set has all of them, one range does, since between two ranges an id is missing.
 fn has_all_in(ranges: &[IdRange], from: u32, to: u32) -> bool
     requires apart { AreApart ranges.now }
     requires order { from ≤ to }
@@ -182,7 +182,7 @@ fn insert_in(ranges: &mut Vec<IdRange>, id: u32) -> Result<(), NoMemory>
     Ok(())
 }
 
-// Whether no range stands there, or one that begins at least 2 above the id.
+// Whether there is no range at this index, or one that begins at least 2 above the id.
 fn is_free(ranges: &[IdRange], at: usize, id: u32) -> bool
     ensures { IsFree ranges.now at id result }
 {
@@ -198,7 +198,7 @@ fn begins_above(range: IdRange, id: u32) -> bool
     range.from > id && range.from - id > 1
 }
 
-// Adds an id that the range at its place has, or that is next to that range.
+// Adds an id that is in the range at the id's index, or next to that range.
 fn widen(ranges: &mut Vec<IdRange>, at: usize, id: u32)
     requires apart { AreApart ranges.old.items }
     requires place { IsPlace ranges.old.items id at }
@@ -217,8 +217,8 @@ fn widen(ranges: &mut Vec<IdRange>, at: usize, id: u32)
     }
 }
 
-// Adds the id right above the range at its place, which closes the gap to the next range where that
-// begins right above the id.
+// Adds the id right above the range at the index, and merges that range with the next one if it begins right
+// above the id.
 fn raise(ranges: &mut Vec<IdRange>, at: usize, id: u32)
     requires apart { AreApart ranges.old.items }
     requires place { IsPlace ranges.old.items id at }

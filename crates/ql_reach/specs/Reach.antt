@@ -8,7 +8,7 @@ use Rattle.ql_needs.specs.Needs.{AreThere, Needs, IsNeeded}
 abbrev pub InEither : List ℕ → List ℕ → ℕ → Type 0
 InEither ids others a = Has ids a ⊎ Has others a
 
--- all that some effects need, themselves included, but for what is needed through known ones alone
+-- all that some effects need, themselves included, except for what is needed through known ones only
 pub record IsReach (x : List Effect) (asked known found : List ℕ) : Type 0 where
   pub there : AreThere x found
   pub begins : (a : ℕ) → Has asked a → InEither known found a

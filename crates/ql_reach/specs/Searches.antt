@@ -4,7 +4,7 @@ use Rattle.ql_exec.specs.declared.effect.Effect.{Effect}
 use Rattle.ql_exec.specs.Effects.{effect_at, both}
 use Rattle.ql_exec.specs.Relations.{so, soo, sametxn, same_run}
 
--- the last effect before one in its session on its object; none where all such are up to `stop`
+-- the last effect before one in its session on its object, or none if all such are up to `stop`
 abbrev pub IsLastOnObject : List Effect → ℕ → ℕ → Option ℕ → Type 0
 IsLastOnObject x e stop None = (a : ℕ) → soo x a e ≡ true → a ≤ stop
 IsLastOnObject x e stop (Some p) = (soo x p e ≡ true) × ((a : ℕ) → soo x a e ≡ true → a ≤ p)
@@ -14,7 +14,7 @@ abbrev pub IsLastInSession : List Effect → ℕ → Option ℕ → Type 0
 IsLastInSession x e None = (a : ℕ) → so x a e ≡ true → ⊥
 IsLastInSession x e (Some p) = (so x p e ≡ true) × ((a : ℕ) → so x a e ≡ true → a ≤ p)
 
--- the first effect behind one in its session
+-- the first effect after one in its session
 abbrev pub IsNextInSession : List Effect → ℕ → Option ℕ → Type 0
 IsNextInSession x e None = (a : ℕ) → so x e a ≡ true → ⊥
 IsNextInSession x e (Some p) = (so x e p ≡ true) × ((a : ℕ) → so x e a ≡ true → p ≤ a)
@@ -24,12 +24,12 @@ abbrev pub IsMemberBelow : List Effect → ℕ → Option ℕ → Type 0
 IsMemberBelow x e None = (a : ℕ) → a < e → sametxn x e a ≡ true → ⊥
 IsMemberBelow x e (Some p) = (p < e) × (sametxn x e p ≡ true) × ((a : ℕ) → a < e → sametxn x e a ≡ true → a ≤ p)
 
--- the first effect behind one in its transaction
+-- the first effect after one in its transaction
 abbrev pub IsMemberAbove : List Effect → ℕ → Option ℕ → Type 0
 IsMemberAbove x e None = (a : ℕ) → e < a → sametxn x e a ≡ true → ⊥
 IsMemberAbove x e (Some p) = (e < p) × (sametxn x e p ≡ true) × ((a : ℕ) → e < a → sametxn x e a ≡ true → p ≤ a)
 
--- in a transaction with no other effect, where it is told
+-- in no transaction, if the result is true
 abbrev pub IsAlone : List Effect → ℕ → Bool → Type 0
 IsAlone x e true = (a : ℕ) → both (λ f g. same_run f.member g.member) (effect_at x e) (effect_at x a) ≡ false
 IsAlone x e false = Unit {0}

@@ -15,19 +15,19 @@ pub record IsWalk (x : List Effect) (asked found due : List ℕ) : Type 0 where
   pub count : length due ≡ length found
   pub needed : (a : ℕ) → Has found a → IsNeeded x asked a
 
--- a walk goes on
+-- a walk continues
 pub record Grows (found due more later : List ℕ) : Type 0 where
   pub finds : (a : ℕ) → Has found a → Has more a
   pub keeps : (k : ℕ) → k < length due → slice_index later k ≡ slice_index due k
   pub longer : length due ≤ length later
 
--- it goes on with ids; of those that are known it takes none
+-- it continues with ids, and adds none that are known
 pub record Meets (known ids found due more later : List ℕ) : Type 0 where
   pub grows : Grows found due more later
   pub met : (a : ℕ) → Has ids a → InEither known more a
   pub walk : (x : List Effect) (asked : List ℕ) → ((a : ℕ) → Has ids a → IsNeeded x asked a) → IsWalk x asked found due → IsWalk x asked more later
 
--- it goes on with what an effect needs
+-- it continues with what an effect needs
 pub record GoesOn (x : List Effect) (e : ℕ) (found due more later : List ℕ) : Type 0 where
   pub grows : Grows found due more later
   pub walk : (asked : List ℕ) → IsNeeded x asked e → IsWalk x asked found due → IsWalk x asked more later
@@ -42,12 +42,12 @@ pub data MetBelow (x : List Effect) (known found : List ℕ) (e : ℕ) : Type 0 
   met_below : (p : ℕ) → IsMemberBelow x e (Some p) → InEither known found p → MetBelow x known found e
   none_below : IsMemberBelow x e None → MetBelow x known found e
 
--- the first effect behind one in its transaction was met, or there is none
+-- the first effect after one in its transaction was met, or there is none
 pub data MetAbove (x : List Effect) (known found : List ℕ) (e : ℕ) : Type 0 where
   met_above : (p : ℕ) → IsMemberAbove x e (Some p) → InEither known found p → MetAbove x known found e
   none_above : IsMemberAbove x e None → MetAbove x known found e
 
--- Enough of what an effect needs was met to find the rest from there. All of the transaction of what was asked was asked.
+-- Enough of what an effect needs was met to find the rest from there. The effects asked for are whole transactions.
 pub record Visited (x : List Effect) (asked known found : List ℕ) (e : ℕ) : Type 0 where
   pub seen : (a : ℕ) → vis x a e ≡ true → InEither known found a
   pub before : MetBefore x known found e

@@ -6,7 +6,7 @@ ghost use Rattle.ql_reach.specs.Searches.{IsAlone, IsLastOnObject, IsLastInSessi
 
 use ql_exec::{Effect, Member};
 
-/// The effect of an id.
+/// The effect with this id.
 pub(crate) fn effect(effects: &[Effect], id: u32) -> &Effect
     requires first { 1 ≤ id }
     requires last { id ≤ length effects.now }
@@ -15,7 +15,7 @@ pub(crate) fn effect(effects: &[Effect], id: u32) -> &Effect
     &effects[id as usize - 1]
 }
 
-/// The last effect before one in its session on its object, where it is behind `stop`.
+/// The last effect before one in its session on its object, if it is later than `stop`.
 pub(crate) fn last_on_object(effects: &[Effect], e: u32, stop: u32) -> Option<u32>
     requires first { 1 ≤ e }
     requires last { e ≤ length effects.now }
@@ -53,7 +53,7 @@ pub(crate) fn member_below(effects: &[Effect], e: u32) -> Option<u32>
     }
 }
 
-/// The first effect behind one in its transaction.
+/// The first effect after one in its transaction.
 pub(crate) fn member_above(effects: &[Effect], e: u32) -> Option<u32>
     requires law { IsExecution effects.now }
     requires few { length effects.now < 2 ^ 32 }
@@ -113,7 +113,7 @@ fn is_alone(effects: &[Effect], e: u32) -> bool
     }
 }
 
-// The other effect, where it is in the transaction of the first.
+// The other effect, if it is in the transaction of the first.
 fn only_in_txn(effects: &[Effect], e: u32, other: u32) -> Option<u32>
     requires first { 1 ≤ e }
     requires last { e ≤ length effects.now }

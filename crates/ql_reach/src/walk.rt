@@ -14,12 +14,12 @@ use ql_exec::{Effect, Execution};
 use ql_ranges::Ranges;
 use std::alloc::Global;
 
-/// All that some effects need, directly or through others, but for what is needed through known ones
-/// alone. Those asked for are whole transactions, and the known ones have all that they need.
+/// All that some effects need, directly or through others, except for what is needed through known effects
+/// only. The effects asked for are whole transactions, and the known ones have all that they need.
 ///
-/// It takes time in proportion to what it finds and what that sees, and to the way back from each to
-/// the effect before it in its session on its object. What sees ids that were all found, with all
-/// between them, takes no time for these.
+/// The time is in proportion to what is found and what that sees, and to the way back from each effect to
+/// the effect before it in its session on its object. If an effect sees only ids that were found, with all
+/// ids between them, these take no time.
 pub fn reach(alloc: Global, x: &Execution, asked: &IdSet, known: &Ranges) -> Result<IdSet, NoMemory>
     requires asked { AreWhole x.now asked.now }
     requires known { (a b : ℕ) → Has (ids_of known.now) a → Needs x.now a b → Has (ids_of known.now) b }
@@ -42,7 +42,7 @@ fn begin(alloc: Global, asked: &IdSet, known: &Ranges) -> Result<Walk, NoMemory>
     Ok(walk)
 }
 
-// What was found, and the same in the order in which it is visited.
+// What was found, and the same effects in the order in which they are visited.
 #[derive(Drop)]
 struct Walk {
     found: Ranges,
@@ -157,7 +157,7 @@ fn meet_one_by_one(known: &Ranges, walk: &mut Walk, ids: &[u32]) -> Result<(), N
     Ok(())
 }
 
-// Takes in an effect that isn't known and wasn't found before.
+// Adds an effect, unless it is known or was found before.
 fn meet(known: &Ranges, walk: &mut Walk, id: u32) -> Result<(), NoMemory>
     ensures { OnOk result (Meets (ids_of known.now) (id ∷ []) (ids_of walk.old.found) walk.old.due.items (ids_of walk.new.found) walk.new.due.items) }
 {

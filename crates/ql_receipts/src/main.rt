@@ -1,5 +1,5 @@
 // Receives 4,000 packages, each of which needs the one before it, in order or in reverse order, and
-// prints a digest of the answers. It is measured beside a plain program.
+// prints a digest of the answers. It is measured against a plain program.
 #![tactic(auto)]
 
 mod chain;
@@ -23,7 +23,7 @@ fn main(rt: HostRuntime) -> io::Result<()> {
     Ok(())
 }
 
-// The words of the command line, without the program's own name.
+// The arguments of the command line, without the program's own name.
 fn words<R: Env + AllocGlobal>(rt: &R) -> io::Result<Vec<String>> {
     let words = env::args(rt)?.skip(1).collect::<Vec<String>>(rt.alloc())?;
     Ok(words)

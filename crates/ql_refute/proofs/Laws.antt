@@ -7,7 +7,7 @@ use Rattle.std.specs.Option.{option_map}
 use Rattle.ql_cnf.specs.Satisfaction.{ClauseList}
 use Rattle.ql_cnf.specs.declared.lit.Lit.{Lit}
 use Rattle.ql_refute.specs.Partial.{Partial, nothing, with_true, with_all_false, reading}
-use Rattle.ql_refute.specs.Verdict.{numbered, hinted, after_reading, after_hint, hints_fault, in_range, line_fault, first_of_two, first_fault, has_empty, verdict, IsGood, AreGood}
+use Rattle.ql_refute.specs.Verdict.{numbered, hinted, after_reading, after_hint, hints_fault, variables_in_range, line_fault, first_of_two, first_fault, has_empty, verdict, IsGood, AreGood}
 use Rattle.ql_refute.specs.declared.marks.Reading.{Reading}
 use Rattle.ql_refute.specs.declared.marks.Reading.TheVariants.{AllFalse, Forces, Neither}
 use Rattle.ql_refute.specs.declared.refutation.Hint.{Hint}
@@ -88,10 +88,10 @@ names_more c d e more extra same (Earlier n) x h = step (numbered e n) refl h
     step None f g = absurd (cc)
     step (Some line) f g = rw (numbered-append e more n line f) g
 
-in_range-wider : (m n : ℕ) (c : List Lit) → m ≤ n → in_range m c ≡ true → in_range n c ≡ true
+in_range-wider : (m n : ℕ) (c : List Lit) → m ≤ n → variables_in_range m c ≡ true → variables_in_range n c ≡ true
 in_range-wider m n [] h e = refl
 in_range-wider m n (x ∷ xs) h e =
-    let both = split (nat_le 1 x.var && nat_le x.var m) (in_range m xs) e in
+    let both = split (nat_le 1 x.var && nat_le x.var m) (variables_in_range m xs) e in
     rw (wider x.var both.0, in_range-wider m n xs h both.1) refl
   where
     split : (a b : Bool) → (a && b) ≡ true → (a ≡ true) × (b ≡ true)
@@ -103,9 +103,9 @@ in_range-wider m n (x ∷ xs) h e =
 
 -- a good line stays good where variables, clauses and lines before it are added
 pub IsGood-more : (c d : ClauseList) (e more : List Line) (extra : List (List Lit)) (line : Line) → c.variables ≤ d.variables → d.clauses ≡ c.clauses ++ extra → IsGood c e line → IsGood d (e ++ more) line
-IsGood-more c d e more extra line wide same good = step (in_range c.variables line.clause) refl good
+IsGood-more c d e more extra line wide same good = step (variables_in_range c.variables line.clause) refl good
   where
-    step : (b : Bool) → in_range c.variables line.clause ≡ b → cond b (hints_fault c e (length e + 1) line.hints (with_all_false nothing line.clause)) (Some (BadVariable (length e + 1))) ≡ None → IsGood d (e ++ more) line
+    step : (b : Bool) → variables_in_range c.variables line.clause ≡ b → cond b (hints_fault c e (length e + 1) line.hints (with_all_false nothing line.clause)) (Some (BadVariable (length e + 1))) ≡ None → IsGood d (e ++ more) line
     step true f g = rw (in_range-wider c.variables d.variables line.clause wide f) (hints_fault-more c d e (e ++ more) (length e + 1) (length (e ++ more) + 1) line.hints (with_all_false nothing line.clause) (names_more c d e more extra same) g)
     step false f g = absurd (cc)
 

@@ -7,10 +7,10 @@ use Rattle.std.specs.Bool.{beq}
 use Rattle.std.specs.List.{list_all, filter}
 use Rattle.std.specs.Option.{option_map}
 use Rattle.ql_cnf.specs.Literals.{negated}
-use Rattle.ql_cnf.specs.Satisfaction.{ClauseList, value_of, literal_true, clause_true, all_true, IsUnsatisfiable}
+use Rattle.ql_cnf.specs.Satisfaction.{ClauseList, variable_value, literal_true, clause_true, all_true, IsUnsatisfiable}
 use Rattle.ql_cnf.specs.declared.lit.Lit.{Lit}
 use Rattle.ql_refute.specs.Partial.{Partial, nothing, with_true, with_all_false, is_value, is_open, reading_of, reading}
-use Rattle.ql_refute.specs.Verdict.{numbered, hinted, after_reading, after_hint, hints_fault, in_range, line_fault, first_of_two, first_fault, is_empty, has_empty, verdict, IsGood}
+use Rattle.ql_refute.specs.Verdict.{numbered, hinted, after_reading, after_hint, hints_fault, variables_in_range, line_fault, first_of_two, first_fault, is_empty, has_empty, verdict, IsGood}
 use Rattle.ql_refute.specs.declared.marks.Reading.{Reading}
 use Rattle.ql_refute.specs.declared.marks.Reading.TheVariants.{AllFalse, Forces, Neither}
 use Rattle.ql_refute.specs.declared.refutation.Hint.{Hint}
@@ -21,7 +21,7 @@ use Rattle.ql_refute.specs.declared.verdict.Verdict.TheVariants.{Accepted, NoEmp
 
 -- the assignment gives the variables the values of p, where p has one
 abbrev pub Agrees : List Bool → Partial → Type 0
-Agrees a p = (v : ℕ) (b : Bool) → p v ≡ Some b → value_of a v ≡ b
+Agrees a p = (v : ℕ) (b : Bool) → p v ≡ Some b → variable_value a v ≡ b
 
 -- each of the lines is true in the assignment
 abbrev pub lines_true : List Bool → List Line → Bool
@@ -47,10 +47,10 @@ beq_other true = refl
 beq_other false = refl
 
 -- one more value that the assignment has
-pub agrees_more : (a : List Bool) (p : Partial) (x : Lit) → value_of a x.var ≡ x.positive → Agrees a p → Agrees a (with_true p x)
+pub agrees_more : (a : List Bool) (p : Partial) (x : Lit) → variable_value a x.var ≡ x.positive → Agrees a p → Agrees a (with_true p x)
 agrees_more a p x h agrees v b e = step (v == x.var) refl e
   where
-    step : (t : Bool) → (v == x.var) ≡ t → cond t (Some x.positive) (p v) ≡ Some b → value_of a v ≡ b
+    step : (t : Bool) → (v == x.var) ≡ t → cond t (Some x.positive) (p v) ≡ Some b → variable_value a v ≡ b
     step true f g = let same : v ≡ x.var = is_same v x.var f in let sign : x.positive ≡ b = cc in rw same (h ∙ sign)
     step false f g = agrees v b g
 
@@ -58,7 +58,7 @@ pub agrees_false : (a : List Bool) (xs : List Lit) (p : Partial) → clause_true
 agrees_false a [] p h agrees = agrees
 agrees_false a (x ∷ xs) p h agrees =
     agrees_false a xs (with_true p (negated x)) (right (literal_true a x) (clause_true a xs) h)
-    (agrees_more a p (negated x) (beq_false (value_of a x.var) x.positive (left (literal_true a x) (clause_true a xs) h)) agrees)
+    (agrees_more a p (negated x) (beq_false (variable_value a x.var) x.positive (left (literal_true a x) (clause_true a xs) h)) agrees)
   where
     left : (b d : Bool) → (b || d) ≡ false → b ≡ false
     left true d e = e
@@ -103,7 +103,7 @@ reading_sound a k p next (x ∷ []) agrees h ih e = step (is_some (p x.var)) e
 
     step : (b : Bool) → after_reading k (cond b Neither (Forces x)) p next ≡ None → ⊥
     step true f = cc
-    step false f = ih (with_true p x) f (agrees_more a p x (beq_true (value_of a x.var) x.positive (alone (literal_true a x) h)) agrees)
+    step false f = ih (with_true p x) f (agrees_more a p x (beq_true (variable_value a x.var) x.positive (alone (literal_true a x) h)) agrees)
 reading_sound a k p next (x ∷ y ∷ ys) agrees h ih e = cc
 
 hint_sound : (a : List Bool) (k : ℕ) (p : Partial) (next : Partial → Option Verdict) (o : Option (List Lit)) → Agrees a p → IfSome o (λ d. clause_true a d ≡ true) → ((q : Partial) → next q ≡ None → Agrees a q → ⊥) → after_hint k o p next ≡ None → ⊥
@@ -145,7 +145,7 @@ hints_sound a c e k (x ∷ hs) p given earlier h agrees =
 
 -- a good line is true where the clauses and the lines before it are
 pub line_sound : (a : List Bool) (c : ClauseList) (e : List Line) (line : Line) → all_true a c.clauses ≡ true → lines_true a e ≡ true → IsGood c e line → clause_true a line.clause ≡ true
-line_sound a c e line given earlier h = ranged (in_range c.variables line.clause) h
+line_sound a c e line given earlier h = ranged (variables_in_range c.variables line.clause) h
   where
     contradiction : (b : Bool) → clause_true a line.clause ≡ b → hints_fault c e (length e + 1) line.hints (with_all_false nothing line.clause) ≡ None → clause_true a line.clause ≡ true
     contradiction true f g = f
@@ -193,7 +193,7 @@ hints_refuse c e k [] p = λ f. cc
 hints_refuse c e k (h ∷ hs) p = hint_refuses k (hinted c e h) p (λ q. hints_fault c e k hs q) (λ q. hints_refuse c e k hs q)
 
 line_refuses : (c : ClauseList) (e : List Line) (line : Line) → Refuses (line_fault c e line)
-line_refuses c e line = step (in_range c.variables line.clause)
+line_refuses c e line = step (variables_in_range c.variables line.clause)
   where
     step : (b : Bool) → Refuses (cond b (hints_fault c e (length e + 1) line.hints (with_all_false nothing line.clause)) (Some (BadVariable (length e + 1))))
     step true = hints_refuse c e (length e + 1) line.hints (with_all_false nothing line.clause)

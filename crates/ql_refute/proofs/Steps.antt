@@ -9,7 +9,7 @@ use Rattle.std.specs.List.{All, filter}
 use Rattle.ql_cnf.specs.Satisfaction.{ClauseList, AreInRange}
 use Rattle.ql_cnf.specs.declared.lit.Lit.{Lit}
 use Rattle.ql_refute.specs.Partial.{Partial, with_true, with_all_false, is_open, reading_of, reading}
-use Rattle.ql_refute.specs.Verdict.{hinted, hints_fault, in_range, line_fault, first_of_two, first_fault}
+use Rattle.ql_refute.specs.Verdict.{hinted, hints_fault, variables_in_range, line_fault, first_of_two, first_fault}
 use Rattle.ql_refute.specs.Marks.{has_variable, marked, IsClear, unmarked, OnlyMarks, hinted_literals, LinesInRange}
 use Rattle.ql_refute.specs.declared.marks.Reading.TheVariants.{Forces, Neither}
 use Rattle.ql_refute.specs.declared.refutation.Hint.{Hint}
@@ -40,7 +40,7 @@ forced_variable p d x h = forced_passes (λ y. has_variable d y.var ≡ true) p 
 pub hints_step : (c : ClauseList) (e : List Line) (n : ℕ) (hs : List Hint) (i : ℕ) (h : Hint) (p : Partial) (d : List Lit) (x : Lit) → i < length hs → Some d ≡ hinted c e (get_or hs i h) → reading p d ≡ Forces x → hints_fault c e n (drop i hs) p ≡ hints_fault c e n (drop (i + 1) hs) (with_true p x)
 hints_step c e n hs i h p d x l f g = rw (drop-cons hs i h l, add-one) (rw (← f, g) refl)
 
-pub in_range-true : (n : ℕ) (c : List Lit) → AreInRange n c → in_range n c ≡ true
+pub in_range-true : (n : ℕ) (c : List Lit) → AreInRange n c → variables_in_range n c ≡ true
 in_range-true n c h = list_all-from_AllPass (λ x. nat_le 1 x.var && nat_le x.var n) c (λ k d l. both (get_or c k d) (h k d l))
   where
     both : (x : Lit) → (1 ≤ x.var) × (x.var ≤ n) → (nat_le 1 x.var && nat_le x.var n) ≡ true

@@ -1,4 +1,4 @@
--- Partial assignments, and what a clause says under one.
+-- Partial assignments, and how a clause reads under one.
 use Rattle.std.specs.Prelude.{ℕ, Bool, false, not, ◌==◌, if◌then◌else◌, List, [], ◌∷◌, Option, None, Some, is_some}
 use Rattle.std.specs.Bool.{beq}
 use Rattle.std.specs.List.{filter}
@@ -33,7 +33,7 @@ is_value (Some a) b = beq a b
 abbrev pub is_open : Partial → Lit → Bool
 is_open p x = not (is_value (p x.var) (not x.positive))
 
--- what a clause says, by those of its literals that aren't false
+-- how a clause reads, by those of its literals that aren't false
 abbrev pub reading_of : Partial → List Lit → Reading
 reading_of p [] = AllFalse
 reading_of p (x ∷ []) = if is_some (p x.var) then Neither else Forces x

@@ -22,7 +22,7 @@ abbrev pub hinted : ClauseList → List Line → Hint → Option (List Lit)
 hinted c earlier (Given n) = numbered c.clauses n
 hinted c earlier (Earlier n) = option_map (λ line. line.clause) (numbered earlier n)
 
--- what a reading does: the line is done, or a literal is made true and the next hint is taken, or a refusal
+-- what a reading leads to: the line is done, or a literal is made true and the next hint is taken, or a refusal
 abbrev pub after_reading : ℕ → Reading → Partial → (Partial → Option Verdict) → Option Verdict
 after_reading k AllFalse p next = None
 after_reading k (Forces x) p next = next (with_true p x)
@@ -32,28 +32,28 @@ abbrev pub after_hint : ℕ → Option (List Lit) → Partial → (Partial → O
 after_hint k None p next = Some (BadHint k)
 after_hint k (Some d) p next = after_reading k (reading p d) p next
 
--- the refusal of line k for its hints, taken from the partial assignment p
+-- why the hints of line k are refused, if they are, starting from the partial assignment p
 abbrev pub hints_fault : ClauseList → List Line → ℕ → List Hint → Partial → Option Verdict
 hints_fault c earlier k [] p = Some (NoConflict k)
 hints_fault c earlier k (h ∷ hs) p = after_hint k (hinted c earlier h) p (λ q. hints_fault c earlier k hs q)
 
 -- the variables are 1 to n
-abbrev pub in_range : ℕ → List Lit → Bool
-in_range n c = list_all (λ x. nat_le 1 x.var && nat_le x.var n) c
+abbrev pub variables_in_range : ℕ → List Lit → Bool
+variables_in_range n c = list_all (λ x. nat_le 1 x.var && nat_le x.var n) c
 
--- the refusal of a line after these
+-- why a line is refused after these lines, if it is
 abbrev pub line_fault : ClauseList → List Line → Line → Option Verdict
 line_fault c earlier line =
-    if in_range c.variables line.clause
+    if variables_in_range c.variables line.clause
     then hints_fault c earlier (length earlier + 1) line.hints (with_all_false nothing line.clause)
     else Some (BadVariable (length earlier + 1))
 
--- the first of two that is there
+-- the first if there is one, or else the second
 abbrev pub first_of_two : Option Verdict → Option Verdict → Option Verdict
 first_of_two None w = w
 first_of_two (Some v) w = Some v
 
--- the refusal of the first line at fault, where these stand after the earlier ones
+-- why the first line at fault is refused, if one is; the earlier lines stand before these
 abbrev pub first_fault : ClauseList → List Line → List Line → Option Verdict
 first_fault c earlier [] = None
 first_fault c earlier (line ∷ lines) = first_of_two (line_fault c earlier line) (first_fault c (earlier ++ line ∷ []) lines)

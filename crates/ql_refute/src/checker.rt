@@ -16,14 +16,14 @@ use ql_cnf::{Clauses, Lit, are_in_range};
 /// literal that isn't false, which is made true (reverse unit propagation with hints, as in the
 /// LRAT format of Cruz-Filipe and others, "Efficient certified RAT verification", 2017).
 ///
-/// `marks` has a byte for each variable and one more, and no memory is taken. The cost is that of
+/// `marks` has one byte more than there are variables, and nothing is allocated. The time is that of
 /// reading the literals of the lines and of the clauses that they hint at, twice: a line's marks are
-/// undone by its own clauses and not by clearing the buffer.
+/// undone clause by clause, without clearing the whole buffer.
 pub fn check(c: &Clauses, r: &Refutation, marks: &mut [u8]) -> Verdict
     requires { c.now.variables < length marks.old }
     ensures verdict { result ≡ verdict c.now r.now.lines }
 
-    // What it is for: nobody who made the refutation is trusted.
+    // Soundness, whoever made the refutation.
     ensures unsatisfiable { result ≡ Verdict.Accepted → IsUnsatisfiable c.now }
 {
     judge(c, r.lines.items(), marks)
@@ -65,7 +65,7 @@ fn has_empty(lines: &[Line]) -> bool
     false
 }
 
-// The refusal of the line; where there is none the marks are clear again.
+// Why the line is refused, if it is; if it isn't, the marks are clear again.
 fn line_fault(c: &Clauses, earlier: &[Line], line: &Line, marks: &mut [u8]) -> Option<Verdict>
     requires room { c.now.variables < length marks.old }
     requires clear { IsClear marks.old }
@@ -86,7 +86,7 @@ fn line_fault(c: &Clauses, earlier: &[Line], line: &Line, marks: &mut [u8]) -> O
     fault
 }
 
-// Takes the hints in order from the marks.
+// Reads the hints in order, starting from the marks.
 fn hints_fault(c: &Clauses, earlier: &[Line], line: &Line, marks: &mut [u8]) -> Option<Verdict>
     requires room { c.now.variables < length marks.old }
     requires in_range { LinesInRange c.now.variables earlier.now }
@@ -108,7 +108,7 @@ fn hints_fault(c: &Clauses, earlier: &[Line], line: &Line, marks: &mut [u8]) -> 
     Some(Verdict::NoConflict(number))
 }
 
-/// The clause that the hint names, after these lines.
+/// The clause that the hint names; these lines are the earlier ones.
 pub fn hinted<'a>(c: &'a Clauses, earlier: &'a [Line], hint: Hint) -> Option<&'a [Lit]>
     requires { LinesInRange c.now.variables earlier.now }
     ensures clause { option_copied result ≡ hinted c.now earlier.now hint }

@@ -1,5 +1,5 @@
-// Refutations of clause lists, and a checker for them. Its one contract: a refutation that `check`
-// accepts shows that no assignment satisfies the clauses, whoever made it.
+// Refutations of clause lists, and a checker for them. The one contract: if `check` accepts a
+// refutation, no assignment satisfies the clauses, whoever made the refutation.
 #![tactic(auto)]
 
 mod checker;

@@ -1,4 +1,4 @@
-// A partial assignment in a buffer with one byte for each variable, and what clauses say under it.
+// A partial assignment in a buffer with one byte for each variable, and how clauses read under it.
 ghost use Rattle.std.specs.Prelude.{◌≡◌, ◌<◌, length, slice_set};
 ghost use Rattle.ql_refute.specs.Marks.{AllBelow, IsClear, OnlyMarks, mark_of, marked, unmarked, value_of_mark};
 ghost use Rattle.ql_refute.specs.Partial.{reading, with_all_false};
@@ -7,14 +7,14 @@ use ql_cnf::Lit;
 
 const UNSET: u8 = 0;
 
-/// What a clause says under a partial assignment.
+/// How a clause reads under a partial assignment.
 #[derive(Clone, Copy, PartialEq, Eq)]
 pub enum Reading {
     /// All its literals are false.
     AllFalse,
-    /// All its literals are false but this one, which is unset.
+    /// All its literals are false but this one, which has no value.
     Forces(Lit),
-    /// It has a true literal, or two that are unset.
+    /// It has a true literal, or at least two without a value.
     Neither,
 }
 
@@ -63,7 +63,7 @@ fn mark_of(value: bool) -> u8
     if value { 1 } else { 2 }
 }
 
-/// What the clause says under the marks. One true literal settles it, as do two that aren't false.
+/// How the clause reads under the marks. One true literal settles it, as do two that aren't false.
 pub fn read(clause: &[Lit], marks: &[u8]) -> Reading
     requires { AllBelow (length marks.now) clause.now }
     ensures { result ≡ reading (marked marks.now) clause.now }

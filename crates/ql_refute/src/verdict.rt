@@ -1,4 +1,4 @@
-/// What the checker says of a refutation. The number is that of the first line at fault, from 1.
+/// The checker's verdict on a refutation. The number is that of the first line at fault, from 1.
 #[derive(Clone, Copy, Debug, PartialEq, Eq)]
 pub enum Verdict {
     /// Each line follows from the clauses and the lines before it, and one is empty.
@@ -11,6 +11,6 @@ pub enum Verdict {
     NoConflict(u64),
     /// No line is the empty clause.
     NoEmpty,
-    /// The line's clause has a variable that the clauses don't.
+    /// The line's clause has a variable that isn't one of the clause list's.
     BadVariable(u64),
 }

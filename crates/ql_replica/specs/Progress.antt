@@ -7,12 +7,12 @@ use Rattle.ql_needs.specs.Needs.{Needs, IsNeeded, IsPackage}
 use Rattle.ql_holder.specs.Arrivals.{Applied, IsLeastMissing}
 use Rattle.ql_replica.specs.declared.waiting.Waiting.{Waiting}
 
--- what is applied so far of what was received after
+-- what is applied so far, when `after` has been received
 pub record AreKnown (x : List Effect) (after applied : List ℕ) : Type 0 where
   pub closed : (a : ℕ) → Has applied a → Applied x after a
   pub whole : (a b : ℕ) → Has applied a → Needs x a b → Has applied b
 
--- it is what was applied before, and a gain
+-- what is applied is what was applied before, and the gain
 abbrev pub IsMade : List ℕ → List ℕ → List ℕ → Type 0
 IsMade before applied gain = (a : ℕ) → has_id applied a ≡ (has_id before a || has_id gain a)
 
@@ -21,7 +21,7 @@ pub record Advances (applied gain more larger : List ℕ) : Type 0 where
   pub grows : (a : ℕ) → Has applied a → Has more a
   pub made : (before : List ℕ) → IsMade before applied gain → IsMade before more larger
 
--- a package is applied, or the least id is told that it needs and that wasn't received
+-- a package is applied, or the result is the least id that it needs and that hasn't been received
 abbrev pub IsWalked : List Effect → List ℕ → List ℕ → List ℕ → List ℕ → Option ℕ → Type 0
 IsWalked x after pack before applied None = (a : ℕ) → Has pack a → Has applied a
 IsWalked x after pack before applied (Some missing) = (applied ≡ before) × IsLeastMissing x after pack missing
@@ -36,16 +36,16 @@ abbrev pub is_applied : List ℕ → List ℕ → Bool
 is_applied applied [] = false
 is_applied applied (id ∷ pack) = has_id applied id
 
--- a slot once its package is applied, or watches an id
+-- a slot afterwards: empty if its package is applied, else with this watched id
 abbrev pub settled : List ℕ → ℕ → Option Waiting → Option Waiting
 settled applied watch None = None
 settled applied watch (Some w) = cond (is_applied applied w.pack) None (Some (record { pack = w.pack; watched = watch }))
 
--- a waiting package is applied, or watches an id that it needs and that wasn't received
+-- a waiting package is applied, or watches an id that it needs and that hasn't been received
 abbrev pub IsDecided : List Effect → List ℕ → List ℕ → ℕ → Waiting → Type 0
 IsDecided x after applied watch w = ((a : ℕ) → Has w.pack a → Has applied a) ⊎ (IsNeeded x w.pack watch × (has_id after watch ≡ false))
 
--- a waiting package needs what it watches, and that wasn't received before; it comes with `pack` or is still missing after
+-- a waiting package needs what it watches, and that is in `pack` or still hasn't been received
 pub record MayWatch (x : List Effect) (after pack : List ℕ) (w : Waiting) : Type 0 where
   pub whole : IsPackage x w.pack
   pub needed : IsNeeded x w.pack w.watched
@@ -56,7 +56,7 @@ abbrev pub AreDecided : List Effect → List ℕ → List ℕ → (ℕ → Optio
 AreDecided x after applied held watches =
     (key : ℕ) (w : Waiting) → key < length watches → held key ≡ Some w → IsDecided x after applied (slice_index watches key) w
 
--- each package up to a key watches an id that is still missing, where it watched one of those that came
+-- each package up to a key watches an id that is still missing, if it watched one of those that arrived
 abbrev pub AreMoved : List ℕ → ℕ → (ℕ → Option Waiting) → List ℕ → Type 0
 AreMoved pack missing held watches =
     (key : ℕ) (w : Waiting) → key < length watches → held key ≡ Some w → slice_index watches key ≡ cond (has_id pack w.watched) missing w.watched

@@ -9,7 +9,7 @@ use Rattle.ql_holder.specs.Arrivals.{Applied}
 use Rattle.ql_ranges.specs.declared.ranges.IdRange.{IdRange}
 use Rattle.ql_replica.specs.declared.waiting.Waiting.{Waiting}
 
--- what stands at a key
+-- the entry at a key
 abbrev pub held_by : List (Option Waiting) → ℕ → Option Waiting
 held_by slots key = slice_index_or slots key None
 
@@ -41,18 +41,18 @@ pub record FitsReplica (received applied : List ℕ) (held : ℕ → Option Wait
   pub watches : (key : ℕ) (w : Waiting) → held key ≡ Some w → Watches x received w
   pub waits : (e : ℕ) → Has received e → has_id applied e ≡ false → Waits held e
 
--- of a waiting package that was received no effect is applied, and what it watches wasn't received
+-- no effect of a waiting package is applied, and the id that it watches hasn't been received
 pub record IsHeld (received applied : List ℕ) (w : Waiting) : Type 0 where
   pub within : (a : ℕ) → Has w.pack a → Has received a
   pub apart : (a : ℕ) → Has w.pack a → has_id applied a ≡ false
   pub absent : has_id received w.watched ≡ false
 
--- what is kept whatever the execution
+-- what holds whatever the execution
 pub record KeepsWaiting (received applied : List ℕ) (held : ℕ → Option Waiting) : Type 0 where
   pub each : (key : ℕ) (w : Waiting) → held key ≡ Some w → IsHeld received applied w
   pub waits : (e : ℕ) → Has received e → has_id applied e ≡ false → Waits held e
 
--- the id that is watched for an effect: none where it wasn't received or is applied
+-- the id that is watched for an effect; none if the effect hasn't been received, or is applied
 abbrev pub IsWatch : List ℕ → List ℕ → ℕ → Option EffId → Type 0
 IsWatch received applied e None = (has_id received e ≡ false) ⊎ Has applied e
 IsWatch received applied e (Some watched) = Has received e × (has_id applied e ≡ false) × (has_id received watched.0 ≡ false)
@@ -62,7 +62,7 @@ abbrev pub IsWatchIn : (ℕ → Option Waiting) → ℕ → Option EffId → Typ
 IsWatchIn held e None = (key : ℕ) (w : Waiting) → held key ≡ Some w → has_id w.pack e ≡ false
 IsWatchIn held e (Some watched) = (key : ℕ) × (w : Waiting) × (held key ≡ Some w) × Has w.pack e × (w.watched ≡ watched.0)
 
--- each package of one stands in the other
+-- each package of one is in the other
 abbrev pub AreAmong : (ℕ → Option Waiting) → (ℕ → Option Waiting) → Type 0
 AreAmong held others = (key : ℕ) (w : Waiting) → held key ≡ Some w → (other : ℕ) × (others other ≡ Some w)
 
@@ -70,7 +70,7 @@ AreAmong held others = (key : ℕ) (w : Waiting) → held key ≡ Some w → (ot
 abbrev pub HoldSame : (ℕ → Option Waiting) → (ℕ → Option Waiting) → Type 0
 HoldSame held others = AreAmong held others × AreAmong others held
 
--- with one slot's package more
+-- with the package of one slot added
 pub record IsWithSlot (held : ℕ → Option Waiting) (slot : Option Waiting) (more : ℕ → Option Waiting) : Type 0 where
   pub keeps : AreAmong held more
   pub adds : (w : Waiting) → slot ≡ Some w → (other : ℕ) × (more other ≡ Some w)

@@ -17,7 +17,7 @@ use ql_ranges::Ranges;
 use slab::Slab;
 use std::alloc::Global;
 
-/// Receives a package: what a replica keeps is changed at the end, when no more memory is asked for.
+/// Receives a package. The replica is changed only at the end, when no more memory is needed.
 pub(crate) fn receive_in(
     alloc: Global,
     received: &mut Ranges,
@@ -59,7 +59,7 @@ pub(crate) fn receive_in(
     }
 }
 
-// Keeps a package that needs an id which wasn't received.
+// Keeps a package that needs an id that hasn't been received.
 fn wait(
     alloc: Global,
     applied: &Ranges,

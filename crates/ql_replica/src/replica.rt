@@ -17,7 +17,7 @@ use std::alloc::Global;
 use std::marker::Model;
 
 /// A holder that keeps what was received and what is applied as ranges, and for each waiting package
-/// an id that it needs and that wasn't received. A receipt walks the package that came and those that
+/// an id that it needs and that hasn't been received. A receipt walks the package that arrived and those that
 /// watched one of its ids.
 #[derive(Drop)]
 pub struct Replica {
@@ -47,9 +47,9 @@ impl Replica {
         &self.received
     }
 
-    /// The id that is watched for an effect which waits. It wasn't received, and in each execution
-    /// that the replica fits the effect needs it, directly or through others. There is none for an
-    /// effect that wasn't received or is applied.
+    /// The id that is watched for an effect that waits. It hasn't been received, and in each execution
+    /// that the replica fits, the effect needs it, directly or through others. None for an effect that
+    /// hasn't been received, or is applied.
     pub fn watch_of(&self, e: EffId) -> Option<EffId>
         ensures watch { IsWatch (ids_of self.now.received) (ids_of self.now.applied) e.0 result }
         ensures needed { IfSome result (λ watched. (x : List Effect) → FitsReplica (ids_of self.now.received) (ids_of self.now.applied) (held_by self.now.slots) x → Reaches (Needs x) e.0 watched.0) }
@@ -111,7 +111,7 @@ impl Holder for Replica {
     ghost fits_more = { λ r x more law fits alone. fits-more (ids_of r.received) (ids_of r.applied) (held_by r.slots) x more law fits alone };
 }
 
-// The id that is watched by the waiting package that has the effect.
+// The id that is watched by the waiting package with this effect.
 fn watch_in(waiting: &Slab<Waiting>, e: u32) -> Option<EffId>
     ensures { IsWatchIn (get waiting.now) e result }
 {

@@ -11,7 +11,7 @@ use ql_ranges::Ranges;
 use slab::Slab;
 use std::alloc::Global;
 
-/// Lets go each package that is applied, and has each other one watch the id of its key.
+/// Removes each waiting package that is applied, and makes each other one watch the id at its key.
 pub(crate) fn settle(waiting: &mut Slab<Waiting>, applied: &Ranges, watches: &Vec<u32>)
     requires { length waiting.old.slots ≤ length watches.now.items }
     ensures slots { (key : ℕ) → get waiting.new key ≡ settled (ids_of applied.now) (slice_index watches.now.items key) (get waiting.old key) }
@@ -47,8 +47,8 @@ fn is_applied(pack: &IdSet, applied: &Ranges) -> bool
     }
 }
 
-/// For each slot the id that its package watches from now on: `missing` where it watched an id of
-/// the package that came, and else the same.
+/// For each slot, the id that its package watches from now on: `missing` if it watched an id of
+/// the package that arrived, else the same as before.
 pub(crate) fn moved_watches(
     alloc: Global,
     waiting: &Slab<Waiting>,

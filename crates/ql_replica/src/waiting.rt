@@ -4,6 +4,6 @@ use ql_base::IdSet;
 #[derive(Drop)]
 pub(crate) struct Waiting {
     pub(crate) pack: IdSet,
-    /// An id that the package needs, directly or through other effects, and that wasn't received.
+    /// An id that the package needs, directly or through other effects, and that hasn't been received.
     pub(crate) watched: u32,
 }

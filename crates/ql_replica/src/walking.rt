@@ -22,7 +22,7 @@ pub(crate) struct Progress {
     pub(crate) gain: IdSet,
 }
 
-/// Applies a package together with all that it needs, or tells the least id that it needs and that
+/// Applies a package together with all that it needs, or returns the least id that it needs and that
 /// isn't in `after`, what was received.
 pub(crate) fn walk(
     alloc: Global,
@@ -57,8 +57,8 @@ fn add(progress: &mut Progress, found: &IdSet) -> Result<(), NoMemory>
     Ok(())
 }
 
-/// For each slot the id that its package watches from now on, where it isn't applied. The packages
-/// that watched one of the ids of `pack` are walked, and no others.
+/// For each slot, the id that its package watches from now on, if it isn't applied. Only the packages that
+/// watched one of the ids of `pack` are walked.
 pub(crate) fn walk_waiting(
     alloc: Global,
     x: &Execution,
@@ -126,7 +126,7 @@ fn walk_held(
     }
 }
 
-// The first id that the set lacks.
+// The first of the ids that the set lacks.
 fn first_outside(ids: &[u32], set: &Ranges) -> Option<u32>
     requires { IsAscending ids.now }
     ensures { IsFirstOutside ids.now (ids_of set.now) result }
@@ -139,7 +139,7 @@ fn first_outside(ids: &[u32], set: &Ranges) -> Option<u32>
     None
 }
 
-/// The ids that the set lacks.
+/// Those of the ids that the set lacks.
 pub(crate) fn without(alloc: Global, ids: &[u32], set: &Ranges) -> Result<IdSet, NoMemory>
     ensures lacks { IfOk result (λ rest. (a : ℕ) → has_id rest a ≡ (has_id ids.now a && not (has_id (ids_of set.now) a))) }
     ensures ascending { IfOk result IsAscending }

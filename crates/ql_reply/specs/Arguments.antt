@@ -12,6 +12,6 @@ word_texts words = map string_bytes words.items
 abbrev pub IsFileName : List ℕ → Type 0
 IsFileName word = (1 ≤ length word) × (length word ≤ 255) × (slice_index word 0 ≢ 45)
 
--- whether it does so
+-- the same as a test
 abbrev pub is_file_name : List ℕ → Bool
 is_file_name word = nat_le 1 (length word) && nat_le (length word) 255 && not (slice_index word 0 == 45)

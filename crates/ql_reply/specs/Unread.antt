@@ -5,7 +5,7 @@ use Rattle.ql_ports.specs.declared.whole.ReadError.TheVariants.{Failed, TooLong}
 use Rattle.ql_reply.specs.declared.status.Status.{Status}
 use Rattle.ql_reply.specs.declared.status.Status.TheVariants.{ReadFault, TooLarge}
 
--- the answer where a file of this name couldn't be read whole
+-- the reply if the file with this name couldn't be read whole
 abbrev pub IsUnread : ReadError → List ℕ → Status → List ℕ → Type 0
 IsUnread Failed name ReadFault text = text ≡ codes "read fault " ++ name ++ codes "\n"
 IsUnread TooLong name TooLarge text = text ≡ codes "too large " ++ name ++ codes "\n"

@@ -4,13 +4,13 @@ ghost use Rattle.ql_reply.specs.Arguments.{IsFileName, is_file_name};
 use std::env::Env;
 use std::{env, io};
 
-/// The exit status of a program that ran out of memory, which is no top call's answer.
+/// The exit status of a program that ran out of memory. No `Status` has this number.
 pub const NO_MEMORY: u8 = 6;
 
-// That of a program whose arguments the system doesn't give, as where one isn't UTF-8.
+// The exit status of a program whose arguments can't be read, for example because one isn't UTF-8.
 const NO_ARGUMENTS: u8 = 8;
 
-/// The arguments of the command line, without the program's own name; or the exit status of a program that can't have them.
+/// The arguments of the command line, without the program's own name; or the exit status if they can't be read.
 pub fn arguments<R: Env + AllocGlobal>(rt: &R) -> Result<Vec<String>, u8>
     ensures { IfErr result (λ number. (number ≡ 6) ⊎ (number ≡ 8)) }
 {

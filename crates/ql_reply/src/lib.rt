@@ -1,6 +1,5 @@
-// What a program is asked by and answers with: the arguments of its command line, a status, and one text.
-// The one contract: the line of a bad file names its part, the place and the rule; that of a file which couldn't be read
-// names the file.
+// The arguments of a program's command line, and its reply: a status and one text. The one contract: the line of a bad
+// file names its part, the offset or line, and the rule; that of a file which couldn't be read names the file.
 #![tactic(auto)]
 
 mod args;

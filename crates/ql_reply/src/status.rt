@@ -5,11 +5,11 @@ pub enum Status {
     Done = 0,
     /// The question was answered with no.
     No = 1,
-    /// A file isn't in its grammar.
+    /// A file breaks a rule of its format.
     Bad = 2,
-    /// The shelf failed.
+    /// A file couldn't be read.
     ReadFault = 3,
-    /// The sink failed. A prefix of the text may have been written.
+    /// The text couldn't be written. A prefix of it may have been.
     WriteFault = 4,
     /// The arguments aren't those of a command.
     Usage = 5,
@@ -21,7 +21,7 @@ impl Status {
     ghost use Rattle.std.specs.Prelude.{◌≡◌};
     ghost use Rattle.ql_reply.specs.Statuses.{exit_number};
 
-    /// The exit status of a process that ends so. The number 6 is for running out of memory.
+    /// The exit status of a process that ends so. The number 6 means out of memory.
     pub fn number(self) -> u8
         ensures { result ≡ exit_number self }
     {

@@ -6,7 +6,7 @@ use ql_base::{NoMemory, push_bytes};
 use ql_ports::ReadError;
 use std::alloc::Global;
 
-/// The answer where a file of this name couldn't be read whole.
+/// The reply if the file with this name couldn't be read whole.
 pub fn unread(alloc: Global, error: ReadError, name: &str) -> Result<(Status, Vec<u8>), NoMemory>
     ensures { IfOk result (λ answer. IsUnread error name.now answer.0 answer.1.items) }
 {

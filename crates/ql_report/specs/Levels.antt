@@ -1,4 +1,4 @@
--- The lines that tell the levels of a program's operations and declared transactions.
+-- The lines that report the levels of a program's operations and declared transactions.
 use Rattle.std.specs.Prelude.{ℕ, List, [], ◌++◌, length, slice_get, codes}
 use Rattle.std.specs.Option.{option_map_or}
 use Rattle.ql_base.specs.Ranges.{upto}
@@ -6,13 +6,7 @@ use Rattle.ql_lang.specs.declared.program.Program.{Program}
 use Rattle.ql_levels.specs.Lists.{LevelLists}
 use Rattle.ql_levels.specs.Words.{word_of, txn_word_of}
 use Rattle.ql_typing.specs.Operations.{all_ops}
-
--- the name of the operation and of the declared transaction of a number
-abbrev pub op_name : Program → ℕ → List ℕ
-op_name p o = option_map_or (λ op. op.name.word) (slice_get (all_ops p.types) o) []
-
-abbrev pub txn_name : Program → ℕ → List ℕ
-txn_name p d = option_map_or (λ txn. txn.name.word) (slice_get p.txns d) []
+use Rattle.ql_typing.specs.Names.{op_name, txn_name}
 
 -- op F LEVEL
 abbrev pub op_line : Program → LevelLists → ℕ → List ℕ

@@ -1,10 +1,10 @@
--- The texts that tell why a program has no levels.
+-- The texts that report why a program has no levels.
 use Rattle.std.specs.Prelude.{ℕ, suc, Bool, List, [], ◌++◌, length, slice_get, codes}
 use Rattle.std.specs.Option.{option_map_or}
 use Rattle.ql_lang.specs.declared.contract.Var.{Var}
 use Rattle.ql_lang.specs.declared.program.Program.{Program}
 use Rattle.ql_typing.specs.Operations.{all_ops}
-use Rattle.ql_report.specs.Levels.{op_name, txn_name}
+use Rattle.ql_typing.specs.Names.{op_name, txn_name}
 use Rattle.ql_report.specs.Atoms.{Told, atoms_line}
 
 -- the variables of a contract
@@ -31,7 +31,7 @@ txn_told p d values = record {
   values = values;
 }
 
--- no level is enough for the operation, or for the transaction: the assignment shows it
+-- no level is enough for the operation, or for the transaction, as the assignment shows
 abbrev pub none_op_text : Program → ℕ → List Bool → List ℕ
 none_op_text p o values = codes "none op " ++ op_name p o ++ codes "\n" ++ atoms_line (op_told p o values)
 

@@ -1,4 +1,4 @@
--- What is told of an assignment, as data.
+-- What is reported of an assignment, as data.
 use Rattle.ql_atoms.specs.Atoms.{size_of}
 use Rattle.ql_report.specs.Atoms.{Told}
 use Rattle.ql_report.specs.declared.atoms.Telling.{Telling}

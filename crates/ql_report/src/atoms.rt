@@ -1,8 +1,8 @@
 // The true atoms of an assignment.
 ghost use Rattle.std.specs.Prelude.{◌≡◌, ◌<◌, ◌++◌, false, length, slice_get, unwrap_or, OnOk};
-ghost use Rattle.ql_atoms.specs.Atoms.{Fits, place_of, size_of};
+ghost use Rattle.ql_atoms.specs.Atoms.{Fits, atom_place, size_of};
 ghost use Rattle.ql_typing.specs.Operations.{all_ops};
-ghost use Rattle.ql_report.specs.Atoms.{atom_text, atoms_line, constant_word, currents_text, kind_word, operation_text, operations_text, relation_text, relations_text, row_text, told_atom};
+ghost use Rattle.ql_report.specs.Atoms.{atom_text, atoms_line, constant_word, currents_text, pair_kind_word, operation_text, operations_text, relation_text, relations_text, row_text, told_atom};
 ghost use Rattle.ql_report.specs.Telling.{told_of};
 
 use crate::levels::op_name;
@@ -20,7 +20,7 @@ pub(crate) struct Telling<'a> {
     pub(crate) values: &'a [bool],
 }
 
-/// Appends the line of the true atoms.
+/// Appends the line that lists the true atoms.
 pub(crate) fn push_atoms(out: &mut Vec<u8>, told: &Telling) -> Result<(), NoMemory>
     requires { told.now.shape.operations ≡ length (all_ops told.now.typed.now.program.types) }
     ensures { OnOk result (out.new.items ≡ out.old.items ++ atoms_line (told_of told.now)) }
@@ -100,7 +100,7 @@ fn push_operation(out: &mut Vec<u8>, told: &Telling, o: OpId) -> Result<(), NoMe
     Ok(())
 }
 
-// Appends an atom after a space, where it is true.
+// Appends an atom after a space, if it is true.
 fn push_if_true(out: &mut Vec<u8>, told: &Telling, atom: Atom) -> Result<(), NoMemory>
     requires operations { told.now.shape.operations ≡ length (all_ops told.now.typed.now.program.types) }
     requires atom { Fits (size_of told.now.shape) atom }
@@ -113,10 +113,10 @@ fn push_if_true(out: &mut Vec<u8>, told: &Telling, atom: Atom) -> Result<(), NoM
     push_atom(out, told, atom)
 }
 
-// Whether an atom is true; one that has no value isn't.
+// Whether an atom is true; an atom without a value isn't.
 fn is_true(values: &[bool], atom: Atom, shape: Shape) -> bool
     requires { Fits (size_of shape) atom }
-    ensures { result ≡ unwrap_or (slice_get values.now (place_of (size_of shape) atom)) false }
+    ensures { result ≡ unwrap_or (slice_get values.now (atom_place (size_of shape) atom)) false }
 {
     match values.get(number(atom, shape) as usize - 1) {
         Some(value) => *value,
@@ -152,7 +152,7 @@ fn push_atom(out: &mut Vec<u8>, told: &Telling, atom: Atom) -> Result<(), NoMemo
 }
 
 fn relation_word(kind: PairKind) -> &'static [u8]
-    ensures { result.now ≡ kind_word kind }
+    ensures { result.now ≡ pair_kind_word kind }
 {
     match kind {
         PairKind::Eq => b"eq",

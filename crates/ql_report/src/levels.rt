@@ -1,7 +1,8 @@
 ghost use Rattle.std.specs.Prelude.{◌≡◌, ◌<◌, ◌++◌, length, IfOk, OnOk};
 ghost use Rattle.ql_base.specs.Ranges.{upto};
 ghost use Rattle.ql_typing.specs.Operations.{all_ops};
-ghost use Rattle.ql_report.specs.Levels.{levels_text, op_line, op_name, txn_line, txn_name};
+ghost use Rattle.ql_typing.specs.Names.{op_name, txn_name};
+ghost use Rattle.ql_report.specs.Levels.{levels_text, op_line, txn_line};
 
 use ql_base::{DeclId, NoMemory, OpId, push_bytes};
 use ql_levels::{Levels, level_word, txn_word};

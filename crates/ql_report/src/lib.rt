@@ -1,5 +1,5 @@
-// Texts of reports: the levels of a program's operations and transactions, and why a program has none.
-// The one contract: each text that is made is the written one.
+// Texts of reports: the levels of a program's operations and transactions, or why a program has none.
+// The one contract: each text is the specified one.
 #![tactic(auto)]
 
 mod atoms;

@@ -12,7 +12,7 @@ use ql_cnf::Assignment;
 use ql_typing::Typed;
 use std::alloc::Global;
 
-/// Tells that no level is enough for an operation's contract, with the true atoms of an assignment.
+/// Reports that no level is enough for an operation's contract, with the true atoms of an assignment.
 pub fn print_none_op(
     alloc: Global,
     t: &Typed,
@@ -46,7 +46,7 @@ fn op_telling<'a>(t: &'a Typed, o: OpId, assignment: &'a Assignment) -> Telling<
     }
 }
 
-/// Tells the same of a declared transaction's contract.
+/// Reports that no level is enough for a declared transaction's contract, with the true atoms of an assignment.
 pub fn print_none_txn(
     alloc: Global,
     t: &Typed,
@@ -80,7 +80,7 @@ fn txn_telling<'a>(t: &'a Typed, d: DeclId, assignment: &'a Assignment) -> Telli
     }
 }
 
-/// Tells that a declared transaction uses a strong operation.
+/// Reports that a declared transaction uses a strong operation.
 pub fn print_strong_use(alloc: Global, t: &Typed, d: DeclId, o: OpId) -> Result<Vec<u8>, NoMemory>
     requires txn { d.0 < length t.now.program.txns }
     requires op { o.0 < length (all_ops t.now.program.types) }

@@ -1,4 +1,4 @@
-// Prints the sources of files in their one spelling. With `--check` as its first word it only tells of each file
+// Prints the sources of files in their one spelling. With `--check` as its first argument it only reports for each file
 // whether it is a source.
 #![tactic(auto)]
 
@@ -9,15 +9,15 @@ use std::alloc::Global;
 use std::env::Env;
 use std::{env, fs, io, str};
 
-// How long a source may be.
+// The most bytes of a source.
 const MOST_BYTES: usize = 1 << 20;
 
 fn main(rt: HostRuntime) -> io::Result<()> {
     let words = words(&rt)?;
     let check = words.first().is_some_and(|word| word.as_str() == "--check");
     for path in words.iter().skip(check as usize) {
-        let text = fs::read_to_string(&rt, path)?;
-        match said(rt.alloc(), text.as_str(), check) {
+        let text = fs::read(&rt, path)?;
+        match said(rt.alloc(), text.as_slice(), check) {
             Ok(said) => match str::from_utf8(said.as_slice()) {
                 Ok(said) => print!(rt; "{said}")?,
                 Err(_) => println!(rt; "{path}: no text")?,
@@ -28,18 +28,18 @@ fn main(rt: HostRuntime) -> io::Result<()> {
     Ok(())
 }
 
-// The words of the command line, without the program's own name.
+// The arguments of the command line, without the program's own name.
 fn words<R: Env + AllocGlobal>(rt: &R) -> io::Result<Vec<String>> {
     let words = env::args(rt)?.skip(1).collect::<Vec<String>>(rt.alloc())?;
     Ok(words)
 }
 
-// What is said of a text: the source in its one spelling, or whether it is one.
-fn said(alloc: Global, text: &str, check: bool) -> Result<Vec<u8>, NoMemory> {
+// What is printed for a text: the source in its one spelling, or whether it is one.
+fn said(alloc: Global, text: &[u8], check: bool) -> Result<Vec<u8>, NoMemory> {
     if text.len() > MOST_BYTES {
         return line(alloc, b"too long\n");
     }
-    match parse_program(alloc, text.as_bytes()) {
+    match parse_program(alloc, text) {
         Ok(_) if check => line(alloc, b"a source\n"),
         Ok(program) => print_program(alloc, &program),
         Err(ParseFault::NoMemory) => Err(NoMemory),

@@ -1,5 +1,5 @@
 // Prints schedules for the program of a source in their one spelling: the source is the first argument, and the
-// schedules follow it. It is measured beside a plain program.
+// schedules follow it. It is measured against a plain program.
 #![tactic(auto)]
 
 use ql_base::NoMemory;
@@ -11,7 +11,7 @@ use std::env::Env;
 use std::io::Write;
 use std::{env, fs, io};
 
-// How long a file may be.
+// The most bytes of a file.
 const MOST_BYTES: usize = 1 << 20;
 
 fn main(rt: HostRuntime) -> io::Result<()> {
@@ -36,7 +36,7 @@ fn arguments<R: Env + AllocGlobal>(rt: &R) -> io::Result<Vec<String>> {
     Ok(arguments)
 }
 
-// The program of a source; none where the text isn't one, or memory is out.
+// The program of a source; none where the text isn't one, or if out of memory.
 fn typed_of(alloc: Global, text: &[u8]) -> Option<Typed> {
     if text.len() > MOST_BYTES {
         return None;
@@ -51,7 +51,7 @@ fn typed_of(alloc: Global, text: &[u8]) -> Option<Typed> {
     }
 }
 
-// What is said of a text: the schedule in its one spelling, or that it is none.
+// What is printed for a text: the schedule in its one spelling, or that it isn't a schedule.
 fn said(alloc: Global, typed: &Typed, text: &[u8]) -> Result<Vec<u8>, NoMemory> {
     if text.len() > MOST_BYTES {
         return line(alloc, b"too long\n");

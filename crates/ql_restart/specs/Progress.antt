@@ -29,7 +29,7 @@ AreOfFirst x packages [] = Unit {0}
 AreOfFirst x [] (ids ∷ records) = ⊥
 AreOfFirst x (first ∷ packages) (ids ∷ records) = ((a : ℕ) → has_id ids a ≡ sametxn x first a) × AreOfFirst x packages records
 
--- A file has the first packages, as many as so many calls of the disk are enough for.
+-- A file has the first packages, as many as this number of calls of the disk is enough for.
 pub record IsJournal (x : List Effect) (packages : List ℕ) (calls : ℕ) (file : List ℕ) : Type 0 where
   pub records : List (List ℕ)
   pub has : HasRecords records file

@@ -1,11 +1,10 @@
 -- What `restart` says of a source, a schedule, a replica and the number of a call.
 use Rattle.std.specs.Prelude.{◌≡◌, ◌⊎◌, ℕ, ◌<◌, ◌≤◌, List, [], ◌∷◌, ◌++◌, codes, decimal, map}
 use Rattle.ql_classify.specs.Outcome.{IsAccepted}
-use Rattle.ql_commands.specs.declared.answer.Answer.{Answer}
-use Rattle.ql_commands.specs.declared.answer.Answer.TheVariants.{Done, No, Bad}
+use Rattle.ql_reply.specs.declared.status.Status.{Status}
+use Rattle.ql_reply.specs.declared.status.Status.TheVariants.{Done, No}
 use Rattle.ql_classify.specs.Least.{AreLevelsOf}
-use Rattle.ql_commands.specs.Levels.{RefusalSays}
-use Rattle.ql_commands.specs.Sources.{BadSourceSays, IsSourceOf}
+use Rattle.ql_commands.specs.Sources.{IsSourceOf}
 use Rattle.ql_headline.specs.Stores.{rules_of}
 use Rattle.ql_lang.specs.declared.program.Program.{Program}
 use Rattle.ql_levels.specs.Lists.{LevelLists}
@@ -15,7 +14,7 @@ use Rattle.ql_machine.specs.Runs.{replicas_behind}
 use Rattle.ql_machine.specs.Sets.{AreThose}
 use Rattle.ql_machine.specs.State.{Machine, NeedsNow}
 use Rattle.ql_needs.specs.Closed.{Closed, Has}
-use Rattle.ql_running.specs.Runs.{BadScheduleSays}
+use Rattle.ql_running.specs.Runs.{NoRunSays}
 use Rattle.ql_schedule.specs.declared.schedule.Schedule.{Schedule}
 use Rattle.ql_schedule.specs.Files.{IsScheduleFile}
 use Rattle.ql_watched.specs.Watching.{Watches}
@@ -57,9 +56,7 @@ pub record TellsNoReplica (source file : List ℕ) (replica : ℕ) (text : List 
   pub is_none : replicas_behind schedule.replicas schedule.events ≤ replica
   pub printed : text ≡ codes "no replica " ++ decimal replica ++ codes "\n"
 
-abbrev pub RestartSays : List ℕ → List ℕ → ℕ → ℕ → Answer → List ℕ → Type 0
+abbrev pub RestartSays : List ℕ → List ℕ → ℕ → ℕ → Status → List ℕ → Type 0
 RestartSays source file replica cut Done text = TellsRestart source file replica cut text
-RestartSays source file replica cut No text =
-    ((p : Program) × IsSourceOf source p × (s : Schedule) × IsScheduleFile p (ahead_from 1 file) s × RefusalSays p text)
-    ⊎ TellsNoReplica source file replica text
-RestartSays source file replica cut Bad text = BadSourceSays source text ⊎ BadScheduleSays source file text
+RestartSays source file replica cut No text = NoRunSays source file No text ⊎ TellsNoReplica source file replica text
+RestartSays source file replica cut status text = NoRunSays source file status text

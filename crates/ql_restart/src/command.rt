@@ -9,12 +9,9 @@ ghost use Rattle.ql_restart.specs.Restarts.{RestartSays, TellsRestart};
 
 use crate::recovered::print_recovered;
 use ql_base::{NoMemory, ReplicaId, push_bytes, push_number};
-use ql_commands::{Answer, bad_source, read_source, refusal};
-use ql_levels::Levels;
 use ql_replica::Replica;
-use ql_running::bad_schedule;
-use ql_schedule::{Schedule, one_schedule, parse_schedule};
-use ql_typing::Typed;
+use ql_reply::Status;
+use ql_running::{RunInput, read_run_input};
 use ql_watched::watched_run;
 use std::alloc::Global;
 
@@ -27,55 +24,41 @@ pub fn restart_run(
     schedule: &[u8],
     replica: u32,
     cut: u64,
-) -> Result<(Answer, Vec<u8>), NoMemory>
+) -> Result<(Status, Vec<u8>), NoMemory>
     requires { length source.now < 2 ^ 32 }
     ensures { IfOk result (λ answer. RestartSays source.now schedule.now replica cut answer.0 answer.1.items) }
 {
-    one_schedule();
-    let typed = match read_source(alloc, source) {
-        Ok(typed) => typed,
-        Err(fault) => return Ok((Answer::Bad, bad_source(alloc, fault)?)),
+    let input = match read_run_input(alloc, source, schedule)? {
+        Ok(input) => input,
+        Err(reply) => return Ok(reply),
     };
-    let schedule = match parse_schedule(alloc, &typed, schedule) {
-        Ok(schedule) => schedule,
-        Err(fault) => return Ok((Answer::Bad, bad_schedule(alloc, fault)?)),
-    };
-    let classified = match ql_classify::classify(alloc, &typed) {
-        Ok(classified) => classified,
-        Err(why) => return Ok((Answer::No, refusal(alloc, &typed, why)?)),
-    };
-    let replicas = schedule.last_replicas();
+    let replicas = input.schedule.last_replicas();
     if replica >= replicas {
-        return Ok((Answer::No, no_replica(alloc, replica)?));
+        return Ok((Status::No, no_replica(alloc, replica)?));
     }
-    let text = text_of(
-        alloc,
-        &typed,
-        classified.levels(),
-        schedule,
-        ReplicaId(replica),
-        cut,
-    )?;
-    Ok((Answer::Done, text))
+    let text = text_of(alloc, input, ReplicaId(replica), cut)?;
+    Ok((Status::Done, text))
 }
 
-// The text for a replica of a schedule at these levels.
+// The text for a replica.
 fn text_of(
     alloc: Global,
-    t: &Typed,
-    levels: &Levels,
-    schedule: Schedule,
+    input: RunInput,
     replica: ReplicaId,
     cut: u64,
 ) -> Result<Vec<u8>, NoMemory>
-    requires levels { AreLevelsOf t.now.program levels.now }
-    requires schedule { IsSchedule t.now.program schedule }
-    requires replica { replica.0 < replicas_behind schedule.replicas schedule.events }
-    ensures { IfOk result (λ text. (source file : List ℕ) → IsSourceOf source t.now.program → IsScheduleFile t.now.program (ahead_from 1 file) schedule
+    requires levels { AreLevelsOf input.typed.program input.levels }
+    requires schedule { IsSchedule input.typed.program input.schedule }
+    requires replica { replica.0 < replicas_behind input.schedule.replicas input.schedule.events }
+    ensures { IfOk result (λ text. (source file : List ℕ) → IsSourceOf source input.typed.program → IsScheduleFile input.typed.program (ahead_from 1 file) input.schedule
         → TellsRestart source file replica.0 cut text.items) }
 {
-    let same = levels.copy(alloc)?;
-    let run = watched_run::<Replica>(alloc, t, same, schedule, replica)?;
+    let RunInput {
+        typed,
+        levels,
+        schedule,
+    } = input;
+    let run = watched_run::<Replica>(alloc, &typed, levels, schedule, replica)?;
     print_recovered(alloc, &run.store, &run.arrivals, cut)
 }
 

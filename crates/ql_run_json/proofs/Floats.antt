@@ -24,17 +24,17 @@ use Rattle.serde_json.specs.Written.{has_float, items_have_float}
 use Rattle.ql_run_json.specs.JsonRuns.{effect_data, effects_from, levels_data, member_data, op_level, run_data, txn_level}
 use Rattle.ql_run_json.specs.Values.{entry_data, id_data, listed, payload_data, scalar_data, text_data, value_data}
 
-abbrev HasNone : Data → Type 0
+abbrev pub HasNone : Data → Type 0
 HasNone d = has_float d ≡ false
 
-abbrev HaveNone : List Data → Type 0
+abbrev pub HaveNone : List Data → Type 0
 HaveNone ds = items_have_float (items_of ds) ≡ false
 
-neither : (a b : Bool) → a ≡ false → b ≡ false → (a || b) ≡ false
+pub neither : (a b : Bool) → a ≡ false → b ≡ false → (a || b) ≡ false
 neither false b h k = k
 neither true b h k = h
 
-each_none : {X : Type 0} (f : X → Data) → ((x : X) → HasNone (f x)) → (xs : List X) → HaveNone (map f xs)
+pub each_none : {X : Type 0} (f : X → Data) → ((x : X) → HasNone (f x)) → (xs : List X) → HaveNone (map f xs)
 each_none f none [] = refl
 each_none f none (x ∷ xs) = neither (has_float (f x)) (items_have_float (items_of (map f xs))) (none x) (each_none f none xs)
 

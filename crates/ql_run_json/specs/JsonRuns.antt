@@ -1,4 +1,4 @@
--- The JSON form of a run: one object, whose keys stand in the order of their bytes.
+-- The JSON form of a run: one object, with its keys in the order of their bytes.
 use Rattle.std.specs.Prelude.{ℕ, ◌+◌, List, [], ◌∷◌, ◌++◌, codes, length, map, slice_get}
 use Rattle.std.specs.Option.{option_map_or}
 use Rattle.serde_json.specs.Data.{Data, null, object, no_members, member}
@@ -13,9 +13,9 @@ use Rattle.ql_exec.specs.declared.effect.Effect.{Effect}
 use Rattle.ql_exec.specs.declared.effect.Member.{Member}
 use Rattle.ql_exec.specs.declared.effect.Member.TheVariants.{Alone, Inside}
 use Rattle.ql_machine.specs.declared.reply.Reply.{Reply}
-use Rattle.ql_report.specs.Levels.{op_name, txn_name}
 use Rattle.ql_run_text.specs.EffectTexts.{object_name}
 use Rattle.ql_run_text.specs.ReplyTexts.{reply_fields}
+use Rattle.ql_typing.specs.Names.{op_name, txn_name}
 use Rattle.ql_run_json.specs.Values.{id_data, listed, payload_data, text_data, value_data}
 
 -- ---- levels, as ["op","deposit","eventual"]
@@ -31,7 +31,7 @@ module _ (p : Program) where
     abbrev pub txn_level : ℕ → Data
     txn_level d = level_data (codes "txn") (txn_name p d) (option_map_or txn_word_of (slice_get levels.txns d) [])
 
-    -- of each operation in order, and then of each declared transaction
+    -- for each operation in order, and then for each declared transaction
     abbrev pub levels_data : List Data
     levels_data = upto (length (all_ops p.types)) (λ o. op_level o ∷ []) ++ upto (length p.txns) (λ d. txn_level d ∷ [])
 

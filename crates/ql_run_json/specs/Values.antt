@@ -15,7 +15,7 @@ use Rattle.ql_exec.specs.declared.effect.Payload.TheVariants.{Nothing, Emitted}
 abbrev pub listed : List Data → Data
 listed ds = array (items_of ds)
 
--- a text, of which what isn't UTF-8 is replaced; ASCII is
+-- a text; what isn't UTF-8 is replaced, and ASCII always is UTF-8
 abbrev pub text_data : List ℕ → Data
 text_data bytes = string (utf8_lossy bytes)
 
@@ -27,7 +27,7 @@ scalar_data (scalar.Int z) = number (of_integer z)
 scalar_data (scalar.Bool b) = boolean b
 scalar_data (scalar.Text t) = text_data t
 
--- a key and what is held under it
+-- a key and its value
 abbrev pub entry_data : Scalar × Scalar → Data
 entry_data entry = listed (scalar_data entry.0 ∷ scalar_data entry.1 ∷ [])
 

@@ -1,8 +1,8 @@
 ghost use Rattle.std.specs.Prelude.{◌≡◌, IfOk, OnOk, codes, length, map};
-ghost use Rattle.ql_report.specs.Levels.{op_name};
 ghost use Rattle.ql_run_text.specs.EffectTexts.{AreNamed, IsDeclared, IsNamed, object_name};
 ghost use Rattle.serde_json.specs.Data.{put as with_member};
 ghost use Rattle.serde_json.specs.View.{members_view, view};
+ghost use Rattle.ql_typing.specs.Names.{op_name};
 ghost use Rattle.ql_run_json.specs.JsonRuns.{effect_data, effects_from, member_data};
 ghost use Rattle.ql_run_json.specs.Values.{id_data, listed, payload_data, text_data, value_data};
 
@@ -13,7 +13,7 @@ use ql_typing::Typed;
 use serde_json::{Map, Value as Json, put};
 use std::alloc::Global;
 
-/// The effects of an execution, in order, each an object; objects of the store have these names.
+/// The effects of an execution, in order, each a JSON object. The objects of the store have these names.
 pub fn effects(alloc: Global, t: &Typed, objects: &Names, x: &Execution) -> Result<Json, NoMemory>
     requires { AreNamed t.now.program (length objects.now) x.now }
     ensures { IfOk result (λ json. view json ≡ listed (effects_from t.now.program objects.now 1 x.now)) }
@@ -44,7 +44,7 @@ fn effect(
     Ok(Json::Object(members))
 }
 
-// What was called, and what it answered.
+// The call, and its answer.
 fn put_call(
     alloc: Global,
     members: &mut Map<String, Json>,
@@ -79,7 +79,7 @@ fn put_call(
     Ok(())
 }
 
-// What it carries, by whom it was called, and what it sees.
+// What an effect carries, its session, and what it sees.
 fn put_circumstances(
     alloc: Global,
     members: &mut Map<String, Json>,

@@ -1,6 +1,6 @@
 // The JSON form of runs.
-// The one contract: the text is that of the value which the program, the names of the objects, the levels, the replies and
-// the execution make, and it reads back as that value.
+// The one contract: the text is that of the value made of the program, the names of the objects, the levels, the
+// replies and the execution, and it reads back as that value.
 #![tactic(auto)]
 
 mod execution;

@@ -18,8 +18,8 @@ use ql_typing::Typed;
 use serde_json::{Map, Value as Json, put};
 use std::alloc::Global;
 
-/// A run in JSON, on one line: the levels of the program, the replies to the events in order, and the execution that they
-/// made, in which objects have these names. By `serde_json`'s grammar the text is read as the same value.
+/// A run in JSON, on one line: the levels of the program, the replies to the events in order, and the execution that
+/// they made, with these names for the objects. By `serde_json`'s grammar the text reads back as the same value.
 pub fn print_run_json(
     alloc: Global,
     t: &Typed,

@@ -1,5 +1,5 @@
-// Values, texts and ids as JSON: integers and Booleans as themselves, a text as a string, a unit as null, a set as the list
-// of its members, a map as that of its pairs.
+// Values, texts and ids as JSON: integers and Booleans as themselves, a text as a string, a unit as null, a set as the
+// list of its members, a map as that of its pairs.
 ghost use Rattle.std.specs.Prelude.{◌≡◌, ◌∷◌, [], IfOk, map};
 ghost use Rattle.serde_json.specs.View.{view};
 ghost use Rattle.ql_run_json.specs.Values.{
@@ -92,7 +92,7 @@ fn pairs(alloc: Global, entries: &[(Scalar, Scalar)]) -> Result<Json, NoMemory>
     Ok(Json::Array(list))
 }
 
-/// The list of two.
+/// The list of two elements.
 pub fn pair(first: Json, second: Json, alloc: Global) -> Result<Json, NoMemory>
     ensures { IfOk result (λ json. view json ≡ listed (view first ∷ view second ∷ [])) }
 {

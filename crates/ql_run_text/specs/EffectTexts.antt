@@ -6,6 +6,7 @@ use Rattle.ql_lang.specs.declared.program.Program.{Program}
 use Rattle.ql_lines.specs.Fields.{Fields}
 use Rattle.ql_lines.specs.Texts.{file_text}
 use Rattle.ql_typing.specs.Operations.{all_ops}
+use Rattle.ql_typing.specs.Names.{op_name, txn_name}
 use Rattle.ql_value.specs.declared.value.Value.{Value}
 use Rattle.ql_value.specs.ValueGrammar.{IsValue}
 use Rattle.ql_value.specs.Spelling.{separated, value_text}
@@ -14,10 +15,9 @@ use Rattle.ql_exec.specs.declared.effect.Member.{Member}
 use Rattle.ql_exec.specs.declared.effect.Member.TheVariants.{Alone, Inside}
 use Rattle.ql_exec.specs.declared.effect.Payload.{Payload}
 use Rattle.ql_exec.specs.declared.effect.Payload.TheVariants.{Nothing, Emitted}
-use Rattle.ql_report.specs.Levels.{op_name, txn_name}
 use Rattle.ql_run_text.specs.NumberedLines.{lines_from}
 
--- the name of the object of a number
+-- the name of the object with this number
 abbrev pub object_name : List (List ℕ) → ℕ → List ℕ
 object_name objects o = option_map_or (λ w. w) (slice_get objects o) []
 
@@ -25,12 +25,12 @@ object_name objects o = option_map_or (λ w. w) (slice_get objects o) []
 abbrev pub values_text : List Value → List ℕ
 values_text vs = codes "(" ++ separated (map value_text vs) ++ codes ")"
 
--- what an effect carries, and `-` for nothing
+-- what an effect carries, or `-` for nothing
 abbrev pub payload_text : Payload → List ℕ
 payload_text Nothing = codes "-"
 payload_text (Emitted vs) = values_text vs
 
--- a begun transaction with its declared name, and `-` for none
+-- a begun transaction with its declared name, or `-` for none
 abbrev pub member_text : Program → Member → List ℕ
 member_text p Alone = codes "-"
 member_text p (Inside run decl) = decimal run.0 ++ 58 ∷ txn_name p decl.0
@@ -43,7 +43,7 @@ effect_fields p objects id e =
     ∷ codes "session" ∷ decimal e.session.0 ∷ codes "txn" ∷ member_text p e.member ∷ codes "stamp" ∷ decimal e.stamp
     ∷ codes "vis" ∷ map decimal e.seen
 
--- the effects of an execution, which are numbered from 1
+-- the effects of an execution, numbered from 1
 abbrev pub effects_text : Program → List (List ℕ) → List Effect → List ℕ
 effects_text p objects x = file_text (lines_from (effect_fields p objects) 1 x)
 
@@ -51,7 +51,7 @@ effects_text p objects x = file_text (lines_from (effect_fields p objects) 1 x)
 abbrev pub execution_text : Program → List (List ℕ) → List Effect → List ℕ
 execution_text p objects x = codes "execution\n" ++ effects_text p objects x ++ codes "end\n"
 
--- ---- what can be printed: all numbers name something
+-- ---- what can be printed: every number has a name
 
 abbrev pub IsDeclared : Program → Member → Type 0
 IsDeclared p Alone = Unit {0}
@@ -71,7 +71,7 @@ abbrev pub CarriesValues : Payload → Type 0
 CarriesValues Nothing = Unit {0}
 CarriesValues (Emitted vs) = All IsValue vs
 
--- an effect was called with values, answered one, and carries values
+-- the arguments of an effect, its answer and what it carries are values
 pub record HasValues (e : Effect) : Type 0 where
   pub args : All IsValue e.args
   pub answer : IsValue e.answer

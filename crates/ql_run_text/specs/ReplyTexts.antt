@@ -1,4 +1,4 @@
--- How the reply to an event is written.
+-- The text of the reply to an event.
 use Rattle.std.specs.Prelude.{ℕ, ◌≤◌, List, [], ◌∷◌, All, codes, decimal, map, length}
 use Rattle.std.specs.Option.{option_map_or}
 use Rattle.ql_lines.specs.Fields.{Fields}
@@ -22,7 +22,7 @@ why_number Undeclared = 3
 why_number Unused = 4
 why_number Absent = 5
 
--- a reply, field by field; a call that is answered shows its effect's answer in the execution
+-- a reply, field by field; an answered call shows its effect's answer in the execution
 abbrev pub reply_fields : List Effect → Reply → Fields
 reply_fields x (reply.Ok e) = codes "ok" ∷ decimal e.0 ∷ answer_text x e.0 ∷ []
 reply_fields x reply.Begun = codes "begun" ∷ []
@@ -42,7 +42,7 @@ reply_fields x (reply.Joined r) = codes "joined" ∷ decimal r.0 ∷ []
 reply_fields x (reply.Sent m) = codes "sent" ∷ decimal m.0 ∷ []
 reply_fields x (reply.Refused why) = codes "refused" ∷ decimal (why_number why) ∷ []
 
--- ---- what can be written: a call that is answered made an effect of the execution
+-- ---- what can be written: an answered call made an effect of the execution
 
 abbrev pub IsAnswered : List Effect → Reply → Type 0
 IsAnswered x (reply.Ok e) = (1 ≤ e.0) × (e.0 ≤ length x)

@@ -12,11 +12,11 @@ use Rattle.ql_run_text.specs.NumberedLines.{lines_from}
 use Rattle.ql_run_text.specs.ReplyTexts.{reply_fields}
 
 -- the number of an event and its reply
-abbrev pub event_fields : List Effect → ℕ → Reply → Fields
-event_fields x n r = decimal n ∷ reply_fields x r
+abbrev pub numbered_reply_fields : List Effect → ℕ → Reply → Fields
+numbered_reply_fields x n r = decimal n ∷ reply_fields x r
 
 abbrev pub replies_text : List Effect → List Reply → List ℕ
-replies_text x replies = file_text (lines_from (event_fields x) 1 replies)
+replies_text x replies = file_text (lines_from (numbered_reply_fields x) 1 replies)
 
 abbrev pub run_text : Program → List (List ℕ) → LevelLists → List Reply → List Effect → List ℕ
 run_text p objects levels replies x =

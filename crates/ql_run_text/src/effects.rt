@@ -1,6 +1,6 @@
 ghost use Rattle.std.specs.Prelude.{◌≡◌, ◌≤◌, ◌<◌, ◌++◌, ◌∷◌, [], All, IfOk, OnOk, codes, decimal, length, map};
 ghost use Rattle.ql_lines.specs.Texts.{behind, joined};
-ghost use Rattle.ql_report.specs.Levels.{op_name};
+ghost use Rattle.ql_typing.specs.Names.{op_name};
 ghost use Rattle.ql_value.specs.Spelling.{value_text};
 ghost use Rattle.ql_value.specs.ValueGrammar.{IsValue};
 ghost use Rattle.ql_run_text.specs.EffectTexts.{
@@ -24,7 +24,8 @@ use ql_typing::Typed;
 use ql_value::{Value, Values, print_value};
 use std::alloc::Global;
 
-/// The lines of an execution's effects, in which objects have these names. The values that are printed are of the grammar.
+/// The lines of an execution's effects, with these names for the objects. The printed values are spelled by the
+/// grammar.
 pub fn print_effects(
     alloc: Global,
     t: &Typed,
@@ -109,7 +110,7 @@ fn push_call(out: &mut Vec<u8>, args: &Values, answer: &Value) -> Result<(), NoM
     print_value(out, answer)
 }
 
-// The session of an effect, its transaction and its stamp, and the word before what it saw.
+// The session of an effect, its transaction and its stamp, and the word before the ids of what it saw.
 fn push_session(out: &mut Vec<u8>, t: &Typed, effect: &Effect) -> Result<(), NoMemory>
     requires { IsDeclared t.now.program effect.now.member }
     ensures { OnOk result (out.new.items ≡ out.old.items

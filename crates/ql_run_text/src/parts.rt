@@ -8,7 +8,7 @@ use ql_base::{NoMemory, push_bytes, push_number};
 use ql_exec::Payload;
 use ql_value::{Value, Values, print_value};
 
-/// Appends a text and a number after it.
+/// Appends a text and then a number.
 pub(crate) fn push_decimal(out: &mut Vec<u8>, text: &[u8], number: u32) -> Result<(), NoMemory>
     ensures { OnOk result (out.new.items ≡ out.old.items ++ (text.now ++ decimal number)) }
 {
@@ -16,7 +16,7 @@ pub(crate) fn push_decimal(out: &mut Vec<u8>, text: &[u8], number: u32) -> Resul
     push_number(out, number)
 }
 
-/// Appends ids, each after a space. Out of memory, the text is as before.
+/// Appends ids, each after a space. If out of memory, the text is unchanged.
 pub fn push_ids(out: &mut Vec<u8>, ids: &[u32]) -> Result<(), NoMemory>
     ensures ok { OnOk result (out.new.items ≡ out.old.items ++ behind (map decimal ids.now)) }
     ensures err { OnErr result (out.new.items ≡ out.old.items) }
@@ -26,7 +26,7 @@ pub fn push_ids(out: &mut Vec<u8>, ids: &[u32]) -> Result<(), NoMemory>
     push_bytes(out, &text)
 }
 
-/// Appends ids, each after a space. Out of memory, some of them may stand after the text.
+/// Appends ids, each after a space. If out of memory, some of them may have been appended.
 pub(crate) fn push_each_id(out: &mut Vec<u8>, ids: &[u32]) -> Result<(), NoMemory>
     ensures { OnOk result (out.new.items ≡ out.old.items ++ behind (map decimal ids.now)) }
 {
@@ -47,7 +47,7 @@ pub(crate) fn push_payload(out: &mut Vec<u8>, payload: &Payload) -> Result<(), N
     }
 }
 
-/// Appends values in round brackets.
+/// Appends values in parentheses.
 pub(crate) fn push_values(out: &mut Vec<u8>, values: &Values) -> Result<(), NoMemory>
     ensures text { OnOk result (out.new.items ≡ out.old.items ++ values_text values.now) }
     ensures values { OnOk result (All IsValue values.now) }
@@ -60,7 +60,7 @@ pub(crate) fn push_values(out: &mut Vec<u8>, values: &Values) -> Result<(), NoMe
     push_bytes(out, b")")
 }
 
-// Values that follow a first one.
+// The values after the first one.
 fn push_followed(out: &mut Vec<u8>, values: &[Value]) -> Result<(), NoMemory>
     ensures text { OnOk result (out.new.items ≡ out.old.items ++ followed (map value_text values.now)) }
     ensures values { OnOk result (All IsValue values.now) }

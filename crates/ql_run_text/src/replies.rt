@@ -7,7 +7,7 @@ ghost use Rattle.ql_run_text.specs.ReplyTexts.{
   reply_fields,
   why_number,
 };
-ghost use Rattle.ql_run_text.specs.RunTexts.{event_fields, replies_text};
+ghost use Rattle.ql_run_text.specs.RunTexts.{numbered_reply_fields, replies_text};
 
 use crate::parts::{push_decimal, push_each_id};
 use ql_base::{EffId, NoMemory, push_bytes, push_number};
@@ -38,7 +38,7 @@ fn push_event(
     x: &Execution,
 ) -> Result<(), NoMemory>
     requires { IsAnswered x.now reply.now }
-    ensures { OnOk result (out.new.items ≡ out.old.items ++ (joined (event_fields x.now number reply.now) ++ 10 ∷ [])) }
+    ensures { OnOk result (out.new.items ≡ out.old.items ++ (joined (numbered_reply_fields x.now number reply.now) ++ 10 ∷ [])) }
 {
     push_number(out, number)?;
     push_bytes(out, b" ")?;
@@ -46,7 +46,7 @@ fn push_event(
     push_bytes(out, b"\n")
 }
 
-/// The text of a reply, in which a call that is answered shows what its effect in the execution answered.
+/// The text of a reply. An answered call shows the answer of its effect in the execution.
 pub fn print_reply(alloc: Global, reply: &Reply, x: &Execution) -> Result<Vec<u8>, NoMemory>
     requires { IsAnswered x.now reply.now }
     ensures { IfOk result (λ text. text.items ≡ joined (reply_fields x.now reply.now)) }
@@ -81,7 +81,7 @@ fn push_reply(out: &mut Vec<u8>, reply: &Reply, x: &Execution) -> Result<(), NoM
     }
 }
 
-// A call that is answered: its effect, and what that answered.
+// An answered call: its effect, and the answer of that.
 fn push_answer(out: &mut Vec<u8>, id: EffId, x: &Execution) -> Result<(), NoMemory>
     requires first { 1 ≤ id.0 }
     requires last { id.0 ≤ length x.now }
@@ -92,7 +92,7 @@ fn push_answer(out: &mut Vec<u8>, id: EffId, x: &Execution) -> Result<(), NoMemo
     print_value(out, &x.get(id).answer)
 }
 
-// A word and ids after it.
+// A word, and ids after it.
 fn push_listed(out: &mut Vec<u8>, word: &[u8], ids: &[u32]) -> Result<(), NoMemory>
     ensures { OnOk result (out.new.items ≡ out.old.items ++ joined (word.now ∷ map decimal ids.now)) }
 {

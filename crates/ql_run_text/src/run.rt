@@ -14,8 +14,8 @@ use ql_report::print_levels;
 use ql_typing::Typed;
 use std::alloc::Global;
 
-/// The text of a run: the levels of the program, the replies to the events in order, and the
-/// execution that they made, in which objects have these names. The values that are printed are of the grammar.
+/// The text of a run: the levels of the program, the replies to the events in order, and the execution that they made,
+/// with these names for the objects. The printed values are spelled by the grammar.
 pub fn print_run(
     alloc: Global,
     t: &Typed,

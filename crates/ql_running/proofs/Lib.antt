@@ -1,2 +1,2 @@
 mod OfRuns
-pub mod Saying
+mod Saying

@@ -1,7 +1,7 @@
 -- What `run` says of a source and a schedule.
 use Rattle.std.specs.Prelude.{◌≡◌, ◌⊎◌, ℕ, List, Some}
-use Rattle.ql_commands.specs.declared.answer.Answer.{Answer}
-use Rattle.ql_commands.specs.declared.answer.Answer.TheVariants.{Done, No, Bad}
+use Rattle.ql_reply.specs.declared.status.Status.{Status}
+use Rattle.ql_reply.specs.declared.status.Status.TheVariants.{Done, No, Bad}
 use Rattle.ql_classify.specs.Least.{AreLevelsOf}
 use Rattle.ql_commands.specs.Levels.{RefusalSays}
 use Rattle.ql_commands.specs.Sources.{BadSourceSays, IsSource, IsSourceOf}
@@ -52,7 +52,12 @@ BadScheduleSays source file text =
     (AreRunnable source file → ⊥) × (p : Program) × IsSourceOf source p
     × (f : SchedFault) × IsFirstFault p (ahead_from 1 file) f × (schedule_fault_text f ≡ Some text)
 
-abbrev pub RunSays : Format → List ℕ → List ℕ → Answer → List ℕ → Type 0
+-- what is said where there is no run: why the program has no levels, or what is wrong first with a file
+abbrev pub NoRunSays : List ℕ → List ℕ → Status → List ℕ → Type 0
+NoRunSays source file No text = (p : Program) × IsSourceOf source p × (s : Schedule) × IsScheduleFile p (ahead_from 1 file) s × RefusalSays p text
+NoRunSays source file Bad text = BadSourceSays source text ⊎ BadScheduleSays source file text
+NoRunSays source file _ text = ⊥
+
+abbrev pub RunSays : Format → List ℕ → List ℕ → Status → List ℕ → Type 0
 RunSays format source file Done text = TellsRun format source file text
-RunSays format source file No text = (p : Program) × IsSourceOf source p × (s : Schedule) × IsScheduleFile p (ahead_from 1 file) s × RefusalSays p text
-RunSays format source file Bad text = BadSourceSays source text ⊎ BadScheduleSays source file text
+RunSays format source file status text = NoRunSays source file status text

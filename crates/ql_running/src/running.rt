@@ -11,16 +11,15 @@ ghost use Rattle.ql_running.specs.Forms.{format_of};
 ghost use Rattle.ql_running.specs.Runs.{RunSays, TellsRun};
 
 use crate::form::Form;
-use crate::schedule_fault::bad_schedule;
+use crate::input::{RunInput, read_run_input};
 use crate::store_run::sound_run;
 use ql_base::{Names, NoMemory};
-use ql_commands::{Answer, bad_source, read_source, refusal};
 use ql_exec::Execution;
 use ql_levels::Levels;
 use ql_machine::Reply;
+use ql_reply::Status;
 use ql_run_json::print_run_json;
 use ql_run_text::print_run;
-use ql_schedule::{Schedule, one_schedule, parse_schedule};
 use ql_typing::Typed;
 use std::alloc::Global;
 
@@ -31,48 +30,35 @@ pub fn run(
     form: Form,
     source: &[u8],
     schedule: &[u8],
-) -> Result<(Answer, Vec<u8>), NoMemory>
+) -> Result<(Status, Vec<u8>), NoMemory>
     requires { length source.now < 2 ^ 32 }
     ensures { IfOk result (λ answer. RunSays (format_of form) source.now schedule.now answer.0 answer.1.items) }
 {
-    one_schedule();
-    let typed = match read_source(alloc, source) {
-        Ok(typed) => typed,
-        Err(fault) => return Ok((Answer::Bad, bad_source(alloc, fault)?)),
-    };
-    let schedule = match parse_schedule(alloc, &typed, schedule) {
-        Ok(schedule) => schedule,
-        Err(fault) => return Ok((Answer::Bad, bad_schedule(alloc, fault)?)),
-    };
-    match ql_classify::classify(alloc, &typed) {
-        Ok(classified) => Ok((
-            Answer::Done,
-            text_of(alloc, form, &typed, classified.levels(), schedule)?,
-        )),
-        Err(why) => Ok((Answer::No, refusal(alloc, &typed, why)?)),
+    match read_run_input(alloc, source, schedule)? {
+        Ok(input) => Ok((Status::Done, text_of(alloc, form, input)?)),
+        Err(reply) => Ok(reply),
     }
 }
 
-// The text of a schedule's run at these levels, which shows it to whoever reads the program and the schedule in two files.
-fn text_of(
-    alloc: Global,
-    form: Form,
-    t: &Typed,
-    levels: &Levels,
-    schedule: Schedule,
-) -> Result<Vec<u8>, NoMemory>
-    requires levels { AreLevelsOf t.now.program levels.now }
-    requires schedule { IsSchedule t.now.program schedule }
-    ensures { IfOk result (λ text. (source file : List ℕ) → IsSourceOf source t.now.program → IsScheduleFile t.now.program (ahead_from 1 file) schedule
+// The text of the run, which shows it to whoever reads the program and the schedule in two files.
+fn text_of(alloc: Global, form: Form, input: RunInput) -> Result<Vec<u8>, NoMemory>
+    requires levels { AreLevelsOf input.typed.program input.levels }
+    requires schedule { IsSchedule input.typed.program input.schedule }
+    ensures { IfOk result (λ text. (source file : List ℕ) → IsSourceOf source input.typed.program → IsScheduleFile input.typed.program (ahead_from 1 file) input.schedule
         → TellsRun (format_of form) source file text.items) }
 {
-    let run = sound_run(alloc, t, levels, schedule)?;
+    let RunInput {
+        typed,
+        levels,
+        schedule,
+    } = input;
+    let run = sound_run(alloc, &typed, &levels, schedule)?;
     print_in(
         alloc,
         form,
-        t,
+        &typed,
         &run.objects,
-        levels,
+        &levels,
         &run.replies,
         run.store.execution(),
     )

@@ -7,7 +7,7 @@ use ql_schedule::SchedFault;
 use std::alloc::Global;
 
 /// The line that reports the first fault of a schedule's file.
-pub fn bad_schedule(alloc: Global, fault: SchedFault) -> Result<Vec<u8>, NoMemory>
+pub(crate) fn bad_schedule(alloc: Global, fault: SchedFault) -> Result<Vec<u8>, NoMemory>
     ensures { IfOk result (λ text. schedule_fault_text fault ≡ Some text.items) }
 {
     match fault {

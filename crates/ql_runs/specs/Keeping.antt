@@ -1,4 +1,4 @@
--- What a store's effects and replies are, after the events of a schedule.
+-- What holds of a store's effects and replies, after the events of a schedule.
 use Rattle.std.specs.Prelude.{ℕ, ◌<◌, ◌≤◌, ◌≡◌, List, length, slice_get}
 use Rattle.std.specs.Option.{option_map}
 use Rattle.ql_base.specs.declared.ids.TypeId.{TypeId}
@@ -11,7 +11,7 @@ use Rattle.ql_machine.specs.declared.reply.Reply.{Reply}
 use Rattle.ql_machine.specs.declared.reply.Reply.TheVariants as reply
 use Rattle.ql_typing.specs.Operations.{all_ops, op_kinds}
 
--- a membership is in one of the first declared transactions, where it is in any
+-- a membership is in one of the first declared transactions, if it is in any
 abbrev pub IsDeclared : ℕ → Member → Type 0
 IsDeclared n Alone = Unit {0}
 IsDeclared n (Inside run decl) = decl.0 < n

@@ -15,8 +15,8 @@ ghost use Rattle.ql_store.specs.Conditions.{HasRoom, IsAnswerable};
 ghost use Rattle.ql_store.specs.Events.{IsInRange};
 ghost use Rattle.ql_store.specs.Levels.{HasLevelOfEach, promises_of, uses_of};
 
-/// The law that a schedule can be run to its end: after each number of its events the next one meets what
-/// `step` of a store asks. Its numbers are in range, there is room for what it adds, and a call can be
+/// The law that a schedule can be run to its end: after each number of its events, the next one meets what
+/// `step` of a store requires. Its numbers are in range, there is room for what it adds, and a call can be
 /// answered by the fold of a program whose answers fit, whatever effects on its object it sees.
 pub fn events_can_be_answered()
     ensures { (p : Program) (levels : LevelLists) (s : Schedule) → HasLevelOfEach p levels → IsSchedule p s → AnswersFit p.types
@@ -25,8 +25,8 @@ pub fn events_can_be_answered()
         → IsInRange (length last.received) levels event × HasRoom last × IsAnswerable (λ op args effects. IsAble p.types op.0 args effects) last.effects event }
 {}
 
-/// The law of runs of a store: where nothing happened there is a run, and a step from the last state of a run makes a run
-/// with one event more. So any list of events through `step`, from a new store, is a run.
+/// The law of runs of a store: no events are a run from the initial state, and a step from the last state of a run
+/// makes a run with one more event. So any list of events through `step`, from a new store, is a run.
 pub fn steps_make_runs()
     ensures none { (rules : Rules) (n : ℕ) → IsRun rules n [] [] (empty n) }
     ensures more { (rules : Rules) (n : ℕ) (events : List Event) (replies : List Reply) (last next : Machine) (event : Event) (reply : Reply)

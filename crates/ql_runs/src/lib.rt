@@ -1,5 +1,5 @@
-// The events of a schedule, one after another, through a store.
-// The one contract: what a store makes of a schedule, and its replies, are the written machine's run.
+// Runs the events of a schedule, one after another, through a store.
+// The one contract: the store after a schedule, and its replies, are those of the written machine's run.
 #![tactic(auto)]
 
 mod law;

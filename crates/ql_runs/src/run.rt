@@ -24,10 +24,10 @@ pub struct Run<H: Holder> {
     pub objects: Names,
 }
 
-/// A new store at these levels goes through the events of a schedule.
+/// Runs the events of a schedule through a new store at these levels.
 ///
 /// Each reply and the last state are the written machine's, with answers by folding what is seen (`run`).
-/// Each effect is of an operation of its object's type (`fits`), and a reply names an effect that is there
+/// Each effect is of an operation of its object's type (`fits`), and a reply names an existing effect
 /// (`answered`).
 pub fn run_schedule<H: Holder>(
     alloc: Global,

@@ -7,7 +7,7 @@ use Rattle.std.proofs.lemmas.List.Elements.{All-push}
 use Rattle.std.specs.Prelude.{◌==◌, MatchOption, is_some, reverse, slice_get}
 use Rattle.std.specs.List.{AllByRecursion, filter}
 use Rattle.std.specs.Option.{option_map}
-use Rattle.ql_cnf.specs.Literals.{IsAscending}
+use Rattle.ql_cnf.specs.Literals.{IsAscendingByVariable}
 use Rattle.ql_cnf.specs.Satisfaction.{ClauseList, AreInRange}
 use Rattle.ql_cnf.specs.declared.lit.Lit.{Lit}
 use Rattle.ql_refute.specs.Marks.{marked, has_variable}
@@ -225,7 +225,7 @@ in_range_small n [] small h = tt
 in_range_small n (x ∷ xs) small h = let first = h zero x (omega arith) in ((first.0, omega (arith, first.1, small)), in_range_small n xs small (λ k d l. h (suc k) d (omega arith)))
 
 -- a good line more
-pub searching_keep : (c : ClauseList) (lines : List Line) (trail : List Step) (m : List ℕ) (clause : List Lit) (hints : List Hint) → IsSearching c lines trail m → AreInRange c.variables clause → IsAscending clause → hints_fault c lines (length lines + 1) hints (with_all_false nothing clause) ≡ None → AllByRecursion IsNumbered hints → length (lines ++ record { clause = clause; hints = hints } ∷ []) < 2 ^ 64 → IsSearching c (lines ++ record { clause = clause; hints = hints } ∷ []) trail m
+pub searching_keep : (c : ClauseList) (lines : List Line) (trail : List Step) (m : List ℕ) (clause : List Lit) (hints : List Hint) → IsSearching c lines trail m → AreInRange c.variables clause → IsAscendingByVariable clause → hints_fault c lines (length lines + 1) hints (with_all_false nothing clause) ≡ None → AllByRecursion IsNumbered hints → length (lines ++ record { clause = clause; hints = hints } ∷ []) < 2 ^ 64 → IsSearching c (lines ++ record { clause = clause; hints = hints } ∷ []) trail m
 searching_keep c lines trail m clause hints searching inside ascending none numbers few = record {
   few = searching.few;
   variables = searching.variables;

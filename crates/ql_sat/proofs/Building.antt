@@ -3,7 +3,7 @@ use Rattle.std.proofs.Common.{◌≡◌, ◌≢◌, ℕ, zero, suc, ◌+◌, ◌
 use Rattle.std.proofs.lemmas.Bool.Decides.{nat_tests}
 use Rattle.std.proofs.lemmas.List.{get_or_append_left, length_push}
 use Rattle.std.specs.Prelude.{◌==◌, slice_get}
-use Rattle.ql_cnf.specs.Literals.{IsAscending}
+use Rattle.ql_cnf.specs.Literals.{IsAscendingByVariable}
 use Rattle.ql_cnf.specs.Satisfaction.{ClauseList, with_clause}
 use Rattle.ql_cnf.specs.declared.lit.Lit.{Lit}
 use Rattle.ql_sat.specs.Settled.{WatchesOwn, AtDecisions, AreSettled, IsWatched, values_to}
@@ -49,9 +49,9 @@ own_more cs pairs w k d long there own before =
     (λ j l. subst (λ (p : Pair). WatchesOwn (get_or cs j []) p) (sym (pair_stays pairs w j (omega (arith, l, long)))) (before j l))
     (subst (λ (e : List Lit). WatchesOwn e (pair_at (pairs ++ w ∷ []) k)) (sym (clause_there cs k d there)) (subst (λ (n : ℕ). WatchesOwn d (pair_at (pairs ++ w ∷ []) n)) long (subst (λ (p : Pair). WatchesOwn d p) (sym (at_end pairs w)) own)))
 
-pub ascending_more : (cs : List (List Lit)) (k : ℕ) (d : List Lit) → slice_get cs (k + 1 - 1) ≡ Some d → IsAscending d → ((j : ℕ) → j < k → IsAscending (get_or cs j [])) → (j : ℕ) → j < k + 1 → IsAscending (get_or cs j [])
+pub ascending_more : (cs : List (List Lit)) (k : ℕ) (d : List Lit) → slice_get cs (k + 1 - 1) ≡ Some d → IsAscendingByVariable d → ((j : ℕ) → j < k → IsAscendingByVariable (get_or cs j [])) → (j : ℕ) → j < k + 1 → IsAscendingByVariable (get_or cs j [])
 ascending_more cs k d there ascending before =
-    each_more (λ j. IsAscending (get_or cs j [])) k before (subst (λ (e : List Lit). IsAscending e) (sym (clause_there cs k d there)) ascending)
+    each_more (λ j. IsAscendingByVariable (get_or cs j [])) k before (subst (λ (e : List Lit). IsAscendingByVariable e) (sym (clause_there cs k d there)) ascending)
 
 -- one clause more and its pair
 each_pushed : (Q : List Lit → Pair → Type 0) (cs : List (List Lit)) (d : List Lit) (pairs : List Pair) (w : Pair) → length pairs ≡ length cs → ((k : ℕ) → k < length cs → Q (get_or cs k []) (pair_at pairs k)) → Q d w → (k : ℕ) → k < length (cs ++ d ∷ []) → Q (get_or (cs ++ d ∷ []) k []) (pair_at (pairs ++ w ∷ []) k)
@@ -67,7 +67,7 @@ decided_more cs d pairs w p [] long h here = tt
 decided_more cs d pairs w p (s ∷ ss) long h here =
     ((λ e. each_pushed (λ d w. IsSettled p p w) cs d pairs w long (h.0 e) (here.0 e)), decided_more cs d pairs w (with_true p s.lit) ss long h.1 here.1)
 
-pub watched_more : (c : ClauseList) (d : List Lit) (trail : List Step) (lists now : List (List ℕ)) (pairs : List Pair) (w : Pair) (done : ℕ) → length now ≡ length lists → IsAscending d → WatchesOwn d w → AtDecisions (λ r. IsSettled r r w) nothing trail → IsSettled (values_to trail done) (assigned_from nothing trail) w → IsWatched c trail lists pairs done → IsWatched (with_clause c (Some d)) trail now (pairs ++ w ∷ []) done
+pub watched_more : (c : ClauseList) (d : List Lit) (trail : List Step) (lists now : List (List ℕ)) (pairs : List Pair) (w : Pair) (done : ℕ) → length now ≡ length lists → IsAscendingByVariable d → WatchesOwn d w → AtDecisions (λ r. IsSettled r r w) nothing trail → IsSettled (values_to trail done) (assigned_from nothing trail) w → IsWatched c trail lists pairs done → IsWatched (with_clause c (Some d)) trail now (pairs ++ w ∷ []) done
 watched_more c d trail lists now pairs w done size ascending own decided settled h = record {
   guarded = record {
     counted =
@@ -75,7 +75,7 @@ watched_more c d trail lists now pairs w done size ascending own decided settled
         let more : length (c.clauses ++ d ∷ []) ≡ length c.clauses + 1 = length_push c.clauses d in
         omega (arith, long, more, h.guarded.counted);
     room = size ∙ h.guarded.room;
-    ascending = each_pushed (λ e p. IsAscending e) c.clauses d pairs w h.guarded.counted h.guarded.ascending ascending;
+    ascending = each_pushed (λ e p. IsAscendingByVariable e) c.clauses d pairs w h.guarded.counted h.guarded.ascending ascending;
     own = each_pushed (λ e p. WatchesOwn e p) c.clauses d pairs w h.guarded.counted h.guarded.own own;
     decided = decided_more c.clauses d pairs w nothing trail h.guarded.counted h.guarded.decided decided;
   };

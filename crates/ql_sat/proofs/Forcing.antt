@@ -5,7 +5,7 @@ use Rattle.std.proofs.lemmas.Option.{slice_get-get_or}
 use Rattle.std.specs.Prelude.{◌==◌, is_some, slice_set}
 use Rattle.std.specs.Bool.{beq}
 use Rattle.std.specs.List.{All, filter, list_any}
-use Rattle.ql_cnf.specs.Literals.{AllAbove, IsAscending, same_literal, has_literal}
+use Rattle.ql_cnf.specs.Literals.{AllAbove, IsAscendingByVariable, same_literal, has_literal}
 use Rattle.ql_cnf.specs.Satisfaction.{ClauseList}
 use Rattle.ql_cnf.specs.declared.lit.Lit.{Lit}
 use Rattle.ql_refute.specs.Marks.{marked, mark_of}
@@ -39,7 +39,7 @@ none_above q y (x ∷ xs) above only = step (q x) refl (none_above q y xs above.
     step true e rest = absurd (let same : x.var ≡ y.var = ap (λ (z : Lit). z.var) (only.0 e) in omega (arith, same, above.0))
     step false e rest = rest
 
-alone : (q : Lit → Bool) (y : Lit) (d : List Lit) → IsAscending d → Only q y d → (filter q d ≡ []) ⊎ ((filter q d ≡ y ∷ []) × (q y ≡ true))
+alone : (q : Lit → Bool) (y : Lit) (d : List Lit) → IsAscendingByVariable d → Only q y d → (filter q d ≡ []) ⊎ ((filter q d ≡ y ∷ []) × (q y ≡ true))
 alone q y [] ascending only = inl refl
 alone q y (x ∷ xs) ascending only = step (q x) refl (alone q y xs ascending.1 only.1)
   where
@@ -62,7 +62,7 @@ only_from q y [] h = tt
 only_from q y (x ∷ xs) h = (h zero x (omega arith), only_from q y xs (λ k e l. h (suc k) e (omega arith)))
 
 -- what a clause that is to be read says
-pub says : (p : Partial) (d : List Lit) (falsified other : Lit) → IsAscending d → IsFalse p falsified → IsLook d falsified other p Read → (reading p d ≡ AllFalse) ⊎ (reading p d ≡ Forces other)
+pub says : (p : Partial) (d : List Lit) (falsified other : Lit) → IsAscendingByVariable d → IsFalse p falsified → IsLook d falsified other p Read → (reading p d ≡ AllFalse) ⊎ (reading p d ≡ Forces other)
 says p d falsified other ascending closed look = elim (alone (is_open p) other d ascending (only_from (is_open p) other d only)) [
   | inl e ↦ inl (ap (λ (ys : List Lit). reading_of p ys) e)
   | inr e ↦ inr (let unset : is_some (p other.var) ≡ false = value_there (p other.var) other.positive e.1 look.0 in ap (λ (ys : List Lit). reading_of p ys) e.0 ∙ rw unset refl)

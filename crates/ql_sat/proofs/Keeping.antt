@@ -2,7 +2,7 @@
 use Rattle.std.proofs.Common.{◌≡◌, ◌+◌, ◌<◌, ◌^◌, ℕ, Bool, List, [], ◌∷◌, ◌++◌, None, length, sym, subst}
 use Rattle.std.specs.Prelude.{reverse}
 use Rattle.std.specs.List.{AllByRecursion}
-use Rattle.ql_cnf.specs.Literals.{IsAscending}
+use Rattle.ql_cnf.specs.Literals.{IsAscendingByVariable}
 use Rattle.ql_cnf.specs.Satisfaction.{ClauseList, AreInRange}
 use Rattle.ql_cnf.specs.declared.lit.Lit.{Lit}
 use Rattle.ql_refute.specs.Partial.{nothing, with_all_false}
@@ -17,7 +17,7 @@ use Rattle.ql_sat.proofs.Learned.{learned_ascending, learned_conflict, learned_i
 
 pub learned_kept : (c : ClauseList) (lines now : List Line) (trail : List Step) (m : List ℕ) (i : ℕ) (seen : List Bool) (hints back : List Hint) (clause : List Lit) → IsSearching c lines trail m → IsAnalysis c lines trail i seen hints → clause ≡ learned_to m seen c.variables → back ≡ reverse hints → now ≡ lines ++ record { clause = clause; hints = back } ∷ [] → length now < 2 ^ 64 → IsSearching c now trail m
 learned_kept c lines now trail m i seen hints back clause searching analysis is reversed pushed few =
-    let ascending : IsAscending clause = subst IsAscending (sym is) (learned_ascending m seen c.variables) in
+    let ascending : IsAscendingByVariable clause = subst IsAscendingByVariable (sym is) (learned_ascending m seen c.variables) in
     let inside : AreInRange c.variables clause = subst (AreInRange c.variables) (sym is) (learned_in_range m seen c.variables) in
     let conflict : hints_fault c lines (length lines + 1) back (with_all_false nothing clause) ≡ None = rw (reversed, is) (learned_conflict c lines trail m i seen hints searching analysis (length lines + 1)) in
     let numbers : AllByRecursion IsNumbered back = subst (AllByRecursion IsNumbered) (sym reversed) (all_reverse IsNumbered hints analysis.numbered) in

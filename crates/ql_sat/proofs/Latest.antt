@@ -8,7 +8,7 @@ use Rattle.std.proofs.lemmas.List.Elements.{filter-append}
 use Rattle.std.proofs.lemmas.List.Folds.{list_any-append}
 use Rattle.std.specs.Prelude.{◌==◌, is_some, slice_index}
 use Rattle.std.specs.List.{filter}
-use Rattle.ql_cnf.specs.Literals.{negated, same_literal, has_literal, IsAscending}
+use Rattle.ql_cnf.specs.Literals.{negated, same_literal, has_literal, IsAscendingByVariable}
 use Rattle.ql_cnf.specs.Satisfaction.{ClauseList}
 use Rattle.ql_cnf.specs.declared.lit.Lit.{Lit}
 use Rattle.ql_refute.specs.Partial.{Partial, nothing, with_true, is_open, reading}
@@ -246,7 +246,7 @@ forced_within n to trail now l longer =
 pub learned_watched : (c : ClauseList) (lines more : List Line) (line : Line) (trail now : List Step) (m : List ℕ) (i to n : ℕ) (seen : List Bool) (hints : List Hint) (lists after : List (List ℕ)) (pairs : List Pair) (w : Pair) → IsSearching c lines trail m → IsAnalysis c lines trail i seen hints → IsFirstAsserting trail to seen → line.clause ≡ learned_to m seen c.variables → more ≡ lines ++ line ∷ [] → IsGuarded (with_lines c lines) trail lists pairs → IsTrail c more nothing now → IsLonger Forced n (take to trail) now → ((x : Lit) → reading (assigned_from nothing (take to trail)) line.clause ≡ Forces x → assigned_from nothing now x.var ≡ Some x.positive) → length after ≡ length lists → WatchesForced seen (take to now) (get_or now to no_step).lit w → IsWatched (with_lines c more) now after (pairs ++ w ∷ []) to
 learned_watched c lines more line trail now m i to n seen hints lists after pairs w searching analysis first is kept guarded steps longer literal size watches =
     subst (λ (all : ClauseList). IsWatched all now after (pairs ++ w ∷ []) to) (sym (ap (λ (ls : List Line). with_lines c ls) kept ∙ line_more c lines line))
-    (watched_more (with_lines c lines) line.clause now lists after pairs w to size (subst (λ (d : List Lit). IsAscending d) (sym is) (learned_ascending m seen c.variables)) own decided settled read)
+    (watched_more (with_lines c lines) line.clause now lists after pairs w to size (subst (λ (d : List Lit). IsAscendingByVariable d) (sym is) (learned_ascending m seen c.variables)) own decided settled read)
   where
     forces : (x : Lit) × (reading (assigned_from nothing (take to trail)) (learned_to m seen c.variables) ≡ Forces x)
     forces = forces_there c lines trail m i to seen hints searching analysis first.asserting

@@ -3,7 +3,7 @@ use Rattle.std.proofs.Common.{◌≡◌, ◌≢◌, ℕ, zero, suc, ◌<◌, ◌
 use Rattle.std.proofs.lemmas.List.{append-nil}
 use Rattle.std.proofs.lemmas.Bool.Decides.{nat_tests}
 use Rattle.std.specs.Prelude.{◌==◌, is_some, slice_index, reverse}
-use Rattle.ql_cnf.specs.Literals.{negated, AllAbove, IsAscending}
+use Rattle.ql_cnf.specs.Literals.{negated, AllAbove, IsAscendingByVariable}
 use Rattle.ql_cnf.specs.Satisfaction.{ClauseList, AreInRange}
 use Rattle.ql_cnf.specs.declared.lit.Lit.{Lit}
 use Rattle.ql_refute.specs.Marks.{value_of_mark}
@@ -50,7 +50,7 @@ above_push : (m : ℕ) (xs : List Lit) (x : Lit) → AllAbove m xs → m < x.var
 above_push m [] x h l = (l, tt)
 above_push m (y ∷ ys) x h l = (h.0, above_push m ys x h.1 l)
 
-ascending_push : (n : ℕ) (xs : List Lit) (x : Lit) → IsAscending xs → Within n xs → n < x.var → IsAscending (xs ++ x ∷ [])
+ascending_push : (n : ℕ) (xs : List Lit) (x : Lit) → IsAscendingByVariable xs → Within n xs → n < x.var → IsAscendingByVariable (xs ++ x ∷ [])
 ascending_push n [] x a w l = (tt, tt)
 ascending_push n (y ∷ ys) x a w l = (above_push y.var ys x a.0 (omega (arith, w.0.1)), ascending_push n ys x a.1 w.1 l)
 
@@ -70,14 +70,14 @@ pub learned_in_range : (m : List ℕ) (seen : List Bool) (n : ℕ) → AreInRang
 learned_in_range m seen n = within_in_range n (learned_to m seen n) (learned_within m seen n)
 
 -- the learned clause is ascending
-pub learned_ascending : (m : List ℕ) (seen : List Bool) (n : ℕ) → IsAscending (learned_to m seen n)
+pub learned_ascending : (m : List ℕ) (seen : List Bool) (n : ℕ) → IsAscendingByVariable (learned_to m seen n)
 learned_ascending m seen zero = tt
 learned_ascending m seen (suc n) = step (is_seen seen (suc n)) (learned_ascending m seen n)
   where
-    append_none : (xs : List Lit) → IsAscending xs → IsAscending (xs ++ [])
+    append_none : (xs : List Lit) → IsAscendingByVariable xs → IsAscendingByVariable (xs ++ [])
     append_none xs h = rw append-nil h
 
-    step : (b : Bool) → IsAscending (learned_to m seen n) → IsAscending (learned_to m seen n ++ cond b (record { var = suc n; positive = not (slice_index m (suc n) == 1) } ∷ []) [])
+    step : (b : Bool) → IsAscendingByVariable (learned_to m seen n) → IsAscendingByVariable (learned_to m seen n ++ cond b (record { var = suc n; positive = not (slice_index m (suc n) == 1) } ∷ []) [])
     step true h = ascending_push n (learned_to m seen n) (record { var = suc n; positive = not (slice_index m (suc n) == 1) }) h (learned_within m seen n) (omega arith)
     step false h = append_none (learned_to m seen n) h
 

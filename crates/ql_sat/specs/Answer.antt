@@ -1,7 +1,7 @@
--- When an answer is right.
+-- When the solver's result is right.
 use Rattle.std.specs.Prelude.{◌≡◌, ◌≤◌, ◌<◌, ◌^◌, List, length}
 use Rattle.std.specs.List.{AllByRecursion}
-use Rattle.ql_cnf.specs.Literals.{IsAscending}
+use Rattle.ql_cnf.specs.Literals.{IsAscendingByVariable}
 use Rattle.ql_cnf.specs.Satisfaction.{ClauseList, Satisfies}
 use Rattle.ql_refute.specs.Verdict.{verdict}
 use Rattle.ql_refute.specs.declared.refutation.Hint.{Hint}
@@ -24,7 +24,7 @@ IsNumbered (Earlier n) = (1 ≤ n) × (n < 2 ^ 64)
 -- the same of the variables of a line, which ascend, and of its hints
 pub record IsNumberedLine (line : Line) : Type 0 where
   pub variables : AllByRecursion (λ x. (1 ≤ x.var) × (x.var < 2 ^ 32)) line.clause
-  pub ascending : IsAscending line.clause
+  pub ascending : IsAscendingByVariable line.clause
   pub hints : AllByRecursion IsNumbered line.hints
 
 -- the same of each line, and there are fewer than 2^64

@@ -1,7 +1,7 @@
--- The state of the search in the words of the checker's definitions.
+-- The state of the search in terms of the checker's definitions.
 use Rattle.std.specs.Prelude.{ℕ, ◌≡◌, ◌≤◌, ◌==◌, Bool, true, if◌then◌else◌, List, length, is_some, slice_index}
 use Rattle.std.specs.List.{All, sum_by}
-use Rattle.ql_cnf.specs.Satisfaction.{value_of}
+use Rattle.ql_cnf.specs.Satisfaction.{variable_value}
 use Rattle.ql_cnf.specs.declared.lit.Lit.{Lit}
 use Rattle.ql_refute.specs.Marks.{marked, value_of_mark}
 use Rattle.ql_refute.specs.Partial.{reading}
@@ -17,8 +17,8 @@ IsTotal n marks = (v : ℕ) → 1 ≤ v → v ≤ n → is_some (marked marks v)
 
 -- the assignment has the values that the marks stand for
 abbrev pub AgreesWith : ℕ → List ℕ → List Bool → Type 0
-AgreesWith n marks a = (length a ≡ n) × ((v : ℕ) → 1 ≤ v → v ≤ n → value_of a v ≡ (slice_index marks v == 1))
+AgreesWith n marks a = (length a ≡ n) × ((v : ℕ) → 1 ≤ v → v ≤ n → variable_value a v ≡ (slice_index marks v == 1))
 
--- how many marks stand for nothing
+-- how many marks stand for no value
 abbrev pub unset_count : List ℕ → ℕ
 unset_count marks = sum_by (λ k. if is_some (value_of_mark k) then 0 else 1) marks

@@ -1,7 +1,7 @@
--- What the two watched literals of a clause say of its truth, while literals are made true.
+-- What the two watched literals of a clause guarantee about its truth, while literals are made true.
 use Rattle.std.specs.Prelude.{ℕ, ◌+◌, ◌*◌, ◌<◌, ◌≤◌, ◌⊎◌, ◌≡◌, ◌≢◌, Bool, true, false, not, is_some, take, List, [], ◌∷◌, ◌++◌, length, map, None, Some}
 use Rattle.std.specs.List.{All, slice_index_or}
-use Rattle.ql_cnf.specs.Literals.{has_literal, negated, IsAscending}
+use Rattle.ql_cnf.specs.Literals.{has_literal, negated, IsAscendingByVariable}
 use Rattle.ql_cnf.specs.Satisfaction.{ClauseList}
 use Rattle.ql_cnf.specs.declared.lit.Lit.{Lit}
 use Rattle.ql_refute.specs.Partial.{Partial, nothing, with_true, is_open}
@@ -44,7 +44,7 @@ WatchesOwn (x ∷ xs) w = (has_literal (x ∷ xs) w.first ≡ true) × (has_lite
 pub record IsGuarded (c : ClauseList) (trail : List Step) (lists : List (List ℕ)) (pairs : List Pair) : Type 0 where
   pub counted : length pairs ≡ length c.clauses
   pub room : length lists ≡ 2 * (c.variables + 1)
-  pub ascending : (k : ℕ) → k < length c.clauses → IsAscending (slice_index_or c.clauses k [])
+  pub ascending : (k : ℕ) → k < length c.clauses → IsAscendingByVariable (slice_index_or c.clauses k [])
   pub own : (k : ℕ) → k < length c.clauses → WatchesOwn (slice_index_or c.clauses k []) (pair_at pairs k)
   pub decided : AtDecisions (λ r. AreSettled (length c.clauses) r r pairs) nothing trail
 
@@ -56,21 +56,21 @@ values_to trail n = assigned_from nothing (take n trail)
 abbrev pub IsSettledTo : ClauseList → List Step → ℕ → List Pair → Type 0
 IsSettledTo c trail n pairs = AreSettled (length c.clauses) (values_to trail n) (assigned_from nothing trail) pairs
 
--- and the steps before this place are propagated
+-- and the steps before index `done` are propagated
 pub record IsWatched (c : ClauseList) (trail : List Step) (lists : List (List ℕ)) (pairs : List Pair) (done : ℕ) : Type 0 where
   pub guarded : IsGuarded c trail lists pairs
   pub within : done ≤ length trail
   pub settled : IsSettledTo c trail done pairs
 
--- the literal that the step at a place made false
+-- the literal that the step at an index made false
 abbrev pub falsified_at : List Step → ℕ → Lit
 falsified_at trail place = negated (slice_index_or trail place (record { lit = record { var = 0; positive = false }; reason = None })).lit
 
--- the clause stands in the list from this place on
+-- the clause is in the list at this index or a later one
 abbrev pub IsWaiting : ℕ → List ℕ → ℕ → Type 0
 IsWaiting at list k = count_of k (take at list) < count_of k list
 
--- what holds when the watchers of the literal that a step made false are visited, up to a place of their list
+-- what holds while the watchers of the literal that a step made false are visited, before an index of their list
 pub record IsVisiting (c : ClauseList) (trail : List Step) (lists : List (List ℕ)) (pairs : List Pair) (place at : ℕ) (falsified : Lit) : Type 0 where
   pub guarded : IsGuarded c trail lists pairs
   pub within : place < length trail

@@ -1,4 +1,4 @@
--- The state of a search in the words of its parts.
+-- The state of a search in terms of its parts.
 use Rattle.std.specs.Prelude.{ℕ, ◌+◌, ◌≡◌, length}
 use Rattle.ql_cnf.specs.Satisfaction.{ClauseList}
 use Rattle.ql_cnf.specs.declared.lit.Lit.{Lit}
@@ -27,15 +27,15 @@ IsConflict k t h = IsFalseClause k.given.now k.lines.now h t.marks.items
 abbrev pub AreGuarded : Known → Trail → Watches → Type 0
 AreGuarded k t w = IsGuarded (all_clauses k) t.steps.items w.lists.items w.pairs.items
 
--- and now, where the steps before this place are propagated
+-- and now, where the steps before this index are propagated
 abbrev pub AreWatched : Known → Trail → Watches → ℕ → Type 0
 AreWatched k t w done = IsWatched (all_clauses k) t.steps.items w.lists.items w.pairs.items done
 
--- and when those of a list are visited up to a place
+-- and while those of a list are visited, before an index
 abbrev pub AreVisited : Known → Trail → Watches → ℕ → ℕ → Lit → Type 0
 AreVisited k t w place at falsified = IsVisiting (all_clauses k) t.steps.items w.lists.items w.pairs.items place at falsified
 
--- what holds in the analysis of a conflict when the steps from this place on are done
+-- what holds in the analysis of a conflict when the steps from this index on are done
 abbrev pub IsAnalyzed : Known → Trail → ℕ → Analysis → Type 0
 IsAnalyzed k t place a = IsAnalysis k.given.now k.lines.now t.steps.items place a.seen.items a.hints.items
 

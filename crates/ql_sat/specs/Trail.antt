@@ -54,7 +54,7 @@ trail_number zero ss = 0
 trail_number (suc n) [] = 0
 trail_number (suc n) (s ∷ ss) = digit s * 3 ^ n + trail_number n ss
 
--- what reading a clause comes to
+-- the result of reading a clause
 abbrev pub visit_of : Reading → Visit
 visit_of AllFalse = Conflict
 visit_of (Forces x) = Forced
@@ -92,18 +92,18 @@ abbrev pub IsOneSeen : List Bool → List Step → Type 0
 IsOneSeen seen [] = ⊥
 IsOneSeen seen (s ∷ ss) = ((is_seen seen s.lit.var ≡ true) × NoneSeen seen ss) ⊎ ((is_seen seen s.lit.var ≡ false) × IsOneSeen seen ss)
 
--- a decision is at place i, and just one of the steps from there on is seen
+-- a decision is at index i, and just one of the steps from there on is seen
 pub record IsAsserting (trail : List Step) (i : ℕ) (seen : List Bool) : Type 0 where
   pub within : i < length trail
   pub decision : is_some (slice_index_or trail i (record { lit = record { var = 0; positive = false }; reason = None })).reason ≡ false
   pub one : IsOneSeen seen (drop i trail)
 
--- and at no earlier place is a decision such
+-- and i is the least such index
 pub record IsFirstAsserting (trail : List Step) (i : ℕ) (seen : List Bool) : Type 0 where
   pub asserting : IsAsserting trail i seen
   pub first : (k : ℕ) → IsAsserting trail k seen → i ≤ k
 
--- no place from this one on is such and before the one that was found
+-- no index from this one on is such and before the one that was found
 abbrev pub IsFirstFrom : List Step → List Bool → ℕ → Option ℕ → Type 0
 IsFirstFrom trail seen place found = (k : ℕ) → place ≤ k → IsAsserting trail k seen → MatchOption found ⊥ (λ i. i ≤ k)
 
@@ -125,14 +125,14 @@ SeenHaveValues n trail seen = (v : ℕ) → is_seen seen v ≡ true → (1 ≤ v
 abbrev pub NothingSeen : List Bool → Type 0
 NothingSeen seen = (v : ℕ) → is_seen seen v ≡ false
 
--- what holds in the analysis of a conflict when the steps from place i on are done
+-- what holds in the analysis of a conflict when the steps from index i on are done
 pub record IsAnalysis (c : ClauseList) (lines : List Line) (trail : List Step) (i : ℕ) (seen : List Bool) (hints : List Hint) : Type 0 where
   pub derived : IsDerived c lines trail (drop i trail) seen hints
   pub values : SeenHaveValues c.variables trail seen
   pub none : NoneSeen seen (drop i trail)
   pub numbered : AllByRecursion IsNumbered hints
 
--- what a turn came to: the marks are a model, or a line is empty
+-- what the result of a turn guarantees: the marks are a model, or a line is empty
 abbrev pub IsTurn : ClauseList → List Line → List ℕ → Turn → Type 0
 IsTurn c lines marks More = Unit {0}
 IsTurn c lines marks Model = (a : List Bool) → AgreesWith c.variables marks a → Satisfies a c

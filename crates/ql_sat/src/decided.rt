@@ -1,7 +1,7 @@
 use ql_cnf::Assignment;
 use ql_refute::Refutation;
 
-/// What a clause list is, with the evidence.
+/// Whether a clause list can be satisfied, with the evidence.
 #[derive(Drop)]
 pub enum Decided {
     /// An assignment that satisfies the clauses.

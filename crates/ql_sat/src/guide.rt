@@ -1,4 +1,4 @@
-// What guides the search; no contract of the solver speaks of it.
+// What guides the search. The contract of the solver doesn't mention it.
 ghost use Rattle.std.specs.Prelude.{◌<◌, ◌^◌, [], IfOk, OnOk, length};
 ghost use Rattle.ql_sat.specs.Settled.{IsWatched};
 

@@ -1,5 +1,5 @@
-// From each conflict a learned clause, resolved backwards along the trail to one literal of the last
-// decisions.
+// Learns a clause from each conflict: resolves it backwards along the trail until just one of its literals
+// was assigned at or after some decision.
 ghost use Rattle.std.specs.List.{slice_index_or};
 ghost use Rattle.std.specs.Prelude.{◌≡◌, ◌++◌, ◌∷◌, ◌||◌, is_some, ℕ, ◌+◌, ◌<◌, ◌^◌, drop, [], false, length, IfNone, IfOk, IfSome, if◌then◌else◌, ◌==◌, List, MatchOption, OnOk, None, Some, slice_get, take, true};
 ghost use Rattle.ql_cnf.specs.declared.lit.Lit.{Lit};
@@ -28,7 +28,7 @@ use std::mem::replace;
 // The clause that is derived, by its variables, and the hints of its derivation, the last first.
 #[derive(Drop)]
 pub(crate) struct Analysis {
-    // Whether a variable is seen: it is one of the clause.
+    // Whether a variable is seen: it is one of the clause's.
     pub seen: Vec<bool>,
     pub hints: Vec<Hint>,
 }
@@ -132,8 +132,8 @@ fn read_learned(known: Known, number: u64, trail: &mut Trail) -> Result<(), NoMe
     Ok(())
 }
 
-// The learned clause watches the literal that it forces at a place and the latest of its false ones; the
-// forced one twice where it has no other.
+// Makes the learned clause watch the literal that it forces, at an index of the trail, and the latest of its
+// false ones, or the forced one twice if it has no other.
 fn watch(watches: &mut Watches, trail: &[Step], seen: &[bool], to: usize) -> Result<(), NoMemory>
     requires { to < length trail.now }
     ensures pair { OnOk result ((w : Pair) × (watches.new.pairs.items ≡ watches.old.pairs.items ++ w ∷ []) × WatchesForced seen.now (take to trail.now) (slice_index_or trail.now to (record { lit = record { var = 0; positive = false }; reason = None })).lit w) }
@@ -160,7 +160,7 @@ fn last_seen(steps: &[Step], seen: &[bool]) -> Option<Lit>
     None
 }
 
-// Appends a line, and gives its number.
+// Appends a line, and returns its number.
 fn keep(clause: Clause, hints: Vec<Hint>, lines: &mut Vec<Line>) -> Result<u64, NoMemory>
     ensures pushed { OnOk result (lines.new.items ≡ lines.old.items ++ record { clause = clause; hints = hints.items } ∷ []) }
     ensures number { IfOk result (λ number. number ≡ length lines.old.items + 1) }
@@ -173,8 +173,8 @@ fn keep(clause: Clause, hints: Vec<Hint>, lines: &mut Vec<Line>) -> Result<u64, 
     Ok(lines.len() as u64)
 }
 
-// Resolves the conflict backwards along the trail to one literal of the last decisions. The decision that
-// is to be taken back, or none where the learned clause is empty.
+// Resolves the conflict backwards along the trail until just one literal was assigned at or after some
+// decision. Returns the index of the decision to take back, or none if the learned clause is empty.
 fn analyze(
     known: Known,
     conflict: Hint,
@@ -205,7 +205,7 @@ fn analyze(
     Ok(None)
 }
 
-// Sees the variables of the clause in conflict alone.
+// Marks as seen the variables of the clause in conflict, and no others.
 fn begin(
     known: Known,
     conflict: Hint,
@@ -260,8 +260,8 @@ fn is_seen(seen: &[bool], var: u32) -> bool
     (var as usize) < seen.len() && seen[var as usize]
 }
 
-// The first decision that can be taken back with all of the learned clause but the literal at a place still
-// false; none where another literal of the clause follows the last decision up to that place.
+// The first decision that can be taken back with all of the learned clause but the literal at an index still
+// false; none if another literal of the clause follows the last decision up to that index.
 fn asserting(trail: &[Step], seen: &[bool], at: usize) -> Option<usize>
     requires at { at < length trail.now }
     requires seen { is_seen seen.now (slice_index_or trail.now at (record { lit = record { var = 0; positive = false }; reason = None })).lit.var ≡ true }
@@ -277,7 +277,7 @@ fn asserting(trail: &[Step], seen: &[bool], at: usize) -> Option<usize>
     to
 }
 
-// The place where a decision is there, else the later one.
+// The index, if a decision is there; else the later one.
 fn decision(trail: &[Step], seen: &[bool], place: usize, later: Option<usize>) -> Option<usize>
     requires within { place < length trail.now }
     requires one { IsOneSeen seen.now (drop place trail.now) }

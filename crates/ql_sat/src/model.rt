@@ -1,4 +1,4 @@
-// What the marks of a search come to at its end.
+// The end of a search: the model that its marks stand for.
 ghost use Rattle.std.specs.Prelude.{◌≡◌, ◌-◌, ◌<◌, ◌≤◌, IfOk, MatchOption, None, length};
 ghost use Rattle.ql_refute.specs.Marks.{marked};
 ghost use Rattle.ql_sat.specs.Search.{AgreesWith, IsTotal};

@@ -1,4 +1,4 @@
-// Which variable is decided on next, and which value it is tried with. No contract rests on this choice.
+// Which variable is decided on next, and which value is tried first. No contract depends on this choice.
 ghost use Rattle.std.specs.Prelude.{◌≡◌, ◌≤◌, ◌<◌, length, IfSome, None};
 ghost use Rattle.ql_refute.specs.Marks.{marked};
 
@@ -10,12 +10,12 @@ use std::alloc::Global;
 // What a bump is divided by after each conflict, so that later conflicts count for more.
 const DECAY: f64 = 0.95;
 
-// Where the activities are scaled down, and by what.
+// The activity above which all are scaled down, and the factor.
 const GREATEST: f64 = 1e100;
 
 const SCALE: f64 = 1e-100;
 
-// The place of a variable that isn't in the heap.
+// The heap index of a variable that isn't in the heap.
 const NOWHERE: u32 = u32::MAX;
 
 // The activities of the variables with a binary heap of those that may be unset (variable state
@@ -48,7 +48,7 @@ impl Order {
         Ok(order)
     }
 
-    // The unset variable of the greatest activity among those in the heap.
+    // The unset variable with the greatest activity among those in the heap.
     pub fn next(&mut self, variables: u32, marks: &[u8]) -> Option<u32>
         requires { variables < length marks.now }
         ensures { IfSome result (λ v. (1 ≤ v) × (v ≤ variables) × (marked marks.now v ≡ None)) }
@@ -130,7 +130,7 @@ impl Order {
         }
     }
 
-    // Moves the variable at a place up to where none above it has a smaller activity.
+    // Moves the variable at a heap index up until none above it has a smaller activity.
     fn sift_up(&mut self, from: usize) {
         if from >= self.size {
             return;
@@ -165,7 +165,7 @@ impl Order {
         }
     }
 
-    // Whether the variable at one place has a smaller activity than that at another.
+    // Whether the variable at one heap index has a smaller activity than that at another.
     fn is_less(&self, place: usize, other: usize) -> bool {
         self.activity(read(&self.heap, place)) < self.activity(read(&self.heap, other))
     }

@@ -20,7 +20,7 @@ use ql_base::NoMemory;
 use ql_cnf::Lit;
 use ql_refute::{Hint, hinted};
 
-// A clause at a place of the list of a literal that is false, and its name in a line.
+// A clause at an index of the list of a literal that is false, and its name in a line.
 #[derive(Clone, Copy)]
 struct Watcher {
     falsified: Lit,
@@ -29,7 +29,7 @@ struct Watcher {
     hint: Hint,
 }
 
-// Propagates units to the end. The clause that is false, or none.
+// Propagates until nothing is left. Returns the clause that is false, or none.
 pub(crate) fn propagate(
     known: Known,
     trail: &mut Trail,
@@ -113,7 +113,7 @@ fn visit_watchers(
     Ok(None)
 }
 
-// Visits a clause. The next place of the list to visit; none where the clause is false.
+// Visits a clause. Returns the next index of the list to visit, or none if the clause is false.
 fn visit(
     known: Known,
     watcher: Watcher,

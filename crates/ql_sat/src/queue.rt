@@ -7,9 +7,9 @@ use std::alloc::Global;
 
 #[derive(Drop)]
 pub(crate) struct Queue {
-    // The given clauses of fewer than two literals that weren't read yet.
+    // The numbers of the given clauses with fewer than two literals that weren't read yet.
     pub units: Vec<u32>,
-    // The steps of the trail before this place are propagated.
+    // The steps of the trail before this index are propagated.
     pub done: usize,
 }
 

@@ -24,9 +24,9 @@ use std::alloc::Global;
 ///
 /// Conflict-driven clause learning (Marques-Silva and Sakallah, "GRASP", 1999): the learned clause is
 /// the one at the first unique implication point, and each is kept. Clauses watch two of their literals
-/// (Moskewicz and others, "Chaff", 2001). The unset variable that conflicts met most of late is decided
-/// on, with the value that it had last. There are no restarts. The search ends since each turn makes the
-/// trail greater, read as a number in base 3 in which a decision is the digit 1 and a forced literal 2.
+/// (Moskewicz and others, "Chaff", 2001). The next decision is on the unset variable that was most active
+/// in recent conflicts, with its last value. There are no restarts. The search ends because each turn makes
+/// the trail greater, read as a number in base 3 in which a decision is the digit 1 and a forced literal 2.
 pub fn decide(alloc: Global, c: &Clauses) -> Result<Decided, NoMemory>
     ensures right { IfOk result (IsRight c.now) }
 
@@ -71,7 +71,7 @@ fn take_turn(alloc: Global, c: &Clauses, search: &mut Search) -> Result<Turn, No
     finish(alloc, c, search)
 }
 
-// All is propagated, and no variable is left to decide on.
+// Everything is propagated, and no variable is left to decide on.
 fn finish(alloc: Global, c: &Clauses, search: &mut Search) -> Result<Turn, NoMemory>
     requires ready { IsReady c.now search.old }
     requires all { search.old.guide.queue.done ≡ length search.old.trail.steps.items }

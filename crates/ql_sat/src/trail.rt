@@ -31,7 +31,7 @@ pub(crate) struct Trail {
     pub marks: Vec<u8>,
 }
 
-// What reading a clause came to.
+// The result of reading a clause.
 #[derive(Clone, Copy, Debug, PartialEq, Eq)]
 pub(crate) enum Visit {
     Nothing,
@@ -73,7 +73,7 @@ impl Trail {
     }
 }
 
-// Reads the clause, and makes the literal true that it forces.
+// Reads the clause, and makes true the literal that it forces, if any.
 pub(crate) fn propagate_clause(
     known: Known,
     hint: Hint,

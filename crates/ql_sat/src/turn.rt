@@ -1,4 +1,4 @@
-// What one turn of the search came to.
+// The result of one turn of the search.
 #[derive(Clone, Copy)]
 pub(crate) enum Turn {
     More,

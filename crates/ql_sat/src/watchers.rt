@@ -28,7 +28,7 @@ impl Watchers {
         }
     }
 
-    // The clause at a place.
+    // The clause at an index of the list.
     pub fn get(&self, at: usize) -> Option<usize>
         ensures { MatchOption result (length self.now ≤ at) (λ clause. (at < length self.now) × (clause ≡ slice_index self.now at) × (at + 1 < 2 ^ 64)) }
     {
@@ -47,7 +47,7 @@ impl Watchers {
         Ok(())
     }
 
-    // Takes out the clause at a place; the last takes its place.
+    // Removes the clause at an index; the last clause moves there.
     pub fn take_out(&mut self, at: usize)
         requires { at < length self.old }
         ensures len { length self.new + 1 ≡ length self.old }

@@ -1,7 +1,7 @@
 // Two watched literals for each clause: while neither is false, the clause forces nothing.
 ghost use Rattle.std.specs.Prelude.{◌≡◌, ◌≢◌, ◌⊎◌, ℕ, ◌+◌, ◌-◌, ◌*◌, ◌^◌, ◌<◌, ◌≤◌, ◌++◌, ◌∷◌, [], length, IfNone, IfOk, IfSome, OnOk, false, slice_index, take, true};
 ghost use Rattle.std.specs.List.{slice_index_or};
-ghost use Rattle.ql_cnf.specs.Literals.{IsAscending};
+ghost use Rattle.ql_cnf.specs.Literals.{IsAscendingByVariable};
 ghost use Rattle.ql_cnf.specs.declared.lit.Lit.{Lit};
 ghost use Rattle.ql_refute.specs.Marks.{marked};
 ghost use Rattle.ql_refute.specs.Partial.{is_open, is_value};
@@ -21,7 +21,7 @@ pub(crate) struct Pair {
     pub second: Lit,
 }
 
-// What no clause has.
+// The watched literal of a clause without literals: no clause has it.
 const NO_LITERAL: Lit = Lit {
     var: 0,
     positive: false,
@@ -39,7 +39,7 @@ pub(crate) enum Look {
 }
 
 // Clauses are numbered from 0, first the given ones and then the lines. A clause without literals watches
-// what no clause has.
+// a literal that no clause has.
 #[derive(Drop)]
 pub(crate) struct Watches {
     // The clauses that watch a literal, for each literal.
@@ -64,7 +64,7 @@ impl Watches {
         Ok(watches)
     }
 
-    // The next clause watches these literals.
+    // Makes the next clause watch these literals.
     pub fn attach(&mut self, first: Lit, second: Lit) -> Result<(), NoMemory>
         ensures pair { OnOk result (self.new.pairs.items ≡ self.old.pairs.items ++ record { first = first; second = second } ∷ []) }
         ensures len { OnOk result (length self.new.lists.items ≡ length self.old.lists.items) }
@@ -76,7 +76,7 @@ impl Watches {
         Ok(())
     }
 
-    // The clause at a place of a literal's list.
+    // The clause at an index of a literal's list.
     pub fn watcher(&self, lit: Lit, at: usize) -> Option<usize>
         ensures none { IfNone result (length (slice_index_or self.now.lists.items (index_of lit) []) ≤ at) }
         ensures there { IfSome result (λ clause. IsThere self.now.lists.items lit at clause) }
@@ -105,7 +105,7 @@ impl Watches {
         }
     }
 
-    // The clause at a place of a literal's list watches another in its place.
+    // Makes the clause at an index of a literal's list watch another literal instead.
     pub fn change(&mut self, from: Lit, at: usize, clause: usize, to: Lit) -> Result<(), NoMemory>
         requires other { index_of to ≡ index_of from → ⊥ }
         requires there { IsThere self.old.lists.items from at clause }
@@ -121,7 +121,7 @@ impl Watches {
 
 // The first two literals of a clause, or its only one twice.
 fn first_pair(clause: &[Lit]) -> Pair
-    requires { IsAscending clause.now }
+    requires { IsAscendingByVariable clause.now }
     ensures { WatchesOwn clause.now result }
 {
     match clause {
@@ -140,7 +140,7 @@ fn first_pair(clause: &[Lit]) -> Pair
     }
 }
 
-// Puts the clause into the literal's list.
+// Appends the clause to the literal's list.
 fn enter(lists: &mut Vec<Watchers>, lit: Lit, clause: usize) -> Result<(), NoMemory>
     ensures len { OnOk result (length lists.new.items ≡ length lists.old.items) }
     ensures listed { OnOk result (IsListed lists.new.items lit clause) }
@@ -154,7 +154,7 @@ fn enter(lists: &mut Vec<Watchers>, lit: Lit, clause: usize) -> Result<(), NoMem
     Ok(())
 }
 
-// Takes the clause at a place out of the literal's list.
+// Removes the clause at an index from the literal's list.
 fn leave(lists: &mut Vec<Watchers>, lit: Lit, at: usize)
     requires { at < length (slice_index_or lists.old.items (index_of lit) []) }
     ensures len { length lists.new.items ≡ length lists.old.items }
@@ -169,7 +169,7 @@ fn leave(lists: &mut Vec<Watchers>, lit: Lit, at: usize)
     }
 }
 
-// Watches another literal in place of one.
+// Makes the clause watch one literal instead of another.
 fn replace(pairs: &mut Vec<Pair>, clause: usize, from: Lit, to: Lit)
     ensures len { length pairs.new.items ≡ length pairs.old.items }
     ensures others { (k : ℕ) → k ≢ clause → pair_at pairs.new.items k ≡ pair_at pairs.old.items k }

@@ -28,6 +28,7 @@ use Rattle.ql_machine.specs.Runs.{replicas_after}
 use Rattle.ql_typing.specs.Functions.{of_base}
 use Rattle.ql_typing.specs.Lookups.{txn_place}
 use Rattle.ql_typing.specs.Operations.{all_ops, op_kinds, op_place}
+use Rattle.ql_typing.specs.Names.{op_name, txn_name}
 use Rattle.ql_value.specs.declared.value.Value.{Value}
 use Rattle.ql_value.specs.declared.value.Value.TheVariants.{Unit as Nothing, Int as Number, Bool as Truth, Text, Set, Map}
 use Rattle.ql_value.specs.Reading.{value_at}
@@ -38,7 +39,7 @@ use Rattle.ql_schedule.specs.declared.event_line.EventLine.{EventLine}
 use Rattle.ql_schedule.specs.declared.event_line.EventLine.TheVariants.{Call, Begin, Commit, Deliver, Repeat, Lose, Resend, Partition, Heal, Join}
 use Rattle.ql_schedule.specs.declared.rules.Faults.{Faults}
 use Rattle.ql_schedule.specs.declared.schedule.Schedule.{Schedule}
-use Rattle.ql_schedule.specs.Arguments.{AreArguments, fit, has_base, is_too_great, values_of}
+use Rattle.ql_schedule.specs.Arguments.{AreArguments, fit, has_base, is_too_great, argument_values}
 use Rattle.ql_schedule.specs.EventLines.{AreNumbers, CallerAt, IsEventLine, is_of_version, join_word}
 use Rattle.ql_schedule.specs.Guarantees.{FitsEvent, IsOfVersion}
 use Rattle.ql_schedule.specs.Judging.{event_faults, fit_op, has_repeat, is_caller_out, is_same_type}
@@ -46,7 +47,7 @@ use Rattle.ql_schedule.specs.Makings.{declared_from, event_of, id_of, replicas_w
 use Rattle.ql_schedule.specs.Numbers.{IsNumber}
 use Rattle.ql_schedule.specs.Rules.{lowest}
 use Rattle.ql_schedule.specs.Spelled.{IsFound, IsSpelledEvent, IsSpelledValue}
-use Rattle.ql_schedule.specs.Texts.{event_fields, name_at, op_name, txn_name}
+use Rattle.ql_schedule.specs.Texts.{event_fields, name_at}
 
 -- the line of an event, as it is written
 abbrev pub line_of : Program → List (List ℕ) → Event → EventLine
@@ -226,7 +227,7 @@ none_great : (vs : List Value) → list_any is_too_great (map Given vs) ≡ fals
 none_great [] = refl
 none_great (v ∷ vs) = none_great vs
 
-given_values : (vs : List Value) → values_of (map Given vs) ≡ vs
+given_values : (vs : List Value) → argument_values (map Given vs) ≡ vs
 given_values [] = refl
 given_values (v ∷ vs) = ap (λ ws. v ∷ ws) (given_values vs)
 
@@ -340,8 +341,8 @@ pub made_again : (p : Program) (s : Schedule) (e : Event) → IsSpelledEvent p s
 made_again p s (event.Call session replica object op args) k =
     let o : id_of s.objects (name_at s.objects object.0) ≡ object.0 = ap (λ (x : Option ℕ). unwrap_or x 0) k.is_object.1 in
     let f : unwrap_or (op_place p.types (op_name p op.0)) 0 ≡ op.0 = ap (λ (x : Option ℕ). unwrap_or x 0) k.op_found in
-    ap (λ n. event.Call session replica (record { 0 = n }) (record { 0 = unwrap_or (op_place p.types (op_name p op.0)) 0 }) (values_of (map Given args))) o
-    ∙ ap (λ n. event.Call session replica object (record { 0 = n }) (values_of (map Given args))) f ∙ ap (event.Call session replica object op) (given_values args)
+    ap (λ n. event.Call session replica (record { 0 = n }) (record { 0 = unwrap_or (op_place p.types (op_name p op.0)) 0 }) (argument_values (map Given args))) o
+    ∙ ap (λ n. event.Call session replica object (record { 0 = n }) (argument_values (map Given args))) f ∙ ap (event.Call session replica object op) (given_values args)
 made_again p s (event.Begin session replica decl ids) k =
     let d : unwrap_or (txn_place p.txns (txn_name p decl.0)) 0 ≡ decl.0 = ap (λ (x : Option ℕ). unwrap_or x 0) k.txn_found in
     ap (λ n. event.Begin session replica (record { 0 = n }) (declared_from s.objects [] (map (name_at s.objects) ids))) d

@@ -16,6 +16,7 @@ use Rattle.ql_machine.specs.declared.event.Event.{Event}
 use Rattle.ql_machine.specs.declared.event.Event.TheVariants as event
 use Rattle.ql_machine.specs.Runs.{replicas_after, replicas_behind}
 use Rattle.ql_typing.specs.Lookups.{type_place}
+use Rattle.ql_typing.specs.Names.{op_name, txn_name, type_name}
 use Rattle.ql_value.specs.declared.value.Value.{Value}
 use Rattle.ql_value.specs.declared.value.Value.TheVariants.{Unit as Nothing, Int as Number, Bool as Truth, Text, Set, Map}
 use Rattle.ql_value.specs.Spelling.{value_text}
@@ -28,9 +29,9 @@ use Rattle.ql_schedule.specs.Files.{GivesLine, IsScheduleFile}
 use Rattle.ql_schedule.specs.Headers.{IsVersion}
 use Rattle.ql_schedule.specs.Guarantees.{AreFit, FitsEvent, IsOfVersion}
 use Rattle.ql_schedule.specs.Makings.{event_of, of_replicas}
-use Rattle.ql_schedule.specs.Outcomes.{Closes, Gives}
+use Rattle.ql_schedule.specs.Outcomes.{Closes, ExtendsSchedule}
 use Rattle.ql_schedule.specs.Spelled.{AreNew, IsFound, IsSpelled, IsSpelledEvent, IsSpelledType, IsSpelledValue}
-use Rattle.ql_schedule.specs.Texts.{event_fields, name_at, object_fields, object_lines, op_name, schedule_lines, txn_name, type_name}
+use Rattle.ql_schedule.specs.Texts.{event_fields, name_at, object_fields, object_lines, schedule_lines}
 use Rattle.ql_schedule.proofs.EventsAgain.{counted_again, few_behind, in_version, is_event, lawful, line_of, made_again}
 use Rattle.ql_schedule.proofs.LinesAgain.{IsLine, IsPart, file_again, minus_part, name_part, number_part, numbered, parts_again, text_part, word_part}
 
@@ -38,7 +39,7 @@ use Rattle.ql_schedule.proofs.LinesAgain.{IsLine, IsPart, file_again, minus_part
 
 unfoldable Steps : Program → Reading → List Fields → Reading → Type 0
 Steps p s [] t = s ≡ t
-Steps p s (l ∷ ls) t = (next : Reading) × Gives p s l (Ok next) × Steps p next ls t
+Steps p s (l ∷ ls) t = (next : Reading) × ExtendsSchedule p s l (Ok next) × Steps p next ls t
 
 joins : (p : Program) (ls ms : List Fields) (s t u : Reading) → Steps p s ls t → Steps p t ms u → Steps p s (ls ++ ms) u
 unfolding Steps
@@ -48,21 +49,21 @@ joins p (l ∷ ls) ms s t u h k = (h.0, h.1, joins p ls ms h.0 t u h.2 k)
 as_lines : (p : Program) (n : ℕ) (ls : List Fields) (s t : Reading) → AllByRecursion IsLine ls → Steps p s ls t → Leads (GivesLine p) Closes s (numbered n ls) t
 unfolding Steps Leads numbered
 as_lines p n [] s t is h = h
-as_lines p n (l ∷ ls) s t is h = (h.0, subst (λ ps. Gives p s ps (Ok h.0)) (sym (parts_again l is.0.parts)) h.1, as_lines p (n + 1) ls h.0 t is.1 h.2)
+as_lines p n (l ∷ ls) s t is h = (h.0, subst (λ ps. ExtendsSchedule p s ps (Ok h.0)) (sym (parts_again l is.0.parts)) h.1, as_lines p (n + 1) ls h.0 t is.1 h.2)
 
 -- ---- before the events
 
 abbrev header : ℕ → ℕ → List (List ℕ) → List TypeId → Schedule
 header v n names kinds = record { version = v; replicas = n; objects = names; kinds = kinds; events = [] }
 
-counted : (p : Program) (v n : ℕ) → 1 ≤ n → n ≤ 16 → Gives p (Titled v) (codes "replicas" ∷ decimal n ∷ []) (Ok (Declaring (of_replicas v n)))
+counted : (p : Program) (v n : ℕ) → 1 ≤ n → n ≤ 16 → ExtendsSchedule p (Titled v) (codes "replicas" ∷ decimal n ∷ []) (Ok (Declaring (of_replicas v n)))
 counted p v n some few =
     let a : (n == 0) ≡ false = grind (arith, nat_tests, some) in
     let b : nat_lt 16 n ≡ false = grind (arith, nat_tests, few) in
     record { line = n; is = record { field = decimal n; number = inl (omega (arith, few), refl); are = refl }; lawful = rw (a, b) refl; to = refl }
 
 declared : (p : Program) (v n : ℕ) (done : List (List ℕ)) (kdone : List TypeId) (w : List ℕ) (k : TypeId) → IsName w → has_name done w ≡ false → IsSpelledType p k → length done < 1024
-    → Gives p (Declaring (header v n done kdone)) (object_fields p w k) (Ok (Declaring (header v n (done ++ w ∷ []) (kdone ++ k ∷ []))))
+    → ExtendsSchedule p (Declaring (header v n done kdone)) (object_fields p w k) (Ok (Declaring (header v n (done ++ w ∷ []) (kdone ++ k ∷ []))))
 declared p v n done kdone w k is new type room =
     let names : with_name done w ≡ done ++ w ∷ [] = rw new refl in
     let number : unwrap_or (type_place p.types (type_name p k.0)) 0 ≡ k.0 = ap (λ (o : Option ℕ). unwrap_or o 0) type.1 in

@@ -14,7 +14,7 @@ use Rattle.ql_lines.specs.Fields.{Fields, is_space}
 use Rattle.ql_lines.specs.Lines.{Numbered, ahead_from, is_line_feed, is_skipped, told}
 use Rattle.ql_lines.specs.Texts.{file_text, joined}
 use Rattle.ql_lines.proofs.FieldLaws.{field_first}
-use Rattle.ql_schedule.specs.Parts.{is_quote, led_by, parts_in_part, parts_in_text, parts_of}
+use Rattle.ql_schedule.specs.Parts.{is_quotation_mark, led_by, parts_in_part, parts_in_text, parts_of}
 
 -- ---- bytes and parts
 
@@ -27,11 +27,11 @@ abbrev pub IsPartByte : ℕ → Type 0
 IsPartByte b = StaysIn b × (is_space b ≡ false)
 
 abbrev pub IsInText : ℕ → Type 0
-IsInText b = StaysIn b × (is_quote b ≡ false)
+IsInText b = StaysIn b × (is_quotation_mark b ≡ false)
 
 pub record IsBare (b : ℕ) (bs : List ℕ) : Type 0 where
   pub first : IsPartByte b
-  pub no_quote : is_quote b ≡ false
+  pub no_quote : is_quotation_mark b ≡ false
   pub rest : AllByRecursion IsPartByte bs
 
 -- a part that is read as it is written: bare, or a text between its quotes

@@ -7,7 +7,7 @@ use Rattle.std.proofs.lemmas.List.{nil_from_length}
 use Rattle.ql_base.specs.Bytes.{StopsBefore}
 use Rattle.ql_base.proofs.Fronts.{front_stops}
 use Rattle.ql_lines.specs.Fields.{Fields, is_space}
-use Rattle.ql_schedule.specs.Parts.{is_quote, isn't_space, led_by, part_len, parts_in_part, parts_in_text, parts_of, text_len}
+use Rattle.ql_schedule.specs.Parts.{is_quotation_mark, isn't_space, led_by, part_len, parts_in_part, parts_in_text, parts_of, text_len}
 
 behind_space : (b : ℕ) (bs : List ℕ) → is_space b ≡ true → parts_of (b ∷ bs) ≡ parts_of bs
 unfolding parts_of
@@ -29,55 +29,55 @@ part_rest (b ∷ bs) =
     → cond {A = Fields} t ([] ∷ parts_of bs) (led_by b (parts_in_part bs)) ≡ take (cond (not t) (1 + n) 0) (b ∷ bs) ∷ parts_of (drop (cond (not t) (1 + n) 0) (b ∷ bs)) in
     elim (is_space b) as P [ true ↦ λ e. ap (λ r. [] ∷ r) (sym (behind_space b bs e)) | false ↦ λ e. rw (one-add n) (ap (led_by b) (part_rest bs)) ] refl
 
-text_more : (b : ℕ) (bs : List ℕ) → is_quote b ≡ false → text_len (b ∷ bs) ≡ suc (text_len bs)
+text_more : (b : ℕ) (bs : List ℕ) → is_quotation_mark b ≡ false → text_len (b ∷ bs) ≡ suc (text_len bs)
 text_more b bs e = grind (arith, nat_tests, e)
 
-text_ends : (b : ℕ) (bs : List ℕ) → is_quote b ≡ true → text_len (b ∷ bs) ≡ 1
+text_ends : (b : ℕ) (bs : List ℕ) → is_quotation_mark b ≡ true → text_len (b ∷ bs) ≡ 1
 text_ends b bs e = grind (arith, nat_tests, e)
 
 -- how many bytes of a part are left within a text
 abbrev left : List ℕ → ℕ
 left bs = text_len bs + prefix_len isn't_space (drop (text_len bs) bs)
 
-left_more : (b : ℕ) (bs : List ℕ) → is_quote b ≡ false → left (b ∷ bs) ≡ suc (left bs)
+left_more : (b : ℕ) (bs : List ℕ) → is_quotation_mark b ≡ false → left (b ∷ bs) ≡ suc (left bs)
 left_more b bs e = rw (text_more b bs e) (omega arith)
 
-left_ends : (b : ℕ) (bs : List ℕ) → is_quote b ≡ true → left (b ∷ bs) ≡ suc (prefix_len isn't_space bs)
+left_ends : (b : ℕ) (bs : List ℕ) → is_quotation_mark b ≡ true → left (b ∷ bs) ≡ suc (prefix_len isn't_space bs)
 left_ends b bs e = rw (text_ends b bs e) (omega arith)
 
 text_rest : (bs : List ℕ) → parts_in_text bs ≡ take (left bs) bs ∷ parts_of (drop (left bs) bs)
 unfolding parts_of parts_in_text
 text_rest [] = refl
 text_rest (b ∷ bs) =
-    let P : Bool → Type 0 = λ t. is_quote b ≡ t → cond {A = Fields} t (led_by b (parts_in_part bs)) (led_by b (parts_in_text bs)) ≡ take (left (b ∷ bs)) (b ∷ bs) ∷ parts_of (drop (left (b ∷ bs)) (b ∷ bs)) in
-    elim (is_quote b) as P [
+    let P : Bool → Type 0 = λ t. is_quotation_mark b ≡ t → cond {A = Fields} t (led_by b (parts_in_part bs)) (led_by b (parts_in_text bs)) ≡ take (left (b ∷ bs)) (b ∷ bs) ∷ parts_of (drop (left (b ∷ bs)) (b ∷ bs)) in
+    elim (is_quotation_mark b) as P [
       | true ↦ λ e. ap (led_by b) (part_rest bs) ∙ ap (λ n. take n (b ∷ bs) ∷ parts_of (drop n (b ∷ bs))) (sym (left_ends b bs e))
       | false ↦ λ e. ap (led_by b) (text_rest bs) ∙ ap (λ n. take n (b ∷ bs) ∷ parts_of (drop n (b ∷ bs))) (sym (left_more b bs e))
     ] refl
 
 -- a part at the front of a text, which a byte begins that is no space
-of_text : (b : ℕ) (bs : List ℕ) → is_space b ≡ false → is_quote b ≡ true → parts_of (b ∷ bs) ≡ led_by b (parts_in_text bs)
+of_text : (b : ℕ) (bs : List ℕ) → is_space b ≡ false → is_quotation_mark b ≡ true → parts_of (b ∷ bs) ≡ led_by b (parts_in_text bs)
 unfolding parts_of
 of_text b bs s q = rw (s, q) refl
 
-of_part : (b : ℕ) (bs : List ℕ) → is_space b ≡ false → is_quote b ≡ false → parts_of (b ∷ bs) ≡ led_by b (parts_in_part bs)
+of_part : (b : ℕ) (bs : List ℕ) → is_space b ≡ false → is_quotation_mark b ≡ false → parts_of (b ∷ bs) ≡ led_by b (parts_in_part bs)
 unfolding parts_of
 of_part b bs s q = rw (s, q) refl
 
-len_of_text : (b : ℕ) (bs : List ℕ) → is_quote b ≡ true → part_len (b ∷ bs) ≡ suc (left bs)
+len_of_text : (b : ℕ) (bs : List ℕ) → is_quotation_mark b ≡ true → part_len (b ∷ bs) ≡ suc (left bs)
 len_of_text b bs q = rw (q, one-add' (text_len bs)) (omega arith)
   where
     one-add' : (n : ℕ) → n + 1 ≡ suc n
     one-add' n = omega arith
 
-len_of_part : (b : ℕ) (bs : List ℕ) → is_space b ≡ false → is_quote b ≡ false → part_len (b ∷ bs) ≡ suc (prefix_len isn't_space bs)
+len_of_part : (b : ℕ) (bs : List ℕ) → is_space b ≡ false → is_quotation_mark b ≡ false → part_len (b ∷ bs) ≡ suc (prefix_len isn't_space bs)
 len_of_part b bs s q = rw (q, s) (omega arith)
 
 front_part : (b : ℕ) (bs : List ℕ) → is_space b ≡ false → parts_of (b ∷ bs) ≡ take (part_len (b ∷ bs)) (b ∷ bs) ∷ parts_of (drop (part_len (b ∷ bs)) (b ∷ bs))
 front_part b bs s =
     let here : ℕ → Fields = λ n. take n (b ∷ bs) ∷ parts_of (drop n (b ∷ bs)) in
-    let P : Bool → Type 0 = λ t. is_quote b ≡ t → parts_of (b ∷ bs) ≡ here (part_len (b ∷ bs)) in
-    elim (is_quote b) as P [
+    let P : Bool → Type 0 = λ t. is_quotation_mark b ≡ t → parts_of (b ∷ bs) ≡ here (part_len (b ∷ bs)) in
+    elim (is_quotation_mark b) as P [
       | true ↦ λ q. of_text b bs s q ∙ ap (led_by b) (text_rest bs) ∙ ap here (sym (len_of_text b bs q))
       | false ↦ λ q. of_part b bs s q ∙ ap (led_by b) (part_rest bs) ∙ ap here (sym (len_of_part b bs s q))
     ] refl

@@ -40,7 +40,7 @@ use Rattle.ql_schedule.specs.declared.header.Declaration.TheVariants.{Object, Ev
 use Rattle.ql_schedule.specs.declared.reading.Reading.{Reading}
 use Rattle.ql_schedule.specs.declared.reading.Reading.TheVariants.{Untitled, Titled, Declaring, Running}
 use Rattle.ql_schedule.specs.declared.schedule.Schedule.{Schedule}
-use Rattle.ql_schedule.specs.Arguments.{fit, has_base, is_too_great, values_of}
+use Rattle.ql_schedule.specs.Arguments.{fit, has_base, is_too_great, argument_values}
 use Rattle.ql_schedule.specs.EventLines.{is_of_version}
 use Rattle.ql_schedule.specs.Files.{GivesLine, IsScheduleFile}
 use Rattle.ql_schedule.specs.Guarantees.{AreFit, FitsCall, FitsEvent, IsCaller, IsOfVersion, IsSchedule, IsSound}
@@ -97,7 +97,7 @@ both : (a b : Bool) → (a && b) ≡ true → (a ≡ true) × (b ≡ true)
 both true b e = (refl, e)
 both false b e = absurd cc
 
-args_fit : (ps : List Param) (args : List Argument) → fit ps args ≡ true → list_any is_too_great args ≡ false → AreOfKinds param_kind ps (values_of args)
+args_fit : (ps : List Param) (args : List Argument) → fit ps args ≡ true → list_any is_too_great args ≡ false → AreOfKinds param_kind ps (argument_values args)
 unfolding fit
 args_fit [] [] e small = tt
 args_fit [] (a ∷ args) e small = absurd cc
@@ -107,7 +107,7 @@ args_fit (p ∷ ps) (Given v ∷ args) e small =
     (base_kind p.base v h.0, args_fit ps args h.1 small)
 args_fit (p ∷ ps) (TooGreat ∷ args) e small = absurd cc
 
-op_fits : (op : Option OpDecl) (args : List Argument) → fit_op op args ≡ true → list_any is_too_great args ≡ false → AreArgs op (values_of args)
+op_fits : (op : Option OpDecl) (args : List Argument) → fit_op op args ≡ true → list_any is_too_great args ≡ false → AreArgs op (argument_values args)
 op_fits None args e small = absurd cc
 op_fits (Some op) args e small = args_fit op.params args e small
 
@@ -134,7 +134,7 @@ not_false true e = refl
 not_false false e = absurd cc
 
 call_fits : (p : Program) (s : Schedule) (n : ℕ) (c : Caller) (o f : List ℕ) (args : List Argument) → lowest (event_faults p s n (Call c o f args)) ≡ None
-    → FitsCall p n (length s.objects) s.kinds (record { 0 = c.session }) (record { 0 = c.replica }) (record { 0 = id_of s.objects o }) (record { 0 = unwrap_or (op_place p.types f) 0 }) (values_of args)
+    → FitsCall p n (length s.objects) s.kinds (record { 0 = c.session }) (record { 0 = c.replica }) (record { 0 = id_of s.objects o }) (record { 0 = unwrap_or (op_place p.types f) 0 }) (argument_values args)
 call_fits p s n c o f args e =
     let h = clean (event_faults p s n (Call c o f args)) e in
     let known = either (is_none (place s.objects o)) (is_none (op_place p.types f)) h.unknown in

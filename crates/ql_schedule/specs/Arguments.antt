@@ -20,7 +20,7 @@ is_scalar (Text t) = true
 is_scalar (Set s) = false
 is_scalar (Map m) = false
 
--- digits that no zero begins
+-- digits without a zero at the start
 pub record IsPositive (digits : List ℕ) : Type 0 where
   pub numeral : IsNumeral digits
   pub first : slice_index digits 0 ≡ 48 → ⊥
@@ -37,7 +37,7 @@ IsInteger part = IsNumeral part ⊎ IsNegative part
 abbrev pub SpellsNone : List ℕ → Type 0
 SpellsNone part = (v : Value) → value_at part ≡ Ok (v, []) → ⊥
 
--- a part is the text of a scalar, or an integer that is the text of no value since 64 bits can't hold it
+-- a part spells a scalar, or an integer that spells no value since 64 bits can't hold it
 abbrev pub IsArgument : List ℕ → Argument → Type 0
 IsArgument part (Given v) = (is_scalar v ≡ true) × (value_at part ≡ Ok (v, []))
 IsArgument part TooGreat = IsInteger part × SpellsNone part
@@ -65,10 +65,10 @@ abbrev pub is_too_great : Argument → Bool
 is_too_great (Given v) = false
 is_too_great TooGreat = true
 
--- the values that are given
+-- the values of the arguments
 abbrev pub given : Argument → List Value
 given (Given v) = v ∷ []
 given TooGreat = []
 
-abbrev pub values_of : List Argument → List Value
-values_of args = flat_map given args
+abbrev pub argument_values : List Argument → List Value
+argument_values args = flat_map given args

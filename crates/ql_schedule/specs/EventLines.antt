@@ -10,7 +10,7 @@ use Rattle.ql_schedule.specs.declared.event_parts.Caller.{Caller}
 use Rattle.ql_schedule.specs.Arguments.{AreArguments}
 use Rattle.ql_schedule.specs.Numbers.{IsNumber}
 
--- a caller at the front of parts, `S at R`, and the parts behind it
+-- parts that start with a caller, `S at R`, and the parts after it
 pub record CallerAt (c : Caller) (parts rest : Fields) : Type 0 where
   pub session : List ℕ
   pub replica : List ℕ
@@ -18,7 +18,7 @@ pub record CallerAt (c : Caller) (parts rest : Fields) : Type 0 where
   pub is_replica : IsNumber replica c.replica
   pub are : parts ≡ session ∷ codes "at" ∷ replica ∷ rest
 
--- `S at R OBJECT OP` at the front of parts, and the parts behind it
+-- parts that start with `S at R OBJECT OP`, and the parts after it
 pub record IsCalled (parts : Fields) (c : Caller) (object op : List ℕ) (rest : Fields) : Type 0 where
   pub behind : Fields
   pub caller : CallerAt c parts behind
@@ -26,13 +26,13 @@ pub record IsCalled (parts : Fields) (c : Caller) (object op : List ℕ) (rest :
   pub is_op : IsName op
   pub are : behind ≡ object ∷ op ∷ rest
 
--- the same, and arguments behind it
-pub record IsCall (parts : Fields) (c : Caller) (object op : List ℕ) (args : List Argument) : Type 0 where
+-- the same, and arguments after it
+pub record IsCallLine (parts : Fields) (c : Caller) (object op : List ℕ) (args : List Argument) : Type 0 where
   pub rest : Fields
   pub called : IsCalled parts c object op rest
   pub arguments : AreArguments rest args
 
--- `S at R TXN OBJECT..`, with one object at least
+-- `S at R TXN OBJECT..`, with at least one object
 pub record IsBegin (parts : Fields) (c : Caller) (txn : List ℕ) (objects : Fields) : Type 0 where
   pub behind : Fields
   pub caller : CallerAt c parts behind
@@ -56,7 +56,7 @@ pub record IsResend (parts : Fields) (effect sender receiver : ℕ) : Type 0 whe
   pub is_receiver : IsNumber third receiver
   pub are : parts ≡ first ∷ codes "from" ∷ second ∷ codes "to" ∷ third ∷ []
 
--- the word for how a replica joins
+-- the keyword for how a replica joins
 abbrev pub join_word : Bool → List ℕ
 join_word true = codes "copy"
 join_word false = codes "bare"
@@ -72,22 +72,22 @@ AreNumbers [] [] = Unit {0}
 AreNumbers (field ∷ fields) (n ∷ ns) = IsNumber field n × AreNumbers fields ns
 AreNumbers _ _ = ⊥
 
--- the word of an event's kind
-abbrev pub kind_word : EventLine → List ℕ
-kind_word (Call c object op args) = codes "call"
-kind_word (Begin c txn objects) = codes "begin"
-kind_word (Commit c) = codes "commit"
-kind_word (Deliver n) = codes "deliver"
-kind_word (Repeat n) = codes "repeat"
-kind_word (Lose n) = codes "lose"
-kind_word (Resend effect sender receiver) = codes "resend"
-kind_word (Partition groups) = codes "partition"
-kind_word Heal = codes "heal"
-kind_word (Join near copy) = codes "join"
+-- the keyword of an event's kind
+abbrev pub event_word : EventLine → List ℕ
+event_word (Call c object op args) = codes "call"
+event_word (Begin c txn objects) = codes "begin"
+event_word (Commit c) = codes "commit"
+event_word (Deliver n) = codes "deliver"
+event_word (Repeat n) = codes "repeat"
+event_word (Lose n) = codes "lose"
+event_word (Resend effect sender receiver) = codes "resend"
+event_word (Partition groups) = codes "partition"
+event_word Heal = codes "heal"
+event_word (Join near copy) = codes "join"
 
--- what stands behind that word
+-- what follows that keyword
 abbrev pub IsRest : Fields → EventLine → Type 0
-IsRest parts (Call c object op args) = IsCall parts c object op args
+IsRest parts (Call c object op args) = IsCallLine parts c object op args
 IsRest parts (Begin c txn objects) = IsBegin parts c txn objects
 IsRest parts (Commit c) = CallerAt c parts []
 IsRest parts (Deliver n) = IsOneNumber parts n
@@ -101,7 +101,7 @@ IsRest parts (Join near copy) = IsJoin parts near copy
 -- the parts of a line are this event
 pub record IsEventLine (parts : Fields) (l : EventLine) : Type 0 where
   pub rest : Fields
-  pub are : parts ≡ kind_word l ∷ rest
+  pub are : parts ≡ event_word l ∷ rest
   pub rest_is : IsRest rest l
 
 -- a version of the format has this line
@@ -113,7 +113,7 @@ is_of_version version _ = true
 abbrev pub IsEventIn : ℕ → Fields → EventLine → Type 0
 IsEventIn version parts l = IsEventLine parts l × (is_of_version version l ≡ true)
 
--- the event of a kind that parts behind its word are
+-- the event of this kind that the parts after its keyword spell
 abbrev pub IsKindRead : List ℕ → Fields → Option EventLine → Type 0
-IsKindRead word parts None = (l : EventLine) → kind_word l ≡ word → IsRest parts l → ⊥
-IsKindRead word parts (Some l) = (kind_word l ≡ word) × IsRest parts l
+IsKindRead word parts None = (l : EventLine) → event_word l ≡ word → IsRest parts l → ⊥
+IsKindRead word parts (Some l) = (event_word l ≡ word) × IsRest parts l

@@ -10,13 +10,13 @@ use Rattle.ql_schedule.specs.declared.reading.Reading.{Reading}
 use Rattle.ql_schedule.specs.declared.reading.Reading.TheVariants.{Untitled}
 use Rattle.ql_schedule.specs.declared.rules.SchedRule.{SchedRule}
 use Rattle.ql_schedule.specs.declared.schedule.Schedule.{Schedule}
-use Rattle.ql_schedule.specs.Outcomes.{Closes, Gives, rule_at}
+use Rattle.ql_schedule.specs.Outcomes.{Closes, ExtendsSchedule, rule_at}
 use Rattle.ql_schedule.specs.Parts.{parts_of}
 
 abbrev pub GivesLine : Program → Reading → Numbered → Result Reading SchedRule → Type 0
-GivesLine p read l x = Gives p read (parts_of l.text) x
+GivesLine p read l x = ExtendsSchedule p read (parts_of l.text) x
 
--- the file says this schedule
+-- the file spells this schedule
 abbrev pub IsScheduleFile : Program → Ahead → Schedule → Type 0
 IsScheduleFile p file s = Says (GivesLine p) Closes Untitled file s
 

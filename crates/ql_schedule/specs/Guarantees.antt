@@ -1,4 +1,4 @@
--- What a schedule guarantees to a store that is to step through it: every number is in range, an object's calls are of its
+-- What a schedule guarantees to a store that steps through it: every number is in range, an object's calls are of its
 -- type, and arguments fit their operation.
 use Rattle.std.specs.Prelude.{ℕ, ◌≡◌, ◌<◌, ◌≤◌, List, [], ◌∷◌, length, slice_get}
 use Rattle.std.specs.List.{AllByRecursion}
@@ -46,7 +46,7 @@ module _ (p : Program) (replicas objects : ℕ) (kinds : List TypeId) where
   FitsEvent Heal = Unit {0}
   FitsEvent (Join near copy) = (near.0 < replicas) × (replicas < 16)
 
--- events fit one behind the other, where a join makes the replicas one more
+-- events fit one after the other, where each join adds a replica
 abbrev pub AreFit : Program → ℕ → List TypeId → ℕ → List Event → Type 0
 AreFit p objects kinds replicas [] = Unit {0}
 AreFit p objects kinds replicas (e ∷ events) = FitsEvent p replicas objects kinds e × AreFit p objects kinds (replicas_after replicas e) events
@@ -68,7 +68,7 @@ pub record IsSchedule (p : Program) (s : Schedule) : Type 0 where
   pub types : AllByRecursion (λ t. t.0 < length p.types) s.kinds
   pub events : AreFit p (length s.objects) s.kinds s.replicas s.events
 
--- what is read of a schedule is one
+-- a schedule that is being read is one
 abbrev pub IsSound : Program → Reading → Type 0
 IsSound p Untitled = Unit {0}
 IsSound p (Titled version) = IsVersion version

@@ -6,15 +6,15 @@ use Rattle.ql_schedule.specs.declared.header.Declaration.{Declaration}
 use Rattle.ql_schedule.specs.declared.header.Declaration.TheVariants.{Object, Events}
 use Rattle.ql_schedule.specs.Numbers.{IsNumber}
 
--- the versions of the format; joins are of the second
+-- the versions of the format; only the second has joins
 abbrev pub IsVersion : ℕ → Type 0
 IsVersion version = (version ≡ 1) ⊎ (version ≡ 2)
 
-abbrev pub title : ℕ → Fields
-title version = codes "quelea" ∷ codes "schedule" ∷ decimal version ∷ []
+abbrev pub schedule_title : ℕ → Fields
+schedule_title version = codes "quelea" ∷ codes "schedule" ∷ decimal version ∷ []
 
 abbrev pub IsTitle : Fields → ℕ → Type 0
-IsTitle parts version = IsVersion version × (parts ≡ title version)
+IsTitle parts version = IsVersion version × (parts ≡ schedule_title version)
 
 -- `replicas N`
 pub record IsReplicas (parts : Fields) (n : ℕ) : Type 0 where

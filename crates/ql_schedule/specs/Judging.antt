@@ -1,4 +1,4 @@
--- The rules that the lines of a schedule break, behind what the lines before them say.
+-- The rules that the lines of a schedule break, given the lines before them.
 use Rattle.std.specs.Prelude.{ℕ, ◌==◌, Bool, true, false, not, ◌&&◌, ◌||◌, nat_eq, nat_le, nat_lt, List, [], ◌∷◌, Option, Some, None, length, slice_get, is_none}
 use Rattle.std.specs.List.{list_any}
 use Rattle.std.specs.Str.{bytes_eq}
@@ -68,7 +68,7 @@ abbrev pub fit_op : Option OpDecl → List Argument → Bool
 fit_op None args = false
 fit_op (Some op) args = fit op.params args
 
--- an operation is of the type of an object, and arguments fit it; nothing is asked of unknown names
+-- an operation is of the type of an object, and arguments fit it; unknown names are accepted here
 abbrev pub may_call : Program → Schedule → Option ℕ → Option ℕ → List Argument → Bool
 may_call p s (Some object) (Some op) args = is_same_type (slice_get s.kinds object) (slice_get (op_kinds p.types) op) && fit_op (slice_get (all_ops p.types) op) args
 may_call p s _ _ args = true
@@ -82,11 +82,11 @@ is_misfit p s _ = false
 abbrev pub is_caller_out : ℕ → Caller → Bool
 is_caller_out replicas c = nat_le most_sessions c.session || nat_le replicas c.replica
 
--- 2^32 stands for each number that is as great
+-- 2^32 stands for each number that is at least as great
 abbrev pub is_number_out : ℕ → Bool
 is_number_out n = nat_le 4294967296 n
 
--- a group of each replica, each below 16
+-- a group for each replica, each below 16
 abbrev pub are_groups_out : ℕ → List ℕ → Bool
 are_groups_out replicas groups = not (nat_eq (length groups) replicas) || list_any (λ g. nat_le 16 g) groups
 
@@ -107,12 +107,12 @@ abbrev pub declares_too_many : EventLine → Bool
 declares_too_many (Begin c txn objects) = nat_lt most_declared (length objects)
 declares_too_many _ = false
 
--- a replica joins where there are 16
+-- a replica joins although there are 16
 abbrev pub is_full : ℕ → EventLine → Bool
 is_full replicas (Join near copy) = nat_le most_replicas replicas
 is_full replicas _ = false
 
--- a name stands twice in a list
+-- a name occurs twice in a list
 unfoldable pub has_repeat : List (List ℕ) → Bool
 has_repeat [] = false
 has_repeat (w ∷ ws) = list_any (bytes_eq w) ws || has_repeat ws
@@ -122,7 +122,7 @@ abbrev pub is_twice : EventLine → Bool
 is_twice (Begin c txn objects) = nat_le (length objects) most_declared && has_repeat objects
 is_twice _ = false
 
--- the rules that an event breaks behind a schedule, with so many replicas there
+-- the rules that an event breaks after a schedule, when there are this many replicas
 abbrev pub event_faults : Program → Schedule → ℕ → EventLine → Faults
 event_faults p s replicas l = record {
   unknown = is_unknown p s l;

@@ -18,7 +18,7 @@ pub record IsCallKnown (p : Program) (s : Schedule) (object_name op_name : List 
   pub op : option_map (λ o. o.0) k.op ≡ op_place p.types op_name
   pub within : IfSome k.op (λ o. o.0 < length (all_ops p.types))
 
--- the number of a transaction, and those of objects where all are declared
+-- the number of a transaction, and those of objects if all are declared
 pub record IsBeginKnown (p : Program) (s : Schedule) (txn : List ℕ) (names : List (List ℕ)) (k : Known) : Type 0 where
   pub decl : option_map (λ d. d.0) k.decl ≡ txn_place p.txns txn
   pub objects : MatchOption k.objects (list_any (λ w. is_none (place s.objects w)) names ≡ true)

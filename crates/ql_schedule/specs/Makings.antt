@@ -10,7 +10,7 @@ use Rattle.ql_typing.specs.Operations.{op_place}
 use Rattle.ql_schedule.specs.declared.event_line.EventLine.{EventLine}
 use Rattle.ql_schedule.specs.declared.event_line.EventLine.TheVariants.{Call, Begin, Commit, Deliver, Repeat, Lose, Resend, Partition, Heal, Join}
 use Rattle.ql_schedule.specs.declared.schedule.Schedule.{Schedule}
-use Rattle.ql_schedule.specs.Arguments.{values_of}
+use Rattle.ql_schedule.specs.Arguments.{argument_values}
 
 -- the number of a declared name
 abbrev pub id_of : List (List ℕ) → List ℕ → ℕ
@@ -24,7 +24,7 @@ declared_from names ids (w ∷ ws) = declared_from names (with_id ids (id_of nam
 -- the event of a line
 abbrev pub event_of : Program → Schedule → EventLine → Event
 event_of p s (Call c object op args) =
-    event.Call (record { 0 = c.session }) (record { 0 = c.replica }) (record { 0 = id_of s.objects object }) (record { 0 = unwrap_or (op_place p.types op) 0 }) (values_of args)
+    event.Call (record { 0 = c.session }) (record { 0 = c.replica }) (record { 0 = id_of s.objects object }) (record { 0 = unwrap_or (op_place p.types op) 0 }) (argument_values args)
 event_of p s (Begin c txn objects) =
     event.Begin (record { 0 = c.session }) (record { 0 = c.replica }) (record { 0 = unwrap_or (txn_place p.txns txn) 0 }) (declared_from s.objects [] objects)
 event_of p s (Commit c) = event.Commit (record { 0 = c.session }) (record { 0 = c.replica })
@@ -36,7 +36,7 @@ event_of p s (Partition groups) = event.Partition groups
 event_of p s Heal = event.Heal
 event_of p s (Join near copy) = event.Join (record { 0 = near }) copy
 
--- how many replicas there are behind a line
+-- how many replicas there are after a line
 abbrev pub replicas_with : ℕ → EventLine → ℕ
 replicas_with replicas (Join near copy) = suc replicas
 replicas_with replicas _ = replicas

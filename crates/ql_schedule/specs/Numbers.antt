@@ -2,7 +2,7 @@
 use Rattle.std.specs.Prelude.{ℕ, ◌≡◌, ◌<◌, ◌^◌, ◌⊎◌, List, decimal}
 use Rattle.ql_base.specs.Numbers.{IsNumeral}
 
--- no number that 32 bits can hold
+-- a number that 32 bits can't hold
 abbrev pub IsTooGreat : List ℕ → Type 0
 IsTooGreat field = IsNumeral field × ((m : ℕ) → m < 2 ^ 32 → field ≡ decimal m → ⊥)
 

@@ -1,4 +1,4 @@
--- A line is one thing, and makes one thing of what was read before it.
+-- A line spells one thing, and leads from one state of reading to one next state.
 use Rattle.std.proofs.Common.{◌≡◌, ◌⊎◌, inl, inr, ℕ, ◌+◌, ◌*◌, ◌<◌, ◌^◌, Bool, true, false, List, [], ◌∷◌, Option, Some, None, Result, Ok, Err, length, get_or, drop, codes, arith, refl, ap, sym, subst, ◌∙◌}
 use Rattle.std.proofs.lemmas.Fmt.{decimal_injective}
 use Rattle.ql_lang.specs.declared.program.Program.{Program}
@@ -20,12 +20,12 @@ use Rattle.ql_schedule.specs.declared.rules.SchedRule.{SchedRule}
 use Rattle.ql_schedule.specs.declared.rules.SchedRule.TheVariants.{Unexpected, Unknown, Kind, Range, TooMany, Twice}
 use Rattle.ql_schedule.specs.declared.schedule.Schedule.{Schedule}
 use Rattle.ql_schedule.specs.Arguments.{AreArguments, IsArgument}
-use Rattle.ql_schedule.specs.EventLines.{AreNumbers, CallerAt, IsBegin, IsCall, IsCalled, IsEventIn, IsEventLine, IsJoin, IsOneNumber, IsResend, IsRest, join_word, kind_word}
+use Rattle.ql_schedule.specs.EventLines.{AreNumbers, CallerAt, IsBegin, IsCallLine, IsCalled, IsEventIn, IsEventLine, IsJoin, IsOneNumber, IsResend, IsRest, join_word, event_word}
 use Rattle.ql_schedule.specs.Headers.{IsDeclaration, IsReplicas, IsTitle, IsVersion}
 use Rattle.ql_schedule.specs.Judging.{declaration_faults, event_faults, replicas_faults}
 use Rattle.ql_schedule.specs.Makings.{of_replicas}
 use Rattle.ql_schedule.specs.Numbers.{IsNumber}
-use Rattle.ql_schedule.specs.Outcomes.{Closes, Gives, GivesAs, Makes, Violates, after_declaration, after_event}
+use Rattle.ql_schedule.specs.Outcomes.{Closes, ExtendsSchedule, ExtendsScheduleAs, Makes, Violates, after_declaration, after_event}
 use Rattle.ql_schedule.specs.Rules.{lowest, no_faults}
 
 -- ---- parts
@@ -36,7 +36,7 @@ one_number field m n (inl a) (inr b) = absurd (b.1.1 m a.0 a.1)
 one_number field m n (inr a) (inl b) = absurd (a.1.1 n b.0 b.1)
 one_number field m n (inr a) (inr b) = a.0 ∙ sym b.0
 
--- the numbers of two fields that are the same
+-- the numbers in two equal fields are equal
 same_number : (f g : List ℕ) (m n : ℕ) → f ≡ g → IsNumber f m → IsNumber g n → m ≡ n
 same_number f g m n e a b = one_number g m n (subst (λ h. IsNumber h m) e a) b
 
@@ -78,7 +78,7 @@ one_numbers (p ∷ ps) (x ∷ xs) (y ∷ ys) h k = ap (λ a. a ∷ xs) (one_numb
 
 -- ---- events
 
--- a number for each kind, told by its word
+-- a number for each kind, which its keyword determines
 abbrev pub kind_no : EventLine → ℕ
 kind_no (Call c object op args) = 0
 kind_no (Begin c txn objects) = 1
@@ -97,7 +97,7 @@ word_no w = get_or w 0 0 + 256 * get_or w 2 0
 unfoldable pub no_of_kind : ℕ → ℕ
 no_of_kind k = get_or (27747 ∷ 26466 ∷ 28003 ∷ 27748 ∷ 28786 ∷ 29548 ∷ 29554 ∷ 29296 ∷ 24936 ∷ 26986 ∷ []) k 0
 
-pub no_of_word : (l : EventLine) → word_no (kind_word l) ≡ no_of_kind (kind_no l)
+pub no_of_word : (l : EventLine) → word_no (event_word l) ≡ no_of_kind (kind_no l)
 unfolding word_no no_of_kind
 no_of_word (Call c object op args) = refl
 no_of_word (Begin c txn objects) = refl
@@ -110,17 +110,17 @@ no_of_word (Partition groups) = refl
 no_of_word Heal = refl
 no_of_word (Join near copy) = refl
 
--- two events of one word, by the number of its kind
-same_no : (l m : EventLine) → kind_word l ≡ kind_word m → no_of_kind (kind_no l) ≡ no_of_kind (kind_no m)
+-- two events with one keyword, by the number of its kind
+same_no : (l m : EventLine) → event_word l ≡ event_word m → no_of_kind (kind_no l) ≡ no_of_kind (kind_no m)
 same_no l m e = sym (no_of_word l) ∙ ap word_no e ∙ no_of_word m
 
--- the parts behind a call's operation
+-- the parts after a call's operation
 pub one_called : (parts : Fields) (c d : Caller) (o p f g : List ℕ) (r q : Fields) → IsCalled parts c o f r → IsCalled parts d p g q → r ≡ q
 one_called parts c d o p f g r q a b =
     let caller = one_caller c d parts a.behind b.behind a.caller b.caller in
     ap (λ (fs : Fields). drop 2 fs) (sym a.are ∙ caller.1 ∙ b.are)
 
-one_call : (parts : Fields) (c d : Caller) (o p f g : List ℕ) (xs ys : List Argument) → IsCall parts c o f xs → IsCall parts d p g ys → Call c o f xs ≡ Call d p g ys
+one_call : (parts : Fields) (c d : Caller) (o p f g : List ℕ) (xs ys : List Argument) → IsCallLine parts c o f xs → IsCallLine parts d p g ys → Call c o f xs ≡ Call d p g ys
 one_call parts c d o p f g xs ys a b =
     let caller = one_caller c d parts a.called.behind b.called.behind a.called.caller b.called.caller in
     let e : o ∷ f ∷ a.rest ≡ p ∷ g ∷ b.rest = sym a.called.are ∙ caller.1 ∙ b.called.are in
@@ -179,7 +179,7 @@ one_rest parts l m e a b = absurd (omega (arith, e))
 pub one_event : (parts : Fields) (l m : EventLine) → IsEventLine parts l → IsEventLine parts m → l ≡ m
 one_event parts l m h k =
     let e = sym h.are ∙ k.are in
-    let word : kind_word l ≡ kind_word m = ap (λ (fs : Fields). get_or fs 0 []) e in
+    let word : event_word l ≡ event_word m = ap (λ (fs : Fields). get_or fs 0 []) e in
     let rest : h.rest ≡ k.rest = ap (λ (fs : Fields). drop 1 fs) e in
     one_rest k.rest l m (same_no l m word) (subst (λ fs. IsRest fs l) rest h.rest_is) k.rest_is
 
@@ -203,7 +203,7 @@ one_declaration parts (Object n k) Events h g = absurd (omega (arith, ap length 
 one_declaration parts Events (Object m l) h g = absurd (omega (arith, ap length (sym g.2 ∙ h)))
 one_declaration parts Events Events h g = refl
 
--- ---- what a line is, is one thing; then it makes one thing, and never none
+-- -- a line that spells one thing has one result, and always has one
 
 some_of : SchedRule → Option SchedRule → SchedRule
 some_of r (Some q) = q
@@ -215,7 +215,7 @@ module _ {L : Type 0} (Is : L → Type 0) (faults_of : L → Faults) (next : L �
   never_unexpected f e = grind (arith, e)
 
   abbrev No : Type 0
-  No = (x : Result Reading SchedRule) → GivesAs Is faults_of next x → ⊥
+  No = (x : Result Reading SchedRule) → ExtendsScheduleAs Is faults_of next x → ⊥
 
   refused : No → (line : L) → Is line → (rule : SchedRule) → lowest (faults_of line) ≡ Some rule → ⊥
   refused none line is Unexpected e = never_unexpected (faults_of line) e
@@ -233,11 +233,11 @@ module _ {L : Type 0} (Is : L → Type 0) (faults_of : L → Faults) (next : L �
   some_given none = none (Err Unexpected) (λ line is. by_rule none line is (lowest (faults_of line)) refl)
 
   module _ (one : (a b : L) → Is a → Is b → a ≡ b) where
-    -- a refusal as one by a rule, or as that of a line that is nothing
+    -- a refusal by a rule, or of a line that spells nothing
     abbrev IsRuled : SchedRule → Type 0
     IsRuled rule = ((rule ≡ Unexpected) × ((line : L) → Is line → ⊥)) ⊎ Violates Is faults_of next rule
 
-    ruled : (rule : SchedRule) → GivesAs Is faults_of next (Err rule) → IsRuled rule
+    ruled : (rule : SchedRule) → ExtendsScheduleAs Is faults_of next (Err rule) → IsRuled rule
     ruled Unexpected h = inl (refl, h)
     ruled Unknown h = inr h
     ruled Kind h = inr h
@@ -259,20 +259,20 @@ module _ {L : Type 0} (Is : L → Type 0) (faults_of : L → Faults) (next : L �
     one_rule q r (inr u) (inl v) = absurd (v.1 u.line u.is)
     one_rule q r (inr u) (inr v) = ap (some_of q) (sym u.unlawful ∙ ap (λ l. lowest (faults_of l)) (one u.line v.line u.is v.is) ∙ v.unlawful)
 
-    pub one_given : (x y : Result Reading SchedRule) → GivesAs Is faults_of next x → GivesAs Is faults_of next y → x ≡ y
+    pub one_given : (x y : Result Reading SchedRule) → ExtendsScheduleAs Is faults_of next x → ExtendsScheduleAs Is faults_of next y → x ≡ y
     one_given (Ok a) (Ok b) h k = ap Ok (h.to ∙ ap next (one h.line k.line h.is k.is) ∙ sym k.to)
     one_given (Ok a) (Err r) h k = absurd (apart a r h (ruled r k))
     one_given (Err q) (Ok b) h k = absurd (apart b q k (ruled q h))
     one_given (Err q) (Err r) h k = ap Err (one_rule q r (ruled q h) (ruled r k))
 
-pub gives_one : (p : Program) (s : Reading) (parts : Fields) (x y : Result Reading SchedRule) → Gives p s parts x → Gives p s parts y → x ≡ y
+pub gives_one : (p : Program) (s : Reading) (parts : Fields) (x y : Result Reading SchedRule) → ExtendsSchedule p s parts x → ExtendsSchedule p s parts y → x ≡ y
 gives_one p Untitled parts x y h k = one_given (IsTitle parts) (λ _. no_faults) Titled (one_title parts) x y h k
 gives_one p (Titled version) parts x y h k = one_given (IsReplicas parts) replicas_faults (λ n. Declaring (of_replicas version n)) (one_count parts) x y h k
 gives_one p (Declaring s) parts x y h k = one_given (IsDeclaration parts) (declaration_faults p s) (after_declaration p s) (one_declaration parts) x y h k
 gives_one p (Running s replicas) parts x y h k =
     one_given (IsEventIn s.version parts) (event_faults p s replicas) (after_event p s replicas) (λ l m a b. one_event parts l m a.0 b.0) x y h k
 
-pub gives_some : (p : Program) (s : Reading) (parts : Fields) → ((x : Result Reading SchedRule) → Gives p s parts x → ⊥) → ⊥
+pub gives_some : (p : Program) (s : Reading) (parts : Fields) → ((x : Result Reading SchedRule) → ExtendsSchedule p s parts x → ⊥) → ⊥
 gives_some p Untitled parts none = some_given (IsTitle parts) (λ _. no_faults) Titled none
 gives_some p (Titled version) parts none = some_given (IsReplicas parts) replicas_faults (λ n. Declaring (of_replicas version n)) none
 gives_some p (Declaring s) parts none = some_given (IsDeclaration parts) (declaration_faults p s) (after_declaration p s) none

@@ -1,4 +1,4 @@
--- What one more line makes of a schedule that was read in part, and what a file says that ends behind it.
+-- The state of reading after one more line, and the content of a file that ends there.
 use Rattle.std.specs.Prelude.{ℕ, ◌≡◌, Some, None, Result, Ok, Err}
 use Rattle.ql_lang.specs.declared.program.Program.{Program}
 use Rattle.ql_line_files.specs.declared.fault.Broken.{Broken}
@@ -24,8 +24,8 @@ use Rattle.ql_schedule.specs.Rules.{lowest, no_faults}
 
 -- ---- one line
 
--- A line is one thing, and breaks no rule, and makes the next reading; or it is that thing, and this is the lowest rule
--- that it breaks; or it is no such thing.
+-- A line spells a thing, breaks no rule, and leads to the next state of reading; or it spells a thing, and this is the
+-- lowest rule that it breaks; or it spells no such thing.
 module _ {L : Type 0} (Is : L → Type 0) (faults_of : L → Faults) (next : L → Reading) where
   pub record Makes (after : Reading) : Type 0 where
     pub line : L
@@ -38,10 +38,10 @@ module _ {L : Type 0} (Is : L → Type 0) (faults_of : L → Faults) (next : L �
     pub is : Is line
     pub unlawful : lowest (faults_of line) ≡ Some rule
 
-  abbrev pub GivesAs : Result Reading SchedRule → Type 0
-  GivesAs (Ok after) = Makes after
-  GivesAs (Err Unexpected) = (line : L) → Is line → ⊥
-  GivesAs (Err rule) = Violates rule
+  abbrev pub ExtendsScheduleAs : Result Reading SchedRule → Type 0
+  ExtendsScheduleAs (Ok after) = Makes after
+  ExtendsScheduleAs (Err Unexpected) = (line : L) → Is line → ⊥
+  ExtendsScheduleAs (Err rule) = Violates rule
 
 abbrev pub after_declaration : Program → Schedule → Declaration → Reading
 after_declaration p s (Object name kind) = Declaring (with_object p s name kind)
@@ -50,16 +50,16 @@ after_declaration p s Events = Running s s.replicas
 abbrev pub after_event : Program → Schedule → ℕ → EventLine → Reading
 after_event p s replicas l = Running (with_event s (event_of p s l)) (replicas_with replicas l)
 
--- what a line with these parts makes of what was read before it, or the lowest rule that it breaks
-abbrev pub Gives : Program → Reading → Fields → Result Reading SchedRule → Type 0
-Gives p Untitled parts = GivesAs (IsTitle parts) (λ _. no_faults) Titled
-Gives p (Titled version) parts = GivesAs (IsReplicas parts) replicas_faults (λ n. Declaring (of_replicas version n))
-Gives p (Declaring s) parts = GivesAs (IsDeclaration parts) (declaration_faults p s) (after_declaration p s)
-Gives p (Running s replicas) parts = GivesAs (IsEventIn s.version parts) (event_faults p s replicas) (after_event p s replicas)
+-- the state of reading after a line with these parts, or the lowest rule that it breaks
+abbrev pub ExtendsSchedule : Program → Reading → Fields → Result Reading SchedRule → Type 0
+ExtendsSchedule p Untitled parts = ExtendsScheduleAs (IsTitle parts) (λ _. no_faults) Titled
+ExtendsSchedule p (Titled version) parts = ExtendsScheduleAs (IsReplicas parts) replicas_faults (λ n. Declaring (of_replicas version n))
+ExtendsSchedule p (Declaring s) parts = ExtendsScheduleAs (IsDeclaration parts) (declaration_faults p s) (after_declaration p s)
+ExtendsSchedule p (Running s replicas) parts = ExtendsScheduleAs (IsEventIn s.version parts) (event_faults p s replicas) (after_event p s replicas)
 
 -- ---- the end of a file
 
--- a file may end behind the word `events` or behind an event; else the line after its last one is at fault
+-- a file may end after the keyword `events` or after an event; otherwise the fault is at the line after its last one
 abbrev pub Closes : Reading → ℕ → Result Schedule (Broken SchedRule) → Type 0
 Closes (Running s replicas) end x = x ≡ Ok s
 Closes other end x = x ≡ Err (record { line = end; rule = Unexpected })

@@ -1,4 +1,4 @@
--- Of the rules that a line breaks the lowest counts.
+-- Of the rules that a line breaks, the lowest is reported.
 use Rattle.std.specs.Prelude.{false, Option, Some, None, if◌then◌else◌}
 use Rattle.ql_schedule.specs.declared.rules.Faults.{Faults}
 use Rattle.ql_schedule.specs.declared.rules.SchedRule.{SchedRule}

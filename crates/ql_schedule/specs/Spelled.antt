@@ -1,5 +1,5 @@
--- The schedules that are read again as they are printed: names are names and not repeated, so that each one is found by
--- its own name; arguments are scalars; and numbers are in range.
+-- The schedules that are read back as they are printed: names are valid and not repeated, so that each is found by its
+-- own; arguments are scalars; and numbers are in range.
 use Rattle.std.specs.Prelude.{ℕ, ◌≡◌, ◌<◌, ◌≤◌, ◌^◌, false, true, List, [], ◌∷◌, ◌++◌, Some, length}
 use Rattle.std.specs.List.{AllByRecursion}
 use Rattle.ql_base.specs.IdLists.{IsAscending}
@@ -11,14 +11,15 @@ use Rattle.ql_machine.specs.declared.event.Event.{Event}
 use Rattle.ql_machine.specs.declared.event.Event.TheVariants.{Call, Begin, Commit, Deliver, Repeat, Lose, Resend, Partition, Heal, Join}
 use Rattle.ql_typing.specs.Lookups.{txn_place, type_place}
 use Rattle.ql_typing.specs.Operations.{op_place}
+use Rattle.ql_typing.specs.Names.{op_name, txn_name, type_name}
 use Rattle.ql_value.specs.declared.value.Value.{Value}
 use Rattle.ql_value.specs.ValueGrammar.{IsValue}
 use Rattle.ql_schedule.specs.declared.schedule.Schedule.{Schedule}
 use Rattle.ql_schedule.specs.Arguments.{is_scalar}
 use Rattle.ql_schedule.specs.Guarantees.{IsSchedule}
-use Rattle.ql_schedule.specs.Texts.{name_at, op_name, txn_name, type_name}
+use Rattle.ql_schedule.specs.Texts.{name_at}
 
--- names, none of which stands before
+-- names, none of which occurs earlier
 abbrev pub AreNew : List (List ℕ) → List (List ℕ) → Type 0
 AreNew before [] = Unit {0}
 AreNew before (w ∷ ws) = IsName w × (has_name before w ≡ false) × AreNew (before ++ w ∷ []) ws

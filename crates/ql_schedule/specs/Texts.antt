@@ -7,23 +7,15 @@ use Rattle.ql_lines.specs.Fields.{Fields}
 use Rattle.ql_machine.specs.declared.event.Event.{Event}
 use Rattle.ql_machine.specs.declared.event.Event.TheVariants.{Call, Begin, Commit, Deliver, Repeat, Lose, Resend, Partition, Heal, Join}
 use Rattle.ql_typing.specs.Operations.{all_ops}
+use Rattle.ql_typing.specs.Names.{op_name, txn_name, type_name}
 use Rattle.ql_value.specs.Spelling.{value_text}
 use Rattle.ql_schedule.specs.declared.schedule.Schedule.{Schedule}
 use Rattle.ql_schedule.specs.EventLines.{join_word}
-use Rattle.ql_schedule.specs.Headers.{title}
+use Rattle.ql_schedule.specs.Headers.{schedule_title}
 
--- the names of numbers
+-- the names that numbers stand for
 abbrev pub name_at : List (List ℕ) → ℕ → List ℕ
 name_at names k = option_map_or (λ w. w) (slice_get names k) []
-
-abbrev pub op_name : Program → ℕ → List ℕ
-op_name p o = option_map_or (λ d. d.name.word) (slice_get (all_ops p.types) o) []
-
-abbrev pub type_name : Program → ℕ → List ℕ
-type_name p t = option_map_or (λ d. d.name.word) (slice_get p.types t) []
-
-abbrev pub txn_name : Program → ℕ → List ℕ
-txn_name p d = option_map_or (λ t. t.name.word) (slice_get p.txns d) []
 
 -- ---- lines
 
@@ -54,7 +46,7 @@ object_lines p _ _ = []
 
 abbrev pub schedule_lines : Program → Schedule → List Fields
 schedule_lines p s =
-    title s.version ∷ (codes "replicas" ∷ decimal s.replicas ∷ []) ∷ (object_lines p s.objects s.kinds ++ (codes "events" ∷ []) ∷ map (event_fields p s.objects) s.events)
+    schedule_title s.version ∷ (codes "replicas" ∷ decimal s.replicas ∷ []) ∷ (object_lines p s.objects s.kinds ++ (codes "events" ∷ []) ∷ map (event_fields p s.objects) s.events)
 
 -- ---- what can be printed: all numbers name something
 

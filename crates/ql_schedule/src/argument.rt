@@ -21,7 +21,7 @@ pub(crate) enum Argument {
 }
 
 impl Argument {
-    /// Whether it is of this kind.
+    /// Whether the argument is of this kind.
     pub(crate) fn has_base(&self, base: Base) -> bool
         ensures { result ≡ has_base base self.now }
     {
@@ -34,7 +34,7 @@ impl Argument {
     }
 }
 
-/// The arguments that all parts of a text are.
+/// The arguments that the parts of a text spell, if each spells one.
 pub(crate) fn arguments(alloc: Global, text: &[u8]) -> Result<Option<Arguments>, NoMemory>
     ensures { IfOk result (λ read. MatchOption read ((args : List Argument) → AreArguments (parts_of text.now) args → ⊥)
         (λ args. AreArguments (parts_of text.now) args)) }
@@ -51,7 +51,7 @@ pub(crate) fn arguments(alloc: Global, text: &[u8]) -> Result<Option<Arguments>,
     Ok(Some(Arguments::of(arguments)))
 }
 
-// The argument that a part is.
+// The argument that a part spells.
 fn read_argument(alloc: Global, part: &[u8]) -> Result<Option<Argument>, NoMemory>
     ensures { IfOk result (λ read. MatchOption read ((a : Argument) → IsArgument part.now a → ⊥) (λ a. IsArgument part.now a)) }
 {
@@ -69,7 +69,7 @@ fn read_argument(alloc: Global, part: &[u8]) -> Result<Option<Argument>, NoMemor
     }
 }
 
-// The value that a whole part spells.
+// The value that the whole part spells.
 fn value(alloc: Global, part: &[u8]) -> Result<Option<Value>, NoMemory>
     ensures { IfOk result (λ read. MatchOption read ((v : Value) → value_at part.now ≡ Ok (v, []) → ⊥) (λ v. value_at part.now ≡ Ok (v, []))) }
 {
@@ -103,7 +103,7 @@ fn is_negative(part: &[u8]) -> bool
     }
 }
 
-// Whether a text is digits that no zero begins.
+// Whether a text is digits without a zero at the start.
 fn is_positive(digits: &[u8]) -> bool
     ensures { IsTrue result ↔ IsPositive digits.now }
 {

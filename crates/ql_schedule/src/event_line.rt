@@ -43,7 +43,7 @@ pub(crate) enum EventLine {
     },
 }
 
-/// The event that a line is in a version of the format.
+/// The event that a line spells in a version of the format.
 pub(crate) fn read_event(
     alloc: Global,
     version: u32,
@@ -57,7 +57,7 @@ pub(crate) fn read_event(
     }
 }
 
-// The line where a version of the format has it.
+// The line, if a version of the format has it.
 fn in_version(version: u32, line: EventLine) -> Option<EventLine>
     ensures { MatchOption result (is_of_version version line ≡ false) (λ l. (l ≡ line) × (is_of_version version line ≡ true)) }
 {
@@ -79,7 +79,7 @@ impl EventLine {
     }
 }
 
-// The event that a line is.
+// The event that a line spells.
 fn read_event_line(alloc: Global, text: &[u8]) -> Result<Option<EventLine>, NoMemory>
     ensures { IfOk result (λ read. MatchOption read ((l : EventLine) → IsEventLine (parts_of text.now) l → ⊥) (λ l. IsEventLine (parts_of text.now) l)) }
 {
@@ -97,7 +97,7 @@ fn read_event_line(alloc: Global, text: &[u8]) -> Result<Option<EventLine>, NoMe
     }
 }
 
-// An event of a kind that takes no memory.
+// An event of a kind that allocates nothing.
 fn plain(word: &[u8], rest: &[u8]) -> Option<EventLine>
     requires call { word.now ≡ codes "call" → ⊥ }
     requires begin { word.now ≡ codes "begin" → ⊥ }
@@ -142,7 +142,7 @@ fn call(alloc: Global, text: &[u8]) -> Result<Option<EventLine>, NoMemory>
 }
 
 #[tactic(auto, using(crate::proofs::Fronts::no_called))]
-// What a call's line says before its arguments.
+// What a call's line has before its arguments.
 fn called(text: &[u8]) -> Option<(Caller, &[u8], &[u8], &[u8])>
     ensures { MatchOption result ((c : Caller) (object op : List ℕ) (rest : Fields) → IsCalled (parts_of text.now) c object op rest → ⊥)
         (λ x. IsCalled (parts_of text.now) x.0 x.1.now x.2.now (parts_of x.3.now)) }

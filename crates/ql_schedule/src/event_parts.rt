@@ -12,7 +12,7 @@ use crate::parts::{after_name, after_number, after_word, first_part, is_end, num
 use ql_base::{NoMemory, Word, is_name};
 use std::alloc::Global;
 
-/// A session and the replica to which it turns.
+/// A session and the replica that it calls.
 #[derive(Clone, Copy)]
 pub(crate) struct Caller {
     pub session: u64,
@@ -20,7 +20,7 @@ pub(crate) struct Caller {
 }
 
 #[tactic(auto, using(crate::proofs::Fronts::no_caller, crate::proofs::Fronts::no_replica))]
-/// A caller, and what stands behind it.
+/// A caller, and what follows it.
 pub(crate) fn after_caller(text: &[u8]) -> Option<(Caller, &[u8])>
     ensures { MatchOption result ((c : Caller) (rest : Fields) → CallerAt c (parts_of text.now) rest → ⊥) (λ x. CallerAt x.0 (parts_of text.now) (parts_of x.1.now)) }
 {
@@ -35,7 +35,7 @@ pub(crate) fn after_caller(text: &[u8]) -> Option<(Caller, &[u8])>
 }
 
 #[tactic(auto, using(crate::proofs::Fronts::no_number_alone))]
-/// The one number that a text is.
+/// The one number that a text spells.
 pub(crate) fn one_number(text: &[u8]) -> Option<u64>
     ensures { MatchOption result ((field : List ℕ) (n : ℕ) → IsNumber field n → parts_of text.now ≡ field ∷ [] → ⊥)
         (λ n. (field : List ℕ) × IsNumber field n × (parts_of text.now ≡ field ∷ [])) }
@@ -46,7 +46,7 @@ pub(crate) fn one_number(text: &[u8]) -> Option<u64>
     if is_end(behind) { Some(number) } else { None }
 }
 
-/// The numbers that all parts of a text are.
+/// The numbers that the parts of a text spell, if each spells one.
 pub(crate) fn numbers(alloc: Global, text: &[u8]) -> Result<Option<Numbers>, NoMemory>
     ensures { IfOk result (λ read. MatchOption read ((ns : List ℕ) → AreNumbers (parts_of text.now) ns → ⊥) (λ ns. AreNumbers (parts_of text.now) ns)) }
 {
@@ -62,7 +62,7 @@ pub(crate) fn numbers(alloc: Global, text: &[u8]) -> Result<Option<Numbers>, NoM
     Ok(Some(Numbers::of(numbers)))
 }
 
-/// The names that all parts of a text are.
+/// The names in a text, if each of its parts is one.
 pub(crate) fn names(alloc: Global, text: &[u8]) -> Result<Option<Words>, NoMemory>
     ensures { IfOk result (λ read. MatchOption read (AllByRecursion IsName (parts_of text.now) → ⊥)
         (λ words. AllByRecursion IsName (parts_of text.now) × (words ≡ parts_of text.now))) }

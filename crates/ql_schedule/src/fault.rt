@@ -4,24 +4,24 @@ ghost use Rattle.ql_schedule.specs.Outcomes.{fault_of};
 use crate::rules::SchedRule;
 use ql_line_files::{Broken, FileFault};
 
-/// Why a text is no schedule of a program, with the line from 1 at which the first fault stands. The
-/// end of a file that ends before its events is the line after its last. Of the faults of one line
-/// the first in this order counts.
+/// Why a text isn't a schedule of a program, with the number of the first faulty line, from 1. If the file
+/// ends before its events, that is the line after its last. If a line has several faults, the first in this
+/// order is reported.
 #[derive(Clone, Copy, Debug, PartialEq, Eq)]
 pub enum SchedFault {
     /// The line isn't in the grammar.
     Unexpected(u64),
-    /// A name that isn't declared.
+    /// A name isn't declared.
     Unknown(u64),
-    /// An operation of another type than its object's, or arguments of another count or kind.
+    /// An operation is of another type than its object, or has arguments of another count or kind.
     Kind(u64),
-    /// A replica, a session, a group or a number that is out of range.
+    /// A replica, a session, a group or a number is out of range.
     Range(u64),
-    /// One object, one event, one object that a transaction declares or one replica above the limit.
+    /// One object, event, object of a transaction, or replica more than the limit.
     TooMany(u64),
-    /// A name that is declared twice, or listed twice.
+    /// A name is declared twice, or listed twice.
     Twice(u64),
-    /// No memory was left.
+    /// Out of memory.
     NoMemory,
 }
 

@@ -13,11 +13,11 @@ use ql_base::Word;
 #[derive(Clone, Copy)]
 pub(crate) enum Declaration {
     Object { name: Word, kind: Word },
-    /// The word that the events follow.
+    /// The keyword that ends the declarations; the events follow.
     Events,
 }
 
-/// The version of the format whose title a line is.
+/// The version of the format, if a line is its title.
 pub(crate) fn read_title(text: &[u8]) -> Option<u32>
     ensures { MatchOption result ((version : ℕ) → IsTitle (parts_of text.now) version → ⊥) (λ version. IsTitle (parts_of text.now) version) }
 {
@@ -36,7 +36,7 @@ fn after_title(text: &[u8]) -> Option<&[u8]>
     Some(behind)
 }
 
-// The version that is all of a text.
+// The version, if a text has nothing else.
 fn read_version(text: &[u8]) -> Option<u32>
     ensures { MatchOption result ((version : ℕ) → IsVersion version → parts_of text.now ≡ decimal version ∷ [] → ⊥)
         (λ version. IsVersion version × (parts_of text.now ≡ decimal version ∷ [])) }
@@ -50,7 +50,7 @@ fn read_version(text: &[u8]) -> Option<u32>
     }
 }
 
-// Whether a text is one word.
+// Whether a text has this word and nothing else.
 fn is_word(text: &[u8], word: &[u8]) -> bool
     ensures { IsTrue result ↔ (parts_of text.now ≡ word.now ∷ []) }
 {
@@ -61,7 +61,7 @@ fn is_word(text: &[u8], word: &[u8]) -> bool
 }
 
 #[tactic(auto, using(crate::proofs::Fronts::no_count))]
-/// The number of replicas that a line says.
+/// The number of replicas on a line.
 pub(crate) fn read_replicas(text: &[u8]) -> Option<u64>
     ensures { MatchOption result ((n : ℕ) → IsReplicas (parts_of text.now) n → ⊥) (λ n. IsReplicas (parts_of text.now) n) }
 {
@@ -69,7 +69,7 @@ pub(crate) fn read_replicas(text: &[u8]) -> Option<u64>
     one_number(rest)
 }
 
-/// The declaration that a line is.
+/// The declaration on a line.
 pub(crate) fn read_declaration(text: &[u8]) -> Option<Declaration>
     ensures { MatchOption result ((d : Declaration) → IsDeclaration (parts_of text.now) d → ⊥) (λ d. IsDeclaration (parts_of text.now) d) }
 {

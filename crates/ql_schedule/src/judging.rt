@@ -49,7 +49,7 @@ pub(crate) fn replicas_faults(number: u64) -> Faults
     }
 }
 
-/// The rules that a declaration breaks after what was declared before it.
+/// The rules that a declaration breaks after the earlier declarations.
 pub(crate) fn declaration_faults(t: &Typed, so_far: &Schedule, line: &Declaration) -> Faults
     ensures { result ≡ declaration_faults t.now.program so_far.now line.now }
 {
@@ -71,7 +71,7 @@ pub(crate) fn declaration_faults(t: &Typed, so_far: &Schedule, line: &Declaratio
     }
 }
 
-/// The rules that an event breaks after what was said before it, with so many replicas there.
+/// The rules that an event breaks after the earlier lines, when there are this many replicas.
 pub(crate) fn event_faults(
     t: &Typed,
     so_far: &Schedule,
@@ -114,8 +114,7 @@ fn is_misfit(t: &Typed, so_far: &Schedule, line: &EventLine, known: &Known) -> b
     }
 }
 
-// Whether an operation is of an object's type, and arguments fit it. Nothing is asked of unknown
-// names.
+// Whether an operation is of an object's type, and arguments fit it. Unknown names are accepted here.
 fn may_call(
     t: &Typed,
     so_far: &Schedule,
@@ -223,7 +222,7 @@ fn declares_too_many(line: &EventLine) -> bool
     }
 }
 
-// Whether a replica joins where there are as many as there may be.
+// Whether a replica joins although there are already as many as allowed.
 fn is_full(replicas: u32, line: &EventLine) -> bool
     ensures { result ≡ is_full replicas line.now }
 {
@@ -245,7 +244,7 @@ fn is_twice(line: &EventLine) -> bool
 }
 
 #[tactic(auto, unfolding(crate::specs::Judging::has_repeat))]
-// Whether a word stands twice in a short list.
+// Whether a word occurs twice in a short list.
 fn has_repeat(words: &[Word]) -> bool
     ensures { result ≡ has_repeat words.now }
 {

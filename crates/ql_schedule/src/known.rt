@@ -10,8 +10,8 @@ use ql_base::{DeclId, IdSet, NoMemory, OpId, Word};
 use ql_typing::Typed;
 use std::alloc::Global;
 
-/// The numbers of the names in an event's line, where they are known. A line has none of the names
-/// that its kind lacks.
+/// The numbers of the names in an event's line, if they are known. Names that a line of its kind doesn't
+/// have are none.
 #[derive(Drop)]
 pub(crate) struct Known {
     pub object: Option<u32>,
@@ -52,7 +52,7 @@ pub(crate) fn look_up(
 }
 
 #[tactic(auto, unfolding(crate::specs::Makings::declared_from))]
-// The numbers of objects, where all of them are declared.
+// The numbers of objects, if all of them are declared.
 fn declared(alloc: Global, so_far: &Schedule, names: &[Word]) -> Result<Option<IdSet>, NoMemory>
     ensures { IfOk result (λ ids. MatchOption ids (list_any (λ w. is_none (place so_far.now.objects w)) names.now ≡ true)
         (λ ids. (list_any (λ w. is_none (place so_far.now.objects w)) names.now ≡ false) × (ids ≡ declared_from so_far.now.objects [] names.now))) }

@@ -1,7 +1,7 @@
 // Schedules as texts: how many replicas there are, the objects with their types, and the events.
-// Its one contract: a file is read to the schedule that it says, or to its first fault and never
-// both; what is printed is read again; and a schedule that was read is one that a store can step
-// through, whose objects have names apart.
+// Its one contract: reading a file returns the schedule that it spells, or its first fault, and never
+// both; a schedule that is printed is read back; and a schedule that was read is one that a store can step
+// through, whose objects have distinct names.
 #![tactic(auto)]
 
 mod argument;

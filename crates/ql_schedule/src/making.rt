@@ -1,5 +1,5 @@
 ghost use Rattle.std.specs.Prelude.{◌≡◌, ◌++◌, OnOk, ◌<◌, ◌^◌, IfOk, None, All};
-ghost use Rattle.ql_schedule.specs.Arguments.{given, values_of};
+ghost use Rattle.ql_schedule.specs.Arguments.{given, argument_values};
 ghost use Rattle.ql_schedule.specs.Judging.{event_faults};
 ghost use Rattle.ql_schedule.specs.Known.{AreNumbers};
 ghost use Rattle.ql_schedule.specs.Makings.{event_of};
@@ -72,9 +72,9 @@ fn replica(replicas: u32, number: u64) -> ReplicaId
     ReplicaId(number as u32)
 }
 
-// The values that are given as arguments.
+// The values of arguments that 64 bits can hold.
 fn values(alloc: Global, args: Arguments) -> Result<Values, NoMemory>
-    ensures { IfOk result (λ values. values ≡ values_of args) }
+    ensures { IfOk result (λ values. values ≡ argument_values args) }
 {
     let mut values = Vec::with_capacity(alloc, args.items().len())?;
     for arg in args.into_items() {

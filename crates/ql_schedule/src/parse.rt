@@ -11,7 +11,7 @@ use ql_line_files::read_file;
 use ql_typing::Typed;
 use std::alloc::Global;
 
-/// The schedule that a file says for the stores of a program, or the file's first fault.
+/// The schedule for the stores of a program that a file spells, or the file's first fault.
 pub fn parse_schedule(alloc: Global, t: &Typed, bytes: &[u8]) -> Result<Schedule, SchedFault>
     ensures read { MatchResult result (IsScheduleFile t.now.program (ahead_from 1 bytes.now)) (IsRefusal t.now.program (ahead_from 1 bytes.now)) }
     ensures guarantees { IfOk result (IsSchedule t.now.program) }

@@ -9,7 +9,7 @@ ghost use Rattle.ql_schedule.specs.Parts.{isn't_space, part_len, parts_of, quote
 use ql_base::{digit_bytes, is_name, number_of};
 use ql_lines::bytes_before;
 
-/// The first part of a line and what stands behind it.
+/// The first part of a line and what follows it.
 pub(crate) fn first_part(text: &[u8]) -> Option<(&[u8], &[u8])>
     ensures first { MatchOption result (parts_of text.now ≡ []) (λ x. parts_of text.now ≡ x.0.now ∷ parts_of x.1.now) }
     ensures shorter { MatchOption result (Unit {0}) (λ x. suc (length x.1.now) ≤ length text.now) }
@@ -21,7 +21,7 @@ pub(crate) fn first_part(text: &[u8]) -> Option<(&[u8], &[u8])>
     Some(start.split_at(part_bytes(start)))
 }
 
-// How many spaces stand at the front.
+// How many spaces a text starts with.
 fn spaces(text: &[u8]) -> usize
     ensures longest { result ≡ prefix_len is_space text.now }
     ensures within { result ≤ length text.now }
@@ -29,8 +29,8 @@ fn spaces(text: &[u8]) -> usize
     text.iter().take_while(|b| **b == b' ').count()
 }
 
-// How many bytes the part at the front has. Where a quote begins it, it goes up to the next quote at
-// least.
+// The length in bytes of the part at the start. If it begins with a quote, it extends at least to the next
+// quote.
 fn part_bytes(text: &[u8]) -> usize
     ensures all { result ≡ part_len text.now }
     ensures within { result ≤ length text.now }
@@ -39,7 +39,7 @@ fn part_bytes(text: &[u8]) -> usize
     quoted + bytes_before_space(&text[quoted..])
 }
 
-// How many bytes stand before the first space.
+// How many bytes there are before the first space.
 fn bytes_before_space(text: &[u8]) -> usize
     ensures longest { result ≡ prefix_len isn't_space text.now }
     ensures within { result ≤ length text.now }
@@ -47,7 +47,7 @@ fn bytes_before_space(text: &[u8]) -> usize
     bytes_before(text, b' ')
 }
 
-// How many bytes at the front are a text: a quote and all up to the next one.
+// The length in bytes of the quoted text at the start: a quote and everything up to the next one. 0 without a quote.
 fn quoted_bytes(text: &[u8]) -> usize
     ensures all { result ≡ quoted_len text.now }
     ensures within { result ≤ length text.now }
@@ -59,7 +59,7 @@ fn quoted_bytes(text: &[u8]) -> usize
     }
 }
 
-// How many bytes go up to the next quote, with it. Without one they are all.
+// How many bytes there are up to and including the next quote. Without a quote, all of them.
 fn text_bytes(text: &[u8]) -> usize
     ensures all { result ≡ text_len text.now }
     ensures within { result ≤ length text.now }
@@ -72,14 +72,14 @@ fn text_bytes(text: &[u8]) -> usize
     }
 }
 
-/// Whether a line has no part.
+/// Whether a line has no parts.
 pub(crate) fn is_end(text: &[u8]) -> bool
     ensures { IsTrue result ↔ (parts_of text.now ≡ []) }
 {
     first_part(text).is_none()
 }
 
-/// What stands behind a first part that is this word.
+/// What follows the first part, if that is this word.
 pub(crate) fn after_word<'a>(text: &'a [u8], word: &[u8]) -> Option<&'a [u8]>
     ensures { MatchOption result ((rest : Fields) → parts_of text.now ≡ word.now ∷ rest → ⊥) (λ behind. parts_of text.now ≡ word.now ∷ parts_of behind.now) }
 {
@@ -87,7 +87,7 @@ pub(crate) fn after_word<'a>(text: &'a [u8], word: &[u8]) -> Option<&'a [u8]>
     if first == word { Some(behind) } else { None }
 }
 
-/// A first part that is a name, and what stands behind it.
+/// The first part, if it is a name, and what follows it.
 pub(crate) fn after_name(text: &[u8]) -> Option<(&[u8], &[u8])>
     ensures { MatchOption result ((name : List ℕ) (rest : Fields) → IsName name → parts_of text.now ≡ name ∷ rest → ⊥)
         (λ x. IsName x.0.now × (parts_of text.now ≡ x.0.now ∷ parts_of x.1.now)) }
@@ -101,7 +101,7 @@ pub(crate) fn after_name(text: &[u8]) -> Option<(&[u8], &[u8])>
 }
 
 #[tactic(auto, using(crate::proofs::Fronts::no_other_first))]
-/// A first part that is a number, and what stands behind it.
+/// The number that the first part spells, if it is one, and what follows it.
 pub(crate) fn after_number(text: &[u8]) -> Option<(u64, &[u8])>
     ensures { MatchOption result ((field : List ℕ) (n : ℕ) (rest : Fields) → IsNumber field n → parts_of text.now ≡ field ∷ rest → ⊥)
         (λ x. (field : List ℕ) × IsNumber field x.0 × (parts_of text.now ≡ field ∷ parts_of x.1.now)) }
@@ -113,7 +113,7 @@ pub(crate) fn after_number(text: &[u8]) -> Option<(u64, &[u8])>
     Some((number, behind))
 }
 
-/// The number that a part spells. All numbers that 32 bits can't hold are 2^32.
+/// The number that a part spells. Any number that 32 bits can't hold is returned as 2^32.
 pub(crate) fn number(field: &[u8]) -> Option<u64>
     ensures { MatchOption result ((n : ℕ) → IsNumber field.now n → ⊥) (λ n. IsNumber field.now n) }
 {
@@ -127,7 +127,7 @@ pub(crate) fn number(field: &[u8]) -> Option<u64>
     }
 }
 
-/// What stands for a number that 32 bits can't hold.
+/// Stands for any number that 32 bits can't hold.
 pub(crate) const TOO_GREAT: u64 = 1 << 32;
 
 /// Whether a text is digits without a leading zero.

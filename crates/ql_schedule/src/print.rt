@@ -1,6 +1,7 @@
 ghost use Rattle.std.specs.Prelude.{◌≡◌, ◌<◌, ◌++◌, ◌∷◌, [], List, ℕ, IfOk, OnOk, All, Some, codes, decimal, length, map, slice_get};
 ghost use Rattle.ql_lines.specs.Fields.{Fields};
 ghost use Rattle.ql_lines.specs.Texts.{behind, file_text, joined};
+ghost use Rattle.ql_typing.specs.Names.{op_name, txn_name};
 ghost use Rattle.ql_value.specs.Spelling.{quoted, value_text};
 ghost use Rattle.ql_schedule.specs.Texts.{
   AreNamed,
@@ -10,9 +11,7 @@ ghost use Rattle.ql_schedule.specs.Texts.{
   name_at,
   object_fields,
   object_lines,
-  op_name,
   schedule_lines,
-  txn_name,
 };
 
 use crate::schedule::Schedule;
@@ -124,7 +123,7 @@ fn push_event(out: &mut Vec<u8>, t: &Typed, objects: &Names, event: &Event) -> R
     }
 }
 
-// A word, and a session at a replica.
+// A keyword, and a session at a replica.
 fn push_caller(
     out: &mut Vec<u8>,
     word: &[u8],
@@ -137,7 +136,7 @@ fn push_caller(
     push_numbered(out, b" at", replica.0)
 }
 
-// A word and a number.
+// A keyword and a number.
 fn push_numbered(out: &mut Vec<u8>, word: &[u8], number: u32) -> Result<(), NoMemory>
     ensures { OnOk result (out.new.items ≡ out.old.items ++ (word.now ++ 32 ∷ decimal number)) }
 {
@@ -146,7 +145,7 @@ fn push_numbered(out: &mut Vec<u8>, word: &[u8], number: u32) -> Result<(), NoMe
     push_number(out, number)
 }
 
-// A field behind a space.
+// A space and a field.
 fn push_field(out: &mut Vec<u8>, field: &[u8]) -> Result<(), NoMemory>
     ensures { OnOk result (out.new.items ≡ out.old.items ++ 32 ∷ field.now) }
 {
@@ -164,7 +163,7 @@ fn push_values(out: &mut Vec<u8>, values: &[Value]) -> Result<(), NoMemory>
     Ok(())
 }
 
-// A value as `print_value` prints it. Numbers and texts need no text of their own first.
+// A value as `print_value` prints it. Numbers and texts are written without an intermediate text.
 fn push_value(out: &mut Vec<u8>, value: &Value) -> Result<(), NoMemory>
     ensures { OnOk result (out.new.items ≡ out.old.items ++ value_text value.now) }
 {
@@ -175,7 +174,7 @@ fn push_value(out: &mut Vec<u8>, value: &Value) -> Result<(), NoMemory>
     }
 }
 
-// A text between its quotes.
+// A text in quotes.
 fn push_text(out: &mut Vec<u8>, text: &[u8]) -> Result<(), NoMemory>
     ensures { OnOk result (out.new.items ≡ out.old.items ++ quoted text.now) }
 {

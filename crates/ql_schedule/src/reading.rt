@@ -7,7 +7,7 @@ ghost use Rattle.ql_schedule.specs.declared.rules.SchedRule.{SchedRule};
 ghost use Rattle.ql_schedule.specs.declared.reading.Reading.TheVariants.{Declaring, Running, Titled, Untitled};
 ghost use Rattle.ql_schedule.specs.Judging.{declaration_faults, is_full};
 ghost use Rattle.ql_schedule.specs.Makings.{replicas_with, with_event, with_object};
-ghost use Rattle.ql_schedule.specs.Outcomes.{Gives};
+ghost use Rattle.ql_schedule.specs.Outcomes.{ExtendsSchedule};
 ghost use Rattle.ql_schedule.specs.Parts.{parts_of};
 ghost use Rattle.ql_schedule.specs.Rules.{lowest};
 
@@ -24,9 +24,8 @@ use ql_machine::Event;
 use ql_typing::Typed;
 use std::alloc::Global;
 
-/// What was read of a schedule: nothing; its title, with the version; the number of replicas and some
-/// objects; all that stands before the events, and some events, with the number of replicas that there
-/// are behind them.
+/// How far a schedule was read: not at all; its title, with the version; the number of replicas and some
+/// objects; everything before the events, and some events, with the number of replicas after them.
 #[derive(Drop)]
 pub(crate) enum Reading {
     Untitled,
@@ -35,14 +34,14 @@ pub(crate) enum Reading {
     Running(Schedule, u32),
 }
 
-/// What is read with one more line.
+/// The state of reading after one more line.
 pub(crate) fn take(
     alloc: Global,
     t: &Typed,
     read: Reading,
     text: &[u8],
 ) -> Result<Reading, LineFault<SchedRule>>
-    ensures { IsLineAnswer (Gives t.now.program read (parts_of text.now)) result }
+    ensures { IsLineAnswer (ExtendsSchedule t.now.program read (parts_of text.now)) result }
 {
     match read {
         Reading::Untitled => title(text),
@@ -52,9 +51,9 @@ pub(crate) fn take(
     }
 }
 
-// The title.
+// Reads the title.
 fn title(text: &[u8]) -> Result<Reading, LineFault<SchedRule>>
-    ensures { (p : Program) → IsLineAnswer (Gives p Untitled (parts_of text.now)) result }
+    ensures { (p : Program) → IsLineAnswer (ExtendsSchedule p Untitled (parts_of text.now)) result }
 {
     match read_title(text) {
         Some(version) => Ok(Reading::Titled(version)),
@@ -62,9 +61,9 @@ fn title(text: &[u8]) -> Result<Reading, LineFault<SchedRule>>
     }
 }
 
-// The number of replicas.
+// Reads the number of replicas.
 fn count(alloc: Global, version: u32, text: &[u8]) -> Result<Reading, LineFault<SchedRule>>
-    ensures { (p : Program) → IsLineAnswer (Gives p (Titled version) (parts_of text.now)) result }
+    ensures { (p : Program) → IsLineAnswer (ExtendsSchedule p (Titled version) (parts_of text.now)) result }
 {
     let Some(number) = read_replicas(text) else {
         return Err(LineFault::Breaks(SchedRule::Unexpected));
@@ -79,9 +78,9 @@ fn count(alloc: Global, version: u32, text: &[u8]) -> Result<Reading, LineFault<
     }))
 }
 
-// One more object, or the word that the events follow.
+// Reads one more object, or the keyword before the events.
 fn declare(t: &Typed, so_far: Schedule, text: &[u8]) -> Result<Reading, LineFault<SchedRule>>
-    ensures { IsLineAnswer (Gives t.now.program (Declaring so_far) (parts_of text.now)) result }
+    ensures { IsLineAnswer (ExtendsSchedule t.now.program (Declaring so_far) (parts_of text.now)) result }
 {
     let Some(line) = read_declaration(text) else {
         return Err(LineFault::Breaks(SchedRule::Unexpected));
@@ -99,7 +98,7 @@ fn declare(t: &Typed, so_far: Schedule, text: &[u8]) -> Result<Reading, LineFaul
     }
 }
 
-// With one more object.
+// Adds an object.
 fn with_object(t: &Typed, so_far: Schedule, name: &Word, kind: &Word) -> Result<Schedule, NoMemory>
     requires { lowest (declaration_faults t.now.program so_far (Object name.now kind.now)) ≡ None }
     ensures { IfOk result (λ more. more ≡ with_object t.now.program so_far name.now kind.now) }
@@ -122,7 +121,7 @@ fn with_object(t: &Typed, so_far: Schedule, name: &Word, kind: &Word) -> Result<
     })
 }
 
-// One more event.
+// Reads one more event.
 fn happen(
     alloc: Global,
     t: &Typed,
@@ -130,7 +129,7 @@ fn happen(
     replicas: u32,
     text: &[u8],
 ) -> Result<Reading, LineFault<SchedRule>>
-    ensures { IsLineAnswer (Gives t.now.program (Running so_far replicas) (parts_of text.now)) result }
+    ensures { IsLineAnswer (ExtendsSchedule t.now.program (Running so_far replicas) (parts_of text.now)) result }
 {
     let Some(line) = read_event(alloc, so_far.version, text)? else {
         return Err(LineFault::Breaks(SchedRule::Unexpected));
@@ -143,7 +142,7 @@ fn happen(
     Ok(Reading::Running(more, behind))
 }
 
-// How many replicas there are behind a line.
+// How many replicas there are after a line.
 fn replicas_with(replicas: u32, line: &EventLine) -> u32
     requires { is_full replicas line.now ≡ false }
     ensures { result ≡ replicas_with replicas line.now }

@@ -17,7 +17,7 @@ pub(crate) enum SchedRule {
 impl SchedRule {
     ghost use Rattle.ql_schedule.specs.Outcomes.{rule_at};
 
-    /// The same as a fault of the file, at a line.
+    /// The rule as a fault of the file, at a line.
     pub(crate) fn at(self, line: u64) -> SchedFault
         ensures { result ≡ rule_at self line }
     {

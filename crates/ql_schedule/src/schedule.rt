@@ -5,11 +5,11 @@ use ql_base::{Names, NoMemory, TypeId};
 use ql_machine::Event;
 use std::marker::Model;
 
-/// What happens to a store: how many replicas it has at the start, its objects with the type of each,
+/// The input of a run: how many replicas the store has at the start, its objects with the type of each,
 /// and the events in their order.
 #[derive(Drop)]
 pub struct Schedule {
-    /// The version of the format, 1 or 2. Replicas join in the second alone.
+    /// The version of the format, 1 or 2. Only in the second may replicas join.
     pub version: u32,
     pub replicas: u32,
     pub objects: Names,
@@ -18,7 +18,7 @@ pub struct Schedule {
 }
 
 impl Schedule {
-    /// How many replicas there are behind all events: those of the start, and one for each join.
+    /// How many replicas there are after all events: those of the start, and one for each join.
     pub fn last_replicas(&self) -> u32
         requires { self.now.replicas + length self.now.events < 2 ^ 32 }
         ensures { result ≡ replicas_behind self.now.replicas self.now.events }

@@ -1,8 +1,7 @@
 use ql_base::{NoMemory, push_bytes, push_number};
-use ql_parse::parse_program;
 use ql_schedule::{SchedFault, parse_schedule, print_schedule};
-use ql_tables::{check_table, number};
-use ql_typing::{Typed, typecheck};
+use ql_tables::{SHOP, check_table, number};
+use ql_test_programs::declared;
 use std::alloc::Global;
 use std::test::Fail;
 
@@ -12,7 +11,7 @@ type cart { op add(item: text, n: int, gift: bool): unit { contract true; answer
 transaction fill { uses add; contract true; }
 transaction look { uses left; contract true; }";
 
-// Files, and how the schedule is printed that each one says, or its first fault. All tables are from an independent
+// Files, and how the schedule of each is printed, or its first fault. All tables are from an independent
 // implementation.
 const FILES: &str = r#"
  -> Unexpected 1
@@ -84,7 +83,7 @@ fn replicas_join(rt: HostRuntime) -> Result<(), Fail> {
     )
 }
 
-// What stands before the events of the next table, and is printed as it stands.
+// What comes before the events of the next table, and is printed unchanged.
 const HEADER: &str = "quelea schedule 1
 replicas 2
 object p stock
@@ -92,7 +91,7 @@ object c cart
 events
 ";
 
-// Lines of events, and how the event is printed that each one is, or the fault of the sixth line.
+// Lines of events, and how the event of each is printed, or the fault of the sixth line.
 const EVENTS: &str = r#"
 call 1 at 0 p restock 10 -> call 1 at 0 p restock 10
   call  1  at  0  p  restock  10   -> call 1 at 0 p restock 10
@@ -186,7 +185,7 @@ fn after_header(alloc: Global, line: &str) -> Result<Vec<u8>, NoMemory> {
     Ok(file)
 }
 
-// The last line of what is printed, or all of a fault.
+// The last line of what is printed, or the whole of a fault.
 fn without_header(alloc: Global, text: &[u8]) -> Result<Vec<u8>, NoMemory> {
     let last = match text.strip_prefix(HEADER.as_bytes()) {
         Some(event) => event.trim_ascii_end(),
@@ -195,7 +194,7 @@ fn without_header(alloc: Global, text: &[u8]) -> Result<Vec<u8>, NoMemory> {
     Ok(Vec::from_slice(alloc, last)?)
 }
 
-// Counts of events, of objects and of objects that a transaction declares, and the fault.
+// Numbers of events, of objects and of objects that a transaction declares, and the fault.
 const COUNTED: &str = "
 4000 1 1 -> schedule
 4001 1 1 -> TooMany 4005
@@ -219,7 +218,7 @@ fn counts_have_limits(rt: HostRuntime) -> Result<(), Fail> {
     })
 }
 
-// A file with so many events and objects, and with a last event that declares so many of them.
+// A file with this many events and objects, and with a last event that declares this many of the objects.
 fn counted(alloc: Global, events: u32, objects: u32, listed: u32) -> Result<Vec<u8>, NoMemory> {
     let mut file = Vec::from_slice(alloc, b"quelea schedule 1\nreplicas 2\n")?;
     for index in 0..objects {
@@ -253,14 +252,6 @@ fn said_of(alloc: Global, source: &str, file: &[u8]) -> Result<Vec<u8>, NoMemory
     }
 }
 
-fn declared(alloc: Global, source: &str) -> Option<Typed> {
-    if source.len() > 4096 {
-        return None;
-    }
-    let program = parse_program(alloc, source.as_bytes()).ok()?;
-    typecheck(alloc, program).ok()
-}
-
 fn fault(alloc: Global, why: SchedFault) -> Result<Vec<u8>, NoMemory> {
     let (rule, line) = match why {
         SchedFault::Unexpected(line) => ("Unexpected ", line),
@@ -277,28 +268,6 @@ fn fault(alloc: Global, why: SchedFault) -> Result<Vec<u8>, NoMemory> {
 }
 
 // The shop, and its schedule of 40 events.
-const SHOP: &str = r#"type stock { state left: int = 0;
-  op restock(n: int): unit { contract true; answer unit;
-    emit p: int = n when n > 0; apply { left := left + p; } }
-  op reserve(n: int): bool {
-    contract forall a: reserve. sameobj(a, cur) => vis(a, cur) \/ vis(cur, a) \/ a = cur;
-    answer left >= n;
-    emit p: int = n when left >= n; apply { left := left - p; } }
-  op stock_left(): int { contract forall a. soo(a, cur) => vis(a, cur); answer left; } }
-type cart { state items: map(text, int) = empty;
-  op add_item(item: text, n: int): unit {
-    contract forall a, b. soo(a, b) /\ vis(b, cur) => vis(a, cur); answer unit;
-    emit i: text = item, k: int = n when n > 0;
-    apply { items := put(items, i, get(items, i, 0) + k); } }
-  op show(): map(text, int) { contract true; answer items; } }
-transaction fill { uses add_item; contract true; }
-transaction glance { uses show, stock_left;
-  contract forall a, b, c. txn{a}{b, c} /\ sameobj(b, c) /\ vis(b, a) => vis(c, a); }
-transaction follow { uses show, add_item; contract forall a, b, c, d.
-  txn{a, b}{c, d} /\ so(a, b) /\ vis(c, a) /\ sameobj(d, b) => vis(d, b); }
-transaction report { uses show, stock_left; contract forall a, b, c, d.
-  txn{a, b}{c, d} /\ vis(c, a) /\ sameobj(d, b) => vis(d, b); }"#;
-
 const SHOP_SCHEDULE: &str = r#"quelea schedule 1
 replicas 3
 object p stock

@@ -1,4 +1,4 @@
--- The lists by session and object, by object and by session that are kept of some notes.
+-- The lists by session and object, by object and by session that are kept for some notes.
 use Rattle.std.specs.Prelude.{◌≡◌, ℕ, Bool, ◌&&◌, nat_eq, if◌then◌else◌, List, [], ◌∷◌, ◌++◌, slice_index_or}
 use Rattle.ql_base.specs.declared.ids.ObjId.{ObjId}
 use Rattle.ql_base.specs.declared.ids.SessId.{SessId}
@@ -14,12 +14,12 @@ pair_of pairs s o = row_of (slice_index_or pairs s.0 []) o.0
 abbrev pub is_by : SessId → ObjId → Note → Bool
 is_by s o note = nat_eq note.session.0 s.0 && nat_eq note.object.0 o.0
 
--- the list of a note's session and object has its effect at the end, and the others stay
+-- the list for a note's session and object has its effect added at the end, and the others stay
 abbrev pub IsPairPushed : List (List (List ℕ)) → List (List (List ℕ)) → Note → Type 0
 IsPairPushed before after note = (s : SessId) (o : ObjId) →
     pair_of after s o ≡ (if is_by s o note then pair_of before s o ++ note.effect.0 ∷ [] else pair_of before s o)
 
--- the list of a note's session and object is without its last effect, and the others stay
+-- the list for a note's session and object is without its last effect, and the others stay
 abbrev pub IsPairPopped : List (List (List ℕ)) → List (List (List ℕ)) → Note → Type 0
 IsPairPopped before after note = (s : SessId) (o : ObjId) →
     pair_of after s o ≡ (if is_by s o note then all_but_last (pair_of before s o) else pair_of before s o)

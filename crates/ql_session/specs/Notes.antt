@@ -30,11 +30,11 @@ stamps_of notes s = map (λ n. n.stamp) (filter (λ n. nat_eq n.session.0 s.0) n
 abbrev pub last_or_zero : List ℕ → ℕ
 last_or_zero numbers = slice_index numbers (length numbers - 1)
 
--- the least of some ids that a view lacks, or that there is none
+-- the least of some ids that a view lacks, or none
 abbrev pub IsLeastMissing : List ℕ → List ℕ → Option EffId → Type 0
 IsLeastMissing ids view None = (a : ℕ) → Has ids a → Has view a
 IsLeastMissing ids view (Some least) = IsLeast (λ a. Has ids a × (has_id view a ≡ false)) least.0
 
--- the least that is missing, with an id more: the lesser of both where a view lacks the id
+-- the least missing id after one more: the lesser of both if a view lacks the id
 abbrev pub missing_with : List ℕ → Option EffId → ℕ → Option EffId
 missing_with view least id = if has_id view id then least else Some (record { 0 = option_map_or (λ e. min e.0 id) least id })

@@ -16,7 +16,7 @@ abbrev pub IsMissingPast : List Effect → SessId → ObjId → List ℕ → ℕ
 IsMissingPast x session object view a =
     IsOn object (effect_at x a) × InPast x session (Has view) a × (has_id view a ≡ false)
 
--- the least of which something holds, or that there is none
+-- the least of which something holds, or none
 abbrev pub IsLeastOf : (ℕ → Type 0) → Option EffId → Type 0
 IsLeastOf holds None = (a : ℕ) → holds a → ⊥
 IsLeastOf holds (Some least) = IsLeast holds least.0

@@ -12,7 +12,7 @@ row_of rows k = slice_index_or rows k []
 abbrev pub all_but_last : List ℕ → List ℕ
 all_but_last numbers = take (length numbers - 1) numbers
 
--- one list has a number more at its end, and the others stay
+-- one list has a number added at its end, and the others stay
 abbrev pub IsPushed : List (List ℕ) → List (List ℕ) → ℕ → ℕ → Type 0
 IsPushed before after k n = (q : ℕ) → row_of after q ≡ (if nat_eq k q then row_of before q ++ n ∷ [] else row_of before q)
 

@@ -1,4 +1,4 @@
--- A walk through an execution from its end, which meets the causal past of a call.
+-- A walk through an execution from its end, by which the causal past of a call is met.
 use Rattle.std.specs.Prelude.{◌≡◌, ◌⊎◌, ℕ, ◌<◌, ◌≤◌, List, length, Some}
 use Rattle.ql_base.specs.declared.ids.SessId.{SessId}
 use Rattle.ql_exec.specs.declared.effect.Effect.{Effect}
@@ -25,7 +25,7 @@ abbrev pub GoesDown : List Effect → ℕ → List ℕ → List ℕ → ℕ → 
 GoesDown x left met sessions fewer more others =
     (session : SessId) (view : List ℕ) → IsWalk x session view left met sessions → IsWalk x session view fewer more others
 
--- ids and others, and no more
+-- these ids and those, and no more
 pub record Joins (ids others both : List ℕ) : Type 0 where
   pub left : (a : ℕ) → Has ids a → Has both a
   pub right : (a : ℕ) → Has others a → Has both a

@@ -10,7 +10,7 @@ use crate::rows::Rows;
 use ql_base::{NoMemory, ObjId, SessId};
 use std::alloc::Global;
 
-/// The lists that are kept of some notes: of a session and an object, of an object, and of a session.
+/// The lists that are kept for some notes: by session and object, by object, and by session.
 #[derive(Drop)]
 pub(crate) struct Index {
     // For each session its effects by object.
@@ -66,7 +66,7 @@ impl Index {
         }
     }
 
-    /// Takes away the note that was added last.
+    /// Removes the note that was added last.
     pub(crate) fn remove(&mut self, note: Note)
         ensures { (notes : List Note) → AreIndexed (notes ++ note ∷ []) self.old.pairs.items self.old.objects self.old.stamps
             → AreIndexed notes self.new.pairs.items self.new.objects self.new.stamps }
@@ -95,7 +95,7 @@ fn pop_pair(pairs: &mut Vec<Rows>, note: Note)
     }
 }
 
-// Puts empty tables behind, until there is one of this session.
+// Appends empty tables until there is one for this session.
 fn grow(pairs: &mut Vec<Rows>, s: usize) -> Result<(), NoMemory>
     ensures there { OnOk result (s < length pairs.new.items) }
     ensures same { ArePairsSame pairs.old.items pairs.new.items }

@@ -10,9 +10,8 @@ ghost use Rattle.ql_machine.specs.Sets.{AreThose};
 ghost use Rattle.ql_session.specs.Notes.{effects_by, effects_on};
 ghost use Rattle.ql_session.specs.Executions.{note_of, notes_of};
 
-/// The law of the notes of an execution, one of each effect in order: they tell which effects a session
-/// made on an object, and which effects there are on an object, in ascending order. A longer execution
-/// has a note more.
+/// The law of the notes of an execution, one for each effect in order. They have exactly the effects that a session
+/// made on an object, and exactly the effects on an object, in ascending order. A longer execution has one more note.
 pub fn notes_of_executions()
     ensures by { (x : List Effect) (s : SessId) (o : ObjId) → AreThose (λ a. IsOn o (effect_at x a) × IsOf s (effect_at x a)) (effects_by (notes_of x) s o) }
     ensures on { (x : List Effect) (o : ObjId) → AreThose (λ a. IsOn o (effect_at x a)) (effects_on (notes_of x) o) }

@@ -1,7 +1,7 @@
 // What each session did, in lists by session and object, so that a causal call finds what it misses, and
-// a call that has to see all that it could know of finds that.
-// The one contract: the notes are a list, and each call answers of that list alone; the notes of an
-// execution tell of it which effects a session made on an object.
+// a call that has to see its whole causal past finds what it misses of that.
+// The one contract: the notes are a list, and each call depends on that list only; the notes of an
+// execution have exactly the effects that a session made on an object.
 #![tactic(auto)]
 
 mod index;

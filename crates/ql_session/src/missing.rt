@@ -3,7 +3,7 @@ ghost use Rattle.ql_session.specs.Notes.{missing_with, IsLeastMissing};
 
 use ql_base::{EffId, IdSet};
 
-/// The least of some ids that a view lacks. They needn't be in order.
+/// The least of some ids that a view lacks. They may be in any order.
 pub(crate) fn least_missing_of(ids: &[u32], view: &IdSet) -> Option<EffId>
     ensures { IsLeastMissing ids.now view.now result }
 {

@@ -1,6 +1,6 @@
 use ql_base::{EffId, ObjId, SessId};
 
-/// That a session made an effect on an object, with its stamp.
+/// A note that a session made an effect on an object, with its stamp.
 #[derive(Clone, Copy)]
 pub struct Note {
     pub session: SessId,

@@ -15,8 +15,8 @@ use std::alloc::Global;
 
 /// All effects of a session and of a view, and all that happened before one of them.
 ///
-/// The execution is gone through once, from its end. What sees ids that were all met, with all between
-/// them, takes no time for these.
+/// The execution is gone through once, from its end. If an effect sees only ids that were met, with all
+/// ids between them, these take no time.
 pub(crate) fn past_of(
     alloc: Global,
     x: &Execution,
@@ -30,7 +30,7 @@ pub(crate) fn past_of(
     Ok(walk.met)
 }
 
-// What of the past was met: effects, and sessions whose earlier effects are all of it.
+// What has been met of the past: effects, and sessions all of whose earlier effects are in it.
 #[derive(Drop)]
 struct Walk {
     met: Ranges,
@@ -59,7 +59,7 @@ fn visit_all(x: &Execution, walk: &mut Walk) -> Result<(), NoMemory>
     Ok(())
 }
 
-// Takes in the effect, where it is of the past.
+// Adds the effect, if it is in the past.
 fn visit(x: &Execution, walk: &mut Walk, e: EffId) -> Result<(), NoMemory>
     requires law { IsExecution x.now }
     requires first { 1 ≤ e.0 }
@@ -84,7 +84,7 @@ fn meet_all(met: &mut Ranges, ids: &IdSet) -> Result<(), NoMemory>
     Ok(())
 }
 
-/// The least of some ids that is of the past and that a view lacks.
+/// The least of some ids that is in the past and that a view lacks.
 pub(crate) fn first_missing(ids: &[u32], past: &Ranges, view: &IdSet) -> Option<EffId>
     requires { IsAscending ids.now }
     ensures { IsLeastOf (λ a. Has ids.now a × Has (ids_of past.now) a × (has_id view.now a ≡ false)) result }

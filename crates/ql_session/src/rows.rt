@@ -5,7 +5,7 @@ use ql_base::NoMemory;
 use std::alloc::Global;
 use std::marker::Model;
 
-/// Lists of numbers by an index from 0, seen as the list of them. Behind the last are empty ones.
+/// Lists of numbers by an index from 0, viewed as a list of lists. Those after the last are empty.
 ///
 /// They take memory in proportion to the greatest index and to their lengths.
 #[derive(Drop)]
@@ -31,7 +31,7 @@ impl Rows {
         }
     }
 
-    /// The list of an index.
+    /// The list at an index.
     pub(crate) fn row(&self, k: u32) -> &[u32]
         ensures { result.now ≡ row_of self.now k }
     {
@@ -41,7 +41,7 @@ impl Rows {
         }
     }
 
-    /// Puts a number at the end of a list.
+    /// Appends a number to the list at an index.
     pub(crate) fn push(&mut self, k: u32, n: u32) -> Result<(), NoMemory>
         ensures ok { OnOk result (IsPushed self.old self.new k n) }
         ensures err { OnErr result (AreSame self.old self.new) }
@@ -52,7 +52,7 @@ impl Rows {
         Ok(())
     }
 
-    /// Takes the last number of a list away.
+    /// Removes the last number of the list at an index, if any.
     pub(crate) fn pop(&mut self, k: u32)
         ensures { IsPopped self.old self.new k }
     {
@@ -63,7 +63,7 @@ impl Rows {
     }
 }
 
-// Puts empty lists behind, until there is one of this index.
+// Appends empty lists until there is one at this index.
 fn grow(rows: &mut Vec<Vec<u32>>, k: usize) -> Result<(), NoMemory>
     ensures there { OnOk result (k < length rows.new.items) }
     ensures same { AreSame (lists_of rows.old.items) (lists_of rows.new.items) }

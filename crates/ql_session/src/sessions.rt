@@ -12,11 +12,11 @@ use ql_exec::Execution;
 use std::alloc::Global;
 use std::marker::Model;
 
-/// What the sessions did, seen as the list of the notes of it.
+/// What the sessions did, viewed as the list of notes.
 ///
-/// Beside the list the effects stand by session and object and by object, and the stamps by session, so
-/// no call goes over all notes. The tables take memory in proportion to the greatest session and object
-/// numbers that were noted.
+/// Besides the list, the effects are kept by session and object and by object, and the stamps by session,
+/// so no call goes over all notes. The tables take memory in proportion to the greatest session and
+/// object numbers that were noted.
 #[derive(Drop)]
 pub struct Sessions {
     notes: Vec<Note>,
@@ -36,7 +36,7 @@ impl Model for Sessions {
 }
 
 impl Sessions {
-    /// Nothing is noted.
+    /// No notes.
     pub fn new(alloc: Global) -> Sessions
         ensures { result ≡ [] }
     {
@@ -46,8 +46,8 @@ impl Sessions {
         }
     }
 
-    /// Notes an effect of a session on an object, with its stamp. Takes constant time but for tables
-    /// that grow.
+    /// Notes an effect of a session on an object, with its stamp. Takes constant time, except when the tables
+    /// grow.
     pub fn note(&mut self, s: SessId, o: ObjId, e: EffId, stamp: u32) -> Result<(), NoMemory>
         ensures ok { OnOk result (self.new ≡ self.old ++ record { session = s; object = o; effect = e; stamp = stamp } ∷ []) }
         ensures err { OnErr result (self.new ≡ self.old) }
@@ -68,7 +68,7 @@ impl Sessions {
         }
     }
 
-    /// Takes the last note away, in constant time.
+    /// Removes the last note, in constant time.
     pub fn undo(&mut self)
         requires { 1 ≤ length self.old }
         ensures { self.new ≡ take (length self.old - 1) self.old }
@@ -78,7 +78,7 @@ impl Sessions {
         }
     }
 
-    /// The stamp of the session's last note, 0 for none, in constant time.
+    /// The stamp of the session's last note, or 0 if it has none, in constant time.
     pub fn last_stamp(&self, s: SessId) -> u32
         ensures { result ≡ last_or_zero (stamps_of self.now s) }
     {
@@ -103,9 +103,9 @@ impl Sessions {
         least_missing_of(self.index.pair(s, o), view)
     }
 
-    /// The least effect on the object that the view lacks, of all that the session and the view know:
-    /// what the session did on any object, what the view has, and all that happened before one of these.
-    /// Goes through the execution once; what each effect saw is looked up where it isn't all known.
+    /// The least effect on the object that the view lacks of the causal past: of what the session did on any
+    /// object, what the view has, and all that happened before one of these. Goes through the execution once;
+    /// what an effect saw is looked up unless all of it was met before.
     pub fn least_missing_wide(
         &self,
         s: SessId,

@@ -1,4 +1,4 @@
--- What calls make of the open transactions.
+-- How calls change the open transactions.
 use Rattle.std.specs.Prelude.{◌≡◌, ◌≢◌, ℕ, suc, true, false, Option, Some, None, min, if◌then◌else◌, List, [], ◌∷◌, ◌++◌, length, slice_get, take, find, ◌≤◌}
 use Rattle.std.specs.List.{list_any}
 use Rattle.std.specs.Option.{option_map_or}
@@ -31,13 +31,13 @@ pub record IsNoted (before after : Transactions) (s : SessId) (e : ℕ) (seen : 
   pub saw : saw_of after s ≡ union_of (saw_of before s) seen
   pub others : (other : SessId) → other.0 ≢ s.0 → IsSame before after other
 
--- a session has none open
+-- a session has no open transaction
 pub record IsFinished (before after : Transactions) (s : SessId) : Type 0 where
   pub open_now : open_txns after ≡ without (open_txns before) s
   pub begun : after.begun ≡ before.begun
   pub others : (other : SessId) → other.0 ≢ s.0 → IsSame before after other
 
--- the place of the one that a session has open, or the end where there is none
+-- the index of a session's open transaction, or the length of the list if it has none
 pub record IsPlace (running : List Running) (s : SessId) (k : ℕ) : Type 0 where
   pub within : k ≤ length running
   pub found : find (is_of s) running ≡ slice_get running k
@@ -47,12 +47,12 @@ pub record IsPlace (running : List Running) (s : SessId) (k : ℕ) : Type 0 wher
 abbrev pub Holds : List OpenTxn → ObjId → ℕ → Type 0
 Holds open_txns object session = (t : OpenTxn) × (open_of open_txns (record { 0 = session }) ≡ Some t) × (has_id t.objects object.0 ≡ true)
 
--- the least session whose open transaction declares an object, or that none does
+-- the least session whose open transaction declares an object, or none
 abbrev pub IsLeastHolder : List OpenTxn → ObjId → Option SessId → Type 0
 IsLeastHolder open_txns object None = (session : SessId) (t : OpenTxn) → open_of open_txns session ≡ Some t → has_id t.objects object.0 ≡ false
 IsLeastHolder open_txns object (Some least) = IsLeast (Holds open_txns object) least.0
 
--- the least session, with one more: the lesser of both where that one declares the object
+-- the least session after one more: the lesser of both if that one declares the object
 abbrev pub least_with : ObjId → Option SessId → Running → Option SessId
 least_with object least one =
     if has_id one.txn.objects object.0 then Some (record { 0 = option_map_or (λ s. min s.0 one.txn.session.0) least one.txn.session.0 }) else least

@@ -1,4 +1,4 @@
--- The effects on an object that a transaction sees, where those of others are given.
+-- The effects on an object that a transaction sees, when those of others are known.
 use Rattle.std.specs.Prelude.{◌≡◌, ◌↔◌, ℕ, Bool, true, false, not, ◌&&◌, ◌||◌, nat_eq, if◌then◌else◌, List}
 use Rattle.ql_base.specs.IdLists.{IsAscending, has_id, with_id}
 use Rattle.ql_base.specs.declared.ids.SessId.{SessId}
@@ -9,7 +9,7 @@ use Rattle.ql_needs.specs.Closed.{Has}
 use Rattle.ql_machine.specs.Blocking.{IsOf}
 use Rattle.ql_machine.specs.Sets.{AreThose, has_all}
 
--- of other effects on the object the given ones, and an own one where all that is a step before it is seen
+-- the given effects of others on the object, and each own one for which all that is one step before it is seen
 pub record IsJoined (x : List Effect) (own others on ids : List ℕ) : Type 0 where
   pub ascending : IsAscending ids
   pub within : (a : ℕ) → Has ids a → Has on a
@@ -25,7 +25,7 @@ pub record IsComplete (x : List Effect) (own saw others : List ℕ) (s : SessId)
 abbrev pub is_seen_next : List ℕ → Bool → Effect → ℕ → List ℕ → List ℕ → Bool
 is_seen_next ids whole e a own others = if has_id own a then whole && has_all ids e.seen else has_id others a
 
--- the next effect was come to
+-- the next effect was taken
 pub record IsNextJoined (ids : List ℕ) (whole : Bool) (e : Effect) (a : ℕ) (s : SessId) (own others ids' : List ℕ) (whole' : Bool) : Type 0 where
   pub ids_are : ids' ≡ (if is_seen_next ids whole e a own others then with_id ids a else ids)
   pub whole_is : whole' ≡ (whole && (is_seen_next ids whole e a own others || not (nat_eq e.session.0 s.0)))

@@ -12,7 +12,7 @@ pub record Transactions : Type 0 where
   -- how many transactions were begun
   pub begun : ℕ
 
--- they as the machine has them
+-- the same transactions as the machine has them
 abbrev pub open_txns : Transactions → List OpenTxn
 open_txns shim = map (λ r. r.txn) shim.running
 
@@ -23,7 +23,7 @@ is_of s r = nat_eq r.txn.session.0 s.0
 abbrev pub running_of : Transactions → SessId → Option Running
 running_of shim s = find (is_of s) shim.running
 
--- its own effects, and those that it saw; none where the session has none open
+-- its own effects, and those that it saw; empty if the session has no open transaction
 abbrev pub own_of : Transactions → SessId → List ℕ
 own_of shim s = option_map_or (λ r. r.own) (running_of shim s) []
 

@@ -1,4 +1,4 @@
--- What a call in a transaction sees and misses, in the machine's words, and what is known where that is asked.
+-- What a call in a transaction sees and misses, in the machine's terms, and what must be known about it.
 use Rattle.std.specs.Prelude.{◌≡◌, ℕ, true, false, List, [], ◌∷◌, Option, Some, None}
 use Rattle.ql_base.specs.IdLists.{has_id}
 use Rattle.ql_base.specs.declared.ids.EffId.{EffId}
@@ -41,18 +41,18 @@ AreClosed x open_txns ids = (a : ℕ) → Has ids a → Closed (NeedsNow x open_
 abbrev pub IsSeen : Machine → OpenTxn → TxnLevel → ObjId → ℕ → Type 0
 IsSeen s t level object a = IsOn object (effect_at s.effects a) × TxnScope s t 0 level a
 
--- the least of what must be applied and isn't, or that nothing is missing
+-- the least of what must be applied and isn't, or none
 abbrev pub IsLeastUnapplied : Machine → OpenTxn → TxnLevel → List ℕ → Option EffId → Type 0
 IsLeastUnapplied s t level received None = (a : ℕ) → MustHave s t level a → AppliedWithOwn s t received a
 IsLeastUnapplied s t level received (Some least) = IsLeast (λ a. MustHave s t level a × (AppliedWithOwn s t received a → ⊥)) least.0
 
--- the first of what a transaction saw that is none of its own and isn't applied, or that there is none
+-- the first of what a transaction saw that is none of its own and isn't applied, or none
 abbrev pub IsFirstUnapplied : List Effect → List ℕ → List ℕ → List ℕ → Option EffId → Type 0
 IsFirstUnapplied x received saw own None = (a : ℕ) → Has saw a → has_id own a ≡ false → Closed (Needs x) (Has received) a
 IsFirstUnapplied x received saw own (Some first) =
     IsLeast (λ a. Has saw a × (has_id own a ≡ false) × (Closed (Needs x) (Has received) a → ⊥)) first.0
 
--- what is known where a call is made on an object in an open transaction, with what it did
+-- what is known when a call is made on an object in an open transaction, with what it did
 pub record IsAskedOf (now : List OpenTxn) (x : List Effect) (object : ObjId) (on received : List ℕ) (running : Running) : Type 0 where
   pub open_now : open_of now running.txn.session ≡ Some running.txn
   pub known : IsKnown x running.txn running.own running.saw

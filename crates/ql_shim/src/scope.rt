@@ -15,19 +15,19 @@ use ql_base::{IdSet, NoMemory};
 use ql_exec::{Effect, Execution};
 use std::alloc::Global;
 
-// Effects of an object that a call sees, gathered in ascending order.
+// The effects on an object that a call sees, collected in ascending order.
 #[derive(Drop)]
 struct Gathered {
     ids: IdSet,
-    // All effects of the session that were come to are among them.
+    // All effects of the session that were reached so far are among them.
     whole: bool,
 }
 
-/// The effects on an object that a transaction sees: of others these, and each own one where what it
-/// saw and what its session did before on the object is seen.
+/// The effects on an object that a transaction sees: the given ones of others, and each own one for which what
+/// it saw and what its session did before on the object is seen.
 ///
-/// Goes over the effects on the object once, and where one that was seen isn't any more, over what
-/// the own ones among them saw.
+/// Goes over the effects on the object once; if one that was seen isn't any more, also over what the own
+/// ones among them saw.
 pub(crate) fn with_own(
     alloc: Global,
     x: &Execution,
@@ -48,8 +48,8 @@ pub(crate) fn with_own(
     }
 }
 
-// The given ones of others and all own ones, where these leave out nothing that an own one saw and
-// nothing of the session; none where they do.
+// All own effects and the given ones of others, if these leave out nothing that an own one saw and nothing of
+// the session; else none.
 fn all_own(
     alloc: Global,
     x: &Execution,
@@ -80,14 +80,14 @@ fn is_kept(a: u32, running: &Running, others: &IdSet) -> bool
     running.own.has(a) || others.has(a)
 }
 
-// Whether own effects may need this one: they saw it, or it is of their session.
+// Whether own effects may need this one: one of them saw it, or it is of their session.
 fn is_awaited(effect: &Effect, a: u32, running: &Running) -> bool
     ensures { result ≡ (has_id running.now.saw a || nat_eq effect.now.session.0 running.now.txn.session.0) }
 {
     running.saw.has(a) || effect.session.0 == running.txn.session.0
 }
 
-// The same, each effect judged by those before it.
+// The same, judging each effect by those before it.
 fn one_by_one(
     alloc: Global,
     x: &Execution,
@@ -118,7 +118,7 @@ fn one_by_one(
     Ok(gathered.ids)
 }
 
-// Comes to the next effect on the object.
+// Takes the next effect on the object.
 fn add_next(
     gathered: &mut Gathered,
     effect: &Effect,

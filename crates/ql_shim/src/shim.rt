@@ -22,9 +22,9 @@ use ql_machine::OpenTxn;
 use std::alloc::Global;
 use std::marker::Model;
 
-/// The open transactions, with what each did, and how many were begun.
+/// The open transactions, with what each did, and how many have begun.
 ///
-/// A session has at most one open. To find it takes one pass over the open transactions.
+/// A session has at most one open. Finding it takes one pass over the open transactions.
 #[derive(Drop)]
 pub struct Shim {
     running: Vec<Running>,
@@ -42,7 +42,7 @@ impl Model for Shim {
 }
 
 impl Shim {
-    /// No transaction was begun.
+    /// No transaction has begun.
     pub fn new(alloc: Global) -> Shim
         ensures { result ≡ record { running = []; begun = 0 } }
     {
@@ -52,7 +52,7 @@ impl Shim {
         }
     }
 
-    /// Begins a transaction and gives its number, which counts from 1.
+    /// Begins a transaction and returns its number, counted from 1.
     pub fn begin(
         &mut self,
         s: SessId,
@@ -112,7 +112,7 @@ impl Shim {
     }
 
     /// Notes an effect of the session's open transaction and what it saw. Takes time in proportion to
-    /// what the transaction saw until now.
+    /// what the transaction has seen so far.
     pub fn note(&mut self, s: SessId, e: EffId, seen: &IdSet) -> Result<(), NoMemory>
         requires { (t : OpenTxn) × (open_of (open_txns self.old) s ≡ Some t) }
         ensures noted { OnOk result (IsNoted self.old self.new s e.0 seen.now) }
@@ -142,7 +142,7 @@ impl Shim {
         &self.running[place(&self.running, s)].own
     }
 
-    /// Closes the session's open transaction and gives its own effects.
+    /// Closes the session's open transaction and returns its own effects.
     pub fn finish(&mut self, s: SessId) -> IdSet
         requires { (t : OpenTxn) × (open_of (open_txns self.old) s ≡ Some t) }
         ensures own { result ≡ own_of self.old s }
@@ -156,7 +156,7 @@ impl Shim {
     /// What a call in the session's open transaction sees on an object, at the replica of a holder, and
     /// the least effect that it misses, by the level of the transaction.
     ///
-    /// `on` lists all effects on the object, in ascending order. The work is in proportion to them and to
+    /// `on` lists all effects on the object, in ascending order. The time is in proportion to them and to
     /// what the own ones among them saw; at monotonic atomic view also to what the transaction saw.
     pub fn view_rule<H: Holder>(
         &self,
@@ -186,7 +186,7 @@ fn running_in(running: &[Running], s: SessId) -> Option<&Running>
     running.get(place(running, s))
 }
 
-// The place of the session's open transaction, or the end where it has none.
+// The index of the session's open transaction, or the length of the list if it has none.
 fn place(running: &[Running], s: SessId) -> usize
     ensures { IsPlace running.now s result }
 {

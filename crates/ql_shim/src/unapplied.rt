@@ -7,8 +7,8 @@ ghost use Rattle.ql_shim.specs.Viewing.{IsFirstUnapplied};
 use ql_base::{EffId, IdSet};
 use ql_holder::Holder;
 
-/// The least effect that a transaction saw, is none of its own and isn't applied by a holder. Looks up
-/// what it saw until then.
+/// The least effect that a transaction saw, that is none of its own, and that a holder hasn't applied. Looks up
+/// what it saw until one is found.
 pub(crate) fn first_unapplied<H: Holder>(holder: &H, saw: &[u32], own: &IdSet) -> Option<EffId>
     requires { IsAscending saw.now }
     ensures { (x : List Effect) → H.fits holder.now x → IsFirstUnapplied x (H.received holder.now) saw.now own.now result }

@@ -1,10 +1,9 @@
 -- What `slim` says of a source and a schedule.
-use Rattle.std.specs.Prelude.{◌⊎◌, ℕ, List}
-use Rattle.ql_commands.specs.declared.answer.Answer.{Answer}
-use Rattle.ql_commands.specs.declared.answer.Answer.TheVariants.{Done, No, Bad}
+use Rattle.std.specs.Prelude.{ℕ, List}
+use Rattle.ql_reply.specs.declared.status.Status.{Status}
+use Rattle.ql_reply.specs.declared.status.Status.TheVariants.{Done}
 use Rattle.ql_classify.specs.Least.{AreLevelsOf}
-use Rattle.ql_commands.specs.Levels.{RefusalSays}
-use Rattle.ql_commands.specs.Sources.{BadSourceSays, IsSourceOf}
+use Rattle.ql_commands.specs.Sources.{IsSourceOf}
 use Rattle.ql_headline.specs.Stores.{rules_of}
 use Rattle.ql_lang.specs.declared.program.Program.{Program}
 use Rattle.ql_levels.specs.Lists.{LevelLists}
@@ -12,7 +11,7 @@ use Rattle.ql_lines.specs.Lines.{ahead_from}
 use Rattle.ql_machine.specs.declared.reply.Reply.{Reply}
 use Rattle.ql_machine.specs.State.{Machine}
 use Rattle.ql_machine.specs.Runs.{IsRun}
-use Rattle.ql_running.specs.Runs.{BadScheduleSays}
+use Rattle.ql_running.specs.Runs.{NoRunSays}
 use Rattle.ql_running.specs.Soundness.{IsSound}
 use Rattle.ql_schedule.specs.declared.schedule.Schedule.{Schedule}
 use Rattle.ql_schedule.specs.Files.{IsScheduleFile}
@@ -33,7 +32,6 @@ pub record TellsSlim (source file text : List ℕ) : Type 0 where
   pub sound : IsSound program last.effects
   pub printed : IsSlimText program schedule.objects schedule.kinds last text
 
-abbrev pub SlimSays : List ℕ → List ℕ → Answer → List ℕ → Type 0
+abbrev pub SlimSays : List ℕ → List ℕ → Status → List ℕ → Type 0
 SlimSays source file Done text = TellsSlim source file text
-SlimSays source file No text = (p : Program) × IsSourceOf source p × (s : Schedule) × IsScheduleFile p (ahead_from 1 file) s × RefusalSays p text
-SlimSays source file Bad text = BadSourceSays source text ⊎ BadScheduleSays source file text
+SlimSays source file status text = NoRunSays source file status text

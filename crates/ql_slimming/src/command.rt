@@ -11,12 +11,10 @@ ghost use Rattle.ql_slimming.specs.Slims.{SlimSays, TellsSlim};
 use crate::answers::{Left, push_answers};
 use crate::keeping::{keep_stable, kept_effects};
 use ql_base::{NoMemory, TypeId, push_bytes, push_number};
-use ql_commands::{Answer, bad_source, read_source, refusal};
-use ql_levels::Levels;
 use ql_replica::Replica;
-use ql_running::{bad_schedule, sound_run};
+use ql_reply::Status;
+use ql_running::{RunInput, read_run_input, sound_run};
 use ql_runs::Run;
-use ql_schedule::{Schedule, one_schedule, parse_schedule};
 use ql_summary::slim;
 use ql_typing::Typed;
 use std::alloc::Global;
@@ -28,43 +26,31 @@ pub fn slim_run(
     alloc: Global,
     source: &[u8],
     schedule: &[u8],
-) -> Result<(Answer, Vec<u8>), NoMemory>
+) -> Result<(Status, Vec<u8>), NoMemory>
     requires { length source.now < 2 ^ 32 }
     ensures { IfOk result (λ answer. SlimSays source.now schedule.now answer.0 answer.1.items) }
 {
-    one_schedule();
-    let typed = match read_source(alloc, source) {
-        Ok(typed) => typed,
-        Err(fault) => return Ok((Answer::Bad, bad_source(alloc, fault)?)),
-    };
-    let schedule = match parse_schedule(alloc, &typed, schedule) {
-        Ok(schedule) => schedule,
-        Err(fault) => return Ok((Answer::Bad, bad_schedule(alloc, fault)?)),
-    };
-    match ql_classify::classify(alloc, &typed) {
-        Ok(classified) => Ok((
-            Answer::Done,
-            text_of(alloc, &typed, classified.levels(), schedule)?,
-        )),
-        Err(why) => Ok((Answer::No, refusal(alloc, &typed, why)?)),
+    match read_run_input(alloc, source, schedule)? {
+        Ok(input) => Ok((Status::Done, text_of(alloc, input)?)),
+        Err(reply) => Ok(reply),
     }
 }
 
-// The text of a schedule's last state at these levels.
-fn text_of(
-    alloc: Global,
-    t: &Typed,
-    levels: &Levels,
-    schedule: Schedule,
-) -> Result<Vec<u8>, NoMemory>
-    requires levels { AreLevelsOf t.now.program levels.now }
-    requires schedule { IsSchedule t.now.program schedule }
-    ensures { IfOk result (λ text. (source file : List ℕ) → IsSourceOf source t.now.program → IsScheduleFile t.now.program (ahead_from 1 file) schedule → TellsSlim source file text.items) }
+// The text of the run's last state.
+fn text_of(alloc: Global, input: RunInput) -> Result<Vec<u8>, NoMemory>
+    requires levels { AreLevelsOf input.typed.program input.levels }
+    requires schedule { IsSchedule input.typed.program input.schedule }
+    ensures { IfOk result (λ text. (source file : List ℕ) → IsSourceOf source input.typed.program → IsScheduleFile input.typed.program (ahead_from 1 file) input.schedule → TellsSlim source file text.items) }
 {
+    let RunInput {
+        typed,
+        levels,
+        schedule,
+    } = input;
     let replicas = schedule.last_replicas();
     let kinds = Vec::from_slice(alloc, schedule.kinds.items())?;
-    let run = sound_run(alloc, t, levels, schedule)?;
-    print_slim(alloc, t, &run, replicas, &kinds)
+    let run = sound_run(alloc, &typed, &levels, schedule)?;
+    print_slim(alloc, &typed, &run, replicas, &kinds)
 }
 
 // How many effects of a run's last state are stable, and what each replica answers.

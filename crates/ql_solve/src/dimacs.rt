@@ -1,5 +1,5 @@
-// Clause lists as text: `p cnf VARIABLES CLAUSES`, then numbers with a 0 at the end of each clause. A
-// line that begins with `c` says nothing.
+// Clause lists as text: `p cnf VARIABLES CLAUSES`, then numbers with a 0 at the end of each clause.
+// Lines that begin with `c` are comments.
 use ql_base::NoMemory;
 use ql_cnf::{Clauses, Lit, are_in_range};
 use std::alloc::Global;
@@ -19,7 +19,7 @@ pub fn clauses(alloc: Global, text: &str) -> Result<Option<Clauses>, NoMemory> {
     Ok(lits.is_empty().then_some(clauses))
 }
 
-// The count of variables in the line that begins with `p`.
+// The number of variables in the line that begins with `p`.
 fn variables(text: &str) -> Option<u32> {
     let line = text.lines().find(|line| line.starts_with("p "))?;
     line.split_whitespace().nth(2)?.parse::<u32>().ok()
@@ -29,7 +29,7 @@ fn is_said(line: &str) -> bool {
     !line.starts_with("p") && !line.starts_with("c")
 }
 
-// Reads the numbers of a line; false where one fits no clause.
+// Reads the numbers of a line; false where one of them doesn't fit a clause.
 fn add_line(line: &str, lits: &mut Vec<Lit>, clauses: &mut Clauses) -> Result<bool, NoMemory> {
     for word in line.split_whitespace() {
         match word.parse::<i32>() {

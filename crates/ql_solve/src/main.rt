@@ -1,5 +1,5 @@
-// Decides the clause lists of files in the DIMACS form, one after another, and checks each answer by
-// the checker or by reading the clauses.
+// Decides the clause lists of files in the DIMACS form, one after another, and verifies each answer with
+// the checker of refutations or by evaluating the clauses.
 #![tactic(auto)]
 
 mod dimacs;
@@ -28,19 +28,19 @@ fn main(rt: HostRuntime) -> io::Result<()> {
     Ok(())
 }
 
-// The words of the command line, without the program's own name.
+// The arguments of the command line, without the program's own name.
 fn words<R: Env + AllocGlobal>(rt: &R) -> io::Result<Vec<String>> {
     let words = env::args(rt)?.skip(1).collect::<Vec<String>>(rt.alloc())?;
     Ok(words)
 }
 
-// What a file came to.
+// The result for a file.
 #[derive(Clone, Copy)]
 enum Answer {
     Model,
-    // Refuted with so many lines.
+    // Refuted with this many lines.
     Refuted(usize),
-    // The evidence doesn't hold, which the solver's contract rules out.
+    // The evidence is wrong, which the solver's contract rules out.
     Wrong,
     BadFile,
 }

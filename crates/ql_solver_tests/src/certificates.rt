@@ -100,7 +100,7 @@ fn printed(alloc: Global, file: &str) -> Result<Vec<u8>, NoMemory> {
     }
 }
 
-// Proofs with what they have, or their first fault and its line, from an independent implementation.
+// Proofs with their contents, or their first fault and its line, from an independent implementation.
 const PROOFS: &str = "
 variables 2␊c 1 2␊c 1 -2␊c -1␊1 1 : c1 c2␊2 : l1 c3␊end␊ -> 2 variables, 3 clauses, 2 lines
  -> unexpected 1

@@ -8,7 +8,7 @@ use ql_tables::check_table;
 use std::alloc::Global;
 use std::test::Fail;
 
-// Literals, and the clause of them over three variables.
+// Literals, and their clause over three variables.
 const ADDED: &str = "
  -> clause
 -3 1 2 -> clause 1 2 -3
@@ -63,7 +63,7 @@ fn extended(alloc: Global, row: &str) -> Result<Vec<u8>, NoMemory> {
     }
 }
 
-// Clauses over two variables, the values of these, and whether each clause has a true literal.
+// Clauses over two variables, the values of the variables, and whether each clause has a true literal.
 const SATISFIED: &str = "
 1 2 0 -1 0 under 0 1 -> true
 1 2 0 -1 0 under 1 1 -> false
@@ -92,7 +92,7 @@ fn assignment(alloc: Global, a: bool, b: bool) -> Result<Assignment, NoMemory>
     Ok(Assignment::of(vec![in alloc; a, b]?))
 }
 
-// A formula over nine variables, and the clauses of its gates and of its denial.
+// A formula over nine variables, and the clauses of its gates and of its negation.
 const DENIED: &str = "
 true -> 10 variables: 10 0 -10 0
 ";

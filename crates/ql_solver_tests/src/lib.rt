@@ -1,5 +1,5 @@
 // Tests of levels, clause lists, the solver, refutations and the files that hold them, with answers from outside.
-// Nothing stands on this crate.
+// No crate depends on this one.
 #![tactic(auto)]
 
 #[cfg(test)]

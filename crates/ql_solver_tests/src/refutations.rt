@@ -6,10 +6,10 @@ use ql_tables::check_table;
 use std::alloc::Global;
 use std::test::Fail;
 
-// Two variables, of which each line is a literal or none.
+// Clauses over two variables.
 const CLAUSES: &str = "1 2 0 1 -2 0 -1 0";
 
-// Lines, each its literal and its hints: `c2` is the second clause, `l2` the second line.
+// Lines of a refutation, each a literal or none, with its hints: `c2` is the second clause, `l2` the second line.
 const JUDGED: &str = "
 1 : c1 c2; : l1 c3 -> Accepted
 1 : c1; : l1 c3 -> NoConflict 1

@@ -9,8 +9,8 @@ use ql_tables::check_table;
 use std::alloc::Global;
 use std::test::Fail;
 
-// How many variables there are and clauses, each ended by 0. The third list is of three pairs, with at most one of the
-// first and one of the second of each.
+// The number of variables and the clauses, each ended by 0. The third list is about three pairs, with at most one first
+// and at most one second element.
 const SMALL: &str = "
 2:  -> model
 2: 0 -> refuted
@@ -24,9 +24,9 @@ fn decides_small_lists(rt: HostRuntime) -> Result<(), Fail> {
     check_table(rt.alloc(), SMALL, decided)
 }
 
-// Ground problems of operations: the type with one operation and the contract `true`, at eventual; a bank's withdrawal,
-// which all others must see or be seen by, at causal; and its balance, for which sight is transitive, at eventual.
-// The level gives the contract where the problem has no model.
+// Ground problems of operations: of the type with one operation and the contract `true`, at eventual; of a bank's
+// withdrawal, which all others must see or be seen by, at causal; and of its balance, for which visibility is
+// transitive, at eventual. The level guarantees the contract where the problem has no model.
 const GROUND: &str = "
 10: 1 0 3 0 3 -4 0 -4 5 0 -2 -3 5 0 3 -5 0 -5 6 0 -2 6 0 -4 6 0 -6 0 9 0 9 0 10 0 -10 0 -> refuted
 39: 1 0 4 0 -2 3 0 2 -3 0 1 -2 -3 0 -2 -3 4 0 -2 -5 7 0 -2 -6 8 0 -3 5 -7 0 -3 6 -8 0 -2 -5 6 0 -2 -7 8 0 -3 5 -6 0 -3 7 -8 0 -2 -9 11 0 -2 -10 12 0 -3 9 -11 0 -3 10 -12 0 -2 -9 10 0 -2 -11 12 0 -3 9 -10 0 -3 11 -12 0 -2 -13 15 0 -2 -14 16 0 -3 13 -15 0 -3 14 -16 0 -2 -13 14 0 -2 -15 16 0 -3 13 -14 0 -3 15 -16 0 -2 -17 19 0 -2 -18 20 0 -3 17 -19 0 -3 18 -20 0 -2 -17 18 0 -2 -19 20 0 -3 17 -18 0 -3 19 -20 0 -2 -21 23 0 -2 -22 24 0 -3 21 -23 0 -3 22 -24 0 -2 -21 22 0 -2 -23 24 0 -3 21 -22 0 -3 23 -24 0 -2 -25 27 0 -2 -26 28 0 -3 25 -27 0 -3 26 -28 0 -2 -25 26 0 -2 -27 28 0 -3 25 -26 0 -3 27 -28 0 -2 -31 32 0 -3 31 -32 0 -2 -33 34 0 -3 33 -34 0 -2 -35 36 0 -3 35 -36 0 5 -6 -7 0 -6 -7 8 0 4 -6 8 0 1 5 -7 0 1 5 -6 0 4 -7 8 0 9 0 12 0 -10 11 0 10 -11 0 9 -10 -11 0 -10 -11 12 0 9 -13 0 10 -14 0 11 -15 0 12 -16 0 -13 17 0 -14 18 0 -15 19 0 -16 20 0 -5 -9 17 0 -6 -10 18 0 -7 -11 19 0 -8 -12 20 0 17 -18 -19 0 -18 -19 20 0 9 -17 0 10 -18 0 11 -19 0 12 -20 0 -17 21 0 -18 22 0 -19 23 0 -20 24 0 -5 21 0 -6 22 0 -7 23 0 -8 24 0 -13 21 0 -14 22 0 -15 23 0 -16 24 0 21 -22 -23 0 -22 -23 24 0 -21 0 -24 0 31 33 35 0 32 34 36 0 -31 -33 0 -31 -35 0 -33 -35 0 -32 -34 0 -32 -36 0 -34 -36 0 14 -18 0 16 -20 0 34 0 33 0 -14 37 0 -15 37 0 14 15 -37 0 -37 38 0 -2 38 0 2 37 -38 0 10 39 0 -38 39 0 -10 38 -39 0 -39 0 -> model
@@ -39,7 +39,7 @@ fn decides_ground_problems(rt: HostRuntime) -> Result<(), Fail> {
 }
 
 // Pigeons and holes: each pigeon has a hole, and no two have the same. Seven and six, six and six, and four and three
-// among the middle variables, with clauses of two before and behind them.
+// among the middle variables, with clauses of two before and after them.
 const PIGEONS: &str = "
 42: 1 2 3 4 5 6 0 7 8 9 10 11 12 0 13 14 15 16 17 18 0 19 20 21 22 23 24 0 25 26 27 28 29 30 0 31 32 33 34 35 36 0 37 38 39 40 41 42 0 -1 -7 0 -1 -13 0 -7 -13 0 -1 -19 0 -7 -19 0 -13 -19 0 -1 -25 0 -7 -25 0 -13 -25 0 -19 -25 0 -1 -31 0 -7 -31 0 -13 -31 0 -19 -31 0 -25 -31 0 -1 -37 0 -7 -37 0 -13 -37 0 -19 -37 0 -25 -37 0 -31 -37 0 -2 -8 0 -2 -14 0 -8 -14 0 -2 -20 0 -8 -20 0 -14 -20 0 -2 -26 0 -8 -26 0 -14 -26 0 -20 -26 0 -2 -32 0 -8 -32 0 -14 -32 0 -20 -32 0 -26 -32 0 -2 -38 0 -8 -38 0 -14 -38 0 -20 -38 0 -26 -38 0 -32 -38 0 -3 -9 0 -3 -15 0 -9 -15 0 -3 -21 0 -9 -21 0 -15 -21 0 -3 -27 0 -9 -27 0 -15 -27 0 -21 -27 0 -3 -33 0 -9 -33 0 -15 -33 0 -21 -33 0 -27 -33 0 -3 -39 0 -9 -39 0 -15 -39 0 -21 -39 0 -27 -39 0 -33 -39 0 -4 -10 0 -4 -16 0 -10 -16 0 -4 -22 0 -10 -22 0 -16 -22 0 -4 -28 0 -10 -28 0 -16 -28 0 -22 -28 0 -4 -34 0 -10 -34 0 -16 -34 0 -22 -34 0 -28 -34 0 -4 -40 0 -10 -40 0 -16 -40 0 -22 -40 0 -28 -40 0 -34 -40 0 -5 -11 0 -5 -17 0 -11 -17 0 -5 -23 0 -11 -23 0 -17 -23 0 -5 -29 0 -11 -29 0 -17 -29 0 -23 -29 0 -5 -35 0 -11 -35 0 -17 -35 0 -23 -35 0 -29 -35 0 -5 -41 0 -11 -41 0 -17 -41 0 -23 -41 0 -29 -41 0 -35 -41 0 -6 -12 0 -6 -18 0 -12 -18 0 -6 -24 0 -12 -24 0 -18 -24 0 -6 -30 0 -12 -30 0 -18 -30 0 -24 -30 0 -6 -36 0 -12 -36 0 -18 -36 0 -24 -36 0 -30 -36 0 -6 -42 0 -12 -42 0 -18 -42 0 -24 -42 0 -30 -42 0 -36 -42 0 -> refuted
 36: 1 2 3 4 5 6 0 7 8 9 10 11 12 0 13 14 15 16 17 18 0 19 20 21 22 23 24 0 25 26 27 28 29 30 0 31 32 33 34 35 36 0 -1 -7 0 -1 -13 0 -7 -13 0 -1 -19 0 -7 -19 0 -13 -19 0 -1 -25 0 -7 -25 0 -13 -25 0 -19 -25 0 -1 -31 0 -7 -31 0 -13 -31 0 -19 -31 0 -25 -31 0 -2 -8 0 -2 -14 0 -8 -14 0 -2 -20 0 -8 -20 0 -14 -20 0 -2 -26 0 -8 -26 0 -14 -26 0 -20 -26 0 -2 -32 0 -8 -32 0 -14 -32 0 -20 -32 0 -26 -32 0 -3 -9 0 -3 -15 0 -9 -15 0 -3 -21 0 -9 -21 0 -15 -21 0 -3 -27 0 -9 -27 0 -15 -27 0 -21 -27 0 -3 -33 0 -9 -33 0 -15 -33 0 -21 -33 0 -27 -33 0 -4 -10 0 -4 -16 0 -10 -16 0 -4 -22 0 -10 -22 0 -16 -22 0 -4 -28 0 -10 -28 0 -16 -28 0 -22 -28 0 -4 -34 0 -10 -34 0 -16 -34 0 -22 -34 0 -28 -34 0 -5 -11 0 -5 -17 0 -11 -17 0 -5 -23 0 -11 -23 0 -17 -23 0 -5 -29 0 -11 -29 0 -17 -29 0 -23 -29 0 -5 -35 0 -11 -35 0 -17 -35 0 -23 -35 0 -29 -35 0 -6 -12 0 -6 -18 0 -12 -18 0 -6 -24 0 -12 -24 0 -18 -24 0 -6 -30 0 -12 -30 0 -18 -30 0 -24 -30 0 -6 -36 0 -12 -36 0 -18 -36 0 -24 -36 0 -30 -36 0 -> model
@@ -62,7 +62,7 @@ fn clauses_in(alloc: Global, row: &str) -> Result<Clauses, NoMemory> {
     clauses_of(alloc, variables.parse::<u32>().unwrap_or(0), text)
 }
 
-// What the answer is, where it is right.
+// The answer, if it is right.
 fn judged(alloc: Global, clauses: &Clauses, decided: &Decided) -> Result<&'static str, NoMemory>
     requires { IsRight clauses.now decided.now }
 {

@@ -4,7 +4,7 @@ use ql_base::{NoMemory, push_bytes, push_number};
 use ql_cnf::{Clauses, Lit, are_in_range};
 use std::alloc::Global;
 
-/// The literal that a number spells: its variable, negative where the number is.
+/// The literal of a number: its variable, negated where the number is negative.
 pub(crate) fn literal(word: &str) -> Lit {
     let number = word.parse::<i32>().unwrap_or(0);
     Lit {
@@ -21,7 +21,7 @@ pub(crate) fn literals(alloc: Global, text: &str) -> Result<Vec<Lit>, NoMemory> 
     Ok(lits)
 }
 
-/// The clauses of a text, each ended by 0, over so many variables. Those that are out of range are left out.
+/// The clauses of a text, each ended by 0, over this many variables. Clauses out of range are left out.
 pub(crate) fn clauses_of(alloc: Global, variables: u32, text: &str) -> Result<Clauses, NoMemory> {
     let mut clauses = Clauses::new(alloc, variables);
     let mut lits = Vec::new(alloc);
@@ -37,7 +37,7 @@ pub(crate) fn clauses_of(alloc: Global, variables: u32, text: &str) -> Result<Cl
     Ok(clauses)
 }
 
-/// Adds a clause, where it is in range.
+/// Adds a clause, if it is in range.
 pub(crate) fn add(clauses: &mut Clauses, lits: &[Lit]) -> Result<bool, NoMemory>
     ensures { clauses.new.variables ≡ clauses.old.variables }
 {

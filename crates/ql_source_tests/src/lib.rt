@@ -1,5 +1,5 @@
-// Tests of typing on texts: what is answered for contracts and sources as the parser reads them.
-// The answers are from outside, and nothing stands on this crate.
+// Tests of typing on texts: the results for contracts and sources as the parser reads them.
+// The results are from outside, and no crate depends on this one.
 #![tactic(auto)]
 
 #[cfg(test)]

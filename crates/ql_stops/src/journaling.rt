@@ -11,8 +11,8 @@ use std::alloc::Global;
 use std::io;
 use std::io::Print;
 
-/// Journals the packages of an execution in the order of their first effects, and prints after each how many effects are
-/// acknowledged.
+/// Journals the packages of an execution in the order of their first effects, and prints after each how many effects
+/// are acknowledged.
 pub(crate) fn journal<H: Holder, P: Print>(
     out: &P,
     alloc: Global,
@@ -36,7 +36,7 @@ pub(crate) fn journal<H: Holder, P: Print>(
     println!(out; "done")
 }
 
-// Journals the package of an effect, where it fits into a record, and tells how many effects it has.
+// Journals the package of an effect, if it fits into a record, and returns how many effects it has.
 fn journal_package<H: Holder>(
     alloc: Global,
     station: &mut Station<H>,
@@ -66,7 +66,7 @@ pub(crate) fn all_effects(alloc: Global, x: &Execution) -> Result<IdSet, NoMemor
     Ok(ids)
 }
 
-/// How many effects a recovered station has received, where these are the first ones.
+/// How many effects a recovered station has received, if these are the first ones.
 pub(crate) fn recovered<H: Holder, D: Disk>(
     alloc: Global,
     disk: &mut D,

@@ -1,5 +1,5 @@
-// Journals packages in a file, one after another, and tells each that it acknowledged; or recovers them from the file.
-// `bench/stops` kills it at random moments in the first, and judges what the second finds.
+// Journals packages in a file, one after another, and reports each that it acknowledged; or recovers them from the
+// file. `bench/stops` kills it at random moments while it journals, and judges what it then recovers.
 #![tactic(auto)]
 
 mod effects;
@@ -14,7 +14,7 @@ use std::env::Env;
 use std::fs::OpenOptions;
 use std::{env, io};
 
-// How many packages there are, of 1 to 8 effects by turns.
+// How many packages there are, of 1 to 8 effects in rotation.
 const PACKAGES: u32 = 800;
 
 fn main(rt: HostRuntime) -> io::Result<()> {
@@ -26,7 +26,7 @@ fn main(rt: HostRuntime) -> io::Result<()> {
     }
 }
 
-// The words of the command line, without the program's own name.
+// The arguments of the command line, without the program's own name.
 fn words<R: Env + AllocGlobal>(rt: &R) -> io::Result<Vec<String>> {
     let words = env::args(rt)?.skip(1).collect::<Vec<String>>(rt.alloc())?;
     Ok(words)

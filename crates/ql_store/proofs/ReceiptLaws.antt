@@ -27,7 +27,7 @@ use Rattle.ql_machine.specs.State.{Machine, message_at, received_at}
 use Rattle.ql_machine.specs.Rules.{Promises}
 use Rattle.ql_machine.specs.Changes.{IsInFlight, received_by, spent}
 use Rattle.ql_machine.specs.Deliveries as delivery
-use Rattle.ql_machine.specs.Deliveries.{IsDelivery, Passes, after_copy, after_receipt, again, waits, applies}
+use Rattle.ql_machine.specs.Deliveries.{IsDelivery, IsInOneGroup, after_copy, after_receipt, again, waits, applies}
 use Rattle.ql_machine_laws.specs.Kept.{AreDone, Keeps}
 use Rattle.ql_machine_laws.proofs.Lists.{each-at, get_or-set-there}
 use Rattle.ql_machine_laws.proofs.Alone.{carried-parcel, reaches-same}
@@ -105,7 +105,7 @@ module _ {A : Type 0} (received : A → List ℕ) (holders : List A) (r : ℕ) (
 pub record IsReady (promises : Promises) (n : ℕ) (s : Machine) (m : ℕ) (message : Message) : Type 0 where
   pub keeps : Keeps promises n s
   pub flight : IsInFlight s.messages m message
-  pub passes : Passes s message
+  pub passes : IsInOneGroup s message
   pub receiver : message.receiver.0 < length s.received
 
 carried-done : (promises : Promises) (n : ℕ) (s : Machine) (m : ℕ) (message : Message) → IsReady promises n s m message → AreDone s.effects s.open_txns message.carried

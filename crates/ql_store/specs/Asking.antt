@@ -1,4 +1,4 @@
--- What a call asks, as the written machine has it.
+-- The request of a call, as the written machine has it.
 use Rattle.ql_machine.specs.Rules.{Call}
 use Rattle.ql_store.specs.declared.asked.Asked.{Asked}
 

@@ -1,4 +1,4 @@
--- What an event asks of a store.
+-- What an event requires of a store.
 use Rattle.std.specs.Prelude.{◌≡◌, ◌+◌, ◌<◌, ◌^◌, ℕ, List, Some, length}
 use Rattle.ql_base.specs.declared.ids.OpId.{OpId}
 use Rattle.ql_exec.specs.declared.effect.Effect.{Effect}

@@ -1,11 +1,11 @@
--- What the numbers in an event must meet.
+-- The ranges of the numbers in an event.
 use Rattle.std.specs.Prelude.{◌≡◌, ◌<◌, ℕ, length}
 use Rattle.ql_levels.specs.Lists.{LevelLists}
 use Rattle.ql_machine.specs.declared.event.Event.{Event}
 use Rattle.ql_machine.specs.declared.event.Event.TheVariants as event
 
--- The replicas of an event are among so many, its operation or declared transaction is one of those with a level, and a
--- partition gives each replica its group. A replica joins where there are fewer than 16.
+-- The replicas of an event are among the first n, its operation or declared transaction is one of those with a level,
+-- and a partition has a group for each replica. A replica may join if there are fewer than 16.
 abbrev pub IsInRange : ℕ → LevelLists → Event → Type 0
 IsInRange n levels (event.Call session replica object op args) = (replica.0 < n) × (op.0 < length levels.ops)
 IsInRange n levels (event.Begin session replica decl objects) = (replica.0 < n) × (decl.0 < length levels.txns)

@@ -1,4 +1,4 @@
--- What a bare replica joins with.
+-- The effects with which a bare replica joins.
 use Rattle.std.specs.Prelude.{◌≡◌, ℕ, Bool, true, false, List, Some}
 use Rattle.ql_base.specs.declared.ids.OpId.{OpId}
 use Rattle.ql_exec.specs.declared.effect.Effect.{Effect}
@@ -18,6 +18,6 @@ is_strong _ = false
 abbrev pub AreAlone : (OpId → Level) → List Effect → Type 0
 AreAlone level x = (a : ℕ) (e : Effect) → effect_at x a ≡ Some e → level e.op ≡ Strong → e.member ≡ Alone
 
--- a strong effect, or one of them needs it, directly or through others, every transaction taken as committed
+-- a strong effect, or one that a strong effect needs, directly or through others, every transaction taken as committed
 abbrev pub IsNeededByStrong : (OpId → Level) → List Effect → ℕ → Type 0
 IsNeededByStrong level x b = (a : ℕ) × IsOfStrong level x a × Reaches (Needs x) a b

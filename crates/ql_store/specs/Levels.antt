@@ -9,7 +9,7 @@ use Rattle.ql_levels.specs.Lists.{LevelLists}
 use Rattle.ql_typing.specs.Operations.{all_ops, uses_op}
 use Rattle.ql_machine.specs.Rules.{Promises}
 
--- what a store promises at some levels; nothing is asked of numbers out of range
+-- what a store guarantees at some levels; numbers out of range have the highest level
 abbrev pub promises_of : LevelLists → Promises
 promises_of levels = record {
   level = λ op. slice_index_or levels.ops op.0 Strong;

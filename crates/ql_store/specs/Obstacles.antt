@@ -1,4 +1,4 @@
--- Why a strong call can't be answered, or that nothing stands in its way.
+-- Why a strong call can't be answered, or that nothing prevents it.
 use Rattle.std.specs.Prelude.{Option, Some, None}
 use Rattle.ql_base.specs.declared.ids.ObjId.{ObjId}
 use Rattle.ql_base.specs.declared.ids.ReplicaId.{ReplicaId}

@@ -1,4 +1,4 @@
--- What a receipt comes to at one of several replicas.
+-- The result of a receipt at one of several replicas.
 use Rattle.std.specs.Prelude.{◌≡◌, ℕ, false, List}
 use Rattle.ql_base.specs.IdLists.{has_id}
 use Rattle.ql_exec.specs.declared.effect.Effect.{Effect}
@@ -16,7 +16,7 @@ pub record IsReceived (before : List (List ℕ)) (r : ℕ) (ids : List ℕ) (aft
   pub none_before : (a : ℕ) → Has ids a → has_id (received_at before r) a ≡ false
   pub added : after ≡ received_by before r ids
 
--- what a replica's receipt of a package comes to, by what each replica had received and what each has then
+-- the result of a replica's receipt of a package, by what each replica had received before and has received after
 abbrev pub IsReceipt : List Effect → List (List ℕ) → ℕ → List ℕ → List (List ℕ) → Arrival → Type 0
 IsReceipt x before r ids after Again = ((a : ℕ) → Has ids a → Has (received_at before r) a) × (after ≡ before)
 IsReceipt x before r ids after (Waits missing) = IsReceived before r ids after × IsLeastMissing x (received_at after r) ids missing.0
@@ -24,7 +24,7 @@ IsReceipt x before r ids after (Applies gain) =
     IsReceived before r ids after × ((a : ℕ) → Has ids a → Applied x (received_at after r) a)
     × IsGain x (received_at before r) (received_at after r) gain
 
--- how a receipt is answered
+-- the reply to a receipt
 abbrev pub reply_of : Arrival → Reply
 reply_of Again = reply.Again
 reply_of (Waits missing) = reply.Waits missing

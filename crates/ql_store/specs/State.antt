@@ -1,4 +1,4 @@
--- What a store is seen as, and what it keeps.
+-- How a store is viewed, and its invariant.
 use Rattle.std.specs.Prelude.{◌≡◌, ◌≤◌, ◌<◌, ℕ, List, All, Some, length}
 use Rattle.ql_base.specs.declared.ids.SessId.{SessId}
 use Rattle.ql_exec.specs.declared.effect.Effect.{Effect}
@@ -48,7 +48,7 @@ abbrev pub AreAmongOps : ℕ → List Effect → Type 0
 AreAmongOps n x = (a : ℕ) (e : Effect) → effect_at x a ≡ Some e → e.op.0 < n
 
 pub record IsKept (levels : LevelLists) (s : Machine) (notes : List Note) (shim : Transactions) : Type 0 where
-  -- what every run of the machine keeps at these levels, which began with some number of replicas
+  -- the invariant of the machine's runs at these levels, which began with some number of replicas
   pub start : ℕ
   pub keeps : Keeps (promises_of levels) start s
   -- each replica has a group, and messages go to replicas
@@ -59,7 +59,7 @@ pub record IsKept (levels : LevelLists) (s : Machine) (notes : List Note) (shim 
   pub declared : AreDeclared (length levels.txns) s.open_txns
   -- the operations of effects have levels
   pub ops : AreAmongOps (length levels.ops) s.effects
-  -- each effect is noted, and what each open transaction did
+  -- each effect is noted, and so is what each open transaction did
   pub noted : notes ≡ notes_of s.effects
   pub known : (session : SessId) (t : OpenTxn) → open_of s.open_txns session ≡ Some t → IsKnown s.effects t (own_of shim session) (saw_of shim session)
 

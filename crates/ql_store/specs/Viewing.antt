@@ -16,15 +16,15 @@ use Rattle.ql_machine.specs.Sets.{IsLeast}
 use Rattle.ql_machine.specs.State.{Machine}
 use Rattle.ql_machine.specs.Views.{Applied}
 
--- What a view must have. At causal: what the session did before on the object. At wide: what is on the object in the past of
--- the session and of what the view has.
+-- What a view must have. At causal: what the session did before on the object. At wide: what is on the object in the
+-- past of the session and of what the view has.
 abbrev pub IsWanted : List Effect → Level → SessId → ObjId → List ℕ → ℕ → Type 0
 IsWanted x Eventual session object view a = ⊥
 IsWanted x Causal session object view a = IsOn object (effect_at x a) × IsOf session (effect_at x a)
 IsWanted x Wide session object view a = IsOn object (effect_at x a) × InPast x session (Has view) a
 IsWanted x Strong session object view a = ⊥
 
--- the least of it that a view lacks, or that it lacks nothing
+-- the least of these that a view lacks, or none
 abbrev pub IsLeastLacking : List Effect → Level → SessId → ObjId → List ℕ → Option EffId → Type 0
 IsLeastLacking x level session object view None = (a : ℕ) → IsWanted x level session object view a → Has view a
 IsLeastLacking x level session object view (Some least) = IsLeast (λ a. IsWanted x level session object view a × (has_id view a ≡ false)) least.0

@@ -1,10 +1,10 @@
 use ql_exec::Draft;
 use ql_machine::Reply;
 
-/// How far a call comes.
+/// The result of trying a call.
 #[derive(Drop)]
 pub(crate) enum Attempt {
-    /// It is answered, and leaves all as it was.
+    /// It is answered, and changes nothing.
     Ends(Reply),
     /// It makes this effect.
     Makes(Draft),

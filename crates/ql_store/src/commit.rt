@@ -47,7 +47,7 @@ pub(crate) fn commit<H: Holder>(
     }
 }
 
-// A replica receives all effects of a transaction, which are new to it, and sends them to each other one. Where there are
+// A replica receives all effects of a transaction, which are new to it, and sends them to each other one. If there are
 // none, nothing is sent.
 fn spread_all<H: Holder>(
     x: &Execution,

@@ -16,7 +16,7 @@ use ql_net::Net;
 use ql_strong::bare;
 use std::alloc::Global;
 
-/// One replica more, in the group of another. No message is sent.
+/// Adds a replica in the group of another. No message is sent.
 pub(crate) fn add<H: Holder>(
     holders: &mut Vec<H>,
     net: &mut Net,
@@ -41,7 +41,7 @@ pub(crate) fn add<H: Holder>(
 }
 
 /// The holder of a bare replica: it has received the effects of strong operations and all that they
-/// need, and nothing else. Goes over the execution once, and takes the search for what they need.
+/// need, and nothing else. Goes over the execution once, and searches for what they need.
 pub(crate) fn bare_holder<H: Holder>(
     alloc: Global,
     x: &Execution,

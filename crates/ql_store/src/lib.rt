@@ -1,5 +1,5 @@
 // A replicated store: replicas, the network between them, sessions and their calls.
-// The one contract: each event does to the store what the written machine does, and is answered as there.
+// The one contract: each event does to the store what it does to the written machine, and is answered as there.
 #![tactic(auto)]
 
 mod asked;

@@ -8,8 +8,8 @@ use ql_machine::Reply;
 use ql_net::Net;
 use ql_shim::Shim;
 
-/// Why a strong call can't be answered: a replica that the called one can't reach, or an open transaction
-/// that declares the object. Goes over the replicas and the open transactions.
+/// Why a strong call can't be answered, if it can't: a replica that the called one can't reach, or an open
+/// transaction that declares the object. Goes over the replicas and the open transactions.
 pub(crate) fn obstacle(net: &Net, shim: &Shim, r: ReplicaId, object: ObjId) -> Option<Reply>
     ensures { (x : List Effect) (received : List (List ℕ)) → length received ≡ length net.now.groups
         → IsObstacle (machine_of x received net.now shim.now) r object result }

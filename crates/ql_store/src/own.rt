@@ -26,7 +26,7 @@ use ql_net::Net;
 use ql_session::Sessions;
 use ql_shim::{Shim, View};
 
-/// How a call in an open transaction is answered by its object and operation alone, or nothing.
+/// The reply to a call in an open transaction, if the object and the operation alone decide it.
 pub(crate) fn refusal(
     net: &Net,
     shim: &Shim,
@@ -94,7 +94,7 @@ fn lesser(one: Option<EffId>, other: Option<EffId>) -> Option<EffId>
     }
 }
 
-/// Makes an effect in its session's open transaction. No replica receives it.
+/// Adds an effect of a session's open transaction. No replica receives it.
 pub(crate) fn make_own(
     x: &mut Execution,
     sessions: &mut Sessions,

@@ -18,7 +18,7 @@ use ql_net::Net;
 use ql_session::Sessions;
 use std::alloc::Global;
 
-/// Makes an effect outside any transaction: its replica receives it and sends it to each other one.
+/// Adds an effect outside any transaction: its replica receives it and sends it to each other one.
 pub(crate) fn make_plain<H: Holder>(
     alloc: Global,
     x: &mut Execution,
@@ -59,7 +59,7 @@ pub(crate) fn make_plain<H: Holder>(
     }
 }
 
-/// Appends an effect with its note.
+/// Appends an effect and its note.
 pub(crate) fn push_noted(
     x: &mut Execution,
     sessions: &mut Sessions,

@@ -7,7 +7,7 @@ use ql_base::{EffId, IdSet, NoMemory};
 use ql_holder::Holder;
 use std::alloc::Global;
 
-/// Which of so many first effects a holder received. Asks it for each.
+/// Which of the first `count` effects a holder has received. Asks it for each.
 pub(crate) fn received_effects<H: Holder>(
     alloc: Global,
     holder: &H,

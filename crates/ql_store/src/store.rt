@@ -45,7 +45,7 @@ use ql_value::Values;
 use std::alloc::Global;
 use std::marker::Model;
 
-/// A replicated store, seen as its levels and the state of the written machine.
+/// A replicated store, viewed as its levels and the state of the written machine.
 #[derive(Drop)]
 pub struct Store<H: Holder> {
     alloc: Global,
@@ -73,7 +73,7 @@ impl<H: Holder> Model for Store<H> {
 }
 
 impl<H: Holder> Store<H> {
-    /// A store with this many replicas, in which nothing has happened.
+    /// A store with this many replicas, in its initial state.
     pub fn new(alloc: Global, replicas: u32, levels: Levels) -> Result<Store<H>, NoMemory>
         requires { replicas ≤ 16 }
         ensures { IfOk result (λ store. store ≡ record { levels = levels; machine = empty replicas }) }
@@ -109,7 +109,7 @@ impl<H: Holder> Store<H> {
         applied_among(self.alloc, holder, self.sessions.on(object))
     }
 
-    /// What a replica has received, which is nothing where there is no such replica. Asks it for each effect.
+    /// What a replica has received; nothing if there is no such replica. Asks it for each effect.
     pub fn received_at(&self, r: ReplicaId) -> Result<IdSet, NoMemory>
         ensures { IfOk result (λ ids. ids ≡ received_at self.now.machine.received r.0) }
     {
@@ -127,12 +127,12 @@ impl<H: Holder> Store<H> {
         committed_effects(self.alloc, self.execution.effects(), &self.shim)
     }
 
-    /// Does what an event does to a store, and answers it.
+    /// Applies an event to the store, and returns the reply.
     ///
-    /// The state and the reply are those of the written machine, and the levels stay. A call costs its view
-    /// once, with the fold of what it sees; a delivery costs what the receiver walks. No event copies the
-    /// execution. Memory in proportion to the replicas is taken for messages, and by a strong call for new
-    /// replicas.
+    /// The state and the reply are those of the written machine, and the levels stay. A call computes its view
+    /// once, and folds what it sees; a delivery takes the time of the receiver's walk. No event copies the
+    /// execution. Messages take memory in proportion to the number of replicas, as do the new replicas of a
+    /// strong call.
     pub fn step<F: Folder>(
         &mut self,
         event: Event,
@@ -223,11 +223,11 @@ impl<H: Holder> Store<H> {
         Reply::Healed
     }
 
-    /// A replica joins in the group of another one: as a copy of it, or bare, which is with the effects of
+    /// A replica joins in the group of another one: as a copy of it, or bare, that is, with the effects of
     /// strong operations and all that they need. It has the next number, and no message is sent.
     ///
-    /// A copy costs what the other replica has. A bare one costs a pass over the execution, and what the
-    /// strong effects need.
+    /// A copy takes time in proportion to what the other replica has. A bare one takes a pass over the
+    /// execution, and a search for what the strong effects need.
     pub fn join(&mut self, near: ReplicaId, copy: bool) -> Result<Reply, NoMemory>
         requires near { near.0 < length self.old.machine.received }
         requires few { length self.old.machine.received < 16 }
@@ -322,7 +322,8 @@ impl<H: Holder> Store<H> {
         )
     }
 
-    /// A session begins a declared transaction on some objects, at a replica. What the replica has applied is its snapshot.
+    /// A session begins a declared transaction on some objects, at a replica. The snapshot is what the replica has
+    /// applied.
     ///
     /// Looks up each effect of the execution once.
     pub fn begin(
@@ -351,8 +352,8 @@ impl<H: Holder> Store<H> {
         )
     }
 
-    /// A session commits its open transaction: a replica receives its effects as one package, and sends it to each other
-    /// one. Where there are none, nothing is sent.
+    /// A session commits its open transaction: a replica receives its effects as one package, and sends it to each
+    /// other one. If there are none, nothing is sent.
     pub fn commit(&mut self, session: SessId, replica: ReplicaId) -> Result<Reply, NoMemory>
         requires replica { replica.0 < length self.old.machine.received }
         requires room { length self.old.machine.messages + length self.old.machine.received < 2 ^ 32 }
@@ -433,9 +434,8 @@ impl<H: Holder> Store<H> {
 
     /// A session with no open transaction calls a strong operation on an object, at a replica.
     ///
-    /// Folds each effect on the object. Copies each replica, which receives all that is committed, and
-    /// the new effect with it: one pass over the execution, and one for each transaction that a replica
-    /// lacks.
+    /// Folds each effect on the object. Copies each replica; the copies receive all that is committed, with the
+    /// new effect: one pass over the execution, and one for each transaction that a replica lacks.
     pub fn call_strong<F: Folder>(
         &mut self,
         session: SessId,
@@ -480,8 +480,8 @@ impl<H: Holder> Store<H> {
 
     /// A session calls an operation on an object, at a replica, in its open transaction. No replica receives the effect.
     ///
-    /// Looks up each effect on the object once, goes over what the transaction's own ones among them saw, and folds those that
-    /// it sees. At monotonic atomic view it looks up what the transaction saw, too.
+    /// Looks up each effect on the object once, goes over what the transaction's own ones among them saw, and folds
+    /// those that it sees. At monotonic atomic view it also looks up what the transaction saw.
     pub fn call_own<F: Folder>(
         &mut self,
         session: SessId,
@@ -523,7 +523,7 @@ impl<H: Holder> Store<H> {
         }
     }
 
-    // How far a call in a session's open transaction comes.
+    // Tries a call in a session's open transaction.
     fn attempt_own<F: Folder>(
         &self,
         asked: Asked,

@@ -66,8 +66,8 @@ fn id_set(alloc: Global, ids: &[u32]) -> Result<IdSet, NoMemory>
     Ok(set)
 }
 
-/// Makes an effect outside any transaction that each replica receives at once, with all that is
-/// committed. The replicas are new ones, which replace the old ones last.
+/// Adds an effect outside any transaction that each replica receives at once, with all that is
+/// committed. The new replicas are built first, and replace the old ones at the end.
 pub(crate) fn make_strong<H: Holder>(
     alloc: Global,
     x: &mut Execution,
@@ -108,7 +108,7 @@ pub(crate) fn make_strong<H: Holder>(
     }
 }
 
-// For each replica a new one that has received what is committed, a new effect among it.
+// For each replica, a new one that has received what is committed, including a new effect.
 fn synced<H: Holder>(
     alloc: Global,
     x: &Execution,

@@ -35,7 +35,7 @@ fn push_level(ops: &mut Vec<Level>, txns: &mut Vec<TxnLevel>, word: &str) -> Res
     Ok(())
 }
 
-// Levels, where there is one for each operation and each transaction.
+// Levels, if there is one for each operation and each transaction.
 fn levels_for(typed: &Typed, ops: Vec<Level>, txns: Vec<TxnLevel>) -> Option<Levels>
     ensures { IfSome result (HasLevelOfEach typed.now.program) }
 {

@@ -1,5 +1,5 @@
 // Tests of a store by worked schedules: each event and each reply to it, at replicas of both bodies.
-// It has no contract of its own, and nothing stands on this crate.
+// It has no contract of its own, and no crate depends on it.
 #![tactic(auto)]
 
 #[cfg(test)]

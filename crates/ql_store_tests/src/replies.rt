@@ -3,7 +3,7 @@ use ql_exec::Execution;
 use ql_machine::{Reply, Why};
 use ql_value::print_value;
 
-/// Appends replies with semicolons between them. A call's answer stands with its effect.
+/// Appends replies with semicolons between them. A call's reply shows the answer of its effect.
 pub(crate) fn push_replies(
     out: &mut Vec<u8>,
     replies: &[Reply],

@@ -2,13 +2,13 @@ use crate::levels::levels_of;
 use crate::replies::push_replies;
 use ql_base::{NoMemory, push_bytes};
 use ql_holder::Holder;
-use ql_parse::parse_program;
 use ql_plain_holder::PlainHolder;
 use ql_replica::Replica;
 use ql_runs::run_schedule;
 use ql_schedule::parse_schedule;
 use ql_tables::check_table;
-use ql_typing::{Typed, typecheck};
+use ql_test_programs::declared;
+use ql_typing::Typed;
 use std::alloc::Global;
 use std::test::Fail;
 
@@ -92,7 +92,7 @@ object y account
 events
 ";
 
-// Replicas join in mid-run.
+// Replicas join in the middle of a run.
 const JOINED_ACCOUNTS: &str = "
 call 1 at 0 x deposit 100; join bare 0; call 3 at 2 x getbalance; call 1 at 0 x withdraw 30; join bare 1; call 4 at 3 x getbalance; partition 0 0 0 1; call 1 at 0 x withdraw 5 -> ok 1 unit; joined 2; ok 2 0; ok 3 true; joined 3; ok 4 70; split; unavailable 3
 call 1 at 0 x deposit 7; call 1 at 1 y deposit 9; join copy 0; call 3 at 2 x getbalance; call 3 at 2 y getbalance; deliver 2; call 2 at 2 x deposit 1; deliver 3; deliver 4 -> ok 1 unit; ok 2 unit; joined 2; ok 3 7; ok 4 0; applies 2; ok 5 unit; applies 3; waits 1
@@ -149,7 +149,7 @@ object y page
 events
 ";
 
-// A look that must see what happened before it also by way of another object, and one that needn't.
+// A read that must also see what happened before it by way of another object, and one that needn't.
 const WIDE_RUNS: &str = "
 call 1 at 0 x write; call 1 at 0 y write; deliver 2; call 2 at 1 y write; call 2 at 1 x look; deliver 1; call 2 at 1 x look -> ok 1 unit; ok 2 unit; applies 2; ok 3 unit; blocked 1; applies 1; ok 4 unit
 call 1 at 0 x write; call 1 at 0 y write; call 1 at 1 x look; deliver 2; call 2 at 1 x look; call 2 at 1 y look; call 2 at 1 x look -> ok 1 unit; ok 2 unit; blocked 1; applies 2; ok 3 unit; ok 4 unit; blocked 1
@@ -163,7 +163,7 @@ fn looks_across_objects(rt: HostRuntime) -> Result<(), Fail> {
     })
 }
 
-// The replies to events where replicas of both bodies reply alike.
+// The replies to events, if replicas of both bodies reply alike.
 fn replied(
     alloc: Global,
     source: &str,
@@ -203,7 +203,7 @@ fn replied_by<H: Holder>(
     }
 }
 
-// A schedule with a line for each event.
+// A schedule with one line per event.
 fn schedule_file(alloc: Global, heading: &str, events: &str) -> Result<Vec<u8>, NoMemory> {
     let mut file = Vec::new(alloc);
     push_bytes(&mut file, heading.as_bytes())?;
@@ -212,14 +212,6 @@ fn schedule_file(alloc: Global, heading: &str, events: &str) -> Result<Vec<u8>, 
         push_bytes(&mut file, b"\n")?;
     }
     Ok(file)
-}
-
-fn declared(alloc: Global, source: &str) -> Option<Typed> {
-    if source.len() > 4096 {
-        return None;
-    }
-    let program = parse_program(alloc, source.as_bytes()).ok()?;
-    typecheck(alloc, program).ok()
 }
 
 fn spelled(alloc: Global, text: &str) -> Result<Vec<u8>, NoMemory> {

@@ -1,8 +1,8 @@
 // The synchronous step of a strong call: each replica receives all that is committed. And a replica that
-// begins with the strong effects alone.
+// begins with only the strong effects and what they need.
 // The one contract: there are as many new holders as old ones, and each fits the execution and has
 // received exactly the committed effects; the old ones stay as they are. A bare holder has received
-// exactly what it is asked for and all that this needs.
+// exactly the effects asked for and all that these need.
 #![tactic(auto)]
 
 mod law;

@@ -12,7 +12,7 @@ use std::alloc::Global;
 
 /// A holder that has received exactly some effects and all that they need, directly or through others.
 ///
-/// It takes the time of the search for what they need, and of a receipt of each transaction found.
+/// Takes the time of the search for what they need, and of a receipt of each transaction found.
 pub fn bare<H: Holder>(alloc: Global, x: &Execution, strong: &IdSet) -> Result<H, NoMemory>
     requires { AreWhole x.now strong.now }
     ensures fits { IfOk result (λ bare. H.fits bare x.now) }

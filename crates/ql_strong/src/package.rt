@@ -8,7 +8,7 @@ use ql_exec::{Effect, Execution, Member};
 use std::alloc::Global;
 
 /// All effects of the transaction of an effect. An effect outside any is a transaction by itself, and
-/// takes constant time; else each effect of the execution is looked at once.
+/// takes constant time; otherwise each effect of the execution is looked at once.
 pub fn package_of(alloc: Global, x: &Execution, id: EffId) -> Result<IdSet, NoMemory>
     requires first { 1 ≤ id.0 }
     requires last { id.0 ≤ length x.now }

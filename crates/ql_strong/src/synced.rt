@@ -12,10 +12,10 @@ use ql_exec::Execution;
 use ql_holder::Holder;
 use std::alloc::Global;
 
-/// For each holder a new one, which has received exactly the committed effects.
+/// For each holder a new one that has received exactly the committed effects.
 ///
-/// A holder is copied and receives what it lacks: the other committed effects are looked up in it and
-/// no more. A transaction that it lacks takes one pass over the execution.
+/// A holder is copied and receives what it lacks: each other committed effect is looked up in it once.
+/// A transaction that it lacks takes one pass over the execution.
 pub fn sync<H: Holder>(
     alloc: Global,
     holders: &[H],
@@ -37,7 +37,7 @@ pub fn sync<H: Holder>(
     Ok(synced)
 }
 
-/// A holder that received what another did and all else of whole transactions.
+/// A holder that has received what another did, and everything else of some whole transactions.
 pub(crate) fn made_whole<H: Holder>(
     alloc: Global,
     holder: &H,

@@ -1,4 +1,4 @@
--- When a fold can go on from a kept state: what is kept is seen, and comes before all else that is seen.
+-- When a fold can continue from a kept state: what is kept is seen, and comes before all else that is seen.
 use Rattle.std.specs.Prelude.{ℕ, ◌≡◌, true, false, if◌then◌else◌, List, [], Option, Some, None}
 use Rattle.ql_base.specs.IdLists.{has_id}
 use Rattle.ql_exec.specs.declared.effect.Effect.{Effect}
@@ -18,13 +18,13 @@ pub record Covers (x : List Effect) (ids seen : List ℕ) : Type 0 where
 
 -- ---- the effect that comes last
 
--- one of some effects, such that it comes before none of them, where there are any
+-- one of some effects, such that it comes before none of them, if there are any
 abbrev pub IsLast : List Effect → List ℕ → Option EffId → Type 0
 IsLast x ids None = ids ≡ []
 IsLast x ids (Some last) =
     (has_id ids last.0 ≡ true) × ((a : ℕ) → has_id ids a ≡ true → both comes_before (effect_at x last.0) (effect_at x a) ≡ false)
 
--- the one of two effects that comes later, where there are two
+-- the later of two effects, or the only one
 abbrev pub later_of : List Effect → Option EffId → EffId → EffId
 later_of x None next = next
 later_of x (Some last) next = if both comes_before (effect_at x last.0) (effect_at x next.0) then next else last

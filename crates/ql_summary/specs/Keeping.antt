@@ -1,4 +1,4 @@
--- What is kept: for each object the ids of some effects, and the state that their fold comes to.
+-- What is kept: for each object the ids of some effects, and the state that their fold yields.
 use Rattle.std.specs.Prelude.{ℕ, ◌≡◌, ◌≤◌, true, Bool, List, [], length, slice_get}
 use Rattle.std.specs.List.{list_any}
 use Rattle.std.specs.Option.{option_map_or}

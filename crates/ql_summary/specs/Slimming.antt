@@ -10,7 +10,7 @@ use Rattle.ql_summary.specs.Keeping.{is_kept}
 abbrev pub bare : Effect → Effect
 bare e = record e { args = []; payload = Nothing; answer = UnitValue }
 
--- the effect of an id, which has lost its contents where it is kept
+-- the effect with an id, without its contents if it is kept
 abbrev pub slim_effect : List KeptObject → ℕ → Effect → Effect
 slim_effect kept id e = if is_kept kept id then bare e else e
 

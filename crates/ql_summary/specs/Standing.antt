@@ -37,7 +37,7 @@ AreOfType types x o kind = (a : ℕ) (e : Effect) → effect_at x a ≡ Some e �
 abbrev pub FitOperations : List TypeDecl → List Effect → List ℕ → Type 0
 FitOperations types x ids = (a : ℕ) (e : Effect) → has_id ids a ≡ true → effect_at x a ≡ Some e → FitsOp (slice_get (all_ops types) e.op.0) e.payload
 
--- the effects before which nothing is kept, or those of which the kept state is the state
+-- no effects if nothing is kept, and otherwise those whose fold yields the kept state
 abbrev pub come_to : List TypeDecl → ℕ → List ℕ → Bindings → List Effect → Type 0
 come_to types kind [] state effects = effects ≡ []
 come_to types kind (id ∷ ids) state effects = fold_of types kind effects ≡ Some state

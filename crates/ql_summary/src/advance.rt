@@ -17,8 +17,8 @@ use ql_typing::Typed;
 use std::alloc::Global;
 
 impl Kept {
-    /// Keeps more effects on an object, which come after those that are kept of it. The execution may have lost the contents
-    /// of what is kept already.
+    /// Keeps more effects on an object, which come after those already kept of it. The execution may have lost the
+    /// contents of what is kept already.
     pub fn advance(
         &mut self,
         alloc: Global,

@@ -18,11 +18,11 @@ use ql_typing::Typed;
 use ql_value::Values;
 use std::alloc::Global;
 
-/// The answer and payload of a call that sees all that is kept of an object, and other effects on it which come after. The
-/// execution may have lost the contents of what is kept.
+/// The answer and payload of a call that sees all that is kept of an object, and other effects on it that come later.
+/// The execution may have lost the contents of what is kept.
 ///
-/// Folds those that aren't kept. The answer is the fold over all that is seen, in each execution that `kept` stands for and
-/// that has this slim form.
+/// Only those that aren't kept are folded. The answer is that of a fold over all that is seen, in each execution that
+/// `kept` stands for and that has this slim form.
 pub fn answer_with(
     alloc: Global,
     t: &Typed,

@@ -13,7 +13,7 @@ use ql_exec::{Effect, Execution};
 use std::alloc::Global;
 
 /// Whether all that is kept of an object is seen, and each other seen effect comes after it in order of stamp and session.
-/// Then the fold over what is seen can go on from the kept state.
+/// Then the fold over what is seen can continue from the kept state.
 pub fn covers(kept: &Kept, o: ObjId, x: &Execution, seen: &IdSet) -> bool
     requires in_range { o.0 < length kept.now }
     requires kept { AreThere x.now (ids_of kept.now o) }
@@ -27,7 +27,7 @@ pub fn covers(kept: &Kept, o: ObjId, x: &Execution, seen: &IdSet) -> bool
     }
 }
 
-// The effect of some that comes last in order of stamp and session.
+// The one of some effects that comes last in order of stamp and session.
 fn last_of(x: &Execution, ids: &IdSet) -> Option<EffId>
     requires { AreThere x.now ids.now }
     ensures { IsLast x.now ids.now result }
@@ -39,7 +39,7 @@ fn last_of(x: &Execution, ids: &IdSet) -> Option<EffId>
     last
 }
 
-// The one of two effects that comes later, where there are two.
+// The later of two effects, or the only one.
 fn later(effects: &[Effect], last: Option<EffId>, next: EffId) -> EffId
     ensures { result ≡ later_of effects.now last next }
 {
@@ -56,7 +56,7 @@ fn are_seen(ids: &IdSet, seen: &IdSet) -> bool
     ids.items().iter().all(|id| seen.has(*id))
 }
 
-// Whether each seen effect that isn't one of some comes after an effect.
+// Whether each seen effect that isn't one of `ids` comes after the effect `last`.
 fn are_later(effects: &[Effect], last: EffId, ids: &IdSet, seen: &IdSet) -> bool
     ensures { result ≡ list_all (λ b. has_id ids.now b || both comes_before (effect_at effects.now last.0) (effect_at effects.now b)) seen.now }
 {
@@ -77,7 +77,7 @@ pub fn is_before(effects: &[Effect], a: u32, b: u32) -> bool
     }
 }
 
-// The effect of an id, counted from 1.
+// The effect with an id, counted from 1.
 fn find(effects: &[Effect], id: u32) -> Option<&Effect>
     ensures { option_copied result ≡ effect_at effects.now id }
 {
@@ -99,7 +99,7 @@ pub(crate) fn others(alloc: Global, seen: &IdSet, ids: &IdSet) -> Result<IdSet, 
     Ok(others)
 }
 
-// Adds an id that isn't one of some.
+// Adds an id unless it is one of `ids`.
 fn add_other(others: &mut IdSet, ids: &IdSet, id: u32) -> Result<(), NoMemory>
     ensures { OnOk result (others.new ≡ cond (has_id ids.now id) others.old (with_id others.old id)) }
 {

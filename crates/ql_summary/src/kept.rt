@@ -6,7 +6,8 @@ use ql_eval::Env;
 use std::alloc::Global;
 use std::marker::Model;
 
-/// What is kept of one object: some effects, and the state that they come to. Where there are none, the state says nothing.
+/// What is kept of one object: some effects, and the state that their fold yields. If there are none, the state is
+/// meaningless.
 #[derive(Drop)]
 pub struct KeptObject {
     pub ids: IdSet,
@@ -29,7 +30,7 @@ impl Model for Kept {
 }
 
 impl Kept {
-    /// Nothing is kept of so many objects.
+    /// Keeps nothing of any of `objects` objects.
     pub fn new(alloc: Global, objects: u32) -> Result<Kept, NoMemory>
         ensures { IfOk result (λ kept. kept ≡ replicate objects nothing) }
     {
@@ -68,7 +69,7 @@ impl Kept {
         &self.objects
     }
 
-    /// Keeps something else of an object.
+    /// Replaces what is kept of an object.
     pub(crate) fn put(&mut self, o: ObjId, one: KeptObject)
         requires { o.0 < length self.old }
         ensures { self.new ≡ set self.old o.0 one }

@@ -1,6 +1,6 @@
-// Summaries: effects that need not be folded again, kept as the state that they come to.
-// The one contract: from what is kept, and an execution that has lost the contents of what is kept, each answer is still its
-// type's fold over all that the call sees.
+// Summaries: effects that need not be folded again, kept as the state that their fold yields. The one contract: from
+// what is kept, and an execution that has lost the contents of what is kept, each answer is still that of its type's
+// fold over all that the call sees.
 #![tactic(auto)]
 
 mod advance;

@@ -1,4 +1,4 @@
--- How a byte of a text stands in XML.
+-- How a byte of a text is written in XML.
 use Rattle.std.specs.Prelude.{ℕ, Bool, ◌==◌, ◌&&◌, nat_le, if◌then◌else◌, List, [], ◌∷◌, codes}
 
 -- printable ASCII

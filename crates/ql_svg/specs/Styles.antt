@@ -1,4 +1,4 @@
--- The classes of shapes, by which the style sheet knows them.
+-- The classes of shapes that the style sheet has rules for.
 use Rattle.std.specs.Prelude.{ℕ, List, ◌++◌, codes, decimal}
 use Rattle.ql_svg.specs.declared.kind.Kind.{Kind}
 use Rattle.ql_svg.specs.declared.kind.Kind.TheVariants.{Band, Wall, Replica, ReplicaName, Lane, LaneName, Move, Transaction, TransactionName, Message, Repeated, Lost, Cut, Sees, Unseen, Step, Joint, Asks, Sign, Stroke, Mark, Effect, StrongEffect, Number, Call, Answer, Refusal, Event, Axis, Ring, Board, Variable, Swatch, Object, Note}

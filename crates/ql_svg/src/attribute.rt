@@ -5,7 +5,7 @@ ghost use Rattle.ql_svg.specs.Attributes.{attribute_text, curve_text, point_text
 use crate::shape::Point;
 use ql_base::{NoMemory, push_bytes, push_number};
 
-/// A number with its name, or a curve's points.
+/// A named number, or the points of a curve.
 #[derive(Clone, Copy)]
 pub enum Attribute {
     X(u32),

@@ -17,7 +17,7 @@ pub enum Tag {
     Circle,
 }
 
-/// What an element consists of, but for its text.
+/// An element without its text.
 #[derive(Clone, Copy)]
 pub(crate) struct Head {
     pub tag: Tag,

@@ -6,9 +6,9 @@ use ql_base::{NoMemory, push_bytes, push_number};
 /// What a shape shows. The style sheet of a picture has a rule for each.
 #[derive(Clone, Copy)]
 pub enum Kind {
-    /// The ground of a replica in a partition, coloured by its group.
+    /// The background of a replica in a partition, coloured by its group.
     Band,
-    /// What stands between replicas that can't reach each other.
+    /// The wall between replicas that can't reach each other.
     Wall,
     /// A replica's line, and its name.
     Replica,
@@ -16,21 +16,21 @@ pub enum Kind {
     /// A session's line, and its name.
     Lane,
     LaneName,
-    /// A session's way from one replica to another.
+    /// A session's move from one replica to another.
     Move,
     /// A transaction, and its name.
     Transaction,
     TransactionName,
-    /// A message that arrived, and one that had arrived before.
+    /// A message that arrived, and a repeated one of which a copy had arrived before.
     Message,
     Repeated,
     /// A message that was lost, and one that was cut off by a partition.
     Lost,
     Cut,
-    /// That an effect sees another; that it doesn't, though it sees one that does.
+    /// One effect sees another; it doesn't, though it sees an effect that does.
     Sees,
     Unseen,
-    /// The one step that a strong call is for all replicas, or the moment that a transaction sees; and a replica in it.
+    /// The single step of a strong call at all replicas, or the moment that a transaction sees; and a replica in it.
     Step,
     Joint,
     /// What a call that wasn't answered was waiting for.
@@ -45,14 +45,14 @@ pub enum Kind {
     StrongEffect,
     /// The number in an effect.
     Number,
-    /// A call, its answer, and the reply to one that wasn't answered.
+    /// A call, its answer, and the reply to a call that wasn't answered.
     Call,
     Answer,
     Refusal,
-    /// What is said of an event that is no call, and the number of an event.
+    /// The text of an event other than a call, and the number of an event.
     Event,
     Axis,
-    /// The ring round an effect of a breach, the board behind its variables, and these.
+    /// The ring around an effect of a breach, the board under its variables, and the variables.
     Ring,
     Board,
     Variable,
@@ -62,7 +62,7 @@ pub enum Kind {
     Note,
 }
 
-/// What a shape shows, and the number of its colour.
+/// What a shape shows, and the index of its colour.
 #[derive(Clone, Copy)]
 pub struct Style {
     pub kind: Kind,

@@ -1,5 +1,5 @@
-// Pictures as values, lists of shapes at places, and their text in SVG.
-// The one contract: the text of a picture is its head, the text of each shape in order, and its end; texts stand in it
+// Pictures as values, lists of shapes with their coordinates, and their text in SVG.
+// The one contract: the text of a picture is its head, the text of each shape in order, and its end, with every label
 // escaped.
 #![tactic(auto)]
 

@@ -1,6 +1,6 @@
 use crate::shape::{Dot, Shape};
 
-/// A picture: its width and height, the shapes that lie under its dots, the dots of effects, and the shapes above them,
+/// A picture: its width and height, the shapes under its dots, the dots of effects, and the shapes above them,
 /// each list from the lowest shape to the highest.
 #[derive(Drop)]
 pub struct Picture {

@@ -1,13 +1,13 @@
 use crate::kind::Style;
 
-/// A place in a picture, in pixels from its left and from its top.
+/// A point of a picture, in pixels from its left and from its top.
 #[derive(Clone, Copy)]
 pub struct Point {
     pub x: u32,
     pub y: u32,
 }
 
-/// What a picture is made of, but for the dots of effects.
+/// A shape other than the dot of an effect.
 #[derive(Drop)]
 pub enum Shape {
     Rect {
@@ -28,7 +28,7 @@ pub enum Shape {
         second: Point,
         to: Point,
     },
-    /// A text on a base line through the point.
+    /// A text whose base line goes through the point.
     Label {
         style: Style,
         at: Point,
@@ -36,7 +36,7 @@ pub enum Shape {
     },
 }
 
-/// An effect: a circle about its place, with a text that is shown where one points at it.
+/// The dot of an effect: a circle around its point, with a text that is shown on hover.
 #[derive(Drop)]
 pub struct Dot {
     pub style: Style,

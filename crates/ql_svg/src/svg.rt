@@ -9,10 +9,10 @@ use crate::shape::{Dot, Point, Shape};
 use ql_base::{NoMemory, push_bytes, push_number};
 use std::alloc::Global;
 
-// The radius of a dot.
+// The radius of a dot, in pixels.
 const RADIUS: u32 = 11;
 
-/// The text of a picture in SVG, behind a style sheet for its classes, which is given as elements of SVG.
+/// The text of a picture in SVG, after a style sheet for its classes, which is passed as SVG elements.
 pub fn svg_text(alloc: Global, sheet: &[u8], picture: &Picture) -> Result<Vec<u8>, NoMemory>
     ensures { IfOk result (λ text. text.items ≡ svg_text sheet.now picture.now) }
 {
@@ -50,14 +50,14 @@ fn push_view(out: &mut Vec<u8>, width: u32, height: u32) -> Result<(), NoMemory>
 }
 
 #[tactic(auto, unfolding(crate::specs::Svg::svg_name))]
-// The name of the outermost element, with its name space.
+// The name of the outermost element, with its namespace.
 fn push_name(out: &mut Vec<u8>) -> Result<(), NoMemory>
     ensures { OnOk result (out.new.items ≡ out.old.items ++ svg_name) }
 {
     push_bytes(out, b"<svg xmlns=\"http://www.w3.org/2000/svg\"")
 }
 
-// A number behind a text.
+// A text, and a number after it.
 fn push_behind(out: &mut Vec<u8>, before: &[u8], number: u32) -> Result<(), NoMemory>
     ensures { OnOk result (out.new.items ≡ out.old.items ++ (before.now ++ decimal number)) }
 {

@@ -1,9 +1,12 @@
-// Tables of tests. A table is a text with a case a line: a question, an arrow, and the answer expected.
-// It has no contract of its own: only crates of tests stand on it.
+// Tables of tests, and sources that several tests use. A table is a text with one case per line: a question, an arrow, and
+// the expected answer.
+// It has no contract of its own: only test crates depend on it.
 #![tactic(auto)]
 
 mod fields;
+mod sources;
 mod table;
 
 pub use fields::{field, number};
+pub use sources::{BANK, REGISTER, SHOP};
 pub use table::check_table;

@@ -2,9 +2,9 @@ use ql_base::NoMemory;
 use std::alloc::{AllocError, Global};
 use std::test::Fail;
 
-/// Fails at the first row whose question is answered otherwise than stands behind its arrow.
+/// Fails at the first row whose question isn't answered as stated after its arrow.
 ///
-/// Empty lines are passed over. A control character of a row is written as its picture: `␊` for a line feed.
+/// Empty lines are skipped. A control character of a row is written as its picture: `␊` for a line feed.
 pub fn check_table<F: FnMut(Global, &str) -> Result<Vec<u8>, NoMemory>>(
     alloc: Global,
     table: &str,

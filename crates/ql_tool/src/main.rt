@@ -5,14 +5,10 @@
 
 use ql_app::quelea;
 use ql_base::NoMemory;
-use ql_notes::{KeptSink, Printed, note, wants_notes, write_reason};
+use ql_notes::{KeptSink, write_notes};
 use ql_ports::{FileShelf, StdSink};
 use ql_reply::{NO_MEMORY, arguments};
-use std::io::{IsTerminal, Write};
 use std::process::ExitCode;
-
-// The exit status of a file that can't be read.
-const READ_FAULT: u8 = 3;
 
 fn main(rt: HostRuntime) -> ExitCode {
     match arguments(&rt) {
@@ -24,32 +20,11 @@ fn main(rt: HostRuntime) -> ExitCode {
 fn exit_number(rt: HostRuntime, words: &Vec<String>) -> u8 {
     let mut shelf = FileShelf::new(rt.alloc(), rt);
     let mut sink = KeptSink::over(StdSink::new(rt));
-    let status = match quelea(rt.alloc(), words, &mut shelf, &mut sink) {
-        Ok(status) => status.number(),
-        Err(NoMemory) => return NO_MEMORY,
-    };
-    if wants_notes(&rt, rt.stderr().is_terminal()) {
-        let printed = Printed {
-            first: sink.first(),
-            last_line: sink.last_line(),
-        };
-        write_note(rt, words, status, printed, &mut shelf);
-    }
-    status
-}
-
-// Out of memory, or where standard error takes nothing, there is no note.
-fn write_note(
-    rt: HostRuntime,
-    words: &Vec<String>,
-    status: u8,
-    printed: Printed,
-    shelf: &mut FileShelf<HostRuntime>,
-) {
-    if let Ok(text) = note(rt.alloc(), words, status, printed, shelf) {
-        let _ = rt.stderr().write_all(&text);
-    }
-    if status == READ_FAULT {
-        write_reason(&rt, words);
+    match quelea(rt.alloc(), words, &mut shelf, &mut sink) {
+        Ok(status) => {
+            write_notes(rt, words, status.number(), sink.printed(), &mut shelf);
+            status.number()
+        }
+        Err(NoMemory) => NO_MEMORY,
     }
 }

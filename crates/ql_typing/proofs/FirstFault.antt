@@ -2,7 +2,7 @@ use Rattle.std.proofs.Common.{◌≡◌, ◌≤◌, ◌+◌, ◌*◌, ℕ, Bool,
 use Rattle.std.proofs.lemmas.Bool.Decides.{nat_tests}
 use Rattle.ql_typing.specs.declared.fault.TypeFault.{TypeFault}
 use Rattle.ql_typing.specs.declared.fault.TypeFault.TheVariants.{Unknown, Twice, Kind, TooMany, TxnClosure, Variables, TxnAtom, NoMemory}
-use Rattle.ql_typing.specs.Faults.{place_of, rule_of, comes_before, earlier, first_fault, IsRefusal, IsFirstOf, TellsFirst}
+use Rattle.ql_typing.specs.Faults.{fault_place, rule_of, stands_before, earlier, first_fault, IsRefusal, IsFirstOf, TellsFirst}
 
 rule_small : (f : TypeFault) → rule_of f ≤ 7
 rule_small (Unknown at) = omega arith
@@ -16,22 +16,22 @@ rule_small NoMemory = omega arith
 
 -- place and rule as one number
 key : TypeFault → ℕ
-key f = place_of f * 8 + rule_of f
+key f = fault_place f * 8 + rule_of f
 
 by_key : (p q r s : ℕ) → r ≤ 7 → s ≤ 7 → (nat_lt p q || (nat_eq p q && nat_lt r s)) ≡ nat_lt (p * 8 + r) (q * 8 + s)
 by_key p q r s r_small s_small = grind (arith, nat_tests)
 
-before-key : (a b : TypeFault) → comes_before a b ≡ nat_lt (key a) (key b)
-unfolding comes_before key
-before-key a b = by_key (place_of a) (place_of b) (rule_of a) (rule_of b) (rule_small a) (rule_small b)
+before-key : (a b : TypeFault) → stands_before a b ≡ nat_lt (key a) (key b)
+unfolding stands_before key
+before-key a b = by_key (fault_place a) (fault_place b) (rule_of a) (rule_of b) (rule_small a) (rule_small b)
 
-goes_on : (a b c : TypeFault) → comes_before b a ≡ true → comes_before c b ≡ true → comes_before c a ≡ true
+goes_on : (a b c : TypeFault) → stands_before b a ≡ true → stands_before c b ≡ true → stands_before c a ≡ true
 goes_on a b c x y =
     let below = ltb-true (key b) (key a) (sym (before-key b a) ∙ x) in
     let under = ltb-true (key c) (key b) (sym (before-key c b) ∙ y) in
     before-key c a ∙ lt-ltb (key c) (key a) (omega arith)
 
-goes_back : (a b c : TypeFault) → comes_before b a ≡ false → comes_before c b ≡ false → comes_before c a ≡ false
+goes_back : (a b c : TypeFault) → stands_before b a ≡ false → stands_before c b ≡ false → stands_before c a ≡ false
 goes_back a b c x y =
     let above = ltb-false (key b) (key a) (sym (before-key b a) ∙ x) in
     let over = ltb-false (key c) (key b) (sym (before-key c b) ∙ y) in
@@ -43,14 +43,14 @@ pub earlier_assoc : (a b c : Option TypeFault) → earlier (earlier a b) c ≡ e
 unfolding earlier
 earlier_assoc None b c = refl
 earlier_assoc (Some a) None c = refl
-earlier_assoc (Some a) (Some b) None = by (comes_before b a)
+earlier_assoc (Some a) (Some b) None = by (stands_before b a)
   where
     by : (t : Bool) → earlier (if t then Some b else Some a) None ≡ (if t then Some b else Some a)
     by true = refl
     by false = refl
-earlier_assoc (Some a) (Some b) (Some c) = by (comes_before b a) (comes_before c b) refl refl
+earlier_assoc (Some a) (Some b) (Some c) = by (stands_before b a) (stands_before c b) refl refl
   where
-    by : (t u : Bool) → comes_before b a ≡ t → comes_before c b ≡ u
+    by : (t u : Bool) → stands_before b a ≡ t → stands_before c b ≡ u
         → earlier (if t then Some b else Some a) (Some c) ≡ earlier (Some a) (if u then Some c else Some b)
     by true true x y = rw (y, goes_on a b c x y) refl
     by true false x y = rw (x, y) refl
@@ -79,7 +79,7 @@ first_none = refl
 earlier-Some : (f : TypeFault) (b : Option TypeFault) → earlier (Some f) b ≡ None → ⊥
 unfolding earlier
 earlier-Some f None h = cc
-earlier-Some f (Some g) h = by (comes_before g f) h
+earlier-Some f (Some g) h = by (stands_before g f) h
   where
     by : (t : Bool) → (if t then Some g else Some f) ≡ None → ⊥
     by true e = cc
@@ -108,12 +108,12 @@ pub no_memory : (fs : List TypeFault) (f : TypeFault) → f ≡ NoMemory → IsR
 unfolding IsRefusal
 no_memory fs f e = subst (λ g. IsRefusal fs g) (sym e) tt
 
-not_before_itself : (a : TypeFault) → comes_before a a ≡ false
+not_before_itself : (a : TypeFault) → stands_before a a ≡ false
 not_before_itself a =
     let none : nat_lt (key a) (key a) ≡ false = grind (arith, nat_tests) in
     before-key a a ∙ none
 
-not_after : (a b : TypeFault) → comes_before b a ≡ true → comes_before a b ≡ false
+not_after : (a b : TypeFault) → stands_before b a ≡ true → stands_before a b ≡ false
 not_after a b x =
     let below = ltb-true (key b) (key a) (sym (before-key b a) ∙ x) in
     let none : nat_lt (key a) (key b) ≡ false = grind (arith, nat_tests) in
@@ -121,18 +121,18 @@ not_after a b x =
 
 -- what no fault of a list comes before
 Leads : List TypeFault → TypeFault → Type 0
-Leads fs f = All (λ g. comes_before g f ≡ false) fs
+Leads fs f = All (λ g. stands_before g f ≡ false) fs
 
 leads_none : (f : TypeFault) → Leads [] f
 unfolding Leads
 leads_none f k d below = absurd (omega (arith, below))
 
-leads_more : (g f : TypeFault) (gs : List TypeFault) → comes_before g f ≡ false → Leads gs f → Leads (g ∷ gs) f
+leads_more : (g f : TypeFault) (gs : List TypeFault) → stands_before g f ≡ false → Leads gs f → Leads (g ∷ gs) f
 unfolding Leads
 leads_more g f gs p ps zero d below = p
 leads_more g f gs p ps (suc k) d below = ps k d (omega (arith, below))
 
-leads_back : (g m : TypeFault) (gs : List TypeFault) → comes_before m g ≡ false → Leads gs m → Leads gs g
+leads_back : (g m : TypeFault) (gs : List TypeFault) → stands_before m g ≡ false → Leads gs m → Leads gs g
 unfolding Leads
 leads_back g m gs e ps k d below = goes_back g m (get_or gs k d) e (ps k d below)
 
@@ -161,10 +161,10 @@ is_first_of (g ∷ gs) f h = by (λ m n. is_first_of gs m n) (first_fault gs) re
     here : g ≡ f → Leads gs g → IsFirstOf (g ∷ gs) f
     here e rest = subst (λ x. IsFirstOf (g ∷ gs) x) e (is_first (g ∷ gs) g (among_first g gs) (leads_more g g gs (not_before_itself g) rest))
 
-    later : (m : TypeFault) → m ≡ f → IsFirstOf gs m → comes_before m g ≡ true → IsFirstOf (g ∷ gs) f
+    later : (m : TypeFault) → m ≡ f → IsFirstOf gs m → stands_before m g ≡ true → IsFirstOf (g ∷ gs) f
     later m e p t = subst (λ x. IsFirstOf (g ∷ gs) x) e (is_first (g ∷ gs) m (among_more g m gs p.member) (leads_more g m gs (not_after g m t) (leads gs m p)))
 
-    by_two : (m : TypeFault) → IsFirstOf gs m → (t : Bool) → comes_before m g ≡ t → (if t then Some m else Some g) ≡ Some f → IsFirstOf (g ∷ gs) f
+    by_two : (m : TypeFault) → IsFirstOf gs m → (t : Bool) → stands_before m g ≡ t → (if t then Some m else Some g) ≡ Some f → IsFirstOf (g ∷ gs) f
     by_two m p true e k =
         let same : m ≡ f = cc in
         later m same p e
@@ -176,7 +176,7 @@ is_first_of (g ∷ gs) f h = by (λ m n. is_first_of gs m n) (first_fault gs) re
     by rest None n k =
         let same : g ≡ f = cc in
         here same (subst (λ ys. Leads ys g) (sym (no_fault gs n)) (leads_none g))
-    by rest (Some m) n k = by_two m (rest m n) (comes_before m g) refl k
+    by rest (Some m) n k = by_two m (rest m n) (stands_before m g) refl k
 
 -- so a refusal with the first fault tells it
 pub tells : (fs : List TypeFault) (f : TypeFault) → first_fault fs ≡ Some f → TellsFirst fs f

@@ -17,13 +17,13 @@ is_closure Hb = true
 is_closure Hbo = true
 is_closure _ = false
 
--- a closure has no place in a transaction's contract
+-- a closure isn't allowed in a transaction's contract
 unfoldable pub rel_faults : Bool → Relation → List TypeFault
 rel_faults for_txn (Basic name at) = where_so (for_txn && is_closure name) (TxnClosure at)
 rel_faults for_txn (Union a b) = rel_faults for_txn a ++ rel_faults for_txn b
 rel_faults for_txn (Intersection a b) = rel_faults for_txn a ++ rel_faults for_txn b
 
--- a term is one of the variables, or the current effect where there is one
+-- a term is one of the variables, or the current effect if there is one
 unfoldable pub point_faults : Bool → List (List ℕ) → Point → List TypeFault
 point_faults for_txn vars (CurAt at) = where_so for_txn (Unknown at)
 point_faults for_txn vars (Named n) = unless (has_name vars n.word) (Unknown n.at)
@@ -38,7 +38,7 @@ prop_faults for_txn vars (Implication a b) = prop_faults for_txn vars a ++ prop_
 prop_faults for_txn vars (InTxn at members others) =
     unless for_txn (TxnAtom at) ++ (each (point_faults for_txn vars) members ++ each (point_faults for_txn vars) others)
 
--- whether an operation is known, where only those of a list are
+-- whether an operation is known, if only those of a list are
 abbrev pub is_known : Option (List (List ℕ)) → List ℕ → Bool
 is_known None w = true
 is_known (Some known) w = has_name known w
@@ -59,7 +59,7 @@ var_names vars = map (λ v. v.name) vars
 unfoldable pub extra_var : Name → List TypeFault
 extra_var n = Variables n.at ∷ []
 
--- what is wrong in a contract, by the operations that are known, where only those are
+-- what is wrong in a contract, by the known operations, if only those are allowed
 unfoldable pub contract_faults : Option (List (List ℕ)) → Bool → Sentence → List TypeFault
 contract_faults known for_txn c =
     repeats [] (var_names c.vars) ++ (each extra_var (drop 5 (var_names c.vars)) ++ (each (choice_faults known) c.vars

@@ -4,16 +4,16 @@ use Rattle.ql_lang.specs.declared.name.Name.{Name}
 use Rattle.ql_typing.specs.declared.fault.TypeFault.{TypeFault}
 use Rattle.ql_typing.specs.declared.fault.TypeFault.TheVariants.{Unknown, Twice, Kind, TooMany, TxnClosure, Variables, TxnAtom, NoMemory}
 
--- where a fault stands in the source
-abbrev pub place_of : TypeFault → ℕ
-place_of (Unknown at) = at
-place_of (Twice at) = at
-place_of (Kind at) = at
-place_of (TooMany at) = at
-place_of (TxnClosure at) = at
-place_of (Variables at) = at
-place_of (TxnAtom at) = at
-place_of NoMemory = 0
+-- the source offset of a fault
+abbrev pub fault_place : TypeFault → ℕ
+fault_place (Unknown at) = at
+fault_place (Twice at) = at
+fault_place (Kind at) = at
+fault_place (TooMany at) = at
+fault_place (TxnClosure at) = at
+fault_place (Variables at) = at
+fault_place (TxnAtom at) = at
+fault_place NoMemory = 0
 
 -- the number of the rule that a fault breaks
 abbrev pub rule_of : TypeFault → ℕ
@@ -26,22 +26,22 @@ rule_of (Variables at) = 6
 rule_of (TxnAtom at) = 7
 rule_of NoMemory = 0
 
--- a stands at a lower place than b, or at the same and breaks a lower rule
-unfoldable pub comes_before : TypeFault → TypeFault → Bool
-comes_before a b = nat_lt (place_of a) (place_of b) || (nat_eq (place_of a) (place_of b) && nat_lt (rule_of a) (rule_of b))
+-- a is at a lower offset than b, or at the same one and breaks a lower rule
+unfoldable pub stands_before : TypeFault → TypeFault → Bool
+stands_before a b = nat_lt (fault_place a) (fault_place b) || (nat_eq (fault_place a) (fault_place b) && nat_lt (rule_of a) (rule_of b))
 
--- the first of two faults, where there are any
+-- the first of two faults, if there are any
 unfoldable pub earlier : Option TypeFault → Option TypeFault → Option TypeFault
 earlier None b = b
 earlier (Some a) None = Some a
-earlier (Some a) (Some b) = if comes_before b a then Some b else Some a
+earlier (Some a) (Some b) = if stands_before b a then Some b else Some a
 
 -- the fault of a list that no other comes before
 unfoldable pub first_fault : List TypeFault → Option TypeFault
 first_fault [] = None
 first_fault (f ∷ fs) = earlier (Some f) (first_fault fs)
 
--- a refusal: want of memory, or the first of the faults
+-- a refusal: out of memory, or the first of the faults
 unfoldable pub IsRefusal : List TypeFault → TypeFault → Type 0
 IsRefusal faults NoMemory = Unit {0}
 IsRefusal faults f = first_fault faults ≡ Some f
@@ -49,18 +49,18 @@ IsRefusal faults f = first_fault faults ≡ Some f
 -- a fault of the list, before which none of the list comes
 pub record IsFirstOf (faults : List TypeFault) (f : TypeFault) : Type 0 where
   pub member : Contains faults f
-  pub none_before : All (λ g. comes_before g f ≡ false) faults
+  pub none_before : All (λ g. stands_before g f ≡ false) faults
 
--- a refusal tells want of memory, or a fault before which none comes
+-- a refusal reports that memory ran out, or a fault before which none comes
 unfoldable pub TellsFirst : List TypeFault → TypeFault → Type 0
 TellsFirst faults NoMemory = Unit {0}
 TellsFirst faults f = IsFirstOf faults f
 
--- the fault f where b is false
+-- the fault f if b is false
 abbrev pub unless : Bool → TypeFault → List TypeFault
 unless b f = if b then [] else f ∷ []
 
--- the fault f where b is true
+-- the fault f if b is true
 abbrev pub where_so : Bool → TypeFault → List TypeFault
 where_so b f = if b then f ∷ [] else []
 
@@ -69,7 +69,7 @@ unfoldable pub each : {A : Type 0} → (A → List TypeFault) → List A → Lis
 each faults [] = []
 each faults (x ∷ xs) = faults x ++ each faults xs
 
--- each name that stands in `before` or earlier in the list is there twice
+-- each name that is in `before` or earlier in the list is there twice
 unfoldable pub repeats : List (List ℕ) → List Name → List TypeFault
 repeats before [] = []
 repeats before (n ∷ ns) = where_so (has_name before n.word) (Twice n.at) ++ repeats (with_name before n.word) ns

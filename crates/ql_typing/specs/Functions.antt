@@ -14,7 +14,7 @@ of_base base.Int = kind.Int
 of_base base.Bool = kind.Bool
 of_base base.Text = kind.Text
 
--- the function of a name
+-- the function with a name
 abbrev pub function_named : List ℕ → Option Function
 function_named w =
     if bytes_eq w (codes "has") then Some Has
@@ -40,11 +40,11 @@ arity_of Drop = 2
 arity_of Get = 3
 arity_of Sum = 1
 
--- what a function wants after its first argument, and what it gives
+-- the kinds that a function expects after its first argument, and the kind of its result
 abbrev pub takes : Option Kind → Option Kind → Kind → Option Signature
 takes second third gives = Some (record { second = second; third = third; gives = gives })
 
--- a function's signature by its first argument's kind, where that fits
+-- a function's signature by its first argument's kind, if that fits
 abbrev pub signature_of : Function → Kind → Option Signature
 signature_of Has (kind.Set b) = takes (Some (of_base b)) None kind.Bool
 signature_of Has (kind.Map b c) = takes (Some (of_base b)) None kind.Bool

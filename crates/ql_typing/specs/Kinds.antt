@@ -42,12 +42,12 @@ is_base kind.Bool = true
 is_base kind.Text = true
 is_base _ = false
 
--- whether there is a kind and it is the wanted one
+-- whether there is a kind and it is the expected one
 abbrev pub meets : Option Kind → Option Kind → Bool
 meets (Some wanted) (Some k) = same_kind k wanted
 meets _ _ = false
 
--- another kind than wanted, where both are told, at a place
+-- another kind than expected, if both are known, at a source offset
 abbrev pub mismatch : Option Kind → ℕ → Option Kind → List TypeFault
 mismatch (Some wanted) at (Some k) = unless (same_kind k wanted) (fault.Kind at)
 mismatch _ at _ = []
@@ -57,7 +57,7 @@ abbrev pub base_only : Option Kind → Option Kind
 base_only (Some k) = if is_base k then Some k else None
 base_only None = None
 
--- the kind wanted of both operands, by that of the left one
+-- the kind expected of both operands, by that of the left one
 abbrev pub operand_of : BinOp → Option Kind → Option Kind
 operand_of op.Or k = Some kind.Bool
 operand_of op.And k = Some kind.Bool
@@ -71,7 +71,7 @@ left_faults op.Eq at (Some k) = unless (is_base k) (fault.Kind at)
 left_faults op.Ne at (Some k) = unless (is_base k) (fault.Kind at)
 left_faults o at k = mismatch (operand_of o k) at k
 
--- the kind that an operator gives
+-- the kind of an operator's result
 abbrev pub gives_of : BinOp → Kind
 gives_of op.Add = kind.Int
 gives_of op.Sub = kind.Int
@@ -81,7 +81,7 @@ gives_of _ = kind.Bool
 abbrev pub combined_kind : BinOp → Option Kind → Option Kind → Option Kind
 combined_kind o a b = if meets (operand_of o a) a && meets (operand_of o a) b then Some (gives_of o) else None
 
--- an operand of one kind gives that kind
+-- an operand of one kind yields that kind
 abbrev pub kept_kind : Kind → Option Kind → Option Kind
 kept_kind wanted k = if meets (Some wanted) k then Some wanted else None
 
@@ -89,7 +89,7 @@ kept_kind wanted k = if meets (Some wanted) k then Some wanted else None
 abbrev pub chosen_kind : Option Kind → Option Kind → Option Kind → Option Kind
 chosen_kind test a b = if meets (Some kind.Bool) test && meets a b then a else None
 
--- the signature of a function of so many arguments, by the kind of its first
+-- the signature of a function with a number of arguments, by the kind of its first
 abbrev pub signature_at : Option Function → ℕ → Option Kind → Option Signature
 signature_at (Some f) n (Some k) = if nat_eq (arity_of f) n then signature_of f k else None
 signature_at _ n _ = None
@@ -125,7 +125,7 @@ abbrev pub count_faults : ℕ → Name → Option Function → List TypeFault
 count_faults at name None = fault.Unknown name.at ∷ []
 count_faults at name (Some f) = fault.Kind at ∷ []
 
--- an expression's place
+-- an expression's source offset
 abbrev pub begins_at : Expression → ℕ
 begins_at (Number at n) = at
 begins_at (Literal at text) = at
@@ -138,7 +138,7 @@ begins_at (Combining at o a b) = at
 begins_at (Denying at a) = at
 begins_at (Negating at a) = at
 
--- an expression's kind, where it and its parts have the kinds that are wanted
+-- an expression's kind, if it and its parts have the expected kinds
 unfoldable pub kind_of : List Known → Expression → Option Kind
 kind_of scope (Number at n) = Some kind.Int
 kind_of scope (Literal at text) = Some kind.Text
@@ -159,7 +159,7 @@ kind_of scope (Combining at o a b) = combined_kind o (kind_of scope a) (kind_of 
 kind_of scope (Denying at a) = kept_kind kind.Bool (kind_of scope a)
 kind_of scope (Negating at a) = kept_kind kind.Int (kind_of scope a)
 
--- what is wrong with an expression's kind, where one is wanted
+-- what is wrong with an expression's kind, if one is expected
 abbrev pub other_kind : List Known → Option Kind → Expression → List TypeFault
 other_kind scope wanted e = mismatch wanted (begins_at e) (kind_of scope e)
 
@@ -204,6 +204,6 @@ unfoldable mutual
   operand_faults scope NoMore = []
   operand_faults scope (More e es) = faults_of scope e ++ operand_faults scope es
 
--- what is wrong in an expression of which a kind is wanted
+-- what is wrong in an expression of which a kind is expected
 abbrev pub faults_as : List Known → Option Kind → Expression → List TypeFault
 faults_as scope wanted e = faults_of scope e ++ other_kind scope wanted e

@@ -7,5 +7,6 @@ pub mod Kinds
 pub mod Programs
 pub mod Lookups
 pub mod Operations
+pub mod Names
 pub mod WellFormed
 pub mod Tables

@@ -9,7 +9,7 @@ use Rattle.ql_lang.specs.Formulas.{Resolved}
 use Rattle.ql_lang.specs.Trees.{sentence_of}
 use Rattle.ql_typing.specs.Resolved.{resolved_in}
 
--- the operations of all types, in order: an operation's number is its place here
+-- the operations of all types, in order: an operation's number is its index here
 abbrev pub all_ops : List TypeDecl → List OpDecl
 all_ops types = flat_map (λ t. t.ops) types
 
@@ -26,15 +26,15 @@ op_kinds types = kinds_from 0 types
 abbrev pub op_words : List TypeDecl → List (List ℕ)
 op_words types = map (λ o. o.name.word) (all_ops types)
 
--- the place of the first operation of a name
+-- the index of the first operation with a name
 abbrev pub op_place : List TypeDecl → List ℕ → Option ℕ
 op_place types w = position (λ o. bytes_eq w o.name.word) (all_ops types)
 
--- an operation's contract with its names resolved, where operations have the numbers of a list
+-- an operation's contract with its names resolved, where operations are numbered by a list
 abbrev pub op_contract : List (List ℕ) → OpDecl → Resolved
 op_contract words o = resolved_in words (sentence_of o.contract)
 
--- the same of a transaction
+-- the same for a transaction
 abbrev pub txn_contract : List (List ℕ) → TxnDecl → Resolved
 txn_contract words d = resolved_in words (sentence_of d.contract)
 
@@ -51,6 +51,6 @@ abbrev pub names_op : Option TxnDecl → Option OpDecl → Bool
 names_op (Some d) (Some o) = list_any (λ n. bytes_eq o.name.word n.word) d.uses
 names_op _ _ = false
 
--- whether the transaction of number d uses the operation of number o
+-- whether the transaction with the number d uses the operation with the number o
 abbrev pub uses_op : Program → ℕ → ℕ → Bool
 uses_op p d o = names_op (slice_get p.txns d) (slice_get (all_ops p.types) o)

@@ -24,11 +24,11 @@ use Rattle.ql_typing.specs.ContractFaults.{contract_faults, op_faults}
 use Rattle.ql_typing.specs.Functions.{of_base}
 use Rattle.ql_typing.specs.Kinds.{faults_as, kind_in, reading_faults, same_kind}
 
--- one item too many, at its place
+-- one item too many, at its source offset
 unfoldable pub too_many : ℕ → List TypeFault
 too_many at = fault.TooMany at ∷ []
 
--- items above a limit, by the places of all
+-- items above a limit, by the source offsets of all
 abbrev pub above : ℕ → List ℕ → List TypeFault
 above limit places = each too_many (drop limit places)
 
@@ -37,7 +37,7 @@ is_collection (kind.Set b) = true
 is_collection (kind.Map b c) = true
 is_collection _ = false
 
--- whether a field of a kind may begin so: `empty` fits any set or map
+-- whether a field of a kind may have this initial value: `empty` fits any set or map
 abbrev pub may_begin : Kind → InitNode → Bool
 may_begin k (init.Int n) = same_kind kind.Int k
 may_begin k (init.Text text) = same_kind kind.Text k
@@ -122,7 +122,7 @@ txn_faults known d =
 abbrev pub op_names : List TypeDecl → List Name
 op_names types = flat_map (λ t. map (λ o. o.name) t.ops) types
 
--- the places of the operations of all types, in order
+-- the source offsets of the operations of all types, in order
 abbrev pub op_places : List TypeDecl → List ℕ
 op_places types = flat_map (λ t. map (λ o. o.at) t.ops) types
 

@@ -15,7 +15,7 @@ use Rattle.ql_lang.specs.Formulas as formula
 use Rattle.ql_typing.specs.Faults.{names_met}
 use Rattle.ql_typing.specs.ContractFaults.{var_names}
 
--- a name's number: its place in a list of names
+-- a name's number: its index in a list of names
 abbrev pub number_in : List (List ℕ) → List ℕ → ℕ
 number_in names w = unwrap_or (place names w) 0
 
@@ -29,11 +29,11 @@ unfoldable pub with_numbers : List (List ℕ) → List ℕ → List Name → Lis
 with_numbers ops ids [] = ids
 with_numbers ops ids (n ∷ ns) = with_numbers ops (with_id ids (number_in ops n.word)) ns
 
--- a variable without names ranges over all effects, and else over those of the named operations
+-- a variable without names ranges over all effects, any other over those of the named operations
 abbrev pub choice_of : List (List ℕ) → List Name → OpChoice
 choice_of ops ns = if nat_eq (length ns) 0 then Any else OneOf (with_numbers ops [] ns)
 
--- a variable is told by its place
+-- a variable is identified by its index
 unfoldable pub term_of : List (List ℕ) → Point → Term
 term_of vars (CurAt at) = term.Cur
 term_of vars (Named n) = term.Var (number_in vars n.word)
@@ -46,7 +46,7 @@ statement_in vars (Disjunction a b) = formula.OneOf (statement_in vars a) (state
 statement_in vars (Implication a b) = IfThen (statement_in vars a) (statement_in vars b)
 statement_in vars (InTxn at members others) = InOneTxn (map (term_of vars) members) (map (term_of vars) others)
 
--- a contract with its names resolved, where operations have the numbers of a list
+-- a contract with its names resolved, where operations are numbered by a list
 unfoldable pub resolved_in : List (List ℕ) → Sentence → Resolved
 resolved_in ops c = record {
   vars = map (λ v. choice_of ops v.ops) c.vars;

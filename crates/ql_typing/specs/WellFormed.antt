@@ -1,4 +1,4 @@
--- What typing leaves of a contract whose names are resolved.
+-- What typing guarantees of a contract whose names are resolved.
 use Rattle.std.specs.Prelude.{ℕ, ◌≡◌, ◌<◌, ◌≤◌, Bool, true, false, List, [], ◌∷◌, length}
 use Rattle.ql_lang.specs.Trees.{Relation, Basic, Union, Intersection}
 use Rattle.ql_lang.specs.Formulas.{Statement, Always, Related, BothOf, IfThen, InOneTxn, Resolved}
@@ -9,7 +9,7 @@ use Rattle.ql_lang.specs.declared.formula.Term.{Term}
 use Rattle.ql_lang.specs.declared.formula.Term.TheVariants.{Cur, Var}
 use Rattle.ql_typing.specs.ContractFaults.{is_closure}
 
--- a term: one of n variables, or the current effect where there is one
+-- a term: one of n variables, or the current effect if there is one
 abbrev pub IsTermOf : ℕ → Bool → Term → Type 0
 IsTermOf n has_current Cur = has_current ≡ true
 IsTermOf n has_current (Var v) = v < n

@@ -14,7 +14,7 @@ use ql_lang::{
 };
 use std::alloc::Global;
 
-/// The formula of a contract. An operation's number is its place in `ops`, where new ones are put at the end.
+/// The formula of a contract. An operation's number is its index in `ops`, to which new ones are appended.
 #[tactic(auto, unfolding(crate::specs::Faults::IsRefusal, crate::specs::Faults::TellsFirst))]
 pub fn resolve(
     alloc: Global,
@@ -41,7 +41,7 @@ pub fn resolve(
     }
 }
 
-/// Puts the operations of a contract in and builds its formula, or leaves them as they were.
+/// Adds the operations of a contract to `ops` and builds its formula, or leaves `ops` as it was.
 fn number_or_undo(
     alloc: Global,
     contract: &Contract,
@@ -63,7 +63,7 @@ fn number_or_undo(
     }
 }
 
-/// Puts the operations of a contract in, and builds its formula.
+/// Adds the operations of a contract to `ops`, and builds its formula.
 fn number_and_build(
     alloc: Global,
     contract: &Contract,
@@ -79,7 +79,7 @@ fn number_and_build(
     build_formula(alloc, contract, vars, ops)
 }
 
-/// Puts the operations of variables in, one after another.
+/// Adds the operations of variables to `ops`, one after another.
 fn number_all(vars: &[Var], ops: &mut Names) -> Result<(), NoMemory>
     ensures numbered { OnOk result (ops.new ≡ ops_met ops.old vars.now) }
     ensures kept { take (length ops.old) ops.new ≡ ops.old }
@@ -100,7 +100,7 @@ fn number_each(names: &[Name], ops: &mut Names) -> Result<(), NoMemory>
     Ok(())
 }
 
-/// The formula of a contract, by the places of its variables and the numbers of operations.
+/// The formula of a contract, by the indices of its variables and the numbers of operations.
 #[tactic(auto, unfolding(crate::specs::Resolved::resolved_in))]
 pub(crate) fn build_formula(
     alloc: Global,
@@ -119,7 +119,7 @@ pub(crate) fn build_formula(
     })
 }
 
-/// A name's place, where it has one.
+/// A name's index, or 0 if it isn't there.
 fn number_of(names: &Names, word: &Word) -> u32
     ensures { result ≡ number_in names.now word.now }
 {
@@ -196,7 +196,7 @@ fn copy_rel(alloc: Global, rel: &Rel) -> Result<Rel, NoMemory>
     }
 }
 
-/// What a contract says, by the places of its variables.
+/// What a contract says, by the indices of its variables.
 #[tactic(auto, unfolding(crate::specs::Resolved::statement_in))]
 fn build_body(alloc: Global, body: &Prop, vars: &Names) -> Result<Body, NoMemory>
     ensures { IfOk result (λ statement. statement_of statement ≡ statement_in vars.now (proposition_of body.now)) }

@@ -18,7 +18,7 @@ fn closes(name: RelName) -> bool
     matches!(name, RelName::Hb | RelName::Hbo)
 }
 
-/// The first closure of a relation in a transaction's contract.
+/// The fault of the first closure of a relation in a transaction's contract.
 #[tactic(auto, unfolding(crate::specs::ContractFaults::rel_faults, crate::specs::Faults::first_fault, crate::specs::Faults::earlier), using(crate::proofs::FirstFault::first_append))]
 fn rel_fault(rel: &Rel, for_txn: bool) -> Option<TypeFault>
     ensures { result ≡ first_fault (rel_faults for_txn (relation_of rel.now)) }
@@ -37,7 +37,7 @@ fn rel_fault(rel: &Rel, for_txn: bool) -> Option<TypeFault>
     }
 }
 
-/// Whether a term is one of the variables, or the current effect where there is one.
+/// The fault of a term that is neither one of the variables nor an allowed current effect.
 #[tactic(auto, unfolding(crate::specs::ContractFaults::point_faults, crate::specs::Faults::first_fault, crate::specs::Faults::earlier))]
 fn point_fault(point: &Point, vars: &Names, for_txn: bool) -> Option<TypeFault>
     ensures { result ≡ first_fault (point_faults for_txn vars.now point.now) }
@@ -105,7 +105,7 @@ fn prop_fault(body: &Prop, vars: &Names, for_txn: bool) -> Option<TypeFault>
     }
 }
 
-/// Whether an operation is known, where only those of a list are.
+/// The fault of an operation that isn't known, if only those of a list are.
 #[tactic(auto, unfolding(crate::specs::ContractFaults::op_faults, crate::specs::Faults::first_fault, crate::specs::Faults::earlier))]
 fn op_fault(name: &Name, known: Option<&Names>) -> Option<TypeFault>
     ensures { result ≡ first_fault (op_faults (option_copied known.entry) name.now) }
@@ -154,7 +154,7 @@ fn choices_fault(
     Ok(fault)
 }
 
-/// The first of variables that are one too many.
+/// The fault of the first of the variables above the limit.
 fn extra_fault(names: &[Name]) -> Option<TypeFault>
     ensures { result ≡ first_fault (each extra_var names.now) }
 {
@@ -172,7 +172,7 @@ pub(crate) struct Checked {
     pub fault: Option<TypeFault>,
 }
 
-/// Checks a contract, whose operations are among the known ones where only those are allowed.
+/// Checks a contract. If `known` is given, its operations have to be among those.
 #[tactic(auto, unfolding(crate::specs::ContractFaults::contract_faults), using(crate::proofs::FirstFault::first_append))]
 pub(crate) fn check_contract(
     alloc: Global,
@@ -195,7 +195,7 @@ pub(crate) fn check_contract(
     })
 }
 
-/// The names past the most that a contract may have variables.
+/// The names of the variables above the limit of a contract.
 fn past_limit(names: &[Name]) -> &[Name]
     ensures { result.now ≡ drop 5 names.now }
 {

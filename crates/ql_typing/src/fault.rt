@@ -1,17 +1,17 @@
 ghost use Rattle.std.specs.Prelude.{◌≡◌};
-ghost use Rattle.ql_typing.specs.Faults.{place_of, rule_of, comes_before, earlier};
+ghost use Rattle.ql_typing.specs.Faults.{fault_place, rule_of, stands_before, earlier};
 
 use ql_base::NoMemory;
 use std::alloc::{AllocError, AllocFailed};
 
-/// Why a program or a contract isn't typed, with its place in the source.
+/// Why a program or a contract isn't well typed, with the source offset of the fault.
 #[derive(Clone, Copy, Debug, PartialEq, Eq)]
 pub enum TypeFault {
     /// A name that isn't in scope.
     Unknown(u32),
     /// A name that was declared or listed before.
     Twice(u32),
-    /// An expression of another kind than wanted, or a call with another number of arguments.
+    /// An expression of another kind than expected, or a call with a wrong number of arguments.
     Kind(u32),
     /// A declaration, value or statement above its limit.
     TooMany(u32),
@@ -58,9 +58,9 @@ impl<T: Drop> From<AllocFailed<T>> for TypeFault {
 }
 
 impl TypeFault {
-    /// The place of a fault in the source.
+    /// The source offset of a fault.
     pub(crate) fn place(self) -> u32
-        ensures { result ≡ place_of self }
+        ensures { result ≡ fault_place self }
     {
         match self {
             TypeFault::Unknown(at)
@@ -91,15 +91,15 @@ impl TypeFault {
     }
 }
 
-#[tactic(auto, unfolding(crate::specs::Faults::comes_before))]
-/// Whether `a` stands before `b`, or with it and breaks a lower rule.
+#[tactic(auto, unfolding(crate::specs::Faults::stands_before))]
+/// Whether `a` is at a lower offset than `b`, or at the same one and breaks a lower rule.
 fn comes_first(a: TypeFault, b: TypeFault) -> bool
-    ensures { result ≡ comes_before a b }
+    ensures { result ≡ stands_before a b }
 {
     a.place() < b.place() || (a.place() == b.place() && a.rule() < b.rule())
 }
 
-/// The first of two faults, where there are any.
+/// The first of two faults, if there are any.
 #[tactic(auto, unfolding(crate::specs::Faults::earlier), using(crate::proofs::FirstFault::earlier_assoc))]
 pub(crate) fn first(a: Option<TypeFault>, b: Option<TypeFault>) -> Option<TypeFault>
     ensures { result ≡ earlier a b }

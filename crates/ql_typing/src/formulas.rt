@@ -11,7 +11,7 @@ use ql_base::{Names, NoMemory};
 use ql_lang::{Contract, Formula, OpDecl, TxnDecl, TypeDecl};
 use std::alloc::Global;
 
-/// A contract with its names resolved, where operations have their places among `ops`.
+/// A contract with its names resolved, where operations are numbered by their indices in `ops`.
 fn formula_of(alloc: Global, contract: &Contract, ops: &Names) -> Result<Formula, NoMemory>
     ensures { IfOk result (λ formula. resolved_of formula ≡ resolved_in ops.now (sentence_of contract.now)) }
 {
@@ -35,7 +35,7 @@ pub(crate) fn formulas_of_ops(
     Ok(formulas)
 }
 
-/// Puts the contracts of a type's operations after others.
+/// Appends the contracts of a type's operations to others.
 fn put_own(
     alloc: Global,
     own: &[OpDecl],

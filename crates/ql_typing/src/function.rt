@@ -17,7 +17,7 @@ pub enum Function {
     Sum,
 }
 
-/// What a function wants after its first argument, and what it gives.
+/// The kinds that a function expects after its first argument, and the kind of its result.
 #[derive(Clone, Copy, PartialEq, Eq)]
 pub struct Signature {
     pub second: Option<Kind>,
@@ -25,7 +25,7 @@ pub struct Signature {
     pub gives: Kind,
 }
 
-/// The function of a name.
+/// The function with a name.
 pub fn find_function(word: &[u8]) -> Option<Function>
     ensures { result ≡ function_named word.now }
 {
@@ -65,7 +65,7 @@ impl Function {
         }
     }
 
-    /// A function's signature where its first argument has a kind, and none where that doesn't fit.
+    /// A function's signature by the kind of its first argument; `None` if that doesn't fit.
     pub(crate) fn signature(self, first: Kind) -> Option<Signature>
         ensures { result ≡ signature_of self first }
     {

@@ -12,7 +12,7 @@ use crate::kind::{
 use crate::scope::Scope;
 use ql_lang::{BinOp, Expr, ExprNode, Kind, Name};
 
-/// What is known of an expression: its place, its kind where it has one, and its first fault.
+/// What is known about an expression: its source offset, its kind if it has one, and its first fault.
 #[derive(Clone, Copy)]
 pub(crate) struct Judged {
     pub at: u32,
@@ -20,7 +20,7 @@ pub(crate) struct Judged {
     pub fault: Option<TypeFault>,
 }
 
-/// Judges an expression by the names in scope.
+/// Finds the kind and the first fault of an expression, by the names in scope.
 pub(crate) fn judge(scope: &Scope<'_>, e: &Expr) -> Judged
     ensures at { result.at ≡ begins_at (expression_of e.now) }
     ensures kind { result.kind ≡ kind_of scope.now (expression_of e.now) }
@@ -29,7 +29,7 @@ pub(crate) fn judge(scope: &Scope<'_>, e: &Expr) -> Judged
     judge_node(scope, e.at, &e.node)
 }
 
-/// The first fault of an expression of which a kind is wanted.
+/// The first fault of an expression of which a kind is expected.
 pub(crate) fn fault_as(scope: &Scope<'_>, wanted: Option<Kind>, e: &Expr) -> Option<TypeFault>
     ensures { result ≡ first_fault (faults_as scope.now wanted (expression_of e.now)) }
 {

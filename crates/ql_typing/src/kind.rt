@@ -35,7 +35,7 @@ fn is_basic(kind: Kind) -> bool
     matches!(kind, Kind::Int | Kind::Bool | Kind::Text)
 }
 
-/// Whether there is a kind and it is the wanted one.
+/// Whether there is a kind and it is the expected one.
 pub(crate) fn fits(wanted: Option<Kind>, kind: Option<Kind>) -> bool
     ensures { result ≡ meets wanted kind }
 {
@@ -45,7 +45,7 @@ pub(crate) fn fits(wanted: Option<Kind>, kind: Option<Kind>) -> bool
     }
 }
 
-/// The fault of another kind than wanted, where both are told.
+/// The fault of another kind than expected, if both are known.
 #[tactic(auto, unfolding(crate::specs::Faults::first_fault, crate::specs::Faults::earlier))]
 pub(crate) fn misfit(wanted: Option<Kind>, at: u32, kind: Option<Kind>) -> Option<TypeFault>
     ensures { result ≡ first_fault (mismatch wanted at kind) }
@@ -71,7 +71,7 @@ fn basic(kind: Option<Kind>) -> Option<Kind>
     }
 }
 
-/// The kind wanted of both operands, by that of the left one.
+/// The kind expected of both operands, by that of the left one.
 pub(crate) fn operand_kind(op: BinOp, left: Option<Kind>) -> Option<Kind>
     ensures { result ≡ operand_of op left }
 {
@@ -134,7 +134,7 @@ pub(crate) fn combine(op: BinOp, left: Option<Kind>, right: Option<Kind>) -> Opt
     }
 }
 
-/// The kind of an operator that gives the kind it wants.
+/// The kind of an operator whose result has the kind that it expects.
 pub(crate) fn keep(wanted: Kind, kind: Option<Kind>) -> Option<Kind>
     ensures { result ≡ kept_kind wanted kind }
 {
@@ -156,7 +156,7 @@ pub(crate) fn choose(test: Option<Kind>, left: Option<Kind>, right: Option<Kind>
     }
 }
 
-/// The signature of a function of so many arguments, by the kind of its first.
+/// The signature of a function with `count` arguments, by the kind of its first.
 pub(crate) fn find_signature(
     function: Option<Function>,
     count: usize,
@@ -217,7 +217,7 @@ fn unfit_fault(at: u32, signature: Option<Signature>) -> Option<TypeFault>
     }
 }
 
-/// The fault of a call with so many arguments as no function takes.
+/// The fault of a call with a number of arguments that no function takes.
 #[tactic(auto, unfolding(crate::specs::Faults::first_fault, crate::specs::Faults::earlier))]
 pub(crate) fn count_fault(at: u32, name: &Name, function: Option<Function>) -> Option<TypeFault>
     ensures { result ≡ first_fault (count_faults at name.now function) }

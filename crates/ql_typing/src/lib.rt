@@ -1,6 +1,6 @@
 // Typing: which faults a program has, and programs that have none.
 // The faults of a program are a list, by cases on its declarations and expressions.
-// The one contract: a program is typed exactly where that list is empty, and else its first fault is told.
+// The one contract: a program is typed exactly if that list is empty, and otherwise its first fault is reported.
 #![tactic(auto)]
 
 mod build;

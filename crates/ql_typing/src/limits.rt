@@ -4,7 +4,7 @@ ghost use Rattle.ql_typing.specs.Programs.{above, too_many};
 
 use crate::fault::{TypeFault, first};
 
-/// The first of the items above a limit, by the places of all.
+/// The fault of the first item above a limit, by the source offsets of all.
 pub(crate) fn above_limit(places: &[u32], limit: usize) -> Option<TypeFault>
     ensures { result ≡ first_fault (above limit places.now) }
 {

@@ -4,7 +4,7 @@ ghost use Rattle.ql_typing.specs.Operations.{all_ops, op_kinds};
 
 use ql_lang::{OpDecl, TxnDecl, TypeDecl};
 
-/// The operation of a number.
+/// The operation with a number.
 pub(crate) fn find_op(types: &[TypeDecl], number: usize) -> Option<&OpDecl>
     ensures { option_copied result ≡ slice_get (all_ops types.now) number }
 {
@@ -35,7 +35,7 @@ pub(crate) fn find_kind(types: &[TypeDecl], number: usize) -> Option<usize>
     None
 }
 
-/// The place of the type of a name.
+/// The index of the type with a name.
 pub(crate) fn find_type(types: &[TypeDecl], w: &[u8]) -> Option<usize>
     ensures place { result ≡ type_place types.now w.now }
     ensures within { IfSome result (λ k. k < length types.now) }
@@ -45,7 +45,7 @@ pub(crate) fn find_type(types: &[TypeDecl], w: &[u8]) -> Option<usize>
         .position(|declared| w == declared.name.word.bytes())
 }
 
-/// The place of the transaction of a name.
+/// The index of the transaction with a name.
 pub(crate) fn find_txn(txns: &[TxnDecl], w: &[u8]) -> Option<usize>
     ensures place { result ≡ txn_place txns.now w.now }
     ensures within { IfSome result (λ k. k < length txns.now) }

@@ -7,7 +7,7 @@ use ql_base::{Names, NoMemory, Word};
 use ql_lang::Name;
 use std::alloc::Global;
 
-/// Puts a name in. Where 32 bits can't number it, there is no memory for it.
+/// Adds a name, and returns its number. If 32 bits can't number it, the result is `NoMemory`.
 pub(crate) fn put_in(names: &mut Names, word: &Word) -> Result<u32, NoMemory>
     ensures names { IfOk result (λ _. names.new ≡ with_name names.old word.now) }
     ensures numbered { IfOk result (λ k. place names.new word.now ≡ Some k) }
@@ -19,7 +19,7 @@ pub(crate) fn put_in(names: &mut Names, word: &Word) -> Result<u32, NoMemory>
     names.number(word.bytes())
 }
 
-/// Names in their order, without repeats, and the first that repeats another.
+/// Names in their order, without repeats, and the fault of the first that repeats another.
 #[derive(Drop)]
 pub(crate) struct Met {
     pub names: Names,
@@ -36,7 +36,7 @@ pub(crate) fn meet(alloc: Global, list: &[Name]) -> Result<Met, NoMemory>
     Ok(Met { names, fault })
 }
 
-/// Meets names after others, which stay alone.
+/// Meets names after others, and leaves only the others.
 pub(crate) fn meet_after(names: &mut Names, list: &[Name]) -> Result<Option<TypeFault>, NoMemory>
     ensures same { OnOk result (names.new ≡ names.old) }
     ensures fault { IfOk result (λ fault. fault ≡ first_fault (repeats names.old list.now)) }
@@ -60,7 +60,7 @@ fn meet_more(names: &mut Names, list: &[Name]) -> Result<Option<TypeFault>, NoMe
     Ok(fault)
 }
 
-/// Meets one name more: it is there twice where it was met before.
+/// Meets one more name: it is there twice if it was met before.
 #[tactic(auto, unfolding(crate::specs::Faults::first_fault, crate::specs::Faults::earlier))]
 fn meet_one(names: &mut Names, name: &Name) -> Result<Option<TypeFault>, NoMemory>
     ensures names { OnOk result (names.new ≡ with_name names.old name.now.word) }

@@ -15,7 +15,7 @@ use ql_base::{MAX_EMITTED, MAX_PARAMETERS, MAX_STATEMENTS, Names, NoMemory};
 use ql_lang::{Bind, EmitDecl, Kind, Name, OpDecl, Param, Stmt};
 use std::alloc::Global;
 
-/// The first fault of an operation. The names hold those of the fields, and do afterwards.
+/// The first fault of an operation. `names` holds the names of the fields, before and after the call.
 pub(crate) fn op_decl_fault(
     alloc: Global,
     op: &OpDecl,
@@ -37,7 +37,7 @@ pub(crate) fn op_decl_fault(
     Ok(first(named, first(checked.fault, first(answer, effect))))
 }
 
-/// The first parameter that repeats a name before it, of the fields or of a parameter, or is one too many.
+/// The fault of the first parameter that repeats a name of a field or an earlier parameter, or is one too many.
 fn params_fault(
     alloc: Global,
     params: &[Param],
@@ -52,7 +52,7 @@ fn params_fault(
     Ok(first(repeated, above_limit(all.as_slice(), MAX_PARAMETERS)))
 }
 
-/// The first fault of what an operation emits, where it does.
+/// The first fault of what an operation emits, if it emits anything.
 #[tactic(auto, unfolding(crate::specs::Faults::first_fault))]
 fn maybe_effect_fault(
     alloc: Global,
@@ -96,7 +96,7 @@ fn effect_fault(
     Ok(first(named, first(values, first(test, first(long, applied)))))
 }
 
-/// The first emitted name that repeats one before it, of the fields or emitted, or is one too many.
+/// The fault of the first emitted name that repeats a name of a field or an earlier one, or is one too many.
 fn bind_names_fault(
     alloc: Global,
     binds: &[Bind],
@@ -205,7 +205,7 @@ fn list_targets(alloc: Global, stmts: &[Stmt]) -> Result<Vec<Name>, NoMemory>
     Ok(stmts.iter().map(|stmt| stmt.target).collect(alloc)?)
 }
 
-/// The places of names.
+/// The source offsets of names.
 fn places_of(alloc: Global, names: &[Name]) -> Result<Vec<u32>, NoMemory>
     ensures { IfOk result (λ all. all.items ≡ places names.now) }
 {

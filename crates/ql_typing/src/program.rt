@@ -20,7 +20,7 @@ fn collects(kind: Kind) -> bool
     matches!(kind, Kind::Set(_) | Kind::Map(_, _))
 }
 
-/// Whether a field of a kind may begin so.
+/// Whether a field of a kind may have this initial value.
 fn begins(kind: Kind, init: &InitNode) -> bool
     ensures { result ≡ may_begin kind init.now }
 {
@@ -184,7 +184,7 @@ pub(crate) fn meet_ops(alloc: Global, types: &[TypeDecl]) -> Result<Met, NoMemor
     meet(alloc, list.as_slice())
 }
 
-/// The first type or transaction that repeats another's name.
+/// The fault of the first type or transaction that repeats another's name.
 fn names_fault(
     alloc: Global,
     types: &[TypeDecl],
@@ -199,7 +199,7 @@ fn names_fault(
     Ok(first(met_types.fault, met_txns.fault))
 }
 
-/// The first type, operation or transaction above its limit.
+/// The fault of the first type, operation or transaction above its limit.
 fn limits_fault(
     alloc: Global,
     types: &[TypeDecl],

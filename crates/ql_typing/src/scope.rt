@@ -15,7 +15,7 @@ pub struct Known {
     pub kind: Kind,
 }
 
-/// Names with their kinds, seen as their list. Of a name that is there twice the first kind counts.
+/// Names with their kinds, seen as their list. If a name is there twice, its first kind counts.
 #[derive(Drop)]
 pub struct Table {
     known: Vec<Known>,
@@ -51,7 +51,7 @@ impl Table {
     }
 }
 
-/// The kinds of names. The last comes first, so that of a name that is there twice the first kind stays.
+/// The kinds of names. They are inserted from the last to the first, so that a name's first kind stays.
 fn index_kinds(alloc: Global, known: &[Known]) -> Result<IndexMap<Word, Kind>, NoMemory>
     ensures { IfOk result (λ kinds. FindsKinds kinds known.now) }
 {

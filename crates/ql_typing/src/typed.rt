@@ -16,8 +16,8 @@ use ql_base::{DeclId, Names, NoMemory, OpId, TypeId};
 use ql_lang::{Formula, Name, OpDecl, Program, TxnDecl, TypeDecl};
 use std::alloc::Global;
 
-/// A program in which nothing is wrong. Its types, operations and transactions have numbers from 0, in the order of
-/// the source; operations are counted over all types.
+/// A well-typed program. Its types, operations and transactions have numbers from 0, in the order of the source;
+/// operations are counted over all types.
 #[derive(Drop)]
 pub struct Typed {
     pub program: Program,
@@ -30,8 +30,8 @@ pub struct Typed {
     ghost of_txns: { ∥ map resolved_of txn_formulas.items ≡ txn_contracts program ∥₁ },
 }
 
-/// The program with the fact that it is well typed, or its first fault: the one of the least place, and there of the
-/// lowest rule.
+/// The program as a well-typed one, or its first fault: the one at the lowest source offset, and there of the lowest
+/// rule.
 #[tactic(auto, unfolding(crate::specs::Faults::IsRefusal, crate::specs::Faults::TellsFirst))]
 pub fn typecheck(alloc: Global, program: Program) -> Result<Typed, TypeFault>
     ensures typed { OnOk result (program_faults program ≡ []) }
@@ -76,7 +76,7 @@ impl Typed {
         self.ops.len()
     }
 
-    /// The operation of a number.
+    /// The operation with a number.
     pub fn op(&self, o: OpId) -> &OpDecl
         requires { o.0 < length (all_ops self.now.program.types) }
         ensures { slice_get (all_ops self.now.program.types) o.0 ≡ Some result.now }
@@ -84,7 +84,7 @@ impl Typed {
         find_op(self.program.types.items(), o.0 as usize).unwrap()
     }
 
-    /// The type that an operation is one of.
+    /// The type that an operation belongs to.
     pub fn kind_of(&self, o: OpId) -> TypeId
         requires { o.0 < length (all_ops self.now.program.types) }
         ensures kind { slice_get (op_kinds self.now.program.types) o.0 ≡ Some result.0 }
@@ -94,7 +94,7 @@ impl Typed {
         TypeId(kind as u32)
     }
 
-    /// The operation of a name.
+    /// The operation with a name.
     pub fn op_named(&self, w: &[u8]) -> Option<OpId>
         ensures place { option_map (λ o. o.0) result ≡ op_place self.now.program.types w.now }
         ensures within { IfSome result (λ o. o.0 < length (all_ops self.now.program.types)) }
@@ -127,7 +127,7 @@ impl Typed {
         &self.program.types.items()[t.0 as usize]
     }
 
-    /// The type of a name.
+    /// The type with a name.
     pub fn type_named(&self, w: &[u8]) -> Option<TypeId>
         ensures place { option_map (λ t. t.0) result ≡ type_place self.now.program.types w.now }
         ensures within { IfSome result (λ t. t.0 < length self.now.program.types) }
@@ -151,7 +151,7 @@ impl Typed {
         &self.program.txns.items()[d.0 as usize]
     }
 
-    /// The transaction of a name.
+    /// The transaction with a name.
     pub fn txn_named(&self, w: &[u8]) -> Option<DeclId>
         ensures place { option_map (λ d. d.0) result ≡ txn_place self.now.program.txns w.now }
         ensures within { IfSome result (λ d. d.0 < length self.now.program.txns) }

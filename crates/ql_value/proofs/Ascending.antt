@@ -12,7 +12,7 @@ use Rattle.std.proofs.lemmas.List.{get_or_read, take-append-drop, take-set, drop
 use Rattle.std.proofs.Math.Seq.{drop-cons}
 use Rattle.std.specs.List.{insert}
 use Rattle.std.proofs.lemmas.Bool.Decides.{nat_tests}
-use Rattle.ql_value.specs.Collections.{Ascends, below, above, others, with_item}
+use Rattle.ql_value.specs.Collections.{Ascends, below, items_above, others, with_item}
 use Rattle.ql_value.specs.Reading.{follows}
 use Rattle.ql_value.specs.Places.{place, Found, Missing, IsPlace}
 
@@ -31,7 +31,7 @@ module _ {X : Type 0} (R : X → X → Ordering) (total : IsTotalOrder R) where
       total.antisymm y e ∙ ap ordering_reverse (total.trans e x y turned lt)
 
   -- where all items are above `e`
-  all_above : (e : X) (ys : List X) → All (λ y. R y e ≡ Greater) ys → (below R e ys ≡ []) × (above R e ys ≡ ys) × (others R e ys ≡ ys)
+  all_above : (e : X) (ys : List X) → All (λ y. R y e ≡ Greater) ys → (below R e ys ≡ []) × (items_above R e ys ≡ ys) × (others R e ys ≡ ys)
   all_above e [] h = (refl, refl, refl)
   all_above e (y ∷ ys) h =
       let here : R y e ≡ Greater = h 0 y (omega arith) in
@@ -93,16 +93,16 @@ module _ {X : Type 0} (R : X → X → Ordering) (total : IsTotalOrder R) where
   greater_from Equal h = cc
   greater_from Greater h = refl
 
-  ascends_around : (e : X) (xs : List X) → Ascends R xs → Ascends R (below R e xs ++ e ∷ above R e xs)
+  ascends_around : (e : X) (xs : List X) → Ascends R xs → Ascends R (below R e xs ++ e ∷ items_above R e xs)
   ascends_around e xs asc =
-      ascends_joined e (below R e xs) (above R e xs) (ascends_filter (λ x. is_lt (R x e)) xs asc) (ascends_filter (λ x. is_gt (R x e)) xs asc)
+      ascends_joined e (below R e xs) (items_above R e xs) (ascends_filter (λ x. is_lt (R x e)) xs asc) (ascends_filter (λ x. is_gt (R x e)) xs asc)
       (λ k d lt. less_from _ (filter_passes (λ x. is_lt (R x e)) xs k d lt))
       (λ k d lt. total.antisymm e _ ∙ ap ordering_reverse (greater_from _ (filter_passes (λ x. is_gt (R x e)) xs k d lt)))
 
-  length_others : (e : X) (xs : List X) → length (others R e xs) ≡ length (below R e xs) + length (above R e xs)
+  length_others : (e : X) (xs : List X) → length (others R e xs) ≡ length (below R e xs) + length (items_above R e xs)
   length_others e [] = refl
   length_others e (x ∷ xs) = by_order (length_others e xs) (R x e) where
-    by_order : length (others R e xs) ≡ length (below R e xs) + length (above R e xs) → (o : Ordering) → length (cond (not (is_eq o)) (x ∷ others R e xs) (others R e xs)) ≡ length (cond (is_lt o) (x ∷ below R e xs) (below R e xs)) + length (cond (is_gt o) (x ∷ above R e xs) (above R e xs))
+    by_order : length (others R e xs) ≡ length (below R e xs) + length (items_above R e xs) → (o : Ordering) → length (cond (not (is_eq o)) (x ∷ others R e xs) (others R e xs)) ≡ length (cond (is_lt o) (x ∷ below R e xs) (below R e xs)) + length (cond (is_gt o) (x ∷ items_above R e xs) (items_above R e xs))
     by_order rest Less = omega arith
     by_order rest Equal = rest
     by_order rest Greater = omega arith
@@ -110,13 +110,13 @@ module _ {X : Type 0} (R : X → X → Ordering) (total : IsTotalOrder R) where
   -- a bounded ascending list stays one
   pub kept : (e : X) (xs : List X) → length xs ≤ 256 → Ascends R xs → (length (with_item R e xs) ≤ 256) × Ascends R (with_item R e xs)
   kept e xs few asc = by_room (nat_lt (length (others R e xs)) 256) refl where
-    by_room : (b : Bool) → nat_lt (length (others R e xs)) 256 ≡ b → (length (if b then below R e xs ++ e ∷ above R e xs else xs) ≤ 256) × Ascends R (if b then below R e xs ++ e ∷ above R e xs else xs)
+    by_room : (b : Bool) → nat_lt (length (others R e xs)) 256 ≡ b → (length (if b then below R e xs ++ e ∷ items_above R e xs else xs) ≤ 256) × Ascends R (if b then below R e xs ++ e ∷ items_above R e xs else xs)
     by_room true h =
         let room : length (others R e xs) < 256 = grind (arith, nat_tests) in
-        (omega (arith, length_others e xs, length-append (below R e xs) (e ∷ above R e xs)), ascends_around e xs asc)
+        (omega (arith, length_others e xs, length-append (below R e xs) (e ∷ items_above R e xs)), ascends_around e xs asc)
     by_room false h = (few, asc)
 
-  with_room : (e : X) (xs : List X) → length (others R e xs) < 256 → with_item R e xs ≡ below R e xs ++ e ∷ above R e xs
+  with_room : (e : X) (xs : List X) → length (others R e xs) < 256 → with_item R e xs ≡ below R e xs ++ e ∷ items_above R e xs
   with_room e xs room = let t : nat_lt (length (others R e xs)) 256 ≡ true = grind (arith, nat_tests) in rw t refl
 
   -- a new item goes to its place where there is room, and nowhere where there is none

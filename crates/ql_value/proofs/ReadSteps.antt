@@ -12,7 +12,7 @@ use Rattle.ql_value.specs.declared.value.Value.TheVariants.{Unit as Nothing, Set
 use Rattle.ql_value.specs.declared.fault.ValueFault.{ValueFault}
 use Rattle.ql_value.specs.declared.fault.ValueFault.TheVariants.{Unexpected, NoMemory}
 use Rattle.ql_value.specs.Order.{scalar_cmp, key_cmp}
-use Rattle.ql_value.specs.Reading.{Read, IsRead, IsWordRead, is_byte, scalar_at, word_at, standing_for, quoted_at, negative_at, plain_at, after_spaces, elements_at, entries_at, entry_value_at, collection_at, value_at, value_of, follows}
+use Rattle.ql_value.specs.Reading.{Read, IsRead, IsWordRead, is_byte, scalar_at, word_at, standing_for, quoted_at, negative_at, plain_at, after_spaces, elements_at, entries_at, entry_value_at, collection_at, value_at, value_of_scalar, follows}
 
 -- a reading from one place that is one from another
 pub moved : {X : Type 0} (f g : List ℕ → Read X) (bytes : List ℕ) (at sp : ℕ) (r : Result (X × ℕ) ValueFault) → f (drop at bytes) ≡ g (drop sp bytes) → IsRead g bytes sp r → IsRead f bytes at r
@@ -223,7 +223,7 @@ module _ (t : List ℕ) where
   unfolding value_at
   reads_collection h i = rw (h, i) refl
 
-  pub reads_scalar : (s : Scalar) (rest : List ℕ) → begins (is_byte 117) t ≡ false → begins (is_byte 123) t ≡ false → scalar_at t ≡ Ok (s, rest) → value_at t ≡ Ok (value_of s, rest)
+  pub reads_scalar : (s : Scalar) (rest : List ℕ) → begins (is_byte 117) t ≡ false → begins (is_byte 123) t ≡ false → scalar_at t ≡ Ok (s, rest) → value_at t ≡ Ok (value_of_scalar s, rest)
   unfolding value_at
   reads_scalar s rest h i read = rw (h, i, read) refl
 

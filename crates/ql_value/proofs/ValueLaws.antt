@@ -15,7 +15,7 @@ use Rattle.ql_value.specs.declared.value.Value.TheVariants.{Unit as Nothing, Int
 use Rattle.ql_value.specs.Order.{scalar_cmp, key_cmp}
 use Rattle.ql_value.specs.Collections.{Ascends}
 use Rattle.ql_value.specs.Spelling.{scalar_text, entry_text, followed, value_text}
-use Rattle.ql_value.specs.Reading.{Read, is_byte, on_read, follows, behind_item, after_spaces, scalar_at, word_at, word_end, elements_at, entries_at, entry_value_at, collection_at, value_at, value_of}
+use Rattle.ql_value.specs.Reading.{Read, is_byte, on_read, follows, behind_item, after_spaces, scalar_at, word_at, word_end, elements_at, entries_at, entry_value_at, collection_at, value_at, value_of_scalar}
 use Rattle.ql_value.specs.ValueGrammar.{spaces, IsScalar, IsEntry, IsValue, ReadsScalar, ReadsEntry, ReadsMore, ReadsBraced, ReadsSet, ReadsMap, ReadsValue}
 use Rattle.ql_value.proofs.ScalarGrammar.{chosen, are_parts, begins_with, word_at_takes, scalar_takes, scalar_again, scalar_first}
 
@@ -193,15 +193,15 @@ collection_takes room text inner rest v brace h =
     (λ d j. let w = word_at_takes (Map []) v (codes ":}") inner rest j in rw w.0 (brace ∙ ap (λ u. 123 ∷ u) w.1))
     (λ d j. first_by room text inner rest v (scalar_at inner) brace j))
 
-scalar_value : (s : Scalar) (text rest : List ℕ) → ReadsScalar s text rest → ReadsValue (value_of s) text rest
+scalar_value : (s : Scalar) (text rest : List ℕ) → ReadsScalar s text rest → ReadsValue (value_of_scalar s) text rest
 scalar_value (Int z) text rest h = h
 scalar_value (Truth b) text rest h = h
 scalar_value (Text t) text rest h = h
 
-scalar_by : (text rest : List ℕ) (v : Value) (r : Read Scalar) → scalar_at text ≡ r → on_read r (λ s behind. Ok (value_of s, behind)) ≡ Ok (v, rest) → ReadsValue v text rest
+scalar_by : (text rest : List ℕ) (v : Value) (r : Read Scalar) → scalar_at text ≡ r → on_read r (λ s behind. Ok (value_of_scalar s, behind)) ≡ Ok (v, rest) → ReadsValue v text rest
 scalar_by text rest v (Err left) read h = cc
 scalar_by text rest v (Ok p) read h =
-    let q = are_parts (value_of p.0) v p.1 rest h in
+    let q = are_parts (value_of_scalar p.0) v p.1 rest h in
     rw (← q.0, ← q.1) (scalar_value p.0 text p.1 (scalar_takes text p.1 p.0 read))
 
 -- what is read of a value is a text of it
@@ -313,7 +313,7 @@ map_again e es text rest few asc all reads =
     let whole = entries_again 256 [] e es reads.start reads.behind rest few asc fits (λ k d lt. all (suc k) d (omega arith)) reads.first reads.more in
     rw (reads.brace, first.0, first.1, read) whole
 
-plain_again : (s : Scalar) (text rest : List ℕ) → IsScalar s → begins is_digit rest ≡ false → ReadsScalar s text rest → value_at text ≡ Ok (value_of s, rest)
+plain_again : (s : Scalar) (text rest : List ℕ) → IsScalar s → begins is_digit rest ≡ false → ReadsScalar s text rest → value_at text ≡ Ok (value_of_scalar s, rest)
 unfolding value_at
 plain_again s text rest fits stop reads =
     let unit_not : begins (is_byte 117) text ≡ false = ap (begins (is_byte 117)) reads ∙ scalar_first s rest 117 fits refl refl refl refl refl in

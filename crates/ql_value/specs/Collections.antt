@@ -30,16 +30,16 @@ module _ {X : Type 0} (cmp : X → X → Ordering) where
   below e xs = filter (λ x. is_lt (cmp x e)) xs
 
   -- the items above it
-  abbrev pub above : X → List X → List X
-  above e xs = filter (λ x. is_gt (cmp x e)) xs
+  abbrev pub items_above : X → List X → List X
+  items_above e xs = filter (λ x. is_gt (cmp x e)) xs
 
   -- the items other than it
   abbrev pub others : X → List X → List X
   others e xs = filter (λ x. not (is_eq (cmp x e))) xs
 
-  -- with it in its place; unchanged where there are 256 others
+  -- the items with it inserted in order; unchanged if there are 256 others
   abbrev pub with_item : X → List X → List X
-  with_item e xs = if nat_lt (length (others e xs)) 256 then below e xs ++ e ∷ above e xs else xs
+  with_item e xs = if nat_lt (length (others e xs)) 256 then below e xs ++ e ∷ items_above e xs else xs
 
 -- the keys of a map
 abbrev pub keys : List (Scalar × Scalar) → List Scalar
@@ -49,7 +49,7 @@ keys m = map (λ entry. entry.0) m
 abbrev pub contains : List Scalar → Scalar → Bool
 contains elements k = list_any (λ x. is_eq (scalar_cmp x k)) elements
 
--- a set with an element, unchanged where it has 256 others
+-- a set with an element, unchanged if it has 256 others
 abbrev pub added : List Scalar → Scalar → List Scalar
 added s e = with_item scalar_cmp e s
 
@@ -61,7 +61,7 @@ removed s e = others scalar_cmp e s
 abbrev pub united : List Scalar → List Scalar → List Scalar
 united s t = fold added s t
 
--- a map in which `k` gives `v`, unchanged where it has 256 other keys
+-- a map in which `k` has the value `v`, unchanged if it has 256 other keys
 abbrev pub put_in : List (Scalar × Scalar) → Scalar → Scalar → List (Scalar × Scalar)
 put_in m k v = with_item key_cmp (k, v) m
 
@@ -69,15 +69,15 @@ put_in m k v = with_item key_cmp (k, v) m
 abbrev pub dropped : List (Scalar × Scalar) → Scalar → List (Scalar × Scalar)
 dropped m k = filter (λ entry. not (is_eq (scalar_cmp entry.0 k))) m
 
--- what a map gives for a key, and `d` where it has no such key
-abbrev pub value_at : List (Scalar × Scalar) → Scalar → Scalar → Scalar
-value_at m k d = option_map_or (λ entry. entry.1) (find (λ entry. is_eq (scalar_cmp entry.0 k)) m) d
+-- the value that a map has for a key, or `d` if it has no such key
+abbrev pub value_for_key : List (Scalar × Scalar) → Scalar → Scalar → Scalar
+value_for_key m k d = option_map_or (λ entry. entry.1) (find (λ entry. is_eq (scalar_cmp entry.0 k)) m) d
 
--- the number that a scalar is
-abbrev pub number_in : Scalar → ℤ
-number_in (Int n) = n
-number_in other = pos 0
+-- the number that a scalar is, 0 if it isn't one
+abbrev pub int_of : Scalar → ℤ
+int_of (Int n) = n
+int_of other = pos 0
 
 -- the saturating sum of a map's numbers, by ascending key, from 0
 abbrev pub sum_of : List (Scalar × Scalar) → ℤ
-sum_of m = fold (λ total entry. saturated (total +ℤ number_in entry.1)) (pos 0) m
+sum_of m = fold (λ total entry. saturated (total +ℤ int_of entry.1)) (pos 0) m

@@ -13,7 +13,7 @@ use Rattle.ql_value.specs.declared.fault.ValueFault.{ValueFault}
 use Rattle.ql_value.specs.declared.fault.ValueFault.TheVariants.{Unexpected, NoMemory}
 use Rattle.ql_value.specs.Order.{scalar_cmp, key_cmp}
 
--- what stands at the front of a text, and the text behind it; or how many bytes are left at the first fault
+-- what a text starts with, and the text after it; or how many bytes are left at the first fault
 abbrev pub Read : Type 0 → Type 0
 Read X = Result (X × List ℕ) ℕ
 
@@ -22,7 +22,7 @@ abbrev pub on_read : {X Y : Type 0} → Read X → (X → List ℕ → Read Y) �
 on_read (Ok x) next = next x.0 x.1
 on_read (Err left) next = Err left
 
--- the text behind a word, which is compared byte by byte
+-- the text after a word, which is compared byte by byte
 unfoldable pub word_end : List ℕ → List ℕ → Result (List ℕ) ℕ
 word_end [] text = Ok text
 word_end (w ∷ ws) [] = Err 0
@@ -44,20 +44,20 @@ is_byte c b = b == c
 unfoldable pub number_up_to : ℕ → List ℕ → Option ℕ
 number_up_to most ds = if bytes_eq (decimal (digits_value 10 ds)) ds && nat_le (digits_value 10 ds) most then Some (digits_value 10 ds) else None
 
--- a number without a sign; one that isn't spelled so or is too great is a fault at its first digit
+-- a number without a sign; one that has a leading zero or is too great is a fault at its first digit
 unfoldable pub plain_at : List ℕ → Read Scalar
 plain_at text =
     option_map_or (λ n. Ok (Int (pos n), drop (prefix_len is_digit text) text))
     (number_up_to 9223372036854775807 (take (prefix_len is_digit text) text)) (Err (length text))
 
--- a number behind `-`: no digit is a fault there; zero, another spelling or too great a number at the sign
+-- a number after `-`: a missing digit is a fault there; zero, a leading zero or too great a number is one at the sign
 unfoldable pub negative_at : List ℕ → List ℕ → Read Scalar
 negative_at text rest =
     if prefix_len is_digit rest == 0 then Err (length rest)
     else option_map_or (λ n. if n == 0 then Err (length text) else Ok (Int (neg_ℤ (pos n)), drop (prefix_len is_digit rest) rest))
     (number_up_to 9223372036854775808 (take (prefix_len is_digit rest) rest)) (Err (length text))
 
--- a text behind its first quote: more than 64 bytes are a fault at the quote, another byte is one there
+-- a text after its first quote: more than 64 bytes are a fault at the quote, a byte that isn't allowed is one there
 unfoldable pub quoted_at : List ℕ → List ℕ → Read Scalar
 quoted_at text rest =
     if nat_lt 64 (prefix_len is_text_byte rest) then Err (length text)
@@ -75,7 +75,7 @@ scalar_at text =
     else if begins is_digit text then plain_at text
     else Err (length text)
 
--- behind any number of spaces
+-- the text after any number of spaces
 abbrev pub after_spaces : List ℕ → List ℕ
 after_spaces text = drop (prefix_len (is_byte 32) text) text
 
@@ -85,23 +85,23 @@ follows cmp [] e = true
 follows cmp (x ∷ []) e = is_lt (cmp x e)
 follows cmp (x ∷ y ∷ more) e = follows cmp (y ∷ more) e
 
--- behind an item: `}` ends the collection, a comma and spaces bring the next item
+-- after an item: `}` ends the collection, a comma and spaces are followed by the next item
 abbrev pub behind_item : Value → (List ℕ → Read Value) → List ℕ → Read Value
 behind_item whole more text =
     if begins (is_byte 125) text then Ok (whole, drop 1 text)
     else if begins (is_byte 44) text then more (after_spaces (drop 1 text)) else Err (length text)
 
--- the elements of a set from the next one on, of which there is room for so many
+-- the elements of a set from the next one on, at most `room` of them
 unfoldable pub elements_at : ℕ → List Scalar → List ℕ → Read Value
 elements_at zero s text = Err (length text)
 elements_at (suc room) s text = on_read (scalar_at text) (λ e rest.
     if follows scalar_cmp s e then behind_item (Set (s ++ e ∷ [])) (elements_at room (s ++ e ∷ [])) rest else Err (length text))
 
--- behind a key: a colon, spaces and its value
+-- after a key: a colon, spaces and its value
 abbrev pub entry_value_at : List ℕ → Read Scalar
 entry_value_at text = if begins (is_byte 58) text then scalar_at (after_spaces (drop 1 text)) else Err (length text)
 
--- the entries of a map from the next one on, of which there is room for so many
+-- the entries of a map from the next one on, at most `room` of them
 unfoldable pub entries_at : ℕ → List (Scalar × Scalar) → List ℕ → Read Value
 entries_at zero m text = Err (length text)
 entries_at (suc room) m text = on_read (scalar_at text) (λ k rest.
@@ -109,7 +109,7 @@ entries_at (suc room) m text = on_read (scalar_at text) (λ k rest.
     behind_item (Map (m ++ (k, v) ∷ [])) (entries_at room (m ++ (k, v) ∷ [])) behind)
     else Err (length text))
 
--- a set or a map behind its `{`, of at most so many items; the first item tells which
+-- a set or a map after its `{`, of at most `room` items; the first item shows which it is
 unfoldable pub collection_at : ℕ → List ℕ → Read Value
 collection_at room text =
     if begins (is_byte 125) text then Ok (Set [], drop 1 text)
@@ -117,25 +117,25 @@ collection_at room text =
     else on_read (scalar_at text) (λ first rest.
     if begins (is_byte 58) rest then entries_at room [] text else elements_at room [] text)
 
-abbrev pub value_of : Scalar → Value
-value_of (Int n) = Number n
-value_of (Truth b) = TruthValue b
-value_of (Text t) = TextValue t
+abbrev pub value_of_scalar : Scalar → Value
+value_of_scalar (Int n) = Number n
+value_of_scalar (Truth b) = TruthValue b
+value_of_scalar (Text t) = TextValue t
 
 -- a value
 unfoldable pub value_at : List ℕ → Read Value
 value_at text =
     if begins (is_byte 117) text then word_at Nothing (codes "unit") text
     else if begins (is_byte 123) text then collection_at 256 (drop 1 text)
-    else on_read (scalar_at text) (λ s rest. Ok (value_of s, rest))
+    else on_read (scalar_at text) (λ s rest. Ok (value_of_scalar s, rest))
 
--- what was read of `bytes` from place `at` on, and the place behind it; or the place of the first fault
+-- what was read of `bytes` from the offset `at` on, and the offset after it; or the offset of the first fault
 abbrev pub IsRead : {X : Type 0} → (List ℕ → Read X) → List ℕ → ℕ → Result (X × ℕ) ValueFault → Type 0
 IsRead reader bytes at (Ok x) = (x.1 ≤ length bytes) × (reader (drop at bytes) ≡ Ok (x.0, drop x.1 bytes))
 IsRead reader bytes at (Err NoMemory) = Unit {0}
 IsRead reader bytes at (Err (Unexpected place)) = (place ≤ length bytes) × (reader (drop at bytes) ≡ Err (length bytes - place))
 
--- the same for a word, of which nothing but its end is told
+-- the same for a word, of which only the end is reported
 abbrev pub IsWordRead : List ℕ → List ℕ → ℕ → Result ℕ ValueFault → Type 0
 IsWordRead w bytes at (Ok to) = (to ≤ length bytes) × (word_end w (drop at bytes) ≡ Ok (drop to bytes))
 IsWordRead w bytes at (Err NoMemory) = ⊥

@@ -13,7 +13,7 @@ use Rattle.ql_value.specs.Texts.{IsText}
 
 -- The grammar of values. `ReadsX x text rest` says that `text` begins with a text of `x`, and that `rest` follows it.
 
--- so many spaces
+-- a number of spaces
 abbrev pub spaces : ℕ → List ℕ
 spaces n = replicate n 32
 
@@ -39,7 +39,7 @@ abbrev pub ReadsMore : {X : Type 0} → (X → List ℕ → List ℕ → Type 0)
 ReadsMore Item [] text rest = text ≡ rest
 ReadsMore Item (x ∷ xs) text rest = ReadsNext (λ a b. Item x a b) (λ a b. ReadsMore Item xs a b) text rest
 
--- items in braces, of which there is a first one
+-- items in braces, at least one
 pub record ReadsBraced {X : Type 0} (Item : X → List ℕ → List ℕ → Type 0) (x : X) (xs : List X) (text rest : List ℕ) : Type 0 where
   pub start : List ℕ
   pub behind : List ℕ
@@ -72,7 +72,7 @@ IsScalar (Text t) = IsText t
 abbrev pub IsEntry : Scalar × Scalar → Type 0
 IsEntry entry = IsScalar entry.0 × IsScalar entry.1
 
--- what a value of 64-bit numbers, texts, sets and maps is, without its type
+-- a value within the limits of numbers, texts, sets and maps, of whatever type
 abbrev pub IsValue : Value → Type 0
 IsValue Nothing = Unit {0}
 IsValue (Number z) = FitsSigned w64 z
@@ -81,7 +81,7 @@ IsValue (TextValue t) = IsText t
 IsValue (Set s) = IsSet s × All IsScalar s
 IsValue (Map m) = IsMap m × All IsEntry m
 
--- each text that the grammar allows is read as its value, where no digit follows it
+-- each text that the grammar allows is read as its value, if no digit follows it
 abbrev pub ReadsEach : List ℕ → Type 0
 ReadsEach text = (v : Value) (rest : List ℕ) → IsValue v → StopsBefore is_digit rest → ReadsValue v text rest → value_at text ≡ Ok (v, rest)
 

@@ -7,7 +7,7 @@ use Rattle.ql_value.specs.declared.value.Value.{Value}
 use Rattle.ql_value.specs.declared.value.Value.TheVariants.{Unit, Int, Bool, Text, Set, Map}
 use Rattle.ql_value.specs.Order.{entry_cmp, scalar_cmp}
 
--- where a kind of value stands
+-- the rank of a kind of value in the order
 abbrev pub kind_rank : Value → ℕ
 kind_rank Unit = 0
 kind_rank (Int a) = 1

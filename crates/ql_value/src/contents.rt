@@ -6,7 +6,7 @@ use crate::ordering::same_scalar;
 use crate::scalar::Scalar;
 use crate::value::Value;
 
-/// Whether a set has the element, or a map the key. Nothing else has any.
+/// Whether a set has the element, or a map has the key; false for any other value.
 pub fn has(collection: &Value, key: &Scalar) -> bool
     ensures { result ≡ contains (elements_of collection.now) key.now }
 {
@@ -17,7 +17,7 @@ pub fn has(collection: &Value, key: &Scalar) -> bool
     }
 }
 
-/// How many elements a set has, or entries a map. Nothing else has any.
+/// The number of elements of a set, or of entries of a map; 0 for any other value.
 pub fn size(collection: &Value) -> i64
     ensures { result ≡ pos (length (elements_of collection.now)) }
 {

@@ -51,7 +51,7 @@ pub fn copy_map(alloc: Global, map: &MapVal) -> Result<MapVal, NoMemory>
     Ok(MapVal::of(copy_entries(alloc, map.items(), 0)?))
 }
 
-// Equal elements, with room for some more.
+// Equal elements, with room for `more` others.
 pub(crate) fn copy_elements(
     alloc: Global,
     elements: &[Scalar],
@@ -66,7 +66,7 @@ pub(crate) fn copy_elements(
     Ok(copied)
 }
 
-// Equal entries, with room for some more.
+// Equal entries, with room for `more` others.
 pub(crate) fn copy_entries(
     alloc: Global,
     entries: &[(Scalar, Scalar)],

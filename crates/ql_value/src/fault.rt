@@ -1,13 +1,13 @@
 use std::alloc::{AllocError, AllocFailed};
 
-/// Why a text holds no value.
+/// Why a text can't be read as a value.
 #[derive(Clone, Copy, Debug, PartialEq, Eq)]
 pub enum ValueFault {
-    /// The place of the first byte that fits no value, or the text's length where it ends too early.
-    /// An entry that doesn't ascend, the 257th entry, a text of more than 64 bytes and a number that
-    /// is out of range or not spelled plainly are told at their first byte.
+    /// The offset of the first byte that fits no value, or the text's length if it ends too early.
+    /// An entry that doesn't ascend, the 257th entry, a text of more than 64 bytes, and a number that
+    /// is out of range, has a leading zero or is `-0` are reported at their first byte.
     Unexpected(usize),
-    /// No memory was left.
+    /// Out of memory.
     NoMemory,
 }
 

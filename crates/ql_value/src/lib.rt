@@ -1,6 +1,6 @@
 // The values of fields, arguments and answers: numbers, truth values, texts, sets and maps.
 // Its one contract: arithmetic saturates, sets and maps are strictly ascending and of bounded size,
-// and the text of a value is read back as that value, or its first fault is told.
+// and the text of a value is read back as that value, or its first fault is reported.
 #![tactic(auto)]
 
 mod contents;

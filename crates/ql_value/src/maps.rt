@@ -5,10 +5,10 @@ ghost use Rattle.ql_value.specs.Collections.{
   Ascends,
   IsMap,
   dropped,
-  number_in,
+  int_of,
   put_in,
   sum_of,
-  value_at,
+  value_for_key,
 };
 
 use crate::copying::{copy_entries, copy_scalar};
@@ -19,7 +19,7 @@ use crate::value::MapVal;
 use ql_base::{MAX_ENTRIES, NoMemory};
 use std::alloc::Global;
 
-/// The map in which `key` gives `value`; unchanged where it has 256 other keys.
+/// The map in which `key` has the value `value`; unchanged if it has 256 other keys.
 pub fn put(alloc: Global, map: &MapVal, key: &Scalar, value: &Scalar) -> Result<MapVal, NoMemory>
     ensures { IfOk result (λ answer. answer ≡ put_in map.now key.now value.now) }
 {
@@ -42,14 +42,14 @@ pub fn drop_key(alloc: Global, map: &MapVal, key: &Scalar) -> Result<MapVal, NoM
     Ok(MapVal::of(entries))
 }
 
-/// What the map gives for the key, and `otherwise` where it has no such key.
+/// The value that the map has for the key, or `otherwise` if it has no such key.
 pub fn get(
     alloc: Global,
     map: &MapVal,
     key: &Scalar,
     otherwise: &Scalar,
 ) -> Result<Scalar, NoMemory>
-    ensures { IfOk result (λ answer. answer ≡ value_at map.now key.now otherwise.now) }
+    ensures { IfOk result (λ answer. answer ≡ value_for_key map.now key.now otherwise.now) }
 {
     match map.items().iter().find(|entry| same_scalar(&entry.0, key)) {
         Some(entry) => copy_scalar(alloc, &entry.1),
@@ -58,7 +58,7 @@ pub fn get(
 }
 
 /// The saturating sum of the map's numbers, by ascending key, from 0. What isn't a number counts
-/// nothing.
+/// as 0.
 pub fn sum(map: &MapVal) -> i64
     ensures { result ≡ sum_of map.now }
 {
@@ -69,9 +69,9 @@ pub fn sum(map: &MapVal) -> i64
     total
 }
 
-// The number that a scalar is, and 0 where it is none.
+// The number that a scalar is, or 0 if it isn't one.
 fn number_in(scalar: &Scalar) -> i64
-    ensures { result ≡ number_in scalar.now }
+    ensures { result ≡ int_of scalar.now }
 {
     match scalar {
         Scalar::Int(n) => *n,
@@ -79,7 +79,7 @@ fn number_in(scalar: &Scalar) -> i64
     }
 }
 
-// Puts the entry where its key is, or in its place where there is room.
+// Replaces the entry with the same key, or inserts the entry in order if there is room.
 fn set_entry(entries: &mut Vec<(Scalar, Scalar)>, entry: (Scalar, Scalar)) -> Result<(), NoMemory>
     requires { IsMap entries.old.items }
     ensures gives { OnOk result (entries.new.items ≡ put_in entries.old.items entry.0 entry.1) }
@@ -96,7 +96,7 @@ fn set_entry(entries: &mut Vec<(Scalar, Scalar)>, entry: (Scalar, Scalar)) -> Re
     Ok(())
 }
 
-// The place of the entry's key, or the place where it would stand.
+// The index of the entry's key, or the index where it would be inserted.
 fn place_of(entries: &[(Scalar, Scalar)], entry: &(Scalar, Scalar)) -> Result<usize, usize>
     requires { Ascends key_cmp entries.now }
     ensures { IsPlace key_cmp entry.now entries.now result }
@@ -109,7 +109,7 @@ fn place_of(entries: &[(Scalar, Scalar)], entry: &(Scalar, Scalar)) -> Result<us
     }
 }
 
-// How many entries at the front have a key below the given one's.
+// The length of the longest prefix of entries whose keys are below the given one's.
 fn count_below(entries: &[(Scalar, Scalar)], entry: &(Scalar, Scalar)) -> usize
     ensures { result ≡ place key_cmp entry.now entries.now }
 {

@@ -43,7 +43,7 @@ pub fn same_scalar(a: &Scalar, b: &Scalar) -> bool
     scalar_order(a, b).is_eq()
 }
 
-// Where a kind of value stands.
+// The rank of a kind of value in the order.
 fn kind_rank(value: &Value) -> u8
     ensures { result ≡ kind_rank value.now }
 {

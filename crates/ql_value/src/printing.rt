@@ -16,8 +16,8 @@ use crate::scalar::{Scalar, TextVal};
 use crate::value::Value;
 use ql_base::{NoMemory, push_bytes, push_number};
 
-/// Appends the text of a value of the grammar, from which the value is read again. After want of memory the text is
-/// as before.
+/// Appends the text of a value in the grammar of values, from which the value can be read again. If memory runs out,
+/// the text is left as it was.
 pub fn print_value(out: &mut Vec<u8>, value: &Value) -> Result<(), NoMemory>
     ensures ok { OnOk result (out.new.items ≡ out.old.items ++ value_text value.now) }
     ensures value { OnOk result (IsValue value.now) }

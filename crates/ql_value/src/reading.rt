@@ -10,7 +10,7 @@ ghost use Rattle.ql_value.specs.Reading.{
   follows,
   is_byte,
   value_at,
-  value_of,
+  value_of_scalar,
 };
 ghost use Rattle.ql_value.specs.ValueGrammar.{ReadsEach, ReadsValue};
 
@@ -22,7 +22,7 @@ use crate::value::{MapVal, SetVal, Value};
 use ql_base::MAX_ENTRIES;
 use std::alloc::Global;
 
-/// The value whose text stands at the place `from`, and the place behind it; or the first fault. What
+/// The value whose text starts at the offset `from`, and the offset after it; or the first fault. What
 /// is read is in the grammar of values, and each text of the grammar is read.
 pub fn parse_value(alloc: Global, bytes: &[u8], from: usize) -> Result<(Value, usize), ValueFault>
     requires { from ≤ length bytes.now }
@@ -48,7 +48,7 @@ fn read_value(alloc: Global, bytes: &[u8], from: usize) -> Result<(Value, usize)
 }
 
 fn value_of(scalar: Scalar) -> Value
-    ensures { result ≡ value_of scalar }
+    ensures { result ≡ value_of_scalar scalar }
 {
     match scalar {
         Scalar::Int(n) => Value::Int(n),
@@ -57,7 +57,7 @@ fn value_of(scalar: Scalar) -> Value
     }
 }
 
-// A set or a map behind its `{`. The first item tells which it is.
+// A set or a map after its `{`. The first item shows which it is.
 fn collection(
     alloc: Global,
     bytes: &[u8],
@@ -82,7 +82,7 @@ fn collection(
     }
 }
 
-// The elements of a set from its first one on, of which there may be so many.
+// The elements of a set from its first one on, at most `room` of them.
 fn elements(
     alloc: Global,
     bytes: &[u8],
@@ -112,7 +112,7 @@ fn elements(
     Err(ValueFault::Unexpected(at))
 }
 
-// The entries of a map from its first one on, of which there may be so many.
+// The entries of a map from its first one on, at most `room` of them.
 fn entries(
     alloc: Global,
     bytes: &[u8],
@@ -143,7 +143,7 @@ fn entries(
     Err(ValueFault::Unexpected(at))
 }
 
-// The value behind a key and its colon.
+// The value after a key and its colon.
 fn entry_value(alloc: Global, bytes: &[u8], at: usize) -> Result<(Scalar, usize), ValueFault>
     requires { at ≤ length bytes.now }
     ensures { IsRead entry_value_at bytes.now at result }
@@ -175,7 +175,7 @@ fn key_follows(entries: &[(Scalar, Scalar)], key: &Scalar) -> bool
     }
 }
 
-// The place behind the spaces that stand at a place.
+// The offset after the spaces at an offset.
 fn spaces_end(bytes: &[u8], at: usize) -> usize
     requires { at ≤ length bytes.now }
     ensures end { result ≡ at + prefix_len (is_byte 32) (drop at bytes.now) }

@@ -22,7 +22,7 @@ const MOST_POSITIVE: u64 = 9_223_372_036_854_775_807;
 
 const MOST_NEGATIVE: u64 = 9_223_372_036_854_775_808;
 
-// Whether the byte at the place is this one.
+// Whether the byte at an offset is this one.
 pub(crate) fn is_at(bytes: &[u8], at: usize, byte: u8) -> bool
     requires { at ≤ length bytes.now }
     ensures { result ≡ begins (is_byte byte) (drop at bytes.now) }
@@ -71,7 +71,7 @@ pub(crate) fn word<T: Drop>(
     Ok((value, to))
 }
 
-// The place behind a word.
+// The offset after a word.
 fn word_end(bytes: &[u8], at: usize, word: &[u8]) -> Result<usize, ValueFault>
     requires { at ≤ length bytes.now }
     ensures { IsWordRead word.now bytes.now at result }
@@ -98,7 +98,7 @@ fn plain(bytes: &[u8], at: usize) -> Result<(Scalar, usize), ValueFault>
     }
 }
 
-// A number behind its `-`, which stands at the place.
+// A number after its `-`, which is at the offset `at`.
 fn negative(bytes: &[u8], at: usize) -> Result<(Scalar, usize), ValueFault>
     requires { at < length bytes.now }
     ensures { IsRead (λ text. negative_at text (drop 1 text)) bytes.now at result }
@@ -128,7 +128,7 @@ fn negated(n: u64) -> i64
     (-(n as i128)) as i64
 }
 
-// A text behind its first quote, which stands at the place.
+// A text after its first quote, which is at the offset `at`.
 fn quoted(alloc: Global, bytes: &[u8], at: usize) -> Result<(Scalar, usize), ValueFault>
     requires { at < length bytes.now }
     ensures { IsRead (λ text. quoted_at text (drop 1 text)) bytes.now at result }
@@ -145,7 +145,7 @@ fn quoted(alloc: Global, bytes: &[u8], at: usize) -> Result<(Scalar, usize), Val
     Ok((Scalar::Text(TextVal::of(text)), end + 1))
 }
 
-// The place behind the digits that stand at a place.
+// The offset after the digits at an offset.
 fn digits_end(bytes: &[u8], at: usize) -> usize
     requires { at ≤ length bytes.now }
     ensures end { result ≡ at + prefix_len is_digit (drop at bytes.now) }
@@ -158,7 +158,7 @@ fn digits_end(bytes: &[u8], at: usize) -> usize
     end
 }
 
-// The place behind the bytes at a place that may stand inside a text.
+// The offset after the bytes at an offset that a text may contain.
 fn text_end(bytes: &[u8], at: usize) -> usize
     requires { at ≤ length bytes.now }
     ensures end { result ≡ at + prefix_len is_text_byte (drop at bytes.now) }
@@ -167,7 +167,7 @@ fn text_end(bytes: &[u8], at: usize) -> usize
     at + text_bytes(&bytes[at..])
 }
 
-// How many bytes at the start may stand inside a text: mostly all before the first quote.
+// The length of the longest prefix that a text may contain: mostly all before the first quote.
 fn text_bytes(bytes: &[u8]) -> usize
     ensures longest { result ≡ prefix_len is_text_byte bytes.now }
     ensures within { result ≤ length bytes.now }

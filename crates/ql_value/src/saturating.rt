@@ -1,28 +1,28 @@
 ghost use Rattle.std.specs.Prelude.{◌≡◌, ◌+ℤ◌, ◌-ℤ◌, ◌*ℤ◌, neg_ℤ};
 ghost use Rattle.ql_value.specs.Saturating.{saturated};
 
-/// The sum, moved to the nearer end of the range where it leaves it.
+/// The sum, or the nearer end of the range if it overflows.
 pub fn sat_add(a: i64, b: i64) -> i64
     ensures { result ≡ saturated (a +ℤ b) }
 {
     a.saturating_add(b)
 }
 
-/// The difference, moved to the nearer end of the range where it leaves it.
+/// The difference, or the nearer end of the range if it overflows.
 pub fn sat_sub(a: i64, b: i64) -> i64
     ensures { result ≡ saturated (a -ℤ b) }
 {
     a.saturating_sub(b)
 }
 
-/// The product, moved to the nearer end of the range where it leaves it.
+/// The product, or the nearer end of the range if it overflows.
 pub fn sat_mul(a: i64, b: i64) -> i64
     ensures { result ≡ saturated (a *ℤ b) }
 {
     a.saturating_mul(b)
 }
 
-/// The number with the other sign, moved to the upper end of the range where it leaves it.
+/// The number with the opposite sign, or the upper end of the range if it overflows.
 pub fn sat_neg(a: i64) -> i64
     ensures { result ≡ saturated (neg_ℤ a) }
 {

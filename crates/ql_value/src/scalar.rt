@@ -3,7 +3,7 @@ ghost use Rattle.ql_value.specs.Texts.{IsText};
 
 use std::marker::Model;
 
-/// A text: at most 64 bytes, each one that may stand between quotes. Seen as the list of its bytes.
+/// A text: at most 64 bytes, each of which is allowed between quotes. Seen as the list of its bytes.
 #[derive(Drop)]
 pub struct TextVal {
     bytes: Vec<u8>,
@@ -37,7 +37,7 @@ impl TextVal {
         &self.bytes
     }
 
-    /// The text's bytes, given up.
+    /// The text's bytes, by value.
     pub fn into_items(self) -> Vec<u8>
         ensures same { result.items ≡ self }
         ensures text { IsText self }

@@ -10,7 +10,7 @@ use crate::value::SetVal;
 use ql_base::{MAX_ENTRIES, NoMemory};
 use std::alloc::Global;
 
-/// The set with the element; unchanged where it has 256 others.
+/// The set with the element; unchanged if it has 256 others.
 pub fn add(alloc: Global, set: &SetVal, element: &Scalar) -> Result<SetVal, NoMemory>
     ensures { IfOk result (λ answer. answer ≡ added set.now element.now) }
 {
@@ -43,7 +43,7 @@ pub fn union(alloc: Global, first: &SetVal, second: &SetVal) -> Result<SetVal, N
     Ok(SetVal::of(elements))
 }
 
-// Adds the element where it isn't there and there is room.
+// Adds the element if it isn't there yet and there is room.
 fn include(alloc: Global, elements: &mut Vec<Scalar>, element: &Scalar) -> Result<(), NoMemory>
     requires { IsSet elements.old.items }
     ensures gives { OnOk result (elements.new.items ≡ added elements.old.items element.now) }
@@ -60,7 +60,7 @@ fn include(alloc: Global, elements: &mut Vec<Scalar>, element: &Scalar) -> Resul
     }
 }
 
-// The place of the element, or the place where it would stand.
+// The index of the element, or the index where it would be inserted.
 fn place_of(elements: &[Scalar], element: &Scalar) -> Result<usize, usize>
     requires { Ascends scalar_cmp elements.now }
     ensures { IsPlace scalar_cmp element.now elements.now result }
@@ -73,7 +73,7 @@ fn place_of(elements: &[Scalar], element: &Scalar) -> Result<usize, usize>
     }
 }
 
-// How many elements at the front are below the given one.
+// The length of the longest prefix of elements below the given one.
 fn count_below(elements: &[Scalar], element: &Scalar) -> usize
     ensures { result ≡ place scalar_cmp element.now elements.now }
 {

@@ -40,7 +40,7 @@ impl SetVal {
         &self.elements
     }
 
-    /// The elements, given up.
+    /// The elements, by value.
     pub fn into_items(self) -> Vec<Scalar>
         ensures same { result.items ≡ self }
         ensures set { IsSet self }
@@ -86,7 +86,7 @@ impl MapVal {
         &self.entries
     }
 
-    /// The entries, given up.
+    /// The entries, by value.
     pub fn into_items(self) -> Vec<(Scalar, Scalar)>
         ensures same { result.items ≡ self }
         ensures map { IsMap self }
@@ -136,7 +136,7 @@ impl Values {
         &self.items
     }
 
-    /// The values, given up.
+    /// The values, by value.
     pub fn into_items(self) -> Vec<Value>
         ensures { result.items ≡ self }
     {

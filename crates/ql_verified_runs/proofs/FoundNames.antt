@@ -8,9 +8,9 @@ use Rattle.ql_lang.specs.declared.operation.OpDecl.{OpDecl}
 use Rattle.ql_lang.specs.declared.program.Program.{Program}
 use Rattle.ql_lang.specs.declared.program.TxnDecl.{TxnDecl}
 use Rattle.ql_printed_runs.specs.Printable.{FindsNames}
-use Rattle.ql_report.specs.Levels.{op_name, txn_name}
 use Rattle.ql_typing.specs.Lookups.{txn_place}
 use Rattle.ql_typing.specs.Operations.{all_ops, op_place}
+use Rattle.ql_typing.specs.Names.{op_name, txn_name}
 
 pub finds-names : (source : List ℕ) (p : Program) → IsSourceOf source p → FindsNames p
 finds-names source p is = record {

@@ -3,11 +3,11 @@ use Rattle.std.proofs.Common.{◌≡◌, ◌⊎◌, inl, inr, ℕ, true, false, 
 use Rattle.std.proofs.lemmas.Bool.{both_ways}
 use Rattle.ql_commands.specs.Sources.{IsSourceOf}
 use Rattle.ql_exec.specs.declared.effect.Effect.{Effect}
-use Rattle.ql_execution_files.specs.ExecutionFile.{FirstFault, IsExecutionFile}
+use Rattle.ql_execution_files.specs.ExecutionFile.{FirstExecutionFault, IsExecutionFile}
 use Rattle.ql_execution_files.specs.declared.report_fault.ReportFault.{ReportFault}
 use Rattle.ql_judging.specs.Verify.{VerifySays, VerifyTells}
-use Rattle.ql_judging.specs.declared.judged.Judged.{Judged}
-use Rattle.ql_judging.specs.declared.judged.Judged.TheVariants.{Holds, Fails, Bad, TooMuch}
+use Rattle.ql_reply.specs.declared.status.Status.{Status}
+use Rattle.ql_reply.specs.declared.status.Status.TheVariants.{Done, No, Bad, ReadFault, WriteFault, Usage, TooLarge}
 use Rattle.ql_lang.specs.Formulas.{Resolved}
 use Rattle.ql_lang.specs.declared.program.Program.{Program}
 use Rattle.ql_lang.specs.Programs.{Source, source_of}
@@ -24,7 +24,7 @@ use Rattle.ql_typing.specs.Operations.{op_contracts, txn_contracts}
 use Rattle.ql_verify.specs.Verdicts.{IsJudgedAt, IsJudgedOf, IsVerdict}
 use Rattle.ql_verify.specs.declared.breach.Breach.{Breach}
 use Rattle.ql_verify.specs.declared.breach.Breach.TheVariants.{AtOp, AtTxn}
-use Rattle.ql_verified_runs.proofs.SamePrograms.{same_execution, same_op_contracts, same_txn_contracts}
+use Rattle.ql_verified_runs.proofs.SamePrograms.{same-execution, same-op-contracts, same-txn-contracts}
 use Rattle.ql_verified_runs.proofs.Verdicts.{sound-verdict}
 
 -- where all contracts hold there is no breach
@@ -40,46 +40,49 @@ verdict-of p q y same holds = (
   (λ a f judged. holds.0 a f (record {
     effect = judged.effect;
     is = judged.is;
-    contract = ap (λ (fs : List Resolved). slice_get fs judged.effect.op.0) (same_op_contracts p q same) ∙ judged.contract;
+    contract = ap (λ (fs : List Resolved). slice_get fs judged.effect.op.0) (same-op-contracts p q same) ∙ judged.contract;
   })),
   (λ run f judged. holds.1 run f (record {
     name = judged.name;
     begun = judged.begun;
-    contract = ap (λ (fs : List Resolved). slice_get fs judged.name) (same_txn_contracts p q same) ∙ judged.contract;
+    contract = ap (λ (fs : List Resolved). slice_get fs judged.name) (same-txn-contracts p q same) ∙ judged.contract;
   })),
 )
 
 module _ (tree : (bytes : List ℕ) (s t : Source) → IsProgramText bytes s → IsProgramText bytes t → s ≡ t)
     (one : (p : Program) (file : Ahead) (x y : List Effect) → IsExecutionFile p file x → IsExecutionFile p file y → x ≡ y)
-    (apart : (p : Program) (file : Ahead) (x : List Effect) (f : ReportFault) → IsExecutionFile p file x → FirstFault p file f → ⊥)
+    (apart : (p : Program) (file : Ahead) (x : List Effect) (f : ReportFault) → IsExecutionFile p file x → FirstExecutionFault p file f → ⊥)
     (source text : List ℕ) (p : Program) (is : IsSourceOf source p) (y : List Effect) (read : IsExecutionFile p (ahead_from 1 text) y) (holds : IsVerdict p y None) where
   same-as : (q : Program) → IsSourceOf source q → source_of p ≡ source_of q
   same-as q is_q = tree source (source_of p) (source_of q) is.0 is_q.0
 
-  never-fails : (said : List ℕ) → VerifyTells source text Fails said → ⊥
+  never-fails : (said : List ℕ) → VerifyTells source text No said → ⊥
   never-fails said tells =
       let q = tells.0 in
       let same = same-as q tells.1 in
       let x = tells.2 in
-      let here : y ≡ x = one q (ahead_from 1 text) y x (same_execution p q same (ahead_from 1 text) y read) tells.3 in
+      let here : y ≡ x = one q (ahead_from 1 text) y x (same-execution p q same (ahead_from 1 text) y read) tells.3 in
       let says = tells.4 in
       no-breach q x (subst (λ (z : List Effect). IsVerdict q z None) here (verdict-of p q y same holds)) says.1 says.2
 
-  judged-so : (said : List ℕ) (j : Judged) → VerifySays source text j said → (j ≡ Holds) ⊎ (j ≡ TooMuch)
-  judged-so said Holds says = inl refl
-  judged-so said TooMuch says = inr refl
-  judged-so said Fails says = absurd (never-fails said says)
+  judged-so : (said : List ℕ) (j : Status) → VerifySays source text j said → (j ≡ Done) ⊎ (j ≡ TooLarge)
+  judged-so said Done says = inl refl
+  judged-so said TooLarge says = inr refl
+  judged-so said No says = absurd (never-fails said says)
+  judged-so said ReadFault says = absurd says
+  judged-so said WriteFault says = absurd says
+  judged-so said Usage says = absurd says
   judged-so said Bad (inl bad) = absurd (bad.0 (p, is))
   judged-so said Bad (inr bad) =
-      absurd (apart bad.1 (ahead_from 1 text) y bad.3 (same_execution p bad.1 (same-as bad.1 bad.2) (ahead_from 1 text) y read) bad.4)
+      absurd (apart bad.1 (ahead_from 1 text) y bad.3 (same-execution p bad.1 (same-as bad.1 bad.2) (ahead_from 1 text) y read) bad.4)
 
 pub run-judged : ((bytes : List ℕ) (s t : Source) → IsProgramText bytes s → IsProgramText bytes t → s ≡ t)
     → ((p : Program) (file : Ahead) (x y : List Effect) → IsExecutionFile p file x → IsExecutionFile p file y → x ≡ y)
-    → ((p : Program) (file : Ahead) (x : List Effect) (f : ReportFault) → IsExecutionFile p file x → FirstFault p file f → ⊥)
+    → ((p : Program) (file : Ahead) (x : List Effect) (f : ReportFault) → IsExecutionFile p file x → FirstExecutionFault p file f → ⊥)
     → ((p : Program) (objects : List (List ℕ)) (levels : LevelLists) (replies : List Reply) (x : List Effect) → IsPrintable p objects x
     → (y : List Effect) × IsRenumbered x y × IsExecutionFile p (ahead_from 1 (run_text p objects levels replies x)) y)
-    → (source schedule text said : List ℕ) (j : Judged) (tells : TellsRun IsRunText source schedule text) → IsPrintable tells.program tells.schedule.objects tells.prints.last.effects
-    → VerifySays source text j said → (j ≡ Holds) ⊎ (j ≡ TooMuch)
+    → (source schedule text said : List ℕ) (j : Status) (tells : TellsRun IsRunText source schedule text) → IsPrintable tells.program tells.schedule.objects tells.prints.last.effects
+    → VerifySays source text j said → (j ≡ Done) ⊎ (j ≡ TooLarge)
 run-judged tree one apart again source schedule text said j tells printable says =
     let p = tells.program in
     let run = tells.prints in

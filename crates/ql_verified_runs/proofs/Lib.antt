@@ -1,6 +1,6 @@
 mod Truth
 mod Verdicts
-mod SamePrograms
+pub mod SamePrograms
 mod Judgements
 mod FoundNames
 mod Made

@@ -12,7 +12,7 @@ use Rattle.ql_exec.specs.declared.effect.Effect.{Effect}
 use Rattle.ql_exec.specs.declared.effect.Member.{Member}
 use Rattle.ql_exec.specs.declared.effect.Member.TheVariants.{Alone, Inside}
 use Rattle.ql_exec.specs.Effects.{effect_at, in_run}
-use Rattle.ql_exec.specs.Execution.{IsExecution, has_name}
+use Rattle.ql_exec.specs.Execution.{IsExecution, is_declared_as}
 use Rattle.ql_formula.specs.Truth.{Holds, HoldsTxn}
 use Rattle.ql_judging.specs.Members.{IsBegunOf}
 use Rattle.ql_judging.proofs.Begun.{IsUnder, one_name, under}
@@ -28,7 +28,7 @@ use Rattle.ql_verified_runs.proofs.Truth.{holds-too, holds-txn-too}
 under-name : (x : List Effect) → IsExecution x → (run name : ℕ) → IsBegunOf x run name → IsUnderName x run (record { 0 = name })
 under-name x lawful run name begun a e at inside = by a at e.member refl inside
   where
-    by : (a : ℕ) → effect_at x a ≡ Some e → (m : Member) → e.member ≡ m → in_run run m ≡ true → has_name (record { 0 = name }) m ≡ true
+    by : (a : ℕ) → effect_at x a ≡ Some e → (m : Member) → e.member ≡ m → in_run run m ≡ true → is_declared_as (record { 0 = name }) m ≡ true
     by a at Alone is h = refl
     by zero at (Inside r n) is h = absurd (let never : None ≡ Some e = at in cc)
     by (suc k) at (Inside r n) is h =

@@ -3,8 +3,8 @@ ghost use Rattle.ql_exec.specs.declared.effect.Effect.{Effect};
 ghost use Rattle.ql_formula.specs.Truth.{Holds, HoldsTxn};
 ghost use Rattle.ql_headline.specs.Stores.{rules_of};
 ghost use Rattle.ql_judging.specs.Verify.{VerifySays};
-ghost use Rattle.ql_judging.specs.declared.judged.Judged.{Judged};
-ghost use Rattle.ql_judging.specs.declared.judged.Judged.TheVariants.{Holds as Upheld, TooMuch};
+ghost use Rattle.ql_reply.specs.declared.status.Status.{Status};
+ghost use Rattle.ql_reply.specs.declared.status.Status.TheVariants.{Done, TooLarge};
 ghost use Rattle.ql_lang.specs.Formulas.{Resolved};
 ghost use Rattle.ql_machine_laws.specs.Promised.{AllArrived};
 ghost use Rattle.ql_printed_runs.specs.Printable.{IsPrintable};
@@ -35,8 +35,8 @@ pub fn runs_can_be_printed()
 /// Of a source and the text that `run` printed of it, `verify` says that all contracts hold, or that judging them is too
 /// much work.
 pub fn printed_runs_hold()
-    ensures { (source schedule text said : List ℕ) (judged : Judged) → TellsRun IsRunText source schedule text
-        → VerifySays source text judged said → (judged ≡ Upheld) ⊎ (judged ≡ TooMuch) }
+    ensures { (source schedule text said : List ℕ) (status : Status) → TellsRun IsRunText source schedule text
+        → VerifySays source text status said → (status ≡ Done) ⊎ (status ≡ TooLarge) }
 {
     runs_can_be_printed();
     one_program_answer();

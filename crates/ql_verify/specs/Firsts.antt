@@ -1,4 +1,4 @@
--- What the judging of begun transactions leaves: the first of which a contract is false.
+-- What judging begun transactions finds: the first one of which a contract is false.
 use Rattle.std.specs.Prelude.{ℕ, ◌≡◌, ◌<◌, true, nat_lt, List, Option, None, Some, map, slice_get, if◌then◌else◌}
 use Rattle.ql_base.specs.IdLists.{has_id}
 use Rattle.ql_base.specs.declared.ids.RunId.{RunId}
@@ -16,7 +16,7 @@ use Rattle.ql_verify.specs.Verdicts.{IsJudgedOf}
 abbrev pub AllHold : List Effect → Resolved → List ℕ → Type 0
 AllHold x f runs = (run : ℕ) → has_id runs run ≡ true → HoldsTxn x f run
 
--- one of them of which the contract is false first at these places, and it holds of those below
+-- one of them of which the contract is false, first at this choice of effects, and it holds of those below
 pub record IsFirstOf (x : List Effect) (f : Resolved) (runs : List ℕ) (run : ℕ) (places : List ℕ) : Type 0 where
   pub member : has_id runs run ≡ true
   pub is_false : IsFirstFalse x (inside x run) 0 f places
@@ -25,13 +25,13 @@ pub record IsFirstOf (x : List Effect) (f : Resolved) (runs : List ℕ) (run : �
 abbrev pub Found : Type 0
 Found = RunId × List EffId
 
--- the one of the lower number
+-- the one with the lower number
 abbrev pub earlier : Option Found → Option Found → Option Found
 earlier (Some a) (Some b) = if nat_lt b.0.0 a.0.0 then Some b else Some a
 earlier (Some a) None = Some a
 earlier None b = b
 
--- a number that is below what was found, where something was
+-- a number that is below what was found, if something was
 abbrev pub IsAhead : ℕ → Option Found → Type 0
 IsAhead run None = Unit {0}
 IsAhead run (Some first) = run < first.0.0
@@ -46,7 +46,7 @@ abbrev pub AreFalse : Program → List Effect → Option Found → Type 0
 AreFalse p x None = Unit {0}
 AreFalse p x (Some first) = IsFalseOf p x first
 
--- after the first d declared transactions: what was found is false, and ahead of it their contracts hold
+-- after the first d declared transactions: what was found is false, and their contracts hold of all before it
 pub record IsFirstBelow (p : Program) (x : List Effect) (d : ℕ) (first : Option Found) : Type 0 where
   pub found : AreFalse p x first
   pub ahead : (name : ℕ) (f : Resolved) (run : ℕ) → name < d → slice_get (txn_contracts p) name ≡ Some f → has_id (runs_of x name) run ≡ true → IsAhead run first → HoldsTxn x f run

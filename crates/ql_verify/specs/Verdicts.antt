@@ -1,5 +1,5 @@
--- What is said of an execution: the first breach of a contract, over effects ascending and then over begun transactions
--- ascending, or that there is none.
+-- What is reported of an execution: the first breach of a contract, over effects ascending and then over begun
+-- transactions ascending, or that there is none.
 use Rattle.std.specs.Prelude.{ℕ, ◌≡◌, ◌<◌, true, List, All, Option, None, Some, length, map, slice_get}
 use Rattle.ql_base.specs.IdLists.{has_id}
 use Rattle.ql_lang.specs.Formulas.{Resolved}
@@ -39,14 +39,14 @@ OpHolds p x a = (f : Resolved) → IsJudgedAt p x a f → Holds x f a
 abbrev pub TxnHolds : Program → List Effect → ℕ → Type 0
 TxnHolds p x run = (f : Resolved) → IsJudgedOf p x run f → HoldsTxn x f run
 
--- the contract of an effect is false first at these places, and those of all effects before it hold
+-- the contract of an effect is false, first at this choice of effects, and those of all effects before it hold
 pub record IsOpBreach (p : Program) (x : List Effect) (a : ℕ) (places : List ℕ) : Type 0 where
   pub contract : Resolved
   pub judged : IsJudgedAt p x a contract
   pub is_false : IsFirstFalse x none_inside a contract places
   pub before : (b : ℕ) → b < a → OpHolds p x b
 
--- the contract of a begun transaction is false first at these places, and those of all begun before it hold
+-- the contract of a begun transaction is false, first at this choice of effects, and those of all begun before it hold
 pub record IsTxnBreach (p : Program) (x : List Effect) (run : ℕ) (places : List ℕ) : Type 0 where
   pub contract : Resolved
   pub judged : IsJudgedOf p x run contract
@@ -65,7 +65,7 @@ IsVerdict p x None = AllOpsHold p x × AllTxnsHold p x
 IsVerdict p x (Some (AtOp a places)) = IsOpBreach p x a.0 (map (λ id. id.0) places)
 IsVerdict p x (Some (AtTxn run places)) = AllOpsHold p x × IsTxnBreach p x run.0 (map (λ id. id.0) places)
 
--- the work is told where it is above twenty million
+-- the work is reported if it is above twenty million
 abbrev pub IsTooMuch : Program → List Effect → VerifyWhy → Type 0
 IsTooMuch p x (TooMuch work) = (work ≡ work_of p x) × (20000000 < work)
 IsTooMuch p x NoMemory = Unit {0}

@@ -1,4 +1,4 @@
--- The work of judging all contracts of a program in an execution: how many choices of places there are, at most.
+-- The work of judging all contracts of a program in an execution: the greatest possible number of choices of effects.
 use Rattle.std.specs.Prelude.{ℕ, suc, ◌+◌, ◌*◌, ◌^◌, nat_eq, List, [], ◌∷◌, length, count_by, if◌then◌else◌}
 use Rattle.ql_base.specs.IdLists.{with_id}
 use Rattle.ql_lang.specs.Formulas.{Resolved}
@@ -12,7 +12,7 @@ use Rattle.ql_exec.specs.declared.effect.Member.TheVariants.{Alone, Inside}
 abbrev pub effects_of : List Effect → ℕ → ℕ
 effects_of x o = count_by (λ e. nat_eq e.op.0 o) x
 
--- with the begun transaction that an effect is in, where that is of the declared one
+-- with the begun transaction that an effect is in, if that is of the declared one
 abbrev pub with_run : ℕ → List ℕ → Member → List ℕ
 with_run d runs Alone = runs
 with_run d runs (Inside run name) = if nat_eq name.0 d then with_id runs run.0 else runs
@@ -25,7 +25,7 @@ with_runs d runs (e ∷ effects) = with_runs d (with_run d runs e.member) effect
 abbrev pub runs_of : List Effect → ℕ → List ℕ
 runs_of x d = with_runs d [] x
 
--- the choices of places for contracts that are numbered from k on and judged so often each, among n effects
+-- the choices of effects for contracts that are numbered from k on, each judged a number of times, among n effects
 unfoldable pub work_from : ℕ → (ℕ → ℕ) → ℕ → List Resolved → ℕ
 work_from n often k [] = 0
 work_from n often k (f ∷ contracts) = often k * n ^ length f.vars + work_from n often (suc k) contracts

@@ -1,19 +1,19 @@
 use ql_base::{EffId, NoMemory, RunId};
 use ql_formula::Places;
 
-/// Where a contract is false, and the places of its variables.
+/// Where a contract is false, and the effects chosen for its variables.
 #[derive(Drop)]
 pub enum Breach {
-    /// That of an effect's operation, at the effect.
+    /// The contract of an effect's operation, at the effect.
     AtOp(EffId, Places),
-    /// That of a begun transaction.
+    /// The contract of a begun transaction.
     AtTxn(RunId, Places),
 }
 
 /// Why an execution wasn't judged.
 #[derive(Clone, Copy, Debug, PartialEq, Eq)]
 pub enum VerifyWhy {
-    /// The work, which is above its limit.
+    /// The work, as a number of choices of effects, is above its limit.
     TooMuch(u128),
     NoMemory,
 }

@@ -34,7 +34,7 @@ pub(crate) fn first_effect(
     None
 }
 
-/// The first begun transaction of which its contract is false.
+/// The first begun transaction of which the contract is false.
 pub(crate) fn first_run(
     alloc: Global,
     t: &Typed,
@@ -77,7 +77,7 @@ fn first_among(
     None
 }
 
-// The one of the lower number, where there are two.
+// The one with the lower number, if there are two.
 fn earlier(
     first: Option<(RunId, Places)>,
     found: Option<(RunId, Places)>,

@@ -1,5 +1,5 @@
 // Judging whole executions: each operation's contract at each of its effects, and each transaction's of each begun one.
-// The one contract: the first breach is told, or that there is none, where the work isn't above its limit.
+// The one contract: the first breach is reported, or that there is none, if the work isn't above its limit.
 #![tactic(auto)]
 
 mod breach;

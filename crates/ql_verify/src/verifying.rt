@@ -11,9 +11,10 @@ use ql_formula::Relations;
 use ql_typing::Typed;
 use std::alloc::Global;
 
-/// The first breach of a contract, over effects ascending and then over begun transactions ascending. An execution is
-/// judged where its work isn't above the limit: the sum over operations of their effects, and over transactions of
-/// the begun ones with an effect, each times the count of effects to the power of the contract's variables.
+/// The first breach of a contract, over effects ascending and then over begun transactions ascending; `None` if there
+/// is none. An execution is judged if its work isn't above the limit. The work is the sum, over operations, of the
+/// number of their effects and, over transactions, of the number of their begun ones with an effect, each times the
+/// number of effects to the power of the number of the contract's variables.
 pub fn verify(alloc: Global, t: &Typed, execution: &Execution) -> Result<Option<Breach>, VerifyWhy>
     requires few { length execution.now ≤ 4000 }
     requires ops { AreOfProgram t.now.program execution.now }

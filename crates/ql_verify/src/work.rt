@@ -53,7 +53,7 @@ fn count(effects: &[Effect], o: u32) -> usize
     effects.iter().filter(|effect| effect.op.0 == o).count()
 }
 
-// The choices of places for so many variables among so many effects, taken so often.
+// The choices of effects for `vars` variables among `effects` effects, `often` times.
 fn choices(often: usize, effects: usize, vars: usize) -> u128
     requires some { often ≤ 4000 }
     requires few { effects ≤ 4000 }

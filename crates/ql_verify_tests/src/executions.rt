@@ -1,8 +1,9 @@
-use crate::texts::{declared, push_places, spelled};
+use crate::texts::{push_places, spelled};
 use ql_base::{NoMemory, push_bytes, push_number};
 use ql_execution_files::parse_execution;
 use ql_formula::Places;
 use ql_tables::check_table;
+use ql_test_programs::declared;
 use ql_verify::{Breach, VerifyWhy, verify};
 use std::alloc::Global;
 use std::test::Fail;
@@ -15,7 +16,7 @@ op n(): unit { contract true; answer unit; } }
 transaction p { uses n; contract forall a, b, c. txn{a}{b, c} /\ sameobj(b, c) /\ vis(b, a) => vis(c, a); }
 transaction q { uses n; contract forall a, b, c, d. txn{a, b}{c, d} /\ vis(c, a) /\ sameobj(d, b) => vis(d, b); }";
 
-// Executions and what is said of them, from an independent implementation.
+// Executions and the answers of an independent implementation.
 const JUDGED: &str = "
 execution␊end -> holds
 execution␊effect 1 x w () = unit emit - session 1 txn - stamp 1 vis␊effect 2 x w () = unit emit - session 1 txn - stamp 2 vis 1␊end -> holds
@@ -45,7 +46,7 @@ fn the_first_breach_is_reported(rt: HostRuntime) -> Result<(), Fail> {
 const PAIRS: &str =
     r"type t { op touch(): unit { contract forall a, b. vis(a, b) /\ vis(b, cur) => vis(a, cur); answer unit; } }";
 
-// How many effects there are, and what is said of them.
+// The number of effects, and the answer.
 const WORK: &str = "
 272 -> too much 20123648
 ";
@@ -86,7 +87,7 @@ fn too_much(alloc: Global, work: u128) -> Result<Vec<u8>, NoMemory> {
     Ok(out)
 }
 
-// An execution of so many effects in seven sessions, of which none sees another.
+// An execution of this many effects in seven sessions, none of which sees another.
 fn unseen(alloc: Global, count: u32) -> Result<Vec<u8>, NoMemory> {
     let mut file = spelled(alloc, "execution\n")?;
     for index in 0..count {

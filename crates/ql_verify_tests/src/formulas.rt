@@ -1,6 +1,6 @@
 ghost use Rattle.std.specs.Prelude.{◌≤◌, IfSome, length};
 
-use crate::texts::{declared, push_places, spelled};
+use crate::texts::{push_places, spelled};
 use ql_base::{EffId, Names, NoMemory, RunId};
 use ql_exec::Execution;
 use ql_execution_files::parse_execution;
@@ -8,6 +8,7 @@ use ql_formula::{Places, Relations, holds_at, holds_txn};
 use ql_lang::{Formula, Rel, RelName};
 use ql_parse::parse_contract;
 use ql_tables::{check_table, field, number};
+use ql_test_programs::declared;
 use ql_typing::resolve;
 use std::alloc::Global;
 use std::test::Fail;
@@ -15,7 +16,7 @@ use std::test::Fail;
 const SOURCE: &str = "type t { op w(): unit { contract true; answer unit; } }
 transaction p { uses w; contract true; }";
 
-// 1 and 2 in session 1, of which 3 sees one; 4 is on another object of session 2.
+// Effects 1 and 2 in session 1, of which effect 3 sees one; effect 4 is on another object, in session 2.
 const SESSIONS: &str = "execution
 effect 1 x w () = unit emit - session 1 txn - stamp 1 vis
 effect 2 x w () = unit emit - session 1 txn - stamp 2 vis
@@ -62,7 +63,7 @@ fn relation(word: &str) -> RelName {
     }
 }
 
-// A contract and a current effect, and the first choice at which the contract fails there.
+// A contract and a current effect, and the first choice for which the contract fails there.
 const AT_EFFECTS: &str = "
 forall a. hbo(a, cur) => vis(a, cur) at 3 -> fails 1
 forall a. soo(a, cur) => vis(a, cur) at 3 -> holds
@@ -93,14 +94,14 @@ fn judged_at(alloc: Global, row: &str) -> Result<Vec<u8>, NoMemory> {
     )
 }
 
-// A transaction of two effects, of which the first is seen by one outside it.
+// A transaction of two effects, the first of which is seen by an effect outside it.
 const TRANSACTION: &str = "execution
 effect 1 x w () = unit emit - session 1 txn 7:p stamp 1 vis
 effect 2 x w () = unit emit - session 1 txn 7:p stamp 2 vis
 effect 3 x w () = unit emit - session 2 txn - stamp 2 vis 1
 end";
 
-// A contract and a transaction, and the first choice at which the contract fails of it. One without effects holds.
+// A contract and a transaction, and the first choice for which the contract fails. For one without effects it holds.
 const AT_TRANSACTIONS: &str = "
 forall a, b. txn{a}{b} => a = b at 8 -> holds
 forall a, b. txn{a}{b} => a = b at 7 -> fails 1 3

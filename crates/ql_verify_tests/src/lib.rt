@@ -1,5 +1,5 @@
-// Tests of formulas over small executions, and of judging on texts of sources, with answers from outside.
-// It has no contract of its own, and nothing stands on this crate.
+// Tests of formulas over small executions, and of `verify` on texts of sources, with answers from outside.
+// It has no contract of its own, and no crate depends on it.
 #![tactic(auto)]
 
 #[cfg(test)]

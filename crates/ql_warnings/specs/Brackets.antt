@@ -1,4 +1,4 @@
--- Statements that stand beside each other without brackets: `a => b /\ c => d`.
+-- Statements next to each other without brackets: `a => b /\ c => d`.
 use Rattle.std.specs.Prelude.{ℕ, zero, suc, ◌-◌, ◌≡◌, ◌≤◌, Bool, ◌||◌, List, [], ◌∷◌, Option, None, Some, Ok, codes, drop, slice_get, take, if◌then◌else◌}
 use Rattle.std.specs.Option.{option_map_or}
 use Rattle.std.specs.Str.{bytes_eq}
@@ -11,7 +11,7 @@ use Rattle.ql_warnings.specs.declared.unbracketed.Sign.TheVariants.{Opens, Close
 abbrev pub word_of : List ℕ → Token → List ℕ
 word_of source t = take (t.to - t.from) (drop t.from source)
 
--- brackets of each kind, and what joins two statements
+-- brackets of each sort, and what joins two statements
 abbrev pub opens : List ℕ → Bool
 opens w = bytes_eq w (codes "(") || (bytes_eq w (codes "[") || bytes_eq w (codes "{"))
 
@@ -26,7 +26,7 @@ abbrev pub sign_of : List ℕ → Sign
 sign_of w =
     if opens w then Opens else (if closes w then Closes else (if bytes_eq w (codes "=>") then Arrow else (if joins w then Joins else (if bytes_eq w (codes ";") then Ends else Plain))))
 
--- how many brackets are open after a token, where the search for the next `=>` outside them goes on
+-- the depth of brackets after a token, where the search for the next `=>` outside them goes on
 abbrev pub deeper : Sign → ℕ → Option ℕ
 deeper Opens depth = Some (suc depth)
 deeper Closes zero = None
@@ -42,19 +42,20 @@ abbrev pub met : Sign → ℕ → ℕ → Option ℕ → Option ℕ
 met Joins zero from None = Some from
 met sign depth from found = found
 
--- what was met where the search ends: only an `=>` is an end that counts
+-- what was met, if the search ends at an `=>`
 abbrev pub told : Sign → Option ℕ → Option ℕ
 told Arrow found = found
 told sign found = None
 
--- the offset of the first `/\` or `\/` before the next `=>`, both outside brackets, where that comes before the end of what is
--- in the brackets around and of the contract
+-- the offset of the first `/\` or `\/` before the next `=>`, both outside brackets, if that comes before the end of the
+-- enclosing brackets and of the contract
 abbrev pub joined : List ℕ → ℕ → Option ℕ → List Token → Option ℕ
 joined source depth found [] = None
 joined source depth found (t ∷ ts) =
     option_map_or (λ d. joined source d (met (sign_of (word_of source t)) depth t.from found) ts) (deeper (sign_of (word_of source t)) depth) (told (sign_of (word_of source t)) found)
 
--- the token of a number is an `=>`, from an offset of the source on, and this is the offset of what joins it to the next one
+-- the token at an index is an `=>` at or after an offset of the source, and this is the offset of the `/\` or `\/`
+-- between it and the next `=>`
 pub record IsJoinedTo (source : List ℕ) (start : ℕ) (tokens : List Token) (k at : ℕ) : Type 0 where
   pub arrow : Token
   pub there : slice_get tokens k ≡ Some arrow
@@ -62,6 +63,6 @@ pub record IsJoinedTo (source : List ℕ) (start : ℕ) (tokens : List Token) (k
   pub behind : start ≤ arrow.from
   pub joins : joined source 0 None (drop (suc k) tokens) ≡ Some at
 
--- it stands there between two `=>`, the first of them from an offset of the source on
+-- the `/\` or `\/` there is between two `=>`, the first of them at or after an offset of the source
 abbrev pub IsUnbracketed : List ℕ → ℕ → ℕ → Type 0
 IsUnbracketed source start at = (tokens : List Token) × Lexes 0 source (Ok tokens) × (k : ℕ) × IsJoinedTo source start tokens k at

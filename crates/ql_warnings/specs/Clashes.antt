@@ -25,7 +25,7 @@ same_kind (Some k) kind = nat_eq k kind
 abbrev pub is_of : List ℕ → ℕ → ℕ → Bool
 is_of kinds o kind = same_kind (slice_get kinds o) kind
 
--- one of the operations that a variable stands for is
+-- the variable may stand for an effect of an operation of the type
 abbrev pub choice_may : List ℕ → Option OpChoice → ℕ → Bool
 choice_may kinds None kind = true
 choice_may kinds (Some Any) kind = true

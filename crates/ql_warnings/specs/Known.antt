@@ -1,4 +1,4 @@
--- Relations by name that are known of effects, one by one.
+-- Named relations that are known of effects, one by one.
 use Rattle.std.specs.Prelude.{ℕ, ◌≡◌, true, List}
 use Rattle.std.specs.List.{All}
 use Rattle.ql_lang.specs.Formulas.{Statement}
@@ -8,11 +8,11 @@ use Rattle.ql_formula.specs.Truth.{named, place_of}
 use Rattle.ql_warnings.specs.Premises.{IsPart, said}
 use Rattle.ql_warnings.specs.declared.known.Known.{Known}
 
--- it holds of the effects at these places
+-- it holds of the effects that the variables stand for
 abbrev pub IsKnown : List Effect → List ℕ → ℕ → Known → Type 0
 IsKnown x places cur k = named x k.name (place_of places cur k.first) (place_of places cur k.second) ≡ true
 
--- wherever the one holds, the other does
+-- wherever the first holds, the second does
 abbrev pub Gives : Known → Known → Type 0
 Gives k wanted = (x : List Effect) → IsExecution x → (places : List ℕ) (cur : ℕ) → IsKnown x places cur k → IsKnown x places cur wanted
 
@@ -20,6 +20,6 @@ Gives k wanted = (x : List Effect) → IsExecution x → (places : List ℕ) (cu
 abbrev pub IsPartOf : Statement → Known → Type 0
 IsPartOf s k = IsPart s (said k)
 
--- what was appended are parts of the statement, and so of each that has all of its parts
+-- the appended relations are parts of the statement, and so of any statement that has all of its parts
 abbrev pub PartsKept : Statement → List Known → List Known → Type 0
 PartsKept s old new = (whole : Statement) → ((part : Statement) → IsPart s part → IsPart whole part) → All (IsPartOf whole) old → All (IsPartOf whole) new

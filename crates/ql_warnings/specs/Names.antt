@@ -3,7 +3,7 @@ use Rattle.std.specs.Prelude.{Bool, true, false}
 use Rattle.ql_lang.specs.declared.relation.RelName.{RelName}
 use Rattle.ql_lang.specs.declared.relation.RelName.TheVariants.{Vis, So, Soo, SameObj, Eq, Hb, Hbo}
 
--- where the first holds the second does
+-- wherever the first holds, the second does
 abbrev pub is_within : RelName → RelName → Bool
 is_within Vis Vis = true
 is_within Vis SameObj = true
@@ -75,7 +75,7 @@ is_on_object Eq = false
 is_on_object Hb = false
 is_on_object Hbo = true
 
--- it holds both ways or neither
+-- it holds in both directions or in neither
 abbrev pub is_symmetric : RelName → Bool
 is_symmetric Vis = false
 is_symmetric So = false

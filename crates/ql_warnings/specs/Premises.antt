@@ -1,4 +1,4 @@
--- What is always true of a contract's statements, and of what stands before their `=>`.
+-- What is always true of a contract's statements and of their premises.
 use Rattle.std.specs.Prelude.{ℕ, ◌≡◌, ◌≢◌, ◌⊎◌, Bool, true, false, List, Some, slice_get}
 use Rattle.ql_lang.specs.Formulas.{Statement, Always, Related, BothOf, IfThen, Resolved}
 use Rattle.ql_lang.specs.Trees.{Basic}
@@ -19,12 +19,12 @@ abbrev pub IsContract : Program → Goal → Resolved → Type 0
 IsContract p (OpAt o level) f = slice_get (op_contracts p.types) o.0 ≡ Some f
 IsContract p (TxnAt d level) f = slice_get (txn_contracts p) d.0 ≡ Some f
 
--- an operation's contract speaks of an effect of it, a transaction's of none
+-- an operation's contract is about an effect of it, a transaction's about none
 abbrev pub IsCurrent : Goal → List Effect → ℕ → Type 0
 IsCurrent (OpAt o level) x cur = (e : Effect) × (effect_at x cur ≡ Some e) × (e.op ≡ o)
 IsCurrent (TxnAt d level) x cur = Unit {0}
 
--- any execution of the program, and effects for the variables of a target's contract; nothing is asked of levels
+-- any execution of the program, and effects for the variables of a target's contract; levels are ignored
 pub record IsScene (p : Program) (g : Goal) (vars : List OpChoice) (x : List Effect) (places : List ℕ) (cur : ℕ) : Type 0 where
   pub lawful : IsExecution x
   pub fits : FitsProgram (op_kinds p.types) x
@@ -36,28 +36,28 @@ abbrev pub IsAlways : Program → Goal → List OpChoice → Statement → Bool 
 IsAlways p g vars s value =
     (x : List Effect) (inside : ℕ → Bool) (places : List ℕ) (cur : ℕ) → IsScene p g vars x places cur → statement_true x inside places cur s ≡ value
 
--- ---- what stands before `=>`
+-- ---- premises
 
--- what stands before an `=>` of a contract, that isn't itself before one
+-- a statement on the left of an `=>` of a contract that isn't itself within such a premise
 abbrev pub IsPremise : Statement → Statement → Type 0
 IsPremise (IfThen p q) s = (p ≡ s) ⊎ IsPremise q s
 IsPremise (BothOf p q) s = IsPremise p s ⊎ IsPremise q s
 IsPremise _ s = ⊥
 
--- one of the parts that `/\` joins
+-- one of the parts joined by `/\`
 abbrev pub IsPart : Statement → Statement → Type 0
 IsPart (BothOf p q) s = IsPart p s ⊎ IsPart q s
 IsPart p s = p ≡ s
 
--- a relation that is named at an offset of the source
+-- a relation as a statement, named at its offset in the source
 abbrev pub said : Known → Statement
 said k = Related (Basic k.name k.at) k.first k.second
 
--- each part but this one is true
+-- each part except this one is true
 abbrev pub OthersTrue : List Effect → (ℕ → Bool) → List ℕ → ℕ → Statement → Statement → Type 0
 OthersTrue x inside places cur premise part = (s : Statement) → IsPart premise s → s ≢ part → statement_true x inside places cur s ≡ true
 
--- ---- what warnings say
+-- ---- what warnings mean
 
 -- the contract isn't `true`, and is always true
 pub record AsksNothing (p : Program) (g : Goal) : Type 0 where
@@ -66,14 +66,14 @@ pub record AsksNothing (p : Program) (g : Goal) : Type 0 where
   pub other : contract.body ≢ Always
   pub always : IsAlways p g contract.vars contract.body true
 
--- what stands before an `=>`, the relation at this offset among it, is never true
+-- the premise, with the relation at this offset as a part, is never true
 pub record IsNever (p : Program) (g : Goal) (vars : List OpChoice) (premise : Statement) (at : ℕ) : Type 0 where
   pub part : Known
   pub place : part.at ≡ at
   pub among : IsPart premise (said part)
   pub never : IsAlways p g vars premise false
 
--- the relation at this offset is true wherever all else is that stands before the `=>`
+-- the relation at this offset is true wherever all other parts of the premise are
 pub record IsUnneeded (p : Program) (g : Goal) (vars : List OpChoice) (premise : Statement) (at : ℕ) : Type 0 where
   pub part : Known
   pub place : part.at ≡ at

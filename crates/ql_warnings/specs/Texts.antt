@@ -11,7 +11,7 @@ use Rattle.ql_warnings.specs.declared.warning.Warning.TheVariants as warning
 abbrev pub name_in : Program → ℕ → List ℕ
 name_in p o = option_map_or (λ op. op.name.word) (slice_get (all_ops p.types) o) []
 
--- What stands at LINE:COLUMN, and what is said of it
+-- what is at LINE:COLUMN, and a sentence on it
 abbrev pub placed : Place → List ℕ → List ℕ
 placed place said = codes "What stands at " ++ decimal place.line ++ codes ":" ++ decimal place.column ++ codes " " ++ said
 

@@ -1,4 +1,4 @@
--- What each warning says.
+-- What each warning means.
 use Rattle.std.specs.Prelude.{ℕ, ◌≡◌, ◌≢◌, ◌<◌, ◌⊎◌, List, [], Some, length, slice_get}
 use Rattle.std.specs.Option.{option_map}
 use Rattle.std.specs.List.{All, Contains}
@@ -36,7 +36,7 @@ Declares p (OpAt o level) vars at =
 Declares p (TxnAt n level) vars at =
     (option_map (λ d. d.contract.vars) (slice_get p.txns n.0) ≡ Some vars) × (option_map (λ d. d.name.at) (slice_get p.txns n.0) ≡ Some at)
 
--- the name of a target, an operation or a transaction, stands at this offset
+-- the name of a target, an operation or a transaction, is at this offset
 abbrev pub IsOpName : Program → ℕ → Type 0
 IsOpName p at = (o : ℕ) × (option_map (λ d. d.name.at) (slice_get (all_ops p.types) o) ≡ Some at)
 
@@ -46,7 +46,7 @@ IsTxnName p at = (d : ℕ) × (option_map (λ d. d.name.at) (slice_get p.txns d)
 abbrev pub IsTargetName : Program → ℕ → Type 0
 IsTargetName p at = IsOpName p at ⊎ IsTxnName p at
 
--- an offset lies before the name of each target that is declared after the one whose name stands at `start`
+-- an offset is before the name of each target declared after the one whose name is at `start`
 abbrev pub IsBeforeNext : Program → ℕ → ℕ → Type 0
 IsBeforeNext p start at = (next : ℕ) → IsTargetName p next → start < next → at < next
 
@@ -57,20 +57,21 @@ pub record IsNamedAs (p : Program) (vars : List Var) (v : ℕ) (op : OpId) : Typ
   pub free : var.ops ≡ []
   pub named : op_place p.types var.name.word ≡ Some op.0
 
--- ---- what stands before `=>`
+-- ---- premises
 
 abbrev pub IsOfPremise : List ℕ → Program → Goal → List OpChoice → Statement → Warning → Type 0
 IsOfPremise source p g vars premise (warning.NeverApplies place) = IsPlaceOf source place × IsNever p g vars premise place.at
 IsOfPremise source p g vars premise (warning.Unneeded place) = IsPlaceOf source place × IsUnneeded p g vars premise place.at
 IsOfPremise source p g vars premise _ = ⊥
 
--- of one of those in a contract's body
+-- the warning is true of one of the premises in a contract's body
 abbrev pub IsOfPremises : List ℕ → Program → Goal → List OpChoice → Statement → Warning → Type 0
 IsOfPremises source p g vars body w = (premise : Statement) × IsPremise body premise × IsOfPremise source p g vars premise w
 
 -- ---- a target's contract
 
--- What a warning says of a target's contract. Statements without brackets stand between its target's name and the next one's.
+-- What a warning means for a target's contract. Statements without brackets are between its target's name and the next
+-- one.
 abbrev pub IsWarning : List ℕ → Program → Goal → Warning → Type 0
 IsWarning source p g (warning.NamedAsOperation v op) = (vars : List Var) × (at : ℕ) × Declares p g vars at × IsNamedAs p vars v op
 IsWarning source p g (warning.Unbracketed place) = (vars : List Var) × (at : ℕ) × Declares p g vars at × IsPlaceOf source place × IsUnbracketed source at place.at × IsBeforeNext p at place.at
@@ -79,13 +80,14 @@ IsWarning source p g (warning.NeverApplies place) = (f : Resolved) × IsContract
 IsWarning source p g (warning.Unneeded place) = (f : Resolved) × IsContract p g f × IsOfPremises source p g f.vars f.body (warning.Unneeded place)
 IsWarning source p g (warning.RuledOut op at) = ⊥
 
--- it is decided by names, or by the source's tokens
+-- the warning is decided by names, or by the source's tokens
 abbrev pub IsDecided : Warning → Type 0
 IsDecided (warning.NamedAsOperation v op) = Unit {0}
 IsDecided (warning.Unbracketed place) = Unit {0}
 IsDecided _ = ⊥
 
--- Warnings of a target's contract: each is so, and each that is so is among them where names or tokens decide it.
+-- Warnings of a target's contract: each is true, and where names or tokens decide a warning, it is there whenever it is
+-- true.
 pub record AreWarnings (source : List ℕ) (p : Program) (g : Goal) (ws : List Warning) : Type 0 where
   pub sound : All (IsWarning source p g) ws
   pub complete : (w : Warning) → IsDecided w → IsWarning source p g w → Contains ws w
@@ -106,8 +108,8 @@ abbrev pub IsOther : Goal → OpId → Type 0
 IsOther (OpAt o level) op = o.0 ≢ op.0
 IsOther (TxnAt d level) op = Unit {0}
 
--- In the execution the contract of an operation is false at an effect of it. So the effect doesn't have what the operation's
--- least level guarantees.
+-- In the execution the contract of an operation is false at one of its effects. So the effect doesn't have what the
+-- operation's least level guarantees.
 pub record BreaksOther (p : Program) (x : List Effect) (op : OpId) (at : EffId) : Type 0 where
   pub effect : Effect
   pub there : effect_at x at.0 ≡ Some effect
@@ -119,7 +121,7 @@ pub record BreaksOther (p : Program) (x : List Effect) (op : OpId) (at : EffId) 
   pub least : IsOpLevel p op.0 level
   pub lacks : Holds x (formula_of level) at.0 → ⊥
 
--- what a warning says of a countermodel
+-- what a warning means for a countermodel
 abbrev pub IsRuledOut : Program → Goal → Counter → Warning → Type 0
 IsRuledOut p g c (warning.RuledOut op at) = IsOther g op × BreaksOther p c.execution op at
 IsRuledOut p g c _ = ⊥

@@ -13,7 +13,7 @@ use ql_base::NoMemory;
 use ql_lang::{Body, Rel};
 use std::alloc::Global;
 
-/// Whether a statement follows from what is known: where it says so, it does.
+/// Whether a statement follows from what is known. False may also mean that it wasn't found out.
 pub(crate) fn is_given(
     alloc: Global,
     scene: Scene,
@@ -50,7 +50,7 @@ pub(crate) fn is_given(
     }
 }
 
-/// What is known where a statement is true too.
+/// What is known once a statement is assumed too.
 pub(crate) fn with_parts(
     alloc: Global,
     known: &[Known],
@@ -63,7 +63,7 @@ pub(crate) fn with_parts(
     Ok(more)
 }
 
-// Whether one of the relations gives another.
+// Whether one of the relations implies another.
 fn is_known(known: &[Known], wanted: Known) -> bool
     ensures { result ≡ true → (x : List Effect) → IsExecution x → (places : List ℕ) (cur : ℕ) → All (IsKnown x places cur) known.now → IsKnown x places cur wanted }
 {

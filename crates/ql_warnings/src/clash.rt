@@ -20,7 +20,7 @@ pub(crate) struct Scene<'a> {
     pub(crate) vars: &'a [OpChoice],
 }
 
-/// The first of some relations that can't hold with all the others, in any execution.
+/// The first of some relations that can't hold together with all the others in any execution.
 pub(crate) fn first_clash(scene: Scene, known: &[Known]) -> Option<Known>
     ensures member { IfSome result (λ k. (i : ℕ) × (slice_get known.now i ≡ Some k)) }
     ensures clash { IfSome result (λ k. CantHold scene.entry.program.now.program scene.entry.goal scene.entry.vars.now known.now) }
@@ -37,7 +37,7 @@ pub(crate) fn first_clash(scene: Scene, known: &[Known]) -> Option<Known>
     None
 }
 
-/// Whether one can't hold with all the others.
+/// Whether a relation can't hold together with all the others.
 pub(crate) fn has_clash(scene: Scene, known: &[Known]) -> bool
     ensures { result ≡ true → CantHold scene.entry.program.now.program scene.entry.goal scene.entry.vars.now known.now }
 {
@@ -54,14 +54,14 @@ pub(crate) fn known_at(known: &[Known], k: usize) -> Known
     known[k]
 }
 
-// Whether a relation is of effects on one object, which no type is possible for.
+// Whether a relation puts effects on one object, though no type is possible for that object.
 fn is_of_two_types(scene: Scene, known: Known) -> bool
     ensures { result ≡ true → (is_on_object known.name ≡ true) × AreApart (op_kinds scene.entry.program.now.program.types) scene.entry.goal scene.entry.vars.now known.first known.second }
 {
     is_on_object(known.name) && are_apart(scene, known.first, known.second)
 }
 
-// Whether it says that an effect is earlier than another, and one of these says the opposite.
+// Whether a relation puts one effect before another, and one of these puts the second before the first.
 fn has_turned(known: &[Known], relation: Known) -> bool
     ensures { result ≡ true → (is_order relation.name ≡ true) × (i : ℕ) × (other : Known) × (slice_get known.now i ≡ Some other)
         × (is_order other.name ≡ true) × (other.first ≡ relation.second) × (other.second ≡ relation.first) }
@@ -91,7 +91,7 @@ fn are_apart(scene: Scene, first: Term, second: Term) -> bool
     true
 }
 
-// Whether a term may stand for an effect on an object of a type.
+// Whether a term may denote an effect on an object of a type.
 fn may_be(scene: Scene, term: Term, kind: TypeId) -> bool
     ensures { result ≡ may_be (op_kinds scene.entry.program.now.program.types) scene.entry.goal scene.entry.vars.now term kind.0 }
 {
@@ -117,7 +117,7 @@ fn one_may(t: &Typed, ops: &[u32], kind: TypeId) -> bool
     ops.iter().any(|o| is_of(t, *o, kind))
 }
 
-// Whether there is an operation of the number, of the type.
+// Whether there is an operation with this number, of this type.
 #[tactic(auto, using(crate::proofs::Scenes::past_kinds))]
 fn is_of(t: &Typed, o: u32, kind: TypeId) -> bool
     ensures { result ≡ is_of (op_kinds t.now.program.types) o kind.0 }

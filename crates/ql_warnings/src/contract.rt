@@ -1,4 +1,4 @@
-// What there is to warn of in a target's contract.
+// Warnings of a target's contract.
 ghost use Rattle.std.specs.Prelude.{◌≡◌, ◌≢◌, ◌<◌, ◌++◌, ◌^◌, ℕ, IfOk, List, OnOk, false, length, true};
 ghost use Rattle.std.specs.List.{All};
 ghost use Rattle.ql_lang.specs.Formulas.{Always, resolved_of, statement_of};
@@ -19,7 +19,7 @@ use ql_lang::{Body, Formula, Var};
 use ql_typing::Typed;
 use std::alloc::Global;
 
-/// What there is to warn of in a target's contract, in order of the variants of `Warning`: all but `RuledOut`.
+/// The warnings of a target's contract, in order of the variants of `Warning`: all but `RuledOut`.
 pub fn warnings(alloc: Global, source: &[u8], t: &Typed, g: Goal) -> Result<Vec<Warning>, NoMemory>
     requires bytes { length source.now < 2 ^ 32 }
     requires goal { IsGoalOf t.now.program g }
@@ -42,7 +42,7 @@ fn push_all(found: &mut Vec<Warning>, more: &[Warning]) -> Result<(), NoMemory>
     Ok(())
 }
 
-// The variables of a target's contract, and where its name stands.
+// The variables of a target's contract, and the offset of its name.
 fn declared(t: &Typed, g: Goal) -> (&[Var], u32)
     requires { IsGoalOf t.now.program g }
     ensures { Declares t.now.program g result.0.now result.1 }
@@ -59,7 +59,7 @@ fn declared(t: &Typed, g: Goal) -> (&[Var], u32)
     }
 }
 
-// That a contract asks for nothing, and what there is to warn of in its premises.
+// The warning that a contract asks for nothing, and those of its premises.
 fn of_contract(alloc: Global, source: &[u8], t: &Typed, g: Goal) -> Result<Vec<Warning>, NoMemory>
     requires bytes { length source.now < 2 ^ 32 }
     requires goal { IsGoalOf t.now.program g }
@@ -86,7 +86,7 @@ fn of_premises(alloc: Global, source: &[u8], t: &Typed, g: Goal) -> Result<Vec<W
     Ok(found)
 }
 
-// That a contract asks for nothing, where it does.
+// The warning that a contract asks for nothing, if it does.
 fn nothing(alloc: Global, t: &Typed, g: Goal) -> Result<Vec<Warning>, NoMemory>
     requires { IsGoalOf t.now.program g }
     ensures { IfOk result (λ found. (source : List ℕ) → All (IsWarning source t.now.program g) found.items) }
@@ -98,7 +98,7 @@ fn nothing(alloc: Global, t: &Typed, g: Goal) -> Result<Vec<Warning>, NoMemory>
     Ok(found)
 }
 
-// Whether a contract isn't `true` and is always true: where it says so.
+// Whether a contract isn't `true` and yet always true. False may also mean that this wasn't found out.
 fn asks_nothing(alloc: Global, t: &Typed, g: Goal) -> Result<bool, NoMemory>
     requires { IsGoalOf t.now.program g }
     ensures { IfOk result (λ nothing. nothing ≡ true → AsksNothing t.now.program g) }
@@ -128,7 +128,8 @@ fn is_true(body: &Body) -> bool
     }
 }
 
-fn formula_of(t: &Typed, g: Goal) -> &Formula
+/// The formula of a goal's contract.
+pub fn formula_of(t: &Typed, g: Goal) -> &Formula
     requires { IsGoalOf t.now.program g }
     ensures { IsContract t.now.program g (resolved_of result.now) }
 {

@@ -1,4 +1,4 @@
-// What a statement says of two effects by a named relation.
+// What a statement says of two effects with a named relation.
 ghost use Rattle.std.specs.Prelude.{◌≡◌, OnOk, true, ℕ, List};
 ghost use Rattle.std.specs.List.{All};
 ghost use Rattle.ql_exec.specs.declared.effect.Effect.{Effect};
@@ -19,7 +19,7 @@ pub(crate) struct Known {
     pub(crate) second: Term,
 }
 
-/// Appends the parts of a statement that are relations by name. Other parts are left out.
+/// Appends the parts of a statement that are named relations. Other parts are left out.
 pub(crate) fn push_known(known: &mut Vec<Known>, body: &Body) -> Result<(), NoMemory>
     ensures { OnOk result (PartsKept (statement_of body.now) known.old.items known.new.items) }
 {
@@ -57,14 +57,14 @@ pub(crate) fn gives(known: Known, wanted: Known) -> bool
     is_turned(known, wanted)
 }
 
-/// Whether two relations are of the same effects in the same order.
+/// Whether two relations have the same effects in the same order.
 fn is_same_way(known: Known, wanted: Known) -> bool
     ensures { result ≡ true → (known.first ≡ wanted.first) × (known.second ≡ wanted.second) }
 {
     known.first == wanted.first && known.second == wanted.second
 }
 
-/// Whether they are of the same effects in the other order.
+/// Whether two relations have the same effects in opposite order.
 pub(crate) fn is_turned(known: Known, wanted: Known) -> bool
     ensures { result ≡ true → (known.first ≡ wanted.second) × (known.second ≡ wanted.first) }
 {
@@ -86,7 +86,7 @@ fn is_within(name: RelName, wanted: RelName) -> bool
     }
 }
 
-/// Whether the first effect is earlier than the second.
+/// Whether a relation implies that its first effect is earlier than its second.
 pub(crate) fn is_order(name: RelName) -> bool
     ensures { result ≡ is_order name }
 {
@@ -96,7 +96,7 @@ pub(crate) fn is_order(name: RelName) -> bool
     }
 }
 
-/// Whether both effects are on one object.
+/// Whether a relation implies that both effects are on one object.
 pub(crate) fn is_on_object(name: RelName) -> bool
     ensures { result ≡ is_on_object name }
 {

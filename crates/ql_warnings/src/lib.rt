@@ -1,6 +1,6 @@
-// What may be wrong with a contract, or with the execution that is shown of it: warnings, for `explain`.
-// The one contract: what each warning says is so, in every execution of the program where it speaks of executions; and each
-// that is so is there, where names or tokens decide it.
+// What may be wrong with a contract, or with the execution that is shown for it: warnings, for `explain`. The one
+// contract: each warning is true, in every execution of the program where it is about executions; and where names or
+// tokens decide a warning, it is there whenever it is true.
 #![tactic(auto)]
 
 mod always;
@@ -16,7 +16,7 @@ mod unbracketed;
 mod warning;
 mod words;
 
-pub use contract::warnings;
+pub use contract::{formula_of, warnings};
 pub use others::counter_warnings;
 pub use warning::{Place, Warning};
 pub use words::{warning_text, warning_word};

@@ -12,7 +12,7 @@ use ql_lang::Var;
 use ql_typing::Typed;
 use std::alloc::Global;
 
-/// A warning of each variable that stands for any effect and has an operation's name.
+/// A warning for each variable that stands for any effect and has an operation's name.
 pub(crate) fn named(alloc: Global, t: &Typed, vars: &[Var]) -> Result<Vec<Warning>, NoMemory>
     ensures { IfOk result (λ found. AreNameWarnings t.now.program vars.now (length vars.now) found.items) }
 {
@@ -37,7 +37,7 @@ fn push_named(found: &mut Vec<Warning>, t: &Typed, vars: &[Var], k: usize) -> Re
     }
 }
 
-// The operation whose name a variable has that stands for any effect.
+// The operation whose name a variable has, if the variable stands for any effect.
 fn named_as(t: &Typed, vars: &[Var], k: usize) -> Option<OpId>
     requires { k < length vars.now }
     ensures { MatchOption result ((op : OpId) → IsNamedAs t.now.program vars.now k op → ⊥) (IsNamedAs t.now.program vars.now k) }

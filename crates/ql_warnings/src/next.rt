@@ -7,7 +7,7 @@ use ql_base::{DeclId, OpId};
 use ql_lang::Name;
 use ql_typing::Typed;
 
-/// Where the first name of a target stands after an offset, or the source's end.
+/// The offset of the first target name after an offset, or the source's length.
 pub(crate) fn next_name(t: &Typed, source: &[u8], at: u32) -> u32
     requires { length source.now < 2 ^ 32 }
     ensures { IsNext (IsTargetName t.now.program) at (length source.now) result }
@@ -16,7 +16,7 @@ pub(crate) fn next_name(t: &Typed, source: &[u8], at: u32) -> u32
     next_txn(t, at, next)
 }
 
-// Where the first name of an operation stands after an offset and before an end, or the end.
+// The offset of the first operation name after an offset and before an end, or the end.
 fn next_op(t: &Typed, at: u32, end: u32) -> u32
     ensures { IsNext (IsOpName t.now.program) at end result }
 {
@@ -27,7 +27,7 @@ fn next_op(t: &Typed, at: u32, end: u32) -> u32
     next
 }
 
-// The same of transactions.
+// The offset of the first transaction name after an offset and before an end, or the end.
 fn next_txn(t: &Typed, at: u32, end: u32) -> u32
     ensures { IsNext (IsTxnName t.now.program) at end result }
 {

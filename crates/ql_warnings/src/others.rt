@@ -22,7 +22,7 @@ use ql_lang::Formula;
 use ql_typing::Typed;
 use std::alloc::Global;
 
-/// What there is to warn of in a countermodel.
+/// The warnings of a countermodel.
 pub fn counter_warnings(
     alloc: Global,
     t: &Typed,
@@ -41,8 +41,8 @@ pub fn counter_warnings(
     Ok(warned)
 }
 
-// The first effect of another operation at which a countermodel breaks that operation's contract, where the operation has a
-// level. So the execution can't be where each operation has its level.
+// The first effect of another operation at which a countermodel breaks that operation's contract, if the operation has
+// a level. Then the execution can't happen where each operation has its level.
 fn ruled_out(
     alloc: Global,
     t: &Typed,
@@ -74,7 +74,7 @@ fn is_other(g: Goal, op: OpId) -> bool
     }
 }
 
-// Whether an effect of an operation breaks the operation's contract, where that has a level.
+// Whether an effect breaks the contract of its operation, which has a level.
 fn breaks(
     t: &Typed,
     findings: &[Finding],

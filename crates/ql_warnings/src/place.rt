@@ -4,7 +4,7 @@ ghost use Rattle.ql_warnings.specs.Places.{IsPlaceOf, ends_line, in_line};
 
 use crate::warning::Place;
 
-/// The line and the column of an offset, where the source is longer.
+/// The line and the column of an offset; none past the end of the source.
 pub(crate) fn place_in(source: &[u8], at: u32) -> Option<Place>
     requires { length source.now < 2 ^ 32 }
     ensures { MatchOption result (length source.now ≤ at) (λ place. IsPlaceOf source.now place × (place.at ≡ at)) }
@@ -37,7 +37,7 @@ fn ends_of_lines(text: &[u8]) -> usize
     text.iter().filter(|b| **b == b'\n').count()
 }
 
-// How many bytes stand after the last line's end.
+// The length in bytes of the last line.
 fn last_line(text: &[u8]) -> usize
     ensures count { result ≡ prefix_len in_line (reverse text.now) }
     ensures few { result ≤ length text.now }

@@ -1,4 +1,4 @@
-// What stands before `=>`.
+// Premises: what is on the left of `=>`.
 ghost use Rattle.std.specs.Prelude.{◌≡◌, ◌≢◌, ◌<◌, ◌^◌, ◌++◌, ℕ, IfOk, List, OnOk, Some, length, slice_get, true};
 ghost use Rattle.std.specs.List.{All};
 ghost use Rattle.ql_lang.specs.Formulas.{Statement, statement_of};
@@ -20,7 +20,7 @@ use ql_base::NoMemory;
 use ql_lang::Body;
 use std::alloc::Global;
 
-/// What there is to warn of in what stands before each `=>` of a contract.
+/// The warnings of each premise of a contract.
 pub(crate) fn premises(
     alloc: Global,
     source: &[u8],
@@ -66,7 +66,7 @@ fn push_all(out: &mut Vec<Warning>, found: &[Warning]) -> Result<(), NoMemory>
     Ok(())
 }
 
-// What there is to warn of in what stands before one `=>`.
+// The warnings of one premise.
 fn of_premise(
     alloc: Global,
     source: &[u8],
@@ -94,7 +94,7 @@ fn of_clash(alloc: Global, source: &[u8], at: u32) -> Result<Vec<Warning>, NoMem
     Ok(found)
 }
 
-// The relations that others give.
+// The relations that others imply.
 fn of_parts(alloc: Global, source: &[u8], known: &[Known]) -> Result<Vec<Warning>, NoMemory>
     requires { length source.now < 2 ^ 32 }
     ensures { IfOk result (λ found. (p : Program) (g : Goal) (vars : List OpChoice) (premise : Statement) → All (IsPartOf premise) known.now → All (IsOfPremise source.now p g vars premise) found.items) }
@@ -134,7 +134,7 @@ fn push_place(found: &mut Vec<Warning>, source: &[u8], part: Known) -> Result<()
     Ok(())
 }
 
-// Whether another relation gives this one. Of two that give each other it is the later one.
+// Whether another relation implies this one. Of two that imply each other, it is the later one.
 fn is_unneeded(known: &[Known], part: Known) -> bool
     ensures { result ≡ true → (k : ℕ) × (other : Known) × (slice_get known.now k ≡ Some other) × (other.at ≢ part.at) × Gives other part }
 {

@@ -1,4 +1,4 @@
-// `=>` and `/\` or `\/` beside each other without brackets.
+// `=>` next to `/\` or `\/` without brackets.
 ghost use Rattle.std.specs.Prelude.{◌≡◌, ◌+◌, ◌<◌, ◌≤◌, ◌⊎◌, ◌^◌, ℕ, IfOk, IfSome, MatchBool, MatchOption, Ok, OnOk, Some, codes, drop, length, slice_get};
 ghost use Rattle.ql_lex.specs.Tokens.{AreSpans, Lexes};
 ghost use Rattle.ql_lex.specs.declared.token.Token.{Token};
@@ -74,14 +74,14 @@ fn ends(word: &[u8]) -> bool
     word == b";".as_slice()
 }
 
-/// What lies from one offset of a source on and before another.
+/// The part of a source from one offset up to another, which is excluded.
 #[derive(Clone, Copy)]
 pub(crate) struct Extent {
     pub(crate) start: u32,
     pub(crate) end: u32,
 }
 
-/// A warning of each `/\` or `\/` of an extent that stands between two `=>` of it without brackets.
+/// A warning for each `/\` or `\/` of an extent that is between two `=>` without brackets.
 pub(crate) fn unbracketed(
     alloc: Global,
     source: &[u8],
@@ -103,7 +103,7 @@ pub(crate) fn unbracketed(
     Ok(found)
 }
 
-// Appends the warning of what joins a token to the next `=>`, if there is one.
+// Appends the warning of the `/\` or `\/` between a token and the next `=>`, if there is one.
 fn push_joined(
     found: &mut Vec<Warning>,
     source: &[u8],
@@ -133,7 +133,7 @@ fn token_at(tokens: &[Token], k: usize) -> Token
     tokens[k]
 }
 
-// The place of what joins a token to the next `=>`, both in an extent.
+// The position of the `/\` or `\/` between a token and the next `=>`, all in an extent.
 fn joined_at(source: &[u8], tokens: &[Token], k: usize, extent: Extent) -> Option<Place>
     requires few { length source.now < 2 ^ 32 }
     requires spans { AreSpans 0 (length source.now) tokens.now }
@@ -148,7 +148,7 @@ fn joined_at(source: &[u8], tokens: &[Token], k: usize, extent: Extent) -> Optio
     }
 }
 
-// The offset of what joins a token to the next `=>`, where it is an `=>` itself and from `start` on.
+// The offset of the `/\` or `\/` between a token and the next `=>`, if the token is an `=>` at or after `start`.
 fn joined_from(source: &[u8], tokens: &[Token], k: usize, start: u32) -> Option<u32>
     requires spans { AreSpans 0 (length source.now) tokens.now }
     requires there { k < length tokens.now }
@@ -174,7 +174,7 @@ fn place_before(source: &[u8], at: u32, end: u32) -> Option<Place>
     place_in(source, at)
 }
 
-// The first `/\` or `\/` before the next `=>` from a token on, outside brackets, of which so many are open.
+// The first `/\` or `\/` before the next `=>`, both outside brackets, from a token at this depth of brackets on.
 fn joined(
     source: &[u8],
     tokens: &[Token],
@@ -222,7 +222,7 @@ fn word_of(source: &[u8], token: Token) -> &[u8]
     &source[token.from as usize..token.to as usize]
 }
 
-// How many brackets are open after a token, where the search goes on.
+// The depth of brackets after a token; none where the search ends.
 fn deeper(sign: Sign, depth: usize) -> Option<usize>
     requires { depth < 18446744073709551615 }
     ensures exact { result ≡ deeper sign depth }
@@ -237,7 +237,7 @@ fn deeper(sign: Sign, depth: usize) -> Option<usize>
     }
 }
 
-// The first of what joins, after a token.
+// The offset of the first `/\` or `\/` so far, after a token.
 fn met(sign: Sign, depth: usize, from: u32, found: Option<u32>) -> Option<u32>
     ensures { result ≡ met sign depth from found }
 {
@@ -247,7 +247,7 @@ fn met(sign: Sign, depth: usize, from: u32, found: Option<u32>) -> Option<u32>
     }
 }
 
-// What was met, where the search ends at an `=>`.
+// What was found, if the search ends at an `=>`.
 fn told(sign: Sign, found: Option<u32>) -> Option<u32>
     ensures { result ≡ told sign found }
 {

@@ -1,6 +1,6 @@
 use ql_base::{EffId, OpId};
 
-/// A place of a source: its offset from 0, and the line and the column from 1, counted in bytes.
+/// A position in a source: its offset in bytes from 0, and its line and column from 1, the column in bytes.
 #[derive(Clone, Copy, PartialEq, Eq)]
 pub struct Place {
     pub at: u32,
@@ -8,19 +8,19 @@ pub struct Place {
     pub column: u32,
 }
 
-/// What may be wrong with a target's contract, or with the execution that is shown of it.
+/// What may be wrong with a target's contract, or with the execution that is shown for it.
 #[derive(Clone, Copy, PartialEq, Eq)]
 pub enum Warning {
-    /// The variable of this number from 0 stands for any effect, though its name is this operation's.
+    /// The variable with this index stands for any effect, though its name is this operation's.
     NamedAsOperation { variable: usize, op: OpId },
-    /// `/\` or `\/` stands here between two `=>` without brackets.
+    /// The `/\` or `\/` here is between two `=>` without brackets.
     Unbracketed(Place),
     /// The contract isn't `true`, and yet it holds in every execution, whatever the level.
     AsksNothing,
-    /// What stands before an `=>` holds in no execution: the relation here can't hold with the others there.
+    /// The premise holds in no execution: the relation here can't hold together with the others of it.
     NeverApplies(Place),
-    /// The relation here, one of those before an `=>`, holds wherever the others there do.
+    /// The relation here, a part of a premise, holds wherever the other parts do.
     Unneeded(Place),
-    /// The countermodel that is shown breaks the contract of another operation, which has a level, at this effect of it.
+    /// The countermodel that is shown breaks the contract of another operation, which has a level, at this effect.
     RuledOut { op: OpId, at: EffId },
 }

@@ -21,7 +21,7 @@ pub fn warning_word(warning: Warning) -> &'static str
     }
 }
 
-/// The sentence of a warning, without a line's end.
+/// The sentence of a warning, without a line feed.
 pub fn warning_text(alloc: Global, t: &Typed, warning: Warning) -> Result<Vec<u8>, NoMemory>
     ensures { IfOk result (λ text. text.items ≡ warning_text t.now.program warning) }
 {
@@ -56,7 +56,7 @@ fn name_in(t: &Typed, op: OpId) -> &[u8]
     }
 }
 
-// What is said of a place, after its line and column.
+// The sentence of a position, after its line and column.
 fn placed(alloc: Global, place: Place, said: &[u8]) -> Result<Vec<u8>, NoMemory>
     ensures { IfOk result (λ text. text.items ≡ placed place said.now) }
 {

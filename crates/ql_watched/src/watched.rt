@@ -19,12 +19,13 @@ use std::alloc::Global;
 #[derive(Drop)]
 pub struct Watched<H: Holder> {
     pub store: Store<H>,
-    /// The effects in the order in which they came; those that came with one event ascend.
+    /// The effects in the order in which they arrived; those of one event ascend.
     pub arrivals: Vec<u32>,
 }
 
-/// A new store at these levels goes through the events of a schedule, and a replica is watched. One that joins is watched from
-/// its join on, and all that it has then comes with that event. Copies what the replica has received after each event.
+/// Runs the events of a schedule through a new store at these levels, and watches a replica. One that joins is watched
+/// from its join on, and all that it has then counts as arriving with that event. Copies what the replica has received
+/// after each event.
 pub fn watched_run<H: Holder>(
     alloc: Global,
     typed: &Typed,

@@ -5,8 +5,8 @@ use Rattle.ql_classify.specs.Outcome.{FirstFails, all_tests}
 use Rattle.ql_classify.specs.Targets.{goals_at, goals_below}
 use Rattle.ql_classify.specs.declared.classless.Classless.{Classless}
 use Rattle.ql_classify.specs.declared.classless.Classless.TheVariants.{NoLevel, StrongInTxn, NoMemory}
-use Rattle.ql_commands.specs.declared.answer.Answer.{Answer}
-use Rattle.ql_commands.specs.declared.answer.Answer.TheVariants.{Done, No, Bad}
+use Rattle.ql_reply.specs.declared.status.Status.{Status}
+use Rattle.ql_reply.specs.declared.status.Status.TheVariants.{Done, No, Bad}
 use Rattle.ql_classify.specs.Least.{AreLevelsOf, highest}
 use Rattle.ql_commands.specs.Levels.{refusal_text}
 use Rattle.ql_commands.specs.Sources.{BadSourceSays, IsSourceOf}
@@ -21,9 +21,9 @@ use Rattle.ql_lang.specs.declared.contract.Var.{Var}
 use Rattle.ql_lang.specs.declared.program.Program.{Program}
 use Rattle.ql_levels.specs.Lists.{LevelLists}
 use Rattle.ql_levels.specs.Words.{txn_word_of, word_of}
-use Rattle.ql_report.specs.Levels.{op_name, txn_name}
 use Rattle.ql_report.specs.Refusals.{op_vars, txn_vars}
 use Rattle.ql_run_text.specs.EffectTexts.{execution_text}
+use Rattle.ql_typing.specs.Names.{op_name, txn_name}
 
 -- ---- the text of a countermodel
 
@@ -58,15 +58,15 @@ IsCounterText p g text = (c : Counter) × IsCounterOf p g c × (text ≡ counter
 -- ---- the text of a program
 
 -- op F LEVEL, and txn F LEVEL
-abbrev pub op_line : Program → ℕ → List ℕ → List ℕ
-op_line p o level = codes "op " ++ op_name p o ++ codes " " ++ level ++ codes "\n"
+abbrev pub why_op_line : Program → ℕ → List ℕ → List ℕ
+why_op_line p o level = codes "op " ++ op_name p o ++ codes " " ++ level ++ codes "\n"
 
-abbrev pub txn_line : Program → ℕ → List ℕ → List ℕ
-txn_line p d level = codes "txn " ++ txn_name p d ++ codes " " ++ level ++ codes "\n"
+abbrev pub why_txn_line : Program → ℕ → List ℕ → List ℕ
+why_txn_line p d level = codes "txn " ++ txn_name p d ++ codes " " ++ level ++ codes "\n"
 
 abbrev pub target_line : Program → Goal → List ℕ
-target_line p (OpAt o level) = op_line p o.0 (word_of level)
-target_line p (TxnAt d level) = txn_line p d.0 (txn_word_of level)
+target_line p (OpAt o level) = why_op_line p o.0 (word_of level)
+target_line p (TxnAt d level) = why_txn_line p d.0 (txn_word_of level)
 
 -- a text of each, one after another
 abbrev pub InTurn : {X : Type 0} → (X → List ℕ → Type 0) → List X → List ℕ → Type 0
@@ -88,10 +88,11 @@ abbrev pub TellsRefusal : Program → List ℕ → Type 0
 TellsRefusal p text =
     (e : Classless) × FirstFails p (all_tests p) e × (counter : List ℕ) × IsTopText p e counter × (text ≡ refusal_text p e ++ counter)
 
-abbrev pub WhySays : List ℕ → Answer → List ℕ → Type 0
+abbrev pub WhySays : List ℕ → Status → List ℕ → Type 0
 WhySays bytes Done text = (p : Program) × IsSourceOf bytes p × (levels : LevelLists) × AreLevelsOf p levels × InTurn (TellsTarget p) (goals_at levels) text
 WhySays bytes No text = (p : Program) × IsSourceOf bytes p × TellsRefusal p text
 WhySays bytes Bad text = BadSourceSays bytes text
+WhySays bytes _ text = ⊥
 
 -- ---- parts of it
 

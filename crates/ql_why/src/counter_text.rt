@@ -66,7 +66,8 @@ fn push_heading(out: &mut Vec<u8>, t: &Typed, g: Goal, c: &Counter) -> Result<()
     push_bytes(out, b"\n")
 }
 
-fn level_text(g: Goal) -> &'static str
+/// The word for a goal's level.
+pub fn level_text(g: Goal) -> &'static str
     ensures { result.now ≡ level_text g }
 {
     match g {
@@ -90,8 +91,8 @@ fn push_at(out: &mut Vec<u8>, at: At) -> Result<(), NoMemory>
     }
 }
 
-// The variables of a goal's contract.
-fn vars_of(t: &Typed, g: Goal) -> &[Var]
+/// The variables of a goal's contract.
+pub fn vars_of(t: &Typed, g: Goal) -> &[Var]
     requires { IsGoalOf t.now.program g }
     ensures { result.now ≡ vars_of t.now.program g }
 {

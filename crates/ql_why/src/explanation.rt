@@ -4,21 +4,22 @@ ghost use Rattle.ql_why.specs.Why.{WhySays};
 use crate::refusal::refusal_with_reason;
 use crate::targets::levels_with_reasons;
 use ql_base::NoMemory;
-use ql_commands::{Answer, bad_source, read_source};
+use ql_commands::{bad_source, read_source};
+use ql_reply::Status;
 use std::alloc::Global;
 
 /// The least levels of a source's operations and transactions, or what fails first. After each target's line stands a
 /// countermodel for each lower level; where no level is enough for a target, one for the highest ends the text.
-pub fn classify_with_reasons(alloc: Global, source: &[u8]) -> Result<(Answer, Vec<u8>), NoMemory>
+pub fn classify_with_reasons(alloc: Global, source: &[u8]) -> Result<(Status, Vec<u8>), NoMemory>
     requires { length source.now < 2 ^ 32 }
     ensures { IfOk result (λ answer. WhySays source.now answer.0 answer.1.items) }
 {
     let typed = match read_source(alloc, source) {
         Ok(typed) => typed,
-        Err(fault) => return Ok((Answer::Bad, bad_source(alloc, fault)?)),
+        Err(fault) => return Ok((Status::Bad, bad_source(alloc, fault)?)),
     };
     match ql_classify::classify(alloc, &typed) {
-        Ok(classified) => Ok((Answer::Done, levels_with_reasons(alloc, &classified)?)),
-        Err(why) => Ok((Answer::No, refusal_with_reason(alloc, &typed, why)?)),
+        Ok(classified) => Ok((Status::Done, levels_with_reasons(alloc, &classified)?)),
+        Err(why) => Ok((Status::No, refusal_with_reason(alloc, &typed, why)?)),
     }
 }

@@ -29,7 +29,7 @@ pub(crate) fn goal_of(t: &Typed, levels: &Levels, target: u32) -> Goal
     }
 }
 
-/// A goal at a level below its own. The step is the level's place, 0 for the lowest.
+/// A goal at a level below its own. The step is the level's index, 0 for the lowest.
 pub(crate) fn lower_goal(g: Goal, step: u32) -> Goal
     ensures below { (lower : Goal) → slice_get (goals_below g) step ≡ Some lower → result ≡ lower }
     ensures known { (p : Program) → IsGoalOf p g → IsGoalOf p result }
@@ -40,7 +40,7 @@ pub(crate) fn lower_goal(g: Goal, step: u32) -> Goal
     }
 }
 
-// The level at a place, and that of transactions.
+// The level of an index, and that of transactions.
 fn level_at(step: u32) -> Level
     ensures { result ≡ step_level step }
 {

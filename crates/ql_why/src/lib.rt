@@ -10,6 +10,7 @@ mod objects;
 mod refusal;
 mod targets;
 
-pub use counter_text::push_counter;
+pub use counter_text::{level_text, push_counter, vars_of};
 pub use explanation::classify_with_reasons;
+pub use objects::object_names;
 pub use targets::push_target_line;

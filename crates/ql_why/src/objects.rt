@@ -5,7 +5,7 @@ use ql_base::{Names, NoMemory};
 use std::alloc::Global;
 
 /// The names of a countermodel's objects.
-pub(crate) fn object_names(alloc: Global) -> Result<Names, NoMemory>
+pub fn object_names(alloc: Global) -> Result<Names, NoMemory>
     ensures { IfOk result (λ names. names ≡ object_names) }
 {
     let mut names = Names::new(alloc);

@@ -4,7 +4,7 @@ ghost use Rattle.ql_classify.specs.Targets.{goals_at, goals_below, targets};
 ghost use Rattle.ql_classify.specs.Least.{AreLevelsOf};
 ghost use Rattle.ql_ground.specs.OfPrograms.{IsGoalOf};
 ghost use Rattle.ql_typing.specs.Operations.{all_ops};
-ghost use Rattle.ql_why.specs.Why.{Appended, InTurn, IsStepText, TellsTarget, op_line, target_line, txn_line};
+ghost use Rattle.ql_why.specs.Why.{Appended, InTurn, IsStepText, TellsTarget, why_op_line, target_line, why_txn_line};
 
 use crate::counter_text::push_countermodel;
 use crate::goals::{goal_of, lower_goal};
@@ -75,7 +75,7 @@ fn push_line(out: &mut Vec<u8>, t: &Typed, g: Goal) -> Result<(), NoMemory>
 
 fn push_op(out: &mut Vec<u8>, t: &Typed, o: OpId, level: &str) -> Result<(), NoMemory>
     requires { o.0 < length (all_ops t.now.program.types) }
-    ensures { OnOk result (out.new.items ≡ out.old.items ++ op_line t.now.program o.0 level.now) }
+    ensures { OnOk result (out.new.items ≡ out.old.items ++ why_op_line t.now.program o.0 level.now) }
 {
     push_bytes(out, b"op ")?;
     push_bytes(out, t.op(o).name.word.bytes())?;
@@ -86,7 +86,7 @@ fn push_op(out: &mut Vec<u8>, t: &Typed, o: OpId, level: &str) -> Result<(), NoM
 
 fn push_txn(out: &mut Vec<u8>, t: &Typed, d: DeclId, level: &str) -> Result<(), NoMemory>
     requires { d.0 < length t.now.program.txns }
-    ensures { OnOk result (out.new.items ≡ out.old.items ++ txn_line t.now.program d.0 level.now) }
+    ensures { OnOk result (out.new.items ≡ out.old.items ++ why_txn_line t.now.program d.0 level.now) }
 {
     push_bytes(out, b"txn ")?;
     push_bytes(out, t.txn(d).name.word.bytes())?;

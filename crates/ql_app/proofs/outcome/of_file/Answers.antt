@@ -5,7 +5,7 @@ use Rattle.ql_app.proofs.outcome.of_file.Goals as goal
 pub returns-in-Ok-clause-says : goal.returns-in-Ok-clause-says
 returns-in-Ok-clause-says g c =
     one_answer c.args.limits (g.S.Shelf.held c.args.shelf.now) (g.S.Shelf.faults c.args.shelf.now) (g.S.Shelf.faults c.read_whole.new.shelf)
-    c.args.command c.args.name.now c.in-Ok.bytes.items c.judged.result c.in-Ok.ensures.whole (omega (arith, c.in-Ok.bytes.ok.0, c.in-Ok.ensures.in_limit)) (rw c.as_slice.ensures.value at c.judged.ensures)
+    c.args.command c.args.name.now c.in-Ok.bytes.items c.answer_command.result c.in-Ok.ensures.whole (omega (arith, c.in-Ok.bytes.ok.0, c.in-Ok.ensures.in_limit)) (rw c.as_slice.ensures.value at c.answer_command.ensures)
 
 pub returns-in-Err-clause-says : goal.returns-in-Err-clause-says
 returns-in-Err-clause-says g c =

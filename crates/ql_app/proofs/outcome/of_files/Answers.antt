@@ -9,6 +9,6 @@ returns-clause-says g c =
     let same : IfSome (g.S.Shelf.held c.args.shelf.now c.args.other.now) (λ whole. more ≡ whole) =
     subst (λ (held : Option (List ℕ)). IfSome held (λ whole. more ≡ whole)) (c.in-Ok.ensures.same_contents c.args.other.now) c.in-Ok-read_whole.ensures.whole in
     two_answers c.args.limits (g.S.Shelf.held c.args.shelf.now) (g.S.Shelf.faults c.args.shelf.now) (g.S.Shelf.faults c.read_whole-2.new.shelf)
-    c.args.command c.args.name.now c.args.other.now c.in-Ok.bytes.items more c.judged_pair.result
+    c.args.command c.args.name.now c.args.other.now c.in-Ok.bytes.items more c.answer_pair.result
     c.in-Ok.ensures.whole (omega (arith, c.in-Ok.bytes.ok.0, c.in-Ok.ensures.in_limit)) same (omega (arith, c.in-Ok-read_whole.more.ok.0, c.in-Ok-read_whole.ensures.in_limit))
-    (rw (c.as_slice.ensures.value, c.as_slice-2.ensures.value) at c.judged_pair.ensures)
+    (rw (c.as_slice.ensures.value, c.as_slice-2.ensures.value) at c.answer_pair.ensures)

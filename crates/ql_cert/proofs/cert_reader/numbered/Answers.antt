@@ -1,7 +1,7 @@
 use Rattle.std.proofs.Common.{suc, ◌<◌, ◌^◌, ◌∷◌, Err, length, arith, decimal, ap, subst}
-use Rattle.ql_lines.specs.Fields.{fields_of}
-use Rattle.ql_cert.specs.Spelling.{Fields, IsLine, body_fields}
-use Rattle.ql_cert.specs.declared.cert_reader.Reading.TheVariants.{Within}
+use Rattle.ql_lines.specs.Fields.{fields_of, Fields}
+use Rattle.ql_cert.specs.Spelling.{IsLine, body_fields}
+use Rattle.ql_cert.specs.declared.cert_reader.CertReading.TheVariants.{Within}
 use Rattle.ql_cert.specs.declared.fault.CertRule.TheVariants.{Number}
 use Rattle.ql_cert.specs.CertFile.{Takes}
 use Rattle.ql_cert.specs.Faults.{Gives}

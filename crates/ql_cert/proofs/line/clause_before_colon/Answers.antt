@@ -2,8 +2,8 @@ use Rattle.std.proofs.Common.{◌++◌, List, None, ap, sym, subst, ◌∙◌}
 use Rattle.std.proofs.lemmas.Bool.{false≢true}
 use Rattle.ql_cnf.specs.declared.lit.Lit.{Lit}
 use Rattle.ql_cert.specs.Readings.{IsNext, IsRead}
-use Rattle.ql_lines.specs.Fields.{fields_of}
-use Rattle.ql_cert.specs.Spelling.{Fields, clause_fields, lit_field}
+use Rattle.ql_lines.specs.Fields.{fields_of, Fields}
+use Rattle.ql_cert.specs.Spelling.{clause_fields, lit_field}
 use Rattle.ql_cert.proofs.LineLaws.{no_clause, no_colon_left}
 use Rattle.ql_cert.proofs.line.clause_before_colon.Goals as goal
 

@@ -1,6 +1,6 @@
 use Rattle.std.proofs.Common.{◌++◌, map, ap, ◌∙◌}
-use Rattle.ql_lines.specs.Fields.{fields_of}
-use Rattle.ql_cert.specs.Spelling.{Fields, hint_field}
+use Rattle.ql_lines.specs.Fields.{fields_of, Fields}
+use Rattle.ql_cert.specs.Spelling.{hint_field}
 use Rattle.ql_cert.proofs.LineLaws.{no_hints}
 use Rattle.ql_cert.proofs.line.hints.Goals as goal
 

@@ -1,8 +1,8 @@
 use Rattle.std.proofs.Common.{◌++◌, List, None, ap, subst, ◌∙◌}
-use Rattle.ql_lines.specs.Fields.{fields_of}
+use Rattle.ql_lines.specs.Fields.{fields_of, Fields}
 use Rattle.ql_cnf.specs.declared.lit.Lit.{Lit}
 use Rattle.ql_cert.specs.Readings.{IsNext, IsRead}
-use Rattle.ql_cert.specs.Spelling.{Fields, clause_fields, lit_field}
+use Rattle.ql_cert.specs.Spelling.{clause_fields, lit_field}
 use Rattle.ql_cert.proofs.ProofRefusals.{no_literals}
 use Rattle.ql_cert.proofs.line.literals.Goals as goal
 

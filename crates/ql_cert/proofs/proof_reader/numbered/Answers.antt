@@ -1,6 +1,6 @@
 use Rattle.std.proofs.Common.{suc, ◌<◌, ◌^◌, ◌∷◌, Err, length, arith, decimal, ap, subst}
-use Rattle.ql_lines.specs.Fields.{fields_of}
-use Rattle.ql_cert.specs.Spelling.{Fields, IsLine, body_fields}
+use Rattle.ql_lines.specs.Fields.{fields_of, Fields}
+use Rattle.ql_cert.specs.Spelling.{IsLine, body_fields}
 use Rattle.ql_cert.specs.declared.fault.CertRule.TheVariants.{Number}
 use Rattle.ql_cert.specs.declared.proof_reader.ProofReading.TheVariants.{Within}
 use Rattle.ql_cert.specs.Faults.{Gives}

@@ -9,6 +9,6 @@ returns-in-Err-parse_cert c =
 
 pub returns : goal.returns
 returns c =
-    IfOk-weaker c.judge.result _ _
+    IfOk-weaker c.check_sections.result _ _
     (λ answer said. check_says c.args.source.now c.args.certificate.now c.in-Ok.typed.program c.in-Ok-parse_cert.cert.sections answer.0 answer.1.items c.in-Ok.ensures.source c.in-Ok-parse_cert.ensures said)
-    (rw c.items.ensures at c.judge.ensures)
+    (rw c.items.ensures at c.check_sections.ensures)

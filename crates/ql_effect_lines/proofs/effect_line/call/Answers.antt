@@ -23,9 +23,9 @@ returns-in_default-after_word c = λ args answer rest p.
 pub returns-in-None : goal.returns-in-None
 returns-in-None c = λ args answer rest p.
     let text = c.args.text.now in
-    let told = c.in-Some-after_word.told.now in
+    let after_mark = c.in-Some-after_word.after_mark.now in
     let read = MatchOption-at_some ((vs : List Value) (rest : List ℕ) → FieldAt ValuesAt vs text rest → ⊥) (λ x. FieldAt ValuesAt x.0 text x.1.now) (c.in-Some.args, c.in-Some.rest) c.in-Some.is c.in_ok-args.ensures in
     let same = one_values c.in-Some.args args text c.in-Some.rest.now p.behind_args read p.called_with in
-    let mark = one_first p.behind_args (codes "=") (codes "=") told p.behind_mark (subst (λ (t : List ℕ). FirstField t (codes "=") told) same.1 c.in-Some-after_word.ensures) p.mark in
-    let none = MatchOption-at_none ((v : Value) (rest : List ℕ) → FieldAt ValueAt v told rest → ⊥) (λ x. FieldAt ValueAt x.0 told x.1.now) c.in-None.is c.in_ok-answer.ensures in
+    let mark = one_first p.behind_args (codes "=") (codes "=") after_mark p.behind_mark (subst (λ (t : List ℕ). FirstField t (codes "=") after_mark) same.1 c.in-Some-after_word.ensures) p.mark in
+    let none = MatchOption-at_none ((v : Value) (rest : List ℕ) → FieldAt ValueAt v after_mark rest → ⊥) (λ x. FieldAt ValueAt x.0 after_mark x.1.now) c.in-None.is c.in_ok-answer.ensures in
     none answer rest (subst (λ (t : List ℕ). FieldAt ValueAt answer t rest) (sym mark.1) p.answered)

@@ -11,7 +11,7 @@ pub returns-in_default : goal.returns-in_default
 returns-in_default c =
     let text = c.args.text.now in
     let id = c.len-id.result + 1 in
-    let number : id ≡ suc (length c.args.told.effects) = omega (arith, c.len-id.ensures.length) in
+    let number : id ≡ suc (length c.args.read.effects) = omega (arith, c.len-id.ensures.length) in
     let none = unread c.in_ok-effect.field-0 ((e : EffectLine) → IsEffectLine text id e → ⊥) (λ e. IsEffectLine text id e) c.in_ok-effect.ensures c.in_default.not-Some in
     inl (record {
       is = refl;
@@ -23,7 +23,7 @@ pub returns-in-Ok : goal.returns-in-Ok
 returns-in-Ok c =
     let text = c.args.text.now in
     let id = c.len-id.result + 1 in
-    let number : id ≡ suc (length c.args.told.effects) = omega (arith, c.len-id.ensures.length) in
+    let number : id ≡ suc (length c.args.read.effects) = omega (arith, c.len-id.ensures.length) in
     let read = MatchOption-at_some ((e : EffectLine) → IsEffectLine text id e → ⊥) (λ e. IsEffectLine text id e) c.in-Some.effect c.in-Some.is c.in_ok-effect.ensures in
     inl (record {
       effect = c.in-Some.effect;
@@ -37,6 +37,6 @@ pub returns-in-Err : goal.returns-in-Err
 returns-in-Err c =
     let text = c.args.text.now in
     let id = c.len-id.result + 1 in
-    let number : id ≡ suc (length c.args.told.effects) = omega (arith, c.len-id.ensures.length) in
+    let number : id ≡ suc (length c.args.read.effects) = omega (arith, c.len-id.ensures.length) in
     let read = MatchOption-at_some ((e : EffectLine) → IsEffectLine text id e → ⊥) (λ e. IsEffectLine text id e) c.in-Some.effect c.in-Some.is c.in_ok-effect.ensures in
-    broken c.args.t.now.program c.args.told text c.in-Some.effect (subst (λ (n : ℕ). IsEffectLine text n c.in-Some.effect) number read) c.in-Err.fault c.in-Err.ensures
+    broken c.args.t.now.program c.args.read text c.in-Some.effect (subst (λ (n : ℕ). IsEffectLine text n c.in-Some.effect) number read) c.in-Err.fault c.in-Err.ensures

@@ -1,5 +1,5 @@
 use Rattle.std.proofs.Common.{◌≡◌, ◌+◌, ◌<◌, ◌++◌, ◌∷◌, [], length, length-append, ap, arith, ◌∙◌}
-use Rattle.ql_gen.specs.Objects.{object_name, object_names}
+use Rattle.ql_gen.specs.Objects.{drawn_object_name, drawn_object_names}
 use Rattle.ql_gen.proofs.ObjectLaws.{first_put, length_names, second_put}
 use Rattle.ql_gen.proofs.objects.name_two.Goals as goal
 
@@ -11,7 +11,7 @@ number-requires-clause-room c =
 pub number-requires-2-clause-room : goal.number-requires-2-clause-room
 number-requires-2-clause-room c =
     let first = first_put c.args.i c.requires.few c.args.names.now c.number.new.self c.deref.result.now c.in_ok-number.ensures.names c.requires.before (c.deref.ensures.value ∙ c.in_ok-object_name.ensures.name) in
-    omega (arith, ap length first, length_names c.args.i, length-append (object_names c.args.i) (object_name c.args.i 0 ∷ []), c.requires.few)
+    omega (arith, ap length first, length_names c.args.i, length-append (drawn_object_names c.args.i) (drawn_object_name c.args.i 0 ∷ []), c.requires.few)
 
 pub returns : goal.returns
 returns c =

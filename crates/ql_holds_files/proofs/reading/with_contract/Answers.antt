@@ -1,6 +1,6 @@
 use Rattle.ql_lang.specs.Formulas.{resolved_of}
 use Rattle.ql_lang.specs.Trees.{sentence_of}
-use Rattle.ql_holds_files.specs.ContractLine.{faults_of}
+use Rattle.ql_holds_files.specs.ContractLine.{sentence_faults}
 use Rattle.ql_holds_files.proofs.ContractRules.{has_faults}
 use Rattle.ql_holds_files.proofs.Lines.{contract_read}
 use Rattle.ql_holds_files.proofs.reading.with_contract.Goals as goal
@@ -12,4 +12,4 @@ returns-in-Ok c =
     c.in-Ok.ensures.formula c.items.ensures c.in_ok-names-in-Ok.ensures c.new.ensures c.new-in-Ok.ensures c.of.ensures
 
 pub lowest_rule-requires : goal.lowest_rule-requires
-lowest_rule-requires c = has_faults (faults_of (sentence_of c.args.contract.now)) c.in-Err.fault c.in-Err.ensures.refused c.in_default.not-NoMemory
+lowest_rule-requires c = has_faults (sentence_faults (sentence_of c.args.contract.now)) c.in-Err.fault c.in-Err.ensures.refused c.in_default.not-NoMemory

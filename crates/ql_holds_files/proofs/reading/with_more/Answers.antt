@@ -3,7 +3,7 @@ use Rattle.std.proofs.lemmas.Bool.{false≢true}
 use Rattle.std.proofs.lemmas.Option.{MatchOption-at_none, MatchOption-at_some}
 use Rattle.ql_lines.specs.Fields.{fields_of}
 use Rattle.ql_holds_files.specs.declared.effect_line.EffectLine.{EffectLine}
-use Rattle.ql_holds_files.specs.EffectLine.{IsEffectLine}
+use Rattle.ql_holds_files.specs.EffectLine.{IsHoldsEffectLine}
 use Rattle.ql_holds_files.proofs.Lines.{effect_made, effect_refused, no_more}
 use Rattle.ql_holds_files.proofs.reading.with_more.Goals as goal
 
@@ -11,7 +11,7 @@ pub returns-in_default : goal.returns-in_default
 returns-in_default c =
     let fields = fields_of c.args.text.now in
     let id = c.len-id.result + 1 in
-    let none = MatchOption-at_none ((e : EffectLine) → IsEffectLine fields id e → ⊥) (λ e. IsEffectLine fields id e) c.in_default.is c.in_ok-effect.ensures in
+    let none = MatchOption-at_none ((e : EffectLine) → IsHoldsEffectLine fields id e → ⊥) (λ e. IsHoldsEffectLine fields id e) c.in_default.is c.in_ok-effect.ensures in
     let next : id ≡ suc (length c.args.effects.effects) = omega (arith, c.len-id.ensures.length) in
     no_more c.args.contract c.args.current c.args.effects fields id next none (λ end. false≢true (sym c.if-is_end.false ∙ c.is_end.ensures.1 end))
 
@@ -19,7 +19,7 @@ pub returns-in-Ok : goal.returns-in-Ok
 returns-in-Ok c =
     let fields = fields_of c.args.text.now in
     let id = c.len-id.result + 1 in
-    let read = MatchOption-at_some ((e : EffectLine) → IsEffectLine fields id e → ⊥) (λ e. IsEffectLine fields id e) c.in-Some.effect c.in-Some.is c.in_ok-effect.ensures in
+    let read = MatchOption-at_some ((e : EffectLine) → IsHoldsEffectLine fields id e → ⊥) (λ e. IsHoldsEffectLine fields id e) c.in-Some.effect c.in-Some.is c.in_ok-effect.ensures in
     let next : id ≡ suc (length c.args.effects.effects) = omega (arith, c.len-id.ensures.length) in
     effect_made c.args.contract c.args.current c.args.effects fields id next c.in-Some.effect read c.in-Ok.more c.in-Ok.ensures
 
@@ -27,6 +27,6 @@ pub returns-in-Err : goal.returns-in-Err
 returns-in-Err c =
     let fields = fields_of c.args.text.now in
     let id = c.len-id.result + 1 in
-    let read = MatchOption-at_some ((e : EffectLine) → IsEffectLine fields id e → ⊥) (λ e. IsEffectLine fields id e) c.in-Some.effect c.in-Some.is c.in_ok-effect.ensures in
+    let read = MatchOption-at_some ((e : EffectLine) → IsHoldsEffectLine fields id e → ⊥) (λ e. IsHoldsEffectLine fields id e) c.in-Some.effect c.in-Some.is c.in_ok-effect.ensures in
     let next : id ≡ suc (length c.args.effects.effects) = omega (arith, c.len-id.ensures.length) in
     effect_refused c.args.contract c.args.current c.args.effects fields id next c.in-Some.effect read c.in-Err.fault c.in-Err.ensures

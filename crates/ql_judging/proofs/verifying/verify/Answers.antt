@@ -10,6 +10,6 @@ returns-in-Err-parse_execution c =
 
 pub returns : goal.returns
 returns c =
-    IfOk-weaker c.judge.result _ _
-    (λ answer said. verify_says c.one_execution.ensures.one c.args.source.now c.args.execution.now c.in-Ok.typed.program c.in-Ok-parse_execution.told answer.0 answer.1.items c.in-Ok.ensures.source c.in-Ok-parse_execution.ensures.read said)
-    c.judge.ensures
+    IfOk-weaker c.verify_execution.result _ _
+    (λ answer said. verify_says c.one_execution.ensures.one c.args.source.now c.args.execution.now c.in-Ok.typed.program c.in-Ok-parse_execution.execution answer.0 answer.1.items c.in-Ok.ensures.source c.in-Ok-parse_execution.ensures.read said)
+    c.verify_execution.ensures

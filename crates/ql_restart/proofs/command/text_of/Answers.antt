@@ -1,7 +1,6 @@
-use Rattle.std.proofs.Common.{◌≡◌, List, ℕ, refl, sym, subst, ap}
+use Rattle.std.proofs.Common.{List, ℕ, refl, sym, subst}
 use Rattle.std.proofs.lemmas.Result.{IfOk-weaker}
 use Rattle.ql_headline.specs.Stores.{rules_of}
-use Rattle.ql_store.specs.Levels.{promises_of}
 use Rattle.ql_watched.specs.Watching.{Watches}
 use Rattle.ql_restart.specs.Progress.{CanRecover}
 use Rattle.ql_restart.specs.Restarts.{IsRestartText}
@@ -10,23 +9,23 @@ use Rattle.ql_restart.proofs.command.text_of.Goals as goal
 
 pub print_recovered-requires : goal.print_recovered-requires
 print_recovered-requires c =
-    let schedule = c.args.schedule in
+    let schedule = c.args.input.schedule in
     let run = c.in_ok-run.run' in
-    let rules = rules_of c.args.t.now.program c.args.levels.now in
-    let watches : Watches rules schedule.replicas c.args.replica.0 schedule.events run.store.machine run.arrivals.items = c.in_ok-run.ensures.watched rules (ap promises_of (sym c.in_ok-same.ensures)) refl refl in
+    let rules = rules_of c.args.input.typed.program c.args.input.levels in
+    let watches : Watches rules schedule.replicas c.args.replica.0 schedule.events run.store.machine run.arrivals.items = c.in_ok-run.ensures.watched rules refl refl refl in
     subst (CanRecover run.store.machine) (sym c.deref.ensures.value)
     (can_recover rules schedule.replicas c.args.replica.0 schedule.events run.store.machine run.arrivals.items watches c.in_ok-run.ensures.there c.in_ok-run.ensures.few)
 
 pub returns : goal.returns
 returns c =
-    let schedule = c.args.schedule in
+    let schedule = c.args.input.schedule in
     let run = c.in_ok-run.run' in
-    let levels = c.args.levels.now in
-    let rules = rules_of c.args.t.now.program levels in
-    let watches : Watches rules schedule.replicas c.args.replica.0 schedule.events run.store.machine run.arrivals.items = c.in_ok-run.ensures.watched rules (ap promises_of (sym c.in_ok-same.ensures)) refl refl in
+    let levels = c.args.input.levels in
+    let rules = rules_of c.args.input.typed.program levels in
+    let watches : Watches rules schedule.replicas c.args.replica.0 schedule.events run.store.machine run.arrivals.items = c.in_ok-run.ensures.watched rules refl refl refl in
     IfOk-weaker c.print_recovered.result _ _
     (λ text told. λ source file is_source is_schedule. record {
-      program = c.args.t.now.program;
+      program = c.args.input.typed.program;
       schedule = schedule;
       levels = levels;
       last = run.store.machine;

@@ -1,9 +1,9 @@
 use Rattle.std.proofs.Common.{◌++◌, ◌∷◌, [], List, ℕ, codes, decimal, map, ap, ◌∙◌}
 use Rattle.ql_lines.specs.Fields.{Fields}
 use Rattle.ql_lines.specs.Texts.{behind}
+use Rattle.ql_typing.specs.Names.{op_name}
 use Rattle.ql_value.specs.Spelling.{value_text}
 use Rattle.ql_run_text.specs.EffectTexts.{member_text, object_name, payload_text, values_text}
-use Rattle.ql_report.specs.Levels.{op_name}
 use Rattle.ql_run_text.proofs.Printing.{effect_pieces, on_ok}
 use Rattle.ql_run_text.proofs.effects.push_effect.Goals as goal
 

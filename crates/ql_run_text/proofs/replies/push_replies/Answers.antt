@@ -1,16 +1,16 @@
 use Rattle.std.proofs.Common.{◌≡◌, ◌+◌, ◌++◌, ◌∷◌, [], slice_get, Some, ap, ◌∙◌, length, refl}
 use Rattle.std.proofs.lemmas.Option.{slice_get_read}
 use Rattle.ql_lines.specs.Texts.{joined}
-use Rattle.ql_run_text.specs.RunTexts.{event_fields}
+use Rattle.ql_run_text.specs.RunTexts.{numbered_reply_fields}
 use Rattle.ql_run_text.proofs.Printing.{more_lines, no_lines}
 use Rattle.ql_run_text.proofs.replies.push_replies.Goals as goal
 
 pub loop-k-init : goal.loop-k-init
-loop-k-init c = no_lines (event_fields c.args.x.now) c.args.out.now.items
+loop-k-init c = no_lines (numbered_reply_fields c.args.x.now) c.args.out.now.items
 
 pub loop-k-preserved : goal.loop-k-preserved
 loop-k-preserved c =
-    let line = event_fields c.args.x.now in
+    let line = numbered_reply_fields c.args.x.now in
     let k = c.loop-k.k in
     let r = c.index-replies-k.result in
     let at : slice_get c.args.replies.now k ≡ Some r = slice_get_read c.args.replies.now (length c.args.replies.now) k r refl c.loop-k-test.true c.index-replies-k.is in

@@ -8,7 +8,7 @@ use Rattle.ql_running.proofs.running.text_of.Goals as goal
 
 pub print_in-requires-clause-named : goal.print_in-requires-clause-named
 print_in-requires-clause-named c =
-    let p = c.args.t.now.program in
+    let p = c.args.input.typed.program in
     let run = c.in_ok-run.run' in
     subst (λ (x : List Effect). AreNamed p (length run.objects) x) (sym c.execution.ensures)
     (subst (λ (os : List (List ℕ)). AreNamed p (length os) run.store.machine.effects) (sym c.in_ok-run.ensures.objects) c.in_ok-run.ensures.named)
@@ -20,14 +20,14 @@ print_in-requires-clause-answered c =
 
 pub returns : goal.returns
 returns c =
-    let p = c.args.t.now.program in
-    let levels = c.args.levels.now in
+    let p = c.args.input.typed.program in
+    let levels = c.args.input.levels in
     let run = c.in_ok-run.run' in
     let replies = run.replies.items in
     IfOk-weaker c.print_in.result _ _
     (λ text printed. λ source file is_source is_schedule. record {
       program = p;
-      schedule = c.args.schedule;
+      schedule = c.args.input.schedule;
       levels = levels;
       is_source = is_source;
       is_schedule = is_schedule;
@@ -37,7 +37,7 @@ returns c =
         last = run.store.machine;
         run = c.in_ok-run.ensures.run;
         printed =
-            subst (λ (x : List Effect). format_of c.args.form p c.args.schedule.objects levels replies x text.items) c.execution.ensures
+            subst (λ (x : List Effect). format_of c.args.form p c.args.input.schedule.objects levels replies x text.items) c.execution.ensures
             (subst (λ (os : List (List ℕ)). format_of c.args.form p os levels replies c.execution.result.now text.items) c.in_ok-run.ensures.objects printed);
         sound = c.in_ok-run.ensures.sound;
       };

@@ -5,9 +5,10 @@ use Rattle.ql_lang.specs.declared.program.TxnDecl.{TxnDecl}
 use Rattle.ql_lines.specs.Fields.{Fields}
 use Rattle.ql_lines.specs.Texts.{behind, joined}
 use Rattle.ql_machine.specs.declared.event.Event.{Event}
+use Rattle.ql_typing.specs.Names.{op_name, txn_name}
 use Rattle.ql_value.specs.declared.value.Value.{Value}
 use Rattle.ql_value.specs.Spelling.{value_text}
-use Rattle.ql_schedule.specs.Texts.{caller_fields, event_fields, name_at, op_name, txn_name}
+use Rattle.ql_schedule.specs.Texts.{caller_fields, event_fields, name_at}
 use Rattle.ql_schedule.proofs.Printing.{begin_pieces, call_pieces, on_ok, partition_pieces}
 use Rattle.ql_schedule.proofs.print.push_event.Goals as goal
 

@@ -6,7 +6,7 @@ use Rattle.ql_grammar.specs.Table.{Do, Then, Arguments, ExprAt, Called, Comparis
 use Rattle.ql_grammar.proofs.Choices.{read-do}
 use Rattle.ql_grammar.proofs.Rules.{read-as, then-on, then-past}
 use Rattle.ql_grammar.proofs.ByToken.{unary-name, unary-group, unary-not, unary-minus, unary-constant, chosen-if, chosen-plain}
-use Rattle.ql_parse.proofs.ArgumentLemmas.{called, map_more}
+use Rattle.ql_parse.proofs.ArgumentLemmas.{called, map_more, same_operand}
 use Rattle.ql_parse.proofs.reader.Reader.+expr.Goals as goal
 
 pub named-returns-in_err-name-clause-refused : goal.named-returns-in_err-name-clause-refused
@@ -137,14 +137,16 @@ multiplied-returns-in_err-left-clause-refused t c =
     let p = err_from_is_err_and c.from_residual.result c.from_residual.ensures.1 in
     rw (p.1, p.2) (λ f is below vs. read-as c.args.self.now (ExprAt Multiplied) (ExprAt Unary) below (Then MoreTimes ∷ below) vs refl ∙ c.in_err-left.ensures.refused f is _ _)
 
-pub multiplied-times-init : goal.multiplied-times-init
-multiplied-times-init t c = record {
-  so_far = λ below vs. read-as c.args.self.now (ExprAt Multiplied) (ExprAt Unary) below (Then MoreTimes ∷ below) vs refl ∙ c.in_ok-left.ensures.gave _ _;
-  shorter = c.in_ok-left.ensures.shorter;
-}
+pub multiplied-returns-in_err-product-clause-refused : goal.multiplied-returns-in_err-product-clause-refused
+multiplied-returns-in_err-product-clause-refused t c =
+    let p = err_from_is_err_and c.from_residual-in_err-product.result c.from_residual-in_err-product.ensures.1 in
+    rw (p.1, p.2) (λ f is below vs. read-as c.args.self.now (ExprAt Multiplied) (ExprAt Unary) below (Then MoreTimes ∷ below) vs refl ∙ c.in_ok-left.ensures.gave _ _ ∙ c.in_err-product.ensures.refused f is _ _)
+
+pub multiplied-returns-then-sees_operator-clause-gave : goal.multiplied-returns-then-sees_operator-clause-gave
+multiplied-returns-then-sees_operator-clause-gave t c = λ below vs. read-as c.args.self.now (ExprAt Multiplied) (ExprAt Unary) below (Then MoreTimes ∷ below) vs refl ∙ c.in_ok-left.ensures.gave _ _ ∙ c.in_ok-product.ensures.gave _ _
 
 pub multiplied-returns-clause-gave : goal.multiplied-returns-clause-gave
-multiplied-returns-clause-gave t c = λ below vs. c.times.invariant.so_far below vs ∙ then-past c.times.self MoreTimes below _ (sym c.sees_operator.ensures ∙ c.times-test.false)
+multiplied-returns-clause-gave t c = λ below vs. read-as c.args.self.now (ExprAt Multiplied) (ExprAt Unary) below (Then MoreTimes ∷ below) vs refl ∙ c.in_ok-left.ensures.gave _ _ ∙ then-past _ MoreTimes below _ (sym c.sees_operator.ensures ∙ c.if-sees_operator.false)
 
 pub more_times-returns-in_err-op-clause-refused : goal.more_times-returns-in_err-op-clause-refused
 more_times-returns-in_err-op-clause-refused t c =
@@ -156,22 +158,32 @@ more_times-returns-in_err-right-clause-refused t c =
     let p = err_from_is_err_and c.from_residual-in_err-right.result c.from_residual-in_err-right.ensures.1 in
     rw (p.1, p.2) (λ f is below vs. then-on c.args.self.now MoreTimes below _ c.requires ∙ c.in_ok-op.ensures.gave _ _ ∙ c.in_err-right.ensures.refused f is _ _)
 
-pub more_times-returns-clause-turned : goal.more_times-returns-clause-turned
-more_times-returns-clause-turned t c = λ below vs. rw (c.in_ok-both.ensures.start, c.in_ok-both.ensures.tree) (then-on c.args.self.now MoreTimes below _ c.requires ∙ c.in_ok-op.ensures.gave _ _ ∙ c.in_ok-right.ensures.gave _ _ ∙ read-do _ _ _ _)
+pub more_times-returns-in_err-product-clause-refused : goal.more_times-returns-in_err-product-clause-refused
+more_times-returns-in_err-product-clause-refused t c =
+    let p = err_from_is_err_and c.from_residual-in_err-product.result c.from_residual-in_err-product.ensures.1 in
+    rw (p.1, p.2) (λ f is below vs. then-on c.args.self.now MoreTimes below _ c.requires ∙ c.in_ok-op.ensures.gave _ _ ∙ c.in_ok-right.ensures.gave _ _ ∙ read-do _ _ _ _ ∙ same_operand _ _ _ c.in_ok-both.ensures.start c.in_ok-both.ensures.tree ∙ c.in_err-product.ensures.refused f is _ _)
+
+pub more_times-returns-then-sees_operator-clause-gave : goal.more_times-returns-then-sees_operator-clause-gave
+more_times-returns-then-sees_operator-clause-gave t c = λ below vs. then-on c.args.self.now MoreTimes below _ c.requires ∙ c.in_ok-op.ensures.gave _ _ ∙ c.in_ok-right.ensures.gave _ _ ∙ read-do _ _ _ _ ∙ same_operand _ _ _ c.in_ok-both.ensures.start c.in_ok-both.ensures.tree ∙ c.in_ok-product.ensures.gave _ _
+
+pub more_times-returns-clause-gave : goal.more_times-returns-clause-gave
+more_times-returns-clause-gave t c = λ below vs. rw (c.in_ok-both.ensures.start, c.in_ok-both.ensures.tree) (then-on c.args.self.now MoreTimes below _ c.requires ∙ c.in_ok-op.ensures.gave _ _ ∙ c.in_ok-right.ensures.gave _ _ ∙ read-do _ _ _ _ ∙ then-past _ MoreTimes below _ (sym c.sees_operator.ensures ∙ c.if-sees_operator.false))
 
 pub added-returns-in_err-left-clause-refused : goal.added-returns-in_err-left-clause-refused
 added-returns-in_err-left-clause-refused t c =
     let p = err_from_is_err_and c.from_residual.result c.from_residual.ensures.1 in
     rw (p.1, p.2) (λ f is below vs. read-as c.args.self.now (ExprAt Added) (ExprAt Multiplied) below (Then MorePlus ∷ below) vs refl ∙ c.in_err-left.ensures.refused f is _ _)
 
-pub added-plus-init : goal.added-plus-init
-added-plus-init t c = record {
-  so_far = λ below vs. read-as c.args.self.now (ExprAt Added) (ExprAt Multiplied) below (Then MorePlus ∷ below) vs refl ∙ c.in_ok-left.ensures.gave _ _;
-  shorter = c.in_ok-left.ensures.shorter;
-}
+pub added-returns-in_err-sum-clause-refused : goal.added-returns-in_err-sum-clause-refused
+added-returns-in_err-sum-clause-refused t c =
+    let p = err_from_is_err_and c.from_residual-in_err-sum.result c.from_residual-in_err-sum.ensures.1 in
+    rw (p.1, p.2) (λ f is below vs. read-as c.args.self.now (ExprAt Added) (ExprAt Multiplied) below (Then MorePlus ∷ below) vs refl ∙ c.in_ok-left.ensures.gave _ _ ∙ c.in_err-sum.ensures.refused f is _ _)
+
+pub added-returns-then-sees_operator-clause-gave : goal.added-returns-then-sees_operator-clause-gave
+added-returns-then-sees_operator-clause-gave t c = λ below vs. read-as c.args.self.now (ExprAt Added) (ExprAt Multiplied) below (Then MorePlus ∷ below) vs refl ∙ c.in_ok-left.ensures.gave _ _ ∙ c.in_ok-sum.ensures.gave _ _
 
 pub added-returns-clause-gave : goal.added-returns-clause-gave
-added-returns-clause-gave t c = λ below vs. c.plus.invariant.so_far below vs ∙ then-past c.plus.self MorePlus below _ (sym c.sees_operator.ensures ∙ c.plus-test.false)
+added-returns-clause-gave t c = λ below vs. read-as c.args.self.now (ExprAt Added) (ExprAt Multiplied) below (Then MorePlus ∷ below) vs refl ∙ c.in_ok-left.ensures.gave _ _ ∙ then-past _ MorePlus below _ (sym c.sees_operator.ensures ∙ c.if-sees_operator.false)
 
 pub more_plus-returns-in_err-op-clause-refused : goal.more_plus-returns-in_err-op-clause-refused
 more_plus-returns-in_err-op-clause-refused t c =
@@ -183,22 +195,32 @@ more_plus-returns-in_err-right-clause-refused t c =
     let p = err_from_is_err_and c.from_residual-in_err-right.result c.from_residual-in_err-right.ensures.1 in
     rw (p.1, p.2) (λ f is below vs. then-on c.args.self.now MorePlus below _ c.requires ∙ c.in_ok-op.ensures.gave _ _ ∙ c.in_err-right.ensures.refused f is _ _)
 
-pub more_plus-returns-clause-turned : goal.more_plus-returns-clause-turned
-more_plus-returns-clause-turned t c = λ below vs. rw (c.in_ok-both.ensures.start, c.in_ok-both.ensures.tree) (then-on c.args.self.now MorePlus below _ c.requires ∙ c.in_ok-op.ensures.gave _ _ ∙ c.in_ok-right.ensures.gave _ _ ∙ read-do _ _ _ _)
+pub more_plus-returns-in_err-sum-clause-refused : goal.more_plus-returns-in_err-sum-clause-refused
+more_plus-returns-in_err-sum-clause-refused t c =
+    let p = err_from_is_err_and c.from_residual-in_err-sum.result c.from_residual-in_err-sum.ensures.1 in
+    rw (p.1, p.2) (λ f is below vs. then-on c.args.self.now MorePlus below _ c.requires ∙ c.in_ok-op.ensures.gave _ _ ∙ c.in_ok-right.ensures.gave _ _ ∙ read-do _ _ _ _ ∙ same_operand _ _ _ c.in_ok-both.ensures.start c.in_ok-both.ensures.tree ∙ c.in_err-sum.ensures.refused f is _ _)
+
+pub more_plus-returns-then-sees_operator-clause-gave : goal.more_plus-returns-then-sees_operator-clause-gave
+more_plus-returns-then-sees_operator-clause-gave t c = λ below vs. then-on c.args.self.now MorePlus below _ c.requires ∙ c.in_ok-op.ensures.gave _ _ ∙ c.in_ok-right.ensures.gave _ _ ∙ read-do _ _ _ _ ∙ same_operand _ _ _ c.in_ok-both.ensures.start c.in_ok-both.ensures.tree ∙ c.in_ok-sum.ensures.gave _ _
+
+pub more_plus-returns-clause-gave : goal.more_plus-returns-clause-gave
+more_plus-returns-clause-gave t c = λ below vs. rw (c.in_ok-both.ensures.start, c.in_ok-both.ensures.tree) (then-on c.args.self.now MorePlus below _ c.requires ∙ c.in_ok-op.ensures.gave _ _ ∙ c.in_ok-right.ensures.gave _ _ ∙ read-do _ _ _ _ ∙ then-past _ MorePlus below _ (sym c.sees_operator.ensures ∙ c.if-sees_operator.false))
 
 pub conjoined-returns-in_err-left-clause-refused : goal.conjoined-returns-in_err-left-clause-refused
 conjoined-returns-in_err-left-clause-refused t c =
     let p = err_from_is_err_and c.from_residual.result c.from_residual.ensures.1 in
     rw (p.1, p.2) (λ f is below vs. read-as c.args.self.now (ExprAt Conjoined) (ExprAt Compared) below (Then MoreConjoined ∷ below) vs refl ∙ c.in_err-left.ensures.refused f is _ _)
 
-pub conjoined-ands-init : goal.conjoined-ands-init
-conjoined-ands-init t c = record {
-  so_far = λ below vs. read-as c.args.self.now (ExprAt Conjoined) (ExprAt Compared) below (Then MoreConjoined ∷ below) vs refl ∙ c.in_ok-left.ensures.gave _ _;
-  shorter = c.in_ok-left.ensures.shorter;
-}
+pub conjoined-returns-in_err-conjunction-clause-refused : goal.conjoined-returns-in_err-conjunction-clause-refused
+conjoined-returns-in_err-conjunction-clause-refused t c =
+    let p = err_from_is_err_and c.from_residual-in_err-conjunction.result c.from_residual-in_err-conjunction.ensures.1 in
+    rw (p.1, p.2) (λ f is below vs. read-as c.args.self.now (ExprAt Conjoined) (ExprAt Compared) below (Then MoreConjoined ∷ below) vs refl ∙ c.in_ok-left.ensures.gave _ _ ∙ c.in_err-conjunction.ensures.refused f is _ _)
+
+pub conjoined-returns-then-sees_operator-clause-gave : goal.conjoined-returns-then-sees_operator-clause-gave
+conjoined-returns-then-sees_operator-clause-gave t c = λ below vs. read-as c.args.self.now (ExprAt Conjoined) (ExprAt Compared) below (Then MoreConjoined ∷ below) vs refl ∙ c.in_ok-left.ensures.gave _ _ ∙ c.in_ok-conjunction.ensures.gave _ _
 
 pub conjoined-returns-clause-gave : goal.conjoined-returns-clause-gave
-conjoined-returns-clause-gave t c = λ below vs. c.ands.invariant.so_far below vs ∙ then-past c.ands.self MoreConjoined below _ (sym c.sees_operator.ensures ∙ c.ands-test.false)
+conjoined-returns-clause-gave t c = λ below vs. read-as c.args.self.now (ExprAt Conjoined) (ExprAt Compared) below (Then MoreConjoined ∷ below) vs refl ∙ c.in_ok-left.ensures.gave _ _ ∙ then-past _ MoreConjoined below _ (sym c.sees_operator.ensures ∙ c.if-sees_operator.false)
 
 pub more_conjoined-returns-in_err-op-clause-refused : goal.more_conjoined-returns-in_err-op-clause-refused
 more_conjoined-returns-in_err-op-clause-refused t c =
@@ -210,22 +232,32 @@ more_conjoined-returns-in_err-right-clause-refused t c =
     let p = err_from_is_err_and c.from_residual-in_err-right.result c.from_residual-in_err-right.ensures.1 in
     rw (p.1, p.2) (λ f is below vs. then-on c.args.self.now MoreConjoined below _ c.requires ∙ c.in_ok-op.ensures.gave _ _ ∙ c.in_err-right.ensures.refused f is _ _)
 
-pub more_conjoined-returns-clause-turned : goal.more_conjoined-returns-clause-turned
-more_conjoined-returns-clause-turned t c = λ below vs. rw (c.in_ok-both.ensures.start, c.in_ok-both.ensures.tree) (then-on c.args.self.now MoreConjoined below _ c.requires ∙ c.in_ok-op.ensures.gave _ _ ∙ c.in_ok-right.ensures.gave _ _ ∙ read-do _ _ _ _)
+pub more_conjoined-returns-in_err-conjunction-clause-refused : goal.more_conjoined-returns-in_err-conjunction-clause-refused
+more_conjoined-returns-in_err-conjunction-clause-refused t c =
+    let p = err_from_is_err_and c.from_residual-in_err-conjunction.result c.from_residual-in_err-conjunction.ensures.1 in
+    rw (p.1, p.2) (λ f is below vs. then-on c.args.self.now MoreConjoined below _ c.requires ∙ c.in_ok-op.ensures.gave _ _ ∙ c.in_ok-right.ensures.gave _ _ ∙ read-do _ _ _ _ ∙ same_operand _ _ _ c.in_ok-both.ensures.start c.in_ok-both.ensures.tree ∙ c.in_err-conjunction.ensures.refused f is _ _)
+
+pub more_conjoined-returns-then-sees_operator-clause-gave : goal.more_conjoined-returns-then-sees_operator-clause-gave
+more_conjoined-returns-then-sees_operator-clause-gave t c = λ below vs. then-on c.args.self.now MoreConjoined below _ c.requires ∙ c.in_ok-op.ensures.gave _ _ ∙ c.in_ok-right.ensures.gave _ _ ∙ read-do _ _ _ _ ∙ same_operand _ _ _ c.in_ok-both.ensures.start c.in_ok-both.ensures.tree ∙ c.in_ok-conjunction.ensures.gave _ _
+
+pub more_conjoined-returns-clause-gave : goal.more_conjoined-returns-clause-gave
+more_conjoined-returns-clause-gave t c = λ below vs. rw (c.in_ok-both.ensures.start, c.in_ok-both.ensures.tree) (then-on c.args.self.now MoreConjoined below _ c.requires ∙ c.in_ok-op.ensures.gave _ _ ∙ c.in_ok-right.ensures.gave _ _ ∙ read-do _ _ _ _ ∙ then-past _ MoreConjoined below _ (sym c.sees_operator.ensures ∙ c.if-sees_operator.false))
 
 pub disjoined-returns-in_err-left-clause-refused : goal.disjoined-returns-in_err-left-clause-refused
 disjoined-returns-in_err-left-clause-refused t c =
     let p = err_from_is_err_and c.from_residual.result c.from_residual.ensures.1 in
     rw (p.1, p.2) (λ f is below vs. read-as c.args.self.now (ExprAt Disjoined) (ExprAt Conjoined) below (Then MoreDisjoined ∷ below) vs refl ∙ c.in_err-left.ensures.refused f is _ _)
 
-pub disjoined-ors-init : goal.disjoined-ors-init
-disjoined-ors-init t c = record {
-  so_far = λ below vs. read-as c.args.self.now (ExprAt Disjoined) (ExprAt Conjoined) below (Then MoreDisjoined ∷ below) vs refl ∙ c.in_ok-left.ensures.gave _ _;
-  shorter = c.in_ok-left.ensures.shorter;
-}
+pub disjoined-returns-in_err-disjunction-clause-refused : goal.disjoined-returns-in_err-disjunction-clause-refused
+disjoined-returns-in_err-disjunction-clause-refused t c =
+    let p = err_from_is_err_and c.from_residual-in_err-disjunction.result c.from_residual-in_err-disjunction.ensures.1 in
+    rw (p.1, p.2) (λ f is below vs. read-as c.args.self.now (ExprAt Disjoined) (ExprAt Conjoined) below (Then MoreDisjoined ∷ below) vs refl ∙ c.in_ok-left.ensures.gave _ _ ∙ c.in_err-disjunction.ensures.refused f is _ _)
+
+pub disjoined-returns-then-sees_operator-clause-gave : goal.disjoined-returns-then-sees_operator-clause-gave
+disjoined-returns-then-sees_operator-clause-gave t c = λ below vs. read-as c.args.self.now (ExprAt Disjoined) (ExprAt Conjoined) below (Then MoreDisjoined ∷ below) vs refl ∙ c.in_ok-left.ensures.gave _ _ ∙ c.in_ok-disjunction.ensures.gave _ _
 
 pub disjoined-returns-clause-gave : goal.disjoined-returns-clause-gave
-disjoined-returns-clause-gave t c = λ below vs. c.ors.invariant.so_far below vs ∙ then-past c.ors.self MoreDisjoined below _ (sym c.sees_operator.ensures ∙ c.ors-test.false)
+disjoined-returns-clause-gave t c = λ below vs. read-as c.args.self.now (ExprAt Disjoined) (ExprAt Conjoined) below (Then MoreDisjoined ∷ below) vs refl ∙ c.in_ok-left.ensures.gave _ _ ∙ then-past _ MoreDisjoined below _ (sym c.sees_operator.ensures ∙ c.if-sees_operator.false)
 
 pub more_disjoined-returns-in_err-op-clause-refused : goal.more_disjoined-returns-in_err-op-clause-refused
 more_disjoined-returns-in_err-op-clause-refused t c =
@@ -237,8 +269,16 @@ more_disjoined-returns-in_err-right-clause-refused t c =
     let p = err_from_is_err_and c.from_residual-in_err-right.result c.from_residual-in_err-right.ensures.1 in
     rw (p.1, p.2) (λ f is below vs. then-on c.args.self.now MoreDisjoined below _ c.requires ∙ c.in_ok-op.ensures.gave _ _ ∙ c.in_err-right.ensures.refused f is _ _)
 
-pub more_disjoined-returns-clause-turned : goal.more_disjoined-returns-clause-turned
-more_disjoined-returns-clause-turned t c = λ below vs. rw (c.in_ok-both.ensures.start, c.in_ok-both.ensures.tree) (then-on c.args.self.now MoreDisjoined below _ c.requires ∙ c.in_ok-op.ensures.gave _ _ ∙ c.in_ok-right.ensures.gave _ _ ∙ read-do _ _ _ _)
+pub more_disjoined-returns-in_err-disjunction-clause-refused : goal.more_disjoined-returns-in_err-disjunction-clause-refused
+more_disjoined-returns-in_err-disjunction-clause-refused t c =
+    let p = err_from_is_err_and c.from_residual-in_err-disjunction.result c.from_residual-in_err-disjunction.ensures.1 in
+    rw (p.1, p.2) (λ f is below vs. then-on c.args.self.now MoreDisjoined below _ c.requires ∙ c.in_ok-op.ensures.gave _ _ ∙ c.in_ok-right.ensures.gave _ _ ∙ read-do _ _ _ _ ∙ same_operand _ _ _ c.in_ok-both.ensures.start c.in_ok-both.ensures.tree ∙ c.in_err-disjunction.ensures.refused f is _ _)
+
+pub more_disjoined-returns-then-sees_operator-clause-gave : goal.more_disjoined-returns-then-sees_operator-clause-gave
+more_disjoined-returns-then-sees_operator-clause-gave t c = λ below vs. then-on c.args.self.now MoreDisjoined below _ c.requires ∙ c.in_ok-op.ensures.gave _ _ ∙ c.in_ok-right.ensures.gave _ _ ∙ read-do _ _ _ _ ∙ same_operand _ _ _ c.in_ok-both.ensures.start c.in_ok-both.ensures.tree ∙ c.in_ok-disjunction.ensures.gave _ _
+
+pub more_disjoined-returns-clause-gave : goal.more_disjoined-returns-clause-gave
+more_disjoined-returns-clause-gave t c = λ below vs. rw (c.in_ok-both.ensures.start, c.in_ok-both.ensures.tree) (then-on c.args.self.now MoreDisjoined below _ c.requires ∙ c.in_ok-op.ensures.gave _ _ ∙ c.in_ok-right.ensures.gave _ _ ∙ read-do _ _ _ _ ∙ then-past _ MoreDisjoined below _ (sym c.sees_operator.ensures ∙ c.if-sees_operator.false))
 
 pub compared-returns-in_err-left-clause-refused : goal.compared-returns-in_err-left-clause-refused
 compared-returns-in_err-left-clause-refused t c =

@@ -1,7 +1,6 @@
 use Rattle.std.proofs.Common.{length, map, ◌+◌, ◌*◌}
 use Rattle.ql_lang.specs.Expressions.{expression_of}
-use Rattle.ql_grammar.specs.ExpressionGrammar.{Multiplied, Added, Conjoined, Disjoined}
-use Rattle.ql_grammar.specs.Table.{APart, AnExpr, TheExprs, Arguments, ExprAt, MoreArguments, MoreTimes, MorePlus, MoreConjoined, MoreDisjoined}
+use Rattle.ql_grammar.specs.Table.{APart, TheExprs, Arguments, MoreArguments}
 use Rattle.ql_parse.specs.Readings.{Started}
 use Rattle.ql_parse.proofs.reader.Reader.+expr.Given as goal
 
@@ -61,30 +60,6 @@ decreases-choice l = 9 * length l.self.now.tokens
 
 abbrev pub decreases-chosen : goal.decreases-chosen
 decreases-chosen l = 9 * length l.self.now.tokens + 7
-
-abbrev pub invariant-multiplied-times : goal.invariant-multiplied-times
-invariant-multiplied-times l = Started (APart (ExprAt Multiplied)) MoreTimes (AnExpr l.left.start (expression_of l.left.expr)) l.fn.self l.self
-
-abbrev pub decreases-multiplied-times : goal.decreases-multiplied-times
-decreases-multiplied-times l = length l.self.tokens
-
-abbrev pub invariant-added-plus : goal.invariant-added-plus
-invariant-added-plus l = Started (APart (ExprAt Added)) MorePlus (AnExpr l.left.start (expression_of l.left.expr)) l.fn.self l.self
-
-abbrev pub decreases-added-plus : goal.decreases-added-plus
-decreases-added-plus l = length l.self.tokens
-
-abbrev pub invariant-conjoined-ands : goal.invariant-conjoined-ands
-invariant-conjoined-ands l = Started (APart (ExprAt Conjoined)) MoreConjoined (AnExpr l.left.start (expression_of l.left.expr)) l.fn.self l.self
-
-abbrev pub decreases-conjoined-ands : goal.decreases-conjoined-ands
-decreases-conjoined-ands l = length l.self.tokens
-
-abbrev pub invariant-disjoined-ors : goal.invariant-disjoined-ors
-invariant-disjoined-ors l = Started (APart (ExprAt Disjoined)) MoreDisjoined (AnExpr l.left.start (expression_of l.left.expr)) l.fn.self l.self
-
-abbrev pub decreases-disjoined-ors : goal.decreases-disjoined-ors
-decreases-disjoined-ors l = length l.self.tokens
 
 abbrev pub invariant-arguments_of_call-more : goal.invariant-arguments_of_call-more
 invariant-arguments_of_call-more l = Started (APart Arguments) MoreArguments (TheExprs (map expression_of l.found.items)) l.fn.self l.self

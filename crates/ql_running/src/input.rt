@@ -1,0 +1,69 @@
+ghost use Rattle.std.specs.Prelude.{◌<◌, ◌^◌, length, IfErr, IfOk};
+ghost use Rattle.ql_classify.specs.Least.{AreLevelsOf};
+ghost use Rattle.ql_commands.specs.Levels.{RefusalSays};
+ghost use Rattle.ql_commands.specs.Sources.{IsSourceOf};
+ghost use Rattle.ql_lines.specs.Lines.{ahead_from};
+ghost use Rattle.ql_running.specs.Runs.{NoRunSays};
+ghost use Rattle.ql_schedule.specs.Files.{IsScheduleFile};
+ghost use Rattle.ql_schedule.specs.Guarantees.{IsSchedule};
+
+use crate::schedule_fault::bad_schedule;
+use ql_base::NoMemory;
+use ql_commands::{bad_source, read_source, refusal};
+use ql_levels::Levels;
+use ql_reply::Status;
+use ql_schedule::{Schedule, one_schedule, parse_schedule};
+use ql_typing::Typed;
+use std::alloc::Global;
+
+/// What a run starts from: a program, its least levels, and a schedule of it.
+#[derive(Drop)]
+pub struct RunInput {
+    pub typed: Typed,
+    pub levels: Levels,
+    pub schedule: Schedule,
+}
+
+/// Reads a source and a schedule of its program, and finds the program's least levels. The inner error is the reply on what is
+/// wrong first: a fault of the source, one of the schedule, or why the program has no such levels.
+pub fn read_run_input(
+    alloc: Global,
+    source: &[u8],
+    schedule: &[u8],
+) -> Result<Result<RunInput, (Status, Vec<u8>)>, NoMemory>
+    requires { length source.now < 2 ^ 32 }
+    ensures source { IfOk result (λ read. IfOk read (λ input. IsSourceOf source.now input.typed.program)) }
+    ensures schedule { IfOk result (λ read. IfOk read (λ input. IsScheduleFile input.typed.program (ahead_from 1 schedule.now) input.schedule)) }
+    ensures guarantees { IfOk result (λ read. IfOk read (λ input. IsSchedule input.typed.program input.schedule)) }
+    ensures levels { IfOk result (λ read. IfOk read (λ input. AreLevelsOf input.typed.program input.levels)) }
+    ensures refused { IfOk result (λ read. IfErr read (λ answer. NoRunSays source.now schedule.now answer.0 answer.1.items)) }
+{
+    one_schedule();
+    let typed = match read_source(alloc, source) {
+        Ok(typed) => typed,
+        Err(fault) => return Ok(Err((Status::Bad, bad_source(alloc, fault)?))),
+    };
+    let schedule = match parse_schedule(alloc, &typed, schedule) {
+        Ok(schedule) => schedule,
+        Err(fault) => return Ok(Err((Status::Bad, bad_schedule(alloc, fault)?))),
+    };
+    match least_levels(alloc, &typed)? {
+        Ok(levels) => Ok(Ok(RunInput {
+            typed,
+            levels,
+            schedule,
+        })),
+        Err(text) => Ok(Err((Status::No, text))),
+    }
+}
+
+// The least levels of a program, or the text that says why it has none.
+fn least_levels(alloc: Global, t: &Typed) -> Result<Result<Levels, Vec<u8>>, NoMemory>
+    ensures levels { IfOk result (λ found. IfOk found (AreLevelsOf t.now.program)) }
+    ensures refused { IfOk result (λ found. IfErr found (λ text. RefusalSays t.now.program text.items)) }
+{
+    match ql_classify::classify(alloc, t) {
+        Ok(classified) => Ok(Ok(classified.levels().copy(alloc)?)),
+        Err(why) => Ok(Err(refusal(alloc, t, why)?)),
+    }
+}
