@@ -5,3 +5,4 @@ pub mod Lines
 pub mod OneFile
 pub mod Within
 mod ShortIds
+mod NumberedNames

@@ -13,8 +13,8 @@ use Rattle.ql_typing.specs.declared.fault.TypeFault.{TypeFault}
 use Rattle.ql_holds_files.specs.declared.effect_line.EffectLine.{EffectLine}
 use Rattle.ql_holds_files.specs.declared.effects.NamedEffects.{NamedEffects}
 use Rattle.ql_holds_files.specs.declared.reading.Current.{Current}
-use Rattle.ql_holds_files.specs.declared.reading.Reading.{Reading}
-use Rattle.ql_holds_files.specs.declared.reading.Reading.TheVariants.{WithContract, WithEffects}
+use Rattle.ql_holds_files.specs.declared.reading.Stage.{Stage}
+use Rattle.ql_holds_files.specs.declared.reading.Stage.TheVariants.{WithContract, WithEffects}
 use Rattle.ql_holds_files.specs.declared.rules.HoldsRule.{HoldsRule}
 use Rattle.ql_holds_files.specs.declared.rules.HoldsRule.TheVariants.{Unexpected}
 use Rattle.ql_holds_files.specs.ContractLine.{sentence_faults, lowest_rule}
@@ -30,7 +30,7 @@ unfolding lowest_rule
 no_rule fs none = ap lowest_rule none
 
 contract_made : (c : Sentence) (formula : NamedFormula) (effects : NamedEffects) → sentence_faults c ≡ [] → formula ≡ named_formula_of c → effects ≡ no_effects c
-    → ◌≡◌ {A = Result Reading HoldsRule} (Ok (WithContract formula effects)) (after_contract c)
+    → ◌≡◌ {A = Result Stage HoldsRule} (Ok (WithContract formula effects)) (after_contract c)
 contract_made c formula effects none is are =
     ap (λ (f : NamedFormula). Ok (WithContract f effects)) is ∙ ap (λ (e : NamedEffects). Ok (WithContract (named_formula_of c) e)) are
     ∙ sym (ap (λ (b : Option HoldsRule). unless_broken b (WithContract (named_formula_of c) (no_effects c))) (no_rule (sentence_faults c) none))
@@ -43,7 +43,7 @@ module _ (c : Sentence) (none : sentence_faults c ≡ []) (start ops : List (Lis
   pub contract_read : (resolved : Resolved) (vars : List Var) (names objects : List (List ℕ)) (effects : List Effect) (formula : NamedFormula)
       → resolved ≡ resolved_in ops c → vars ≡ c.vars → names ≡ map (λ (v : Var). v.name.word) vars → objects ≡ [] → effects ≡ []
       → formula ≡ record { formula = resolved; names = names }
-      → ◌≡◌ {A = Result Reading HoldsRule} (Ok (WithContract formula (record { objects = objects; ops = ops; effects = effects }))) (after_contract c)
+      → ◌≡◌ {A = Result Stage HoldsRule} (Ok (WithContract formula (record { objects = objects; ops = ops; effects = effects }))) (after_contract c)
   contract_read resolved vars names objects effects formula is are_vars are_names no_objects no_effect of =
       contract_made c formula _ none
       (of ∙ ap (λ (r : Resolved). record { formula = r; names = names }) (is ∙ ap (λ (o : List (List ℕ)). resolved_in o c) ops_are)
@@ -55,7 +55,7 @@ module _ (c : Sentence) (none : sentence_faults c ≡ []) (start ops : List (Lis
 -- ---- a line after the current effect's
 
 module _ (formula : NamedFormula) (current : Current) (effects : NamedEffects) (fields : Fields) (id : ℕ) (is_next : id ≡ suc (length effects.effects)) where
-  abbrev Given : Result Reading HoldsRule → Type 0
+  abbrev Given : Result Stage HoldsRule → Type 0
   Given x = ExtendsHoldsAs (IsMore (suc (length effects.effects)) fields) (after_more formula current effects) x
 
   at_next : (e : EffectLine) → IsHoldsEffectLine fields id e → IsHoldsEffectLine fields (suc (length effects.effects)) e
@@ -70,7 +70,7 @@ module _ (formula : NamedFormula) (current : Current) (effects : NamedEffects) (
 
   module _ (e : EffectLine) (is : IsHoldsEffectLine fields id e) where
     made_by : (broken : Option HoldsRule) (made with : NamedEffects) → ◌≡◌ {A = Result NamedEffects HoldsRule} (Ok made) (unless_broken broken with)
-        → ◌≡◌ {A = Result Reading HoldsRule} (Ok (WithEffects formula current made)) (unless_broken broken (WithEffects formula current with))
+        → ◌≡◌ {A = Result Stage HoldsRule} (Ok (WithEffects formula current made)) (unless_broken broken (WithEffects formula current with))
     made_by None made with h = let same : made ≡ with = cc in ap (λ (n : NamedEffects). Ok (WithEffects formula current n)) same
     made_by (Some rule) made with h = absurd cc
 
@@ -78,7 +78,7 @@ module _ (formula : NamedFormula) (current : Current) (effects : NamedEffects) (
     effect_made made h = inl (Some e, at_next e is, made_by (effect_rule effects e) made (with_named_effect effects e) h)
 
     broken_by : (broken : Option HoldsRule) (rule : HoldsRule) (with : NamedEffects) → ◌≡◌ {A = Result NamedEffects HoldsRule} (Err rule) (unless_broken broken with)
-        → ◌≡◌ {A = Result Reading HoldsRule} (Err rule) (unless_broken broken (WithEffects formula current with))
+        → ◌≡◌ {A = Result Stage HoldsRule} (Err rule) (unless_broken broken (WithEffects formula current with))
     broken_by None rule with h = absurd cc
     broken_by (Some other) rule with h = let same : rule ≡ other = cc in ap Err same
 

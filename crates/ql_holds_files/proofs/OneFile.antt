@@ -4,7 +4,7 @@ use Rattle.ql_line_files.specs.declared.fault.Broken.{Broken}
 use Rattle.ql_line_files.proofs.OneOutcome as law
 use Rattle.ql_lines.specs.Lines.{Ahead}
 use Rattle.ql_holds_files.specs.declared.asked.Asked.{Asked}
-use Rattle.ql_holds_files.specs.declared.reading.Reading.TheVariants.{Unbegun}
+use Rattle.ql_holds_files.specs.declared.reading.Stage.TheVariants.{Unbegun}
 use Rattle.ql_holds_files.specs.declared.rules.HoldsRule.{HoldsRule}
 use Rattle.ql_holds_files.specs.HoldsFile.{ExtendsHolds, HoldsOutcome, closed}
 use Rattle.ql_holds_files.specs.OneLine.{closes_one, closes_some, gives_one, gives_some}

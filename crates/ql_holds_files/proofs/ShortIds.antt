@@ -1,13 +1,12 @@
 -- Ids that are read one after another: each is above those before it, and is the next field.
-use Rattle.std.proofs.Common.{◌≡◌, ◌^◌, ℕ, zero, suc, ◌-◌, ◌<◌, true, false, List, [], ◌∷◌, ◌++◌, length, take, drop, get_or, decimal, Some, refl, ap, subst, ◌∙◌, sym, arith, Bool, ◌==◌}
+use Rattle.std.proofs.Common.{◌≡◌, ◌^◌, ℕ, ◌-◌, ◌<◌, true, false, List, [], ◌∷◌, ◌++◌, length, take, drop, get_or, decimal, Some, refl, ap, subst, ◌∙◌, sym, arith, Bool, ◌==◌}
 use Rattle.std.specs.Prelude.{not}
-use Rattle.std.specs.List.{slice_get, position_or_len, AllByRecursion, AllPass}
+use Rattle.std.specs.List.{position_or_len, AllByRecursion, AllPass}
 use Rattle.std.specs.Char.{digit_value}
 use Rattle.std.specs.Str.Parse.{digits_value}
 use Rattle.std.proofs.Math.Seq.{take-append_seam, drop-append_seam}
 use Rattle.std.proofs.lemmas.Bool.Decides.{nat_tests}
 use Rattle.std.proofs.lemmas.Bool.{false≢true, lt-ltb, le-ltb}
-use Rattle.std.proofs.lemmas.Option.{same_Some}
 use Rattle.ql_base.specs.IdLists.{IsBelowAll, IsAscending, with_id}
 use Rattle.ql_base.specs.Bytes.{StopsBefore, begins, is_digit}
 use Rattle.ql_base.specs.Numbers.{IsNumeral}

@@ -16,7 +16,7 @@ pub record IsContractLine (text : List ℕ) (c : Sentence) : Type 0 where
   pub first : FirstField text (codes "contract") rest
   pub contract : IsContractText rest c
 
--- the faults of a contract that may name any operations, and that speaks of no transaction
+-- the faults of a contract that may name any operations, and may not use transactions
 abbrev pub sentence_faults : Sentence → List TypeFault
 sentence_faults c = contract_faults None false c
 
@@ -32,7 +32,7 @@ abbrev pub is_txn_atom : TypeFault → Bool
 is_txn_atom (typing.TxnAtom at) = true
 is_txn_atom _ = false
 
--- The lowest rule that faults of such a contract break, wherever they stand. Only these four can be broken.
+-- The lowest rule that faults of such a contract break, wherever they are. Only these four can be broken.
 unfoldable pub lowest_rule : List TypeFault → Option HoldsRule
 lowest_rule [] = None
 lowest_rule (f ∷ fs) =

@@ -77,8 +77,8 @@ with_named_effect named e = record {
   effects = named.effects ++ effect_of named.effects (named_draft named e) ∷ [];
 }
 
--- The lowest rule that an effect breaks after others: an id that it sees is that of no earlier effect; one of those that
--- it sees is on another object; there are too many.
+-- The lowest rule that an effect breaks after others: no earlier effect has an id that it sees; one that it sees is on
+-- another object; there are too many.
 abbrev pub effect_rule : NamedEffects → EffectLine → Option HoldsRule
 effect_rule named e =
     if list_any (λ id. is_none (effect_at named.effects id)) e.seen then Some NotForward

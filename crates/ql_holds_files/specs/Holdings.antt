@@ -1,4 +1,4 @@
--- What the reader of holds files answers.
+-- What the reader of holds files returns.
 use Rattle.std.specs.Prelude.{◌≡◌, Err}
 use Rattle.ql_lang.specs.Formulas.{resolved_of}
 use Rattle.ql_lines.specs.Lines.{Ahead}

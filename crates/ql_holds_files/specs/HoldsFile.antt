@@ -1,4 +1,4 @@
--- The holds files: what one asks, or its first fault.
+-- The holds files: the question of one, or its first fault.
 use Rattle.std.specs.Prelude.{◌≡◌, ◌⊎◌, ℕ, suc, Bool, ◌&&◌, nat_le, [], map, length, Option, None, Some, Result, Ok, Err, if◌then◌else◌}
 use Rattle.ql_lines.specs.Fields.{fields_of, Fields, IsId}
 use Rattle.ql_lines.specs.Lines.{Ahead, Numbered}
@@ -10,8 +10,8 @@ use Rattle.ql_holds_files.specs.declared.asked.Asked as asked
 use Rattle.ql_holds_files.specs.declared.effect_line.EffectLine.{EffectLine}
 use Rattle.ql_holds_files.specs.declared.effects.NamedEffects.{NamedEffects}
 use Rattle.ql_holds_files.specs.declared.reading.Current.{Current}
-use Rattle.ql_holds_files.specs.declared.reading.Reading.{Reading}
-use Rattle.ql_holds_files.specs.declared.reading.Reading.TheVariants.{Unbegun, WithContract, WithEffects, Ended}
+use Rattle.ql_holds_files.specs.declared.reading.Stage.{Stage}
+use Rattle.ql_holds_files.specs.declared.reading.Stage.TheVariants.{Unbegun, WithContract, WithEffects, Ended}
 use Rattle.ql_holds_files.specs.declared.rules.HoldsRule.{HoldsRule}
 use Rattle.ql_holds_files.specs.declared.rules.HoldsRule.TheVariants.{Unexpected, Range}
 use Rattle.ql_holds_files.specs.ContractLine.{IsContractLine, sentence_faults, lowest_rule}
@@ -19,14 +19,14 @@ use Rattle.ql_holds_files.specs.EffectLine.{IsHoldsEffectLine, at_fields, effect
 use Rattle.ql_holds_files.specs.NamedFormulas.{NamedFormula}
 use Rattle.ql_holds_files.specs.Rules.{unless_broken}
 
--- what a file asks: whether a formula is true in an execution, with the effect `cur` as the current one
+-- the question of a file: whether a formula is true in an execution, with the effect `cur` as the current one
 abbrev pub Asked : Type 0
 Asked = asked.Asked
 
 -- ---- one line
 
--- A line is one thing, and gives what that makes; or it is no such thing, and is Unexpected.
-abbrev pub ExtendsHoldsAs : {L : Type 0} → (L → Type 0) → (L → Result Reading HoldsRule) → Result Reading HoldsRule → Type 0
+-- The line is of a kind, and yields what its content makes; or it is not, and is Unexpected.
+abbrev pub ExtendsHoldsAs : {L : Type 0} → (L → Type 0) → (L → Result Stage HoldsRule) → Result Stage HoldsRule → Type 0
 ExtendsHoldsAs {L = L} Is makes x = ((line : L) × Is line × (x ≡ makes line)) ⊎ (((line : L) → Is line → ⊥) × (x ≡ Err Unexpected))
 
 -- a contract's formula, where operations are numbered by first occurrence
@@ -38,10 +38,10 @@ abbrev pub no_effects : Sentence → NamedEffects
 no_effects c = record { objects = []; ops = ops_met [] c.vars; effects = [] }
 
 -- what a contract makes, or the lowest rule that it breaks
-abbrev pub after_contract : Sentence → Result Reading HoldsRule
+abbrev pub after_contract : Sentence → Result Stage HoldsRule
 after_contract c = unless_broken (lowest_rule (sentence_faults c)) (WithContract (named_formula_of c) (no_effects c))
 
--- the line says which effect is the current one
+-- the line has the id of the current effect
 abbrev pub IsCurrentLine : Fields → ℕ → Type 0
 IsCurrentLine fields cur = IsId cur × (fields ≡ at_fields cur)
 
@@ -51,12 +51,12 @@ IsMore id fields None = fields ≡ holds_end_fields
 IsMore id fields (Some e) = IsHoldsEffectLine fields id e
 
 -- what such a line makes, or the lowest rule that its effect breaks
-abbrev pub after_more : NamedFormula → Current → NamedEffects → Option EffectLine → Result Reading HoldsRule
+abbrev pub after_more : NamedFormula → Current → NamedEffects → Option EffectLine → Result Stage HoldsRule
 after_more formula current effects None = Ok (Ended formula current effects)
 after_more formula current effects (Some e) = unless_broken (effect_rule effects e) (WithEffects formula current (with_named_effect effects e))
 
 -- what a line makes of what was read before it, or the lowest rule that it breaks
-abbrev pub ExtendsHolds : Reading → Numbered → Result Reading HoldsRule → Type 0
+abbrev pub ExtendsHolds : Stage → Numbered → Result Stage HoldsRule → Type 0
 ExtendsHolds Unbegun l x = ExtendsHoldsAs (IsContractLine l.text) after_contract x
 ExtendsHolds (WithContract formula effects) l x = ExtendsHoldsAs (IsCurrentLine (fields_of l.text)) (λ cur. Ok (WithEffects formula (record { line = l.number; id = cur }) effects)) x
 ExtendsHolds (WithEffects formula current effects) l x = ExtendsHoldsAs (IsMore (suc (length effects.effects)) (fields_of l.text)) (after_more formula current effects) x
@@ -68,9 +68,9 @@ ExtendsHolds (Ended formula current effects) l x = x ≡ Err Unexpected
 abbrev pub is_there : ℕ → NamedEffects → Bool
 is_there id effects = nat_le 1 id && nat_le id (length effects.effects)
 
--- What a file asks that ends here. It may end after the word `end`, where the current effect is there, or else the line that says
--- it is at fault; before that word the line after the last one is.
-abbrev pub closed : Reading → ℕ → Result Asked (Broken HoldsRule)
+-- The question of a file that ends here. It may end after the word `end`; then the line of the current effect is at fault
+-- where there is no such effect. Before that word the line after the last one is at fault.
+abbrev pub closed : Stage → ℕ → Result Asked (Broken HoldsRule)
 closed (Ended formula current effects) end =
     if is_there current.id effects then Ok (record { contract = formula; cur = record { 0 = current.id }; execution = effects.effects })
     else Err (record { line = current.line; rule = Range })
@@ -78,6 +78,6 @@ closed other end = Err (record { line = end; rule = Unexpected })
 
 -- ---- the files
 
--- what the file asks, or its first fault: its first line that breaks a rule, and the lowest rule that it breaks; or its end
+-- the question of the file, or its first fault: the first line that breaks a rule, and the lowest rule that it breaks; or its end
 abbrev pub HoldsOutcome : Ahead → Result Asked (Broken HoldsRule) → Type 0
 HoldsOutcome file x = Outcome ExtendsHolds (λ read end y. y ≡ closed read end) Unbegun file x

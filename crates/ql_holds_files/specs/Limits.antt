@@ -1,5 +1,5 @@
--- What is read of a file keeps the limits: five variables, and 4,000 effects.
-use Rattle.std.proofs.Common.{◌≡◌, inl, inr, ◌<◌, ◌≤◌, Bool, true, false, List, [], ◌∷◌, Option, None, Some, Result, Ok, Err, length, arith, refl, sym, subst}
+-- What is read of a file keeps the limits: five variables, 4,000 effects, and no more objects than effects.
+use Rattle.std.proofs.Common.{◌≡◌, inl, inr, ℕ, ◌+◌, ◌++◌, ◌<◌, ◌≤◌, Bool, true, false, List, [], ◌∷◌, Option, None, Some, Result, Ok, Err, length, arith, refl, sym, subst}
 use Rattle.std.specs.Prelude.{if◌then◌else◌, is_none, nat_le}
 use Rattle.std.specs.List.{list_any}
 use Rattle.std.proofs.lemmas.Bool.Decides.{nat_tests}
@@ -9,6 +9,7 @@ use Rattle.ql_lang.specs.declared.contract.Var.{Var}
 use Rattle.ql_lang.specs.declared.name.Name.{Name}
 use Rattle.ql_lines.specs.Lines.{Numbered}
 use Rattle.ql_base.specs.declared.limits.TheConstants.{MAX_EFFECTS}
+use Rattle.ql_base.specs.Numbering.{has_name, with_name}
 use Rattle.ql_exec.specs.Effects.{effect_at}
 use Rattle.ql_exec.specs.Execution.{effect_of, is_elsewhere}
 use Rattle.ql_typing.specs.ContractFaults.{contract_faults, extra_var, var_names}
@@ -18,8 +19,8 @@ use Rattle.ql_typing.specs.declared.fault.TypeFault.{TypeFault}
 use Rattle.ql_typing.proofs.Parts.{few_each, left_none, right_none}
 use Rattle.ql_holds_files.specs.declared.effect_line.EffectLine.{EffectLine}
 use Rattle.ql_holds_files.specs.declared.effects.NamedEffects.{NamedEffects}
-use Rattle.ql_holds_files.specs.declared.reading.Reading.{Reading}
-use Rattle.ql_holds_files.specs.declared.reading.Reading.TheVariants.{Unbegun, WithContract, WithEffects, Ended}
+use Rattle.ql_holds_files.specs.declared.reading.Stage.{Stage}
+use Rattle.ql_holds_files.specs.declared.reading.Stage.TheVariants.{Unbegun, WithContract, WithEffects, Ended}
 use Rattle.ql_holds_files.specs.declared.rules.HoldsRule.{HoldsRule}
 use Rattle.ql_holds_files.specs.declared.rules.HoldsRule.TheVariants.{Unexpected, NotForward, OtherObject, TooMany}
 use Rattle.ql_holds_files.specs.ContractLine.{sentence_faults, lowest_rule}
@@ -29,9 +30,9 @@ use Rattle.ql_holds_files.specs.NamedFormulas.{NamedFormula}
 use Rattle.ql_holds_files.specs.Rules.{unless_broken}
 
 abbrev pub AreWithin : NamedFormula → NamedEffects → Type 0
-AreWithin formula effects = (length formula.formula.vars ≤ 5) × (length effects.effects ≤ MAX_EFFECTS)
+AreWithin formula effects = (length formula.formula.vars ≤ 5) × (length effects.effects ≤ MAX_EFFECTS) × (length effects.objects ≤ length effects.effects)
 
-abbrev pub IsWithin : Reading → Type 0
+abbrev pub IsWithin : Stage → Type 0
 IsWithin Unbegun = Unit {0}
 IsWithin (WithContract formula effects) = AreWithin formula effects
 IsWithin (WithEffects formula current effects) = AreWithin formula effects
@@ -44,10 +45,10 @@ module _ {A : Type 0} where
   made_is None made given e = (refl, cc)
   made_is (Some rule) made given e = absurd cc
 
-given_is : (made given : Reading) → ◌≡◌ {A = Result Reading HoldsRule} (Ok given) (Ok made) → given ≡ made
+given_is : (made given : Stage) → ◌≡◌ {A = Result Stage HoldsRule} (Ok given) (Ok made) → given ≡ made
 given_is made given e = cc
 
-not_given : (given : Reading) → ◌≡◌ {A = Result Reading HoldsRule} (Ok given) (Err Unexpected) → ⊥
+not_given : (given : Stage) → ◌≡◌ {A = Result Stage HoldsRule} (Ok given) (Err Unexpected) → ⊥
 not_given given e = cc
 
 -- ---- variables
@@ -97,15 +98,28 @@ few_effects named e none =
     let few : length named.effects < MAX_EFFECTS = grind (arith, nat_tests) in
     omega (arith, few, length-append named.effects (effect_of named.effects (named_draft named e) ∷ []))
 
+-- ---- objects
+
+one_name_more : (names : List (List ℕ)) (w : List ℕ) → length (with_name names w) ≤ length names + 1
+one_name_more names w = by (has_name names w)
+  where
+    by : (b : Bool) → length (if b then names else names ++ w ∷ []) ≤ length names + 1
+    by true = omega arith
+    by false = omega (arith, length-append names (w ∷ []))
+
+few_objects : (named : NamedEffects) (e : EffectLine) → length named.objects ≤ length named.effects → length (with_named_effect named e).objects ≤ length (with_named_effect named e).effects
+few_objects named e few =
+    omega (arith, few, one_name_more named.objects e.object, length-append named.effects (effect_of named.effects (named_draft named e) ∷ []))
+
 -- ---- lines
 
-pub stays_within : (s t : Reading) (l : Numbered) → IsWithin s → ExtendsHolds s l (Ok t) → IsWithin t
-stays_within Unbegun t l within (inl (c, is, e)) = let made = made_is _ _ t e in subst IsWithin (sym made.1) (few_variables c made.0, omega arith)
+pub stays_within : (s t : Stage) (l : Numbered) → IsWithin s → ExtendsHolds s l (Ok t) → IsWithin t
+stays_within Unbegun t l within (inl (c, is, e)) = let made = made_is _ _ t e in subst IsWithin (sym made.1) (few_variables c made.0, omega arith, omega arith)
 stays_within Unbegun t l within (inr (none, e)) = absurd (not_given t e)
 stays_within (WithContract formula effects) t l within (inl (cur, is, e)) = subst IsWithin (sym (given_is _ t e)) within
 stays_within (WithContract formula effects) t l within (inr (none, e)) = absurd (not_given t e)
 stays_within (WithEffects formula current effects) t l within (inl (None, is, e)) = subst IsWithin (sym (given_is _ t e)) within
 stays_within (WithEffects formula current effects) t l within (inl (Some line, is, e)) =
-    let made = made_is _ _ t e in subst IsWithin (sym made.1) (within.0, few_effects effects line made.0)
+    let made = made_is _ _ t e in subst IsWithin (sym made.1) (within.0, few_effects effects line made.0, few_objects effects line within.2)
 stays_within (WithEffects formula current effects) t l within (inr (none, e)) = absurd (not_given t e)
 stays_within (Ended formula current effects) t l within e = absurd (not_given t e)

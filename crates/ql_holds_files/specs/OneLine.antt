@@ -9,12 +9,12 @@ use Rattle.ql_line_files.specs.declared.fault.Broken.{Broken}
 use Rattle.ql_lines.proofs.Conses.{both, heads, tails}
 use Rattle.ql_lines.specs.Fields.{FirstField, Fields, IsId, fields_of}
 use Rattle.ql_lines.specs.Lines.{Numbered}
-use Rattle.ql_holds_files.specs.contracts.reading.Reading as reading
+use Rattle.ql_holds_files.specs.contracts.reading.Stage as stage
 use Rattle.ql_holds_files.specs.contracts.rules.HoldsRule as rules
 use Rattle.ql_holds_files.specs.declared.effect_line.EffectLine.{EffectLine}
 use Rattle.ql_holds_files.specs.declared.asked.Asked.{Asked}
-use Rattle.ql_holds_files.specs.declared.reading.Reading.{Reading}
-use Rattle.ql_holds_files.specs.declared.reading.Reading.TheVariants.{Unbegun, WithContract, WithEffects, Ended}
+use Rattle.ql_holds_files.specs.declared.reading.Stage.{Stage}
+use Rattle.ql_holds_files.specs.declared.reading.Stage.TheVariants.{Unbegun, WithContract, WithEffects, Ended}
 use Rattle.ql_holds_files.specs.declared.rules.HoldsRule.{HoldsRule}
 use Rattle.ql_holds_files.specs.declared.rules.HoldsRule.TheVariants.{Unexpected}
 use Rattle.ql_holds_files.specs.ContractLine.{IsContractLine}
@@ -24,7 +24,7 @@ use Rattle.ql_holds_files.specs.Uniqueness.{OneContract}
 
 -- ---- the contract
 
--- what stands after the first word is that of the line
+-- a line has one rest after its first word
 module _ (b : ℕ) (w r q : List ℕ) (no_space : (b ≡ 32) → ⊥) where
   same_rest : (m n : ℕ) → replicate m 32 ++ (b ∷ w) ++ r ≡ replicate n 32 ++ (b ∷ w) ++ q → r ≡ q
   same_rest zero zero e = append_cancel_left (b ∷ w) r q e
@@ -73,36 +73,36 @@ one_more id fields None (Some f) p q = absurd (no_end fields id f q p)
 one_more id fields (Some e) None p q = absurd (no_end fields id e p q)
 one_more id fields (Some e) (Some f) p q = ap Some (one_effect fields id e f p q)
 
--- ---- what a line gives
+-- ---- what a line yields
 
-module _ {L : Type 0} (Is : L → Type 0) (makes : L → Result Reading HoldsRule) where
-  one_given : ((a b : L) → Is a → Is b → a ≡ b) → (x y : Result Reading HoldsRule) → ExtendsHoldsAs Is makes x → ExtendsHoldsAs Is makes y → x ≡ y
+module _ {L : Type 0} (Is : L → Type 0) (makes : L → Result Stage HoldsRule) where
+  one_given : ((a b : L) → Is a → Is b → a ≡ b) → (x y : Result Stage HoldsRule) → ExtendsHoldsAs Is makes x → ExtendsHoldsAs Is makes y → x ≡ y
   one_given one x y (inl p) (inl q) = p.2 ∙ ap makes (one p.0 q.0 p.1 q.1) ∙ sym q.2
   one_given one x y (inl p) (inr q) = absurd (q.0 p.0 p.1)
   one_given one x y (inr p) (inl q) = absurd (p.0 q.0 q.1)
   one_given one x y (inr p) (inr q) = p.1 ∙ sym q.1
 
-  some_given : ((x : Result Reading HoldsRule) → ExtendsHoldsAs Is makes x → ⊥) → ⊥
+  some_given : ((x : Result Stage HoldsRule) → ExtendsHoldsAs Is makes x → ⊥) → ⊥
   some_given none = none (Err Unexpected) (inr ((λ line is. none (makes line) (inl (line, is, refl))), refl))
 
-pub gives_one : OneContract → (s : Reading) (l : Numbered) (x y : Result Reading HoldsRule) → ExtendsHolds s l x → ExtendsHolds s l y → x ≡ y
+pub gives_one : OneContract → (s : Stage) (l : Numbered) (x y : Result Stage HoldsRule) → ExtendsHolds s l x → ExtendsHolds s l y → x ≡ y
 gives_one one Unbegun l x y p q = one_given _ _ (one_contract one l.text) x y p q
 gives_one one (WithContract formula effects) l x y p q = one_given _ _ (one_current (fields_of l.text)) x y p q
 gives_one one (WithEffects formula current effects) l x y p q = one_given _ _ (one_more (suc (length effects.effects)) (fields_of l.text)) x y p q
 gives_one one (Ended formula current effects) l x y p q = p ∙ sym q
 
-pub gives_some : (s : Reading) (l : Numbered) → ((x : Result Reading HoldsRule) → ExtendsHolds s l x → ⊥) → ⊥
+pub gives_some : (s : Stage) (l : Numbered) → ((x : Result Stage HoldsRule) → ExtendsHolds s l x → ⊥) → ⊥
 gives_some Unbegun l none = some_given _ _ none
 gives_some (WithContract formula effects) l none = some_given _ _ none
 gives_some (WithEffects formula current effects) l none = some_given _ _ none
 gives_some (Ended formula current effects) l none = none (Err Unexpected) refl
 
-pub closes_one : (s : Reading) (end : ℕ) (x y : Result Asked (Broken HoldsRule)) → x ≡ closed s end → y ≡ closed s end → x ≡ y
+pub closes_one : (s : Stage) (end : ℕ) (x y : Result Asked (Broken HoldsRule)) → x ≡ closed s end → y ≡ closed s end → x ≡ y
 closes_one s end x y p q = p ∙ sym q
 
-pub closes_some : (s : Reading) (end : ℕ) → ((x : Result Asked (Broken HoldsRule)) → x ≡ closed s end → ⊥) → ⊥
+pub closes_some : (s : Stage) (end : ℕ) → ((x : Result Asked (Broken HoldsRule)) → x ≡ closed s end → ⊥) → ⊥
 closes_some s end none = none (closed s end) refl
 
--- an equation between what lines give has one proof
-pub one_equation : (x y : Result Reading HoldsRule) → IsProp (x ≡ y)
-one_equation = Coded-set (coded_result reading.the_row.coded rules.the_row.coded)
+-- an equation between what lines yield has one proof
+pub one_equation : (x y : Result Stage HoldsRule) → IsProp (x ≡ y)
+one_equation = Coded-set (coded_result stage.the_row.coded rules.the_row.coded)

@@ -43,7 +43,7 @@ impl ReadContract {
     }
 }
 
-/// What a holds file asks.
+/// The question of a holds file, with the contract as it was read.
 #[derive(Drop)]
 pub(crate) struct Asked {
     pub contract: ReadContract,

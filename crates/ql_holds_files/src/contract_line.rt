@@ -8,7 +8,7 @@ use ql_lines::after_word;
 use ql_parse::{ParseFault, parse_contract};
 use std::alloc::Global;
 
-/// The contract of a line.
+/// The contract of a line that is the word `contract` and then a contract; `None` for any other line.
 pub(crate) fn contract_line(alloc: Global, text: &[u8]) -> Result<Option<Contract>, NoMemory>
     ensures { IfOk result (λ found. MatchOption found ((c : Sentence) → IsContractLine text.now c → ⊥) (λ contract. IsContractLine text.now (sentence_of contract))) }
 {
@@ -16,7 +16,7 @@ pub(crate) fn contract_line(alloc: Global, text: &[u8]) -> Result<Option<Contrac
     let Some(rest) = after_word(text, b"contract") else {
         return Ok(None);
     };
-    // Where 32 bits can't count its bytes, there is no memory for it.
+    // A contract is out of memory where 32 bits can't count its bytes.
     if rest.len() > u32::MAX as usize {
         return Err(NoMemory);
     }

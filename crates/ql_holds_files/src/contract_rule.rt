@@ -11,7 +11,7 @@ use ql_base::{Names, NoMemory, Word};
 use ql_lang::{Contract, Name, Point, Prop, Var};
 use std::alloc::Global;
 
-/// The lowest rule that the faults of a contract break, which has some.
+/// The lowest rule that a contract with faults breaks.
 pub(crate) fn lowest_rule(alloc: Global, contract: &Contract) -> Result<HoldsRule, NoMemory>
     requires { sentence_faults (sentence_of contract.now) ≢ [] }
     ensures { IfOk result (λ rule. lowest_rule (sentence_faults (sentence_of contract.now)) ≡ Some rule) }
@@ -49,7 +49,7 @@ struct Met {
     twice: bool,
 }
 
-// Meets names one after another.
+// Collects the distinct ones of these names.
 #[tactic(auto, unfolding(ql_typing::specs::Faults::names_met, ql_typing::specs::Faults::repeats))]
 fn meet(alloc: Global, list: &[Name]) -> Result<Met, NoMemory>
     ensures names { IfOk result (λ met. met.names ≡ names_met [] list.now) }
@@ -66,7 +66,7 @@ fn meet(alloc: Global, list: &[Name]) -> Result<Met, NoMemory>
     Ok(Met { names, twice })
 }
 
-// Puts a name in. Where 32 bits can't number it, there is no memory for it.
+// Adds a name. It is out of memory where 32 bits can't number the names.
 fn put_in(names: &mut Names, word: &Word) -> Result<(), NoMemory>
     ensures { IfOk result (λ _. names.new ≡ with_name names.old word.now) }
 {
@@ -92,7 +92,7 @@ fn repeats_an_operation(alloc: Global, vars: &[Var]) -> Result<bool, NoMemory>
     Ok(false)
 }
 
-// Whether a term is a variable that isn't bound.
+// Whether a term is a variable that the contract doesn't bind.
 #[tactic(auto, unfolding(ql_typing::specs::ContractFaults::point_faults))]
 fn is_unbound(point: &Point, vars: &Names) -> bool
     ensures { result ≡ list_any is_unknown_name (point_faults false vars.now point.now) }
@@ -116,7 +116,7 @@ fn has_unbound(points: &[Point], vars: &Names) -> bool
     false
 }
 
-// Whether a proposition speaks of a variable that isn't bound.
+// Whether a proposition uses a variable that the contract doesn't bind.
 #[tactic(auto, unfolding(ql_typing::specs::ContractFaults::prop_faults), using(crate::proofs::ContractRules::unknown_application, crate::proofs::ContractRules::unknown_either))]
 fn is_open(prop: &Prop, vars: &Names) -> bool
     ensures { result ≡ list_any is_unknown_name (prop_faults false vars.now (proposition_of prop.now)) }
@@ -133,7 +133,7 @@ fn is_open(prop: &Prop, vars: &Names) -> bool
     }
 }
 
-// Whether a proposition speaks of a transaction.
+// Whether a proposition uses transactions.
 #[tactic(auto, unfolding(ql_typing::specs::ContractFaults::prop_faults), using(crate::proofs::ContractRules::txn_application, crate::proofs::ContractRules::txn_either))]
 fn speaks_of_txn(prop: &Prop) -> bool
     ensures { (vars : List (List ℕ)) → result ≡ list_any is_txn_atom (prop_faults false vars (proposition_of prop.now)) }

@@ -8,7 +8,7 @@ use ql_base::{IdSet, NoMemory, Word};
 use ql_lines::{after_name, after_number, after_word, first_field};
 use std::alloc::Global;
 
-/// What the line of an effect says, apart from its number.
+/// The line of an effect, without its number.
 #[derive(Drop)]
 pub(crate) struct EffectLine {
     pub object: Word,
@@ -17,7 +17,7 @@ pub(crate) struct EffectLine {
     pub seen: IdSet,
 }
 
-/// The effect of a line, whose number is to be `id`.
+/// The effect of a line that has the expected number `id`; `None` for any other line.
 pub(crate) fn effect_line(
     alloc: Global,
     text: &[u8],
@@ -45,7 +45,7 @@ pub(crate) fn effect_line(
     }
 }
 
-// What stands after the word `effect` and this id.
+// The rest of a line after the word `effect` and this id.
 fn after_id(text: &[u8], id: u32) -> Option<&[u8]>
     ensures { MatchOption result ((rest : Fields) → fields_of text.now ≡ codes "effect" ∷ decimal id ∷ rest → ⊥)
         (λ behind. fields_of text.now ≡ codes "effect" ∷ decimal id ∷ fields_of behind.now) }
@@ -55,7 +55,7 @@ fn after_id(text: &[u8], id: u32) -> Option<&[u8]>
     if number == id { Some(behind) } else { None }
 }
 
-// Two names, and what stands after them.
+// Two names, and the rest of the line after them.
 fn two_names(text: &[u8]) -> Option<(&[u8], &[u8], &[u8])>
     ensures { MatchOption result ((a b : List ℕ) (rest : Fields) → IsName a → IsName b → fields_of text.now ≡ a ∷ b ∷ rest → ⊥)
         (λ x. IsName x.0.now × IsName x.1.now × (fields_of text.now ≡ x.0.now ∷ x.1.now ∷ fields_of x.2.now)) }
@@ -65,7 +65,7 @@ fn two_names(text: &[u8]) -> Option<(&[u8], &[u8], &[u8])>
     Some((first, second, behind))
 }
 
-// The session between the words `session` and `vis`, and what stands after these.
+// The session between the words `session` and `vis`, and the rest of the line after these.
 fn session(text: &[u8]) -> Option<(u32, &[u8])>
     ensures { MatchOption result ((s : ℕ) (rest : Fields) → s ≤ 255 → fields_of text.now ≡ codes "session" ∷ decimal s ∷ codes "vis" ∷ rest → ⊥)
         (λ x. (x.0 ≤ 255) × (fields_of text.now ≡ codes "session" ∷ decimal x.0 ∷ codes "vis" ∷ fields_of x.1.now)) }
@@ -76,7 +76,7 @@ fn session(text: &[u8]) -> Option<(u32, &[u8])>
     Some((session, behind))
 }
 
-/// The current effect, where a line says it.
+/// The id of the current effect in a line `at ID`; `None` for any other line.
 pub(crate) fn current(text: &[u8]) -> Option<u32>
     ensures { MatchOption result ((cur : ℕ) → IsId cur → fields_of text.now ≡ at_fields cur → ⊥) (λ cur. IsId cur × (fields_of text.now ≡ at_fields cur)) }
 {
@@ -88,7 +88,7 @@ pub(crate) fn current(text: &[u8]) -> Option<u32>
     }
 }
 
-/// Whether a line is the last one.
+/// Whether a line is the word `end`.
 pub(crate) fn is_end(text: &[u8]) -> bool
     ensures { IsTrue result ↔ (fields_of text.now ≡ holds_end_fields) }
 {

@@ -1,4 +1,5 @@
-ghost use Rattle.std.specs.Prelude.{◌≡◌, ◌≤◌, IfOk, length};
+ghost use Rattle.std.specs.Prelude.{◌≡◌, ◌≤◌, ◌<◌, ◌+◌, ◌-◌, ◌^◌, IfOk, length, slice_get};
+ghost use Rattle.std.specs.Option.{option_map_or};
 ghost use Rattle.ql_base.specs.Numbering.{with_name};
 ghost use Rattle.ql_base.specs.declared.limits.TheConstants.{MAX_EFFECTS};
 ghost use Rattle.ql_line_files.specs.Answers.{IsLineAnswer};
@@ -8,13 +9,13 @@ ghost use Rattle.ql_holds_files.specs.Rules.{unless_broken};
 use crate::effect_line::EffectLine;
 use crate::rules::HoldsRule;
 use ql_base::{MAX_EFFECTS, Names, NoMemory, ObjId, OpId, SessId, Word};
-use ql_exec::{Draft, ExecFault, Execution, Member, Payload};
+use ql_exec::{Draft, Effect, ExecFault, Execution, Member, Payload};
 use ql_line_files::LineFault;
 use ql_value::{Value, Values};
 use std::alloc::Global;
 
 /// Effects, and the names of their objects and operations, numbered by first occurrence. The
-/// operations of the contract stand before those of the effects.
+/// operations of the contract come before those of the effects.
 #[derive(Drop)]
 pub(crate) struct NamedEffects {
     pub objects: Names,
@@ -23,18 +24,24 @@ pub(crate) struct NamedEffects {
 }
 
 impl NamedEffects {
-    /// With one more effect.
+    /// Adds the effect of a line, or reports the lowest rule that it breaks.
     pub(crate) fn put(
         self,
         alloc: Global,
         line: EffectLine,
     ) -> Result<NamedEffects, LineFault<HoldsRule>>
         requires few { length self.effects ≤ MAX_EFFECTS }
+        requires objects { length self.objects ≤ length self.effects }
         ensures { IsLineAnswer (λ x. x ≡ unless_broken (effect_rule self line) (with_named_effect self line)) result }
     {
         let mut named = self;
-        let object = ObjId(number(&mut named.objects, &line.object)?);
-        let op = OpId(number(&mut named.ops, &line.op)?);
+        let (last_object, last_op) = last_numbers(named.effects.effects());
+        let object = ObjId(number(&mut named.objects, &line.object, last_object)?);
+        // A contract may name as many operations as 32 bits can number. One more is out of memory.
+        if named.ops.len() >= u32::MAX {
+            return Err(LineFault::NoMemory);
+        }
+        let op = OpId(number(&mut named.ops, &line.op, last_op)?);
         let drafted = draft(alloc, object, op, line);
         match named.effects.push(drafted) {
             Ok(_) => {}
@@ -49,15 +56,28 @@ impl NamedEffects {
     }
 }
 
-// The number of a name among others. Where 32 bits can't number it, there is no memory for it.
-fn number(names: &mut Names, word: &Word) -> Result<u32, NoMemory>
+// The numbers of the last effect's object and operation, 0 where there is no effect.
+fn last_numbers(effects: &[Effect]) -> (u32, u32)
+    ensures { result ≡ option_map_or (λ e. (e.object.0, e.op.0)) (slice_get effects.now (length effects.now - 1)) (0, 0) }
+{
+    match effects.last() {
+        Some(effect) => (effect.object.0, effect.op.0),
+        None => (0, 0),
+    }
+}
+
+// The number of a name, which is added where it is new. The name with the number `likely` is tried
+// first, so that a name that is used again isn't looked up.
+fn number(names: &mut Names, word: &Word, likely: u32) -> Result<u32, NoMemory>
+    requires room { length names.old + 1 < 2 ^ 32 }
     ensures names { IfOk result (λ _. names.new ≡ with_name names.old word.now) }
     ensures numbered { IfOk result (λ k. k ≡ number_among names.old word.now) }
 {
-    if names.len() >= u32::MAX {
-        return Err(NoMemory);
+    let bytes = word.bytes();
+    if likely < names.len() && names.name(likely).bytes() == bytes {
+        return Ok(likely);
     }
-    names.number(word.bytes())
+    names.number(bytes)
 }
 
 // An effect outside any transaction, without arguments, payload and answer.

@@ -1,7 +1,7 @@
 ghost use Rattle.ql_holds_files.specs.Uniqueness.{OneContract};
 
 use crate::asked::Asked;
-use crate::reading::{Reading, finish, take};
+use crate::reading::{Stage, finish, take};
 use crate::rules::HoldsRule;
 use ql_line_files::{FileFault, LineFault, LineFormat};
 use std::alloc::Global;
@@ -10,19 +10,19 @@ use std::alloc::Global;
 #[derive(Clone, Copy)]
 pub(crate) struct Format {
     pub(crate) alloc: Global,
-    // The parser's law, by which a line is one contract at most.
+    // The parser's law: a line is at most one contract.
     ghost one_contract: { ∥ OneContract ∥₁ },
 }
 
 impl LineFormat for Format {
     ghost use Rattle.std.specs.Prelude.{◌≡◌};
     ghost use Rattle.std.proofs.Math.Logic.{∥∥₁_elim};
-    ghost use Rattle.ql_holds_files.specs.declared.reading.Reading.TheVariants.{Unbegun};
+    ghost use Rattle.ql_holds_files.specs.declared.reading.Stage.TheVariants.{Unbegun};
     ghost use Rattle.ql_holds_files.specs.HoldsFile.{ExtendsHolds, closed};
     ghost use Rattle.ql_holds_files.specs.Limits.{IsWithin, stays_within};
     ghost use Rattle.ql_holds_files.specs.OneLine.{closes_one, closes_some, gives_one, gives_some, one_equation};
 
-    type State = Reading;
+    type State = Stage;
 
     type Said = Asked;
 
@@ -36,20 +36,15 @@ impl LineFormat for Format {
 
     ghost closes = { λ f read end x. x ≡ closed read end };
 
-    fn start(&self) -> Reading {
-        Reading::Unbegun
+    fn start(&self) -> Stage {
+        Stage::Unbegun
     }
 
-    fn take(
-        &self,
-        state: Reading,
-        number: u64,
-        text: &[u8],
-    ) -> Result<Reading, LineFault<HoldsRule>> {
+    fn take(&self, state: Stage, number: u64, text: &[u8]) -> Result<Stage, LineFault<HoldsRule>> {
         take(self.alloc, state, number, text)
     }
 
-    fn finish(&self, state: Reading, end: u64) -> Result<Asked, FileFault<HoldsRule>> {
+    fn finish(&self, state: Stage, end: u64) -> Result<Asked, FileFault<HoldsRule>> {
         finish(state, end)
     }
 

@@ -33,8 +33,8 @@ impl Words {
     }
 }
 
-/// What a holds file asks: whether the formula is true in the execution, with the effect `cur` as the
-/// current one.
+/// The question of a holds file: whether the formula is true in the execution, with the effect `cur`
+/// as the current one.
 #[derive(Drop)]
 pub struct Holding {
     pub formula: Formula,

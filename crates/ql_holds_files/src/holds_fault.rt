@@ -4,30 +4,31 @@ ghost use Rattle.ql_holds_files.specs.Rules.{fault_of};
 use crate::rules::HoldsRule;
 use ql_line_files::{Broken, FileFault};
 
-/// Why a text is no holds file, with the line from 1 at which the first fault stands. The end of a
-/// file that ends too early is the line after its last. Of the faults of one line the first in this
-/// order is reported.
+/// Why a text is no holds file, with the line number of its first fault, counted from 1. A file that
+/// ends too early has its fault in the line after the last. Of the faults of one line the first in
+/// this order is reported.
 #[derive(Clone, Copy, Debug, PartialEq, Eq)]
 pub enum HoldsFault {
-    /// No file goes on with this line.
+    /// No holds file has this line after those before it.
     Unexpected(u64),
-    /// The contract speaks of a variable that it doesn't bind.
+    /// The contract uses a variable that it doesn't bind.
     Unknown(u64),
     /// A variable of the contract, or an operation of one variable, is repeated.
     Twice(u64),
-    /// The contract speaks of transactions.
+    /// The contract uses transactions.
     TxnAtom(u64),
     /// The contract has more than five variables.
     Variables(u64),
-    /// The current effect is none of the file's. It is reported where no line has another fault.
+    /// The file has no effect with the id of the current one. It is reported only where no line has
+    /// another fault.
     Range(u64),
-    /// An effect sees an id that names no earlier effect.
+    /// An effect sees an id that no earlier effect has.
     NotForward(u64),
     /// An effect sees one on another object.
     OtherObject(u64),
-    /// One effect more than 4,000.
+    /// There are more than 4,000 effects, and this line has the first one too many.
     TooMany(u64),
-    /// No memory was left.
+    /// Out of memory.
     NoMemory,
 }
 

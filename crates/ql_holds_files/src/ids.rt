@@ -47,7 +47,7 @@ fn short_ids(alloc: Global, text: &[u8]) -> Result<Option<IdSet>, NoMemory>
     }
 }
 
-// An id of at most nine digits after one space, and what stands after it. `None` where the text starts
+// An id of at most nine digits after one space, and the rest of the text. `None` where the text starts
 // otherwise, and for an id that starts with 0.
 fn short_id(text: &[u8]) -> Option<(u32, &[u8])>
     ensures { IfSome result (λ x. (x.0 < 2 ^ 32) × FirstField text.now (decimal x.0) x.1.now) }
@@ -75,7 +75,7 @@ fn begins_above_zero(digits: &[u8]) -> bool
     }
 }
 
-// Whether a field that stands before this text ends there.
+// Whether a field ends before this text.
 fn ends_field(text: &[u8]) -> bool
     ensures { result ≡ not (begins (λ b. not (is_space b)) text.now) }
 {

@@ -5,7 +5,7 @@ ghost use Rattle.ql_holds_files.specs.declared.asked.Asked.{Asked};
 ghost use Rattle.ql_holds_files.specs.declared.rules.HoldsRule.{HoldsRule};
 ghost use Rattle.ql_holds_files.specs.HoldsFile.{HoldsOutcome};
 
-/// A file asks one thing or has one first fault, never both, and never neither.
+/// Each file has either one question or one first fault.
 pub fn one_holding()
     ensures one { (file : Ahead) (x y : Result Asked (Broken HoldsRule)) → HoldsOutcome file x → HoldsOutcome file y → x ≡ y }
     ensures some { (file : Ahead) → ((x : Result Asked (Broken HoldsRule)) → HoldsOutcome file x → ⊥) → ⊥ }

@@ -1,5 +1,5 @@
 // The files of `holds`: a contract, and an execution with one of its effects as the current one.
-// The one contract: a file is read to what it asks or to its first fault, never to both or neither.
+// The one contract: reading a file yields either its question or its first fault.
 #![tactic(auto)]
 
 mod asked;

@@ -10,7 +10,7 @@ use crate::holds_fault::{HoldsFault, fault_of};
 use ql_line_files::read_file;
 use std::alloc::Global;
 
-/// What a holds file asks, or its first fault.
+/// Reads the question of a holds file, or reports its first fault.
 pub fn parse_holds(alloc: Global, bytes: &[u8]) -> Result<Holding, HoldsFault>
     ensures read { MatchResult result (λ h. HoldsOutcome (ahead_from 1 bytes.now) (Ok (asked_of h))) (IsRefusal (ahead_from 1 bytes.now)) }
     ensures few { IfOk result (λ h. (length h.formula.vars ≤ 5) × (length h.execution ≤ 4000)) }

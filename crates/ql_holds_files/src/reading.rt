@@ -7,7 +7,7 @@ ghost use Rattle.ql_line_files.specs.declared.fault.FileFault.TheVariants.{Broke
 ghost use Rattle.ql_holds_files.specs.ContractLine.{IsContractLine};
 ghost use Rattle.ql_holds_files.specs.HoldsFile.{ExtendsHolds, ExtendsHoldsAs, IsCurrentLine, IsMore, after_contract, after_more, closed};
 ghost use Rattle.ql_holds_files.specs.Limits.{IsWithin};
-ghost use Rattle.ql_holds_files.specs.declared.reading.Reading.TheVariants.{WithEffects};
+ghost use Rattle.ql_holds_files.specs.declared.reading.Stage.TheVariants.{WithEffects};
 
 use crate::asked::{Asked, ReadContract};
 use crate::contract_line::contract_line;
@@ -22,44 +22,45 @@ use ql_line_files::{Broken, FileFault, LineFault};
 use ql_typing::{TypeFault, resolve};
 use std::alloc::Global;
 
-/// The id of the current effect, and the line that says it.
+/// The id of the current effect, and the number of the line that has it.
 #[derive(Clone, Copy)]
 pub(crate) struct Current {
     pub line: u64,
     pub id: u32,
 }
 
-/// What was read of a holds file: nothing; the contract; the current effect and effects; all of it.
+/// The stage of the reader, with what it has read: nothing; the contract; the current effect and
+/// some effects; the whole file.
 #[derive(Drop)]
-pub(crate) enum Reading {
+pub(crate) enum Stage {
     Unbegun,
     WithContract(ReadContract, NamedEffects),
     WithEffects(ReadContract, Current, NamedEffects),
     Ended(ReadContract, Current, NamedEffects),
 }
 
-/// What is read with one more line.
+/// The stage after one more line.
 pub(crate) fn take(
     alloc: Global,
-    read: Reading,
+    read: Stage,
     number: u64,
     text: &[u8],
-) -> Result<Reading, LineFault<HoldsRule>>
+) -> Result<Stage, LineFault<HoldsRule>>
     requires { IsWithin read }
     ensures { IsLineAnswer (ExtendsHolds read (record { number = number; text = text.now })) result }
 {
     match read {
-        Reading::Unbegun => begun(alloc, text),
-        Reading::WithContract(contract, effects) => with_current(contract, effects, number, text),
-        Reading::WithEffects(contract, current, effects) => {
+        Stage::Unbegun => begun(alloc, text),
+        Stage::WithContract(contract, effects) => with_current(contract, effects, number, text),
+        Stage::WithEffects(contract, current, effects) => {
             with_more(alloc, contract, current, effects, text)
         }
-        Reading::Ended(_, _, _) => Err(LineFault::Breaks(HoldsRule::Unexpected)),
+        Stage::Ended(_, _, _) => Err(LineFault::Breaks(HoldsRule::Unexpected)),
     }
 }
 
 // The first line is the contract.
-fn begun(alloc: Global, text: &[u8]) -> Result<Reading, LineFault<HoldsRule>>
+fn begun(alloc: Global, text: &[u8]) -> Result<Stage, LineFault<HoldsRule>>
     ensures { IsLineAnswer (ExtendsHoldsAs (IsContractLine text.now) after_contract) result }
 {
     let Some(contract) = contract_line(alloc, text)? else {
@@ -68,8 +69,8 @@ fn begun(alloc: Global, text: &[u8]) -> Result<Reading, LineFault<HoldsRule>>
     with_contract(alloc, &contract)
 }
 
-// With its names resolved, or the lowest rule that it breaks.
-fn with_contract(alloc: Global, contract: &Contract) -> Result<Reading, LineFault<HoldsRule>>
+// The contract with its names resolved, or the lowest rule that it breaks.
+fn with_contract(alloc: Global, contract: &Contract) -> Result<Stage, LineFault<HoldsRule>>
     ensures { IsLineAnswer (λ x. x ≡ after_contract (sentence_of contract.now)) result }
 {
     let mut ops = Names::new(alloc);
@@ -81,7 +82,7 @@ fn with_contract(alloc: Global, contract: &Contract) -> Result<Reading, LineFaul
                 ops,
                 effects: Execution::new(alloc),
             };
-            Ok(Reading::WithContract(ReadContract::of(formula, names), effects))
+            Ok(Stage::WithContract(ReadContract::of(formula, names), effects))
         }
         Err(fault) => match fault {
             TypeFault::NoMemory => Err(LineFault::NoMemory),
@@ -97,53 +98,54 @@ fn words_of(alloc: Global, vars: &[Var]) -> Result<Vec<Word>, NoMemory>
     Ok(vars.iter().map(|var| var.name.word).collect(alloc)?)
 }
 
-// The second line says which effect is the current one.
+// The second line has the id of the current effect.
 fn with_current(
     contract: ReadContract,
     effects: NamedEffects,
     number: u64,
     text: &[u8],
-) -> Result<Reading, LineFault<HoldsRule>>
+) -> Result<Stage, LineFault<HoldsRule>>
     ensures { IsLineAnswer (ExtendsHoldsAs (IsCurrentLine (fields_of text.now)) (λ cur. Ok (WithEffects contract (record { line = number; id = cur }) effects))) result }
 {
     match current(text) {
         Some(id) => {
             let current = Current { line: number, id };
-            Ok(Reading::WithEffects(contract, current, effects))
+            Ok(Stage::WithEffects(contract, current, effects))
         }
         None => Err(LineFault::Breaks(HoldsRule::Unexpected)),
     }
 }
 
-// A line after these: the last one, or one more effect.
+// Each line after these is the last one, or one more effect.
 fn with_more(
     alloc: Global,
     contract: ReadContract,
     current: Current,
     effects: NamedEffects,
     text: &[u8],
-) -> Result<Reading, LineFault<HoldsRule>>
+) -> Result<Stage, LineFault<HoldsRule>>
     requires few { length effects.effects ≤ MAX_EFFECTS }
+    requires objects { length effects.objects ≤ length effects.effects }
     ensures { IsLineAnswer (ExtendsHoldsAs (IsMore (suc (length effects.effects)) (fields_of text.now)) (after_more contract current effects)) result }
 {
     if is_end(text) {
-        return Ok(Reading::Ended(contract, current, effects));
+        return Ok(Stage::Ended(contract, current, effects));
     }
     let id = effects.effects.len() + 1;
     let Some(effect) = effect_line(alloc, text, id)? else {
         return Err(LineFault::Breaks(HoldsRule::Unexpected));
     };
     match effects.put(alloc, effect) {
-        Ok(more) => Ok(Reading::WithEffects(contract, current, more)),
+        Ok(more) => Ok(Stage::WithEffects(contract, current, more)),
         Err(fault) => Err(fault),
     }
 }
 
-/// What a file asks that ends here.
-pub(crate) fn finish(read: Reading, end: u64) -> Result<Asked, FileFault<HoldsRule>>
+/// The question of a file that ends after what was read, or its fault.
+pub(crate) fn finish(read: Stage, end: u64) -> Result<Asked, FileFault<HoldsRule>>
     ensures { IsEndAnswer (λ x. x ≡ closed read end) result }
 {
-    let Reading::Ended(contract, current, effects) = read else {
+    let Stage::Ended(contract, current, effects) = read else {
         return Err(broken(end, HoldsRule::Unexpected));
     };
     if !is_there(current.id, effects.effects.len()) {
@@ -162,7 +164,7 @@ fn broken(line: u64, rule: HoldsRule) -> FileFault<HoldsRule>
     FileFault::Broken(Broken { line, rule })
 }
 
-// Whether an id is that of one of so many effects.
+// Whether an id is that of an effect, where there are `effects` of them.
 fn is_there(id: u32, effects: u32) -> bool
     ensures { result ≡ (nat_le 1 id && nat_le id effects) }
 {

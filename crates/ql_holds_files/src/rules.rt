@@ -2,7 +2,7 @@ ghost use Rattle.std.specs.Prelude.{◌≡◌};
 
 use crate::holds_fault::HoldsFault;
 
-/// The rules that a file can break, which `HoldsFault` says of a line.
+/// The rules that a file can break. `HoldsFault` has each of them with a line.
 #[derive(Clone, Copy)]
 pub enum HoldsRule {
     Unexpected,
