@@ -131,7 +131,7 @@ impl Reader<'_> {
     }
 
     /// A colon and the kind of a single value.
-    fn based(&mut self) -> Result<Base, Refusal>
+    fn base_kind(&mut self) -> Result<Base, Refusal>
         ensures gave { IfOk result (λ b. GaveAll based_symbols (ABase b) self.old self.new) }
         ensures shorter { OnOk result (length self.new.tokens < length self.old.tokens) }
         ensures refused { IfErr result (AreRefused based_symbols self.old) }
@@ -192,7 +192,7 @@ impl Reader<'_> {
         ensures refused { IfErr result (IsAddedRefused param_symbols TheParams self.old) }
     {
         let name = self.name(Role::Plain)?;
-        let base = self.based()?;
+        let base = self.base_kind()?;
         Ok(Param { name, base })
     }
 
@@ -250,7 +250,7 @@ impl Reader<'_> {
         ensures refused { IfErr result (AreRefused (value_symbols word) self.old) }
     {
         self.take(word, Role::Before)?;
-        let value = self.chosen(alloc)?;
+        let value = self.whole_expression(alloc)?;
         Ok(value)
     }
 
@@ -284,7 +284,7 @@ impl Reader<'_> {
         ensures refused { IfErr result (AreRefused binding_symbols self.old) }
     {
         let name = self.name(Role::Plain)?;
-        let base = self.based()?;
+        let base = self.base_kind()?;
         let value = self.value_behind(alloc, Terminal::Equals)?;
         Ok(Bind {
             name,

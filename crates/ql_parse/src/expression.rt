@@ -60,7 +60,7 @@ pub(crate) struct Operand {
 
 /// The operator with its two operands, which starts where the first one does.
 #[inline(always)]
-fn combined(alloc: Global, left: Operand, op: BinOp, right: Operand) -> Result<Operand, Refusal>
+fn combination(alloc: Global, left: Operand, op: BinOp, right: Operand) -> Result<Operand, Refusal>
     ensures start { IfOk result (λ o. o.start ≡ left.start) }
     ensures tree { IfOk result (λ o. expression_of o.expr ≡ Combining left.start op (expression_of left.expr) (expression_of right.expr)) }
     ensures full { IfErr result (λ e. e ≡ Refusal.NoMemory) }
@@ -79,7 +79,13 @@ fn combined(alloc: Global, left: Operand, op: BinOp, right: Operand) -> Result<O
 
 /// The choice that the word `if` at `at` begins.
 #[inline(always)]
-fn choosing(alloc: Global, at: u32, test: Expr, then: Expr, other: Expr) -> Result<Operand, Refusal>
+fn conditional(
+    alloc: Global,
+    at: u32,
+    test: Expr,
+    then: Expr,
+    other: Expr,
+) -> Result<Operand, Refusal>
     ensures start { IfOk result (λ o. o.start ≡ at) }
     ensures tree { IfOk result (λ o. expression_of o.expr ≡ Choosing at (expression_of test) (expression_of then) (expression_of other)) }
     ensures full { IfErr result (λ e. e ≡ Refusal.NoMemory) }
@@ -215,12 +221,12 @@ impl Reader<'_> {
         ensures shorter { OnOk result (length self.new.tokens < length self.old.tokens) }
         ensures refused { IfErr result (IsRefused (APart Arguments) self.old) }
     {
-        let first = self.chosen(alloc)?;
+        let first = self.whole_expression(alloc)?;
         let mut found = Vec::new(alloc);
         found.push(first.expr)?;
         'more: while self.sees(Terminal::Comma) {
             self.take(Terminal::Comma, Role::Plain)?;
-            let arg = self.chosen(alloc)?;
+            let arg = self.whole_expression(alloc)?;
             found.push(arg.expr)?;
         }
         Ok(found)
@@ -235,7 +241,7 @@ impl Reader<'_> {
         ensures refused { IfErr result (IsRefused (APart (ExprAt Unary)) self.old) }
     {
         let at = self.take(Terminal::OpenParen, Role::Opens(0))?;
-        let inside = self.chosen(alloc)?;
+        let inside = self.whole_expression(alloc)?;
         self.take(Terminal::CloseParen, Role::Closes)?;
         Ok(Operand {
             start: at,
@@ -308,7 +314,7 @@ impl Reader<'_> {
 
     /// Expressions with `*` between them.
     #[cycle(expr)]
-    fn multiplied(&mut self, alloc: Global) -> Result<Operand, Refusal>
+    fn multiplication(&mut self, alloc: Global) -> Result<Operand, Refusal>
         ensures gave { IfOk result (λ o. Gave (APart (ExprAt Multiplied)) (AnExpr o.start (expression_of o.expr)) self.old self.new) }
         ensures shorter { OnOk result (length self.new.tokens < length self.old.tokens) }
         ensures refused { IfErr result (IsRefused (APart (ExprAt Multiplied)) self.old) }
@@ -331,7 +337,7 @@ impl Reader<'_> {
     {
         let op = self.operator(Precedence::Product)?;
         let right = self.unary(alloc)?;
-        let both = combined(alloc, left, op, right)?;
+        let both = combination(alloc, left, op, right)?;
         if self.sees_operator(Precedence::Product) {
             let product = self.more_times(alloc, both)?;
             return Ok(product);
@@ -341,12 +347,12 @@ impl Reader<'_> {
 
     /// Expressions with `+` and `-` between them.
     #[cycle(expr)]
-    fn added(&mut self, alloc: Global) -> Result<Operand, Refusal>
+    fn addition(&mut self, alloc: Global) -> Result<Operand, Refusal>
         ensures gave { IfOk result (λ o. Gave (APart (ExprAt Added)) (AnExpr o.start (expression_of o.expr)) self.old self.new) }
         ensures shorter { OnOk result (length self.new.tokens < length self.old.tokens) }
         ensures refused { IfErr result (IsRefused (APart (ExprAt Added)) self.old) }
     {
-        let left = self.multiplied(alloc)?;
+        let left = self.multiplication(alloc)?;
         if self.sees_operator(Precedence::Sum) {
             let sum = self.more_plus(alloc, left)?;
             return Ok(sum);
@@ -363,8 +369,8 @@ impl Reader<'_> {
         ensures refused { IfErr result (IsRestRefused MorePlus (AnExpr left.start (expression_of left.expr)) self.old) }
     {
         let op = self.operator(Precedence::Sum)?;
-        let right = self.multiplied(alloc)?;
-        let both = combined(alloc, left, op, right)?;
+        let right = self.multiplication(alloc)?;
+        let both = combination(alloc, left, op, right)?;
         if self.sees_operator(Precedence::Sum) {
             let sum = self.more_plus(alloc, both)?;
             return Ok(sum);
@@ -374,12 +380,12 @@ impl Reader<'_> {
 
     /// Expressions with `and` between them.
     #[cycle(expr)]
-    fn conjoined(&mut self, alloc: Global) -> Result<Operand, Refusal>
+    fn conjunction(&mut self, alloc: Global) -> Result<Operand, Refusal>
         ensures gave { IfOk result (λ o. Gave (APart (ExprAt Conjoined)) (AnExpr o.start (expression_of o.expr)) self.old self.new) }
         ensures shorter { OnOk result (length self.new.tokens < length self.old.tokens) }
         ensures refused { IfErr result (IsRefused (APart (ExprAt Conjoined)) self.old) }
     {
-        let left = self.compared(alloc)?;
+        let left = self.comparison(alloc)?;
         if self.sees_operator(Precedence::Conjunction) {
             let conjunction = self.more_conjoined(alloc, left)?;
             return Ok(conjunction);
@@ -396,8 +402,8 @@ impl Reader<'_> {
         ensures refused { IfErr result (IsRestRefused MoreConjoined (AnExpr left.start (expression_of left.expr)) self.old) }
     {
         let op = self.operator(Precedence::Conjunction)?;
-        let right = self.compared(alloc)?;
-        let both = combined(alloc, left, op, right)?;
+        let right = self.comparison(alloc)?;
+        let both = combination(alloc, left, op, right)?;
         if self.sees_operator(Precedence::Conjunction) {
             let conjunction = self.more_conjoined(alloc, both)?;
             return Ok(conjunction);
@@ -407,12 +413,12 @@ impl Reader<'_> {
 
     /// Expressions with `or` between them.
     #[cycle(expr)]
-    fn disjoined(&mut self, alloc: Global) -> Result<Operand, Refusal>
+    fn disjunction(&mut self, alloc: Global) -> Result<Operand, Refusal>
         ensures gave { IfOk result (λ o. Gave (APart (ExprAt Disjoined)) (AnExpr o.start (expression_of o.expr)) self.old self.new) }
         ensures shorter { OnOk result (length self.new.tokens < length self.old.tokens) }
         ensures refused { IfErr result (IsRefused (APart (ExprAt Disjoined)) self.old) }
     {
-        let left = self.conjoined(alloc)?;
+        let left = self.conjunction(alloc)?;
         if self.sees_operator(Precedence::Disjunction) {
             let disjunction = self.more_disjoined(alloc, left)?;
             return Ok(disjunction);
@@ -429,8 +435,8 @@ impl Reader<'_> {
         ensures refused { IfErr result (IsRestRefused MoreDisjoined (AnExpr left.start (expression_of left.expr)) self.old) }
     {
         let op = self.operator(Precedence::Disjunction)?;
-        let right = self.conjoined(alloc)?;
-        let both = combined(alloc, left, op, right)?;
+        let right = self.conjunction(alloc)?;
+        let both = combination(alloc, left, op, right)?;
         if self.sees_operator(Precedence::Disjunction) {
             let disjunction = self.more_disjoined(alloc, both)?;
             return Ok(disjunction);
@@ -440,16 +446,16 @@ impl Reader<'_> {
 
     /// Two expressions that are compared, or one.
     #[cycle(expr)]
-    fn compared(&mut self, alloc: Global) -> Result<Operand, Refusal>
+    fn comparison(&mut self, alloc: Global) -> Result<Operand, Refusal>
         ensures gave { IfOk result (λ o. Gave (APart (ExprAt Compared)) (AnExpr o.start (expression_of o.expr)) self.old self.new) }
         ensures shorter { OnOk result (length self.new.tokens < length self.old.tokens) }
         ensures refused { IfErr result (IsRefused (APart (ExprAt Compared)) self.old) }
     {
-        let left = self.added(alloc)?;
+        let left = self.addition(alloc)?;
         if self.sees_operator(Precedence::Comparison) {
             let op = self.operator(Precedence::Comparison)?;
-            let right = self.added(alloc)?;
-            let both = combined(alloc, left, op, right)?;
+            let right = self.addition(alloc)?;
+            let both = combination(alloc, left, op, right)?;
             return Ok(both);
         }
         Ok(left)
@@ -463,7 +469,7 @@ impl Reader<'_> {
         ensures refused { IfErr result (AreRefused (branch_symbols word) self.old) }
     {
         self.take(word, Role::Plain)?;
-        let value = self.chosen(alloc)?;
+        let value = self.whole_expression(alloc)?;
         Ok(value)
     }
 
@@ -476,16 +482,16 @@ impl Reader<'_> {
         ensures refused { IfErr result (IsRefused (APart (ExprAt Chosen)) self.old) }
     {
         let at = self.take(Terminal::IfWord, Role::Makes(1))?;
-        let test = self.chosen(alloc)?;
+        let test = self.whole_expression(alloc)?;
         let then = self.branch(alloc, Terminal::ThenWord)?;
         let other = self.branch(alloc, Terminal::ElseWord)?;
-        let choice = choosing(alloc, at, test.expr, then.expr, other.expr)?;
+        let choice = conditional(alloc, at, test.expr, then.expr, other.expr)?;
         Ok(choice)
     }
 
     /// A whole expression.
     #[cycle(expr)]
-    pub(crate) fn chosen(&mut self, alloc: Global) -> Result<Operand, Refusal>
+    pub(crate) fn whole_expression(&mut self, alloc: Global) -> Result<Operand, Refusal>
         ensures gave { IfOk result (λ o. Gave (APart (ExprAt Chosen)) (AnExpr o.start (expression_of o.expr)) self.old self.new) }
         ensures shorter { OnOk result (length self.new.tokens < length self.old.tokens) }
         ensures refused { IfErr result (IsRefused (APart (ExprAt Chosen)) self.old) }
@@ -493,7 +499,7 @@ impl Reader<'_> {
         if self.sees(Terminal::IfWord) {
             return self.choice(alloc);
         }
-        let value = self.disjoined(alloc)?;
+        let value = self.disjunction(alloc)?;
         Ok(value)
     }
 }

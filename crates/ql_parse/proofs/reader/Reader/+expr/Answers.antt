@@ -132,21 +132,21 @@ unary-returns-in_err-value-clause-refused t c =
 pub unary-returns-clause-gave : goal.unary-returns-clause-gave
 unary-returns-clause-gave t c = λ below vs. unary-constant c.args.self.now below vs (sym c.sees.ensures ∙ c.if-sees.false) (sym c.sees-2.ensures ∙ c.if-sees-2.false) (sym c.sees-3.ensures ∙ c.if-sees-3.false) (sym c.sees-4.ensures ∙ c.if-sees-4.false) (sym c.sees-5.ensures ∙ c.if-sees-5.false) (sym c.sees-6.ensures ∙ c.if-sees-6.false) ∙ c.in_ok-value.ensures.gave _ _
 
-pub multiplied-returns-in_err-left-clause-refused : goal.multiplied-returns-in_err-left-clause-refused
-multiplied-returns-in_err-left-clause-refused t c =
+pub multiplication-returns-in_err-left-clause-refused : goal.multiplication-returns-in_err-left-clause-refused
+multiplication-returns-in_err-left-clause-refused t c =
     let p = err_from_is_err_and c.from_residual.result c.from_residual.ensures.1 in
     rw (p.1, p.2) (λ f is below vs. read-as c.args.self.now (ExprAt Multiplied) (ExprAt Unary) below (Then MoreTimes ∷ below) vs refl ∙ c.in_err-left.ensures.refused f is _ _)
 
-pub multiplied-returns-in_err-product-clause-refused : goal.multiplied-returns-in_err-product-clause-refused
-multiplied-returns-in_err-product-clause-refused t c =
+pub multiplication-returns-in_err-product-clause-refused : goal.multiplication-returns-in_err-product-clause-refused
+multiplication-returns-in_err-product-clause-refused t c =
     let p = err_from_is_err_and c.from_residual-in_err-product.result c.from_residual-in_err-product.ensures.1 in
     rw (p.1, p.2) (λ f is below vs. read-as c.args.self.now (ExprAt Multiplied) (ExprAt Unary) below (Then MoreTimes ∷ below) vs refl ∙ c.in_ok-left.ensures.gave _ _ ∙ c.in_err-product.ensures.refused f is _ _)
 
-pub multiplied-returns-then-sees_operator-clause-gave : goal.multiplied-returns-then-sees_operator-clause-gave
-multiplied-returns-then-sees_operator-clause-gave t c = λ below vs. read-as c.args.self.now (ExprAt Multiplied) (ExprAt Unary) below (Then MoreTimes ∷ below) vs refl ∙ c.in_ok-left.ensures.gave _ _ ∙ c.in_ok-product.ensures.gave _ _
+pub multiplication-returns-then-sees_operator-clause-gave : goal.multiplication-returns-then-sees_operator-clause-gave
+multiplication-returns-then-sees_operator-clause-gave t c = λ below vs. read-as c.args.self.now (ExprAt Multiplied) (ExprAt Unary) below (Then MoreTimes ∷ below) vs refl ∙ c.in_ok-left.ensures.gave _ _ ∙ c.in_ok-product.ensures.gave _ _
 
-pub multiplied-returns-clause-gave : goal.multiplied-returns-clause-gave
-multiplied-returns-clause-gave t c = λ below vs. read-as c.args.self.now (ExprAt Multiplied) (ExprAt Unary) below (Then MoreTimes ∷ below) vs refl ∙ c.in_ok-left.ensures.gave _ _ ∙ then-past _ MoreTimes below _ (sym c.sees_operator.ensures ∙ c.if-sees_operator.false)
+pub multiplication-returns-clause-gave : goal.multiplication-returns-clause-gave
+multiplication-returns-clause-gave t c = λ below vs. read-as c.args.self.now (ExprAt Multiplied) (ExprAt Unary) below (Then MoreTimes ∷ below) vs refl ∙ c.in_ok-left.ensures.gave _ _ ∙ then-past _ MoreTimes below _ (sym c.sees_operator.ensures ∙ c.if-sees_operator.false)
 
 pub more_times-returns-in_err-op-clause-refused : goal.more_times-returns-in_err-op-clause-refused
 more_times-returns-in_err-op-clause-refused t c =
@@ -169,21 +169,21 @@ more_times-returns-then-sees_operator-clause-gave t c = λ below vs. then-on c.a
 pub more_times-returns-clause-gave : goal.more_times-returns-clause-gave
 more_times-returns-clause-gave t c = λ below vs. rw (c.in_ok-both.ensures.start, c.in_ok-both.ensures.tree) (then-on c.args.self.now MoreTimes below _ c.requires ∙ c.in_ok-op.ensures.gave _ _ ∙ c.in_ok-right.ensures.gave _ _ ∙ read-do _ _ _ _ ∙ then-past _ MoreTimes below _ (sym c.sees_operator.ensures ∙ c.if-sees_operator.false))
 
-pub added-returns-in_err-left-clause-refused : goal.added-returns-in_err-left-clause-refused
-added-returns-in_err-left-clause-refused t c =
+pub addition-returns-in_err-left-clause-refused : goal.addition-returns-in_err-left-clause-refused
+addition-returns-in_err-left-clause-refused t c =
     let p = err_from_is_err_and c.from_residual.result c.from_residual.ensures.1 in
     rw (p.1, p.2) (λ f is below vs. read-as c.args.self.now (ExprAt Added) (ExprAt Multiplied) below (Then MorePlus ∷ below) vs refl ∙ c.in_err-left.ensures.refused f is _ _)
 
-pub added-returns-in_err-sum-clause-refused : goal.added-returns-in_err-sum-clause-refused
-added-returns-in_err-sum-clause-refused t c =
+pub addition-returns-in_err-sum-clause-refused : goal.addition-returns-in_err-sum-clause-refused
+addition-returns-in_err-sum-clause-refused t c =
     let p = err_from_is_err_and c.from_residual-in_err-sum.result c.from_residual-in_err-sum.ensures.1 in
     rw (p.1, p.2) (λ f is below vs. read-as c.args.self.now (ExprAt Added) (ExprAt Multiplied) below (Then MorePlus ∷ below) vs refl ∙ c.in_ok-left.ensures.gave _ _ ∙ c.in_err-sum.ensures.refused f is _ _)
 
-pub added-returns-then-sees_operator-clause-gave : goal.added-returns-then-sees_operator-clause-gave
-added-returns-then-sees_operator-clause-gave t c = λ below vs. read-as c.args.self.now (ExprAt Added) (ExprAt Multiplied) below (Then MorePlus ∷ below) vs refl ∙ c.in_ok-left.ensures.gave _ _ ∙ c.in_ok-sum.ensures.gave _ _
+pub addition-returns-then-sees_operator-clause-gave : goal.addition-returns-then-sees_operator-clause-gave
+addition-returns-then-sees_operator-clause-gave t c = λ below vs. read-as c.args.self.now (ExprAt Added) (ExprAt Multiplied) below (Then MorePlus ∷ below) vs refl ∙ c.in_ok-left.ensures.gave _ _ ∙ c.in_ok-sum.ensures.gave _ _
 
-pub added-returns-clause-gave : goal.added-returns-clause-gave
-added-returns-clause-gave t c = λ below vs. read-as c.args.self.now (ExprAt Added) (ExprAt Multiplied) below (Then MorePlus ∷ below) vs refl ∙ c.in_ok-left.ensures.gave _ _ ∙ then-past _ MorePlus below _ (sym c.sees_operator.ensures ∙ c.if-sees_operator.false)
+pub addition-returns-clause-gave : goal.addition-returns-clause-gave
+addition-returns-clause-gave t c = λ below vs. read-as c.args.self.now (ExprAt Added) (ExprAt Multiplied) below (Then MorePlus ∷ below) vs refl ∙ c.in_ok-left.ensures.gave _ _ ∙ then-past _ MorePlus below _ (sym c.sees_operator.ensures ∙ c.if-sees_operator.false)
 
 pub more_plus-returns-in_err-op-clause-refused : goal.more_plus-returns-in_err-op-clause-refused
 more_plus-returns-in_err-op-clause-refused t c =
@@ -206,21 +206,21 @@ more_plus-returns-then-sees_operator-clause-gave t c = λ below vs. then-on c.ar
 pub more_plus-returns-clause-gave : goal.more_plus-returns-clause-gave
 more_plus-returns-clause-gave t c = λ below vs. rw (c.in_ok-both.ensures.start, c.in_ok-both.ensures.tree) (then-on c.args.self.now MorePlus below _ c.requires ∙ c.in_ok-op.ensures.gave _ _ ∙ c.in_ok-right.ensures.gave _ _ ∙ read-do _ _ _ _ ∙ then-past _ MorePlus below _ (sym c.sees_operator.ensures ∙ c.if-sees_operator.false))
 
-pub conjoined-returns-in_err-left-clause-refused : goal.conjoined-returns-in_err-left-clause-refused
-conjoined-returns-in_err-left-clause-refused t c =
+pub conjunction-returns-in_err-left-clause-refused : goal.conjunction-returns-in_err-left-clause-refused
+conjunction-returns-in_err-left-clause-refused t c =
     let p = err_from_is_err_and c.from_residual.result c.from_residual.ensures.1 in
     rw (p.1, p.2) (λ f is below vs. read-as c.args.self.now (ExprAt Conjoined) (ExprAt Compared) below (Then MoreConjoined ∷ below) vs refl ∙ c.in_err-left.ensures.refused f is _ _)
 
-pub conjoined-returns-in_err-conjunction-clause-refused : goal.conjoined-returns-in_err-conjunction-clause-refused
-conjoined-returns-in_err-conjunction-clause-refused t c =
+pub conjunction-returns-in_err-conjunction-clause-refused : goal.conjunction-returns-in_err-conjunction-clause-refused
+conjunction-returns-in_err-conjunction-clause-refused t c =
     let p = err_from_is_err_and c.from_residual-in_err-conjunction.result c.from_residual-in_err-conjunction.ensures.1 in
     rw (p.1, p.2) (λ f is below vs. read-as c.args.self.now (ExprAt Conjoined) (ExprAt Compared) below (Then MoreConjoined ∷ below) vs refl ∙ c.in_ok-left.ensures.gave _ _ ∙ c.in_err-conjunction.ensures.refused f is _ _)
 
-pub conjoined-returns-then-sees_operator-clause-gave : goal.conjoined-returns-then-sees_operator-clause-gave
-conjoined-returns-then-sees_operator-clause-gave t c = λ below vs. read-as c.args.self.now (ExprAt Conjoined) (ExprAt Compared) below (Then MoreConjoined ∷ below) vs refl ∙ c.in_ok-left.ensures.gave _ _ ∙ c.in_ok-conjunction.ensures.gave _ _
+pub conjunction-returns-then-sees_operator-clause-gave : goal.conjunction-returns-then-sees_operator-clause-gave
+conjunction-returns-then-sees_operator-clause-gave t c = λ below vs. read-as c.args.self.now (ExprAt Conjoined) (ExprAt Compared) below (Then MoreConjoined ∷ below) vs refl ∙ c.in_ok-left.ensures.gave _ _ ∙ c.in_ok-conjunction.ensures.gave _ _
 
-pub conjoined-returns-clause-gave : goal.conjoined-returns-clause-gave
-conjoined-returns-clause-gave t c = λ below vs. read-as c.args.self.now (ExprAt Conjoined) (ExprAt Compared) below (Then MoreConjoined ∷ below) vs refl ∙ c.in_ok-left.ensures.gave _ _ ∙ then-past _ MoreConjoined below _ (sym c.sees_operator.ensures ∙ c.if-sees_operator.false)
+pub conjunction-returns-clause-gave : goal.conjunction-returns-clause-gave
+conjunction-returns-clause-gave t c = λ below vs. read-as c.args.self.now (ExprAt Conjoined) (ExprAt Compared) below (Then MoreConjoined ∷ below) vs refl ∙ c.in_ok-left.ensures.gave _ _ ∙ then-past _ MoreConjoined below _ (sym c.sees_operator.ensures ∙ c.if-sees_operator.false)
 
 pub more_conjoined-returns-in_err-op-clause-refused : goal.more_conjoined-returns-in_err-op-clause-refused
 more_conjoined-returns-in_err-op-clause-refused t c =
@@ -243,21 +243,21 @@ more_conjoined-returns-then-sees_operator-clause-gave t c = λ below vs. then-on
 pub more_conjoined-returns-clause-gave : goal.more_conjoined-returns-clause-gave
 more_conjoined-returns-clause-gave t c = λ below vs. rw (c.in_ok-both.ensures.start, c.in_ok-both.ensures.tree) (then-on c.args.self.now MoreConjoined below _ c.requires ∙ c.in_ok-op.ensures.gave _ _ ∙ c.in_ok-right.ensures.gave _ _ ∙ read-do _ _ _ _ ∙ then-past _ MoreConjoined below _ (sym c.sees_operator.ensures ∙ c.if-sees_operator.false))
 
-pub disjoined-returns-in_err-left-clause-refused : goal.disjoined-returns-in_err-left-clause-refused
-disjoined-returns-in_err-left-clause-refused t c =
+pub disjunction-returns-in_err-left-clause-refused : goal.disjunction-returns-in_err-left-clause-refused
+disjunction-returns-in_err-left-clause-refused t c =
     let p = err_from_is_err_and c.from_residual.result c.from_residual.ensures.1 in
     rw (p.1, p.2) (λ f is below vs. read-as c.args.self.now (ExprAt Disjoined) (ExprAt Conjoined) below (Then MoreDisjoined ∷ below) vs refl ∙ c.in_err-left.ensures.refused f is _ _)
 
-pub disjoined-returns-in_err-disjunction-clause-refused : goal.disjoined-returns-in_err-disjunction-clause-refused
-disjoined-returns-in_err-disjunction-clause-refused t c =
+pub disjunction-returns-in_err-disjunction-clause-refused : goal.disjunction-returns-in_err-disjunction-clause-refused
+disjunction-returns-in_err-disjunction-clause-refused t c =
     let p = err_from_is_err_and c.from_residual-in_err-disjunction.result c.from_residual-in_err-disjunction.ensures.1 in
     rw (p.1, p.2) (λ f is below vs. read-as c.args.self.now (ExprAt Disjoined) (ExprAt Conjoined) below (Then MoreDisjoined ∷ below) vs refl ∙ c.in_ok-left.ensures.gave _ _ ∙ c.in_err-disjunction.ensures.refused f is _ _)
 
-pub disjoined-returns-then-sees_operator-clause-gave : goal.disjoined-returns-then-sees_operator-clause-gave
-disjoined-returns-then-sees_operator-clause-gave t c = λ below vs. read-as c.args.self.now (ExprAt Disjoined) (ExprAt Conjoined) below (Then MoreDisjoined ∷ below) vs refl ∙ c.in_ok-left.ensures.gave _ _ ∙ c.in_ok-disjunction.ensures.gave _ _
+pub disjunction-returns-then-sees_operator-clause-gave : goal.disjunction-returns-then-sees_operator-clause-gave
+disjunction-returns-then-sees_operator-clause-gave t c = λ below vs. read-as c.args.self.now (ExprAt Disjoined) (ExprAt Conjoined) below (Then MoreDisjoined ∷ below) vs refl ∙ c.in_ok-left.ensures.gave _ _ ∙ c.in_ok-disjunction.ensures.gave _ _
 
-pub disjoined-returns-clause-gave : goal.disjoined-returns-clause-gave
-disjoined-returns-clause-gave t c = λ below vs. read-as c.args.self.now (ExprAt Disjoined) (ExprAt Conjoined) below (Then MoreDisjoined ∷ below) vs refl ∙ c.in_ok-left.ensures.gave _ _ ∙ then-past _ MoreDisjoined below _ (sym c.sees_operator.ensures ∙ c.if-sees_operator.false)
+pub disjunction-returns-clause-gave : goal.disjunction-returns-clause-gave
+disjunction-returns-clause-gave t c = λ below vs. read-as c.args.self.now (ExprAt Disjoined) (ExprAt Conjoined) below (Then MoreDisjoined ∷ below) vs refl ∙ c.in_ok-left.ensures.gave _ _ ∙ then-past _ MoreDisjoined below _ (sym c.sees_operator.ensures ∙ c.if-sees_operator.false)
 
 pub more_disjoined-returns-in_err-op-clause-refused : goal.more_disjoined-returns-in_err-op-clause-refused
 more_disjoined-returns-in_err-op-clause-refused t c =
@@ -280,26 +280,26 @@ more_disjoined-returns-then-sees_operator-clause-gave t c = λ below vs. then-on
 pub more_disjoined-returns-clause-gave : goal.more_disjoined-returns-clause-gave
 more_disjoined-returns-clause-gave t c = λ below vs. rw (c.in_ok-both.ensures.start, c.in_ok-both.ensures.tree) (then-on c.args.self.now MoreDisjoined below _ c.requires ∙ c.in_ok-op.ensures.gave _ _ ∙ c.in_ok-right.ensures.gave _ _ ∙ read-do _ _ _ _ ∙ then-past _ MoreDisjoined below _ (sym c.sees_operator.ensures ∙ c.if-sees_operator.false))
 
-pub compared-returns-in_err-left-clause-refused : goal.compared-returns-in_err-left-clause-refused
-compared-returns-in_err-left-clause-refused t c =
+pub comparison-returns-in_err-left-clause-refused : goal.comparison-returns-in_err-left-clause-refused
+comparison-returns-in_err-left-clause-refused t c =
     let p = err_from_is_err_and c.from_residual.result c.from_residual.ensures.1 in
     rw (p.1, p.2) (λ f is below vs. read-as c.args.self.now (ExprAt Compared) (ExprAt Added) below (Then Comparison ∷ below) vs refl ∙ c.in_err-left.ensures.refused f is _ _)
 
-pub compared-returns-in_err-op-clause-refused : goal.compared-returns-in_err-op-clause-refused
-compared-returns-in_err-op-clause-refused t c =
+pub comparison-returns-in_err-op-clause-refused : goal.comparison-returns-in_err-op-clause-refused
+comparison-returns-in_err-op-clause-refused t c =
     let p = err_from_is_err_and c.from_residual-in_err-op.result c.from_residual-in_err-op.ensures.1 in
     rw (p.1, p.2) (λ f is below vs. read-as c.args.self.now (ExprAt Compared) (ExprAt Added) below (Then Comparison ∷ below) vs refl ∙ c.in_ok-left.ensures.gave _ _ ∙ then-on _ Comparison below _ (sym c.sees_operator.ensures ∙ c.if-sees_operator.true) ∙ c.in_err-op.ensures.refused f is _ _)
 
-pub compared-returns-in_err-right-clause-refused : goal.compared-returns-in_err-right-clause-refused
-compared-returns-in_err-right-clause-refused t c =
+pub comparison-returns-in_err-right-clause-refused : goal.comparison-returns-in_err-right-clause-refused
+comparison-returns-in_err-right-clause-refused t c =
     let p = err_from_is_err_and c.from_residual-in_err-right.result c.from_residual-in_err-right.ensures.1 in
     rw (p.1, p.2) (λ f is below vs. read-as c.args.self.now (ExprAt Compared) (ExprAt Added) below (Then Comparison ∷ below) vs refl ∙ c.in_ok-left.ensures.gave _ _ ∙ then-on _ Comparison below _ (sym c.sees_operator.ensures ∙ c.if-sees_operator.true) ∙ c.in_ok-op.ensures.gave _ _ ∙ c.in_err-right.ensures.refused f is _ _)
 
-pub compared-returns-then-sees_operator-clause-gave : goal.compared-returns-then-sees_operator-clause-gave
-compared-returns-then-sees_operator-clause-gave t c = λ below vs. rw (c.in_ok-both.ensures.start, c.in_ok-both.ensures.tree) (read-as c.args.self.now (ExprAt Compared) (ExprAt Added) below (Then Comparison ∷ below) vs refl ∙ c.in_ok-left.ensures.gave _ _ ∙ then-on _ Comparison below _ (sym c.sees_operator.ensures ∙ c.if-sees_operator.true) ∙ c.in_ok-op.ensures.gave _ _ ∙ c.in_ok-right.ensures.gave _ _ ∙ read-do _ _ _ _)
+pub comparison-returns-then-sees_operator-clause-gave : goal.comparison-returns-then-sees_operator-clause-gave
+comparison-returns-then-sees_operator-clause-gave t c = λ below vs. rw (c.in_ok-both.ensures.start, c.in_ok-both.ensures.tree) (read-as c.args.self.now (ExprAt Compared) (ExprAt Added) below (Then Comparison ∷ below) vs refl ∙ c.in_ok-left.ensures.gave _ _ ∙ then-on _ Comparison below _ (sym c.sees_operator.ensures ∙ c.if-sees_operator.true) ∙ c.in_ok-op.ensures.gave _ _ ∙ c.in_ok-right.ensures.gave _ _ ∙ read-do _ _ _ _)
 
-pub compared-returns-clause-gave : goal.compared-returns-clause-gave
-compared-returns-clause-gave t c = λ below vs. read-as c.args.self.now (ExprAt Compared) (ExprAt Added) below (Then Comparison ∷ below) vs refl ∙ c.in_ok-left.ensures.gave _ _ ∙ then-past _ Comparison below _ (sym c.sees_operator.ensures ∙ c.if-sees_operator.false)
+pub comparison-returns-clause-gave : goal.comparison-returns-clause-gave
+comparison-returns-clause-gave t c = λ below vs. read-as c.args.self.now (ExprAt Compared) (ExprAt Added) below (Then Comparison ∷ below) vs refl ∙ c.in_ok-left.ensures.gave _ _ ∙ then-past _ Comparison below _ (sym c.sees_operator.ensures ∙ c.if-sees_operator.false)
 
 pub branch-returns-in_err-take-clause-refused : goal.branch-returns-in_err-take-clause-refused
 branch-returns-in_err-take-clause-refused t c =
@@ -337,10 +337,10 @@ choice-returns-in_err-other-clause-refused t c =
 pub choice-returns-clause-gave : goal.choice-returns-clause-gave
 choice-returns-clause-gave t c = λ below vs. rw (c.in_ok-choice.ensures.start, c.in_ok-choice.ensures.tree) (chosen-if c.args.self.now below vs c.requires ∙ c.in_ok-at.ensures.gave _ _ ∙ c.in_ok-test.ensures.gave _ _ ∙ c.in_ok-then.ensures.gave _ _ ∙ c.in_ok-other.ensures.gave _ _ ∙ read-do _ _ _ _)
 
-pub chosen-returns-in_err-value-clause-refused : goal.chosen-returns-in_err-value-clause-refused
-chosen-returns-in_err-value-clause-refused t c =
+pub whole_expression-returns-in_err-value-clause-refused : goal.whole_expression-returns-in_err-value-clause-refused
+whole_expression-returns-in_err-value-clause-refused t c =
     let p = err_from_is_err_and c.from_residual.result c.from_residual.ensures.1 in
     rw (p.1, p.2) (λ f is below vs. chosen-plain c.args.self.now below vs (sym c.sees.ensures ∙ c.if-sees.false) ∙ c.in_err-value.ensures.refused f is _ _)
 
-pub chosen-returns-clause-gave : goal.chosen-returns-clause-gave
-chosen-returns-clause-gave t c = λ below vs. chosen-plain c.args.self.now below vs (sym c.sees.ensures ∙ c.if-sees.false) ∙ c.in_ok-value.ensures.gave _ _
+pub whole_expression-returns-clause-gave : goal.whole_expression-returns-clause-gave
+whole_expression-returns-clause-gave t c = λ below vs. chosen-plain c.args.self.now below vs (sym c.sees.ensures ∙ c.if-sees.false) ∙ c.in_ok-value.ensures.gave _ _

@@ -25,29 +25,29 @@ decreases-negation l = 9 * length l.self.now.tokens
 abbrev pub decreases-unary : goal.decreases-unary
 decreases-unary l = 9 * length l.self.now.tokens + 1
 
-abbrev pub decreases-multiplied : goal.decreases-multiplied
-decreases-multiplied l = 9 * length l.self.now.tokens + 2
+abbrev pub decreases-multiplication : goal.decreases-multiplication
+decreases-multiplication l = 9 * length l.self.now.tokens + 2
 
 abbrev pub decreases-more_times : goal.decreases-more_times
 decreases-more_times l = 9 * length l.self.now.tokens
 
-abbrev pub decreases-added : goal.decreases-added
-decreases-added l = 9 * length l.self.now.tokens + 3
+abbrev pub decreases-addition : goal.decreases-addition
+decreases-addition l = 9 * length l.self.now.tokens + 3
 
 abbrev pub decreases-more_plus : goal.decreases-more_plus
 decreases-more_plus l = 9 * length l.self.now.tokens
 
-abbrev pub decreases-compared : goal.decreases-compared
-decreases-compared l = 9 * length l.self.now.tokens + 4
+abbrev pub decreases-comparison : goal.decreases-comparison
+decreases-comparison l = 9 * length l.self.now.tokens + 4
 
-abbrev pub decreases-conjoined : goal.decreases-conjoined
-decreases-conjoined l = 9 * length l.self.now.tokens + 5
+abbrev pub decreases-conjunction : goal.decreases-conjunction
+decreases-conjunction l = 9 * length l.self.now.tokens + 5
 
 abbrev pub decreases-more_conjoined : goal.decreases-more_conjoined
 decreases-more_conjoined l = 9 * length l.self.now.tokens
 
-abbrev pub decreases-disjoined : goal.decreases-disjoined
-decreases-disjoined l = 9 * length l.self.now.tokens + 6
+abbrev pub decreases-disjunction : goal.decreases-disjunction
+decreases-disjunction l = 9 * length l.self.now.tokens + 6
 
 abbrev pub decreases-more_disjoined : goal.decreases-more_disjoined
 decreases-more_disjoined l = 9 * length l.self.now.tokens
@@ -58,8 +58,8 @@ decreases-branch l = 9 * length l.self.now.tokens
 abbrev pub decreases-choice : goal.decreases-choice
 decreases-choice l = 9 * length l.self.now.tokens
 
-abbrev pub decreases-chosen : goal.decreases-chosen
-decreases-chosen l = 9 * length l.self.now.tokens + 7
+abbrev pub decreases-whole_expression : goal.decreases-whole_expression
+decreases-whole_expression l = 9 * length l.self.now.tokens + 7
 
 abbrev pub invariant-arguments_of_call-more : goal.invariant-arguments_of_call-more
 invariant-arguments_of_call-more l = Started (APart Arguments) MoreArguments (TheExprs (map expression_of l.found.items)) l.fn.self l.self

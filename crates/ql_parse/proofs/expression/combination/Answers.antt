@@ -1,6 +1,6 @@
 use Rattle.std.proofs.Common.{refl}
 use Rattle.ql_lang.specs.Expressions.{node_of}
-use Rattle.ql_parse.proofs.expression.combined.Goals as goal
+use Rattle.ql_parse.proofs.expression.combination.Goals as goal
 
 pub returns-clause-tree : goal.returns-clause-tree
 unfolding node_of

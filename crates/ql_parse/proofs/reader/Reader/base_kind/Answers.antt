@@ -1,6 +1,6 @@
 use Rattle.std.proofs.Common.{◌∙◌}
 use Rattle.std.proofs.lemmas.Result.{err_from_is_err_and}
-use Rattle.ql_parse.proofs.reader.Reader.based.Goals as goal
+use Rattle.ql_parse.proofs.reader.Reader.base_kind.Goals as goal
 
 pub returns-in_err-take-clause-refused : goal.returns-in_err-take-clause-refused
 returns-in_err-take-clause-refused c =
