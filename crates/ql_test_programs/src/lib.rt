@@ -2,6 +2,6 @@
 // It has no contract of its own: only test crates depend on it.
 #![tactic(auto)]
 
-mod declared;
+mod program;
 
-pub use declared::declared;
+pub use program::declared;
