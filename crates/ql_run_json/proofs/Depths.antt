@@ -75,7 +75,7 @@ member_nests p (Inside run decl) = omega arith
 more_members : (n : ℕ) (key : List ℕ) (d : Data) (ms : Members) → NestsIn n d → members_depth ms ≤ n → members_depth (member key d ms) ≤ n
 more_members n key d ms first rest = omega (arith, first, rest)
 
-effect_nests : (p : Program) (objects : List (List ℕ)) (id : ℕ) (e : Effect) → NestsIn 4 (effect_data p objects id e)
+pub effect_nests : (p : Program) (objects : List (List ℕ)) (id : ℕ) (e : Effect) → NestsIn 4 (effect_data p objects id e)
 effect_nests p objects id e =
     let answer = value_nests e.answer in
     let args = values_nest e.args in
@@ -89,12 +89,18 @@ unfolding effects_from
 effects_nest p objects id [] = omega arith
 effects_nest p objects id (e ∷ es) = one_more 4 (effect_data p objects id e) (effects_from p objects (id + 1) es) (effect_nests p objects id e) (effects_nest p objects (id + 1) es)
 
-pub run_nests : (p : Program) (objects : List (List ℕ)) (levels : LevelLists) (replies : List Reply) (x : List Effect) → depth (run_data p objects levels replies x) ≤ 127
-run_nests p objects levels replies x =
-    let text_of : Reply → Data = λ r. text_data (joined (reply_fields x r)) in
+pub levels_nest : (p : Program) (levels : LevelLists) → NestsIn 2 (listed (levels_data p levels))
+levels_nest p levels =
     let ops = upto (length (all_ops p.types)) (λ o. op_level p levels o ∷ []) in
     let txns = upto (length p.txns) (λ d. txn_level p levels d ∷ []) in
+    in_list 1 (levels_data p levels) (both_nest 1 ops txns (upto_nests 1 (length (all_ops p.types)) (op_level p levels) (λ o. omega arith)) (upto_nests 1 (length p.txns) (txn_level p levels) (λ d. omega arith)))
+
+pub texts_nest : {X : Type 0} (text_of : X → List ℕ) (xs : List X) → NestsIn 1 (listed (map (λ x. text_data (text_of x)) xs))
+texts_nest text_of xs = in_list 0 (map (λ x. text_data (text_of x)) xs) (each_nests 0 (λ x. text_data (text_of x)) (λ x. omega arith) xs)
+
+pub run_nests : (p : Program) (objects : List (List ℕ)) (levels : LevelLists) (replies : List Reply) (x : List Effect) → depth (run_data p objects levels replies x) ≤ 127
+run_nests p objects levels replies x =
     let execution = in_list 4 (effects_from p objects 1 x) (effects_nest p objects 1 x) in
-    let least = in_list 1 (levels_data p levels) (both_nest 1 ops txns (upto_nests 1 (length (all_ops p.types)) (op_level p levels) (λ o. omega arith)) (upto_nests 1 (length p.txns) (txn_level p levels) (λ d. omega arith))) in
-    let said = in_list 0 (map text_of replies) (each_nests 0 text_of (λ r. omega arith) replies) in
+    let least = levels_nest p levels in
+    let said = texts_nest (λ r. joined (reply_fields x r)) replies in
     omega (arith, execution, least, said)

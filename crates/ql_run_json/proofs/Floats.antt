@@ -83,7 +83,7 @@ member_none : (p : Program) (m : Member) → HasNone (member_data p m)
 member_none p Alone = refl
 member_none p (Inside run decl) = refl
 
-effect_none : (p : Program) (objects : List (List ℕ)) (id : ℕ) (e : Effect) → HasNone (effect_data p objects id e)
+pub effect_none : (p : Program) (objects : List (List ℕ)) (id : ℕ) (e : Effect) → HasNone (effect_data p objects id e)
 effect_none p objects id e =
     let seen : Bool = has_float (listed (map id_data e.seen)) || false in
     let in_txn : Bool = has_float (member_data p e.member) || seen in
@@ -100,14 +100,20 @@ unfolding effects_from
 effects_none p objects id [] = refl
 effects_none p objects id (e ∷ es) = neither (has_float (effect_data p objects id e)) (items_have_float (items_of (effects_from p objects (id + 1) es))) (effect_none p objects id e) (effects_none p objects (id + 1) es)
 
+pub levels_none : (p : Program) (levels : LevelLists) → HasNone (listed (levels_data p levels))
+levels_none p levels =
+    let ops = upto (length (all_ops p.types)) (λ o. op_level p levels o ∷ []) in
+    let txns = upto (length p.txns) (λ d. txn_level p levels d ∷ []) in
+    both_none ops txns (upto_none (length (all_ops p.types)) (op_level p levels) (λ o. refl)) (upto_none (length p.txns) (txn_level p levels) (λ d. refl))
+
+pub texts_none : {X : Type 0} (text_of : X → List ℕ) (xs : List X) → HasNone (listed (map (λ x. text_data (text_of x)) xs))
+texts_none text_of xs = each_none (λ x. text_data (text_of x)) (λ x. refl) xs
+
 pub run_none : (p : Program) (objects : List (List ℕ)) (levels : LevelLists) (replies : List Reply) (x : List Effect) → has_float (run_data p objects levels replies x) ≡ false
 run_none p objects levels replies x =
     let text_of : Reply → Data = λ r. text_data (joined (reply_fields x r)) in
     let said : Bool = has_float (listed (map text_of replies)) || false in
     let least : Bool = has_float (listed (levels_data p levels)) || said in
-    let ops = upto (length (all_ops p.types)) (λ o. op_level p levels o ∷ []) in
-    let txns = upto (length p.txns) (λ d. txn_level p levels d ∷ []) in
     neither (has_float (listed (effects_from p objects 1 x))) least (effects_none p objects 1 x)
-    (neither (has_float (listed (levels_data p levels))) said
-    (both_none ops txns (upto_none (length (all_ops p.types)) (op_level p levels) (λ o. refl)) (upto_none (length p.txns) (txn_level p levels) (λ d. refl)))
-    (neither (has_float (listed (map text_of replies))) false (each_none text_of (λ r. refl) replies) refl))
+    (neither (has_float (listed (levels_data p levels))) said (levels_none p levels)
+    (neither (has_float (listed (map text_of replies))) false (texts_none (λ r. joined (reply_fields x r)) replies) refl))

@@ -3,3 +3,4 @@ pub mod Floats
 pub mod Members
 pub mod Depths
 pub mod LineEnd
+pub mod Texts

@@ -27,8 +27,9 @@ pub fn effects(alloc: Global, t: &Typed, objects: &Names, x: &Execution) -> Resu
     Ok(Json::Array(list))
 }
 
+/// An effect, which has this id, as a JSON object.
 #[tactic(auto, using(crate::proofs::Members::effect_members))]
-fn effect(
+pub(crate) fn effect(
     alloc: Global,
     t: &Typed,
     objects: &Names,

@@ -5,6 +5,7 @@
 
 mod execution;
 mod levels;
+mod printing;
 mod replies;
 mod run;
 pub mod values;

@@ -1,12 +1,15 @@
-use Rattle.std.proofs.Common.{◌≤◌, ◌++◌, ◌∷◌, [], List, ℕ, Some, ap, sym, subst, ◌∙◌}
+use Rattle.std.proofs.Common.{◌∷◌, [], ◌++◌, List, Some, map, ap, ◌∙◌}
+use Rattle.ql_lines.specs.Texts.{joined}
 use Rattle.ql_machine.specs.declared.reply.Reply.{Reply}
-use Rattle.serde_json.specs.Data.{Data, depth}
-use Rattle.serde_json.specs.Read.{max_depth, read}
-use Rattle.serde_json.specs.Written.{compact_text, has_float}
-use Rattle.ql_run_json.specs.JsonRuns.{run_data}
+use Rattle.ql_run_text.specs.ReplyTexts.{reply_fields}
+use Rattle.serde_json.specs.Data.{Data}
+use Rattle.serde_json.specs.Read.{read}
+use Rattle.serde_json.specs.Written.{compact_text}
+use Rattle.ql_run_json.specs.JsonRuns.{effects_from, levels_data, run_data}
+use Rattle.ql_run_json.specs.Values.{listed, text_data}
 use Rattle.ql_run_json.proofs.Depths.{run_nests}
-use Rattle.ql_run_json.proofs.Floats.{run_none}
 use Rattle.ql_run_json.proofs.LineEnd.{reads_line}
+use Rattle.ql_run_json.proofs.Texts.{run_line, run_reads_back, text_compact, text_read}
 use Rattle.ql_run_json.proofs.run.print_run_json.Goals as goal
 
 pub returns-clause-text : goal.returns-clause-text
@@ -15,9 +18,10 @@ returns-clause-text c =
     let objects = c.args.objects.now in
     let levels = c.args.l.now in
     let x = c.args.x.now in
-    let none = ap has_float c.in_ok-run.ensures ∙ run_none p objects levels c.as_slice.result.now x in
-    let same = ap (λ (rs : List Reply). compact_text (run_data p objects levels rs x)) c.as_slice.ensures.value in
-    c.in_ok-push.ensures.items ∙ ap (λ (t : List ℕ). t ++ 10 ∷ []) (c.in_ok-text.ensures.text none ∙ ap compact_text c.in_ok-run.ensures ∙ same)
+    let said : List Reply → Data = λ rs. listed (map (λ r. text_data (joined (reply_fields x r))) rs) in
+    run_line (listed (effects_from p objects 1 x)) (listed (levels_data p levels)) (said c.as_slice.result.now) _ _ _ _ _ _ _ _ c.new-text.ensures.items c.in_ok-push_bytes.ensures.ok c.in_ok-push_effects.ensures.text c.in_ok-push_bytes-2.ensures.ok c.in_ok-push_levels.ensures.text
+    c.in_ok-push_bytes-3.ensures.ok c.in_ok-push_replies.ensures.text c.in_ok-push_bytes-4.ensures.ok
+    ∙ ap (λ (rs : List Reply). compact_text (run_data p objects levels rs x) ++ 10 ∷ []) c.as_slice.ensures.value
 
 pub returns-clause-again : goal.returns-clause-again
 returns-clause-again c =
@@ -25,6 +29,10 @@ returns-clause-again c =
     let objects = c.args.objects.now in
     let levels = c.args.l.now in
     let x = c.args.x.now in
-    let nests = subst (λ (d : Data). depth d ≤ max_depth) (sym c.in_ok-run.ensures) (run_nests p objects levels c.as_slice.result.now x) in
-    let same = c.in_ok-run.ensures ∙ ap (λ (rs : List Reply). run_data p objects levels rs x) c.as_slice.ensures.value in
-    ap read c.in_ok-push.ensures.items ∙ reads_line c.in_ok-text.text.items _ c.in_ok-text.ensures.compact (c.in_ok-text.ensures.reads_back nests) ∙ ap (λ (d : Data). Some d) same
+    let said : List Reply → Data = λ rs. listed (map (λ r. text_data (joined (reply_fields x r))) rs) in
+    let run : List Reply → Data = λ rs. run_data p objects levels rs x in
+    let rs = c.as_slice.result.now in
+    let back = run_reads_back (listed (effects_from p objects 1 x)) (listed (levels_data p levels)) (said rs) c.in_ok-push_effects.ensures.again c.in_ok-push_levels.ensures.again c.in_ok-push_replies.ensures.again in
+    let text = run_line (listed (effects_from p objects 1 x)) (listed (levels_data p levels)) (said rs) _ _ _ _ _ _ _ _ c.new-text.ensures.items c.in_ok-push_bytes.ensures.ok c.in_ok-push_effects.ensures.text c.in_ok-push_bytes-2.ensures.ok
+    c.in_ok-push_levels.ensures.text c.in_ok-push_bytes-3.ensures.ok c.in_ok-push_replies.ensures.text c.in_ok-push_bytes-4.ensures.ok in
+    ap read text ∙ reads_line (compact_text (run rs)) (run rs) (text_compact (run rs) back) (text_read (run rs) back (run_nests p objects levels rs x)) ∙ ap (λ d. Some (run d)) c.as_slice.ensures.value
