@@ -44,7 +44,7 @@ module _ (limits : Limits) (held : List ℕ → Option (List ℕ)) (form : Form)
       let both = of_held limits.file (held m) (λ more. TellsRun (format_of f) source more text) file (ap held m_is ∙ other_held) whole.1 in
       subst (λ (g : Form). TellsRun (format_of g) source file text) f_is both.1
 
-  asked : (words : List (List ℕ)) → words ≡ pair_words (Run form) name other → (call : NamedRequest) → IsRequest words call → Judges limits held call Done text → TellsRun (format_of form) source file text
+  asked : (words : List (List ℕ)) → words ≡ pair_words (Run form) name other → (named : NamedRequest) → IsRequest words named → Judges limits held named Done text → TellsRun (format_of form) source file text
   asked words are (OneFile Holds n) is says = absurd (let never : first (pair_words (Run form) name other) ≡ 104 = ap first (sym are ∙ is.0) in omega (arith, never, run_first form name other))
   asked words are (OneFile Proof n) is says = absurd (let never : first (pair_words (Run form) name other) ≡ 112 = ap first (sym are ∙ is.0) in omega (arith, never, run_first form name other))
   asked words are (OneFile Classify n) is says = absurd (let never : first (pair_words (Run form) name other) ≡ 99 = ap first (sym are ∙ is.0) in omega (arith, never, run_first form name other))

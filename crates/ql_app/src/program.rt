@@ -39,9 +39,9 @@ pub fn quelea<S: Shelf, K: Sink>(
     ensures sink_count_stays { K.faults sink.old ≤ K.faults sink.new }
 
     // Nothing failed, and the files are in their grammars: the answer is yes or no.
-    ensures complete { (call : NamedRequest) → IsRequest (word_texts words.now) call
-        → AreHeld (record { file = 1048576; second = 67108864 }) (S.held shelf.old) call
-        → NoneRose (S.faults shelf.old) (S.faults shelf.new) call → (Rose (K.faults sink.old) (K.faults sink.new) → ⊥)
+    ensures complete { (named : NamedRequest) → IsRequest (word_texts words.now) named
+        → AreHeld (record { file = 1048576; second = 67108864 }) (S.held shelf.old) named
+        → NoneRose (S.faults shelf.old) (S.faults shelf.new) named → (Rose (K.faults sink.old) (K.faults sink.new) → ⊥)
         → IsAnswered result }
 {
     let (status, text) = outcome(alloc, words, shelf, LIMITS)?;

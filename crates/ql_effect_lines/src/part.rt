@@ -1,11 +1,11 @@
 ghost use Rattle.std.specs.Prelude.{◌≡◌, ◌≤◌, ◌∷◌, List, ℕ, IfOk, MatchOption, length, false};
-ghost use Rattle.std.specs.List.{prefix_len};
 ghost use Rattle.ql_base.specs.Bytes.{begins};
 ghost use Rattle.ql_value.specs.declared.value.Value.{Value};
-ghost use Rattle.ql_value.specs.Reading.{after_spaces, is_byte};
+ghost use Rattle.ql_value.specs.Reading.{is_byte};
 ghost use Rattle.ql_effect_lines.specs.Parts.{FieldAt, ItemsAt, ValueAt, ValuesAt, ends_field};
 
 use ql_base::NoMemory;
+use ql_lines::after_spaces;
 use ql_value::{Value, ValueFault, Values, parse_value};
 use std::alloc::Global;
 
@@ -94,23 +94,6 @@ pub(crate) fn after_byte(text: &[u8], byte: u8) -> Option<&[u8]>
     } else {
         None
     }
-}
-
-// What follows the spaces at the start.
-fn after_spaces(text: &[u8]) -> &[u8]
-    ensures spaces { result.now ≡ after_spaces text.now }
-    ensures shorter { length result.now ≤ length text.now }
-{
-    let (_, rest) = text.split_at(spaces(text));
-    rest
-}
-
-// The number of spaces at the start.
-fn spaces(text: &[u8]) -> usize
-    ensures longest { result ≡ prefix_len (is_byte 32) text.now }
-    ensures within { result ≤ length text.now }
-{
-    text.iter().take_while(|b| **b == b' ').count()
 }
 
 // Whether a field ends at the start of a text.

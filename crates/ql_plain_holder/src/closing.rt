@@ -1,13 +1,14 @@
 ghost use Rattle.std.specs.Prelude.{◌≡◌, ◌⊎◌, ◌↔◌, ◌≤◌, ◌&&◌, ◌||◌, not, nat_eq, ℕ, true, length, IfOk, OnOk};
 ghost use Rattle.ql_base.specs.IdLists.{IsAscending, has_id};
-ghost use Rattle.ql_exec.specs.Relations.{sametxn, same_run};
+ghost use Rattle.ql_exec.specs.Relations.{sametxn};
 ghost use Rattle.ql_needs.specs.Closed.{Has};
 ghost use Rattle.ql_needs.specs.Needs.{AreWhole, IsPackage};
 ghost use Rattle.ql_holder.specs.Arrivals.{Applied};
 ghost use Rattle.ql_plain_holder.specs.Plain.{IsFirstMissing};
 
-use ql_base::{EffId, IdSet, NoMemory};
-use ql_exec::{Execution, Member};
+use ql_base::{IdSet, NoMemory};
+use ql_exec::Execution;
+use ql_needs::is_same_txn;
 use ql_ranges::Ranges;
 use ql_reach::reach;
 use std::alloc::Global;
@@ -83,7 +84,7 @@ fn add_member(x: &Execution, id: u32, other: u32, pack: &mut IdSet) -> Result<()
     requires last_other { other ≤ length x.now }
     ensures { OnOk result ((a : ℕ) → has_id pack.new a ≡ (has_id pack.old a || (nat_eq other a && sametxn x.now id other))) }
 {
-    if in_one_txn(x, id, other) {
+    if is_same_txn(x, id, other) {
         insert_id(pack, other)
     } else {
         Ok(())
@@ -95,25 +96,6 @@ fn insert_id(ids: &mut IdSet, id: u32) -> Result<(), NoMemory>
 {
     ids.insert(id)?;
     Ok(())
-}
-
-fn in_one_txn(x: &Execution, id: u32, other: u32) -> bool
-    requires first { 1 ≤ id }
-    requires last { id ≤ length x.now }
-    requires first_other { 1 ≤ other }
-    requires last_other { other ≤ length x.now }
-    ensures { result ≡ sametxn x.now id other }
-{
-    id == other || is_same_run(x.get(EffId(id)).member, x.get(EffId(other)).member)
-}
-
-fn is_same_run(member: Member, other: Member) -> bool
-    ensures { result ≡ same_run member other }
-{
-    match (member, other) {
-        (Member::Inside(run, _), Member::Inside(other_run, _)) => run.0 == other_run.0,
-        _ => false,
-    }
 }
 
 /// The first of the ids that the others lack.

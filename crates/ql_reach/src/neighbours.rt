@@ -5,6 +5,7 @@ ghost use Rattle.ql_exec.specs.Relations.{same_run};
 ghost use Rattle.ql_reach.specs.Searches.{IsAlone, IsLastOnObject, IsLastInSession, IsNextInSession, IsMemberBelow, IsMemberAbove};
 
 use ql_exec::{Effect, Member};
+use ql_needs::is_same_run;
 
 /// The effect with this id.
 pub(crate) fn effect(effects: &[Effect], id: u32) -> &Effect
@@ -125,14 +126,5 @@ fn only_in_txn(effects: &[Effect], e: u32, other: u32) -> Option<u32>
         Some(other)
     } else {
         None
-    }
-}
-
-fn is_same_run(member: Member, other: Member) -> bool
-    ensures { result ≡ same_run member other }
-{
-    match (member, other) {
-        (Member::Inside(run, _), Member::Inside(other_run, _)) => run.0 == other_run.0,
-        _ => false,
     }
 }

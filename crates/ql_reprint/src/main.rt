@@ -5,9 +5,9 @@
 use ql_base::NoMemory;
 use ql_lang::print_program;
 use ql_parse::{ParseFault, parse_program};
+use ql_reply::words;
 use std::alloc::Global;
-use std::env::Env;
-use std::{env, fs, io, str};
+use std::{fs, io, str};
 
 // The most bytes of a source.
 const MOST_BYTES: usize = 1 << 20;
@@ -28,27 +28,15 @@ fn main(rt: HostRuntime) -> io::Result<()> {
     Ok(())
 }
 
-// The arguments of the command line, without the program's own name.
-fn words<R: Env + AllocGlobal>(rt: &R) -> io::Result<Vec<String>> {
-    let words = env::args(rt)?.skip(1).collect::<Vec<String>>(rt.alloc())?;
-    Ok(words)
-}
-
 // What is printed for a text: the source in its one spelling, or whether it is one.
 fn said(alloc: Global, text: &[u8], check: bool) -> Result<Vec<u8>, NoMemory> {
     if text.len() > MOST_BYTES {
-        return line(alloc, b"too long\n");
+        return Ok(Vec::from_slice(alloc, b"too long\n")?);
     }
     match parse_program(alloc, text) {
-        Ok(_) if check => line(alloc, b"a source\n"),
+        Ok(_) if check => Ok(Vec::from_slice(alloc, b"a source\n")?),
         Ok(program) => print_program(alloc, &program),
         Err(ParseFault::NoMemory) => Err(NoMemory),
-        Err(_) => line(alloc, b"no source\n"),
+        Err(_) => Ok(Vec::from_slice(alloc, b"no source\n")?),
     }
-}
-
-fn line(alloc: Global, bytes: &[u8]) -> Result<Vec<u8>, NoMemory> {
-    let mut out = Vec::new(alloc);
-    out.extend_from_slice(bytes)?;
-    Ok(out)
 }

@@ -2,31 +2,23 @@ ghost use Rattle.std.specs.Prelude.{◌≡◌, ◌≤◌, suc, ◌∷◌, [], Li
 ghost use Rattle.std.specs.List.{prefix_len};
 ghost use Rattle.ql_base.specs.Names.{IsName};
 ghost use Rattle.ql_base.specs.Numbers.{IsNumeral};
-ghost use Rattle.ql_lines.specs.Fields.{Fields, is_space};
+ghost use Rattle.ql_lines.specs.Fields.{Fields};
 ghost use Rattle.ql_schedule.specs.Numbers.{IsNumber};
 ghost use Rattle.ql_schedule.specs.Parts.{isn't_space, part_len, parts_of, quoted_len, text_len};
 
 use ql_base::{digit_bytes, is_name, number_of};
-use ql_lines::bytes_before;
+use ql_lines::{after_spaces, bytes_before};
 
 /// The first part of a line and what follows it.
 pub(crate) fn first_part(text: &[u8]) -> Option<(&[u8], &[u8])>
     ensures first { MatchOption result (parts_of text.now ≡ []) (λ x. parts_of text.now ≡ x.0.now ∷ parts_of x.1.now) }
     ensures shorter { MatchOption result (Unit {0}) (λ x. suc (length x.1.now) ≤ length text.now) }
 {
-    let (_, start) = text.split_at(spaces(text));
+    let start = after_spaces(text);
     if start.is_empty() {
         return None;
     }
     Some(start.split_at(part_bytes(start)))
-}
-
-// How many spaces a text starts with.
-fn spaces(text: &[u8]) -> usize
-    ensures longest { result ≡ prefix_len is_space text.now }
-    ensures within { result ≤ length text.now }
-{
-    text.iter().take_while(|b| **b == b' ').count()
 }
 
 // The length in bytes of the part at the start. If it begins with a quote, it extends at least to the next
