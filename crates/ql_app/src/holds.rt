@@ -1,4 +1,4 @@
-ghost use Rattle.std.specs.Prelude.{◌≡◌, ◌≤◌, ◌++◌, IfOk, OnOk, codes, decimal, length, map};
+ghost use Rattle.std.specs.Prelude.{◌≡◌, ◌≤◌, ◌++◌, IfOk, OnOk, codes, length, map};
 ghost use Rattle.ql_holds_files.specs.Holdings.{asked_of};
 ghost use Rattle.ql_app.specs.HoldsFaults.{IsToldAs};
 ghost use Rattle.ql_app.specs.HoldsFile.{HoldsSays, HoldsTells, named_places_text};

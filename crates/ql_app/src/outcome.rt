@@ -1,6 +1,5 @@
-ghost use Rattle.std.specs.Prelude.{◌≡◌, ◌++◌, ◌<◌, ◌≤◌, ◌^◌, ℕ, List, IfOk, codes, length};
+ghost use Rattle.std.specs.Prelude.{◌≡◌, ◌<◌, ◌≤◌, ◌^◌, ℕ, List, IfOk, length};
 ghost use Rattle.ql_app.specs.Outcome.{CommandSays, PairSays, Says, RequestSays, second_limit};
-ghost use Rattle.ql_reply.specs.Unread.{IsUnread};
 ghost use Rattle.ql_app.specs.Words.{IsInRange, OneFile, TwoFiles};
 ghost use Rattle.ql_reply.specs.Arguments.{word_texts};
 

@@ -1,4 +1,4 @@
-ghost use Rattle.std.specs.Prelude.{◌≡◌, ◌≢◌, ◌↔◌, ◌∷◌, [], ◌≤◌, ℕ, List, IsTrue, MatchOption, codes, decimal, length};
+ghost use Rattle.std.specs.Prelude.{◌≡◌, ◌≢◌, ◌∷◌, [], ◌≤◌, ℕ, List, MatchOption, codes, decimal, length};
 ghost use Rattle.ql_app.specs.declared.words.Command.{Command};
 ghost use Rattle.ql_app.specs.declared.words.PairCommand.{PairCommand};
 ghost use Rattle.ql_app.specs.Requests.{named_request_of};

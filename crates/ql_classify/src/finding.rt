@@ -1,5 +1,5 @@
 // What is found for one target, whatever is found for the others.
-ghost use Rattle.std.specs.Prelude.{◌≡◌, ◌<◌, ◌+◌, ◌≤◌, IfOk, length};
+ghost use Rattle.std.specs.Prelude.{◌<◌, ◌+◌, ◌≤◌, IfOk, length};
 ghost use Rattle.std.specs.List.{AllZip};
 ghost use Rattle.ql_ground.specs.declared.goal.Goal.TheVariants.{OpAt, TxnAt};
 ghost use Rattle.ql_lang.specs.declared.program.Program.{Program};

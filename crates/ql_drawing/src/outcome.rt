@@ -1,6 +1,5 @@
-ghost use Rattle.std.specs.Prelude.{◌≡◌, ◌++◌, ◌≤◌, ℕ, List, Some, IfOk, codes};
+ghost use Rattle.std.specs.Prelude.{◌≡◌, ◌≤◌, ℕ, List, Some, IfOk};
 ghost use Rattle.ql_drawing.specs.Outcomes.{IsAnswer, Says, Tells};
-ghost use Rattle.ql_reply.specs.Unread.{IsUnread};
 ghost use Rattle.ql_drawing.specs.Words.{asked_of};
 ghost use Rattle.ql_reply.specs.Arguments.{word_texts};
 

@@ -1,6 +1,5 @@
 // A countermodel as JSON.
 ghost use Rattle.std.specs.Prelude.{◌≡◌, ◌++◌, ℕ, IfOk, OnOk, codes, map};
-ghost use Rattle.std.specs.List.{All};
 ghost use Rattle.serde_json.specs.Data.{put as with_member};
 ghost use Rattle.serde_json.specs.View.{members_view, view};
 ghost use Rattle.ql_classify.specs.Finding.{IsFinding, IsUnmet};
@@ -8,11 +7,11 @@ ghost use Rattle.ql_counter.specs.Countermodels.{AreWithin, IsCounterOf, numbers
 ghost use Rattle.ql_explanation.specs.Explanation.{AreFindings, unmet_of};
 ghost use Rattle.ql_ground.specs.OfPrograms.{IsGoalOf};
 ghost use Rattle.ql_run_json.specs.JsonRuns.{effects_from};
-ghost use Rattle.ql_run_json.specs.Values.{id_data, listed, text_data};
+ghost use Rattle.ql_run_json.specs.Values.{listed, text_data};
 ghost use Rattle.ql_run_text.specs.EffectTexts.{AreNamed};
 ghost use Rattle.ql_why.specs.Why.{level_text, object_names};
 ghost use Rattle.ql_why.specs.Why as why;
-ghost use Rattle.ql_explain_json.specs.JsonExplanations.{IsCounterData, IsShown, IsShownOf, at_data, counter_data, fact_data, variable_data, variables_data, warnings_data};
+ghost use Rattle.ql_explain_json.specs.JsonExplanations.{IsCounterData, IsShown, IsShownOf, at_data, counter_data, fact_data, variable_data, variables_data};
 
 use crate::facts::facts as facts_value;
 use crate::warnings::warnings_value;

@@ -1,5 +1,5 @@
 // The facts that make a contract false.
-ghost use Rattle.std.specs.Prelude.{◌≡◌, IfOk, OnOk};
+ghost use Rattle.std.specs.Prelude.{IfOk, OnOk};
 ghost use Rattle.std.specs.List.{All};
 ghost use Rattle.ql_formula.specs.Tables.{IsTableOf};
 ghost use Rattle.ql_facts.specs.Facts.{IsTrueOf, KeepsAny, KeepsTrue};

@@ -1,7 +1,6 @@
-ghost use Rattle.std.specs.Prelude.{◌≡◌, ◌≤◌, ◌-◌, ℕ, List, Bool, length, take, drop, slice_index, false, true, not};
+ghost use Rattle.std.specs.Prelude.{◌≡◌, ◌≤◌, ◌-◌, length, take, drop, slice_index, false, true, not};
 ghost use Rattle.std.specs.List.{list_all};
 ghost use Rattle.std.specs.Option.{option_copied};
-ghost use Rattle.ql_lang.specs.Trees.{relation_of};
 ghost use Rattle.ql_lang.specs.Formulas.{statement_of};
 ghost use Rattle.ql_exec.specs.Effects.{effect_at, in_run};
 ghost use Rattle.ql_exec.specs.Relations.{sametxn, same_run};

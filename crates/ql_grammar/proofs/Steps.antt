@@ -10,7 +10,7 @@ use Rattle.ql_grammar.specs.Limits.{Fault, Unexpected}
 use Rattle.ql_lang.specs.declared.expression.BinOp.{BinOp}
 use Rattle.ql_grammar.specs.declared.precedence.Precedence.{Precedence}
 use Rattle.ql_grammar.specs.ExpressionGrammar as expression
-use Rattle.ql_grammar.specs.ExpressionGrammar.{IsOperator, Unary, Multiplied, Added, Compared, Conjoined, Disjoined, Chosen}
+use Rattle.ql_grammar.specs.ExpressionGrammar.{Unary, Multiplied, Added, Compared, Conjoined, Disjoined, Chosen}
 use Rattle.ql_grammar.specs.ProgramGrammar as program
 use Rattle.ql_grammar.specs.Table.{ASpelling, AnOperator, Kept, Operator, operator_at, ExprAt, Arguments, BaseKind, AnyKind, Beginning, ListedNames, WholeSource, Value, APlace, AName, Sym, Word, Placed, ANameOf, Do, APart, Then, Part, Term, TermList, RelationAt, PropAt, BarredNames, Variable, VarList, WholeContract, Rest, ways, way_on}
 use Rattle.ql_grammar.specs.Machine.{operator_taken, Taken, or_else, lead, first_fit, step, finish}

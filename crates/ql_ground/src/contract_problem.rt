@@ -1,4 +1,4 @@
-ghost use Rattle.std.specs.Prelude.{◌≡◌, suc, ◌+◌, ◌^◌, ◌<◌, ◌≤◌, ◌++◌, true, false, length, IfOk, IfSome, OnOk};
+ghost use Rattle.std.specs.Prelude.{◌≡◌, suc, ◌+◌, ◌<◌, ◌≤◌, ◌++◌, true, false, length, IfOk, IfSome, OnOk};
 ghost use Rattle.ql_atoms.specs.Atoms.{size_of, count_of};
 ghost use Rattle.ql_cnf.specs.Circuits.{InputsInRange, circuit_of, gates, denying, clauses_of};
 ghost use Rattle.ql_cnf.specs.Satisfaction.{IsUnsatisfiable};

@@ -1,4 +1,3 @@
-ghost use Rattle.std.specs.Prelude.{MatchOption};
 
 use ql_base::{Word, is_name, number_of};
 

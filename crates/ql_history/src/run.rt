@@ -1,4 +1,4 @@
-ghost use Rattle.std.specs.Prelude.{◌<◌, ◌^◌};
+ghost use Rattle.std.specs.Prelude.{◌<◌};
 
 use crate::effect::{Effect, Spelled, effect_of, read_spelled};
 use crate::fault::{DrawnFault, DrawnRule, LineFault};

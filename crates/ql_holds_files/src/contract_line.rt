@@ -1,4 +1,4 @@
-ghost use Rattle.std.specs.Prelude.{◌≡◌, IfOk, MatchOption, map};
+ghost use Rattle.std.specs.Prelude.{IfOk, MatchOption};
 ghost use Rattle.ql_lang.specs.Trees.{Sentence, sentence_of};
 ghost use Rattle.ql_holds_files.specs.ContractLine.{IsContractLine};
 

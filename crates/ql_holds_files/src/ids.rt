@@ -1,4 +1,4 @@
-ghost use Rattle.std.specs.Prelude.{not, ◌==◌, ◌≡◌, ◌≤◌, ◌<◌, ◌∷◌, ◌++◌, ◌↔◌, ◌^◌, [], List, ℕ, IfOk, IfSome, IsTrue, MatchOption, decimal, map, length, take};
+ghost use Rattle.std.specs.Prelude.{not, ◌==◌, ◌≡◌, ◌≤◌, ◌<◌, ◌^◌, List, ℕ, IfOk, IfSome, MatchOption, decimal, map, length, take};
 ghost use Rattle.std.specs.List.{AllByRecursion, AllPass};
 ghost use Rattle.std.specs.Str.Parse.{digits_value};
 ghost use Rattle.ql_base.specs.Bytes.{begins, is_digit};

@@ -1,4 +1,4 @@
-ghost use Rattle.std.specs.Prelude.{◌≡◌, ◌<◌, ◌≤◌, ◌+◌, ◌^◌, ◌++◌, ◌∷◌, [], ℕ, List, length, OnOk, OnErr, IfSome};
+ghost use Rattle.std.specs.Prelude.{◌<◌, ◌≤◌, ◌+◌, ◌^◌, ◌++◌, ◌∷◌, [], ℕ, List, length, OnOk, OnErr, IfSome};
 ghost use Rattle.std.specs.Result.{is_ok};
 ghost use Rattle.ql_disk.specs.Bytes.{IsClean};
 ghost use Rattle.ql_disk.specs.Forecasts.{Foretold};

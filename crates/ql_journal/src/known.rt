@@ -1,5 +1,4 @@
-ghost use Rattle.std.specs.Prelude.{◌≡◌, ◌↔◌, ◌≤◌, ℕ, true, length};
-ghost use Rattle.ql_base.specs.IdLists.{has_id};
+ghost use Rattle.std.specs.Prelude.{◌≡◌, ◌↔◌, ◌≤◌, true, length};
 ghost use Rattle.ql_needs.specs.Needs.{IsPackage};
 ghost use Rattle.ql_journal.specs.Ends.{IsKnown};
 ghost use Rattle.ql_journal.specs.Within.{AgreesUpTo, AreWithin};

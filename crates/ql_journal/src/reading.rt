@@ -1,4 +1,4 @@
-ghost use Rattle.std.specs.Prelude.{◌≡◌, ◌↔◌, ◌≤◌, true, ◌++◌, ◌∷◌, ◌*◌, ◌+◌, ℕ, List, [], length, drop, IfOk, MatchOption};
+ghost use Rattle.std.specs.Prelude.{◌≡◌, ◌↔◌, ◌≤◌, true, ◌++◌, ◌*◌, ◌+◌, ℕ, List, length, drop, IfOk, MatchOption};
 ghost use Rattle.ql_journal.specs.Records.{AreIds, IsLawful, body, number, numbers};
 
 use ql_base::{IdSet, MAX_EVENTS, NoMemory};

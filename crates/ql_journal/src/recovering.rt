@@ -1,4 +1,4 @@
-ghost use Rattle.std.specs.Prelude.{◌≡◌, ◌≤◌, ◌∷◌, [], length, IfOk, OnOk, IfErr, IsErrOf, IfSome, MatchOption};
+ghost use Rattle.std.specs.Prelude.{◌≡◌, ◌≤◌, ◌∷◌, IfOk, OnOk, IfErr, IsErrOf, IfSome, MatchOption};
 ghost use Rattle.ql_disk.specs.Bytes.{IsClean};
 ghost use Rattle.ql_ports.specs.Faults.{Rose};
 ghost use Rattle.ql_journal.specs.declared.why.StationWhy.TheVariants as why;

@@ -1,4 +1,4 @@
-ghost use Rattle.std.specs.Prelude.{◌≡◌, ◌↔◌, ◌⊎◌, ◌<◌, ◌≤◌, ◌+◌, ◌^◌, ◌++◌, ◌∷◌, [], ℕ, List, true, false, length, IfOk, OnOk, OnErr, IfErr, IsErrOf, IfSome, Ok, Err};
+ghost use Rattle.std.specs.Prelude.{◌≡◌, ◌↔◌, ◌⊎◌, ◌<◌, ◌≤◌, ◌+◌, ◌^◌, [], ℕ, List, true, false, length, IfOk, OnErr, IfErr, IsErrOf, IfSome, Ok, Err};
 ghost use Rattle.std.specs.Result.{is_ok};
 ghost use Rattle.ql_disk.specs.Bytes.{IsImage};
 ghost use Rattle.ql_disk.specs.Forecasts.{Foretold};

@@ -29,8 +29,7 @@ ghost use Rattle.ql_lang.specs.Programs.{
   source_of,
   transaction_of,
 };
-ghost use Rattle.ql_lang.specs.Spelling.{contract_text, listed};
-ghost use Rattle.ql_lang.specs.Trees.{sentence_of};
+ghost use Rattle.ql_lang.specs.Spelling.{listed};
 
 use crate::name::Name;
 use crate::operation::{Base, Bind, EmitDecl, Kind, OpDecl, Param, Stmt};

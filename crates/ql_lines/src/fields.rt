@@ -1,4 +1,4 @@
-ghost use Rattle.std.specs.Prelude.{◌≡◌, ◌≤◌, ◌∷◌, [], MatchOption, drop, length};
+ghost use Rattle.std.specs.Prelude.{◌≡◌, ◌≤◌, [], MatchOption, drop, length};
 ghost use Rattle.std.specs.List.{position_or_len, prefix_len};
 ghost use Rattle.ql_lines.specs.Fields.{FirstField, fields_of, is_space};
 

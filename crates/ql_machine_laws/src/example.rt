@@ -1,5 +1,4 @@
 ghost use Rattle.std.specs.Prelude.{List, ℕ};
-ghost use Rattle.ql_base.specs.declared.ids.MsgId.{MsgId};
 ghost use Rattle.ql_machine.specs.declared.event.Event.TheVariants.{Deliver};
 ghost use Rattle.ql_machine.specs.declared.reply.Reply.TheVariants.{Applies};
 ghost use Rattle.ql_machine.specs.State.{Machine};

@@ -1,4 +1,4 @@
-ghost use Rattle.std.specs.Prelude.{◌||◌, ◌≡◌, ◌<◌, ◌++◌, IfErr, IfOk, OnOk, false, length, true};
+ghost use Rattle.std.specs.Prelude.{◌||◌, ◌≡◌, ◌<◌, IfErr, IfOk, OnOk, false, length, true};
 ghost use Rattle.ql_grammar.specs.declared.terminal.Terminal.TheVariants.{AndMark, CurWord, NameToken, OpenParen, OrMark, TrueWord};
 ghost use Rattle.ql_grammar.specs.ContractGrammar.{Atom, Both, Either, Whole};
 ghost use Rattle.ql_grammar.specs.Machine.{is_ahead};

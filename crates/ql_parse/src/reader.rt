@@ -1,26 +1,4 @@
-ghost use Rattle.std.specs.Prelude.{
-  ◌≡◌,
-  ◌<◌,
-  ◌≤◌,
-  ◌^◌,
-  ◌∷◌,
-  IfErr,
-  IfOk,
-  OnErr,
-  OnOk,
-  [],
-  drop,
-  Err,
-  None,
-  Ok,
-  Some,
-  false,
-  if◌then◌else◌,
-  is_some,
-  length,
-  pos,
-  true,
-};
+ghost use Rattle.std.specs.Prelude.{◌≡◌, ◌<◌, ◌^◌, IfErr, IfOk, OnErr, OnOk, drop, Err, None, Ok, Some, false, if◌then◌else◌, is_some, length, pos, true};
 ghost use Rattle.ql_grammar.specs.declared.terminal.Terminal.TheVariants.{IntToken, NameToken, TextToken};
 ghost use Rattle.ql_grammar.specs.ExpressionGrammar.{between_quotes, number_spelled as number_in};
 ghost use Rattle.ql_grammar.specs.Limits.{Wide, counted, with_nodes};

@@ -17,7 +17,7 @@ use Rattle.ql_grammar.specs.declared.precedence.Precedence.TheVariants as preced
 use Rattle.ql_grammar.specs.declared.role.Role.TheVariants.{Plain, Makes, Opens, Closes}
 use Rattle.ql_grammar.specs.Tokens.{Marked, marked}
 use Rattle.ql_grammar.specs.ExpressionGrammar
-use Rattle.ql_grammar.specs.ExpressionGrammar.{ReadsExpr, ReadsArguments, ExprPart, Unary, Multiplied, Added, Compared, Conjoined, Disjoined, Chosen, IsOperator, number_spelled, between_quotes, operands}
+use Rattle.ql_grammar.specs.ExpressionGrammar.{ReadsExpr, ReadsArguments, ExprPart, Unary, Compared, Chosen, IsOperator, number_spelled, between_quotes, operands}
 use Rattle.ql_printed.specs.Printed.{unplaced_name}
 use Rattle.ql_printed.specs.PrintedPrograms.{unplaced_expression, unplaced_operands, ExpressionFits, OperandsFit}
 use Rattle.ql_printed.proofs.Pieces.{Piece, Blank, Said, marks_of}

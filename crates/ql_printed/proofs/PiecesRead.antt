@@ -17,7 +17,7 @@ use Rattle.ql_grammar.specs.declared.role.Role.{Role}
 use Rattle.ql_grammar.specs.declared.role.Role.TheVariants.{Plain, Makes, Opens, Closes}
 use Rattle.ql_grammar.specs.Tokens.{Marked, marked}
 use Rattle.ql_grammar.specs.ContractGrammar
-use Rattle.ql_grammar.specs.ContractGrammar.{IsRelationWord, ReadsTerm, ReadsTerms, ReadsRelation, RelationPart, Applied, Single, Product, Sum, ReadsProp, PropPart, Atom, Both, Either, Whole, ReadsNames, ReadsVar, ReadsVars, ReadsContract}
+use Rattle.ql_grammar.specs.ContractGrammar.{IsRelationWord, ReadsTerm, ReadsTerms, ReadsRelation, Applied, Single, ReadsProp, PropPart, Atom, Whole, ReadsNames, ReadsVar, ReadsVars, ReadsContract}
 use Rattle.ql_printed.specs.Printed.{unplaced_name, unplaced_term, unplaced_relation, unplaced_prop, unplaced_var, unplaced, PropFits, Fits}
 use Rattle.ql_printed.proofs.Pieces.{Piece, Blank, Said, marks_of}
 

@@ -1,15 +1,14 @@
 -- the fields of a line are read as they are written
-use Rattle.std.proofs.Common.{◌≡◌, ℕ, zero, suc, ◌<◌, ◌≤◌, ◌+◌, ◌^◌, Bool, true, false, List, [], ◌∷◌, ◌++◌, All, Ok, get_or, length, map, replicate, decimal, codes, pos, negsuc, arith, refl, ap, sym, subst, ◌∙◌, append_assoc}
+use Rattle.std.proofs.Common.{◌≡◌, ℕ, suc, ◌<◌, ◌≤◌, ◌+◌, Bool, true, false, List, [], ◌∷◌, ◌++◌, All, get_or, length, map, decimal, codes, pos, negsuc, arith, refl, ap, sym, ◌∙◌, append_assoc}
 use Rattle.std.proofs.lemmas.List.{append-nil}
 use Rattle.std.proofs.lemmas.List.Elements.{recursion_from_All}
 use Rattle.std.proofs.lemmas.List.Splits.{slice_split-cons_no, slice_split-cons_yes}
 use Rattle.std.proofs.lemmas.Bool.Decides.{nat_tests}
-use Rattle.std.specs.Fmt.{signed_decimal}
-use Rattle.std.specs.List.{AllByRecursion, AllPass, filter, slice_split}
+use Rattle.std.specs.List.{AllByRecursion, filter, slice_split}
 use Rattle.ql_base.specs.Bytes.{begins, is_digit, is_name_byte, is_text_byte}
 use Rattle.ql_base.specs.Names.{IsName}
 use Rattle.ql_lines.specs.Fields.{Fields, FirstField, fields_of, is_space, isn't_empty}
-use Rattle.ql_lines.specs.Texts.{behind, joined}
+use Rattle.ql_lines.specs.Texts.{behind}
 use Rattle.ql_lines.proofs.FieldLaws.{behind_space}
 use Rattle.ql_value.specs.declared.scalar.Scalar.{Scalar}
 use Rattle.ql_value.specs.declared.scalar.Scalar.TheVariants.{Int, Bool as Truth, Text}
@@ -19,7 +18,7 @@ use Rattle.ql_value.specs.Spelling.{bool_text, entry_text, followed, quoted, sca
 use Rattle.ql_value.specs.Texts.{IsText}
 use Rattle.ql_value.specs.ValueGrammar.{IsEntry, IsScalar, IsValue, ReadsMore}
 use Rattle.ql_value.proofs.ValueLaws.{printed_again}
-use Rattle.ql_effect_lines.specs.Parts.{FieldAt, ItemsAt, ValueAt, ValuesAt, ends_field}
+use Rattle.ql_effect_lines.specs.Parts.{FieldAt, ValueAt, ValuesAt, ends_field}
 use Rattle.ql_run_text.specs.EffectTexts.{values_text}
 use Rattle.ql_printed_runs.proofs.LinesAgain.{IsDigitByte, Stay, StaysIn, decimal_bytes, decimal_some, decimal_stay, stay_both, stays_of}
 

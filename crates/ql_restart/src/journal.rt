@@ -1,4 +1,4 @@
-ghost use Rattle.std.specs.Prelude.{◌≡◌, ◌-◌, ◌<◌, ◌≤◌, ℕ, true, false, List, [], length, IfOk, OnOk, MatchOption};
+ghost use Rattle.std.specs.Prelude.{◌≡◌, ◌-◌, ◌<◌, ◌≤◌, ℕ, false, [], length, IfOk, MatchOption};
 ghost use Rattle.ql_base.specs.IdLists.{has_id};
 ghost use Rattle.ql_disk.specs.MemDisks.{bytes_of, content_of};
 ghost use Rattle.ql_journal.specs.Stations.{holder_of};

@@ -1,21 +1,9 @@
-ghost use Rattle.std.specs.Prelude.{◌≡◌, ◌≤◌, ◌<◌, ◌++◌, ◌∷◌, [], All, IfOk, OnOk, codes, decimal, length, map};
+ghost use Rattle.std.specs.Prelude.{◌≡◌, ◌<◌, ◌++◌, ◌∷◌, [], All, IfOk, OnOk, codes, decimal, length};
 ghost use Rattle.ql_lines.specs.Texts.{behind, joined};
 ghost use Rattle.ql_typing.specs.Names.{op_name};
 ghost use Rattle.ql_value.specs.Spelling.{value_text};
 ghost use Rattle.ql_value.specs.ValueGrammar.{IsValue};
-ghost use Rattle.ql_run_text.specs.EffectTexts.{
-  AreNamed,
-  HasValues,
-  HaveValues,
-  IsDeclared,
-  IsNamed,
-  effect_fields,
-  effects_text,
-  member_text,
-  object_name,
-  payload_text,
-  values_text,
-};
+ghost use Rattle.ql_run_text.specs.EffectTexts.{AreNamed, HasValues, HaveValues, IsDeclared, IsNamed, effect_fields, effects_text, member_text, object_name, values_text};
 
 use crate::parts::{push_decimal, push_each_id, push_payload, push_values};
 use ql_base::{EffId, Names, NoMemory, push_bytes, push_number};

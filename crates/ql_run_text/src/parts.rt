@@ -1,4 +1,4 @@
-ghost use Rattle.std.specs.Prelude.{◌≡◌, ◌++◌, List, ℕ, All, OnErr, OnOk, decimal, map};
+ghost use Rattle.std.specs.Prelude.{◌≡◌, ◌++◌, All, OnErr, OnOk, decimal, map};
 ghost use Rattle.ql_lines.specs.Texts.{behind};
 ghost use Rattle.ql_value.specs.Spelling.{followed, value_text};
 ghost use Rattle.ql_value.specs.ValueGrammar.{IsValue};

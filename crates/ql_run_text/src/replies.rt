@@ -1,4 +1,4 @@
-ghost use Rattle.std.specs.Prelude.{◌≡◌, ◌++◌, ◌∷◌, [], ◌≤◌, List, IfOk, OnOk, codes, decimal, map, length};
+ghost use Rattle.std.specs.Prelude.{◌≡◌, ◌++◌, ◌∷◌, [], ◌≤◌, IfOk, OnOk, codes, decimal, map, length};
 ghost use Rattle.ql_lines.specs.Texts.{joined};
 ghost use Rattle.ql_run_text.specs.ReplyTexts.{
   AreAnswered,

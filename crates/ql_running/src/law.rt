@@ -1,4 +1,4 @@
-ghost use Rattle.std.specs.Prelude.{List, ℕ};
+ghost use Rattle.std.specs.Prelude.{List};
 ghost use Rattle.ql_classify.specs.Least.{AreLevelsOf};
 ghost use Rattle.ql_headline.specs.Stores.{rules_of};
 ghost use Rattle.ql_lang.specs.declared.program.Program.{Program};

@@ -1,4 +1,4 @@
-ghost use Rattle.std.specs.Prelude.{◌≡◌, IfOk, IsTrue, MatchOption, ◌↔◌, ◌⊎◌, [], Ok, List, ℕ};
+ghost use Rattle.std.specs.Prelude.{◌≡◌, IfOk, IsTrue, MatchOption, ◌↔◌, [], Ok, List};
 ghost use Rattle.ql_value.specs.declared.value.Value.{Value};
 ghost use Rattle.ql_value.specs.Reading.{value_at};
 ghost use Rattle.ql_schedule.specs.declared.argument.Argument.{Argument};

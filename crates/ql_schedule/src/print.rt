@@ -1,7 +1,5 @@
-ghost use Rattle.std.specs.Prelude.{◌≡◌, ◌<◌, ◌++◌, ◌∷◌, [], List, ℕ, IfOk, OnOk, All, Some, codes, decimal, length, map, slice_get};
-ghost use Rattle.ql_lines.specs.Fields.{Fields};
+ghost use Rattle.std.specs.Prelude.{◌≡◌, ◌<◌, ◌++◌, ◌∷◌, [], IfOk, OnOk, All, Some, decimal, length, map, slice_get};
 ghost use Rattle.ql_lines.specs.Texts.{behind, file_text, joined};
-ghost use Rattle.ql_typing.specs.Names.{op_name, txn_name};
 ghost use Rattle.ql_value.specs.Spelling.{quoted, value_text};
 ghost use Rattle.ql_schedule.specs.Texts.{
   AreNamed,

@@ -1,4 +1,4 @@
-ghost use Rattle.std.specs.Prelude.{◌≡◌, ◌<◌, ◌+◌, ◌^◌, ◌++◌, ℕ, List, All, false, length, map, IfOk, OnOk, OnErr};
+ghost use Rattle.std.specs.Prelude.{◌≡◌, ◌<◌, ◌+◌, ◌^◌, ◌++◌, ℕ, All, false, length, map, IfOk, OnOk, OnErr};
 ghost use Rattle.ql_base.specs.IdLists.{has_id};
 ghost use Rattle.ql_needs.specs.Closed.{Has};
 ghost use Rattle.ql_needs.specs.Needs.{IsPackage};

@@ -1,4 +1,4 @@
-ghost use Rattle.std.specs.Prelude.{◌≡◌, ℕ, List, All, length, map, IfOk, OnErr};
+ghost use Rattle.std.specs.Prelude.{◌≡◌, ℕ, All, length, map, IfOk, OnErr};
 ghost use Rattle.ql_shim.specs.Transactions.{Transactions};
 ghost use Rattle.ql_machine.specs.Deliveries.{IsDelivery};
 ghost use Rattle.ql_machine.specs.Rules.{Promises};

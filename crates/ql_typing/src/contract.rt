@@ -1,8 +1,7 @@
-ghost use Rattle.std.specs.Prelude.{◌≡◌, ◌∷◌, [], Option, Some, None, List, ℕ, IfOk, map, drop, option_copied};
-ghost use Rattle.ql_base.specs.Numbering.{has_name};
+ghost use Rattle.std.specs.Prelude.{◌≡◌, [], Option, Some, None, IfOk, map, drop, option_copied};
 ghost use Rattle.ql_lang.specs.Trees.{proposition_of, relation_of, sentence_of};
 ghost use Rattle.ql_typing.specs.Faults.{each, first_fault, names_met};
-ghost use Rattle.ql_typing.specs.ContractFaults.{choice_faults, contract_faults, extra_var, is_closure, is_known, op_faults, point_faults, prop_faults, rel_faults, var_names};
+ghost use Rattle.ql_typing.specs.ContractFaults.{choice_faults, contract_faults, extra_var, is_closure, op_faults, point_faults, prop_faults, rel_faults, var_names};
 
 use crate::fault::{TypeFault, first};
 use crate::names::meet;

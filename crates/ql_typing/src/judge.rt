@@ -1,7 +1,7 @@
 ghost use Rattle.std.specs.Prelude.{◌≡◌, ◌&&◌, Some, None};
 ghost use Rattle.ql_lang.specs.Expressions.{Calling, expression_of, node_of, operands_of};
 ghost use Rattle.ql_typing.specs.Faults.{earlier, first_fault};
-ghost use Rattle.ql_typing.specs.Kinds.{begins_at, chosen_kind, combined_kind, count_faults, faults_as, faults_of, head_faults, kept_kind, kind_of, kind_where, left_faults, meets, mismatch, operand_faults, operand_of, reading_faults, result_of, second_of, signature_at, third_of};
+ghost use Rattle.ql_typing.specs.Kinds.{begins_at, chosen_kind, combined_kind, faults_as, faults_of, head_faults, kept_kind, kind_of, kind_where, left_faults, meets, mismatch, operand_faults, operand_of, reading_faults, result_of, second_of, signature_at, third_of};
 
 use crate::fault::{TypeFault, first};
 use crate::function::{Function, Signature, find_function};

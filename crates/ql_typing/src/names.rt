@@ -1,4 +1,4 @@
-ghost use Rattle.std.specs.Prelude.{◌≡◌, [], IfOk, OnErr, OnOk, MatchResult, Some, None};
+ghost use Rattle.std.specs.Prelude.{◌≡◌, [], IfOk, OnErr, OnOk, Some, None};
 ghost use Rattle.ql_base.specs.Numbering.{has_name, with_name, place};
 ghost use Rattle.ql_typing.specs.Faults.{first_fault, repeats, names_met, where_so};
 

@@ -1,7 +1,6 @@
 ghost use Rattle.std.specs.Prelude.{◌≡◌, Some, IfOk, OnOk, map};
-ghost use Rattle.ql_lang.specs.Expressions.{expression_of};
 ghost use Rattle.ql_typing.specs.Faults.{each, earlier, first_fault, repeats};
-ghost use Rattle.ql_typing.specs.Kinds.{kind_in, reading_faults};
+ghost use Rattle.ql_typing.specs.Kinds.{reading_faults};
 ghost use Rattle.ql_typing.specs.Programs.{above, bind_faults, bind_names, binds_known, effect_faults, maybe_effect_faults, op_decl_faults, param_names, params_known, places, stmt_faults, target_names};
 
 use crate::contract::check_contract;

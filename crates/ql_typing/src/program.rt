@@ -1,6 +1,5 @@
-ghost use Rattle.std.specs.Prelude.{◌≡◌, [], IfOk, OnOk, map};
-ghost use Rattle.std.specs.List.{flat_map};
-ghost use Rattle.ql_typing.specs.Faults.{each, earlier, first_fault, names_met, repeats, unless};
+ghost use Rattle.std.specs.Prelude.{◌≡◌, [], IfOk, map};
+ghost use Rattle.ql_typing.specs.Faults.{each, earlier, first_fault, names_met, repeats};
 ghost use Rattle.ql_typing.specs.Programs.{above, field_names, fields_known, init_faults, is_collection, may_begin, op_decl_faults, op_names, op_places, program_faults, txn_faults, type_faults};
 
 use crate::contract::{check_contract, ops_fault};

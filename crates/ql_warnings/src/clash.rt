@@ -2,7 +2,6 @@
 ghost use Rattle.std.specs.Prelude.{◌≡◌, ◌<◌, ℕ, IfSome, Some, length, option_copied, slice_get, true};
 ghost use Rattle.std.specs.List.{list_any};
 ghost use Rattle.ql_typing.specs.Operations.{op_kinds};
-ghost use Rattle.ql_ground.specs.OfPrograms.{IsGoalOf};
 ghost use Rattle.ql_warnings.specs.Clashes.{AreApart, CantHold, choice_may, is_of, may_be};
 ghost use Rattle.ql_warnings.specs.Names.{is_on_object, is_order};
 

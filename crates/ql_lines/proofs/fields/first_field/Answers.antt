@@ -1,5 +1,5 @@
 use Rattle.std.proofs.Common.{◌≡◌, ◌<◌, length, take, drop, arith, sym, subst, ap, ◌∙◌}
-use Rattle.std.specs.List.{before_first, prefix_len}
+use Rattle.std.specs.List.{before_first}
 use Rattle.ql_lines.specs.Fields.{FirstField, is_space}
 use Rattle.ql_lines.proofs.FieldLaws.{first_field_is, no_field}
 use Rattle.ql_lines.proofs.fields.first_field.Goals as goal
