@@ -1,4 +1,3 @@
-
 use ql_base::{Word, is_name, number_of};
 
 /// A begun transaction: its number, from 1, and the name of its declaration.
