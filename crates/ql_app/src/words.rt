@@ -131,7 +131,8 @@ fn three_words<'a>(word: &str, name: &'a str, last: &'a str) -> Option<Request<'
 fn why_request<'a>(flag: &str, name: &'a str) -> Option<Request<'a>>
     ensures { MatchOption result
         ((named : NamedRequest) → IsRequest (codes "classify" ∷ flag.now ∷ name.now ∷ []) named → ⊥)
-        (λ request. IsRequest (codes "classify" ∷ flag.now ∷ name.now ∷ []) (named_request_of request)) }
+        (λ request. IsRequest (codes "classify" ∷ flag.now ∷ name.now ∷ [])
+        (named_request_of request)) }
 {
     if flag == "--why" {
         on_one_file(Command::ClassifyWhy, name)
@@ -144,7 +145,8 @@ fn why_request<'a>(flag: &str, name: &'a str) -> Option<Request<'a>>
 fn soak_request<'a>(name: &'a str, number: &str) -> Option<Request<'a>>
     ensures { MatchOption result
         ((named : NamedRequest) → IsRequest (codes "soak" ∷ name.now ∷ number.now ∷ []) named → ⊥)
-        (λ request. IsRequest (codes "soak" ∷ name.now ∷ number.now ∷ []) (named_request_of request)) }
+        (λ request. IsRequest (codes "soak" ∷ name.now ∷ number.now ∷ [])
+        (named_request_of request)) }
 {
     let number = number_up_to(number, MAX_NUMBER)?;
     on_one_file(Command::Soak { number }, name)
@@ -152,8 +154,10 @@ fn soak_request<'a>(name: &'a str, number: &str) -> Option<Request<'a>>
 
 fn four_words<'a>(word: &str, second: &'a str, third: &'a str, last: &'a str) -> Option<Request<'a>>
     ensures { MatchOption result
-        ((named : NamedRequest) → IsRequest (word.now ∷ second.now ∷ third.now ∷ last.now ∷ []) named → ⊥)
-        (λ request. IsRequest (word.now ∷ second.now ∷ third.now ∷ last.now ∷ []) (named_request_of request)) }
+        ((named : NamedRequest)
+        → IsRequest (word.now ∷ second.now ∷ third.now ∷ last.now ∷ []) named → ⊥)
+        (λ request. IsRequest (word.now ∷ second.now ∷ third.now ∷ last.now ∷ [])
+        (named_request_of request)) }
 {
     match word {
         "gen" => gen_request(second, third, last),
@@ -165,8 +169,10 @@ fn four_words<'a>(word: &str, second: &'a str, third: &'a str, last: &'a str) ->
 // What `gen`, a name and two numbers ask for.
 fn gen_request<'a>(name: &'a str, number: &str, events: &str) -> Option<Request<'a>>
     ensures { MatchOption result
-        ((named : NamedRequest) → IsRequest (codes "gen" ∷ name.now ∷ number.now ∷ events.now ∷ []) named → ⊥)
-        (λ request. IsRequest (codes "gen" ∷ name.now ∷ number.now ∷ events.now ∷ []) (named_request_of request)) }
+        ((named : NamedRequest)
+        → IsRequest (codes "gen" ∷ name.now ∷ number.now ∷ events.now ∷ []) named → ⊥)
+        (λ request. IsRequest (codes "gen" ∷ name.now ∷ number.now ∷ events.now ∷ [])
+        (named_request_of request)) }
 {
     let number = number_up_to(number, MAX_NUMBER)?;
     let events = number_up_to(events, MAX_EVENTS)?;
@@ -176,8 +182,10 @@ fn gen_request<'a>(name: &'a str, number: &str, events: &str) -> Option<Request<
 // What `run`, an option and two names ask for.
 fn json_request<'a>(option: &str, name: &'a str, other: &'a str) -> Option<Request<'a>>
     ensures { MatchOption result
-        ((named : NamedRequest) → IsRequest (codes "run" ∷ option.now ∷ name.now ∷ other.now ∷ []) named → ⊥)
-        (λ request. IsRequest (codes "run" ∷ option.now ∷ name.now ∷ other.now ∷ []) (named_request_of request)) }
+        ((named : NamedRequest)
+        → IsRequest (codes "run" ∷ option.now ∷ name.now ∷ other.now ∷ []) named → ⊥)
+        (λ request. IsRequest (codes "run" ∷ option.now ∷ name.now ∷ other.now ∷ [])
+        (named_request_of request)) }
 {
     if option == "--json" {
         on_two_files(PairCommand::Run(Form::Json), name, other)
@@ -195,8 +203,10 @@ fn five_words<'a>(
     cut: &str,
 ) -> Option<Request<'a>>
     ensures { MatchOption result
-        ((named : NamedRequest) → IsRequest (word.now ∷ name.now ∷ other.now ∷ replica.now ∷ cut.now ∷ []) named → ⊥)
-        (λ request. IsRequest (word.now ∷ name.now ∷ other.now ∷ replica.now ∷ cut.now ∷ []) (named_request_of request)) }
+        ((named : NamedRequest)
+        → IsRequest (word.now ∷ name.now ∷ other.now ∷ replica.now ∷ cut.now ∷ []) named → ⊥)
+        (λ request. IsRequest (word.now ∷ name.now ∷ other.now ∷ replica.now ∷ cut.now ∷ [])
+        (named_request_of request)) }
 {
     match word {
         "restart" => restart_request(name, other, replica, cut),
@@ -211,8 +221,11 @@ fn restart_request<'a>(
     cut: &str,
 ) -> Option<Request<'a>>
     ensures { MatchOption result
-        ((named : NamedRequest) → IsRequest (codes "restart" ∷ name.now ∷ other.now ∷ replica.now ∷ cut.now ∷ []) named → ⊥)
-        (λ request. IsRequest (codes "restart" ∷ name.now ∷ other.now ∷ replica.now ∷ cut.now ∷ []) (named_request_of request)) }
+        ((named : NamedRequest)
+        → IsRequest (codes "restart" ∷ name.now ∷ other.now ∷ replica.now ∷ cut.now ∷ []) named
+        → ⊥)
+        (λ request. IsRequest (codes "restart" ∷ name.now ∷ other.now ∷ replica.now ∷ cut.now ∷ [])
+        (named_request_of request)) }
 {
     let replica = number_up_to(replica, MAX_REPLICA)?;
     let cut = cut_of(cut)?;
@@ -220,7 +233,8 @@ fn restart_request<'a>(
 }
 
 fn on_one_file(command: Command, name: &str) -> Option<Request>
-    ensures { MatchOption result (IsFileName name.now → ⊥) (λ request. IsFileName name.now × (named_request_of request ≡ OneFile command name.now)) }
+    ensures { MatchOption result (IsFileName name.now → ⊥)
+        (λ request. IsFileName name.now × (named_request_of request ≡ OneFile command name.now)) }
 {
     if is_file_name(name) {
         Some(Request::OneFile(command, name))
@@ -231,7 +245,8 @@ fn on_one_file(command: Command, name: &str) -> Option<Request>
 
 fn on_two_files<'a>(command: PairCommand, name: &'a str, other: &'a str) -> Option<Request<'a>>
     ensures { MatchOption result (IsFileName name.now → IsFileName other.now → ⊥)
-        (λ request. IsFileName name.now × IsFileName other.now × (named_request_of request ≡ TwoFiles command name.now other.now)) }
+        (λ request. IsFileName name.now × IsFileName other.now
+        × (named_request_of request ≡ TwoFiles command name.now other.now)) }
 {
     if is_file_name(name) && is_file_name(other) {
         Some(Request::TwoFiles(command, name, other))
@@ -243,8 +258,10 @@ fn on_two_files<'a>(command: PairCommand, name: &'a str, other: &'a str) -> Opti
 // The command of a word, which is followed by the name of a file.
 fn plain_command(word: &str) -> Option<Command>
     ensures { MatchOption result
-        ((command : Command) (name : List ℕ) → command_words command name ≡ word.now ∷ name ∷ [] → ⊥)
-        (λ command. IsInRange command × ((name : List ℕ) → command_words command name ≡ word.now ∷ name ∷ [])) }
+        ((command : Command) (name : List ℕ) → command_words command name ≡ word.now ∷ name ∷ []
+        → ⊥)
+        (λ command. IsInRange command
+        × ((name : List ℕ) → command_words command name ≡ word.now ∷ name ∷ [])) }
 {
     match word {
         "holds" => Some(Command::Holds),
@@ -257,8 +274,11 @@ fn plain_command(word: &str) -> Option<Command>
 
 fn pair_command(word: &str) -> Option<PairCommand>
     ensures { MatchOption result
-        ((command : PairCommand) (name other : List ℕ) → pair_words command name other ≡ word.now ∷ name ∷ other ∷ [] → ⊥)
-        (λ command. IsPairInRange command × ((name other : List ℕ) → pair_words command name other ≡ word.now ∷ name ∷ other ∷ [])) }
+        ((command : PairCommand) (name other : List ℕ)
+        → pair_words command name other ≡ word.now ∷ name ∷ other ∷ [] → ⊥)
+        (λ command. IsPairInRange command
+        × ((name other : List ℕ)
+        → pair_words command name other ≡ word.now ∷ name ∷ other ∷ [])) }
 {
     match word {
         "check" => Some(PairCommand::Check),

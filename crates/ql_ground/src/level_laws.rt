@@ -22,5 +22,8 @@ pub fn higher_levels_ask_more()
 /// current: this is equivalent to requiring it of each, since the effects of one transaction are all current
 /// or none is.
 pub fn first_other_decides()
-    ensures { (x : List Effect) (run : ℕ) (members : List ℕ) (c : ℕ) (others : List ℕ) → in_one_txn x (inside x run) members (c ∷ others) ≡ (list_all (inside x run) members && (not (inside x run c) && list_all (sametxn x c) others)) }
+    ensures { (x : List Effect) (run : ℕ) (members : List ℕ) (c : ℕ) (others : List ℕ)
+        → in_one_txn x (inside x run) members (c ∷ others)
+        ≡ (list_all (inside x run) members
+        && (not (inside x run c) && list_all (sametxn x c) others)) }
 {}

@@ -34,9 +34,11 @@ pub trait Holder: Drop {
     fn receive(&mut self, pack: &IdSet, x: &Execution) -> Result<Arrival, NoMemory>
         requires fits { fits self.old x.now }
         requires package { IsPackage x.now pack.now }
-        ensures arrival { IfOk result (IsArrival x.now (received self.old) pack.now (received self.new)) }
+        ensures arrival { IfOk result
+            (IsArrival x.now (received self.old) pack.now (received self.new)) }
         ensures fits { fits self.new x.now }
-        ensures same { ChangesNothing result → (received self.new ≡ received self.old) × ((y : List Effect) → fits self.old y ↔ fits self.new y) };
+        ensures same { ChangesNothing result → (received self.new ≡ received self.old)
+            × ((y : List Effect) → fits self.old y ↔ fits self.new y) };
 
     /// Whether an effect was received.
     fn has(&self, e: EffId) -> bool
@@ -44,12 +46,14 @@ pub trait Holder: Drop {
 
     /// Whether an effect is applied.
     fn applied(&self, e: EffId) -> bool
-        ensures { (x : List Effect) → fits self.now x → (result ≡ true) ↔ Applied x (received self.now) e.0 };
+        ensures { (x : List Effect) → fits self.now x → (result ≡ true)
+            ↔ Applied x (received self.now) e.0 };
 
     /// A holder that has received the same effects.
     fn copy(&self) -> Result<Self, NoMemory>
         ensures received { IfOk result (λ copied. received copied ≡ received self.now) }
-        ensures fits { IfOk result (λ copied. (x : List Effect) → fits copied x ↔ fits self.now x) };
+        ensures fits { IfOk result
+            (λ copied. (x : List Effect) → fits copied x ↔ fits self.now x) };
 
     // The ids that were received ascend.
     ghost fits_ascending: { (holder : Self) (x : List Effect) → fits holder x → IsAscending (received holder) };

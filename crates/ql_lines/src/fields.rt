@@ -4,7 +4,8 @@ ghost use Rattle.ql_lines.specs.Fields.{FirstField, fields_of, is_space};
 
 /// The first field of a line and what directly follows it; `None` if the line has no field.
 pub fn first_field(text: &[u8]) -> Option<(&[u8], &[u8])>
-    ensures { MatchOption result (fields_of text.now ≡ []) (λ x. FirstField text.now x.0.now x.1.now) }
+    ensures { MatchOption result (fields_of text.now ≡ [])
+        (λ x. FirstField text.now x.0.now x.1.now) }
 {
     let start = after_spaces(text);
     if start.is_empty() {

@@ -11,5 +11,6 @@ ghost use Rattle.ql_machine_laws.specs.Example.{both_applied, both_written, even
 /// to apply at once (`no_step`).
 pub fn example_runs()
     ensures run { IsRun rules 2 events replies both_applied }
-    ensures no_step { (after : Machine) (ids : List ℕ) → IsStep rules both_written (Deliver (record { 0 = 2 })) after (Applies ids) → ⊥ }
+    ensures no_step { (after : Machine) (ids : List ℕ)
+        → IsStep rules both_written (Deliver (record { 0 = 2 })) after (Applies ids) → ⊥ }
 {}

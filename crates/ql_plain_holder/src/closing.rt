@@ -40,7 +40,9 @@ fn close(
 ) -> Result<(), NoMemory>
     requires first { 1 ≤ id }
     requires last { id ≤ length x.now }
-    ensures { OnOk result ((a : ℕ) → Has closed.new a ↔ (Has closed.old a ⊎ ((a ≡ id) × Applied x.now after.now id))) }
+    ensures { OnOk result
+        ((a : ℕ) → Has closed.new a
+        ↔ (Has closed.old a ⊎ ((a ≡ id) × Applied x.now after.now id))) }
 {
     let is_closed = is_closed(alloc, x, after, id)?;
     if is_closed {
@@ -82,7 +84,9 @@ fn add_member(x: &Execution, id: u32, other: u32, pack: &mut IdSet) -> Result<()
     requires last { id ≤ length x.now }
     requires first_other { 1 ≤ other }
     requires last_other { other ≤ length x.now }
-    ensures { OnOk result ((a : ℕ) → has_id pack.new a ≡ (has_id pack.old a || (nat_eq other a && sametxn x.now id other))) }
+    ensures { OnOk result
+        ((a : ℕ) → has_id pack.new a
+        ≡ (has_id pack.old a || (nat_eq other a && sametxn x.now id other))) }
 {
     if is_same_txn(x, id, other) {
         insert_id(pack, other)
@@ -113,7 +117,8 @@ pub(crate) fn first_missing(ids: &[u32], others: &IdSet) -> Option<u32>
 
 /// Those of the ids that the others lack.
 pub(crate) fn without(alloc: Global, ids: &[u32], others: &IdSet) -> Result<IdSet, NoMemory>
-    ensures lacks { IfOk result (λ rest. (a : ℕ) → has_id rest a ≡ (has_id ids.now a && not (has_id others.now a))) }
+    ensures lacks { IfOk result
+        (λ rest. (a : ℕ) → has_id rest a ≡ (has_id ids.now a && not (has_id others.now a))) }
     ensures ascending { IfOk result IsAscending }
 {
     let mut rest = IdSet::new(alloc);
@@ -126,7 +131,9 @@ pub(crate) fn without(alloc: Global, ids: &[u32], others: &IdSet) -> Result<IdSe
 fn insert_missing(rest: &mut IdSet, id: u32, others: &IdSet) -> Result<(), NoMemory>
     requires { IsAscending rest.old }
     ensures ascending { IsAscending rest.new }
-    ensures added { OnOk result ((a : ℕ) → has_id rest.new a ≡ (has_id rest.old a || (nat_eq id a && not (has_id others.now id)))) }
+    ensures added { OnOk result
+        ((a : ℕ) → has_id rest.new a
+        ≡ (has_id rest.old a || (nat_eq id a && not (has_id others.now id)))) }
 {
     if others.has(id) {
         return Ok(());

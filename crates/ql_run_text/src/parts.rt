@@ -62,7 +62,8 @@ pub(crate) fn push_values(out: &mut Vec<u8>, values: &Values) -> Result<(), NoMe
 
 // The values after the first one.
 fn push_followed(out: &mut Vec<u8>, values: &[Value]) -> Result<(), NoMemory>
-    ensures text { OnOk result (out.new.items ≡ out.old.items ++ followed (map value_text values.now)) }
+    ensures text { OnOk result
+        (out.new.items ≡ out.old.items ++ followed (map value_text values.now)) }
     ensures values { OnOk result (All IsValue values.now) }
 {
     for value in values {

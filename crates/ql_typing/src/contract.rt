@@ -132,7 +132,8 @@ fn choice_fault(
     var: &Var,
     known: Option<&Names>,
 ) -> Result<Option<TypeFault>, NoMemory>
-    ensures { IfOk result (λ fault. fault ≡ first_fault (choice_faults (option_copied known.entry) var.now)) }
+    ensures { IfOk result
+        (λ fault. fault ≡ first_fault (choice_faults (option_copied known.entry) var.now)) }
 {
     let met = meet(alloc, var.ops.items())?;
     Ok(first(met.fault, ops_fault(var.ops.items(), known)))
@@ -143,7 +144,8 @@ fn choices_fault(
     vars: &[Var],
     known: Option<&Names>,
 ) -> Result<Option<TypeFault>, NoMemory>
-    ensures { IfOk result (λ fault. fault ≡ first_fault (each (choice_faults (option_copied known.entry)) vars.now)) }
+    ensures { IfOk result
+        (λ fault. fault ≡ first_fault (each (choice_faults (option_copied known.entry)) vars.now)) }
 {
     let mut fault = None;
     for var in vars {
@@ -179,8 +181,12 @@ pub(crate) fn check_contract(
     known: Option<&Names>,
     for_txn: bool,
 ) -> Result<Checked, NoMemory>
-    ensures vars { IfOk result (λ checked. checked.vars ≡ names_met [] (var_names contract.now.vars)) }
-    ensures fault { IfOk result (λ checked. checked.fault ≡ first_fault (contract_faults (option_copied known.entry) for_txn (sentence_of contract.now))) }
+    ensures vars { IfOk result
+        (λ checked. checked.vars ≡ names_met [] (var_names contract.now.vars)) }
+    ensures fault { IfOk result
+        (λ checked. checked.fault
+        ≡ first_fault (contract_faults (option_copied known.entry) for_txn
+        (sentence_of contract.now))) }
 {
     let vars = contract.vars.items();
     let names = names_of(alloc, vars)?;

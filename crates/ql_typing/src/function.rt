@@ -108,7 +108,8 @@ fn two(second: Base, gives: Kind) -> Signature
 }
 
 fn three(second: Base, third: Base, gives: Kind) -> Signature
-    ensures { result ≡ record { second = Some (of_base second); third = Some (of_base third); gives = gives } }
+    ensures { result ≡ record
+        { second = Some (of_base second); third = Some (of_base third); gives = gives } }
 {
     Signature {
         second: Some(kind_of_base(second)),
