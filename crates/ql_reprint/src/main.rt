@@ -7,7 +7,8 @@ use ql_lang::print_program;
 use ql_parse::{ParseFault, parse_program};
 use ql_reply::words;
 use std::alloc::Global;
-use std::{fs, io, str};
+use std::io::Write;
+use std::{fs, io};
 
 // The most bytes of a source.
 const MOST_BYTES: usize = 1 << 20;
@@ -18,10 +19,7 @@ fn main(rt: HostRuntime) -> io::Result<()> {
     for path in words.iter().skip(check as usize) {
         let text = fs::read(&rt, path)?;
         match said(rt.alloc(), text.as_slice(), check) {
-            Ok(said) => match str::from_utf8(said.as_slice()) {
-                Ok(said) => print!(rt; "{said}")?,
-                Err(_) => println!(rt; "{path}: no text")?,
-            },
+            Ok(said) => rt.stdout().write_all(said.as_slice())?,
             Err(NoMemory) => println!(rt; "{path}: no memory")?,
         }
     }
