@@ -211,7 +211,7 @@ module _ (p : Program) where
       if_both (nat_eq k 9) (IsOfVersion 1) _ _ (λ network. network_plain j s) (λ no_network.
       if_both (nat_eq k 10) (IsOfVersion 1) _ _ (λ begin. begin_plain s) (λ commit. tt))))
 
-  -- so there are as many replicas behind each event
+  -- so there are as many replicas after each event
   as_many : (n : ℕ) (e : Event) → IsOfVersion 1 e → replicas_after n e ≡ n
   as_many n (Call session replica object op args) is = refl
   as_many n (Begin session replica decl ids) is = refl

@@ -20,7 +20,7 @@ use Rattle.ql_grammar.proofs.Wanted.{kept, operator, expr, arguments, base, kind
 use Rattle.ql_grammar.proofs.Leading.{Leads}
 use Rattle.ql_grammar.proofs.Sound.{leads}
 
--- what the stacks behind a token want, the stack before it wants with that token before
+-- what the stacks after a token want, the stack before it wants with that token before
 abbrev pub IsSound : List Sym → List Value → Terminal → List ℕ → ℕ → Option Taken → Type 0
 IsSound st vs k x n None = Unit {0}
 IsSound st vs k x n (Some t) = (out : List Value) (ts : List Marked) → Has t.stack t.values ts out → Has st vs (marked t.role k x n ∷ ts) out

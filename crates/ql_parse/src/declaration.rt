@@ -248,7 +248,7 @@ impl Reader<'_> {
         Ok(found)
     }
 
-    /// The expression behind a word that stands before one.
+    /// The expression after a word that stands before one.
     #[inline(always)]
     fn value_behind(&mut self, alloc: Global, word: Terminal) -> Result<Operand, Refusal>
         ensures gave { IfOk result
@@ -275,7 +275,7 @@ impl Reader<'_> {
         Ok(value)
     }
 
-    /// The contract behind its word, up to a semicolon.
+    /// The contract after its word, up to a semicolon.
     fn closed_contract(&mut self, alloc: Global) -> Result<Contract, Refusal>
         ensures gave { IfOk result
             (λ k. GaveAll contract_symbols (ASentence (sentence_of k)) self.old self.new) }
@@ -434,7 +434,7 @@ impl Reader<'_> {
         Ok(effect)
     }
 
-    /// An operation behind its heading.
+    /// An operation after its heading.
     fn body(&mut self, alloc: Global, heading: Heading) -> Result<OpDecl, Refusal>
         ensures gave { IfOk result
             (λ o. GaveBody heading.at heading.name heading.params heading.kind (operation_of o)
@@ -550,7 +550,7 @@ impl Reader<'_> {
         Ok(names)
     }
 
-    /// A transaction behind its name.
+    /// A transaction after its name.
     fn terms_of_use(&mut self, alloc: Global, at: u32, name: Name) -> Result<TxnDecl, Refusal>
         ensures gave { IfOk result (λ t. GaveTerms at name (transaction_of t) self.old self.new) }
         ensures shorter { OnOk result (length self.new.tokens < length self.old.tokens) }

@@ -51,7 +51,7 @@ use ql_grammar::{Precedence, Role, Terminal};
 use ql_lang::{BinOp, Expr, ExprNode, Exprs};
 use std::alloc::Global;
 
-/// An expression that was read, and where it starts: at its own place, or at a bracket round it.
+/// An expression that was read, and where it starts: at its own offset, or at that of a bracket round it.
 #[derive(Drop)]
 pub(crate) struct Operand {
     pub(crate) start: u32,
@@ -507,7 +507,7 @@ impl Reader<'_> {
         Ok(left)
     }
 
-    /// A word and the expression behind it.
+    /// A word and the expression after it.
     #[cycle(expr)]
     fn branch(&mut self, alloc: Global, word: Terminal) -> Result<Operand, Refusal>
         ensures gave { IfOk result

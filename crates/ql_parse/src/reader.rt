@@ -79,7 +79,7 @@ impl<'a> Reader<'a> {
         }
     }
 
-    /// The place of the next token, or the source's end.
+    /// The offset of the next token, or the source's end.
     pub(crate) fn place(&self) -> u32
         ensures { result ≡ place_ahead self.now.tokens self.now.end }
     {
@@ -144,7 +144,7 @@ impl<'a> Reader<'a> {
         Ok(())
     }
 
-    /// The place of the next token, which has to be this one.
+    /// The offset of the next token, which has to be this one.
     fn expect(&self, terminal: Terminal) -> Result<u32, Refusal>
         ensures sees { OnOk result (is_ahead terminal self.now.tokens ≡ true) }
         ensures place { IfOk result (λ at. at ≡ place_ahead self.now.tokens self.now.end) }
@@ -313,7 +313,7 @@ impl<'a> Reader<'a> {
         self.operator_ahead(precedence).is_some()
     }
 
-    /// The operator of this precedence that comes next, which has to be one, with its place.
+    /// The operator of this precedence that comes next, which has to be one, with its offset.
     fn expect_operator(&self, precedence: Precedence) -> Result<BinOp, Refusal>
         ensures sees { IfOk result (λ op. operator_ahead precedence self.now.tokens ≡ Some op) }
         ensures err { IfErr result

@@ -276,7 +276,7 @@ package-has x id ids first last has =
     has id ∙ and_from (nat_le 1 id && nat_lt id (length x + 1)) (sametxn x id id)
     (and_from (nat_le 1 id) (nat_lt id (length x + 1)) (le-leb 1 id first) (lt-ltb id (length x + 1) (omega (arith, last)))) (sametxn-itself x id)
 
--- ---- where a call gave Ok
+-- ---- where a call returned Ok
 
 pub on-ok : {A E : Type 0} (r : Result A E) {P Q : Type 0} → (P → Q) → OnOk r P → OnOk r Q
 on-ok (Ok a) go is = go is

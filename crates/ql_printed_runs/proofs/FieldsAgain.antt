@@ -65,7 +65,7 @@ pub fields_behind : (fs : Fields) → AllByRecursion IsOneField fs → fields_of
 fields_behind [] h = no_fields
 fields_behind (f ∷ fs) h = field_behind f fs h.0 ∙ ap (λ r. f ∷ r) (fields_behind fs h.1)
 
--- the first field of a line, and one behind others
+-- the first field of a line, and one after others
 pub first_field : (f : List ℕ) (fs : Fields) → IsOneField f → FirstField (f ++ behind fs) f (behind fs)
 first_field f fs h = record { fields = field_before f fs h; spaces = 0; stands = refl }
 
@@ -78,7 +78,7 @@ unfolding behind
 ends_here [] = refl
 ends_here (f ∷ fs) = refl
 
--- a part of any kind as a field behind others
+-- a part of any kind as a field after others
 pub part_field : {X : Type 0} (PartAt : X → List ℕ → List ℕ → Type 0) (x : X) (f : List ℕ) (fs : Fields) → PartAt x (f ++ behind fs) (behind fs) → FieldAt PartAt x (behind (f ∷ fs)) (behind fs)
 unfolding behind
 part_field PartAt x f fs part = record { gap = 1; start = f ++ behind fs; spaces = refl; part = part; ended = ends_here fs }

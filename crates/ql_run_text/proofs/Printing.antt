@@ -61,7 +61,7 @@ one_line : (l : Fields) → file_text (l ∷ []) ≡ joined l ++ 10 ∷ []
 unfolding file_text
 one_line l = refl
 
--- one line more of a list's front
+-- one line more of a list's prefix
 pub more_lines : {X : Type 0} (line : ℕ → X → Fields) (xs : List X) (k : ℕ) (x : X) (out : List ℕ) → slice_get xs k ≡ Some x
     → (out ++ file_text (lines_from line 1 (take k xs))) ++ (joined (line (k + 1) x) ++ 10 ∷ []) ≡ out ++ file_text (lines_from line 1 (take (k + 1) xs))
 more_lines line xs k x out at =
@@ -81,7 +81,7 @@ on_ok (Err e) f h = tt
 
 -- ---- lines from their parts
 
--- fields behind others of a line
+-- fields after others of a line
 pub more_fields : (out w : List ℕ) (fs gs : Fields) → (out ++ joined (w ∷ fs)) ++ behind gs ≡ out ++ joined (w ∷ (fs ++ gs))
 more_fields out w fs gs =
     append_assoc out (joined (w ∷ fs)) (behind gs)
