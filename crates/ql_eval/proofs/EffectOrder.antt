@@ -1,6 +1,7 @@
 -- The order of effects is a sort's: by stamp and session, and of what ties the last of the ids first.
-use Rattle.std.proofs.Common.{◌≡◌, ◌≤◌, ◌<◌, ◌+◌, ◌-◌, ℕ, suc, Bool, true, false, ◌&&◌, ◌||◌, cond, nat_eq, nat_lt, List, [], ◌∷◌, ◌++◌, Option, Some, None, length, get_or, drop, map, reverse, refl, sym, ap, ◌∙◌, arith}
-use Rattle.std.specs.List.{filter_map}
+use Rattle.std.proofs.Common.{◌≡◌, ◌≤◌, ◌<◌, ◌+◌, ◌-◌, ℕ, suc, Bool, true, false, ◌&&◌, ◌||◌, cond, filter, nat_eq, nat_lt, List, [], ◌∷◌, ◌++◌, Option, Some, None, length, get_or, drop, map, reverse, refl, sym, ap, ◌∙◌, subst, arith}
+use Rattle.std.specs.List.{cons_option, filter_map}
+use Rattle.std.specs.Option.{option_and_then}
 use Rattle.std.specs.Cmp.{IsStrictWeakOrder}
 use Rattle.std.specs.List.Sorted.{IsSortedBy, IsStableBy}
 use Rattle.std.specs.Ordering.{is_lt, nat_cmp, ordering_then}
@@ -10,8 +11,10 @@ use Rattle.std.proofs.lemmas.Cmp.{nat_cmp_total, on_total, then_total}
 use Rattle.std.proofs.lemmas.List.{drop_all, reverse-append}
 use Rattle.std.proofs.lemmas.List.Sorted.{ranks_by}
 use Rattle.ql_exec.specs.declared.effect.Effect.{Effect}
+use Rattle.ql_exec.specs.Effects.{effect_at}
 use Rattle.ql_exec.specs.Folding.{comes_before, in_order, with_effect}
-use Rattle.ql_eval.proofs.StableOrder.{placed, put, sorted_is}
+use Rattle.ql_eval.specs.Folds.{emitting_at, has_emitted}
+use Rattle.ql_eval.proofs.StableOrder.{Rises, filter_put, placed, put, put_rises, sorted_is}
 
 -- a lower stamp, or the same and a lower session, as an answer of `cmp`
 less_is : (p q r s : Bool) → is_lt (ordering_then (cond p Less (cond q Equal Greater)) (cond r Less (cond s Equal Greater))) ≡ (p || (q && r))
@@ -63,6 +66,41 @@ module _ {X : Type 0} (f : X → Effect) where
       → map f xs ≡ reverse es → map f ys ≡ in_order es
   sorted_effects xs ys es up stable is =
       ap (map f) (sorted_is (λ x y. comes_before (f x) (f y)) is_order xs ys up stable) ∙ placed_map [] xs ∙ ap (placed_effects []) is ∙ placed_back es
+
+-- effects that are left out change nothing in the order of the others
+put_is : (e : Effect) (es : List Effect) → put comes_before e es ≡ with_effect e es
+put_is e [] = refl
+put_is e (f ∷ es) = ap (λ rest. cond (comes_before e f) (e ∷ f ∷ es) (f ∷ rest)) (put_is e es)
+
+order_rises : (es : List Effect) → Rises comes_before (in_order es)
+order_rises [] = tt
+order_rises (e ∷ es) = subst (Rises comes_before) (put_is e (in_order es)) (put_rises comes_before (is_order (λ f. f)) e (in_order es) (order_rises es))
+
+filter_in_order : (p : Effect → Bool) (es : List Effect) → in_order (filter p es) ≡ filter p (in_order es)
+filter_in_order p [] = refl
+filter_in_order p (e ∷ es) =
+    by (p e) (filter_in_order p es) ∙ sym (filter_put comes_before (is_order (λ f. f)) p e (in_order es) (order_rises es)) ∙ ap (filter p) (put_is e (in_order es))
+  where
+    by : (b : Bool) → in_order (filter p es) ≡ filter p (in_order es)
+        → in_order (cond b (e ∷ filter p es) (filter p es)) ≡ cond b (put comes_before e (filter p (in_order es))) (filter p (in_order es))
+    by true rest = sym (put_is e (in_order (filter p es))) ∙ ap (put comes_before e) rest
+    by false rest = rest
+
+emitting_alone : (x : List Effect) (ids : List ℕ) → filter_map (emitting_at x) ids ≡ filter has_emitted (filter_map (effect_at x) ids)
+emitting_alone x [] = refl
+emitting_alone x (id ∷ ids) = by (effect_at x id) (emitting_alone x ids)
+  where
+    one : (b : Bool) (e : Effect) (us vs : List Effect) → us ≡ vs → cons_option (cond b (Some e) None) us ≡ cond b (e ∷ vs) vs
+    one true e us vs same = ap (λ es. e ∷ es) same
+    one false e us vs same = same
+
+    by : (o : Option Effect) → filter_map (emitting_at x) ids ≡ filter has_emitted (filter_map (effect_at x) ids)
+        → cons_option (option_and_then (λ e. cond (has_emitted e) (Some e) None) o) (filter_map (emitting_at x) ids) ≡ filter has_emitted (cons_option o (filter_map (effect_at x) ids))
+    by None rest = rest
+    by (Some e) rest = one (has_emitted e) e (filter_map (emitting_at x) ids) (filter has_emitted (filter_map (effect_at x) ids)) rest
+
+pub emitting_in_order : (x : List Effect) (ids : List ℕ) → in_order (filter_map (emitting_at x) ids) ≡ filter has_emitted (in_order (filter_map (effect_at x) ids))
+emitting_in_order x ids = ap in_order (emitting_alone x ids) ∙ filter_in_order has_emitted (filter_map (effect_at x) ids)
 
 -- the effects of ids, the last first
 earlier_id : (ids : List ℕ) (k : ℕ) (id : ℕ) → k < length ids → id ≡ get_or ids (length ids - 1 - k) id → drop (length ids - (k + 1)) ids ≡ id ∷ drop (length ids - k) ids

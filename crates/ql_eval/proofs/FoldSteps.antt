@@ -1,5 +1,5 @@
 -- one more step of a fold, of statements and of names with values
-use Rattle.std.proofs.Common.{◌≡◌, ◌≤◌, ◌<◌, ◌+◌, ℕ, zero, suc, Bool, true, false, not, cond, List, [], ◌∷◌, ◌++◌, Option, Some, None, length, get_or, set, take, drop, map, min, refl, sym, ap, ◌∙◌, arith, append_assoc, add-one, one-add}
+use Rattle.std.proofs.Common.{◌≡◌, ◌≤◌, ◌<◌, ◌+◌, ℕ, zero, suc, Bool, true, false, not, cond, filter, List, [], ◌∷◌, ◌++◌, Option, Some, None, length, get_or, set, take, drop, map, min, refl, sym, ap, ◌∙◌, arith, append_assoc, add-one, one-add}
 use Rattle.std.specs.List.{prefix_len}
 use Rattle.std.specs.Option.{option_and_then, option_map}
 use Rattle.std.specs.Str.{bytes_eq}
@@ -11,8 +11,10 @@ use Rattle.ql_lang.specs.declared.operation.OpDecl.{OpDecl}
 use Rattle.ql_lang.specs.Expressions.{expression_of}
 use Rattle.ql_value.specs.declared.value.Value.{Value}
 use Rattle.ql_exec.specs.declared.effect.Effect.{Effect}
+use Rattle.ql_exec.specs.declared.effect.Payload.{Payload}
+use Rattle.ql_exec.specs.declared.effect.Payload.TheVariants.{Nothing, Emitted}
 use Rattle.ql_eval.specs.Evaluation.{Bindings, value_of}
-use Rattle.ql_eval.specs.Folds.{after_payload, after_stmt, after_stmts, assigned, bound_values, folded, under}
+use Rattle.ql_eval.specs.Folds.{after_payload, after_stmt, after_stmts, assigned, bound_values, folded, has_emitted, is_emitted, under}
 
 pub next_item : {A : Type 0} (xs : List A) (i : ℕ) (x : A) → i < length xs → x ≡ get_or xs i x → drop i xs ≡ x ∷ drop (i + 1) xs
 next_item xs i x lt is = drop-cons xs i x lt ∙ rw (← is, add-one i) refl
@@ -69,6 +71,22 @@ stuck_effect f ops state xs i x lt is e =
 pub no_effects : {X : Type 0} (f : X → Effect) (ops : List OpDecl) (state : Bindings) (xs : List X) (i : ℕ) → length xs ≤ i → folded ops state (map f (drop i xs)) ≡ Some state
 unfolding folded
 no_effects f ops state xs i past = ap (λ ys. folded ops state (map f ys)) (drop_all i xs past)
+
+-- what emitted nothing leaves the state as it is
+pub folded_emitting : (ops : List OpDecl) (state : Bindings) (es : List Effect) → folded ops state (filter has_emitted es) ≡ folded ops state es
+unfolding folded
+folded_emitting ops state [] = refl
+folded_emitting ops state (e ∷ es) = by e.payload refl (λ next. folded_emitting ops next es)
+  where
+    after : (o : Option Bindings) → ((next : Bindings) → folded ops next (filter has_emitted es) ≡ folded ops next es)
+        → option_and_then (λ next. folded ops next (filter has_emitted es)) o ≡ option_and_then (λ next. folded ops next es) o
+    after None same = refl
+    after (Some next) same = same next
+
+    by : (payload : Payload) → e.payload ≡ payload → ((next : Bindings) → folded ops next (filter has_emitted es) ≡ folded ops next es)
+        → folded ops state (cond (is_emitted payload) (e ∷ filter has_emitted es) (filter has_emitted es)) ≡ option_and_then (λ next. folded ops next es) (after_payload ops e.op.0 state payload)
+    by Nothing is same = same state
+    by (Emitted values) is same = ap (λ p. option_and_then (λ next. folded ops next (filter has_emitted es)) (after_payload ops e.op.0 state p)) is ∙ after (after_payload ops e.op.0 state (Emitted values)) same
 
 -- names with values
 pub more_under : {X : Type 0} (word : X → List ℕ) (env : Bindings) (xs : List X) (vs : List Value) (i : ℕ) (x : X) (v : Value) → i < length xs → i < length vs → x ≡ get_or xs i x → v ≡ get_or vs i v

@@ -77,7 +77,7 @@ module _ {X : Type 0} (lt : X → X → Bool) (o : IsStrictWeakOrder lt) where
       by true rest = All-cons P x (y ∷ ys) here all
       by false rest = All-cons P y (put lt x ys) (All-head P y ys all) rest
 
-  put_rises : (x : X) (ys : List X) → Rises lt ys → Rises lt (put lt x ys)
+  pub put_rises : (x : X) (ys : List X) → Rises lt ys → Rises lt (put lt x ys)
   put_rises x [] up = (λ k d below. absurd (omega arith), tt)
   put_rises x (y ∷ ys) up = by (lt x y) refl (put_rises x ys up.1)
     where
@@ -158,3 +158,39 @@ module _ {X : Type 0} (lt : X → X → Bool) (o : IsStrictWeakOrder lt) where
 
   pub sorted_is : (zs ws : List X) → IsSortedBy lt ws → IsStableBy lt zs ws → ws ≡ placed lt [] zs
   sorted_is zs ws up stable = one_order ws (placed lt [] zs) (rises ws up) (placed_rises [] zs tt) (λ w. stable w ∙ sym (placed_ties w [] zs tt))
+
+  put_first : (x : X) (zs : List X) → All (λ z. lt x z ≡ true) zs → put lt x zs ≡ x ∷ zs
+  put_first x [] above = refl
+  put_first x (z ∷ zs) above = rw (All-head (λ u. lt x u ≡ true) z zs above) refl
+
+  -- x stands before the first that is above it, and so before all later ones
+  all_above : (x y : X) (ys : List X) → lt x y ≡ true → All (λ z. lt z y ≡ false) ys → All (λ z. lt x z ≡ true) (y ∷ ys)
+  all_above x y ys e up = All-cons (λ z. lt x z ≡ true) y ys e (λ k d below. above (get_or ys k d) (up k d below))
+    where
+      above : (z : X) → lt z y ≡ false → lt x z ≡ true
+      above z low = by (lt x z) refl
+        where
+          by : (b : Bool) → lt x z ≡ b → lt x z ≡ true
+          by true h = h
+          by false h =
+              let no : true ≡ false = sym e ∙ o.chain x z y h low in
+              absurd cc
+
+  -- whether or not elements are left out, the others have the same order
+  pub filter_put : (p : X → Bool) (x : X) (ys : List X) → Rises lt ys → filter p (put lt x ys) ≡ cond (p x) (put lt x (filter p ys)) (filter p ys)
+  filter_put p x [] up = refl
+  filter_put p x (y ∷ ys) up = by (lt x y) refl (filter_put p x ys up.1)
+    where
+      later : (a b : Bool) (us vs : List X) → us ≡ cond b (put lt x vs) vs → lt x y ≡ false
+          → cond a (y ∷ us) us ≡ cond b (put lt x (cond a (y ∷ vs) vs)) (cond a (y ∷ vs) vs)
+      later true true us vs same e = rw e (ap (λ ws. y ∷ ws) same)
+      later true false us vs same e = ap (λ ws. y ∷ ws) same
+      later false true us vs same e = same
+      later false false us vs same e = same
+
+      by : (b : Bool) → lt x y ≡ b → filter p (put lt x ys) ≡ cond (p x) (put lt x (filter p ys)) (filter p ys)
+          → filter p (cond b (x ∷ y ∷ ys) (y ∷ put lt x ys)) ≡ cond (p x) (put lt x (filter p (y ∷ ys))) (filter p (y ∷ ys))
+      by true e rest =
+          let first = put_first x (filter p (y ∷ ys)) (All-filter p (λ z. lt x z ≡ true) (y ∷ ys) (all_above x y ys e up.0)) in
+          ap (λ zs. cond (p x) zs (filter p (y ∷ ys))) (sym first)
+      by false e rest = later (p y) (p x) (filter p (put lt x ys)) (filter p ys) rest e

@@ -1,4 +1,4 @@
-use Rattle.std.specs.Prelude.{ℕ, true, false, List, [], ◌∷◌, ◌++◌, length, map, take, Option, None, Some, slice_get, if◌then◌else◌}
+use Rattle.std.specs.Prelude.{ℕ, Bool, true, false, List, [], ◌∷◌, ◌++◌, length, map, take, Option, None, Some, slice_get, if◌then◌else◌}
 use Rattle.std.specs.Option.{option_and_then, option_map, option_map_or}
 use Rattle.std.specs.Str.{bytes_eq}
 use Rattle.ql_lang.specs.declared.operation.Kind.{Kind}
@@ -20,6 +20,7 @@ use Rattle.ql_exec.specs.declared.effect.Effect.{Effect}
 use Rattle.ql_exec.specs.declared.effect.Payload.{Payload}
 use Rattle.ql_exec.specs.declared.effect.Payload.TheVariants.{Nothing as NoChange, Emitted}
 use Rattle.ql_exec.specs.declared.folder.Answered.{Answered}
+use Rattle.ql_exec.specs.Effects.{effect_at}
 use Rattle.ql_eval.specs.Evaluation.{Bindings, text_of, value_of}
 
 -- Folds: the state of an object after effects, in a given order. A state is the fields' names with their values.
@@ -73,10 +74,22 @@ abbrev pub after_op : Option OpDecl → Bindings → List Value → Option Bindi
 after_op None state payload = None
 after_op (Some o) state payload = option_and_then (λ e. after_emit state e payload) o.effect
 
+abbrev pub is_emitted : Payload → Bool
+is_emitted NoChange = false
+is_emitted (Emitted payload) = true
+
 -- the state after an effect of one of these operations: the same if it emitted nothing
 abbrev pub after_payload : List OpDecl → ℕ → Bindings → Payload → Option Bindings
 after_payload ops o state NoChange = Some state
 after_payload ops o state (Emitted payload) = after_op (slice_get ops o) state payload
+
+-- whether an effect emitted values; one that emitted nothing leaves the state as it is
+abbrev pub has_emitted : Effect → Bool
+has_emitted e = is_emitted e.payload
+
+-- the effect with an id, counted from 1, if it emitted values
+abbrev pub emitting_at : List Effect → ℕ → Option Effect
+emitting_at x id = option_and_then (λ e. if has_emitted e then Some e else None) (effect_at x id)
 
 -- the state after effects, one after another
 unfoldable pub folded : List OpDecl → Bindings → List Effect → Option Bindings

@@ -6,7 +6,7 @@ ghost use Rattle.ql_eval.specs.Able.{AreFields, FitsOp, IsOfType, type_of_op};
 ghost use Rattle.ql_eval.specs.Folds.{after_op, after_payload, applied, begun, begun_value, field_word, fold_of, folded, under, values_in};
 
 use crate::env::Env;
-use crate::order::in_order;
+use crate::order::emitting_in_order;
 use crate::scalar::literal;
 use crate::statement::run;
 use ql_base::{IdSet, NoMemory, OpId, TypeId, Word};
@@ -28,7 +28,21 @@ pub(crate) fn state_after(
     ensures { IfOk result (λ state. state ≡ fold_of t.now.program.types kind.0 (seen_in_order execution.now seen.now)) }
 {
     let state = begin(alloc, t.type_decl(kind).fields.items())?;
-    let order = in_order(alloc, execution, seen)?;
+    fold_seen(alloc, t, state, execution, seen)
+}
+
+/// The state after the effects with some ids, in order of stamp and session, or `None` if an expression has no value.
+/// What emitted nothing leaves the state as it is.
+pub(crate) fn fold_seen(
+    alloc: Global,
+    t: &Typed,
+    state: Env,
+    execution: &Execution,
+    seen: &IdSet,
+) -> Result<Option<Env>, NoMemory>
+    ensures { IfOk result (λ after. after ≡ folded (all_ops t.now.program.types) state (seen_in_order execution.now seen.now)) }
+{
+    let order = emitting_in_order(alloc, execution, seen)?;
     fold_all(alloc, t, state, &order)
 }
 
@@ -59,8 +73,8 @@ fn begin_one(alloc: Global, kind: Kind, init: &InitNode) -> Result<Value, NoMemo
     }
 }
 
-/// The state after effects, one after another. Each statement changes the state in place.
-pub(crate) fn fold_all(
+// The state after effects, one after another. Each statement changes the state in place.
+fn fold_all(
     alloc: Global,
     t: &Typed,
     state: Env,

@@ -1,15 +1,14 @@
 ghost use Rattle.std.specs.Prelude.{◌≡◌, ◌<◌, ◌++◌, [], ℕ, All, IfOk, List, Some, length, slice_get};
 ghost use Rattle.ql_exec.specs.declared.effect.Effect.{Effect};
 ghost use Rattle.ql_exec.specs.Folding.{seen_in_order};
-ghost use Rattle.ql_typing.specs.Operations.{all_ops, op_kinds};
+ghost use Rattle.ql_typing.specs.Operations.{op_kinds};
 ghost use Rattle.ql_eval.specs.Able.{IsAble, IsOfType};
-ghost use Rattle.ql_eval.specs.Folds.{answered_of, fold_of, folded};
+ghost use Rattle.ql_eval.specs.Folds.{answered_of, fold_of};
 ghost use Rattle.ql_eval.specs.Resuming.{IsReached};
 
 use crate::env::Env;
 use crate::folder::answer_over;
-use crate::folding::{begin, fold_all};
-use crate::order::in_order;
+use crate::folding::{begin, fold_seen};
 use ql_base::{IdSet, NoMemory, OpId, TypeId};
 use ql_exec::{Answered, Execution};
 use ql_typing::Typed;
@@ -39,7 +38,7 @@ pub fn fold_after(
     ensures { IfOk result (λ after. (before : List Effect) → fold_of t.now.program.types kind.0 before ≡ Some state
         → fold_of t.now.program.types kind.0 (before ++ seen_in_order execution.now ids.now) ≡ Some after) }
 {
-    match try_fold_after(alloc, t, state, execution, ids)? {
+    match fold_seen(alloc, t, state, execution, ids)? {
         Some(after) => Ok(after),
         None => unreachable!(),
     }
@@ -67,18 +66,4 @@ pub fn answer_after(
         Some(answered) => Ok(answered),
         None => unreachable!(),
     }
-}
-
-// The state after the effects with some ids, or `None` if an expression has no value.
-fn try_fold_after(
-    alloc: Global,
-    t: &Typed,
-    state: Env,
-    execution: &Execution,
-    ids: &IdSet,
-) -> Result<Option<Env>, NoMemory>
-    ensures { IfOk result (λ after. after ≡ folded (all_ops t.now.program.types) state (seen_in_order execution.now ids.now)) }
-{
-    let order = in_order(alloc, execution, ids)?;
-    fold_all(alloc, t, state, &order)
 }
