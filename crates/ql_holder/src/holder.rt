@@ -1,4 +1,4 @@
-ghost use Rattle.std.specs.Prelude.{◌≡◌, ◌↔◌, ◌++◌, [], List, ℕ, true, IfOk};
+ghost use Rattle.std.specs.Prelude.{◌≡◌, ◌↔◌, ◌<◌, ◌≤◌, ◌++◌, [], List, ℕ, true, false, length, slice_index, IfOk};
 ghost use Rattle.ql_base.specs.IdLists.{IsAscending, has_id};
 ghost use Rattle.ql_exec.specs.declared.effect.Effect.{Effect};
 ghost use Rattle.ql_exec.specs.Execution.{IsExecution};
@@ -41,6 +41,13 @@ pub trait Holder: Drop {
     /// Whether an effect was received.
     fn has(&self, e: EffId) -> bool
         ensures { result ≡ has_id (received self.now) e.0 };
+
+    /// The number of effects at the front that were received.
+    fn leading(&self, ids: &[u32]) -> usize
+        requires { IsAscending ids.now }
+        ensures bound { result ≤ length ids.now }
+        ensures has { (k : ℕ) → k < result → has_id (received self.now) (slice_index ids.now k) ≡ true }
+        ensures end { result < length ids.now → has_id (received self.now) (slice_index ids.now result) ≡ false };
 
     /// Whether an effect is applied.
     fn applied(&self, e: EffId) -> bool

@@ -1,8 +1,8 @@
-ghost use Rattle.std.specs.Prelude.{◌≡◌, ◌↔◌, ◌+◌, ◌<◌, ◌≤◌, ◌&&◌, ◌||◌, ℕ, [], IsTrue, true, nat_le, nat_lt, length, slice_index_or, IfOk, OnOk, OnErr};
+ghost use Rattle.std.specs.Prelude.{◌≡◌, ◌↔◌, ◌+◌, ◌<◌, ◌≤◌, ◌&&◌, ◌||◌, ℕ, [], IsTrue, true, false, nat_le, nat_lt, length, slice_index, slice_index_or, Some, None, if◌then◌else◌, IfOk, OnOk, OnErr};
 ghost use Rattle.ql_base.specs.IdLists.{IsAscending, has_id, with_id, union_of};
 ghost use Rattle.ql_ranges.specs.Ranges.{ids_of, AreApart};
 ghost use Rattle.ql_needs.specs.Closed.{Has};
-ghost use Rattle.ql_ranges.specs.Places.{Adds, IsBetween, IsFree, IsPlace};
+ghost use Rattle.ql_ranges.specs.Places.{Adds, IsBetween, IsFree, IsPlace, IsRangeWith};
 ghost use Rattle.ql_ranges.specs.declared.ranges.IdRange.{IdRange};
 
 use ql_base::{IdSet, NoMemory};
@@ -77,6 +77,18 @@ impl Ranges {
         ensures each { IsTrue result → (id : ℕ) → Has ids.now id → Has (ids_of self.now) id }
     {
         ids.is_empty() || self.has_all(ids[0], ids[ids.len() - 1])
+    }
+
+    /// The number of ids at the front that the set has.
+    ///
+    /// Looks up one id for each range that these are in, and the first that the set lacks.
+    pub fn leading(&self, ids: &[u32]) -> usize
+        requires { IsAscending ids.now }
+        ensures bound { result ≤ length ids.now }
+        ensures has { (k : ℕ) → k < result → has_id (ids_of self.now) (slice_index ids.now k) ≡ true }
+        ensures end { result < length ids.now → has_id (ids_of self.now) (slice_index ids.now result) ≡ false }
+    {
+        leading_in(&self.ranges, ids)
     }
 
     /// An id such that the set has all from 1 to it; 0 if 1 is missing.
@@ -159,6 +171,68 @@ fn has_all_in(ranges: &[IdRange], from: u32, to: u32) -> bool
         Some(range) => range.from <= from && to <= range.to,
         None => false,
     }
+}
+
+// The number of ids at the front that are in the ranges.
+fn leading_in(ranges: &[IdRange], ids: &[u32]) -> usize
+    requires apart { AreApart ranges.now }
+    requires ascending { IsAscending ids.now }
+    ensures bound { result ≤ length ids.now }
+    ensures has { (k : ℕ) → k < result → has_id (ids_of ranges.now) (slice_index ids.now k) ≡ true }
+    ensures end { result < length ids.now → has_id (ids_of ranges.now) (slice_index ids.now result) ≡ false }
+{
+    let mut count = 0;
+    while count < ids.len() {
+        match range_with(ranges, ids[count]) {
+            Some(range) => count = first_above(ids, count + 1, range.to),
+            None => return count,
+        }
+    }
+    count
+}
+
+// The range that an id is in.
+fn range_with(ranges: &[IdRange], id: u32) -> Option<IdRange>
+    requires { AreApart ranges.now }
+    ensures { IsRangeWith ranges.now id result }
+{
+    match ranges.get(place_of(ranges, id)) {
+        Some(range) => only_with(*range, id),
+        None => None,
+    }
+}
+
+fn only_with(range: IdRange, id: u32) -> Option<IdRange>
+    ensures { result ≡ (if (nat_le range.from id && nat_le id range.to) then Some range else None) }
+{
+    if covers(range, id) { Some(range) } else { None }
+}
+
+// The first index from one on at which there is no id up to the bound. The first one is tried before a search.
+fn first_above(ids: &[u32], from: usize, bound: u32) -> usize
+    requires ascending { IsAscending ids.now }
+    requires inside { from ≤ length ids.now }
+    ensures order { from ≤ result }
+    ensures last { result ≤ length ids.now }
+    ensures each { (k : ℕ) → from ≤ k → k < result → slice_index ids.now k ≤ bound }
+    ensures above { result < length ids.now → bound < slice_index ids.now result }
+{
+    if from < ids.len() && ids[from] <= bound {
+        search_above(ids, from, bound)
+    } else {
+        from
+    }
+}
+
+fn search_above(ids: &[u32], from: usize, bound: u32) -> usize
+    requires ascending { IsAscending ids.now }
+    requires inside { from ≤ length ids.now }
+    ensures order { from ≤ result }
+    ensures last { result ≤ length ids.now }
+    ensures each { (k : ℕ) → from ≤ k → k < result → slice_index ids.now k ≤ bound }
+    ensures above { result < length ids.now → bound < slice_index ids.now result }
+{
+    from + ids[from..].partition_point(|id| *id <= bound)
 }
 
 fn covers(range: IdRange, id: u32) -> bool

@@ -1,12 +1,12 @@
-ghost use Rattle.std.specs.Prelude.{◌≡◌, ◌≤◌, ◌<◌, ◌^◌, ◌∷◌, ℕ, List, [], length, IfOk, OnOk};
-ghost use Rattle.ql_base.specs.IdLists.{IsAscending};
+ghost use Rattle.std.specs.Prelude.{◌≡◌, ◌≤◌, ◌<◌, ◌^◌, ◌∷◌, ℕ, List, [], false, length, slice_index, IfOk, OnOk};
+ghost use Rattle.ql_base.specs.IdLists.{IsAscending, has_id};
 ghost use Rattle.ql_exec.specs.declared.effect.Effect.{Effect};
 ghost use Rattle.ql_exec.specs.Execution.{IsExecution};
 ghost use Rattle.ql_needs.specs.Closed.{Has};
 ghost use Rattle.ql_needs.specs.Needs.{AreWhole, Needs};
 ghost use Rattle.ql_ranges.specs.Ranges.{ids_of};
 ghost use Rattle.ql_reach.specs.Reach.{InEither, IsReach};
-ghost use Rattle.ql_reach.specs.Walks.{GoesOn, IsWalk, Meets, MetAbove, MetBefore, MetBelow, Visited};
+ghost use Rattle.ql_reach.specs.Walks.{GoesOn, IsWalk, Meets, MeetsLeading, MetAbove, MetBefore, MetBelow, Visited};
 
 use crate::neighbours::{effect, last_on_object, member_above, member_below};
 use ql_base::{IdSet, NoMemory};
@@ -18,8 +18,8 @@ use std::alloc::Global;
 /// only. The effects asked for are whole transactions, and the known ones have all that they need.
 ///
 /// The time is in proportion to what is found and what that sees, and to the way back from each effect to
-/// the effect before it in its session on its object. If an effect sees only ids that were found, with all
-/// ids between them, these take no time.
+/// the effect before it in its session on its object. Known ids that an effect sees take one lookup together if
+/// all ids between them are known, and so do ids that were found.
 pub fn reach(alloc: Global, x: &Execution, asked: &IdSet, known: &Ranges) -> Result<IdSet, NoMemory>
     requires asked { AreWhole x.now asked.now }
     requires known { (a b : ℕ) → Has (ids_of known.now) a → Needs x.now a b → Has (ids_of known.now) b }
@@ -142,19 +142,38 @@ fn meet_each(known: &Ranges, walk: &mut Walk, ids: &[u32]) -> Result<(), NoMemor
     requires { IsAscending ids.now }
     ensures { OnOk result (Meets (ids_of known.now) ids.now (ids_of walk.old.found) walk.old.due.items (ids_of walk.new.found) walk.new.due.items) }
 {
-    if walk.found.spans(ids) {
-        return Ok(());
-    }
-    meet_one_by_one(known, walk, ids)
-}
-
-fn meet_one_by_one(known: &Ranges, walk: &mut Walk, ids: &[u32]) -> Result<(), NoMemory>
-    ensures { OnOk result (Meets (ids_of known.now) ids.now (ids_of walk.old.found) walk.old.due.items (ids_of walk.new.found) walk.new.due.items) }
-{
-    for id in ids {
-        meet(known, walk, *id)?;
+    let mut met = 0;
+    while met < ids.len() {
+        met += meet_leading(known, walk, &ids[met..])?;
     }
     Ok(())
+}
+
+// Meets the ids at the front that are known, or those that were found, or the first one, and returns how many.
+fn meet_leading(known: &Ranges, walk: &mut Walk, ids: &[u32]) -> Result<usize, NoMemory>
+    requires ascending { IsAscending ids.now }
+    requires some { 0 < length ids.now }
+    ensures { IfOk result (λ count. MeetsLeading (ids_of known.now) ids.now count (ids_of walk.old.found) walk.old.due.items (ids_of walk.new.found) walk.new.due.items) }
+{
+    let count = there(known, &walk.found, ids);
+    if count > 0 {
+        return Ok(count);
+    }
+    walk.found.insert(ids[0])?;
+    walk.due.push(ids[0])?;
+    Ok(1)
+}
+
+// How many of the ids at the front are known, or were found if the first isn't known.
+fn there(known: &Ranges, found: &Ranges, ids: &[u32]) -> usize
+    requires ascending { IsAscending ids.now }
+    requires some { 0 < length ids.now }
+    ensures bound { result ≤ length ids.now }
+    ensures there { (k : ℕ) → k < result → InEither (ids_of known.now) (ids_of found.now) (slice_index ids.now k) }
+    ensures new { result ≡ 0 → has_id (ids_of found.now) (slice_index ids.now 0) ≡ false }
+{
+    let count = known.leading(ids);
+    if count > 0 { count } else { found.leading(ids) }
 }
 
 // Adds an effect, unless it is known or was found before.

@@ -91,6 +91,10 @@ impl Holder for Replica {
         self.received.has(e.0)
     }
 
+    fn leading(&self, ids: &[u32]) -> usize {
+        self.received.leading(ids)
+    }
+
     fn applied(&self, e: EffId) -> bool {
         self.applied.has(e.0)
     }

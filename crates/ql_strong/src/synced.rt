@@ -14,8 +14,8 @@ use std::alloc::Global;
 
 /// For each holder a new one that has received exactly the committed effects.
 ///
-/// A holder is copied and receives what it lacks: each other committed effect is looked up in it once.
-/// A transaction that it lacks takes one pass over the execution.
+/// A holder is copied and receives what it lacks; `leading` passes over what it has received. A transaction that
+/// it lacks takes one pass over the execution.
 pub fn sync<H: Holder>(
     alloc: Global,
     holders: &[H],
@@ -52,14 +52,16 @@ pub(crate) fn made_whole<H: Holder>(
     ensures received { IfOk result (λ whole. H.received whole ≡ committed.now) }
 {
     let mut whole = holder.copy()?;
-    for id in committed {
-        receive_lacking(alloc, &mut whole, x, EffId(*id))?;
+    let mut count = whole.leading(committed);
+    while count < committed.len() {
+        receive_with(alloc, &mut whole, x, EffId(committed[count]))?;
+        count += whole.leading(&committed[count..]);
     }
     Ok(whole)
 }
 
-// Receives the transaction of an effect, unless it was received.
-fn receive_lacking<H: Holder>(
+// Receives an effect with the others of its transaction.
+fn receive_with<H: Holder>(
     alloc: Global,
     holder: &mut H,
     x: &Execution,
@@ -71,9 +73,6 @@ fn receive_lacking<H: Holder>(
     ensures fits { H.fits holder.new x.now }
     ensures received { OnOk result (HasReceived x.now (H.received holder.old) (H.received holder.new) id.0) }
 {
-    if holder.has(id) {
-        return Ok(());
-    }
     let package = package_of(alloc, x, id)?;
     holder.receive(&package, x)?;
     Ok(())
