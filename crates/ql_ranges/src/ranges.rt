@@ -184,7 +184,7 @@ fn leading_in(ranges: &[IdRange], ids: &[u32]) -> usize
     let mut count = 0;
     while count < ids.len() {
         match range_with(ranges, ids[count]) {
-            Some(range) => count = first_above(ids, count, range.to),
+            Some(range) => count = first_above(ids, count + 1, range.to),
             None => return count,
         }
     }
@@ -208,8 +208,23 @@ fn only_with(range: IdRange, id: u32) -> Option<IdRange>
     if covers(range, id) { Some(range) } else { None }
 }
 
-// The first index from one on at which there is no id up to the bound.
+// The first index from one on at which there is no id up to the bound. The first one is tried before a search.
 fn first_above(ids: &[u32], from: usize, bound: u32) -> usize
+    requires ascending { IsAscending ids.now }
+    requires inside { from ≤ length ids.now }
+    ensures order { from ≤ result }
+    ensures last { result ≤ length ids.now }
+    ensures each { (k : ℕ) → from ≤ k → k < result → slice_index ids.now k ≤ bound }
+    ensures above { result < length ids.now → bound < slice_index ids.now result }
+{
+    if from < ids.len() && ids[from] <= bound {
+        search_above(ids, from, bound)
+    } else {
+        from
+    }
+}
+
+fn search_above(ids: &[u32], from: usize, bound: u32) -> usize
     requires ascending { IsAscending ids.now }
     requires inside { from ≤ length ids.now }
     ensures order { from ≤ result }

@@ -18,8 +18,8 @@ use std::alloc::Global;
 /// only. The effects asked for are whole transactions, and the known ones have all that they need.
 ///
 /// The time is in proportion to what is found and what that sees, and to the way back from each effect to
-/// the effect before it in its session on its object. Ids that an effect sees take no time where those before
-/// them are known, with all ids between, or were found.
+/// the effect before it in its session on its object. Known ids that an effect sees take one lookup together if
+/// all ids between them are known, and so do ids that were found.
 pub fn reach(alloc: Global, x: &Execution, asked: &IdSet, known: &Ranges) -> Result<IdSet, NoMemory>
     requires asked { AreWhole x.now asked.now }
     requires known { (a b : ℕ) → Has (ids_of known.now) a → Needs x.now a b → Has (ids_of known.now) b }
