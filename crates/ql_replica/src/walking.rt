@@ -1,5 +1,7 @@
-ghost use Rattle.std.specs.Prelude.{◌≡◌, ◌≤◌, ◌&&◌, ◌||◌, not, nat_eq, ℕ, Some, length, IfOk, OnOk};
+ghost use Rattle.std.specs.Prelude.{◌≡◌, ◌≤◌, ◌&&◌, ◌||◌, not, nat_eq, ℕ, false, Some, length, IfOk, OnOk};
+ghost use Rattle.std.specs.Bool.{OnTrue, OnFalse};
 ghost use Rattle.ql_base.specs.IdLists.{IsAscending, has_id, union_of};
+ghost use Rattle.ql_needs.specs.Closed.{Has};
 ghost use Rattle.ql_needs.specs.Needs.{IsPackage};
 ghost use Rattle.ql_ranges.specs.Ranges.{ids_of};
 ghost use Rattle.ql_replica.specs.declared.waiting.Waiting.{Waiting};
@@ -126,8 +128,8 @@ fn walk_held(
     }
 }
 
-// The first of the ids that the set lacks.
-fn first_outside(ids: &[u32], set: &Ranges) -> Option<u32>
+/// The first of the ids that the set lacks.
+pub(crate) fn first_outside(ids: &[u32], set: &Ranges) -> Option<u32>
     requires { IsAscending ids.now }
     ensures { IsFirstOutside ids.now (ids_of set.now) result }
 {
@@ -139,8 +141,30 @@ fn first_outside(ids: &[u32], set: &Ranges) -> Option<u32>
     None
 }
 
-/// Those of the ids that the set lacks.
-pub(crate) fn without(alloc: Global, ids: &[u32], set: &Ranges) -> Result<IdSet, NoMemory>
+/// Those of the ids that the set lacks. If these are all, nothing is copied.
+pub(crate) fn without(alloc: Global, ids: IdSet, set: &Ranges) -> Result<IdSet, NoMemory>
+    ensures lacks { IfOk result (λ rest. (a : ℕ) → has_id rest a ≡ (has_id ids a && not (has_id (ids_of set.now) a))) }
+    ensures ascending { IfOk result IsAscending }
+{
+    if has_none(ids.items(), set) {
+        return Ok(ids);
+    }
+    all_outside(alloc, ids.items(), set)
+}
+
+fn has_none(ids: &[u32], set: &Ranges) -> bool
+    ensures none { OnTrue result ((a : ℕ) → Has ids.now a → has_id (ids_of set.now) a ≡ false) }
+    ensures some { OnFalse result ((a : ℕ) × Has ids.now a × Has (ids_of set.now) a) }
+{
+    for id in ids {
+        if set.has(*id) {
+            return false;
+        }
+    }
+    true
+}
+
+fn all_outside(alloc: Global, ids: &[u32], set: &Ranges) -> Result<IdSet, NoMemory>
     ensures lacks { IfOk result (λ rest. (a : ℕ) → has_id rest a ≡ (has_id ids.now a && not (has_id (ids_of set.now) a))) }
     ensures ascending { IfOk result IsAscending }
 {
