@@ -247,22 +247,6 @@ has_id-take_range (range ∷ ranges) (suc k) a d inside =
     or_assoc true q r = refl
     or_assoc false q r = refl
 
-pub has_id-take : (ids : List ℕ) (k a : ℕ) → k < length ids → has_id (take (k + 1) ids) a ≡ (nat_eq (get_or ids k 0) a || has_id (take k ids) a)
-has_id-take [] k a inside = absurd (omega arith)
-has_id-take (id ∷ ids) zero a inside = refl
-has_id-take (id ∷ ids) (suc k) a inside =
-    ap (λ (n : ℕ). has_id (take n (id ∷ ids)) a) more
-    ∙ ap (λ (b : Bool). nat_eq id a || b) (has_id-take ids k a (omega arith))
-    ∙ or_swap (nat_eq id a) (nat_eq (get_or ids k 0) a) (has_id (take k ids) a)
-  where
-    more : suc k + 1 ≡ suc (k + 1)
-    more = omega arith
-
-    or_swap : (p q r : Bool) → (p || (q || r)) ≡ (q || (p || r))
-    or_swap true true r = refl
-    or_swap true false r = refl
-    or_swap false q r = refl
-
 -- ids up to one and that one too
 pub within-more : (from id a : ℕ) → from ≤ id → (nat_le from a && nat_lt a (id + 1)) ≡ (nat_eq id a || (nat_le from a && nat_lt a id))
 within-more from id a low = both_ways (nat_le from a && nat_lt a (id + 1)) (nat_eq id a || (nat_le from a && nat_lt a id)) forth back

@@ -65,7 +65,8 @@ impl Ranges {
     /// Whether the set has all ids from one to another, in the time of one lookup.
     pub fn has_all(&self, from: u32, to: u32) -> bool
         requires { from ≤ to }
-        ensures { IsTrue result ↔ ((id : ℕ) → from ≤ id → id ≤ to → has_id (ids_of self.now) id ≡ true) }
+        ensures { IsTrue result
+            ↔ ((id : ℕ) → from ≤ id → id ≤ to → has_id (ids_of self.now) id ≡ true) }
     {
         has_all_in(&self.ranges, from, to)
     }
@@ -73,7 +74,8 @@ impl Ranges {
     /// Whether the set has all ids from the first to the last of these, in the time of one lookup; then it has these.
     pub fn spans(&self, ids: &[u32]) -> bool
         requires { IsAscending ids.now }
-        ensures exact { IsTrue result ↔ ((id : ℕ) → IsBetween ids.now id → has_id (ids_of self.now) id ≡ true) }
+        ensures exact { IsTrue result
+            ↔ ((id : ℕ) → IsBetween ids.now id → has_id (ids_of self.now) id ≡ true) }
         ensures each { IsTrue result → (id : ℕ) → Has ids.now id → Has (ids_of self.now) id }
     {
         ids.is_empty() || self.has_all(ids[0], ids[ids.len() - 1])
@@ -85,8 +87,10 @@ impl Ranges {
     pub fn leading(&self, ids: &[u32]) -> usize
         requires { IsAscending ids.now }
         ensures bound { result ≤ length ids.now }
-        ensures has { (k : ℕ) → k < result → has_id (ids_of self.now) (slice_index ids.now k) ≡ true }
-        ensures end { result < length ids.now → has_id (ids_of self.now) (slice_index ids.now result) ≡ false }
+        ensures has { (k : ℕ) → k < result
+            → has_id (ids_of self.now) (slice_index ids.now k) ≡ true }
+        ensures end { result < length ids.now
+            → has_id (ids_of self.now) (slice_index ids.now result) ≡ false }
     {
         leading_in(&self.ranges, ids)
     }
@@ -165,7 +169,8 @@ fn has_in(ranges: &[IdRange], id: u32) -> bool
 fn has_all_in(ranges: &[IdRange], from: u32, to: u32) -> bool
     requires apart { AreApart ranges.now }
     requires order { from ≤ to }
-    ensures { IsTrue result ↔ ((id : ℕ) → from ≤ id → id ≤ to → has_id (ids_of ranges.now) id ≡ true) }
+    ensures { IsTrue result
+        ↔ ((id : ℕ) → from ≤ id → id ≤ to → has_id (ids_of ranges.now) id ≡ true) }
 {
     match ranges.get(place_of(ranges, from)) {
         Some(range) => range.from <= from && to <= range.to,
@@ -179,7 +184,8 @@ fn leading_in(ranges: &[IdRange], ids: &[u32]) -> usize
     requires ascending { IsAscending ids.now }
     ensures bound { result ≤ length ids.now }
     ensures has { (k : ℕ) → k < result → has_id (ids_of ranges.now) (slice_index ids.now k) ≡ true }
-    ensures end { result < length ids.now → has_id (ids_of ranges.now) (slice_index ids.now result) ≡ false }
+    ensures end { result < length ids.now
+        → has_id (ids_of ranges.now) (slice_index ids.now result) ≡ false }
 {
     let mut count = 0;
     while count < ids.len() {
@@ -314,7 +320,8 @@ fn raise(ranges: &mut Vec<IdRange>, at: usize, id: u32)
 fn insert_each(set: &mut Ranges, ids: &[u32]) -> Result<(), NoMemory>
     requires { IsAscending (ids_of set.old) }
     ensures ascending { IsAscending (ids_of set.new) }
-    ensures added { OnOk result ((a : ℕ) → has_id (ids_of set.new) a ≡ (has_id (ids_of set.old) a || has_id ids.now a)) }
+    ensures added { OnOk result
+        ((a : ℕ) → has_id (ids_of set.new) a ≡ (has_id (ids_of set.old) a || has_id ids.now a)) }
 {
     for id in ids {
         set.insert(*id)?;
@@ -338,7 +345,9 @@ fn push_range(ids: &mut IdSet, range: IdRange) -> Result<(), NoMemory>
     requires ascending { IsAscending ids.old }
     requires some { range.from ≤ range.to }
     ensures ascending { IsAscending ids.new }
-    ensures added { OnOk result ((a : ℕ) → has_id ids.new a ≡ (has_id ids.old a || (nat_le range.from a && nat_le a range.to))) }
+    ensures added { OnOk result
+        ((a : ℕ) → has_id ids.new a
+        ≡ (has_id ids.old a || (nat_le range.from a && nat_le a range.to))) }
 {
     for id in range.from..=range.to {
         ids.insert(id)?;

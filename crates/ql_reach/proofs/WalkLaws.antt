@@ -1,5 +1,5 @@
 -- How a walk goes on.
-use Rattle.std.proofs.Common.{◌≡◌, ℕ, zero, suc, ◌+◌, ◌<◌, ◌≤◌, Bool, true, false, ◌||◌, nat_eq, List, [], ◌∷◌, ◌++◌, length, get_or, take, drop, Result, Ok, Err, OnOk, refl, ap, sym, subst, ◌∙◌, inl, inr, arith, length-append}
+use Rattle.std.proofs.Common.{◌≡◌, ℕ, suc, ◌+◌, ◌<◌, ◌≤◌, Bool, true, false, ◌||◌, nat_eq, List, [], ◌∷◌, ◌++◌, length, get_or, take, drop, Result, Ok, Err, OnOk, refl, ap, sym, subst, ◌∙◌, inl, inr, arith, length-append}
 use Rattle.std.proofs.lemmas.Bool.{false≢true, or_cases, or_left, or_right, eq-eqb, eqb-true, cases_Bool, both_ways, cases_lt, lt-ltb}
 use Rattle.std.proofs.Math.Seq.{take-add}
 use Rattle.std.proofs.lemmas.List.{get_or-take, length-take-le}
@@ -10,6 +10,7 @@ use Rattle.ql_needs.specs.Closed.{Has}
 use Rattle.ql_needs.specs.Needs.{Needs}
 use Rattle.ql_needs.proofs.IdSets.{has_id-with}
 use Rattle.ql_needs.proofs.Packages.{needed-need}
+use Rattle.ql_needs.proofs.Members.{has_id-push, has_id-index, get_or-front, get_or-end}
 use Rattle.ql_reach.specs.Reach.{InEither}
 use Rattle.ql_reach.specs.Walks.{IsWalk, Grows, Meets, MeetsLeading, GoesOn}
 
@@ -29,38 +30,6 @@ few (id ∷ ids) low high ascending order within =
       | inl same ↦ (let e = eqb-true other a same in let less : id < other = below.0 in omega (arith, e, less))
       | inr later ↦ above others below.1 a later
     ]
-
-pub has_id-push : (ids : List ℕ) (id a : ℕ) → has_id (ids ++ id ∷ []) a ≡ (nat_eq id a || has_id ids a)
-has_id-push [] id a = refl
-has_id-push (other ∷ ids) id a = ap (λ (b : Bool). nat_eq other a || b) (has_id-push ids id a) ∙ swap (nat_eq other a) (nat_eq id a) (has_id ids a)
-  where
-    swap : (p q r : Bool) → (p || (q || r)) ≡ (q || (p || r))
-    swap true true r = refl
-    swap true false r = refl
-    swap false q r = refl
-
-pub has_id-index : (ids : List ℕ) (a : ℕ) → Has ids a → (k : ℕ) × (k < length ids) × (get_or ids k 0 ≡ a)
-has_id-index [] a is = absurd (false≢true is)
-has_id-index (id ∷ ids) a is = elim (or_cases (nat_eq id a) (has_id ids a) is) [
-  | inl here ↦ (0, omega arith, eqb-true id a here)
-  | inr later ↦ (let found = has_id-index ids a later in let inside = found.1 in (suc found.0, omega (arith, inside), found.2))
-]
-
-pub index-has : (ids : List ℕ) (k : ℕ) → k < length ids → Has ids (get_or ids k 0)
-index-has [] k inside = absurd (omega arith)
-index-has (id ∷ ids) zero inside = or_left (nat_eq id id) (has_id ids id) (eq-eqb id id refl)
-index-has (id ∷ ids) (suc k) inside = or_right (nat_eq id (get_or ids k 0)) (has_id ids (get_or ids k 0)) (index-has ids k (omega arith))
-
-get_or-front : (ids : List ℕ) (id k : ℕ) → k < length ids → get_or (ids ++ id ∷ []) k 0 ≡ get_or ids k 0
-get_or-front [] id k inside = absurd (omega arith)
-get_or-front (other ∷ ids) id zero inside = refl
-get_or-front (other ∷ ids) id (suc k) inside = get_or-front ids id k (omega arith)
-
-get_or-end : (ids : List ℕ) (id k : ℕ) → k ≡ length ids → get_or (ids ++ id ∷ []) k 0 ≡ id
-get_or-end [] id zero is = refl
-get_or-end [] id (suc k) is = absurd (omega arith)
-get_or-end (other ∷ ids) id zero is = absurd (omega arith)
-get_or-end (other ∷ ids) id (suc k) is = get_or-end ids id k (omega arith)
 
 length-with_new : (ids : List ℕ) (id : ℕ) → has_id ids id ≡ false → length (with_id ids id) ≡ suc (length ids)
 length-with_new [] id new = refl

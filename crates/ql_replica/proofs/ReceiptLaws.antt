@@ -1,5 +1,5 @@
 -- A receipt: what is walked, what is settled, and that what is kept is right behind it.
-use Rattle.std.proofs.Common.{◌≡◌, ℕ, zero, suc, ◌+◌, ◌<◌, ◌≤◌, ◌⊎◌, Bool, true, false, cond, ◌||◌, ◌&&◌, not, nat_eq, List, [], ◌∷◌, ◌++◌, length, length-append, get_or, take, Option, Some, None, IfSome, refl, ap, sym, subst, ◌∙◌, inl, inr, arith}
+use Rattle.std.proofs.Common.{◌≡◌, ℕ, zero, suc, ◌+◌, ◌<◌, ◌≤◌, ◌⊎◌, Bool, true, false, cond, ◌||◌, ◌&&◌, not, nat_eq, List, [], ◌∷◌, ◌++◌, length, length-append, get_or, Option, Some, None, IfSome, refl, ap, sym, subst, ◌∙◌, inl, inr, arith}
 use Rattle.std.proofs.lemmas.Option.{same_Some}
 use Rattle.std.proofs.lemmas.Bool.{false≢true, or_cases, or_left, or_right, eq-eqb, eqb-true, cases_Bool, cases_lt, cases_eq, and_parts, and_from, both_ways, false_from_ne_true}
 use Rattle.ql_base.specs.IdLists.{IsAscending, has_id, union_of}
@@ -11,6 +11,7 @@ use Rattle.ql_needs.specs.Needs.{Needs, AreWhole, IsPackage, IsNeeded}
 use Rattle.ql_needs.proofs.ClosedLaws.{closed-member, closed-need, closed-from, closed-larger, reached-along, reached-within}
 use Rattle.ql_needs.proofs.Packages.{package-member, package-each, package-reach, package-in, package-out, whole-union}
 use Rattle.ql_needs.proofs.IdSets.{has_id-union, in_union-left, in_union-right, in_union-cases}
+use Rattle.ql_needs.proofs.Members.{has_id-index, index-has, get_or-front, get_or-end}
 use Rattle.ql_holder.specs.Arrivals.{Applied, IsLeastMissing, IsGain, IsNew}
 use Rattle.ql_ranges.specs.Ranges.{ids_of}
 use Rattle.ql_ranges.specs.declared.ranges.IdRange.{IdRange}
@@ -265,34 +266,6 @@ moved-settled x received pack after applied held slots missing fits whole is_uni
 
 -- ---- lists
 
-pub has_id-index : (ids : List ℕ) (a : ℕ) → Has ids a → (k : ℕ) × (k < length ids) × (get_or ids k 0 ≡ a)
-has_id-index [] a is = absurd (false≢true is)
-has_id-index (id ∷ ids) a is = elim (or_cases (nat_eq id a) (has_id ids a) is) [
-  | inl here ↦ (0, omega arith, eqb-true id a here)
-  | inr later ↦ (let found = has_id-index ids a later in let inside = found.1 in (suc found.0, omega (arith, inside), found.2))
-]
-
-pub index-has : (ids : List ℕ) (k : ℕ) → k < length ids → Has ids (get_or ids k 0)
-index-has [] k inside = absurd (omega arith)
-index-has (id ∷ ids) zero inside = or_left (nat_eq id id) (has_id ids id) (eq-eqb id id refl)
-index-has (id ∷ ids) (suc k) inside = or_right (nat_eq id (get_or ids k 0)) (has_id ids (get_or ids k 0)) (index-has ids k (omega arith))
-
-pub has_id-take : (ids : List ℕ) (k a : ℕ) → k < length ids → has_id (take (k + 1) ids) a ≡ (nat_eq (get_or ids k 0) a || has_id (take k ids) a)
-has_id-take [] k a inside = absurd (omega arith)
-has_id-take (id ∷ ids) zero a inside = refl
-has_id-take (id ∷ ids) (suc k) a inside =
-    ap (λ (n : ℕ). has_id (take n (id ∷ ids)) a) more
-    ∙ ap (λ (b : Bool). nat_eq id a || b) (has_id-take ids k a (omega arith))
-    ∙ swap (nat_eq id a) (nat_eq (get_or ids k 0) a) (has_id (take k ids) a)
-  where
-    more : suc k + 1 ≡ suc (k + 1)
-    more = omega arith
-
-    swap : (p q r : Bool) → (p || (q || r)) ≡ (q || (p || r))
-    swap true true r = refl
-    swap true false r = refl
-    swap false q r = refl
-
 -- a set that has none of some ids lacks them all
 pub outside-all : (ids set : List ℕ) (a : ℕ) → ((b : ℕ) → Has ids b → has_id set b ≡ false) → has_id ids a ≡ (has_id ids a && not (has_id set a))
 outside-all ids set a none = elim (cases_Bool (has_id ids a)) [
@@ -336,17 +309,6 @@ first-outside ids set k ascending inside before none = (
 )
 
 -- ---- one decision more
-
-get_or-front : (ids : List ℕ) (id k : ℕ) → k < length ids → get_or (ids ++ id ∷ []) k 0 ≡ get_or ids k 0
-get_or-front [] id k inside = absurd (omega arith)
-get_or-front (other ∷ ids) id zero inside = refl
-get_or-front (other ∷ ids) id (suc k) inside = get_or-front ids id k (omega arith)
-
-get_or-end : (ids : List ℕ) (id k : ℕ) → k ≡ length ids → get_or (ids ++ id ∷ []) k 0 ≡ id
-get_or-end [] id zero is = refl
-get_or-end [] id (suc k) is = absurd (omega arith)
-get_or-end (other ∷ ids) id zero is = absurd (omega arith)
-get_or-end (other ∷ ids) id (suc k) is = get_or-end ids id k (omega arith)
 
 pub decided-push : (x : List Effect) (after applied more : List ℕ) (held : ℕ → Option Waiting) (watches later : List ℕ) (key watch : ℕ) → AreDecided x after applied held watches → ((a : ℕ) → Has applied a → Has more a)
     → length watches ≡ key → ((w : Waiting) → held key ≡ Some w → IsDecided x after more watch w) → later ≡ watches ++ watch ∷ [] → AreDecided x after more held later

@@ -33,11 +33,13 @@ pub(crate) fn receive_in(
 ) -> Result<Arrival, NoMemory>
     requires fits { FitsReplica (ids_of received.old) (ids_of applied.old) (get waiting.old) x.now }
     requires package { IsPackage x.now pack.now }
-    ensures arrival { IfOk result (IsArrival x.now (ids_of received.old) pack.now (ids_of received.new)) }
+    ensures arrival { IfOk result
+        (IsArrival x.now (ids_of received.old) pack.now (ids_of received.new)) }
     ensures fits { FitsReplica (ids_of received.new) (ids_of applied.new) (get waiting.new) x.now }
     ensures received { ChangesNothing result → received.new ≡ received.old }
     ensures applied { ChangesNothing result → applied.new ≡ applied.old }
-    ensures waiting { ChangesNothing result → (key : ℕ) → get waiting.new key ≡ get waiting.old key }
+    ensures waiting { ChangesNothing result → (key : ℕ)
+        → get waiting.new key ≡ get waiting.old key }
 {
     if received.has(pack.get(0)) {
         return Ok(Arrival::Again);
@@ -71,11 +73,17 @@ fn apply(
 ) -> Result<IdSet, NoMemory>
     requires package { IsPackage x.now pack.now }
     requires known { AreKnown x.now (ids_of after.now) (ids_of applied.old) }
-    requires held { (key : ℕ) (w : Waiting) → get waiting.old key ≡ Some w → MayWatch x.now (ids_of after.now) pack.now w }
+    requires held { (key : ℕ) (w : Waiting) → get waiting.old key ≡ Some w
+        → MayWatch x.now (ids_of after.now) pack.now w }
     requires found { IsReach x.now pack.now (ids_of applied.old) found }
     requires within { (a : ℕ) → Has found a → Has (ids_of after.now) a }
-    ensures ok { IfOk result (λ gain. (received : List ℕ) → FitsReplica received (ids_of applied.old) (get waiting.old) x.now → IsNew received pack.now (ids_of after.now) → IsAscending (ids_of after.now)
-        → FitsReplica (ids_of after.now) (ids_of applied.new) (get waiting.new) x.now × ((a : ℕ) → Has pack.now a → Has (ids_of applied.new) a) × IsGain x.now received (ids_of after.now) gain) }
+    ensures ok { IfOk result
+        (λ gain. (received : List ℕ)
+        → FitsReplica received (ids_of applied.old) (get waiting.old) x.now
+        → IsNew received pack.now (ids_of after.now) → IsAscending (ids_of after.now)
+        → FitsReplica (ids_of after.now) (ids_of applied.new) (get waiting.new) x.now
+        × ((a : ℕ) → Has pack.now a → Has (ids_of applied.new) a)
+        × IsGain x.now received (ids_of after.now) gain) }
     ensures applied { OnErr result (applied.new ≡ applied.old) }
     ensures waiting { OnErr result (waiting.new ≡ waiting.old) }
 {
@@ -102,7 +110,12 @@ fn apply(
 
 // Keeps a package that needs an id that hasn't been received.
 fn wait(waiting: &mut Slab<Waiting>, pack: &IdSet, missing: u32) -> Result<(), NoMemory>
-    ensures fits { OnOk result ((x : List Effect) (received after applied : List ℕ) → FitsReplica received applied (get waiting.old) x → IsPackage x pack.now → IsNew received pack.now after → IsAscending after → IsLeastMissing x after pack.now missing → FitsReplica after applied (get waiting.new) x) }
+    ensures fits { OnOk result
+        ((x : List Effect) (received after applied : List ℕ)
+        → FitsReplica received applied (get waiting.old) x → IsPackage x pack.now
+        → IsNew received pack.now after → IsAscending after
+        → IsLeastMissing x after pack.now missing
+        → FitsReplica after applied (get waiting.new) x) }
     ensures err { OnErr result ((key : ℕ) → get waiting.new key ≡ get waiting.old key) }
 {
     let held = Waiting {

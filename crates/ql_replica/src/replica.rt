@@ -52,7 +52,10 @@ impl Replica {
     /// hasn't been received, or is applied.
     pub fn watch_of(&self, e: EffId) -> Option<EffId>
         ensures watch { IsWatch (ids_of self.now.received) (ids_of self.now.applied) e.0 result }
-        ensures needed { IfSome result (λ watched. (x : List Effect) → FitsReplica (ids_of self.now.received) (ids_of self.now.applied) (held_by self.now.slots) x → Reaches (Needs x) e.0 watched.0) }
+        ensures needed { IfSome result
+            (λ watched. (x : List Effect)
+            → FitsReplica (ids_of self.now.received) (ids_of self.now.applied)
+            (held_by self.now.slots) x → Reaches (Needs x) e.0 watched.0) }
     {
         watch_in(&self.waiting, e.0)
     }

@@ -15,7 +15,9 @@ use slab::Slab;
 /// Removes each waiting package that is applied, and makes each other one watch the id at its key.
 pub(crate) fn settle(waiting: &mut Slab<Waiting>, applied: &Ranges, watches: &Vec<u32>)
     requires { length waiting.old.slots ≤ length watches.now.items }
-    ensures slots { (key : ℕ) → get waiting.new key ≡ settled (ids_of applied.now) (slice_index watches.now.items key) (get waiting.old key) }
+    ensures slots { (key : ℕ)
+        → get waiting.new key
+        ≡ settled (ids_of applied.now) (slice_index watches.now.items key) (get waiting.old key) }
     ensures room { HasRoomFor waiting.old 1 → HasRoomFor waiting.new 1 }
 {
     for key in 0..watches.len() {
@@ -72,8 +74,11 @@ fn move_watch(waiting: &mut Slab<Waiting>, key: usize, pack: &IdSet, missing: u3
 
 /// Whether a waiting package watches an id of the package that arrived.
 pub(crate) fn is_watched(waiting: &Slab<Waiting>, pack: &IdSet) -> bool
-    ensures watched { OnTrue result ((key : ℕ) × (w : Waiting) × (get waiting.now key ≡ Some w) × Has pack.now w.watched) }
-    ensures none { OnFalse result ((key : ℕ) (w : Waiting) → get waiting.now key ≡ Some w → has_id pack.now w.watched ≡ false) }
+    ensures watched { OnTrue result
+        ((key : ℕ) × (w : Waiting) × (get waiting.now key ≡ Some w) × Has pack.now w.watched) }
+    ensures none { OnFalse result
+        ((key : ℕ) (w : Waiting) → get waiting.now key ≡ Some w
+        → has_id pack.now w.watched ≡ false) }
 {
     for key in 0..waiting.capacity() {
         if let Some(held) = waiting.get(key) {

@@ -35,9 +35,13 @@ pub(crate) fn walk(
 ) -> Result<Option<u32>, NoMemory>
     requires package { IsPackage x.now pack.now }
     requires known { AreKnown x.now (ids_of after.now) (ids_of progress.old.applied) }
-    ensures walked { IfOk result (IsWalked x.now (ids_of after.now) pack.now (ids_of progress.old.applied) (ids_of progress.new.applied)) }
+    ensures walked { IfOk result
+        (IsWalked x.now (ids_of after.now) pack.now (ids_of progress.old.applied)
+        (ids_of progress.new.applied)) }
     ensures known { OnOk result (AreKnown x.now (ids_of after.now) (ids_of progress.new.applied)) }
-    ensures advances { OnOk result (Advances (ids_of progress.old.applied) progress.old.gain (ids_of progress.new.applied) progress.new.gain) }
+    ensures advances { OnOk result
+        (Advances (ids_of progress.old.applied) progress.old.gain (ids_of progress.new.applied)
+        progress.new.gain) }
 {
     let found = reach(alloc, x, pack, &progress.applied)?;
     match first_outside(found.items(), after) {
@@ -50,7 +54,8 @@ pub(crate) fn walk(
 }
 
 fn add(progress: &mut Progress, found: &IdSet) -> Result<(), NoMemory>
-    ensures applied { OnOk result (ids_of progress.new.applied ≡ union_of (ids_of progress.old.applied) found.now) }
+    ensures applied { OnOk result
+        (ids_of progress.new.applied ≡ union_of (ids_of progress.old.applied) found.now) }
     ensures gain { OnOk result (progress.new.gain ≡ union_of progress.old.gain found.now) }
 {
     let applied = progress.applied.union(found)?;
@@ -70,11 +75,16 @@ pub(crate) fn walk_waiting(
     progress: &mut Progress,
 ) -> Result<Vec<u32>, NoMemory>
     requires known { AreKnown x.now (ids_of after.now) (ids_of progress.old.applied) }
-    requires held { (key : ℕ) (w : Waiting) → get waiting.now key ≡ Some w → MayWatch x.now (ids_of after.now) pack.now w }
+    requires held { (key : ℕ) (w : Waiting) → get waiting.now key ≡ Some w
+        → MayWatch x.now (ids_of after.now) pack.now w }
     ensures slots { IfOk result (λ watches. length waiting.now.slots ≤ length watches.items) }
-    ensures decided { IfOk result (λ watches. AreDecided x.now (ids_of after.now) (ids_of progress.new.applied) (get waiting.now) watches.items) }
+    ensures decided { IfOk result
+        (λ watches. AreDecided x.now (ids_of after.now) (ids_of progress.new.applied)
+        (get waiting.now) watches.items) }
     ensures known { OnOk result (AreKnown x.now (ids_of after.now) (ids_of progress.new.applied)) }
-    ensures advances { OnOk result (Advances (ids_of progress.old.applied) progress.old.gain (ids_of progress.new.applied) progress.new.gain) }
+    ensures advances { OnOk result
+        (Advances (ids_of progress.old.applied) progress.old.gain (ids_of progress.new.applied)
+        progress.new.gain) }
 {
     let mut watches = Vec::new(alloc);
     for key in 0..waiting.capacity() {
@@ -94,10 +104,15 @@ fn new_watch(
     progress: &mut Progress,
 ) -> Result<u32, NoMemory>
     requires known { AreKnown x.now (ids_of after.now) (ids_of progress.old.applied) }
-    requires held { (w : Waiting) → get waiting.now key ≡ Some w → MayWatch x.now (ids_of after.now) pack.now w }
-    ensures decided { IfOk result (λ watch. (w : Waiting) → get waiting.now key ≡ Some w → IsDecided x.now (ids_of after.now) (ids_of progress.new.applied) watch w) }
+    requires held { (w : Waiting) → get waiting.now key ≡ Some w
+        → MayWatch x.now (ids_of after.now) pack.now w }
+    ensures decided { IfOk result
+        (λ watch. (w : Waiting) → get waiting.now key ≡ Some w
+        → IsDecided x.now (ids_of after.now) (ids_of progress.new.applied) watch w) }
     ensures known { OnOk result (AreKnown x.now (ids_of after.now) (ids_of progress.new.applied)) }
-    ensures advances { OnOk result (Advances (ids_of progress.old.applied) progress.old.gain (ids_of progress.new.applied) progress.new.gain) }
+    ensures advances { OnOk result
+        (Advances (ids_of progress.old.applied) progress.old.gain (ids_of progress.new.applied)
+        progress.new.gain) }
 {
     match waiting.get(key) {
         Some(held) => walk_held(alloc, x, held, pack, after, progress),
@@ -115,9 +130,12 @@ fn walk_held(
 ) -> Result<u32, NoMemory>
     requires known { AreKnown x.now (ids_of after.now) (ids_of progress.old.applied) }
     requires held { MayWatch x.now (ids_of after.now) pack.now held.now }
-    ensures decided { IfOk result (λ watch. IsDecided x.now (ids_of after.now) (ids_of progress.new.applied) watch held.now) }
+    ensures decided { IfOk result
+        (λ watch. IsDecided x.now (ids_of after.now) (ids_of progress.new.applied) watch held.now) }
     ensures known { OnOk result (AreKnown x.now (ids_of after.now) (ids_of progress.new.applied)) }
-    ensures advances { OnOk result (Advances (ids_of progress.old.applied) progress.old.gain (ids_of progress.new.applied) progress.new.gain) }
+    ensures advances { OnOk result
+        (Advances (ids_of progress.old.applied) progress.old.gain (ids_of progress.new.applied)
+        progress.new.gain) }
 {
     if !pack.has(held.watched) {
         return Ok(held.watched);
@@ -143,7 +161,8 @@ pub(crate) fn first_outside(ids: &[u32], set: &Ranges) -> Option<u32>
 
 /// Those of the ids that the set lacks. If these are all, nothing is copied.
 pub(crate) fn without(alloc: Global, ids: IdSet, set: &Ranges) -> Result<IdSet, NoMemory>
-    ensures lacks { IfOk result (λ rest. (a : ℕ) → has_id rest a ≡ (has_id ids a && not (has_id (ids_of set.now) a))) }
+    ensures lacks { IfOk result
+        (λ rest. (a : ℕ) → has_id rest a ≡ (has_id ids a && not (has_id (ids_of set.now) a))) }
     ensures ascending { IfOk result IsAscending }
 {
     if has_none(ids.items(), set) {
@@ -165,7 +184,8 @@ fn has_none(ids: &[u32], set: &Ranges) -> bool
 }
 
 fn all_outside(alloc: Global, ids: &[u32], set: &Ranges) -> Result<IdSet, NoMemory>
-    ensures lacks { IfOk result (λ rest. (a : ℕ) → has_id rest a ≡ (has_id ids.now a && not (has_id (ids_of set.now) a))) }
+    ensures lacks { IfOk result
+        (λ rest. (a : ℕ) → has_id rest a ≡ (has_id ids.now a && not (has_id (ids_of set.now) a))) }
     ensures ascending { IfOk result IsAscending }
 {
     let mut rest = IdSet::new(alloc);
@@ -178,7 +198,9 @@ fn all_outside(alloc: Global, ids: &[u32], set: &Ranges) -> Result<IdSet, NoMemo
 fn insert_outside(rest: &mut IdSet, id: u32, set: &Ranges) -> Result<(), NoMemory>
     requires { IsAscending rest.old }
     ensures ascending { IsAscending rest.new }
-    ensures added { OnOk result ((a : ℕ) → has_id rest.new a ≡ (has_id rest.old a || (nat_eq id a && not (has_id (ids_of set.now) id)))) }
+    ensures added { OnOk result
+        ((a : ℕ) → has_id rest.new a
+        ≡ (has_id rest.old a || (nat_eq id a && not (has_id (ids_of set.now) id)))) }
 {
     if set.has(id) {
         return Ok(());

@@ -44,9 +44,11 @@ impl Index {
 
     /// Adds a note.
     pub(crate) fn add(&mut self, note: Note) -> Result<(), NoMemory>
-        ensures ok { OnOk result ((notes : List Note) → AreIndexed notes self.old.pairs self.old.objects self.old.stamps
+        ensures ok { OnOk result
+            ((notes : List Note) → AreIndexed notes self.old.pairs self.old.objects self.old.stamps
             → AreIndexed (notes ++ note ∷ []) self.new.pairs self.new.objects self.new.stamps) }
-        ensures err { OnErr result ((notes : List Note) → AreIndexed notes self.old.pairs self.old.objects self.old.stamps
+        ensures err { OnErr result
+            ((notes : List Note) → AreIndexed notes self.old.pairs self.old.objects self.old.stamps
             → AreIndexed notes self.new.pairs self.new.objects self.new.stamps) }
     {
         push_pair(&mut self.pairs, note)?;
@@ -68,7 +70,8 @@ impl Index {
 
     /// Removes the note that was added last.
     pub(crate) fn remove(&mut self, note: Note)
-        ensures { (notes : List Note) → AreIndexed (notes ++ note ∷ []) self.old.pairs self.old.objects self.old.stamps
+        ensures { (notes : List Note)
+            → AreIndexed (notes ++ note ∷ []) self.old.pairs self.old.objects self.old.stamps
             → AreIndexed notes self.new.pairs self.new.objects self.new.stamps }
     {
         pop_pair(&mut self.pairs, note);

@@ -49,7 +49,9 @@ impl Sessions {
     /// Notes an effect of a session on an object, with its stamp. Takes constant time, except when the tables
     /// grow.
     pub fn note(&mut self, s: SessId, o: ObjId, e: EffId, stamp: u32) -> Result<(), NoMemory>
-        ensures ok { OnOk result (self.new ≡ self.old ++ record { session = s; object = o; effect = e; stamp = stamp } ∷ []) }
+        ensures ok { OnOk result
+            (self.new ≡ self.old ++ record { session = s; object = o; effect = e; stamp = stamp }
+            ∷ []) }
         ensures err { OnErr result (self.new ≡ self.old) }
     {
         let note = Note {

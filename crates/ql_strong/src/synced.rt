@@ -1,7 +1,5 @@
-ghost use Rattle.std.specs.Prelude.{◌≡◌, ◌^◌, ◌<◌, ◌≤◌, List, ℕ, All, length, map, replicate, IfOk, OnOk};
+ghost use Rattle.std.specs.Prelude.{◌≡◌, ◌<◌, ◌≤◌, All, length, map, replicate, IfOk, OnOk};
 ghost use Rattle.ql_base.specs.IdLists.{IsAscending};
-ghost use Rattle.ql_exec.specs.Execution.{IsExecution};
-ghost use Rattle.ql_needs.specs.Closed.{Has};
 ghost use Rattle.ql_needs.specs.Needs.{AreWhole};
 ghost use Rattle.ql_machine.specs.Changes.{received_by_all};
 ghost use Rattle.ql_strong.specs.Within.{AreAmong, HasReceived};
@@ -26,8 +24,11 @@ pub fn sync<H: Holder>(
     requires within { All (λ h. AreAmong (H.received h) committed.now) holders.now }
     requires whole { AreWhole x.now committed.now }
     ensures fit { IfOk result (λ synced. All (λ h. H.fits h x.now) synced.items) }
-    ensures exact { IfOk result (λ synced. map H.received synced.items ≡ replicate (length holders.now) committed.now) }
-    ensures all { IfOk result (λ synced. map H.received synced.items ≡ received_by_all (map H.received holders.now) committed.now) }
+    ensures exact { IfOk result
+        (λ synced. map H.received synced.items ≡ replicate (length holders.now) committed.now) }
+    ensures all { IfOk result
+        (λ synced. map H.received synced.items
+        ≡ received_by_all (map H.received holders.now) committed.now) }
 {
     let ids = committed.items();
     let mut synced = Vec::with_capacity(alloc, holders.len())?;
@@ -71,7 +72,8 @@ fn receive_with<H: Holder>(
     requires first { 1 ≤ id.0 }
     requires last { id.0 ≤ length x.now }
     ensures fits { H.fits holder.new x.now }
-    ensures received { OnOk result (HasReceived x.now (H.received holder.old) (H.received holder.new) id.0) }
+    ensures received { OnOk result
+        (HasReceived x.now (H.received holder.old) (H.received holder.new) id.0) }
 {
     let package = package_of(alloc, x, id)?;
     holder.receive(&package, x)?;
