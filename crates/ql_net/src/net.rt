@@ -1,4 +1,4 @@
-ghost use Rattle.std.specs.Prelude.{◌≡◌, ◌==◌, ◌+◌, ◌^◌, ◌<◌, ◌≤◌, ◌∷◌, ◌++◌, [], Some, length, take, replicate, slice_get, IfOk, OnOk, OnErr};
+ghost use Rattle.std.specs.Prelude.{◌≡◌, ◌==◌, ◌+◌, ◌^◌, ◌<◌, ◌≤◌, ◌∷◌, ◌++◌, [], Some, length, take, replicate, IfOk, OnOk, OnErr};
 ghost use Rattle.std.specs.Bool.{OnTrue, OnFalse};
 ghost use Rattle.std.specs.Option.{option_copied, option_map};
 ghost use Rattle.ql_machine.specs.declared.message.Message.{Message};
@@ -41,7 +41,8 @@ impl Model for Net {
 impl Net {
     /// A network of this many replicas in one group, without messages.
     pub fn new(alloc: Global, replicas: u32) -> Result<Net, NoMemory>
-        ensures { IfOk result (λ net. net ≡ record { messages = []; groups = replicate replicas 0 }) }
+        ensures { IfOk result
+            (λ net. net ≡ record { messages = []; groups = replicate replicas 0 }) }
     {
         Ok(Net {
             messages: Vec::new(alloc),
@@ -132,7 +133,8 @@ impl Net {
     pub fn package(&self, m: MsgId) -> &IdSet
         requires first { 1 ≤ m.0 }
         requires last { m.0 ≤ length self.now.messages }
-        ensures { (message : Message) → message_at self.now.messages m.0 ≡ Some message → result.now ≡ message.carried }
+        ensures { (message : Message) → message_at self.now.messages m.0 ≡ Some message
+            → result.now ≡ message.carried }
     {
         &self.messages[m.0 as usize - 1].carried
     }
@@ -148,7 +150,8 @@ impl Net {
 
     /// Adds a copy of the message, if one is in flight; returns whether one was.
     pub fn repeat(&mut self, m: MsgId) -> bool
-        requires room { (message : Message) → message_at self.old.messages m.0 ≡ Some message → message.copies + 1 < 2 ^ 32 }
+        requires room { (message : Message) → message_at self.old.messages m.0 ≡ Some message
+            → message.copies + 1 < 2 ^ 32 }
         ensures repeated { OnTrue result (IsRepeated self.old self.new m.0) }
         ensures gone { OnFalse result (IsGone self.old.messages m.0 × (self.new ≡ self.old)) }
     {
@@ -234,7 +237,9 @@ fn push_to_others(
     carried: &Rc<IdSet>,
     replicas: u32,
 ) -> Result<(), NoMemory>
-    ensures sent { OnOk result (messages_in messages.new.items ≡ messages_in messages.old.items ++ to_others replicas from carried.now.value) }
+    ensures sent { OnOk result
+        (messages_in messages.new.items ≡ messages_in messages.old.items
+        ++ to_others replicas from carried.now.value) }
     ensures before { take (length messages.old.items) messages.new.items ≡ messages.old.items }
     ensures few { length messages.new.items ≤ length messages.old.items + replicas }
 {
@@ -248,7 +253,8 @@ fn push_to_others(
 
 // The message, if a copy of it is in flight.
 fn in_flight(messages: &[Sent], m: MsgId) -> Option<&Sent>
-    ensures { IsFound (messages_in messages.now) m.0 (option_map message_in (option_copied result)) }
+    ensures { IsFound (messages_in messages.now) m.0
+        (option_map message_in (option_copied result)) }
 {
     let at = (m.0 as usize).checked_sub(1)?;
     let message = messages.get(at)?;
