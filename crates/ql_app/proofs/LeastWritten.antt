@@ -1,5 +1,5 @@
 -- what is written with status 0 or 1 to `classify` says that its levels are least
-use Rattle.std.proofs.Common.{◌≡◌, inl, inr, ℕ, ◌≤◌, length, List, [], ◌∷◌, ◌++◌, Option, Some, get_or, codes, arith, sym, ap, subst, ◌∙◌}
+use Rattle.std.proofs.Common.{◌≡◌, inl, inr, ℕ, List, [], ◌∷◌, ◌++◌, Option, Some, get_or, codes, arith, sym, ap, ◌∙◌}
 use Rattle.ql_ports.specs.Written.{appended}
 use Rattle.ql_app.specs.declared.outcome.Limits.{Limits}
 use Rattle.ql_reply.specs.declared.status.Status.{Status}
@@ -24,7 +24,7 @@ module _ (limits : Limits) (held : List ℕ → Option (List ℕ)) (name source 
   told Told n n_is says = let whole = of_held limits.file (held n) Told source (ap held n_is ∙ name_held) says in whole.1
 
   asked : (status : Status) (Told : List ℕ → Type 0) → ((n : List ℕ) → Judges limits held (OneFile Classify n) status text → IsRead limits.file (held n) Told)
-      → (words : List (List ℕ)) → words ≡ codes "classify" ∷ name ∷ [] → (call : NamedRequest) → IsRequest words call → Judges limits held call status text → Told source
+      → (words : List (List ℕ)) → words ≡ codes "classify" ∷ name ∷ [] → (named : NamedRequest) → IsRequest words named → Judges limits held named status text → Told source
   asked status Told judged words are (OneFile Holds n) is says = absurd (let never : 99 ≡ 104 = ap first (sym are ∙ is.0) in omega (arith, never))
   asked status Told judged words are (OneFile Proof n) is says = absurd (let never : 99 ≡ 112 = ap first (sym are ∙ is.0) in omega (arith, never))
   asked status Told judged words are (OneFile Classify n) is says =

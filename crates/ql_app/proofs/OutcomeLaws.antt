@@ -1,11 +1,11 @@
 -- What is said of the bytes that were read is what is told of the request.
-use Rattle.std.proofs.Common.{◌≡◌, inl, inr, ℕ, ◌≤◌, ◌<◌, List, length, Option, Some, None, Result, Ok, Err, refl, subst}
+use Rattle.std.proofs.Common.{◌≡◌, inl, inr, ℕ, ◌≤◌, ◌<◌, List, length, Option, Some, Result, Ok, Err, subst}
 use Rattle.std.specs.Prelude.{IfSome, IfOk}
 use Rattle.std.specs.Global.{Vec}
 use Rattle.ql_base.specs.declared.no_memory.NoMemory.{NoMemory}
 use Rattle.ql_ports.specs.Faults.{Rose}
 use Rattle.ql_ports.specs.declared.whole.ReadError.{ReadError}
-use Rattle.ql_ports.specs.declared.whole.ReadError.TheVariants.{Failed, TooLong, NoMemory as NoReadMemory}
+use Rattle.ql_ports.specs.declared.whole.ReadError.TheVariants.{Failed, TooLong}
 use Rattle.ql_app.specs.declared.outcome.Limits.{Limits}
 use Rattle.ql_reply.specs.declared.status.Status.{Status}
 use Rattle.ql_reply.specs.declared.status.Status.TheVariants.{Done, No, Bad, ReadFault, WriteFault, Usage, TooLarge}

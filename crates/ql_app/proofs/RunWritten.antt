@@ -1,14 +1,11 @@
 -- what is written with status 0 to `run` is the text of a run
-use Rattle.std.proofs.Common.{◌≡◌, ◌⊎◌, inl, inr, ℕ, ◌≤◌, length, List, [], ◌∷◌, ◌++◌, Option, Some, None, get_or, codes, arith, refl, ap, sym, subst, ◌∙◌}
+use Rattle.std.proofs.Common.{◌≡◌, inl, inr, ℕ, ◌≤◌, length, List, [], ◌++◌, Option, Some, get_or, arith, refl, ap, sym, subst, ◌∙◌}
 use Rattle.ql_ports.specs.Written.{appended}
 use Rattle.ql_app.specs.declared.outcome.Limits.{Limits}
-use Rattle.ql_reply.specs.declared.status.Status.{Status}
 use Rattle.ql_reply.specs.declared.status.Status.TheVariants.{Done, Usage}
-use Rattle.ql_app.specs.declared.words.Command.{Command}
 use Rattle.ql_app.specs.declared.words.Command.TheVariants.{Holds, Proof, Classify, ClassifyWhy, Prove, Gen, Soak}
-use Rattle.ql_app.specs.declared.words.PairCommand.{PairCommand}
 use Rattle.ql_app.specs.declared.words.PairCommand.TheVariants.{Check, Verify, Run, Slim, Restart}
-use Rattle.ql_app.specs.Outcome.{IsRead, Judges, PairSays, Says, RequestSays}
+use Rattle.ql_app.specs.Outcome.{IsRead, Judges, Says}
 use Rattle.ql_reply.specs.Wrote.{Wrote}
 use Rattle.ql_app.specs.RunWritten.{WritesRun}
 use Rattle.ql_app.specs.Words.{NamedRequest, IsRequest, OneFile, TwoFiles, pair_words}
@@ -44,7 +41,7 @@ module _ (limits : Limits) (held : List ℕ → Option (List ℕ)) (form : Form)
       let both = of_held limits.file (held m) (λ more. TellsRun (format_of f) source more text) file (ap held m_is ∙ other_held) whole.1 in
       subst (λ (g : Form). TellsRun (format_of g) source file text) f_is both.1
 
-  asked : (words : List (List ℕ)) → words ≡ pair_words (Run form) name other → (call : NamedRequest) → IsRequest words call → Judges limits held call Done text → TellsRun (format_of form) source file text
+  asked : (words : List (List ℕ)) → words ≡ pair_words (Run form) name other → (named : NamedRequest) → IsRequest words named → Judges limits held named Done text → TellsRun (format_of form) source file text
   asked words are (OneFile Holds n) is says = absurd (let never : first (pair_words (Run form) name other) ≡ 104 = ap first (sym are ∙ is.0) in omega (arith, never, run_first form name other))
   asked words are (OneFile Proof n) is says = absurd (let never : first (pair_words (Run form) name other) ≡ 112 = ap first (sym are ∙ is.0) in omega (arith, never, run_first form name other))
   asked words are (OneFile Classify n) is says = absurd (let never : first (pair_words (Run form) name other) ≡ 99 = ap first (sym are ∙ is.0) in omega (arith, never, run_first form name other))

@@ -2,9 +2,6 @@
 use Rattle.std.specs.Prelude.{◌≡◌, ◌⊎◌, ℕ, ◌<◌, ◌≤◌, List, ◌++◌, length, Option, Some, Result, Ok, Err, IfSome, codes}
 use Rattle.ql_base.specs.declared.no_memory.NoMemory.{NoMemory}
 use Rattle.ql_ports.specs.Faults.{Rose}
-use Rattle.ql_ports.specs.declared.whole.ReadError.{ReadError}
-use Rattle.ql_ports.specs.declared.whole.ReadError.TheVariants.{Failed, TooLong}
-use Rattle.ql_ports.specs.Written.{appended, AppendsFront}
 use Rattle.ql_app.specs.declared.outcome.Limits.{Limits}
 use Rattle.ql_reply.specs.declared.status.Status.{Status}
 use Rattle.ql_reply.specs.declared.status.Status.TheVariants.{Done, No, Bad, ReadFault, WriteFault, Usage, TooLarge}
@@ -109,23 +106,23 @@ MeetsLimit limits held (TwoFiles command name other) text =
 
 -- what is said of a call
 abbrev pub RequestSays : Limits → (List ℕ → Option (List ℕ)) → (List ℕ → ℕ) → (List ℕ → ℕ) → NamedRequest → Status → List ℕ → Type 0
-RequestSays limits held before after call Done text = Judges limits held call Done text
-RequestSays limits held before after call No text = Judges limits held call No text
-RequestSays limits held before after call Bad text = Judges limits held call Bad text
-RequestSays limits held before after call ReadFault text = MeetsFault limits held before after call text
-RequestSays limits held before after call WriteFault text = ⊥
-RequestSays limits held before after call Usage text = ⊥
-RequestSays limits held before after call TooLarge text = Judges limits held call TooLarge text ⊎ MeetsLimit limits held call text
+RequestSays limits held before after named Done text = Judges limits held named Done text
+RequestSays limits held before after named No text = Judges limits held named No text
+RequestSays limits held before after named Bad text = Judges limits held named Bad text
+RequestSays limits held before after named ReadFault text = MeetsFault limits held before after named text
+RequestSays limits held before after named WriteFault text = ⊥
+RequestSays limits held before after named Usage text = ⊥
+RequestSays limits held before after named TooLarge text = Judges limits held named TooLarge text ⊎ MeetsLimit limits held named text
 
 -- the arguments ask for something, of which this is said
 abbrev pub ForRequest : List (List ℕ) → (NamedRequest → Type 0) → Type 0
-ForRequest words P = (call : NamedRequest) × IsRequest words call × P call
+ForRequest words P = (named : NamedRequest) × IsRequest words named × P named
 
 -- The text that is to be written with a status. `held` is what the shelf holds under each name, where it reports it, and the
 -- counts are those of the shelf's faults at each name, before the call and after it.
 abbrev pub Says : Limits → List (List ℕ) → (List ℕ → Option (List ℕ)) → (List ℕ → ℕ) → (List ℕ → ℕ) → Status → List ℕ → Type 0
 Says limits words held before after status text =
-    ForRequest words (λ call. RequestSays limits held before after call status text)
+    ForRequest words (λ named. RequestSays limits held before after named status text)
     ⊎ ((status ≡ Usage) × (ForRequest words (λ _. Unit {0}) → ⊥) × (text ≡ codes "usage\n"))
 
 -- the files are held whole, within their limits and in their grammars

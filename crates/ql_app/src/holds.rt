@@ -1,4 +1,4 @@
-ghost use Rattle.std.specs.Prelude.{◌≡◌, ◌≤◌, ◌++◌, IfOk, OnOk, codes, decimal, length, map};
+ghost use Rattle.std.specs.Prelude.{◌≡◌, ◌≤◌, ◌++◌, IfOk, OnOk, codes, length, map};
 ghost use Rattle.ql_holds_files.specs.Holdings.{asked_of};
 ghost use Rattle.ql_app.specs.HoldsFaults.{IsToldAs};
 ghost use Rattle.ql_app.specs.HoldsFile.{HoldsSays, HoldsTells, named_places_text};
@@ -67,7 +67,9 @@ fn truth_of(alloc: Global, holding: &Holding) -> Result<(Status, Vec<u8>), NoMem
 }
 
 fn fails_line(alloc: Global, names: &[Word], places: &[EffId]) -> Result<Vec<u8>, NoMemory>
-    ensures { IfOk result (λ line. line.items ≡ codes "fails" ++ named_places_text names.now (map (λ id. id.0) places.now) ++ codes "\n") }
+    ensures { IfOk result
+        (λ line. line.items ≡ codes "fails"
+        ++ named_places_text names.now (map (λ id. id.0) places.now) ++ codes "\n") }
 {
     let mut line = Vec::from_slice(alloc, b"fails")?;
     push_places(&mut line, names, places)?;
@@ -77,7 +79,9 @@ fn fails_line(alloc: Global, names: &[Word], places: &[EffId]) -> Result<Vec<u8>
 
 // Appends each variable with its effect.
 fn push_places(line: &mut Vec<u8>, names: &[Word], places: &[EffId]) -> Result<(), NoMemory>
-    ensures { OnOk result (line.new.items ≡ line.old.items ++ named_places_text names.now (map (λ id. id.0) places.now)) }
+    ensures { OnOk result
+        (line.new.items ≡ line.old.items
+        ++ named_places_text names.now (map (λ id. id.0) places.now)) }
 {
     let Some((name, other_names)) = names.split_first() else {
         return Ok(());

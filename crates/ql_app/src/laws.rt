@@ -25,7 +25,8 @@ use ql_verified_runs::{printed_runs_hold, replicas_of_runs_agree};
 /// Where `prove` prints a certificate of a source, with status 0, `check` of that source and that certificate ends
 /// with status 0 too.
 pub fn what_is_printed_is_accepted()
-    ensures { (source certificate text : List ℕ) (status : Status) → CommandSays Prove source Done certificate
+    ensures { (source certificate text : List ℕ) (status : Status)
+        → CommandSays Prove source Done certificate
         → PairSays Check source certificate status text → status ≡ Done }
 {
     what_is_proved_is_accepted();
@@ -35,18 +36,24 @@ pub fn what_is_printed_is_accepted()
 /// that shows the schedule's run at the source's least levels, in which each effect and each begun transaction meets its
 /// contract and each answer is its type's fold over exactly what its effect sees.
 pub fn contracts_hold_in_runs()
-    ensures { (limits : Limits) (words : List (List ℕ)) (held : List ℕ → Option (List ℕ)) (before after : List ℕ → ℕ) (was is : Option (List ℕ)) (faults sums : ℕ)
-        → Wrote (Says limits words held before after) was is faults sums Done → WritesRun words held was is }
+    ensures { (limits : Limits) (words : List (List ℕ)) (held : List ℕ → Option (List ℕ))
+        (before after : List ℕ → ℕ) (was is : Option (List ℕ)) (faults sums : ℕ)
+        → Wrote (Says limits words held before after) was is faults sums Done
+        → WritesRun words held was is }
 {}
 
 /// Levels are least over all executions, of what `quelea` wrote by its clause `wrote`: with status 0, to `classify` of a
 /// source, levels that guarantee their contracts in every execution of the program, while each lower one fails in some; and with
 /// status 1 a refusal, in which the target that no level is enough for has an execution where the highest fails.
 pub fn levels_are_least()
-    ensures levels { (limits : Limits) (words : List (List ℕ)) (held : List ℕ → Option (List ℕ)) (before after : List ℕ → ℕ) (was is : Option (List ℕ)) (faults sums : ℕ)
-        → Wrote (Says limits words held before after) was is faults sums Done → WritesLeast words held was is }
-    ensures none { (limits : Limits) (words : List (List ℕ)) (held : List ℕ → Option (List ℕ)) (before after : List ℕ → ℕ) (was is : Option (List ℕ)) (faults sums : ℕ)
-        → Wrote (Says limits words held before after) was is faults sums No → WritesNone words held was is }
+    ensures levels { (limits : Limits) (words : List (List ℕ)) (held : List ℕ → Option (List ℕ))
+        (before after : List ℕ → ℕ) (was is : Option (List ℕ)) (faults sums : ℕ)
+        → Wrote (Says limits words held before after) was is faults sums Done
+        → WritesLeast words held was is }
+    ensures none { (limits : Limits) (words : List (List ℕ)) (held : List ℕ → Option (List ℕ))
+        (before after : List ℕ → ℕ) (was is : Option (List ℕ)) (faults sums : ℕ)
+        → Wrote (Says limits words held before after) was is faults sums No
+        → WritesNone words held was is }
 {
     told_levels_are_least();
 }
@@ -54,7 +61,8 @@ pub fn levels_are_least()
 /// Of a source and the text that `run` prints of it with status 0, `verify` ends with status 0, since all contracts hold,
 /// or says that judging them is too much work.
 pub fn printed_runs_are_verified()
-    ensures { (source schedule text said : List ℕ) (status : Status) → PairSays (Run Text) source schedule Done text
+    ensures { (source schedule text said : List ℕ) (status : Status)
+        → PairSays (Run Text) source schedule Done text
         → PairSays Verify source text status said → (status ≡ Done) ⊎ (status ≡ TooLarge) }
 {
     printed_runs_hold();
@@ -62,7 +70,8 @@ pub fn printed_runs_are_verified()
 
 /// Agreement, of the run whose text `run` prints with status 0: where every package was received, the replicas agree.
 pub fn replicas_agree_in_runs()
-    ensures { (source schedule text : List ℕ) (told : PairSays (Run Text) source schedule Done text) → AllArrived told.prints.last
+    ensures { (source schedule text : List ℕ) (told : PairSays (Run Text) source schedule Done text)
+        → AllArrived told.prints.last
         → Agree (rules_of told.program told.levels) told.schedule.replicas told.prints.last }
 {
     replicas_of_runs_agree();
@@ -71,10 +80,14 @@ pub fn replicas_agree_in_runs()
 /// What `gen` prints of a source with status 0, `run` of that source accepts: it ends with status 0, or with 1 where the
 /// program has no levels; and the run that it shows is that of the number's schedule.
 pub fn generated_schedules_are_run()
-    ensures accepted { (source file text : List ℕ) (number events : ℕ) (form : Form) (status : Status) → IsInRange (Gen number events)
-        → CommandSays (Gen number events) source Done file → PairSays (Run form) source file status text → (status ≡ Done) ⊎ (status ≡ No) }
-    ensures shown { (source file text : List ℕ) (number events : ℕ) (form : Form) → IsInRange (Gen number events) → CommandSays (Gen number events) source Done file
-        → (told : PairSays (Run form) source file Done text) → told.schedule ≡ generated told.program number events }
+    ensures accepted { (source file text : List ℕ) (number events : ℕ) (form : Form)
+        (status : Status) → IsInRange (Gen number events)
+        → CommandSays (Gen number events) source Done file
+        → PairSays (Run form) source file status text → (status ≡ Done) ⊎ (status ≡ No) }
+    ensures shown { (source file text : List ℕ) (number events : ℕ) (form : Form)
+        → IsInRange (Gen number events) → CommandSays (Gen number events) source Done file
+        → (told : PairSays (Run form) source file Done text)
+        → told.schedule ≡ generated told.program number events }
 {
     generated_schedules_are_read();
     one_schedule();
@@ -83,6 +96,8 @@ pub fn generated_schedules_are_run()
 /// The JSON text of a run reads back, of what `quelea` wrote by its clause `wrote`: with status 0, to `run --json` of a
 /// source and a schedule, a text that `serde_json`'s grammar reads as the run's value.
 pub fn json_runs_are_read_again()
-    ensures { (limits : Limits) (words : List (List ℕ)) (held : List ℕ → Option (List ℕ)) (before after : List ℕ → ℕ) (was is : Option (List ℕ)) (faults sums : ℕ)
-        → Wrote (Says limits words held before after) was is faults sums Done → WritesJson words held was is }
+    ensures { (limits : Limits) (words : List (List ℕ)) (held : List ℕ → Option (List ℕ))
+        (before after : List ℕ → ℕ) (was is : Option (List ℕ)) (faults sums : ℕ)
+        → Wrote (Says limits words held before after) was is faults sums Done
+        → WritesJson words held was is }
 {}

@@ -1,6 +1,5 @@
-ghost use Rattle.std.specs.Prelude.{◌≡◌, ◌++◌, ◌<◌, ◌≤◌, ◌^◌, ℕ, List, IfOk, codes, length};
+ghost use Rattle.std.specs.Prelude.{◌≡◌, ◌<◌, ◌≤◌, ◌^◌, ℕ, List, IfOk, length};
 ghost use Rattle.ql_app.specs.Outcome.{CommandSays, PairSays, Says, RequestSays, second_limit};
-ghost use Rattle.ql_reply.specs.Unread.{IsUnread};
 ghost use Rattle.ql_app.specs.Words.{IsInRange, OneFile, TwoFiles};
 ghost use Rattle.ql_reply.specs.Arguments.{word_texts};
 
@@ -57,7 +56,8 @@ fn of_file<S: Shelf>(
     limits: Limits,
 ) -> Result<(Status, Vec<u8>), NoMemory>
     requires { IsInRange command }
-    ensures says { IfOk result (λ answer. RequestSays limits (S.held shelf.old) (S.faults shelf.old) (S.faults shelf.new)
+    ensures says { IfOk result
+        (λ answer. RequestSays limits (S.held shelf.old) (S.faults shelf.old) (S.faults shelf.new)
         (OneFile command name.now) answer.0 answer.1.items) }
     ensures same_contents { (other : List ℕ) → S.held shelf.new other ≡ S.held shelf.old other }
     ensures counts_stay { (other : List ℕ) → S.faults shelf.old other ≤ S.faults shelf.new other }
@@ -76,7 +76,8 @@ fn of_files<S: Shelf>(
     other: &str,
     limits: Limits,
 ) -> Result<(Status, Vec<u8>), NoMemory>
-    ensures says { IfOk result (λ answer. RequestSays limits (S.held shelf.old) (S.faults shelf.old) (S.faults shelf.new)
+    ensures says { IfOk result
+        (λ answer. RequestSays limits (S.held shelf.old) (S.faults shelf.old) (S.faults shelf.new)
         (TwoFiles command name.now other.now) answer.0 answer.1.items) }
     ensures same_contents { (third : List ℕ) → S.held shelf.new third ≡ S.held shelf.old third }
     ensures counts_stay { (third : List ℕ) → S.faults shelf.old third ≤ S.faults shelf.new third }

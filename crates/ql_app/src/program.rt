@@ -29,7 +29,8 @@ pub fn quelea<S: Shelf, K: Sink>(
 ) -> Result<Status, NoMemory>
     // What was written is a text that the arguments and the files' bytes allow with this status.
     ensures wrote { IfOk result (Wrote
-        (Says (record { file = 1048576; second = 67108864 }) (word_texts words.now) (S.held shelf.old) (S.faults shelf.old) (S.faults shelf.new))
+        (Says (record { file = 1048576; second = 67108864 }) (word_texts words.now)
+        (S.held shelf.old) (S.faults shelf.old) (S.faults shelf.new))
         (K.written sink.old) (K.written sink.new) (K.faults sink.old) (K.faults sink.new)) }
     ensures no_memory { OnErr result (K.written sink.new ≡ K.written sink.old) }
 
@@ -39,9 +40,10 @@ pub fn quelea<S: Shelf, K: Sink>(
     ensures sink_count_stays { K.faults sink.old ≤ K.faults sink.new }
 
     // Nothing failed, and the files are in their grammars: the answer is yes or no.
-    ensures complete { (call : NamedRequest) → IsRequest (word_texts words.now) call
-        → AreHeld (record { file = 1048576; second = 67108864 }) (S.held shelf.old) call
-        → NoneRose (S.faults shelf.old) (S.faults shelf.new) call → (Rose (K.faults sink.old) (K.faults sink.new) → ⊥)
+    ensures complete { (named : NamedRequest) → IsRequest (word_texts words.now) named
+        → AreHeld (record { file = 1048576; second = 67108864 }) (S.held shelf.old) named
+        → NoneRose (S.faults shelf.old) (S.faults shelf.new) named
+        → (Rose (K.faults sink.old) (K.faults sink.new) → ⊥)
         → IsAnswered result }
 {
     let (status, text) = outcome(alloc, words, shelf, LIMITS)?;

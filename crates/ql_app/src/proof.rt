@@ -1,4 +1,4 @@
-ghost use Rattle.std.specs.Prelude.{◌≡◌, ◌++◌, ◌<◌, ◌^◌, IfOk, codes, decimal, length};
+ghost use Rattle.std.specs.Prelude.{◌≡◌, ◌<◌, ◌^◌, IfOk, length};
 ghost use Rattle.std.specs.Option.{option_map};
 ghost use Rattle.ql_app.specs.ProofFile.{ProofSays, ProofTells, refusal_of};
 
@@ -35,7 +35,8 @@ fn verdict_on(
     clauses: &Clauses,
     refutation: &Refutation,
 ) -> Result<(Status, Vec<u8>), NoMemory>
-    ensures { IfOk result (λ answer. ProofTells clauses.now refutation.now.lines answer.0 answer.1.items) }
+    ensures { IfOk result
+        (λ answer. ProofTells clauses.now refutation.now.lines answer.0 answer.1.items) }
 {
     let mut marks = vec![in alloc; 0; clauses.variables() as usize + 1]?;
     match refusal(alloc, check(clauses, refutation, marks.as_mut_slice()))? {

@@ -1,7 +1,7 @@
-ghost use Rattle.std.specs.Prelude.{◌≡◌, ◌≢◌, ◌↔◌, ◌∷◌, [], ◌≤◌, ℕ, List, IsTrue, MatchOption, codes, decimal, length};
+ghost use Rattle.std.specs.Prelude.{◌≡◌, ◌≢◌, ◌∷◌, [], ◌≤◌, ℕ, List, MatchOption, codes, decimal, length};
 ghost use Rattle.ql_app.specs.declared.words.Command.{Command};
 ghost use Rattle.ql_app.specs.declared.words.PairCommand.{PairCommand};
-ghost use Rattle.ql_app.specs.Requests.{call_of};
+ghost use Rattle.ql_app.specs.Requests.{named_request_of};
 ghost use Rattle.ql_app.specs.Words.{
   NamedRequest,
   IsInRange,
@@ -74,8 +74,8 @@ pub enum Request<'a> {
 /// The command that the arguments ask for, with the names of its files; none where they ask for nothing.
 pub fn parse_words(words: &Vec<String>) -> Option<Request>
     ensures { MatchOption result
-        ((call : NamedRequest) → IsRequest (word_texts words.now) call → ⊥)
-        (λ request. IsRequest (word_texts words.now) (call_of request)) }
+        ((named : NamedRequest) → IsRequest (word_texts words.now) named → ⊥)
+        (λ request. IsRequest (word_texts words.now) (named_request_of request)) }
 {
     if let [word, name] = words.as_slice() {
         return on_one_file(plain_command(word.as_str())?, name.as_str());
@@ -100,8 +100,8 @@ fn many_words(words: &Vec<String>) -> Option<Request>
     requires three { length words.now.items ≢ 3 }
     requires four { length words.now.items ≢ 4 }
     ensures { MatchOption result
-        ((call : NamedRequest) → IsRequest (word_texts words.now) call → ⊥)
-        (λ request. IsRequest (word_texts words.now) (call_of request)) }
+        ((named : NamedRequest) → IsRequest (word_texts words.now) named → ⊥)
+        (λ request. IsRequest (word_texts words.now) (named_request_of request)) }
 {
     if let [word, name, other, replica, cut] = words.as_slice() {
         return five_words(
@@ -117,8 +117,8 @@ fn many_words(words: &Vec<String>) -> Option<Request>
 
 fn three_words<'a>(word: &str, name: &'a str, last: &'a str) -> Option<Request<'a>>
     ensures { MatchOption result
-        ((call : NamedRequest) → IsRequest (word.now ∷ name.now ∷ last.now ∷ []) call → ⊥)
-        (λ request. IsRequest (word.now ∷ name.now ∷ last.now ∷ []) (call_of request)) }
+        ((named : NamedRequest) → IsRequest (word.now ∷ name.now ∷ last.now ∷ []) named → ⊥)
+        (λ request. IsRequest (word.now ∷ name.now ∷ last.now ∷ []) (named_request_of request)) }
 {
     match word {
         "classify" => why_request(name, last),
@@ -130,8 +130,9 @@ fn three_words<'a>(word: &str, name: &'a str, last: &'a str) -> Option<Request<'
 // What `classify`, a flag and a name ask for.
 fn why_request<'a>(flag: &str, name: &'a str) -> Option<Request<'a>>
     ensures { MatchOption result
-        ((call : NamedRequest) → IsRequest (codes "classify" ∷ flag.now ∷ name.now ∷ []) call → ⊥)
-        (λ request. IsRequest (codes "classify" ∷ flag.now ∷ name.now ∷ []) (call_of request)) }
+        ((named : NamedRequest) → IsRequest (codes "classify" ∷ flag.now ∷ name.now ∷ []) named → ⊥)
+        (λ request. IsRequest (codes "classify" ∷ flag.now ∷ name.now ∷ [])
+        (named_request_of request)) }
 {
     if flag == "--why" {
         on_one_file(Command::ClassifyWhy, name)
@@ -143,8 +144,9 @@ fn why_request<'a>(flag: &str, name: &'a str) -> Option<Request<'a>>
 // What `soak`, a name and a number ask for.
 fn soak_request<'a>(name: &'a str, number: &str) -> Option<Request<'a>>
     ensures { MatchOption result
-        ((call : NamedRequest) → IsRequest (codes "soak" ∷ name.now ∷ number.now ∷ []) call → ⊥)
-        (λ request. IsRequest (codes "soak" ∷ name.now ∷ number.now ∷ []) (call_of request)) }
+        ((named : NamedRequest) → IsRequest (codes "soak" ∷ name.now ∷ number.now ∷ []) named → ⊥)
+        (λ request. IsRequest (codes "soak" ∷ name.now ∷ number.now ∷ [])
+        (named_request_of request)) }
 {
     let number = number_up_to(number, MAX_NUMBER)?;
     on_one_file(Command::Soak { number }, name)
@@ -152,8 +154,10 @@ fn soak_request<'a>(name: &'a str, number: &str) -> Option<Request<'a>>
 
 fn four_words<'a>(word: &str, second: &'a str, third: &'a str, last: &'a str) -> Option<Request<'a>>
     ensures { MatchOption result
-        ((call : NamedRequest) → IsRequest (word.now ∷ second.now ∷ third.now ∷ last.now ∷ []) call → ⊥)
-        (λ request. IsRequest (word.now ∷ second.now ∷ third.now ∷ last.now ∷ []) (call_of request)) }
+        ((named : NamedRequest)
+        → IsRequest (word.now ∷ second.now ∷ third.now ∷ last.now ∷ []) named → ⊥)
+        (λ request. IsRequest (word.now ∷ second.now ∷ third.now ∷ last.now ∷ [])
+        (named_request_of request)) }
 {
     match word {
         "gen" => gen_request(second, third, last),
@@ -165,8 +169,10 @@ fn four_words<'a>(word: &str, second: &'a str, third: &'a str, last: &'a str) ->
 // What `gen`, a name and two numbers ask for.
 fn gen_request<'a>(name: &'a str, number: &str, events: &str) -> Option<Request<'a>>
     ensures { MatchOption result
-        ((call : NamedRequest) → IsRequest (codes "gen" ∷ name.now ∷ number.now ∷ events.now ∷ []) call → ⊥)
-        (λ request. IsRequest (codes "gen" ∷ name.now ∷ number.now ∷ events.now ∷ []) (call_of request)) }
+        ((named : NamedRequest)
+        → IsRequest (codes "gen" ∷ name.now ∷ number.now ∷ events.now ∷ []) named → ⊥)
+        (λ request. IsRequest (codes "gen" ∷ name.now ∷ number.now ∷ events.now ∷ [])
+        (named_request_of request)) }
 {
     let number = number_up_to(number, MAX_NUMBER)?;
     let events = number_up_to(events, MAX_EVENTS)?;
@@ -176,8 +182,10 @@ fn gen_request<'a>(name: &'a str, number: &str, events: &str) -> Option<Request<
 // What `run`, an option and two names ask for.
 fn json_request<'a>(option: &str, name: &'a str, other: &'a str) -> Option<Request<'a>>
     ensures { MatchOption result
-        ((call : NamedRequest) → IsRequest (codes "run" ∷ option.now ∷ name.now ∷ other.now ∷ []) call → ⊥)
-        (λ request. IsRequest (codes "run" ∷ option.now ∷ name.now ∷ other.now ∷ []) (call_of request)) }
+        ((named : NamedRequest)
+        → IsRequest (codes "run" ∷ option.now ∷ name.now ∷ other.now ∷ []) named → ⊥)
+        (λ request. IsRequest (codes "run" ∷ option.now ∷ name.now ∷ other.now ∷ [])
+        (named_request_of request)) }
 {
     if option == "--json" {
         on_two_files(PairCommand::Run(Form::Json), name, other)
@@ -195,8 +203,10 @@ fn five_words<'a>(
     cut: &str,
 ) -> Option<Request<'a>>
     ensures { MatchOption result
-        ((call : NamedRequest) → IsRequest (word.now ∷ name.now ∷ other.now ∷ replica.now ∷ cut.now ∷ []) call → ⊥)
-        (λ request. IsRequest (word.now ∷ name.now ∷ other.now ∷ replica.now ∷ cut.now ∷ []) (call_of request)) }
+        ((named : NamedRequest)
+        → IsRequest (word.now ∷ name.now ∷ other.now ∷ replica.now ∷ cut.now ∷ []) named → ⊥)
+        (λ request. IsRequest (word.now ∷ name.now ∷ other.now ∷ replica.now ∷ cut.now ∷ [])
+        (named_request_of request)) }
 {
     match word {
         "restart" => restart_request(name, other, replica, cut),
@@ -211,8 +221,11 @@ fn restart_request<'a>(
     cut: &str,
 ) -> Option<Request<'a>>
     ensures { MatchOption result
-        ((call : NamedRequest) → IsRequest (codes "restart" ∷ name.now ∷ other.now ∷ replica.now ∷ cut.now ∷ []) call → ⊥)
-        (λ request. IsRequest (codes "restart" ∷ name.now ∷ other.now ∷ replica.now ∷ cut.now ∷ []) (call_of request)) }
+        ((named : NamedRequest)
+        → IsRequest (codes "restart" ∷ name.now ∷ other.now ∷ replica.now ∷ cut.now ∷ []) named
+        → ⊥)
+        (λ request. IsRequest (codes "restart" ∷ name.now ∷ other.now ∷ replica.now ∷ cut.now ∷ [])
+        (named_request_of request)) }
 {
     let replica = number_up_to(replica, MAX_REPLICA)?;
     let cut = cut_of(cut)?;
@@ -220,7 +233,8 @@ fn restart_request<'a>(
 }
 
 fn on_one_file(command: Command, name: &str) -> Option<Request>
-    ensures { MatchOption result (IsFileName name.now → ⊥) (λ request. IsFileName name.now × (call_of request ≡ OneFile command name.now)) }
+    ensures { MatchOption result (IsFileName name.now → ⊥)
+        (λ request. IsFileName name.now × (named_request_of request ≡ OneFile command name.now)) }
 {
     if is_file_name(name) {
         Some(Request::OneFile(command, name))
@@ -231,7 +245,8 @@ fn on_one_file(command: Command, name: &str) -> Option<Request>
 
 fn on_two_files<'a>(command: PairCommand, name: &'a str, other: &'a str) -> Option<Request<'a>>
     ensures { MatchOption result (IsFileName name.now → IsFileName other.now → ⊥)
-        (λ request. IsFileName name.now × IsFileName other.now × (call_of request ≡ TwoFiles command name.now other.now)) }
+        (λ request. IsFileName name.now × IsFileName other.now
+        × (named_request_of request ≡ TwoFiles command name.now other.now)) }
 {
     if is_file_name(name) && is_file_name(other) {
         Some(Request::TwoFiles(command, name, other))
@@ -243,8 +258,10 @@ fn on_two_files<'a>(command: PairCommand, name: &'a str, other: &'a str) -> Opti
 // The command of a word, which is followed by the name of a file.
 fn plain_command(word: &str) -> Option<Command>
     ensures { MatchOption result
-        ((command : Command) (name : List ℕ) → command_words command name ≡ word.now ∷ name ∷ [] → ⊥)
-        (λ command. IsInRange command × ((name : List ℕ) → command_words command name ≡ word.now ∷ name ∷ [])) }
+        ((command : Command) (name : List ℕ) → command_words command name ≡ word.now ∷ name ∷ []
+        → ⊥)
+        (λ command. IsInRange command
+        × ((name : List ℕ) → command_words command name ≡ word.now ∷ name ∷ [])) }
 {
     match word {
         "holds" => Some(Command::Holds),
@@ -257,8 +274,11 @@ fn plain_command(word: &str) -> Option<Command>
 
 fn pair_command(word: &str) -> Option<PairCommand>
     ensures { MatchOption result
-        ((command : PairCommand) (name other : List ℕ) → pair_words command name other ≡ word.now ∷ name ∷ other ∷ [] → ⊥)
-        (λ command. IsPairInRange command × ((name other : List ℕ) → pair_words command name other ≡ word.now ∷ name ∷ other ∷ [])) }
+        ((command : PairCommand) (name other : List ℕ)
+        → pair_words command name other ≡ word.now ∷ name ∷ other ∷ [] → ⊥)
+        (λ command. IsPairInRange command
+        × ((name other : List ℕ)
+        → pair_words command name other ≡ word.now ∷ name ∷ other ∷ [])) }
 {
     match word {
         "check" => Some(PairCommand::Check),

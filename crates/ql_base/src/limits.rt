@@ -90,7 +90,8 @@ pub fn limits_in_figures()
         × (MAX_HOLDS_BYTES ≡ 1048576) × (MAX_PROOF_BYTES ≡ 1048576) }
     ensures large_files { (MAX_CERTIFICATE_BYTES ≡ 67108864) × (MAX_EXECUTION_BYTES ≡ 67108864) }
     ensures programs { (MAX_TYPES ≡ 16) × (MAX_OPERATIONS ≡ 32) × (MAX_TRANSACTIONS ≡ 16) }
-    ensures types { (MAX_FIELDS ≡ 16) × (MAX_PARAMETERS ≡ 8) × (MAX_EMITTED ≡ 4) × (MAX_STATEMENTS ≡ 64) }
+    ensures types { (MAX_FIELDS ≡ 16) × (MAX_PARAMETERS ≡ 8) × (MAX_EMITTED ≡ 4)
+        × (MAX_STATEMENTS ≡ 64) }
     ensures expressions { (MAX_VARIABLES ≡ 5) × (MAX_BRACKETS ≡ 64) × (MAX_NODES ≡ 256) }
     ensures values { (MAX_NAME_BYTES ≡ 32) × (MAX_TEXT_BYTES ≡ 64) × (MAX_ENTRIES ≡ 256) }
     ensures schedules { (MAX_REPLICAS ≡ 16) × (MAX_SESSIONS ≡ 256) × (MAX_OBJECTS ≡ 1024)

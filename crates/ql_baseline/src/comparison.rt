@@ -44,7 +44,8 @@ fn bad_baseline(alloc: Global, fault: Broken<BaselineRule>) -> Result<Vec<u8>, N
 
 // What became of the levels since this answer was stored.
 fn against(alloc: Global, t: &Typed, stored: &[Stored]) -> Result<(Status, Vec<u8>), NoMemory>
-    ensures { IfOk result (λ answer. IsComparison t.now.program stored.now answer.0 answer.1.items) }
+    ensures { IfOk result
+        (λ answer. IsComparison t.now.program stored.now answer.0 answer.1.items) }
 {
     let findings = findings(alloc, t)?;
     let text = rises(alloc, t, stored, &findings)?;
@@ -63,7 +64,8 @@ fn rises(
     findings: &[Finding],
 ) -> Result<Vec<u8>, NoMemory>
     requires { AreFindings t.now.program findings.now }
-    ensures { IfOk result (λ text. text.items ≡ concat (map (rise_of t.now.program stored.now) findings.now)) }
+    ensures { IfOk result
+        (λ text. text.items ≡ concat (map (rise_of t.now.program stored.now) findings.now)) }
 {
     let mut text = Vec::new(alloc);
     for k in 0..findings.len() {
@@ -80,7 +82,8 @@ fn push_rise_of(
     finding: &Finding,
 ) -> Result<(), NoMemory>
     requires { (target : ℕ) × IsFinding t.now.program target finding.now }
-    ensures { OnOk result (out.new.items ≡ out.old.items ++ rise_of t.now.program stored.now finding.now) }
+    ensures { OnOk result
+        (out.new.items ≡ out.old.items ++ rise_of t.now.program stored.now finding.now) }
 {
     let has_level = matches!(finding, Finding::Least { .. });
     push_rise_at(out, t, stored, goal_of(finding), has_level)

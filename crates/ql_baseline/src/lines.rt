@@ -15,7 +15,8 @@ use ql_lines::{after_name, after_word, first_field};
 
 /// What a line says of a target, if it is about one.
 pub(crate) fn stored_of(text: &[u8]) -> Option<Stored>
-    ensures { MatchOption result ((s : Stored) → IsStored text.now s → ⊥) (λ s. IsStored text.now s) }
+    ensures { MatchOption result ((s : Stored) → IsStored text.now s → ⊥)
+        (λ s. IsStored text.now s) }
 {
     if let Some((name, level)) = op_line(text) {
         return Some(Stored::Op(name, Some(level)));
@@ -33,7 +34,8 @@ pub(crate) fn stored_of(text: &[u8]) -> Option<Stored>
 // An operation with its level.
 fn op_line(text: &[u8]) -> Option<(Word, Level)>
     ensures { MatchOption result
-        ((name : List ℕ) (level : Level) → IsName name → fields_of text.now ≡ codes "op" ∷ name ∷ word_of level ∷ [] → ⊥)
+        ((name : List ℕ) (level : Level) → IsName name
+        → fields_of text.now ≡ codes "op" ∷ name ∷ word_of level ∷ [] → ⊥)
         (λ x. IsName x.0 × (fields_of text.now ≡ codes "op" ∷ x.0 ∷ word_of x.1 ∷ [])) }
 {
     let rest = after_word(text, b"op")?;
@@ -44,7 +46,8 @@ fn op_line(text: &[u8]) -> Option<(Word, Level)>
 
 fn txn_line(text: &[u8]) -> Option<(Word, TxnLevel)>
     ensures { MatchOption result
-        ((name : List ℕ) (level : TxnLevel) → IsName name → fields_of text.now ≡ codes "txn" ∷ name ∷ txn_word_of level ∷ [] → ⊥)
+        ((name : List ℕ) (level : TxnLevel) → IsName name
+        → fields_of text.now ≡ codes "txn" ∷ name ∷ txn_word_of level ∷ [] → ⊥)
         (λ x. IsName x.0 × (fields_of text.now ≡ codes "txn" ∷ x.0 ∷ txn_word_of x.1 ∷ [])) }
 {
     let rest = after_word(text, b"txn")?;
@@ -56,7 +59,8 @@ fn txn_line(text: &[u8]) -> Option<(Word, TxnLevel)>
 // A target of this kind without a level.
 fn none_line(text: &[u8], kind: &[u8]) -> Option<Word>
     ensures { MatchOption result
-        ((name : List ℕ) → IsName name → fields_of text.now ≡ codes "none" ∷ kind.now ∷ name ∷ [] → ⊥)
+        ((name : List ℕ) → IsName name → fields_of text.now ≡ codes "none" ∷ kind.now ∷ name ∷ []
+        → ⊥)
         (λ name. IsName name × (fields_of text.now ≡ codes "none" ∷ kind.now ∷ name ∷ [])) }
 {
     let rest = after_word(text, b"none")?;
@@ -70,7 +74,8 @@ fn none_line(text: &[u8], kind: &[u8]) -> Option<Word>
 
 // The field, if it is the only one left.
 fn last_word(text: &[u8]) -> Option<&[u8]>
-    ensures { MatchOption result ((word : List ℕ) → fields_of text.now ≡ word ∷ [] → ⊥) (λ word. fields_of text.now ≡ word.now ∷ []) }
+    ensures { MatchOption result ((word : List ℕ) → fields_of text.now ≡ word ∷ [] → ⊥)
+        (λ word. fields_of text.now ≡ word.now ∷ []) }
 {
     let (word, behind) = first_field(text)?;
     match first_field(behind) {

@@ -18,7 +18,8 @@ pub(crate) fn push_rise_at(
     has_level: bool,
 ) -> Result<(), NoMemory>
     requires { IsGoalOf t.now.program g }
-    ensures { OnOk result (out.new.items ≡ out.old.items ++ rise_at t.now.program stored.now has_level g) }
+    ensures { OnOk result
+        (out.new.items ≡ out.old.items ++ rise_at t.now.program stored.now has_level g) }
 {
     match g {
         Goal::OpAt(o, level) => {
@@ -83,7 +84,8 @@ fn push_rise(
     was: &'static str,
     is: &'static str,
 ) -> Result<(), NoMemory>
-    ensures { OnOk result (out.new.items ≡ out.old.items ++ rise_text kind.now name.now was.now is.now) }
+    ensures { OnOk result
+        (out.new.items ≡ out.old.items ++ rise_text kind.now name.now was.now is.now) }
 {
     push_was(out, kind, name, was)?;
     push_bytes(out, b", is ")?;

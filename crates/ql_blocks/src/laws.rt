@@ -17,18 +17,24 @@ ghost use Rattle.ql_blocks.specs.Naming.{Shows, named_by};
 /// whose chains they show holds between the effects that stand for constants exactly where it holds between the
 /// constants. And where a level's guarantee holds at a constant, its formula holds at the constant's effect.
 pub fn blocks_show_relations()
-    ensures execution { (p : Pattern) → IsLawful p → IsGrouped p → (extra : Extra) → IsExecution (built p (slots_of p extra)) }
+    ensures execution { (p : Pattern) → IsLawful p → IsGrouped p → (extra : Extra)
+        → IsExecution (built p (slots_of p extra)) }
     ensures few { (p : Pattern) (extra : Extra) → length (built p (slots_of p extra)) ≤ 4 * p.count }
     ensures relations { (p : Pattern) → IsLawful p → (extra : Extra) (name : RelName) → Shows extra name → (c d : ℕ) → c < p.count → d < p.count
-        → named (built p (slots_of p extra)) name (constant_place p (slots_of p extra) c) (constant_place p (slots_of p extra) d) ≡ named_by p name c d }
-    ensures levels { (p : Pattern) → IsLawful p → (extra : Extra) (c : ℕ) → c < p.count → (level : Level) → Promises p level c
-        → Holds (built p (slots_of p extra)) (formula_of level) (constant_place p (slots_of p extra) c) }
+        → named (built p (slots_of p extra)) name (constant_place p (slots_of p extra) c)
+        (constant_place p (slots_of p extra) d) ≡ named_by p name c d }
+    ensures levels { (p : Pattern) → IsLawful p → (extra : Extra) (c : ℕ) → c < p.count
+        → (level : Level) → Promises p level c
+        → Holds (built p (slots_of p extra)) (formula_of level)
+        (constant_place p (slots_of p extra) c) }
 {}
 
 /// The law of transactions: in a pattern with transactions, if a level's guarantee holds at the current constants, its
 /// formula holds of their begun transaction.
 pub fn blocks_show_transactions()
-    ensures execution { (p : Pattern) (current : ℕ → Bool) (name : DeclId) → IsLawful p → IsTxnLawful p current name → IsExecution (built p (slots_of p no_parts)) }
-    ensures levels { (p : Pattern) (current : ℕ → Bool) (name : DeclId) → IsLawful p → IsTxnLawful p current name → (level : TxnLevel) → TxnPromises p current level
+    ensures execution { (p : Pattern) (current : ℕ → Bool) (name : DeclId) → IsLawful p
+        → IsTxnLawful p current name → IsExecution (built p (slots_of p no_parts)) }
+    ensures levels { (p : Pattern) (current : ℕ → Bool) (name : DeclId) → IsLawful p
+        → IsTxnLawful p current name → (level : TxnLevel) → TxnPromises p current level
         → HoldsTxn (built p (slots_of p no_parts)) (txn_formula_of level) (run_of p current) }
 {}

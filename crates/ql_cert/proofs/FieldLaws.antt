@@ -41,7 +41,7 @@ unfolding signed_field
 positive_none field unsigned none v true f e = none v f e
 positive_none field unsigned none v false f e = unsigned (decimal v) (sym e)
 
--- a literal with a sign is read from the digits behind it
+-- a literal with a sign is read from the digits after it
 pub negative_read : (field digits : List ℕ) (n : Option ℕ) → field ≡ 45 ∷ digits → IsRead (λ v. (1 ≤ v) × (v < 2 ^ 32)) decimal digits n
     → IsRead IsLit lit_field field (option_map (λ v. record { var = v; positive = false }) n)
 unfolding signed_field

@@ -1,4 +1,4 @@
--- what stands behind a line's number is read in one way
+-- what stands after a line's number is read in one way
 use Rattle.std.proofs.Common.{◌≡◌, ℕ, suc, ◌-◌, None, get_or, ◌<◌, List, [], ◌∷◌, ◌++◌, map, length, arith, ap, sym, subst, ◌∙◌, append_assoc}
 use Rattle.std.specs.List.{AllByRecursion}
 use Rattle.ql_cnf.specs.declared.lit.Lit.{Lit}

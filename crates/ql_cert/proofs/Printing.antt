@@ -20,7 +20,7 @@ unfolding behind
 one_behind field xs x =
     ap behind (map-append field xs (x ∷ [])) ∙ behind-append (map field xs) (field x ∷ []) ∙ ap (λ r. behind (map field xs) ++ 32 ∷ r) (append-nil (field x))
 
--- one item more of a list's front
+-- one item more of a list's prefix
 pub one_more_behind : {X : Type 0} (field : X → List ℕ) (xs : List X) (i : ℕ) (x : X) (out : List ℕ) → i < length xs → x ≡ get_or xs i x
     → ((out ++ behind (map field (take i xs))) ++ 32 ∷ []) ++ field x ≡ out ++ behind (map field (take (i + 1) xs))
 one_more_behind field xs i x out lt is =
@@ -29,7 +29,7 @@ one_more_behind field xs i x out lt is =
     append_assoc (out ++ behind (map field front)) (32 ∷ []) (field x) ∙ append_assoc out (behind (map field front)) (32 ∷ field x)
     ∙ ap (λ r. out ++ r) (sym (one_behind field front x) ∙ ap (λ ys. behind (map field ys)) (sym more))
 
--- the same of an item told by its place
+-- the same of an item given by its index
 pub one_more_at : {X : Type 0} (field : X → List ℕ) (xs : List X) (i : ℕ) (d : X) (out : List ℕ) → i < length xs
     → ((out ++ behind (map field (take i xs))) ++ 32 ∷ []) ++ field (get_or xs i d) ≡ out ++ behind (map field (take (i + 1) xs))
 one_more_at field xs i d out lt = one_more_behind field xs i (get_or xs i d) out lt (get_or_default xs i d (get_or xs i d) lt)
@@ -66,13 +66,13 @@ line_pieces out n l =
     ∙ ap (λ r. out ++ ((decimal n ++ r) ++ 10 ∷ [])) (sym body)
     ∙ ap (λ r. out ++ (r ++ 10 ∷ [])) (sym (joined_behind (decimal n) (body_fields l)))
 
--- a heading and the lines behind it
+-- a heading and the lines after it
 pub section_pieces : (out kind name level rest : List ℕ) (lines : List Fields)
     → rest ≡ file_text lines → ((((((out ++ kind) ++ 32 ∷ []) ++ name) ++ 32 ∷ []) ++ level) ++ 10 ∷ []) ++ rest ≡ out ++ file_text ((kind ∷ name ∷ level ∷ []) ∷ lines)
 unfolding file_text
 section_pieces out kind name level rest lines e = simp (append_assoc, e)
 
--- a section more behind the title
+-- a section more after the title
 pub titled_more : (ss : List Section) (s : Section) (text now : List ℕ) → text ≡ file_text (title ∷ sections_lines ss) → now ≡ text ++ file_text (section_lines s) → now ≡ file_text (title ∷ sections_lines (ss ++ s ∷ []))
 titled_more ss s text now before made =
     made ∙ ap (λ t. t ++ file_text (section_lines s)) before ∙ sym (file_text-append (title ∷ sections_lines ss) (section_lines s)) ∙ ap (λ ls. file_text (title ∷ ls)) (sym (sections_more ss s))

@@ -88,7 +88,7 @@ not_begun line none = (
 pub no_empty : (n : ℕ) → n < 2 ^ 64 → decimal n ≡ [] → ⊥
 no_empty n small e = omega (arith, (decimal_is_IsNumeral n small).0.0, ap length e)
 
--- ---- the lines behind it
+-- ---- the lines after it
 
 module _ (cs : ClauseList) (ls : List Line) where
   no_form : (line : Fields) → (line ≡ end_line → ⊥) → (first line ≡ codes "c" → ⊥) → ((n : ℕ) → n < 2 ^ 64 → first line ≡ decimal n → ⊥) → Follows ProofTakes (Within cs ls) line → ⊥

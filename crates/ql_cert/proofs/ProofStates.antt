@@ -30,7 +30,7 @@ IsProofState Unbegun = Unit {0}
 IsProofState (Within cs ls) = FitsProof cs ls
 IsProofState (Ended cs ls) = FitsProof cs ls
 
--- ---- a line that is taken stands behind the lines before it
+-- ---- a line that is taken stands after the lines before it
 
 given_more : (cs : ClauseList) (ls : List Line) (c : List Lit) → ls ≡ [] → proof_so_far (Within (with_given cs c) ls) ≡ proof_so_far (Within cs ls) ++ given_line c ∷ []
 unfolding numbered_lines

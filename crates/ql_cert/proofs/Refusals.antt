@@ -61,7 +61,7 @@ title_no_number n body small e = no_number n small 113 (117 ∷ 101 ∷ 108 ∷ 
 pub not_titled : (line : Fields) → (line ≡ title → ⊥) → Gives Takes Untitled line (Err Unexpected)
 not_titled line none = (λ p. none p.1.0, λ m. title_no_number m.other m.body m.other_small m.goes_on.1.0)
 
--- ---- behind sections
+-- ---- after sections
 
 module _ (done : List Section) (last : Option Section) where
   no_form : (line : Fields) → ((name : List ℕ) (level : SectionLevel) → IsName name → heading name level ≡ line → ⊥) → (line ≡ end_line → ⊥)

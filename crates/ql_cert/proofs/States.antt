@@ -34,7 +34,7 @@ unfolding numbered_lines
 numbered_more n [] l = ap (λ k. line_fields k l ∷ []) (omega arith)
 numbered_more n (m ∷ ls) l = ap (λ r. line_fields n m ∷ r) (numbered_more (suc n) ls l ∙ ap (λ k. numbered_lines (suc n) ls ++ line_fields k l ∷ []) (omega arith))
 
--- ---- a line that is taken stands behind the lines before it
+-- ---- a line that is taken stands after the lines before it
 
 section_grows : (s : Section) (l : Line) → section_lines (with_line s l) ≡ section_lines s ++ line_fields (suc (length s.refutation.lines)) l ∷ []
 section_grows s l =

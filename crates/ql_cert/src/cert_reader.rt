@@ -129,7 +129,8 @@ pub(crate) fn is_end(text: &[u8]) -> bool
 
 // The fields of a line that has three.
 fn three_fields(text: &[u8]) -> Option<(&[u8], &[u8], &[u8])>
-    ensures { IsRead (λ _. Unit {0}) three (fields_of text.now) (option_map (λ x. (x.0.now, x.1.now, x.2.now)) result) }
+    ensures { IsRead (λ _. Unit {0}) three (fields_of text.now)
+        (option_map (λ x. (x.0.now, x.1.now, x.2.now)) result) }
 {
     let (a, rest) = first_field(text)?;
     let (b, rest) = first_field(rest)?;
@@ -143,7 +144,8 @@ fn three_fields(text: &[u8]) -> Option<(&[u8], &[u8], &[u8])>
 #[tactic(auto, using(crate::proofs::Refusals::not_three))]
 // The heading on a line.
 fn read_heading(text: &[u8]) -> Option<Heading>
-    ensures { IsRead (λ h. IsName h.name) (λ h. heading h.name h.level) (fields_of text.now) result }
+    ensures { IsRead (λ h. IsName h.name)
+        (λ h. heading h.name h.level) (fields_of text.now) result }
 {
     let Some((kind, name, word)) = three_fields(text) else {
         return None;
@@ -237,7 +239,8 @@ fn numbered(
     number: u64,
     body: &[u8],
 ) -> Result<CertReading, LineFault<CertRule>>
-    ensures { IsLineAnswer (Gives Takes (Within done last) (decimal number ∷ fields_of body.now)) result }
+    ensures { IsLineAnswer (Gives Takes (Within done last) (decimal number ∷ fields_of body.now))
+        result }
 {
     let Some(section) = last else {
         return Err(LineFault::Breaks(CertRule::Unexpected));

@@ -34,7 +34,9 @@ pub(crate) fn clause_before_colon(
     alloc: Global,
     text: &[u8],
 ) -> Result<Option<(Clause, &[u8])>, NoMemory>
-    ensures { IfOk result (λ found. IsRead IsClauseBefore before_colon (fields_of text.now) (option_map (λ x. (x.0, fields_of x.1.now)) found)) }
+    ensures { IfOk result
+        (λ found. IsRead IsClauseBefore before_colon (fields_of text.now)
+        (option_map (λ x. (x.0, fields_of x.1.now)) found)) }
 {
     let mut literals = Vec::new(alloc);
     let mut rest = text;
@@ -80,7 +82,9 @@ fn goes_on(before: &[Lit], next: Lit) -> bool
 
 /// All literals of a line.
 pub(crate) fn literals(alloc: Global, text: &[u8]) -> Result<Option<Vec<Lit>>, NoMemory>
-    ensures { IfOk result (λ found. IsRead IsClause clause_fields (fields_of text.now) (option_map (λ c. c.items) found)) }
+    ensures { IfOk result
+        (λ found. IsRead IsClause clause_fields (fields_of text.now)
+        (option_map (λ c. c.items) found)) }
 {
     let mut literals = Vec::new(alloc);
     let mut rest = text;
@@ -96,7 +100,9 @@ pub(crate) fn literals(alloc: Global, text: &[u8]) -> Result<Option<Vec<Lit>>, N
 
 // All hints of a line.
 fn hints(alloc: Global, text: &[u8]) -> Result<Option<Vec<Hint>>, NoMemory>
-    ensures { IfOk result (λ found. IsRead (AllByRecursion IsHint) (map hint_field) (fields_of text.now) (option_map (λ h. h.items) found)) }
+    ensures { IfOk result
+        (λ found. IsRead (AllByRecursion IsHint) (map hint_field) (fields_of text.now)
+        (option_map (λ h. h.items) found)) }
 {
     let mut hints = Vec::new(alloc);
     let mut rest = text;

@@ -11,7 +11,9 @@ use std::alloc::Global;
 
 /// The certificate that a file spells, or the file's first fault.
 pub fn parse_cert(alloc: Global, bytes: &[u8]) -> Result<Cert, CertFault>
-    ensures { MatchResult result (λ c. IsCertOf c.sections (fields_in (ahead_from 1 bytes.now).lines)) (IsRefusal IsCertFile (ahead_from 1 bytes.now)) }
+    ensures { MatchResult result
+        (λ c. IsCertOf c.sections (fields_in (ahead_from 1 bytes.now).lines))
+        (IsRefusal IsCertFile (ahead_from 1 bytes.now)) }
 {
     match read_file(&CertFormat { alloc }, bytes) {
         Ok(sections) => Ok(Cert { sections }),

@@ -18,7 +18,9 @@ use std::alloc::Global;
 /// spelled in the grammar, reading the text returns them.
 pub fn print_cert(alloc: Global, c: &Cert) -> Result<Vec<u8>, NoMemory>
     ensures text { IfOk result (λ text. text.items ≡ file_text (cert_lines c.now.sections)) }
-    ensures again { IfOk result (λ text. AllByRecursion IsSection c.now.sections → IsCertOf c.now.sections (fields_in (ahead_from 1 text.items).lines)) }
+    ensures again { IfOk result
+        (λ text. AllByRecursion IsSection c.now.sections
+        → IsCertOf c.now.sections (fields_in (ahead_from 1 text.items).lines)) }
 {
     let mut text = title_text(alloc)?;
     for section in c.sections.items() {
@@ -42,7 +44,10 @@ pub fn with_section(
     level: SectionLevel,
     refutation: &Refutation,
 ) -> Result<Vec<u8>, NoMemory>
-    ensures { IfOk result (λ more. more.items ≡ text.items ++ file_text (section_lines (record { name = name; level = level; refutation = refutation.now }))) }
+    ensures { IfOk result
+        (λ more. more.items ≡ text.items
+        ++ file_text (section_lines
+        (record { name = name; level = level; refutation = refutation.now }))) }
 {
     let mut more = text;
     push_section(&mut more, name, level, refutation)?;
@@ -56,7 +61,10 @@ fn push_section(
     level: SectionLevel,
     refutation: &Refutation,
 ) -> Result<(), NoMemory>
-    ensures { OnOk result (out.new.items ≡ out.old.items ++ file_text (section_lines (record { name = name; level = level; refutation = refutation.now }))) }
+    ensures { OnOk result
+        (out.new.items ≡ out.old.items
+        ++ file_text (section_lines
+        (record { name = name; level = level; refutation = refutation.now }))) }
 {
     let (kind, word) = words(level);
     push_bytes(out, kind.as_bytes())?;
@@ -73,10 +81,15 @@ pub fn with_end(text: Vec<u8>) -> Result<Vec<u8>, NoMemory>
     ensures text { IfOk result (λ more. more.items ≡ text.items ++ file_text (end_line ∷ [])) }
 
     // After the title and some sections, the result is the certificate of these sections.
-    ensures cert { IfOk result (λ more. (ss : List Section) → text.items ≡ file_text (title ∷ sections_lines ss) → more.items ≡ file_text (cert_lines ss)) }
+    ensures cert { IfOk result
+        (λ more. (ss : List Section) → text.items ≡ file_text (title ∷ sections_lines ss)
+        → more.items ≡ file_text (cert_lines ss)) }
 
     // If the sections can be spelled in the grammar, reading the result returns them.
-    ensures again { IfOk result (λ more. (ss : List Section) → text.items ≡ file_text (title ∷ sections_lines ss) → AllByRecursion IsSection ss → IsCertOf ss (fields_in (ahead_from 1 more.items).lines)) }
+    ensures again { IfOk result
+        (λ more. (ss : List Section) → text.items ≡ file_text (title ∷ sections_lines ss)
+        → AllByRecursion IsSection ss
+        → IsCertOf ss (fields_in (ahead_from 1 more.items).lines)) }
 {
     let mut more = text;
     push_bytes(&mut more, b"end\n")?;
@@ -97,7 +110,8 @@ fn words(level: SectionLevel) -> (&'static str, &'static str)
 
 // Lines with their numbers, from 1.
 fn push_lines(out: &mut Vec<u8>, lines: &[Line]) -> Result<(), NoMemory>
-    ensures { OnOk result (out.new.items ≡ out.old.items ++ file_text (numbered_lines 1 lines.now)) }
+    ensures { OnOk result
+        (out.new.items ≡ out.old.items ++ file_text (numbered_lines 1 lines.now)) }
 {
     let mut number = 1;
     for line in lines {
@@ -109,7 +123,8 @@ fn push_lines(out: &mut Vec<u8>, lines: &[Line]) -> Result<(), NoMemory>
 
 #[tactic(auto, using(crate::proofs::Printing::line_pieces))]
 fn push_line(out: &mut Vec<u8>, number: u64, line: &Line) -> Result<(), NoMemory>
-    ensures { OnOk result (out.new.items ≡ out.old.items ++ (joined (line_fields number line.now) ++ 10 ∷ [])) }
+    ensures { OnOk result
+        (out.new.items ≡ out.old.items ++ (joined (line_fields number line.now) ++ 10 ∷ [])) }
 {
     push_number(out, number)?;
     push_literals(out, line.clause.items())?;

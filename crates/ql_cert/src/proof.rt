@@ -14,7 +14,9 @@ use std::alloc::Global;
 /// at most 1000 variables.
 pub fn parse_proof(alloc: Global, bytes: &[u8]) -> Result<(Clauses, Refutation), CertFault>
     requires short { length bytes.now < 2 ^ 32 }
-    ensures { MatchResult result (λ p. IsProofOf p.0 p.1.lines (fields_in (ahead_from 1 bytes.now).lines)) (IsRefusal IsProofFile (ahead_from 1 bytes.now)) }
+    ensures { MatchResult result
+        (λ p. IsProofOf p.0 p.1.lines (fields_in (ahead_from 1 bytes.now).lines))
+        (IsRefusal IsProofFile (ahead_from 1 bytes.now)) }
 {
     match read_file(&ProofFormat { alloc }, bytes) {
         Ok((clauses, lines)) => Ok((clauses, Refutation { lines })),

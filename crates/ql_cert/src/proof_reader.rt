@@ -127,7 +127,8 @@ fn variables(text: &[u8]) -> Option<u32>
 
 // The fields of a line that has two.
 fn two_fields(text: &[u8]) -> Option<(&[u8], &[u8])>
-    ensures { IsRead (λ _. Unit {0}) two (fields_of text.now) (option_map (λ x. (x.0.now, x.1.now)) result) }
+    ensures { IsRead (λ _. Unit {0}) two (fields_of text.now)
+        (option_map (λ x. (x.0.now, x.1.now)) result) }
 {
     let (a, rest) = first_field(text)?;
     let (b, rest) = first_field(rest)?;
@@ -177,7 +178,8 @@ fn given(
     body: &[u8],
 ) -> Result<ProofReading, LineFault<CertRule>>
     requires room { length clauses.clauses + 1 < 2 ^ 32 }
-    ensures { IsLineAnswer (Gives ProofTakes (Within clauses lines) (codes "c" ∷ fields_of body.now)) result }
+    ensures { IsLineAnswer
+        (Gives ProofTakes (Within clauses lines) (codes "c" ∷ fields_of body.now)) result }
 {
     if !lines.items().is_empty() {
         return Err(LineFault::Breaks(CertRule::Unexpected));
@@ -201,7 +203,8 @@ fn numbered(
     number: u64,
     body: &[u8],
 ) -> Result<ProofReading, LineFault<CertRule>>
-    ensures { IsLineAnswer (Gives ProofTakes (Within clauses lines) (decimal number ∷ fields_of body.now)) result }
+    ensures { IsLineAnswer
+        (Gives ProofTakes (Within clauses lines) (decimal number ∷ fields_of body.now)) result }
 {
     let Some(line) = line_body(alloc, body)? else {
         return Err(LineFault::Breaks(CertRule::Unexpected));

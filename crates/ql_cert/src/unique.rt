@@ -11,14 +11,20 @@ ghost use Rattle.ql_cert.specs.declared.fault.CertFault.{CertFault};
 
 /// The lines of a file spell at most one certificate, and have at most one first fault, and not both.
 pub fn one_certificate()
-    ensures reading { (lines : List Fields) (r s : List Section) → IsCertOf r lines → IsCertOf s lines → r ≡ s }
-    ensures fault { (file : Ahead) (f g : CertFault) → FirstFileFault IsCertFile file f → FirstFileFault IsCertFile file g → f ≡ g }
-    ensures apart { (file : Ahead) (f : CertFault) → FirstFileFault IsCertFile file f → IsCertFile (fields_in file.lines) → ⊥ }
+    ensures reading { (lines : List Fields) (r s : List Section) → IsCertOf r lines
+        → IsCertOf s lines → r ≡ s }
+    ensures fault { (file : Ahead) (f g : CertFault) → FirstFileFault IsCertFile file f
+        → FirstFileFault IsCertFile file g → f ≡ g }
+    ensures apart { (file : Ahead) (f : CertFault) → FirstFileFault IsCertFile file f
+        → IsCertFile (fields_in file.lines) → ⊥ }
 {}
 
 /// The same of proofs.
 pub fn one_proof()
-    ensures reading { (lines : List Fields) (c d : ClauseList) (r s : List Line) → IsProofOf c r lines → IsProofOf d s lines → (c ≡ d) × (r ≡ s) }
-    ensures fault { (file : Ahead) (f g : CertFault) → FirstFileFault IsProofFile file f → FirstFileFault IsProofFile file g → f ≡ g }
-    ensures apart { (file : Ahead) (f : CertFault) → FirstFileFault IsProofFile file f → IsProofFile (fields_in file.lines) → ⊥ }
+    ensures reading { (lines : List Fields) (c d : ClauseList) (r s : List Line)
+        → IsProofOf c r lines → IsProofOf d s lines → (c ≡ d) × (r ≡ s) }
+    ensures fault { (file : Ahead) (f g : CertFault) → FirstFileFault IsProofFile file f
+        → FirstFileFault IsProofFile file g → f ≡ g }
+    ensures apart { (file : Ahead) (f : CertFault) → FirstFileFault IsProofFile file f
+        → IsProofFile (fields_in file.lines) → ⊥ }
 {}

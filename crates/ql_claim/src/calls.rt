@@ -21,8 +21,13 @@ pub fn answer<S: Shelf, K: Sink>(
     shelf: &mut S,
     sink: &mut K,
 ) -> Result<Status, NoMemory>
-    ensures headline { IfOk result (λ status. status ≡ Done → Headline (word_texts words.now) (S.held shelf.old) (K.written sink.old) (K.written sink.new)) }
-    ensures sound { IfOk result (λ status. Soundness status (word_texts words.now) (S.held shelf.old) (K.written sink.old) (K.written sink.new)) }
+    ensures headline { IfOk result
+        (λ status. status ≡ Done
+        → Headline (word_texts words.now) (S.held shelf.old) (K.written sink.old)
+        (K.written sink.new)) }
+    ensures sound { IfOk result
+        (λ status. Soundness status (word_texts words.now) (S.held shelf.old) (K.written sink.old)
+        (K.written sink.new)) }
 {
     headline();
     soundness();
@@ -40,8 +45,10 @@ pub fn prove_and_check<S: Shelf, K: Sink, T: Shelf, L: Sink>(
     next_shelf: &mut T,
     next_sink: &mut L,
 ) -> Result<(Status, Status), NoMemory>
-    ensures accepted { (turn : AreInTurn (word_texts words.now) (S.held shelf.old) (K.written sink.old) (K.written sink.new) (word_texts next.now) (T.held next_shelf.old))
-        → NothingFailed (T.faults next_shelf.old) (T.faults next_shelf.new) turn.again turn.other (L.faults next_sink.old) (L.faults next_sink.new)
+    ensures accepted { (turn : AreInTurn (word_texts words.now) (S.held shelf.old)
+        (K.written sink.old) (K.written sink.new) (word_texts next.now) (T.held next_shelf.old))
+        → NothingFailed (T.faults next_shelf.old) (T.faults next_shelf.new) turn.again turn.other
+        (L.faults next_sink.old) (L.faults next_sink.new)
         → IfOk result (λ ended. ended.0 ≡ Done → ended.1 ≡ Done) }
 {
     one_program_answer();
@@ -62,8 +69,10 @@ pub fn classify_and_verify<S: Shelf, K: Sink, T: Shelf, L: Sink>(
     next_shelf: &mut T,
     next_sink: &mut L,
 ) -> Result<(Status, Status), NoMemory>
-    ensures upheld { (turn : AreKeptInTurn (word_texts words.now) (S.held shelf.old) (K.written sink.old) (K.written sink.new) (word_texts next.now) (T.held next_shelf.old))
-        → NothingFailed (T.faults next_shelf.old) (T.faults next_shelf.new) turn.again turn.other (L.faults next_sink.old) (L.faults next_sink.new)
+    ensures upheld { (turn : AreKeptInTurn (word_texts words.now) (S.held shelf.old)
+        (K.written sink.old) (K.written sink.new) (word_texts next.now) (T.held next_shelf.old))
+        → NothingFailed (T.faults next_shelf.old) (T.faults next_shelf.new) turn.again turn.other
+        (L.faults next_sink.old) (L.faults next_sink.new)
         → IfOk result (λ ended. ended.0 ≡ Done → IsUpheld turn.program turn.execution ended.1) }
 {
     one_execution();

@@ -26,7 +26,8 @@ use ql_parse::one_program_answer;
 /// of the schedule's run at the source's least levels, in which every contract holds and each answer is the fold of what its
 /// effect sees; and to `prove` of a source, a certificate with a refutation for each of these levels.
 pub fn headline()
-    ensures { (limits : Limits) (words : List (List ℕ)) (held : List ℕ → Option (List ℕ)) (before after : List ℕ → ℕ) (was is : Option (List ℕ)) (faults sums : ℕ)
+    ensures { (limits : Limits) (words : List (List ℕ)) (held : List ℕ → Option (List ℕ))
+        (before after : List ℕ → ℕ) (was is : Option (List ℕ)) (faults sums : ℕ)
         → Wrote (Says limits words held before after) was is faults sums Done → Headline words held was is }
 {
     contracts_hold_in_runs();
@@ -38,7 +39,9 @@ pub fn headline()
 /// Soundness alone, of what `quelea` wrote by its clause `wrote`: in every execution that fits the source's program, each
 /// level that `classify` printed with status 0 guarantees its target's contract, and so does each that `check` accepted.
 pub fn soundness()
-    ensures { (status : Status) (limits : Limits) (words : List (List ℕ)) (held : List ℕ → Option (List ℕ)) (before after : List ℕ → ℕ) (was is : Option (List ℕ)) (faults sums : ℕ)
+    ensures { (status : Status) (limits : Limits) (words : List (List ℕ))
+        (held : List ℕ → Option (List ℕ)) (before after : List ℕ → ℕ) (was is : Option (List ℕ))
+        (faults sums : ℕ)
         → Wrote (Says limits words held before after) was is faults sums status → Soundness status words held was is }
 {
     accepted_lines_give_contracts();
@@ -46,7 +49,8 @@ pub fn soundness()
 
 /// Levels that are least over all executions are one, of all programs that are read as one source.
 pub fn least_levels_are_one()
-    ensures { (p q : Program) → source_of p ≡ source_of q → (l k : LevelLists) → AreLeast p l → AreLeast q k → l ≡ k }
+    ensures { (p q : Program) → source_of p ≡ source_of q → (l k : LevelLists) → AreLeast p l
+        → AreLeast q k → l ≡ k }
 {
     countermodels_refute();
 }
@@ -54,6 +58,8 @@ pub fn least_levels_are_one()
 /// An execution that a file reports of a program is one: it is well-formed, its effects are of the program's operations, and
 /// those on one object are of one type.
 pub fn reported_executions_fit()
-    ensures lawful { (p : Program) (file : Ahead) (x : List Effect) → IsExecutionFile p file x → IsExecution x }
-    ensures fits { (p : Program) (file : Ahead) (x : List Effect) → IsExecutionFile p file x → FitsProgram (op_kinds p.types) x }
+    ensures lawful { (p : Program) (file : Ahead) (x : List Effect) → IsExecutionFile p file x
+        → IsExecution x }
+    ensures fits { (p : Program) (file : Ahead) (x : List Effect) → IsExecutionFile p file x
+        → FitsProgram (op_kinds p.types) x }
 {}

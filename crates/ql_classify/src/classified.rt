@@ -76,7 +76,8 @@ impl<'a> Classified<'a> {
     /// A refutation of the ground problem of a target at its level.
     pub fn refutation(&self, target: u32) -> &Refutation
         requires { target < targets self.now.program }
-        ensures refuted { (g : Goal) × (slice_get (goals_at self.now.levels) target ≡ Some g) × IsRefutedBy self.now.program g result.now.lines }
+        ensures refuted { (g : Goal) × (slice_get (goals_at self.now.levels) target ≡ Some g)
+            × IsRefutedBy self.now.program g result.now.lines }
 
         // No hint has the number 0.
         ensures numbered { AreNumbered result.now.lines }
@@ -89,7 +90,8 @@ impl<'a> Classified<'a> {
     pub fn lower(&self, target: u32, step: u32) -> Option<&Assignment>
         requires { target < targets self.now.program }
         ensures { (g : Goal) × (slice_get (goals_at self.now.levels) target ≡ Some g)
-            × IsLowerAnswer self.now.program (slice_get (goals_below g) step) (option_copied result) }
+            × IsLowerAnswer self.now.program (slice_get (goals_below g) step)
+            (option_copied result) }
     {
         assignment_at(&evidence_of(&self.evidence, target).lower, step)
     }

@@ -5,7 +5,7 @@ ghost use Rattle.ql_ground.specs.OfPrograms.{IsGoalOf};
 ghost use Rattle.ql_typing.specs.Operations.{all_ops};
 ghost use Rattle.ql_classify.specs.Found.{IsAnswer, IsSearch};
 ghost use Rattle.ql_classify.specs.Outcome.{IsRefusal, OpHasLevel, TxnHasLevel};
-ghost use Rattle.ql_classify.specs.Targets.{IsEvidence, op_at, txn_at, step_level, step_txn_level, targets};
+ghost use Rattle.ql_classify.specs.Targets.{IsEvidence, op_at, txn_at, step_level, step_txn_level};
 
 use crate::classless::Classless;
 use ql_base::{DeclId, NoMemory, OpId};

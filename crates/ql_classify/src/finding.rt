@@ -1,5 +1,5 @@
 // What is found for one target, whatever is found for the others.
-ghost use Rattle.std.specs.Prelude.{◌≡◌, ◌<◌, ◌+◌, ◌≤◌, IfOk, length};
+ghost use Rattle.std.specs.Prelude.{◌<◌, ◌+◌, ◌≤◌, IfOk, length};
 ghost use Rattle.std.specs.List.{AllZip};
 ghost use Rattle.ql_ground.specs.declared.goal.Goal.TheVariants.{OpAt, TxnAt};
 ghost use Rattle.ql_lang.specs.declared.program.Program.{Program};
@@ -70,7 +70,9 @@ fn find_op(alloc: Global, t: &Typed, o: OpId) -> Result<Finding, NoMemory>
 
 // An operation at the highest of its lower levels; these are the assignments of the lower levels.
 fn last_of_op(o: OpId, mut lower: Vec<Assignment>) -> Option<Unmet>
-    ensures { (p : Program) (level : Level) → AllZip (IsSatisfiedBy p) (goals_below (OpAt o level)) lower.items → IsLastUnmet p (goals_below (OpAt o level)) result }
+    ensures { (p : Program) (level : Level)
+        → AllZip (IsSatisfiedBy p) (goals_below (OpAt o level)) lower.items
+        → IsLastUnmet p (goals_below (OpAt o level)) result }
 {
     let assignment = lower.pop()?;
     Some(Unmet {
@@ -99,7 +101,9 @@ fn find_txn(alloc: Global, t: &Typed, d: DeclId) -> Result<Finding, NoMemory>
 
 // The same for a transaction.
 fn last_of_txn(d: DeclId, mut lower: Vec<Assignment>) -> Option<Unmet>
-    ensures { (p : Program) (level : TxnLevel) → AllZip (IsSatisfiedBy p) (goals_below (TxnAt d level)) lower.items → IsLastUnmet p (goals_below (TxnAt d level)) result }
+    ensures { (p : Program) (level : TxnLevel)
+        → AllZip (IsSatisfiedBy p) (goals_below (TxnAt d level)) lower.items
+        → IsLastUnmet p (goals_below (TxnAt d level)) result }
 {
     let assignment = lower.pop()?;
     Some(Unmet {

@@ -35,8 +35,10 @@ pub fn classify<'a>(alloc: Global, t: &'a Typed) -> Result<Classified<'a>, Class
 
 // The levels of the operations, with their evidence.
 fn judge_ops(alloc: Global, t: &Typed) -> Result<(Vec<Level>, Vec<Evidence>), Classless>
-    ensures count { IfOk result (λ found. length found.0.items ≡ length (all_ops t.now.program.types)) }
-    ensures evidence { IfOk result (λ found. AllZip (IsEvidence t.now.program) (ops_from 0 found.0.items) found.1.items) }
+    ensures count { IfOk result
+        (λ found. length found.0.items ≡ length (all_ops t.now.program.types)) }
+    ensures evidence { IfOk result
+        (λ found. AllZip (IsEvidence t.now.program) (ops_from 0 found.0.items) found.1.items) }
     ensures refused { IfErr result (IsRefusal t.now.program (op_tests t.now.program)) }
 {
     let mut levels = Vec::new(alloc);
@@ -57,7 +59,8 @@ fn judge_txns(
 ) -> Result<(Vec<TxnLevel>, Vec<Evidence>), Classless>
     requires { AreOpLevels t.now.program ops.now }
     ensures count { IfOk result (λ found. length found.0.items ≡ length t.now.program.txns) }
-    ensures evidence { IfOk result (λ found. AllZip (IsEvidence t.now.program) (txns_from 0 found.0.items) found.1.items) }
+    ensures evidence { IfOk result
+        (λ found. AllZip (IsEvidence t.now.program) (txns_from 0 found.0.items) found.1.items) }
     ensures passed { OnOk result (All (Passes t.now.program) (every_txn_tests t.now.program)) }
     ensures refused { IfErr result (IsRefusal t.now.program (every_txn_tests t.now.program)) }
 {
@@ -80,7 +83,8 @@ fn judge_txn(
     requires txn { d.0 < length t.now.program.txns }
     requires few { length t.now.program.txns ≤ 16 }
     requires levels { AreOpLevels t.now.program ops.now }
-    ensures evidence { IfOk result (λ found. IsEvidence t.now.program (txn_at d.0 found.0) found.1) }
+    ensures evidence { IfOk result
+        (λ found. IsEvidence t.now.program (txn_at d.0 found.0) found.1) }
     ensures passed { OnOk result (All (Passes t.now.program) (txn_tests t.now.program d.0)) }
     ensures refused { IfErr result (IsRefusal t.now.program (txn_tests t.now.program d.0)) }
 {

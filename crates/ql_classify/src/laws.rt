@@ -18,7 +18,8 @@ pub fn accepted_is_not_refused()
 /// The law that least levels are unique.
 pub fn least_levels_are_unique()
     ensures op { (p : Program) (o : ℕ) (l k : Level) → IsOpLevel p o l → IsOpLevel p o k → l ≡ k }
-    ensures txn { (p : Program) (d : ℕ) (l k : TxnLevel) → IsTxnLevel p d l → IsTxnLevel p d k → l ≡ k }
+    ensures txn { (p : Program) (d : ℕ) (l k : TxnLevel) → IsTxnLevel p d l → IsTxnLevel p d k
+        → l ≡ k }
 {}
 
 /// The law of least levels. If a level is a target's least, each lower one fails in some execution of the program; and

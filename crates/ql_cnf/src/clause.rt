@@ -67,7 +67,9 @@ impl Clause {
 // belongs at the end costs one comparison.
 pub(crate) fn insert(items: &mut Vec<Lit>, lit: Lit) -> Result<bool, NoMemory>
     requires { IsAscendingByVariable items.old.items }
-    ensures { IfOk result (λ fits. MatchBool fits (with_literal lit items.old.items ≡ Some items.new.items) (with_literal lit items.old.items ≡ None)) }
+    ensures { IfOk result
+        (λ fits. MatchBool fits (with_literal lit items.old.items ≡ Some items.new.items)
+        (with_literal lit items.old.items ≡ None)) }
 {
     let place = place_of(items, lit.var);
     if place < items.len() && items[place].var == lit.var {

@@ -53,11 +53,14 @@ impl Clauses {
         ensures len { length self.new.clauses ≤ length self.old.clauses + 1 }
 
         // Which clause the literals make, and when they make none.
-        ensures clause { IfSome (clause_of lits.now) (λ c. IsAscendingByVariable c × SameLiterals c lits.now) }
+        ensures clause { IfSome (clause_of lits.now)
+            (λ c. IsAscendingByVariable c × SameLiterals c lits.now) }
         ensures tautology { IsNone (clause_of lits.now) ↔ HasBothSigns lits.now }
 
         // The list is true where it was before and one of the literals is.
-        ensures meaning { OnOk result ((a : List Bool) → all_true a self.new.clauses ≡ (all_true a self.old.clauses && clause_true a lits.now)) }
+        ensures meaning { OnOk result
+            ((a : List Bool) → all_true a self.new.clauses
+            ≡ (all_true a self.old.clauses && clause_true a lits.now)) }
     {
         match ascending(*self.clauses.allocator(), lits)? {
             Some(clause) => {
@@ -97,7 +100,8 @@ impl Clauses {
     pub(crate) fn add_variable(&mut self) -> Lit
         requires { self.old.variables + 1 < 2 ^ 32 }
         ensures literal { result ≡ yes (suc self.old.variables) }
-        ensures new { self.new ≡ record { variables = suc self.old.variables; clauses = self.old.clauses } }
+        ensures new { self.new
+            ≡ record { variables = suc self.old.variables; clauses = self.old.clauses } }
     {
         self.variables += 1;
         Lit {

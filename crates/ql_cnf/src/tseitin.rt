@@ -13,13 +13,17 @@ pub fn clausify(g: &Ground, c: &mut Clauses) -> Result<(), NoMemory>
     requires variables { c.old.variables + gates (circuit_of g.now) < 2 ^ 32 }
     requires numbered { length c.old.clauses + 3 * gates (circuit_of g.now) + 1 < 2 ^ 32 }
     ensures variables { OnOk result (c.new.variables ≡ c.old.variables + gates (circuit_of g.now)) }
-    ensures clauses { OnOk result (c.new.clauses ≡ c.old.clauses ++ clauses_of (denying c.old.variables (circuit_of g.now))) }
+    ensures clauses { OnOk result
+        (c.new.clauses ≡ c.old.clauses ++ clauses_of (denying c.old.variables (circuit_of g.now))) }
     ensures err { OnErr result (c.new ≡ c.old) }
 
     // An assignment that satisfies the old clauses, and in which the formula is false, extends to one that
     // satisfies the new clauses; and wherever the new clauses are satisfied, the formula is false.
-    ensures extends { OnOk result ((a : List Bool) → Satisfies a c.old → circuit_true a (circuit_of g.now) ≡ false → Satisfies (a ++ gate_values a (circuit_of g.now)) c.new) }
-    ensures denied { OnOk result ((a : List Bool) → Satisfies a c.new → circuit_true a (circuit_of g.now) ≡ false) }
+    ensures extends { OnOk result
+        ((a : List Bool) → Satisfies a c.old → circuit_true a (circuit_of g.now) ≡ false
+        → Satisfies (a ++ gate_values a (circuit_of g.now)) c.new) }
+    ensures denied { OnOk result
+        ((a : List Bool) → Satisfies a c.new → circuit_true a (circuit_of g.now) ≡ false) }
 {
     let variables = c.variables();
     let clauses = c.len() as usize;
@@ -36,7 +40,8 @@ fn deny(g: &Ground, c: &mut Clauses) -> Result<(), NoMemory>
     requires variables { c.old.variables + gates (circuit_of g.now) < 2 ^ 32 }
     requires numbered { length c.old.clauses + 3 * gates (circuit_of g.now) + 1 < 2 ^ 32 }
     ensures variables { OnOk result (c.new.variables ≡ c.old.variables + gates (circuit_of g.now)) }
-    ensures clauses { OnOk result (c.new.clauses ≡ c.old.clauses ++ clauses_of (denying c.old.variables (circuit_of g.now))) }
+    ensures clauses { OnOk result
+        (c.new.clauses ≡ c.old.clauses ++ clauses_of (denying c.old.variables (circuit_of g.now))) }
     ensures kept { OnErr result (take (length c.old.clauses) c.new.clauses ≡ c.old.clauses) }
 {
     let root = define(g, c)?;
@@ -52,8 +57,11 @@ fn define(g: &Ground, c: &mut Clauses) -> Result<Lit, NoMemory>
     ensures output { IfOk result (λ x. x ≡ output c.old.variables (circuit_of g.now)) }
     ensures in_range { IfOk result (λ x. (1 ≤ x.var) × (x.var ≤ c.new.variables)) }
     ensures variables { OnOk result (c.new.variables ≡ c.old.variables + gates (circuit_of g.now)) }
-    ensures clauses { OnOk result (c.new.clauses ≡ c.old.clauses ++ clauses_of (defining c.old.variables (circuit_of g.now))) }
-    ensures counted { OnOk result (length c.new.clauses ≤ length c.old.clauses + 3 * gates (circuit_of g.now)) }
+    ensures clauses { OnOk result
+        (c.new.clauses ≡ c.old.clauses
+        ++ clauses_of (defining c.old.variables (circuit_of g.now))) }
+    ensures counted { OnOk result
+        (length c.new.clauses ≤ length c.old.clauses + 3 * gates (circuit_of g.now)) }
     ensures kept { OnErr result (take (length c.old.clauses) c.new.clauses ≡ c.old.clauses) }
 {
     match g {
@@ -89,7 +97,8 @@ fn define_both(x: Lit, y: Lit, c: &mut Clauses) -> Result<Lit, NoMemory>
     requires numbered { length c.old.clauses + 3 < 2 ^ 32 }
     ensures output { IfOk result (λ t. t ≡ yes (suc c.old.variables)) }
     ensures variables { OnOk result (c.new.variables ≡ suc c.old.variables) }
-    ensures clauses { OnOk result (c.new.clauses ≡ c.old.clauses ++ clauses_of (both_clauses (suc c.old.variables) x y)) }
+    ensures clauses { OnOk result
+        (c.new.clauses ≡ c.old.clauses ++ clauses_of (both_clauses (suc c.old.variables) x y)) }
     ensures counted { OnOk result (length c.new.clauses ≤ length c.old.clauses + 3) }
     ensures kept { OnErr result (take (length c.old.clauses) c.new.clauses ≡ c.old.clauses) }
 {
@@ -108,7 +117,8 @@ fn define_either(x: Lit, y: Lit, c: &mut Clauses) -> Result<Lit, NoMemory>
     requires numbered { length c.old.clauses + 3 < 2 ^ 32 }
     ensures output { IfOk result (λ t. t ≡ yes (suc c.old.variables)) }
     ensures variables { OnOk result (c.new.variables ≡ suc c.old.variables) }
-    ensures clauses { OnOk result (c.new.clauses ≡ c.old.clauses ++ clauses_of (either_clauses (suc c.old.variables) x y)) }
+    ensures clauses { OnOk result
+        (c.new.clauses ≡ c.old.clauses ++ clauses_of (either_clauses (suc c.old.variables) x y)) }
     ensures counted { OnOk result (length c.new.clauses ≤ length c.old.clauses + 3) }
     ensures kept { OnErr result (take (length c.old.clauses) c.new.clauses ≡ c.old.clauses) }
 {
@@ -127,7 +137,8 @@ fn define_if_then(x: Lit, y: Lit, c: &mut Clauses) -> Result<Lit, NoMemory>
     requires numbered { length c.old.clauses + 3 < 2 ^ 32 }
     ensures output { IfOk result (λ t. t ≡ yes (suc c.old.variables)) }
     ensures variables { OnOk result (c.new.variables ≡ suc c.old.variables) }
-    ensures clauses { OnOk result (c.new.clauses ≡ c.old.clauses ++ clauses_of (if_then_clauses (suc c.old.variables) x y)) }
+    ensures clauses { OnOk result
+        (c.new.clauses ≡ c.old.clauses ++ clauses_of (if_then_clauses (suc c.old.variables) x y)) }
     ensures counted { OnOk result (length c.new.clauses ≤ length c.old.clauses + 3) }
     ensures kept { OnErr result (take (length c.old.clauses) c.new.clauses ≡ c.old.clauses) }
 {

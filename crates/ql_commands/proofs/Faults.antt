@@ -18,7 +18,7 @@ use Rattle.ql_commands.proofs.SameSource.{same_faults}
 no-member : (f : TypeFault) → IsFirstOf [] f → ⊥
 no-member f first = let less = first.member.1 in omega (arith, less)
 
--- a first fault is that of a list that isn't empty, but for want of memory, which isn't told
+-- a first fault is that of a list that isn't empty, but for out of memory, which isn't reported
 none-of : (faults : List TypeFault) (f : TypeFault) (text : List ℕ) → faults ≡ [] → TellsFirst faults f → source_fault_text (Typing f) ≡ Some text → ⊥
 unfolding TellsFirst
 none-of faults (Unknown at) text empty h told = no-member (Unknown at) (subst (λ fs. IsFirstOf fs (Unknown at)) empty h)

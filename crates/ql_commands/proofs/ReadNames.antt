@@ -36,7 +36,7 @@ use Rattle.ql_commands.proofs.NameTokens.{AreNamed, lexes_named}
 abbrev Named : List Marked → Type 0
 Named ms = AreNamed (lexemes ms)
 
--- ---- what stands behind a part has names too
+-- ---- what stands after a part has names too
 
 term : {r : Role} {ts rest : List Marked} {p : Point} → ReadsTerm r ts rest p → Named ts → Named rest
 term contracts.current names = names.1

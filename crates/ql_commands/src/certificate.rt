@@ -37,7 +37,8 @@ pub fn prove(alloc: Global, source: &[u8]) -> Result<(Status, Vec<u8>), NoMemory
 fn certificate(alloc: Global, classified: &Classified) -> Result<Vec<u8>, NoMemory>
     requires { HasNames classified.now.program }
     ensures levels { OnOk result (AreLevelsOf classified.now.program classified.now.levels) }
-    ensures text { IfOk result (λ text. IsCertificateFor classified.now.program classified.now.levels text.items) }
+    ensures text { IfOk result
+        (λ text. IsCertificateFor classified.now.program classified.now.levels text.items) }
 {
     let typed = classified.typed();
     let levels = classified.levels();
@@ -57,8 +58,10 @@ fn heading(t: &Typed, levels: &Levels, target: u32) -> (Word, SectionLevel)
     requires txns { length levels.now.txns ≡ length t.now.program.txns }
     requires target { target < targets t.now.program }
     ensures is_name { IsName result.0 }
-    ensures name { (g : Goal) → slice_get (goals_at levels.now) target ≡ Some g → result.0 ≡ name_of t.now.program g }
-    ensures level { (g : Goal) → slice_get (goals_at levels.now) target ≡ Some g → result.1 ≡ level_of g }
+    ensures name { (g : Goal) → slice_get (goals_at levels.now) target ≡ Some g
+        → result.0 ≡ name_of t.now.program g }
+    ensures level { (g : Goal) → slice_get (goals_at levels.now) target ≡ Some g
+        → result.1 ≡ level_of g }
 {
     if target < t.ops() {
         op_heading(t, levels, OpId(target))
@@ -72,8 +75,10 @@ fn op_heading(t: &Typed, levels: &Levels, o: OpId) -> (Word, SectionLevel)
     requires level { o.0 < length levels.now.ops }
     requires op { o.0 < length (all_ops t.now.program.types) }
     ensures is_name { IsName result.0 }
-    ensures name { (g : Goal) → slice_get (goals_at levels.now) o.0 ≡ Some g → result.0 ≡ name_of t.now.program g }
-    ensures level { (g : Goal) → slice_get (goals_at levels.now) o.0 ≡ Some g → result.1 ≡ level_of g }
+    ensures name { (g : Goal) → slice_get (goals_at levels.now) o.0 ≡ Some g
+        → result.0 ≡ name_of t.now.program g }
+    ensures level { (g : Goal) → slice_get (goals_at levels.now) o.0 ≡ Some g
+        → result.1 ≡ level_of g }
 {
     (t.op(o).name.word, SectionLevel::Op(levels.op(o)))
 }
@@ -83,8 +88,12 @@ fn txn_heading(t: &Typed, levels: &Levels, d: DeclId) -> (Word, SectionLevel)
     requires level { d.0 < length levels.now.txns }
     requires txn { d.0 < length t.now.program.txns }
     ensures is_name { IsName result.0 }
-    ensures name { (g : Goal) → slice_get (goals_at levels.now) (length levels.now.ops + d.0) ≡ Some g → result.0 ≡ name_of t.now.program g }
-    ensures level { (g : Goal) → slice_get (goals_at levels.now) (length levels.now.ops + d.0) ≡ Some g → result.1 ≡ level_of g }
+    ensures name { (g : Goal)
+        → slice_get (goals_at levels.now) (length levels.now.ops + d.0) ≡ Some g
+        → result.0 ≡ name_of t.now.program g }
+    ensures level { (g : Goal)
+        → slice_get (goals_at levels.now) (length levels.now.ops + d.0) ≡ Some g
+        → result.1 ≡ level_of g }
 {
     (t.txn(d).name.word, SectionLevel::Txn(levels.txn(d)))
 }

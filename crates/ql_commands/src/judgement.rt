@@ -38,7 +38,8 @@ fn check_sections(
     t: &Typed,
     sections: &[Section],
 ) -> Result<(Status, Vec<u8>), NoMemory>
-    ensures { IfOk result (λ answer. SectionsSay t.now.program sections.now answer.0 answer.1.items) }
+    ensures { IfOk result
+        (λ answer. SectionsSay t.now.program sections.now answer.0 answer.1.items) }
 {
     if let Some(place) = first_out_of_order(t, sections) {
         return Ok((Status::No, order_line(alloc, place)?));

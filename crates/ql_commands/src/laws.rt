@@ -9,7 +9,9 @@ use ql_parse::one_program_answer;
 /// The law that what `prove` prints of a source is accepted by `check` of that source, section by section:
 /// with these bytes its status is `Done`.
 pub fn what_is_proved_is_accepted()
-    ensures { (source certificate text : List ℕ) (status : Status) → ProveSays source Done certificate → CheckSays source certificate status text → status ≡ Done }
+    ensures { (source certificate text : List ℕ) (status : Status)
+        → ProveSays source Done certificate → CheckSays source certificate status text
+        → status ≡ Done }
 {
     one_program_answer();
 }

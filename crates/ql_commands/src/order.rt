@@ -9,7 +9,8 @@ use std::alloc::Global;
 
 /// The first position, from 1, at which the sections aren't those that are expected.
 pub(crate) fn first_out_of_order(t: &Typed, sections: &[Section]) -> Option<u32>
-    ensures order { MatchOption result (AreDue t.now.program sections.now) (IsOutOfOrder t.now.program sections.now) }
+    ensures order { MatchOption result (AreDue t.now.program sections.now)
+        (IsOutOfOrder t.now.program sections.now) }
     ensures few { IfNone result (length sections.now ≤ 48) }
 {
     let targets = t.ops() + t.txns();
@@ -28,7 +29,9 @@ pub(crate) fn first_out_of_order(t: &Typed, sections: &[Section]) -> Option<u32>
 // Whether the section of an index is of the target that is expected there.
 fn is_due(t: &Typed, place: u32, sections: &[Section]) -> bool
     requires { place < length (targets_due t.now.program) }
-    ensures { IsTrue result ↔ (slice_get (targets_due t.now.program) place ≡ slice_get (map target_of sections.now) place) }
+    ensures { IsTrue result
+        ↔ (slice_get (targets_due t.now.program) place
+        ≡ slice_get (map target_of sections.now) place) }
 {
     let Some(section) = sections.get(place as usize) else {
         return false;
@@ -41,7 +44,8 @@ fn is_due(t: &Typed, place: u32, sections: &[Section]) -> bool
 
 // Whether the operation of a name is expected.
 fn is_op_due(t: &Typed, place: u32, name: &[u8]) -> bool
-    ensures { IsTrue result ↔ (slice_get (targets_due t.now.program) place ≡ Some (Operation name.now)) }
+    ensures { IsTrue result
+        ↔ (slice_get (targets_due t.now.program) place ≡ Some (Operation name.now)) }
 {
     if place >= t.ops() {
         return false;
@@ -51,7 +55,8 @@ fn is_op_due(t: &Typed, place: u32, name: &[u8]) -> bool
 
 // Whether the transaction of a name is expected.
 fn is_txn_due(t: &Typed, place: u32, name: &[u8]) -> bool
-    ensures { IsTrue result ↔ (slice_get (targets_due t.now.program) place ≡ Some (Transaction name.now)) }
+    ensures { IsTrue result
+        ↔ (slice_get (targets_due t.now.program) place ≡ Some (Transaction name.now)) }
 {
     if place < t.ops() {
         return false;

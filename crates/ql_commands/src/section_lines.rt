@@ -23,7 +23,9 @@ pub(crate) fn tell_sections(
 ) -> Result<Status, NoMemory>
     requires due { AreDueFrom t.now.program place sections.now }
     requires few { place + length sections.now ≤ 48 }
-    ensures { IfOk result (λ status. (text : List ℕ) × Tells t.now.program place sections.now status text × (out.new.items ≡ out.old.items ++ text)) }
+    ensures { IfOk result
+        (λ status. (text : List ℕ) × Tells t.now.program place sections.now status text
+        × (out.new.items ≡ out.old.items ++ text)) }
 {
     let Some((section, others)) = sections.split_first() else {
         return Ok(Status::Done);

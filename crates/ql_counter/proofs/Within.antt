@@ -1,5 +1,5 @@
 -- The numbers that the effects of a countermodel name are small.
-use Rattle.std.proofs.Common.{◌≡◌, ◌<◌, ◌≤◌, ℕ, suc, Bool, List, length, Result, Ok, Err, Some, IfOk, sym, ap, subst, ◌∙◌, arith, get_or}
+use Rattle.std.proofs.Common.{◌≡◌, ◌<◌, ◌≤◌, ℕ, suc, Bool, List, length, Result, Ok, Err, IfOk, sym, ap, subst, arith, get_or}
 use Rattle.std.proofs.lemmas.Option.{slice_get-get_or}
 use Rattle.ql_base.specs.declared.ids.DeclId.{DeclId}
 use Rattle.ql_base.specs.declared.no_memory.NoMemory.{NoMemory}
@@ -15,7 +15,7 @@ use Rattle.ql_blocks.specs.Built.{built, object_in}
 use Rattle.ql_blocks.proofs.Building.{effect-is, slot_at}
 use Rattle.ql_blocks.proofs.Classes.{least-bound}
 use Rattle.ql_counter.specs.declared.counter.Counter.{Counter}
-use Rattle.ql_counter.specs.Assigned.{op_execution, op_pattern, op_slots, txn_execution, txn_pattern, txn_slots}
+use Rattle.ql_counter.specs.Assigned.{op_pattern, op_slots, txn_pattern, txn_slots}
 use Rattle.ql_counter.specs.Countermodels.{AreWithin, IsBuiltOfOp, IsBuiltOfTxn, IsDeclared}
 
 -- an object is one of the constants', or the one after them

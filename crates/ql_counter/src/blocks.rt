@@ -39,7 +39,9 @@ fn push_ranked(
     before: u32,
     slots: &mut Vec<Slot>,
 ) -> Result<(), NoMemory>
-    ensures { OnOk result (slots.new.items ≡ slots.old.items ++ upto s.constants (ranked_slots (said a.now s) extra before)) }
+    ensures { OnOk result
+        (slots.new.items ≡ slots.old.items
+        ++ upto s.constants (ranked_slots (said a.now s) extra before)) }
 {
     for c in 0..s.constants {
         push_if_ranked(a, s, extra, before, c, slots)?;
@@ -56,7 +58,8 @@ fn push_if_ranked(
     c: u32,
     slots: &mut Vec<Slot>,
 ) -> Result<(), NoMemory>
-    ensures { OnOk result (slots.new.items ≡ slots.old.items ++ ranked_slots (said a.now s) extra before c) }
+    ensures { OnOk result
+        (slots.new.items ≡ slots.old.items ++ ranked_slots (said a.now s) extra before c) }
 {
     if count_before(a, s, c) == before && class(a, s, Likeness::Equal, c) == c {
         push_block(a, s, extra, c, slots)?;
@@ -84,7 +87,8 @@ fn push_block(
     c: u32,
     slots: &mut Vec<Slot>,
 ) -> Result<(), NoMemory>
-    ensures { OnOk result (slots.new.items ≡ slots.old.items ++ block_slots (said a.now s) extra c) }
+    ensures { OnOk result
+        (slots.new.items ≡ slots.old.items ++ block_slots (said a.now s) extra c) }
 {
     push_part(a, s, extra, c, Part::Opening, slots)?;
     push_part(a, s, extra, c, Part::Aide, slots)?;
@@ -100,7 +104,8 @@ fn push_part(
     part: Part,
     slots: &mut Vec<Slot>,
 ) -> Result<(), NoMemory>
-    ensures { OnOk result (slots.new.items ≡ slots.old.items ++ part_slots (said a.now s) extra c part) }
+    ensures { OnOk result
+        (slots.new.items ≡ slots.old.items ++ part_slots (said a.now s) extra c part) }
 {
     if has(a, s, extra, c, part) {
         slots.push(Slot { block: c, part })?;

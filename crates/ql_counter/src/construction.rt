@@ -42,7 +42,8 @@ fn of_operation(
 ) -> Result<Counter, NoMemory>
     requires vars { length f.now.vars ≤ 5 }
     requires few { operations ≤ 32 }
-    ensures { (types : List ℕ) → length types ≡ operations → IfOk result (IsBuiltOfOp a.now types (resolved_of f.now)) }
+    ensures { (types : List ℕ) → length types ≡ operations
+        → IfOk result (IsBuiltOfOp a.now types (resolved_of f.now)) }
 {
     let vars = f.vars.items().len() as u32;
     let s = Shape {
@@ -67,7 +68,8 @@ fn of_transaction(
 ) -> Result<Counter, NoMemory>
     requires vars { length f.now.vars ≤ 5 }
     requires few { operations ≤ 32 }
-    ensures { (types : List ℕ) → length types ≡ operations → IfOk result (IsBuiltOfTxn a.now types name (resolved_of f.now)) }
+    ensures { (types : List ℕ) → length types ≡ operations
+        → IfOk result (IsBuiltOfTxn a.now types name (resolved_of f.now)) }
 {
     let vars = f.vars.items().len() as u32;
     let s = Shape {

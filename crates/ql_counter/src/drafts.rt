@@ -26,7 +26,10 @@ pub(crate) fn drafts(
 ) -> Result<Vec<Draft>, NoMemory>
     requires blocks { All (λ t. t.block < s.constants) slots.now }
     requires few { length slots.now < 2 ^ 32 }
-    ensures { IfOk result (λ drafts. drafts.items ≡ drafts_of (pattern_of a.now (size_of s) (members_by a.now (size_of s) declared)) slots.now) }
+    ensures { IfOk result
+        (λ drafts. drafts.items
+        ≡ drafts_of (pattern_of a.now (size_of s) (members_by a.now (size_of s) declared))
+        slots.now) }
 {
     let mut drafts = Vec::with_capacity(alloc, slots.len())?;
     for slot in slots {
@@ -45,7 +48,9 @@ fn draft(
 ) -> Result<Draft, NoMemory>
     requires block { t.block < s.constants }
     requires few { length slots.now < 2 ^ 32 }
-    ensures { IfOk result (λ draft. draft ≡ draft_of (pattern_of a.now (size_of s) (members_by a.now (size_of s) declared)) slots.now t) }
+    ensures { IfOk result
+        (λ draft. draft ≡ draft_of
+        (pattern_of a.now (size_of s) (members_by a.now (size_of s) declared)) slots.now t) }
 {
     Ok(Draft {
         object: ObjId(object(a, s, t)),

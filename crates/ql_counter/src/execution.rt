@@ -23,7 +23,9 @@ pub(crate) fn execution(
 ) -> Result<Execution, NoMemory>
     requires blocks { All (λ t. t.block < s.constants) slots.now }
     requires few { length slots.now ≤ 24 }
-    ensures { IfOk result (λ x. x ≡ built (pattern_of a.now (size_of s) (members_by a.now (size_of s) declared)) slots.now) }
+    ensures { IfOk result
+        (λ x. x ≡ built (pattern_of a.now (size_of s) (members_by a.now (size_of s) declared))
+        slots.now) }
 {
     let drafts = drafts(alloc, a, s, declared, slots)?;
     match Execution::from_effects(alloc, drafts) {

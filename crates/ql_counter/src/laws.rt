@@ -15,13 +15,19 @@ ghost use Rattle.ql_counter.specs.Assigned.{op_current, op_execution, op_places,
 
 /// The law that each assignment that satisfies a goal's ground problem has a countermodel.
 pub fn satisfied_problems_have_countermodels()
-    ensures op { (types : List ℕ) (o : ℕ) (level : Level) (f : Resolved) (a : List Bool) → IsOpContract (length types) f → o < length types → Satisfies a (op_problem types o level f)
-        → IsCounter types o level f (op_execution a types f) (op_current a types f) (op_places a types f) }
-    ensures txn { (types : List ℕ) (d : ℕ) (level : TxnLevel) (f : Resolved) (a : List Bool) → IsTxnContract (length types) f → Satisfies a (txn_problem types level f)
-        → IsTxnCounter types d level f (txn_execution a types d f) (txn_current a types f) (txn_places a types d f) }
+    ensures op { (types : List ℕ) (o : ℕ) (level : Level) (f : Resolved) (a : List Bool)
+        → IsOpContract (length types) f → o < length types
+        → Satisfies a (op_problem types o level f)
+        → IsCounter types o level f (op_execution a types f) (op_current a types f)
+        (op_places a types f) }
+    ensures txn { (types : List ℕ) (d : ℕ) (level : TxnLevel) (f : Resolved) (a : List Bool)
+        → IsTxnContract (length types) f → Satisfies a (txn_problem types level f)
+        → IsTxnCounter types d level f (txn_execution a types d f) (txn_current a types f)
+        (txn_places a types d f) }
 {}
 
 /// The same of a typed program's goals: if a goal's problem is satisfied, it fails in some execution of the program.
 pub fn satisfied_goals_fail()
-    ensures { (p : Program) → program_faults p ≡ [] → (g : Goal) → IsGoalOf p g → (a : List Bool) → IsSatisfiedBy p g a → HasCounter p g }
+    ensures { (p : Program) → program_faults p ≡ [] → (g : Goal) → IsGoalOf p g → (a : List Bool)
+        → IsSatisfiedBy p g a → HasCounter p g }
 {}

@@ -22,7 +22,8 @@ pub(crate) fn places(
 ) -> Result<Places, NoMemory>
     requires places { count ≤ 5 }
     requires few { length slots.now < 2 ^ 31 }
-    ensures { IfOk result (λ places. map (λ id. id.0) places ≡ constant_places (said a.now s) slots.now count) }
+    ensures { IfOk result
+        (λ places. map (λ id. id.0) places ≡ constant_places (said a.now s) slots.now count) }
 {
     let mut ids = Vec::with_capacity(alloc, count as usize)?;
     for c in 0..count {

@@ -34,7 +34,8 @@ pub trait Disk {
     fn size(&mut self) -> Result<u64, Failed>
         ensures size { tells → IfOk result (λ size. size ≡ length (held self.old).content) }
         ensures same { held self.new ≡ held self.old }
-        ensures time { tells → Elapses (moment self.old) (moment self.new) (left_since self.old) (left_since self.new) (held self.new) }
+        ensures time { tells → Elapses (moment self.old) (moment self.new) (left_since self.old)
+            (left_since self.new) (held self.new) }
         ensures failed { OnErr result (Rose (faults self.old) (faults self.new)) }
         ensures count_stays { faults self.old ≤ faults self.new }
         ensures foretold { OnSome (forecast self.old) (IsOk result) }
@@ -44,9 +45,11 @@ pub trait Disk {
     fn read(&mut self, at: u64, into: &mut [u8]) -> Result<(), Failed>
         requires { tells → at + length into.old ≤ length (held self.old).content }
         ensures length { length into.new ≡ length into.old }
-        ensures read { tells → OnOk result (into.new ≡ take (length into.old) (drop at (held self.old).content)) }
+        ensures read { tells → OnOk result
+            (into.new ≡ take (length into.old) (drop at (held self.old).content)) }
         ensures same { held self.new ≡ held self.old }
-        ensures time { tells → Elapses (moment self.old) (moment self.new) (left_since self.old) (left_since self.new) (held self.new) }
+        ensures time { tells → Elapses (moment self.old) (moment self.new) (left_since self.old)
+            (left_since self.new) (held self.new) }
         ensures failed { OnErr result (Rose (faults self.old) (faults self.new)) }
         ensures count_stays { faults self.old ≤ faults self.new }
         ensures foretold { OnSome (forecast self.old) (IsOk result) }
@@ -57,12 +60,16 @@ pub trait Disk {
     fn write_at(&mut self, at: u64, bytes: &[u8]) -> Result<(), Failed>
         requires begins { tells → at ≤ length (held self.old).content }
         requires ends { at + length bytes.now < 2 ^ 40 }
-        ensures written { tells → OnOk result (IsWritten at bytes.now (held self.old) (held self.new)) }
-        ensures torn { tells → OnErr result (IsTorn at (length bytes.now) (held self.old) (held self.new)) }
-        ensures time { tells → Elapses (moment self.old) (moment self.new) (left_since self.old) (left_since self.new) (held self.new) }
+        ensures written { tells
+            → OnOk result (IsWritten at bytes.now (held self.old) (held self.new)) }
+        ensures torn { tells → OnErr result
+            (IsTorn at (length bytes.now) (held self.old) (held self.new)) }
+        ensures time { tells → Elapses (moment self.old) (moment self.new) (left_since self.old)
+            (left_since self.new) (held self.new) }
         ensures failed { OnErr result (Rose (faults self.old) (faults self.new)) }
         ensures count_stays { faults self.old ≤ faults self.new }
-        ensures foretold { IfSome (forecast self.old) (λ f. is_ok result ≡ is_done f (at + length bytes.now)) }
+        ensures foretold { IfSome (forecast self.old)
+            (λ f. is_ok result ≡ is_done f (at + length bytes.now)) }
         ensures forecast { IfSome (forecast self.old) (λ f. forecast self.new ≡ Some (next f)) };
 
     /// Makes the content durable: after `Ok`, a stop leaves what a read returns, with anything past its end. After
@@ -70,7 +77,8 @@ pub trait Disk {
     fn sync(&mut self) -> Result<(), Failed>
         ensures synced { tells → OnOk result (IsSynced (held self.old) (held self.new)) }
         ensures same { OnErr result (held self.new ≡ held self.old) }
-        ensures time { tells → Elapses (moment self.old) (moment self.new) (left_since self.old) (left_since self.new) (held self.new) }
+        ensures time { tells → Elapses (moment self.old) (moment self.new) (left_since self.old)
+            (left_since self.new) (held self.new) }
         ensures failed { OnErr result (Rose (faults self.old) (faults self.new)) }
         ensures count_stays { faults self.old ≤ faults self.new }
         ensures foretold { IfSome (forecast self.old) (λ f. is_ok result ≡ is_done f 0) }

@@ -15,13 +15,18 @@ pub fn write_durably<D: Disk>(disk: &mut D, at: u64, bytes: &[u8]) -> Result<(),
     requires begins { D.tells → at ≤ length (D.held disk.old).content }
     requires ends { at + length bytes.now < 2 ^ 40 }
     requires clean { D.tells → IsClean (D.held disk.old) }
-    ensures written { D.tells → OnOk result ((D.held disk.new).content ≡ overwritten (D.held disk.old).content at bytes.now) }
+    ensures written { D.tells
+        → OnOk result ((D.held disk.new).content
+        ≡ overwritten (D.held disk.old).content at bytes.now) }
     ensures clean { D.tells → OnOk result (IsClean (D.held disk.new)) }
     ensures base { D.tells → OnErr result ((D.held disk.new).base ≡ (D.held disk.old).content) }
-    ensures any_moment { D.tells → LeavesOnly D.moment D.left_since disk.old disk.new (MayLeave (D.held disk.old).content at (length bytes.now)) }
+    ensures any_moment { D.tells
+        → LeavesOnly D.moment D.left_since disk.old disk.new
+        (MayLeave (D.held disk.old).content at (length bytes.now)) }
     ensures failed { OnErr result (Rose (D.faults disk.old) (D.faults disk.new)) }
     ensures count_stays { D.faults disk.old ≤ D.faults disk.new }
-    ensures foretold { IfSome (D.forecast disk.old) (λ f. Foretold f 2 (at + length bytes.now) (is_ok result) (D.forecast disk.new)) }
+    ensures foretold { IfSome (D.forecast disk.old)
+        (λ f. Foretold f 2 (at + length bytes.now) (is_ok result) (D.forecast disk.new)) }
 {
     disk.write_at(at, bytes)?;
     disk.sync()

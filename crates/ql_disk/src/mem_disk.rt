@@ -167,7 +167,8 @@ fn overwrite(bytes: &mut Vec<u8>, at: usize, new: &[u8])
 fn mark(marks: &mut Vec<bool>, at: usize, size: usize)
     requires { at + size ≤ length marks.old.items }
     ensures length { length marks.new.items ≡ length marks.old.items }
-    ensures marked { (k : ℕ) → is_marked marks.new.items k ≡ (is_marked marks.old.items k || in_range at size k) }
+    ensures marked { (k : ℕ)
+        → is_marked marks.new.items k ≡ (is_marked marks.old.items k || in_range at size k) }
 {
     mark_in(marks.as_mut_slice(), at, size);
 }
@@ -175,7 +176,8 @@ fn mark(marks: &mut Vec<bool>, at: usize, size: usize)
 fn mark_in(marks: &mut [bool], at: usize, size: usize)
     requires { at + size ≤ length marks.old }
     ensures length { length marks.new ≡ length marks.old }
-    ensures marked { (k : ℕ) → is_marked marks.new k ≡ (is_marked marks.old k || in_range at size k) }
+    ensures marked { (k : ℕ)
+        → is_marked marks.new k ≡ (is_marked marks.old k || in_range at size k) }
 {
     marks[at..at + size].fill(true);
 }

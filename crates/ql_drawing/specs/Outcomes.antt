@@ -1,14 +1,11 @@
 -- What is written: for the arguments, what the shelf holds and counts, and a status.
-use Rattle.std.specs.Prelude.{◌≡◌, ◌⊎◌, ℕ, ◌<◌, List, ◌++◌, length, Option, Some, None, IfSome, codes, decimal}
+use Rattle.std.specs.Prelude.{◌≡◌, ◌⊎◌, ℕ, ◌<◌, List, ◌++◌, length, Option, Some, None, IfSome, codes}
 use Rattle.ql_history.specs.declared.fault.DrawnRule.{DrawnRule}
 use Rattle.ql_history.specs.declared.fault.DrawnRule.TheVariants.{Unexpected, NotForward, TooMany, Range}
 use Rattle.ql_history.specs.declared.history.History.{History}
 use Rattle.ql_layout.specs.Dots.{AreDotsOf}
 use Rattle.ql_layout.specs.declared.grid.Grid.{Grid}
 use Rattle.ql_ports.specs.Faults.{Rose}
-use Rattle.ql_ports.specs.declared.whole.ReadError.{ReadError}
-use Rattle.ql_ports.specs.declared.whole.ReadError.TheVariants.{Failed, TooLong}
-use Rattle.ql_ports.specs.Written.{AppendsFront, appended}
 use Rattle.ql_svg.specs.Svg.{svg_text}
 use Rattle.ql_svg.specs.declared.picture.Picture.{Picture}
 use Rattle.ql_drawing.specs.Words.{Asked, asked}

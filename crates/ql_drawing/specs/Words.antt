@@ -1,9 +1,7 @@
 -- The arguments that ask for a picture:  [--all] FILE [SCHEDULE] [--breach WORD..]
-use Rattle.std.specs.Prelude.{ℕ, Bool, true, false, ◌&&◌, ◌==◌, not, nat_le, if◌then◌else◌, List, [], ◌∷◌, Option, Some, None, length, map, slice_index, codes}
-use Rattle.std.specs.Global.{Global, Vec}
+use Rattle.std.specs.Prelude.{ℕ, Bool, true, false, if◌then◌else◌, List, [], ◌∷◌, Option, Some, None, map, codes}
 use Rattle.std.specs.Option.{option_map}
 use Rattle.std.specs.Str.{bytes_eq}
-use Rattle.std.specs.declared.string.String.{String}
 use Rattle.std.specs.String.{string_bytes}
 use Rattle.ql_reply.specs.Arguments.{is_file_name}
 use Rattle.ql_drawing.specs.declared.words.Request.{Request}

@@ -1,4 +1,4 @@
-ghost use Rattle.std.specs.Prelude.{◌≡◌, ◌++◌, IfOk, codes, decimal};
+ghost use Rattle.std.specs.Prelude.{◌≡◌, IfOk};
 ghost use Rattle.ql_drawing.specs.Outcomes.{IsDrawn, IsWhyText, rule_text};
 
 use crate::sheet::SHEET;

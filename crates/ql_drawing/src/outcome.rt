@@ -1,6 +1,5 @@
-ghost use Rattle.std.specs.Prelude.{◌≡◌, ◌++◌, ◌≤◌, ℕ, List, Some, IfOk, codes};
+ghost use Rattle.std.specs.Prelude.{◌≡◌, ◌≤◌, ℕ, List, Some, IfOk};
 ghost use Rattle.ql_drawing.specs.Outcomes.{IsAnswer, Says, Tells};
-ghost use Rattle.ql_reply.specs.Unread.{IsUnread};
 ghost use Rattle.ql_drawing.specs.Words.{asked_of};
 ghost use Rattle.ql_reply.specs.Arguments.{word_texts};
 
@@ -24,7 +23,9 @@ pub fn outcome<S: Shelf>(
     words: &Vec<String>,
     shelf: &mut S,
 ) -> Result<(Status, Vec<u8>), NoMemory>
-    ensures says { IfOk result (λ answer. Says (word_texts words.now) (S.held shelf.old) (S.faults shelf.old) (S.faults shelf.new) answer.0 answer.1.items) }
+    ensures says { IfOk result
+        (λ answer. Says (word_texts words.now) (S.held shelf.old) (S.faults shelf.old)
+        (S.faults shelf.new) answer.0 answer.1.items) }
     ensures same_contents { (other : List ℕ) → S.held shelf.new other ≡ S.held shelf.old other }
     ensures counts_stay { (other : List ℕ) → S.faults shelf.old other ≤ S.faults shelf.new other }
 {
@@ -39,7 +40,9 @@ fn of_request<S: Shelf>(
     request: Request,
     shelf: &mut S,
 ) -> Result<(Status, Vec<u8>), NoMemory>
-    ensures says { IfOk result (λ answer. Tells (S.held shelf.old) (S.faults shelf.old) (S.faults shelf.new) (asked_of request.entry) answer.0 answer.1.items) }
+    ensures says { IfOk result
+        (λ answer. Tells (S.held shelf.old) (S.faults shelf.old) (S.faults shelf.new)
+        (asked_of request.entry) answer.0 answer.1.items) }
     ensures same_contents { (other : List ℕ) → S.held shelf.new other ≡ S.held shelf.old other }
     ensures counts_stay { (other : List ℕ) → S.faults shelf.old other ≤ S.faults shelf.new other }
 {
@@ -56,7 +59,9 @@ fn of_run<S: Shelf>(
     run: &[u8],
     shelf: &mut S,
 ) -> Result<(Status, Vec<u8>), NoMemory>
-    ensures says { IfOk result (λ answer. Tells (S.held shelf.old) (S.faults shelf.old) (S.faults shelf.new) (asked_of request.entry) answer.0 answer.1.items) }
+    ensures says { IfOk result
+        (λ answer. Tells (S.held shelf.old) (S.faults shelf.old) (S.faults shelf.new)
+        (asked_of request.entry) answer.0 answer.1.items) }
     ensures same_contents { (other : List ℕ) → S.held shelf.new other ≡ S.held shelf.old other }
     ensures counts_stay { (other : List ℕ) → S.faults shelf.old other ≤ S.faults shelf.new other }
 {
@@ -75,7 +80,9 @@ fn with_schedule<S: Shelf>(
     shelf: &mut S,
 ) -> Result<(Status, Vec<u8>), NoMemory>
     requires { (asked_of request).schedule ≡ Some name.now }
-    ensures says { IfOk result (λ answer. Tells (S.held shelf.old) (S.faults shelf.old) (S.faults shelf.new) (asked_of request.entry) answer.0 answer.1.items) }
+    ensures says { IfOk result
+        (λ answer. Tells (S.held shelf.old) (S.faults shelf.old) (S.faults shelf.new)
+        (asked_of request.entry) answer.0 answer.1.items) }
     ensures same_contents { (other : List ℕ) → S.held shelf.new other ≡ S.held shelf.old other }
     ensures counts_stay { (other : List ℕ) → S.faults shelf.old other ≤ S.faults shelf.new other }
 {

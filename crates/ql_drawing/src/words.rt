@@ -71,7 +71,9 @@ fn request_of<'a>(
     schedule: Option<&'a str>,
     breach: Option<&'a [String]>,
 ) -> Option<Request<'a>>
-    ensures { option_map asked_of result ≡ with_breach all file.now (option_map (λ name. name.now) schedule.entry) (option_map (λ words. map string_bytes words.now) breach.entry) }
+    ensures { option_map asked_of result
+        ≡ with_breach all file.now (option_map (λ name. name.now) schedule.entry)
+        (option_map (λ words. map string_bytes words.now) breach.entry) }
 {
     match breach {
         Some(breach) => Some(Request {
@@ -86,7 +88,8 @@ fn request_of<'a>(
 
 // The arguments after `--breach`, empty where there are no arguments; none where another one comes first.
 fn parse_breach(words: &[String]) -> Option<&[String]>
-    ensures { option_map (λ rest. map string_bytes rest.now) result ≡ breach_of (map string_bytes words.now) }
+    ensures { option_map (λ rest. map string_bytes rest.now) result
+        ≡ breach_of (map string_bytes words.now) }
 {
     match words.split_first() {
         None => Some(words),

@@ -1,4 +1,4 @@
--- a text has one first field, and one text stands behind it
+-- a text has one first field, and one text stands after it
 use Rattle.std.proofs.Common.{◌≡◌, ℕ, zero, suc, Bool, true, false, cond, List, [], ◌∷◌, ◌++◌, length, replicate, arith, refl, sym, ap, subst, ◌∙◌}
 use Rattle.std.specs.List.{AllByRecursion, filter, onto_first, slice_split}
 use Rattle.std.proofs.lemmas.List.{append_cancel_left}

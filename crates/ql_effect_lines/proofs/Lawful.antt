@@ -24,7 +24,7 @@ use Rattle.ql_effect_lines.specs.declared.effect_line.EffectLine.{EffectLine}
 use Rattle.ql_effect_lines.specs.declared.rules.ReportRule.{ReportRule}
 use Rattle.ql_effect_lines.specs.declared.rules.ReportRule.TheVariants.{Unknown, Mixed, Stamp, TooMany}
 use Rattle.ql_effect_lines.specs.declared.effects_read.EffectsRead.{EffectsRead}
-use Rattle.ql_effect_lines.specs.Effects.{AreOfProgram, IsSound, after_effect, after_known, draft_of_line, known_of, is_mixed, member_of_line, most_effects, object_number, with_draft, exec_rule, with_read_effect, with_object_name}
+use Rattle.ql_effect_lines.specs.Effects.{AreOfProgram, IsSound, after_effect, after_known, draft_of_line, is_mixed, member_of_line, most_effects, object_number, with_draft, exec_rule, with_read_effect, with_object_name}
 
 -- what is true of all is true of the one that is found
 pub found : {X : Type 0} (p : X → Bool) (P : X → Type 0) (xs : List X) (x : X) → find p xs ≡ Some x → All P xs → P x

@@ -1,4 +1,4 @@
--- a line tells one effect
+-- a line describes one effect
 use Rattle.std.proofs.Common.{◌≡◌, ℕ, List, [], ◌∷◌, ◌++◌, length, map, get_or, drop, decimal, codes, arith, refl, sym, ap, subst, ◌∙◌, append_assoc, replicate}
 use Rattle.std.specs.List.{AllByRecursion}
 use Rattle.std.proofs.lemmas.Fmt.{decimal_injective}
@@ -98,7 +98,7 @@ module _ (text : List ℕ) (id : ℕ) (e : EffectLine) (p : IsEffectLine text id
           let same = one_emit payload e.payload behind last p.behind_payload emit emit_behind in
           subst (λ (t : List ℕ). IsSetting t e.setting) (sym same.1) p.setting
 
--- a line tells one effect
+-- a line describes one effect
 pub one_effect : (text : List ℕ) (id : ℕ) (e f : EffectLine) → IsEffectLine text id e → IsEffectLine text id f → e ≡ f
 one_effect text id e f p q =
     let row = one_row (name_fields id e.object e.op) (name_fields id f.object f.op) text p.behind_op q.behind_op refl p.names q.names in

@@ -1,4 +1,4 @@
--- values stand at the front of a text in one way
+-- values stand at the start of a text in one way
 use Rattle.std.proofs.Common.{◌≡◌, ℕ, zero, suc, ◌+◌, Bool, true, false, cond, List, [], ◌∷◌, ◌++◌, drop, replicate, arith, refl, sym, ap, subst, ◌∙◌, one-add}
 use Rattle.std.specs.List.{prefix_len}
 use Rattle.std.proofs.lemmas.Bool.{false≢true}
@@ -33,7 +33,7 @@ pub gap_gone : (n : ℕ) (start : List ℕ) → begins (is_byte 32) start ≡ fa
 gap_gone zero start clear = stopped start clear
 gap_gone (suc n) start clear = passed (replicate n 32 ++ start) ∙ gap_gone n start clear
 
--- ---- parts in one way, and not behind a space
+-- ---- parts in one way, and not after a space
 
 abbrev pub IsOne : {X : Type 0} → (X → List ℕ → List ℕ → Type 0) → Type 0
 IsOne {X} At = (x y : X) (text r q : List ℕ) → At x text r → At y text q → (x ≡ y) × (r ≡ q)
@@ -42,7 +42,7 @@ abbrev pub Starts : {X : Type 0} → (X → List ℕ → List ℕ → Type 0) �
 Starts {X} At = (x : X) (text rest : List ℕ) → At x text rest → begins (is_byte 32) text ≡ false
 
 module _ {X : Type 0} (At : X → List ℕ → List ℕ → Type 0) (starts : Starts At) where
-  -- a field stands behind all spaces
+  -- a field stands after all spaces
   start_is : (x : X) (text rest : List ℕ) (p : FieldAt At x text rest) → p.start ≡ after_spaces text
   start_is x text rest p = sym (ap after_spaces p.spaces ∙ gap_gone p.gap p.start (starts x p.start rest p.part))
 
@@ -91,7 +91,7 @@ value_starts v (b ∷ bs) rest p =
 
 -- ---- several values
 
--- behind a comma the next value stands behind all spaces
+-- after a comma the next value stands after all spaces
 next_start : (v : Value) (tail start behind : List ℕ) (gap : ℕ) → ValueAt v start behind → tail ≡ replicate gap 32 ++ start → start ≡ after_spaces tail
 next_start v tail start behind gap p e = sym (ap after_spaces e ∙ gap_gone gap start (value_starts v start behind p))
 
@@ -137,7 +137,7 @@ pub no_items : (text : List ℕ) → ((v : Value) (rest : List ℕ) → ValueAt 
 no_items text none [] rest p = p
 no_items text none (v ∷ vs) rest p = none v p.0 p.1
 
--- a value is read, and what stands behind it
+-- a value is read, and what stands after it
 module _ (v : Value) (text behind : List ℕ) (read : ValueAt v text behind) where
   pub last_item : (rest : List ℕ) → behind ≡ 41 ∷ rest → ItemsAt (v ∷ []) text rest
   last_item rest e = (behind, read, e)

@@ -1,4 +1,4 @@
--- the field of a transaction tells one transaction
+-- the field of a transaction describes one transaction
 use Rattle.std.proofs.Common.{◌≡◌, ℕ, ◌≤◌, false, List, ◌∷◌, ◌++◌, Option, None, Some, length, take, drop, decimal, codes, arith, refl, sym, ap, ◌∙◌}
 use Rattle.std.specs.List.{prefix_len}
 use Rattle.std.proofs.lemmas.Fmt.{decimal_injective, digits_decimal}

@@ -27,7 +27,9 @@ pub struct EffectLine {
 
 /// The effect that a line says, whose number has to be `id`; `None` if the line isn't one of such an effect.
 pub fn read_line(alloc: Global, text: &[u8], id: u32) -> Result<Option<EffectLine>, NoMemory>
-    ensures { IfOk result (λ read. MatchOption read ((e : EffectLine) → IsEffectLine text.now id e → ⊥) (λ e. IsEffectLine text.now id e)) }
+    ensures { IfOk result
+        (λ read. MatchOption read ((e : EffectLine) → IsEffectLine text.now id e → ⊥)
+        (λ e. IsEffectLine text.now id e)) }
 {
     let Some((object, op, rest)) = names(text, id) else {
         return Ok(None);
@@ -53,8 +55,11 @@ pub fn read_line(alloc: Global, text: &[u8], id: u32) -> Result<Option<EffectLin
 
 // The names of the object and the operation after the word `effect` and this id.
 fn names(text: &[u8], id: u32) -> Option<(&[u8], &[u8], &[u8])>
-    ensures { MatchOption result ((a b : List ℕ) (rest : Fields) → IsName a → IsName b → fields_of text.now ≡ codes "effect" ∷ decimal id ∷ a ∷ b ∷ rest → ⊥)
-        (λ x. IsName x.0.now × IsName x.1.now × FieldsAt (codes "effect" ∷ decimal id ∷ x.0.now ∷ x.1.now ∷ []) text.now x.2.now) }
+    ensures { MatchOption result
+        ((a b : List ℕ) (rest : Fields) → IsName a → IsName b
+        → fields_of text.now ≡ codes "effect" ∷ decimal id ∷ a ∷ b ∷ rest → ⊥)
+        (λ x. IsName x.0.now × IsName x.1.now
+        × FieldsAt (codes "effect" ∷ decimal id ∷ x.0.now ∷ x.1.now ∷ []) text.now x.2.now) }
 {
     let rest = after_id(text, id)?;
     let (object, rest) = after_name(rest)?;
@@ -64,7 +69,8 @@ fn names(text: &[u8], id: u32) -> Option<(&[u8], &[u8], &[u8])>
 
 // What follows the word `effect` and this id.
 fn after_id(text: &[u8], id: u32) -> Option<&[u8]>
-    ensures { MatchOption result ((rest : Fields) → fields_of text.now ≡ codes "effect" ∷ decimal id ∷ rest → ⊥)
+    ensures { MatchOption result
+        ((rest : Fields) → fields_of text.now ≡ codes "effect" ∷ decimal id ∷ rest → ⊥)
         (λ behind. FieldsAt (codes "effect" ∷ decimal id ∷ []) text.now behind.now) }
 {
     let numbered = after_word(text, b"effect")?;
@@ -74,7 +80,10 @@ fn after_id(text: &[u8], id: u32) -> Option<&[u8]>
 
 // The arguments and the answer of a call.
 fn call(alloc: Global, text: &[u8]) -> Result<Option<(Values, Value, &[u8])>, NoMemory>
-    ensures { IfOk result (λ read. MatchOption read ((args : List Value) (answer : Value) (rest : List ℕ) → CallAt args answer text.now rest → ⊥)
+    ensures { IfOk result
+        (λ read. MatchOption read
+        ((args : List Value) (answer : Value) (rest : List ℕ) → CallAt args answer text.now rest
+        → ⊥)
         (λ x. CallAt x.0 x.1 text.now x.2.now)) }
 {
     let Some((args, rest)) = values_field(alloc, text)? else {
@@ -91,7 +100,9 @@ fn call(alloc: Global, text: &[u8]) -> Result<Option<(Values, Value, &[u8])>, No
 
 // The payload after the word `emit`.
 fn emit(alloc: Global, text: &[u8]) -> Result<Option<(Payload, &[u8])>, NoMemory>
-    ensures { IfOk result (λ read. MatchOption read ((payload : Payload) (rest : List ℕ) → EmitAt payload text.now rest → ⊥)
+    ensures { IfOk result
+        (λ read. MatchOption read
+        ((payload : Payload) (rest : List ℕ) → EmitAt payload text.now rest → ⊥)
         (λ x. EmitAt x.0 text.now x.1.now)) }
 {
     match after_word(text, b"emit") {
@@ -102,7 +113,9 @@ fn emit(alloc: Global, text: &[u8]) -> Result<Option<(Payload, &[u8])>, NoMemory
 
 // A payload, which is `-` if there is none.
 fn payload(alloc: Global, text: &[u8]) -> Result<Option<(Payload, &[u8])>, NoMemory>
-    ensures { IfOk result (λ read. MatchOption read ((payload : Payload) (rest : List ℕ) → PayloadAt payload text.now rest → ⊥)
+    ensures { IfOk result
+        (λ read. MatchOption read
+        ((payload : Payload) (rest : List ℕ) → PayloadAt payload text.now rest → ⊥)
         (λ x. PayloadAt x.0 text.now x.1.now)) }
 {
     if let Some(behind) = after_word(text, b"-") {

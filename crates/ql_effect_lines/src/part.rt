@@ -1,17 +1,19 @@
 ghost use Rattle.std.specs.Prelude.{◌≡◌, ◌≤◌, ◌∷◌, List, ℕ, IfOk, MatchOption, length, false};
-ghost use Rattle.std.specs.List.{prefix_len};
 ghost use Rattle.ql_base.specs.Bytes.{begins};
 ghost use Rattle.ql_value.specs.declared.value.Value.{Value};
-ghost use Rattle.ql_value.specs.Reading.{after_spaces, is_byte};
+ghost use Rattle.ql_value.specs.Reading.{is_byte};
 ghost use Rattle.ql_effect_lines.specs.Parts.{FieldAt, ItemsAt, ValueAt, ValuesAt, ends_field};
 
 use ql_base::NoMemory;
+use ql_lines::after_spaces;
 use ql_value::{Value, ValueFault, Values, parse_value};
 use std::alloc::Global;
 
 /// Values in round brackets as a field, and what follows it.
 pub(crate) fn values_field(alloc: Global, text: &[u8]) -> Result<Option<(Values, &[u8])>, NoMemory>
-    ensures { IfOk result (λ read. MatchOption read ((vs : List Value) (rest : List ℕ) → FieldAt ValuesAt vs text.now rest → ⊥)
+    ensures { IfOk result
+        (λ read. MatchOption read
+        ((vs : List Value) (rest : List ℕ) → FieldAt ValuesAt vs text.now rest → ⊥)
         (λ x. FieldAt ValuesAt x.0 text.now x.1.now)) }
 {
     let Some((values, rest)) = values(alloc, after_spaces(text))? else {
@@ -26,7 +28,9 @@ pub(crate) fn values_field(alloc: Global, text: &[u8]) -> Result<Option<(Values,
 
 /// A value as a field, and what follows it.
 pub(crate) fn value_field(alloc: Global, text: &[u8]) -> Result<Option<(Value, &[u8])>, NoMemory>
-    ensures { IfOk result (λ read. MatchOption read ((v : Value) (rest : List ℕ) → FieldAt ValueAt v text.now rest → ⊥)
+    ensures { IfOk result
+        (λ read. MatchOption read
+        ((v : Value) (rest : List ℕ) → FieldAt ValueAt v text.now rest → ⊥)
         (λ x. FieldAt ValueAt x.0 text.now x.1.now)) }
 {
     let Some((value, rest)) = value(alloc, after_spaces(text))? else {
@@ -41,7 +45,9 @@ pub(crate) fn value_field(alloc: Global, text: &[u8]) -> Result<Option<(Value, &
 
 // Values in round brackets.
 fn values(alloc: Global, text: &[u8]) -> Result<Option<(Values, &[u8])>, NoMemory>
-    ensures { IfOk result (λ read. MatchOption read ((vs : List Value) (rest : List ℕ) → ValuesAt vs text.now rest → ⊥)
+    ensures { IfOk result
+        (λ read. MatchOption read
+        ((vs : List Value) (rest : List ℕ) → ValuesAt vs text.now rest → ⊥)
         (λ x. ValuesAt x.0 text.now x.1.now)) }
 {
     let Some(inner) = after_byte(text, b'(') else {
@@ -55,7 +61,8 @@ fn values(alloc: Global, text: &[u8]) -> Result<Option<(Values, &[u8])>, NoMemor
 
 // One or more values, and the bracket after them.
 fn items(alloc: Global, text: &[u8]) -> Result<Option<(Values, &[u8])>, NoMemory>
-    ensures { IfOk result (λ read. MatchOption read ((vs : List Value) (rest : List ℕ) → ItemsAt vs text.now rest → ⊥)
+    ensures { IfOk result
+        (λ read. MatchOption read ((vs : List Value) (rest : List ℕ) → ItemsAt vs text.now rest → ⊥)
         (λ x. ItemsAt x.0 text.now x.1.now)) }
 {
     let mut items = Vec::new(alloc);
@@ -75,7 +82,8 @@ fn items(alloc: Global, text: &[u8]) -> Result<Option<(Values, &[u8])>, NoMemory
 
 // The value at the start of a text.
 fn value(alloc: Global, text: &[u8]) -> Result<Option<(Value, &[u8])>, NoMemory>
-    ensures read { IfOk result (λ read. MatchOption read ((v : Value) (rest : List ℕ) → ValueAt v text.now rest → ⊥)
+    ensures read { IfOk result
+        (λ read. MatchOption read ((v : Value) (rest : List ℕ) → ValueAt v text.now rest → ⊥)
         (λ x. ValueAt x.0 text.now x.1.now × (length x.1.now ≤ length text.now))) }
 {
     match parse_value(alloc, text, 0) {
@@ -87,30 +95,14 @@ fn value(alloc: Global, text: &[u8]) -> Result<Option<(Value, &[u8])>, NoMemory>
 
 /// What follows this byte, if a text begins with it.
 pub(crate) fn after_byte(text: &[u8], byte: u8) -> Option<&[u8]>
-    ensures { MatchOption result (begins (is_byte byte) text.now ≡ false) (λ rest. text.now ≡ byte ∷ rest.now) }
+    ensures { MatchOption result (begins (is_byte byte) text.now ≡ false)
+        (λ rest. text.now ≡ byte ∷ rest.now) }
 {
     if !text.is_empty() && text[0] == byte {
         Some(&text[1..])
     } else {
         None
     }
-}
-
-// What follows the spaces at the start.
-fn after_spaces(text: &[u8]) -> &[u8]
-    ensures spaces { result.now ≡ after_spaces text.now }
-    ensures shorter { length result.now ≤ length text.now }
-{
-    let (_, rest) = text.split_at(spaces(text));
-    rest
-}
-
-// The number of spaces at the start.
-fn spaces(text: &[u8]) -> usize
-    ensures longest { result ≡ prefix_len (is_byte 32) text.now }
-    ensures within { result ≤ length text.now }
-{
-    text.iter().take_while(|b| **b == b' ').count()
 }
 
 // Whether a field ends at the start of a text.

@@ -25,7 +25,9 @@ pub struct Setting {
 
 /// What the last fields of an effect's line say.
 pub(crate) fn read_setting(alloc: Global, text: &[u8]) -> Result<Option<Setting>, NoMemory>
-    ensures { IfOk result (λ read. MatchOption read ((s : Setting) → IsSetting text.now s → ⊥) (λ s. IsSetting text.now s)) }
+    ensures { IfOk result
+        (λ read. MatchOption read ((s : Setting) → IsSetting text.now s → ⊥)
+        (λ s. IsSetting text.now s)) }
 {
     let Some((session, rest)) = session(text) else {
         return Ok(None);
@@ -49,8 +51,11 @@ pub(crate) fn read_setting(alloc: Global, text: &[u8]) -> Result<Option<Setting>
 
 // The session after its word.
 fn session(text: &[u8]) -> Option<(u32, &[u8])>
-    ensures { MatchOption result ((s : ℕ) (rest : Fields) → s ≤ 255 → fields_of text.now ≡ codes "session" ∷ decimal s ∷ rest → ⊥)
-        (λ x. (x.0 ≤ 255) × (fields_of text.now ≡ codes "session" ∷ decimal x.0 ∷ fields_of x.1.now)) }
+    ensures { MatchOption result
+        ((s : ℕ) (rest : Fields) → s ≤ 255 → fields_of text.now ≡ codes "session" ∷ decimal s ∷ rest
+        → ⊥)
+        (λ x. (x.0 ≤ 255) × (fields_of text.now
+        ≡ codes "session" ∷ decimal x.0 ∷ fields_of x.1.now)) }
 {
     let numbered = after_word(text, b"session")?;
     let (session, behind) = after_number(numbered, 255)?;
@@ -59,7 +64,9 @@ fn session(text: &[u8]) -> Option<(u32, &[u8])>
 
 // The transaction after the word `txn`.
 fn txn(text: &[u8]) -> Option<(Option<Begun>, &[u8])>
-    ensures { MatchOption result ((t : Option Begun) (rest : Fields) → FitsTxn t → fields_of text.now ≡ codes "txn" ∷ txn_text t ∷ rest → ⊥)
+    ensures { MatchOption result
+        ((t : Option Begun) (rest : Fields) → FitsTxn t
+        → fields_of text.now ≡ codes "txn" ∷ txn_text t ∷ rest → ⊥)
         (λ x. FitsTxn x.0 × (fields_of text.now ≡ codes "txn" ∷ txn_text x.0 ∷ fields_of x.1.now)) }
 {
     let after_txn = after_word(text, b"txn")?;
@@ -70,7 +77,8 @@ fn txn(text: &[u8]) -> Option<(Option<Begun>, &[u8])>
 
 // The transaction that a field says.
 fn txn_of(field: &[u8]) -> Option<Option<Begun>>
-    ensures { MatchOption result ((t : Option Begun) → FitsTxn t → field.now ≡ txn_text t → ⊥) (λ t. FitsTxn t × (field.now ≡ txn_text t)) }
+    ensures { MatchOption result ((t : Option Begun) → FitsTxn t → field.now ≡ txn_text t → ⊥)
+        (λ t. FitsTxn t × (field.now ≡ txn_text t)) }
 {
     if field == b"-".as_slice() {
         return Some(None);
@@ -81,7 +89,9 @@ fn txn_of(field: &[u8]) -> Option<Option<Begun>>
 
 // The begun transaction that a field says.
 fn begun_of(field: &[u8]) -> Option<Begun>
-    ensures { MatchOption result ((t : Begun) → FitsTxn (Some t) → field.now ≡ txn_text (Some t) → ⊥) (λ t. FitsTxn (Some t) × (field.now ≡ txn_text (Some t))) }
+    ensures { MatchOption result
+        ((t : Begun) → FitsTxn (Some t) → field.now ≡ txn_text (Some t) → ⊥)
+        (λ t. FitsTxn (Some t) × (field.now ≡ txn_text (Some t))) }
 {
     let (digits, rest) = field.split_at(digit_bytes(field));
     let Some(name) = after_byte(rest, b':') else {
@@ -102,7 +112,8 @@ fn begun_of(field: &[u8]) -> Option<Begun>
 
 // The number of a begun transaction, which is at least 1.
 fn run_of(digits: &[u8]) -> Option<u32>
-    ensures { MatchOption result ((n : ℕ) → 1 ≤ n → IsId n → digits.now ≡ decimal n → ⊥) (λ n. (1 ≤ n) × IsId n × (digits.now ≡ decimal n)) }
+    ensures { MatchOption result ((n : ℕ) → 1 ≤ n → IsId n → digits.now ≡ decimal n → ⊥)
+        (λ n. (1 ≤ n) × IsId n × (digits.now ≡ decimal n)) }
 {
     let run = number_of(digits, u64::from(u32::MAX))?;
     if run == 0 { None } else { Some(run as u32) }
@@ -110,8 +121,11 @@ fn run_of(digits: &[u8]) -> Option<u32>
 
 // The stamp between the words `stamp` and `vis`.
 fn stamp(text: &[u8]) -> Option<(u32, &[u8])>
-    ensures { MatchOption result ((n : ℕ) (rest : Fields) → IsId n → fields_of text.now ≡ codes "stamp" ∷ decimal n ∷ codes "vis" ∷ rest → ⊥)
-        (λ x. IsId x.0 × (fields_of text.now ≡ codes "stamp" ∷ decimal x.0 ∷ codes "vis" ∷ fields_of x.1.now)) }
+    ensures { MatchOption result
+        ((n : ℕ) (rest : Fields) → IsId n
+        → fields_of text.now ≡ codes "stamp" ∷ decimal n ∷ codes "vis" ∷ rest → ⊥)
+        (λ x. IsId x.0 × (fields_of text.now
+        ≡ codes "stamp" ∷ decimal x.0 ∷ codes "vis" ∷ fields_of x.1.now)) }
 {
     let numbered = after_word(text, b"stamp")?;
     let (stamp, rest) = after_number(numbered, u32::MAX)?;

@@ -85,7 +85,8 @@ fn call(
     name: &Name,
     args: &Exprs,
 ) -> Result<Option<Value>, NoMemory>
-    ensures { IfOk result (λ value. value ≡ call_value pairs.now name.now.word (operands_in args.now)) }
+    ensures { IfOk result
+        (λ value. value ≡ call_value pairs.now name.now.word (operands_in args.now)) }
 {
     let function = find_function(name.word.bytes());
     let items = args.items();
@@ -108,7 +109,9 @@ fn call_on(
     first: Option<&Value>,
     args: &[Expr],
 ) -> Result<Option<Value>, NoMemory>
-    ensures { IfOk result (λ value. value ≡ called_on function (option_copied first.entry) (values_of pairs.now (operands_of (drop 1 args.now)))) }
+    ensures { IfOk result
+        (λ value. value ≡ called_on function (option_copied first.entry)
+        (values_of pairs.now (operands_of (drop 1 args.now)))) }
 {
     let Some(first) = first else {
         return Ok(None);

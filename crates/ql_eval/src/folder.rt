@@ -1,10 +1,9 @@
-ghost use Rattle.std.specs.Prelude.{◌≡◌, IfOk, List};
+ghost use Rattle.std.specs.Prelude.{◌≡◌, IfOk};
 ghost use Rattle.std.specs.Option.{option_map};
 ghost use Rattle.ql_base.specs.declared.ids.OpId.{OpId};
 ghost use Rattle.ql_value.specs.declared.value.Value.{Value};
-ghost use Rattle.ql_exec.specs.declared.effect.Effect.{Effect};
 ghost use Rattle.ql_exec.specs.declared.folder.Answered.{Answered};
-ghost use Rattle.ql_exec.specs.Folding.{AreOnOneObject, seen_in_order};
+ghost use Rattle.ql_exec.specs.Folding.{seen_in_order};
 ghost use Rattle.ql_eval.specs.Folds.{answer_of, answer_over, answer_with, answered_of, bound_values, emitted};
 ghost use Rattle.ql_eval.specs.Able.{AnswersAll, AnswersFit, IsAble};
 
@@ -68,7 +67,9 @@ pub fn try_answer(
     execution: &Execution,
     seen: &IdSet,
 ) -> Result<Option<Answered>, NoMemory>
-    ensures { IfOk result (λ given. given ≡ answer_of t.now.program.types o.0 args.now (seen_in_order execution.now seen.now)) }
+    ensures { IfOk result
+        (λ given. given ≡ answer_of t.now.program.types o.0 args.now
+        (seen_in_order execution.now seen.now)) }
 {
     if o.0 >= t.ops() {
         return Ok(None);
@@ -118,7 +119,9 @@ fn emitted(alloc: Global, env: &Env, effect: &Option<EmitDecl>) -> Result<Option
 }
 
 fn emit_values(alloc: Global, env: &Env, binds: &[Bind]) -> Result<Option<Payload>, NoMemory>
-    ensures { IfOk result (λ payload. payload ≡ option_map (λ values. Payload.Emitted values) (bound_values env.now binds.now)) }
+    ensures { IfOk result
+        (λ payload. payload ≡ option_map
+        (λ values. Payload.Emitted values) (bound_values env.now binds.now)) }
 {
     match bound_values(alloc, env, binds)? {
         Some(values) => Ok(Some(Payload::Emitted(values))),

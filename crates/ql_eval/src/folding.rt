@@ -25,7 +25,9 @@ pub(crate) fn state_after(
     seen: &IdSet,
 ) -> Result<Option<Env>, NoMemory>
     requires { kind.0 < length t.now.program.types }
-    ensures { IfOk result (λ state. state ≡ fold_of t.now.program.types kind.0 (seen_in_order execution.now seen.now)) }
+    ensures { IfOk result
+        (λ state. state ≡ fold_of t.now.program.types kind.0
+        (seen_in_order execution.now seen.now)) }
 {
     let state = begin(alloc, t.type_decl(kind).fields.items())?;
     fold_seen(alloc, t, state, execution, seen)
@@ -40,7 +42,9 @@ pub(crate) fn fold_seen(
     execution: &Execution,
     seen: &IdSet,
 ) -> Result<Option<Env>, NoMemory>
-    ensures { IfOk result (λ after. after ≡ folded (all_ops t.now.program.types) state (seen_in_order execution.now seen.now)) }
+    ensures { IfOk result
+        (λ after. after ≡ folded (all_ops t.now.program.types) state
+        (seen_in_order execution.now seen.now)) }
 {
     let order = emitting_in_order(alloc, execution, seen)?;
     fold_all(alloc, t, state, &order)
@@ -80,7 +84,9 @@ fn fold_all(
     state: Env,
     effects: &[&Effect],
 ) -> Result<Option<Env>, NoMemory>
-    ensures { IfOk result (λ after. after ≡ folded (all_ops t.now.program.types) state (map (λ e. e.now) effects.now)) }
+    ensures { IfOk result
+        (λ after. after ≡ folded (all_ops t.now.program.types) state
+        (map (λ e. e.now) effects.now)) }
 {
     let mut state = state;
     for effect in effects {
@@ -93,7 +99,9 @@ fn fold_all(
 }
 
 fn fold_one(alloc: Global, t: &Typed, state: Env, effect: &Effect) -> Result<Option<Env>, NoMemory>
-    ensures { IfOk result (λ after. after ≡ after_payload (all_ops t.now.program.types) effect.now.op.0 state effect.now.payload) }
+    ensures { IfOk result
+        (λ after. after ≡ after_payload (all_ops t.now.program.types) effect.now.op.0 state
+        effect.now.payload) }
 {
     match &effect.payload {
         Payload::Nothing => Ok(Some(state)),
@@ -109,7 +117,9 @@ fn apply_op(
     state: Env,
     payload: &Values,
 ) -> Result<Option<Env>, NoMemory>
-    ensures { IfOk result (λ after. after ≡ after_op (slice_get (all_ops t.now.program.types) o.0) state payload.now) }
+    ensures { IfOk result
+        (λ after. after ≡ after_op (slice_get (all_ops t.now.program.types) o.0) state
+        payload.now) }
 {
     if o.0 >= t.ops() {
         return Ok(None);
@@ -130,8 +140,10 @@ pub fn apply(
 ) -> Result<Values, NoMemory>
     requires within { o.0 < length (all_ops t.now.program.types) }
     requires state { AreFields (type_of_op t.now.program.types o.0) state }
-    requires payload { FitsOp (slice_get (all_ops t.now.program.types) o.0) (Payload.Emitted payload.now) }
-    ensures value { IfOk result (λ after. applied t.now.program.types o.0 state payload.now ≡ Some after) }
+    requires payload { FitsOp (slice_get (all_ops t.now.program.types) o.0)
+        (Payload.Emitted payload.now) }
+    ensures value { IfOk result
+        (λ after. applied t.now.program.types o.0 state payload.now ≡ Some after) }
     ensures kinds { IfOk result (AreFields (type_of_op t.now.program.types o.0)) }
 {
     match try_apply(alloc, t, o, &state, payload)? {
@@ -191,8 +203,12 @@ pub fn fold(
     seen: &IdSet,
 ) -> Result<Values, NoMemory>
     requires within { kind.0 < length t.now.program.types }
-    requires own { All (IsOfType t.now.program.types (Some kind.0)) (seen_in_order execution.now seen.now) }
-    ensures value { IfOk result (λ state. option_map values_in (fold_of t.now.program.types kind.0 (seen_in_order execution.now seen.now)) ≡ Some state) }
+    requires own { All (IsOfType t.now.program.types (Some kind.0))
+        (seen_in_order execution.now seen.now) }
+    ensures value { IfOk result
+        (λ state. option_map values_in
+        (fold_of t.now.program.types kind.0 (seen_in_order execution.now seen.now))
+        ≡ Some state) }
     ensures kinds { IfOk result (AreFields (slice_get t.now.program.types kind.0)) }
 {
     match try_fold(alloc, t, kind, execution, seen)? {
@@ -210,7 +226,9 @@ fn try_fold(
     seen: &IdSet,
 ) -> Result<Option<Values>, NoMemory>
     requires { kind.0 < length t.now.program.types }
-    ensures { IfOk result (λ state. state ≡ option_map values_in (fold_of t.now.program.types kind.0 (seen_in_order execution.now seen.now))) }
+    ensures { IfOk result
+        (λ state. state ≡ option_map values_in
+        (fold_of t.now.program.types kind.0 (seen_in_order execution.now seen.now))) }
 {
     match state_after(alloc, t, kind, execution, seen)? {
         Some(state) => Ok(Some(values_of(alloc, state.items())?)),

@@ -17,7 +17,9 @@ pub(crate) fn emitting_in_order<'a>(
     execution: &'a Execution,
     seen: &IdSet,
 ) -> Result<Vec<&'a Effect>, NoMemory>
-    ensures { IfOk result (λ order. map (λ e. e.now) order.items ≡ filter has_emitted (seen_in_order execution.now seen.now)) }
+    ensures { IfOk result
+        (λ order. map (λ e. e.now) order.items
+        ≡ filter has_emitted (seen_in_order execution.now seen.now)) }
 {
     let mut order = found_backwards(alloc, execution.effects(), seen.items())?;
     order.sort_by(|a, b| compare(a, b))?;
@@ -30,7 +32,9 @@ fn found_backwards<'a>(
     effects: &'a [Effect],
     ids: &[u32],
 ) -> Result<Vec<&'a Effect>, NoMemory>
-    ensures { IfOk result (λ found. map (λ e. e.now) found.items ≡ reverse (filter_map (emitting_at effects.now) ids.now)) }
+    ensures { IfOk result
+        (λ found. map (λ e. e.now) found.items
+        ≡ reverse (filter_map (emitting_at effects.now) ids.now)) }
 {
     let mut found = Vec::with_capacity(alloc, ids.len())?;
     for k in 0..ids.len() {

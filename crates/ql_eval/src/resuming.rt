@@ -34,9 +34,12 @@ pub fn fold_after(
     ids: &IdSet,
 ) -> Result<Env, NoMemory>
     requires reached { IsReached t.now.program.types kind.0 state }
-    requires own { All (IsOfType t.now.program.types (Some kind.0)) (seen_in_order execution.now ids.now) }
-    ensures { IfOk result (λ after. (before : List Effect) → fold_of t.now.program.types kind.0 before ≡ Some state
-        → fold_of t.now.program.types kind.0 (before ++ seen_in_order execution.now ids.now) ≡ Some after) }
+    requires own { All (IsOfType t.now.program.types (Some kind.0))
+        (seen_in_order execution.now ids.now) }
+    ensures { IfOk result
+        (λ after. (before : List Effect) → fold_of t.now.program.types kind.0 before ≡ Some state
+        → fold_of t.now.program.types kind.0 (before ++ seen_in_order execution.now ids.now)
+        ≡ Some after) }
 {
     match fold_seen(alloc, t, state, execution, ids)? {
         Some(after) => Ok(after),
@@ -57,9 +60,14 @@ pub fn answer_after(
     ids: &IdSet,
 ) -> Result<Answered, NoMemory>
     requires able { IsAble t.now.program.types o.0 args.now (seen_in_order execution.now ids.now) }
-    requires reached { (k : ℕ) × (slice_get (op_kinds t.now.program.types) o.0 ≡ Some k) × IsReached t.now.program.types k state }
-    ensures { IfOk result (λ given. (k : ℕ) (before : List Effect) → slice_get (op_kinds t.now.program.types) o.0 ≡ Some k → fold_of t.now.program.types k before ≡ Some state
-        → given ≡ answered_of t.now.program.types o.0 args.now (before ++ seen_in_order execution.now ids.now)) }
+    requires reached { (k : ℕ) × (slice_get (op_kinds t.now.program.types) o.0 ≡ Some k)
+        × IsReached t.now.program.types k state }
+    ensures { IfOk result
+        (λ given. (k : ℕ) (before : List Effect)
+        → slice_get (op_kinds t.now.program.types) o.0 ≡ Some k
+        → fold_of t.now.program.types k before ≡ Some state
+        → given ≡ answered_of t.now.program.types o.0 args.now
+        (before ++ seen_in_order execution.now ids.now)) }
 {
     let after = fold_after(alloc, t, t.kind_of(o), state, execution, ids)?;
     match answer_over(alloc, t.op(o), args, after)? {

@@ -28,7 +28,8 @@ pub fn place_of(text: &[u8], offset: usize) -> Place
 /// The position of the first byte of a line that isn't blank, or of the text's end where the line has none.
 pub fn place_of_line(text: &[u8], number: u64) -> Place
     ensures is { IsPlace text.now result.at result }
-    ensures on_line { IsInLine text.now number result ⊎ ((result.at ≡ length text.now) × IsBlankLine text.now number) }
+    ensures on_line { IsInLine text.now number result
+        ⊎ ((result.at ≡ length text.now) × IsBlankLine text.now number) }
 {
     let (mut line, mut start) = (1, 0);
     for k in 0..text.len() {

@@ -104,7 +104,8 @@ impl Execution {
         ensures answer { IsPushAnswer self.old draft result }
         ensures pushed { OnOk result (self.new ≡ self.old ++ effect_of self.old draft ∷ []) }
         ensures err { OnErr result (self.new ≡ self.old) }
-        ensures lawful { (fault_of self.old draft ≡ None) ↔ IsExecution (self.old ++ effect_of self.old draft ∷ []) }
+        ensures lawful { (fault_of self.old draft ≡ None)
+            ↔ IsExecution (self.old ++ effect_of self.old draft ∷ []) }
     {
         let id = EffId(self.effects.len() as u32 + 1);
         let last = effect(&self.effects, self.latest.of(draft.session));

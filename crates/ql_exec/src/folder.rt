@@ -35,5 +35,6 @@ pub trait Folder {
     ) -> Result<Answered, NoMemory>
         requires seen { AreOnOneObject execution.now seen.now }
         requires able { able self.now op args.now (seen_in_order execution.now seen.now) }
-        ensures { IfOk result (λ given. given ≡ answered self.now op args.now (seen_in_order execution.now seen.now)) };
+        ensures { IfOk result
+            (λ given. given ≡ answered self.now op args.now (seen_in_order execution.now seen.now)) };
 }

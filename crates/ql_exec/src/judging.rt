@@ -20,7 +20,8 @@ pub(crate) fn fault_in(
     id: EffId,
 ) -> Option<ExecFault>
     requires execution { IsExecution effects.now }
-    requires session { option_copied last_of_session ≡ last (of_session effects.now draft.now.session) }
+    requires session { option_copied last_of_session
+        ≡ last (of_session effects.now draft.now.session) }
     requires runs { KnowsRuns runs.now effects.now }
     requires next { id ≡ next_id effects.now }
     ensures value { result ≡ fault_of effects.now draft.now }

@@ -16,7 +16,7 @@ use Rattle.ql_effect_lines.proofs.Lawful.{stays_sound}
 use Rattle.ql_effect_lines.proofs.Lines.{no_effect_ends, one_effect}
 use Rattle.ql_execution_files.specs.declared.format.ExecutionReading.{ExecutionReading}
 use Rattle.ql_execution_files.specs.declared.format.ExecutionReading.TheVariants.{Unbegun, WithEffects, Ended}
-use Rattle.ql_execution_files.specs.ExecutionFile.{AreSound, Breaks, BreaksRule, ClosesExecution, ExtendsExecution, IsNoLine, Takes, TakesAny, TakesEffect, TakesEnd, nothing_read}
+use Rattle.ql_execution_files.specs.ExecutionFile.{AreSound, Breaks, ClosesExecution, ExtendsExecution, Takes, TakesAny, TakesEffect, nothing_read}
 
 pub takes_sound : (p : Program) (s : ExecutionReading) (text : List ℕ) (t : ExecutionReading) → AreSound p s → Takes p s text t → AreSound p t
 takes_sound p Unbegun text t sound (inl h) = subst (AreSound p) (sym h.1) (omega arith, All-nil (λ (f : Effect). f.op.0 < length (all_ops p.types)), omega arith)

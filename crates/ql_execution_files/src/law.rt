@@ -7,7 +7,10 @@ ghost use Rattle.ql_execution_files.specs.ExecutionFile.{FirstExecutionFault, Is
 
 /// A file says one execution of a program or has one first fault, and not both.
 pub fn one_execution()
-    ensures one { (p : Program) (file : Ahead) (x y : List Effect) → IsExecutionFile p file x → IsExecutionFile p file y → x ≡ y }
-    ensures fault { (p : Program) (file : Ahead) (f g : ReportFault) → FirstExecutionFault p file f → FirstExecutionFault p file g → f ≡ g }
-    ensures apart { (p : Program) (file : Ahead) (x : List Effect) (f : ReportFault) → IsExecutionFile p file x → FirstExecutionFault p file f → ⊥ }
+    ensures one { (p : Program) (file : Ahead) (x y : List Effect) → IsExecutionFile p file x
+        → IsExecutionFile p file y → x ≡ y }
+    ensures fault { (p : Program) (file : Ahead) (f g : ReportFault) → FirstExecutionFault p file f
+        → FirstExecutionFault p file g → f ≡ g }
+    ensures apart { (p : Program) (file : Ahead) (x : List Effect) (f : ReportFault)
+        → IsExecutionFile p file x → FirstExecutionFault p file f → ⊥ }
 {}

@@ -13,7 +13,9 @@ use std::alloc::Global;
 /// The execution of a program that a file says, or the file's first fault. The lines before the
 /// first one that is `execution` are skipped.
 pub fn parse_execution(alloc: Global, t: &Typed, bytes: &[u8]) -> Result<Execution, ReportFault>
-    ensures read { MatchResult result (λ x. IsExecutionFile t.now.program (ahead_from 1 bytes.now) x) (IsRefusal t.now.program (ahead_from 1 bytes.now)) }
+    ensures read { MatchResult result
+        (λ x. IsExecutionFile t.now.program (ahead_from 1 bytes.now) x)
+        (IsRefusal t.now.program (ahead_from 1 bytes.now)) }
     ensures few { IfOk result (λ x. length x ≤ 4000) }
     ensures known { IfOk result (λ x. AreOfProgram t.now.program x) }
 {

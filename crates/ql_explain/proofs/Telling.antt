@@ -1,10 +1,9 @@
 -- What is said of the files that words name, from what is said of each.
-use Rattle.std.proofs.Common.{◌≡◌, inl, inr, ℕ, ◌<◌, ◌≤◌, List, length, Option, Some, None, Result, Ok, Err, refl, sym, subst, arith}
+use Rattle.std.proofs.Common.{◌≡◌, inl, inr, ℕ, ◌<◌, ◌≤◌, List, length, Option, Some, None, Result, Ok, Err, sym, subst, arith}
 use Rattle.std.specs.Prelude.{IfOk, IfSome}
 use Rattle.std.specs.Global.{Vec}
 use Rattle.ql_base.specs.declared.no_memory.NoMemory.{NoMemory}
 use Rattle.ql_ports.specs.Faults.{Rose}
-use Rattle.ql_ports.specs.Written.{appended}
 use Rattle.ql_ports.specs.declared.whole.ReadError.{ReadError}
 use Rattle.ql_ports.specs.declared.whole.ReadError.TheVariants.{Failed, TooLong}
 use Rattle.ql_baseline.specs.Comparison.{BaselineSays}

@@ -4,9 +4,6 @@ use Rattle.ql_baseline.specs.Comparison.{BaselineSays}
 use Rattle.ql_explain_json.specs.JsonExplanations.{ExplainJsonSays}
 use Rattle.ql_explanation.specs.Explanation.{ExplainSays}
 use Rattle.ql_ports.specs.Faults.{Rose}
-use Rattle.ql_ports.specs.Written.{AppendsFront, appended}
-use Rattle.ql_ports.specs.declared.whole.ReadError.{ReadError}
-use Rattle.ql_ports.specs.declared.whole.ReadError.TheVariants.{Failed, TooLong}
 use Rattle.ql_explain.specs.Words.{Call, Explained, Compared, asked}
 use Rattle.ql_explain.specs.declared.asked.Form.{Form}
 use Rattle.ql_explain.specs.declared.asked.Form.TheVariants.{Text, Json}

@@ -1,10 +1,7 @@
 -- The arguments that make a request:  SOURCE, or  --json SOURCE, or  --baseline FILE SOURCE
-use Rattle.std.specs.Prelude.{ℕ, Bool, ◌&&◌, ◌==◌, not, nat_le, if◌then◌else◌, List, [], ◌∷◌, Option, Some, None, length, map, slice_index, codes}
-use Rattle.std.specs.Global.{Global, Vec}
+use Rattle.std.specs.Prelude.{ℕ, if◌then◌else◌, List, [], ◌∷◌, Option, Some, None, codes}
 use Rattle.std.specs.Option.{option_map}
 use Rattle.std.specs.Str.{bytes_eq}
-use Rattle.std.specs.declared.string.String.{String}
-use Rattle.std.specs.String.{string_bytes}
 use Rattle.ql_reply.specs.Arguments.{is_file_name}
 use Rattle.ql_explain.specs.declared.asked.Asked.{Asked}
 use Rattle.ql_explain.specs.declared.asked.Asked.TheVariants as request

@@ -82,7 +82,9 @@ fn against(words: &[String]) -> Option<Asked>
 }
 
 fn compared<'a>(baseline: &'a str, source: Option<&'a str>) -> Option<Asked<'a>>
-    ensures { option_map call_of result ≡ option_map (λ name. Compared baseline.now name) (option_map (λ name. name.now) source.entry) }
+    ensures { option_map call_of result
+        ≡ option_map (λ name. Compared baseline.now name)
+        (option_map (λ name. name.now) source.entry) }
 {
     match source {
         None => None,
@@ -101,7 +103,8 @@ fn one_name(words: &[String]) -> Option<&str>
 }
 
 fn only_name<'a>(word: &'a str, rest: &[String]) -> Option<&'a str>
-    ensures { option_map (λ name. name.now) result ≡ only_name word.now (map string_bytes rest.now) }
+    ensures { option_map (λ name. name.now) result
+        ≡ only_name word.now (map string_bytes rest.now) }
 {
     match rest.split_first() {
         None => { if is_file_name(word) { Some(word) } else { None } }

@@ -1,6 +1,5 @@
-ghost use Rattle.std.specs.Prelude.{◌≡◌, ◌<◌, ◌≤◌, ◌^◌, ◌++◌, ℕ, List, IfOk, IfSome, codes, length};
+ghost use Rattle.std.specs.Prelude.{◌≡◌, ◌<◌, ◌≤◌, ◌^◌, ℕ, List, IfOk, IfSome, length};
 ghost use Rattle.ql_explain.specs.Outcomes.{Says, SaysIn, Tells};
-ghost use Rattle.ql_reply.specs.Unread.{IsUnread};
 ghost use Rattle.ql_explain.specs.Words.{Compared, Explained};
 ghost use Rattle.ql_reply.specs.Arguments.{word_texts};
 
@@ -24,7 +23,9 @@ pub(crate) fn outcome<S: Shelf>(
     words: &Vec<String>,
     shelf: &mut S,
 ) -> Result<(Status, Vec<u8>), NoMemory>
-    ensures says { IfOk result (λ answer. Says (word_texts words.now) (S.held shelf.old) (S.faults shelf.old) (S.faults shelf.new) answer.0 answer.1.items) }
+    ensures says { IfOk result
+        (λ answer. Says (word_texts words.now) (S.held shelf.old) (S.faults shelf.old)
+        (S.faults shelf.new) answer.0 answer.1.items) }
     ensures same_contents { (other : List ℕ) → S.held shelf.new other ≡ S.held shelf.old other }
     ensures counts_stay { (other : List ℕ) → S.faults shelf.old other ≤ S.faults shelf.new other }
 {
@@ -41,7 +42,9 @@ fn of_source<S: Shelf>(
     name: &str,
     shelf: &mut S,
 ) -> Result<(Status, Vec<u8>), NoMemory>
-    ensures says { IfOk result (λ answer. Tells (S.held shelf.old) (S.faults shelf.old) (S.faults shelf.new) (Explained form name.now) answer.0 answer.1.items) }
+    ensures says { IfOk result
+        (λ answer. Tells (S.held shelf.old) (S.faults shelf.old) (S.faults shelf.new)
+        (Explained form name.now) answer.0 answer.1.items) }
     ensures same_contents { (other : List ℕ) → S.held shelf.new other ≡ S.held shelf.old other }
     ensures counts_stay { (other : List ℕ) → S.faults shelf.old other ≤ S.faults shelf.new other }
 {
@@ -56,7 +59,9 @@ fn of_pair<S: Shelf>(
     pair: Pair,
     shelf: &mut S,
 ) -> Result<(Status, Vec<u8>), NoMemory>
-    ensures says { IfOk result (λ answer. Tells (S.held shelf.old) (S.faults shelf.old) (S.faults shelf.new) (Compared pair.entry.baseline.now pair.entry.source.now) answer.0 answer.1.items) }
+    ensures says { IfOk result
+        (λ answer. Tells (S.held shelf.old) (S.faults shelf.old) (S.faults shelf.new)
+        (Compared pair.entry.baseline.now pair.entry.source.now) answer.0 answer.1.items) }
     ensures same_contents { (other : List ℕ) → S.held shelf.new other ≡ S.held shelf.old other }
     ensures counts_stay { (other : List ℕ) → S.faults shelf.old other ≤ S.faults shelf.new other }
 {
@@ -74,7 +79,9 @@ fn with_baseline<S: Shelf>(
     shelf: &mut S,
 ) -> Result<(Status, Vec<u8>), NoMemory>
     requires { IfSome (S.held shelf.old pair.baseline.now) (λ whole. baseline.now ≡ whole) }
-    ensures says { IfOk result (λ answer. Tells (S.held shelf.old) (S.faults shelf.old) (S.faults shelf.new) (Compared pair.entry.baseline.now pair.entry.source.now) answer.0 answer.1.items) }
+    ensures says { IfOk result
+        (λ answer. Tells (S.held shelf.old) (S.faults shelf.old) (S.faults shelf.new)
+        (Compared pair.entry.baseline.now pair.entry.source.now) answer.0 answer.1.items) }
     ensures same_contents { (other : List ℕ) → S.held shelf.new other ≡ S.held shelf.old other }
     ensures counts_stay { (other : List ℕ) → S.faults shelf.old other ≤ S.faults shelf.new other }
 {

@@ -1,9 +1,8 @@
 -- No explanation has a float in its JSON form.
-use Rattle.std.proofs.Common.{◌≡◌, ℕ, Bool, true, false, ◌||◌, List, [], ◌∷◌, None, Some, Option, map, refl, sym, ap, ◌∙◌}
+use Rattle.std.proofs.Common.{◌≡◌, ℕ, Bool, true, false, ◌||◌, List, [], ◌∷◌, None, Some, Option, map, refl, ap, ◌∙◌}
 use Rattle.serde_json.specs.Data.{Data}
 use Rattle.serde_json.specs.View.{items_of}
 use Rattle.serde_json.specs.Written.{has_float, items_have_float}
-use Rattle.ql_base.specs.declared.ids.OpId.{OpId}
 use Rattle.ql_classify.specs.declared.finding.Finding.{Finding}
 use Rattle.ql_classify.specs.declared.finding.Finding.TheVariants.{Least, NoLevel}
 use Rattle.ql_classify.specs.declared.finding.Unmet.{Unmet}
@@ -18,13 +17,13 @@ use Rattle.ql_ground.specs.declared.goal.Goal.{Goal}
 use Rattle.ql_lang.specs.declared.contract.Var.{Var}
 use Rattle.ql_levels.specs.Lists.{LevelLists}
 use Rattle.ql_lang.specs.declared.program.Program.{Program}
-use Rattle.ql_run_json.specs.JsonRuns.{effects_from, run_data}
+use Rattle.ql_run_json.specs.JsonRuns.{effects_from}
 use Rattle.ql_run_json.specs.Values.{id_data, listed}
 use Rattle.ql_run_json.proofs.Floats.{HasNone, HaveNone, each_none, neither, run_none}
 use Rattle.ql_why.specs.Why.{object_names, vars_of}
 use Rattle.ql_warnings.specs.declared.warning.Warning.{Warning}
 use Rattle.ql_warnings.specs.declared.warning.Warning.TheVariants as warning
-use Rattle.ql_explain_json.specs.JsonExplanations.{AreTargets, AreWarnings, IsCounterData, IsReasonOf, IsTarget, at_data, claim_effects, counter_data, fact_data, level_data, place_of, target_data, use_data, variables_data, warning_data, warnings_data}
+use Rattle.ql_explain_json.specs.JsonExplanations.{AreTargets, AreWarnings, IsReasonOf, IsTarget, at_data, claim_effects, counter_data, fact_data, level_data, place_of, use_data, variables_data, warning_data, warnings_data}
 
 first : (a b : Bool) → (a || b) ≡ false → a ≡ false
 first false b e = refl

@@ -1,6 +1,5 @@
 // A countermodel as JSON.
 ghost use Rattle.std.specs.Prelude.{◌≡◌, ◌++◌, ℕ, IfOk, OnOk, codes, map};
-ghost use Rattle.std.specs.List.{All};
 ghost use Rattle.serde_json.specs.Data.{put as with_member};
 ghost use Rattle.serde_json.specs.View.{members_view, view};
 ghost use Rattle.ql_classify.specs.Finding.{IsFinding, IsUnmet};
@@ -8,11 +7,11 @@ ghost use Rattle.ql_counter.specs.Countermodels.{AreWithin, IsCounterOf, numbers
 ghost use Rattle.ql_explanation.specs.Explanation.{AreFindings, unmet_of};
 ghost use Rattle.ql_ground.specs.OfPrograms.{IsGoalOf};
 ghost use Rattle.ql_run_json.specs.JsonRuns.{effects_from};
-ghost use Rattle.ql_run_json.specs.Values.{id_data, listed, text_data};
+ghost use Rattle.ql_run_json.specs.Values.{listed, text_data};
 ghost use Rattle.ql_run_text.specs.EffectTexts.{AreNamed};
 ghost use Rattle.ql_why.specs.Why.{level_text, object_names};
 ghost use Rattle.ql_why.specs.Why as why;
-ghost use Rattle.ql_explain_json.specs.JsonExplanations.{IsCounterData, IsShown, IsShownOf, at_data, counter_data, fact_data, variable_data, variables_data, warnings_data};
+ghost use Rattle.ql_explain_json.specs.JsonExplanations.{IsCounterData, IsShown, IsShownOf, at_data, counter_data, fact_data, variable_data, variables_data};
 
 use crate::facts::facts as facts_value;
 use crate::warnings::warnings_value;
@@ -94,7 +93,8 @@ fn counter_value(
 ) -> Result<Json, NoMemory>
     requires goal { IsGoalOf t.now.program g }
     requires named { AreNamed t.now.program 7 c.now.execution }
-    ensures { IfOk result (λ json. view json ≡ counter_data t.now.program g c.now facts.now warned.now) }
+    ensures { IfOk result
+        (λ json. view json ≡ counter_data t.now.program g c.now facts.now warned.now) }
 {
     let mut members = Map::new(alloc);
     put_execution(alloc, &mut members, t, c)?;
@@ -144,7 +144,8 @@ fn put_breach(
     ensures { OnOk result (members_view members.new.entries ≡
         with_member (codes "variables") (listed (variables_data (why.vars_of t.now.program g) (numbers c.now.places)))
         (with_member (codes "level") (text_data (level_text g))
-        (with_member (codes "facts") (listed (map fact_data facts.now)) (members_view members.old.entries)))) }
+        (with_member (codes "facts") (listed (map fact_data facts.now))
+        (members_view members.old.entries)))) }
 {
     put(members, alloc, "facts", facts_value(alloc, facts)?)?;
     put(
@@ -173,7 +174,8 @@ fn at_value(at: At) -> Json
 
 // Each variable with the id of its effect.
 fn variables(alloc: Global, vars: &[Var], places: &[EffId]) -> Result<Json, NoMemory>
-    ensures { IfOk result (λ json. view json ≡ listed (variables_data vars.now (numbers places.now))) }
+    ensures { IfOk result
+        (λ json. view json ≡ listed (variables_data vars.now (numbers places.now))) }
 {
     let mut list = Vec::new(alloc);
     push_variables(alloc, &mut list, vars, places)?;
@@ -186,7 +188,9 @@ fn push_variables(
     vars: &[Var],
     places: &[EffId],
 ) -> Result<(), NoMemory>
-    ensures { OnOk result (map view list.new.items ≡ map view list.old.items ++ variables_data vars.now (numbers places.now)) }
+    ensures { OnOk result
+        (map view list.new.items ≡ map view list.old.items
+        ++ variables_data vars.now (numbers places.now)) }
 {
     let Some((var, other_vars)) = vars.split_first() else {
         return Ok(());

@@ -39,7 +39,8 @@ fn targets(
 ) -> Result<Vec<Json>, NoMemory>
     requires bytes { length source.now < 2 ^ 32 }
     requires findings { AreFindings t.now.program findings.now }
-    ensures { IfOk result (λ targets. AreTargets source.now t.now.program findings.now (map view targets.items)) }
+    ensures { IfOk result
+        (λ targets. AreTargets source.now t.now.program findings.now (map view targets.items)) }
 {
     let mut list = Vec::new(alloc);
     for k in 0..findings.len() {

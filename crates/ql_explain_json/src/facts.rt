@@ -1,7 +1,6 @@
 // Facts as JSON.
-ghost use Rattle.std.specs.Prelude.{◌≡◌, IfOk, codes, map};
-ghost use Rattle.serde_json.specs.Data.{put as with_member};
-ghost use Rattle.serde_json.specs.View.{members_view, view};
+ghost use Rattle.std.specs.Prelude.{◌≡◌, IfOk, map};
+ghost use Rattle.serde_json.specs.View.{view};
 ghost use Rattle.ql_run_json.specs.Values.{id_data, listed};
 ghost use Rattle.ql_lang.specs.Spelling.{relation_word};
 ghost use Rattle.ql_explain_json.specs.JsonExplanations.{claim_effects, claim_text, fact_data};

@@ -77,7 +77,9 @@ fn target_value(
     requires goal { IsGoalOf t.now.program g }
     requires target { g ≡ goal_of finding.now }
     requires uses { All (λ o. o.0 < length (all_ops t.now.program.types)) uses.now }
-    ensures { IfOk result (λ json. view json ≡ target_data t.now.program finding.now uses.now (view reason) (view warnings)) }
+    ensures { IfOk result
+        (λ json. view json ≡ target_data t.now.program finding.now uses.now (view reason)
+        (view warnings)) }
 {
     let mut members = Map::new(alloc);
     put(&mut members, alloc, "countermodel", reason)?;
@@ -104,7 +106,8 @@ fn put_names(
     ensures { OnOk result (members_view members.new.entries ≡
         with_member (codes "name") (text_data (name_text t.now.program g))
         (with_member (codes "level") (level_data finding.now)
-        (with_member (codes "kind") (text_data (kind_text g)) (members_view members.old.entries)))) }
+        (with_member (codes "kind") (text_data (kind_text g))
+        (members_view members.old.entries)))) }
 {
     put(members, alloc, "kind", text(alloc, kind_of(g).as_bytes())?)?;
     put(members, alloc, "level", level(alloc, finding)?)?;

@@ -18,7 +18,7 @@ below_pushed : (id last : ℕ) (ids : List ℕ) → id < last → IsBelowAll id 
 below_pushed id last [] less below = (less, tt)
 below_pushed id last (other ∷ ids) less below = (below.0, below_pushed id last ids less below.1)
 
--- a greater number behind ascending ones
+-- a greater number after ascending ones
 ascending_pushed : (last : ℕ) (uses : List OpId) → All (λ (o : OpId). o.0 < last) uses → IsAscending (map number uses) → IsAscending (map number uses ++ last ∷ [])
 ascending_pushed last [] below ascending = (tt, tt)
 ascending_pushed last (o ∷ uses) below ascending =

@@ -63,7 +63,8 @@ fn has_strong_use(t: &Typed, findings: &[Finding]) -> bool
 fn uses_strong(t: &Typed, findings: &[Finding], d: DeclId) -> bool
     requires txn { d.0 < length t.now.program.txns }
     requires findings { AreFindings t.now.program findings.now }
-    ensures { MatchBool result ((o : OpId) × IsStrongIn t.now.program d.0 o) ((o : OpId) → IsStrongIn t.now.program d.0 o → ⊥) }
+    ensures { MatchBool result ((o : OpId) × IsStrongIn t.now.program d.0 o)
+        ((o : OpId) → IsStrongIn t.now.program d.0 o → ⊥) }
 {
     for o in 0..t.ops() {
         if is_strong_use(t, findings, d, OpId(o)) {

@@ -1,4 +1,4 @@
-ghost use Rattle.std.specs.Prelude.{◌≡◌, ◌<◌, ◌^◌, ℕ, IfOk, OnOk, length};
+ghost use Rattle.std.specs.Prelude.{◌<◌, ◌^◌, ℕ, IfOk, OnOk, length};
 ghost use Rattle.ql_classify.specs.Finding.{IsFinding};
 ghost use Rattle.ql_why.specs.Why.{Appended, InTurn};
 ghost use Rattle.ql_explanation.specs.Explanation.{AreFindings, ExplainSays, IsSection};
@@ -39,7 +39,8 @@ fn sections_of(
 ) -> Result<Vec<u8>, NoMemory>
     requires source { length source.now < 2 ^ 32 }
     requires findings { AreFindings t.now.program findings.now }
-    ensures { IfOk result (λ text. InTurn (IsSection source.now t.now.program) findings.now text.items) }
+    ensures { IfOk result
+        (λ text. InTurn (IsSection source.now t.now.program) findings.now text.items) }
 {
     let mut text = Vec::new(alloc);
     for k in 0..findings.len() {
@@ -61,7 +62,8 @@ fn push_section(
     requires source { length source.now < 2 ^ 32 }
     requires findings { AreFindings t.now.program findings.now }
     requires finding { (target : ℕ) × IsFinding t.now.program target finding.now }
-    ensures { OnOk result (Appended (IsSection source.now t.now.program finding.now) text.old.items text.new.items) }
+    ensures { OnOk result
+        (Appended (IsSection source.now t.now.program finding.now) text.old.items text.new.items) }
 {
     let goal = goal_of(finding);
     let uses = uses_of(alloc, t, findings, goal)?;

@@ -1,6 +1,5 @@
 // What is found of each target.
 ghost use Rattle.std.specs.Prelude.{◌≡◌, ◌<◌, IfOk, Some, length, slice_get};
-ghost use Rattle.ql_classify.specs.Targets.{targets};
 ghost use Rattle.ql_explanation.specs.Explanation.{AreFindings};
 
 use ql_base::NoMemory;

@@ -49,7 +49,9 @@ pub(crate) fn section(
     requires target { g ≡ goal_of finding.now }
     requires known { IsGoalOf t.now.program g }
     requires uses { AreUsesOf t.now.program g remarks.uses.now }
-    ensures { IfOk result (λ text. (source : List ℕ) → AreWarnings source t.now.program g remarks.entry.warned.now → IsSection source t.now.program finding.now text.items) }
+    ensures { IfOk result
+        (λ text. (source : List ℕ) → AreWarnings source t.now.program g remarks.entry.warned.now
+        → IsSection source t.now.program finding.now text.items) }
 {
     let mut text = gap(alloc, is_first)?;
     push_first_line(&mut text, t, finding, g)?;
@@ -75,7 +77,10 @@ fn push_remarks(
 ) -> Result<(), NoMemory>
     requires known { IsGoalOf t.now.program g }
     requires uses { AreUsesOf t.now.program g remarks.uses.now }
-    ensures { OnOk result ((words : List ℕ) × (out.new.items ≡ out.old.items ++ strong_lines t.now.program g remarks.entry.uses.now ++ words ++ warned_text t.now.program remarks.entry.warned.now)) }
+    ensures { OnOk result
+        ((words : List ℕ) × (out.new.items ≡ out.old.items
+        ++ strong_lines t.now.program g remarks.entry.uses.now ++ words
+        ++ warned_text t.now.program remarks.entry.warned.now)) }
 {
     push_uses(alloc, out, t, g, remarks.uses)?;
     let ways_out = ways_out(alloc, t, remarks.uses)?;

@@ -57,7 +57,9 @@ fn push_strong_use(
     requires txn { d.0 < length t.now.program.txns }
     requires op { o.0 < length (all_ops t.now.program.types) }
     requires findings { AreFindings t.now.program findings.now }
-    ensures { OnOk result (AreStrongBelow t.now.program d.0 o.0 uses.old.items → AreStrongBelow t.now.program d.0 (o.0 + 1) uses.new.items) }
+    ensures { OnOk result
+        (AreStrongBelow t.now.program d.0 o.0 uses.old.items
+        → AreStrongBelow t.now.program d.0 (o.0 + 1) uses.new.items) }
 {
     if !is_strong_use(t, findings, d, o) {
         return Ok(());
@@ -71,7 +73,8 @@ pub(crate) fn is_strong_use(t: &Typed, findings: &[Finding], d: DeclId, o: OpId)
     requires txn { d.0 < length t.now.program.txns }
     requires op { o.0 < length (all_ops t.now.program.types) }
     requires findings { AreFindings t.now.program findings.now }
-    ensures { MatchBool result (IsStrongIn t.now.program d.0 o) (IsStrongIn t.now.program d.0 o → ⊥) }
+    ensures { MatchBool result (IsStrongIn t.now.program d.0 o)
+        (IsStrongIn t.now.program d.0 o → ⊥) }
 {
     if !t.uses(d, o) {
         return false;

@@ -27,7 +27,8 @@ pub(crate) struct Scene<'a> {
 /// Whether a claim holds.
 pub(crate) fn holds(scene: Scene, claim: Claim) -> bool
     requires { IsTableOf scene.relations.now scene.execution.now }
-    ensures { result ≡ claim_true scene.entry.execution.now (inside_of scene.entry.execution.now scene.entry.at) claim }
+    ensures { result ≡ claim_true scene.entry.execution.now
+        (inside_of scene.entry.execution.now scene.entry.at) claim }
 {
     let effects = scene.execution.effects();
     match claim {

@@ -1,5 +1,5 @@
 // The facts that make a contract false.
-ghost use Rattle.std.specs.Prelude.{◌≡◌, IfOk, OnOk};
+ghost use Rattle.std.specs.Prelude.{IfOk, OnOk};
 ghost use Rattle.std.specs.List.{All};
 ghost use Rattle.ql_formula.specs.Tables.{IsTableOf};
 ghost use Rattle.ql_facts.specs.Facts.{IsTrueOf, KeepsAny, KeepsTrue};
@@ -31,7 +31,8 @@ pub fn reasons(alloc: Global, formula: &Formula, c: &Counter) -> Result<Vec<Fact
 // Appends facts by which the body has this value, if it has it; returns whether it does.
 fn tell(facts: &mut Vec<Fact>, scene: Scene, body: &Body, value: bool) -> Result<bool, NoMemory>
     requires { IsTableOf scene.relations.now scene.execution.now }
-    ensures { OnOk result (KeepsTrue scene.entry.execution.now scene.entry.at facts.old.items facts.new.items) }
+    ensures { OnOk result
+        (KeepsTrue scene.entry.execution.now scene.entry.at facts.old.items facts.new.items) }
 {
     let mark = facts.len();
     match body {
@@ -89,7 +90,8 @@ fn tell_related(
     value: bool,
 ) -> Result<bool, NoMemory>
     requires { IsTableOf scene.relations.now scene.execution.now }
-    ensures { OnOk result (KeepsTrue scene.entry.execution.now scene.entry.at facts.old.items facts.new.items) }
+    ensures { OnOk result
+        (KeepsTrue scene.entry.execution.now scene.entry.at facts.old.items facts.new.items) }
 {
     let mark = facts.len();
     match relation {
@@ -121,7 +123,8 @@ fn tell_claim(
     value: bool,
 ) -> Result<bool, NoMemory>
     requires { IsTableOf scene.relations.now scene.execution.now }
-    ensures { OnOk result (KeepsTrue scene.entry.execution.now scene.entry.at facts.old.items facts.new.items) }
+    ensures { OnOk result
+        (KeepsTrue scene.entry.execution.now scene.entry.at facts.old.items facts.new.items) }
 {
     let is_so = holds(scene, claim) == value;
     if is_so {
@@ -142,7 +145,8 @@ fn tell_txn(
     value: bool,
 ) -> Result<bool, NoMemory>
     requires { IsTableOf scene.relations.now scene.execution.now }
-    ensures { OnOk result (KeepsTrue scene.entry.execution.now scene.entry.at facts.old.items facts.new.items) }
+    ensures { OnOk result
+        (KeepsTrue scene.entry.execution.now scene.entry.at facts.old.items facts.new.items) }
 {
     let mut asked = Vec::new(*facts.allocator());
     for member in members {
@@ -176,7 +180,8 @@ fn tell_all(
     value: bool,
 ) -> Result<bool, NoMemory>
     requires { IsTableOf scene.relations.now scene.execution.now }
-    ensures { OnOk result (KeepsTrue scene.entry.execution.now scene.entry.at facts.old.items facts.new.items) }
+    ensures { OnOk result
+        (KeepsTrue scene.entry.execution.now scene.entry.at facts.old.items facts.new.items) }
 {
     for fact in asked {
         if value {

@@ -84,7 +84,8 @@ fn first_state(alloc: Global, typed: &Typed, op: OpId) -> Result<Values, NoMemor
 fn answered_alone(alloc: Global, typed: &Typed, op: OpId) -> Result<Answered, NoMemory>
     requires within { op.0 < length (all_ops typed.now.program.types) }
     requires alone { AreArgs (slice_get (all_ops typed.now.program.types) op.0) [] }
-    ensures { IfOk result (λ given. FitsOp (slice_get (all_ops typed.now.program.types) op.0) given.payload) }
+    ensures { IfOk result
+        (λ given. FitsOp (slice_get (all_ops typed.now.program.types) op.0) given.payload) }
 {
     let folder = TypedFolder::new(alloc, typed);
     let execution = Execution::new(alloc);

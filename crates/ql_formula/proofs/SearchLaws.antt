@@ -28,7 +28,7 @@ whole_false x body places e = record {
     nothing_before [] b = b
     nothing_before (o ∷ others) b = b
 
--- the front with one place more
+-- the prefix with one place more
 one_more : (body : List ℕ → Bool) (front : List ℕ) (p : ℕ) (ps : List ℕ) → body ((front ++ p ∷ []) ++ ps) ≡ body (front ++ p ∷ ps)
 one_more body front p ps = ap body (append_assoc front (p ∷ []) ps)
 
@@ -70,7 +70,7 @@ place_within x (OneOf ops) p is = of_effect p (effect_at x p) refl (λ e. has_id
     of_effect zero (Some e) found test is = absurd (let never : None ≡ Some e = found in cc)
     of_effect (suc k) (Some e) found test is = (omega arith, effect_at-within x (suc k) e found)
 
--- a list that begins with a front and one place
+-- a list that begins with a prefix and one place
 pub begins_so : (new front : List ℕ) (p at : ℕ) → length front ≡ at → take (at + 1) new ≡ front ++ p ∷ [] → (take at new ≡ front) × (drop at new ≡ p ∷ drop (at + 1) new)
 begins_so new front p at len e =
     let rest = drop (at + 1) new in

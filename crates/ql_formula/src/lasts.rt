@@ -29,8 +29,10 @@ impl Lasts {
     /// Returns the one that was.
     pub(crate) fn replace(&mut self, key: Key, index: usize) -> Result<Option<usize>, NoMemory>
         ensures closure { self.new.closure ≡ self.old.closure }
-        ensures before { (keys : List Key) → HasLasts self.old keys → IfOk result (λ last. IsLastBefore self.old.closure keys key last) }
-        ensures after { (keys : List Key) → length keys ≡ index → HasLasts self.old keys → OnOk result (HasLasts self.new (keys ++ key ∷ [])) }
+        ensures before { (keys : List Key) → HasLasts self.old keys
+            → IfOk result (λ last. IsLastBefore self.old.closure keys key last) }
+        ensures after { (keys : List Key) → length keys ≡ index → HasLasts self.old keys
+            → OnOk result (HasLasts self.new (keys ++ key ∷ [])) }
     {
         Ok(self.indices.insert(group_of(self.closure, key), index)?)
     }

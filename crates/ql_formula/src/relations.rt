@@ -56,7 +56,8 @@ impl Relations {
     /// Whether two effects are related. No effect is related to one that isn't there, except by equality.
     pub fn test(&self, relation: &Rel, a: EffId, b: EffId) -> bool
         ensures tabled { result ≡ related_in self.now (relation_of relation.now) a.0 b.0 }
-        ensures real { (x : List Effect) → IsTableOf self.now x → result ≡ related x (relation_of relation.now) a.0 b.0 }
+        ensures real { (x : List Effect) → IsTableOf self.now x
+            → result ≡ related x (relation_of relation.now) a.0 b.0 }
     {
         self.tells(relation, a.0, b.0)
     }

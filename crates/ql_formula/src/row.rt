@@ -63,7 +63,8 @@ impl Row {
     pub(crate) fn set(&mut self, k: usize)
         requires { k < length self.old }
         ensures length { length self.new ≡ length self.old }
-        ensures added { (j : ℕ) → slice_index_or self.new j false ≡ (slice_index_or self.old j false || nat_eq j k) }
+        ensures added { (j : ℕ)
+            → slice_index_or self.new j false ≡ (slice_index_or self.old j false || nat_eq j k) }
     {
         self.words[k / 64] |= 1u64 << (k % 64);
     }
@@ -72,7 +73,9 @@ impl Row {
     pub(crate) fn unite(&mut self, other: &Row)
         requires { length other.now ≤ length self.old }
         ensures length { length self.new ≡ length self.old }
-        ensures united { (j : ℕ) → slice_index_or self.new j false ≡ (slice_index_or self.old j false || slice_index_or other.now j false) }
+        ensures united { (j : ℕ)
+            → slice_index_or self.new j false
+            ≡ (slice_index_or self.old j false || slice_index_or other.now j false) }
     {
         unite_words(self.words.as_mut_slice(), &other.words);
     }
@@ -87,7 +90,8 @@ fn no_words(alloc: Global, count: usize) -> Result<Vec<u64>, NoMemory>
 fn unite_words(words: &mut [u64], others: &[u64])
     requires { length others.now ≤ length words.old }
     ensures length { length words.new ≡ length words.old }
-    ensures united { (k : ℕ) → slice_index words.new k ≡ bit_or (slice_index words.old k) (slice_index others.now k) }
+    ensures united { (k : ℕ)
+        → slice_index words.new k ≡ bit_or (slice_index words.old k) (slice_index others.now k) }
 {
     for k in 0..others.len() {
         words[k] |= others[k];

@@ -65,7 +65,9 @@ fn vis_row(alloc: Global, effects: &[Effect], k: usize) -> Result<Row, NoMemory>
 fn mark(row: &mut Row, ids: &[u32])
     requires { (k : ℕ) → has_id ids.now k ≡ true → (1 ≤ k) × (k ≤ length row.old) }
     ensures length { length row.new ≡ length row.old }
-    ensures marked { (k : ℕ) → slice_index_or row.new k false ≡ (slice_index_or row.old k false || has_id ids.now (suc k)) }
+    ensures marked { (k : ℕ)
+        → slice_index_or row.new k false
+        ≡ (slice_index_or row.old k false || has_id ids.now (suc k)) }
 {
     for id in ids {
         row.set(*id as usize - 1);
@@ -106,7 +108,8 @@ fn closure_row(
     requires within { length rows.now < length effects.now }
     requires rows { AreRows (leads (step_of lasts.old.closure effects.now)) rows.now }
     requires lasts { HasLasts lasts.old (take (length rows.now) keys.now) }
-    ensures row { IfOk result (λ row. IsRow (leads (step_of lasts.old.closure effects.now)) (suc (length rows.now)) row) }
+    ensures row { IfOk result
+        (λ row. IsRow (leads (step_of lasts.old.closure effects.now)) (suc (length rows.now)) row) }
     ensures closure { lasts.new.closure ≡ lasts.old.closure }
     ensures lasts { OnOk result (HasLasts lasts.new (take (suc (length rows.now)) keys.now)) }
 {
@@ -134,9 +137,11 @@ fn visit_last(row: &mut Row, rows: &[Row], last: Option<usize>)
 // Visits the seen effects from the last to the first, since the last ones add most.
 fn visit_seen(row: &mut Row, rows: &[Row], seen: &[u32])
     requires lengths { (k : ℕ) → k < length rows.now → length (slice_index_or rows.now k []) ≡ k }
-    requires within { (a : ℕ) → has_id seen.now a ≡ true → (1 ≤ a) × (a ≤ length rows.now) × (a ≤ length row.old) }
+    requires within { (a : ℕ) → has_id seen.now a ≡ true → (1 ≤ a) × (a ≤ length rows.now)
+        × (a ≤ length row.old) }
     ensures length { length row.new ≡ length row.old }
-    ensures kept { (k : ℕ) → slice_index_or row.old k false ≡ true → slice_index_or row.new k false ≡ true }
+    ensures kept { (k : ℕ) → slice_index_or row.old k false ≡ true
+        → slice_index_or row.new k false ≡ true }
     ensures has { (k : ℕ) → has_id seen.now (suc k) ≡ true → slice_index_or row.new k false ≡ true }
     ensures closed { (step : ℕ → ℕ → Bool) → GoesForward step → AreRows (leads step) rows.now
         → ((a : ℕ) → has_id seen.now a ≡ true → step a (suc (length row.old)) ≡ true)
@@ -154,9 +159,11 @@ fn visit_seen(row: &mut Row, rows: &[Row], seen: &[u32])
 fn visit(row: &mut Row, earlier: &Row)
     requires { length earlier.now < length row.old }
     ensures length { length row.new ≡ length row.old }
-    ensures kept { (k : ℕ) → slice_index_or row.old k false ≡ true → slice_index_or row.new k false ≡ true }
+    ensures kept { (k : ℕ) → slice_index_or row.old k false ≡ true
+        → slice_index_or row.new k false ≡ true }
     ensures has { slice_index_or row.new (length earlier.now) false ≡ true }
-    ensures closed { (step : ℕ → ℕ → Bool) → GoesForward step → IsRow (leads step) (suc (length earlier.now)) earlier.now
+    ensures closed { (step : ℕ → ℕ → Bool) → GoesForward step
+        → IsRow (leads step) (suc (length earlier.now)) earlier.now
         → step (suc (length earlier.now)) (suc (length row.old)) ≡ true
         → IsClosedPart step row.old → IsClosedPart step row.new }
 {
@@ -170,7 +177,8 @@ fn include(row: &mut Row, earlier: &Row)
     requires { length earlier.now < length row.old }
     ensures length { length row.new ≡ length row.old }
     ensures included { (k : ℕ) → slice_index_or row.new k false
-        ≡ (slice_index_or row.old k false || (nat_eq k (length earlier.now) || slice_index_or earlier.now k false)) }
+        ≡ (slice_index_or row.old k false
+        || (nat_eq k (length earlier.now) || slice_index_or earlier.now k false)) }
 {
     row.unite(earlier);
     row.set(earlier.len());

@@ -1,7 +1,6 @@
-ghost use Rattle.std.specs.Prelude.{◌≡◌, ◌≤◌, ◌-◌, ℕ, List, Bool, length, take, drop, slice_index, false, true, not};
+ghost use Rattle.std.specs.Prelude.{◌≡◌, ◌≤◌, ◌-◌, length, take, drop, slice_index, false, true, not};
 ghost use Rattle.std.specs.List.{list_all};
 ghost use Rattle.std.specs.Option.{option_copied};
-ghost use Rattle.ql_lang.specs.Trees.{relation_of};
 ghost use Rattle.ql_lang.specs.Formulas.{statement_of};
 ghost use Rattle.ql_exec.specs.Effects.{effect_at, in_run};
 ghost use Rattle.ql_exec.specs.Relations.{sametxn, same_run};
@@ -34,7 +33,8 @@ pub(crate) fn breaks(
     requires tables { IsTableOf relations.now execution.now }
     requires few { length vars.now ≤ length places.old }
     ensures length { length places.new ≡ length places.old }
-    ensures kept { let at = length places.old - length vars.now in take at places.new ≡ take at places.old }
+    ensures kept { let at = length places.old - length vars.now in take at places.new
+        ≡ take at places.old }
     ensures holds { result ≡ false → let at = length places.old - length vars.now in
         AllTrueFrom execution.now (λ ps. statement_true execution.now (inside_of execution.now current) ps (cur_of current) (statement_of body.now))
         (take at places.old) vars.now }
@@ -78,7 +78,8 @@ fn is_true(
     places: &[u32],
 ) -> bool
     requires { IsTableOf relations.now execution.now }
-    ensures { result ≡ statement_true execution.now (inside_of execution.now current) places.now (cur_of current) (statement_of body.now) }
+    ensures { result ≡ statement_true execution.now (inside_of execution.now current) places.now
+        (cur_of current) (statement_of body.now) }
 {
     match body {
         Body::True => true,
@@ -147,7 +148,8 @@ fn are_one_txn(
     members: &[Term],
     others: &[Term],
 ) -> bool
-    ensures { result ≡ in_one_txn effects.now (inside_of effects.now current) (place_of places.now (cur_of current)) members.now others.now }
+    ensures { result ≡ in_one_txn effects.now (inside_of effects.now current)
+        (place_of places.now (cur_of current)) members.now others.now }
 {
     all_inside(effects, current, places, members)
         && none_inside(effects, current, places, others)
@@ -155,13 +157,16 @@ fn are_one_txn(
 }
 
 fn all_inside(effects: &[Effect], current: Current, places: &[u32], terms: &[Term]) -> bool
-    ensures { result ≡ list_all (λ t. inside_of effects.now current (place_of places.now (cur_of current) t)) terms.now }
+    ensures { result ≡ list_all
+        (λ t. inside_of effects.now current (place_of places.now (cur_of current) t)) terms.now }
 {
     terms.iter().all(|term| is_inside(effects, current, place_of(places, current, *term)))
 }
 
 fn none_inside(effects: &[Effect], current: Current, places: &[u32], terms: &[Term]) -> bool
-    ensures { result ≡ list_all (λ t. not (inside_of effects.now current (place_of places.now (cur_of current) t))) terms.now }
+    ensures { result ≡ list_all
+        (λ t. not (inside_of effects.now current (place_of places.now (cur_of current) t)))
+        terms.now }
 {
     terms.iter().all(|term| !is_inside(effects, current, place_of(places, current, *term)))
 }
@@ -183,7 +188,8 @@ fn are_together(effects: &[Effect], current: Current, places: &[u32], terms: &[T
 
 // Whether each is in one transaction with the effect with the id.
 fn are_with(effects: &[Effect], id: u32, current: Current, places: &[u32], terms: &[Term]) -> bool
-    ensures { result ≡ list_all (λ t. sametxn effects.now id (place_of places.now (cur_of current) t)) terms.now }
+    ensures { result ≡ list_all
+        (λ t. sametxn effects.now id (place_of places.now (cur_of current) t)) terms.now }
 {
     terms.iter().all(|term| is_one_txn(effects, id, place_of(places, current, *term)))
 }

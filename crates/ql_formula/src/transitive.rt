@@ -8,5 +8,6 @@ ghost use Rattle.ql_formula.specs.TransitiveClosures.{IsTransitiveClosure};
 /// session order and visibility, and happens-before within one object is that of the two within it.
 pub fn closures_are_transitive()
     ensures across { (x : List Effect) → IsExecution x → IsTransitiveClosure (hb_step x) (hb x) }
-    ensures on_one_object { (x : List Effect) → IsExecution x → IsTransitiveClosure (hbo_step x) (hbo x) }
+    ensures on_one_object { (x : List Effect) → IsExecution x
+        → IsTransitiveClosure (hbo_step x) (hbo x) }
 {}

@@ -24,7 +24,8 @@ pub fn holds_at(
     requires few { length formula.now.vars ≤ 5 }
     requires tables { IsTableOf relations.now execution.now }
     ensures { MatchOption result (Holds execution.now (resolved_of formula.now) cur.0)
-        (λ places. IsFirstFalse execution.now none_inside cur.0 (resolved_of formula.now) (map (λ id. id.0) places)) }
+        (λ places. IsFirstFalse execution.now none_inside cur.0 (resolved_of formula.now)
+        (map (λ id. id.0) places)) }
 {
     first_false(formula, execution, relations, Current::AtEffect(cur))
 }
@@ -39,7 +40,8 @@ pub fn holds_txn(
     requires few { length formula.now.vars ≤ 5 }
     requires tables { IsTableOf relations.now execution.now }
     ensures { MatchOption result (HoldsTxn execution.now (resolved_of formula.now) run.0)
-        (λ places. IsFirstFalse execution.now (inside execution.now run.0) 0 (resolved_of formula.now) (map (λ id. id.0) places)) }
+        (λ places. IsFirstFalse execution.now (inside execution.now run.0) 0
+        (resolved_of formula.now) (map (λ id. id.0) places)) }
 {
     first_false(formula, execution, relations, Current::OfRun(run))
 }
@@ -52,8 +54,11 @@ fn first_false(
 ) -> Option<Places>
     requires few { length formula.now.vars ≤ 5 }
     requires tables { IsTableOf relations.now execution.now }
-    ensures { MatchOption result (HoldsFor execution.now (inside_of execution.now current) (cur_of current) (resolved_of formula.now))
-        (λ places. IsFirstFalse execution.now (inside_of execution.now current) (cur_of current) (resolved_of formula.now) (map (λ id. id.0) places)) }
+    ensures { MatchOption result
+        (HoldsFor execution.now (inside_of execution.now current) (cur_of current)
+        (resolved_of formula.now))
+        (λ places. IsFirstFalse execution.now (inside_of execution.now current) (cur_of current)
+        (resolved_of formula.now) (map (λ id. id.0) places)) }
 {
     let vars = formula.vars.items();
     let mut row = [0; 5];

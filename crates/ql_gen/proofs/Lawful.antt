@@ -1,10 +1,10 @@
 -- What is generated is a schedule that a store can step through.
-use Rattle.std.proofs.Common.{◌≡◌, ℕ, zero, suc, ◌+◌, ◌-◌, ◌*◌, ◌/◌, ◌<◌, ◌≤◌, ◌⊎◌, inl, inr, Bool, true, false, nat_eq, nat_lt, if◌then◌else◌, List, [], ◌∷◌, ◌++◌, length, replicate, slice_get, slice_index_or, Option, None, Some, refl, sym, ap, subst, ◌∙◌, arith, length-append}
+use Rattle.std.proofs.Common.{◌≡◌, ℕ, zero, suc, ◌+◌, ◌-◌, ◌*◌, ◌/◌, ◌<◌, ◌≤◌, inl, inr, Bool, true, false, nat_eq, nat_lt, if◌then◌else◌, List, [], ◌∷◌, ◌++◌, length, replicate, slice_get, slice_index_or, Option, Some, refl, sym, ap, subst, ◌∙◌, arith, length-append}
 use Rattle.std.specs.List.{AllByRecursion}
 use Rattle.std.specs.Option.{option_map, option_map_or}
 use Rattle.std.proofs.Math.Nat.{mod-lt}
 use Rattle.std.proofs.lemmas.Bool.{cases_lt, eq-eqb}
-use Rattle.std.proofs.lemmas.Option.{get_or_from_slice_get, slice_get-get_or}
+use Rattle.std.proofs.lemmas.Option.{slice_get-get_or}
 use Rattle.ql_base.specs.declared.ids.TypeId.{TypeId}
 use Rattle.ql_lang.specs.declared.operation.Base.{Base}
 use Rattle.ql_lang.specs.declared.operation.Base.TheVariants as base
@@ -15,7 +15,6 @@ use Rattle.ql_lang.specs.declared.program.TypeDecl.{TypeDecl}
 use Rattle.ql_typing.specs.Functions.{of_base}
 use Rattle.ql_typing.specs.Operations.{all_ops, kinds_from, op_kinds}
 use Rattle.ql_typing.proofs.Flat.{get_copy, get_left, get_right, length-kinds, length_copies}
-use Rattle.ql_value.specs.declared.value.Value.{Value}
 use Rattle.ql_eval.specs.Able.{AreArgs, AreOfKinds, param_kind}
 use Rattle.ql_eval.specs.ValueKinds.{HasKind}
 use Rattle.ql_machine.specs.declared.event.Event.{Event}
@@ -23,7 +22,7 @@ use Rattle.ql_machine.specs.declared.event.Event.TheVariants.{Begin, Call, Commi
 use Rattle.ql_machine.specs.Runs.{replicas_after}
 use Rattle.ql_schedule.specs.Guarantees.{AreFit, FitsEvent, IsCaller, IsOfVersion, IsSchedule}
 use Rattle.ql_gen.specs.Draws.{draw, next}
-use Rattle.ql_gen.specs.Events.{arg_of, args_of, begin_of, call_at, call_of, event_of, message_of, network_of, op_of, params_of, replica_of, session_of}
+use Rattle.ql_gen.specs.Events.{arg_of, args_of, begin_of, call_at, call_of, event_of, network_of, op_of, replica_of, session_of}
 use Rattle.ql_gen.specs.Generated.{generated, generated_events, state_after}
 use Rattle.ql_gen.specs.Objects.{first_objects, object_kinds, drawn_object_names}
 use Rattle.ql_gen.proofs.ObjectLaws.{AreBelow, first_below, length_names}
@@ -212,7 +211,7 @@ module _ (p : Program) where
       if_both (nat_eq k 9) (IsOfVersion 1) _ _ (λ network. network_plain j s) (λ no_network.
       if_both (nat_eq k 10) (IsOfVersion 1) _ _ (λ begin. begin_plain s) (λ commit. tt))))
 
-  -- so there are as many replicas behind each event
+  -- so there are as many replicas after each event
   as_many : (n : ℕ) (e : Event) → IsOfVersion 1 e → replicas_after n e ≡ n
   as_many n (Call session replica object op args) is = refl
   as_many n (Begin session replica decl ids) is = refl

@@ -1,6 +1,6 @@
 -- Pseudorandom numbers by a linear congruential generator (Knuth, The Art of Computer Programming, volume 2, section 3.2.1)
 -- with the multiplier and the increment of the example of `rand` in the C standard (ISO/IEC 9899:1999, section 7.20.2.2).
-use Rattle.std.specs.Prelude.{ℕ, zero, suc, ◌+◌, ◌*◌, ◌/◌, ◌%◌, ◌^◌}
+use Rattle.std.specs.Prelude.{ℕ, ◌+◌, ◌*◌, ◌/◌, ◌%◌, ◌^◌}
 
 -- the state after one more draw
 abbrev pub next : ℕ → ℕ

@@ -1,5 +1,5 @@
 -- The event that is drawn from a state, and the state after it. Draws follow one another from left to right.
-use Rattle.std.specs.Prelude.{ℕ, zero, suc, ◌+◌, ◌*◌, nat_eq, nat_lt, if◌then◌else◌, List, [], ◌∷◌, ◌++◌, codes, decimal, length, pos, slice_get, slice_index_or}
+use Rattle.std.specs.Prelude.{ℕ, suc, ◌+◌, ◌*◌, nat_eq, nat_lt, if◌then◌else◌, List, [], ◌∷◌, ◌++◌, codes, decimal, length, pos, slice_get, slice_index_or}
 use Rattle.std.specs.Option.{option_map_or}
 use Rattle.ql_base.specs.declared.ids.MsgId.{MsgId}
 use Rattle.ql_base.specs.declared.ids.ReplicaId.{ReplicaId}

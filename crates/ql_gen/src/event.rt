@@ -1,5 +1,4 @@
 ghost use Rattle.std.specs.Prelude.{◌≡◌, ◌≤◌, ◌<◌, ◌++◌, IfOk, OnOk, codes, decimal, length};
-ghost use Rattle.ql_typing.specs.Operations.{all_ops};
 ghost use Rattle.ql_gen.specs.Events.{
   after_args,
   after_begin,

@@ -1,4 +1,4 @@
-ghost use Rattle.std.specs.Prelude.{◌≡◌, ◌≤◌, ◌<◌, ◌+◌, ◌++◌, ◌∷◌, [], IfOk, OnOk, length};
+ghost use Rattle.std.specs.Prelude.{◌≡◌, ◌≤◌, ◌<◌, ◌+◌, IfOk, OnOk, length};
 ghost use Rattle.ql_gen.specs.Objects.{first_objects, object_kinds, drawn_object_name, drawn_object_names};
 
 use ql_base::{IdSet, Names, NoMemory, TypeId, push_bytes, push_number};

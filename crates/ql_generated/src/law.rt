@@ -15,7 +15,8 @@ use ql_schedule::printed_is_read_again;
 pub fn generated_schedules_are_read()
     ensures read { (source text : List ℕ) (number events : ℕ) (p : Program) → TellsSchedule source number events text → events ≤ 4000 → IsSourceOf source p
         → IsScheduleFile p (ahead_from 1 text) (generated p number events) }
-    ensures accepted { (source text : List ℕ) (number events : ℕ) → TellsSchedule source number events text → events ≤ 4000 → AreRunnable source text }
+    ensures accepted { (source text : List ℕ) (number events : ℕ)
+        → TellsSchedule source number events text → events ≤ 4000 → AreRunnable source text }
 {
     one_program_answer();
     printed_is_read_again();

@@ -42,7 +42,9 @@ fn summary_of_run(
 ) -> Result<Vec<u8>, NoMemory>
     requires levels { AreLevelsOf t.now.program levels.now }
     requires number { number < 2 ^ 31 }
-    ensures { IfOk result (λ text. (source : List ℕ) → IsSourceOf source t.now.program → TellsSoak source number text.items) }
+    ensures { IfOk result
+        (λ text. (source : List ℕ) → IsSourceOf source t.now.program
+        → TellsSoak source number text.items) }
 {
     let schedule = schedule_of(alloc, t, number, EVENTS)?;
     let run = sound_run(alloc, t, levels, schedule)?;

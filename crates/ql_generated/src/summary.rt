@@ -78,7 +78,8 @@ fn push_network(out: &mut Vec<u8>, replies: &[Reply]) -> Result<(), NoMemory>
 
 // A word and how many replies begin with it.
 fn push_count(out: &mut Vec<u8>, word: &str, replies: &[Reply]) -> Result<(), NoMemory>
-    ensures { OnOk result (out.new.items ≡ out.old.items ++ line word.now (count word.now replies.now)) }
+    ensures { OnOk result
+        (out.new.items ≡ out.old.items ++ line word.now (count word.now replies.now)) }
 {
     push_line(out, word, count(replies, word) as u128)
 }

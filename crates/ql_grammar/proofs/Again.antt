@@ -72,7 +72,7 @@ again_relation (product reads) below vs clear =
 again_relation (either r s) below vs clear =
     then (again_relation r below vs refl) (take refl (then (again_relation s (Do unite ∷ Then MoreSummands ∷ below) _ tt) (then (pass MoreFactors clear) doing)))
 
--- the symbols behind the first term of an equality, and behind the relation of an application
+-- the symbols after the first term of an equality, and after the relation of an application
 abbrev behind_term : List Sym → List Sym
 behind_term below = Placed Equals (Makes 2) ∷ APart (Term Plain) ∷ Do to_equality ∷ below
 

@@ -137,7 +137,7 @@ pub within_then : (w : Result Counts Fault) (f : Counts → Result (List Value) 
 within_then (Ok d) f g h same = same d
 within_then (Err e) f g h same = refl
 
--- what the tokens of a path do: they are counted, and then the run goes on behind them
+-- what the tokens of a path do: they are counted, and then the run goes on after them
 pub record Runs (st : List Sym) (vs : List Value) (ts : List Marked) (to : List Sym) (out : List Value) (rest : List Marked) : Type 0 where
   pub taken : List Marked
   pub all : ts ≡ taken ++ rest

@@ -63,7 +63,7 @@ again_fields none below vs = here
 again_fields (more fs (field k i)) below vs =
     then (again_fields fs below vs) (take refl (take refl (take refl (then (again_kind k _ _) (take refl (then (again_init i _ _) (take refl doing)))))))
 
--- the first parameter, and those behind it
+-- the first parameter, and those after it
 
 again_param : {ts rest : List Marked} {p : Param} {ps : List Param} → ReadsParam ts rest p → (below : List Sym) (vs : List Value) → Path (param_symbols below) (TheParams ps ∷ vs) ts below (TheParams (ps ++ p ∷ []) ∷ vs) rest
 unfolding is_same number_in lead first_fit step
@@ -104,7 +104,7 @@ again_effect none below vs = take refl here
 again_effect (emission bs e changes) below vs =
     take refl (then (again_bindings bs _ _ at_when) (take refl (then (again_expr e _ _ at_semicolon) (take refl (take refl (take refl (then doing (then (again_assignments changes _ _) (take refl (then doing (take refl here)))))))))))
 
--- from the stacks behind `op`, `type` and the like, whatever stood before
+-- from the stacks after `op`, `type` and the like, whatever stood before
 
 abbrev Begins : List Sym → List Value → Terminal → List Sym → Type 0
 Begins st vs k behind = (x : List ℕ) (n : ℕ) → step st vs k x n ≡ Some (record { role = Plain; stack = behind; values = APlace n ∷ vs })

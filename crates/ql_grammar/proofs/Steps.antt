@@ -10,7 +10,7 @@ use Rattle.ql_grammar.specs.Limits.{Fault, Unexpected}
 use Rattle.ql_lang.specs.declared.expression.BinOp.{BinOp}
 use Rattle.ql_grammar.specs.declared.precedence.Precedence.{Precedence}
 use Rattle.ql_grammar.specs.ExpressionGrammar as expression
-use Rattle.ql_grammar.specs.ExpressionGrammar.{IsOperator, Unary, Multiplied, Added, Compared, Conjoined, Disjoined, Chosen}
+use Rattle.ql_grammar.specs.ExpressionGrammar.{Unary, Multiplied, Added, Compared, Conjoined, Disjoined, Chosen}
 use Rattle.ql_grammar.specs.ProgramGrammar as program
 use Rattle.ql_grammar.specs.Table.{ASpelling, AnOperator, Kept, Operator, operator_at, ExprAt, Arguments, BaseKind, AnyKind, Beginning, ListedNames, WholeSource, Value, APlace, AName, Sym, Word, Placed, ANameOf, Do, APart, Then, Part, Term, TermList, RelationAt, PropAt, BarredNames, Variable, VarList, WholeContract, Rest, ways, way_on}
 use Rattle.ql_grammar.specs.Machine.{operator_taken, Taken, or_else, lead, first_fit, step, finish}
@@ -20,7 +20,7 @@ use Rattle.ql_grammar.proofs.Wanted.{kept, operator, expr, arguments, base, kind
 use Rattle.ql_grammar.proofs.Leading.{Leads}
 use Rattle.ql_grammar.proofs.Sound.{leads}
 
--- what the stacks behind a token want, the stack before it wants with that token before
+-- what the stacks after a token want, the stack before it wants with that token before
 abbrev pub IsSound : List Sym → List Value → Terminal → List ℕ → ℕ → Option Taken → Type 0
 IsSound st vs k x n None = Unit {0}
 IsSound st vs k x n (Some t) = (out : List Value) (ts : List Marked) → Has t.stack t.values ts out → Has st vs (marked t.role k x n ∷ ts) out

@@ -13,7 +13,7 @@ use Rattle.ql_grammar.specs.Machine.{operator_ahead, lead, step, finish, Reading
 
 -- What a reading does at a word or a name.
 
--- the reading behind the next token, with these counts
+-- the reading after the next token, with these counts
 abbrev pub behind : Reading → Counts → Reading
 behind r c = record { tokens = drop 1 r.tokens; counts = c; end = r.end }
 

@@ -83,9 +83,9 @@ pub fn is_same(a: Terminal, b: Terminal) -> bool
     a as u8 == b as u8
 }
 
-/// The keywords from `answer` to `int`: only those with the same first byte are compared.
+/// The keywords that begin with `a` to `i`: only those with the same first byte are compared.
 #[tactic(auto, unfolding(crate::specs::Terminals::keyword, crate::specs::Terminals::expression_word, crate::specs::Terminals::logic_word, crate::specs::Terminals::relation_word))]
-fn keyword_to_i(text: &[u8]) -> Terminal
+fn keyword_a_to_i(text: &[u8]) -> Terminal
     requires some { 0 < length text.now }
     requires first { slice_index text.now 0 ≤ 105 }
     ensures { result ≡ keyword text.now }
@@ -111,9 +111,9 @@ fn keyword_to_i(text: &[u8]) -> Terminal
     }
 }
 
-/// The keywords from `map` to `when`.
+/// The keywords that begin with `j` to `z`.
 #[tactic(auto, unfolding(crate::specs::Terminals::keyword, crate::specs::Terminals::expression_word, crate::specs::Terminals::logic_word, crate::specs::Terminals::relation_word))]
-fn keyword_from_j(text: &[u8]) -> Terminal
+fn keyword_j_to_z(text: &[u8]) -> Terminal
     requires some { 0 < length text.now }
     requires first { 105 < slice_index text.now 0 }
     ensures { result ≡ keyword text.now }
@@ -149,8 +149,8 @@ fn keyword(text: &[u8]) -> Terminal
 {
     match text.first() {
         None => Terminal::NoTerminal,
-        Some(first) if *first <= b'i' => keyword_to_i(text),
-        Some(_) => keyword_from_j(text),
+        Some(first) if *first <= b'i' => keyword_a_to_i(text),
+        Some(_) => keyword_j_to_z(text),
     }
 }
 

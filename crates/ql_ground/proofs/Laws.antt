@@ -4,7 +4,7 @@ use Rattle.std.proofs.lemmas.Bool.{false≢true, or_cases, or_left, or_right, an
 use Rattle.ql_ground.specs.Effects.{Effect, Member, Alone, Inside, effect_at}
 use Rattle.ql_ground.specs.Relations.{both, one, is_op, in_run, inside, so, vis, sameobj, soo, same_run, sametxn, hbo_step, hb_step, hbo, hb, IsExecution}
 use Rattle.ql_ground.proofs.Paths as path
-use Rattle.ql_ground.proofs.Paths.{Path, Path-append, Path-forward, Path-within, leads-path, path-leads}
+use Rattle.ql_ground.proofs.Paths.{Path-append, Path-forward, Path-within, leads-path, path-leads}
 
 -- the two effects of which a test is true
 pub record Pair (test : Effect → Effect → Bool) (p q : Option Effect) : Type 0 where

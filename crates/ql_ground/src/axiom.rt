@@ -59,8 +59,11 @@ pub(crate) fn add_axioms(
     requires variables { c.old.variables ≡ count_of (size_of s) }
     requires room { length c.old.clauses + length names.now * most_instances < 2 ^ 32 }
     ensures variables { c.new.variables ≡ c.old.variables }
-    ensures clauses { OnOk result (c.new.clauses ≡ c.old.clauses ++ clauses_of (all_instances (size_of s) (map axiom_of names.now))) }
-    ensures counted { OnOk result (length c.new.clauses ≤ length c.old.clauses + length names.now * most_instances) }
+    ensures clauses { OnOk result
+        (c.new.clauses ≡ c.old.clauses
+        ++ clauses_of (all_instances (size_of s) (map axiom_of names.now))) }
+    ensures counted { OnOk result
+        (length c.new.clauses ≤ length c.old.clauses + length names.now * most_instances) }
 {
     for name in names {
         add_axiom(alloc, *name, s, c)?;
@@ -78,7 +81,8 @@ pub(crate) fn add_axiom(
     requires variables { c.old.variables ≡ count_of (size_of s) }
     requires room { length c.old.clauses + most_instances < 2 ^ 32 }
     ensures variables { c.new.variables ≡ c.old.variables }
-    ensures clauses { OnOk result (c.new.clauses ≡ c.old.clauses ++ clauses_of (instances (size_of s) (axiom_of name))) }
+    ensures clauses { OnOk result
+        (c.new.clauses ≡ c.old.clauses ++ clauses_of (instances (size_of s) (axiom_of name))) }
     ensures counted { OnOk result (length c.new.clauses ≤ length c.old.clauses + most_instances) }
 {
     match name {
@@ -132,7 +136,9 @@ fn add_transaction_axiom(
     requires variables { c.old.variables ≡ count_of (size_of s) }
     requires room { length c.old.clauses + most_instances < 2 ^ 32 }
     ensures variables { c.new.variables ≡ c.old.variables }
-    ensures clauses { OnOk result (c.new.clauses ≡ c.old.clauses ++ clauses_of (instances (size_of s) (transaction_axiom_of name))) }
+    ensures clauses { OnOk result
+        (c.new.clauses ≡ c.old.clauses
+        ++ clauses_of (instances (size_of s) (transaction_axiom_of name))) }
     ensures counted { OnOk result (length c.new.clauses ≤ length c.old.clauses + most_instances) }
 {
     match name {

@@ -1,4 +1,4 @@
-ghost use Rattle.std.specs.Prelude.{◌≡◌, ◌<◌, ◌++◌, ◌∷◌, [], map, IfOk, OnOk};
+ghost use Rattle.std.specs.Prelude.{◌≡◌, ◌<◌, ◌++◌, [], map, IfOk, OnOk};
 ghost use Rattle.std.specs.List.{All};
 ghost use Rattle.ql_atoms.specs.Atoms.{size_of, Fits};
 ghost use Rattle.ql_cnf.specs.Circuits.{circuit_of, Input, Both, Either, IfThen};
@@ -50,7 +50,8 @@ fn constant_of(t: Term, s: Shape) -> u32
 fn ground_relation(alloc: Global, r: &Rel, i: u32, j: u32, s: Shape) -> Result<Ground, NoMemory>
     requires first { i < s.constants }
     requires second { j < s.constants }
-    ensures { IfOk result (λ g. circuit_of g ≡ relation_circuit (size_of s) (relation_of r.now) i j) }
+    ensures { IfOk result
+        (λ g. circuit_of g ≡ relation_circuit (size_of s) (relation_of r.now) i j) }
 {
     match r {
         Rel::Base(name, _) => ground_named(alloc, *name, i, j, s),
@@ -97,7 +98,10 @@ fn ground_txn(
 ) -> Result<Ground, NoMemory>
     requires members { All (IsConstant (size_of s)) members.now }
     requires others { All (IsConstant (size_of s)) others.now }
-    ensures { IfOk result (λ g. circuit_of g ≡ txn_circuit (size_of s) (map (circuits.constant_of (size_of s)) members.now) (map (circuits.constant_of (size_of s)) others.now)) }
+    ensures { IfOk result
+        (λ g. circuit_of g ≡ txn_circuit (size_of s)
+        (map (circuits.constant_of (size_of s)) members.now)
+        (map (circuits.constant_of (size_of s)) others.now)) }
 {
     let mut lits = Vec::with_capacity(alloc, members.len())?;
     push_members(members, s, &mut lits)?;
@@ -109,7 +113,9 @@ fn ground_txn(
 fn push_members(members: &[Term], s: Shape, lits: &mut Vec<Lit>) -> Result<(), NoMemory>
     requires empty { lits.old.items ≡ [] }
     requires members { All (IsConstant (size_of s)) members.now }
-    ensures { OnOk result (lits.new.items ≡ member_literals (size_of s) (map (circuits.constant_of (size_of s)) members.now)) }
+    ensures { OnOk result
+        (lits.new.items ≡ member_literals (size_of s)
+        (map (circuits.constant_of (size_of s)) members.now)) }
 {
     for t in members {
         lits.push(literal(Atom::Current(constant_of(*t, s)), true, s))?;
@@ -120,7 +126,9 @@ fn push_members(members: &[Term], s: Shape, lits: &mut Vec<Lit>) -> Result<(), N
 // Appends that the first of these isn't a current effect, and that the rest are in its transaction.
 fn push_others(others: &[Term], s: Shape, lits: &mut Vec<Lit>) -> Result<(), NoMemory>
     requires others { All (IsConstant (size_of s)) others.now }
-    ensures { OnOk result (lits.new.items ≡ lits.old.items ++ other_literals (size_of s) (map (circuits.constant_of (size_of s)) others.now)) }
+    ensures { OnOk result
+        (lits.new.items ≡ lits.old.items
+        ++ other_literals (size_of s) (map (circuits.constant_of (size_of s)) others.now)) }
 {
     if let Some((first, rest)) = others.split_first() {
         let first = constant_of(*first, s);
@@ -134,7 +142,9 @@ fn push_others(others: &[Term], s: Shape, lits: &mut Vec<Lit>) -> Result<(), NoM
 fn push_same(first: u32, rest: &[Term], s: Shape, lits: &mut Vec<Lit>) -> Result<(), NoMemory>
     requires first { first < s.constants }
     requires rest { All (IsConstant (size_of s)) rest.now }
-    ensures { OnOk result (lits.new.items ≡ lits.old.items ++ same_literals (size_of s) first (map (circuits.constant_of (size_of s)) rest.now)) }
+    ensures { OnOk result
+        (lits.new.items ≡ lits.old.items
+        ++ same_literals (size_of s) first (map (circuits.constant_of (size_of s)) rest.now)) }
 {
     for t in rest {
         let same = Atom::Pair(PairKind::SameTxn, first, constant_of(*t, s));

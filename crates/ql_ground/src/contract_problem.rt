@@ -1,4 +1,4 @@
-ghost use Rattle.std.specs.Prelude.{◌≡◌, suc, ◌+◌, ◌^◌, ◌<◌, ◌≤◌, ◌++◌, true, false, length, IfOk, IfSome, OnOk};
+ghost use Rattle.std.specs.Prelude.{◌≡◌, suc, ◌+◌, ◌<◌, ◌≤◌, ◌++◌, true, false, length, IfOk, IfSome, OnOk};
 ghost use Rattle.ql_atoms.specs.Atoms.{size_of, count_of};
 ghost use Rattle.ql_cnf.specs.Circuits.{InputsInRange, circuit_of, gates, denying, clauses_of};
 ghost use Rattle.ql_cnf.specs.Satisfaction.{IsUnsatisfiable};
@@ -37,10 +37,12 @@ pub(crate) fn op_problem(
     requires contract { IsContractOf types.now true (resolved_of f.now) }
 
     // The clauses are those of the goal, in their order.
-    ensures list { IfOk result (λ c. c ≡ groups.op_problem types.now o.0 level (resolved_of f.now)) }
+    ensures list { IfOk result
+        (λ c. c ≡ groups.op_problem types.now o.0 level (resolved_of f.now)) }
 
     // Where no assignment satisfies them, the level implies the contract in every execution of the program.
-    ensures sound { IfOk result (λ c. IsUnsatisfiable c → Implies types.now o.0 level (resolved_of f.now)) }
+    ensures sound { IfOk result
+        (λ c. IsUnsatisfiable c → Implies types.now o.0 level (resolved_of f.now)) }
 {
     let variables = f.vars.items();
     let s = Shape {
@@ -64,7 +66,8 @@ pub(crate) fn txn_problem(
     requires few_variables { length f.now.vars ≤ 5 }
     requires contract { IsContractOf types.now false (resolved_of f.now) }
     ensures list { IfOk result (λ c. c ≡ groups.txn_problem types.now level (resolved_of f.now)) }
-    ensures sound { IfOk result (λ c. IsUnsatisfiable c → ImpliesTxn types.now level (resolved_of f.now)) }
+    ensures sound { IfOk result
+        (λ c. IsUnsatisfiable c → ImpliesTxn types.now level (resolved_of f.now)) }
 {
     let variables = f.vars.items();
     let s = Shape {
@@ -89,12 +92,18 @@ fn atoms(s: Shape) -> u32
 // The body is false.
 fn deny(alloc: Global, body: &Body, s: Shape, c: &mut Clauses) -> Result<(), NoMemory>
     requires terms { OverConstants (size_of s) (statement_of body.now) }
-    requires leaves { InputsInRange (count_of (size_of s)) (body_circuit (size_of s) (statement_of body.now)) }
+    requires leaves { InputsInRange (count_of (size_of s))
+        (body_circuit (size_of s) (statement_of body.now)) }
     requires variables { c.old.variables ≡ count_of (size_of s) }
     requires few { count_of (size_of s) ≤ 450 }
     requires room { length c.old.clauses ≤ most_ground_clauses }
-    ensures variables { OnOk result (c.new.variables ≡ count_of (size_of s) + gates (body_circuit (size_of s) (statement_of body.now))) }
-    ensures clauses { OnOk result (c.new.clauses ≡ c.old.clauses ++ clauses_of (denying (count_of (size_of s)) (body_circuit (size_of s) (statement_of body.now)))) }
+    ensures variables { OnOk result
+        (c.new.variables ≡ count_of (size_of s)
+        + gates (body_circuit (size_of s) (statement_of body.now))) }
+    ensures clauses { OnOk result
+        (c.new.clauses ≡ c.old.clauses
+        ++ clauses_of (denying (count_of (size_of s))
+        (body_circuit (size_of s) (statement_of body.now)))) }
 {
     let circuit = ground_body(alloc, body, s)?;
     match count_gates(&circuit) {

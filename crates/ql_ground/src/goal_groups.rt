@@ -38,8 +38,11 @@ pub(crate) fn add_op_groups(
     requires variables { c.old.variables ≡ count_of (size_of s) }
     requires room { length c.old.clauses + most_ground_clauses < 2 ^ 32 }
     ensures variables { c.new.variables ≡ c.old.variables }
-    ensures clauses { OnOk result (c.new.clauses ≡ c.old.clauses ++ clauses_of (op_groups types.now goal.0.0 goal.1 variables.now (size_of s))) }
-    ensures counted { OnOk result (length c.new.clauses ≤ length c.old.clauses + most_ground_clauses) }
+    ensures clauses { OnOk result
+        (c.new.clauses ≡ c.old.clauses
+        ++ clauses_of (op_groups types.now goal.0.0 goal.1 variables.now (size_of s))) }
+    ensures counted { OnOk result
+        (length c.new.clauses ≤ length c.old.clauses + most_ground_clauses) }
 {
     let (o, level) = goal;
     add_axioms(alloc, &EQUALITY, s, c)?;
@@ -65,8 +68,11 @@ pub(crate) fn add_txn_groups(
     requires variables { c.old.variables ≡ count_of (size_of s) }
     requires room { length c.old.clauses + most_ground_clauses < 2 ^ 32 }
     ensures variables { c.new.variables ≡ c.old.variables }
-    ensures clauses { OnOk result (c.new.clauses ≡ c.old.clauses ++ clauses_of (txn_groups types.now level variables.now (size_of s))) }
-    ensures counted { OnOk result (length c.new.clauses ≤ length c.old.clauses + most_ground_clauses) }
+    ensures clauses { OnOk result
+        (c.new.clauses ≡ c.old.clauses
+        ++ clauses_of (txn_groups types.now level variables.now (size_of s))) }
+    ensures counted { OnOk result
+        (length c.new.clauses ≤ length c.old.clauses + most_ground_clauses) }
 {
     add_axioms(alloc, &EQUALITY, s, c)?;
     add_alike_operations(alloc, s, c)?;
@@ -88,7 +94,8 @@ fn add_execution_axioms(
     requires variables { c.old.variables ≡ count_of (size_of s) }
     requires room { length c.old.clauses + 100000 < 2 ^ 32 }
     ensures variables { c.new.variables ≡ c.old.variables }
-    ensures clauses { OnOk result (c.new.clauses ≡ c.old.clauses ++ clauses_of (groups.axioms types.now (size_of s))) }
+    ensures clauses { OnOk result
+        (c.new.clauses ≡ c.old.clauses ++ clauses_of (groups.axioms types.now (size_of s))) }
     ensures counted { OnOk result (length c.new.clauses ≤ length c.old.clauses + 100000) }
 {
     add_relations(alloc, s, c)?;
@@ -102,8 +109,10 @@ fn add_relations(alloc: Global, s: Shape, c: &mut Clauses) -> Result<(), NoMemor
     requires variables { c.old.variables ≡ count_of (size_of s) }
     requires room { length c.old.clauses + 16 * most_instances < 2 ^ 32 }
     ensures variables { c.new.variables ≡ c.old.variables }
-    ensures clauses { OnOk result (c.new.clauses ≡ c.old.clauses ++ clauses_of (relation_axioms (size_of s))) }
-    ensures counted { OnOk result (length c.new.clauses ≤ length c.old.clauses + 16 * most_instances) }
+    ensures clauses { OnOk result
+        (c.new.clauses ≡ c.old.clauses ++ clauses_of (relation_axioms (size_of s))) }
+    ensures counted { OnOk result
+        (length c.new.clauses ≤ length c.old.clauses + 16 * most_instances) }
 {
     add_axioms(alloc, &SESSION_ORDER, s, c)?;
     add_axioms(alloc, &OBJECTS, s, c)?;

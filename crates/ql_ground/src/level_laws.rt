@@ -1,4 +1,4 @@
-ghost use Rattle.std.specs.Prelude.{◌≡◌, ◌&&◌, ℕ, not, true, false, List, ◌∷◌};
+ghost use Rattle.std.specs.Prelude.{◌≡◌, ◌&&◌, ℕ, not, List, ◌∷◌};
 ghost use Rattle.std.specs.List.{list_all};
 ghost use Rattle.ql_levels.specs.declared.level.Level.TheVariants.{Eventual, Causal, Wide, Strong};
 ghost use Rattle.ql_levels.specs.declared.level.TxnLevel.TheVariants.{Rc, Mav, Rr};
@@ -22,5 +22,8 @@ pub fn higher_levels_ask_more()
 /// current: this is equivalent to requiring it of each, since the effects of one transaction are all current
 /// or none is.
 pub fn first_other_decides()
-    ensures { (x : List Effect) (run : ℕ) (members : List ℕ) (c : ℕ) (others : List ℕ) → in_one_txn x (inside x run) members (c ∷ others) ≡ (list_all (inside x run) members && (not (inside x run c) && list_all (sametxn x c) others)) }
+    ensures { (x : List Effect) (run : ℕ) (members : List ℕ) (c : ℕ) (others : List ℕ)
+        → in_one_txn x (inside x run) members (c ∷ others)
+        ≡ (list_all (inside x run) members
+        && (not (inside x run c) && list_all (sametxn x c) others)) }
 {}

@@ -24,8 +24,10 @@ pub(crate) fn add_alike_operations(alloc: Global, s: Shape, c: &mut Clauses) -> 
     requires variables { c.old.variables ≡ count_of (size_of s) }
     requires room { length c.old.clauses + 32 * most_instances < 2 ^ 32 }
     ensures variables { c.new.variables ≡ c.old.variables }
-    ensures clauses { OnOk result (c.new.clauses ≡ c.old.clauses ++ clauses_of (groups.alike_operations (size_of s))) }
-    ensures counted { OnOk result (length c.new.clauses ≤ length c.old.clauses + 32 * most_instances) }
+    ensures clauses { OnOk result
+        (c.new.clauses ≡ c.old.clauses ++ clauses_of (groups.alike_operations (size_of s))) }
+    ensures counted { OnOk result
+        (length c.new.clauses ≤ length c.old.clauses + 32 * most_instances) }
 {
     for o in 0..s.operations {
         let equal = [Atom::Pair(PairKind::Eq, I, J), Atom::Is(OpId(o), I)];
@@ -39,7 +41,8 @@ pub(crate) fn add_some_operation(alloc: Global, s: Shape, c: &mut Clauses) -> Re
     requires variables { c.old.variables ≡ count_of (size_of s) }
     requires room { length c.old.clauses + 6 < 2 ^ 32 }
     ensures variables { c.new.variables ≡ c.old.variables }
-    ensures clauses { OnOk result (c.new.clauses ≡ c.old.clauses ++ clauses_of (groups.some_operation (size_of s))) }
+    ensures clauses { OnOk result
+        (c.new.clauses ≡ c.old.clauses ++ clauses_of (groups.some_operation (size_of s))) }
     ensures counted { OnOk result (length c.new.clauses ≤ length c.old.clauses + 6) }
 {
     let mut lits = Vec::with_capacity(alloc, s.operations as usize)?;
@@ -55,7 +58,8 @@ pub(crate) fn add_some_operation(alloc: Global, s: Shape, c: &mut Clauses) -> Re
 fn push_operations(i: u32, s: Shape, lits: &mut Vec<Lit>) -> Result<(), NoMemory>
     requires empty { lits.old.items ≡ [] }
     requires constant { i < s.constants }
-    ensures lits { OnOk result (lits.new.items ≡ implication (size_of s) [] (upto s.operations (λ o. Is (op o) i ∷ []))) }
+    ensures lits { OnOk result
+        (lits.new.items ≡ implication (size_of s) [] (upto s.operations (λ o. Is (op o) i ∷ []))) }
     ensures in_range { OnOk result (AreInRange (count_of (size_of s)) lits.new.items) }
 {
     for o in 0..s.operations {
@@ -69,7 +73,8 @@ pub(crate) fn add_one_operation(s: Shape, c: &mut Clauses) -> Result<(), NoMemor
     requires variables { c.old.variables ≡ count_of (size_of s) }
     requires room { length c.old.clauses + 6 * 1024 < 2 ^ 32 }
     ensures variables { c.new.variables ≡ c.old.variables }
-    ensures clauses { OnOk result (c.new.clauses ≡ c.old.clauses ++ clauses_of (groups.one_operation (size_of s))) }
+    ensures clauses { OnOk result
+        (c.new.clauses ≡ c.old.clauses ++ clauses_of (groups.one_operation (size_of s))) }
     ensures counted { OnOk result (length c.new.clauses ≤ length c.old.clauses + 6 * 1024) }
 {
     for i in 0..s.constants {
@@ -83,7 +88,8 @@ fn add_one_operation_of(i: u32, s: Shape, c: &mut Clauses) -> Result<(), NoMemor
     requires variables { c.old.variables ≡ count_of (size_of s) }
     requires room { length c.old.clauses + 1024 < 2 ^ 32 }
     ensures variables { c.new.variables ≡ c.old.variables }
-    ensures clauses { OnOk result (c.new.clauses ≡ c.old.clauses ++ clauses_of (one_operation_of (size_of s) i)) }
+    ensures clauses { OnOk result
+        (c.new.clauses ≡ c.old.clauses ++ clauses_of (one_operation_of (size_of s) i)) }
     ensures counted { OnOk result (length c.new.clauses ≤ length c.old.clauses + 1024) }
 {
     for o in 0..s.operations {
@@ -99,7 +105,8 @@ fn add_not_another(i: u32, o: u32, s: Shape, c: &mut Clauses) -> Result<(), NoMe
     requires variables { c.old.variables ≡ count_of (size_of s) }
     requires room { length c.old.clauses + 32 < 2 ^ 32 }
     ensures variables { c.new.variables ≡ c.old.variables }
-    ensures clauses { OnOk result (c.new.clauses ≡ c.old.clauses ++ clauses_of (not_another (size_of s) i o)) }
+    ensures clauses { OnOk result
+        (c.new.clauses ≡ c.old.clauses ++ clauses_of (not_another (size_of s) i o)) }
     ensures counted { OnOk result (length c.new.clauses ≤ length c.old.clauses + 32) }
 {
     for p in 0..s.operations {
@@ -115,7 +122,8 @@ fn add_not_both(i: u32, o: u32, p: u32, s: Shape, c: &mut Clauses) -> Result<(),
     requires variables { c.old.variables ≡ count_of (size_of s) }
     requires room { length c.old.clauses + 1 < 2 ^ 32 }
     ensures variables { c.new.variables ≡ c.old.variables }
-    ensures clauses { OnOk result (c.new.clauses ≡ c.old.clauses ++ clauses_of (not_both (size_of s) i o p)) }
+    ensures clauses { OnOk result
+        (c.new.clauses ≡ c.old.clauses ++ clauses_of (not_both (size_of s) i o p)) }
     ensures counted { OnOk result (length c.new.clauses ≤ length c.old.clauses + 1) }
 {
     if o < p {
@@ -132,7 +140,8 @@ pub(crate) fn add_one_type(types: &[u32], s: Shape, c: &mut Clauses) -> Result<(
     requires variables { c.old.variables ≡ count_of (size_of s) }
     requires room { length c.old.clauses + 36 * 1024 < 2 ^ 32 }
     ensures variables { c.new.variables ≡ c.old.variables }
-    ensures clauses { OnOk result (c.new.clauses ≡ c.old.clauses ++ clauses_of (groups.one_type types.now (size_of s))) }
+    ensures clauses { OnOk result
+        (c.new.clauses ≡ c.old.clauses ++ clauses_of (groups.one_type types.now (size_of s))) }
     ensures counted { OnOk result (length c.new.clauses ≤ length c.old.clauses + 36 * 1024) }
 {
     for i in 0..s.constants {
@@ -147,7 +156,8 @@ fn add_one_type_from(types: &[u32], i: u32, s: Shape, c: &mut Clauses) -> Result
     requires variables { c.old.variables ≡ count_of (size_of s) }
     requires room { length c.old.clauses + 6 * 1024 < 2 ^ 32 }
     ensures variables { c.new.variables ≡ c.old.variables }
-    ensures clauses { OnOk result (c.new.clauses ≡ c.old.clauses ++ clauses_of (one_type_from types.now (size_of s) i)) }
+    ensures clauses { OnOk result
+        (c.new.clauses ≡ c.old.clauses ++ clauses_of (one_type_from types.now (size_of s) i)) }
     ensures counted { OnOk result (length c.new.clauses ≤ length c.old.clauses + 6 * 1024) }
 {
     for j in 0..s.constants {
@@ -168,7 +178,8 @@ fn add_one_type_between(
     requires variables { c.old.variables ≡ count_of (size_of s) }
     requires room { length c.old.clauses + 1024 < 2 ^ 32 }
     ensures variables { c.new.variables ≡ c.old.variables }
-    ensures clauses { OnOk result (c.new.clauses ≡ c.old.clauses ++ clauses_of (one_type_between types.now (size_of s) i j)) }
+    ensures clauses { OnOk result
+        (c.new.clauses ≡ c.old.clauses ++ clauses_of (one_type_between types.now (size_of s) i j)) }
     ensures counted { OnOk result (length c.new.clauses ≤ length c.old.clauses + 1024) }
 {
     for o in 0..s.operations {
@@ -192,7 +203,8 @@ fn add_other_types(
     requires variables { c.old.variables ≡ count_of (size_of s) }
     requires room { length c.old.clauses + 32 < 2 ^ 32 }
     ensures variables { c.new.variables ≡ c.old.variables }
-    ensures clauses { OnOk result (c.new.clauses ≡ c.old.clauses ++ clauses_of (other_types types.now (size_of s) i j o)) }
+    ensures clauses { OnOk result
+        (c.new.clauses ≡ c.old.clauses ++ clauses_of (other_types types.now (size_of s) i j o)) }
     ensures counted { OnOk result (length c.new.clauses ≤ length c.old.clauses + 32) }
 {
     for p in 0..s.operations {
@@ -215,7 +227,10 @@ fn add_other_type(
     requires variables { c.old.variables ≡ count_of (size_of s) }
     requires room { length c.old.clauses + 1 < 2 ^ 32 }
     ensures variables { c.new.variables ≡ c.old.variables }
-    ensures clauses { OnOk result (c.new.clauses ≡ c.old.clauses ++ clauses_of (other_type types.now (size_of s) effects.0 effects.1 operations.0 operations.1)) }
+    ensures clauses { OnOk result
+        (c.new.clauses ≡ c.old.clauses
+        ++ clauses_of (other_type types.now (size_of s) effects.0 effects.1 operations.0
+        operations.1)) }
     ensures counted { OnOk result (length c.new.clauses ≤ length c.old.clauses + 1) }
 {
     let (i, j) = effects;
@@ -236,7 +251,10 @@ pub(crate) fn add_own_operation(o: OpId, s: Shape, c: &mut Clauses) -> Result<()
     requires variables { c.old.variables ≡ count_of (size_of s) }
     requires room { length c.old.clauses + 1 < 2 ^ 32 }
     ensures variables { c.new.variables ≡ c.old.variables }
-    ensures clauses { OnOk result (c.new.clauses ≡ c.old.clauses ++ clauses_of (implication (size_of s) [] (Is (op o.0) (current_effect (size_of s)) ∷ []) ∷ [])) }
+    ensures clauses { OnOk result
+        (c.new.clauses ≡ c.old.clauses
+        ++ clauses_of (implication (size_of s) []
+        (Is (op o.0) (current_effect (size_of s)) ∷ []) ∷ [])) }
     ensures counted { OnOk result (length c.new.clauses ≤ length c.old.clauses + 1) }
 {
     add_clause(&[literal(Atom::Is(o, s.constants - 1), true, s)], c)
@@ -255,8 +273,11 @@ pub(crate) fn add_variables(
     requires few { first + length choices.now ≤ s.constants }
     requires room { length c.old.clauses + length choices.now < 2 ^ 32 }
     ensures variables { c.new.variables ≡ c.old.variables }
-    ensures clauses { OnOk result (c.new.clauses ≡ c.old.clauses ++ clauses_of (groups.all_variable_operations (size_of s) first choices.now)) }
-    ensures counted { OnOk result (length c.new.clauses ≤ length c.old.clauses + length choices.now) }
+    ensures clauses { OnOk result
+        (c.new.clauses ≡ c.old.clauses
+        ++ clauses_of (groups.all_variable_operations (size_of s) first choices.now)) }
+    ensures counted { OnOk result
+        (length c.new.clauses ≤ length c.old.clauses + length choices.now) }
 {
     match choices.split_first() {
         None => Ok(()),
@@ -279,7 +300,9 @@ fn add_variable(
     requires constant { v < s.constants }
     requires room { length c.old.clauses + 1 < 2 ^ 32 }
     ensures variables { c.new.variables ≡ c.old.variables }
-    ensures clauses { OnOk result (c.new.clauses ≡ c.old.clauses ++ clauses_of (groups.variable_operations (size_of s) v choice.now)) }
+    ensures clauses { OnOk result
+        (c.new.clauses ≡ c.old.clauses
+        ++ clauses_of (groups.variable_operations (size_of s) v choice.now)) }
     ensures counted { OnOk result (length c.new.clauses ≤ length c.old.clauses + 1) }
 {
     match choice {
@@ -297,7 +320,8 @@ fn push_named_operations(ops: &[u32], v: u32, s: Shape, lits: &mut Vec<Lit>) -> 
     requires empty { lits.old.items ≡ [] }
     requires operations { AreBelow s.operations ops.now }
     requires constant { v < s.constants }
-    ensures lits { OnOk result (lits.new.items ≡ implication (size_of s) [] (map (λ o. Is (op o) v) ops.now)) }
+    ensures lits { OnOk result
+        (lits.new.items ≡ implication (size_of s) [] (map (λ o. Is (op o) v) ops.now)) }
     ensures in_range { OnOk result (AreInRange (count_of (size_of s)) lits.new.items) }
 {
     for o in ops {

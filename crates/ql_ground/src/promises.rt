@@ -24,7 +24,9 @@ pub(crate) fn add_level(
     requires variables { c.old.variables ≡ count_of (size_of s) }
     requires room { length c.old.clauses + most_instances < 2 ^ 32 }
     ensures variables { c.new.variables ≡ c.old.variables }
-    ensures clauses { OnOk result (c.new.clauses ≡ c.old.clauses ++ clauses_of (instances (size_of s) (rules.level_rule level))) }
+    ensures clauses { OnOk result
+        (c.new.clauses ≡ c.old.clauses
+        ++ clauses_of (instances (size_of s) (rules.level_rule level))) }
     ensures counted { OnOk result (length c.new.clauses ≤ length c.old.clauses + most_instances) }
 {
     match level {
@@ -62,8 +64,11 @@ pub(crate) fn add_txn_level(
     requires variables { c.old.variables ≡ count_of (size_of s) }
     requires room { length c.old.clauses + 2 * most_instances < 2 ^ 32 }
     ensures variables { c.new.variables ≡ c.old.variables }
-    ensures clauses { OnOk result (c.new.clauses ≡ c.old.clauses ++ clauses_of (all_instances (size_of s) (rules.txn_level_rules level))) }
-    ensures counted { OnOk result (length c.new.clauses ≤ length c.old.clauses + 2 * most_instances) }
+    ensures clauses { OnOk result
+        (c.new.clauses ≡ c.old.clauses
+        ++ clauses_of (all_instances (size_of s) (rules.txn_level_rules level))) }
+    ensures counted { OnOk result
+        (length c.new.clauses ≤ length c.old.clauses + 2 * most_instances) }
 {
     match level {
         TxnLevel::Rc => add_committed(alloc, s, c),
@@ -80,7 +85,8 @@ fn add_committed(alloc: Global, s: Shape, c: &mut Clauses) -> Result<(), NoMemor
     requires variables { c.old.variables ≡ count_of (size_of s) }
     requires room { length c.old.clauses + most_instances < 2 ^ 32 }
     ensures variables { c.new.variables ≡ c.old.variables }
-    ensures clauses { OnOk result (c.new.clauses ≡ c.old.clauses ++ clauses_of (instances (size_of s) rules.committed_rule)) }
+    ensures clauses { OnOk result
+        (c.new.clauses ≡ c.old.clauses ++ clauses_of (instances (size_of s) rules.committed_rule)) }
     ensures counted { OnOk result (length c.new.clauses ≤ length c.old.clauses + most_instances) }
 {
     let seen_in_part = [
@@ -99,7 +105,8 @@ fn add_monotonic(alloc: Global, s: Shape, c: &mut Clauses) -> Result<(), NoMemor
     requires variables { c.old.variables ≡ count_of (size_of s) }
     requires room { length c.old.clauses + most_instances < 2 ^ 32 }
     ensures variables { c.new.variables ≡ c.old.variables }
-    ensures clauses { OnOk result (c.new.clauses ≡ c.old.clauses ++ clauses_of (instances (size_of s) rules.monotonic_rule)) }
+    ensures clauses { OnOk result
+        (c.new.clauses ≡ c.old.clauses ++ clauses_of (instances (size_of s) rules.monotonic_rule)) }
     ensures counted { OnOk result (length c.new.clauses ≤ length c.old.clauses + most_instances) }
 {
     let seen_before = [
@@ -120,7 +127,9 @@ fn add_repeatable(alloc: Global, s: Shape, c: &mut Clauses) -> Result<(), NoMemo
     requires variables { c.old.variables ≡ count_of (size_of s) }
     requires room { length c.old.clauses + most_instances < 2 ^ 32 }
     ensures variables { c.new.variables ≡ c.old.variables }
-    ensures clauses { OnOk result (c.new.clauses ≡ c.old.clauses ++ clauses_of (instances (size_of s) rules.repeatable_rule)) }
+    ensures clauses { OnOk result
+        (c.new.clauses ≡ c.old.clauses
+        ++ clauses_of (instances (size_of s) rules.repeatable_rule)) }
     ensures counted { OnOk result (length c.new.clauses ≤ length c.old.clauses + most_instances) }
 {
     let seen_by_one = [

@@ -43,7 +43,12 @@ impl<'a> Rule<'a> {
 
     /// The rule with these hypotheses and conclusions, over this many variables.
     pub(crate) fn over(places: u32, hypotheses: &'a [Atom], conclusions: &'a [Atom]) -> Rule<'a>
-        ensures { rule_of result ≡ record { places = places; hypotheses = hypotheses.now; conclusions = conclusions.now } }
+        ensures { rule_of result
+            ≡ record {
+              places = places;
+              hypotheses = hypotheses.now;
+              conclusions = conclusions.now;
+            } }
     {
         Rule {
             places,
@@ -96,7 +101,9 @@ fn push_literals(
     requires chosen { All (λ k. k < s.constants) chosen.now }
     requires atoms { All (IsRuleAtom (size_of s)) atoms.now }
     requires in_range { AreInRange (count_of (size_of s)) lits.old.items }
-    ensures lits { OnOk result (lits.new.items ≡ lits.old.items ++ map (literal_of (size_of s) positive) (map (at (size_of s) chosen.now) atoms.now)) }
+    ensures lits { OnOk result
+        (lits.new.items ≡ lits.old.items
+        ++ map (literal_of (size_of s) positive) (map (at (size_of s) chosen.now) atoms.now)) }
     ensures in_range { OnOk result (AreInRange (count_of (size_of s)) lits.new.items) }
 {
     for a in atoms {
@@ -120,7 +127,9 @@ fn add_instance(
     requires variables { c.old.variables ≡ count_of (size_of s) }
     requires room { length c.old.clauses + 1 < 2 ^ 32 }
     ensures variables { c.new.variables ≡ c.old.variables }
-    ensures clauses { OnOk result (c.new.clauses ≡ c.old.clauses ++ clauses_of (instance (size_of s) (rule_of r.now) chosen.now)) }
+    ensures clauses { OnOk result
+        (c.new.clauses ≡ c.old.clauses
+        ++ clauses_of (instance (size_of s) (rule_of r.now) chosen.now)) }
     ensures counted { OnOk result (length c.new.clauses ≤ length c.old.clauses + 1) }
 {
     lits.clear();
@@ -147,8 +156,12 @@ fn add_choices(
     requires variables { c.old.variables ≡ count_of (size_of s) }
     requires room { length c.old.clauses + s.constants ^ (r.now.places - depth) < 2 ^ 32 }
     ensures variables { c.new.variables ≡ c.old.variables }
-    ensures clauses { OnOk result (c.new.clauses ≡ c.old.clauses ++ clauses_of (choices s.constants (r.now.places - depth) (λ rest. instance (size_of s) (rule_of r.now) (take depth chosen ++ rest)))) }
-    ensures counted { OnOk result (length c.new.clauses ≤ length c.old.clauses + s.constants ^ (r.now.places - depth)) }
+    ensures clauses { OnOk result
+        (c.new.clauses ≡ c.old.clauses
+        ++ clauses_of (choices s.constants (r.now.places - depth)
+        (λ rest. instance (size_of s) (rule_of r.now) (take depth chosen ++ rest)))) }
+    ensures counted { OnOk result
+        (length c.new.clauses ≤ length c.old.clauses + s.constants ^ (r.now.places - depth)) }
 {
     if depth == r.places as usize {
         return add_instance(r, &chosen[..depth], s, lits, c);
@@ -174,7 +187,8 @@ pub(crate) fn add_rule(
     requires variables { c.old.variables ≡ count_of (size_of s) }
     requires room { length c.old.clauses + most_instances < 2 ^ 32 }
     ensures variables { c.new.variables ≡ c.old.variables }
-    ensures clauses { OnOk result (c.new.clauses ≡ c.old.clauses ++ clauses_of (instances (size_of s) (rule_of r.now))) }
+    ensures clauses { OnOk result
+        (c.new.clauses ≡ c.old.clauses ++ clauses_of (instances (size_of s) (rule_of r.now))) }
     ensures counted { OnOk result (length c.new.clauses ≤ length c.old.clauses + most_instances) }
 {
     let mut lits = Vec::new(alloc);

@@ -9,10 +9,12 @@ ghost use Rattle.ql_ground.specs.Implication.{IsContractOf, Implies, ImpliesTxn}
 /// The law of operations' problems: where no assignment satisfies one, then in every execution of the program,
 /// of any length, each effect of the operation for which the level's guarantee holds meets the contract.
 pub fn refuted_op_is_implied()
-    ensures { (types : List ℕ) (o : ℕ) (level : Level) (f : Resolved) → IsContractOf types true f → IsUnsatisfiable (op_problem types o level f) → Implies types o level f }
+    ensures { (types : List ℕ) (o : ℕ) (level : Level) (f : Resolved) → IsContractOf types true f
+        → IsUnsatisfiable (op_problem types o level f) → Implies types o level f }
 {}
 
 /// The law of transactions' problems: the same of each begun transaction.
 pub fn refuted_txn_is_implied()
-    ensures { (types : List ℕ) (level : TxnLevel) (f : Resolved) → IsContractOf types false f → IsUnsatisfiable (txn_problem types level f) → ImpliesTxn types level f }
+    ensures { (types : List ℕ) (level : TxnLevel) (f : Resolved) → IsContractOf types false f
+        → IsUnsatisfiable (txn_problem types level f) → ImpliesTxn types level f }
 {}

@@ -1,5 +1,5 @@
 -- From levels that give contracts, and what each effect and each transaction of a run has, to contracts.
-use Rattle.std.proofs.Common.{◌≡◌, ℕ, zero, suc, ◌+◌, ◌<◌, ◌≤◌, Bool, true, ◌&&◌, nat_eq, nat_lt, List, [], ◌∷◌, ◌++◌, length, get_or, slice_get, slice_index, Some, refl, ap, sym, subst, ◌∙◌, arith, length-append, get_or-append-add}
+use Rattle.std.proofs.Common.{◌≡◌, ℕ, zero, suc, ◌+◌, ◌<◌, nat_eq, nat_lt, List, [], ◌∷◌, length, get_or, slice_get, slice_index, Some, refl, ap, sym, subst, ◌∙◌, arith, length-append, get_or-append-add}
 use Rattle.std.proofs.lemmas.List.{get_or_append_left}
 use Rattle.std.proofs.lemmas.Bool.{and_parts, eqb-true, ltb-true}
 use Rattle.ql_base.specs.declared.ids.DeclId.{DeclId}
@@ -16,7 +16,6 @@ use Rattle.ql_exec.specs.declared.effect.Effect.{Effect}
 use Rattle.ql_exec.specs.Effects.{effect_at}
 use Rattle.ql_formula.specs.Truth.{Holds, HoldsTxn}
 use Rattle.ql_ground.specs.declared.goal.Goal.{Goal}
-use Rattle.ql_ground.specs.declared.goal.Goal.TheVariants.{OpAt, TxnAt}
 use Rattle.ql_classify.specs.Targets.{goals_at, op_at, ops_from, txn_at, txns_from}
 use Rattle.ql_implication.specs.OfPrograms.{GivesContract}
 use Rattle.ql_classify.specs.Least.{AreEnough}

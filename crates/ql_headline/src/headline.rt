@@ -24,15 +24,24 @@ ghost use Rattle.ql_headline.specs.Stores.{IsScheduleFor, rules_of};
 /// written contract of its operation (`operations`), and each begun transaction that of its declared name, even one
 /// without effects (`transactions`).
 pub fn runs_meet_contracts()
-    ensures fits { (p : Program) (levels : LevelLists) (kinds : List ℕ) (n : ℕ) (events : List Event) (replies : List Reply) (last : Machine) → IsRun (rules_of p levels) n events replies last
+    ensures fits { (p : Program) (levels : LevelLists) (kinds : List ℕ) (n : ℕ)
+        (events : List Event) (replies : List Reply) (last : Machine)
+        → IsRun (rules_of p levels) n events replies last
         → IsScheduleFor p kinds events → FitsProgram (op_kinds p.types) last.effects }
-    ensures answers { (p : Program) (levels : LevelLists) (n : ℕ) (events : List Event) (replies : List Reply) (last : Machine) → IsRun (rules_of p levels) n events replies last
+    ensures answers { (p : Program) (levels : LevelLists) (n : ℕ) (events : List Event)
+        (replies : List Reply) (last : Machine) → IsRun (rules_of p levels) n events replies last
         → (a : ℕ) (e : Effect) → effect_at last.effects a ≡ Some e
-        → answered_of p.types e.op.0 e.args (seen_in_order last.effects e.seen) ≡ record { answer = e.answer; payload = e.payload } }
-    ensures operations { (p : Program) (levels : LevelLists) (kinds : List ℕ) (n : ℕ) (events : List Event) (replies : List Reply) (last : Machine) → IsRun (rules_of p levels) n events replies last
+        → answered_of p.types e.op.0 e.args (seen_in_order last.effects e.seen)
+        ≡ record { answer = e.answer; payload = e.payload } }
+    ensures operations { (p : Program) (levels : LevelLists) (kinds : List ℕ) (n : ℕ)
+        (events : List Event) (replies : List Reply) (last : Machine)
+        → IsRun (rules_of p levels) n events replies last
         → IsScheduleFor p kinds events → AreEnough p levels
-        → (a : ℕ) (e : Effect) → effect_at last.effects a ≡ Some e → (f : Resolved) × (slice_get (op_contracts p.types) e.op.0 ≡ Some f) × Holds last.effects f a }
-    ensures transactions { (p : Program) (levels : LevelLists) (kinds : List ℕ) (n : ℕ) (events : List Event) (replies : List Reply) (last : Machine) → IsRun (rules_of p levels) n events replies last
+        → (a : ℕ) (e : Effect) → effect_at last.effects a ≡ Some e → (f : Resolved)
+        × (slice_get (op_contracts p.types) e.op.0 ≡ Some f) × Holds last.effects f a }
+    ensures transactions { (p : Program) (levels : LevelLists) (kinds : List ℕ) (n : ℕ)
+        (events : List Event) (replies : List Reply) (last : Machine)
+        → IsRun (rules_of p levels) n events replies last
         → IsScheduleFor p kinds events → AreEnough p levels
         → (run : ℕ) (decl : DeclId) → decl.0 < length p.txns → IsUnderName last.effects run decl
         → (f : Resolved) × (slice_get (txn_contracts p) decl.0 ≡ Some f) × HoldsTxn last.effects f run }

@@ -1,5 +1,3 @@
-ghost use Rattle.std.specs.Prelude.{MatchOption};
-
 use ql_base::{Word, is_name, number_of};
 
 /// A begun transaction: its number, from 1, and the name of its declaration.

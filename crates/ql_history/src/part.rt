@@ -1,21 +1,15 @@
 ghost use Rattle.std.specs.Prelude.{◌≤◌, length};
 
-use ql_lines::first_field;
+use ql_lines::{after_spaces, first_field};
 
 /// The first part of a line, and the rest after it. A part ends at a space that is neither between quotes nor
 /// in brackets, so a value is one part.
 pub(crate) fn first_part(text: &[u8]) -> Option<(&[u8], &[u8])> {
-    let start = without_spaces(text);
+    let start = after_spaces(text);
     if start.is_empty() {
         return None;
     }
     Some(start.split_at(part_bytes(start)))
-}
-
-/// The rest of a line after its leading spaces.
-pub(crate) fn without_spaces(text: &[u8]) -> &[u8] {
-    let (_, rest) = text.split_at(spaces(text));
-    rest
 }
 
 /// Whether a line consists of this word.
@@ -24,12 +18,6 @@ pub(crate) fn is_word(text: &[u8], word: &[u8]) -> bool {
         Some((field, behind)) => field == word && first_field(behind).is_none(),
         None => false,
     }
-}
-
-fn spaces(text: &[u8]) -> usize
-    ensures { result ≤ length text.now }
-{
-    text.iter().take_while(|b| **b == b' ').count()
 }
 
 // The length in bytes of the first part.

@@ -1,6 +1,5 @@
-use crate::part::without_spaces;
 use ql_base::{NoMemory, number_of};
-use ql_lines::{after_number, first_field};
+use ql_lines::{after_number, after_spaces, first_field};
 use std::alloc::Global;
 
 /// The first word of a reply.
@@ -50,7 +49,7 @@ fn spelled(text: &[u8], number: u32) -> Option<(&[u8], ReplyWord, Option<u32>)> 
     let (field, behind) = first_field(rest)?;
     let word = word_of(field)?;
     if told == number {
-        Some((without_spaces(rest), word, number_behind(behind)))
+        Some((after_spaces(rest), word, number_behind(behind)))
     } else {
         None
     }

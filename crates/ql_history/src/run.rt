@@ -1,11 +1,11 @@
-ghost use Rattle.std.specs.Prelude.{◌<◌, ◌^◌};
+ghost use Rattle.std.specs.Prelude.{◌<◌};
 
 use crate::effect::{Effect, Spelled, effect_of, read_spelled};
 use crate::fault::{DrawnFault, DrawnRule, LineFault};
-use crate::part::{is_word, without_spaces};
+use crate::part::is_word;
 use crate::reply::{Reply, reply_of};
 use ql_base::{Names, NoMemory, Word};
-use ql_lines::{Line, Lines, after_name, after_number, after_word, first_field};
+use ql_lines::{Line, Lines, after_name, after_number, after_spaces, after_word, first_field};
 use std::alloc::Global;
 
 // The most effects and the most replies of a file, and its most objects.
@@ -115,7 +115,7 @@ fn take_ahead(alloc: Global, run: &mut Run, text: &[u8]) -> Result<Stage, LineFa
         Some((b"execution", _)) if is_word(text, b"execution") => return Ok(Stage::Effects),
         Some((b"replies", _)) if is_word(text, b"replies") => return Ok(Stage::Replying),
         Some((b"contract", _)) => return Ok(Stage::Judging),
-        Some((b"why", behind)) => run.why = Vec::from_slice(alloc, without_spaces(behind))?,
+        Some((b"why", behind)) => run.why = Vec::from_slice(alloc, after_spaces(behind))?,
         Some((b"op", behind)) => push_level(alloc, run, false, behind)?,
         Some((b"txn", behind)) => push_level(alloc, run, true, behind)?,
         _ => {}
@@ -130,7 +130,7 @@ fn push_level(alloc: Global, run: &mut Run, is_txn: bool, text: &[u8]) -> Result
     run.levels.push(Level {
         is_txn,
         name: Word::of(name),
-        level: Vec::from_slice(alloc, without_spaces(behind))?,
+        level: Vec::from_slice(alloc, after_spaces(behind))?,
     })?;
     Ok(())
 }
@@ -139,7 +139,7 @@ fn push_level(alloc: Global, run: &mut Run, is_txn: bool, text: &[u8]) -> Result
 fn take_place(alloc: Global, run: &mut Run, text: &[u8]) -> Result<Stage, LineFault> {
     match after_word(text, b"at") {
         Some(behind) if after_number(behind, u32::MAX).is_some() => {
-            run.why = Vec::from_slice(alloc, without_spaces(text))?;
+            run.why = Vec::from_slice(alloc, after_spaces(text))?;
             Ok(Stage::Effects)
         }
         _ => Err(LineFault::Breaks(DrawnRule::Unexpected)),

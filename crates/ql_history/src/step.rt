@@ -1,6 +1,5 @@
-use crate::part::without_spaces;
 use ql_base::NoMemory;
-use ql_lines::{after_name, after_number, after_word, first_field};
+use ql_lines::{after_name, after_number, after_spaces, after_word, first_field};
 use std::alloc::Global;
 
 /// An event of a schedule, in as much detail as a picture shows.
@@ -83,7 +82,7 @@ fn called(text: &[u8], replicas: u32) -> Option<(Caller, &[u8], &[u8])> {
     let (caller, rest) = after_caller(text, replicas)?;
     let (object, rest) = after_name(rest)?;
     let (_, _) = after_name(rest)?;
-    Some((caller, object, without_spaces(rest)))
+    Some((caller, object, after_spaces(rest)))
 }
 
 fn begin(alloc: Global, text: &[u8], replicas: u32) -> Result<Option<Step>, NoMemory> {

@@ -1,4 +1,4 @@
-ghost use Rattle.std.specs.Prelude.{◌≡◌, ◌↔◌, ◌++◌, [], List, ℕ, true, IfOk};
+ghost use Rattle.std.specs.Prelude.{◌≡◌, ◌↔◌, ◌<◌, ◌≤◌, ◌++◌, [], List, ℕ, true, false, length, slice_index, IfOk};
 ghost use Rattle.ql_base.specs.IdLists.{IsAscending, has_id};
 ghost use Rattle.ql_exec.specs.declared.effect.Effect.{Effect};
 ghost use Rattle.ql_exec.specs.Execution.{IsExecution};
@@ -34,22 +34,33 @@ pub trait Holder: Drop {
     fn receive(&mut self, pack: &IdSet, x: &Execution) -> Result<Arrival, NoMemory>
         requires fits { fits self.old x.now }
         requires package { IsPackage x.now pack.now }
-        ensures arrival { IfOk result (IsArrival x.now (received self.old) pack.now (received self.new)) }
+        ensures arrival { IfOk result
+            (IsArrival x.now (received self.old) pack.now (received self.new)) }
         ensures fits { fits self.new x.now }
-        ensures same { ChangesNothing result → (received self.new ≡ received self.old) × ((y : List Effect) → fits self.old y ↔ fits self.new y) };
+        ensures same { ChangesNothing result → (received self.new ≡ received self.old)
+            × ((y : List Effect) → fits self.old y ↔ fits self.new y) };
 
     /// Whether an effect was received.
     fn has(&self, e: EffId) -> bool
         ensures { result ≡ has_id (received self.now) e.0 };
 
+    /// The number of effects at the front that were received.
+    fn leading(&self, ids: &[u32]) -> usize
+        requires { IsAscending ids.now }
+        ensures bound { result ≤ length ids.now }
+        ensures has { (k : ℕ) → k < result → has_id (received self.now) (slice_index ids.now k) ≡ true }
+        ensures end { result < length ids.now → has_id (received self.now) (slice_index ids.now result) ≡ false };
+
     /// Whether an effect is applied.
     fn applied(&self, e: EffId) -> bool
-        ensures { (x : List Effect) → fits self.now x → (result ≡ true) ↔ Applied x (received self.now) e.0 };
+        ensures { (x : List Effect) → fits self.now x → (result ≡ true)
+            ↔ Applied x (received self.now) e.0 };
 
     /// A holder that has received the same effects.
     fn copy(&self) -> Result<Self, NoMemory>
         ensures received { IfOk result (λ copied. received copied ≡ received self.now) }
-        ensures fits { IfOk result (λ copied. (x : List Effect) → fits copied x ↔ fits self.now x) };
+        ensures fits { IfOk result
+            (λ copied. (x : List Effect) → fits copied x ↔ fits self.now x) };
 
     // The ids that were received ascend.
     ghost fits_ascending: { (holder : Self) (x : List Effect) → fits holder x → IsAscending (received holder) };

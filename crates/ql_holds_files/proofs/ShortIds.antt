@@ -1,45 +1,27 @@
 -- Ids that are read one after another: each is above those before it, and is the next field.
 use Rattle.std.proofs.Common.{◌≡◌, ◌^◌, ℕ, ◌-◌, ◌<◌, true, false, List, [], ◌∷◌, ◌++◌, length, take, drop, get_or, decimal, Some, refl, ap, subst, ◌∙◌, sym, arith, Bool, ◌==◌}
 use Rattle.std.specs.Prelude.{not}
-use Rattle.std.specs.List.{position_or_len, AllByRecursion, AllPass}
+use Rattle.std.specs.List.{position_or_len, AllPass}
 use Rattle.std.specs.Char.{digit_value}
 use Rattle.std.specs.Str.Parse.{digits_value}
 use Rattle.std.proofs.Math.Seq.{take-append_seam, drop-append_seam}
 use Rattle.std.proofs.lemmas.Bool.Decides.{nat_tests}
-use Rattle.std.proofs.lemmas.Bool.{false≢true, lt-ltb, le-ltb}
-use Rattle.ql_base.specs.IdLists.{IsBelowAll, IsAscending, with_id}
+use Rattle.std.proofs.lemmas.Bool.{false≢true}
+use Rattle.ql_base.specs.IdLists.{IsAscending}
 use Rattle.ql_base.specs.Bytes.{StopsBefore, begins, is_digit}
 use Rattle.ql_base.specs.Numbers.{IsNumeral}
 use Rattle.ql_base.proofs.Fronts.{front-append, passes_head}
 use Rattle.ql_base.proofs.Numerals.{number_is}
-use Rattle.ql_lines.specs.Fields.{FirstField, IsId, fields_of, is_space}
+use Rattle.ql_lines.specs.Fields.{FirstField, fields_of, is_space}
+use Rattle.ql_lines.proofs.AscendingIds.{below_push, below_middle}
 use Rattle.ql_lines.proofs.FieldLaws.{behind_space, field_first}
-
-below_push : (i : ℕ) (ids : List ℕ) (id : ℕ) → IsBelowAll i ids → i < id → IsBelowAll i (ids ++ id ∷ [])
-below_push i [] id below less = (less, tt)
-below_push i (j ∷ ids) id below less = (below.0, below_push i ids id below.1 less)
-
-below_last : (i : ℕ) (ids : List ℕ) (id : ℕ) → IsBelowAll i (ids ++ id ∷ []) → i < id
-below_last i [] id below = below.0
-below_last i (b ∷ ids) id below = below_last i ids id below.1
 
 -- an id above the last of ascending ids ascends after them
 pub above_last : (ids : List ℕ) (last id : ℕ) → IsAscending (ids ++ last ∷ []) → last < id → IsAscending ((ids ++ last ∷ []) ++ id ∷ [])
 above_last [] last id up less = ((less, tt), (tt, tt))
 above_last (i ∷ ids) last id up less =
-    let below = below_last i ids last up.0 in
+    let below = below_middle i ids last [] up.0 in
     (below_push i (ids ++ last ∷ []) id up.0 (omega (arith, below, less)), above_last ids last id up.1 less)
-
--- it is put in at the end
-pub with_id-end : (ids : List ℕ) (id : ℕ) → IsAscending (ids ++ id ∷ []) → with_id ids id ≡ ids ++ id ∷ []
-with_id-end [] id up = refl
-with_id-end (other ∷ ids) id up =
-    let less : other < id = below_last other ids id up.0 in
-    rw (le-ltb id other (omega (arith, less)), lt-ltb other id less) (ap (λ (l : List ℕ). other ∷ l) (with_id-end ids id up.1))
-
-pub ids_more : (ids : List ℕ) (id : ℕ) → AllByRecursion IsId ids → IsId id → AllByRecursion IsId (ids ++ id ∷ [])
-ids_more [] id small is_id = (is_id, tt)
-ids_more (x ∷ ids) id small is_id = (small.0, ids_more ids id small.1 is_id)
 
 -- ---- a number after one space
 not_space : (b : ℕ) → is_digit b ≡ true → is_space b ≡ false

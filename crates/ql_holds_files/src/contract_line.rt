@@ -1,4 +1,4 @@
-ghost use Rattle.std.specs.Prelude.{◌≡◌, IfOk, MatchOption, map};
+ghost use Rattle.std.specs.Prelude.{IfOk, MatchOption};
 ghost use Rattle.ql_lang.specs.Trees.{Sentence, sentence_of};
 ghost use Rattle.ql_holds_files.specs.ContractLine.{IsContractLine};
 
@@ -10,7 +10,9 @@ use std::alloc::Global;
 
 /// The contract of a line that is the word `contract` and then a contract; `None` for any other line.
 pub(crate) fn contract_line(alloc: Global, text: &[u8]) -> Result<Option<Contract>, NoMemory>
-    ensures { IfOk result (λ found. MatchOption found ((c : Sentence) → IsContractLine text.now c → ⊥) (λ contract. IsContractLine text.now (sentence_of contract))) }
+    ensures { IfOk result
+        (λ found. MatchOption found ((c : Sentence) → IsContractLine text.now c → ⊥)
+        (λ contract. IsContractLine text.now (sentence_of contract))) }
 {
     ql_parse::one_answer();
     let Some(rest) = after_word(text, b"contract") else {

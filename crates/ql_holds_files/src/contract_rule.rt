@@ -14,7 +14,8 @@ use std::alloc::Global;
 /// The lowest rule that a contract with faults breaks.
 pub(crate) fn lowest_rule(alloc: Global, contract: &Contract) -> Result<HoldsRule, NoMemory>
     requires { sentence_faults (sentence_of contract.now) ≢ [] }
-    ensures { IfOk result (λ rule. lowest_rule (sentence_faults (sentence_of contract.now)) ≡ Some rule) }
+    ensures { IfOk result
+        (λ rule. lowest_rule (sentence_faults (sentence_of contract.now)) ≡ Some rule) }
 {
     let vars = contract.vars.items();
     let named = names_of(alloc, vars)?;
@@ -79,7 +80,8 @@ fn put_in(names: &mut Names, word: &Word) -> Result<(), NoMemory>
 
 // Whether one of the variables names an operation twice.
 fn repeats_an_operation(alloc: Global, vars: &[Var]) -> Result<bool, NoMemory>
-    ensures { IfOk result (λ twice. twice ≡ list_any is_repeat (each (choice_faults None) vars.now)) }
+    ensures { IfOk result
+        (λ twice. twice ≡ list_any is_repeat (each (choice_faults None) vars.now)) }
 {
     let mut rest = vars;
     while let Some((var, others)) = rest.split_first() {
@@ -119,7 +121,8 @@ fn has_unbound(points: &[Point], vars: &Names) -> bool
 // Whether a proposition uses a variable that the contract doesn't bind.
 #[tactic(auto, unfolding(ql_typing::specs::ContractFaults::prop_faults), using(crate::proofs::ContractRules::unknown_application, crate::proofs::ContractRules::unknown_either))]
 fn is_open(prop: &Prop, vars: &Names) -> bool
-    ensures { result ≡ list_any is_unknown_name (prop_faults false vars.now (proposition_of prop.now)) }
+    ensures { result ≡ list_any is_unknown_name
+        (prop_faults false vars.now (proposition_of prop.now)) }
 {
     match prop {
         Prop::True => false,
@@ -136,7 +139,8 @@ fn is_open(prop: &Prop, vars: &Names) -> bool
 // Whether a proposition uses transactions.
 #[tactic(auto, unfolding(ql_typing::specs::ContractFaults::prop_faults), using(crate::proofs::ContractRules::txn_application, crate::proofs::ContractRules::txn_either))]
 fn speaks_of_txn(prop: &Prop) -> bool
-    ensures { (vars : List (List ℕ)) → result ≡ list_any is_txn_atom (prop_faults false vars (proposition_of prop.now)) }
+    ensures { (vars : List (List ℕ))
+        → result ≡ list_any is_txn_atom (prop_faults false vars (proposition_of prop.now)) }
 {
     match prop {
         Prop::True | Prop::Apply(_, _, _) => false,

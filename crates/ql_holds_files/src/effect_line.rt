@@ -23,7 +23,10 @@ pub(crate) fn effect_line(
     text: &[u8],
     id: u32,
 ) -> Result<Option<EffectLine>, NoMemory>
-    ensures { IfOk result (λ line. MatchOption line ((e : EffectLine) → IsHoldsEffectLine (fields_of text.now) id e → ⊥) (λ e. IsHoldsEffectLine (fields_of text.now) id e)) }
+    ensures { IfOk result
+        (λ line. MatchOption line
+        ((e : EffectLine) → IsHoldsEffectLine (fields_of text.now) id e → ⊥)
+        (λ e. IsHoldsEffectLine (fields_of text.now) id e)) }
 {
     let Some(rest) = after_id(text, id) else {
         return Ok(None);
@@ -47,7 +50,8 @@ pub(crate) fn effect_line(
 
 // The rest of a line after the word `effect` and this id.
 fn after_id(text: &[u8], id: u32) -> Option<&[u8]>
-    ensures { MatchOption result ((rest : Fields) → fields_of text.now ≡ codes "effect" ∷ decimal id ∷ rest → ⊥)
+    ensures { MatchOption result
+        ((rest : Fields) → fields_of text.now ≡ codes "effect" ∷ decimal id ∷ rest → ⊥)
         (λ behind. fields_of text.now ≡ codes "effect" ∷ decimal id ∷ fields_of behind.now) }
 {
     let numbered = after_word(text, b"effect")?;
@@ -57,8 +61,11 @@ fn after_id(text: &[u8], id: u32) -> Option<&[u8]>
 
 // Two names, and the rest of the line after them.
 fn two_names(text: &[u8]) -> Option<(&[u8], &[u8], &[u8])>
-    ensures { MatchOption result ((a b : List ℕ) (rest : Fields) → IsName a → IsName b → fields_of text.now ≡ a ∷ b ∷ rest → ⊥)
-        (λ x. IsName x.0.now × IsName x.1.now × (fields_of text.now ≡ x.0.now ∷ x.1.now ∷ fields_of x.2.now)) }
+    ensures { MatchOption result
+        ((a b : List ℕ) (rest : Fields) → IsName a → IsName b → fields_of text.now ≡ a ∷ b ∷ rest
+        → ⊥)
+        (λ x. IsName x.0.now × IsName x.1.now
+        × (fields_of text.now ≡ x.0.now ∷ x.1.now ∷ fields_of x.2.now)) }
 {
     let (first, rest) = after_name(text)?;
     let (second, behind) = after_name(rest)?;
@@ -67,8 +74,11 @@ fn two_names(text: &[u8]) -> Option<(&[u8], &[u8], &[u8])>
 
 // The session between the words `session` and `vis`, and the rest of the line after these.
 fn session(text: &[u8]) -> Option<(u32, &[u8])>
-    ensures { MatchOption result ((s : ℕ) (rest : Fields) → s ≤ 255 → fields_of text.now ≡ codes "session" ∷ decimal s ∷ codes "vis" ∷ rest → ⊥)
-        (λ x. (x.0 ≤ 255) × (fields_of text.now ≡ codes "session" ∷ decimal x.0 ∷ codes "vis" ∷ fields_of x.1.now)) }
+    ensures { MatchOption result
+        ((s : ℕ) (rest : Fields) → s ≤ 255
+        → fields_of text.now ≡ codes "session" ∷ decimal s ∷ codes "vis" ∷ rest → ⊥)
+        (λ x. (x.0 ≤ 255) × (fields_of text.now
+        ≡ codes "session" ∷ decimal x.0 ∷ codes "vis" ∷ fields_of x.1.now)) }
 {
     let numbered = after_word(text, b"session")?;
     let (session, rest) = after_number(numbered, 255)?;
@@ -78,7 +88,8 @@ fn session(text: &[u8]) -> Option<(u32, &[u8])>
 
 /// The id of the current effect in a line `at ID`; `None` for any other line.
 pub(crate) fn current(text: &[u8]) -> Option<u32>
-    ensures { MatchOption result ((cur : ℕ) → IsId cur → fields_of text.now ≡ at_fields cur → ⊥) (λ cur. IsId cur × (fields_of text.now ≡ at_fields cur)) }
+    ensures { MatchOption result ((cur : ℕ) → IsId cur → fields_of text.now ≡ at_fields cur → ⊥)
+        (λ cur. IsId cur × (fields_of text.now ≡ at_fields cur)) }
 {
     let numbered = after_word(text, b"at")?;
     let (cur, behind) = after_number(numbered, u32::MAX)?;

@@ -32,7 +32,8 @@ impl NamedEffects {
     ) -> Result<NamedEffects, LineFault<HoldsRule>>
         requires few { length self.effects ≤ MAX_EFFECTS }
         requires objects { length self.objects ≤ length self.effects }
-        ensures { IsLineAnswer (λ x. x ≡ unless_broken (effect_rule self line) (with_named_effect self line)) result }
+        ensures { IsLineAnswer
+            (λ x. x ≡ unless_broken (effect_rule self line) (with_named_effect self line)) result }
     {
         let mut named = self;
         let (last_object, last_op) = last_numbers(named.effects.effects());
@@ -58,7 +59,8 @@ impl NamedEffects {
 
 // The numbers of the last effect's object and operation, 0 where there is no effect.
 fn last_numbers(effects: &[Effect]) -> (u32, u32)
-    ensures { result ≡ option_map_or (λ e. (e.object.0, e.op.0)) (slice_get effects.now (length effects.now - 1)) (0, 0) }
+    ensures { result ≡ option_map_or
+        (λ e. (e.object.0, e.op.0)) (slice_get effects.now (length effects.now - 1)) (0, 0) }
 {
     match effects.last() {
         Some(effect) => (effect.object.0, effect.op.0),

@@ -1,4 +1,4 @@
-ghost use Rattle.std.specs.Prelude.{not, ◌==◌, ◌≡◌, ◌≤◌, ◌<◌, ◌∷◌, ◌++◌, ◌↔◌, ◌^◌, [], List, ℕ, IfOk, IfSome, IsTrue, MatchOption, decimal, map, length, take};
+ghost use Rattle.std.specs.Prelude.{not, ◌==◌, ◌≡◌, ◌≤◌, ◌<◌, ◌^◌, List, ℕ, IfOk, IfSome, MatchOption, decimal, map, length, take};
 ghost use Rattle.std.specs.List.{AllByRecursion, AllPass};
 ghost use Rattle.std.specs.Str.Parse.{digits_value};
 ghost use Rattle.ql_base.specs.Bytes.{begins, is_digit};
@@ -15,8 +15,12 @@ use std::alloc::Global;
 /// Ids in their usual spelling are read in one pass over their bytes. Any other spelling is left to
 /// `ascending_ids`.
 pub(crate) fn seen_ids(alloc: Global, text: &[u8]) -> Result<Option<IdSet>, NoMemory>
-    ensures { IfOk result (λ ids. MatchOption ids ((seen : List ℕ) → AllByRecursion IsId seen → IsAscending seen → fields_of text.now ≡ map decimal seen → ⊥)
-        (λ seen. AllByRecursion IsId seen × IsAscending seen × (fields_of text.now ≡ map decimal seen))) }
+    ensures { IfOk result
+        (λ ids. MatchOption ids
+        ((seen : List ℕ) → AllByRecursion IsId seen → IsAscending seen
+        → fields_of text.now ≡ map decimal seen → ⊥)
+        (λ seen. AllByRecursion IsId seen × IsAscending seen
+        × (fields_of text.now ≡ map decimal seen))) }
 {
     match short_ids(alloc, text)? {
         Some(ids) => Ok(Some(ids)),
@@ -27,7 +31,9 @@ pub(crate) fn seen_ids(alloc: Global, text: &[u8]) -> Result<Option<IdSet>, NoMe
 // The ids of a text in the usual spelling: each after one space, with at most nine digits. `None` for
 // another spelling, and where the ids don't ascend.
 fn short_ids(alloc: Global, text: &[u8]) -> Result<Option<IdSet>, NoMemory>
-    ensures { IfOk result (λ ids. IfSome ids (λ seen. AllByRecursion IsId seen × IsAscending seen × (fields_of text.now ≡ map decimal seen))) }
+    ensures { IfOk result
+        (λ ids. IfSome ids (λ seen. AllByRecursion IsId seen × IsAscending seen
+        × (fields_of text.now ≡ map decimal seen))) }
 {
     let mut ids = IdSet::new(alloc);
     let mut last = 0;

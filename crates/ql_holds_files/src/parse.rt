@@ -12,7 +12,9 @@ use std::alloc::Global;
 
 /// Reads the question of a holds file, or reports its first fault.
 pub fn parse_holds(alloc: Global, bytes: &[u8]) -> Result<Holding, HoldsFault>
-    ensures read { MatchResult result (λ h. HoldsOutcome (ahead_from 1 bytes.now) (Ok (asked_of h))) (IsRefusal (ahead_from 1 bytes.now)) }
+    ensures read { MatchResult result
+        (λ h. HoldsOutcome (ahead_from 1 bytes.now) (Ok (asked_of h)))
+        (IsRefusal (ahead_from 1 bytes.now)) }
     ensures few { IfOk result (λ h. (length h.formula.vars ≤ 5) × (length h.execution ≤ 4000)) }
 {
     ql_parse::one_answer();

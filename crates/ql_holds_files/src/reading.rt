@@ -47,7 +47,8 @@ pub(crate) fn take(
     text: &[u8],
 ) -> Result<Stage, LineFault<HoldsRule>>
     requires { IsWithin read }
-    ensures { IsLineAnswer (ExtendsHolds read (record { number = number; text = text.now })) result }
+    ensures { IsLineAnswer (ExtendsHolds read (record { number = number; text = text.now }))
+        result }
 {
     match read {
         Stage::Unbegun => begun(alloc, text),
@@ -105,7 +106,10 @@ fn with_current(
     number: u64,
     text: &[u8],
 ) -> Result<Stage, LineFault<HoldsRule>>
-    ensures { IsLineAnswer (ExtendsHoldsAs (IsCurrentLine (fields_of text.now)) (λ cur. Ok (WithEffects contract (record { line = number; id = cur }) effects))) result }
+    ensures { IsLineAnswer
+        (ExtendsHoldsAs (IsCurrentLine (fields_of text.now))
+        (λ cur. Ok (WithEffects contract (record { line = number; id = cur }) effects)))
+        result }
 {
     match current(text) {
         Some(id) => {
@@ -126,7 +130,9 @@ fn with_more(
 ) -> Result<Stage, LineFault<HoldsRule>>
     requires few { length effects.effects ≤ MAX_EFFECTS }
     requires objects { length effects.objects ≤ length effects.effects }
-    ensures { IsLineAnswer (ExtendsHoldsAs (IsMore (suc (length effects.effects)) (fields_of text.now)) (after_more contract current effects)) result }
+    ensures { IsLineAnswer
+        (ExtendsHoldsAs (IsMore (suc (length effects.effects)) (fields_of text.now))
+        (after_more contract current effects)) result }
 {
     if is_end(text) {
         return Ok(Stage::Ended(contract, current, effects));

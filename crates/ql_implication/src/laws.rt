@@ -8,6 +8,9 @@ ghost use Rattle.ql_implication.specs.Countermodels.{IsCounter, IsTxnCounter};
 
 /// The law that a level isn't enough where there is a countermodel.
 pub fn countermodels_refute()
-    ensures op { (types : List ℕ) (o : ℕ) (level : Level) (f : Resolved) (x : List Effect) (cur : ℕ) (places : List ℕ) → IsCounter types o level f x cur places → IsImplied types o level f → ⊥ }
-    ensures txn { (types : List ℕ) (d : ℕ) (level : TxnLevel) (f : Resolved) (x : List Effect) (run : ℕ) (places : List ℕ) → IsTxnCounter types d level f x run places → IsImpliedTxn types level f → ⊥ }
+    ensures op { (types : List ℕ) (o : ℕ) (level : Level) (f : Resolved) (x : List Effect) (cur : ℕ)
+        (places : List ℕ) → IsCounter types o level f x cur places → IsImplied types o level f → ⊥ }
+    ensures txn { (types : List ℕ) (d : ℕ) (level : TxnLevel) (f : Resolved) (x : List Effect)
+        (run : ℕ) (places : List ℕ) → IsTxnCounter types d level f x run places
+        → IsImpliedTxn types level f → ⊥ }
 {}

@@ -9,8 +9,12 @@ ghost use Rattle.ql_levels.specs.declared.level.TxnLevel.TheVariants.{Mav, Rc, R
 /// The law that in every execution each level guarantees all that the levels below it do.
 pub fn higher_levels_promise_more()
     ensures strong { (x : List Effect) → IsExecution x → (cur : ℕ) → Holds x (formula_of Strong) cur → Holds x (formula_of Wide) cur }
-    ensures wide { (x : List Effect) → IsExecution x → (cur : ℕ) → Holds x (formula_of Wide) cur → Holds x (formula_of Causal) cur }
-    ensures causal { (x : List Effect) → IsExecution x → (cur : ℕ) → Holds x (formula_of Causal) cur → Holds x (formula_of Eventual) cur }
-    ensures repeatable { (x : List Effect) → IsExecution x → (run : ℕ) → HoldsTxn x (txn_formula_of Rr) run → HoldsTxn x (txn_formula_of Mav) run }
-    ensures monotonic { (x : List Effect) → IsExecution x → (run : ℕ) → HoldsTxn x (txn_formula_of Mav) run → HoldsTxn x (txn_formula_of Rc) run }
+    ensures wide { (x : List Effect) → IsExecution x → (cur : ℕ) → Holds x (formula_of Wide) cur
+        → Holds x (formula_of Causal) cur }
+    ensures causal { (x : List Effect) → IsExecution x → (cur : ℕ) → Holds x (formula_of Causal) cur
+        → Holds x (formula_of Eventual) cur }
+    ensures repeatable { (x : List Effect) → IsExecution x → (run : ℕ)
+        → HoldsTxn x (txn_formula_of Rr) run → HoldsTxn x (txn_formula_of Mav) run }
+    ensures monotonic { (x : List Effect) → IsExecution x → (run : ℕ)
+        → HoldsTxn x (txn_formula_of Mav) run → HoldsTxn x (txn_formula_of Rc) run }
 {}

@@ -14,7 +14,10 @@ ghost use Rattle.ql_implication.specs.Executions.{IsImplied, IsImpliedTxn};
 /// effects of plain numbers. `op` is the law for operations, `txn` for transactions, and `goal` for a goal of a
 /// program that has a ground problem.
 pub fn implied_in_executions()
-    ensures op { (types : List ℕ) (o : ℕ) (level : Level) (f : Resolved) → Implies types o level f → IsImplied types o level f }
-    ensures txn { (types : List ℕ) (level : TxnLevel) (f : Resolved) → ImpliesTxn types level f → IsImpliedTxn types level f }
-    ensures goal { (p : Program) (g : Goal) (c : ClauseList) → ground.IsProblemOf p g c → ground.IsImplied p g → GivesContract p g }
+    ensures op { (types : List ℕ) (o : ℕ) (level : Level) (f : Resolved) → Implies types o level f
+        → IsImplied types o level f }
+    ensures txn { (types : List ℕ) (level : TxnLevel) (f : Resolved) → ImpliesTxn types level f
+        → IsImpliedTxn types level f }
+    ensures goal { (p : Program) (g : Goal) (c : ClauseList) → ground.IsProblemOf p g c
+        → ground.IsImplied p g → GivesContract p g }
 {}

@@ -46,7 +46,7 @@ not_before before (m ∷ ns) (suc k) n h is =
     let later = unmet before m.word n.word new (not_before (with_name before m.word) ns k n (right_none _ _ h) is) in
     later.0
 
--- the first name stands nowhere behind
+-- the first name stands nowhere after
 first_apart : (before : List (List ℕ)) (m : Name) (ns : List Name) (k : ℕ) (b : Name) → repeats before (m ∷ ns) ≡ [] → slice_get ns k ≡ Some b → b.word ≡ m.word → ⊥
 unfolding repeats
 first_apart before m ns k b h at same =

@@ -16,6 +16,8 @@ pub fn told_levels_are_least()
 /// there is one for each target of the program; with no there is only the line of a section out of order, or the lines of
 /// the first sections and then that of a section that isn't accepted.
 pub fn accepted_lines_give_contracts()
-    ensures yes { (source cert text : List ℕ) → CheckSays source cert Done text → TellsAccepted source cert Done text }
-    ensures no { (source cert text : List ℕ) → CheckSays source cert No text → ((place : ℕ) × (text ≡ order_text place)) ⊎ TellsAccepted source cert No text }
+    ensures yes { (source cert text : List ℕ) → CheckSays source cert Done text
+        → TellsAccepted source cert Done text }
+    ensures no { (source cert text : List ℕ) → CheckSays source cert No text
+        → ((place : ℕ) × (text ≡ order_text place)) ⊎ TellsAccepted source cert No text }
 {}

@@ -19,14 +19,20 @@ ghost use Rattle.ql_implied.specs.Uses.{NamesOp};
 /// names (`distinct`); what a transaction names is an operation, which it uses (`each`), and it uses no other
 /// (`only`).
 pub fn uses_are_operations()
-    ensures distinct { (p : Program) → program_faults p ≡ [] → (i j : ℕ) (a b : OpDecl) → slice_get (all_ops p.types) i ≡ Some a → slice_get (all_ops p.types) j ≡ Some b → a.name.word ≡ b.name.word → i ≡ j }
-    ensures each { (p : Program) → program_faults p ≡ [] → (d k : ℕ) (t : TxnDecl) (n : Name) → slice_get p.txns d ≡ Some t → slice_get t.uses k ≡ Some n → (o : ℕ) × (op_place p.types n.word ≡ Some o) × (uses_op p d o ≡ true) }
-    ensures only { (p : Program) → program_faults p ≡ [] → (d o : ℕ) → uses_op p d o ≡ true → NamesOp p d o }
+    ensures distinct { (p : Program) → program_faults p ≡ [] → (i j : ℕ) (a b : OpDecl)
+        → slice_get (all_ops p.types) i ≡ Some a → slice_get (all_ops p.types) j ≡ Some b
+        → a.name.word ≡ b.name.word → i ≡ j }
+    ensures each { (p : Program) → program_faults p ≡ [] → (d k : ℕ) (t : TxnDecl) (n : Name)
+        → slice_get p.txns d ≡ Some t → slice_get t.uses k ≡ Some n → (o : ℕ)
+        × (op_place p.types n.word ≡ Some o) × (uses_op p d o ≡ true) }
+    ensures only { (p : Program) → program_faults p ≡ [] → (d o : ℕ) → uses_op p d o ≡ true
+        → NamesOp p d o }
 {}
 
 /// The law of strong uses by number: of an accepted program no transaction uses an operation whose level is
 /// strong, and where a strong use is reported, the transaction does use that operation, and its level is strong.
 pub fn strong_uses_are_told()
-    ensures accepted { (p : Program) → program_faults p ≡ [] → IsAccepted p → (d o : ℕ) (level : Level) → uses_op p d o ≡ true → IsOpLevel p o level → level ≢ Strong }
+    ensures accepted { (p : Program) → program_faults p ≡ [] → IsAccepted p
+        → (d o : ℕ) (level : Level) → uses_op p d o ≡ true → IsOpLevel p o level → level ≢ Strong }
     ensures told { (p : Program) (d : DeclId) (o : OpId) → FirstFails p (all_tests p) (StrongInTxn d o) → (uses_op p d.0 o.0 ≡ true) × IsOpLevel p o.0 Strong }
 {}

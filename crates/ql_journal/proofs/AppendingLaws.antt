@@ -81,7 +81,7 @@ module _ (records : List (List ℕ)) (ids bytes file : List ℕ) (gate : ℕ) (i
   gated : before ++ shut ∷ behind ≡ (before ++ shut ∷ []) ++ behind
   gated = sym (append_assoc before (shut ∷ []) behind)
 
-  -- while what stands behind the gate is written, the gate is closed
+  -- while what stands after the gate is written, the gate is closed
   pub staged : (image : List ℕ) → MayLeave file (gate + 1) (length bytes) image → HasRecords records image
   staged image left =
       let size : length (before ++ shut ∷ []) ≡ gate + 1 = omega (arith, length-append before (shut ∷ []), is.gate_is) in

@@ -7,7 +7,7 @@ use Rattle.ql_base.specs.IdLists.{with_id}
 use Rattle.ql_journal.specs.Records.{AreIds, IsLawful, body, number, numbers}
 use Rattle.ql_journal.proofs.Numbers.{last_id, length-numbers, numbers-append, above-append, with-last, last-append, small-append, no_step, number-front}
 
--- the bytes behind the ids that were read are a number and the rest
+-- the bytes after the ids that were read are a number and the rest
 module _ (bytes ids rest front after : List ℕ) (id : ℕ) (split : bytes ≡ numbers ids ++ rest) (are_ids : AreIds ids)
     (front_is : front ≡ take 4 rest) (after_is : after ≡ drop 4 rest) (spells : number id ≡ front) (small : id < 2 ^ 32) where
   parts : bytes ≡ numbers ids ++ (number id ++ after)
@@ -42,7 +42,7 @@ module _ (bytes front rest : List ℕ) (count : ℕ) (front_is : front ≡ take 
   whole : bytes ≡ number count ++ rest
   whole = sym (take-append-drop 4 bytes) ∙ ap (λ (l : List ℕ). l ++ drop 4 bytes) (sym front_is ∙ sym spells) ∙ ap (λ (l : List ℕ). number count ++ l) (sym rest_is)
 
-  -- the count and what is behind it, of each record that the bytes begin with
+  -- the count and what is after it, of each record that the bytes begin with
   pub counted : (ids more : List ℕ) → IsLawful ids → bytes ≡ body ids ++ more → (count ≡ length ids) × (rest ≡ numbers ids ++ more)
   counted ids more lawful same = number-front count (length ids) rest (numbers ids ++ more) small (omega (arith, lawful.few)) (sym whole ∙ same)
 

@@ -1,4 +1,4 @@
-ghost use Rattle.std.specs.Prelude.{◌≡◌, ◌<◌, ◌≤◌, ◌+◌, ◌^◌, ◌++◌, ◌∷◌, [], ℕ, List, length, OnOk, OnErr, IfSome};
+ghost use Rattle.std.specs.Prelude.{◌<◌, ◌≤◌, ◌+◌, ◌^◌, ◌++◌, ◌∷◌, [], ℕ, List, length, OnOk, OnErr, IfSome};
 ghost use Rattle.std.specs.Result.{is_ok};
 ghost use Rattle.ql_disk.specs.Bytes.{IsClean};
 ghost use Rattle.ql_disk.specs.Forecasts.{Foretold};
@@ -16,15 +16,19 @@ pub(crate) fn append_record<D: Disk>(disk: &mut D, gate: u64, bytes: &[u8]) -> R
     requires inside { D.tells → gate < length (D.held disk.old).content }
     requires clean { D.tells → IsClean (D.held disk.old) }
     ensures clean { D.tells → OnOk result (IsClean (D.held disk.new)) }
-    ensures any_moment { D.tells → (records : List (List ℕ)) (ids : List ℕ) → IsAppended records ids gate bytes.now (D.held disk.old).content
+    ensures any_moment { D.tells → (records : List (List ℕ)) (ids : List ℕ)
+        → IsAppended records ids gate bytes.now (D.held disk.old).content
         → LeavesOnly D.moment D.left_since disk.old disk.new (IsBeforeOrAfter records ids) }
-    ensures appended { D.tells → (records : List (List ℕ)) (ids : List ℕ) → IsAppended records ids gate bytes.now (D.held disk.old).content
+    ensures appended { D.tells → (records : List (List ℕ)) (ids : List ℕ)
+        → IsAppended records ids gate bytes.now (D.held disk.old).content
         → OnOk result (HasRecords (records ++ ids ∷ []) (D.held disk.new).content) }
-    ensures kept { D.tells → (records : List (List ℕ)) (ids : List ℕ) → IsAppended records ids gate bytes.now (D.held disk.old).content
+    ensures kept { D.tells → (records : List (List ℕ)) (ids : List ℕ)
+        → IsAppended records ids gate bytes.now (D.held disk.old).content
         → OnErr result (HasRecords records (D.held disk.new).base) }
     ensures failed { OnErr result (Rose (D.faults disk.old) (D.faults disk.new)) }
     ensures count_stays { D.faults disk.old ≤ D.faults disk.new }
-    ensures foretold { IfSome (D.forecast disk.old) (λ f. Foretold f 4 (gate + 1 + length bytes.now) (is_ok result) (D.forecast disk.new)) }
+    ensures foretold { IfSome (D.forecast disk.old)
+        (λ f. Foretold f 4 (gate + 1 + length bytes.now) (is_ok result) (D.forecast disk.new)) }
 {
     write_durably(disk, gate + 1, bytes)?;
     write_durably(disk, gate, &[1])

@@ -1,13 +1,12 @@
-ghost use Rattle.std.specs.Prelude.{◌≡◌, ◌↔◌, ◌≤◌, ℕ, true, length};
-ghost use Rattle.ql_base.specs.IdLists.{has_id};
+ghost use Rattle.std.specs.Prelude.{◌≡◌, ◌↔◌, ◌≤◌, true, length};
 ghost use Rattle.ql_needs.specs.Needs.{IsPackage};
-ghost use Rattle.ql_exec.specs.Relations.{sametxn, same_run};
 ghost use Rattle.ql_journal.specs.Ends.{IsKnown};
 ghost use Rattle.ql_journal.specs.Within.{AgreesUpTo, AreWithin};
 ghost use Rattle.ql_journal.specs.Records.{IsLawful};
 
-use ql_base::{EffId, IdSet};
-use ql_exec::{Execution, Member};
+use ql_base::IdSet;
+use ql_exec::Execution;
+use ql_needs::is_same_txn;
 
 /// Whether the ids are a package of committed effects.
 pub(crate) fn is_known(x: &Execution, committed: &IdSet, ids: &IdSet) -> bool
@@ -35,7 +34,7 @@ fn is_package_of(x: &Execution, member: u32, ids: &IdSet) -> bool
     ensures { (result ≡ true) ↔ AgreesUpTo x.now member ids.now (length x.now) }
 {
     for k in 0..x.len() {
-        if ids.has(k + 1) != in_one_txn(x, member, k + 1) {
+        if ids.has(k + 1) != is_same_txn(x, member, k + 1) {
             return false;
         }
     }
@@ -53,23 +52,4 @@ fn are_in(ids: &[u32], others: &IdSet) -> bool
         rest = after;
     }
     true
-}
-
-fn in_one_txn(x: &Execution, id: u32, other: u32) -> bool
-    requires first { 1 ≤ id }
-    requires last { id ≤ length x.now }
-    requires first_other { 1 ≤ other }
-    requires last_other { other ≤ length x.now }
-    ensures { result ≡ sametxn x.now id other }
-{
-    id == other || is_same_run(x.get(EffId(id)).member, x.get(EffId(other)).member)
-}
-
-fn is_same_run(member: Member, other: Member) -> bool
-    ensures { result ≡ same_run member other }
-{
-    match (member, other) {
-        (Member::Inside(run, _), Member::Inside(other_run, _)) => run.0 == other_run.0,
-        _ => false,
-    }
 }

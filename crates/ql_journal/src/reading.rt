@@ -1,4 +1,4 @@
-ghost use Rattle.std.specs.Prelude.{◌≡◌, ◌↔◌, ◌≤◌, true, ◌++◌, ◌∷◌, ◌*◌, ◌+◌, ℕ, List, [], length, drop, IfOk, MatchOption};
+ghost use Rattle.std.specs.Prelude.{◌≡◌, ◌↔◌, ◌≤◌, true, ◌++◌, ◌*◌, ◌+◌, ℕ, List, length, drop, IfOk, MatchOption};
 ghost use Rattle.ql_journal.specs.Records.{AreIds, IsLawful, body, number, numbers};
 
 use ql_base::{IdSet, MAX_EVENTS, NoMemory};
@@ -6,7 +6,9 @@ use std::alloc::Global;
 
 /// The ids of the record whose gate is right before these bytes, if it is whole and lawful.
 pub(crate) fn ids_of_record(alloc: Global, bytes: &[u8]) -> Result<Option<IdSet>, NoMemory>
-    ensures { IfOk result (λ found. MatchOption found ((ids more : List ℕ) → IsLawful ids → bytes.now ≡ body ids ++ more → ⊥)
+    ensures { IfOk result
+        (λ found. MatchOption found
+        ((ids more : List ℕ) → IsLawful ids → bytes.now ≡ body ids ++ more → ⊥)
         (λ ids. IsLawful ids × (bytes.now ≡ body ids ++ drop (4 + 4 * length ids) bytes.now))) }
 {
     if bytes.len() < 4 {
@@ -30,7 +32,8 @@ fn is_whole(count: usize, room: usize) -> bool
 // The ids that the bytes spell, if they ascend from 1 on.
 fn ids_in(alloc: Global, bytes: &[u8]) -> Result<Option<IdSet>, NoMemory>
     requires { (n : ℕ) × (length bytes.now ≡ 4 * n) }
-    ensures { IfOk result (λ found. MatchOption found ((ids : List ℕ) → AreIds ids → bytes.now ≡ numbers ids → ⊥)
+    ensures { IfOk result
+        (λ found. MatchOption found ((ids : List ℕ) → AreIds ids → bytes.now ≡ numbers ids → ⊥)
         (λ ids. AreIds ids × (bytes.now ≡ numbers ids))) }
 {
     let mut ids = IdSet::new(alloc);

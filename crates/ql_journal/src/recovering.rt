@@ -1,4 +1,4 @@
-ghost use Rattle.std.specs.Prelude.{◌≡◌, ◌≤◌, ◌∷◌, [], length, IfOk, OnOk, IfErr, IsErrOf, IfSome, MatchOption};
+ghost use Rattle.std.specs.Prelude.{◌≡◌, ◌≤◌, ◌∷◌, IfOk, OnOk, IfErr, IsErrOf, IfSome, MatchOption};
 ghost use Rattle.ql_disk.specs.Bytes.{IsClean};
 ghost use Rattle.ql_ports.specs.Faults.{Rose};
 ghost use Rattle.ql_journal.specs.declared.why.StationWhy.TheVariants as why;
@@ -22,7 +22,8 @@ pub(crate) fn read_file<D: Disk>(alloc: Global, disk: &mut D) -> Result<Vec<u8>,
     ensures causes { IfErr result IsOfReading }
     ensures failed { IsErrOf result why.Failed → Rose (D.faults disk.old) (D.faults disk.new) }
     ensures count_stays { D.faults disk.old ≤ D.faults disk.new }
-    ensures foretold { IfSome (D.forecast disk.old) (λ f. 1 ≤ f.calls → IsErrOf result why.Failed → ⊥) }
+    ensures foretold { IfSome (D.forecast disk.old)
+        (λ f. 1 ≤ f.calls → IsErrOf result why.Failed → ⊥) }
 {
     disk.sync()?;
     let size = disk.size()?;
@@ -38,7 +39,9 @@ pub(crate) fn received_in<H: Holder>(
     x: &Execution,
     committed: &IdSet,
 ) -> Result<(H, u64), StationWhy>
-    ensures recovers { Recovers (λ found. Received H.received x.now committed.now bytes.now found.0 found.1) x.now committed.now bytes.now result }
+    ensures recovers { Recovers
+        (λ found. Received H.received x.now committed.now bytes.now found.0 found.1) x.now
+        committed.now bytes.now result }
     ensures fits { IfOk result (λ found. H.fits found.0 x.now) }
     ensures causes { IfErr result IsOfBytes }
 {

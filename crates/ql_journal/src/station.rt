@@ -1,4 +1,4 @@
-ghost use Rattle.std.specs.Prelude.{◌≡◌, ◌↔◌, ◌⊎◌, ◌<◌, ◌≤◌, ◌+◌, ◌^◌, ◌++◌, ◌∷◌, [], ℕ, List, true, false, length, IfOk, OnOk, OnErr, IfErr, IsErrOf, IfSome, Ok, Err};
+ghost use Rattle.std.specs.Prelude.{◌≡◌, ◌↔◌, ◌⊎◌, ◌<◌, ◌≤◌, ◌+◌, ◌^◌, [], ℕ, List, true, false, length, IfOk, OnErr, IfErr, IsErrOf, IfSome, Ok, Err};
 ghost use Rattle.std.specs.Result.{is_ok};
 ghost use Rattle.ql_disk.specs.Bytes.{IsImage};
 ghost use Rattle.ql_disk.specs.Forecasts.{Foretold};
@@ -61,7 +61,8 @@ pub fn create<H: Holder, D: Disk>(alloc: Global, disk: &mut D) -> Result<Station
     ensures cause { IfErr result (λ cause. cause ≡ why.Failed) }
     ensures failed { OnErr result (Rose (D.faults disk.old) (D.faults disk.new)) }
     ensures count_stays { D.faults disk.old ≤ D.faults disk.new }
-    ensures foretold { IfSome (D.forecast disk.old) (λ f. Foretold f 2 1 (is_ok result) (D.forecast disk.new)) }
+    ensures foretold { IfSome (D.forecast disk.old)
+        (λ f. Foretold f 2 1 (is_ok result) (D.forecast disk.new)) }
 {
     disk.write_at(0, &[0])?;
     disk.sync()?;
@@ -81,13 +82,20 @@ pub fn recover<H: Holder, D: Disk>(
     committed: &IdSet,
 ) -> Result<Station<H>, StationWhy>
     // What the result means for the file.
-    ensures recovers { D.tells → Recovers (λ station. Received H.received x.now committed.now (D.held disk.old).content (holder_of station) (end_of station))
+    ensures recovers { D.tells
+        → Recovers (λ station. Received H.received x.now committed.now (D.held disk.old).content
+        (holder_of station) (end_of station))
         x.now committed.now (D.held disk.old).content result }
 
     // Which files have which result.
-    ensures sound { D.tells → (records : List (List ℕ)) → AreKnown x.now committed.now records → HasRecords records (D.held disk.old).content → IsSound result }
-    ensures damaged { D.tells → (at : ℕ) → IsDamaged x.now committed.now (D.held disk.old).content at → TellsUnlessNone (why.Damaged at) result }
-    ensures strange { D.tells → (at : ℕ) → IsStranger x.now committed.now (D.held disk.old).content at → TellsUnlessNone (why.Stranger at) result }
+    ensures sound { D.tells → (records : List (List ℕ)) → AreKnown x.now committed.now records
+        → HasRecords records (D.held disk.old).content → IsSound result }
+    ensures damaged { D.tells → (at : ℕ)
+        → IsDamaged x.now committed.now (D.held disk.old).content at
+        → TellsUnlessNone (why.Damaged at) result }
+    ensures strange { D.tells → (at : ℕ)
+        → IsStranger x.now committed.now (D.held disk.old).content at
+        → TellsUnlessNone (why.Stranger at) result }
     ensures fits { IfOk result (λ station. H.fits (holder_of station) x.now) }
     ensures start { IfOk result (λ station. is_stopped station ≡ false) }
     ensures agrees { D.tells → IfOk result (Agrees H.received (D.held disk.new)) }
@@ -95,7 +103,8 @@ pub fn recover<H: Holder, D: Disk>(
     ensures causes { IfErr result IsOfRecovery }
     ensures failed { IsErrOf result why.Failed → Rose (D.faults disk.old) (D.faults disk.new) }
     ensures count_stays { D.faults disk.old ≤ D.faults disk.new }
-    ensures foretold { IfSome (D.forecast disk.old) (λ f. 1 ≤ f.calls → IsErrOf result why.Failed → ⊥) }
+    ensures foretold { IfSome (D.forecast disk.old)
+        (λ f. 1 ≤ f.calls → IsErrOf result why.Failed → ⊥) }
 {
     let bytes = read_file(alloc, disk)?;
     match received_in(alloc, &bytes, x, committed) {
@@ -136,32 +145,46 @@ impl<H: Holder> Station<H> {
         requires package { IsPackage x.now pack.now }
         requires few { length pack.now ≤ 4000 }
         requires room { end_of self.old + record_size (length pack.now) + 1 < 2 ^ 40 }
-        requires agrees { D.tells → is_stopped self.old ≡ false → Agrees H.received (D.held disk.old) self.old }
-        ensures arrival { IfOk result (IsArrival x.now (H.received (holder_of self.old)) pack.now (H.received (holder_of self.new))) }
+        requires agrees { D.tells → is_stopped self.old ≡ false
+            → Agrees H.received (D.held disk.old) self.old }
+        ensures arrival { IfOk result
+            (IsArrival x.now (H.received (holder_of self.old)) pack.now
+            (H.received (holder_of self.new))) }
         ensures fits { H.fits (holder_of self.new) x.now }
         ensures as_before { OnErr result (holder_of self.new ≡ holder_of self.old) }
         ensures causes { IfErr result IsOfReceipt }
 
         // `Reopen` is returned exactly if an earlier receipt returned `Failed`.
         ensures reopen { IsErrOf result why.Reopen ↔ (is_stopped self.old ≡ true) }
-        ensures stopped { (is_stopped self.new ≡ true) ↔ ((is_stopped self.old ≡ true) ⊎ IsErrOf result why.Failed) }
-        ensures untouched { IsErrOf result why.Reopen ⊎ IsErrOf result why.NoMemory ⊎ (result ≡ Ok Again) → (self.new ≡ self.old) × (disk.new ≡ disk.old) }
+        ensures stopped { (is_stopped self.new ≡ true)
+            ↔ ((is_stopped self.old ≡ true) ⊎ IsErrOf result why.Failed) }
+        ensures untouched { IsErrOf result why.Reopen ⊎ IsErrOf result why.NoMemory
+            ⊎ (result ≡ Ok Again) → (self.new ≡ self.old) × (disk.new ≡ disk.old) }
         ensures failed { IsErrOf result why.Failed → Rose (D.faults disk.old) (D.faults disk.new) }
         ensures count_stays { D.faults disk.old ≤ D.faults disk.new }
-        ensures end { IfOk result (λ arrival. end_of self.new ≡ end_after arrival (end_of self.old) (length pack.now)) }
-        ensures foretold { IfSome (D.forecast disk.old) (λ f. IsForetold f (end_of self.old + record_size (length pack.now) + 1) result (D.forecast disk.new)) }
-        ensures agrees { D.tells → is_stopped self.new ≡ false → Agrees H.received (D.held disk.new) self.new }
+        ensures end { IfOk result
+            (λ arrival. end_of self.new ≡ end_after arrival (end_of self.old) (length pack.now)) }
+        ensures foretold { IfSome (D.forecast disk.old)
+            (λ f. IsForetold f (end_of self.old + record_size (length pack.now) + 1) result
+            (D.forecast disk.new)) }
+        ensures agrees { D.tells → is_stopped self.new ≡ false
+            → Agrees H.received (D.held disk.new) self.new }
 
         // Whatever a stop since the start of the call may leave has the records from before, or these with the package.
-        ensures any_moment { D.tells → is_stopped self.old ≡ false → (records : List (List ℕ)) → HasRecords records (D.held disk.old).content
-            → LeavesOnly D.moment D.left_since disk.old disk.new (IsBeforeOrAfter records pack.now) }
+        ensures any_moment { D.tells → is_stopped self.old ≡ false → (records : List (List ℕ))
+            → HasRecords records (D.held disk.old).content
+            → LeavesOnly D.moment D.left_since disk.old disk.new
+            (IsBeforeOrAfter records pack.now) }
 
         // After `Ok` it has the package.
-        ensures acknowledged { D.tells → is_stopped self.old ≡ false → (records : List (List ℕ)) → HasRecords records (D.held disk.old).content
-            → IfOk result (λ arrival. (image : List ℕ) → IsImage (D.held disk.new) image → HasRecords (records_after arrival records pack.now) image) }
+        ensures acknowledged { D.tells → is_stopped self.old ≡ false → (records : List (List ℕ))
+            → HasRecords records (D.held disk.old).content
+            → IfOk result (λ arrival. (image : List ℕ) → IsImage (D.held disk.new) image
+            → HasRecords (records_after arrival records pack.now) image) }
 
         // After `Failed` what the last good sync left doesn't have it.
-        ensures unacknowledged { D.tells → is_stopped self.old ≡ false → (records : List (List ℕ)) → HasRecords records (D.held disk.old).content
+        ensures unacknowledged { D.tells → is_stopped self.old ≡ false → (records : List (List ℕ))
+            → HasRecords records (D.held disk.old).content
             → IsErrOf result why.Failed → HasRecords records (D.held disk.new).base }
     {
         if self.stopped {

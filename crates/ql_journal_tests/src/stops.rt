@@ -68,7 +68,8 @@ fn journal(
     x: &Execution,
 ) -> Result<(), StationWhy>
     requires fits { ⟦<PlainHolder as Holder>⟧.fits (holder_of station.old) x.now }
-    requires agrees { is_stopped station.old ≡ false → Agrees ⟦<PlainHolder as Holder>⟧.received (bytes_of disk.old) station.old }
+    requires agrees { is_stopped station.old ≡ false
+        → Agrees ⟦<PlainHolder as Holder>⟧.received (bytes_of disk.old) station.old }
 {
     if x.len() != 2 {
         return Ok(());
@@ -87,9 +88,11 @@ fn receive(
     requires first { 1 ≤ id }
     requires last { id ≤ length x.now }
     requires fits { ⟦<PlainHolder as Holder>⟧.fits (holder_of station.old) x.now }
-    requires agrees { is_stopped station.old ≡ false → Agrees ⟦<PlainHolder as Holder>⟧.received (bytes_of disk.old) station.old }
+    requires agrees { is_stopped station.old ≡ false
+        → Agrees ⟦<PlainHolder as Holder>⟧.received (bytes_of disk.old) station.old }
     ensures fits { ⟦<PlainHolder as Holder>⟧.fits (holder_of station.new) x.now }
-    ensures agrees { is_stopped station.new ≡ false → Agrees ⟦<PlainHolder as Holder>⟧.received (bytes_of disk.new) station.new }
+    ensures agrees { is_stopped station.new ≡ false
+        → Agrees ⟦<PlainHolder as Holder>⟧.received (bytes_of disk.new) station.new }
 {
     let pack = package_of(alloc, x, id)?;
     if pack.len() > 4000 || station.end() > 1 << 39 {

@@ -39,7 +39,8 @@ fn op_line(
     places: &[EffId],
 ) -> Result<Vec<u8>, NoMemory>
     requires { op.0 < length (all_ops t.now.program.types) }
-    ensures { IfOk result (λ text. text.items ≡ op_text t.now.program op.0 at.0 (effect_numbers places.now)) }
+    ensures { IfOk result
+        (λ text. text.items ≡ op_text t.now.program op.0 at.0 (effect_numbers places.now)) }
 {
     let decl = t.op(op);
     let mut line = Vec::from_slice(alloc, b"fails op ")?;
@@ -59,7 +60,9 @@ fn txn_line(
     places: &[EffId],
 ) -> Result<Vec<u8>, NoMemory>
     requires { name.0 < length t.now.program.txns }
-    ensures { IfOk result (λ text. text.items ≡ txn_breach_text t.now.program run.0 name.0 (effect_numbers places.now)) }
+    ensures { IfOk result
+        (λ text. text.items ≡ txn_breach_text t.now.program run.0 name.0
+        (effect_numbers places.now)) }
 {
     let decl = t.txn(name);
     let mut line = Vec::from_slice(alloc, b"fails txn ")?;
@@ -73,7 +76,8 @@ fn txn_line(
 
 /// Appends each variable with its effect. Out of memory, the line is as before.
 pub fn push_places(line: &mut Vec<u8>, vars: &[Var], places: &[EffId]) -> Result<(), NoMemory>
-    ensures ok { OnOk result (line.new.items ≡ line.old.items ++ places_text vars.now (effect_numbers places.now)) }
+    ensures ok { OnOk result
+        (line.new.items ≡ line.old.items ++ places_text vars.now (effect_numbers places.now)) }
     ensures err { OnErr result (line.new.items ≡ line.old.items) }
 {
     let mut text = Vec::new(*line.allocator());
@@ -82,7 +86,8 @@ pub fn push_places(line: &mut Vec<u8>, vars: &[Var], places: &[EffId]) -> Result
 }
 
 fn push_each(line: &mut Vec<u8>, vars: &[Var], places: &[EffId]) -> Result<(), NoMemory>
-    ensures { OnOk result (line.new.items ≡ line.old.items ++ places_text vars.now (effect_numbers places.now)) }
+    ensures { OnOk result
+        (line.new.items ≡ line.old.items ++ places_text vars.now (effect_numbers places.now)) }
 {
     let Some((var, other_vars)) = vars.split_first() else {
         return Ok(());

@@ -1,5 +1,6 @@
 pub mod Trees
 pub mod Formulas
+pub mod FormulaCode
 pub mod Arguments
 pub mod Expressions
 pub mod Spelling

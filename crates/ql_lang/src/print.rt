@@ -34,7 +34,8 @@ pub fn print_contract(alloc: Global, contract: &Contract) -> Result<Vec<u8>, NoM
 
 // Appends the text of a contract.
 pub(crate) fn push_contract(out: &mut Vec<u8>, contract: &Contract) -> Result<(), NoMemory>
-    ensures { OnOk result (out.new.items ≡ out.old.items ++ contract_text (sentence_of contract.now)) }
+    ensures { OnOk result
+        (out.new.items ≡ out.old.items ++ contract_text (sentence_of contract.now)) }
 {
     push_quantifier(out, contract.vars.items())?;
     push_prop(out, &contract.body)
@@ -54,7 +55,8 @@ fn push_quantifier(out: &mut Vec<u8>, vars: &[Var]) -> Result<(), NoMemory>
 
 // Variables with a comma between them.
 fn push_vars(out: &mut Vec<u8>, vars: &[Var]) -> Result<(), NoMemory>
-    ensures { OnOk result (out.new.items ≡ out.old.items ++ listed (codes ", ") (map var_text vars.now)) }
+    ensures { OnOk result
+        (out.new.items ≡ out.old.items ++ listed (codes ", ") (map var_text vars.now)) }
 {
     let Some((first, others)) = vars.split_first() else {
         return Ok(());
@@ -87,7 +89,8 @@ fn push_operations(out: &mut Vec<u8>, ops: &[Name]) -> Result<(), NoMemory>
 
 // Names with a separator between them.
 pub(crate) fn push_names(out: &mut Vec<u8>, names: &[Name], mark: &[u8]) -> Result<(), NoMemory>
-    ensures { OnOk result (out.new.items ≡ out.old.items ++ listed mark.now (map word_of names.now)) }
+    ensures { OnOk result
+        (out.new.items ≡ out.old.items ++ listed mark.now (map word_of names.now)) }
 {
     let Some((first, others)) = names.split_first() else {
         return Ok(());
@@ -129,7 +132,10 @@ fn push_prop(out: &mut Vec<u8>, prop: &Prop) -> Result<(), NoMemory>
 // A statement, in brackets if it is made by a connective.
 #[cycle(prop)]
 fn push_operand(out: &mut Vec<u8>, prop: &Prop) -> Result<(), NoMemory>
-    ensures { OnOk result (out.new.items ≡ out.old.items ++ in_brackets (is_joined (proposition_of prop.now)) (prop_text (proposition_of prop.now))) }
+    ensures { OnOk result
+        (out.new.items ≡ out.old.items
+        ++ in_brackets (is_joined (proposition_of prop.now))
+        (prop_text (proposition_of prop.now))) }
 {
     if !is_joined(prop) {
         return push_prop(out, prop);
@@ -155,7 +161,9 @@ fn push_application(
     left: &Point,
     right: &Point,
 ) -> Result<(), NoMemory>
-    ensures { OnOk result (out.new.items ≡ out.old.items ++ application_text (relation_of relation.now) left.now right.now) }
+    ensures { OnOk result
+        (out.new.items ≡ out.old.items
+        ++ application_text (relation_of relation.now) left.now right.now) }
 {
     if let Rel::Base(RelName::Eq, _) = relation {
         push_bytes(out, term_bytes(left))?;
@@ -168,7 +176,9 @@ fn push_application(
 
 // Two terms in brackets.
 fn push_arguments(out: &mut Vec<u8>, left: &Point, right: &Point) -> Result<(), NoMemory>
-    ensures { OnOk result (out.new.items ≡ out.old.items ++ (codes "(") ++ term_text left.now ++ (codes ", ") ++ term_text right.now ++ (codes ")")) }
+    ensures { OnOk result
+        (out.new.items ≡ out.old.items ++ (codes "(") ++ term_text left.now ++ (codes ", ")
+        ++ term_text right.now ++ (codes ")")) }
 {
     push_bytes(out, b"(")?;
     push_bytes(out, term_bytes(left))?;
@@ -178,7 +188,8 @@ fn push_arguments(out: &mut Vec<u8>, left: &Point, right: &Point) -> Result<(), 
 }
 
 fn push_relation(out: &mut Vec<u8>, relation: &Rel) -> Result<(), NoMemory>
-    ensures { OnOk result (out.new.items ≡ out.old.items ++ relation_text (relation_of relation.now)) }
+    ensures { OnOk result
+        (out.new.items ≡ out.old.items ++ relation_text (relation_of relation.now)) }
 {
     match relation {
         Rel::Base(name, _) => push_bytes(out, relation_word(*name)),
@@ -215,7 +226,9 @@ fn relation_word(name: RelName) -> &'static [u8]
 
 // The two groups of terms of a `txn`.
 fn push_txn(out: &mut Vec<u8>, first: &[Point], second: &[Point]) -> Result<(), NoMemory>
-    ensures { OnOk result (out.new.items ≡ out.old.items ++ (codes "txn{") ++ terms_text first.now ++ (codes "}{") ++ terms_text second.now ++ (codes "}")) }
+    ensures { OnOk result
+        (out.new.items ≡ out.old.items ++ (codes "txn{") ++ terms_text first.now ++ (codes "}{")
+        ++ terms_text second.now ++ (codes "}")) }
 {
     push_bytes(out, b"txn{")?;
     push_terms(out, first)?;

@@ -60,7 +60,10 @@ pub(crate) fn push_expression(out: &mut Vec<u8>, e: &Expr) -> Result<(), NoMemor
 // An expression, in brackets if it is made by an operator or an `if`.
 #[cycle(expression)]
 fn push_operand(out: &mut Vec<u8>, e: &Expr) -> Result<(), NoMemory>
-    ensures { OnOk result (out.new.items ≡ out.old.items ++ in_brackets (is_compound (expression_of e.now)) (expression_text (expression_of e.now))) }
+    ensures { OnOk result
+        (out.new.items ≡ out.old.items
+        ++ in_brackets (is_compound (expression_of e.now))
+        (expression_text (expression_of e.now))) }
 {
     if !is_compound(e) {
         return push_expression(out, e);
@@ -74,7 +77,9 @@ fn push_operand(out: &mut Vec<u8>, e: &Expr) -> Result<(), NoMemory>
 #[cycle(expression)]
 #[tactic(auto, unfolding(crate::specs::ExpressionSpelling::operand_texts))]
 fn push_arguments(out: &mut Vec<u8>, args: &[Expr]) -> Result<(), NoMemory>
-    ensures { OnOk result (out.new.items ≡ out.old.items ++ listed (codes ", ") (operand_texts (operands_of args.now))) }
+    ensures { OnOk result
+        (out.new.items ≡ out.old.items
+        ++ listed (codes ", ") (operand_texts (operands_of args.now))) }
 {
     let Some((first, others)) = args.split_first() else {
         return Ok(());

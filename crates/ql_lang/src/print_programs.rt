@@ -29,8 +29,7 @@ ghost use Rattle.ql_lang.specs.Programs.{
   source_of,
   transaction_of,
 };
-ghost use Rattle.ql_lang.specs.Spelling.{contract_text, listed};
-ghost use Rattle.ql_lang.specs.Trees.{sentence_of};
+ghost use Rattle.ql_lang.specs.Spelling.{listed};
 
 use crate::name::Name;
 use crate::operation::{Base, Bind, EmitDecl, Kind, OpDecl, Param, Stmt};
@@ -52,7 +51,9 @@ pub fn print_program(alloc: Global, program: &Program) -> Result<Vec<u8>, NoMemo
 }
 
 fn push_types(out: &mut Vec<u8>, types: &[TypeDecl]) -> Result<(), NoMemory>
-    ensures { OnOk result (out.new.items ≡ out.old.items ++ concat (map replicated_text (map replicated_of types.now))) }
+    ensures { OnOk result
+        (out.new.items ≡ out.old.items
+        ++ concat (map replicated_text (map replicated_of types.now))) }
 {
     for decl in types {
         push_type(out, decl)?;
@@ -61,7 +62,8 @@ fn push_types(out: &mut Vec<u8>, types: &[TypeDecl]) -> Result<(), NoMemory>
 }
 
 fn push_type(out: &mut Vec<u8>, decl: &TypeDecl) -> Result<(), NoMemory>
-    ensures { OnOk result (out.new.items ≡ out.old.items ++ replicated_text (replicated_of decl.now)) }
+    ensures { OnOk result
+        (out.new.items ≡ out.old.items ++ replicated_text (replicated_of decl.now)) }
 {
     push_bytes(out, b"type ")?;
     push_bytes(out, decl.name.word.bytes())?;
@@ -138,7 +140,8 @@ fn push_init(out: &mut Vec<u8>, init: &InitNode) -> Result<(), NoMemory>
 }
 
 fn push_operations(out: &mut Vec<u8>, ops: &[OpDecl]) -> Result<(), NoMemory>
-    ensures { OnOk result (out.new.items ≡ out.old.items ++ concat (map operation_text (map operation_of ops.now))) }
+    ensures { OnOk result
+        (out.new.items ≡ out.old.items ++ concat (map operation_text (map operation_of ops.now))) }
 {
     for op in ops {
         push_operation(out, op)?;
@@ -181,7 +184,8 @@ fn push_body(out: &mut Vec<u8>, op: &OpDecl) -> Result<(), NoMemory>
 
 // Parameters with a comma between them.
 fn push_params(out: &mut Vec<u8>, params: &[Param]) -> Result<(), NoMemory>
-    ensures { OnOk result (out.new.items ≡ out.old.items ++ listed (codes ", ") (map param_text params.now)) }
+    ensures { OnOk result
+        (out.new.items ≡ out.old.items ++ listed (codes ", ") (map param_text params.now)) }
 {
     let Some((first, others)) = params.split_first() else {
         return Ok(());
@@ -203,7 +207,9 @@ fn push_param(out: &mut Vec<u8>, param: &Param) -> Result<(), NoMemory>
 }
 
 fn push_effect(out: &mut Vec<u8>, effect: Option<&EmitDecl>) -> Result<(), NoMemory>
-    ensures { OnOk result (out.new.items ≡ out.old.items ++ effect_text (option_map emission_of (option_copied effect.entry))) }
+    ensures { OnOk result
+        (out.new.items ≡ out.old.items
+        ++ effect_text (option_map emission_of (option_copied effect.entry))) }
 {
     match effect {
         Some(effect) => push_emission(out, effect),
@@ -212,7 +218,8 @@ fn push_effect(out: &mut Vec<u8>, effect: Option<&EmitDecl>) -> Result<(), NoMem
 }
 
 fn push_emission(out: &mut Vec<u8>, effect: &EmitDecl) -> Result<(), NoMemory>
-    ensures { OnOk result (out.new.items ≡ out.old.items ++ emission_text (emission_of effect.now)) }
+    ensures { OnOk result
+        (out.new.items ≡ out.old.items ++ emission_text (emission_of effect.now)) }
 {
     push_bytes(out, b"    emit ")?;
     push_bindings(out, effect.binds.items())?;
@@ -224,7 +231,9 @@ fn push_emission(out: &mut Vec<u8>, effect: &EmitDecl) -> Result<(), NoMemory>
 
 // Emitted values with a comma between them.
 fn push_bindings(out: &mut Vec<u8>, binds: &[Bind]) -> Result<(), NoMemory>
-    ensures { OnOk result (out.new.items ≡ out.old.items ++ listed (codes ", ") (map binding_text (map binding_of binds.now))) }
+    ensures { OnOk result
+        (out.new.items ≡ out.old.items
+        ++ listed (codes ", ") (map binding_text (map binding_of binds.now))) }
 {
     let Some((first, others)) = binds.split_first() else {
         return Ok(());
@@ -249,7 +258,8 @@ fn push_binding(out: &mut Vec<u8>, bind: &Bind) -> Result<(), NoMemory>
 
 // The statements between their braces.
 fn push_apply(out: &mut Vec<u8>, stmts: &[Stmt]) -> Result<(), NoMemory>
-    ensures { OnOk result (out.new.items ≡ out.old.items ++ apply_text (map assignment_of stmts.now)) }
+    ensures { OnOk result
+        (out.new.items ≡ out.old.items ++ apply_text (map assignment_of stmts.now)) }
 {
     push_bytes(out, b"    apply {\n")?;
     push_statements(out, stmts)?;
@@ -257,7 +267,9 @@ fn push_apply(out: &mut Vec<u8>, stmts: &[Stmt]) -> Result<(), NoMemory>
 }
 
 fn push_statements(out: &mut Vec<u8>, stmts: &[Stmt]) -> Result<(), NoMemory>
-    ensures { OnOk result (out.new.items ≡ out.old.items ++ concat (map assignment_text (map assignment_of stmts.now))) }
+    ensures { OnOk result
+        (out.new.items ≡ out.old.items
+        ++ concat (map assignment_text (map assignment_of stmts.now))) }
 {
     for stmt in stmts {
         push_statement(out, stmt)?;
@@ -266,7 +278,8 @@ fn push_statements(out: &mut Vec<u8>, stmts: &[Stmt]) -> Result<(), NoMemory>
 }
 
 fn push_statement(out: &mut Vec<u8>, stmt: &Stmt) -> Result<(), NoMemory>
-    ensures { OnOk result (out.new.items ≡ out.old.items ++ assignment_text (assignment_of stmt.now)) }
+    ensures { OnOk result
+        (out.new.items ≡ out.old.items ++ assignment_text (assignment_of stmt.now)) }
 {
     push_bytes(out, b"      ")?;
     push_bytes(out, stmt.target.word.bytes())?;
@@ -276,7 +289,9 @@ fn push_statement(out: &mut Vec<u8>, stmt: &Stmt) -> Result<(), NoMemory>
 }
 
 fn push_transactions(out: &mut Vec<u8>, txns: &[TxnDecl]) -> Result<(), NoMemory>
-    ensures { OnOk result (out.new.items ≡ out.old.items ++ concat (map transaction_text (map transaction_of txns.now))) }
+    ensures { OnOk result
+        (out.new.items ≡ out.old.items
+        ++ concat (map transaction_text (map transaction_of txns.now))) }
 {
     for txn in txns {
         push_transaction(out, txn)?;
@@ -285,7 +300,8 @@ fn push_transactions(out: &mut Vec<u8>, txns: &[TxnDecl]) -> Result<(), NoMemory
 }
 
 fn push_transaction(out: &mut Vec<u8>, txn: &TxnDecl) -> Result<(), NoMemory>
-    ensures { OnOk result (out.new.items ≡ out.old.items ++ transaction_text (transaction_of txn.now)) }
+    ensures { OnOk result
+        (out.new.items ≡ out.old.items ++ transaction_text (transaction_of txn.now)) }
 {
     push_bytes(out, b"transaction ")?;
     push_bytes(out, txn.name.word.bytes())?;

@@ -33,7 +33,8 @@ pub fn picture_of(
     caption: &[u8],
     grid: &Grid,
 ) -> Result<Picture, NoMemory>
-    ensures { IfOk result (λ picture. AreDotsOf grid.now scene.entry.history.now.seats.items picture.dots.items) }
+    ensures { IfOk result
+        (λ picture. AreDotsOf grid.now scene.entry.history.now.seats.items picture.dots.items) }
 {
     let dots = dots_of(alloc, grid, &scene.history.seats)?;
     let under = ground(alloc, scene, grid)?;

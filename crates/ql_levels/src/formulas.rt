@@ -125,7 +125,8 @@ fn repeatable(alloc: Global) -> Result<Body, NoMemory>
 }
 
 fn for_all(alloc: Global, variables: usize, body: Body) -> Result<Formula, NoMemory>
-    ensures { IfOk result (λ f. resolved_of f ≡ record { vars = replicate variables Any; body = statement_of body }) }
+    ensures { IfOk result
+        (λ f. resolved_of f ≡ record { vars = replicate variables Any; body = statement_of body }) }
 {
     Ok(Formula {
         vars: any_effects(alloc, variables)?,

@@ -10,7 +10,8 @@ use std::alloc::Global;
 #[tactic(auto, using(crate::proofs::Steps::after_gap, crate::proofs::Steps::after_token, crate::proofs::Steps::at_no_token, crate::proofs::Steps::at_too_long, crate::proofs::Steps::at_no_number, crate::proofs::Steps::at_end, crate::proofs::Spans::tokens_spans))]
 pub fn tokens(alloc: Global, bytes: &[u8]) -> Result<Vec<Token>, LexFault>
     requires { length bytes.now < 2 ^ 32 }
-    ensures exact { MatchResult result (λ found. Lexes 0 bytes.now (Ok found.items)) (IsFirstFault bytes.now) }
+    ensures exact { MatchResult result
+        (λ found. Lexes 0 bytes.now (Ok found.items)) (IsFirstFault bytes.now) }
     ensures spans { IfOk result (λ found. AreSpans 0 (length bytes.now) found.items) }
 {
     let mut found = Vec::new(alloc);

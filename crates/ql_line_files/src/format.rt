@@ -38,7 +38,8 @@ pub trait LineFormat {
         text: &[u8],
     ) -> Result<Self::State, LineFault<Self::Rule>>
         requires { (more : ℕ) × sound self.now state (suc more) }
-        ensures { IsLineAnswer (gives self.now state (record { number = number; text = text.now })) result };
+        ensures { IsLineAnswer (gives self.now state (record { number = number; text = text.now }))
+            result };
 
     /// What a file says that ends in this state. `end` is the number of the line after its last one.
     fn finish(&self, state: Self::State, end: u64) -> Result<Self::Said, FileFault<Self::Rule>>

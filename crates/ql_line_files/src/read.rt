@@ -9,8 +9,11 @@ use ql_lines::Lines;
 
 /// Reads a file: what it says, or its first fault.
 pub fn read_file<F: LineFormat>(format: &F, bytes: &[u8]) -> Result<F::Said, FileFault<F::Rule>>
-    requires sound { F.sound format.now (F.start format.now) (length (ahead_from 1 bytes.now).lines) }
-    ensures { IsEndAnswer (Outcome (F.gives format.now) (F.closes format.now) (F.start format.now) (ahead_from 1 bytes.now)) result }
+    requires sound { F.sound format.now (F.start format.now)
+        (length (ahead_from 1 bytes.now).lines) }
+    ensures { IsEndAnswer
+        (Outcome (F.gives format.now) (F.closes format.now) (F.start format.now)
+        (ahead_from 1 bytes.now)) result }
 {
     let mut lines = Lines::of(bytes);
     let mut state = format.start();

@@ -1,4 +1,4 @@
--- ascending ids, and one more behind them
+-- ascending ids, and one more after them
 use Rattle.std.proofs.Common.{◌≡◌, ℕ, zero, suc, ◌-◌, ◌<◌, ◌≤◌, List, [], ◌∷◌, ◌++◌, length, map, decimal, Some, refl, sym, ap, subst, ◌∙◌, arith}
 use Rattle.std.specs.List.{slice_get, AllByRecursion}
 use Rattle.std.proofs.lemmas.Bool.{lt-ltb, le-ltb}
@@ -14,11 +14,11 @@ below_item i [] k y below e = absurd cc
 below_item i (j ∷ ids) zero y below e = let s = same_Some j y e in let lt = below.0 in omega (arith, s, lt)
 below_item i (j ∷ ids) (suc k) y below e = below_item i ids k y below.1 e
 
-below_push : (i : ℕ) (ids : List ℕ) (id : ℕ) → IsBelowAll i ids → i < id → IsBelowAll i (ids ++ id ∷ [])
+pub below_push : (i : ℕ) (ids : List ℕ) (id : ℕ) → IsBelowAll i ids → i < id → IsBelowAll i (ids ++ id ∷ [])
 below_push i [] id below less = (less, tt)
 below_push i (j ∷ ids) id below less = (below.0, below_push i ids id below.1 less)
 
-below_middle : (i : ℕ) (before : List ℕ) (id : ℕ) (ids : List ℕ) → IsBelowAll i (before ++ id ∷ ids) → i < id
+pub below_middle : (i : ℕ) (before : List ℕ) (id : ℕ) (ids : List ℕ) → IsBelowAll i (before ++ id ∷ ids) → i < id
 below_middle i [] id ids below = below.0
 below_middle i (b ∷ before) id ids below = below_middle i before id ids below.1
 
@@ -28,7 +28,7 @@ above i (j ∷ ids) id last up e less =
     let under = below_item i (j ∷ ids) (length ids) last up.0 e in
     (below_push i (j ∷ ids) id up.0 (omega (arith, under, less)), above j ids id last up.1 e less)
 
--- an id above the last of ascending ids ascends behind them
+-- an id above the last of ascending ids ascends after them
 pub above_last : (ids : List ℕ) (id last : ℕ) → IsAscending ids → slice_get ids (length ids - 1) ≡ Some last → last < id → IsAscending (ids ++ id ∷ [])
 above_last [] id last up e less = absurd cc
 above_last (i ∷ ids) id last up e less =
@@ -57,7 +57,7 @@ below_front : (i : ℕ) (before : List ℕ) (id : ℕ) (ids : List ℕ) → IsBe
 below_front i [] id ids below = (below.0, tt)
 below_front i (b ∷ before) id ids below = (below.0, below_front i before id ids below.1)
 
--- a front of ascending ids ascends
+-- a prefix of ascending ids ascends
 pub ascending_front : (before : List ℕ) (id : ℕ) (ids : List ℕ) → IsAscending (before ++ id ∷ ids) → IsAscending (before ++ id ∷ [])
 ascending_front [] id ids up = (tt, tt)
 ascending_front (b ∷ before) id ids up = (below_front b before id ids up.0, ascending_front before id ids up.1)

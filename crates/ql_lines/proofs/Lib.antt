@@ -1,5 +1,5 @@
 pub mod Conses
-mod AscendingIds
+pub mod AscendingIds
 mod Splits
 mod FirstBytes
 pub mod FieldLaws

@@ -11,8 +11,12 @@ use std::alloc::Global;
 /// The ascending ids that the fields of a text spell; `None` if a field isn't an id, or isn't above
 /// the one before it.
 pub fn ascending_ids(alloc: Global, text: &[u8]) -> Result<Option<IdSet>, NoMemory>
-    ensures { IfOk result (λ ids. MatchOption ids ((seen : List ℕ) → AllByRecursion IsId seen → IsAscending seen → fields_of text.now ≡ map decimal seen → ⊥)
-        (λ seen. AllByRecursion IsId seen × IsAscending seen × (fields_of text.now ≡ map decimal seen))) }
+    ensures { IfOk result
+        (λ ids. MatchOption ids
+        ((seen : List ℕ) → AllByRecursion IsId seen → IsAscending seen
+        → fields_of text.now ≡ map decimal seen → ⊥)
+        (λ seen. AllByRecursion IsId seen × IsAscending seen
+        × (fields_of text.now ≡ map decimal seen))) }
 {
     let mut ids = IdSet::new(alloc);
     let mut rest = text;

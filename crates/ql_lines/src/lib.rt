@@ -10,7 +10,7 @@ mod leading;
 mod lines;
 mod search;
 
-pub use fields::first_field;
+pub use fields::{after_spaces, first_field};
 pub use ids::ascending_ids;
 pub use leading::{after_name, after_number, after_word};
 pub use lines::{Line, Lines};

@@ -1,4 +1,4 @@
-ghost use Rattle.std.specs.Prelude.{◌≡◌, ◌<◌, ◌≤◌, ◌+◌, ◌^◌, ◌∷◌, [], MatchOption, length};
+ghost use Rattle.std.specs.Prelude.{◌≡◌, ◌<◌, ◌+◌, ◌^◌, ◌∷◌, [], MatchOption, length};
 ghost use Rattle.std.specs.Str.Lines.{lines, strip_carriage_return};
 ghost use Rattle.ql_lines.specs.Lines.{ahead_from, is_skipped};
 
@@ -48,7 +48,9 @@ impl<'a> Lines<'a> {
 
     /// The next line that isn't skipped.
     pub fn next_line(&mut self) -> Option<Line<'a>>
-        ensures line { MatchOption result ((self.old.lines ≡ []) × (self.new.lines ≡ [])) (λ l. self.old.lines ≡ record { number = l.number; text = l.text.now } ∷ self.new.lines) }
+        ensures line { MatchOption result ((self.old.lines ≡ []) × (self.new.lines ≡ []))
+            (λ l. self.old.lines ≡ record { number = l.number; text = l.text.now }
+            ∷ self.new.lines) }
         ensures end { self.new.end ≡ self.old.end }
     {
         while let Some((text, rest)) = first_line(self.rest) {
@@ -78,7 +80,8 @@ impl<'a> Lines<'a> {
 
 // The first line of a file and what follows its end; `None` if nothing is left.
 fn first_line(bytes: &[u8]) -> Option<(&[u8], &[u8])>
-    ensures { MatchOption result (length bytes.now ≡ 0) (λ x. (length x.1.now < length bytes.now) × (lines bytes.now ≡ x.0.now ∷ lines x.1.now)) }
+    ensures { MatchOption result (length bytes.now ≡ 0)
+        (λ x. (length x.1.now < length bytes.now) × (lines bytes.now ≡ x.0.now ∷ lines x.1.now)) }
 {
     if bytes.is_empty() {
         return None;

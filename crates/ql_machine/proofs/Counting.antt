@@ -1,4 +1,4 @@
--- How many replicas there are behind events.
+-- How many replicas there are after events.
 use Rattle.std.proofs.Common.{◌≡◌, ℕ, List, [], ◌∷◌, ◌++◌, refl}
 use Rattle.ql_machine.specs.declared.event.Event.{Event}
 use Rattle.ql_machine.specs.Runs.{replicas_after, replicas_behind}

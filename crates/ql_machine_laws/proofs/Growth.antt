@@ -27,8 +27,8 @@ use Rattle.ql_machine_laws.proofs.Answering.{made}
 use Rattle.ql_machine_laws.proofs.Keeping.{keeps-empty, keeps-step, nothing-there}
 use Rattle.ql_machine_laws.proofs.Made.{IsMade}
 
--- what a step makes of the execution
-data Grows (rules : Rules) (s : Machine) : Event → List Effect → Type 0 where
+-- what a step makes of the execution: nothing, or an effect of its call
+pub data Grows (rules : Rules) (s : Machine) : Event → List Effect → Type 0 where
   stays : (e : Event) → Grows rules s e s.effects
   gains : (c : Call) (seen : List ℕ) → MayAnswer rules s c seen → Grows rules s (event.Call c.session c.replica c.object c.op c.args) (s.effects ++ effect_made rules s c seen ∷ [])
 
@@ -49,7 +49,7 @@ grows-delivery rules s e m _ _ (again message is passes known) = stays e
 grows-delivery rules s e m _ _ (waits message a new least) = stays e
 grows-delivery rules s e m _ _ (applies message ids new all are) = stays e
 
-grows : (rules : Rules) (s : Machine) (e : Event) (after : Machine) (r : Reply) → IsStep rules s e after r → Grows rules s e after.effects
+pub grows : (rules : Rules) (s : Machine) (e : Event) (after : Machine) (r : Reply) → IsStep rules s e after r → Grows rules s e after.effects
 grows rules s _ _ _ (calls session replica object op args after r is) = grows-call rules s _ after r is
 grows rules s _ _ _ (already_open session replica decl objects t is) = stays _
 grows rules s _ _ _ (begins session replica decl objects snapshot none less are) = stays _

@@ -1,11 +1,11 @@
 -- A replica joins: what is kept where one has received committed effects in whole transactions, and each strong one with all
 -- that it needs.
-use Rattle.std.proofs.Common.{◌≡◌, ℕ, zero, suc, ◌<◌, true, List, [], ◌∷◌, ◌++◌, length, inl, inr, arith, length-append}
+use Rattle.std.proofs.Common.{ℕ, zero, suc, ◌<◌, true, List, [], ◌∷◌, ◌++◌, length, inl, inr, arith, length-append}
 use Rattle.std.proofs.lemmas.Bool.{false≢true}
 use Rattle.ql_base.specs.IdLists.{IsAscending}
 use Rattle.ql_base.specs.declared.ids.ReplicaId.{ReplicaId}
 use Rattle.ql_exec.specs.declared.effect.Effect.{Effect}
-use Rattle.ql_needs.specs.Closed.{Closed, Has, here, through}
+use Rattle.ql_needs.specs.Closed.{Closed, Has}
 use Rattle.ql_needs.proofs.ClosedLaws.{reached-along, reached-once}
 use Rattle.ql_machine.specs.State.{Machine, NeedsNow, received_at, replicas}
 use Rattle.ql_machine.specs.Rules.{Promises, Rules}

@@ -44,7 +44,7 @@ module _ (rules : Rules) (s : Machine) (c : Call) where
     no_object : (t : OpenTxn) → HasOpen s c.session t → has_id t.objects c.object.0 ≡ false → IsRefused s (reply.Refused Undeclared)
     no_use : (t : OpenTxn) → HasOpen s c.session t → has_id t.objects c.object.0 ≡ true → rules.uses t.decl c.op ≡ false → IsRefused s (reply.Refused Unused)
 
-  -- it is answered, and leaves this behind
+  -- it is answered, and leaves this state
   data IsAnswered (seen : List ℕ) : Machine → Type 0 where
     plainly : HasNoneOpen s c.session → rules.level c.op ≢ Strong → IsAnswered seen (after_plain rules s c seen)
     strongly : (ids : List ℕ) → HasNoneOpen s c.session → rules.level c.op ≡ Strong → AreThose (λ a. committed s.effects s.open_txns a ≡ true) ids → IsAnswered seen (after_strong rules s c seen ids)

@@ -20,18 +20,34 @@ ghost use Rattle.ql_machine_laws.specs.Promised.{AllArrived, IsPlain, at_replica
 /// strong is blocked at none of them (`not_blocked`), and it has the same view at each (`same_view`) and
 /// the same effect (`same_effect`).
 pub fn replicas_agree()
-    ensures sent { (rules : Rules) (n : ℕ) (events : List Event) (replies : List Reply) (last : Machine) → IsRun rules n events replies last
+    ensures sent { (rules : Rules) (n : ℕ) (events : List Event) (replies : List Reply)
+        (last : Machine) → IsRun rules n events replies last
         → (r a : ℕ) → r < n → committed last.effects last.open_txns a ≡ true
-        → Has (received_at last.received r) a ⊎ ((m : ℕ) × (message : Message) × (message_at last.messages m ≡ Some message) × (message.receiver.0 ≡ r) × Has message.carried a) }
-    ensures received { (rules : Rules) (n : ℕ) (events : List Event) (replies : List Reply) (last : Machine) → IsRun rules n events replies last
-        → AllArrived last → (r : ℕ) → r < n → AreThose (λ a. committed last.effects last.open_txns a ≡ true) (received_at last.received r) }
-    ensures applied { (rules : Rules) (n : ℕ) (events : List Event) (replies : List Reply) (last : Machine) → IsRun rules n events replies last
-        → AllArrived last → (r : ℕ) → r < n → (a : ℕ) → Applied last r a ↔ (committed last.effects last.open_txns a ≡ true) }
-    ensures not_blocked { (rules : Rules) (n : ℕ) (events : List Event) (replies : List Reply) (last : Machine) → IsRun rules n events replies last
-        → AllArrived last → (c : Call) → IsPlain rules last c → c.replica.0 < n → (a : EffId) (after : Machine) → IsCall rules last c after (Blocked a) → ⊥ }
-    ensures same_view { (rules : Rules) (n : ℕ) (events : List Event) (replies : List Reply) (last : Machine) → IsRun rules n events replies last
-        → AllArrived last → (c : Call) → IsPlain rules last c → (q r : ReplicaId) → q.0 < n → r.0 < n → (a : ℕ) → InView rules last (at_replica c q) a ↔ InView rules last (at_replica c r) a }
-    ensures same_effect { (rules : Rules) (n : ℕ) (events : List Event) (replies : List Reply) (last : Machine) → IsRun rules n events replies last
-        → AllArrived last → (c : Call) → IsPlain rules last c → (q r : ReplicaId) → q.0 < n → r.0 < n → (after : Machine) (t : Reply) → IsCall rules last (at_replica c q) after t
-        → (other : Machine) (u : Reply) → IsCall rules last (at_replica c r) other u → (after.effects ≡ other.effects) × (t ≡ u) }
+        → Has (received_at last.received r) a
+        ⊎ ((m : ℕ) × (message : Message) × (message_at last.messages m ≡ Some message)
+        × (message.receiver.0 ≡ r) × Has message.carried a) }
+    ensures received { (rules : Rules) (n : ℕ) (events : List Event) (replies : List Reply)
+        (last : Machine) → IsRun rules n events replies last
+        → AllArrived last → (r : ℕ) → r < n
+        → AreThose (λ a. committed last.effects last.open_txns a ≡ true)
+        (received_at last.received r) }
+    ensures applied { (rules : Rules) (n : ℕ) (events : List Event) (replies : List Reply)
+        (last : Machine) → IsRun rules n events replies last
+        → AllArrived last → (r : ℕ) → r < n → (a : ℕ) → Applied last r a
+        ↔ (committed last.effects last.open_txns a ≡ true) }
+    ensures not_blocked { (rules : Rules) (n : ℕ) (events : List Event) (replies : List Reply)
+        (last : Machine) → IsRun rules n events replies last
+        → AllArrived last → (c : Call) → IsPlain rules last c → c.replica.0 < n
+        → (a : EffId) (after : Machine) → IsCall rules last c after (Blocked a) → ⊥ }
+    ensures same_view { (rules : Rules) (n : ℕ) (events : List Event) (replies : List Reply)
+        (last : Machine) → IsRun rules n events replies last
+        → AllArrived last → (c : Call) → IsPlain rules last c → (q r : ReplicaId) → q.0 < n
+        → r.0 < n → (a : ℕ) → InView rules last (at_replica c q) a
+        ↔ InView rules last (at_replica c r) a }
+    ensures same_effect { (rules : Rules) (n : ℕ) (events : List Event) (replies : List Reply)
+        (last : Machine) → IsRun rules n events replies last
+        → AllArrived last → (c : Call) → IsPlain rules last c → (q r : ReplicaId) → q.0 < n
+        → r.0 < n → (after : Machine) (t : Reply) → IsCall rules last (at_replica c q) after t
+        → (other : Machine) (u : Reply) → IsCall rules last (at_replica c r) other u
+        → (after.effects ≡ other.effects) × (t ≡ u) }
 {}

@@ -8,6 +8,7 @@ ghost use Rattle.ql_machine.specs.Steps.{IsStep};
 /// The law that a step is determined: after a state and an event there is one state at most, and one
 /// reply. So the rules are as exact as a function.
 pub fn steps_are_determined()
-    ensures { (rules : Rules) (s : Machine) (event : Event) (after : Machine) (r : Reply) → IsStep rules s event after r
+    ensures { (rules : Rules) (s : Machine) (event : Event) (after : Machine) (r : Reply)
+        → IsStep rules s event after r
         → (other : Machine) (q : Reply) → IsStep rules s event other q → (after ≡ other) × (r ≡ q) }
 {}

@@ -17,9 +17,13 @@ ghost use Rattle.ql_machine_laws.specs.Promised.{asks};
 /// computed from the effects that it sees, in order of stamp and session, in the last execution too
 /// (`answered`).
 pub fn calls_make_effects()
-    ensures asked { (rules : Rules) (test : ObjId → OpId → Bool) (n : ℕ) (events : List Event) (replies : List Reply) (last : Machine) → IsRun rules n events replies last
-        → list_all (asks test) events ≡ true → (a : ℕ) (e : Effect) → effect_at last.effects a ≡ Some e → test e.object e.op ≡ true }
-    ensures answered { (rules : Rules) (n : ℕ) (events : List Event) (replies : List Reply) (last : Machine) → IsRun rules n events replies last
+    ensures asked { (rules : Rules) (test : ObjId → OpId → Bool) (n : ℕ) (events : List Event)
+        (replies : List Reply) (last : Machine) → IsRun rules n events replies last
+        → list_all (asks test) events ≡ true → (a : ℕ) (e : Effect)
+        → effect_at last.effects a ≡ Some e → test e.object e.op ≡ true }
+    ensures answered { (rules : Rules) (n : ℕ) (events : List Event) (replies : List Reply)
+        (last : Machine) → IsRun rules n events replies last
         → (a : ℕ) (e : Effect) → effect_at last.effects a ≡ Some e
-        → rules.answer e.op e.args (seen_in_order last.effects e.seen) ≡ record { answer = e.answer; payload = e.payload } }
+        → rules.answer e.op e.args (seen_in_order last.effects e.seen)
+        ≡ record { answer = e.answer; payload = e.payload } }
 {}

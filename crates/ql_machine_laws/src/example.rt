@@ -1,5 +1,4 @@
 ghost use Rattle.std.specs.Prelude.{List, ℕ};
-ghost use Rattle.ql_base.specs.declared.ids.MsgId.{MsgId};
 ghost use Rattle.ql_machine.specs.declared.event.Event.TheVariants.{Deliver};
 ghost use Rattle.ql_machine.specs.declared.reply.Reply.TheVariants.{Applies};
 ghost use Rattle.ql_machine.specs.State.{Machine};
@@ -12,5 +11,6 @@ ghost use Rattle.ql_machine_laws.specs.Example.{both_applied, both_written, even
 /// to apply at once (`no_step`).
 pub fn example_runs()
     ensures run { IsRun rules 2 events replies both_applied }
-    ensures no_step { (after : Machine) (ids : List ℕ) → IsStep rules both_written (Deliver (record { 0 = 2 })) after (Applies ids) → ⊥ }
+    ensures no_step { (after : Machine) (ids : List ℕ)
+        → IsStep rules both_written (Deliver (record { 0 = 2 })) after (Applies ids) → ⊥ }
 {}

@@ -10,5 +10,7 @@ ghost use Rattle.ql_machine_laws.specs.Kept.{Keeps};
 /// (`start`), and every step keeps it (`step`).
 pub fn steps_keep_all()
     ensures start { (promises : Promises) (n : ℕ) → Keeps promises n (empty n) }
-    ensures step { (rules : Rules) (n : ℕ) (s : Machine) → Keeps rules.promises n s → (event : Event) (after : Machine) (r : Reply) → IsStep rules s event after r → Keeps rules.promises n after }
+    ensures step { (rules : Rules) (n : ℕ) (s : Machine) → Keeps rules.promises n s
+        → (event : Event) (after : Machine) (r : Reply) → IsStep rules s event after r
+        → Keeps rules.promises n after }
 {}

@@ -20,12 +20,16 @@ ghost use Rattle.ql_machine_laws.specs.Kept.{Keeps};
 /// (`received`), in ascending lists (`ascending`), and each message carries one transaction whole
 /// (`carried`).
 pub fn packages_are_whole()
-    ensures received { (rules : Rules) (n : ℕ) (events : List Event) (replies : List Reply) (last : Machine) → IsRun rules n events replies last
+    ensures received { (rules : Rules) (n : ℕ) (events : List Event) (replies : List Reply)
+        (last : Machine) → IsRun rules n events replies last
         → (r : ℕ) → AreWhole last.effects (received_at last.received r) }
-    ensures ascending { (rules : Rules) (n : ℕ) (events : List Event) (replies : List Reply) (last : Machine) → IsRun rules n events replies last
+    ensures ascending { (rules : Rules) (n : ℕ) (events : List Event) (replies : List Reply)
+        (last : Machine) → IsRun rules n events replies last
         → (r : ℕ) → IsAscending (received_at last.received r) }
-    ensures carried { (rules : Rules) (n : ℕ) (events : List Event) (replies : List Reply) (last : Machine) → IsRun rules n events replies last
-        → (m : ℕ) (message : Message) → message_at last.messages m ≡ Some message → IsPackage last.effects message.carried }
+    ensures carried { (rules : Rules) (n : ℕ) (events : List Event) (replies : List Reply)
+        (last : Machine) → IsRun rules n events replies last
+        → (m : ℕ) (message : Message) → message_at last.messages m ≡ Some message
+        → IsPackage last.effects message.carried }
 {}
 
 /// The law by which a replica judges as if every transaction were committed, since it can't know
@@ -34,18 +38,23 @@ pub fn packages_are_whole()
 /// committed effect is applied with the transaction's own effects exactly where it is without them
 /// (`others`), and an own effect where all that is one step before it is (`own`).
 pub fn replicas_judge_alone()
-    ensures reached { (promises : Promises) (n : ℕ) (s : Machine) → Keeps promises n s → (a b : ℕ) → committed s.effects s.open_txns a ≡ true
+    ensures reached { (promises : Promises) (n : ℕ) (s : Machine) → Keeps promises n s → (a b : ℕ)
+        → committed s.effects s.open_txns a ≡ true
         → Reaches (NeedsNow s.effects s.open_txns) a b ↔ Reaches (Needs s.effects) a b }
     ensures applied { (promises : Promises) (n : ℕ) (s : Machine) → Keeps promises n s → (r a : ℕ) → Applied s r a ↔ Closed (Needs s.effects) (Has (received_at s.received r)) a }
-    ensures others { (promises : Promises) (n : ℕ) (s : Machine) → Keeps promises n s → (session : SessId) (t : OpenTxn) → open_of s.open_txns session ≡ Some t
-        → (ids : List ℕ) (a : ℕ) → committed s.effects s.open_txns a ≡ true → AppliedWithOwn s t ids a ↔ Closed (Needs s.effects) (Has ids) a }
-    ensures own { (promises : Promises) (n : ℕ) (s : Machine) → Keeps promises n s → (session : SessId) (t : OpenTxn) → open_of s.open_txns session ≡ Some t
+    ensures others { (promises : Promises) (n : ℕ) (s : Machine) → Keeps promises n s
+        → (session : SessId) (t : OpenTxn) → open_of s.open_txns session ≡ Some t
+        → (ids : List ℕ) (a : ℕ) → committed s.effects s.open_txns a ≡ true
+        → AppliedWithOwn s t ids a ↔ Closed (Needs s.effects) (Has ids) a }
+    ensures own { (promises : Promises) (n : ℕ) (s : Machine) → Keeps promises n s
+        → (session : SessId) (t : OpenTxn) → open_of s.open_txns session ≡ Some t
         → (ids : List ℕ) (a : ℕ) → inside s.effects t.run.0 a ≡ true → AppliedWithOwn s t ids a ↔ ((b : ℕ) → hbo_step s.effects b a ≡ true → AppliedWithOwn s t ids b) }
 {}
 
 /// The law of what a strong call does: if every replica receives all committed effects, each has exactly
 /// these.
 pub fn strong_calls_give_all()
-    ensures { (promises : Promises) (n : ℕ) (s : Machine) → Keeps promises n s → (ids : List ℕ) → AreThose (λ a. committed s.effects s.open_txns a ≡ true) ids
+    ensures { (promises : Promises) (n : ℕ) (s : Machine) → Keeps promises n s → (ids : List ℕ)
+        → AreThose (λ a. committed s.effects s.open_txns a ≡ true) ids
         → received_by_all s.received ids ≡ replicate (length s.received) ids }
 {}

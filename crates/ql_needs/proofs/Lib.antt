@@ -2,3 +2,4 @@ pub mod ClosedLaws
 pub mod NeedsLaws
 pub mod IdSets
 pub mod Packages
+pub mod Members

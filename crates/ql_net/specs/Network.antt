@@ -1,6 +1,7 @@
 -- The network's part of the machine's state, and how it changes.
-use Rattle.std.specs.Prelude.{◌≡◌, ◌≢◌, ℕ, ◌<◌, List, Option, Some, None, length}
+use Rattle.std.specs.Prelude.{◌≡◌, ◌≢◌, ℕ, ◌<◌, List, map, Option, Some, None, length}
 use Rattle.ql_base.specs.declared.ids.ReplicaId.{ReplicaId}
+use Rattle.ql_net.specs.declared.sent.Sent.{Sent}
 use Rattle.ql_machine.specs.declared.message.Message.{Message}
 use Rattle.ql_machine.specs.Sets.{IsLeast}
 use Rattle.ql_machine.specs.State.{group_at}
@@ -11,6 +12,13 @@ pub record Network : Type 0 where
   pub messages : List Message
   -- the group of each replica
   pub groups : List ℕ
+
+-- a message as the machine has it
+abbrev pub message_in : Sent → Message
+message_in sent = record { sender = sent.sender; receiver = sent.receiver; carried = sent.carried.value; copies = sent.copies }
+
+abbrev pub messages_in : List Sent → List Message
+messages_in all = map message_in all
 
 -- a copy of the message was in flight, and there is one fewer
 abbrev pub IsSpent : Network → Network → ℕ → Type 0

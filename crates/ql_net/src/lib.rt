@@ -6,6 +6,7 @@
 
 mod flight;
 mod net;
+mod sent;
 
 pub use flight::Flight;
 pub use net::Net;

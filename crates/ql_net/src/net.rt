@@ -1,36 +1,39 @@
-ghost use Rattle.std.specs.Prelude.{◌≡◌, ◌==◌, ◌+◌, ◌^◌, ◌<◌, ◌≤◌, ◌∷◌, ◌++◌, [], Some, length, take, replicate, slice_get, IfOk, OnOk, OnErr};
+ghost use Rattle.std.specs.Prelude.{◌≡◌, ◌==◌, ◌+◌, ◌^◌, ◌<◌, ◌≤◌, ◌∷◌, ◌++◌, [], Some, length, take, replicate, IfOk, OnOk, OnErr};
 ghost use Rattle.std.specs.Bool.{OnTrue, OnFalse};
-ghost use Rattle.std.specs.Option.{option_copied};
+ghost use Rattle.std.specs.Option.{option_copied, option_map};
 ghost use Rattle.ql_machine.specs.declared.message.Message.{Message};
 ghost use Rattle.ql_machine.specs.State.{group_at, message_at};
 ghost use Rattle.ql_machine.specs.Changes.{IsGone, IsInFlight, message_of, next_message, package_to_others, to_others};
-ghost use Rattle.ql_net.specs.Network.{IsFound, IsLeastOutside, IsRepeated, IsSpent};
+ghost use Rattle.ql_net.specs.Network.{IsFound, IsLeastOutside, IsRepeated, IsSpent, message_in, messages_in};
 ghost use Rattle.ql_net.specs.Flights.{IsFlight};
 
 use crate::flight::Flight;
+use crate::sent::Sent;
 use ql_base::{IdSet, MsgId, NoMemory, ReplicaId};
-use ql_machine::{Groups, Message};
+use ql_machine::Groups;
 use std::alloc::Global;
 use std::marker::Model;
+use std::rc::Rc;
 
 /// The messages between replicas, and the groups of the replicas.
 ///
-/// Messages are numbered from 1 in the order in which they were sent, and stay when no copy is left.
+/// Messages are numbered from 1 in the order in which they were sent, and stay when no copy is left. Those that
+/// were sent together share what they carry.
 /// A call takes constant time, except for `new`, `send_to_others`, `heal` and `outside`, which go over the
 /// replicas once.
 #[derive(Drop)]
 pub struct Net {
-    messages: Vec<Message>,
+    messages: Vec<Sent>,
     groups: Vec<u32>,
 }
 
 impl Model for Net {
     ghost use Rattle.std.specs.Prelude.{◌<◌, ◌^◌, length};
-    ghost use Rattle.ql_net.specs.Network.{Network};
+    ghost use Rattle.ql_net.specs.Network.{Network, messages_in};
 
     ghost Value = { Network };
 
-    ghost view = { λ net. record { messages = net.messages.items; groups = net.groups.items } };
+    ghost view = { λ net. record { messages = messages_in net.messages.items; groups = net.groups.items } };
 
     ghost invariant = { λ net. (length net.messages.items < 2 ^ 32) × (length net.groups.items < 2 ^ 32) };
 }
@@ -38,7 +41,8 @@ impl Model for Net {
 impl Net {
     /// A network of this many replicas in one group, without messages.
     pub fn new(alloc: Global, replicas: u32) -> Result<Net, NoMemory>
-        ensures { IfOk result (λ net. net ≡ record { messages = []; groups = replicate replicas 0 }) }
+        ensures { IfOk result
+            (λ net. net ≡ record { messages = []; groups = replicate replicas 0 }) }
     {
         Ok(Net {
             messages: Vec::new(alloc),
@@ -73,6 +77,7 @@ impl Net {
         }) }
         ensures err { OnErr result (self.new ≡ self.old) }
     {
+        let carried = Rc::new(*self.messages.allocator(), carried)?;
         self.messages.push(one_copy(from, to, carried))?;
         Ok(MsgId(self.messages.len() as u32))
     }
@@ -90,7 +95,8 @@ impl Net {
             return Ok(());
         }
         let count = self.messages.len();
-        match push_to_others(&mut self.messages, from, carried, self.groups.len() as u32) {
+        let carried = Rc::new(*self.messages.allocator(), carried.copy()?)?;
+        match push_to_others(&mut self.messages, from, &carried, self.groups.len() as u32) {
             Ok(()) => Ok(()),
             Err(NoMemory) => {
                 self.messages.truncate(count);
@@ -127,7 +133,8 @@ impl Net {
     pub fn package(&self, m: MsgId) -> &IdSet
         requires first { 1 ≤ m.0 }
         requires last { m.0 ≤ length self.now.messages }
-        ensures { (message : Message) → message_at self.now.messages m.0 ≡ Some message → result.now ≡ message.carried }
+        ensures { (message : Message) → message_at self.now.messages m.0 ≡ Some message
+            → result.now ≡ message.carried }
     {
         &self.messages[m.0 as usize - 1].carried
     }
@@ -143,7 +150,8 @@ impl Net {
 
     /// Adds a copy of the message, if one is in flight; returns whether one was.
     pub fn repeat(&mut self, m: MsgId) -> bool
-        requires room { (message : Message) → message_at self.old.messages m.0 ≡ Some message → message.copies + 1 < 2 ^ 32 }
+        requires room { (message : Message) → message_at self.old.messages m.0 ≡ Some message
+            → message.copies + 1 < 2 ^ 32 }
         ensures repeated { OnTrue result (IsRepeated self.old self.new m.0) }
         ensures gone { OnFalse result (IsGone self.old.messages m.0 × (self.new ≡ self.old)) }
     {
@@ -212,10 +220,10 @@ impl Net {
     }
 }
 
-fn one_copy(from: ReplicaId, to: ReplicaId, carried: IdSet) -> Message
-    ensures { result ≡ message_of from to carried }
+fn one_copy(from: ReplicaId, to: ReplicaId, carried: Rc<IdSet>) -> Sent
+    ensures { message_in result ≡ message_of from to carried.value }
 {
-    Message {
+    Sent {
         sender: from,
         receiver: to,
         carried,
@@ -224,26 +232,29 @@ fn one_copy(from: ReplicaId, to: ReplicaId, carried: IdSet) -> Message
 }
 
 fn push_to_others(
-    messages: &mut Vec<Message>,
+    messages: &mut Vec<Sent>,
     from: ReplicaId,
-    carried: &IdSet,
+    carried: &Rc<IdSet>,
     replicas: u32,
 ) -> Result<(), NoMemory>
-    ensures sent { OnOk result (messages.new.items ≡ messages.old.items ++ to_others replicas from carried.now) }
+    ensures sent { OnOk result
+        (messages_in messages.new.items ≡ messages_in messages.old.items
+        ++ to_others replicas from carried.now.value) }
     ensures before { take (length messages.old.items) messages.new.items ≡ messages.old.items }
     ensures few { length messages.new.items ≤ length messages.old.items + replicas }
 {
     for r in 0..replicas {
         if r != from.0 {
-            messages.push(one_copy(from, ReplicaId(r), carried.copy()?))?;
+            messages.push(one_copy(from, ReplicaId(r), carried.clone()?))?;
         }
     }
     Ok(())
 }
 
 // The message, if a copy of it is in flight.
-fn in_flight(messages: &[Message], m: MsgId) -> Option<&Message>
-    ensures { IsFound messages.now m.0 (option_copied result) }
+fn in_flight(messages: &[Sent], m: MsgId) -> Option<&Sent>
+    ensures { IsFound (messages_in messages.now) m.0
+        (option_map message_in (option_copied result)) }
 {
     let at = (m.0 as usize).checked_sub(1)?;
     let message = messages.get(at)?;

@@ -1,7 +1,7 @@
 // A wrong kind as a sentence: what was found, what was expected, and what requires it.
 
 use crate::clashes::{Clash, Operator, Wish};
-use crate::kinds::{arity, spelling};
+use crate::kinds::spelling;
 use crate::pieces::{last_of, piece};
 use crate::wanted::push_quoted;
 use crate::words::sentence_of;
@@ -78,7 +78,7 @@ fn push_count(note: &mut Vec<u8>, function: Function, count: usize) -> Result<()
     let name = name_of(function).as_bytes();
     push_quoted(note, name)?;
     push_bytes(note, b" takes ")?;
-    push_arguments(note, arity(function))?;
+    push_arguments(note, function.arity())?;
     push_bytes(
         note,
         if count == 1 {

@@ -1,12 +1,10 @@
 // Which expression doesn't have the required kind, found by the offset of its first token: the kind that it has, the
 // required one, and what requires it.
 
-use crate::kinds::{
-    arity, is_base, kind_named, kind_of, kind_of_init, of_base, takes_first, wanted_after,
-};
+use crate::kinds::{argument_kind, kind_named, kind_of, kind_of_init};
 use ql_base::{NoMemory, Word};
 use ql_lang::{BinOp, EmitDecl, Expr, ExprNode, Field, Kind, OpDecl, Program, TypeDecl};
-use ql_typing::{Function, Known, find_function};
+use ql_typing::{Function, Known, find_function, is_basic, kind_of_base};
 use std::alloc::Global;
 
 /// A unary or binary operator.
@@ -79,8 +77,8 @@ impl Wish {
 
     fn is_met(self, kind: Kind) -> bool {
         match self {
-            Wish::Comparable(_) => is_base(kind),
-            Wish::First(function) => takes_first(function, kind),
+            Wish::Comparable(_) => is_basic(kind),
+            Wish::First(function) => function.signature(kind).is_some(),
             Wish::Count(_, _) => false,
             _ => {
                 match self.kind() {
@@ -129,7 +127,7 @@ fn clash_inside(search: Search, at: u32, node: &ExprNode) -> Option<Clash> {
         ExprNode::Call(name, arguments) => {
             let function = find_function(name.word.bytes())?;
             let arguments = arguments.items();
-            if at == search.at && arguments.len() != arity(function) {
+            if at == search.at && arguments.len() != function.arity() {
                 return Some(count_clash(function, arguments.len()));
             }
             clash_in_arguments(search, function, arguments)
@@ -193,12 +191,9 @@ fn branch_wish(left: Option<Kind>) -> Wish {
 }
 
 fn argument_wish(function: Function, first: Option<Kind>, number: usize) -> Wish {
-    let Some(first) = first else {
-        return Wish::Any;
-    };
-    match wanted_after(function, first, number) {
-        Some(kind) if takes_first(function, first) => Wish::Argument(function, number, kind),
-        _ => Wish::Any,
+    match first.and_then(|first| argument_kind(function, first, number)) {
+        Some(kind) => Wish::Argument(function, number, kind),
+        None => Wish::Any,
     }
 }
 
@@ -215,7 +210,7 @@ fn left_wish(op: BinOp) -> Wish {
 // What an operator requires of its right operand, by the kind of the left one.
 fn right_wish(op: BinOp, left: Option<Kind>) -> Wish {
     match (left_wish(op), left) {
-        (Wish::Comparable(operator), Some(kind)) if is_base(kind) => Wish::SameAsLeft(
+        (Wish::Comparable(operator), Some(kind)) if is_basic(kind) => Wish::SameAsLeft(
             operator, kind,
         ),
         (Wish::Comparable(_), _) => Wish::Any,
@@ -275,7 +270,7 @@ fn clash_in_operation(
 ) -> Result<Option<Clash>, NoMemory> {
     let mut scope = Vec::from_slice(alloc, fields)?;
     for param in op.params.items() {
-        scope.push(known(param.name.word, of_base(param.base)))?;
+        scope.push(known(param.name.word, kind_of_base(param.base)))?;
     }
     let search = Search { scope: &scope, at };
     let clash = clash_of(search, &op.answer, Wish::Answer(op.kind));
@@ -293,7 +288,7 @@ fn clash_in_effect(
 ) -> Result<Option<Clash>, NoMemory> {
     let mut scope = Vec::from_slice(alloc, fields)?;
     for bind in effect.binds.items() {
-        let kind = of_base(bind.base);
+        let kind = kind_of_base(bind.base);
         let clash = clash_of(search, &bind.value, Wish::Emitted(kind));
         if clash.is_some() {
             return Ok(clash);

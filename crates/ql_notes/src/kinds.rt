@@ -1,8 +1,8 @@
 // The kinds of expressions, as far as they can be determined.
 
 use ql_base::Word;
-use ql_lang::{Base, BinOp, Expr, ExprNode, Init, InitNode, Kind};
-use ql_typing::{Function, Known, find_function};
+use ql_lang::{Base, Expr, ExprNode, Init, InitNode, Kind};
+use ql_typing::{Function, Known, find_function, operator_gives};
 
 /// The kind of a name in scope. If a name occurs twice, the first kind counts.
 pub(crate) fn kind_named(scope: &[Known], word: &Word) -> Option<Kind> {
@@ -24,7 +24,7 @@ pub(crate) fn kind_of(scope: &[Known], node: &ExprNode) -> Option<Kind> {
         ExprNode::Unit => Some(Kind::Unit),
         ExprNode::Var(name) => kind_named(scope, &name.word),
         ExprNode::If(_, left, _) => kind_of(scope, &left.node),
-        ExprNode::Binary(op, _, _) => Some(result_kind(*op)),
+        ExprNode::Binary(op, _, _) => Some(operator_gives(*op)),
         ExprNode::Call(name, arguments) => {
             let function = find_function(name.word.bytes())?;
             result_of_call(scope, function, arguments.items())
@@ -39,56 +39,20 @@ fn result_of_call(scope: &[Known], function: Function, arguments: &[Expr]) -> Op
         Function::Size | Function::Sum => Some(Kind::Int),
         Function::Get => {
             let map = kind_of(scope, &arguments.first()?.node)?;
-            wanted_after(Function::Get, map, 2)
+            Some(function.signature(map)?.gives)
         }
         Function::Add | Function::Remove | Function::Union | Function::Put | Function::Drop =>
             kind_of(scope, &arguments.first()?.node),
     }
 }
 
-fn result_kind(op: BinOp) -> Kind {
-    match op {
-        BinOp::Add | BinOp::Sub | BinOp::Mul => Kind::Int,
-        _ => Kind::Bool,
-    }
-}
-
-/// How many arguments a function takes.
-pub(crate) fn arity(function: Function) -> usize {
-    match function {
-        Function::Size | Function::Sum => 1,
-        Function::Has | Function::Add | Function::Remove | Function::Union | Function::Drop => 2,
-        Function::Put | Function::Get => 3,
-    }
-}
-
-/// Whether a function accepts a first argument of a kind.
-pub(crate) fn takes_first(function: Function, kind: Kind) -> bool {
-    match function {
-        Function::Has | Function::Size => matches!(kind, Kind::Set(_) | Kind::Map(_, _)),
-        Function::Add | Function::Remove | Function::Union => matches!(kind, Kind::Set(_)),
-        Function::Put | Function::Drop | Function::Get => matches!(kind, Kind::Map(_, _)),
-        Function::Sum => matches!(kind, Kind::Map(_, Base::Int)),
-    }
-}
-
-/// The kind that a function requires of its argument at an index, by the kind of the first one.
-pub(crate) fn wanted_after(function: Function, first: Kind, number: usize) -> Option<Kind> {
-    match (function, first) {
-        (Function::Union, _) => Some(first),
-        (_, Kind::Set(element)) => Some(of_base(element)),
-        (_, Kind::Map(key, _)) if number == 1 => Some(of_base(key)),
-        (_, Kind::Map(_, value)) => Some(of_base(value)),
-        _ => None,
-    }
-}
-
-/// A base kind as a kind.
-pub(crate) fn of_base(base: Base) -> Kind {
-    match base {
-        Base::Int => Kind::Int,
-        Base::Bool => Kind::Bool,
-        Base::Text => Kind::Text,
+/// The kind that a function expects of its argument at an index after the first, by the kind of that one.
+pub(crate) fn argument_kind(function: Function, first: Kind, index: usize) -> Option<Kind> {
+    let signature = function.signature(first)?;
+    if index == 1 {
+        signature.second
+    } else {
+        signature.third
     }
 }
 
@@ -101,11 +65,6 @@ pub(crate) fn kind_of_init(init: &Init) -> Option<Kind> {
         InitNode::Unit => Some(Kind::Unit),
         InitNode::Empty => None,
     }
-}
-
-/// Whether values of a kind can be compared by `==`.
-pub(crate) fn is_base(kind: Kind) -> bool {
-    matches!(kind, Kind::Int | Kind::Bool | Kind::Text)
 }
 
 /// The spelling of a kind.

@@ -16,7 +16,7 @@ use Rattle.ql_grammar.specs.declared.role.Role.TheVariants.{Makes}
 use Rattle.ql_grammar.proofs.Fixed.{name_token, int_token, text_token}
 use Rattle.ql_grammar.proofs.TerminalLemmas.{same_terminal}
 use Rattle.ql_grammar.specs.Limits as limits
-use Rattle.ql_grammar.specs.Limits.{Counts, counted, if_within}
+use Rattle.ql_grammar.specs.Limits.{counted, if_within}
 use Rattle.ql_grammar.specs.Table.{Value, APlace, AName, ASpelling, AnOperator, Word, Placed, ANameOf, Kept, Operator}
 use Rattle.ql_grammar.specs.Machine.{Reading, read, is_ahead, operator_ahead, place_ahead}
 use Rattle.ql_grammar.proofs.Taking.{behind, text_ahead, word_taken, word_missing, placed_taken, placed_missing, name_taken, name_missing, kept_taken, kept_missing, operator_counted, operator_missing, some_ahead, some_operator_ahead}

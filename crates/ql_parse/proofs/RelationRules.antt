@@ -14,7 +14,7 @@ use Rattle.ql_grammar.proofs.Rules.{last_placed}
 use Rattle.ql_parse.specs.Readings.{relation_ahead}
 
 module _ (r : Reading) (role : Role) (below : List Sym) (vs : List Value) where
-  -- reads the name of a relation, with its place
+  -- reads the name of a relation, with its offset
   abbrev named : Terminal × RelName → Result (List Value) Fault
   named w = read r (Placed w.0 role ∷ Do (to_basic w.1) ∷ below) vs
 

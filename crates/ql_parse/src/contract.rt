@@ -1,4 +1,4 @@
-ghost use Rattle.std.specs.Prelude.{◌||◌, ◌≡◌, ◌<◌, ◌++◌, IfErr, IfOk, OnOk, false, length, true};
+ghost use Rattle.std.specs.Prelude.{◌||◌, ◌≡◌, ◌<◌, IfErr, IfOk, OnOk, false, length, true};
 ghost use Rattle.ql_grammar.specs.declared.terminal.Terminal.TheVariants.{AndMark, CurWord, NameToken, OpenParen, OrMark, TrueWord};
 ghost use Rattle.ql_grammar.specs.ContractGrammar.{Atom, Both, Either, Whole};
 ghost use Rattle.ql_grammar.specs.Machine.{is_ahead};
@@ -60,7 +60,8 @@ impl Reader<'_> {
 
     /// Whether a term comes next.
     fn sees_term(&self) -> bool
-        ensures { result ≡ (is_ahead CurWord self.now.tokens || is_ahead NameToken self.now.tokens) }
+        ensures { result ≡ (is_ahead CurWord self.now.tokens
+            || is_ahead NameToken self.now.tokens) }
     {
         self.sees(Terminal::CurWord) || self.sees(Terminal::NameToken)
     }
@@ -84,7 +85,8 @@ impl Reader<'_> {
 
     /// Two terms with `=` between them.
     fn equality(&mut self) -> Result<Prop, Refusal>
-        ensures gave { IfOk result (λ p. GaveAll equality_symbols (AProp (proposition_of p)) self.old self.new) }
+        ensures gave { IfOk result
+            (λ p. GaveAll equality_symbols (AProp (proposition_of p)) self.old self.new) }
         ensures shorter { OnOk result (length self.new.tokens < length self.old.tokens) }
         ensures refused { IfErr result (AreRefused equality_symbols self.old) }
     {
@@ -96,7 +98,9 @@ impl Reader<'_> {
 
     /// Two terms in brackets, to which the relation is applied.
     fn arguments(&mut self, relation: Rel) -> Result<Prop, Refusal>
-        ensures gave { IfOk result (λ p. GaveArguments (relation_of relation) (AProp (proposition_of p)) self.old self.new) }
+        ensures gave { IfOk result
+            (λ p. GaveArguments (relation_of relation) (AProp (proposition_of p)) self.old
+            self.new) }
         ensures shorter { OnOk result (length self.new.tokens < length self.old.tokens) }
         ensures refused { IfErr result (AreArgumentsRefused (relation_of relation) self.old) }
     {
@@ -110,7 +114,8 @@ impl Reader<'_> {
 
     /// A relation that is applied to two terms.
     fn application(&mut self, alloc: Global) -> Result<Prop, Refusal>
-        ensures gave { IfOk result (λ p. GaveAll application_symbols (AProp (proposition_of p)) self.old self.new) }
+        ensures gave { IfOk result
+            (λ p. GaveAll application_symbols (AProp (proposition_of p)) self.old self.new) }
         ensures shorter { OnOk result (length self.new.tokens < length self.old.tokens) }
         ensures refused { IfErr result (AreRefused application_symbols self.old) }
     {
@@ -121,7 +126,8 @@ impl Reader<'_> {
 
     /// The word `txn` and its two groups of terms.
     fn txn(&mut self, alloc: Global) -> Result<Prop, Refusal>
-        ensures gave { IfOk result (λ p. GaveAll txn_symbols (AProp (proposition_of p)) self.old self.new) }
+        ensures gave { IfOk result
+            (λ p. GaveAll txn_symbols (AProp (proposition_of p)) self.old self.new) }
         ensures shorter { OnOk result (length self.new.tokens < length self.old.tokens) }
         ensures refused { IfErr result (AreRefused txn_symbols self.old) }
     {
@@ -147,7 +153,8 @@ impl Reader<'_> {
     fn statement(&mut self, alloc: Global) -> Result<Prop, Refusal>
         requires no_truth { is_ahead TrueWord self.old.tokens ≡ false }
         requires no_group { is_ahead OpenParen self.old.tokens ≡ false }
-        ensures gave { IfOk result (λ p. Gave (APart (PropAt Atom)) (AProp (proposition_of p)) self.old self.new) }
+        ensures gave { IfOk result
+            (λ p. Gave (APart (PropAt Atom)) (AProp (proposition_of p)) self.old self.new) }
         ensures shorter { OnOk result (length self.new.tokens < length self.old.tokens) }
         ensures refused { IfErr result (IsRefused (APart (PropAt Atom)) self.old) }
     {
@@ -166,7 +173,8 @@ impl Reader<'_> {
     /// A single statement, or statements in brackets.
     #[cycle(prop)]
     fn atom(&mut self, alloc: Global) -> Result<Prop, Refusal>
-        ensures gave { IfOk result (λ p. Gave (APart (PropAt Atom)) (AProp (proposition_of p)) self.old self.new) }
+        ensures gave { IfOk result
+            (λ p. Gave (APart (PropAt Atom)) (AProp (proposition_of p)) self.old self.new) }
         ensures shorter { OnOk result (length self.new.tokens < length self.old.tokens) }
         ensures refused { IfErr result (IsRefused (APart (PropAt Atom)) self.old) }
     {
@@ -186,7 +194,8 @@ impl Reader<'_> {
     /// Statements with `/\` between them.
     #[cycle(prop)]
     fn both(&mut self, alloc: Global) -> Result<Prop, Refusal>
-        ensures gave { IfOk result (λ p. Gave (APart (PropAt Both)) (AProp (proposition_of p)) self.old self.new) }
+        ensures gave { IfOk result
+            (λ p. Gave (APart (PropAt Both)) (AProp (proposition_of p)) self.old self.new) }
         ensures shorter { OnOk result (length self.new.tokens < length self.old.tokens) }
         ensures refused { IfErr result (IsRefused (APart (PropAt Both)) self.old) }
     {
@@ -200,9 +209,12 @@ impl Reader<'_> {
     #[cycle(prop)]
     fn more_ands(&mut self, alloc: Global, left: Prop) -> Result<Prop, Refusal>
         requires { is_ahead AndMark self.old.tokens ≡ true }
-        ensures turned { IfOk result (λ p. Turned MoreAnds (AProp (proposition_of left)) (AProp (proposition_of p)) self.old self.new) }
+        ensures turned { IfOk result
+            (λ p. Turned MoreAnds (AProp (proposition_of left)) (AProp (proposition_of p)) self.old
+            self.new) }
         ensures shorter { OnOk result (length self.new.tokens < length self.old.tokens) }
-        ensures refused { IfErr result (IsTurnRefused MoreAnds (AProp (proposition_of left)) self.old) }
+        ensures refused { IfErr result
+            (IsTurnRefused MoreAnds (AProp (proposition_of left)) self.old) }
     {
         self.take(Terminal::AndMark, Role::Makes(1))?;
         let right = self.atom(alloc)?;
@@ -212,7 +224,8 @@ impl Reader<'_> {
     /// Statements with `\/` between them.
     #[cycle(prop)]
     fn either(&mut self, alloc: Global) -> Result<Prop, Refusal>
-        ensures gave { IfOk result (λ p. Gave (APart (PropAt Either)) (AProp (proposition_of p)) self.old self.new) }
+        ensures gave { IfOk result
+            (λ p. Gave (APart (PropAt Either)) (AProp (proposition_of p)) self.old self.new) }
         ensures shorter { OnOk result (length self.new.tokens < length self.old.tokens) }
         ensures refused { IfErr result (IsRefused (APart (PropAt Either)) self.old) }
     {
@@ -226,9 +239,12 @@ impl Reader<'_> {
     #[cycle(prop)]
     fn more_ors(&mut self, alloc: Global, left: Prop) -> Result<Prop, Refusal>
         requires { is_ahead OrMark self.old.tokens ≡ true }
-        ensures turned { IfOk result (λ p. Turned MoreOrs (AProp (proposition_of left)) (AProp (proposition_of p)) self.old self.new) }
+        ensures turned { IfOk result
+            (λ p. Turned MoreOrs (AProp (proposition_of left)) (AProp (proposition_of p)) self.old
+            self.new) }
         ensures shorter { OnOk result (length self.new.tokens < length self.old.tokens) }
-        ensures refused { IfErr result (IsTurnRefused MoreOrs (AProp (proposition_of left)) self.old) }
+        ensures refused { IfErr result
+            (IsTurnRefused MoreOrs (AProp (proposition_of left)) self.old) }
     {
         self.take(Terminal::OrMark, Role::Makes(1))?;
         let right = self.both(alloc)?;
@@ -238,7 +254,8 @@ impl Reader<'_> {
     /// Statements with `=>` between them.
     #[cycle(prop)]
     fn prop(&mut self, alloc: Global) -> Result<Prop, Refusal>
-        ensures gave { IfOk result (λ p. Gave (APart (PropAt Whole)) (AProp (proposition_of p)) self.old self.new) }
+        ensures gave { IfOk result
+            (λ p. Gave (APart (PropAt Whole)) (AProp (proposition_of p)) self.old self.new) }
         ensures shorter { OnOk result (length self.new.tokens < length self.old.tokens) }
         ensures refused { IfErr result (IsRefused (APart (PropAt Whole)) self.old) }
     {
@@ -253,7 +270,8 @@ impl Reader<'_> {
 
     /// Names with `|` between them.
     fn operations(&mut self, alloc: Global) -> Result<NameList, Refusal>
-        ensures gave { IfOk result (λ names. Gave (APart BarredNames) (TheNames names) self.old self.new) }
+        ensures gave { IfOk result
+            (λ names. Gave (APart BarredNames) (TheNames names) self.old self.new) }
         ensures shorter { OnOk result (length self.new.tokens < length self.old.tokens) }
         ensures refused { IfErr result (IsRefused (APart BarredNames) self.old) }
     {
@@ -304,7 +322,8 @@ impl Reader<'_> {
 
     /// A whole contract.
     pub(crate) fn contract(&mut self, alloc: Global) -> Result<Contract, Refusal>
-        ensures gave { IfOk result (λ c. Gave (APart WholeContract) (ASentence (sentence_of c)) self.old self.new) }
+        ensures gave { IfOk result
+            (λ c. Gave (APart WholeContract) (ASentence (sentence_of c)) self.old self.new) }
         ensures shorter { OnOk result (length self.new.tokens < length self.old.tokens) }
         ensures refused { IfErr result (IsRefused (APart WholeContract) self.old) }
     {

@@ -104,7 +104,8 @@ struct Heading {
 impl Reader<'_> {
     /// Names with commas between them.
     fn listed(&mut self, alloc: Global) -> Result<NameList, Refusal>
-        ensures gave { IfOk result (λ names. Gave (APart ListedNames) (TheNames names) self.old self.new) }
+        ensures gave { IfOk result
+            (λ names. Gave (APart ListedNames) (TheNames names) self.old self.new) }
         ensures shorter { OnOk result (length self.new.tokens < length self.old.tokens) }
         ensures refused { IfErr result (IsRefused (APart ListedNames) self.old) }
     {
@@ -173,7 +174,8 @@ impl Reader<'_> {
 
     /// The state fields of a type.
     fn fields(&mut self, alloc: Global) -> Result<Fields, Refusal>
-        ensures gave { IfOk result (λ found. GaveRest MoreFields (TheFields []) (TheFields found) self.old self.new) }
+        ensures gave { IfOk result
+            (λ found. GaveRest MoreFields (TheFields []) (TheFields found) self.old self.new) }
         ensures within { OnOk result (length self.new.tokens ≤ length self.old.tokens) }
         ensures refused { IfErr result (IsRestRefused MoreFields (TheFields []) self.old) }
     {
@@ -199,7 +201,9 @@ impl Reader<'_> {
     /// Parameters with commas between them, of which one comes next.
     fn some_params(&mut self, alloc: Global) -> Result<Vec<Param>, Refusal>
         requires { is_ahead NameToken self.old.tokens ≡ true }
-        ensures gave { IfOk result (λ found. GaveRest SomeParams (TheParams []) (TheParams found.items) self.old self.new) }
+        ensures gave { IfOk result
+            (λ found. GaveRest SomeParams (TheParams []) (TheParams found.items) self.old
+            self.new) }
         ensures within { OnOk result (length self.new.tokens ≤ length self.old.tokens) }
         ensures refused { IfErr result (IsRestRefused SomeParams (TheParams []) self.old) }
     {
@@ -216,7 +220,8 @@ impl Reader<'_> {
 
     /// Parameters, or none.
     fn any_params(&mut self, alloc: Global) -> Result<Params, Refusal>
-        ensures gave { IfOk result (λ found. GaveRest SomeParams (TheParams []) (TheParams found) self.old self.new) }
+        ensures gave { IfOk result
+            (λ found. GaveRest SomeParams (TheParams []) (TheParams found) self.old self.new) }
         ensures within { OnOk result (length self.new.tokens ≤ length self.old.tokens) }
         ensures refused { IfErr result (IsRestRefused SomeParams (TheParams []) self.old) }
     {
@@ -232,7 +237,8 @@ impl Reader<'_> {
 
     /// An operation's parameters in their brackets.
     fn params(&mut self, alloc: Global) -> Result<Params, Refusal>
-        ensures gave { IfOk result (λ found. GaveAll params_symbols (TheParams found) self.old self.new) }
+        ensures gave { IfOk result
+            (λ found. GaveAll params_symbols (TheParams found) self.old self.new) }
         ensures shorter { OnOk result (length self.new.tokens < length self.old.tokens) }
         ensures refused { IfErr result (AreRefused params_symbols self.old) }
     {
@@ -242,10 +248,12 @@ impl Reader<'_> {
         Ok(found)
     }
 
-    /// The expression behind a word that stands before one.
+    /// The expression after a word that stands before one.
     #[inline(always)]
     fn value_behind(&mut self, alloc: Global, word: Terminal) -> Result<Operand, Refusal>
-        ensures gave { IfOk result (λ o. GaveAll (value_symbols word) (AnExpr o.start (expression_of o.expr)) self.old self.new) }
+        ensures gave { IfOk result
+            (λ o. GaveAll (value_symbols word) (AnExpr o.start (expression_of o.expr)) self.old
+            self.new) }
         ensures shorter { OnOk result (length self.new.tokens < length self.old.tokens) }
         ensures refused { IfErr result (AreRefused (value_symbols word) self.old) }
     {
@@ -256,7 +264,9 @@ impl Reader<'_> {
 
     /// The same, up to a semicolon.
     fn closed_value(&mut self, alloc: Global, word: Terminal) -> Result<Operand, Refusal>
-        ensures gave { IfOk result (λ o. GaveAll (closed_symbols word) (AnExpr o.start (expression_of o.expr)) self.old self.new) }
+        ensures gave { IfOk result
+            (λ o. GaveAll (closed_symbols word) (AnExpr o.start (expression_of o.expr)) self.old
+            self.new) }
         ensures shorter { OnOk result (length self.new.tokens < length self.old.tokens) }
         ensures refused { IfErr result (AreRefused (closed_symbols word) self.old) }
     {
@@ -265,9 +275,10 @@ impl Reader<'_> {
         Ok(value)
     }
 
-    /// The contract behind its word, up to a semicolon.
+    /// The contract after its word, up to a semicolon.
     fn closed_contract(&mut self, alloc: Global) -> Result<Contract, Refusal>
-        ensures gave { IfOk result (λ k. GaveAll contract_symbols (ASentence (sentence_of k)) self.old self.new) }
+        ensures gave { IfOk result
+            (λ k. GaveAll contract_symbols (ASentence (sentence_of k)) self.old self.new) }
         ensures shorter { OnOk result (length self.new.tokens < length self.old.tokens) }
         ensures refused { IfErr result (AreRefused contract_symbols self.old) }
     {
@@ -279,7 +290,8 @@ impl Reader<'_> {
 
     /// A value that is emitted.
     fn binding(&mut self, alloc: Global) -> Result<Bind, Refusal>
-        ensures gave { IfOk result (λ b. GaveAll binding_symbols (ABinding (binding_of b)) self.old self.new) }
+        ensures gave { IfOk result
+            (λ b. GaveAll binding_symbols (ABinding (binding_of b)) self.old self.new) }
         ensures shorter { OnOk result (length self.new.tokens < length self.old.tokens) }
         ensures refused { IfErr result (AreRefused binding_symbols self.old) }
     {
@@ -295,7 +307,9 @@ impl Reader<'_> {
 
     /// The values that are emitted.
     fn bindings(&mut self, alloc: Global) -> Result<Binds, Refusal>
-        ensures gave { IfOk result (λ found. GaveAll bindings_symbols (TheBindings (map binding_of found)) self.old self.new) }
+        ensures gave { IfOk result
+            (λ found. GaveAll bindings_symbols (TheBindings (map binding_of found)) self.old
+            self.new) }
         ensures shorter { OnOk result (length self.new.tokens < length self.old.tokens) }
         ensures refused { IfErr result (AreRefused bindings_symbols self.old) }
     {
@@ -313,7 +327,8 @@ impl Reader<'_> {
 
     /// A statement.
     fn assignment(&mut self, alloc: Global) -> Result<Stmt, Refusal>
-        ensures gave { IfOk result (λ s. Added assignment_symbols TheAssignments (assignment_of s) self.old self.new) }
+        ensures gave { IfOk result
+            (λ s. Added assignment_symbols TheAssignments (assignment_of s) self.old self.new) }
         ensures shorter { OnOk result (length self.new.tokens < length self.old.tokens) }
         ensures refused { IfErr result (IsAddedRefused assignment_symbols TheAssignments self.old) }
     {
@@ -327,9 +342,12 @@ impl Reader<'_> {
 
     /// The statements of an operation.
     fn statements(&mut self, alloc: Global) -> Result<Stmts, Refusal>
-        ensures gave { IfOk result (λ found. GaveRest MoreAssignments (TheAssignments []) (TheAssignments (map assignment_of found)) self.old self.new) }
+        ensures gave { IfOk result
+            (λ found. GaveRest MoreAssignments (TheAssignments [])
+            (TheAssignments (map assignment_of found)) self.old self.new) }
         ensures within { OnOk result (length self.new.tokens ≤ length self.old.tokens) }
-        ensures refused { IfErr result (IsRestRefused MoreAssignments (TheAssignments []) self.old) }
+        ensures refused { IfErr result
+            (IsRestRefused MoreAssignments (TheAssignments []) self.old) }
     {
         let mut found = Vec::new(alloc);
         'more: while self.sees(Terminal::NameToken) {
@@ -341,7 +359,9 @@ impl Reader<'_> {
 
     /// The statements in their braces.
     fn applied_statements(&mut self, alloc: Global) -> Result<Stmts, Refusal>
-        ensures gave { IfOk result (λ found. GaveAll assignments_symbols (TheAssignments (map assignment_of found)) self.old self.new) }
+        ensures gave { IfOk result
+            (λ found. GaveAll assignments_symbols (TheAssignments (map assignment_of found))
+            self.old self.new) }
         ensures shorter { OnOk result (length self.new.tokens < length self.old.tokens) }
         ensures refused { IfErr result (AreRefused assignments_symbols self.old) }
     {
@@ -370,7 +390,9 @@ impl Reader<'_> {
 
     /// What an operation emits, or nothing.
     fn effect(&mut self, alloc: Global) -> Result<Option<EmitDecl>, Refusal>
-        ensures gave { IfOk result (λ e. GaveRest Effect (AnEffect None) (AnEffect (option_map emission_of e)) self.old self.new) }
+        ensures gave { IfOk result
+            (λ e. GaveRest Effect (AnEffect None) (AnEffect (option_map emission_of e)) self.old
+            self.new) }
         ensures within { OnOk result (length self.new.tokens ≤ length self.old.tokens) }
         ensures refused { IfErr result (IsRestRefused Effect (AnEffect None) self.old) }
     {
@@ -383,7 +405,8 @@ impl Reader<'_> {
 
     /// The word `op`, a name, the parameters and the kind of the answer.
     fn heading(&mut self, alloc: Global) -> Result<Heading, Refusal>
-        ensures gave { IfOk result (λ h. GaveHeading h.at h.name h.params h.kind self.old self.new) }
+        ensures gave { IfOk result
+            (λ h. GaveHeading h.at h.name h.params h.kind self.old self.new) }
         ensures shorter { OnOk result (length self.new.tokens < length self.old.tokens) }
         ensures refused { IfErr result (AreRefused heading_symbols self.old) }
     {
@@ -401,7 +424,8 @@ impl Reader<'_> {
 
     /// The effect of an operation and its last brace.
     fn ending(&mut self, alloc: Global) -> Result<Option<EmitDecl>, Refusal>
-        ensures gave { IfOk result (λ e. GaveAll ending_symbols (AnEffect (option_map emission_of e)) self.old self.new) }
+        ensures gave { IfOk result
+            (λ e. GaveAll ending_symbols (AnEffect (option_map emission_of e)) self.old self.new) }
         ensures shorter { OnOk result (length self.new.tokens < length self.old.tokens) }
         ensures refused { IfErr result (AreRefused ending_symbols self.old) }
     {
@@ -410,11 +434,14 @@ impl Reader<'_> {
         Ok(effect)
     }
 
-    /// An operation behind its heading.
+    /// An operation after its heading.
     fn body(&mut self, alloc: Global, heading: Heading) -> Result<OpDecl, Refusal>
-        ensures gave { IfOk result (λ o. GaveBody heading.at heading.name heading.params heading.kind (operation_of o) self.old self.new) }
+        ensures gave { IfOk result
+            (λ o. GaveBody heading.at heading.name heading.params heading.kind (operation_of o)
+            self.old self.new) }
         ensures shorter { OnOk result (length self.new.tokens < length self.old.tokens) }
-        ensures refused { IfErr result (IsBodyRefused heading.at heading.name heading.params heading.kind self.old) }
+        ensures refused { IfErr result
+            (IsBodyRefused heading.at heading.name heading.params heading.kind self.old) }
     {
         self.take(Terminal::OpenBrace, Role::Plain)?;
         let contract = self.closed_contract(alloc)?;
@@ -433,7 +460,8 @@ impl Reader<'_> {
 
     /// An operation.
     fn operation(&mut self, alloc: Global) -> Result<OpDecl, Refusal>
-        ensures gave { IfOk result (λ o. GaveAll operation_symbols (AnOperation (operation_of o)) self.old self.new) }
+        ensures gave { IfOk result
+            (λ o. GaveAll operation_symbols (AnOperation (operation_of o)) self.old self.new) }
         ensures shorter { OnOk result (length self.new.tokens < length self.old.tokens) }
         ensures refused { IfErr result (AreRefused operation_symbols self.old) }
     {
@@ -444,7 +472,9 @@ impl Reader<'_> {
 
     /// The operations of a type.
     fn operations_of_type(&mut self, alloc: Global) -> Result<OpDecls, Refusal>
-        ensures gave { IfOk result (λ found. GaveAll operations_symbols (TheOperations (map operation_of found)) self.old self.new) }
+        ensures gave { IfOk result
+            (λ found. GaveAll operations_symbols (TheOperations (map operation_of found)) self.old
+            self.new) }
         ensures shorter { OnOk result (length self.new.tokens < length self.old.tokens) }
         ensures refused { IfErr result (AreRefused operations_symbols self.old) }
     {
@@ -478,7 +508,8 @@ impl Reader<'_> {
 
     /// A type.
     fn type_decl(&mut self, alloc: Global) -> Result<TypeDecl, Refusal>
-        ensures gave { IfOk result (λ t. GaveAll type_symbols (AType (replicated_of t)) self.old self.new) }
+        ensures gave { IfOk result
+            (λ t. GaveAll type_symbols (AType (replicated_of t)) self.old self.new) }
         ensures shorter { OnOk result (length self.new.tokens < length self.old.tokens) }
         ensures refused { IfErr result (AreRefused type_symbols self.old) }
     {
@@ -490,7 +521,9 @@ impl Reader<'_> {
 
     /// The types of a source.
     fn types(&mut self, alloc: Global) -> Result<TypeDecls, Refusal>
-        ensures gave { IfOk result (λ found. GaveAll types_symbols (TheTypes (map replicated_of found)) self.old self.new) }
+        ensures gave { IfOk result
+            (λ found. GaveAll types_symbols (TheTypes (map replicated_of found)) self.old
+            self.new) }
         ensures shorter { OnOk result (length self.new.tokens < length self.old.tokens) }
         ensures refused { IfErr result (AreRefused types_symbols self.old) }
     {
@@ -506,7 +539,8 @@ impl Reader<'_> {
 
     /// The operations that a transaction uses.
     fn uses(&mut self, alloc: Global) -> Result<NameList, Refusal>
-        ensures gave { IfOk result (λ names. GaveAll uses_symbols (TheNames names) self.old self.new) }
+        ensures gave { IfOk result
+            (λ names. GaveAll uses_symbols (TheNames names) self.old self.new) }
         ensures shorter { OnOk result (length self.new.tokens < length self.old.tokens) }
         ensures refused { IfErr result (AreRefused uses_symbols self.old) }
     {
@@ -516,7 +550,7 @@ impl Reader<'_> {
         Ok(names)
     }
 
-    /// A transaction behind its name.
+    /// A transaction after its name.
     fn terms_of_use(&mut self, alloc: Global, at: u32, name: Name) -> Result<TxnDecl, Refusal>
         ensures gave { IfOk result (λ t. GaveTerms at name (transaction_of t) self.old self.new) }
         ensures shorter { OnOk result (length self.new.tokens < length self.old.tokens) }
@@ -536,7 +570,8 @@ impl Reader<'_> {
 
     /// A transaction.
     fn transaction(&mut self, alloc: Global) -> Result<TxnDecl, Refusal>
-        ensures gave { IfOk result (λ t. GaveAll transaction_symbols (ATransaction (transaction_of t)) self.old self.new) }
+        ensures gave { IfOk result
+            (λ t. GaveAll transaction_symbols (ATransaction (transaction_of t)) self.old self.new) }
         ensures shorter { OnOk result (length self.new.tokens < length self.old.tokens) }
         ensures refused { IfErr result (AreRefused transaction_symbols self.old) }
     {
@@ -548,9 +583,12 @@ impl Reader<'_> {
 
     /// The transactions of a source.
     fn transactions(&mut self, alloc: Global) -> Result<TxnDecls, Refusal>
-        ensures gave { IfOk result (λ found. GaveRest MoreTransactions (TheTransactions []) (TheTransactions (map transaction_of found)) self.old self.new) }
+        ensures gave { IfOk result
+            (λ found. GaveRest MoreTransactions (TheTransactions [])
+            (TheTransactions (map transaction_of found)) self.old self.new) }
         ensures within { OnOk result (length self.new.tokens ≤ length self.old.tokens) }
-        ensures refused { IfErr result (IsRestRefused MoreTransactions (TheTransactions []) self.old) }
+        ensures refused { IfErr result
+            (IsRestRefused MoreTransactions (TheTransactions []) self.old) }
     {
         let mut found = Vec::new(alloc);
         'more: while self.sees(Terminal::TransactionWord) {
@@ -562,7 +600,8 @@ impl Reader<'_> {
 
     /// A whole source.
     pub(crate) fn program(&mut self, alloc: Global) -> Result<Program, Refusal>
-        ensures gave { IfOk result (λ p. Gave (APart WholeSource) (ASource (source_of p)) self.old self.new) }
+        ensures gave { IfOk result
+            (λ p. Gave (APart WholeSource) (ASource (source_of p)) self.old self.new) }
         ensures refused { IfErr result (IsRefused (APart WholeSource) self.old) }
     {
         let types = self.types(alloc)?;

@@ -51,7 +51,7 @@ use ql_grammar::{Precedence, Role, Terminal};
 use ql_lang::{BinOp, Expr, ExprNode, Exprs};
 use std::alloc::Global;
 
-/// An expression that was read, and where it starts: at its own place, or at a bracket round it.
+/// An expression that was read, and where it starts: at its own offset, or at that of a bracket round it.
 #[derive(Drop)]
 pub(crate) struct Operand {
     pub(crate) start: u32,
@@ -62,7 +62,9 @@ pub(crate) struct Operand {
 #[inline(always)]
 fn combination(alloc: Global, left: Operand, op: BinOp, right: Operand) -> Result<Operand, Refusal>
     ensures start { IfOk result (λ o. o.start ≡ left.start) }
-    ensures tree { IfOk result (λ o. expression_of o.expr ≡ Combining left.start op (expression_of left.expr) (expression_of right.expr)) }
+    ensures tree { IfOk result
+        (λ o. expression_of o.expr
+        ≡ Combining left.start op (expression_of left.expr) (expression_of right.expr)) }
     ensures full { IfErr result (λ e. e ≡ Refusal.NoMemory) }
 {
     let start = left.start;
@@ -87,7 +89,9 @@ fn conditional(
     other: Expr,
 ) -> Result<Operand, Refusal>
     ensures start { IfOk result (λ o. o.start ≡ at) }
-    ensures tree { IfOk result (λ o. expression_of o.expr ≡ Choosing at (expression_of test) (expression_of then) (expression_of other)) }
+    ensures tree { IfOk result
+        (λ o. expression_of o.expr
+        ≡ Choosing at (expression_of test) (expression_of then) (expression_of other)) }
     ensures full { IfErr result (λ e. e ≡ Refusal.NoMemory) }
 {
     let node = ExprNode::If(
@@ -104,7 +108,9 @@ fn conditional(
 impl Reader<'_> {
     /// A truth value or the unit.
     fn constant(&mut self) -> Result<Operand, Refusal>
-        ensures gave { IfOk result (λ o. GaveOneOf constant_ways (AnExpr o.start (expression_of o.expr)) self.old self.new) }
+        ensures gave { IfOk result
+            (λ o. GaveOneOf constant_ways (AnExpr o.start (expression_of o.expr)) self.old
+            self.new) }
         ensures shorter { OnOk result (length self.new.tokens < length self.old.tokens) }
         ensures refused { IfErr result (IsOneOfRefused constant_ways self.old) }
     {
@@ -141,7 +147,9 @@ impl Reader<'_> {
     /// A number.
     fn numeral(&mut self) -> Result<Operand, Refusal>
         requires { is_ahead IntToken self.old.tokens ≡ true }
-        ensures gave { IfOk result (λ o. Gave (APart (ExprAt Unary)) (AnExpr o.start (expression_of o.expr)) self.old self.new) }
+        ensures gave { IfOk result
+            (λ o. Gave (APart (ExprAt Unary)) (AnExpr o.start (expression_of o.expr)) self.old
+            self.new) }
         ensures shorter { OnOk result (length self.new.tokens < length self.old.tokens) }
         ensures refused { IfErr result (IsRefused (APart (ExprAt Unary)) self.old) }
     {
@@ -159,7 +167,9 @@ impl Reader<'_> {
     /// A text.
     fn literal(&mut self, alloc: Global) -> Result<Operand, Refusal>
         requires { is_ahead TextToken self.old.tokens ≡ true }
-        ensures gave { IfOk result (λ o. Gave (APart (ExprAt Unary)) (AnExpr o.start (expression_of o.expr)) self.old self.new) }
+        ensures gave { IfOk result
+            (λ o. Gave (APart (ExprAt Unary)) (AnExpr o.start (expression_of o.expr)) self.old
+            self.new) }
         ensures shorter { OnOk result (length self.new.tokens < length self.old.tokens) }
         ensures refused { IfErr result (IsRefused (APart (ExprAt Unary)) self.old) }
     {
@@ -178,7 +188,9 @@ impl Reader<'_> {
     #[cycle(expr)]
     fn named(&mut self, alloc: Global) -> Result<Operand, Refusal>
         requires { is_ahead NameToken self.old.tokens ≡ true }
-        ensures gave { IfOk result (λ o. Gave (APart (ExprAt Unary)) (AnExpr o.start (expression_of o.expr)) self.old self.new) }
+        ensures gave { IfOk result
+            (λ o. Gave (APart (ExprAt Unary)) (AnExpr o.start (expression_of o.expr)) self.old
+            self.new) }
         ensures shorter { OnOk result (length self.new.tokens < length self.old.tokens) }
         ensures refused { IfErr result (IsRefused (APart (ExprAt Unary)) self.old) }
     {
@@ -204,7 +216,9 @@ impl Reader<'_> {
     /// The arguments of a call in their brackets.
     #[cycle(expr)]
     fn bracketed(&mut self, alloc: Global) -> Result<Vec<Expr>, Refusal>
-        ensures gave { IfOk result (λ es. GaveAll bracketed_arguments (TheExprs (map expression_of es.items)) self.old self.new) }
+        ensures gave { IfOk result
+            (λ es. GaveAll bracketed_arguments (TheExprs (map expression_of es.items)) self.old
+            self.new) }
         ensures shorter { OnOk result (length self.new.tokens < length self.old.tokens) }
         ensures refused { IfErr result (AreRefused bracketed_arguments self.old) }
     {
@@ -217,7 +231,9 @@ impl Reader<'_> {
     /// Expressions with commas between them.
     #[cycle(expr)]
     fn arguments_of_call(&mut self, alloc: Global) -> Result<Vec<Expr>, Refusal>
-        ensures gave { IfOk result (λ es. Gave (APart Arguments) (TheExprs (map expression_of es.items)) self.old self.new) }
+        ensures gave { IfOk result
+            (λ es. Gave (APart Arguments) (TheExprs (map expression_of es.items)) self.old
+            self.new) }
         ensures shorter { OnOk result (length self.new.tokens < length self.old.tokens) }
         ensures refused { IfErr result (IsRefused (APart Arguments) self.old) }
     {
@@ -236,7 +252,9 @@ impl Reader<'_> {
     #[cycle(expr)]
     fn group(&mut self, alloc: Global) -> Result<Operand, Refusal>
         requires { is_ahead OpenParen self.old.tokens ≡ true }
-        ensures gave { IfOk result (λ o. Gave (APart (ExprAt Unary)) (AnExpr o.start (expression_of o.expr)) self.old self.new) }
+        ensures gave { IfOk result
+            (λ o. Gave (APart (ExprAt Unary)) (AnExpr o.start (expression_of o.expr)) self.old
+            self.new) }
         ensures shorter { OnOk result (length self.new.tokens < length self.old.tokens) }
         ensures refused { IfErr result (IsRefused (APart (ExprAt Unary)) self.old) }
     {
@@ -253,7 +271,9 @@ impl Reader<'_> {
     #[cycle(expr)]
     fn denial(&mut self, alloc: Global) -> Result<Operand, Refusal>
         requires { is_ahead NotWord self.old.tokens ≡ true }
-        ensures gave { IfOk result (λ o. Gave (APart (ExprAt Unary)) (AnExpr o.start (expression_of o.expr)) self.old self.new) }
+        ensures gave { IfOk result
+            (λ o. Gave (APart (ExprAt Unary)) (AnExpr o.start (expression_of o.expr)) self.old
+            self.new) }
         ensures shorter { OnOk result (length self.new.tokens < length self.old.tokens) }
         ensures refused { IfErr result (IsRefused (APart (ExprAt Unary)) self.old) }
     {
@@ -270,7 +290,9 @@ impl Reader<'_> {
     #[cycle(expr)]
     fn negation(&mut self, alloc: Global) -> Result<Operand, Refusal>
         requires { is_ahead Minus self.old.tokens ≡ true }
-        ensures gave { IfOk result (λ o. Gave (APart (ExprAt Unary)) (AnExpr o.start (expression_of o.expr)) self.old self.new) }
+        ensures gave { IfOk result
+            (λ o. Gave (APart (ExprAt Unary)) (AnExpr o.start (expression_of o.expr)) self.old
+            self.new) }
         ensures shorter { OnOk result (length self.new.tokens < length self.old.tokens) }
         ensures refused { IfErr result (IsRefused (APart (ExprAt Unary)) self.old) }
     {
@@ -286,7 +308,9 @@ impl Reader<'_> {
     /// A value, name, call or expression in brackets, with `not` and `-` before it.
     #[cycle(expr)]
     fn unary(&mut self, alloc: Global) -> Result<Operand, Refusal>
-        ensures gave { IfOk result (λ o. Gave (APart (ExprAt Unary)) (AnExpr o.start (expression_of o.expr)) self.old self.new) }
+        ensures gave { IfOk result
+            (λ o. Gave (APart (ExprAt Unary)) (AnExpr o.start (expression_of o.expr)) self.old
+            self.new) }
         ensures shorter { OnOk result (length self.new.tokens < length self.old.tokens) }
         ensures refused { IfErr result (IsRefused (APart (ExprAt Unary)) self.old) }
     {
@@ -315,7 +339,9 @@ impl Reader<'_> {
     /// Expressions with `*` between them.
     #[cycle(expr)]
     fn multiplication(&mut self, alloc: Global) -> Result<Operand, Refusal>
-        ensures gave { IfOk result (λ o. Gave (APart (ExprAt Multiplied)) (AnExpr o.start (expression_of o.expr)) self.old self.new) }
+        ensures gave { IfOk result
+            (λ o. Gave (APart (ExprAt Multiplied)) (AnExpr o.start (expression_of o.expr)) self.old
+            self.new) }
         ensures shorter { OnOk result (length self.new.tokens < length self.old.tokens) }
         ensures refused { IfErr result (IsRefused (APart (ExprAt Multiplied)) self.old) }
     {
@@ -331,9 +357,12 @@ impl Reader<'_> {
     #[cycle(expr)]
     fn more_times(&mut self, alloc: Global, left: Operand) -> Result<Operand, Refusal>
         requires { is_some (operator_ahead Precedence.Product self.old.tokens) ≡ true }
-        ensures gave { IfOk result (λ o. GaveRest MoreTimes (AnExpr left.start (expression_of left.expr)) (AnExpr o.start (expression_of o.expr)) self.old self.new) }
+        ensures gave { IfOk result
+            (λ o. GaveRest MoreTimes (AnExpr left.start (expression_of left.expr))
+            (AnExpr o.start (expression_of o.expr)) self.old self.new) }
         ensures shorter { OnOk result (length self.new.tokens < length self.old.tokens) }
-        ensures refused { IfErr result (IsRestRefused MoreTimes (AnExpr left.start (expression_of left.expr)) self.old) }
+        ensures refused { IfErr result
+            (IsRestRefused MoreTimes (AnExpr left.start (expression_of left.expr)) self.old) }
     {
         let op = self.operator(Precedence::Product)?;
         let right = self.unary(alloc)?;
@@ -348,7 +377,9 @@ impl Reader<'_> {
     /// Expressions with `+` and `-` between them.
     #[cycle(expr)]
     fn addition(&mut self, alloc: Global) -> Result<Operand, Refusal>
-        ensures gave { IfOk result (λ o. Gave (APart (ExprAt Added)) (AnExpr o.start (expression_of o.expr)) self.old self.new) }
+        ensures gave { IfOk result
+            (λ o. Gave (APart (ExprAt Added)) (AnExpr o.start (expression_of o.expr)) self.old
+            self.new) }
         ensures shorter { OnOk result (length self.new.tokens < length self.old.tokens) }
         ensures refused { IfErr result (IsRefused (APart (ExprAt Added)) self.old) }
     {
@@ -364,9 +395,12 @@ impl Reader<'_> {
     #[cycle(expr)]
     fn more_plus(&mut self, alloc: Global, left: Operand) -> Result<Operand, Refusal>
         requires { is_some (operator_ahead Precedence.Sum self.old.tokens) ≡ true }
-        ensures gave { IfOk result (λ o. GaveRest MorePlus (AnExpr left.start (expression_of left.expr)) (AnExpr o.start (expression_of o.expr)) self.old self.new) }
+        ensures gave { IfOk result
+            (λ o. GaveRest MorePlus (AnExpr left.start (expression_of left.expr))
+            (AnExpr o.start (expression_of o.expr)) self.old self.new) }
         ensures shorter { OnOk result (length self.new.tokens < length self.old.tokens) }
-        ensures refused { IfErr result (IsRestRefused MorePlus (AnExpr left.start (expression_of left.expr)) self.old) }
+        ensures refused { IfErr result
+            (IsRestRefused MorePlus (AnExpr left.start (expression_of left.expr)) self.old) }
     {
         let op = self.operator(Precedence::Sum)?;
         let right = self.multiplication(alloc)?;
@@ -381,7 +415,9 @@ impl Reader<'_> {
     /// Expressions with `and` between them.
     #[cycle(expr)]
     fn conjunction(&mut self, alloc: Global) -> Result<Operand, Refusal>
-        ensures gave { IfOk result (λ o. Gave (APart (ExprAt Conjoined)) (AnExpr o.start (expression_of o.expr)) self.old self.new) }
+        ensures gave { IfOk result
+            (λ o. Gave (APart (ExprAt Conjoined)) (AnExpr o.start (expression_of o.expr)) self.old
+            self.new) }
         ensures shorter { OnOk result (length self.new.tokens < length self.old.tokens) }
         ensures refused { IfErr result (IsRefused (APart (ExprAt Conjoined)) self.old) }
     {
@@ -397,9 +433,12 @@ impl Reader<'_> {
     #[cycle(expr)]
     fn more_conjoined(&mut self, alloc: Global, left: Operand) -> Result<Operand, Refusal>
         requires { is_some (operator_ahead Precedence.Conjunction self.old.tokens) ≡ true }
-        ensures gave { IfOk result (λ o. GaveRest MoreConjoined (AnExpr left.start (expression_of left.expr)) (AnExpr o.start (expression_of o.expr)) self.old self.new) }
+        ensures gave { IfOk result
+            (λ o. GaveRest MoreConjoined (AnExpr left.start (expression_of left.expr))
+            (AnExpr o.start (expression_of o.expr)) self.old self.new) }
         ensures shorter { OnOk result (length self.new.tokens < length self.old.tokens) }
-        ensures refused { IfErr result (IsRestRefused MoreConjoined (AnExpr left.start (expression_of left.expr)) self.old) }
+        ensures refused { IfErr result
+            (IsRestRefused MoreConjoined (AnExpr left.start (expression_of left.expr)) self.old) }
     {
         let op = self.operator(Precedence::Conjunction)?;
         let right = self.comparison(alloc)?;
@@ -414,7 +453,9 @@ impl Reader<'_> {
     /// Expressions with `or` between them.
     #[cycle(expr)]
     fn disjunction(&mut self, alloc: Global) -> Result<Operand, Refusal>
-        ensures gave { IfOk result (λ o. Gave (APart (ExprAt Disjoined)) (AnExpr o.start (expression_of o.expr)) self.old self.new) }
+        ensures gave { IfOk result
+            (λ o. Gave (APart (ExprAt Disjoined)) (AnExpr o.start (expression_of o.expr)) self.old
+            self.new) }
         ensures shorter { OnOk result (length self.new.tokens < length self.old.tokens) }
         ensures refused { IfErr result (IsRefused (APart (ExprAt Disjoined)) self.old) }
     {
@@ -430,9 +471,12 @@ impl Reader<'_> {
     #[cycle(expr)]
     fn more_disjoined(&mut self, alloc: Global, left: Operand) -> Result<Operand, Refusal>
         requires { is_some (operator_ahead Precedence.Disjunction self.old.tokens) ≡ true }
-        ensures gave { IfOk result (λ o. GaveRest MoreDisjoined (AnExpr left.start (expression_of left.expr)) (AnExpr o.start (expression_of o.expr)) self.old self.new) }
+        ensures gave { IfOk result
+            (λ o. GaveRest MoreDisjoined (AnExpr left.start (expression_of left.expr))
+            (AnExpr o.start (expression_of o.expr)) self.old self.new) }
         ensures shorter { OnOk result (length self.new.tokens < length self.old.tokens) }
-        ensures refused { IfErr result (IsRestRefused MoreDisjoined (AnExpr left.start (expression_of left.expr)) self.old) }
+        ensures refused { IfErr result
+            (IsRestRefused MoreDisjoined (AnExpr left.start (expression_of left.expr)) self.old) }
     {
         let op = self.operator(Precedence::Disjunction)?;
         let right = self.conjunction(alloc)?;
@@ -447,7 +491,9 @@ impl Reader<'_> {
     /// Two expressions that are compared, or one.
     #[cycle(expr)]
     fn comparison(&mut self, alloc: Global) -> Result<Operand, Refusal>
-        ensures gave { IfOk result (λ o. Gave (APart (ExprAt Compared)) (AnExpr o.start (expression_of o.expr)) self.old self.new) }
+        ensures gave { IfOk result
+            (λ o. Gave (APart (ExprAt Compared)) (AnExpr o.start (expression_of o.expr)) self.old
+            self.new) }
         ensures shorter { OnOk result (length self.new.tokens < length self.old.tokens) }
         ensures refused { IfErr result (IsRefused (APart (ExprAt Compared)) self.old) }
     {
@@ -461,10 +507,12 @@ impl Reader<'_> {
         Ok(left)
     }
 
-    /// A word and the expression behind it.
+    /// A word and the expression after it.
     #[cycle(expr)]
     fn branch(&mut self, alloc: Global, word: Terminal) -> Result<Operand, Refusal>
-        ensures gave { IfOk result (λ o. GaveAll (branch_symbols word) (AnExpr o.start (expression_of o.expr)) self.old self.new) }
+        ensures gave { IfOk result
+            (λ o. GaveAll (branch_symbols word) (AnExpr o.start (expression_of o.expr)) self.old
+            self.new) }
         ensures shorter { OnOk result (length self.new.tokens < length self.old.tokens) }
         ensures refused { IfErr result (AreRefused (branch_symbols word) self.old) }
     {
@@ -477,7 +525,9 @@ impl Reader<'_> {
     #[cycle(expr)]
     fn choice(&mut self, alloc: Global) -> Result<Operand, Refusal>
         requires { is_ahead IfWord self.old.tokens ≡ true }
-        ensures gave { IfOk result (λ o. Gave (APart (ExprAt Chosen)) (AnExpr o.start (expression_of o.expr)) self.old self.new) }
+        ensures gave { IfOk result
+            (λ o. Gave (APart (ExprAt Chosen)) (AnExpr o.start (expression_of o.expr)) self.old
+            self.new) }
         ensures shorter { OnOk result (length self.new.tokens < length self.old.tokens) }
         ensures refused { IfErr result (IsRefused (APart (ExprAt Chosen)) self.old) }
     {
@@ -492,7 +542,9 @@ impl Reader<'_> {
     /// A whole expression.
     #[cycle(expr)]
     pub(crate) fn whole_expression(&mut self, alloc: Global) -> Result<Operand, Refusal>
-        ensures gave { IfOk result (λ o. Gave (APart (ExprAt Chosen)) (AnExpr o.start (expression_of o.expr)) self.old self.new) }
+        ensures gave { IfOk result
+            (λ o. Gave (APart (ExprAt Chosen)) (AnExpr o.start (expression_of o.expr)) self.old
+            self.new) }
         ensures shorter { OnOk result (length self.new.tokens < length self.old.tokens) }
         ensures refused { IfErr result (IsRefused (APart (ExprAt Chosen)) self.old) }
     {

@@ -1,7 +1,7 @@
 use ql_lex::LexFault;
 use std::alloc::{AllocError, AllocFailed};
 
-/// Why a text is not read, with the place of its first fault as a byte offset from 0.
+/// Why a text is not read, with the offset of its first fault, in bytes from 0.
 #[derive(Clone, Copy, Debug, PartialEq, Eq)]
 pub enum ParseFault {
     /// The text has no tokens.
@@ -16,7 +16,7 @@ pub enum ParseFault {
     NoMemory,
 }
 
-/// Why a reader stops, with the place.
+/// Why a reader stops, with the offset.
 #[derive(Clone, Copy, Debug, PartialEq, Eq)]
 pub(crate) enum Refusal {
     Unexpected(u32),

@@ -74,7 +74,7 @@ impl Reader<'_> {
         Ok(Kind::Text)
     }
 
-    /// The elements' kind behind the word `set`.
+    /// The elements' kind after the word `set`.
     fn set_kind(&mut self) -> Result<Kind, Refusal>
         ensures gave { IfOk result (λ k. GaveAll set_symbols (AKind k) self.old self.new) }
         ensures shorter { OnOk result (length self.new.tokens < length self.old.tokens) }
@@ -99,7 +99,7 @@ impl Reader<'_> {
         Ok(value)
     }
 
-    /// The keys' and values' kinds behind the word `map`.
+    /// The keys' and values' kinds after the word `map`.
     fn map_kind(&mut self) -> Result<Kind, Refusal>
         ensures gave { IfOk result (λ k. GaveAll map_symbols (AKind k) self.old self.new) }
         ensures shorter { OnOk result (length self.new.tokens < length self.old.tokens) }
@@ -163,7 +163,7 @@ impl Reader<'_> {
         })
     }
 
-    /// A number behind a `-`.
+    /// A number after a `-`.
     fn negative(&mut self) -> Result<Init, Refusal>
         ensures gave { IfOk result (λ i. GaveAll negative_symbols (AnInit i) self.old self.new) }
         ensures shorter { OnOk result (length self.new.tokens < length self.old.tokens) }

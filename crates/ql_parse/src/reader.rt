@@ -1,26 +1,4 @@
-ghost use Rattle.std.specs.Prelude.{
-  ◌≡◌,
-  ◌<◌,
-  ◌≤◌,
-  ◌^◌,
-  ◌∷◌,
-  IfErr,
-  IfOk,
-  OnErr,
-  OnOk,
-  [],
-  drop,
-  Err,
-  None,
-  Ok,
-  Some,
-  false,
-  if◌then◌else◌,
-  is_some,
-  length,
-  pos,
-  true,
-};
+ghost use Rattle.std.specs.Prelude.{◌≡◌, ◌<◌, ◌^◌, IfErr, IfOk, OnErr, OnOk, drop, Err, None, Ok, Some, false, if◌then◌else◌, is_some, length, pos, true};
 ghost use Rattle.ql_grammar.specs.declared.terminal.Terminal.TheVariants.{IntToken, NameToken, TextToken};
 ghost use Rattle.ql_grammar.specs.ExpressionGrammar.{between_quotes, number_spelled as number_in};
 ghost use Rattle.ql_grammar.specs.Limits.{Wide, counted, with_nodes};
@@ -76,7 +54,11 @@ impl<'a> Reader<'a> {
     pub(crate) fn new(bytes: &'a [u8], tokens: &'a [Token]) -> Reader<'a>
         requires small { length bytes.now < 2 ^ 32 }
         requires spans { AreSpans bytes.now tokens.now }
-        ensures { result ≡ record { tokens = lexemes_of bytes.now tokens.now; counts = nothing_yet; end = length bytes.now } }
+        ensures { result ≡ record {
+          tokens = lexemes_of bytes.now tokens.now;
+          counts = nothing_yet;
+          end = length bytes.now;
+        } }
     {
         Reader {
             bytes,
@@ -97,7 +79,7 @@ impl<'a> Reader<'a> {
         }
     }
 
-    /// The place of the next token, or the source's end.
+    /// The offset of the next token, or the source's end.
     pub(crate) fn place(&self) -> u32
         ensures { result ≡ place_ahead self.now.tokens self.now.end }
     {
@@ -152,7 +134,8 @@ impl<'a> Reader<'a> {
         ensures ok { OnOk result (with_nodes self.old.counts nodes at ≡ Ok self.new.counts) }
         ensures tokens { OnOk result (self.new.tokens ≡ self.old.tokens) }
         ensures end { OnOk result (self.new.end ≡ self.old.end) }
-        ensures err { IfErr result (λ e. (e ≡ Refusal.Wide at) × (with_nodes self.old.counts nodes at ≡ Err (Wide at))) }
+        ensures err { IfErr result
+            (λ e. (e ≡ Refusal.Wide at) × (with_nodes self.old.counts nodes at ≡ Err (Wide at))) }
     {
         if nodes > MAX_NODES - self.nodes {
             return Err(Refusal::Wide(at));
@@ -161,11 +144,12 @@ impl<'a> Reader<'a> {
         Ok(())
     }
 
-    /// The place of the next token, which has to be this one.
+    /// The offset of the next token, which has to be this one.
     fn expect(&self, terminal: Terminal) -> Result<u32, Refusal>
         ensures sees { OnOk result (is_ahead terminal self.now.tokens ≡ true) }
         ensures place { IfOk result (λ at. at ≡ place_ahead self.now.tokens self.now.end) }
-        ensures err { IfErr result (λ e. e ≡ Refusal.Unexpected (place_ahead self.now.tokens self.now.end)) }
+        ensures err { IfErr result
+            (λ e. e ≡ Refusal.Unexpected (place_ahead self.now.tokens self.now.end)) }
         ensures misses { OnErr result (is_ahead terminal self.now.tokens ≡ false) }
     {
         let at = self.place();
@@ -179,7 +163,8 @@ impl<'a> Reader<'a> {
     /// Takes the next token, which has to be this one, in this role, and says where it stands.
     pub(crate) fn take(&mut self, terminal: Terminal, role: Role) -> Result<u32, Refusal>
         ensures took { OnOk result (Took (Word terminal role) self.old self.new) }
-        ensures gave { IfOk result (λ at. Gave (Placed terminal role) (APlace at) self.old self.new) }
+        ensures gave { IfOk result
+            (λ at. Gave (Placed terminal role) (APlace at) self.old self.new) }
         ensures shorter { OnOk result (length self.new.tokens < length self.old.tokens) }
         ensures refused { IfErr result (IsRefused (Word terminal role) self.old) }
         ensures refused_placed { IfErr result (IsRefused (Placed terminal role) self.old) }
@@ -227,7 +212,10 @@ impl<'a> Reader<'a> {
 
     /// Takes the next token, which has to be a number, in this role.
     pub(crate) fn number(&mut self, role: Role) -> Result<i64, Refusal>
-        ensures gave { OnOk result (Gave (Kept IntToken role) (ASpelling (place_ahead self.old.tokens self.old.end) (text_ahead self.old.tokens)) self.old self.new) }
+        ensures gave { OnOk result
+            (Gave (Kept IntToken role)
+            (ASpelling (place_ahead self.old.tokens self.old.end) (text_ahead self.old.tokens))
+            self.old self.new) }
         ensures value { IfOk result (λ n. n ≡ pos (number_in (text_ahead self.old.tokens))) }
         ensures shorter { OnOk result (length self.new.tokens < length self.old.tokens) }
         ensures refused { IfErr result (IsRefused (Kept IntToken role) self.old) }
@@ -251,7 +239,10 @@ impl<'a> Reader<'a> {
 
     /// Takes the next token, which has to be a text, in this role.
     pub(crate) fn text(&mut self, alloc: Global, role: Role) -> Result<TextLit, Refusal>
-        ensures gave { OnOk result (Gave (Kept TextToken role) (ASpelling (place_ahead self.old.tokens self.old.end) (text_ahead self.old.tokens)) self.old self.new) }
+        ensures gave { OnOk result
+            (Gave (Kept TextToken role)
+            (ASpelling (place_ahead self.old.tokens self.old.end) (text_ahead self.old.tokens))
+            self.old self.new) }
         ensures bytes { IfOk result (λ text. text ≡ between_quotes (text_ahead self.old.tokens)) }
         ensures shorter { OnOk result (length self.new.tokens < length self.old.tokens) }
         ensures refused { IfErr result (IsRefused (Kept TextToken role) self.old) }
@@ -322,10 +313,11 @@ impl<'a> Reader<'a> {
         self.operator_ahead(precedence).is_some()
     }
 
-    /// The operator of this precedence that comes next, which has to be one, with its place.
+    /// The operator of this precedence that comes next, which has to be one, with its offset.
     fn expect_operator(&self, precedence: Precedence) -> Result<BinOp, Refusal>
         ensures sees { IfOk result (λ op. operator_ahead precedence self.now.tokens ≡ Some op) }
-        ensures err { IfErr result (λ e. e ≡ Refusal.Unexpected (place_ahead self.now.tokens self.now.end)) }
+        ensures err { IfErr result
+            (λ e. e ≡ Refusal.Unexpected (place_ahead self.now.tokens self.now.end)) }
         ensures misses { OnErr result (operator_ahead precedence self.now.tokens ≡ None) }
     {
         match self.operator_ahead(precedence) {
@@ -336,7 +328,8 @@ impl<'a> Reader<'a> {
 
     /// Takes the next token, which has to be an operator of this precedence.
     pub(crate) fn operator(&mut self, precedence: Precedence) -> Result<BinOp, Refusal>
-        ensures gave { IfOk result (λ op. Gave (Operator precedence) (AnOperator op) self.old self.new) }
+        ensures gave { IfOk result
+            (λ op. Gave (Operator precedence) (AnOperator op) self.old self.new) }
         ensures shorter { OnOk result (length self.new.tokens < length self.old.tokens) }
         ensures refused { IfErr result (IsRefused (Operator precedence) self.old) }
     {

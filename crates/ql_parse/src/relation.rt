@@ -36,7 +36,8 @@ impl Reader<'_> {
 
     /// A whole relation that is applied: its first token makes the application's node too.
     pub(crate) fn applied(&mut self, alloc: Global) -> Result<Rel, Refusal>
-        ensures gave { IfOk result (λ r. Gave (APart (RelationAt Applied)) (ARelation (relation_of r)) self.old self.new) }
+        ensures gave { IfOk result
+            (λ r. Gave (APart (RelationAt Applied)) (ARelation (relation_of r)) self.old self.new) }
         ensures shorter { OnOk result (length self.new.tokens < length self.old.tokens) }
         ensures refused { IfErr result (IsRefused (APart (RelationAt Applied)) self.old) }
     {
@@ -54,7 +55,8 @@ impl Reader<'_> {
     /// A named relation, or one in brackets.
     #[cycle(relation)]
     fn single(&mut self, alloc: Global) -> Result<Rel, Refusal>
-        ensures gave { IfOk result (λ r. Gave (APart (RelationAt Single)) (ARelation (relation_of r)) self.old self.new) }
+        ensures gave { IfOk result
+            (λ r. Gave (APart (RelationAt Single)) (ARelation (relation_of r)) self.old self.new) }
         ensures shorter { OnOk result (length self.new.tokens < length self.old.tokens) }
         ensures refused { IfErr result (IsRefused (APart (RelationAt Single)) self.old) }
     {
@@ -72,7 +74,8 @@ impl Reader<'_> {
     /// Relations with `&` between them.
     #[cycle(relation)]
     fn product(&mut self, alloc: Global) -> Result<Rel, Refusal>
-        ensures gave { IfOk result (λ r. Gave (APart (RelationAt Product)) (ARelation (relation_of r)) self.old self.new) }
+        ensures gave { IfOk result
+            (λ r. Gave (APart (RelationAt Product)) (ARelation (relation_of r)) self.old self.new) }
         ensures shorter { OnOk result (length self.new.tokens < length self.old.tokens) }
         ensures refused { IfErr result (IsRefused (APart (RelationAt Product)) self.old) }
     {
@@ -86,9 +89,12 @@ impl Reader<'_> {
     #[cycle(relation)]
     fn more_factors(&mut self, alloc: Global, left: Rel) -> Result<Rel, Refusal>
         requires { is_ahead Ampersand self.old.tokens ≡ true }
-        ensures turned { IfOk result (λ r. Turned MoreFactors (ARelation (relation_of left)) (ARelation (relation_of r)) self.old self.new) }
+        ensures turned { IfOk result
+            (λ r. Turned MoreFactors (ARelation (relation_of left)) (ARelation (relation_of r))
+            self.old self.new) }
         ensures shorter { OnOk result (length self.new.tokens < length self.old.tokens) }
-        ensures refused { IfErr result (IsTurnRefused MoreFactors (ARelation (relation_of left)) self.old) }
+        ensures refused { IfErr result
+            (IsTurnRefused MoreFactors (ARelation (relation_of left)) self.old) }
     {
         self.take(Terminal::Ampersand, Role::Makes(1))?;
         let right = self.single(alloc)?;
@@ -98,7 +104,8 @@ impl Reader<'_> {
     /// Products with `|` between them.
     #[cycle(relation)]
     fn sum(&mut self, alloc: Global) -> Result<Rel, Refusal>
-        ensures gave { IfOk result (λ r. Gave (APart (RelationAt Sum)) (ARelation (relation_of r)) self.old self.new) }
+        ensures gave { IfOk result
+            (λ r. Gave (APart (RelationAt Sum)) (ARelation (relation_of r)) self.old self.new) }
         ensures shorter { OnOk result (length self.new.tokens < length self.old.tokens) }
         ensures refused { IfErr result (IsRefused (APart (RelationAt Sum)) self.old) }
     {
@@ -112,9 +119,12 @@ impl Reader<'_> {
     #[cycle(relation)]
     fn more_summands(&mut self, alloc: Global, left: Rel) -> Result<Rel, Refusal>
         requires { is_ahead Bar self.old.tokens ≡ true }
-        ensures turned { IfOk result (λ r. Turned MoreSummands (ARelation (relation_of left)) (ARelation (relation_of r)) self.old self.new) }
+        ensures turned { IfOk result
+            (λ r. Turned MoreSummands (ARelation (relation_of left)) (ARelation (relation_of r))
+            self.old self.new) }
         ensures shorter { OnOk result (length self.new.tokens < length self.old.tokens) }
-        ensures refused { IfErr result (IsTurnRefused MoreSummands (ARelation (relation_of left)) self.old) }
+        ensures refused { IfErr result
+            (IsTurnRefused MoreSummands (ARelation (relation_of left)) self.old) }
     {
         self.take(Terminal::Bar, Role::Makes(1))?;
         let right = self.product(alloc)?;

@@ -48,7 +48,8 @@ fn package_at(alloc: Global, x: &Execution, id: EffId) -> Result<IdSet, NoMemory
 
 // Session 1 has a transaction open on object 0, which began with nothing and made effect 2.
 fn opened(alloc: Global, seen: &[u32]) -> Result<Shim, NoMemory>
-    ensures { IfOk result (λ shim. (t : OpenTxn) × (open_of (open_txns shim) (record { 0 = 1 }) ≡ Some t)) }
+    ensures { IfOk result
+        (λ shim. (t : OpenTxn) × (open_of (open_txns shim) (record { 0 = 1 }) ≡ Some t)) }
 {
     let mut shim = Shim::new(alloc);
     shim.begin(

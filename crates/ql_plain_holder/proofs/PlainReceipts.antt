@@ -1,5 +1,5 @@
 -- A receipt of a plain holder.
-use Rattle.std.proofs.Common.{◌≡◌, ◌↔◌, ℕ, zero, suc, ◌+◌, ◌<◌, ◌≤◌, ◌⊎◌, Bool, true, false, ◌||◌, ◌&&◌, not, nat_eq, nat_le, nat_lt, List, [], ◌∷◌, length, get_or, take, Some, Result, Ok, Err, OnOk, refl, ap, sym, subst, ◌∙◌, inl, inr, arith}
+use Rattle.std.proofs.Common.{◌≡◌, ◌↔◌, ℕ, ◌+◌, ◌<◌, ◌≤◌, ◌⊎◌, Bool, true, false, ◌||◌, ◌&&◌, not, nat_eq, nat_le, nat_lt, List, [], length, get_or, take, Some, Result, Ok, Err, OnOk, refl, ap, sym, subst, ◌∙◌, inl, inr, arith}
 use Rattle.std.proofs.lemmas.Bool.{false≢true, or_cases, or_left, or_right, eq-eqb, eqb-true, cases_Bool, cases_lt, cases_eq, and_parts, and_from, both_ways, false_from_ne_true, le-leb, lt-ltb, le-ltb, ne_eqb}
 use Rattle.ql_base.specs.IdLists.{IsAscending, has_id, union_of}
 use Rattle.ql_base.proofs.IdLemmas.{get_or-rises}
@@ -9,39 +9,12 @@ use Rattle.ql_needs.specs.Closed.{Has}
 use Rattle.ql_needs.specs.Needs.{Needs, AreWhole, IsPackage, IsNeeded}
 use Rattle.ql_needs.proofs.ClosedLaws.{closed-member, closed-from, reached-within}
 use Rattle.ql_needs.proofs.Packages.{package-member, package-reach, package-in, package-out, whole-union, sametxn-there, sametxn-itself}
+use Rattle.ql_needs.proofs.Members.{has_id-index, index-has, has_id-take}
 use Rattle.ql_holder.specs.Arrivals.{Applied, IsLeastMissing, IsGain, IsNew}
 use Rattle.ql_reach.specs.Reach.{InEither, IsReach}
 use Rattle.ql_plain_holder.specs.Plain.{FitsPlain, IsFirstMissing}
 
 -- ---- lists
-
-pub has_id-index : (ids : List ℕ) (a : ℕ) → Has ids a → (k : ℕ) × (k < length ids) × (get_or ids k 0 ≡ a)
-has_id-index [] a is = absurd (false≢true is)
-has_id-index (id ∷ ids) a is = elim (or_cases (nat_eq id a) (has_id ids a) is) [
-  | inl here ↦ (0, omega arith, eqb-true id a here)
-  | inr later ↦ (let found = has_id-index ids a later in let inside = found.1 in (suc found.0, omega (arith, inside), found.2))
-]
-
-pub index-has : (ids : List ℕ) (k : ℕ) → k < length ids → Has ids (get_or ids k 0)
-index-has [] k inside = absurd (omega arith)
-index-has (id ∷ ids) zero inside = or_left (nat_eq id id) (has_id ids id) (eq-eqb id id refl)
-index-has (id ∷ ids) (suc k) inside = or_right (nat_eq id (get_or ids k 0)) (has_id ids (get_or ids k 0)) (index-has ids k (omega arith))
-
-pub has_id-take : (ids : List ℕ) (k a : ℕ) → k < length ids → has_id (take (k + 1) ids) a ≡ (nat_eq (get_or ids k 0) a || has_id (take k ids) a)
-has_id-take [] k a inside = absurd (omega arith)
-has_id-take (id ∷ ids) zero a inside = refl
-has_id-take (id ∷ ids) (suc k) a inside =
-    ap (λ (n : ℕ). has_id (take n (id ∷ ids)) a) more
-    ∙ ap (λ (b : Bool). nat_eq id a || b) (has_id-take ids k a (omega arith))
-    ∙ swap (nat_eq id a) (nat_eq (get_or ids k 0) a) (has_id (take k ids) a)
-  where
-    more : suc k + 1 ≡ suc (k + 1)
-    more = omega arith
-
-    swap : (p q r : Bool) → (p || (q || r)) ≡ (q || (p || r))
-    swap true true r = refl
-    swap true false r = refl
-    swap false q r = refl
 
 pub first-missing : (ids others : List ℕ) (k : ℕ) → IsAscending ids → k < length ids → ((j : ℕ) → j < k → Has others (get_or ids j 0)) → has_id others (get_or ids k 0) ≡ false → IsFirstMissing ids others (Some (get_or ids k 0))
 first-missing ids others k ascending inside before none = (
@@ -276,7 +249,7 @@ package-has x id ids first last has =
     has id ∙ and_from (nat_le 1 id && nat_lt id (length x + 1)) (sametxn x id id)
     (and_from (nat_le 1 id) (nat_lt id (length x + 1)) (le-leb 1 id first) (lt-ltb id (length x + 1) (omega (arith, last)))) (sametxn-itself x id)
 
--- ---- where a call gave Ok
+-- ---- where a call returned Ok
 
 pub on-ok : {A E : Type 0} (r : Result A E) {P Q : Type 0} → (P → Q) → OnOk r P → OnOk r Q
 on-ok (Ok a) go is = go is

@@ -1,13 +1,14 @@
 ghost use Rattle.std.specs.Prelude.{◌≡◌, ◌⊎◌, ◌↔◌, ◌≤◌, ◌&&◌, ◌||◌, not, nat_eq, ℕ, true, length, IfOk, OnOk};
 ghost use Rattle.ql_base.specs.IdLists.{IsAscending, has_id};
-ghost use Rattle.ql_exec.specs.Relations.{sametxn, same_run};
+ghost use Rattle.ql_exec.specs.Relations.{sametxn};
 ghost use Rattle.ql_needs.specs.Closed.{Has};
 ghost use Rattle.ql_needs.specs.Needs.{AreWhole, IsPackage};
 ghost use Rattle.ql_holder.specs.Arrivals.{Applied};
 ghost use Rattle.ql_plain_holder.specs.Plain.{IsFirstMissing};
 
-use ql_base::{EffId, IdSet, NoMemory};
-use ql_exec::{Execution, Member};
+use ql_base::{IdSet, NoMemory};
+use ql_exec::Execution;
+use ql_needs::is_same_txn;
 use ql_ranges::Ranges;
 use ql_reach::reach;
 use std::alloc::Global;
@@ -39,7 +40,9 @@ fn close(
 ) -> Result<(), NoMemory>
     requires first { 1 ≤ id }
     requires last { id ≤ length x.now }
-    ensures { OnOk result ((a : ℕ) → Has closed.new a ↔ (Has closed.old a ⊎ ((a ≡ id) × Applied x.now after.now id))) }
+    ensures { OnOk result
+        ((a : ℕ) → Has closed.new a
+        ↔ (Has closed.old a ⊎ ((a ≡ id) × Applied x.now after.now id))) }
 {
     let is_closed = is_closed(alloc, x, after, id)?;
     if is_closed {
@@ -81,9 +84,11 @@ fn add_member(x: &Execution, id: u32, other: u32, pack: &mut IdSet) -> Result<()
     requires last { id ≤ length x.now }
     requires first_other { 1 ≤ other }
     requires last_other { other ≤ length x.now }
-    ensures { OnOk result ((a : ℕ) → has_id pack.new a ≡ (has_id pack.old a || (nat_eq other a && sametxn x.now id other))) }
+    ensures { OnOk result
+        ((a : ℕ) → has_id pack.new a
+        ≡ (has_id pack.old a || (nat_eq other a && sametxn x.now id other))) }
 {
-    if in_one_txn(x, id, other) {
+    if is_same_txn(x, id, other) {
         insert_id(pack, other)
     } else {
         Ok(())
@@ -95,25 +100,6 @@ fn insert_id(ids: &mut IdSet, id: u32) -> Result<(), NoMemory>
 {
     ids.insert(id)?;
     Ok(())
-}
-
-fn in_one_txn(x: &Execution, id: u32, other: u32) -> bool
-    requires first { 1 ≤ id }
-    requires last { id ≤ length x.now }
-    requires first_other { 1 ≤ other }
-    requires last_other { other ≤ length x.now }
-    ensures { result ≡ sametxn x.now id other }
-{
-    id == other || is_same_run(x.get(EffId(id)).member, x.get(EffId(other)).member)
-}
-
-fn is_same_run(member: Member, other: Member) -> bool
-    ensures { result ≡ same_run member other }
-{
-    match (member, other) {
-        (Member::Inside(run, _), Member::Inside(other_run, _)) => run.0 == other_run.0,
-        _ => false,
-    }
 }
 
 /// The first of the ids that the others lack.
@@ -131,7 +117,8 @@ pub(crate) fn first_missing(ids: &[u32], others: &IdSet) -> Option<u32>
 
 /// Those of the ids that the others lack.
 pub(crate) fn without(alloc: Global, ids: &[u32], others: &IdSet) -> Result<IdSet, NoMemory>
-    ensures lacks { IfOk result (λ rest. (a : ℕ) → has_id rest a ≡ (has_id ids.now a && not (has_id others.now a))) }
+    ensures lacks { IfOk result
+        (λ rest. (a : ℕ) → has_id rest a ≡ (has_id ids.now a && not (has_id others.now a))) }
     ensures ascending { IfOk result IsAscending }
 {
     let mut rest = IdSet::new(alloc);
@@ -144,7 +131,9 @@ pub(crate) fn without(alloc: Global, ids: &[u32], others: &IdSet) -> Result<IdSe
 fn insert_missing(rest: &mut IdSet, id: u32, others: &IdSet) -> Result<(), NoMemory>
     requires { IsAscending rest.old }
     ensures ascending { IsAscending rest.new }
-    ensures added { OnOk result ((a : ℕ) → has_id rest.new a ≡ (has_id rest.old a || (nat_eq id a && not (has_id others.now id)))) }
+    ensures added { OnOk result
+        ((a : ℕ) → has_id rest.new a
+        ≡ (has_id rest.old a || (nat_eq id a && not (has_id others.now id)))) }
 {
     if others.has(id) {
         return Ok(());

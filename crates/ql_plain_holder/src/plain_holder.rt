@@ -1,4 +1,5 @@
-ghost use Rattle.std.specs.Prelude.{◌≡◌, IfOk};
+ghost use Rattle.std.specs.Prelude.{◌≡◌, ◌<◌, ◌≤◌, ℕ, true, false, length, slice_index, IfOk};
+ghost use Rattle.ql_base.specs.IdLists.{has_id};
 ghost use Rattle.ql_needs.specs.Needs.{IsPackage};
 ghost use Rattle.ql_holder.specs.Arrivals.{ChangesNothing, IsArrival};
 ghost use Rattle.ql_plain_holder.specs.Plain.{FitsPlain};
@@ -43,6 +44,10 @@ impl Holder for PlainHolder {
         self.received.has(e.0)
     }
 
+    fn leading(&self, ids: &[u32]) -> usize {
+        leading_in(ids, &self.received)
+    }
+
     fn applied(&self, e: EffId) -> bool {
         self.applied.has(e.0)
     }
@@ -60,6 +65,22 @@ impl Holder for PlainHolder {
     ghost fits_whole = { λ h x fits. fits.whole };
 
     ghost fits_more = { λ h x more law fits alone. fits-more h.received h.applied x more law fits alone };
+}
+
+// The number of ids at the front that are in the set.
+fn leading_in(ids: &[u32], set: &IdSet) -> usize
+    ensures bound { result ≤ length ids.now }
+    ensures has { (k : ℕ) → k < result → has_id set.now (slice_index ids.now k) ≡ true }
+    ensures end { result < length ids.now → has_id set.now (slice_index ids.now result) ≡ false }
+{
+    let mut count = 0;
+    while count < ids.len() {
+        if !set.has(ids[count]) {
+            return count;
+        }
+        count += 1;
+    }
+    count
 }
 
 fn receive_in(

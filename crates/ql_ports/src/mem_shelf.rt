@@ -63,13 +63,15 @@ impl Shelf for MemShelf {
             (λ whole. take count into.new ≡ take count (drop at whole))) }
         ensures end { IfOk result (λ count. IfSome (held_of self.old name.now)
             (λ whole. count ≡ 0 → into.new ≢ [] → length whole ≤ at)) }
-        ensures failed { OnErr result (Rose (count_of self.old name.now) (count_of self.new name.now)) }
+        ensures failed { OnErr result
+            (Rose (count_of self.old name.now) (count_of self.new name.now)) }
         ensures same_contents { (other : List ℕ) → held_of self.new other ≡ held_of self.old other }
         ensures counts_stay { (other : List ℕ) → count_of self.old other ≤ count_of self.new other }
 
         // What this shelf returns.
         ensures answer { result_ok result ≡ fetched self.old name.now at (length into.new) }
-        ensures no_fault { OnOk result ((other : List ℕ) → count_of self.new other ≡ count_of self.old other) }
+        ensures no_fault { OnOk result
+            ((other : List ℕ) → count_of self.new other ≡ count_of self.old other) }
         ensures fetched { IsFetchedShelf self.old self.new }
     {
         self.fetches = next_count(self.fetches);

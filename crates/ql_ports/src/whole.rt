@@ -113,7 +113,8 @@ fn read_piece<S: Shelf>(
 pub fn write_whole<K: Sink>(sink: &mut K, bytes: &[u8]) -> Result<(), Failed>
     ensures whole { OnOk result (K.written sink.new ≡ appended (K.written sink.old) bytes.now) }
     ensures failed { OnErr result (Rose (K.faults sink.old) (K.faults sink.new)) }
-    ensures front { OnErr result (AppendsFront (K.written sink.old) (K.written sink.new) bytes.now) }
+    ensures front { OnErr result
+        (AppendsFront (K.written sink.old) (K.written sink.new) bytes.now) }
     ensures count_stays { K.faults sink.old ≤ K.faults sink.new }
 {
     let mut done = 0;

@@ -1,4 +1,4 @@
--- The pieces of an expression, and what they read as: the expression, with other places.
+-- The pieces of an expression, and what they read as: the expression, with other offsets.
 use Rattle.std.proofs.Common.{◌≡◌, ℕ, ◌+◌, ◌-◌, ◌≤◌, arith, Bool, true, false, List, [], ◌∷◌, ◌++◌, length, codes, decimal, pos, negsuc, refl, sym, ap, ◌∙◌, subst, append_assoc, length-append}
 use Rattle.std.specs.Fmt.{signed_decimal}
 use Rattle.std.proofs.Math.Seq.{take-append_seam}
@@ -17,7 +17,7 @@ use Rattle.ql_grammar.specs.declared.precedence.Precedence.TheVariants as preced
 use Rattle.ql_grammar.specs.declared.role.Role.TheVariants.{Plain, Makes, Opens, Closes}
 use Rattle.ql_grammar.specs.Tokens.{Marked, marked}
 use Rattle.ql_grammar.specs.ExpressionGrammar
-use Rattle.ql_grammar.specs.ExpressionGrammar.{ReadsExpr, ReadsArguments, ExprPart, Unary, Multiplied, Added, Compared, Conjoined, Disjoined, Chosen, IsOperator, number_spelled, between_quotes, operands}
+use Rattle.ql_grammar.specs.ExpressionGrammar.{ReadsExpr, ReadsArguments, ExprPart, Unary, Compared, Chosen, IsOperator, number_spelled, between_quotes, operands}
 use Rattle.ql_printed.specs.Printed.{unplaced_name}
 use Rattle.ql_printed.specs.PrintedPrograms.{unplaced_expression, unplaced_operands, ExpressionFits, OperandsFit}
 use Rattle.ql_printed.proofs.Pieces.{Piece, Blank, Said, marks_of}
@@ -68,12 +68,12 @@ unfoldable mutual
   expression_pieces (Denying at a) below = Said Keyword NotWord (Makes 1) (codes "not") ∷ Blank ∷ in_parens (is_compound a) (λ more. expression_pieces a more) below
   expression_pieces (Negating at a) below = Said Mark Minus (Makes 1) (codes "-") ∷ in_parens (is_compound a) (λ more. expression_pieces a more) below
 
-  -- the first argument of a call and those behind it
+  -- the first argument of a call and those after it
   pub first_pieces : Operands → List Piece → List Piece
   first_pieces NoMore below = below
   first_pieces (More a more) below = expression_pieces a (behind_pieces more below)
 
-  -- arguments behind a comma each
+  -- arguments after a comma each
   pub behind_pieces : Operands → List Piece → List Piece
   behind_pieces NoMore below = below
   behind_pieces (More a more) below = comma (expression_pieces a (behind_pieces more below))
@@ -196,7 +196,7 @@ unfolding expression_pieces unplaced_expression
 truth_reads at0 true at below = record { next = at + 4; tree = Truth at true; reads = (at, ExpressionGrammar.true_value); same = refl }
 truth_reads at0 false at below = record { next = at + 5; tree = Truth at false; reads = (at, ExpressionGrammar.false_value); same = refl }
 
--- arguments behind those that were read
+-- arguments after those that were read
 record Arguments (ts : List Marked) (below : List Piece) (done : List Expression) (wanted : Operands) : Type 0 where
   next : ℕ
   trees : List Expression
@@ -275,6 +275,6 @@ mutual
         same = same_parts (λ x y. More x y) first.same others.same;
       }
 
--- the pieces of an expression read as it, places aside
+-- the pieces of an expression read as it, offsets aside
 pub chosen_reads : (e : Expression) → ExpressionFits e → (at : ℕ) (below : List Piece) → ExprReads Chosen at (expression_pieces e below) below e
 chosen_reads e fits at below = whole_of e at (expression_pieces e below) below (expression_reads e fits at below)

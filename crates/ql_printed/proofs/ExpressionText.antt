@@ -13,7 +13,7 @@ use Rattle.ql_printed.proofs.Pieces.{Piece, Blank, Said, text_of, nodes_of}
 use Rattle.ql_printed.proofs.PiecesText.{two, three, four, five, six, in_parens_spells, in_parens_nodes}
 use Rattle.ql_printed.proofs.ExpressionPieces.{op_pieces, operand_pieces, expression_pieces, first_pieces, behind_pieces}
 
--- the texts of arguments behind a comma each
+-- the texts of arguments after a comma each
 abbrev behind_text : Operands → List ℕ
 behind_text more = concat (map (λ u. codes ", " ++ u) (operand_texts more))
 

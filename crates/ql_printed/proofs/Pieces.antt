@@ -71,7 +71,7 @@ abbrev pub Opening : Bool → Role → List ℕ → List ℕ → Type 0
 Opening true r w rest = (most before : ℕ) → OpensAtMost most false before (w ++ rest) → OpensAtMost most false (open_by r before) rest
 Opening false r w rest = Unit {0}
 
--- this token, with the text behind it, is at the front, and where its brackets count, it opens and closes what its role
+-- this token, with the text after it, is at the front, and where its brackets count, it opens and closes what its role
 -- says
 pub record IsSaid (counts : Bool) (k : TokenKind) (t : Terminal) (r : Role) (w rest : List ℕ) : Type 0 where
   pub front : IsFront (w ++ rest) (Lexeme k (length w))
@@ -102,7 +102,7 @@ pieces_lex counts (Said k t r w ∷ ps) at stands =
     token {r = Ok (tokens_of (at + length w) ps)} stands.0.front
     (subst (λ u. Lexes (at + length w) u (Ok (tokens_of (at + length w) ps))) (sym (drop-append_seam w (text_of ps))) (pieces_lex counts ps (at + length w) stands.1))
 
--- what stands behind so many bytes
+-- what stands after so many bytes
 part_at : (before w rest bytes : List ℕ) → bytes ≡ before ++ (w ++ rest) → slice_range bytes (length before) (length before + length w) ≡ w
 part_at before w rest bytes is =
     let n : length before + length w - length before ≡ length w = omega arith in

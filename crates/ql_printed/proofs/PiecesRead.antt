@@ -1,4 +1,4 @@
--- What the pieces of a contract read as: the contract, with other places.
+-- What the pieces of a contract read as: the contract, with other offsets.
 use Rattle.std.proofs.Common.{◌≡◌, ℕ, ◌+◌, ◌<◌, arith, Bool, true, false, List, [], ◌∷◌, ◌++◌, map, length, codes, refl, sym, ap, ◌∙◌, subst, append_assoc}
 use Rattle.std.specs.List.{AllByRecursion}
 use Rattle.std.proofs.lemmas.List.{append-nil}
@@ -17,7 +17,7 @@ use Rattle.ql_grammar.specs.declared.role.Role.{Role}
 use Rattle.ql_grammar.specs.declared.role.Role.TheVariants.{Plain, Makes, Opens, Closes}
 use Rattle.ql_grammar.specs.Tokens.{Marked, marked}
 use Rattle.ql_grammar.specs.ContractGrammar
-use Rattle.ql_grammar.specs.ContractGrammar.{IsRelationWord, ReadsTerm, ReadsTerms, ReadsRelation, RelationPart, Applied, Single, Product, Sum, ReadsProp, PropPart, Atom, Both, Either, Whole, ReadsNames, ReadsVar, ReadsVars, ReadsContract}
+use Rattle.ql_grammar.specs.ContractGrammar.{IsRelationWord, ReadsTerm, ReadsTerms, ReadsRelation, Applied, Single, ReadsProp, PropPart, Atom, Whole, ReadsNames, ReadsVar, ReadsVars, ReadsContract}
 use Rattle.ql_printed.specs.Printed.{unplaced_name, unplaced_term, unplaced_relation, unplaced_prop, unplaced_var, unplaced, PropFits, Fits}
 use Rattle.ql_printed.proofs.Pieces.{Piece, Blank, Said, marks_of}
 
@@ -66,7 +66,7 @@ abbrev pub application_pieces : Relation → Point → Point → List Piece → 
 application_pieces (Basic Eq at) a b below = equality_pieces a b below
 application_pieces r a b below = relation_pieces (Makes 2) (Opens 1) r (argument_pieces a b below)
 
--- items behind a mark each
+-- items after a mark each
 abbrev pub items_behind : {T : Type 0} → (List Piece → List Piece) → (T → List Piece → List Piece) → List T → List Piece → List Piece
 items_behind mark pieces [] below = below
 items_behind mark pieces (t ∷ ts) below = mark (pieces t (items_behind mark pieces ts below))
@@ -125,7 +125,7 @@ contract_pieces s below = quantifier_pieces s.vars (prop_pieces s.body below)
 pub same_parts : {A B C : Type 0} (f : A → B → C) {a c : A} {b d : B} → a ≡ c → b ≡ d → f a b ≡ f c d
 same_parts f {a} {c} {b} {d} e g = ap (λ x. f x b) e ∙ ap (f c) g
 
--- the tokens at a place begin with this tree, places aside, and those of what follows come behind it
+-- the tokens at a place begin with this tree, offsets aside, and those of what follows come after it
 pub record Reads (T : Type 0) (Relates : List Marked → List Marked → T → Type 0) (bare : T → T) (at : ℕ) (from below : List Piece) (t : T) : Type 0 where
   pub next : ℕ
   pub tree : T
@@ -221,7 +221,7 @@ application_reads (Basic Hbo n) a b at below = arguments_read (Basic Hbo n) a b 
 application_reads (Union r s) a b at below = arguments_read (Union r s) a b at below
 application_reads (Intersection r s) a b at below = arguments_read (Intersection r s) a b at below
 
--- items behind those that were read
+-- items after those that were read
 pub record Listed (T : Type 0) (Items : List Marked → List Marked → List T → Type 0) (bare : T → T) (ts : List Marked) (below : List Piece) (done wanted : List T) : Type 0 where
   pub next : ℕ
   pub trees : List T
@@ -378,6 +378,6 @@ sentence_reads (v ∷ vs) p fits at below =
       same = same_parts (λ (l : List Var) (b : Proposition). record { vars = l; body = b }) a.same r.same;
     }
 
--- the pieces of a contract read as it, places aside
+-- the pieces of a contract read as it, offsets aside
 pub contract_reads : (s : Sentence) → Fits s → (at : ℕ) (below : List Piece) → Reads Sentence ReadsContract unplaced at (contract_pieces s below) below s
 contract_reads s fits at below = sentence_reads s.vars s.body fits.1 at below

@@ -16,7 +16,7 @@ use Rattle.ql_printed.specs.Printed.{relation_nodes, prop_nodes}
 use Rattle.ql_printed.proofs.Pieces.{Piece, Blank, Said, text_of, nodes_of, made_by}
 use Rattle.ql_printed.proofs.PiecesRead.{term_pieces, between, comma, relation_pieces, argument_pieces, application_pieces, items_behind, items_pieces, terms_pieces, txn_pieces, in_parens, prop_pieces, operand_pieces, name_pieces, operation_pieces, var_pieces, quantifier_pieces, contract_pieces}
 
--- texts that stand one behind another
+-- texts that stand one after another
 
 pub two : (a b x : List ℕ) → a ++ (b ++ x) ≡ (a ++ b) ++ x
 two a b x = sym (append_assoc a b x)

@@ -1,4 +1,4 @@
--- What is printed of a contract is that contract, places aside.
+-- What is printed of a contract is that contract, offsets aside.
 use Rattle.std.proofs.Common.{◌≡◌, ◌≤◌, Bool, List, [], true, refl, sym, subst, ◌∙◌, arith}
 use Rattle.std.proofs.lemmas.List.{append-nil}
 use Rattle.ql_base.specs.declared.limits.TheConstants.{MAX_NODES}

@@ -85,7 +85,7 @@ any : {T : Type 0} (ts : List T) → AllByRecursion (λ (t : T). Unit {0}) ts
 any [] = tt
 any (t ∷ ts) = (tt, any ts)
 
--- expressions and contracts, behind the token that they begin after
+-- expressions and contracts, after the token that they begin after
 
 pub record ExpressionIsFew (e : Expression) : Type 0 where
   pub fits : ExpressionFits e

@@ -1,4 +1,4 @@
--- What is printed of a source is that source, places aside.
+-- What is printed of a source is that source, offsets aside.
 use Rattle.std.proofs.Common.{◌≡◌, ◌≤◌, List, [], ◌∷◌, Option, Some, None, false, subst}
 use Rattle.std.specs.List.{AllByRecursion}
 use Rattle.ql_base.specs.declared.limits.TheConstants.{MAX_NODES}

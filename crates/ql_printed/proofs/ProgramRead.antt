@@ -1,4 +1,4 @@
--- What the pieces of a source read as: the source, with other places.
+-- What the pieces of a source read as: the source, with other offsets.
 use Rattle.std.proofs.Common.{◌≡◌, ℕ, suc, ◌+◌, arith, true, false, List, [], ◌∷◌, map, option_map, Option, Some, None, length, codes, decimal, pos, negsuc, neg_ℤ, refl, sym, ap, ◌∙◌, subst}
 use Rattle.std.specs.List.{AllByRecursion}
 use Rattle.ql_lex.specs.declared.token.TokenKind.TheVariants.{Mark, Keyword}
@@ -256,7 +256,7 @@ transactions_read ts all at below =
     (λ us rest x reads. ReadsTransactions.more ReadsTransactions.none reads) (λ us n vs rest done x so_far reads. ReadsTransactions.more so_far reads)
     (marks_of at (each_pieces transaction_pieces ts below)) [] ts all at below ReadsTransactions.none
 
--- the pieces of a source read as it, places aside
+-- the pieces of a source read as it, offsets aside
 pub source_reads : (p : Source) → SourceFits p → Reads Source ReadsProgram unplaced_source 0 (source_pieces p []) [] p
 source_reads p fits = by_parts p.types p.txns fits where
   by_parts : (types : List Replicated) (txns : List Transaction) → SourceFits (record { types = types; txns = txns }) → Reads Source ReadsProgram unplaced_source 0 (source_pieces (record { types = types; txns = txns }) []) [] (record { types = types; txns = txns })

@@ -9,7 +9,7 @@ use Rattle.ql_parse.specs.declared.fault.ParseFault.{ParseFault}
 use Rattle.ql_parse.specs.declared.fault.ParseFault.TheVariants.{Lex, Unexpected, Deep, Wide, NoMemory}
 use Rattle.ql_printed.specs.Printed.{IsTreeAgain}
 
--- it is this tree, or want of memory
+-- it is this tree, or out of memory
 module _ {A T : Type 0} (Reads : List Marked → List Marked → A → Type 0) (tree_of : T → A) (bare : A → A) where
   pub read_as : (bytes : List ℕ) (s t : A) → bare t ≡ bare s → ((u : A) → IsTextAs Reads bytes u → u ≡ t) → ((f : limits.Fault) → IsFaultAs Reads bytes f → ⊥) → ((e : LexFault) → Lexes 0 bytes (Err e) → ⊥) → (r : Result T ParseFault) → IsAnswer Reads tree_of bytes r → IsTreeAgain tree_of bare s r
   read_as bytes s t same only no_fault no_lex (Ok c) answer = ap bare (only (tree_of c) answer) ∙ same

@@ -16,7 +16,7 @@ use Rattle.ql_parse.specs.Parsing.{IsContractText}
 use Rattle.ql_printed.specs.Printed.{relation_nodes, prop_nodes}
 use Rattle.ql_printed.proofs.Pieces.{made_by}
 
--- counted so far: with `more` nodes behind, the tokens that are left are within the limits too
+-- counted so far: with `more` nodes after, the tokens that are left are within the limits too
 pub record Left (c : Counts) (most : ℕ) (rest : List Marked) (end : Counts) : Type 0 where
   pub counts : Counts
   pub are : counted_all counts rest ≡ Ok end

@@ -162,7 +162,7 @@ record ExpressionRead (x : Expression) (end : Counts) (rest : List Marked) : Typ
   few : FewIn x
   on : GoesOn end rest
 
--- an expression behind the token that it begins after
+-- an expression after the token that it begins after
 expression_in : {end : Counts} {k : Terminal} {x : List ℕ} {n s : ℕ} {ts rest : List Marked} {a : Expression} → ReadsExpr Chosen ts rest s a → GoesOn end (marked Before k x n ∷ ts) → ExpressionRead a end rest
 unfolding counted counted_all
 expression_in {end} r g =

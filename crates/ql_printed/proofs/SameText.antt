@@ -1,4 +1,4 @@
--- What is printed of a tree doesn't depend on its places.
+-- What is printed of a tree doesn't depend on its offsets.
 use Rattle.std.proofs.Common.{◌≡◌, ℕ, List, [], ◌∷◌, ◌++◌, Option, Some, None, map, option_map, codes, refl, ap, ◌∙◌}
 use Rattle.std.specs.List.{concat}
 use Rattle.ql_lang.specs.declared.name.Name.{Name}
@@ -163,7 +163,7 @@ transaction_same t =
     same_parts (λ (x : List (List ℕ)) (y : List ℕ). codes "transaction " ++ t.name.word ++ codes " {\n" ++ (codes "  uses " ++ listed (codes ", ") x ++ codes ";\n") ++ codes "  contract " ++ y ++ codes ";\n}\n")
     (all_same unplaced_name word_of (λ n. refl) t.uses) (contract_same t.contract)
 
--- what is printed of a source doesn't depend on its places
+-- what is printed of a source doesn't depend on its offsets
 pub source_same : (p : Source) → program_text (unplaced_source p) ≡ program_text p
 source_same p =
     same_parts (λ (x : List (List ℕ)) (y : List (List ℕ)). concat x ++ concat y) (all_same unplaced_type replicated_text type_same p.types) (all_same unplaced_transaction transaction_text transaction_same p.txns)

@@ -17,12 +17,18 @@ ghost use Rattle.ql_printed.specs.Printed.{Fits, IsInGrammar, IsReadable, IsRead
 /// opens few brackets at once (`again`).
 pub fn printed_again()
     ensures places { (s : Sentence) → contract_text (unplaced s) ≡ contract_text s }
-    ensures grammar { (s : Sentence) → Fits s → (t : Sentence) × IsInGrammar (contract_text s) t × (unplaced t ≡ unplaced s) }
+    ensures grammar { (s : Sentence) → Fits s → (t : Sentence) × IsInGrammar (contract_text s) t
+        × (unplaced t ≡ unplaced s) }
     ensures fits { (bytes : List ℕ) (s : Sentence) → IsContractText bytes s → Fits s }
-    ensures few { (bytes : List ℕ) (s : Sentence) → IsContractText bytes s → prop_nodes s.body ≤ MAX_NODES }
-    ensures text { (s : Sentence) → Fits s → IsReadable s → (t : Sentence) × IsContractText (contract_text s) t × (unplaced t ≡ unplaced s) }
-    ensures answer { (s : Sentence) (r : Result Contract ParseFault) → Fits s → IsReadable s → IsContractAnswer (contract_text s) r → IsReadAs s r }
-    ensures again { (bytes : List ℕ) (s : Sentence) (r : Result Contract ParseFault) → IsContractText bytes s → OpensFew (contract_text s) → IsContractAnswer (contract_text s) r → IsReadAs s r }
+    ensures few { (bytes : List ℕ) (s : Sentence) → IsContractText bytes s
+        → prop_nodes s.body ≤ MAX_NODES }
+    ensures text { (s : Sentence) → Fits s → IsReadable s → (t : Sentence)
+        × IsContractText (contract_text s) t × (unplaced t ≡ unplaced s) }
+    ensures answer { (s : Sentence) (r : Result Contract ParseFault) → Fits s → IsReadable s
+        → IsContractAnswer (contract_text s) r → IsReadAs s r }
+    ensures again { (bytes : List ℕ) (s : Sentence) (r : Result Contract ParseFault)
+        → IsContractText bytes s → OpensFew (contract_text s) → IsContractAnswer (contract_text s) r
+        → IsReadAs s r }
 {
     ql_parse::one_answer();
 }

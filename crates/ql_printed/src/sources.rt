@@ -22,12 +22,17 @@ ghost use Rattle.ql_printed.specs.PrintedPrograms.{
 /// once within each contract and each expression (`again`); a long chain of operators may open too many.
 pub fn source_printed_again()
     ensures places { (p : Source) → program_text (unplaced_source p) ≡ program_text p }
-    ensures grammar { (p : Source) → SourceFits p → (q : Source) × IsSourceInGrammar (program_text p) q × (unplaced_source q ≡ unplaced_source p) }
+    ensures grammar { (p : Source) → SourceFits p → (q : Source)
+        × IsSourceInGrammar (program_text p) q × (unplaced_source q ≡ unplaced_source p) }
     ensures fits { (bytes : List ℕ) (p : Source) → IsProgramText bytes p → SourceFits p }
     ensures few { (bytes : List ℕ) (p : Source) → IsProgramText bytes p → HasFewNodes p }
-    ensures text { (p : Source) → SourceFits p → HasFewNodes p → HasFewBrackets p → (q : Source) × IsProgramText (program_text p) q × (unplaced_source q ≡ unplaced_source p) }
-    ensures answer { (p : Source) (r : Result Program ParseFault) → SourceFits p → HasFewNodes p → HasFewBrackets p → IsProgramAnswer (program_text p) r → IsSourceReadAs p r }
-    ensures again { (bytes : List ℕ) (p : Source) (r : Result Program ParseFault) → IsProgramText bytes p → HasFewBrackets p → IsProgramAnswer (program_text p) r → IsSourceReadAs p r }
+    ensures text { (p : Source) → SourceFits p → HasFewNodes p → HasFewBrackets p → (q : Source)
+        × IsProgramText (program_text p) q × (unplaced_source q ≡ unplaced_source p) }
+    ensures answer { (p : Source) (r : Result Program ParseFault) → SourceFits p → HasFewNodes p
+        → HasFewBrackets p → IsProgramAnswer (program_text p) r → IsSourceReadAs p r }
+    ensures again { (bytes : List ℕ) (p : Source) (r : Result Program ParseFault)
+        → IsProgramText bytes p → HasFewBrackets p → IsProgramAnswer (program_text p) r
+        → IsSourceReadAs p r }
 {
     ql_parse::one_program_answer();
 }

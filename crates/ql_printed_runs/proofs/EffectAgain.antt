@@ -1,10 +1,10 @@
 -- the line of an effect is read as that effect
-use Rattle.std.proofs.Common.{◌≡◌, ℕ, zero, suc, ◌<◌, ◌≤◌, ◌+◌, ◌^◌, Bool, true, false, List, [], ◌∷◌, ◌++◌, All, Option, Some, None, length, map, decimal, codes, arith, refl, ap, sym, subst, ◌∙◌}
+use Rattle.std.proofs.Common.{◌≡◌, ℕ, ◌<◌, ◌≤◌, ◌^◌, false, List, [], ◌∷◌, All, Option, Some, None, length, map, decimal, codes, arith, refl, ap, sym, subst, ◌∙◌}
 use Rattle.std.specs.List.{AllByRecursion}
 use Rattle.ql_base.specs.IdLists.{IsAscending}
 use Rattle.ql_base.specs.Names.{IsName}
 use Rattle.ql_lang.specs.declared.program.Program.{Program}
-use Rattle.ql_lines.specs.Fields.{Fields, FirstField, IsId, fields_of, is_space}
+use Rattle.ql_lines.specs.Fields.{Fields, IsId, is_space}
 use Rattle.ql_lines.specs.Lines.{is_skipped}
 use Rattle.ql_lines.specs.Texts.{behind, joined}
 use Rattle.ql_lines.proofs.TextLaws.{joined_behind}
@@ -21,7 +21,7 @@ use Rattle.ql_effect_lines.specs.declared.effect_line.EffectLine.{EffectLine}
 use Rattle.ql_effect_lines.specs.declared.setting.Begun.{Begun}
 use Rattle.ql_effect_lines.specs.declared.setting.Setting.{Setting}
 use Rattle.ql_effect_lines.specs.EffectLine.{CallAt, EmitAt, FitsTxn, IsEffectLine, IsSetting, PayloadAt, txn_text}
-use Rattle.ql_effect_lines.specs.Parts.{FieldAt, FieldsAt, ValueAt, ValuesAt}
+use Rattle.ql_effect_lines.specs.Parts.{ValueAt, ValuesAt}
 use Rattle.ql_run_text.specs.EffectTexts.{CarriesValues, effect_fields, member_text, object_name, payload_text, values_text}
 use Rattle.ql_printed_runs.specs.Printable.{FitsMember, IsWritable}
 use Rattle.ql_printed_runs.proofs.FieldsAgain.{IsOneField, fields_behind, first_field, high_stay, name_bytes, name_field, next_field, number_field, part_field, txn_field, value_part, value_stay, values_part, values_stay}

@@ -1,24 +1,22 @@
 -- the lines of an execution are read as that execution, with objects numbered by their first occurrence
-use Rattle.std.proofs.Common.{◌≡◌, ◌⊎◌, ◌||◌, inl, inr, ℕ, zero, suc, ◌<◌, ◌≤◌, ◌+◌, ◌^◌, Bool, true, false, not, nat_eq, nat_le, List, [], ◌∷◌, ◌++◌, All, Option, Some, None, Result, Ok, Err, map, length, get_or, slice_get, slice_index, decimal, codes, arith, refl, ap, sym, subst, ◌∙◌, append_assoc, length-append}
-use Rattle.std.specs.Prelude.{IsTrue, unwrap_or, if◌then◌else◌}
-use Rattle.std.specs.List.{AllByRecursion, find}
+use Rattle.std.proofs.Common.{◌≡◌, ◌||◌, inl, inr, ℕ, zero, suc, ◌<◌, ◌+◌, ◌^◌, Bool, true, false, not, nat_eq, nat_le, List, [], ◌∷◌, ◌++◌, All, Option, Some, None, Ok, Err, length, codes, arith, refl, ap, sym, subst, ◌∙◌, append_assoc, length-append}
+use Rattle.std.specs.Prelude.{IsTrue, if◌then◌else◌}
+use Rattle.std.specs.List.{AllByRecursion}
 use Rattle.std.specs.Option.{option_and_then, option_map, option_map_or}
 use Rattle.std.specs.Str.Lines.{lines}
-use Rattle.std.proofs.lemmas.Bool.{eq-eqb, eqb-true, false≢true}
+use Rattle.std.proofs.lemmas.Bool.{eq-eqb, eqb-true}
 use Rattle.std.proofs.lemmas.Bool.Decides.{nat_tests}
 use Rattle.std.proofs.lemmas.List.{append-nil, length-map, map-append}
-use Rattle.std.proofs.lemmas.Option.{same_Some, slice_get-get_or, unwrap_or-slice_get}
+use Rattle.std.proofs.lemmas.Option.{same_Some, unwrap_or-slice_get}
 use Rattle.ql_base.specs.IdLists.{IsAscending, has_id}
 use Rattle.ql_base.specs.Names.{IsName}
 use Rattle.ql_base.specs.Numbering.{with_name}
-use Rattle.ql_base.specs.declared.ids.ObjId.{ObjId}
 use Rattle.ql_base.specs.declared.ids.OpId.{OpId}
 use Rattle.ql_lang.specs.declared.program.Program.{Program}
-use Rattle.ql_lines.specs.Fields.{Fields, IsId, fields_of}
+use Rattle.ql_lines.specs.Fields.{IsId, fields_of}
 use Rattle.ql_lines.specs.Lines.{Numbered, is_skipped, told}
 use Rattle.ql_lines.specs.Texts.{file_text, joined}
-use Rattle.ql_typing.specs.Lookups.{txn_place}
-use Rattle.ql_typing.specs.Operations.{all_ops, op_kinds, op_place}
+use Rattle.ql_typing.specs.Operations.{op_kinds}
 use Rattle.ql_exec.specs.declared.effect.Effect.{Effect}
 use Rattle.ql_exec.specs.declared.effect.Member.{Member}
 use Rattle.ql_exec.specs.declared.effect.Member.TheVariants.{Alone, Inside}
@@ -27,25 +25,22 @@ use Rattle.ql_exec.specs.Execution.{IsExecution, stamp_of}
 use Rattle.ql_exec.proofs.Finding.{effect_at-append, effect_at-last}
 use Rattle.ql_exec.proofs.Law.{IsExecution-front}
 use Rattle.ql_exec.proofs.Stamps.{stamp_few}
-use Rattle.ql_effect_lines.specs.declared.effect_line.EffectLine.{EffectLine}
-use Rattle.ql_effect_lines.specs.declared.rules.ReportRule.{ReportRule}
-use Rattle.ql_effect_lines.specs.declared.rules.ReportRule.TheVariants.{Unknown, Mixed, Stamp, TooMany}
+use Rattle.ql_effect_lines.specs.declared.rules.ReportRule.TheVariants.{Unknown, Mixed}
 use Rattle.ql_effect_lines.specs.declared.effects_read.EffectsRead.{EffectsRead}
 use Rattle.ql_effect_lines.specs.EffectLine.{IsEffectLine}
-use Rattle.ql_effect_lines.specs.Effects.{after_effect, after_known, draft_of_line, first_on, is_mixed, type_number_of, known_of, member_of_line, object_number, with_draft, exec_rule, with_read_effect, with_object_name}
-use Rattle.ql_execution_files.specs.ExecutionFile.{ClosesExecution, IsExecutionFile, Takes, end_fields, first_fields, gives, nothing_read}
-use Rattle.ql_execution_files.specs.declared.format.ExecutionReading.{ExecutionReading}
+use Rattle.ql_effect_lines.specs.Effects.{after_effect, after_known, draft_of_line, first_on, is_mixed, type_number_of, known_of, member_of_line, object_number, with_draft, with_object_name}
+use Rattle.ql_execution_files.specs.ExecutionFile.{ClosesExecution, Takes, gives, nothing_read}
 use Rattle.ql_execution_files.specs.declared.format.ExecutionReading.TheVariants.{Ended, Unbegun, WithEffects}
 use Rattle.ql_line_files.specs.Outcomes.{Leads}
-use Rattle.ql_run_text.specs.EffectTexts.{AreNamed, IsDeclared, IsNamed, effect_fields, effects_text, execution_text, object_name}
+use Rattle.ql_run_text.specs.EffectTexts.{IsDeclared, IsNamed, effect_fields, effects_text, execution_text, object_name}
 use Rattle.ql_run_text.specs.NumberedLines.{lines_from}
-use Rattle.ql_typing.specs.Names.{op_name, txn_name}
-use Rattle.ql_printed_runs.specs.Printable.{AreObjects, FindsNames, IsPrintable, IsWritable}
+use Rattle.ql_typing.specs.Names.{op_name}
+use Rattle.ql_printed_runs.specs.Printable.{FindsNames, IsPrintable, IsWritable}
 use Rattle.ql_printed_runs.specs.Renumbered.{IsRenumbered, renumbered}
 use Rattle.ql_printed_runs.proofs.EffectAgain.{NamedMember, begun_of, effect_stays, effect_told, is_effect_line, line_of}
 use Rattle.ql_printed_runs.proofs.LinesAgain.{Stay, first_line, stays_of}
 use Rattle.ql_printed_runs.proofs.Numbers.{all_kept, first_of, grown, next_number, one_name}
-use Rattle.ql_printed_runs.proofs.Renumbering.{draft_from, no_other_fault, other_at, other_pushed, other_stamp, others}
+use Rattle.ql_printed_runs.proofs.Renumbering.{draft_from, no_other_fault, other_pushed, other_stamp, others}
 
 -- ---- lists
 

@@ -1,15 +1,14 @@
 -- the fields of a line are read as they are written
-use Rattle.std.proofs.Common.{◌≡◌, ℕ, zero, suc, ◌<◌, ◌≤◌, ◌+◌, ◌^◌, Bool, true, false, List, [], ◌∷◌, ◌++◌, All, Ok, get_or, length, map, replicate, decimal, codes, pos, negsuc, arith, refl, ap, sym, subst, ◌∙◌, append_assoc}
+use Rattle.std.proofs.Common.{◌≡◌, ℕ, suc, ◌<◌, ◌≤◌, ◌+◌, Bool, true, false, List, [], ◌∷◌, ◌++◌, All, get_or, length, map, decimal, codes, pos, negsuc, arith, refl, ap, sym, ◌∙◌, append_assoc}
 use Rattle.std.proofs.lemmas.List.{append-nil}
 use Rattle.std.proofs.lemmas.List.Elements.{recursion_from_All}
 use Rattle.std.proofs.lemmas.List.Splits.{slice_split-cons_no, slice_split-cons_yes}
 use Rattle.std.proofs.lemmas.Bool.Decides.{nat_tests}
-use Rattle.std.specs.Fmt.{signed_decimal}
-use Rattle.std.specs.List.{AllByRecursion, AllPass, filter, slice_split}
+use Rattle.std.specs.List.{AllByRecursion, filter, slice_split}
 use Rattle.ql_base.specs.Bytes.{begins, is_digit, is_name_byte, is_text_byte}
 use Rattle.ql_base.specs.Names.{IsName}
 use Rattle.ql_lines.specs.Fields.{Fields, FirstField, fields_of, is_space, isn't_empty}
-use Rattle.ql_lines.specs.Texts.{behind, joined}
+use Rattle.ql_lines.specs.Texts.{behind}
 use Rattle.ql_lines.proofs.FieldLaws.{behind_space}
 use Rattle.ql_value.specs.declared.scalar.Scalar.{Scalar}
 use Rattle.ql_value.specs.declared.scalar.Scalar.TheVariants.{Int, Bool as Truth, Text}
@@ -19,7 +18,7 @@ use Rattle.ql_value.specs.Spelling.{bool_text, entry_text, followed, quoted, sca
 use Rattle.ql_value.specs.Texts.{IsText}
 use Rattle.ql_value.specs.ValueGrammar.{IsEntry, IsScalar, IsValue, ReadsMore}
 use Rattle.ql_value.proofs.ValueLaws.{printed_again}
-use Rattle.ql_effect_lines.specs.Parts.{FieldAt, ItemsAt, ValueAt, ValuesAt, ends_field}
+use Rattle.ql_effect_lines.specs.Parts.{FieldAt, ValueAt, ValuesAt, ends_field}
 use Rattle.ql_run_text.specs.EffectTexts.{values_text}
 use Rattle.ql_printed_runs.proofs.LinesAgain.{IsDigitByte, Stay, StaysIn, decimal_bytes, decimal_some, decimal_stay, stay_both, stays_of}
 
@@ -66,7 +65,7 @@ pub fields_behind : (fs : Fields) → AllByRecursion IsOneField fs → fields_of
 fields_behind [] h = no_fields
 fields_behind (f ∷ fs) h = field_behind f fs h.0 ∙ ap (λ r. f ∷ r) (fields_behind fs h.1)
 
--- the first field of a line, and one behind others
+-- the first field of a line, and one after others
 pub first_field : (f : List ℕ) (fs : Fields) → IsOneField f → FirstField (f ++ behind fs) f (behind fs)
 first_field f fs h = record { fields = field_before f fs h; spaces = 0; stands = refl }
 
@@ -79,7 +78,7 @@ unfolding behind
 ends_here [] = refl
 ends_here (f ∷ fs) = refl
 
--- a part of any kind as a field behind others
+-- a part of any kind as a field after others
 pub part_field : {X : Type 0} (PartAt : X → List ℕ → List ℕ → Type 0) (x : X) (f : List ℕ) (fs : Fields) → PartAt x (f ++ behind fs) (behind fs) → FieldAt PartAt x (behind (f ∷ fs)) (behind fs)
 unfolding behind
 part_field PartAt x f fs part = record { gap = 1; start = f ++ behind fs; spaces = refl; part = part; ended = ends_here fs }

@@ -1,6 +1,6 @@
 -- lines that are written end where they were ended
-use Rattle.std.proofs.Common.{◌≡◌, ℕ, zero, suc, ◌<◌, ◌≤◌, ◌+◌, ◌-◌, ◌/◌, ◌%◌, take, Bool, true, false, List, [], ◌∷◌, ◌++◌, length, decimal, arith, refl, ap, sym, subst, ◌∙◌, append_assoc, one-add}
-use Rattle.std.specs.Prelude.{slice_index, if◌then◌else◌, ◌==◌, codes}
+use Rattle.std.proofs.Common.{◌≡◌, ℕ, zero, suc, ◌<◌, ◌≤◌, ◌+◌, ◌-◌, ◌/◌, ◌%◌, take, Bool, true, false, List, [], ◌∷◌, ◌++◌, length, decimal, arith, refl, ap, sym, ◌∙◌, append_assoc, one-add}
+use Rattle.std.specs.Prelude.{slice_index, if◌then◌else◌, ◌==◌}
 use Rattle.std.specs.Fmt.{digit_glyph, digits, digits_onto}
 use Rattle.std.specs.List.{AllByRecursion, position_or_len, slice_split}
 use Rattle.std.specs.Str.Lines.{lines, lines_of_parts, strip_carriage_return}

@@ -1,13 +1,13 @@
 -- objects are numbered by the first occurrence of their names
-use Rattle.std.proofs.Common.{◌≡◌, ◌⊎◌, inl, inr, ℕ, zero, suc, ◌<◌, ◌≤◌, ◌+◌, Bool, true, false, ◌||◌, cond, List, [], ◌∷◌, ◌++◌, Option, Some, None, length, get_or, arith, refl, ap, sym, subst, ◌∙◌, append_assoc, lt-ltb, nat_lt, one-add}
-use Rattle.std.specs.Prelude.{unwrap_or, if◌then◌else◌}
-use Rattle.std.specs.List.{AllByRecursion, list_any, position_or_len}
+use Rattle.std.proofs.Common.{◌≡◌, ℕ, ◌<◌, ◌+◌, true, false, ◌||◌, List, [], ◌∷◌, ◌++◌, length, get_or, arith, refl, ap, sym, subst, ◌∙◌, append_assoc, lt-ltb}
+use Rattle.std.specs.Prelude.{if◌then◌else◌}
+use Rattle.std.specs.List.{AllByRecursion, position_or_len}
 use Rattle.std.specs.Str.{bytes_eq}
 use Rattle.std.proofs.lemmas.Bool.{false≢true}
 use Rattle.std.proofs.lemmas.List.{append-nil}
 use Rattle.std.proofs.lemmas.List.Sums.{passes_at_first}
 use Rattle.std.proofs.lemmas.Slice.Eq.{bytes_eq-Decides}
-use Rattle.ql_base.specs.Numbering.{has_name, place, with_name}
+use Rattle.ql_base.specs.Numbering.{has_name, with_name}
 use Rattle.ql_exec.specs.declared.effect.Effect.{Effect}
 use Rattle.ql_effect_lines.specs.Effects.{object_number}
 use Rattle.ql_run_text.specs.EffectTexts.{object_name}

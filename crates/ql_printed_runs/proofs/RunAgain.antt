@@ -1,12 +1,10 @@
 -- the text of a run is a file of its execution
-use Rattle.std.proofs.Common.{◌≡◌, ◌⊎◌, ◌&&◌, nat_le, inl, inr, ℕ, zero, suc, ◌<◌, ◌≤◌, ◌+◌, Bool, true, false, List, [], ◌∷◌, ◌++◌, All, Option, Some, None, map, length, slice_get, decimal, codes, arith, refl, ap, sym, subst, ◌∙◌, append_assoc}
-use Rattle.std.specs.Prelude.{if◌then◌else◌}
+use Rattle.std.proofs.Common.{◌≡◌, ◌&&◌, nat_le, inr, ℕ, zero, suc, ◌<◌, ◌≤◌, ◌+◌, Bool, true, false, List, [], ◌∷◌, ◌++◌, Option, Some, None, map, length, slice_get, decimal, codes, arith, refl, ap, sym, subst, ◌∙◌, append_assoc}
 use Rattle.std.specs.List.{AllByRecursion}
 use Rattle.std.specs.Option.{option_map_or}
 use Rattle.std.specs.Str.Lines.{lines}
 use Rattle.std.proofs.lemmas.Bool.{and_parts}
 use Rattle.std.proofs.lemmas.Bool.Decides.{nat_tests}
-use Rattle.std.proofs.lemmas.List.{append-nil}
 use Rattle.ql_base.specs.Ranges.{upto}
 use Rattle.ql_base.specs.Names.{IsName}
 use Rattle.ql_lang.specs.declared.program.Program.{Program}
@@ -17,7 +15,7 @@ use Rattle.ql_levels.specs.declared.level.Level.TheVariants.{Eventual, Causal, W
 use Rattle.ql_levels.specs.declared.level.TxnLevel.{TxnLevel}
 use Rattle.ql_levels.specs.declared.level.TxnLevel.TheVariants.{Rc, Mav, Rr}
 use Rattle.ql_lines.specs.Fields.{Fields, fields_of, is_space}
-use Rattle.ql_lines.specs.Lines.{Numbered, ahead_from, is_skipped, told}
+use Rattle.ql_lines.specs.Lines.{ahead_from, is_skipped, told}
 use Rattle.ql_lines.specs.Texts.{file_text, joined}
 use Rattle.ql_lines.proofs.TextLaws.{file_text-append}
 use Rattle.ql_typing.specs.Operations.{all_ops}
@@ -36,13 +34,13 @@ use Rattle.ql_run_text.specs.EffectTexts.{execution_text}
 use Rattle.ql_run_text.specs.NumberedLines.{lines_from}
 use Rattle.ql_run_text.specs.ReplyTexts.{answer_text, reply_fields, why_number}
 use Rattle.ql_run_text.specs.RunTexts.{numbered_reply_fields, replies_text, run_text}
-use Rattle.ql_printed_runs.specs.Printable.{FindsNames, IsPrintable, IsWritable}
+use Rattle.ql_printed_runs.specs.Printable.{IsPrintable, IsWritable}
 use Rattle.ql_printed_runs.specs.Renumbered.{IsRenumbered}
 use Rattle.ql_printed_runs.proofs.ExecutionAgain.{at-each, execution_leads, number, same_execution}
 use Rattle.ql_printed_runs.proofs.Numbers.{grown}
 use Rattle.ql_printed_runs.proofs.Renumbering.{others}
 use Rattle.ql_printed_runs.proofs.FieldsAgain.{high_stay, name_bytes, value_stay}
-use Rattle.ql_printed_runs.proofs.LinesAgain.{IsDigitByte, Stay, decimal_bytes, decimal_some, decimal_stay, first_byte, first_line, joined_stay, stays_of}
+use Rattle.ql_printed_runs.proofs.LinesAgain.{IsDigitByte, Stay, decimal_bytes, decimal_some, decimal_stay, first_byte, first_line, joined_stay}
 
 -- ---- lines that are passed over
 

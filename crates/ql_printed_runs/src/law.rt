@@ -12,6 +12,7 @@ ghost use Rattle.ql_printed_runs.specs.Renumbered.{IsRenumbered};
 /// The text of a run is an execution's file, and reads back as the run's own execution: objects are numbered by their
 /// first occurrence, and all else is the same.
 pub fn printed_runs_are_read_again()
-    ensures { (p : Program) (objects : List (List ℕ)) (levels : LevelLists) (replies : List Reply) (x : List Effect) → IsPrintable p objects x
+    ensures { (p : Program) (objects : List (List ℕ)) (levels : LevelLists) (replies : List Reply)
+        (x : List Effect) → IsPrintable p objects x
         → (y : List Effect) × IsRenumbered x y × IsExecutionFile p (ahead_from 1 (run_text p objects levels replies x)) y }
 {}

@@ -7,10 +7,10 @@ mod listing;
 use listing::list_goals;
 use ql_base::NoMemory;
 use ql_parse::{ParseFault, parse_program};
+use ql_reply::words;
 use ql_typing::{TypeFault, Typed, typecheck};
 use std::alloc::Global;
-use std::env::Env;
-use std::{env, fs, io};
+use std::{fs, io};
 
 // The most bytes of a source.
 const MOST_BYTES: usize = 1 << 20;
@@ -29,12 +29,6 @@ fn main(rt: HostRuntime) -> io::Result<()> {
         }
     }
     Ok(())
-}
-
-// The arguments of the command line, without the program's own name.
-fn words<R: Env + AllocGlobal>(rt: &R) -> io::Result<Vec<String>> {
-    let words = env::args(rt)?.skip(1).collect::<Vec<String>>(rt.alloc())?;
-    Ok(words)
 }
 
 fn text_of(alloc: Global, text: &str, whole: bool) -> Result<Option<String>, NoMemory> {

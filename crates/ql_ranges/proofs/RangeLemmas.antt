@@ -1,12 +1,12 @@
 -- The ids of ranges: which they are, and that they ascend.
-use Rattle.std.proofs.Common.{◌≡◌, ℕ, zero, suc, ◌+◌, ◌-◌, ◌<◌, ◌≤◌, ◌⊎◌, Bool, true, false, ◌&&◌, ◌||◌, nat_eq, nat_lt, nat_le, List, [], ◌∷◌, ◌++◌, length, get_or, take, slice_get, Some, None, refl, ap, sym, subst, ◌∙◌, inl, inr, arith, append_assoc}
+use Rattle.std.proofs.Common.{◌≡◌, ℕ, zero, suc, ◌+◌, ◌-◌, ◌<◌, ◌≤◌, ◌⊎◌, Bool, true, false, ◌&&◌, ◌||◌, nat_eq, nat_lt, nat_le, List, [], ◌∷◌, ◌++◌, length, get_or, take, slice_get, Option, Some, None, if◌then◌else◌, refl, ap, sym, subst, ◌∙◌, inl, inr, arith, append_assoc}
 use Rattle.std.specs.List.{range_with_len}
 use Rattle.std.specs.Cmp.{both_ways}
 use Rattle.std.proofs.lemmas.Bool.{false≢true, or_cases, or_left, or_right, and_parts, and_from, eq-eqb, eqb-true, le-leb, leb-true, leb-false, ltb-true, lt-ltb, cases_order, false_from_ne_true, true_from_ne_false}
 use Rattle.std.proofs.lemmas.Option.{same_Some}
 use Rattle.ql_base.specs.IdLists.{IsBelowAll, IsAscending, has_id}
 use Rattle.ql_ranges.specs.Ranges.{ids_in, ids_of, BeginAt, AreApart}
-use Rattle.ql_ranges.specs.Places.{IsPlace}
+use Rattle.ql_ranges.specs.Places.{IsPlace, IsRangeWith}
 use Rattle.ql_ranges.specs.declared.ranges.IdRange.{IdRange}
 
 -- an id is one of those from one to another
@@ -193,6 +193,26 @@ between-at ranges at from to d apart inside place low high id above below =
     has-at ranges at id d apart inside (λ k e h. (let before = place.before k e h in omega (arith, before, above))) (omega (arith, below, high))
     ∙ within-from (get_or ranges at d).from (get_or ranges at d).to id (omega (arith, low, above)) (omega (arith, below, high))
 
+-- that range, if it has the id
+pub range-at : (ranges : List IdRange) (at id : ℕ) (d range : IdRange) (found : Option IdRange) → AreApart ranges → at < length ranges → IsPlace ranges id at
+    → range ≡ get_or ranges at d → found ≡ (if within range.from range.to id then Some range else None) → IsRangeWith ranges id found
+range-at ranges at id d range found apart inside place same is =
+    subst (λ (o : Option IdRange). IsRangeWith ranges id o) (sym is) (by_test (within range.from range.to id) refl)
+  where
+    here : has_id (ids_of ranges) id ≡ within range.from range.to id
+    here =
+        has-at ranges at id d apart inside place.before (place.behind at d (omega arith) inside)
+        ∙ ap (λ (r : IdRange). within r.from r.to id) (sym same)
+
+    by_test : (t : Bool) → within range.from range.to id ≡ t → IsRangeWith ranges id (if t then Some range else None)
+    by_test true yes_ =
+        let bounds = within-parts range.from range.to id yes_ in (
+          bounds.1,
+          λ a low high. between-at ranges at id range.to d apart inside place
+              (subst (λ (r : IdRange). r.from ≤ id) same bounds.0) (subst (λ (r : IdRange). range.to ≤ r.to) same (omega arith)) a low high,
+        )
+    by_test false no_ = here ∙ no_
+
 -- from the first range on
 pub whole-first : (ranges : List IdRange) (range : IdRange) (id : ℕ) → slice_get ranges 0 ≡ Some range → range.from ≤ 1 → 1 ≤ id → id ≤ range.to → has_id (ids_of ranges) id ≡ true
 whole-first [] range id is low first last = absurd (let never : None ≡ Some range = is in cc)
@@ -226,22 +246,6 @@ has_id-take_range (range ∷ ranges) (suc k) a d inside =
     or_assoc : (p q r : Bool) → (p || (q || r)) ≡ ((p || q) || r)
     or_assoc true q r = refl
     or_assoc false q r = refl
-
-pub has_id-take : (ids : List ℕ) (k a : ℕ) → k < length ids → has_id (take (k + 1) ids) a ≡ (nat_eq (get_or ids k 0) a || has_id (take k ids) a)
-has_id-take [] k a inside = absurd (omega arith)
-has_id-take (id ∷ ids) zero a inside = refl
-has_id-take (id ∷ ids) (suc k) a inside =
-    ap (λ (n : ℕ). has_id (take n (id ∷ ids)) a) more
-    ∙ ap (λ (b : Bool). nat_eq id a || b) (has_id-take ids k a (omega arith))
-    ∙ or_swap (nat_eq id a) (nat_eq (get_or ids k 0) a) (has_id (take k ids) a)
-  where
-    more : suc k + 1 ≡ suc (k + 1)
-    more = omega arith
-
-    or_swap : (p q r : Bool) → (p || (q || r)) ≡ (q || (p || r))
-    or_swap true true r = refl
-    or_swap true false r = refl
-    or_swap false q r = refl
 
 -- ids up to one and that one too
 pub within-more : (from id a : ℕ) → from ≤ id → (nat_le from a && nat_lt a (id + 1)) ≡ (nat_eq id a || (nat_le from a && nat_lt a id))

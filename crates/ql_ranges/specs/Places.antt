@@ -1,5 +1,5 @@
 -- The index of an id among ranges, and ranges with one more id.
-use Rattle.std.specs.Prelude.{◌≡◌, ◌⊎◌, ℕ, ◌+◌, ◌-◌, ◌<◌, ◌≤◌, Bool, true, false, List, length, slice_index_or}
+use Rattle.std.specs.Prelude.{◌≡◌, ◌⊎◌, ℕ, ◌+◌, ◌-◌, ◌<◌, ◌≤◌, Bool, true, false, List, Option, Some, None, length, slice_index_or}
 use Rattle.ql_base.specs.IdLists.{has_id}
 use Rattle.ql_ranges.specs.Ranges.{ids_of, BeginAt, AreApart}
 use Rattle.ql_ranges.specs.declared.ranges.IdRange.{IdRange}
@@ -29,3 +29,8 @@ pub record Adds (ranges : List IdRange) (id : ℕ) (more : List IdRange) : Type 
 abbrev pub IsFree : List IdRange → ℕ → ℕ → Bool → Type 0
 IsFree ranges at id true = (d : IdRange) → at < length ranges → id + 2 ≤ (slice_index_or ranges at d).from
 IsFree ranges at id false = (at < length ranges) × ((d : IdRange) → (slice_index_or ranges at d).from ≤ id + 1)
+
+-- a range that has all ids from one to its own end, or none if no range has that one
+abbrev pub IsRangeWith : List IdRange → ℕ → Option IdRange → Type 0
+IsRangeWith ranges id None = has_id (ids_of ranges) id ≡ false
+IsRangeWith ranges id (Some range) = (id ≤ range.to) × ((a : ℕ) → id ≤ a → a ≤ range.to → has_id (ids_of ranges) a ≡ true)

@@ -1,8 +1,8 @@
-ghost use Rattle.std.specs.Prelude.{◌≡◌, ◌↔◌, ◌+◌, ◌<◌, ◌≤◌, ◌&&◌, ◌||◌, ℕ, [], IsTrue, true, nat_le, nat_lt, length, slice_index_or, IfOk, OnOk, OnErr};
+ghost use Rattle.std.specs.Prelude.{◌≡◌, ◌↔◌, ◌+◌, ◌<◌, ◌≤◌, ◌&&◌, ◌||◌, ℕ, [], IsTrue, true, false, nat_le, nat_lt, length, slice_index, slice_index_or, Some, None, if◌then◌else◌, IfOk, OnOk, OnErr};
 ghost use Rattle.ql_base.specs.IdLists.{IsAscending, has_id, with_id, union_of};
 ghost use Rattle.ql_ranges.specs.Ranges.{ids_of, AreApart};
 ghost use Rattle.ql_needs.specs.Closed.{Has};
-ghost use Rattle.ql_ranges.specs.Places.{Adds, IsBetween, IsFree, IsPlace};
+ghost use Rattle.ql_ranges.specs.Places.{Adds, IsBetween, IsFree, IsPlace, IsRangeWith};
 ghost use Rattle.ql_ranges.specs.declared.ranges.IdRange.{IdRange};
 
 use ql_base::{IdSet, NoMemory};
@@ -65,7 +65,8 @@ impl Ranges {
     /// Whether the set has all ids from one to another, in the time of one lookup.
     pub fn has_all(&self, from: u32, to: u32) -> bool
         requires { from ≤ to }
-        ensures { IsTrue result ↔ ((id : ℕ) → from ≤ id → id ≤ to → has_id (ids_of self.now) id ≡ true) }
+        ensures { IsTrue result
+            ↔ ((id : ℕ) → from ≤ id → id ≤ to → has_id (ids_of self.now) id ≡ true) }
     {
         has_all_in(&self.ranges, from, to)
     }
@@ -73,10 +74,25 @@ impl Ranges {
     /// Whether the set has all ids from the first to the last of these, in the time of one lookup; then it has these.
     pub fn spans(&self, ids: &[u32]) -> bool
         requires { IsAscending ids.now }
-        ensures exact { IsTrue result ↔ ((id : ℕ) → IsBetween ids.now id → has_id (ids_of self.now) id ≡ true) }
+        ensures exact { IsTrue result
+            ↔ ((id : ℕ) → IsBetween ids.now id → has_id (ids_of self.now) id ≡ true) }
         ensures each { IsTrue result → (id : ℕ) → Has ids.now id → Has (ids_of self.now) id }
     {
         ids.is_empty() || self.has_all(ids[0], ids[ids.len() - 1])
+    }
+
+    /// The number of ids at the front that the set has.
+    ///
+    /// Looks up one id for each range that these are in, and the first that the set lacks.
+    pub fn leading(&self, ids: &[u32]) -> usize
+        requires { IsAscending ids.now }
+        ensures bound { result ≤ length ids.now }
+        ensures has { (k : ℕ) → k < result
+            → has_id (ids_of self.now) (slice_index ids.now k) ≡ true }
+        ensures end { result < length ids.now
+            → has_id (ids_of self.now) (slice_index ids.now result) ≡ false }
+    {
+        leading_in(&self.ranges, ids)
     }
 
     /// An id such that the set has all from 1 to it; 0 if 1 is missing.
@@ -153,12 +169,76 @@ fn has_in(ranges: &[IdRange], id: u32) -> bool
 fn has_all_in(ranges: &[IdRange], from: u32, to: u32) -> bool
     requires apart { AreApart ranges.now }
     requires order { from ≤ to }
-    ensures { IsTrue result ↔ ((id : ℕ) → from ≤ id → id ≤ to → has_id (ids_of ranges.now) id ≡ true) }
+    ensures { IsTrue result
+        ↔ ((id : ℕ) → from ≤ id → id ≤ to → has_id (ids_of ranges.now) id ≡ true) }
 {
     match ranges.get(place_of(ranges, from)) {
         Some(range) => range.from <= from && to <= range.to,
         None => false,
     }
+}
+
+// The number of ids at the front that are in the ranges.
+fn leading_in(ranges: &[IdRange], ids: &[u32]) -> usize
+    requires apart { AreApart ranges.now }
+    requires ascending { IsAscending ids.now }
+    ensures bound { result ≤ length ids.now }
+    ensures has { (k : ℕ) → k < result → has_id (ids_of ranges.now) (slice_index ids.now k) ≡ true }
+    ensures end { result < length ids.now
+        → has_id (ids_of ranges.now) (slice_index ids.now result) ≡ false }
+{
+    let mut count = 0;
+    while count < ids.len() {
+        match range_with(ranges, ids[count]) {
+            Some(range) => count = first_above(ids, count + 1, range.to),
+            None => return count,
+        }
+    }
+    count
+}
+
+// The range that an id is in.
+fn range_with(ranges: &[IdRange], id: u32) -> Option<IdRange>
+    requires { AreApart ranges.now }
+    ensures { IsRangeWith ranges.now id result }
+{
+    match ranges.get(place_of(ranges, id)) {
+        Some(range) => only_with(*range, id),
+        None => None,
+    }
+}
+
+fn only_with(range: IdRange, id: u32) -> Option<IdRange>
+    ensures { result ≡ (if (nat_le range.from id && nat_le id range.to) then Some range else None) }
+{
+    if covers(range, id) { Some(range) } else { None }
+}
+
+// The first index from one on at which there is no id up to the bound. The first one is tried before a search.
+fn first_above(ids: &[u32], from: usize, bound: u32) -> usize
+    requires ascending { IsAscending ids.now }
+    requires inside { from ≤ length ids.now }
+    ensures order { from ≤ result }
+    ensures last { result ≤ length ids.now }
+    ensures each { (k : ℕ) → from ≤ k → k < result → slice_index ids.now k ≤ bound }
+    ensures above { result < length ids.now → bound < slice_index ids.now result }
+{
+    if from < ids.len() && ids[from] <= bound {
+        search_above(ids, from, bound)
+    } else {
+        from
+    }
+}
+
+fn search_above(ids: &[u32], from: usize, bound: u32) -> usize
+    requires ascending { IsAscending ids.now }
+    requires inside { from ≤ length ids.now }
+    ensures order { from ≤ result }
+    ensures last { result ≤ length ids.now }
+    ensures each { (k : ℕ) → from ≤ k → k < result → slice_index ids.now k ≤ bound }
+    ensures above { result < length ids.now → bound < slice_index ids.now result }
+{
+    from + ids[from..].partition_point(|id| *id <= bound)
 }
 
 fn covers(range: IdRange, id: u32) -> bool
@@ -240,7 +320,8 @@ fn raise(ranges: &mut Vec<IdRange>, at: usize, id: u32)
 fn insert_each(set: &mut Ranges, ids: &[u32]) -> Result<(), NoMemory>
     requires { IsAscending (ids_of set.old) }
     ensures ascending { IsAscending (ids_of set.new) }
-    ensures added { OnOk result ((a : ℕ) → has_id (ids_of set.new) a ≡ (has_id (ids_of set.old) a || has_id ids.now a)) }
+    ensures added { OnOk result
+        ((a : ℕ) → has_id (ids_of set.new) a ≡ (has_id (ids_of set.old) a || has_id ids.now a)) }
 {
     for id in ids {
         set.insert(*id)?;
@@ -264,7 +345,9 @@ fn push_range(ids: &mut IdSet, range: IdRange) -> Result<(), NoMemory>
     requires ascending { IsAscending ids.old }
     requires some { range.from ≤ range.to }
     ensures ascending { IsAscending ids.new }
-    ensures added { OnOk result ((a : ℕ) → has_id ids.new a ≡ (has_id ids.old a || (nat_le range.from a && nat_le a range.to))) }
+    ensures added { OnOk result
+        ((a : ℕ) → has_id ids.new a
+        ≡ (has_id ids.old a || (nat_le range.from a && nat_le a range.to))) }
 {
     for id in range.from..=range.to {
         ids.insert(id)?;

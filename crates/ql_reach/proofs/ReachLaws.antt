@@ -11,7 +11,8 @@ use Rattle.ql_needs.proofs.Packages.{sametxn-back, sametxn-along, needed-there}
 use Rattle.ql_reach.specs.Reach.{InEither, IsReach}
 use Rattle.ql_reach.specs.Walks.{IsWalk, Visited, MetBefore, met_before, known_before, MetBelow, met_below, none_below, MetAbove, met_above, none_above}
 use Rattle.ql_reach.proofs.NeighbourLaws.{soo_parts, soo_from, soo-need, txn-need}
-use Rattle.ql_reach.proofs.WalkLaws.{few, has_id-index, either-more}
+use Rattle.ql_needs.proofs.Members.{has_id-index}
+use Rattle.ql_reach.proofs.WalkLaws.{few, either-more}
 
 -- ---- what is met stays met
 

@@ -1,6 +1,8 @@
 -- How a walk goes on.
-use Rattle.std.proofs.Common.{◌≡◌, ℕ, zero, suc, ◌+◌, ◌<◌, ◌≤◌, Bool, true, false, ◌||◌, nat_eq, List, [], ◌∷◌, ◌++◌, length, get_or, take, Result, Ok, Err, OnOk, refl, ap, sym, subst, ◌∙◌, inl, inr, arith, length-append}
+use Rattle.std.proofs.Common.{◌≡◌, ℕ, suc, ◌+◌, ◌<◌, ◌≤◌, Bool, true, false, ◌||◌, nat_eq, List, [], ◌∷◌, ◌++◌, length, get_or, take, drop, Result, Ok, Err, OnOk, refl, ap, sym, subst, ◌∙◌, inl, inr, arith, length-append}
 use Rattle.std.proofs.lemmas.Bool.{false≢true, or_cases, or_left, or_right, eq-eqb, eqb-true, cases_Bool, both_ways, cases_lt, lt-ltb}
+use Rattle.std.proofs.Math.Seq.{take-add}
+use Rattle.std.proofs.lemmas.List.{get_or-take, length-take-le}
 use Rattle.ql_base.specs.IdLists.{IsBelowAll, IsAscending, has_id, with_id}
 use Rattle.ql_base.proofs.IdLemmas.{IsAscending-with_id, with_id-later}
 use Rattle.ql_exec.specs.declared.effect.Effect.{Effect}
@@ -8,8 +10,9 @@ use Rattle.ql_needs.specs.Closed.{Has}
 use Rattle.ql_needs.specs.Needs.{Needs}
 use Rattle.ql_needs.proofs.IdSets.{has_id-with}
 use Rattle.ql_needs.proofs.Packages.{needed-need}
+use Rattle.ql_needs.proofs.Members.{has_id-push, has_id-index, get_or-front, get_or-end}
 use Rattle.ql_reach.specs.Reach.{InEither}
-use Rattle.ql_reach.specs.Walks.{IsWalk, Grows, Meets, GoesOn}
+use Rattle.ql_reach.specs.Walks.{IsWalk, Grows, Meets, MeetsLeading, GoesOn}
 
 -- ---- lists
 
@@ -27,38 +30,6 @@ few (id ∷ ids) low high ascending order within =
       | inl same ↦ (let e = eqb-true other a same in let less : id < other = below.0 in omega (arith, e, less))
       | inr later ↦ above others below.1 a later
     ]
-
-pub has_id-push : (ids : List ℕ) (id a : ℕ) → has_id (ids ++ id ∷ []) a ≡ (nat_eq id a || has_id ids a)
-has_id-push [] id a = refl
-has_id-push (other ∷ ids) id a = ap (λ (b : Bool). nat_eq other a || b) (has_id-push ids id a) ∙ swap (nat_eq other a) (nat_eq id a) (has_id ids a)
-  where
-    swap : (p q r : Bool) → (p || (q || r)) ≡ (q || (p || r))
-    swap true true r = refl
-    swap true false r = refl
-    swap false q r = refl
-
-pub has_id-index : (ids : List ℕ) (a : ℕ) → Has ids a → (k : ℕ) × (k < length ids) × (get_or ids k 0 ≡ a)
-has_id-index [] a is = absurd (false≢true is)
-has_id-index (id ∷ ids) a is = elim (or_cases (nat_eq id a) (has_id ids a) is) [
-  | inl here ↦ (0, omega arith, eqb-true id a here)
-  | inr later ↦ (let found = has_id-index ids a later in let inside = found.1 in (suc found.0, omega (arith, inside), found.2))
-]
-
-pub index-has : (ids : List ℕ) (k : ℕ) → k < length ids → Has ids (get_or ids k 0)
-index-has [] k inside = absurd (omega arith)
-index-has (id ∷ ids) zero inside = or_left (nat_eq id id) (has_id ids id) (eq-eqb id id refl)
-index-has (id ∷ ids) (suc k) inside = or_right (nat_eq id (get_or ids k 0)) (has_id ids (get_or ids k 0)) (index-has ids k (omega arith))
-
-get_or-front : (ids : List ℕ) (id k : ℕ) → k < length ids → get_or (ids ++ id ∷ []) k 0 ≡ get_or ids k 0
-get_or-front [] id k inside = absurd (omega arith)
-get_or-front (other ∷ ids) id zero inside = refl
-get_or-front (other ∷ ids) id (suc k) inside = get_or-front ids id k (omega arith)
-
-get_or-end : (ids : List ℕ) (id k : ℕ) → k ≡ length ids → get_or (ids ++ id ∷ []) k 0 ≡ id
-get_or-end [] id zero is = refl
-get_or-end [] id (suc k) is = absurd (omega arith)
-get_or-end (other ∷ ids) id zero is = absurd (omega arith)
-get_or-end (other ∷ ids) id (suc k) is = get_or-end ids id k (omega arith)
 
 length-with_new : (ids : List ℕ) (id : ℕ) → has_id ids id ≡ false → length (with_id ids id) ≡ suc (length ids)
 length-with_new [] id new = refl
@@ -148,35 +119,47 @@ meets-new known found due more later id new more_is later_is =
           (has_id-with found id id ∙ or_left (nat_eq id id) (has_id found id) (eq-eqb id id refl))
     ]
 
--- ids and one more
-pub meets-more : (known ids found due more later last end : List ℕ) (k : ℕ) → k < length ids
-    → Meets known (take k ids) found due more later → Meets known (get_or ids k 0 ∷ []) more later last end → Meets known (take (k + 1) ids) found due last end
-meets-more known ids found due more later last end k inside one two = record {
-  grows = grows-along found due more later last end one.grows two.grows;
-  met = λ a is. elim (or_cases (nat_eq (get_or ids k 0) a) (has_id (take k ids) a) (sym (has_id-take ids k a inside) ∙ is)) [
-    | inl here ↦ two.met a (or_left (nat_eq (get_or ids k 0) a) false here)
-    | inr old ↦ either-more known more last two.grows.finds a (one.met a old)
+-- ids, all of which are there
+pub meets-there : (known found due ids : List ℕ) (count : ℕ) → 0 < count → count ≤ length ids → ((k : ℕ) → k < count → InEither known found (get_or ids k 0))
+    → MeetsLeading known ids count found due found due
+meets-there known found due ids count some bound there = record {
+  some = some;
+  bound = bound;
+  meets = meets-nothing known (take count ids) found due (λ a has.
+      let at = has_id-index (take count ids) a has in
+      let inside : at.0 < count = (let within = at.1 in omega (arith, within, length-take-le count ids bound)) in
+      subst (λ (b : ℕ). InEither known found b) (sym (get_or-take count ids at.0 0 inside) ∙ at.2) (there at.0 inside));
+}
+
+-- a new id at the front
+pub meets-first : (known found due more later ids : List ℕ) → 0 < length ids → Meets known (get_or ids 0 0 ∷ []) found due more later → MeetsLeading known ids 1 found due more later
+meets-first known found due more later [] some m = absurd (omega arith)
+meets-first known found due more later (id ∷ ids) some m = record { some = omega arith; bound = omega arith; meets = m }
+
+-- ids and more after them
+has_id-append : (xs ys : List ℕ) (a : ℕ) → has_id (xs ++ ys) a ≡ (has_id xs a || has_id ys a)
+has_id-append [] ys a = refl
+has_id-append (x ∷ xs) ys a = ap (λ (b : Bool). nat_eq x a || b) (has_id-append xs ys a) ∙ or_assoc (nat_eq x a) (has_id xs a) (has_id ys a)
+  where
+    or_assoc : (p q r : Bool) → (p || (q || r)) ≡ ((p || q) || r)
+    or_assoc true q r = refl
+    or_assoc false q r = refl
+
+has_id-take_more : (ids : List ℕ) (k n a : ℕ) → has_id (take (k + n) ids) a ≡ (has_id (take k ids) a || has_id (take n (drop k ids)) a)
+has_id-take_more ids k n a = ap (λ (l : List ℕ). has_id l a) (take-add k n ids) ∙ has_id-append (take k ids) (take n (drop k ids)) a
+
+pub meets-more : (known ids found due more later last end : List ℕ) (k n : ℕ)
+    → Meets known (take k ids) found due more later → MeetsLeading known (drop k ids) n more later last end → Meets known (take (k + n) ids) found due last end
+meets-more known ids found due more later last end k n one two = record {
+  grows = grows-along found due more later last end one.grows two.meets.grows;
+  met = λ a is. elim (or_cases (has_id (take k ids) a) (has_id (take n (drop k ids)) a) (sym (has_id-take_more ids k n a) ∙ is)) [
+    | inl old ↦ either-more known more last two.meets.grows.finds a (one.met a old)
+    | inr new ↦ two.meets.met a new
   ];
   walk = λ x asked needed w.
-      two.walk x asked (λ a is. needed a (has_id-take ids k a inside ∙ or_left (nat_eq (get_or ids k 0) a) (has_id (take k ids) a) (eq-eqb (get_or ids k 0) a (one_id (get_or ids k 0) a is))))
-      (one.walk x asked (λ a is. needed a (has_id-take ids k a inside ∙ or_right (nat_eq (get_or ids k 0) a) (has_id (take k ids) a) is)) w);
+      two.meets.walk x asked (λ a is. needed a (has_id-take_more ids k n a ∙ or_right (has_id (take k ids) a) (has_id (take n (drop k ids)) a) is))
+      (one.walk x asked (λ a is. needed a (has_id-take_more ids k n a ∙ or_left (has_id (take k ids) a) (has_id (take n (drop k ids)) a) is)) w);
 }
-  where
-    next : (n : ℕ) → suc n + 1 ≡ suc (n + 1)
-    next n = omega arith
-
-    swap : (p q r : Bool) → (p || (q || r)) ≡ (q || (p || r))
-    swap true true r = refl
-    swap true false r = refl
-    swap false q r = refl
-
-    has_id-take : (xs : List ℕ) (n b : ℕ) → n < length xs → has_id (take (n + 1) xs) b ≡ (nat_eq (get_or xs n 0) b || has_id (take n xs) b)
-    has_id-take [] n b within = absurd (omega arith)
-    has_id-take (id ∷ xs) zero b within = refl
-    has_id-take (id ∷ xs) (suc n) b within =
-        ap (λ (m : ℕ). has_id (take m (id ∷ xs)) b) (next n)
-        ∙ ap (λ (t : Bool). nat_eq id b || t) (has_id-take xs n b (omega arith))
-        ∙ swap (nat_eq id b) (nat_eq (get_or xs n 0) b) (has_id (take n xs) b)
 
 -- ---- with what an effect needs
 

@@ -1,5 +1,5 @@
 -- A walk: the ids that it found, in ascending order, and the same ids in the order in which they are visited.
-use Rattle.std.specs.Prelude.{◌≡◌, ◌⊎◌, ℕ, ◌<◌, ◌≤◌, true, List, length, slice_index, Some, None}
+use Rattle.std.specs.Prelude.{◌≡◌, ◌⊎◌, ℕ, ◌<◌, ◌≤◌, true, List, length, slice_index, take, Some, None}
 use Rattle.ql_base.specs.IdLists.{IsAscending, has_id}
 use Rattle.ql_exec.specs.declared.effect.Effect.{Effect}
 use Rattle.ql_exec.specs.Relations.{vis, soo}
@@ -26,6 +26,12 @@ pub record Meets (known ids found due more later : List ℕ) : Type 0 where
   pub grows : Grows found due more later
   pub met : (a : ℕ) → Has ids a → InEither known more a
   pub walk : (x : List Effect) (asked : List ℕ) → ((a : ℕ) → Has ids a → IsNeeded x asked a) → IsWalk x asked found due → IsWalk x asked more later
+
+-- it continues with so many ids at the front of a list, at least one
+pub record MeetsLeading (known ids : List ℕ) (count : ℕ) (found due more later : List ℕ) : Type 0 where
+  pub some : 0 < count
+  pub bound : count ≤ length ids
+  pub meets : Meets known (take count ids) found due more later
 
 -- it continues with what an effect needs
 pub record GoesOn (x : List Effect) (e : ℕ) (found due more later : List ℕ) : Type 0 where

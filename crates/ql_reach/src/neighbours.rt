@@ -5,6 +5,7 @@ ghost use Rattle.ql_exec.specs.Relations.{same_run};
 ghost use Rattle.ql_reach.specs.Searches.{IsAlone, IsLastOnObject, IsLastInSession, IsNextInSession, IsMemberBelow, IsMemberAbove};
 
 use ql_exec::{Effect, Member};
+use ql_needs::is_same_run;
 
 /// The effect with this id.
 pub(crate) fn effect(effects: &[Effect], id: u32) -> &Effect
@@ -32,7 +33,8 @@ pub(crate) fn last_on_object(effects: &[Effect], e: u32, stop: u32) -> Option<u3
 }
 
 fn share_session_and_object(a: &Effect, b: &Effect) -> bool
-    ensures { result ≡ (nat_eq a.now.session.0 b.now.session.0 && nat_eq a.now.object.0 b.now.object.0) }
+    ensures { result ≡ (nat_eq a.now.session.0 b.now.session.0
+        && nat_eq a.now.object.0 b.now.object.0) }
 {
     a.session.0 == b.session.0 && a.object.0 == b.object.0
 }
@@ -119,20 +121,13 @@ fn only_in_txn(effects: &[Effect], e: u32, other: u32) -> Option<u32>
     requires last { e ≤ length effects.now }
     requires other_first { 1 ≤ other }
     requires other_last { other ≤ length effects.now }
-    ensures { result ≡ (if both (λ f g. same_run f.member g.member) (effect_at effects.now e) (effect_at effects.now other) then Some other else None) }
+    ensures { result ≡ (if both
+        (λ f g. same_run f.member g.member) (effect_at effects.now e)
+        (effect_at effects.now other) then Some other else None) }
 {
     if is_same_run(effect(effects, e).member, effect(effects, other).member) {
         Some(other)
     } else {
         None
-    }
-}
-
-fn is_same_run(member: Member, other: Member) -> bool
-    ensures { result ≡ same_run member other }
-{
-    match (member, other) {
-        (Member::Inside(run, _), Member::Inside(other_run, _)) => run.0 == other_run.0,
-        _ => false,
     }
 }

@@ -1,12 +1,12 @@
-ghost use Rattle.std.specs.Prelude.{◌≡◌, ◌≤◌, ◌<◌, ◌^◌, ◌∷◌, ℕ, List, [], length, IfOk, OnOk};
-ghost use Rattle.ql_base.specs.IdLists.{IsAscending};
+ghost use Rattle.std.specs.Prelude.{◌≡◌, ◌≤◌, ◌<◌, ◌^◌, ◌∷◌, ℕ, List, [], false, length, slice_index, IfOk, OnOk};
+ghost use Rattle.ql_base.specs.IdLists.{IsAscending, has_id};
 ghost use Rattle.ql_exec.specs.declared.effect.Effect.{Effect};
 ghost use Rattle.ql_exec.specs.Execution.{IsExecution};
 ghost use Rattle.ql_needs.specs.Closed.{Has};
 ghost use Rattle.ql_needs.specs.Needs.{AreWhole, Needs};
 ghost use Rattle.ql_ranges.specs.Ranges.{ids_of};
 ghost use Rattle.ql_reach.specs.Reach.{InEither, IsReach};
-ghost use Rattle.ql_reach.specs.Walks.{GoesOn, IsWalk, Meets, MetAbove, MetBefore, MetBelow, Visited};
+ghost use Rattle.ql_reach.specs.Walks.{GoesOn, IsWalk, Meets, MeetsLeading, MetAbove, MetBefore, MetBelow, Visited};
 
 use crate::neighbours::{effect, last_on_object, member_above, member_below};
 use ql_base::{IdSet, NoMemory};
@@ -18,11 +18,12 @@ use std::alloc::Global;
 /// only. The effects asked for are whole transactions, and the known ones have all that they need.
 ///
 /// The time is in proportion to what is found and what that sees, and to the way back from each effect to
-/// the effect before it in its session on its object. If an effect sees only ids that were found, with all
-/// ids between them, these take no time.
+/// the effect before it in its session on its object. Known ids that an effect sees take one lookup together if
+/// all ids between them are known, and so do ids that were found.
 pub fn reach(alloc: Global, x: &Execution, asked: &IdSet, known: &Ranges) -> Result<IdSet, NoMemory>
     requires asked { AreWhole x.now asked.now }
-    requires known { (a b : ℕ) → Has (ids_of known.now) a → Needs x.now a b → Has (ids_of known.now) b }
+    requires known { (a b : ℕ) → Has (ids_of known.now) a → Needs x.now a b
+        → Has (ids_of known.now) b }
     ensures { IfOk result (λ found. IsReach x.now asked.now (ids_of known.now) found) }
 {
     let mut walk = begin(alloc, asked, known)?;
@@ -31,8 +32,10 @@ pub fn reach(alloc: Global, x: &Execution, asked: &IdSet, known: &Ranges) -> Res
 }
 
 fn begin(alloc: Global, asked: &IdSet, known: &Ranges) -> Result<Walk, NoMemory>
-    ensures walk { IfOk result (λ walk. (x : List Effect) → IsWalk x asked.now (ids_of walk.found) walk.due.items) }
-    ensures begins { IfOk result (λ walk. (a : ℕ) → Has asked.now a → InEither (ids_of known.now) (ids_of walk.found) a) }
+    ensures walk { IfOk result
+        (λ walk. (x : List Effect) → IsWalk x asked.now (ids_of walk.found) walk.due.items) }
+    ensures begins { IfOk result
+        (λ walk. (a : ℕ) → Has asked.now a → InEither (ids_of known.now) (ids_of walk.found) a) }
 {
     let mut walk = Walk {
         found: Ranges::new(alloc),
@@ -58,10 +61,13 @@ fn visit_all(
     requires law { IsExecution effects.now }
     requires few { length effects.now < 2 ^ 32 }
     requires asked { AreWhole effects.now asked.now }
-    requires known { (a b : ℕ) → Has (ids_of known.now) a → Needs effects.now a b → Has (ids_of known.now) b }
+    requires known { (a b : ℕ) → Has (ids_of known.now) a → Needs effects.now a b
+        → Has (ids_of known.now) b }
     requires walk { IsWalk effects.now asked.now (ids_of walk.old.found) walk.old.due.items }
-    requires begins { (a : ℕ) → Has asked.now a → InEither (ids_of known.now) (ids_of walk.old.found) a }
-    ensures { OnOk result (IsReach effects.now asked.now (ids_of known.now) (ids_of walk.new.found)) }
+    requires begins { (a : ℕ) → Has asked.now a
+        → InEither (ids_of known.now) (ids_of walk.old.found) a }
+    ensures { OnOk result
+        (IsReach effects.now asked.now (ids_of known.now) (ids_of walk.new.found)) }
 {
     let mut visited = 0;
     while visited < walk.due.len() {
@@ -84,8 +90,11 @@ fn visit(
     requires few { length effects.now < 2 ^ 32 }
     requires first { 1 ≤ e }
     requires last { e ≤ length effects.now }
-    ensures on { OnOk result (GoesOn effects.now e (ids_of walk.old.found) walk.old.due.items (ids_of walk.new.found) walk.new.due.items) }
-    ensures visited { OnOk result (Visited effects.now asked.now (ids_of known.now) (ids_of walk.new.found) e) }
+    ensures on { OnOk result
+        (GoesOn effects.now e (ids_of walk.old.found) walk.old.due.items (ids_of walk.new.found)
+        walk.new.due.items) }
+    ensures visited { OnOk result
+        (Visited effects.now asked.now (ids_of known.now) (ids_of walk.new.found) e) }
 {
     meet_each(known, walk, effect(effects, e).seen.items())?;
     meet_before(effects, known, walk, e)?;
@@ -101,7 +110,9 @@ fn meet_before(effects: &[Effect], known: &Ranges, walk: &mut Walk, e: u32) -> R
     requires few { length effects.now < 2 ^ 32 }
     requires first { 1 ≤ e }
     requires last { e ≤ length effects.now }
-    ensures on { OnOk result (GoesOn effects.now e (ids_of walk.old.found) walk.old.due.items (ids_of walk.new.found) walk.new.due.items) }
+    ensures on { OnOk result
+        (GoesOn effects.now e (ids_of walk.old.found) walk.old.due.items (ids_of walk.new.found)
+        walk.new.due.items) }
     ensures met { OnOk result (MetBefore effects.now (ids_of known.now) (ids_of walk.new.found) e) }
 {
     match last_on_object(effects, e, known.whole_to()) {
@@ -115,7 +126,9 @@ fn meet_below(effects: &[Effect], known: &Ranges, walk: &mut Walk, e: u32) -> Re
     requires few { length effects.now < 2 ^ 32 }
     requires first { 1 ≤ e }
     requires last { e ≤ length effects.now }
-    ensures on { OnOk result (GoesOn effects.now e (ids_of walk.old.found) walk.old.due.items (ids_of walk.new.found) walk.new.due.items) }
+    ensures on { OnOk result
+        (GoesOn effects.now e (ids_of walk.old.found) walk.old.due.items (ids_of walk.new.found)
+        walk.new.due.items) }
     ensures met { OnOk result (MetBelow effects.now (ids_of known.now) (ids_of walk.new.found) e) }
 {
     match member_below(effects, e) {
@@ -129,7 +142,9 @@ fn meet_above(effects: &[Effect], known: &Ranges, walk: &mut Walk, e: u32) -> Re
     requires few { length effects.now < 2 ^ 32 }
     requires first { 1 ≤ e }
     requires last { e ≤ length effects.now }
-    ensures on { OnOk result (GoesOn effects.now e (ids_of walk.old.found) walk.old.due.items (ids_of walk.new.found) walk.new.due.items) }
+    ensures on { OnOk result
+        (GoesOn effects.now e (ids_of walk.old.found) walk.old.due.items (ids_of walk.new.found)
+        walk.new.due.items) }
     ensures met { OnOk result (MetAbove effects.now (ids_of known.now) (ids_of walk.new.found) e) }
 {
     match member_above(effects, e) {
@@ -140,26 +155,52 @@ fn meet_above(effects: &[Effect], known: &Ranges, walk: &mut Walk, e: u32) -> Re
 
 fn meet_each(known: &Ranges, walk: &mut Walk, ids: &[u32]) -> Result<(), NoMemory>
     requires { IsAscending ids.now }
-    ensures { OnOk result (Meets (ids_of known.now) ids.now (ids_of walk.old.found) walk.old.due.items (ids_of walk.new.found) walk.new.due.items) }
+    ensures { OnOk result
+        (Meets (ids_of known.now) ids.now (ids_of walk.old.found) walk.old.due.items
+        (ids_of walk.new.found) walk.new.due.items) }
 {
-    if walk.found.spans(ids) {
-        return Ok(());
-    }
-    meet_one_by_one(known, walk, ids)
-}
-
-fn meet_one_by_one(known: &Ranges, walk: &mut Walk, ids: &[u32]) -> Result<(), NoMemory>
-    ensures { OnOk result (Meets (ids_of known.now) ids.now (ids_of walk.old.found) walk.old.due.items (ids_of walk.new.found) walk.new.due.items) }
-{
-    for id in ids {
-        meet(known, walk, *id)?;
+    let mut met = 0;
+    while met < ids.len() {
+        met += meet_leading(known, walk, &ids[met..])?;
     }
     Ok(())
 }
 
+// Meets the ids at the front that are known, or those that were found, or the first one, and returns how many.
+fn meet_leading(known: &Ranges, walk: &mut Walk, ids: &[u32]) -> Result<usize, NoMemory>
+    requires ascending { IsAscending ids.now }
+    requires some { 0 < length ids.now }
+    ensures { IfOk result
+        (λ count. MeetsLeading (ids_of known.now) ids.now count (ids_of walk.old.found)
+        walk.old.due.items (ids_of walk.new.found) walk.new.due.items) }
+{
+    let count = there(known, &walk.found, ids);
+    if count > 0 {
+        return Ok(count);
+    }
+    walk.found.insert(ids[0])?;
+    walk.due.push(ids[0])?;
+    Ok(1)
+}
+
+// How many of the ids at the front are known, or were found if the first isn't known.
+fn there(known: &Ranges, found: &Ranges, ids: &[u32]) -> usize
+    requires ascending { IsAscending ids.now }
+    requires some { 0 < length ids.now }
+    ensures bound { result ≤ length ids.now }
+    ensures there { (k : ℕ) → k < result
+        → InEither (ids_of known.now) (ids_of found.now) (slice_index ids.now k) }
+    ensures new { result ≡ 0 → has_id (ids_of found.now) (slice_index ids.now 0) ≡ false }
+{
+    let count = known.leading(ids);
+    if count > 0 { count } else { found.leading(ids) }
+}
+
 // Adds an effect, unless it is known or was found before.
 fn meet(known: &Ranges, walk: &mut Walk, id: u32) -> Result<(), NoMemory>
-    ensures { OnOk result (Meets (ids_of known.now) (id ∷ []) (ids_of walk.old.found) walk.old.due.items (ids_of walk.new.found) walk.new.due.items) }
+    ensures { OnOk result
+        (Meets (ids_of known.now) (id ∷ []) (ids_of walk.old.found) walk.old.due.items
+        (ids_of walk.new.found) walk.new.due.items) }
 {
     if !known.has(id) && !walk.found.has(id) {
         walk.found.insert(id)?;

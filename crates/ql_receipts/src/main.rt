@@ -8,10 +8,10 @@ mod receiving;
 use chain::chain;
 use ql_base::NoMemory;
 use ql_replica::Replica;
+use ql_reply::words;
 use receiving::digest;
 use std::alloc::Global;
-use std::env::Env;
-use std::{env, io};
+use std::io;
 
 fn main(rt: HostRuntime) -> io::Result<()> {
     let words = words(&rt)?;
@@ -21,12 +21,6 @@ fn main(rt: HostRuntime) -> io::Result<()> {
         Err(NoMemory) => println!(rt; "no memory")?,
     }
     Ok(())
-}
-
-// The arguments of the command line, without the program's own name.
-fn words<R: Env + AllocGlobal>(rt: &R) -> io::Result<Vec<String>> {
-    let words = env::args(rt)?.skip(1).collect::<Vec<String>>(rt.alloc())?;
-    Ok(words)
 }
 
 fn answers(alloc: Global, in_reverse: bool) -> Result<u64, NoMemory> {

@@ -90,9 +90,12 @@ fn line_fault(c: &Clauses, earlier: &[Line], line: &Line, marks: &mut [u8]) -> O
 fn hints_fault(c: &Clauses, earlier: &[Line], line: &Line, marks: &mut [u8]) -> Option<Verdict>
     requires room { c.now.variables < length marks.old }
     requires in_range { LinesInRange c.now.variables earlier.now }
-    requires only { OnlyMarks marks.old (line.now.clause ++ hinted_literals c.now earlier.now line.now.hints) }
-    ensures fault { result ≡ hints_fault c.now earlier.now (length earlier.now + 1) line.now.hints (marked marks.old) }
-    ensures only { OnlyMarks marks.new (line.now.clause ++ hinted_literals c.now earlier.now line.now.hints) }
+    requires only { OnlyMarks marks.old
+        (line.now.clause ++ hinted_literals c.now earlier.now line.now.hints) }
+    ensures fault { result
+        ≡ hints_fault c.now earlier.now (length earlier.now + 1) line.now.hints (marked marks.old) }
+    ensures only { OnlyMarks marks.new
+        (line.now.clause ++ hinted_literals c.now earlier.now line.now.hints) }
 {
     let number = earlier.len() as u64 + 1;
     for hint in line.hints.items() {
@@ -135,7 +138,8 @@ fn undo(c: &Clauses, earlier: &[Line], line: &Line, marks: &mut [u8])
     requires room { c.now.variables < length marks.old }
     requires in_range { LinesInRange c.now.variables earlier.now }
     requires line_in_range { AreInRange c.now.variables line.now.clause }
-    requires only { OnlyMarks marks.old (line.now.clause ++ hinted_literals c.now earlier.now line.now.hints) }
+    requires only { OnlyMarks marks.old
+        (line.now.clause ++ hinted_literals c.now earlier.now line.now.hints) }
     ensures { IsClear marks.new }
 {
     unmark(line.clause.items(), marks);

@@ -1,5 +1,5 @@
 -- A receipt: what is walked, what is settled, and that what is kept is right behind it.
-use Rattle.std.proofs.Common.{◌≡◌, ℕ, zero, suc, ◌+◌, ◌<◌, ◌≤◌, ◌⊎◌, Bool, true, false, cond, ◌||◌, ◌&&◌, not, nat_eq, List, [], ◌∷◌, ◌++◌, length, length-append, get_or, take, Option, Some, None, IfSome, refl, ap, sym, subst, ◌∙◌, inl, inr, arith}
+use Rattle.std.proofs.Common.{◌≡◌, ℕ, zero, suc, ◌+◌, ◌<◌, ◌≤◌, ◌⊎◌, Bool, true, false, cond, ◌||◌, ◌&&◌, not, nat_eq, List, [], ◌∷◌, ◌++◌, length, length-append, get_or, Option, Some, None, IfSome, refl, ap, sym, subst, ◌∙◌, inl, inr, arith}
 use Rattle.std.proofs.lemmas.Option.{same_Some}
 use Rattle.std.proofs.lemmas.Bool.{false≢true, or_cases, or_left, or_right, eq-eqb, eqb-true, cases_Bool, cases_lt, cases_eq, and_parts, and_from, both_ways, false_from_ne_true}
 use Rattle.ql_base.specs.IdLists.{IsAscending, has_id, union_of}
@@ -11,13 +11,14 @@ use Rattle.ql_needs.specs.Needs.{Needs, AreWhole, IsPackage, IsNeeded}
 use Rattle.ql_needs.proofs.ClosedLaws.{closed-member, closed-need, closed-from, closed-larger, reached-along, reached-within}
 use Rattle.ql_needs.proofs.Packages.{package-member, package-each, package-reach, package-in, package-out, whole-union}
 use Rattle.ql_needs.proofs.IdSets.{has_id-union, in_union-left, in_union-right, in_union-cases}
+use Rattle.ql_needs.proofs.Members.{has_id-index, index-has, get_or-front, get_or-end}
 use Rattle.ql_holder.specs.Arrivals.{Applied, IsLeastMissing, IsGain, IsNew}
 use Rattle.ql_ranges.specs.Ranges.{ids_of}
 use Rattle.ql_ranges.specs.declared.ranges.IdRange.{IdRange}
 use Rattle.ql_reach.specs.Reach.{InEither, IsReach}
 use Rattle.ql_replica.specs.declared.waiting.Waiting.{Waiting}
 use Rattle.ql_replica.specs.Waiting.{FitsReplica, HoldSame, IsWatchIn, KeepsWaiting, Waits, Watches, held_by}
-use Rattle.ql_replica.specs.Progress.{AreKnown, IsMade, Advances, IsFirstOutside, is_applied, settled, IsDecided, AreDecided, MayWatch, AreMoved}
+use Rattle.ql_replica.specs.Progress.{AreKnown, IsMade, Advances, IsFirstOutside, is_applied, settled, IsDecided, AreDecided, MayWatch, moved}
 
 -- ---- what fits
 
@@ -156,18 +157,15 @@ may-watch x received pack after w watches is = record {
 }
 
 -- a package that watched one that came needs what that one needs
-pub moved-decided : (x : List Effect) (received pack after applied : List ℕ) (missing watch : ℕ) (w : Waiting) → Watches x received w → IsPackage x pack → after ≡ union_of received pack → IsLeastMissing x after pack missing
-    → watch ≡ cond (has_id pack w.watched) missing w.watched → IsDecided x after applied watch w
-moved-decided x received pack after applied missing watch w watches whole is least moved = inr (elim (cases_Bool (has_id pack w.watched)) [
+moved-needed : (x : List Effect) (received pack after : List ℕ) (missing : ℕ) (w : Waiting) → Watches x received w → IsPackage x pack → after ≡ union_of received pack → IsLeastMissing x after pack missing
+    → IsNeeded x w.pack (cond (has_id pack w.watched) missing w.watched) × (has_id after (cond (has_id pack w.watched) missing w.watched) ≡ false)
+moved-needed x received pack after missing w watches whole is least = elim (cases_Bool (has_id pack w.watched)) [
   | inl came ↦
-      let same : watch ≡ missing = moved ∙ ap (λ (b : Bool). cond b missing w.watched) came in
       let further : Reaches (Needs x) w.watched missing = package-reach x pack whole least.needed.0 w.watched missing least.needed.1 came least.needed.2 in
       let needed : IsNeeded x w.pack missing = (watches.needed.0, watches.needed.1, reached-along (Needs x) watches.needed.0 w.watched missing watches.needed.2 further) in
-      subst (λ (m : ℕ). IsNeeded x w.pack m × (has_id after m ≡ false)) (sym same) (needed, least.absent)
-  | inr none ↦
-      let same : watch ≡ w.watched = moved ∙ ap (λ (b : Bool). cond b missing w.watched) none in
-      subst (λ (m : ℕ). IsNeeded x w.pack m × (has_id after m ≡ false)) (sym same) (watches.needed, (may-watch x received pack after w watches is).absent none)
-])
+      rw came (needed, least.absent)
+  | inr none ↦ rw none (watches.needed, (may-watch x received pack after w watches is).absent none)
+]
 
 -- ---- settled slots
 
@@ -236,35 +234,44 @@ settled-all x received after applied more held slots count watches fits within k
           has = waits.has;
         }
 
+-- the slots of a replica once no package watches one that came
+moved-settled : (x : List Effect) (received pack after applied : List ℕ) (held slots : ℕ → Option Waiting) (missing : ℕ)
+    → FitsReplica received applied held x → IsPackage x pack → after ≡ union_of received pack → IsLeastMissing x after pack missing → ((key : ℕ) → slots key ≡ moved pack missing (held key))
+    → AreSettled x received after applied slots
+moved-settled x received pack after applied held slots missing fits whole is_union least is = record {
+  watches = λ key w at. watches_at key (held key) refl w (sym (is key) ∙ at);
+  waits = λ e there none.
+      let waits = fits.waits e there none in
+      let w = waits.waiting in
+      record {
+        key = waits.key;
+        waiting = record { pack = w.pack; watched = cond (has_id pack w.watched) missing w.watched };
+        at = is waits.key ∙ ap (moved pack missing) waits.at;
+        has = waits.has;
+      };
+}
+  where
+    watches_at : (key : ℕ) (slot : Option Waiting) → held key ≡ slot → (w : Waiting) → moved pack missing slot ≡ Some w → Watches x after w
+    watches_at key None at w same = absurd (let never : None ≡ Some w = same in cc)
+    watches_at key (Some old) at w same =
+        let watches = fits.watches key old at in
+        let needed = moved-needed x received pack after missing old watches whole is_union least in
+        let later : Waiting = record { pack = old.pack; watched = cond (has_id pack old.watched) missing old.watched } in
+        subst (Watches x after) (same_Some later w same) (record {
+          whole = watches.whole;
+          within = λ a has. subst (λ (l : List ℕ). Has l a) (sym is_union) (in_union-left received pack a (watches.within a has));
+          needed = needed.0;
+          absent = needed.1;
+        })
+
 -- ---- lists
 
-pub has_id-index : (ids : List ℕ) (a : ℕ) → Has ids a → (k : ℕ) × (k < length ids) × (get_or ids k 0 ≡ a)
-has_id-index [] a is = absurd (false≢true is)
-has_id-index (id ∷ ids) a is = elim (or_cases (nat_eq id a) (has_id ids a) is) [
-  | inl here ↦ (0, omega arith, eqb-true id a here)
-  | inr later ↦ (let found = has_id-index ids a later in let inside = found.1 in (suc found.0, omega (arith, inside), found.2))
+-- a set that has none of some ids lacks them all
+pub outside-all : (ids set : List ℕ) (a : ℕ) → ((b : ℕ) → Has ids b → has_id set b ≡ false) → has_id ids a ≡ (has_id ids a && not (has_id set a))
+outside-all ids set a none = elim (cases_Bool (has_id ids a)) [
+  | inl is ↦ rw (is, none a is) refl
+  | inr other ↦ rw other refl
 ]
-
-pub index-has : (ids : List ℕ) (k : ℕ) → k < length ids → Has ids (get_or ids k 0)
-index-has [] k inside = absurd (omega arith)
-index-has (id ∷ ids) zero inside = or_left (nat_eq id id) (has_id ids id) (eq-eqb id id refl)
-index-has (id ∷ ids) (suc k) inside = or_right (nat_eq id (get_or ids k 0)) (has_id ids (get_or ids k 0)) (index-has ids k (omega arith))
-
-pub has_id-take : (ids : List ℕ) (k a : ℕ) → k < length ids → has_id (take (k + 1) ids) a ≡ (nat_eq (get_or ids k 0) a || has_id (take k ids) a)
-has_id-take [] k a inside = absurd (omega arith)
-has_id-take (id ∷ ids) zero a inside = refl
-has_id-take (id ∷ ids) (suc k) a inside =
-    ap (λ (n : ℕ). has_id (take n (id ∷ ids)) a) more
-    ∙ ap (λ (b : Bool). nat_eq id a || b) (has_id-take ids k a (omega arith))
-    ∙ swap (nat_eq id a) (nat_eq (get_or ids k 0) a) (has_id (take k ids) a)
-  where
-    more : suc k + 1 ≡ suc (k + 1)
-    more = omega arith
-
-    swap : (p q r : Bool) → (p || (q || r)) ≡ (q || (p || r))
-    swap true true r = refl
-    swap true false r = refl
-    swap false q r = refl
 
 -- what the set lacks of one id more
 pub outside-more : (before now set : List ℕ) (taken : Bool) (id a : ℕ) → has_id before a ≡ (taken && not (has_id set a)) → has_id now a ≡ (has_id before a || (nat_eq id a && not (has_id set id)))
@@ -303,17 +310,6 @@ first-outside ids set k ascending inside before none = (
 
 -- ---- one decision more
 
-get_or-front : (ids : List ℕ) (id k : ℕ) → k < length ids → get_or (ids ++ id ∷ []) k 0 ≡ get_or ids k 0
-get_or-front [] id k inside = absurd (omega arith)
-get_or-front (other ∷ ids) id zero inside = refl
-get_or-front (other ∷ ids) id (suc k) inside = get_or-front ids id k (omega arith)
-
-get_or-end : (ids : List ℕ) (id k : ℕ) → k ≡ length ids → get_or (ids ++ id ∷ []) k 0 ≡ id
-get_or-end [] id zero is = refl
-get_or-end [] id (suc k) is = absurd (omega arith)
-get_or-end (other ∷ ids) id zero is = absurd (omega arith)
-get_or-end (other ∷ ids) id (suc k) is = get_or-end ids id k (omega arith)
-
 pub decided-push : (x : List Effect) (after applied more : List ℕ) (held : ℕ → Option Waiting) (watches later : List ℕ) (key watch : ℕ) → AreDecided x after applied held watches → ((a : ℕ) → Has applied a → Has more a)
     → length watches ≡ key → ((w : Waiting) → held key ≡ Some w → IsDecided x after more watch w) → later ≡ watches ++ watch ∷ [] → AreDecided x after more held later
 decided-push x after applied more held watches later key watch decided grows count new is =
@@ -335,13 +331,6 @@ pub decided-all : (x : List Effect) (after applied : List ℕ) (slots : List (Op
     → (key : ℕ) (w : Waiting) → held_by slots key ≡ Some w → IsDecided x after applied (get_or watches key 0) w
 decided-all x after applied slots watches enough decided key w at = (let inside = key-inside slots key w at in decided key w (omega (arith, inside, enough)) at)
 
-pub moved-all : (x : List Effect) (received pack after applied : List ℕ) (slots : List (Option Waiting)) (missing : ℕ) (watches : List ℕ) → FitsReplica received applied (held_by slots) x → IsPackage x pack → after ≡ union_of received pack
-    → IsLeastMissing x after pack missing → length slots ≤ length watches → AreMoved pack missing (held_by slots) watches
-    → (key : ℕ) (w : Waiting) → held_by slots key ≡ Some w → IsDecided x after applied (get_or watches key 0) w
-moved-all x received pack after applied slots missing watches fits whole is least enough moved key w at =
-    let inside = key-inside slots key w at in
-    moved-decided x received pack after applied missing (get_or watches key 0) w (fits.watches key w at) whole is least (moved key w (omega (arith, inside, enough)) at)
-
 -- ---- what is kept behind a receipt
 
 received-in : (received pack after : List ℕ) → IsNew received pack after → (a : ℕ) → Has received a → Has after a
@@ -357,10 +346,10 @@ whole-after : (x : List Effect) (received pack after : List ℕ) → AreWhole x 
 whole-after x received pack after whole p new = subst (AreWhole x) (sym new.added) (whole-union x received pack whole p)
 
 -- the package waits at a key
-pub wait-fits : (x : List Effect) (received pack after applied : List ℕ) (held slots last : ℕ → Option Waiting) (missing key : ℕ) (watches : List ℕ) → FitsReplica received applied held x → IsPackage x pack → IsNew received pack after → IsAscending after
-    → IsLeastMissing x after pack missing → ((k : ℕ) (w : Waiting) → held k ≡ Some w → IsDecided x after applied (get_or watches k 0) w) → ((k : ℕ) → slots k ≡ settled applied (get_or watches k 0) (held k))
+pub wait-fits : (x : List Effect) (received pack after applied : List ℕ) (held slots last : ℕ → Option Waiting) (missing key : ℕ) → FitsReplica received applied held x → IsPackage x pack → IsNew received pack after → IsAscending after
+    → IsLeastMissing x after pack missing → ((k : ℕ) → slots k ≡ moved pack missing (held k))
     → slots key ≡ None → last key ≡ Some (record { pack = pack; watched = missing }) → ((k : ℕ) → (k ≡ key → ⊥) → last k ≡ slots k) → FitsReplica after applied last x
-wait-fits x received pack after applied held slots last missing key watches fits whole new ascending least decided is vacant at others = record {
+wait-fits x received pack after applied held slots last missing key fits whole new ascending least is vacant at others = record {
   ascending = ascending;
   whole = whole-after x received pack after fits.whole whole new;
   closed = known.closed;
@@ -381,7 +370,7 @@ wait-fits x received pack after applied held slots last missing key watches fits
     known = known-larger x received after applied (received-in received pack after new) (known-fitted received applied held x fits)
 
     all : AreSettled x received after applied slots
-    all = settled-all x received after applied applied held slots 0 watches fits (received-in received pack after new) known (λ a is_in. is_in) decided is
+    all = moved-settled x received pack after applied held slots missing fits whole new.added least is
 
     own_watches : Watches x after own
     own_watches = record { whole = whole; within = pack-in received pack after new; needed = least.needed; absent = least.absent }
@@ -412,6 +401,28 @@ apply-fits x received pack after applied more held slots watches fits whole new 
   where
     all : AreSettled x received after more slots
     all = settled-all x received after applied more held slots 0 watches fits (received-in received pack after new) known grows decided is
+
+-- the package is applied, and no waiting one watched it
+pub apply-alone : (x : List Effect) (received pack after applied more : List ℕ) (held : ℕ → Option Waiting) → FitsReplica received applied held x → IsPackage x pack → IsNew received pack after → IsAscending after
+    → AreKnown x after more → ((a : ℕ) → Has applied a → Has more a) → ((a : ℕ) → Has pack a → Has more a)
+    → ((k : ℕ) (w : Waiting) → held k ≡ Some w → has_id pack w.watched ≡ false) → FitsReplica after more held x
+apply-alone x received pack after applied more held fits whole new ascending known grows own alone = record {
+  ascending = ascending;
+  whole = whole-after x received pack after fits.whole whole new;
+  closed = known.closed;
+  watches = λ k w at.
+      let watches = fits.watches k w at in
+      record {
+        whole = watches.whole;
+        within = λ a has. received-in received pack after new a (watches.within a has);
+        needed = watches.needed;
+        absent = (may-watch x received pack after w watches new.added).absent (alone k w at);
+      };
+  waits = λ e there none. elim (after-cases received pack after new e there) [
+    | inl old ↦ fits.waits e old (false_from_ne_true (has_id applied e) (λ is. absent-no more e none (grows e is)))
+    | inr came ↦ absurd (absent-no more e none (own e came))
+  ];
+}
 
 -- what is gained is applied behind the receipt and wasn't before
 pub gain-exact : (x : List Effect) (received after applied more gain rest : List ℕ) (held slots : ℕ → Option Waiting) → FitsReplica received applied held x → FitsReplica after more slots x
@@ -494,13 +505,30 @@ pub known-begin : (x : List Effect) (received applied : List ℕ) (held : ℕ �
 known-begin x received applied held pack after fits added =
     known-larger x received after applied (λ a is. subst (λ (l : List ℕ). Has l a) (sym added) (in_union-left received pack a is)) (known-fitted received applied held x fits)
 
-pub made-begin : (before applied gain : List ℕ) → applied ≡ before → gain ≡ [] → IsMade before applied gain
-made-begin before applied gain same none = λ a.
-    ap (λ (l : List ℕ). has_id l a) same ∙ sym (or_none (has_id before a)) ∙ ap (λ (l : List ℕ). has_id before a || has_id l a) (sym none)
-  where
-    or_none : (b : Bool) → (b || false) ≡ b
-    or_none true = refl
-    or_none false = refl
+-- a package is applied together with all that it needs, and the gain has what was added
+pub record AreReached (x : List Effect) (after pack before applied gain : List ℕ) : Type 0 where
+  pub known : AreKnown x after applied
+  pub grows : (a : ℕ) → Has before a → Has applied a
+  pub own : (a : ℕ) → Has pack a → Has applied a
+  pub made : IsMade before applied gain
+
+pub reached-first : (x : List Effect) (after pack before found applied : List ℕ) → AreKnown x after before → IsReach x pack before found → ((a : ℕ) → Has found a → Has after a) → applied ≡ union_of before found
+    → AreReached x after pack before applied found
+reached-first x after pack before found applied known reach within is = subst (λ (l : List ℕ). AreReached x after pack before l found) (sym is) (record {
+  known = known-more x after pack before found known reach within;
+  grows = λ a has. in_union-left before found a has;
+  own = walked-in x pack before found reach;
+  made = λ a. has_id-union before found a;
+})
+
+pub reached-further : (x : List Effect) (after pack before applied gain more larger : List ℕ) → AreReached x after pack before applied gain → AreKnown x after more → Advances applied gain more larger
+    → AreReached x after pack before more larger
+reached-further x after pack before applied gain more larger reached known advances = record {
+  known = known;
+  grows = λ a has. advances.grows a (reached.grows a has);
+  own = λ a has. advances.grows a (reached.own a has);
+  made = advances.made before reached.made;
+}
 
 pub fits-moved : (received applied later more : List IdRange) (held slots : ℕ → Option Waiting) (x : List Effect) → later ≡ received → more ≡ applied → ((key : ℕ) → slots key ≡ held key)
     → FitsReplica (ids_of received) (ids_of applied) held x → FitsReplica (ids_of later) (ids_of more) slots x

@@ -41,6 +41,11 @@ abbrev pub settled : List ℕ → ℕ → Option Waiting → Option Waiting
 settled applied watch None = None
 settled applied watch (Some w) = cond (is_applied applied w.pack) None (Some (record { pack = w.pack; watched = watch }))
 
+-- a slot afterwards: a package that watched one of those that arrived watches this id
+abbrev pub moved : List ℕ → ℕ → Option Waiting → Option Waiting
+moved pack missing None = None
+moved pack missing (Some w) = Some (record { pack = w.pack; watched = cond (has_id pack w.watched) missing w.watched })
+
 -- a waiting package is applied, or watches an id that it needs and that hasn't been received
 abbrev pub IsDecided : List Effect → List ℕ → List ℕ → ℕ → Waiting → Type 0
 IsDecided x after applied watch w = ((a : ℕ) → Has w.pack a → Has applied a) ⊎ (IsNeeded x w.pack watch × (has_id after watch ≡ false))
@@ -55,8 +60,3 @@ pub record MayWatch (x : List Effect) (after pack : List ℕ) (w : Waiting) : Ty
 abbrev pub AreDecided : List Effect → List ℕ → List ℕ → (ℕ → Option Waiting) → List ℕ → Type 0
 AreDecided x after applied held watches =
     (key : ℕ) (w : Waiting) → key < length watches → held key ≡ Some w → IsDecided x after applied (slice_index watches key) w
-
--- each package up to a key watches an id that is still missing, if it watched one of those that arrived
-abbrev pub AreMoved : List ℕ → ℕ → (ℕ → Option Waiting) → List ℕ → Type 0
-AreMoved pack missing held watches =
-    (key : ℕ) (w : Waiting) → key < length watches → held key ≡ Some w → slice_index watches key ≡ cond (has_id pack w.watched) missing w.watched

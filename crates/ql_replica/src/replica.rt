@@ -52,7 +52,10 @@ impl Replica {
     /// hasn't been received, or is applied.
     pub fn watch_of(&self, e: EffId) -> Option<EffId>
         ensures watch { IsWatch (ids_of self.now.received) (ids_of self.now.applied) e.0 result }
-        ensures needed { IfSome result (λ watched. (x : List Effect) → FitsReplica (ids_of self.now.received) (ids_of self.now.applied) (held_by self.now.slots) x → Reaches (Needs x) e.0 watched.0) }
+        ensures needed { IfSome result
+            (λ watched. (x : List Effect)
+            → FitsReplica (ids_of self.now.received) (ids_of self.now.applied)
+            (held_by self.now.slots) x → Reaches (Needs x) e.0 watched.0) }
     {
         watch_in(&self.waiting, e.0)
     }
@@ -89,6 +92,10 @@ impl Holder for Replica {
 
     fn has(&self, e: EffId) -> bool {
         self.received.has(e.0)
+    }
+
+    fn leading(&self, ids: &[u32]) -> usize {
+        self.received.leading(ids)
     }
 
     fn applied(&self, e: EffId) -> bool {

@@ -1,20 +1,23 @@
-ghost use Rattle.std.specs.Prelude.{◌≡◌, ◌≤◌, ◌≢◌, ℕ, Some, cond, length, slice_index, IfOk};
+ghost use Rattle.std.specs.Prelude.{◌≡◌, ◌≤◌, ◌≢◌, ℕ, false, Some, length, slice_index};
+ghost use Rattle.std.specs.Bool.{OnTrue, OnFalse};
 ghost use Rattle.ql_base.specs.IdLists.{has_id};
+ghost use Rattle.ql_needs.specs.Closed.{Has};
 ghost use Rattle.ql_ranges.specs.Ranges.{ids_of};
 ghost use Rattle.ql_replica.specs.declared.waiting.Waiting.{Waiting};
-ghost use Rattle.ql_replica.specs.Progress.{AreMoved, is_applied, settled};
+ghost use Rattle.ql_replica.specs.Progress.{is_applied, moved, settled};
 ghost use Rattle.slab.specs.Slab.{HasRoomFor, get};
 
 use crate::waiting::Waiting;
-use ql_base::{IdSet, NoMemory};
+use ql_base::IdSet;
 use ql_ranges::Ranges;
 use slab::Slab;
-use std::alloc::Global;
 
 /// Removes each waiting package that is applied, and makes each other one watch the id at its key.
 pub(crate) fn settle(waiting: &mut Slab<Waiting>, applied: &Ranges, watches: &Vec<u32>)
     requires { length waiting.old.slots ≤ length watches.now.items }
-    ensures slots { (key : ℕ) → get waiting.new key ≡ settled (ids_of applied.now) (slice_index watches.now.items key) (get waiting.old key) }
+    ensures slots { (key : ℕ)
+        → get waiting.new key
+        ≡ settled (ids_of applied.now) (slice_index watches.now.items key) (get waiting.old key) }
     ensures room { HasRoomFor waiting.old 1 → HasRoomFor waiting.new 1 }
 {
     for key in 0..watches.len() {
@@ -47,35 +50,42 @@ fn is_applied(pack: &IdSet, applied: &Ranges) -> bool
     }
 }
 
-/// For each slot, the id that its package watches from now on: `missing` if it watched an id of
-/// the package that arrived, else the same as before.
-pub(crate) fn moved_watches(
-    alloc: Global,
-    waiting: &Slab<Waiting>,
-    pack: &IdSet,
-    missing: u32,
-) -> Result<Vec<u32>, NoMemory>
-    ensures slots { IfOk result (λ watches. length waiting.now.slots ≤ length watches.items) }
-    ensures moved { IfOk result (λ watches. AreMoved pack.now missing (get waiting.now) watches.items) }
+/// Makes each waiting package that watches an id of the package that arrived watch another id.
+pub(crate) fn move_watches(waiting: &mut Slab<Waiting>, pack: &IdSet, missing: u32)
+    ensures slots { (key : ℕ) → get waiting.new key ≡ moved pack.now missing (get waiting.old key) }
+    ensures room { HasRoomFor waiting.old 1 → HasRoomFor waiting.new 1 }
 {
-    let mut watches = Vec::new(alloc);
     for key in 0..waiting.capacity() {
-        watches.push(moved_watch(waiting, key, pack, missing))?;
+        move_watch(waiting, key, pack, missing);
     }
-    Ok(watches)
 }
 
-fn moved_watch(waiting: &Slab<Waiting>, key: usize, pack: &IdSet, missing: u32) -> u32
-    ensures { (w : Waiting) → get waiting.now key ≡ Some w → result ≡ cond (has_id pack.now w.watched) missing w.watched }
+fn move_watch(waiting: &mut Slab<Waiting>, key: usize, pack: &IdSet, missing: u32)
+    ensures slot { get waiting.new key ≡ moved pack.now missing (get waiting.old key) }
+    ensures others { (other : ℕ) → other ≢ key → get waiting.new other ≡ get waiting.old other }
+    ensures room { HasRoomFor waiting.old 1 → HasRoomFor waiting.new 1 }
 {
-    match waiting.get(key) {
-        Some(held) => {
+    if let Some(held) = waiting.get_mut(key) {
+        if pack.has(held.watched) {
+            held.watched = missing;
+        }
+    }
+}
+
+/// Whether a waiting package watches an id of the package that arrived.
+pub(crate) fn is_watched(waiting: &Slab<Waiting>, pack: &IdSet) -> bool
+    ensures watched { OnTrue result
+        ((key : ℕ) × (w : Waiting) × (get waiting.now key ≡ Some w) × Has pack.now w.watched) }
+    ensures none { OnFalse result
+        ((key : ℕ) (w : Waiting) → get waiting.now key ≡ Some w
+        → has_id pack.now w.watched ≡ false) }
+{
+    for key in 0..waiting.capacity() {
+        if let Some(held) = waiting.get(key) {
             if pack.has(held.watched) {
-                missing
-            } else {
-                held.watched
+                return true;
             }
         }
-        None => 0,
     }
+    false
 }

@@ -14,14 +14,15 @@ const NO_ARGUMENTS: u8 = 8;
 pub fn arguments<R: Env + AllocGlobal>(rt: &R) -> Result<Vec<String>, u8>
     ensures { IfErr result (λ number. (number ≡ 6) ⊎ (number ≡ 8)) }
 {
-    match collected(rt) {
+    match words(rt) {
         Ok(words) => Ok(words),
         Err(error) if error.kind() == io::ErrorKind::OutOfMemory => Err(NO_MEMORY),
         Err(_) => Err(NO_ARGUMENTS),
     }
 }
 
-fn collected<R: Env + AllocGlobal>(rt: &R) -> io::Result<Vec<String>> {
+/// The same, or the system's fault.
+pub fn words<R: Env + AllocGlobal>(rt: &R) -> io::Result<Vec<String>> {
     let words = env::args(rt)?.skip(1).collect::<Vec<String>>(rt.alloc())?;
     Ok(words)
 }

@@ -7,7 +7,7 @@ mod bad;
 mod status;
 mod whole;
 
-pub use args::{NO_MEMORY, arguments, is_file_name};
+pub use args::{NO_MEMORY, arguments, is_file_name, words};
 pub use bad::bad_line;
 pub use status::Status;
 pub use whole::unread;

@@ -57,7 +57,8 @@ fn push_relation(out: &mut Vec<u8>, told: &Telling, kind: PairKind) -> Result<()
 }
 
 fn push_row(out: &mut Vec<u8>, told: &Telling, kind: PairKind, i: u32) -> Result<(), NoMemory>
-    requires operations { told.now.shape.operations ≡ length (all_ops told.now.typed.now.program.types) }
+    requires operations { told.now.shape.operations
+        ≡ length (all_ops told.now.typed.now.program.types) }
     requires row { i < told.now.shape.constants }
     ensures { OnOk result (out.new.items ≡ out.old.items ++ row_text (told_of told.now) kind i) }
 {
@@ -90,7 +91,8 @@ fn push_operations(out: &mut Vec<u8>, told: &Telling) -> Result<(), NoMemory>
 }
 
 fn push_operation(out: &mut Vec<u8>, told: &Telling, o: OpId) -> Result<(), NoMemory>
-    requires operations { told.now.shape.operations ≡ length (all_ops told.now.typed.now.program.types) }
+    requires operations { told.now.shape.operations
+        ≡ length (all_ops told.now.typed.now.program.types) }
     requires op { o.0 < told.now.shape.operations }
     ensures { OnOk result (out.new.items ≡ out.old.items ++ operation_text (told_of told.now) o.0) }
 {
@@ -102,7 +104,8 @@ fn push_operation(out: &mut Vec<u8>, told: &Telling, o: OpId) -> Result<(), NoMe
 
 // Appends an atom after a space, if it is true.
 fn push_if_true(out: &mut Vec<u8>, told: &Telling, atom: Atom) -> Result<(), NoMemory>
-    requires operations { told.now.shape.operations ≡ length (all_ops told.now.typed.now.program.types) }
+    requires operations { told.now.shape.operations
+        ≡ length (all_ops told.now.typed.now.program.types) }
     requires atom { Fits (size_of told.now.shape) atom }
     ensures { OnOk result (out.new.items ≡ out.old.items ++ told_atom (told_of told.now) atom) }
 {
@@ -125,9 +128,12 @@ fn is_true(values: &[bool], atom: Atom, shape: Shape) -> bool
 }
 
 fn push_atom(out: &mut Vec<u8>, told: &Telling, atom: Atom) -> Result<(), NoMemory>
-    requires operations { told.now.shape.operations ≡ length (all_ops told.now.typed.now.program.types) }
+    requires operations { told.now.shape.operations
+        ≡ length (all_ops told.now.typed.now.program.types) }
     requires atom { Fits (size_of told.now.shape) atom }
-    ensures { OnOk result (out.new.items ≡ out.old.items ++ atom_text told.now.typed.now.program told.now.vars.now atom) }
+    ensures { OnOk result
+        (out.new.items ≡ out.old.items
+        ++ atom_text told.now.typed.now.program told.now.vars.now atom) }
 {
     match atom {
         Atom::Pair(kind, i, j) => {

@@ -23,7 +23,9 @@ pub fn print_levels(alloc: Global, t: &Typed, l: &Levels) -> Result<Vec<u8>, NoM
 
 fn push_ops(out: &mut Vec<u8>, t: &Typed, l: &Levels) -> Result<(), NoMemory>
     requires { length l.now.ops ≡ length (all_ops t.now.program.types) }
-    ensures { OnOk result (out.new.items ≡ out.old.items ++ upto (length (all_ops t.now.program.types)) (op_line t.now.program l.now)) }
+    ensures { OnOk result
+        (out.new.items ≡ out.old.items
+        ++ upto (length (all_ops t.now.program.types)) (op_line t.now.program l.now)) }
 {
     for o in 0..t.ops() {
         push_op(out, t, l, OpId(o))?;
@@ -53,7 +55,9 @@ pub(crate) fn op_name(t: &Typed, o: OpId) -> &[u8]
 
 fn push_txns(out: &mut Vec<u8>, t: &Typed, l: &Levels) -> Result<(), NoMemory>
     requires { length l.now.txns ≡ length t.now.program.txns }
-    ensures { OnOk result (out.new.items ≡ out.old.items ++ upto (length t.now.program.txns) (txn_line t.now.program l.now)) }
+    ensures { OnOk result
+        (out.new.items ≡ out.old.items
+        ++ upto (length t.now.program.txns) (txn_line t.now.program l.now)) }
 {
     for d in 0..t.txns() {
         push_txn(out, t, l, DeclId(d))?;

@@ -5,9 +5,10 @@
 use ql_base::NoMemory;
 use ql_lang::print_program;
 use ql_parse::{ParseFault, parse_program};
+use ql_reply::words;
 use std::alloc::Global;
-use std::env::Env;
-use std::{env, fs, io, str};
+use std::io::Write;
+use std::{fs, io};
 
 // The most bytes of a source.
 const MOST_BYTES: usize = 1 << 20;
@@ -18,37 +19,22 @@ fn main(rt: HostRuntime) -> io::Result<()> {
     for path in words.iter().skip(check as usize) {
         let text = fs::read(&rt, path)?;
         match said(rt.alloc(), text.as_slice(), check) {
-            Ok(said) => match str::from_utf8(said.as_slice()) {
-                Ok(said) => print!(rt; "{said}")?,
-                Err(_) => println!(rt; "{path}: no text")?,
-            },
+            Ok(said) => rt.stdout().write_all(said.as_slice())?,
             Err(NoMemory) => println!(rt; "{path}: no memory")?,
         }
     }
     Ok(())
 }
 
-// The arguments of the command line, without the program's own name.
-fn words<R: Env + AllocGlobal>(rt: &R) -> io::Result<Vec<String>> {
-    let words = env::args(rt)?.skip(1).collect::<Vec<String>>(rt.alloc())?;
-    Ok(words)
-}
-
 // What is printed for a text: the source in its one spelling, or whether it is one.
 fn said(alloc: Global, text: &[u8], check: bool) -> Result<Vec<u8>, NoMemory> {
     if text.len() > MOST_BYTES {
-        return line(alloc, b"too long\n");
+        return Ok(Vec::from_slice(alloc, b"too long\n")?);
     }
     match parse_program(alloc, text) {
-        Ok(_) if check => line(alloc, b"a source\n"),
+        Ok(_) if check => Ok(Vec::from_slice(alloc, b"a source\n")?),
         Ok(program) => print_program(alloc, &program),
         Err(ParseFault::NoMemory) => Err(NoMemory),
-        Err(_) => line(alloc, b"no source\n"),
+        Err(_) => Ok(Vec::from_slice(alloc, b"no source\n")?),
     }
-}
-
-fn line(alloc: Global, bytes: &[u8]) -> Result<Vec<u8>, NoMemory> {
-    let mut out = Vec::new(alloc);
-    out.extend_from_slice(bytes)?;
-    Ok(out)
 }

@@ -4,18 +4,18 @@
 
 use ql_base::NoMemory;
 use ql_parse::parse_program;
+use ql_reply::words;
 use ql_schedule::{SchedFault, parse_schedule, print_schedule};
 use ql_typing::{Typed, typecheck};
 use std::alloc::Global;
-use std::env::Env;
 use std::io::Write;
-use std::{env, fs, io};
+use std::{fs, io};
 
 // The most bytes of a file.
 const MOST_BYTES: usize = 1 << 20;
 
 fn main(rt: HostRuntime) -> io::Result<()> {
-    let paths = arguments(&rt)?;
+    let paths = words(&rt)?;
     let mut typed = None;
     for path in paths.iter() {
         let text = fs::read(&rt, path)?;
@@ -28,12 +28,6 @@ fn main(rt: HostRuntime) -> io::Result<()> {
         }
     }
     Ok(())
-}
-
-// The arguments of the command line, without the program's own name.
-fn arguments<R: Env + AllocGlobal>(rt: &R) -> io::Result<Vec<String>> {
-    let arguments = env::args(rt)?.skip(1).collect::<Vec<String>>(rt.alloc())?;
-    Ok(arguments)
 }
 
 // The program of a source; none where the text isn't one, or if out of memory.
@@ -54,17 +48,11 @@ fn typed_of(alloc: Global, text: &[u8]) -> Option<Typed> {
 // What is printed for a text: the schedule in its one spelling, or that it isn't a schedule.
 fn said(alloc: Global, typed: &Typed, text: &[u8]) -> Result<Vec<u8>, NoMemory> {
     if text.len() > MOST_BYTES {
-        return line(alloc, b"too long\n");
+        return Ok(Vec::from_slice(alloc, b"too long\n")?);
     }
     match parse_schedule(alloc, typed, text) {
         Ok(schedule) => print_schedule(alloc, typed, &schedule),
         Err(SchedFault::NoMemory) => Err(NoMemory),
-        Err(_) => line(alloc, b"no schedule\n"),
+        Err(_) => Ok(Vec::from_slice(alloc, b"no schedule\n")?),
     }
-}
-
-fn line(alloc: Global, bytes: &[u8]) -> Result<Vec<u8>, NoMemory> {
-    let mut out = Vec::new(alloc);
-    out.extend_from_slice(bytes)?;
-    Ok(out)
 }

@@ -1,5 +1,5 @@
 -- How many ids a set has: two sets that have none in common, and one between two numbers.
-use Rattle.std.proofs.Common.{◌≡◌, ◌+◌, ◌<◌, ◌≤◌, ℕ, suc, true, false, ◌||◌, nat_eq, List, [], ◌∷◌, length, get_or, refl, sym, ◌∙◌, ap, subst, inl, inr, arith}
+use Rattle.std.proofs.Common.{◌≡◌, ◌+◌, ◌<◌, ◌≤◌, ℕ, suc, true, false, nat_eq, List, [], ◌∷◌, length, get_or, refl, sym, ◌∙◌, ap, subst, inl, inr, arith}
 use Rattle.std.proofs.lemmas.Bool.{cases_lt, false≢true, ne_eqb, or_cases, or_left, or_parts, or_right, eq-eqb, eqb-true, lt-ltb}
 use Rattle.ql_base.specs.IdLists.{IsAscending, IsBelowAll, has_id, union_of, with_id}
 use Rattle.ql_base.proofs.IdLemmas.{get_or-rises, with_id-later}

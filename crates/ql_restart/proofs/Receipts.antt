@@ -1,7 +1,7 @@
 -- What the receipt of a package that is new comes to.
-use Rattle.std.proofs.Common.{◌≡◌, ◌+◌, ◌-◌, ◌*◌, ◌<◌, ◌≤◌, ◌^◌, ℕ, suc, Bool, true, false, leb, List, [], ◌∷◌, ◌++◌, length, Option, Some, Ok, Err, inl, inr, refl, sym, ◌∙◌, ap, subst, arith}
+use Rattle.std.proofs.Common.{◌≡◌, ◌+◌, ◌-◌, ◌<◌, ◌≤◌, ℕ, Bool, true, false, List, [], ◌∷◌, ◌++◌, length, Option, Ok, Err, inl, inr, refl, sym, ◌∙◌, ap, subst, arith}
 use Rattle.std.specs.Option.{option_map_or}
-use Rattle.std.proofs.lemmas.Bool.{both_ways, le-leb, leb-false, leb-true}
+use Rattle.std.proofs.lemmas.Bool.{both_ways, leb-false, leb-true}
 use Rattle.ql_base.specs.IdLists.{IsAscending, has_id, union_of}
 use Rattle.ql_base.proofs.IdLemmas.{IsAscending-union}
 use Rattle.ql_disk.specs.declared.mem_disk.MemDisk.{MemDisk}

@@ -1,15 +1,14 @@
 -- What is recovered of a journal: the packages that were in time.
-use Rattle.std.proofs.Common.{◌≡◌, ◌≤◌, ◌-◌, ℕ, zero, suc, true, false, nat_eq, List, [], ◌∷◌, length, Some, slice_get, refl, sym, ◌∙◌, ap, subst, inl, inr}
+use Rattle.std.proofs.Common.{◌≡◌, ◌≤◌, ◌-◌, ℕ, true, false, nat_eq, List, [], ◌∷◌, length, refl, sym, ◌∙◌, subst, inl, inr}
 use Rattle.std.specs.List.{AllByRecursion}
 use Rattle.std.proofs.lemmas.Bool.{false≢true, or_cases, or_left, or_right, eq-eqb, eqb-true}
 use Rattle.ql_base.specs.IdLists.{has_id}
-use Rattle.ql_exec.specs.declared.effect.Effect.{Effect}
 use Rattle.ql_exec.specs.Relations.{sametxn}
 use Rattle.ql_holder.specs.Arrivals.{Applied}
 use Rattle.ql_journal.specs.Ends.{AreKnown}
 use Rattle.ql_journal.specs.Records.{IsLawful, in_records}
 use Rattle.ql_machine.specs.Sets.{AreThose}
-use Rattle.ql_machine.specs.State.{Machine, NeedsNow, committed}
+use Rattle.ql_machine.specs.State.{Machine, NeedsNow}
 use Rattle.ql_machine_laws.specs.Kept.{IsDone}
 use Rattle.ql_machine_laws.proofs.Alone.{reaches-same}
 use Rattle.ql_needs.specs.Closed.{Closed, Has}

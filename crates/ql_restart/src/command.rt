@@ -1,4 +1,4 @@
-ghost use Rattle.std.specs.Prelude.{◌≡◌, ◌<◌, ◌≤◌, ◌^◌, ◌++◌, ℕ, List, codes, decimal, length, IfOk};
+ghost use Rattle.std.specs.Prelude.{◌≡◌, ◌<◌, ◌^◌, ◌++◌, ℕ, List, codes, decimal, length, IfOk};
 ghost use Rattle.ql_classify.specs.Least.{AreLevelsOf};
 ghost use Rattle.ql_commands.specs.Sources.{IsSourceOf};
 ghost use Rattle.ql_lines.specs.Lines.{ahead_from};
@@ -26,7 +26,8 @@ pub fn restart_run(
     cut: u64,
 ) -> Result<(Status, Vec<u8>), NoMemory>
     requires { length source.now < 2 ^ 32 }
-    ensures { IfOk result (λ answer. RestartSays source.now schedule.now replica cut answer.0 answer.1.items) }
+    ensures { IfOk result
+        (λ answer. RestartSays source.now schedule.now replica cut answer.0 answer.1.items) }
 {
     let input = match read_run_input(alloc, source, schedule)? {
         Ok(input) => input,
@@ -50,7 +51,9 @@ fn text_of(
     requires levels { AreLevelsOf input.typed.program input.levels }
     requires schedule { IsSchedule input.typed.program input.schedule }
     requires replica { replica.0 < replicas_behind input.schedule.replicas input.schedule.events }
-    ensures { IfOk result (λ text. (source file : List ℕ) → IsSourceOf source input.typed.program → IsScheduleFile input.typed.program (ahead_from 1 file) input.schedule
+    ensures { IfOk result
+        (λ text. (source file : List ℕ) → IsSourceOf source input.typed.program
+        → IsScheduleFile input.typed.program (ahead_from 1 file) input.schedule
         → TellsRestart source file replica.0 cut text.items) }
 {
     let RunInput {
@@ -63,7 +66,8 @@ fn text_of(
 }
 
 fn no_replica(alloc: Global, replica: u32) -> Result<Vec<u8>, NoMemory>
-    ensures { IfOk result (λ text. text.items ≡ codes "no replica " ++ decimal replica ++ codes "\n") }
+    ensures { IfOk result
+        (λ text. text.items ≡ codes "no replica " ++ decimal replica ++ codes "\n") }
 {
     let mut text = Vec::from_slice(alloc, b"no replica ")?;
     push_number(&mut text, replica)?;

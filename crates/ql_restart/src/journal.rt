@@ -1,4 +1,4 @@
-ghost use Rattle.std.specs.Prelude.{◌≡◌, ◌-◌, ◌<◌, ◌≤◌, ℕ, true, false, List, [], length, IfOk, OnOk, MatchOption};
+ghost use Rattle.std.specs.Prelude.{◌≡◌, ◌-◌, ◌<◌, ◌≤◌, ℕ, false, [], length, IfOk, MatchOption};
 ghost use Rattle.ql_base.specs.IdLists.{has_id};
 ghost use Rattle.ql_disk.specs.MemDisks.{bytes_of, content_of};
 ghost use Rattle.ql_journal.specs.Stations.{holder_of};
@@ -29,7 +29,8 @@ pub(crate) fn stopped_disk<H: Holder>(
     requires few { length x.now ≤ 4000 }
     requires once { AreOnce x.now arrivals.now }
     ensures { IfOk result (λ disk. MatchOption disk (cut < 3)
-        (λ disk. (3 ≤ cut) × IsJournal x.now (packages x.now arrivals.now) (cut - 3) (content_of disk) × (1 ≤ calls_left disk))) }
+        (λ disk. (3 ≤ cut) × IsJournal x.now (packages x.now arrivals.now) (cut - 3)
+        (content_of disk) × (1 ≤ calls_left disk))) }
 {
     let mut disk = MemDisk::new(alloc, ROOM, cut)?;
     let Ok(station) = create::<H, MemDisk>(alloc, &mut disk) else {
@@ -53,7 +54,9 @@ fn journal_all<H: Holder>(
     requires once { AreOnce x.now arrivals.now }
     requires ready { IsReady H.received H.fits x.now disk.old station }
     requires nothing { H.received (holder_of station) ≡ [] }
-    ensures { UnlessNoMemory result (IsJournal x.now (packages x.now arrivals.now) (calls_left disk.old) (bytes_of disk.new).base) }
+    ensures { UnlessNoMemory result
+        (IsJournal x.now (packages x.now arrivals.now) (calls_left disk.old)
+        (bytes_of disk.new).base) }
 {
     for id in arrivals {
         let pack = package_of(alloc, x, EffId(*id))?;
@@ -74,7 +77,8 @@ fn receive_new<H: Holder>(
     requires few { length x.now ≤ 4000 }
     requires package { IsParcel x.now pack.now }
     requires ready { IsReady H.received H.fits x.now disk.old station.old }
-    requires new { (a : ℕ) → Has pack.now a → has_id (H.received (holder_of station.old)) a ≡ false }
+    requires new { (a : ℕ) → Has pack.now a
+        → has_id (H.received (holder_of station.old)) a ≡ false }
     ensures { Receives H.received H.fits x.now pack.now disk.old result disk.new station.new }
 {
     station.receive(disk, pack, x)?;

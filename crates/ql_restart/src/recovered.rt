@@ -52,7 +52,8 @@ fn recovered<H: Holder>(
     requires known { HasKnown x.now committed.now (content_of disk.old) }
     requires runs { 1 ≤ calls_left disk.old }
     ensures fits { IfOk result (λ station. H.fits (holder_of station) x.now) }
-    ensures received { IfOk result (λ station. (records : List (List ℕ)) → HasRecords records (content_of disk.old)
+    ensures received { IfOk result
+        (λ station. (records : List (List ℕ)) → HasRecords records (content_of disk.old)
         → (a : ℕ) → has_id (H.received (holder_of station)) a ≡ in_records records a) }
 {
     match recover::<H, MemDisk>(alloc, disk, x, committed) {
@@ -76,7 +77,9 @@ fn received_among<H: Holder>(alloc: Global, holder: &H, ids: &[u32]) -> Result<I
 }
 
 fn print_ids(alloc: Global, received: &[u32], applied: &[u32]) -> Result<Vec<u8>, NoMemory>
-    ensures { IfOk result (λ text. text.items ≡ id_line (codes "received") received.now ++ id_line (codes "applied") applied.now ++ codes "end\n") }
+    ensures { IfOk result
+        (λ text. text.items ≡ id_line (codes "received") received.now
+        ++ id_line (codes "applied") applied.now ++ codes "end\n") }
 {
     let mut text = Vec::new(alloc);
     push_bytes(&mut text, b"received")?;

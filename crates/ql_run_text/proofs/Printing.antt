@@ -1,7 +1,6 @@
 -- what is printed of a list is printed item by item
-use Rattle.std.proofs.Common.{◌≡◌, ℕ, ◌<◌, ◌≤◌, ◌+◌, suc, List, [], ◌∷◌, ◌++◌, Option, Some, Result, Ok, Err, codes, decimal, map, take, length, slice_get, get_or, All, arith, refl, ap, sym, subst, ◌∙◌, append_assoc, add-one, length-take}
+use Rattle.std.proofs.Common.{◌≡◌, ℕ, ◌<◌, ◌+◌, List, [], ◌∷◌, ◌++◌, Some, Result, Ok, Err, codes, map, take, length, slice_get, get_or, All, arith, refl, ap, sym, subst, ◌∙◌, append_assoc}
 use Rattle.std.specs.Prelude.{OnOk}
-use Rattle.std.specs.Option.{option_map_or}
 use Rattle.std.proofs.lemmas.List.{append-nil, length-take-le, map-append, take_more}
 use Rattle.std.proofs.lemmas.List.Elements.{All-more}
 use Rattle.std.proofs.lemmas.Option.{get_or_from_slice_get, slice_get_within}
@@ -62,7 +61,7 @@ one_line : (l : Fields) → file_text (l ∷ []) ≡ joined l ++ 10 ∷ []
 unfolding file_text
 one_line l = refl
 
--- one line more of a list's front
+-- one line more of a list's prefix
 pub more_lines : {X : Type 0} (line : ℕ → X → Fields) (xs : List X) (k : ℕ) (x : X) (out : List ℕ) → slice_get xs k ≡ Some x
     → (out ++ file_text (lines_from line 1 (take k xs))) ++ (joined (line (k + 1) x) ++ 10 ∷ []) ≡ out ++ file_text (lines_from line 1 (take (k + 1) xs))
 more_lines line xs k x out at =
@@ -82,7 +81,7 @@ on_ok (Err e) f h = tt
 
 -- ---- lines from their parts
 
--- fields behind others of a line
+-- fields after others of a line
 pub more_fields : (out w : List ℕ) (fs gs : Fields) → (out ++ joined (w ∷ fs)) ++ behind gs ≡ out ++ joined (w ∷ (fs ++ gs))
 more_fields out w fs gs =
     append_assoc out (joined (w ∷ fs)) (behind gs)

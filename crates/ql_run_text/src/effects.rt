@@ -1,21 +1,9 @@
-ghost use Rattle.std.specs.Prelude.{◌≡◌, ◌≤◌, ◌<◌, ◌++◌, ◌∷◌, [], All, IfOk, OnOk, codes, decimal, length, map};
+ghost use Rattle.std.specs.Prelude.{◌≡◌, ◌<◌, ◌++◌, ◌∷◌, [], All, IfOk, OnOk, codes, decimal, length};
 ghost use Rattle.ql_lines.specs.Texts.{behind, joined};
 ghost use Rattle.ql_typing.specs.Names.{op_name};
 ghost use Rattle.ql_value.specs.Spelling.{value_text};
 ghost use Rattle.ql_value.specs.ValueGrammar.{IsValue};
-ghost use Rattle.ql_run_text.specs.EffectTexts.{
-  AreNamed,
-  HasValues,
-  HaveValues,
-  IsDeclared,
-  IsNamed,
-  effect_fields,
-  effects_text,
-  member_text,
-  object_name,
-  payload_text,
-  values_text,
-};
+ghost use Rattle.ql_run_text.specs.EffectTexts.{AreNamed, HasValues, HaveValues, IsDeclared, IsNamed, effect_fields, effects_text, member_text, object_name, values_text};
 
 use crate::parts::{push_decimal, push_each_id, push_payload, push_values};
 use ql_base::{EffId, Names, NoMemory, push_bytes, push_number};
@@ -49,7 +37,8 @@ pub(crate) fn push_effects(
     x: &Execution,
 ) -> Result<(), NoMemory>
     requires named { AreNamed t.now.program (length objects.now) x.now }
-    ensures text { OnOk result (out.new.items ≡ out.old.items ++ effects_text t.now.program objects.now x.now) }
+    ensures text { OnOk result
+        (out.new.items ≡ out.old.items ++ effects_text t.now.program objects.now x.now) }
     ensures values { OnOk result (HaveValues x.now) }
 {
     for k in 0..x.len() {
@@ -67,7 +56,9 @@ fn push_effect(
     effect: &Effect,
 ) -> Result<(), NoMemory>
     requires { IsNamed t.now.program (length objects.now) effect.now }
-    ensures text { OnOk result (out.new.items ≡ out.old.items ++ (joined (effect_fields t.now.program objects.now id.0 effect.now) ++ 10 ∷ [])) }
+    ensures text { OnOk result
+        (out.new.items ≡ out.old.items
+        ++ (joined (effect_fields t.now.program objects.now id.0 effect.now) ++ 10 ∷ [])) }
     ensures values { OnOk result (HasValues effect.now) }
 {
     push_heading(out, t, objects, id, effect)?;
@@ -88,7 +79,10 @@ fn push_heading(
     effect: &Effect,
 ) -> Result<(), NoMemory>
     requires { IsNamed t.now.program (length objects.now) effect.now }
-    ensures { OnOk result (out.new.items ≡ out.old.items ++ joined (codes "effect" ∷ decimal id.0 ∷ object_name objects.now effect.now.object.0 ∷ op_name t.now.program effect.now.op.0 ∷ [])) }
+    ensures { OnOk result
+        (out.new.items ≡ out.old.items
+        ++ joined (codes "effect" ∷ decimal id.0 ∷ object_name objects.now effect.now.object.0
+        ∷ op_name t.now.program effect.now.op.0 ∷ [])) }
 {
     push_bytes(out, b"effect ")?;
     push_number(out, id.0)?;
@@ -100,7 +94,9 @@ fn push_heading(
 
 // What an operation was called with, and what it answered.
 fn push_call(out: &mut Vec<u8>, args: &Values, answer: &Value) -> Result<(), NoMemory>
-    ensures text { OnOk result (out.new.items ≡ out.old.items ++ behind (values_text args.now ∷ codes "=" ∷ value_text answer.now ∷ [])) }
+    ensures text { OnOk result
+        (out.new.items ≡ out.old.items
+        ++ behind (values_text args.now ∷ codes "=" ∷ value_text answer.now ∷ [])) }
     ensures args { OnOk result (All IsValue args.now) }
     ensures answer { OnOk result (IsValue answer.now) }
 {

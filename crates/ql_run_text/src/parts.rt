@@ -1,4 +1,4 @@
-ghost use Rattle.std.specs.Prelude.{◌≡◌, ◌++◌, List, ℕ, All, OnErr, OnOk, decimal, map};
+ghost use Rattle.std.specs.Prelude.{◌≡◌, ◌++◌, All, OnErr, OnOk, decimal, map};
 ghost use Rattle.ql_lines.specs.Texts.{behind};
 ghost use Rattle.ql_value.specs.Spelling.{followed, value_text};
 ghost use Rattle.ql_value.specs.ValueGrammar.{IsValue};
@@ -62,7 +62,8 @@ pub(crate) fn push_values(out: &mut Vec<u8>, values: &Values) -> Result<(), NoMe
 
 // The values after the first one.
 fn push_followed(out: &mut Vec<u8>, values: &[Value]) -> Result<(), NoMemory>
-    ensures text { OnOk result (out.new.items ≡ out.old.items ++ followed (map value_text values.now)) }
+    ensures text { OnOk result
+        (out.new.items ≡ out.old.items ++ followed (map value_text values.now)) }
     ensures values { OnOk result (All IsValue values.now) }
 {
     for value in values {

@@ -1,4 +1,4 @@
-ghost use Rattle.std.specs.Prelude.{◌≡◌, ◌++◌, ◌∷◌, [], ◌≤◌, List, IfOk, OnOk, codes, decimal, map, length};
+ghost use Rattle.std.specs.Prelude.{◌≡◌, ◌++◌, ◌∷◌, [], ◌≤◌, IfOk, OnOk, codes, decimal, map, length};
 ghost use Rattle.ql_lines.specs.Texts.{joined};
 ghost use Rattle.ql_run_text.specs.ReplyTexts.{
   AreAnswered,
@@ -38,7 +38,9 @@ fn push_event(
     x: &Execution,
 ) -> Result<(), NoMemory>
     requires { IsAnswered x.now reply.now }
-    ensures { OnOk result (out.new.items ≡ out.old.items ++ (joined (numbered_reply_fields x.now number reply.now) ++ 10 ∷ [])) }
+    ensures { OnOk result
+        (out.new.items ≡ out.old.items
+        ++ (joined (numbered_reply_fields x.now number reply.now) ++ 10 ∷ [])) }
 {
     push_number(out, number)?;
     push_bytes(out, b" ")?;
@@ -85,7 +87,9 @@ fn push_reply(out: &mut Vec<u8>, reply: &Reply, x: &Execution) -> Result<(), NoM
 fn push_answer(out: &mut Vec<u8>, id: EffId, x: &Execution) -> Result<(), NoMemory>
     requires first { 1 ≤ id.0 }
     requires last { id.0 ≤ length x.now }
-    ensures { OnOk result (out.new.items ≡ out.old.items ++ joined (codes "ok" ∷ decimal id.0 ∷ answer_text x.now id.0 ∷ [])) }
+    ensures { OnOk result
+        (out.new.items ≡ out.old.items
+        ++ joined (codes "ok" ∷ decimal id.0 ∷ answer_text x.now id.0 ∷ [])) }
 {
     push_decimal(out, b"ok ", id.0)?;
     push_bytes(out, b" ")?;
@@ -94,7 +98,8 @@ fn push_answer(out: &mut Vec<u8>, id: EffId, x: &Execution) -> Result<(), NoMemo
 
 // A word, and ids after it.
 fn push_listed(out: &mut Vec<u8>, word: &[u8], ids: &[u32]) -> Result<(), NoMemory>
-    ensures { OnOk result (out.new.items ≡ out.old.items ++ joined (word.now ∷ map decimal ids.now)) }
+    ensures { OnOk result
+        (out.new.items ≡ out.old.items ++ joined (word.now ∷ map decimal ids.now)) }
 {
     push_bytes(out, word)?;
     push_each_id(out, ids)

@@ -28,7 +28,8 @@ pub fn print_run(
     requires txns { length l.now.txns ≡ length t.now.program.txns }
     requires named { AreNamed t.now.program (length objects.now) x.now }
     requires answered { AreAnswered x.now replies.now.items }
-    ensures text { IfOk result (λ text. text.items ≡ run_text t.now.program objects.now l.now replies.now.items x.now) }
+    ensures text { IfOk result
+        (λ text. text.items ≡ run_text t.now.program objects.now l.now replies.now.items x.now) }
     ensures values { OnOk result (HaveValues x.now) }
 {
     let mut text = Vec::new(alloc);

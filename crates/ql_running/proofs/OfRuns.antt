@@ -1,16 +1,14 @@
 -- What the written machine's run of a schedule has for its text: effects whose numbers name something, and replies that
 -- speak of these effects.
-use Rattle.std.proofs.Common.{◌≡◌, ℕ, suc, ◌<◌, ◌≤◌, Bool, true, ◌&&◌, nat_eq, nat_lt, List, [], ◌∷◌, ◌++◌, All, Option, Some, None, length, get_or, map, slice_get, slice_index, refl, ap, sym, subst, ◌∙◌, arith, inl, inr, length-append}
+use Rattle.std.proofs.Common.{◌≡◌, ℕ, suc, ◌<◌, ◌≤◌, true, List, [], ◌∷◌, ◌++◌, All, Option, Some, None, length, get_or, map, slice_get, slice_index, refl, ap, sym, subst, ◌∙◌, arith, inl, inr, length-append}
 use Rattle.std.specs.Prelude.{unwrap_or}
-use Rattle.std.specs.List.{AllByRecursion, list_all}
-use Rattle.std.specs.Option.{option_map}
+use Rattle.std.specs.List.{AllByRecursion}
 use Rattle.std.proofs.lemmas.Bool.{eq-eqb, lt-ltb}
 use Rattle.std.proofs.lemmas.List.Elements.{All-from_recursion}
 use Rattle.std.proofs.lemmas.Option.{slice_get-get_or, slice_get-map, unwrap_or-slice_get}
 use Rattle.ql_base.specs.declared.ids.SessId.{SessId}
 use Rattle.ql_base.specs.declared.ids.TypeId.{TypeId}
 use Rattle.ql_exec.specs.declared.effect.Effect.{Effect}
-use Rattle.ql_exec.specs.declared.effect.Member.{Member}
 use Rattle.ql_exec.specs.Effects.{effect_at}
 use Rattle.ql_exec.proofs.Finding.{cases_pushed}
 use Rattle.ql_headline.specs.Stores.{IsScheduleFor, is_of_type}

@@ -32,11 +32,17 @@ pub fn read_run_input(
     schedule: &[u8],
 ) -> Result<Result<RunInput, (Status, Vec<u8>)>, NoMemory>
     requires { length source.now < 2 ^ 32 }
-    ensures source { IfOk result (λ read. IfOk read (λ input. IsSourceOf source.now input.typed.program)) }
-    ensures schedule { IfOk result (λ read. IfOk read (λ input. IsScheduleFile input.typed.program (ahead_from 1 schedule.now) input.schedule)) }
-    ensures guarantees { IfOk result (λ read. IfOk read (λ input. IsSchedule input.typed.program input.schedule)) }
-    ensures levels { IfOk result (λ read. IfOk read (λ input. AreLevelsOf input.typed.program input.levels)) }
-    ensures refused { IfOk result (λ read. IfErr read (λ answer. NoRunSays source.now schedule.now answer.0 answer.1.items)) }
+    ensures source { IfOk result
+        (λ read. IfOk read (λ input. IsSourceOf source.now input.typed.program)) }
+    ensures schedule { IfOk result
+        (λ read. IfOk read (λ input. IsScheduleFile input.typed.program (ahead_from 1 schedule.now)
+        input.schedule)) }
+    ensures guarantees { IfOk result
+        (λ read. IfOk read (λ input. IsSchedule input.typed.program input.schedule)) }
+    ensures levels { IfOk result
+        (λ read. IfOk read (λ input. AreLevelsOf input.typed.program input.levels)) }
+    ensures refused { IfOk result
+        (λ read. IfErr read (λ answer. NoRunSays source.now schedule.now answer.0 answer.1.items)) }
 {
     one_schedule();
     let typed = match read_source(alloc, source) {
@@ -60,7 +66,8 @@ pub fn read_run_input(
 // The least levels of a program, or the text that says why it has none.
 fn least_levels(alloc: Global, t: &Typed) -> Result<Result<Levels, Vec<u8>>, NoMemory>
     ensures levels { IfOk result (λ found. IfOk found (AreLevelsOf t.now.program)) }
-    ensures refused { IfOk result (λ found. IfErr found (λ text. RefusalSays t.now.program text.items)) }
+    ensures refused { IfOk result
+        (λ found. IfErr found (λ text. RefusalSays t.now.program text.items)) }
 {
     match ql_classify::classify(alloc, t) {
         Ok(classified) => Ok(Ok(classified.levels().copy(alloc)?)),

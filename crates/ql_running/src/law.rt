@@ -1,4 +1,4 @@
-ghost use Rattle.std.specs.Prelude.{List, ℕ};
+ghost use Rattle.std.specs.Prelude.{List};
 ghost use Rattle.ql_classify.specs.Least.{AreLevelsOf};
 ghost use Rattle.ql_headline.specs.Stores.{rules_of};
 ghost use Rattle.ql_lang.specs.declared.program.Program.{Program};
@@ -15,7 +15,8 @@ use ql_headline::runs_meet_contracts;
 /// The headline, over what a schedule's file says: in the execution of its run at the least levels each effect and each
 /// begun transaction meets its written contract, and each answer is its type's fold over exactly what its effect sees.
 pub fn runs_are_sound()
-    ensures { (p : Program) (levels : LevelLists) (s : Schedule) (replies : List Reply) (last : Machine) → AreLevelsOf p levels → IsSchedule p s
+    ensures { (p : Program) (levels : LevelLists) (s : Schedule) (replies : List Reply)
+        (last : Machine) → AreLevelsOf p levels → IsSchedule p s
         → IsRun (rules_of p levels) s.replicas s.events replies last → IsSound p last.effects }
 {
     runs_meet_contracts();

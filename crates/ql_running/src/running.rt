@@ -32,7 +32,8 @@ pub fn run(
     schedule: &[u8],
 ) -> Result<(Status, Vec<u8>), NoMemory>
     requires { length source.now < 2 ^ 32 }
-    ensures { IfOk result (λ answer. RunSays (format_of form) source.now schedule.now answer.0 answer.1.items) }
+    ensures { IfOk result
+        (λ answer. RunSays (format_of form) source.now schedule.now answer.0 answer.1.items) }
 {
     match read_run_input(alloc, source, schedule)? {
         Ok(input) => Ok((Status::Done, text_of(alloc, form, input)?)),
@@ -44,7 +45,9 @@ pub fn run(
 fn text_of(alloc: Global, form: Form, input: RunInput) -> Result<Vec<u8>, NoMemory>
     requires levels { AreLevelsOf input.typed.program input.levels }
     requires schedule { IsSchedule input.typed.program input.schedule }
-    ensures { IfOk result (λ text. (source file : List ℕ) → IsSourceOf source input.typed.program → IsScheduleFile input.typed.program (ahead_from 1 file) input.schedule
+    ensures { IfOk result
+        (λ text. (source file : List ℕ) → IsSourceOf source input.typed.program
+        → IsScheduleFile input.typed.program (ahead_from 1 file) input.schedule
         → TellsRun (format_of form) source file text.items) }
 {
     let RunInput {
@@ -77,7 +80,9 @@ fn print_in(
     requires txns { length levels.now.txns ≡ length t.now.program.txns }
     requires named { AreNamed t.now.program (length objects.now) x.now }
     requires answered { AreAnswered x.now replies.now.items }
-    ensures { IfOk result (λ text. format_of form t.now.program objects.now levels.now replies.now.items x.now text.items) }
+    ensures { IfOk result
+        (λ text. format_of form t.now.program objects.now levels.now replies.now.items x.now
+        text.items) }
 {
     match form {
         Form::Text => print_run(alloc, t, objects, levels, replies, x),

@@ -26,15 +26,23 @@ pub fn sound_run(
 ) -> Result<Run<Replica>, NoMemory>
     requires levels { AreLevelsOf t.now.program levels.now }
     requires schedule { IsSchedule t.now.program schedule }
-    ensures run { IfOk result (λ run. IsRun (rules_of t.now.program levels.now) schedule.replicas schedule.events run.replies.items run.store.machine) }
+    ensures run { IfOk result
+        (λ run. IsRun (rules_of t.now.program levels.now) schedule.replicas schedule.events
+        run.replies.items run.store.machine) }
     ensures sound { IfOk result (λ run. IsSound t.now.program run.store.machine.effects) }
     ensures objects { IfOk result (λ run. run.objects ≡ schedule.objects) }
-    ensures replicas { IfOk result (λ run. length run.store.machine.received ≡ replicas_behind schedule.replicas schedule.events) }
-    ensures fits { IfOk result (λ run. All (FitsSchedule t.now.program (length schedule.objects) schedule.kinds) run.store.machine.effects) }
+    ensures replicas { IfOk result
+        (λ run. length run.store.machine.received
+        ≡ replicas_behind schedule.replicas schedule.events) }
+    ensures fits { IfOk result
+        (λ run. All (FitsSchedule t.now.program (length schedule.objects) schedule.kinds)
+        run.store.machine.effects) }
 
     // What a text of the run needs: numbers that name something, and replies that speak of its effects.
-    ensures named { IfOk result (λ run. AreNamed t.now.program (length schedule.objects) run.store.machine.effects) }
-    ensures answered { IfOk result (λ run. AreAnswered run.store.machine.effects run.replies.items) }
+    ensures named { IfOk result
+        (λ run. AreNamed t.now.program (length schedule.objects) run.store.machine.effects) }
+    ensures answered { IfOk result
+        (λ run. AreAnswered run.store.machine.effects run.replies.items) }
 {
     runs_are_sound();
     let same = levels.copy(alloc)?;

@@ -31,6 +31,7 @@ use Rattle.ql_machine.specs.Changes.{effect_made, member_of}
 use Rattle.ql_machine.specs.Calls.{IsCall, MayAnswer, blocked, held, makes, makes_own, makes_strong, unavailable, undeclared, unused}
 use Rattle.ql_machine.specs.Deliveries.{IsDelivery, again, applies, cut, gone, waits}
 use Rattle.ql_machine.specs.Steps.{IsStep, absent, already_open, begins, calls, commits, delivers, heals, joins_bare, joins_copy, loses, none_open, none_to_lose, none_to_repeat, repeats, resends, splits}
+use Rattle.ql_machine_laws.proofs.Growth.{Grows, stays, gains, grows}
 use Rattle.ql_needs.specs.Closed.{Has}
 use Rattle.ql_schedule.specs.Guarantees.{FitsCall, FitsEvent}
 use Rattle.ql_typing.specs.Operations.{all_ops, op_kinds}
@@ -91,46 +92,6 @@ module _ (p : Program) (replicas objects : ℕ) (kinds : List TypeId) where
 
 -- ---- effects that are made
 
--- what a step makes of the execution: nothing, or an effect of its call
-pub data Makes (rules : Rules) (s : Machine) : Event → List Effect → Type 0 where
-  nothing : (event : Event) → Makes rules s event s.effects
-  effect : (c : Call) (seen : List ℕ) → MayAnswer rules s c seen → Makes rules s (event.Call c.session c.replica c.object c.op c.args) (s.effects ++ effect_made rules s c seen ∷ [])
-
-makes-call : (rules : Rules) (s : Machine) (c : Call) (after : Machine) (r : Reply) → IsCall rules s c after r → Makes rules s (event.Call c.session c.replica c.object c.op c.args) after.effects
-makes-call rules s c _ _ (undeclared t is lacks) = nothing _
-makes-call rules s c _ _ (unused t is declares unlisted) = nothing _
-makes-call rules s c _ _ (unavailable q allowed level least) = nothing _
-makes-call rules s c _ _ (held session allowed level connected least) = nothing _
-makes-call rules s c _ _ (blocked a may least) = nothing _
-makes-call rules s c _ _ (makes seen may none weak) = effect c seen may
-makes-call rules s c _ _ (makes_strong seen ids may none level are) = effect c seen may
-makes-call rules s c _ _ (makes_own t seen may is) = effect c seen may
-
-makes-delivery : (rules : Rules) (s : Machine) (e : Event) (m : ℕ) (after : Machine) (r : Reply) → IsDelivery s m after r → Makes rules s e after.effects
-makes-delivery rules s e m _ _ (gone none) = nothing e
-makes-delivery rules s e m _ _ (cut message is apart) = nothing e
-makes-delivery rules s e m _ _ (again message is passes known) = nothing e
-makes-delivery rules s e m _ _ (waits message a new least) = nothing e
-makes-delivery rules s e m _ _ (applies message ids new all are) = nothing e
-
-makes-step : (rules : Rules) (s : Machine) (e : Event) (after : Machine) (r : Reply) → IsStep rules s e after r → Makes rules s e after.effects
-makes-step rules s _ _ _ (calls session replica object op args after r is) = makes-call rules s _ after r is
-makes-step rules s _ _ _ (already_open session replica decl objects t is) = nothing _
-makes-step rules s _ _ _ (begins session replica decl objects snapshot none less are) = nothing _
-makes-step rules s _ _ _ (none_open session replica none) = nothing _
-makes-step rules s _ _ _ (commits session replica t own is are) = nothing _
-makes-step rules s _ _ _ (delivers m after r is) = makes-delivery rules s _ m.0 after r is
-makes-step rules s _ _ _ (none_to_repeat m is) = nothing _
-makes-step rules s _ _ _ (repeats m message is) = nothing _
-makes-step rules s _ _ _ (none_to_lose m is) = nothing _
-makes-step rules s _ _ _ (loses m message is) = nothing _
-makes-step rules s _ _ _ (absent a sender receiver lacks) = nothing _
-makes-step rules s _ _ _ (resends a sender receiver ids has are) = nothing _
-makes-step rules s _ _ _ (splits groups) = nothing _
-makes-step rules s _ _ _ heals = nothing _
-makes-step rules s _ _ _ (joins_copy near less) = nothing _
-makes-step rules s _ _ _ (joins_bare near ids less are) = nothing _
-
 -- an effect that a reply names is there, and stays there
 made-call : (rules : Rules) (s : Machine) (c : Call) (after : Machine) (r : Reply) → IsCall rules s c after r → IsMade (length after.effects) r
 made-call rules s c _ _ (undeclared t is lacks) = tt
@@ -167,9 +128,9 @@ made-step rules s _ _ _ heals = tt
 made-step rules s _ _ _ (joins_copy near less) = tt
 made-step rules s _ _ _ (joins_bare near ids less are) = tt
 
-more-made : (rules : Rules) (s : Machine) (e : Event) (y : List Effect) → Makes rules s e y → length s.effects ≤ length y
-more-made rules s _ _ (nothing e) = omega arith
-more-made rules s _ _ (effect c seen may) = let long = length-append s.effects (effect_made rules s c seen ∷ []) in omega (arith, long)
+more-made : (rules : Rules) (s : Machine) (e : Event) (y : List Effect) → Grows rules s e y → length s.effects ≤ length y
+more-made rules s _ _ (stays e) = omega arith
+more-made rules s _ _ (gains c seen may) = let long = length-append s.effects (effect_made rules s c seen ∷ []) in omega (arith, long)
 
 made-more : (n m : ℕ) (r : Reply) → n ≤ m → IsMade n r → IsMade m r
 made-more n m (reply.Ok e) less is = let last = is.1 in (is.0, omega (arith, last, less))
@@ -179,7 +140,7 @@ pub made-kept : (rules : Rules) (s : Machine) (e : Event) (after : Machine) (r :
     → All (IsMade (length after.effects)) (replies ++ r ∷ [])
 made-kept rules s e after r replies is all =
     All-append (IsMade (length after.effects)) replies (r ∷ [])
-    (λ k d inside. made-more (length s.effects) (length after.effects) (get_or replies k d) (more-made rules s e after.effects (makes-step rules s e after r is)) (all k d inside))
+    (λ k d inside. made-more (length s.effects) (length after.effects) (get_or replies k d) (more-made rules s e after.effects (grows rules s e after r is)) (all k d inside))
     (All-cons (IsMade (length after.effects)) r [] (made-step rules s e after r is) (All-nil (IsMade (length after.effects))))
 
 member-declared : (n : ℕ) (o : List OpenTxn) (session : SessId) → AreDeclared n o → IsDeclared n (member_of (open_of o session))
@@ -210,12 +171,12 @@ module _ (p : Program) (replicas objects : ℕ) (kinds : List TypeId) (rules : R
         txn = member-declared (length p.txns) s.open_txns c.session declared;
       }
 
-  fits-grown : (s : Machine) (e : Event) (y : List Effect) → AreDeclared (length p.txns) s.open_txns → Makes rules s e y → FitsEvent p replicas objects kinds e → All (FitsSchedule p objects kinds) s.effects → All (FitsSchedule p objects kinds) y
-  fits-grown s _ _ declared (nothing e) fits all = all
-  fits-grown s _ _ declared (effect c seen may) fits all =
+  fits-grown : (s : Machine) (e : Event) (y : List Effect) → AreDeclared (length p.txns) s.open_txns → Grows rules s e y → FitsEvent p replicas objects kinds e → All (FitsSchedule p objects kinds) s.effects → All (FitsSchedule p objects kinds) y
+  fits-grown s _ _ declared (stays e) fits all = all
+  fits-grown s _ _ declared (gains c seen may) fits all =
       All-append (FitsSchedule p objects kinds) s.effects (effect_made rules s c seen ∷ []) all
       (All-cons (FitsSchedule p objects kinds) (effect_made rules s c seen) [] (fits-made s c seen declared fits may all) (All-nil (FitsSchedule p objects kinds)))
 
   pub fits-step : (s : Machine) (e : Event) (after : Machine) (r : Reply) → AreDeclared (length p.txns) s.open_txns → IsStep rules s e after r → FitsEvent p replicas objects kinds e → All (FitsSchedule p objects kinds) s.effects
       → All (FitsSchedule p objects kinds) after.effects
-  fits-step s e after r declared is fits all = fits-grown s e after.effects declared (makes-step rules s e after r is) fits all
+  fits-step s e after r declared is fits all = fits-grown s e after.effects declared (grows rules s e after r is) fits all

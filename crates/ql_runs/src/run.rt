@@ -37,13 +37,21 @@ pub fn run_schedule<H: Holder>(
 ) -> Result<Run<H>, NoMemory>
     requires levels { HasLevelOfEach typed.now.program levels }
     requires schedule { IsSchedule typed.now.program schedule }
-    ensures run { IfOk result (λ run. (rules : Rules) → rules.promises ≡ promises_of levels → rules.uses ≡ uses_of typed.now.program
-        → rules.answer ≡ (λ op args seen. answered_of typed.now.program.types op.0 args seen) → IsRun rules schedule.replicas schedule.events run.replies.items run.store.machine) }
+    ensures run { IfOk result
+        (λ run. (rules : Rules) → rules.promises ≡ promises_of levels
+        → rules.uses ≡ uses_of typed.now.program
+        → rules.answer ≡ (λ op args seen. answered_of typed.now.program.types op.0 args seen)
+        → IsRun rules schedule.replicas schedule.events run.replies.items run.store.machine) }
     ensures levels { IfOk result (λ run. run.store.levels ≡ levels) }
     ensures objects { IfOk result (λ run. run.objects ≡ schedule.objects) }
-    ensures replicas { IfOk result (λ run. length run.store.machine.received ≡ replicas_behind schedule.replicas schedule.events) }
-    ensures fits { IfOk result (λ run. All (FitsSchedule typed.now.program (length schedule.objects) schedule.kinds) run.store.machine.effects) }
-    ensures answered { IfOk result (λ run. All (IsMade (length run.store.machine.effects)) run.replies.items) }
+    ensures replicas { IfOk result
+        (λ run. length run.store.machine.received
+        ≡ replicas_behind schedule.replicas schedule.events) }
+    ensures fits { IfOk result
+        (λ run. All (FitsSchedule typed.now.program (length schedule.objects) schedule.kinds)
+        run.store.machine.effects) }
+    ensures answered { IfOk result
+        (λ run. All (IsMade (length run.store.machine.effects)) run.replies.items) }
 {
     let folder = TypedFolder::new(alloc, typed);
     let mut store = Store::new(alloc, schedule.replicas, levels)?;

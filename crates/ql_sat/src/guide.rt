@@ -19,7 +19,9 @@ pub(crate) struct Guide {
 impl Guide {
     pub fn new(alloc: Global, c: &Clauses) -> Result<Guide, NoMemory>
         ensures few { OnOk result (length c.now.clauses < 2 ^ 32) }
-        ensures watched { IfOk result (λ guide. IsWatched c.now [] guide.watches.lists.items guide.watches.pairs.items guide.queue.done) }
+        ensures watched { IfOk result
+            (λ guide. IsWatched c.now [] guide.watches.lists.items guide.watches.pairs.items
+            guide.queue.done) }
     {
         Ok(Guide {
             queue: Queue::new(alloc, c)?,

@@ -58,7 +58,9 @@ impl Analysis {
     // Marks the variables of the clause as seen.
     fn see(&mut self, clause: &[Lit])
         requires { AllBelow (length self.old.seen.items) clause.now }
-        ensures seen { (v : ℕ) → is_seen self.new.seen.items v ≡ (has_variable clause.now v || is_seen self.old.seen.items v) }
+        ensures seen { (v : ℕ)
+            → is_seen self.new.seen.items v
+            ≡ (has_variable clause.now v || is_seen self.old.seen.items v) }
         ensures hints { self.new.hints ≡ self.old.hints }
         ensures len { length self.new.seen.items ≡ length self.old.seen.items }
     {
@@ -68,7 +70,9 @@ impl Analysis {
     }
 
     fn forget(&mut self, var: u32)
-        ensures seen { (v : ℕ) → is_seen self.new.seen.items v ≡ (if v == var then false else is_seen self.old.seen.items v) }
+        ensures seen { (v : ℕ)
+            → is_seen self.new.seen.items v
+            ≡ (if v == var then false else is_seen self.old.seen.items v) }
         ensures hints { self.new.hints ≡ self.old.hints }
         ensures len { length self.new.seen.items ≡ length self.old.seen.items }
     {
@@ -87,12 +91,18 @@ pub(crate) fn learn(
 ) -> Result<Turn, NoMemory>
     requires sound { IsSoundSearch c.now search.old }
     requires seen { length search.old.analysis.seen.items ≡ c.now.variables + 1 }
-    requires conflict { IsFalseClause c.now search.old.lines.items conflict search.old.trail.marks.items }
-    requires guarded { IsGuarded (with_lines c.now search.old.lines.items) search.old.trail.steps.items search.old.guide.watches.lists.items search.old.guide.watches.pairs.items }
+    requires conflict { IsFalseClause c.now search.old.lines.items conflict
+        search.old.trail.marks.items }
+    requires guarded { IsGuarded (with_lines c.now search.old.lines.items)
+        search.old.trail.steps.items search.old.guide.watches.lists.items
+        search.old.guide.watches.pairs.items }
     ensures sound { OnOk result (IsSoundSearch c.now search.new) }
     ensures ready { IfOk result (λ turn. turn ≡ Turn.More → IsReady c.now search.new) }
     ensures turn { IfOk result (IsTurn c.now search.new.lines.items search.new.trail.marks.items) }
-    ensures number { IfOk result (λ turn. turn ≡ Turn.More → trail_number (c.now.variables + 1) search.old.trail.steps.items < trail_number (c.now.variables + 1) search.new.trail.steps.items) }
+    ensures number { IfOk result
+        (λ turn. turn ≡ Turn.More
+        → trail_number (c.now.variables + 1) search.old.trail.steps.items
+        < trail_number (c.now.variables + 1) search.new.trail.steps.items) }
 {
     let known = Known {
         given: c,
@@ -123,10 +133,17 @@ pub(crate) fn learn(
 // Reads the learned clause where it forces a literal.
 fn read_learned(known: Known, number: u64, trail: &mut Trail) -> Result<(), NoMemory>
     requires sound { IsSound known trail.old }
-    requires unit { IsUnitClause known.given.now known.lines.now (Hint.Earlier number) trail.old.marks.items }
+    requires unit { IsUnitClause known.given.now known.lines.now (Hint.Earlier number)
+        trail.old.marks.items }
     ensures sound { OnOk result (IsSound known.entry trail.new) }
-    ensures forced { OnOk result (IsLonger Visit.Forced (known.entry.given.now.variables + 1) trail.old.steps.items trail.new.steps.items) }
-    ensures literal { OnOk result ((d : List Lit) (x : Lit) → hinted known.entry.given.now known.entry.lines.now (Hint.Earlier number) ≡ Some d → reading (marked trail.old.marks.items) d ≡ Reading.Forces x → marked trail.new.marks.items x.var ≡ Some x.positive) }
+    ensures forced { OnOk result
+        (IsLonger Visit.Forced (known.entry.given.now.variables + 1) trail.old.steps.items
+        trail.new.steps.items) }
+    ensures literal { OnOk result
+        ((d : List Lit) (x : Lit)
+        → hinted known.entry.given.now known.entry.lines.now (Hint.Earlier number) ≡ Some d
+        → reading (marked trail.old.marks.items) d ≡ Reading.Forces x
+        → marked trail.new.marks.items x.var ≡ Some x.positive) }
 {
     propagate_clause(known, Hint::Earlier(number), trail)?;
     Ok(())
@@ -136,7 +153,11 @@ fn read_learned(known: Known, number: u64, trail: &mut Trail) -> Result<(), NoMe
 // false ones, or the forced one twice if it has no other.
 fn watch(watches: &mut Watches, trail: &[Step], seen: &[bool], to: usize) -> Result<(), NoMemory>
     requires { to < length trail.now }
-    ensures pair { OnOk result ((w : Pair) × (watches.new.pairs.items ≡ watches.old.pairs.items ++ w ∷ []) × WatchesForced seen.now (take to trail.now) (slice_index_or trail.now to (record { lit = record { var = 0; positive = false }; reason = None })).lit w) }
+    ensures pair { OnOk result
+        ((w : Pair) × (watches.new.pairs.items ≡ watches.old.pairs.items ++ w ∷ [])
+        × WatchesForced seen.now (take to trail.now)
+        (slice_index_or trail.now to
+        (record { lit = record { var = 0; positive = false }; reason = None })).lit w) }
     ensures len { OnOk result (length watches.new.lists.items ≡ length watches.old.lists.items) }
 {
     let forced = trail[to].lit;
@@ -162,7 +183,9 @@ fn last_seen(steps: &[Step], seen: &[bool]) -> Option<Lit>
 
 // Appends a line, and returns its number.
 fn keep(clause: Clause, hints: Vec<Hint>, lines: &mut Vec<Line>) -> Result<u64, NoMemory>
-    ensures pushed { OnOk result (lines.new.items ≡ lines.old.items ++ record { clause = clause; hints = hints.items } ∷ []) }
+    ensures pushed { OnOk result
+        (lines.new.items ≡ lines.old.items
+        ++ record { clause = clause; hints = hints.items } ∷ []) }
     ensures number { IfOk result (λ number. number ≡ length lines.old.items + 1) }
     ensures few { OnOk result (length lines.new.items < 2 ^ 64) }
 {
@@ -186,8 +209,11 @@ fn analyze(
     requires seen { length analysis.old.seen.items ≡ known.given.now.variables + 1 }
     requires conflict { IsConflict known trail.now conflict }
     ensures analyzed { OnOk result ((i : ℕ) × IsAnalyzed known.entry trail.now i analysis.new) }
-    ensures found { IfOk result (λ found. MatchOption found (IsAnalyzed known.entry trail.now 0 analysis.new) (λ to. IsFirstAsserting trail.now.steps.items to analysis.new.seen.items)) }
-    ensures seen { OnOk result (length analysis.new.seen.items ≡ known.entry.given.now.variables + 1) }
+    ensures found { IfOk result
+        (λ found. MatchOption found (IsAnalyzed known.entry trail.now 0 analysis.new)
+        (λ to. IsFirstAsserting trail.now.steps.items to analysis.new.seen.items)) }
+    ensures seen { OnOk result
+        (length analysis.new.seen.items ≡ known.entry.given.now.variables + 1) }
 {
     begin(known, conflict, analysis, order)?;
     order.decay();
@@ -215,8 +241,11 @@ fn begin(
     requires in_range { LinesInRange known.given.now.variables known.lines.now }
     requires seen { length analysis.old.seen.items ≡ known.given.now.variables + 1 }
     requires conflict { is_some (hinted known.given.now known.lines.now conflict) ≡ true }
-    ensures analyzed { OnOk result ((trail : Trail) → IsSound known.entry trail → IsConflict known.entry trail conflict → IsAnalyzed known.entry trail (length trail.steps.items) analysis.new) }
-    ensures seen { OnOk result (length analysis.new.seen.items ≡ known.entry.given.now.variables + 1) }
+    ensures analyzed { OnOk result
+        ((trail : Trail) → IsSound known.entry trail → IsConflict known.entry trail conflict
+        → IsAnalyzed known.entry trail (length trail.steps.items) analysis.new) }
+    ensures seen { OnOk result
+        (length analysis.new.seen.items ≡ known.entry.given.now.variables + 1) }
 {
     let Some(clause) = hinted(known.given, known.lines, conflict) else {
         unreachable!();
@@ -237,9 +266,15 @@ fn resolve(
 ) -> Result<(), NoMemory>
     requires in_range { LinesInRange known.given.now.variables known.lines.now }
     requires seen { length analysis.old.seen.items ≡ known.given.now.variables + 1 }
-    requires reason { MatchOption step.reason ⊥ (λ reason. is_some (hinted known.given.now known.lines.now reason) ≡ true) }
-    ensures analyzed { OnOk result ((trail : Trail) (at : ℕ) → IsSound known.entry trail → slice_get trail.steps.items at ≡ Some step → IsAnalyzed known.entry trail (at + 1) analysis.old → IsAnalyzed known.entry trail at analysis.new) }
-    ensures seen { OnOk result (length analysis.new.seen.items ≡ known.entry.given.now.variables + 1) }
+    requires reason { MatchOption step.reason ⊥
+        (λ reason. is_some (hinted known.given.now known.lines.now reason) ≡ true) }
+    ensures analyzed { OnOk result
+        ((trail : Trail) (at : ℕ) → IsSound known.entry trail
+        → slice_get trail.steps.items at ≡ Some step
+        → IsAnalyzed known.entry trail (at + 1) analysis.old
+        → IsAnalyzed known.entry trail at analysis.new) }
+    ensures seen { OnOk result
+        (length analysis.new.seen.items ≡ known.entry.given.now.variables + 1) }
 {
     let Some(reason) = step.reason else {
         unreachable!();
@@ -264,9 +299,14 @@ fn is_seen(seen: &[bool], var: u32) -> bool
 // false; none if another literal of the clause follows the last decision up to that index.
 fn asserting(trail: &[Step], seen: &[bool], at: usize) -> Option<usize>
     requires at { at < length trail.now }
-    requires seen { is_seen seen.now (slice_index_or trail.now at (record { lit = record { var = 0; positive = false }; reason = None })).lit.var ≡ true }
+    requires seen { is_seen seen.now
+        (slice_index_or trail.now at
+        (record { lit = record { var = 0; positive = false }; reason = None })).lit.var ≡ true }
     requires later { NoneSeen seen.now (drop (at + 1) trail.now) }
-    ensures { MatchOption result (is_some (slice_index_or trail.now at (record { lit = record { var = 0; positive = false }; reason = None })).reason ≡ true) (λ to. IsFirstAsserting trail.now to seen.now) }
+    ensures { MatchOption result
+        (is_some (slice_index_or trail.now at
+        (record { lit = record { var = 0; positive = false }; reason = None })).reason
+        ≡ true) (λ to. IsFirstAsserting trail.now to seen.now) }
 {
     let mut to = decision(trail, seen, at, None);
     let mut place = at;
@@ -286,7 +326,10 @@ fn decision(trail: &[Step], seen: &[bool], place: usize, later: Option<usize>) -
     ensures asserting { IfSome result (λ to. IsAsserting trail.now to seen.now) }
     ensures first { IsFirstFrom trail.now seen.now place result }
     ensures later { IfNone result (later ≡ None) }
-    ensures none { IfNone result (is_some (slice_index_or trail.now place (record { lit = record { var = 0; positive = false }; reason = None })).reason ≡ true) }
+    ensures none { IfNone result
+        (is_some (slice_index_or trail.now place
+        (record { lit = record { var = 0; positive = false }; reason = None })).reason
+        ≡ true) }
 {
     if trail[place].reason.is_none() {
         Some(place)

@@ -11,7 +11,8 @@ use std::alloc::Global;
 // The greatest variable without a value.
 pub(crate) fn greatest_unset(variables: u32, marks: &[u8]) -> Option<u32>
     requires { variables < length marks.now }
-    ensures { MatchOption result (IsTotal variables marks.now) (λ v. (1 ≤ v) × (v ≤ variables) × (marked marks.now v ≡ None)) }
+    ensures { MatchOption result (IsTotal variables marks.now)
+        (λ v. (1 ≤ v) × (v ≤ variables) × (marked marks.now v ≡ None)) }
 {
     let mut var = variables;
     while var > 0 {

@@ -39,11 +39,18 @@ pub(crate) fn propagate(
     requires watched { AreWatched known trail.old guide.old.watches guide.old.queue.done }
     ensures sound { OnOk result (IsSound known.entry trail.new) }
     ensures guarded { OnOk result (AreGuarded known.entry trail.new guide.new.watches) }
-    ensures watched { IfOk result (λ found. IfNone found (AreWatched known.entry trail.new guide.new.watches guide.new.queue.done)) }
-    ensures all { IfOk result (λ found. IfNone found (guide.new.queue.done ≡ length trail.new.steps.items)) }
-    ensures quiet { IfOk result (λ found. IfNone found (IsQuietOnNonUnits (all_clauses known.entry).clauses trail.new.marks.items)) }
+    ensures watched { IfOk result
+        (λ found. IfNone found
+        (AreWatched known.entry trail.new guide.new.watches guide.new.queue.done)) }
+    ensures all { IfOk result
+        (λ found. IfNone found (guide.new.queue.done ≡ length trail.new.steps.items)) }
+    ensures quiet { IfOk result
+        (λ found. IfNone found
+        (IsQuietOnNonUnits (all_clauses known.entry).clauses trail.new.marks.items)) }
     ensures conflict { IfOk result (λ found. IfSome found (IsConflict known.entry trail.new)) }
-    ensures number { OnOk result (trail_number (known.entry.given.now.variables + 1) trail.old.steps.items ≤ trail_number (known.entry.given.now.variables + 1) trail.new.steps.items) }
+    ensures number { OnOk result
+        (trail_number (known.entry.given.now.variables + 1) trail.old.steps.items
+        ≤ trail_number (known.entry.given.now.variables + 1) trail.new.steps.items) }
 {
     let conflict = read_units(known, trail, &mut guide.queue)?;
     if conflict.is_some() {
@@ -65,10 +72,14 @@ pub(crate) fn propagate(
 fn read_units(known: Known, trail: &mut Trail, queue: &mut Queue) -> Result<Option<Hint>, NoMemory>
     requires { IsSound known trail.old }
     ensures sound { OnOk result (IsSound known.entry trail.new) }
-    ensures watched { OnOk result ((watches : Watches) (done : ℕ) → AreWatched known.entry trail.old watches done → AreWatched known.entry trail.new watches done) }
+    ensures watched { OnOk result
+        ((watches : Watches) (done : ℕ) → AreWatched known.entry trail.old watches done
+        → AreWatched known.entry trail.new watches done) }
     ensures done { queue.new.done ≡ queue.old.done }
     ensures conflict { IfOk result (λ found. IfSome found (IsConflict known.entry trail.new)) }
-    ensures number { OnOk result (trail_number (known.entry.given.now.variables + 1) trail.old.steps.items ≤ trail_number (known.entry.given.now.variables + 1) trail.new.steps.items) }
+    ensures number { OnOk result
+        (trail_number (known.entry.given.now.variables + 1) trail.old.steps.items
+        ≤ trail_number (known.entry.given.now.variables + 1) trail.new.steps.items) }
 {
     while let Some(number) = queue.units.pop() {
         let hint = Hint::Given(number);
@@ -91,9 +102,12 @@ fn visit_watchers(
     requires watched { AreWatched known trail.old watches.old place }
     ensures sound { OnOk result (IsSound known.entry trail.new) }
     ensures guarded { OnOk result (AreGuarded known.entry trail.new watches.new) }
-    ensures watched { IfOk result (λ found. IfNone found (AreWatched known.entry trail.new watches.new (place + 1))) }
+    ensures watched { IfOk result
+        (λ found. IfNone found (AreWatched known.entry trail.new watches.new (place + 1))) }
     ensures conflict { IfOk result (λ found. IfSome found (IsConflict known.entry trail.new)) }
-    ensures number { OnOk result (trail_number (known.entry.given.now.variables + 1) trail.old.steps.items ≤ trail_number (known.entry.given.now.variables + 1) trail.new.steps.items) }
+    ensures number { OnOk result
+        (trail_number (known.entry.given.now.variables + 1) trail.old.steps.items
+        ≤ trail_number (known.entry.given.now.variables + 1) trail.new.steps.items) }
 {
     let falsified = trail.steps[place].lit.negated();
     let mut at = 0;
@@ -123,12 +137,24 @@ fn visit(
     requires sound { IsSound known trail.old }
     requires there { IsThere watches.old.lists.items watcher.falsified watcher.at watcher.clause }
     requires fits { watcher.at + 1 < 2 ^ 64 }
-    requires hint { watcher.clause < length (all_clauses known).clauses → hinted known.given.now known.lines.now watcher.hint ≡ Some (slice_index_or (all_clauses known).clauses watcher.clause []) }
+    requires hint { watcher.clause < length (all_clauses known).clauses
+        → hinted known.given.now known.lines.now watcher.hint
+        ≡ Some (slice_index_or (all_clauses known).clauses watcher.clause []) }
     ensures sound { OnOk result (IsSound known.entry trail.new) }
-    ensures visited { IfOk result (λ next. (place : ℕ) → AreVisited known.entry trail.old watches.old place watcher.at watcher.falsified → MatchOption next (AreGuarded known.entry trail.new watches.new) (λ to. AreVisited known.entry trail.new watches.new place to watcher.falsified)) }
-    ensures fewer { IfOk result (λ next. IfSome next (λ to. length (slice_index_or watches.new.lists.items (index_of watcher.falsified) []) - to < length (slice_index_or watches.old.lists.items (index_of watcher.falsified) []) - watcher.at)) }
-    ensures conflict { IfOk result (λ next. IfNone next (IsConflict known.entry trail.new watcher.hint)) }
-    ensures number { OnOk result (trail_number (known.entry.given.now.variables + 1) trail.old.steps.items ≤ trail_number (known.entry.given.now.variables + 1) trail.new.steps.items) }
+    ensures visited { IfOk result
+        (λ next. (place : ℕ) → AreVisited known.entry trail.old watches.old place watcher.at
+        watcher.falsified → MatchOption next (AreGuarded known.entry trail.new watches.new)
+        (λ to. AreVisited known.entry trail.new watches.new place to watcher.falsified)) }
+    ensures fewer { IfOk result
+        (λ next. IfSome next (λ to. length
+        (slice_index_or watches.new.lists.items (index_of watcher.falsified) []) - to
+        < length (slice_index_or watches.old.lists.items (index_of watcher.falsified) [])
+        - watcher.at)) }
+    ensures conflict { IfOk result
+        (λ next. IfNone next (IsConflict known.entry trail.new watcher.hint)) }
+    ensures number { OnOk result
+        (trail_number (known.entry.given.now.variables + 1) trail.old.steps.items
+        ≤ trail_number (known.entry.given.now.variables + 1) trail.new.steps.items) }
 {
     let other = watches.other(watcher.clause, watcher.falsified);
     match look_at(known, watcher, other, &trail.marks) {
@@ -148,7 +174,9 @@ fn visit(
 fn look_at(known: Known, watcher: Watcher, other: Lit, marks: &[u8]) -> Look
     requires { LinesInRange known.given.now.variables known.lines.now }
     ensures away { IsAway watcher.falsified result }
-    ensures look { (d : List Lit) → hinted known.entry.given.now known.entry.lines.now watcher.hint ≡ Some d → IsLook d watcher.falsified other (marked marks.now) result }
+    ensures look { (d : List Lit)
+        → hinted known.entry.given.now known.entry.lines.now watcher.hint ≡ Some d
+        → IsLook d watcher.falsified other (marked marks.now) result }
 {
     match hinted(known.given, known.lines, watcher.hint) {
         Some(clause) => inspect(clause, watcher.falsified, other, marks),

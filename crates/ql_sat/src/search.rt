@@ -53,7 +53,10 @@ fn take_turn(alloc: Global, c: &Clauses, search: &mut Search) -> Result<Turn, No
     ensures sound { OnOk result (IsSoundSearch c.now search.new) }
     ensures ready { IfOk result (λ turn. turn ≡ Turn.More → IsReady c.now search.new) }
     ensures turn { IfOk result (IsTurn c.now search.new.lines.items search.new.trail.marks.items) }
-    ensures number { IfOk result (λ turn. turn ≡ Turn.More → trail_number (c.now.variables + 1) search.old.trail.steps.items < trail_number (c.now.variables + 1) search.new.trail.steps.items) }
+    ensures number { IfOk result
+        (λ turn. turn ≡ Turn.More
+        → trail_number (c.now.variables + 1) search.old.trail.steps.items
+        < trail_number (c.now.variables + 1) search.new.trail.steps.items) }
 {
     let known = Known {
         given: c,
@@ -78,7 +81,10 @@ fn finish(alloc: Global, c: &Clauses, search: &mut Search) -> Result<Turn, NoMem
     ensures sound { OnOk result (IsSoundSearch c.now search.new) }
     ensures ready { IfOk result (λ turn. turn ≡ Turn.More → IsReady c.now search.new) }
     ensures turn { IfOk result (IsTurn c.now search.new.lines.items search.new.trail.marks.items) }
-    ensures number { IfOk result (λ turn. turn ≡ Turn.More → trail_number (c.now.variables + 1) search.old.trail.steps.items < trail_number (c.now.variables + 1) search.new.trail.steps.items) }
+    ensures number { IfOk result
+        (λ turn. turn ≡ Turn.More
+        → trail_number (c.now.variables + 1) search.old.trail.steps.items
+        < trail_number (c.now.variables + 1) search.new.trail.steps.items) }
 {
     if let Some(var) = greatest_unset(c.variables(), &search.trail.marks) {
         let positive = search.guide.order.phase(var);
@@ -93,7 +99,8 @@ fn finish(alloc: Global, c: &Clauses, search: &mut Search) -> Result<Turn, NoMem
 
 // The first clause without literals, which watches nothing.
 fn first_empty(c: &Clauses) -> Option<u32>
-    ensures none { IfNone result ((k : ℕ) → k < length c.now.clauses → slice_index_or c.now.clauses k [] ≢ []) }
+    ensures none { IfNone result
+        ((k : ℕ) → k < length c.now.clauses → slice_index_or c.now.clauses k [] ≢ []) }
     ensures empty { IfSome result (λ number. hinted c.now [] (Hint.Given number) ≡ Some []) }
     ensures in_range { ClausesInRange c.now.variables c.now.clauses }
 {

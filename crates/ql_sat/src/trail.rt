@@ -56,7 +56,9 @@ impl Trail {
     fn push(&mut self, step: Step) -> Result<(), NoMemory>
         requires { step.lit.var < length self.old.marks.items }
         ensures steps { OnOk result (self.new.steps.items ≡ self.old.steps.items ++ step ∷ []) }
-        ensures marks { OnOk result (self.new.marks.items ≡ slice_set self.old.marks.items step.lit.var (mark_of step.lit.positive)) }
+        ensures marks { OnOk result
+            (self.new.marks.items
+            ≡ slice_set self.old.marks.items step.lit.var (mark_of step.lit.positive)) }
     {
         self.steps.push(step)?;
         set(&mut self.marks, step.lit);
@@ -81,10 +83,18 @@ pub(crate) fn propagate_clause(
 ) -> Result<Visit, NoMemory>
     requires { IsSound known trail.old }
     ensures sound { OnOk result (IsSound known.entry trail.new) }
-    ensures conflict { IfOk result (λ visit. visit ≡ Visit.Conflict → IsConflict known.entry trail.new hint) }
-    ensures visit { IfOk result (λ visit. (d : List Lit) → hinted known.entry.given.now known.entry.lines.now hint ≡ Some d → visit ≡ visit_of (reading (marked trail.old.marks.items) d)) }
-    ensures forced { OnOk result ((d : List Lit) (x : Lit) → hinted known.entry.given.now known.entry.lines.now hint ≡ Some d → reading (marked trail.old.marks.items) d ≡ Reading.Forces x → marked trail.new.marks.items x.var ≡ Some x.positive) }
-    ensures number { IfOk result (λ visit. IsLonger visit (known.entry.given.now.variables + 1) trail.old.steps.items trail.new.steps.items) }
+    ensures conflict { IfOk result
+        (λ visit. visit ≡ Visit.Conflict → IsConflict known.entry trail.new hint) }
+    ensures visit { IfOk result
+        (λ visit. (d : List Lit) → hinted known.entry.given.now known.entry.lines.now hint ≡ Some d
+        → visit ≡ visit_of (reading (marked trail.old.marks.items) d)) }
+    ensures forced { OnOk result
+        ((d : List Lit) (x : Lit) → hinted known.entry.given.now known.entry.lines.now hint ≡ Some d
+        → reading (marked trail.old.marks.items) d ≡ Reading.Forces x
+        → marked trail.new.marks.items x.var ≡ Some x.positive) }
+    ensures number { IfOk result
+        (λ visit. IsLonger visit (known.entry.given.now.variables + 1) trail.old.steps.items
+        trail.new.steps.items) }
 {
     let Some(clause) = hinted(known.given, known.lines, hint) else {
         return Ok(Visit::Nothing);
@@ -106,9 +116,18 @@ pub(crate) fn propagate_clause(
 pub(crate) fn decide_on(lit: Lit, trail: &mut Trail) -> Result<(), NoMemory>
     requires in_range { lit.var < length trail.old.marks.items }
     requires unset { marked trail.old.marks.items lit.var ≡ None }
-    ensures searching { OnOk result ((c : ClauseList) (lines : List Line) → IsSearching c lines trail.old.steps.items trail.old.marks.items → IsSearching c lines trail.new.steps.items trail.new.marks.items) }
-    ensures number { OnOk result ((c : ClauseList) (lines : List Line) → IsSearching c lines trail.old.steps.items trail.old.marks.items → trail_number (c.variables + 1) trail.old.steps.items < trail_number (c.variables + 1) trail.new.steps.items) }
-    ensures pushed { OnOk result (trail.new.steps.items ≡ trail.old.steps.items ++ record { lit = lit; reason = None } ∷ []) }
+    ensures searching { OnOk result
+        ((c : ClauseList) (lines : List Line)
+        → IsSearching c lines trail.old.steps.items trail.old.marks.items
+        → IsSearching c lines trail.new.steps.items trail.new.marks.items) }
+    ensures number { OnOk result
+        ((c : ClauseList) (lines : List Line)
+        → IsSearching c lines trail.old.steps.items trail.old.marks.items
+        → trail_number (c.variables + 1) trail.old.steps.items
+        < trail_number (c.variables + 1) trail.new.steps.items) }
+    ensures pushed { OnOk result
+        (trail.new.steps.items ≡ trail.old.steps.items
+        ++ record { lit = lit; reason = None } ∷ []) }
 {
     trail.push(Step { lit, reason: None })?;
     Ok(())
@@ -116,7 +135,9 @@ pub(crate) fn decide_on(lit: Lit, trail: &mut Trail) -> Result<(), NoMemory>
 
 // Takes back the last steps, down to a length.
 pub(crate) fn go_back(to: usize, trail: &mut Trail, order: &mut Order)
-    ensures searching { (c : ClauseList) (lines : List Line) → IsSearching c lines trail.old.steps.items trail.old.marks.items → IsSearching c lines trail.new.steps.items trail.new.marks.items }
+    ensures searching { (c : ClauseList) (lines : List Line)
+        → IsSearching c lines trail.old.steps.items trail.old.marks.items
+        → IsSearching c lines trail.new.steps.items trail.new.marks.items }
     ensures steps { trail.new.steps.items ≡ take to trail.old.steps.items }
 {
     while trail.steps.len() > to {

@@ -30,7 +30,9 @@ impl Watchers {
 
     // The clause at an index of the list.
     pub fn get(&self, at: usize) -> Option<usize>
-        ensures { MatchOption result (length self.now ≤ at) (λ clause. (at < length self.now) × (clause ≡ slice_index self.now at) × (at + 1 < 2 ^ 64)) }
+        ensures { MatchOption result (length self.now ≤ at)
+            (λ clause. (at < length self.now) × (clause ≡ slice_index self.now at)
+            × (at + 1 < 2 ^ 64)) }
     {
         if at < self.clauses.len() {
             Some(self.clauses[at])
@@ -52,7 +54,8 @@ impl Watchers {
         requires { at < length self.old }
         ensures len { length self.new + 1 ≡ length self.old }
         ensures front { take at self.new ≡ take at self.old }
-        ensures others { (k : ℕ) → k ≢ slice_index self.old at → count_of k self.new ≡ count_of k self.old }
+        ensures others { (k : ℕ) → k ≢ slice_index self.old at
+            → count_of k self.new ≡ count_of k self.old }
     {
         self.clauses.swap_remove(at);
     }

@@ -51,7 +51,8 @@ pub(crate) struct Watches {
 impl Watches {
     // Each given clause watches its first two literals, or its only one twice.
     pub fn new(alloc: Global, c: &Clauses) -> Result<Watches, NoMemory>
-        ensures { IfOk result (λ watches. IsGuarded c.now [] watches.lists.items watches.pairs.items) }
+        ensures { IfOk result
+            (λ watches. IsGuarded c.now [] watches.lists.items watches.pairs.items) }
     {
         let mut watches = Watches {
             lists: empty_lists(alloc, c.variables())?,
@@ -66,7 +67,9 @@ impl Watches {
 
     // Makes the next clause watch these literals.
     pub fn attach(&mut self, first: Lit, second: Lit) -> Result<(), NoMemory>
-        ensures pair { OnOk result (self.new.pairs.items ≡ self.old.pairs.items ++ record { first = first; second = second } ∷ []) }
+        ensures pair { OnOk result
+            (self.new.pairs.items ≡ self.old.pairs.items
+            ++ record { first = first; second = second } ∷ []) }
         ensures len { OnOk result (length self.new.lists.items ≡ length self.old.lists.items) }
     {
         let clause = self.pairs.len();
@@ -78,7 +81,8 @@ impl Watches {
 
     // The clause at an index of a literal's list.
     pub fn watcher(&self, lit: Lit, at: usize) -> Option<usize>
-        ensures none { IfNone result (length (slice_index_or self.now.lists.items (index_of lit) []) ≤ at) }
+        ensures none { IfNone result
+            (length (slice_index_or self.now.lists.items (index_of lit) []) ≤ at) }
         ensures there { IfSome result (λ clause. IsThere self.now.lists.items lit at clause) }
         ensures fits { IfSome result (λ clause. at + 1 < 2 ^ 64) }
     {
@@ -92,7 +96,8 @@ impl Watches {
 
     // The other watched literal of a clause that watches this one.
     pub fn other(&self, clause: usize, lit: Lit) -> Lit
-        ensures { clause < length self.now.pairs.items → result ≡ beside (pair_at self.now.pairs.items clause) lit }
+        ensures { clause < length self.now.pairs.items
+            → result ≡ beside (pair_at self.now.pairs.items clause) lit }
     {
         if clause >= self.pairs.len() {
             return lit;
@@ -109,8 +114,12 @@ impl Watches {
     pub fn change(&mut self, from: Lit, at: usize, clause: usize, to: Lit) -> Result<(), NoMemory>
         requires other { index_of to ≡ index_of from → ⊥ }
         requires there { IsThere self.old.lists.items from at clause }
-        ensures shorter { OnOk result (length (slice_index_or self.new.lists.items (index_of from) []) + 1 ≡ length (slice_index_or self.old.lists.items (index_of from) [])) }
-        ensures moved { OnOk result (IsMoved self.old.lists.items self.new.lists.items self.old.pairs.items self.new.pairs.items from to clause at) }
+        ensures shorter { OnOk result
+            (length (slice_index_or self.new.lists.items (index_of from) []) + 1
+            ≡ length (slice_index_or self.old.lists.items (index_of from) [])) }
+        ensures moved { OnOk result
+            (IsMoved self.old.lists.items self.new.lists.items self.old.pairs.items
+            self.new.pairs.items from to clause at) }
     {
         enter(&mut self.lists, to, clause)?;
         replace(&mut self.pairs, clause, from, to);
@@ -144,8 +153,11 @@ fn first_pair(clause: &[Lit]) -> Pair
 fn enter(lists: &mut Vec<Watchers>, lit: Lit, clause: usize) -> Result<(), NoMemory>
     ensures len { OnOk result (length lists.new.items ≡ length lists.old.items) }
     ensures listed { OnOk result (IsListed lists.new.items lit clause) }
-    ensures stays { (x : Lit) (k : ℕ) → IsListed lists.old.items x k → IsListed lists.new.items x k }
-    ensures other { (x : Lit) → (index_of x ≡ index_of lit → ⊥) → slice_index_or lists.new.items (index_of x) [] ≡ slice_index_or lists.old.items (index_of x) [] }
+    ensures stays { (x : Lit) (k : ℕ) → IsListed lists.old.items x k
+        → IsListed lists.new.items x k }
+    ensures other { (x : Lit) → (index_of x ≡ index_of lit → ⊥)
+        → slice_index_or lists.new.items (index_of x) []
+        ≡ slice_index_or lists.old.items (index_of x) [] }
 {
     let at = index(lit);
     if at < lists.len() {
@@ -158,10 +170,17 @@ fn enter(lists: &mut Vec<Watchers>, lit: Lit, clause: usize) -> Result<(), NoMem
 fn leave(lists: &mut Vec<Watchers>, lit: Lit, at: usize)
     requires { at < length (slice_index_or lists.old.items (index_of lit) []) }
     ensures len { length lists.new.items ≡ length lists.old.items }
-    ensures shorter { length (slice_index_or lists.new.items (index_of lit) []) + 1 ≡ length (slice_index_or lists.old.items (index_of lit) []) }
-    ensures front { take at (slice_index_or lists.new.items (index_of lit) []) ≡ take at (slice_index_or lists.old.items (index_of lit) []) }
-    ensures counts { (k : ℕ) → k ≢ slice_index (slice_index_or lists.old.items (index_of lit) []) at → count_of k (slice_index_or lists.new.items (index_of lit) []) ≡ count_of k (slice_index_or lists.old.items (index_of lit) []) }
-    ensures stays { (x : Lit) (k : ℕ) → (index_of x ≡ index_of lit → k ≢ slice_index (slice_index_or lists.old.items (index_of lit) []) at) → IsListed lists.old.items x k → IsListed lists.new.items x k }
+    ensures shorter { length (slice_index_or lists.new.items (index_of lit) []) + 1
+        ≡ length (slice_index_or lists.old.items (index_of lit) []) }
+    ensures front { take at (slice_index_or lists.new.items (index_of lit) [])
+        ≡ take at (slice_index_or lists.old.items (index_of lit) []) }
+    ensures counts { (k : ℕ) → k ≢ slice_index (slice_index_or lists.old.items (index_of lit) []) at
+        → count_of k (slice_index_or lists.new.items (index_of lit) [])
+        ≡ count_of k (slice_index_or lists.old.items (index_of lit) []) }
+    ensures stays { (x : Lit) (k : ℕ)
+        → (index_of x ≡ index_of lit
+        → k ≢ slice_index (slice_index_or lists.old.items (index_of lit) []) at)
+        → IsListed lists.old.items x k → IsListed lists.new.items x k }
 {
     let list = index(lit);
     if list < lists.len() {
@@ -173,7 +192,8 @@ fn leave(lists: &mut Vec<Watchers>, lit: Lit, at: usize)
 fn replace(pairs: &mut Vec<Pair>, clause: usize, from: Lit, to: Lit)
     ensures len { length pairs.new.items ≡ length pairs.old.items }
     ensures others { (k : ℕ) → k ≢ clause → pair_at pairs.new.items k ≡ pair_at pairs.old.items k }
-    ensures pair { clause < length pairs.old.items → pair_at pairs.new.items clause ≡ replaced (pair_at pairs.old.items clause) from to }
+    ensures pair { clause < length pairs.old.items
+        → pair_at pairs.new.items clause ≡ replaced (pair_at pairs.old.items clause) from to }
 {
     if clause < pairs.len() {
         let pair = pairs[clause];
@@ -210,7 +230,8 @@ fn index(lit: Lit) -> usize
 // The clause's name in a line of a refutation.
 pub(crate) fn hint_of(c: &Clauses, clause: usize) -> Hint
     ensures given { clause < length c.now.clauses → result ≡ Hint.Given (clause + 1) }
-    ensures learned { length c.now.clauses ≤ clause → clause - length c.now.clauses + 1 < 2 ^ 64 → result ≡ Hint.Earlier (clause - length c.now.clauses + 1) }
+    ensures learned { length c.now.clauses ≤ clause → clause - length c.now.clauses + 1 < 2 ^ 64
+        → result ≡ Hint.Earlier (clause - length c.now.clauses + 1) }
 {
     if clause < c.len() as usize {
         Hint::Given(clause as u32 + 1)
@@ -237,8 +258,10 @@ pub(crate) fn inspect(clause: &[Lit], falsified: Lit, other: Lit, marks: &[u8]) 
 
 // Whether the literal is neither false nor one of the two.
 fn is_free(lit: Lit, falsified: Lit, other: Lit, marks: &[u8]) -> bool
-    ensures free { result ≡ true → (is_open (marked marks.now) lit ≡ true) × (lit ≢ other) × (index_of lit ≡ index_of falsified → ⊥) }
-    ensures others { result ≡ false → is_open (marked marks.now) lit ≡ true → (lit ≡ other) ⊎ (index_of lit ≡ index_of falsified) }
+    ensures free { result ≡ true → (is_open (marked marks.now) lit ≡ true) × (lit ≢ other)
+        × (index_of lit ≡ index_of falsified → ⊥) }
+    ensures others { result ≡ false → is_open (marked marks.now) lit ≡ true → (lit ≡ other)
+        ⊎ (index_of lit ≡ index_of falsified) }
 {
     if lit == other || index(lit) == index(falsified) {
         return false;

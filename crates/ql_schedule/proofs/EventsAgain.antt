@@ -147,7 +147,7 @@ module _ (p : Program) (s : Schedule) (n : ℕ) (few : n ≤ 16) where
     rest_is = record { field = decimal near.0; number = small near.0 (omega (arith, h.0, few)); are = refl };
   }
 
-  -- of its version, and no more than 16 replicas behind it
+  -- of its version, and no more than 16 replicas after it
   pub in_version : (e : Event) → IsOfVersion s.version e → is_of_version s.version (line_of p s.objects e) ≡ true
   in_version (event.Call session replica object op args) h = refl
   in_version (event.Begin session replica decl ids) h = refl

@@ -1,4 +1,4 @@
--- a line that is read from its front, part by part
+-- a line that is read from its start, part by part
 use Rattle.std.proofs.Common.{◌≡◌, ℕ, List, [], ◌∷◌, Option, None, Some, MatchOption, drop, codes, ap, sym, subst, ◌∙◌}
 use Rattle.ql_lines.specs.Fields.{Fields}
 use Rattle.ql_lines.proofs.Conses.{heads}

@@ -1,4 +1,4 @@
--- How many replicas there are behind some events.
+-- How many replicas there are after some events.
 use Rattle.std.proofs.Common.{◌≡◌, ◌≤◌, ◌+◌, ℕ, zero, suc, List, [], ◌∷◌, ◌++◌, None, Some, length, slice_get, take, arith, Bool, if◌then◌else◌, ap, sym, ◌∙◌}
 use Rattle.std.proofs.lemmas.Option.{same_Some}
 use Rattle.ql_machine.specs.declared.event.Event.{Event}

@@ -1,4 +1,4 @@
--- the first part of a line, and the parts behind it
+-- the first part of a line, and the parts after it
 use Rattle.std.proofs.Common.{◌≡◌, ◌<◌, ◌+◌, ℕ, suc, Bool, true, false, cond, List, [], ◌∷◌, length, take, drop, arith, refl, ap, sym, subst, ◌∙◌, one-add}
 use Rattle.std.specs.Prelude.{not}
 use Rattle.std.specs.List.{prefix_len}
@@ -55,7 +55,7 @@ text_rest (b ∷ bs) =
       | false ↦ λ e. ap (led_by b) (text_rest bs) ∙ ap (λ n. take n (b ∷ bs) ∷ parts_of (drop n (b ∷ bs))) (sym (left_more b bs e))
     ] refl
 
--- a part at the front of a text, which a byte begins that is no space
+-- a part at the start of a text, which a byte begins that is no space
 of_text : (b : ℕ) (bs : List ℕ) → is_space b ≡ false → is_quotation_mark b ≡ true → parts_of (b ∷ bs) ≡ led_by b (parts_in_text bs)
 unfolding parts_of
 of_text b bs s q = rw (s, q) refl

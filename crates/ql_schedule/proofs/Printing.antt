@@ -15,7 +15,7 @@ unfolding behind
 one_behind field xs x =
     ap behind (map-append field xs (x ∷ [])) ∙ behind-append (map field xs) (field x ∷ []) ∙ ap (λ r. behind (map field xs) ++ 32 ∷ r) (append-nil (field x))
 
--- one item more of a list's front
+-- one item more of a list's prefix
 pub one_more_behind : {X : Type 0} (field : X → List ℕ) (xs : List X) (i : ℕ) (d : X) (out : List ℕ) → i < length xs
     → (out ++ behind (map field (take i xs))) ++ 32 ∷ field (get_or xs i d) ≡ out ++ behind (map field (take (i + 1) xs))
 one_more_behind field xs i d out lt =
@@ -32,7 +32,7 @@ pub no_lines : (out : List ℕ) → out ≡ out ++ file_text []
 unfolding file_text
 no_lines out = sym (append-nil out)
 
--- fields behind others of a line
+-- fields after others of a line
 pub more_fields : (out w : List ℕ) (fs gs : Fields) → (out ++ joined (w ∷ fs)) ++ behind gs ≡ out ++ joined (w ∷ (fs ++ gs))
 more_fields out w fs gs =
     append_assoc out (joined (w ∷ fs)) (behind gs)
@@ -69,7 +69,7 @@ spaced field xs i x out lt is =
     append_assoc (out ++ behind (map field (take i xs))) (32 ∷ []) (field x)
     ∙ ap (λ y. (out ++ behind (map field (take i xs))) ++ 32 ∷ field y) is ∙ one_more_behind field xs i x out lt
 
--- the same of an item told by its place
+-- the same of an item given by its index
 pub spaced_at : {X : Type 0} (field : X → List ℕ) (xs : List X) (i : ℕ) (d : X) (out : List ℕ) → i < length xs
     → ((out ++ behind (map field (take i xs))) ++ 32 ∷ []) ++ field (get_or xs i d) ≡ out ++ behind (map field (take (i + 1) xs))
 spaced_at field xs i d out lt = spaced field xs i (get_or xs i d) out lt (get_or_default xs i d (get_or xs i d) lt)

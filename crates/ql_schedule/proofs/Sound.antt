@@ -209,7 +209,7 @@ event_version p s (Partition gs) e = tt
 event_version p s Heal e = tt
 event_version p s (Join near copy) e = eqb-true s.version 2 e
 
--- behind a line there are as many replicas as behind its event
+-- after a line there are as many replicas as after its event
 counted_so : (p : Program) (s : Schedule) (n : ℕ) (l : EventLine) → replicas_with n l ≡ replicas_after n (event_of p s l)
 counted_so p s n (Call c o f args) = refl
 counted_so p s n (Begin c t ws) = refl

@@ -1,4 +1,4 @@
-ghost use Rattle.std.specs.Prelude.{◌≡◌, IfOk, IsTrue, MatchOption, ◌↔◌, ◌⊎◌, [], Ok, List, ℕ};
+ghost use Rattle.std.specs.Prelude.{◌≡◌, IfOk, IsTrue, MatchOption, ◌↔◌, [], Ok, List};
 ghost use Rattle.ql_value.specs.declared.value.Value.{Value};
 ghost use Rattle.ql_value.specs.Reading.{value_at};
 ghost use Rattle.ql_schedule.specs.declared.argument.Argument.{Argument};
@@ -36,7 +36,9 @@ impl Argument {
 
 /// The arguments that the parts of a text spell, if each spells one.
 pub(crate) fn arguments(alloc: Global, text: &[u8]) -> Result<Option<Arguments>, NoMemory>
-    ensures { IfOk result (λ read. MatchOption read ((args : List Argument) → AreArguments (parts_of text.now) args → ⊥)
+    ensures { IfOk result
+        (λ read. MatchOption read
+        ((args : List Argument) → AreArguments (parts_of text.now) args → ⊥)
         (λ args. AreArguments (parts_of text.now) args)) }
 {
     let mut arguments = Vec::with_capacity(alloc, MAX_PARAMETERS)?;
@@ -53,7 +55,9 @@ pub(crate) fn arguments(alloc: Global, text: &[u8]) -> Result<Option<Arguments>,
 
 // The argument that a part spells.
 fn read_argument(alloc: Global, part: &[u8]) -> Result<Option<Argument>, NoMemory>
-    ensures { IfOk result (λ read. MatchOption read ((a : Argument) → IsArgument part.now a → ⊥) (λ a. IsArgument part.now a)) }
+    ensures { IfOk result
+        (λ read. MatchOption read ((a : Argument) → IsArgument part.now a → ⊥)
+        (λ a. IsArgument part.now a)) }
 {
     match value(alloc, part)? {
         Some(value) => Ok(if is_scalar(&value) {
@@ -71,7 +75,9 @@ fn read_argument(alloc: Global, part: &[u8]) -> Result<Option<Argument>, NoMemor
 
 // The value that the whole part spells.
 fn value(alloc: Global, part: &[u8]) -> Result<Option<Value>, NoMemory>
-    ensures { IfOk result (λ read. MatchOption read ((v : Value) → value_at part.now ≡ Ok (v, []) → ⊥) (λ v. value_at part.now ≡ Ok (v, []))) }
+    ensures { IfOk result
+        (λ read. MatchOption read ((v : Value) → value_at part.now ≡ Ok (v, []) → ⊥)
+        (λ v. value_at part.now ≡ Ok (v, []))) }
 {
     match parse_value(alloc, part, 0) {
         Ok((value, to)) => Ok(if to == part.len() { Some(value) } else { None }),

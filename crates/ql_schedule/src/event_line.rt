@@ -49,7 +49,9 @@ pub(crate) fn read_event(
     version: u32,
     text: &[u8],
 ) -> Result<Option<EventLine>, NoMemory>
-    ensures { IfOk result (λ read. MatchOption read ((l : EventLine) → IsEventIn version (parts_of text.now) l → ⊥) (λ l. IsEventIn version (parts_of text.now) l)) }
+    ensures { IfOk result
+        (λ read. MatchOption read ((l : EventLine) → IsEventIn version (parts_of text.now) l → ⊥)
+        (λ l. IsEventIn version (parts_of text.now) l)) }
 {
     match read_event_line(alloc, text)? {
         Some(line) => Ok(in_version(version, line)),
@@ -59,7 +61,8 @@ pub(crate) fn read_event(
 
 // The line, if a version of the format has it.
 fn in_version(version: u32, line: EventLine) -> Option<EventLine>
-    ensures { MatchOption result (is_of_version version line ≡ false) (λ l. (l ≡ line) × (is_of_version version line ≡ true)) }
+    ensures { MatchOption result (is_of_version version line ≡ false)
+        (λ l. (l ≡ line) × (is_of_version version line ≡ true)) }
 {
     if line.is_of_version(version) {
         Some(line)
@@ -81,7 +84,9 @@ impl EventLine {
 
 // The event that a line spells.
 fn read_event_line(alloc: Global, text: &[u8]) -> Result<Option<EventLine>, NoMemory>
-    ensures { IfOk result (λ read. MatchOption read ((l : EventLine) → IsEventLine (parts_of text.now) l → ⊥) (λ l. IsEventLine (parts_of text.now) l)) }
+    ensures { IfOk result
+        (λ read. MatchOption read ((l : EventLine) → IsEventLine (parts_of text.now) l → ⊥)
+        (λ l. IsEventLine (parts_of text.now) l)) }
 {
     let Some((word, rest)) = first_part(text) else {
         return Ok(None);
@@ -144,7 +149,9 @@ fn call(alloc: Global, text: &[u8]) -> Result<Option<EventLine>, NoMemory>
 #[tactic(auto, using(crate::proofs::Fronts::no_called))]
 // What a call's line has before its arguments.
 fn called(text: &[u8]) -> Option<(Caller, &[u8], &[u8], &[u8])>
-    ensures { MatchOption result ((c : Caller) (object op : List ℕ) (rest : Fields) → IsCalled (parts_of text.now) c object op rest → ⊥)
+    ensures { MatchOption result
+        ((c : Caller) (object op : List ℕ) (rest : Fields)
+        → IsCalled (parts_of text.now) c object op rest → ⊥)
         (λ x. IsCalled (parts_of text.now) x.0 x.1.now x.2.now (parts_of x.3.now)) }
 {
     let Some((caller, rest)) = after_caller(text) else {
@@ -253,7 +260,9 @@ fn join(text: &[u8]) -> Option<EventLine>
 #[tactic(auto, using(crate::proofs::NoEvents::no_how))]
 // How a replica joins.
 fn how(text: &[u8]) -> Option<(bool, &[u8])>
-    ensures { MatchOption result ((copy : Bool) (rest : Fields) → parts_of text.now ≡ join_word copy ∷ rest → ⊥) (λ x. parts_of text.now ≡ join_word x.0 ∷ parts_of x.1.now) }
+    ensures { MatchOption result
+        ((copy : Bool) (rest : Fields) → parts_of text.now ≡ join_word copy ∷ rest → ⊥)
+        (λ x. parts_of text.now ≡ join_word x.0 ∷ parts_of x.1.now) }
 {
     if let Some(rest) = after_word(text, b"copy") {
         return Some((true, rest));

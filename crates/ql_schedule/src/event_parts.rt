@@ -22,7 +22,9 @@ pub(crate) struct Caller {
 #[tactic(auto, using(crate::proofs::Fronts::no_caller, crate::proofs::Fronts::no_replica))]
 /// A caller, and what follows it.
 pub(crate) fn after_caller(text: &[u8]) -> Option<(Caller, &[u8])>
-    ensures { MatchOption result ((c : Caller) (rest : Fields) → CallerAt c (parts_of text.now) rest → ⊥) (λ x. CallerAt x.0 (parts_of text.now) (parts_of x.1.now)) }
+    ensures { MatchOption result
+        ((c : Caller) (rest : Fields) → CallerAt c (parts_of text.now) rest → ⊥)
+        (λ x. CallerAt x.0 (parts_of text.now) (parts_of x.1.now)) }
 {
     let Some((session, rest)) = after_number(text) else {
         return None;
@@ -37,7 +39,8 @@ pub(crate) fn after_caller(text: &[u8]) -> Option<(Caller, &[u8])>
 #[tactic(auto, using(crate::proofs::Fronts::no_number_alone))]
 /// The one number that a text spells.
 pub(crate) fn one_number(text: &[u8]) -> Option<u64>
-    ensures { MatchOption result ((field : List ℕ) (n : ℕ) → IsNumber field n → parts_of text.now ≡ field ∷ [] → ⊥)
+    ensures { MatchOption result
+        ((field : List ℕ) (n : ℕ) → IsNumber field n → parts_of text.now ≡ field ∷ [] → ⊥)
         (λ n. (field : List ℕ) × IsNumber field n × (parts_of text.now ≡ field ∷ [])) }
 {
     let Some((number, behind)) = after_number(text) else {
@@ -48,7 +51,9 @@ pub(crate) fn one_number(text: &[u8]) -> Option<u64>
 
 /// The numbers that the parts of a text spell, if each spells one.
 pub(crate) fn numbers(alloc: Global, text: &[u8]) -> Result<Option<Numbers>, NoMemory>
-    ensures { IfOk result (λ read. MatchOption read ((ns : List ℕ) → AreNumbers (parts_of text.now) ns → ⊥) (λ ns. AreNumbers (parts_of text.now) ns)) }
+    ensures { IfOk result
+        (λ read. MatchOption read ((ns : List ℕ) → AreNumbers (parts_of text.now) ns → ⊥)
+        (λ ns. AreNumbers (parts_of text.now) ns)) }
 {
     let mut numbers = Vec::new(alloc);
     let mut rest = text;

@@ -19,7 +19,8 @@ pub(crate) enum Declaration {
 
 /// The version of the format, if a line is its title.
 pub(crate) fn read_title(text: &[u8]) -> Option<u32>
-    ensures { MatchOption result ((version : ℕ) → IsTitle (parts_of text.now) version → ⊥) (λ version. IsTitle (parts_of text.now) version) }
+    ensures { MatchOption result ((version : ℕ) → IsTitle (parts_of text.now) version → ⊥)
+        (λ version. IsTitle (parts_of text.now) version) }
 {
     match after_title(text) {
         Some(behind) => read_version(behind),
@@ -28,7 +29,8 @@ pub(crate) fn read_title(text: &[u8]) -> Option<u32>
 }
 
 fn after_title(text: &[u8]) -> Option<&[u8]>
-    ensures { MatchOption result ((rest : Fields) → parts_of text.now ≡ codes "quelea" ∷ codes "schedule" ∷ rest → ⊥)
+    ensures { MatchOption result
+        ((rest : Fields) → parts_of text.now ≡ codes "quelea" ∷ codes "schedule" ∷ rest → ⊥)
         (λ behind. parts_of text.now ≡ codes "quelea" ∷ codes "schedule" ∷ parts_of behind.now) }
 {
     let rest = after_word(text, b"quelea")?;
@@ -38,7 +40,8 @@ fn after_title(text: &[u8]) -> Option<&[u8]>
 
 // The version, if a text has nothing else.
 fn read_version(text: &[u8]) -> Option<u32>
-    ensures { MatchOption result ((version : ℕ) → IsVersion version → parts_of text.now ≡ decimal version ∷ [] → ⊥)
+    ensures { MatchOption result
+        ((version : ℕ) → IsVersion version → parts_of text.now ≡ decimal version ∷ [] → ⊥)
         (λ version. IsVersion version × (parts_of text.now ≡ decimal version ∷ [])) }
 {
     if is_word(text, b"1") {
@@ -63,7 +66,8 @@ fn is_word(text: &[u8], word: &[u8]) -> bool
 #[tactic(auto, using(crate::proofs::Fronts::no_count))]
 /// The number of replicas on a line.
 pub(crate) fn read_replicas(text: &[u8]) -> Option<u64>
-    ensures { MatchOption result ((n : ℕ) → IsReplicas (parts_of text.now) n → ⊥) (λ n. IsReplicas (parts_of text.now) n) }
+    ensures { MatchOption result ((n : ℕ) → IsReplicas (parts_of text.now) n → ⊥)
+        (λ n. IsReplicas (parts_of text.now) n) }
 {
     let rest = after_word(text, b"replicas")?;
     one_number(rest)
@@ -71,7 +75,8 @@ pub(crate) fn read_replicas(text: &[u8]) -> Option<u64>
 
 /// The declaration on a line.
 pub(crate) fn read_declaration(text: &[u8]) -> Option<Declaration>
-    ensures { MatchOption result ((d : Declaration) → IsDeclaration (parts_of text.now) d → ⊥) (λ d. IsDeclaration (parts_of text.now) d) }
+    ensures { MatchOption result ((d : Declaration) → IsDeclaration (parts_of text.now) d → ⊥)
+        (λ d. IsDeclaration (parts_of text.now) d) }
 {
     if is_word(text, b"events") {
         return Some(Declaration::Events);
@@ -85,8 +90,11 @@ pub(crate) fn read_declaration(text: &[u8]) -> Option<Declaration>
 
 // An object's name, and that of its type.
 fn object(text: &[u8]) -> Option<(&[u8], &[u8])>
-    ensures { MatchOption result ((name kind : List ℕ) → IsName name → IsName kind → parts_of text.now ≡ codes "object" ∷ name ∷ kind ∷ [] → ⊥)
-        (λ x. IsName x.0.now × IsName x.1.now × (parts_of text.now ≡ codes "object" ∷ x.0.now ∷ x.1.now ∷ [])) }
+    ensures { MatchOption result
+        ((name kind : List ℕ) → IsName name → IsName kind
+        → parts_of text.now ≡ codes "object" ∷ name ∷ kind ∷ [] → ⊥)
+        (λ x. IsName x.0.now × IsName x.1.now
+        × (parts_of text.now ≡ codes "object" ∷ x.0.now ∷ x.1.now ∷ [])) }
 {
     let rest = after_word(text, b"object")?;
     let (name, rest) = after_name(rest)?;

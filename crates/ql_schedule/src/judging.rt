@@ -123,7 +123,8 @@ fn may_call(
     args: &[Argument],
 ) -> bool
     requires { IfSome op (λ o. o.0 < length (all_ops t.now.program.types)) }
-    ensures { result ≡ may_call t.now.program so_far.now object (option_map (λ o. o.0) op) args.now }
+    ensures { result ≡ may_call t.now.program so_far.now object (option_map (λ o. o.0) op)
+        args.now }
 {
     match (object, op) {
         (Some(object), Some(op)) => {

@@ -54,8 +54,11 @@ pub(crate) fn look_up(
 #[tactic(auto, unfolding(crate::specs::Makings::declared_from))]
 // The numbers of objects, if all of them are declared.
 fn declared(alloc: Global, so_far: &Schedule, names: &[Word]) -> Result<Option<IdSet>, NoMemory>
-    ensures { IfOk result (λ ids. MatchOption ids (list_any (λ w. is_none (place so_far.now.objects w)) names.now ≡ true)
-        (λ ids. (list_any (λ w. is_none (place so_far.now.objects w)) names.now ≡ false) × (ids ≡ declared_from so_far.now.objects [] names.now))) }
+    ensures { IfOk result
+        (λ ids. MatchOption ids
+        (list_any (λ w. is_none (place so_far.now.objects w)) names.now ≡ true)
+        (λ ids. (list_any (λ w. is_none (place so_far.now.objects w)) names.now ≡ false)
+        × (ids ≡ declared_from so_far.now.objects [] names.now))) }
 {
     let mut ids = IdSet::new(alloc);
     for name in names {

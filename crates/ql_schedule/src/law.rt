@@ -10,19 +10,26 @@ ghost use Rattle.ql_schedule.specs.Texts.{schedule_lines};
 
 /// A file spells one schedule of a program or has one first fault, never both, and never neither.
 pub fn one_schedule()
-    ensures one { (p : Program) (file : Ahead) (s t : Schedule) → IsScheduleFile p file s → IsScheduleFile p file t → s ≡ t }
-    ensures fault { (p : Program) (file : Ahead) (f g : SchedFault) → IsFirstFault p file f → IsFirstFault p file g → f ≡ g }
-    ensures apart { (p : Program) (file : Ahead) (s : Schedule) (f : SchedFault) → IsScheduleFile p file s → IsFirstFault p file f → ⊥ }
-    ensures some { (p : Program) (file : Ahead) → ((s : Schedule) → IsScheduleFile p file s → ⊥) → ((f : SchedFault) → IsFirstFault p file f → ⊥) → ⊥ }
+    ensures one { (p : Program) (file : Ahead) (s t : Schedule) → IsScheduleFile p file s
+        → IsScheduleFile p file t → s ≡ t }
+    ensures fault { (p : Program) (file : Ahead) (f g : SchedFault) → IsFirstFault p file f
+        → IsFirstFault p file g → f ≡ g }
+    ensures apart { (p : Program) (file : Ahead) (s : Schedule) (f : SchedFault)
+        → IsScheduleFile p file s → IsFirstFault p file f → ⊥ }
+    ensures some { (p : Program) (file : Ahead) → ((s : Schedule) → IsScheduleFile p file s → ⊥)
+        → ((f : SchedFault) → IsFirstFault p file f → ⊥) → ⊥ }
 {}
 
 /// A printed schedule is read back as it was, if its names are valid and not repeated.
 pub fn printed_is_read_again()
-    ensures { (p : Program) (s : Schedule) → IsSpelled p s → IsScheduleFile p (ahead_from 1 (file_text (schedule_lines p s))) s }
+    ensures { (p : Program) (s : Schedule) → IsSpelled p s
+        → IsScheduleFile p (ahead_from 1 (file_text (schedule_lines p s))) s }
 {}
 
 /// The objects of a schedule that was read have names, no two of them the same, so each is found by its own.
 pub fn objects_have_own_names()
-    ensures names { (p : Program) (file : Ahead) (s : Schedule) → IsScheduleFile p file s → AreNew [] s.objects }
-    ensures found { (p : Program) (file : Ahead) (s : Schedule) (o : ℕ) → IsScheduleFile p file s → o < length s.objects → IsFound s.objects o }
+    ensures names { (p : Program) (file : Ahead) (s : Schedule) → IsScheduleFile p file s
+        → AreNew [] s.objects }
+    ensures found { (p : Program) (file : Ahead) (s : Schedule) (o : ℕ) → IsScheduleFile p file s
+        → o < length s.objects → IsFound s.objects o }
 {}

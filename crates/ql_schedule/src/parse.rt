@@ -13,7 +13,8 @@ use std::alloc::Global;
 
 /// The schedule for the stores of a program that a file spells, or the file's first fault.
 pub fn parse_schedule(alloc: Global, t: &Typed, bytes: &[u8]) -> Result<Schedule, SchedFault>
-    ensures read { MatchResult result (IsScheduleFile t.now.program (ahead_from 1 bytes.now)) (IsRefusal t.now.program (ahead_from 1 bytes.now)) }
+    ensures read { MatchResult result (IsScheduleFile t.now.program (ahead_from 1 bytes.now))
+        (IsRefusal t.now.program (ahead_from 1 bytes.now)) }
     ensures guarantees { IfOk result (IsSchedule t.now.program) }
     ensures named { IfOk result (AreNamed t.now.program) }
 {

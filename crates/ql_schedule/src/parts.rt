@@ -2,31 +2,24 @@ ghost use Rattle.std.specs.Prelude.{◌≡◌, ◌≤◌, suc, ◌∷◌, [], Li
 ghost use Rattle.std.specs.List.{prefix_len};
 ghost use Rattle.ql_base.specs.Names.{IsName};
 ghost use Rattle.ql_base.specs.Numbers.{IsNumeral};
-ghost use Rattle.ql_lines.specs.Fields.{Fields, is_space};
+ghost use Rattle.ql_lines.specs.Fields.{Fields};
 ghost use Rattle.ql_schedule.specs.Numbers.{IsNumber};
 ghost use Rattle.ql_schedule.specs.Parts.{isn't_space, part_len, parts_of, quoted_len, text_len};
 
 use ql_base::{digit_bytes, is_name, number_of};
-use ql_lines::bytes_before;
+use ql_lines::{after_spaces, bytes_before};
 
 /// The first part of a line and what follows it.
 pub(crate) fn first_part(text: &[u8]) -> Option<(&[u8], &[u8])>
-    ensures first { MatchOption result (parts_of text.now ≡ []) (λ x. parts_of text.now ≡ x.0.now ∷ parts_of x.1.now) }
+    ensures first { MatchOption result (parts_of text.now ≡ [])
+        (λ x. parts_of text.now ≡ x.0.now ∷ parts_of x.1.now) }
     ensures shorter { MatchOption result (Unit {0}) (λ x. suc (length x.1.now) ≤ length text.now) }
 {
-    let (_, start) = text.split_at(spaces(text));
+    let start = after_spaces(text);
     if start.is_empty() {
         return None;
     }
     Some(start.split_at(part_bytes(start)))
-}
-
-// How many spaces a text starts with.
-fn spaces(text: &[u8]) -> usize
-    ensures longest { result ≡ prefix_len is_space text.now }
-    ensures within { result ≤ length text.now }
-{
-    text.iter().take_while(|b| **b == b' ').count()
 }
 
 // The length in bytes of the part at the start. If it begins with a quote, it extends at least to the next
@@ -81,7 +74,8 @@ pub(crate) fn is_end(text: &[u8]) -> bool
 
 /// What follows the first part, if that is this word.
 pub(crate) fn after_word<'a>(text: &'a [u8], word: &[u8]) -> Option<&'a [u8]>
-    ensures { MatchOption result ((rest : Fields) → parts_of text.now ≡ word.now ∷ rest → ⊥) (λ behind. parts_of text.now ≡ word.now ∷ parts_of behind.now) }
+    ensures { MatchOption result ((rest : Fields) → parts_of text.now ≡ word.now ∷ rest → ⊥)
+        (λ behind. parts_of text.now ≡ word.now ∷ parts_of behind.now) }
 {
     let (first, behind) = first_part(text)?;
     if first == word { Some(behind) } else { None }
@@ -89,7 +83,8 @@ pub(crate) fn after_word<'a>(text: &'a [u8], word: &[u8]) -> Option<&'a [u8]>
 
 /// The first part, if it is a name, and what follows it.
 pub(crate) fn after_name(text: &[u8]) -> Option<(&[u8], &[u8])>
-    ensures { MatchOption result ((name : List ℕ) (rest : Fields) → IsName name → parts_of text.now ≡ name ∷ rest → ⊥)
+    ensures { MatchOption result
+        ((name : List ℕ) (rest : Fields) → IsName name → parts_of text.now ≡ name ∷ rest → ⊥)
         (λ x. IsName x.0.now × (parts_of text.now ≡ x.0.now ∷ parts_of x.1.now)) }
 {
     let (first, behind) = first_part(text)?;
@@ -103,8 +98,11 @@ pub(crate) fn after_name(text: &[u8]) -> Option<(&[u8], &[u8])>
 #[tactic(auto, using(crate::proofs::Fronts::no_other_first))]
 /// The number that the first part spells, if it is one, and what follows it.
 pub(crate) fn after_number(text: &[u8]) -> Option<(u64, &[u8])>
-    ensures { MatchOption result ((field : List ℕ) (n : ℕ) (rest : Fields) → IsNumber field n → parts_of text.now ≡ field ∷ rest → ⊥)
-        (λ x. (field : List ℕ) × IsNumber field x.0 × (parts_of text.now ≡ field ∷ parts_of x.1.now)) }
+    ensures { MatchOption result
+        ((field : List ℕ) (n : ℕ) (rest : Fields) → IsNumber field n
+        → parts_of text.now ≡ field ∷ rest → ⊥)
+        (λ x. (field : List ℕ) × IsNumber field x.0
+        × (parts_of text.now ≡ field ∷ parts_of x.1.now)) }
 {
     let (first, behind) = first_part(text)?;
     let Some(number) = number(first) else {

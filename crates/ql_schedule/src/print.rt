@@ -1,7 +1,5 @@
-ghost use Rattle.std.specs.Prelude.{◌≡◌, ◌<◌, ◌++◌, ◌∷◌, [], List, ℕ, IfOk, OnOk, All, Some, codes, decimal, length, map, slice_get};
-ghost use Rattle.ql_lines.specs.Fields.{Fields};
+ghost use Rattle.std.specs.Prelude.{◌≡◌, ◌<◌, ◌++◌, ◌∷◌, [], IfOk, OnOk, All, Some, decimal, length, map, slice_get};
 ghost use Rattle.ql_lines.specs.Texts.{behind, file_text, joined};
-ghost use Rattle.ql_typing.specs.Names.{op_name, txn_name};
 ghost use Rattle.ql_value.specs.Spelling.{quoted, value_text};
 ghost use Rattle.ql_schedule.specs.Texts.{
   AreNamed,
@@ -40,7 +38,9 @@ pub fn print_schedule(alloc: Global, t: &Typed, s: &Schedule) -> Result<Vec<u8>,
 
 fn push_objects(out: &mut Vec<u8>, t: &Typed, s: &Schedule) -> Result<(), NoMemory>
     requires { AreNamed t.now.program s.now }
-    ensures { OnOk result (out.new.items ≡ out.old.items ++ file_text (object_lines t.now.program s.now.objects s.now.kinds)) }
+    ensures { OnOk result
+        (out.new.items ≡ out.old.items
+        ++ file_text (object_lines t.now.program s.now.objects s.now.kinds)) }
 {
     for k in 0..s.objects.len() {
         push_object(out, t, s.objects.name(k), kind_at(s, k))?;
@@ -58,7 +58,9 @@ fn kind_at(s: &Schedule, k: u32) -> TypeId
 
 fn push_object(out: &mut Vec<u8>, t: &Typed, name: &Word, kind: TypeId) -> Result<(), NoMemory>
     requires { kind.0 < length t.now.program.types }
-    ensures { OnOk result (out.new.items ≡ out.old.items ++ (joined (object_fields t.now.program name.now kind) ++ 10 ∷ [])) }
+    ensures { OnOk result
+        (out.new.items ≡ out.old.items
+        ++ (joined (object_fields t.now.program name.now kind) ++ 10 ∷ [])) }
 {
     push_bytes(out, b"object")?;
     push_field(out, name.bytes())?;
@@ -68,7 +70,9 @@ fn push_object(out: &mut Vec<u8>, t: &Typed, name: &Word, kind: TypeId) -> Resul
 
 fn push_events(out: &mut Vec<u8>, t: &Typed, s: &Schedule) -> Result<(), NoMemory>
     requires { AreNamed t.now.program s.now }
-    ensures { OnOk result (out.new.items ≡ out.old.items ++ file_text (map (event_fields t.now.program s.now.objects) s.now.events)) }
+    ensures { OnOk result
+        (out.new.items ≡ out.old.items
+        ++ file_text (map (event_fields t.now.program s.now.objects) s.now.events)) }
 {
     for event in s.events.items() {
         push_event(out, t, &s.objects, event)?;
@@ -79,7 +83,9 @@ fn push_events(out: &mut Vec<u8>, t: &Typed, s: &Schedule) -> Result<(), NoMemor
 
 fn push_event(out: &mut Vec<u8>, t: &Typed, objects: &Names, event: &Event) -> Result<(), NoMemory>
     requires { IsNamed t.now.program (length objects.now) event.now }
-    ensures { OnOk result (out.new.items ≡ out.old.items ++ joined (event_fields t.now.program objects.now event.now)) }
+    ensures { OnOk result
+        (out.new.items ≡ out.old.items
+        ++ joined (event_fields t.now.program objects.now event.now)) }
 {
     match event {
         Event::Call {
@@ -130,7 +136,8 @@ fn push_caller(
     session: SessId,
     replica: ReplicaId,
 ) -> Result<(), NoMemory>
-    ensures { OnOk result (out.new.items ≡ out.old.items ++ joined (word.now ∷ caller_fields session.0 replica.0)) }
+    ensures { OnOk result
+        (out.new.items ≡ out.old.items ++ joined (word.now ∷ caller_fields session.0 replica.0)) }
 {
     push_numbered(out, word, session.0)?;
     push_numbered(out, b" at", replica.0)
@@ -185,7 +192,8 @@ fn push_text(out: &mut Vec<u8>, text: &[u8]) -> Result<(), NoMemory>
 
 fn push_names(out: &mut Vec<u8>, names: &Names, ids: &[u32]) -> Result<(), NoMemory>
     requires { All (λ k. k < length names.now) ids.now }
-    ensures { OnOk result (out.new.items ≡ out.old.items ++ behind (map (name_at names.now) ids.now)) }
+    ensures { OnOk result
+        (out.new.items ≡ out.old.items ++ behind (map (name_at names.now) ids.now)) }
 {
     for id in ids {
         push_field(out, names.name(*id).bytes())?;

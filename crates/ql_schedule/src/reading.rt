@@ -63,7 +63,8 @@ fn title(text: &[u8]) -> Result<Reading, LineFault<SchedRule>>
 
 // Reads the number of replicas.
 fn count(alloc: Global, version: u32, text: &[u8]) -> Result<Reading, LineFault<SchedRule>>
-    ensures { (p : Program) → IsLineAnswer (ExtendsSchedule p (Titled version) (parts_of text.now)) result }
+    ensures { (p : Program)
+        → IsLineAnswer (ExtendsSchedule p (Titled version) (parts_of text.now)) result }
 {
     let Some(number) = read_replicas(text) else {
         return Err(LineFault::Breaks(SchedRule::Unexpected));
@@ -80,7 +81,8 @@ fn count(alloc: Global, version: u32, text: &[u8]) -> Result<Reading, LineFault<
 
 // Reads one more object, or the keyword before the events.
 fn declare(t: &Typed, so_far: Schedule, text: &[u8]) -> Result<Reading, LineFault<SchedRule>>
-    ensures { IsLineAnswer (ExtendsSchedule t.now.program (Declaring so_far) (parts_of text.now)) result }
+    ensures { IsLineAnswer (ExtendsSchedule t.now.program (Declaring so_far) (parts_of text.now))
+        result }
 {
     let Some(line) = read_declaration(text) else {
         return Err(LineFault::Breaks(SchedRule::Unexpected));
@@ -129,7 +131,8 @@ fn happen(
     replicas: u32,
     text: &[u8],
 ) -> Result<Reading, LineFault<SchedRule>>
-    ensures { IsLineAnswer (ExtendsSchedule t.now.program (Running so_far replicas) (parts_of text.now)) result }
+    ensures { IsLineAnswer
+        (ExtendsSchedule t.now.program (Running so_far replicas) (parts_of text.now)) result }
 {
     let Some(line) = read_event(alloc, so_far.version, text)? else {
         return Err(LineFault::Breaks(SchedRule::Unexpected));
@@ -163,7 +166,8 @@ fn with_event(so_far: Schedule, event: Event) -> Result<Schedule, NoMemory>
 
 // Refuses a line for the lowest rule that it breaks.
 fn check(faults: Faults) -> Result<(), LineFault<SchedRule>>
-    ensures { MatchResult result (λ _. lowest faults ≡ None) (λ fault. (rule : SchedRule) × (fault ≡ Breaks rule) × (lowest faults ≡ Some rule)) }
+    ensures { MatchResult result (λ _. lowest faults ≡ None)
+        (λ fault. (rule : SchedRule) × (fault ≡ Breaks rule) × (lowest faults ≡ Some rule)) }
 {
     match faults.lowest() {
         Some(rule) => Err(LineFault::Breaks(rule)),

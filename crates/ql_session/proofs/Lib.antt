@@ -3,3 +3,4 @@ pub mod MissingLaws
 pub mod NoteLaws
 pub mod PastLaws
 pub mod WalkLaws
+pub mod PairLaws

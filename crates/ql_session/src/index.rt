@@ -1,20 +1,20 @@
-ghost use Rattle.std.specs.Prelude.{◌≡◌, ◌<◌, ◌∷◌, ◌++◌, [], List, length, OnOk, OnErr};
+ghost use Rattle.std.specs.Prelude.{◌≡◌, ◌∷◌, ◌++◌, [], List, OnOk, OnErr};
 ghost use Rattle.ql_base.specs.declared.ids.ObjId.{ObjId};
 ghost use Rattle.ql_base.specs.declared.ids.SessId.{SessId};
 ghost use Rattle.ql_session.specs.declared.note.Note.{Note};
-ghost use Rattle.ql_session.specs.Rows.{row_of};
 ghost use Rattle.ql_session.specs.Index.{AreIndexed, IsPairPushed, IsPairPopped, ArePairsSame, pair_of};
 
 use crate::note::Note;
 use crate::rows::Rows;
+use indexmap::IndexMap;
 use ql_base::{NoMemory, ObjId, SessId};
 use std::alloc::Global;
 
 /// The lists that are kept for some notes: by session and object, by object, and by session.
 #[derive(Drop)]
 pub(crate) struct Index {
-    // For each session its effects by object.
-    pub(crate) pairs: Vec<Rows>,
+    // The effects by session and object.
+    pub(crate) pairs: IndexMap<(u32, u32), Vec<u32>>,
     // The effects by object.
     pub(crate) objects: Rows,
     // The stamps by session.
@@ -23,10 +23,10 @@ pub(crate) struct Index {
 
 impl Index {
     pub(crate) fn new(alloc: Global) -> Index
-        ensures { AreIndexed [] result.pairs.items result.objects result.stamps }
+        ensures { AreIndexed [] result.pairs result.objects result.stamps }
     {
         Index {
-            pairs: Vec::new(alloc),
+            pairs: IndexMap::new(alloc),
             objects: Rows::new(alloc),
             stamps: Rows::new(alloc),
         }
@@ -34,20 +34,22 @@ impl Index {
 
     /// The effects of a session on an object.
     pub(crate) fn pair(&self, s: SessId, o: ObjId) -> &[u32]
-        ensures { result.now ≡ pair_of self.now.pairs.items s o }
+        ensures { result.now ≡ pair_of self.now.pairs s o }
     {
-        match self.pairs.get(s.0 as usize) {
+        match self.pairs.get(&(s.0, o.0)) {
             None => &[],
-            Some(rows) => rows.row(o.0),
+            Some(row) => row,
         }
     }
 
     /// Adds a note.
     pub(crate) fn add(&mut self, note: Note) -> Result<(), NoMemory>
-        ensures ok { OnOk result ((notes : List Note) → AreIndexed notes self.old.pairs.items self.old.objects self.old.stamps
-            → AreIndexed (notes ++ note ∷ []) self.new.pairs.items self.new.objects self.new.stamps) }
-        ensures err { OnErr result ((notes : List Note) → AreIndexed notes self.old.pairs.items self.old.objects self.old.stamps
-            → AreIndexed notes self.new.pairs.items self.new.objects self.new.stamps) }
+        ensures ok { OnOk result
+            ((notes : List Note) → AreIndexed notes self.old.pairs self.old.objects self.old.stamps
+            → AreIndexed (notes ++ note ∷ []) self.new.pairs self.new.objects self.new.stamps) }
+        ensures err { OnErr result
+            ((notes : List Note) → AreIndexed notes self.old.pairs self.old.objects self.old.stamps
+            → AreIndexed notes self.new.pairs self.new.objects self.new.stamps) }
     {
         push_pair(&mut self.pairs, note)?;
         match self.objects.push(note.object.0, note.effect.0) {
@@ -68,8 +70,9 @@ impl Index {
 
     /// Removes the note that was added last.
     pub(crate) fn remove(&mut self, note: Note)
-        ensures { (notes : List Note) → AreIndexed (notes ++ note ∷ []) self.old.pairs.items self.old.objects self.old.stamps
-            → AreIndexed notes self.new.pairs.items self.new.objects self.new.stamps }
+        ensures { (notes : List Note)
+            → AreIndexed (notes ++ note ∷ []) self.old.pairs self.old.objects self.old.stamps
+            → AreIndexed notes self.new.pairs self.new.objects self.new.stamps }
     {
         pop_pair(&mut self.pairs, note);
         self.objects.pop(note.object.0);
@@ -77,32 +80,25 @@ impl Index {
     }
 }
 
-fn push_pair(pairs: &mut Vec<Rows>, note: Note) -> Result<(), NoMemory>
-    ensures ok { OnOk result (IsPairPushed pairs.old.items pairs.new.items note) }
-    ensures err { OnErr result (ArePairsSame pairs.old.items pairs.new.items) }
+fn push_pair(pairs: &mut IndexMap<(u32, u32), Vec<u32>>, note: Note) -> Result<(), NoMemory>
+    ensures ok { OnOk result (IsPairPushed pairs.old pairs.new note) }
+    ensures err { OnErr result (ArePairsSame pairs.old pairs.new) }
 {
-    grow(pairs, note.session.0 as usize)?;
-    let rows = &mut pairs[note.session.0 as usize];
-    rows.push(note.object.0, note.effect.0)
-}
-
-fn pop_pair(pairs: &mut Vec<Rows>, note: Note)
-    ensures { IsPairPopped pairs.old.items pairs.new.items note }
-{
-    if (note.session.0 as usize) < pairs.len() {
-        let rows = &mut pairs[note.session.0 as usize];
-        rows.pop(note.object.0);
+    let pair = (note.session.0, note.object.0);
+    if let Some(row) = pairs.get_mut(&pair) {
+        row.push(note.effect.0)?;
+        return Ok(());
     }
-}
-
-// Appends empty tables until there is one for this session.
-fn grow(pairs: &mut Vec<Rows>, s: usize) -> Result<(), NoMemory>
-    ensures there { OnOk result (s < length pairs.new.items) }
-    ensures same { ArePairsSame pairs.old.items pairs.new.items }
-{
-    let alloc = *pairs.allocator();
-    'growing: while pairs.len() <= s {
-        pairs.push(Rows::new(alloc))?;
-    }
+    let mut row = Vec::new(*pairs.allocator());
+    row.push(note.effect.0)?;
+    pairs.insert(pair, row)?;
     Ok(())
+}
+
+fn pop_pair(pairs: &mut IndexMap<(u32, u32), Vec<u32>>, note: Note)
+    ensures { IsPairPopped pairs.old pairs.new note }
+{
+    if let Some(row) = pairs.get_mut(&(note.session.0, note.object.0)) {
+        row.pop();
+    }
 }

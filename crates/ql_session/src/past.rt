@@ -23,7 +23,9 @@ pub(crate) fn past_of(
     session: SessId,
     view: &IdSet,
 ) -> Result<Ranges, NoMemory>
-    ensures { IfOk result (λ past. (a : ℕ) → 1 ≤ a → a ≤ length x.now → Has (ids_of past) a ↔ InPast x.now session (Has view.now) a) }
+    ensures { IfOk result
+        (λ past. (a : ℕ) → 1 ≤ a → a ≤ length x.now → Has (ids_of past) a
+        ↔ InPast x.now session (Has view.now) a) }
 {
     let mut walk = begin(alloc, session, view)?;
     visit_all(x, &mut walk)?;
@@ -38,7 +40,9 @@ struct Walk {
 }
 
 fn begin(alloc: Global, session: SessId, view: &IdSet) -> Result<Walk, NoMemory>
-    ensures { IfOk result (λ walk. (x : List Effect) → IsWalk x session view.now (length x) (ids_of walk.met) (ids_of walk.sessions)) }
+    ensures { IfOk result
+        (λ walk. (x : List Effect)
+        → IsWalk x session view.now (length x) (ids_of walk.met) (ids_of walk.sessions)) }
 {
     let mut sessions = Ranges::new(alloc);
     sessions.insert(session.0)?;
@@ -49,7 +53,9 @@ fn begin(alloc: Global, session: SessId, view: &IdSet) -> Result<Walk, NoMemory>
 }
 
 fn visit_all(x: &Execution, walk: &mut Walk) -> Result<(), NoMemory>
-    ensures { OnOk result (GoesDown x.now (length x.now) (ids_of walk.old.met) (ids_of walk.old.sessions) 0 (ids_of walk.new.met) (ids_of walk.new.sessions)) }
+    ensures { OnOk result
+        (GoesDown x.now (length x.now) (ids_of walk.old.met) (ids_of walk.old.sessions) 0
+        (ids_of walk.new.met) (ids_of walk.new.sessions)) }
 {
     let mut left = x.len();
     while left > 0 {
@@ -64,7 +70,9 @@ fn visit(x: &Execution, walk: &mut Walk, e: EffId) -> Result<(), NoMemory>
     requires law { IsExecution x.now }
     requires first { 1 ≤ e.0 }
     requires last { e.0 ≤ length x.now }
-    ensures { OnOk result (GoesDown x.now e.0 (ids_of walk.old.met) (ids_of walk.old.sessions) (e.0 - 1) (ids_of walk.new.met) (ids_of walk.new.sessions)) }
+    ensures { OnOk result
+        (GoesDown x.now e.0 (ids_of walk.old.met) (ids_of walk.old.sessions) (e.0 - 1)
+        (ids_of walk.new.met) (ids_of walk.new.sessions)) }
 {
     let effect = x.get(e);
     if !walk.met.has(e.0) && !walk.sessions.has(effect.session.0) {
@@ -87,7 +95,8 @@ fn meet_all(met: &mut Ranges, ids: &IdSet) -> Result<(), NoMemory>
 /// The least of some ids that is in the past and that a view lacks.
 pub(crate) fn first_missing(ids: &[u32], past: &Ranges, view: &IdSet) -> Option<EffId>
     requires { IsAscending ids.now }
-    ensures { IsLeastOf (λ a. Has ids.now a × Has (ids_of past.now) a × (has_id view.now a ≡ false)) result }
+    ensures { IsLeastOf (λ a. Has ids.now a × Has (ids_of past.now) a × (has_id view.now a ≡ false))
+        result }
 {
     for id in ids {
         if past.has(*id) && !view.has(*id) {

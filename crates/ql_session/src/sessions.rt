@@ -15,8 +15,8 @@ use std::marker::Model;
 /// What the sessions did, viewed as the list of notes.
 ///
 /// Besides the list, the effects are kept by session and object and by object, and the stamps by session,
-/// so no call goes over all notes. The tables take memory in proportion to the greatest session and
-/// object numbers that were noted.
+/// so no call goes over all notes. They take memory in proportion to the notes, and to the greatest session
+/// and object numbers that were noted.
 #[derive(Drop)]
 pub struct Sessions {
     notes: Vec<Note>,
@@ -32,7 +32,7 @@ impl Model for Sessions {
 
     ghost view = { λ table. table.notes.items };
 
-    ghost invariant = { λ table. AreIndexed table.notes.items table.index.pairs.items table.index.objects table.index.stamps };
+    ghost invariant = { λ table. AreIndexed table.notes.items table.index.pairs table.index.objects table.index.stamps };
 }
 
 impl Sessions {
@@ -49,7 +49,9 @@ impl Sessions {
     /// Notes an effect of a session on an object, with its stamp. Takes constant time, except when the tables
     /// grow.
     pub fn note(&mut self, s: SessId, o: ObjId, e: EffId, stamp: u32) -> Result<(), NoMemory>
-        ensures ok { OnOk result (self.new ≡ self.old ++ record { session = s; object = o; effect = e; stamp = stamp } ∷ []) }
+        ensures ok { OnOk result
+            (self.new ≡ self.old ++ record { session = s; object = o; effect = e; stamp = stamp }
+            ∷ []) }
         ensures err { OnErr result (self.new ≡ self.old) }
     {
         let note = Note {

@@ -1,5 +1,5 @@
-ghost use Rattle.std.specs.Prelude.{◌≡◌, ◌↔◌, ◌||◌, nat_eq, ℕ, true, Some, IfOk, IfSome, OnOk};
-ghost use Rattle.ql_base.specs.IdLists.{IsAscending, has_id};
+ghost use Rattle.std.specs.Prelude.{◌≡◌, ◌||◌, nat_eq, ℕ, true, Some, IfOk, IfSome, OnOk};
+ghost use Rattle.ql_base.specs.IdLists.{has_id};
 ghost use Rattle.ql_base.specs.declared.ids.ObjId.{ObjId};
 ghost use Rattle.ql_exec.specs.Effects.{effect_at};
 ghost use Rattle.ql_exec.specs.Execution.{IsExecution, IsOn};
@@ -37,7 +37,8 @@ pub(crate) fn with_own(
 ) -> Result<IdSet, NoMemory>
     requires { AreThere x.now on.now }
     ensures execution { IsExecution x.now }
-    ensures joined { IfOk result (λ ids. (o : ObjId) → AreThose (λ a. IsOn o (effect_at x.now a)) on.now
+    ensures joined { IfOk result
+        (λ ids. (o : ObjId) → AreThose (λ a. IsOn o (effect_at x.now a)) on.now
         → ((a : ℕ) → Has running.now.own a → IsOf running.now.txn.session (effect_at x.now a))
         → ((a b : ℕ) → Has running.now.own b → vis x.now a b ≡ true → Has running.now.saw a)
         → IsJoined x.now running.now.own others.now on.now ids) }
@@ -59,7 +60,10 @@ fn all_own(
 ) -> Result<Option<IdSet>, NoMemory>
     requires { AreThere x.now on.now }
     ensures execution { IsExecution x.now }
-    ensures complete { IfOk result (λ found. IfSome found (λ ids. IsComplete x.now running.now.own running.now.saw others.now running.now.txn.session on.now ids)) }
+    ensures complete { IfOk result
+        (λ found. IfSome found
+        (λ ids. IsComplete x.now running.now.own running.now.saw others.now
+        running.now.txn.session on.now ids)) }
 {
     let effects = x.effects();
     let mut ids = IdSet::new(alloc);
@@ -82,7 +86,8 @@ fn is_kept(a: u32, running: &Running, others: &IdSet) -> bool
 
 // Whether own effects may need this one: one of them saw it, or it is of their session.
 fn is_awaited(effect: &Effect, a: u32, running: &Running) -> bool
-    ensures { result ≡ (has_id running.now.saw a || nat_eq effect.now.session.0 running.now.txn.session.0) }
+    ensures { result ≡ (has_id running.now.saw a
+        || nat_eq effect.now.session.0 running.now.txn.session.0) }
 {
     running.saw.has(a) || effect.session.0 == running.txn.session.0
 }
@@ -97,7 +102,8 @@ fn one_by_one(
 ) -> Result<IdSet, NoMemory>
     requires { AreThere x.now on.now }
     ensures execution { IsExecution x.now }
-    ensures joined { IfOk result (λ ids. (o : ObjId) → AreThose (λ a. IsOn o (effect_at x.now a)) on.now
+    ensures joined { IfOk result
+        (λ ids. (o : ObjId) → AreThose (λ a. IsOn o (effect_at x.now a)) on.now
         → ((a : ℕ) → Has running.now.own a → IsOf running.now.txn.session (effect_at x.now a))
         → IsJoined x.now running.now.own others.now on.now ids) }
 {
@@ -126,7 +132,9 @@ fn add_next(
     running: &Running,
     others: &IdSet,
 ) -> Result<(), NoMemory>
-    ensures { OnOk result (IsNextJoined gathered.old.ids gathered.old.whole effect.now a running.now.txn.session running.now.own others.now gathered.new.ids gathered.new.whole) }
+    ensures { OnOk result
+        (IsNextJoined gathered.old.ids gathered.old.whole effect.now a running.now.txn.session
+        running.now.own others.now gathered.new.ids gathered.new.whole) }
 {
     let is_seen = if running.own.has(a) {
         gathered.whole && all_in(effect.seen.items(), &gathered.ids)

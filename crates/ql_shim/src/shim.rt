@@ -1,8 +1,6 @@
-ghost use Rattle.std.specs.Prelude.{◌≡◌, ◌+◌, ◌^◌, ◌<◌, [], ◌∷◌, suc, length, None, Some, find, map, false, IfOk, OnOk, OnErr};
+ghost use Rattle.std.specs.Prelude.{◌≡◌, ◌+◌, ◌^◌, ◌<◌, [], None, Some, find, map, false, IfOk, OnOk, OnErr};
 ghost use Rattle.std.specs.Option.{option_copied, option_map, option_map_or};
 ghost use Rattle.ql_base.specs.IdLists.{has_id};
-ghost use Rattle.ql_exec.specs.Effects.{effect_at};
-ghost use Rattle.ql_exec.specs.Execution.{IsOn};
 ghost use Rattle.ql_machine.specs.declared.open_txn.OpenTxn.{OpenTxn};
 ghost use Rattle.ql_machine.specs.Sets.{AreThose};
 ghost use Rattle.ql_machine.specs.State.{open_of};
@@ -64,7 +62,13 @@ impl Shim {
         requires room { self.old.begun + 1 < 2 ^ 32 }
         ensures number { IfOk result (λ run. run.0 ≡ self.old.begun + 1) }
         ensures begun { IfOk result (λ run. IsBegun self.old self.new
-            (record { session = s; run = run; decl = decl; objects = objects; snapshot = snapshot })) }
+            (record {
+              session = s;
+              run = run;
+              decl = decl;
+              objects = objects;
+              snapshot = snapshot;
+            })) }
         ensures err { OnErr result (self.new ≡ self.old) }
     {
         let alloc = *self.running.allocator();
@@ -96,7 +100,8 @@ impl Shim {
 
     /// Whether the session's open transaction declares the object.
     pub fn declares(&self, s: SessId, o: ObjId) -> bool
-        ensures { result ≡ option_map_or (λ t. has_id t.objects o.0) (open_of (open_txns self.now) s) false }
+        ensures { result ≡ option_map_or
+            (λ t. has_id t.objects o.0) (open_of (open_txns self.now) s) false }
     {
         match running_in(&self.running, s) {
             None => false,
@@ -169,10 +174,16 @@ impl Shim {
         requires open_now { (t : OpenTxn) × (open_of (open_txns self.now) s ≡ Some t) }
         requires fits { H.fits holder.now x.now }
         requires there { AreThere x.now on.now }
-        ensures ids { IfOk result (λ view. (o : ObjId) (t : OpenTxn) → IsAsked self.now x.now s o on.now (H.received holder.now) t
-            → AreThose (IsSeen (state_of x.now (open_txns self.now) (H.received holder.now)) t level o) view.ids) }
-        ensures missing { IfOk result (λ view. (o : ObjId) (t : OpenTxn) → IsAsked self.now x.now s o on.now (H.received holder.now) t
-            → IsLeastUnapplied (state_of x.now (open_txns self.now) (H.received holder.now)) t level (H.received holder.now) view.missing) }
+        ensures ids { IfOk result
+            (λ view. (o : ObjId) (t : OpenTxn)
+            → IsAsked self.now x.now s o on.now (H.received holder.now) t
+            → AreThose (IsSeen (state_of x.now (open_txns self.now) (H.received holder.now)) t level
+            o) view.ids) }
+        ensures missing { IfOk result
+            (λ view. (o : ObjId) (t : OpenTxn)
+            → IsAsked self.now x.now s o on.now (H.received holder.now) t
+            → IsLeastUnapplied (state_of x.now (open_txns self.now) (H.received holder.now)) t level
+            (H.received holder.now) view.missing) }
     {
         let running = &self.running[place(&self.running, s)];
         view_of(*self.running.allocator(), running, level, holder, x, on)

@@ -1,7 +1,6 @@
-ghost use Rattle.std.specs.Prelude.{◌≡◌, ℕ, false, List};
-ghost use Rattle.ql_base.specs.IdLists.{IsAscending, has_id};
+ghost use Rattle.std.specs.Prelude.{List};
+ghost use Rattle.ql_base.specs.IdLists.{IsAscending};
 ghost use Rattle.ql_exec.specs.declared.effect.Effect.{Effect};
-ghost use Rattle.ql_needs.specs.Closed.{Has};
 ghost use Rattle.ql_shim.specs.Viewing.{IsFirstUnapplied};
 
 use ql_base::{EffId, IdSet};
@@ -11,7 +10,8 @@ use ql_holder::Holder;
 /// what it saw until one is found.
 pub(crate) fn first_unapplied<H: Holder>(holder: &H, saw: &[u32], own: &IdSet) -> Option<EffId>
     requires { IsAscending saw.now }
-    ensures { (x : List Effect) → H.fits holder.now x → IsFirstUnapplied x (H.received holder.now) saw.now own.now result }
+    ensures { (x : List Effect) → H.fits holder.now x
+        → IsFirstUnapplied x (H.received holder.now) saw.now own.now result }
 {
     for a in saw {
         if !own.has(*a) && !holder.applied(EffId(*a)) {

@@ -1,9 +1,8 @@
-ghost use Rattle.std.specs.Prelude.{◌≡◌, List, Some, IfOk};
+ghost use Rattle.std.specs.Prelude.{List, IfOk};
 ghost use Rattle.ql_base.specs.declared.ids.ObjId.{ObjId};
 ghost use Rattle.ql_needs.specs.Needs.{AreThere};
 ghost use Rattle.ql_machine.specs.declared.open_txn.OpenTxn.{OpenTxn};
 ghost use Rattle.ql_machine.specs.Sets.{AreThose};
-ghost use Rattle.ql_shim.specs.Transactions.{Transactions, open_txns};
 ghost use Rattle.ql_shim.specs.Viewing.{IsAskedOf, IsLeastUnapplied, IsSeen, state_of};
 
 use crate::among::{applied_among, kept_among};
@@ -33,10 +32,16 @@ pub(crate) fn view_of<H: Holder>(
 ) -> Result<View, NoMemory>
     requires fits { H.fits holder.now x.now }
     requires there { AreThere x.now on.now }
-    ensures ids { IfOk result (λ view. (now : List OpenTxn) (o : ObjId) → IsAskedOf now x.now o on.now (H.received holder.now) running.now
-        → AreThose (IsSeen (state_of x.now now (H.received holder.now)) running.now.txn level o) view.ids) }
-    ensures missing { IfOk result (λ view. (now : List OpenTxn) (o : ObjId) → IsAskedOf now x.now o on.now (H.received holder.now) running.now
-        → IsLeastUnapplied (state_of x.now now (H.received holder.now)) running.now.txn level (H.received holder.now) view.missing) }
+    ensures ids { IfOk result
+        (λ view. (now : List OpenTxn) (o : ObjId)
+        → IsAskedOf now x.now o on.now (H.received holder.now) running.now
+        → AreThose (IsSeen (state_of x.now now (H.received holder.now)) running.now.txn level o)
+        view.ids) }
+    ensures missing { IfOk result
+        (λ view. (now : List OpenTxn) (o : ObjId)
+        → IsAskedOf now x.now o on.now (H.received holder.now) running.now
+        → IsLeastUnapplied (state_of x.now now (H.received holder.now)) running.now.txn level
+        (H.received holder.now) view.missing) }
 {
     match level {
         TxnLevel::Rc => {

@@ -1,8 +1,8 @@
 -- What keeping the stable effects leaves, and why answers go on from it.
-use Rattle.std.proofs.Common.{◌≡◌, ◌≤◌, ◌<◌, ◌+◌, ◌⊎◌, ℕ, zero, suc, Bool, true, false, cond, ◌&&◌, nat_eq, List, [], ◌∷◌, All, length, replicate, Option, None, Some, slice_get, get_or, refl, sym, ap, ◌∙◌, subst, inl, inr, arith}
+use Rattle.std.proofs.Common.{◌≡◌, ◌≤◌, ◌<◌, ◌+◌, ℕ, zero, suc, Bool, true, false, cond, nat_eq, List, [], ◌∷◌, All, length, replicate, Option, None, Some, slice_get, refl, sym, ap, ◌∙◌, subst, inl, inr, arith}
 use Rattle.std.specs.Option.{option_map, option_map_or}
 use Rattle.std.proofs.lemmas.Bool.{and_parts, cases_Bool, eqb-true, eq-eqb}
-use Rattle.std.proofs.lemmas.Option.{get_or_from_slice_get, same_Some, slice_get-get_or, slice_get_within}
+use Rattle.std.proofs.lemmas.Option.{get_or_from_slice_get, same_Some, slice_get_within}
 use Rattle.std.proofs.lemmas.List.Elements.{All-from_recursion}
 use Rattle.ql_base.specs.IdLists.{has_id, union_of}
 use Rattle.ql_base.proofs.IdLemmas.{union_of-nothing}
@@ -12,7 +12,6 @@ use Rattle.ql_lang.specs.declared.operation.Param.{Param}
 use Rattle.ql_eval.specs.Able.{AreArgs, AreOfKinds, param_kind, FitsOp, IsAble, IsOfType}
 use Rattle.ql_eval.proofs.EffectOrder.{is_order}
 use Rattle.ql_exec.specs.declared.effect.Effect.{Effect}
-use Rattle.ql_exec.specs.declared.effect.Payload.{Payload}
 use Rattle.ql_exec.specs.Effects.{effect_at, one}
 use Rattle.ql_exec.specs.Execution.{IsOn}
 use Rattle.ql_exec.specs.Folding.{comes_before, seen_in_order}
@@ -31,9 +30,9 @@ use Rattle.ql_summary.specs.Standing.{AreOfType, FitOperations, IsFormOf, Stands
 use Rattle.ql_summary.proofs.SlimForms.{bare_slim, slim_at}
 use Rattle.ql_summary.proofs.SplitOrder.{seen_all}
 use Rattle.ql_slimming.specs.Answers.{is_asked, replica_of, same_type}
-use Rattle.ql_slimming.specs.Ready.{AreKept, IsKeptAt, IsLeft, is_kept_at}
+use Rattle.ql_slimming.specs.Ready.{AreKept, IsKeptAt, IsLeft}
 use Rattle.ql_slimming.specs.Stability.{IsStable, IsStableEffect}
-use Rattle.ql_slimming.proofs.Prefixes.{at_on, from_on, never, on_from}
+use Rattle.ql_slimming.proofs.Prefixes.{at_on, never}
 
 -- ---- effects that fit a schedule
 

@@ -1,5 +1,5 @@
 -- Texts that are made of parts, in a loop.
-use Rattle.std.proofs.Common.{◌≡◌, ℕ, zero, suc, List, [], ◌++◌, refl, sym, ap, ◌∙◌, append_assoc, append-nil}
+use Rattle.std.proofs.Common.{ℕ, suc, List, [], ◌++◌, refl, sym, ap, ◌∙◌, append_assoc, append-nil}
 use Rattle.ql_slimming.specs.Answers.{Adds, InOrder}
 
 pub none_added : (part : ℕ → List ℕ → Type 0) (out : List ℕ) → Adds (InOrder part 0) out out

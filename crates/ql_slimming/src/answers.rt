@@ -39,8 +39,12 @@ pub(crate) struct Left<'a> {
 
 /// Appends what each replica answers to the operations without parameters, object by object.
 pub(crate) fn push_answers(alloc: Global, out: &mut Vec<u8>, left: &Left) -> Result<(), NoMemory>
-    requires { IsLeft left.now.t.now.program (length left.now.objects.now) left.now.kinds.now left.now.replicas left.now.store.now.machine left.now.kept.now left.now.small.now }
-    ensures { OnOk result (Adds (InOrder (AreAnswersOn left.now.t.now.program left.now.objects.now left.now.kinds.now left.now.store.now.machine) (length left.now.objects.now)) out.old.items out.new.items) }
+    requires { IsLeft left.now.t.now.program (length left.now.objects.now) left.now.kinds.now
+        left.now.replicas left.now.store.now.machine left.now.kept.now left.now.small.now }
+    ensures { OnOk result
+        (Adds (InOrder (AreAnswersOn left.now.t.now.program left.now.objects.now left.now.kinds.now
+        left.now.store.now.machine) (length left.now.objects.now)) out.old.items
+        out.new.items) }
 {
     for o in 0..left.objects.len() {
         push_on(alloc, out, left, ObjId(o))?;
@@ -50,9 +54,12 @@ pub(crate) fn push_answers(alloc: Global, out: &mut Vec<u8>, left: &Left) -> Res
 
 // The answers of all operations on an object.
 fn push_on(alloc: Global, out: &mut Vec<u8>, left: &Left, o: ObjId) -> Result<(), NoMemory>
-    requires left { IsLeft left.now.t.now.program (length left.now.objects.now) left.now.kinds.now left.now.replicas left.now.store.now.machine left.now.kept.now left.now.small.now }
+    requires left { IsLeft left.now.t.now.program (length left.now.objects.now) left.now.kinds.now
+        left.now.replicas left.now.store.now.machine left.now.kept.now left.now.small.now }
     requires object { o.0 < length left.now.objects.now }
-    ensures { OnOk result (Adds (AreAnswersOn left.now.t.now.program left.now.objects.now left.now.kinds.now left.now.store.now.machine o.0) out.old.items out.new.items) }
+    ensures { OnOk result
+        (Adds (AreAnswersOn left.now.t.now.program left.now.objects.now left.now.kinds.now
+        left.now.store.now.machine o.0) out.old.items out.new.items) }
 {
     let views = views_on(alloc, left.store, left.replicas, o)?;
     for op in 0..left.t.ops() {
@@ -70,11 +77,14 @@ fn push_of(
     op: OpId,
     views: &[IdSet],
 ) -> Result<(), NoMemory>
-    requires left { IsLeft left.now.t.now.program (length left.now.objects.now) left.now.kinds.now left.now.replicas left.now.store.now.machine left.now.kept.now left.now.small.now }
+    requires left { IsLeft left.now.t.now.program (length left.now.objects.now) left.now.kinds.now
+        left.now.replicas left.now.store.now.machine left.now.kept.now left.now.small.now }
     requires object { o.0 < length left.now.objects.now }
     requires op { op.0 < length (all_ops left.now.t.now.program.types) }
     requires views { AreViews left.now.store.now.machine o views.now }
-    ensures { OnOk result (Adds (AreAnswersOf left.now.t.now.program left.now.objects.now left.now.kinds.now left.now.store.now.machine o.0 op.0) out.old.items out.new.items) }
+    ensures { OnOk result
+        (Adds (AreAnswersOf left.now.t.now.program left.now.objects.now left.now.kinds.now
+        left.now.store.now.machine o.0 op.0) out.old.items out.new.items) }
 {
     if !is_asked(left, o, op) {
         return Ok(());
@@ -86,7 +96,8 @@ fn push_of(
 }
 
 fn is_asked(left: &Left, o: ObjId, op: OpId) -> bool
-    requires left { IsLeft left.now.t.now.program (length left.now.objects.now) left.now.kinds.now left.now.replicas left.now.store.now.machine left.now.kept.now left.now.small.now }
+    requires left { IsLeft left.now.t.now.program (length left.now.objects.now) left.now.kinds.now
+        left.now.replicas left.now.store.now.machine left.now.kept.now left.now.small.now }
     requires object { o.0 < length left.now.objects.now }
     requires op { op.0 < length (all_ops left.now.t.now.program.types) }
     ensures { result ≡ is_asked left.now.t.now.program left.now.kinds.now o.0 op.0 }
@@ -104,13 +115,16 @@ fn push_line(
     r: u32,
     view: &IdSet,
 ) -> Result<(), NoMemory>
-    requires left { IsLeft left.now.t.now.program (length left.now.objects.now) left.now.kinds.now left.now.replicas left.now.store.now.machine left.now.kept.now left.now.small.now }
+    requires left { IsLeft left.now.t.now.program (length left.now.objects.now) left.now.kinds.now
+        left.now.replicas left.now.store.now.machine left.now.kept.now left.now.small.now }
     requires object { o.0 < length left.now.objects.now }
     requires op { op.0 < length (all_ops left.now.t.now.program.types) }
     requires asked { is_asked left.now.t.now.program left.now.kinds.now o.0 op.0 ≡ true }
     requires replica { r < length left.now.store.now.machine.received }
     requires view { AreThose (IsAppliedOn left.now.store.now.machine (replica_of r) o) view.now }
-    ensures { OnOk result (Adds (IsAnswerLine left.now.t.now.program left.now.objects.now left.now.store.now.machine o.0 op.0 r) out.old.items out.new.items) }
+    ensures { OnOk result
+        (Adds (IsAnswerLine left.now.t.now.program left.now.objects.now left.now.store.now.machine
+        o.0 op.0 r) out.old.items out.new.items) }
 {
     let none = Values::of(Vec::new(alloc));
     let given = answer_with(alloc, left.t, left.kept, o, op, &none, left.small, view)?;
@@ -128,7 +142,9 @@ fn print_line(
 ) -> Result<(), NoMemory>
     requires object { o.0 < length objects.now }
     requires op { op.0 < length (all_ops t.now.program.types) }
-    ensures { OnOk result (out.new.items ≡ out.old.items ++ answer_line t.now.program objects.now o.0 op.0 r value.now) }
+    ensures { OnOk result
+        (out.new.items ≡ out.old.items
+        ++ answer_line t.now.program objects.now o.0 op.0 r value.now) }
 {
     push_bytes(out, objects.name(o.0).bytes())?;
     push_bytes(out, b" ")?;

@@ -40,7 +40,10 @@ pub fn slim_run(
 fn text_of(alloc: Global, input: RunInput) -> Result<Vec<u8>, NoMemory>
     requires levels { AreLevelsOf input.typed.program input.levels }
     requires schedule { IsSchedule input.typed.program input.schedule }
-    ensures { IfOk result (λ text. (source file : List ℕ) → IsSourceOf source input.typed.program → IsScheduleFile input.typed.program (ahead_from 1 file) input.schedule → TellsSlim source file text.items) }
+    ensures { IfOk result
+        (λ text. (source file : List ℕ) → IsSourceOf source input.typed.program
+        → IsScheduleFile input.typed.program (ahead_from 1 file) input.schedule
+        → TellsSlim source file text.items) }
 {
     let RunInput {
         typed,
@@ -64,8 +67,11 @@ fn print_slim(
     requires replicas { length run.now.store.machine.received ≡ replicas }
     requires few { length kinds.now < 2 ^ 32 }
     requires typed { length kinds.now ≡ length run.now.objects }
-    requires fits { All (FitsSchedule t.now.program (length run.now.objects) kinds.now) run.now.store.machine.effects }
-    ensures { IfOk result (λ text. IsSlimText t.now.program run.now.objects kinds.now run.now.store.machine text.items) }
+    requires fits { All (FitsSchedule t.now.program (length run.now.objects) kinds.now)
+        run.now.store.machine.effects }
+    ensures { IfOk result
+        (λ text. IsSlimText t.now.program run.now.objects kinds.now run.now.store.machine
+        text.items) }
 {
     let x = run.store.execution();
     let kept = keep_stable(alloc, t, &run.store, replicas, kinds)?;

@@ -26,9 +26,11 @@ pub(crate) fn keep_stable(
 ) -> Result<Kept, NoMemory>
     requires replicas { length store.now.machine.received ≡ replicas }
     requires few { length kinds.now < 2 ^ 32 }
-    requires fits { All (FitsSchedule t.now.program (length kinds.now) kinds.now) store.now.machine.effects }
+    requires fits { All (FitsSchedule t.now.program (length kinds.now) kinds.now)
+        store.now.machine.effects }
     ensures count { IfOk result (λ kept. length kept ≡ length kinds.now) }
-    ensures stands { IfOk result (λ kept. StandsFor t.now.program.types kept store.now.machine.effects) }
+    ensures stands { IfOk result
+        (λ kept. StandsFor t.now.program.types kept store.now.machine.effects) }
     ensures stable { IfOk result (AreKept store.now.machine (length kinds.now)) }
 {
     let objects = kinds.len() as u32;

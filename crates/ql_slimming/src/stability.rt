@@ -26,7 +26,9 @@ pub(crate) fn stable_on(
     object: ObjId,
     views: &[IdSet],
 ) -> Result<IdSet, NoMemory>
-    ensures { IfOk result (λ ids. (s : Machine) → s.effects ≡ x.now → AreViews s object views.now → AreThose (IsStable s object) ids) }
+    ensures { IfOk result
+        (λ ids. (s : Machine) → s.effects ≡ x.now → AreViews s object views.now
+        → AreThose (IsStable s object) ids) }
 {
     let first = first_open(x, object, views);
     let mut ids = IdSet::new(alloc);
@@ -64,7 +66,9 @@ fn earlier_open(
     next: EffId,
 ) -> Option<EffId>
     requires { IsThere x.now next.0 }
-    ensures { result ≡ cond (is_open x.now object views.now next.0 && comes_earlier x.now next.0 first) (Some next) first }
+    ensures { result ≡ cond
+        (is_open x.now object views.now next.0 && comes_earlier x.now next.0 first) (Some next)
+        first }
 {
     if is_open(x, object, views, next) && is_earlier(x, next, first) {
         Some(next)

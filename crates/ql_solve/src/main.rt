@@ -8,10 +8,10 @@ use dimacs::clauses;
 use ql_base::NoMemory;
 use ql_cnf::{Clauses, satisfies};
 use ql_refute::{Verdict, check};
+use ql_reply::words;
 use ql_sat::{Decided, decide};
 use std::alloc::Global;
-use std::env::Env;
-use std::{env, fs, io};
+use std::{fs, io};
 
 fn main(rt: HostRuntime) -> io::Result<()> {
     let paths = words(&rt)?;
@@ -26,12 +26,6 @@ fn main(rt: HostRuntime) -> io::Result<()> {
         }
     }
     Ok(())
-}
-
-// The arguments of the command line, without the program's own name.
-fn words<R: Env + AllocGlobal>(rt: &R) -> io::Result<Vec<String>> {
-    let words = env::args(rt)?.skip(1).collect::<Vec<String>>(rt.alloc())?;
-    Ok(words)
 }
 
 // The result for a file.

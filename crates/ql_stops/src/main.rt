@@ -10,9 +10,9 @@ use journaling::{all_effects, journal, recovered};
 use ql_disk::FileDisk;
 use ql_journal::StationWhy;
 use ql_replica::Replica;
-use std::env::Env;
+use ql_reply::words;
 use std::fs::OpenOptions;
-use std::{env, io};
+use std::io;
 
 // How many packages there are, of 1 to 8 effects in rotation.
 const PACKAGES: u32 = 800;
@@ -24,12 +24,6 @@ fn main(rt: HostRuntime) -> io::Result<()> {
         [command, path] if command.as_str() == "recover" => read_file(&rt, path.as_str()),
         _ => println!(rt; "usage: ql_stops (journal | recover) FILE"),
     }
-}
-
-// The arguments of the command line, without the program's own name.
-fn words<R: Env + AllocGlobal>(rt: &R) -> io::Result<Vec<String>> {
-    let words = env::args(rt)?.skip(1).collect::<Vec<String>>(rt.alloc())?;
-    Ok(words)
 }
 
 fn write_file(rt: &HostRuntime, path: &str) -> io::Result<()> {

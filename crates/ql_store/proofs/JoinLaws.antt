@@ -1,5 +1,5 @@
 -- A replica joins.
-use Rattle.std.proofs.Common.{◌≡◌, ◌∷◌, ◌++◌, [], ◌<◌, ℕ, Bool, true, false, List, Option, Some, None, length, map, nat_eq, refl, ap, sym, subst, ◌∙◌, inl, inr}
+use Rattle.std.proofs.Common.{◌≡◌, ◌∷◌, ◌++◌, [], ◌<◌, ℕ, Bool, true, false, List, Some, length, map, nat_eq, refl, ap, sym, subst, ◌∙◌, inl, inr}
 use Rattle.std.specs.Prelude.{All, Result, Ok, Err, IfOk, OnOk, OnErr}
 use Rattle.std.proofs.lemmas.List.{map-append}
 use Rattle.std.proofs.lemmas.List.Elements.{All-push}
@@ -25,7 +25,7 @@ use Rattle.ql_machine.specs.declared.event.Event.TheVariants as event
 use Rattle.ql_machine.specs.declared.reply.Reply.{Reply}
 use Rattle.ql_machine.specs.declared.reply.Reply.TheVariants as reply
 use Rattle.ql_machine.specs.Changes.{after_join}
-use Rattle.ql_machine.specs.Rules.{Promises, Rules}
+use Rattle.ql_machine.specs.Rules.{Rules}
 use Rattle.ql_machine.specs.Sets.{AreThose}
 use Rattle.ql_machine.specs.State.{Machine, NeedsNow, group_at, received_at, replicas}
 use Rattle.ql_machine.specs.Steps.{IsOfStrong, IsStep, IsUnderStrong, joins_bare, joins_copy}

@@ -1,5 +1,5 @@
 -- The notes of an execution: which effects they tell, and one note more or less.
-use Rattle.std.proofs.Common.{◌≡◌, ◌∷◌, ◌++◌, [], ◌+◌, ◌-◌, ◌≤◌, ◌&&◌, ℕ, zero, suc, Bool, true, nat_eq, List, Option, Some, None, Result, Ok, Err, inl, inr, length, take, ap, sym, subst, ◌∙◌, arith, refl, length-append}
+use Rattle.std.proofs.Common.{◌≡◌, ◌∷◌, ◌++◌, [], ◌+◌, ◌-◌, ◌≤◌, ◌&&◌, ℕ, zero, suc, true, nat_eq, List, Option, Some, None, Result, Ok, Err, inl, inr, length, take, ap, sym, subst, ◌∙◌, arith, refl, length-append}
 use Rattle.std.specs.Prelude.{IfOk}
 use Rattle.std.proofs.Math.Seq.{take-append_seam}
 use Rattle.std.proofs.lemmas.Bool.{cases_Bool, eq-eqb, eqb-true, and_parts, and_from}
@@ -19,33 +19,11 @@ use Rattle.ql_needs.specs.Needs.{AreThere}
 use Rattle.ql_machine.specs.Blocking.{IsOf}
 use Rattle.ql_machine.specs.Sets.{AreThose}
 use Rattle.ql_session.specs.declared.note.Note.{Note}
-use Rattle.ql_session.specs.Notes.{IsLeastMissing, effects_by, effects_on, effects_where}
+use Rattle.ql_session.specs.Notes.{IsLeastMissing, effects_by, effects_on}
 use Rattle.ql_session.specs.Executions.{note_of, notes_of}
 use Rattle.ql_session.specs.Past.{IsLeastOf, IsMissingPast}
-use Rattle.ql_session.proofs.NoteLaws.{ids-ascend, ids-have, ids-are, notes_after-push}
+use Rattle.ql_session.proofs.NoteLaws.{those, object-is, notes_after-push}
 use Rattle.ql_store.specs.Viewing.{IsLeastLacking}
-
--- the notes that pass a test are of the effects of which something holds, where the test tells it
-those : (x : List Effect) (holds : Option Effect → Type 0) (test : Note → Bool) → (holds None → ⊥)
-    → ((a : ℕ) (e : Effect) → holds (Some e) → test (note_of a e) ≡ true) → ((a : ℕ) (e : Effect) → test (note_of a e) ≡ true → holds (Some e))
-    → AreThose (λ a. holds (effect_at x a)) (effects_where test (notes_of x))
-those x holds test none passes tells = record {
-  ascending = ids-ascend test 0 x;
-  all = all;
-  only = λ a has. (let is = ids-are test 0 x a has in let at : suc is.0 ≡ a = (let e = is.3 in omega (arith, e)) in
-      subst (λ (n : ℕ). holds (effect_at x n)) at (subst holds (sym is.2) (tells a is.1 is.4)));
-}
-  where
-    by : (i : ℕ) (o : Option Effect) → effect_at x (suc i) ≡ o → holds o → Has (effects_where test (notes_of x)) (suc i)
-    by i None is held = absurd (none held)
-    by i (Some e) is held = ids-have test 0 x i (suc i) e is (omega arith) (passes (suc i) e held)
-
-    all : (a : ℕ) → holds (effect_at x a) → Has (effects_where test (notes_of x)) a
-    all zero held = absurd (none held)
-    all (suc i) held = by i (effect_at x (suc i)) refl held
-
-object-is : (o p : ObjId) → nat_eq o.0 p.0 ≡ true → o ≡ p
-object-is o p same = ap (λ (n : ℕ). let id : ObjId = record { 0 = n } in id) (eqb-true o.0 p.0 same)
 
 session-is : (s t : SessId) → nat_eq s.0 t.0 ≡ true → s ≡ t
 session-is s t same = ap (λ (n : ℕ). let id : SessId = record { 0 = n } in id) (eqb-true s.0 t.0 same)

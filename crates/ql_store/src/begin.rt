@@ -28,10 +28,14 @@ pub(crate) fn begin<H: Holder>(
 ) -> Result<Reply, NoMemory>
     requires room { shim.old.begun + 1 < 2 ^ 32 }
     requires fits { H.fits holder.now x.now }
-    ensures step { IfOk result (λ r. (rules : Rules) (received : List (List ℕ)) (net : Network) (replica : ReplicaId)
-        → IsState x.now received net shim.old → replica.0 < length received → received_at received replica.0 ≡ H.received holder.now
-        → IsStep rules (machine_of x.now received net shim.old) (event.Begin session replica decl objects) (machine_of x.now received net shim.new) r) }
-    ensures known { (received : List (List ℕ)) (net : Network) → IsState x.now received net shim.old → AreKnown x.now shim.new }
+    ensures step { IfOk result
+        (λ r. (rules : Rules) (received : List (List ℕ)) (net : Network) (replica : ReplicaId)
+        → IsState x.now received net shim.old → replica.0 < length received
+        → received_at received replica.0 ≡ H.received holder.now
+        → IsStep rules (machine_of x.now received net shim.old)
+        (event.Begin session replica decl objects) (machine_of x.now received net shim.new) r) }
+    ensures known { (received : List (List ℕ)) (net : Network) → IsState x.now received net shim.old
+        → AreKnown x.now shim.new }
     ensures err { OnErr result (shim.new ≡ shim.old) }
 {
     match shim.run_of(session) {

@@ -1,4 +1,4 @@
-ghost use Rattle.std.specs.Prelude.{◌≡◌, ◌<◌, ◌+◌, ◌^◌, ◌++◌, ℕ, List, All, false, length, map, IfOk, OnOk, OnErr};
+ghost use Rattle.std.specs.Prelude.{◌≡◌, ◌<◌, ◌+◌, ◌^◌, ◌++◌, ℕ, All, false, length, map, IfOk, OnOk, OnErr};
 ghost use Rattle.ql_base.specs.IdLists.{has_id};
 ghost use Rattle.ql_needs.specs.Closed.{Has};
 ghost use Rattle.ql_needs.specs.Needs.{IsPackage};
@@ -30,11 +30,15 @@ pub(crate) fn commit<H: Holder>(
     requires room { length net.old.messages + length net.old.groups < 2 ^ 32 }
     requires fit { All (λ h. H.fits h x.now) holders.old.items }
     requires state { IsState x.now (map H.received holders.old.items) net.old shim.old }
-    ensures step { IfOk result (λ r. (rules : Rules) → IsStep rules (machine_of x.now (map H.received holders.old.items) net.old shim.old)
-        (event.Commit session replica) (machine_of x.now (map H.received holders.new.items) net.new shim.new) r) }
+    ensures step { IfOk result
+        (λ r. (rules : Rules)
+        → IsStep rules (machine_of x.now (map H.received holders.old.items) net.old shim.old)
+        (event.Commit session replica)
+        (machine_of x.now (map H.received holders.new.items) net.new shim.new) r) }
     ensures fit { All (λ h. H.fits h x.now) holders.new.items }
     ensures known { AreKnown x.now shim.new }
-    ensures same { OnErr result (map H.received holders.new.items ≡ map H.received holders.old.items) }
+    ensures same { OnErr result
+        (map H.received holders.new.items ≡ map H.received holders.old.items) }
     ensures net { OnErr result (net.new ≡ net.old) }
     ensures shim { OnErr result (shim.new ≡ shim.old) }
 {
@@ -60,13 +64,17 @@ fn spread_all<H: Holder>(
     requires room { length net.old.messages + length net.old.groups < 2 ^ 32 }
     requires fit { All (λ h. H.fits h x.now) holders.old.items }
     requires package { (a : ℕ) → Has own.now a → IsPackage x.now own.now }
-    requires new { (a : ℕ) → Has own.now a → has_id (received_at (map H.received holders.old.items) r.0) a ≡ false }
-    ensures received { OnOk result (map H.received holders.new.items ≡ received_by (map H.received holders.old.items) r.0 own.now) }
+    requires new { (a : ℕ) → Has own.now a
+        → has_id (received_at (map H.received holders.old.items) r.0) a ≡ false }
+    ensures received { OnOk result
+        (map H.received holders.new.items
+        ≡ received_by (map H.received holders.old.items) r.0 own.now) }
     ensures sent { OnOk result (net.new ≡ record net.old {
       messages = net.old.messages ++ package_to_others (length net.old.groups) r own.now;
     }) }
     ensures fit { All (λ h. H.fits h x.now) holders.new.items }
-    ensures same { OnErr result (map H.received holders.new.items ≡ map H.received holders.old.items) }
+    ensures same { OnErr result
+        (map H.received holders.new.items ≡ map H.received holders.old.items) }
     ensures net { OnErr result (net.new ≡ net.old) }
 {
     if own.is_empty() {

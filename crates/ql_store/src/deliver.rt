@@ -1,4 +1,4 @@
-ghost use Rattle.std.specs.Prelude.{◌≡◌, ℕ, List, All, length, map, IfOk, OnErr};
+ghost use Rattle.std.specs.Prelude.{◌≡◌, ℕ, All, length, map, IfOk, OnErr};
 ghost use Rattle.ql_shim.specs.Transactions.{Transactions};
 ghost use Rattle.ql_machine.specs.Deliveries.{IsDelivery};
 ghost use Rattle.ql_machine.specs.Rules.{Promises};
@@ -25,10 +25,12 @@ pub(crate) fn deliver<H: Holder>(
     requires receivers { GoWithin (length holders.old.items) net.old.messages }
     ensures delivered { IfOk result (λ r. (promises : Promises) (n : ℕ) (shim : Transactions)
         → Keeps promises n (machine_of x.now (map H.received holders.old.items) net.old shim)
-        → IsDelivery (machine_of x.now (map H.received holders.old.items) net.old shim) m.0 (machine_of x.now (map H.received holders.new.items) net.new shim) r) }
+        → IsDelivery (machine_of x.now (map H.received holders.old.items) net.old shim) m.0
+        (machine_of x.now (map H.received holders.new.items) net.new shim) r) }
     ensures fit { All (λ h. H.fits h x.now) holders.new.items }
     ensures count { length holders.new.items ≡ length holders.old.items }
-    ensures same { OnErr result (map H.received holders.new.items ≡ map H.received holders.old.items) }
+    ensures same { OnErr result
+        (map H.received holders.new.items ≡ map H.received holders.old.items) }
     ensures net { OnErr result (net.new ≡ net.old) }
 {
     match net.look(m) {

@@ -26,7 +26,9 @@ pub(crate) fn add<H: Holder>(
     requires room { length net.old.groups + 1 < 2 ^ 32 }
     ensures reply { IfOk result (λ r. r ≡ reply.Joined (record { 0 = length net.old.groups })) }
     ensures received { OnOk result (holders.new.items ≡ holders.old.items ++ joining ∷ []) }
-    ensures group { OnOk result (net.new ≡ record net.old { groups = net.old.groups ++ group_at net.old.groups near.0 ∷ [] }) }
+    ensures group { OnOk result
+        (net.new ≡ record net.old
+        { groups = net.old.groups ++ group_at net.old.groups near.0 ∷ [] }) }
     ensures same { OnErr result (holders.new.items ≡ holders.old.items) }
     ensures same_net { OnErr result (net.new ≡ net.old) }
 {
@@ -50,7 +52,9 @@ pub(crate) fn bare_holder<H: Holder>(
     requires ops { AreAmongOps (length levels.now.ops) x.now }
     requires alone { AreAlone (promises_of levels.now).level x.now }
     ensures fits { IfOk result (λ bare. H.fits bare x.now) }
-    ensures received { IfOk result (λ bare. AreThose (IsNeededByStrong (promises_of levels.now).level x.now) (H.received bare)) }
+    ensures received { IfOk result
+        (λ bare. AreThose (IsNeededByStrong (promises_of levels.now).level x.now)
+        (H.received bare)) }
 {
     let strong = strong_effects(alloc, x.effects(), levels)?;
     bare(alloc, x, &strong)

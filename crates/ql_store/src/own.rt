@@ -35,8 +35,10 @@ pub(crate) fn refusal(
     is_used: bool,
     level: Level,
 ) -> Option<Reply>
-    ensures { (rules : Rules) (x : List Effect) (received : List (List ℕ)) → length received ≡ length net.now.groups
-        → open_of (open_txns shim.now) asked.now.session ≡ Some txn.now → rules.uses txn.now.decl asked.now.op ≡ is_used → rules.level asked.now.op ≡ level
+    ensures { (rules : Rules) (x : List Effect) (received : List (List ℕ))
+        → length received ≡ length net.now.groups
+        → open_of (open_txns shim.now) asked.now.session ≡ Some txn.now
+        → rules.uses txn.now.decl asked.now.op ≡ is_used → rules.level asked.now.op ≡ level
         → IsRefusal rules (machine_of x received net.now shim.now) (call_of asked.now) result }
 {
     if !txn.objects.has(asked.object.0) {
@@ -67,10 +69,14 @@ pub(crate) fn own_view<H: Holder>(
     requires open_now { (t : OpenTxn) × (open_of (open_txns shim.now) asked.now.session ≡ Some t) }
     requires fits { H.fits holder.now x.now }
     requires noted { sessions.now ≡ notes_of x.now }
-    ensures { IfOk result (λ view. (rules : Rules) (received : List (List ℕ)) (net : Network) (t : OpenTxn) → IsState x.now received net shim.now
-        → received_at received asked.now.replica.0 ≡ H.received holder.now → open_of (open_txns shim.now) asked.now.session ≡ Some t
+    ensures { IfOk result
+        (λ view. (rules : Rules) (received : List (List ℕ)) (net : Network) (t : OpenTxn)
+        → IsState x.now received net shim.now
+        → received_at received asked.now.replica.0 ≡ H.received holder.now
+        → open_of (open_txns shim.now) asked.now.session ≡ Some t
         → rules.level asked.now.op ≡ level → rules.txn_level t.decl ≡ txn_level
-        → IsViewOf rules (machine_of x.now received net shim.now) (call_of asked.now) view.ids view.missing) }
+        → IsViewOf rules (machine_of x.now received net shim.now) (call_of asked.now) view.ids
+        view.missing) }
 {
     let on = sessions.on(asked.object);
     let view = shim.view_rule(asked.session, txn_level, holder, x, on)?;
@@ -107,7 +113,8 @@ pub(crate) fn make_own(
     requires noted { sessions.old ≡ notes_of x.old }
     ensures reply { IfOk result (λ r. r ≡ reply.Ok (next_id x.old)) }
     ensures made { OnOk result (x.new ≡ x.old ++ effect_of x.old draft ∷ []) }
-    ensures own { OnOk result (IsNoted shim.old shim.new draft.session (next_id x.old).0 draft.seen) }
+    ensures own { OnOk result
+        (IsNoted shim.old shim.new draft.session (next_id x.old).0 draft.seen) }
     ensures noted { sessions.new ≡ notes_of x.new }
     ensures same { OnErr result (x.new ≡ x.old) }
     ensures same_shim { OnErr result (shim.new ≡ shim.old) }

@@ -1,4 +1,4 @@
-ghost use Rattle.std.specs.Prelude.{◌≡◌, ◌<◌, ◌+◌, ◌^◌, ◌∷◌, ◌++◌, [], false, ℕ, List, All, length, map, IfOk, OnOk, OnErr};
+ghost use Rattle.std.specs.Prelude.{◌≡◌, ◌<◌, ◌+◌, ◌^◌, ◌∷◌, ◌++◌, [], false, List, All, length, map, IfOk, OnOk, OnErr};
 ghost use Rattle.ql_exec.specs.declared.effect.Effect.{Effect};
 ghost use Rattle.ql_exec.specs.declared.effect.Member.TheVariants.{Alone};
 ghost use Rattle.ql_exec.specs.Execution.{IsExecution, effect_of, next_id};
@@ -34,18 +34,22 @@ pub(crate) fn make_plain<H: Holder>(
     requires fit { All (λ h. H.fits h x.old) holders.old.items }
     requires lawful { IsExecution (x.old ++ effect_of x.old draft ∷ []) }
     requires alone { draft.member ≡ Alone }
-    requires apart { All (λ h. JoinsNone x.old (effect_of x.old draft ∷ []) (H.received h)) holders.old.items }
+    requires apart { All (λ h. JoinsNone x.old (effect_of x.old draft ∷ []) (H.received h))
+        holders.old.items }
     requires noted { sessions.old ≡ notes_of x.old }
     ensures reply { IfOk result (λ r. r ≡ reply.Ok (next_id x.old)) }
     ensures made { OnOk result (x.new ≡ x.old ++ effect_of x.old draft ∷ []) }
-    ensures received { OnOk result (map H.received holders.new.items ≡ received_by (map H.received holders.old.items) r.0 ((next_id x.old).0 ∷ [])) }
+    ensures received { OnOk result
+        (map H.received holders.new.items
+        ≡ received_by (map H.received holders.old.items) r.0 ((next_id x.old).0 ∷ [])) }
     ensures sent { OnOk result (net.new ≡ record net.old {
       messages = net.old.messages ++ package_to_others (length net.old.groups) r ((next_id x.old).0 ∷ []);
     }) }
     ensures fit { All (λ h. H.fits h x.new) holders.new.items }
     ensures noted { sessions.new ≡ notes_of x.new }
     ensures same { OnErr result (x.new ≡ x.old) }
-    ensures same_received { OnErr result (map H.received holders.new.items ≡ map H.received holders.old.items) }
+    ensures same_received { OnErr result
+        (map H.received holders.new.items ≡ map H.received holders.old.items) }
     ensures same_net { OnErr result (net.new ≡ net.old) }
 {
     let id = push_noted(x, sessions, draft)?;
@@ -102,13 +106,18 @@ fn spread_one<H: Holder>(
     requires fit { All (λ h. H.fits h x.now) holders.old.items }
     requires package { IsPackage x.now (id.0 ∷ []) }
     requires new { has_id (received_at (map H.received holders.old.items) r.0) id.0 ≡ false }
-    ensures received { OnOk result (map H.received holders.new.items ≡ received_by (map H.received holders.old.items) r.0 (id.0 ∷ [])) }
+    ensures received { OnOk result
+        (map H.received holders.new.items
+        ≡ received_by (map H.received holders.old.items) r.0 (id.0 ∷ [])) }
     ensures sent { OnOk result (net.new ≡ record net.old {
       messages = net.old.messages ++ package_to_others (length net.old.groups) r (id.0 ∷ []);
     }) }
     ensures fit { All (λ h. H.fits h x.now) holders.new.items }
-    ensures same { OnErr result (map H.received holders.new.items ≡ map H.received holders.old.items) }
-    ensures fit_same { OnErr result ((y : List Effect) → All (λ h. H.fits h y) holders.old.items → All (λ h. H.fits h y) holders.new.items) }
+    ensures same { OnErr result
+        (map H.received holders.new.items ≡ map H.received holders.old.items) }
+    ensures fit_same { OnErr result
+        ((y : List Effect) → All (λ h. H.fits h y) holders.old.items
+        → All (λ h. H.fits h y) holders.new.items) }
     ensures net { OnErr result (net.new ≡ net.old) }
 {
     let mut pack = IdSet::new(alloc);

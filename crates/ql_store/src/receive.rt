@@ -17,11 +17,16 @@ pub(crate) fn receive_at<H: Holder>(
     requires replica { r.0 < length holders.old.items }
     requires fit { All (λ h. H.fits h x.now) holders.old.items }
     requires package { IsPackage x.now pack.now }
-    ensures receipt { IfOk result (IsReceipt x.now (map H.received holders.old.items) r.0 pack.now (map H.received holders.new.items)) }
+    ensures receipt { IfOk result
+        (IsReceipt x.now (map H.received holders.old.items) r.0 pack.now
+        (map H.received holders.new.items)) }
     ensures fit { All (λ h. H.fits h x.now) holders.new.items }
     ensures count { length holders.new.items ≡ length holders.old.items }
-    ensures same { OnErr result (map H.received holders.new.items ≡ map H.received holders.old.items) }
-    ensures fit_same { OnErr result ((y : List Effect) → All (λ h. H.fits h y) holders.old.items → All (λ h. H.fits h y) holders.new.items) }
+    ensures same { OnErr result
+        (map H.received holders.new.items ≡ map H.received holders.old.items) }
+    ensures fit_same { OnErr result
+        ((y : List Effect) → All (λ h. H.fits h y) holders.old.items
+        → All (λ h. H.fits h y) holders.new.items) }
 {
     let holder = &mut holders[r.0 as usize];
     holder.receive(pack, x)

@@ -1,6 +1,5 @@
-ghost use Rattle.std.specs.Prelude.{◌≡◌, ◌≤◌, IfOk};
+ghost use Rattle.std.specs.Prelude.{IfOk};
 ghost use Rattle.ql_machine.specs.Sets.{AreThose};
-ghost use Rattle.ql_needs.specs.Closed.{Has};
 ghost use Rattle.ql_store.specs.Received.{IsReceivedOf};
 
 use ql_base::{EffId, IdSet, NoMemory};

@@ -1,4 +1,4 @@
-ghost use Rattle.std.specs.Prelude.{◌≡◌, ◌<◌, ◌+◌, ◌^◌, ◌∷◌, ◌++◌, ℕ, All, length, map, IfOk, OnErr};
+ghost use Rattle.std.specs.Prelude.{◌≡◌, ◌<◌, ◌+◌, ◌^◌, All, length, map, IfOk, OnErr};
 ghost use Rattle.ql_machine.specs.declared.event.Event.TheVariants as event;
 ghost use Rattle.ql_machine.specs.Rules.{Rules};
 ghost use Rattle.ql_machine.specs.Steps.{IsStep};
@@ -27,7 +27,8 @@ pub(crate) fn resend<H: Holder>(
     requires room { length net.old.messages + 1 < 2 ^ 32 }
     requires fit { All (λ h. H.fits h x.now) holders.now.items }
     ensures step { IfOk result (λ r. (rules : Rules) (shim : Transactions)
-        → IsStep rules (machine_of x.now (map H.received holders.now.items) net.old shim) (event.Resend effect from to)
+        → IsStep rules (machine_of x.now (map H.received holders.now.items) net.old shim)
+        (event.Resend effect from to)
         (machine_of x.now (map H.received holders.now.items) net.new shim) r) }
     ensures net { OnErr result (net.new ≡ net.old) }
 {

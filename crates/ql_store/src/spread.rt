@@ -24,14 +24,20 @@ pub(crate) fn spread<H: Holder>(
     requires room { length net.old.messages + length net.old.groups < 2 ^ 32 }
     requires fit { All (λ h. H.fits h x.now) holders.old.items }
     requires package { IsPackage x.now pack.now }
-    requires new { (a : ℕ) → Has pack.now a → has_id (received_at (map H.received holders.old.items) r.0) a ≡ false }
-    ensures received { OnOk result (map H.received holders.new.items ≡ received_by (map H.received holders.old.items) r.0 pack.now) }
+    requires new { (a : ℕ) → Has pack.now a
+        → has_id (received_at (map H.received holders.old.items) r.0) a ≡ false }
+    ensures received { OnOk result
+        (map H.received holders.new.items
+        ≡ received_by (map H.received holders.old.items) r.0 pack.now) }
     ensures sent { OnOk result (net.new ≡ record net.old {
       messages = net.old.messages ++ package_to_others (length net.old.groups) r pack.now;
     }) }
     ensures fit { All (λ h. H.fits h x.now) holders.new.items }
-    ensures same { OnErr result (map H.received holders.new.items ≡ map H.received holders.old.items) }
-    ensures fit_same { OnErr result ((y : List Effect) → All (λ h. H.fits h y) holders.old.items → All (λ h. H.fits h y) holders.new.items) }
+    ensures same { OnErr result
+        (map H.received holders.new.items ≡ map H.received holders.old.items) }
+    ensures fit_same { OnErr result
+        ((y : List Effect) → All (λ h. H.fits h y) holders.old.items
+        → All (λ h. H.fits h y) holders.new.items) }
     ensures net { OnErr result (net.new ≡ net.old) }
 {
     let sent = net.len();

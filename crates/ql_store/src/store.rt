@@ -76,7 +76,8 @@ impl<H: Holder> Store<H> {
     /// A store with this many replicas, in its initial state.
     pub fn new(alloc: Global, replicas: u32, levels: Levels) -> Result<Store<H>, NoMemory>
         requires { replicas ≤ 16 }
-        ensures { IfOk result (λ store. store ≡ record { levels = levels; machine = empty replicas }) }
+        ensures { IfOk result
+            (λ store. store ≡ record { levels = levels; machine = empty replicas }) }
     {
         let mut holders = Vec::with_capacity(alloc, replicas as usize)?;
         for _r in 0..replicas {
@@ -122,7 +123,9 @@ impl<H: Holder> Store<H> {
     /// The committed effects: those outside any transaction, and those whose transaction isn't open. Goes over the
     /// execution once, and for an effect in a transaction over the open transactions.
     pub fn committed(&self) -> Result<IdSet, NoMemory>
-        ensures { IfOk result (AreThose (λ a. committed self.now.machine.effects self.now.machine.open_txns a ≡ true)) }
+        ensures { IfOk result
+            (AreThose (λ a. committed self.now.machine.effects self.now.machine.open_txns a
+            ≡ true)) }
     {
         committed_effects(self.alloc, self.execution.effects(), &self.shim)
     }
@@ -143,8 +146,11 @@ impl<H: Holder> Store<H> {
         requires levels { HasLevelOfEach typed.now.program self.old.levels }
         requires room { HasRoom self.old.machine }
         requires able { IsAnswerable (F.able folder.now) self.old.machine.effects event }
-        ensures step { IfOk result (λ r. (rules : Rules) → rules.promises ≡ promises_of self.old.levels → rules.uses ≡ uses_of typed.now.program
-            → rules.answer ≡ F.answered folder.now → IsStep rules self.old.machine event self.new.machine r) }
+        ensures step { IfOk result
+            (λ r. (rules : Rules) → rules.promises ≡ promises_of self.old.levels
+            → rules.uses ≡ uses_of typed.now.program
+            → rules.answer ≡ F.answered folder.now
+            → IsStep rules self.old.machine event self.new.machine r) }
         ensures levels { self.new.levels ≡ self.old.levels }
         ensures err { OnErr result (self.new ≡ self.old) }
     {
@@ -188,10 +194,15 @@ impl<H: Holder> Store<H> {
         requires op { op.0 < length self.old.levels.ops }
         requires levels { HasLevelOfEach typed.now.program self.old.levels }
         requires room { HasRoom self.old.machine }
-        requires able { (seen : List ℕ) → ((a : ℕ) → Has seen a → IsOn object (effect_at self.old.machine.effects a))
+        requires able { (seen : List ℕ)
+            → ((a : ℕ) → Has seen a → IsOn object (effect_at self.old.machine.effects a))
             → F.able folder.now op args (seen_in_order self.old.machine.effects seen) }
-        ensures step { IfOk result (λ r. (rules : Rules) → rules.promises ≡ promises_of self.old.levels → rules.uses ≡ uses_of typed.now.program
-            → rules.answer ≡ F.answered folder.now → IsStep rules self.old.machine (event.Call session replica object op args) self.new.machine r) }
+        ensures step { IfOk result
+            (λ r. (rules : Rules) → rules.promises ≡ promises_of self.old.levels
+            → rules.uses ≡ uses_of typed.now.program
+            → rules.answer ≡ F.answered folder.now
+            → IsStep rules self.old.machine (event.Call session replica object op args)
+            self.new.machine r) }
         ensures levels { self.new.levels ≡ self.old.levels }
         ensures err { OnErr result (self.new ≡ self.old) }
     {
@@ -207,7 +218,8 @@ impl<H: Holder> Store<H> {
     /// The network falls apart into groups.
     pub fn partition(&mut self, groups: Groups) -> Reply
         requires { length groups ≡ length self.old.machine.received }
-        ensures step { (rules : Rules) → IsStep rules self.old.machine (event.Partition groups) self.new.machine result }
+        ensures step { (rules : Rules)
+            → IsStep rules self.old.machine (event.Partition groups) self.new.machine result }
         ensures levels { self.new.levels ≡ self.old.levels }
     {
         self.net.partition(groups);
@@ -216,7 +228,8 @@ impl<H: Holder> Store<H> {
 
     /// The network is whole again.
     pub fn heal(&mut self) -> Reply
-        ensures step { (rules : Rules) → IsStep rules self.old.machine event.Heal self.new.machine result }
+        ensures step { (rules : Rules)
+            → IsStep rules self.old.machine event.Heal self.new.machine result }
         ensures levels { self.new.levels ≡ self.old.levels }
     {
         self.net.heal();
@@ -231,7 +244,9 @@ impl<H: Holder> Store<H> {
     pub fn join(&mut self, near: ReplicaId, copy: bool) -> Result<Reply, NoMemory>
         requires near { near.0 < length self.old.machine.received }
         requires few { length self.old.machine.received < 16 }
-        ensures step { IfOk result (λ r. (rules : Rules) → rules.promises ≡ promises_of self.old.levels → IsStep rules self.old.machine (event.Join near copy) self.new.machine r) }
+        ensures step { IfOk result
+            (λ r. (rules : Rules) → rules.promises ≡ promises_of self.old.levels
+            → IsStep rules self.old.machine (event.Join near copy) self.new.machine r) }
         ensures levels { self.new.levels ≡ self.old.levels }
         ensures err { OnErr result (self.new ≡ self.old) }
     {
@@ -245,7 +260,9 @@ impl<H: Holder> Store<H> {
     fn join_copy(&mut self, near: ReplicaId) -> Result<Reply, NoMemory>
         requires near { near.0 < length self.old.machine.received }
         requires few { length self.old.machine.received < 16 }
-        ensures step { IfOk result (λ r. (rules : Rules) → IsStep rules self.old.machine (event.Join near true) self.new.machine r) }
+        ensures step { IfOk result
+            (λ r. (rules : Rules)
+            → IsStep rules self.old.machine (event.Join near true) self.new.machine r) }
         ensures levels { self.new.levels ≡ self.old.levels }
         ensures err { OnErr result (self.new ≡ self.old) }
     {
@@ -257,7 +274,9 @@ impl<H: Holder> Store<H> {
     fn join_bare(&mut self, near: ReplicaId) -> Result<Reply, NoMemory>
         requires near { near.0 < length self.old.machine.received }
         requires few { length self.old.machine.received < 16 }
-        ensures step { IfOk result (λ r. (rules : Rules) → rules.promises ≡ promises_of self.old.levels → IsStep rules self.old.machine (event.Join near false) self.new.machine r) }
+        ensures step { IfOk result
+            (λ r. (rules : Rules) → rules.promises ≡ promises_of self.old.levels
+            → IsStep rules self.old.machine (event.Join near false) self.new.machine r) }
         ensures levels { self.new.levels ≡ self.old.levels }
         ensures err { OnErr result (self.new ≡ self.old) }
     {
@@ -267,8 +286,11 @@ impl<H: Holder> Store<H> {
 
     /// The network makes one more copy of a message.
     pub fn repeat(&mut self, m: MsgId) -> Reply
-        requires room { (message : Message) → message_at self.old.machine.messages m.0 ≡ Some message → message.copies + 1 < 2 ^ 32 }
-        ensures step { (rules : Rules) → IsStep rules self.old.machine (event.Repeat m) self.new.machine result }
+        requires room { (message : Message)
+            → message_at self.old.machine.messages m.0 ≡ Some message
+            → message.copies + 1 < 2 ^ 32 }
+        ensures step { (rules : Rules)
+            → IsStep rules self.old.machine (event.Repeat m) self.new.machine result }
         ensures levels { self.new.levels ≡ self.old.levels }
     {
         if !self.net.repeat(m) {
@@ -279,7 +301,8 @@ impl<H: Holder> Store<H> {
 
     /// The network loses a copy of a message.
     pub fn lose(&mut self, m: MsgId) -> Reply
-        ensures step { (rules : Rules) → IsStep rules self.old.machine (event.Lose m) self.new.machine result }
+        ensures step { (rules : Rules)
+            → IsStep rules self.old.machine (event.Lose m) self.new.machine result }
         ensures levels { self.new.levels ≡ self.old.levels }
     {
         if !self.net.lose(m) {
@@ -290,7 +313,9 @@ impl<H: Holder> Store<H> {
 
     /// A copy of a message arrives.
     pub fn deliver(&mut self, m: MsgId) -> Result<Reply, NoMemory>
-        ensures step { IfOk result (λ r. (rules : Rules) → IsStep rules self.old.machine (event.Deliver m) self.new.machine r) }
+        ensures step { IfOk result
+            (λ r. (rules : Rules)
+            → IsStep rules self.old.machine (event.Deliver m) self.new.machine r) }
         ensures levels { self.new.levels ≡ self.old.levels }
         ensures err { OnErr result (self.new ≡ self.old) }
     {
@@ -307,7 +332,9 @@ impl<H: Holder> Store<H> {
         requires from { from.0 < length self.old.machine.received }
         requires to { to.0 < length self.old.machine.received }
         requires room { length self.old.machine.messages + 1 < 2 ^ 32 }
-        ensures step { IfOk result (λ r. (rules : Rules) → IsStep rules self.old.machine (event.Resend effect from to) self.new.machine r) }
+        ensures step { IfOk result
+            (λ r. (rules : Rules)
+            → IsStep rules self.old.machine (event.Resend effect from to) self.new.machine r) }
         ensures levels { self.new.levels ≡ self.old.levels }
         ensures err { OnErr result (self.new ≡ self.old) }
     {
@@ -336,7 +363,10 @@ impl<H: Holder> Store<H> {
         requires replica { replica.0 < length self.old.machine.received }
         requires decl { decl.0 < length self.old.levels.txns }
         requires room { self.old.machine.begun + 1 < 2 ^ 32 }
-        ensures step { IfOk result (λ r. (rules : Rules) → IsStep rules self.old.machine (event.Begin session replica decl objects) self.new.machine r) }
+        ensures step { IfOk result
+            (λ r. (rules : Rules)
+            → IsStep rules self.old.machine (event.Begin session replica decl objects)
+            self.new.machine r) }
         ensures levels { self.new.levels ≡ self.old.levels }
         ensures err { OnErr result (self.new ≡ self.old) }
     {
@@ -356,8 +386,11 @@ impl<H: Holder> Store<H> {
     /// other one. If there are none, nothing is sent.
     pub fn commit(&mut self, session: SessId, replica: ReplicaId) -> Result<Reply, NoMemory>
         requires replica { replica.0 < length self.old.machine.received }
-        requires room { length self.old.machine.messages + length self.old.machine.received < 2 ^ 32 }
-        ensures step { IfOk result (λ r. (rules : Rules) → IsStep rules self.old.machine (event.Commit session replica) self.new.machine r) }
+        requires room { length self.old.machine.messages + length self.old.machine.received
+            < 2 ^ 32 }
+        ensures step { IfOk result
+            (λ r. (rules : Rules)
+            → IsStep rules self.old.machine (event.Commit session replica) self.new.machine r) }
         ensures levels { self.new.levels ≡ self.old.levels }
         ensures err { OnErr result (self.new ≡ self.old) }
     {
@@ -388,11 +421,16 @@ impl<H: Holder> Store<H> {
         requires none_open { open_of self.old.machine.open_txns session ≡ None }
         requires below { (promises_of self.old.levels).level op ≢ Strong }
         requires room { length self.old.machine.effects + 1 < 2 ^ 32 }
-        requires room_messages { length self.old.machine.messages + length self.old.machine.groups < 2 ^ 32 }
-        requires able { (seen : List ℕ) → ((a : ℕ) → Has seen a → IsOn object (effect_at self.old.machine.effects a))
+        requires room_messages { length self.old.machine.messages + length self.old.machine.groups
+            < 2 ^ 32 }
+        requires able { (seen : List ℕ)
+            → ((a : ℕ) → Has seen a → IsOn object (effect_at self.old.machine.effects a))
             → F.able folder.now op args (seen_in_order self.old.machine.effects seen) }
-        ensures step { IfOk result (λ r. (rules : Rules) → rules.promises ≡ promises_of self.old.levels → rules.answer ≡ F.answered folder.now
-            → IsStep rules self.old.machine (event.Call session replica object op args) self.new.machine r) }
+        ensures step { IfOk result
+            (λ r. (rules : Rules) → rules.promises ≡ promises_of self.old.levels
+            → rules.answer ≡ F.answered folder.now
+            → IsStep rules self.old.machine (event.Call session replica object op args)
+            self.new.machine r) }
         ensures levels { self.new.levels ≡ self.old.levels }
         ensures err { OnErr result (self.new ≡ self.old) }
     {
@@ -450,10 +488,14 @@ impl<H: Holder> Store<H> {
         requires none_open { open_of self.old.machine.open_txns session ≡ None }
         requires strong { (promises_of self.old.levels).level op ≡ Strong }
         requires room { length self.old.machine.effects + 1 < 2 ^ 32 }
-        requires able { (seen : List ℕ) → ((a : ℕ) → Has seen a → IsOn object (effect_at self.old.machine.effects a))
+        requires able { (seen : List ℕ)
+            → ((a : ℕ) → Has seen a → IsOn object (effect_at self.old.machine.effects a))
             → F.able folder.now op args (seen_in_order self.old.machine.effects seen) }
-        ensures step { IfOk result (λ r. (rules : Rules) → rules.promises ≡ promises_of self.old.levels → rules.answer ≡ F.answered folder.now
-            → IsStep rules self.old.machine (event.Call session replica object op args) self.new.machine r) }
+        ensures step { IfOk result
+            (λ r. (rules : Rules) → rules.promises ≡ promises_of self.old.levels
+            → rules.answer ≡ F.answered folder.now
+            → IsStep rules self.old.machine (event.Call session replica object op args)
+            self.new.machine r) }
         ensures levels { self.new.levels ≡ self.old.levels }
         ensures err { OnErr result (self.new ≡ self.old) }
     {
@@ -497,10 +539,15 @@ impl<H: Holder> Store<H> {
         requires levels { HasLevelOfEach typed.now.program self.old.levels }
         requires open_now { (t : OpenTxn) × (open_of self.old.machine.open_txns session ≡ Some t) }
         requires room { length self.old.machine.effects + 1 < 2 ^ 32 }
-        requires able { (seen : List ℕ) → ((a : ℕ) → Has seen a → IsOn object (effect_at self.old.machine.effects a))
+        requires able { (seen : List ℕ)
+            → ((a : ℕ) → Has seen a → IsOn object (effect_at self.old.machine.effects a))
             → F.able folder.now op args (seen_in_order self.old.machine.effects seen) }
-        ensures step { IfOk result (λ r. (rules : Rules) → rules.promises ≡ promises_of self.old.levels → rules.uses ≡ uses_of typed.now.program
-            → rules.answer ≡ F.answered folder.now → IsStep rules self.old.machine (event.Call session replica object op args) self.new.machine r) }
+        ensures step { IfOk result
+            (λ r. (rules : Rules) → rules.promises ≡ promises_of self.old.levels
+            → rules.uses ≡ uses_of typed.now.program
+            → rules.answer ≡ F.answered folder.now
+            → IsStep rules self.old.machine (event.Call session replica object op args)
+            self.new.machine r) }
         ensures levels { self.new.levels ≡ self.old.levels }
         ensures err { OnErr result (self.new ≡ self.old) }
     {
@@ -533,11 +580,16 @@ impl<H: Holder> Store<H> {
         requires replica { asked.replica.0 < length self.now.machine.received }
         requires op { asked.op.0 < length self.now.levels.ops }
         requires levels { HasLevelOfEach typed.now.program self.now.levels }
-        requires open_now { (t : OpenTxn) × (open_of self.now.machine.open_txns asked.session ≡ Some t) }
-        requires able { (seen : List ℕ) → ((a : ℕ) → Has seen a → IsOn asked.object (effect_at self.now.machine.effects a))
+        requires open_now { (t : OpenTxn)
+            × (open_of self.now.machine.open_txns asked.session ≡ Some t) }
+        requires able { (seen : List ℕ)
+            → ((a : ℕ) → Has seen a → IsOn asked.object (effect_at self.now.machine.effects a))
             → F.able folder.now asked.op asked.args (seen_in_order self.now.machine.effects seen) }
-        ensures { IfOk result (λ attempt. (rules : Rules) → rules.promises ≡ promises_of self.now.levels → rules.uses ≡ uses_of typed.now.program
-            → rules.answer ≡ F.answered folder.now → IsAttempt rules self.now.machine (call_of asked) attempt) }
+        ensures { IfOk result
+            (λ attempt. (rules : Rules) → rules.promises ≡ promises_of self.now.levels
+            → rules.uses ≡ uses_of typed.now.program
+            → rules.answer ≡ F.answered folder.now
+            → IsAttempt rules self.now.machine (call_of asked) attempt) }
     {
         let txn = self.shim.txn_of(asked.session);
         let level = self.levels.op(asked.op);

@@ -1,6 +1,5 @@
 ghost use Rattle.std.specs.Prelude.{◌≡◌, ◌<◌, ◌+◌, ◌^◌, ◌∷◌, ◌++◌, [], true, ℕ, List, All, None, length, map, IfOk, OnOk, OnErr};
 ghost use Rattle.ql_base.specs.IdLists.{IsAscending};
-ghost use Rattle.ql_exec.specs.declared.effect.Effect.{Effect};
 ghost use Rattle.ql_exec.specs.declared.effect.Member.TheVariants.{Alone};
 ghost use Rattle.ql_exec.specs.Effects.{effect_at};
 ghost use Rattle.ql_exec.specs.Execution.{IsExecution, IsOn, effect_of, next_id};
@@ -39,8 +38,12 @@ pub(crate) fn strong_draft<F: Folder>(
     requires noted { sessions.now ≡ notes_of x.now }
     requires able { (seen : List ℕ) → ((a : ℕ) → Has seen a → IsOn asked.object (effect_at x.now a))
         → F.able folder.now asked.op asked.args (seen_in_order x.now seen) }
-    ensures seen { IfOk result (λ draft. AreThose (λ a. IsOn asked.object (effect_at x.now a)) draft.seen) }
-    ensures answered { IfOk result (λ draft. draft ≡ draft_of (call_of asked) None (F.answered folder.now asked.op asked.args (seen_in_order x.now draft.seen)) draft.seen) }
+    ensures seen { IfOk result
+        (λ draft. AreThose (λ a. IsOn asked.object (effect_at x.now a)) draft.seen) }
+    ensures answered { IfOk result
+        (λ draft. draft ≡ draft_of (call_of asked) None
+        (F.answered folder.now asked.op asked.args (seen_in_order x.now draft.seen))
+        draft.seen) }
 {
     let seen = id_set(alloc, sessions.on(asked.object))?;
     let answered = folder.answer(asked.op, &asked.args, x, &seen)?;
@@ -80,18 +83,25 @@ pub(crate) fn make_strong<H: Holder>(
     requires fit { All (λ h. H.fits h x.old) holders.old.items }
     requires lawful { IsExecution (x.old ++ effect_of x.old draft ∷ []) }
     requires alone { draft.member ≡ Alone }
-    requires apart { All (λ h. JoinsNone x.old (effect_of x.old draft ∷ []) (H.received h)) holders.old.items }
+    requires apart { All (λ h. JoinsNone x.old (effect_of x.old draft ∷ []) (H.received h))
+        holders.old.items }
     requires done { All (λ h. AreDone x.old (open_txns shim.now) (H.received h)) holders.old.items }
-    requires whole { (ids : List ℕ) → AreThose (λ a. committed x.old (open_txns shim.now) a ≡ true) ids → AreWhole (x.old ++ effect_of x.old draft ∷ []) ids }
+    requires whole { (ids : List ℕ)
+        → AreThose (λ a. committed x.old (open_txns shim.now) a ≡ true) ids
+        → AreWhole (x.old ++ effect_of x.old draft ∷ []) ids }
     requires noted { sessions.old ≡ notes_of x.old }
     ensures reply { IfOk result (λ r. r ≡ reply.Ok (next_id x.old)) }
     ensures made { OnOk result (x.new ≡ x.old ++ effect_of x.old draft ∷ []) }
-    ensures received { OnOk result ((done : List ℕ) × AreThose (λ a. committed x.old (open_txns shim.now) a ≡ true) done
-        × (map H.received holders.new.items ≡ received_by_all (received_by_all (map H.received holders.old.items) done) ((next_id x.old).0 ∷ []))) }
+    ensures received { OnOk result
+        ((done : List ℕ) × AreThose (λ a. committed x.old (open_txns shim.now) a ≡ true) done
+        × (map H.received holders.new.items
+        ≡ received_by_all (received_by_all (map H.received holders.old.items) done)
+        ((next_id x.old).0 ∷ []))) }
     ensures fit { All (λ h. H.fits h x.new) holders.new.items }
     ensures noted { sessions.new ≡ notes_of x.new }
     ensures same { OnErr result (x.new ≡ x.old) }
-    ensures same_received { OnErr result (map H.received holders.new.items ≡ map H.received holders.old.items) }
+    ensures same_received { OnErr result
+        (map H.received holders.new.items ≡ map H.received holders.old.items) }
 {
     let done = committed_effects(alloc, x.effects(), shim)?;
     let id = push_noted(x, sessions, draft)?;
@@ -122,7 +132,9 @@ fn synced<H: Holder>(
     requires whole { AreWhole x.now done }
     requires package { IsPackage x.now (id.0 ∷ []) }
     ensures fit { IfOk result (λ made. All (λ h. H.fits h x.now) made.items) }
-    ensures received { IfOk result (λ made. map H.received made.items ≡ received_by_all (received_by_all (map H.received holders.now) done) (id.0 ∷ [])) }
+    ensures received { IfOk result
+        (λ made. map H.received made.items
+        ≡ received_by_all (received_by_all (map H.received holders.now) done) (id.0 ∷ [])) }
 {
     let mut all = done;
     all.insert(id.0)?;

@@ -28,8 +28,10 @@ pub(crate) fn plain_view<H: Holder>(
 ) -> Result<View, NoMemory>
     requires { sessions.now ≡ notes_of x.now }
     ensures ids { IfOk result (λ view. H.fits holder.now x.now
-        → AreThose (λ a. IsOn object (effect_at x.now a) × Applied x.now (H.received holder.now) a) view.ids) }
-    ensures missing { IfOk result (λ view. IsLeastLacking x.now level session object view.ids view.missing) }
+        → AreThose (λ a. IsOn object (effect_at x.now a) × Applied x.now (H.received holder.now) a)
+        view.ids) }
+    ensures missing { IfOk result
+        (λ view. IsLeastLacking x.now level session object view.ids view.missing) }
 {
     let ids = applied_among(alloc, holder, sessions.on(object))?;
     let missing = least_lacking(x, sessions, level, session, object, &ids)?;

@@ -1,6 +1,7 @@
 -- A holder that receives what it lacks of the committed effects.
-use Rattle.std.proofs.Common.{◌≡◌, ◌⊎◌, ℕ, zero, suc, ◌<◌, ◌≤◌, Bool, true, false, ◌||◌, nat_eq, List, [], ◌∷◌, length, get_or, map, replicate, All, refl, sym, subst, ◌∙◌, inl, inr, arith}
-use Rattle.std.proofs.lemmas.Bool.{false≢true, or_cases, or_left, or_right, eq-eqb, eqb-true}
+use Rattle.std.proofs.Common.{◌≡◌, ℕ, zero, suc, ◌+◌, ◌-◌, ◌<◌, ◌≤◌, Bool, true, false, ◌||◌, nat_eq, List, [], ◌∷◌, length, get_or, drop, map, replicate, All, refl, sym, subst, ◌∙◌, inl, inr, arith}
+use Rattle.std.proofs.lemmas.Bool.{false≢true, or_cases, or_left, or_right, eq-eqb, eqb-true, cases_lt}
+use Rattle.std.proofs.lemmas.List.{get_or-drop}
 use Rattle.ql_base.specs.IdLists.{IsAscending, has_id, union_of}
 use Rattle.ql_base.proofs.IdLemmas.{IsAscending-union}
 use Rattle.ql_exec.specs.declared.effect.Effect.{Effect}
@@ -30,10 +31,6 @@ package-of x id ids first last those = record {
   all = λ a. same_bool (has_id ids a) (sametxn x id a) (those.only a) (those.all a);
 }
 
--- nothing is received where it is there
-pub received-before : (x : List Effect) (before : List ℕ) (id : ℕ) → Has before id → HasReceived x before before id
-received-before x before id is = record { ascending = λ order. order; effect = is; kept = λ a has. has; only = λ a has. inl has }
-
 joined : (x : List Effect) (before ids after : List ℕ) (id : ℕ) → AreThose (λ a. sametxn x id a ≡ true) ids → after ≡ union_of before ids → HasReceived x before after id
 joined x before ids after id those is = rw is (record {
   ascending = λ order. IsAscending-union before ids those.ascending;
@@ -45,7 +42,8 @@ joined x before ids after id those is = rw is (record {
 -- what a receipt of the package comes to
 pub received-package : (x : List Effect) (before ids after : List ℕ) (id : ℕ) (arrival : Arrival) → AreThose (λ a. sametxn x id a ≡ true) ids
     → IsArrival x before ids after arrival → HasReceived x before after id
-received-package x before ids after id Again those is = rw is.1 (received-before x before id (is.0 id (those.all id (sametxn-itself x id))))
+received-package x before ids after id Again those is =
+    rw is.1 (record { ascending = λ order. order; effect = is.0 id (those.all id (sametxn-itself x id)); kept = λ a has. has; only = λ a has. inl has })
 received-package x before ids after id (Waits missing) those is = joined x before ids after id those is.0.added
 received-package x before ids after id (Applies gain) those is = joined x before ids after id those is.0.added
 
@@ -66,8 +64,9 @@ at-has (id ∷ ids) a has = elim (or_cases (nat_eq id a) (has_id ids a) has) [
 pub way-begins : (received ids : List ℕ) → IsWithin received ids → IsUnderWay received ids 0
 way-begins received ids within = record { within = within; done = λ i less. absurd (omega (arith, less)) }
 
+-- a receipt leaves those done that were
 pub way-on : (x : List Effect) (before after ids : List ℕ) (k : ℕ) → AreWhole x ids → k < length ids → HasReceived x before after (get_or ids k 0)
-    → IsUnderWay before ids k → IsUnderWay after ids (suc k)
+    → IsUnderWay before ids k → IsUnderWay after ids k
 way-on x before after ids k whole inside has way = record {
   within = record {
     ascending = has.ascending way.within.ascending;
@@ -76,14 +75,21 @@ way-on x before after ids k whole inside has way = record {
       | inr new ↦ whole.whole (get_or ids k 0) a (has-at ids k inside) new
     ];
   };
-  done = λ i less. elim (cases_suc i k less) [
-    | inl below ↦ has.kept (get_or ids i 0) (way.done i below)
-    | inr here ↦ subst (λ (j : ℕ). Has after (get_or ids j 0)) (sym here) has.effect
+  done = λ i less. has.kept (get_or ids i 0) (way.done i less);
+}
+
+-- past more that were received
+pub way-past : (received ids : List ℕ) (k n : ℕ) → ((i : ℕ) → i < n → Has received (get_or (drop k ids) i 0)) → IsUnderWay received ids k → IsUnderWay received ids (k + n)
+way-past received ids k n more way = record {
+  within = way.within;
+  done = λ i less. elim (cases_lt i k) [
+    | inl below ↦ way.done i below
+    | inr above ↦
+        let back : k + (i - k) ≡ i = omega (arith, above) in
+        subst (λ (j : ℕ). Has received (get_or ids j 0)) back
+        (subst (λ (id : ℕ). Has received id) (get_or-drop k ids (i - k) 0) (more (i - k) (omega (arith, above, less))))
   ];
 }
-  where
-    cases_suc : (i k : ℕ) → i < suc k → (i < k) ⊎ (i ≡ k)
-    cases_suc i k less = grind arith
 
 pub way-ends : (received ids : List ℕ) → IsAscending ids → IsUnderWay received ids (length ids) → received ≡ ids
 way-ends received ids ascending way = same_ids received ids way.within.ascending ascending way.within.among

@@ -16,7 +16,8 @@ use std::alloc::Global;
 pub fn bare<H: Holder>(alloc: Global, x: &Execution, strong: &IdSet) -> Result<H, NoMemory>
     requires { AreWhole x.now strong.now }
     ensures fits { IfOk result (λ bare. H.fits bare x.now) }
-    ensures received { IfOk result (λ bare. AreThose (IsNeeded x.now strong.now) (H.received bare)) }
+    ensures received { IfOk result
+        (λ bare. AreThose (IsNeeded x.now strong.now) (H.received bare)) }
 {
     let needed = reach(alloc, x, strong, &Ranges::new(alloc))?;
     made_whole(alloc, &H::empty(alloc), x, needed.items())

@@ -1,7 +1,5 @@
-ghost use Rattle.std.specs.Prelude.{◌≡◌, ◌^◌, ◌<◌, ◌≤◌, List, ℕ, All, length, map, replicate, IfOk, OnOk};
+ghost use Rattle.std.specs.Prelude.{◌≡◌, ◌<◌, ◌≤◌, All, length, map, replicate, IfOk, OnOk};
 ghost use Rattle.ql_base.specs.IdLists.{IsAscending};
-ghost use Rattle.ql_exec.specs.Execution.{IsExecution};
-ghost use Rattle.ql_needs.specs.Closed.{Has};
 ghost use Rattle.ql_needs.specs.Needs.{AreWhole};
 ghost use Rattle.ql_machine.specs.Changes.{received_by_all};
 ghost use Rattle.ql_strong.specs.Within.{AreAmong, HasReceived};
@@ -14,8 +12,8 @@ use std::alloc::Global;
 
 /// For each holder a new one that has received exactly the committed effects.
 ///
-/// A holder is copied and receives what it lacks: each other committed effect is looked up in it once.
-/// A transaction that it lacks takes one pass over the execution.
+/// A holder is copied and receives what it lacks; `leading` passes over what it has received. A transaction that
+/// it lacks takes one pass over the execution.
 pub fn sync<H: Holder>(
     alloc: Global,
     holders: &[H],
@@ -26,8 +24,11 @@ pub fn sync<H: Holder>(
     requires within { All (λ h. AreAmong (H.received h) committed.now) holders.now }
     requires whole { AreWhole x.now committed.now }
     ensures fit { IfOk result (λ synced. All (λ h. H.fits h x.now) synced.items) }
-    ensures exact { IfOk result (λ synced. map H.received synced.items ≡ replicate (length holders.now) committed.now) }
-    ensures all { IfOk result (λ synced. map H.received synced.items ≡ received_by_all (map H.received holders.now) committed.now) }
+    ensures exact { IfOk result
+        (λ synced. map H.received synced.items ≡ replicate (length holders.now) committed.now) }
+    ensures all { IfOk result
+        (λ synced. map H.received synced.items
+        ≡ received_by_all (map H.received holders.now) committed.now) }
 {
     let ids = committed.items();
     let mut synced = Vec::with_capacity(alloc, holders.len())?;
@@ -52,14 +53,16 @@ pub(crate) fn made_whole<H: Holder>(
     ensures received { IfOk result (λ whole. H.received whole ≡ committed.now) }
 {
     let mut whole = holder.copy()?;
-    for id in committed {
-        receive_lacking(alloc, &mut whole, x, EffId(*id))?;
+    let mut count = whole.leading(committed);
+    while count < committed.len() {
+        receive_with(alloc, &mut whole, x, EffId(committed[count]))?;
+        count += whole.leading(&committed[count..]);
     }
     Ok(whole)
 }
 
-// Receives the transaction of an effect, unless it was received.
-fn receive_lacking<H: Holder>(
+// Receives an effect with the others of its transaction.
+fn receive_with<H: Holder>(
     alloc: Global,
     holder: &mut H,
     x: &Execution,
@@ -69,11 +72,9 @@ fn receive_lacking<H: Holder>(
     requires first { 1 ≤ id.0 }
     requires last { id.0 ≤ length x.now }
     ensures fits { H.fits holder.new x.now }
-    ensures received { OnOk result (HasReceived x.now (H.received holder.old) (H.received holder.new) id.0) }
+    ensures received { OnOk result
+        (HasReceived x.now (H.received holder.old) (H.received holder.new) id.0) }
 {
-    if holder.has(id) {
-        return Ok(());
-    }
     let package = package_of(alloc, x, id)?;
     holder.receive(&package, x)?;
     Ok(())

@@ -28,16 +28,20 @@ impl Kept {
         more: &IdSet,
     ) -> Result<(), NoMemory>
         requires in_range { o.0 < length self.old }
-        requires stands { (y : List Effect) × StandsFor t.now.program.types self.old y × IsFormOf self.old x.now y }
+        requires stands { (y : List Effect) × StandsFor t.now.program.types self.old y
+            × IsFormOf self.old x.now y }
         requires on { AreOn x.now o more.now }
         requires new { (a : ℕ) → has_id more.now a ≡ true → has_id (ids_of self.old o) a ≡ false }
         requires later { ComeLater x.now (ids_of self.old o) more.now }
         requires one_type { (kind : ℕ) × AreOfType t.now.program.types x.now o kind }
         requires fit { FitOperations t.now.program.types x.now more.now }
         ensures gained { OnOk result (ids_of self.new o ≡ union_of more.now (ids_of self.old o)) }
-        ensures others { (p : ObjectNumber) → (p ≡ o → ⊥) → slice_get self.new p.0 ≡ slice_get self.old p.0 }
+        ensures others { (p : ObjectNumber) → (p ≡ o → ⊥)
+            → slice_get self.new p.0 ≡ slice_get self.old p.0 }
         ensures count { length self.new ≡ length self.old }
-        ensures stands { OnOk result ((y : List Effect) → StandsFor t.now.program.types self.old y → IsFormOf self.old x.now y → StandsFor t.now.program.types self.new y) }
+        ensures stands { OnOk result
+            ((y : List Effect) → StandsFor t.now.program.types self.old y
+            → IsFormOf self.old x.now y → StandsFor t.now.program.types self.new y) }
         ensures err { OnErr result (self.new ≡ self.old) }
     {
         if more.len() == 0 {
@@ -60,11 +64,15 @@ fn advanced(
     more: &IdSet,
 ) -> Result<KeptObject, NoMemory>
     requires within { kind.0 < length t.now.program.types }
-    requires reached { (before : List Effect) × All (IsOfType t.now.program.types (Some kind.0)) before × IsComeTo t.now.program.types kind.0 one.now before }
+    requires reached { (before : List Effect)
+        × All (IsOfType t.now.program.types (Some kind.0)) before
+        × IsComeTo t.now.program.types kind.0 one.now before }
     requires own { All (IsOfType t.now.program.types (Some kind.0)) (seen_in_order x.now more.now) }
     ensures ids { IfOk result (λ next. next.ids ≡ union_of more.now one.now.ids) }
-    ensures state { IfOk result (λ next. (before : List Effect) → IsComeTo t.now.program.types kind.0 one.now before
-        → fold_of t.now.program.types kind.0 (before ++ seen_in_order x.now more.now) ≡ Some next.state) }
+    ensures state { IfOk result
+        (λ next. (before : List Effect) → IsComeTo t.now.program.types kind.0 one.now before
+        → fold_of t.now.program.types kind.0 (before ++ seen_in_order x.now more.now)
+        ≡ Some next.state) }
     ensures ascending { IsAscending one.now.ids }
 {
     let state = state_of(alloc, t, kind, one)?;
@@ -81,7 +89,9 @@ pub(crate) fn state_of(
     one: &KeptObject,
 ) -> Result<Env, NoMemory>
     requires { kind.0 < length t.now.program.types }
-    ensures state { IfOk result (λ state. (before : List Effect) → IsComeTo t.now.program.types kind.0 one.now before → fold_of t.now.program.types kind.0 before ≡ Some state) }
+    ensures state { IfOk result
+        (λ state. (before : List Effect) → IsComeTo t.now.program.types kind.0 one.now before
+        → fold_of t.now.program.types kind.0 before ≡ Some state) }
     ensures ascending { IsAscending one.now.ids }
 {
     if one.ids.len() == 0 {

@@ -34,11 +34,14 @@ pub fn answer_with(
     seen: &IdSet,
 ) -> Result<Answered, NoMemory>
     requires in_range { o.0 < length kept.now }
-    requires stands { (x : List Effect) × StandsFor t.now.program.types kept.now x × (slim_of kept.now x ≡ small.now) }
+    requires stands { (x : List Effect) × StandsFor t.now.program.types kept.now x
+        × (slim_of kept.now x ≡ small.now) }
     requires covers { Covers small.now (ids_of kept.now o) seen.now }
     requires on { AreOn small.now o seen.now }
     requires able { IsAble t.now.program.types op.0 args.now (seen_in_order small.now seen.now) }
-    ensures { IfOk result (λ given. (x : List Effect) → StandsFor t.now.program.types kept.now x → slim_of kept.now x ≡ small.now
+    ensures { IfOk result
+        (λ given. (x : List Effect) → StandsFor t.now.program.types kept.now x
+        → slim_of kept.now x ≡ small.now
         → given ≡ answered_of t.now.program.types op.0 args.now (seen_in_order x seen.now)) }
 {
     let one = kept.on(o);

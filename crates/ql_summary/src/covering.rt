@@ -58,7 +58,10 @@ fn are_seen(ids: &IdSet, seen: &IdSet) -> bool
 
 // Whether each seen effect that isn't one of `ids` comes after the effect `last`.
 fn are_later(effects: &[Effect], last: EffId, ids: &IdSet, seen: &IdSet) -> bool
-    ensures { result ≡ list_all (λ b. has_id ids.now b || both comes_before (effect_at effects.now last.0) (effect_at effects.now b)) seen.now }
+    ensures { result ≡ list_all
+        (λ b. has_id ids.now b
+        || both comes_before (effect_at effects.now last.0) (effect_at effects.now b))
+        seen.now }
 {
     seen.items()
         .iter()
@@ -101,7 +104,8 @@ pub(crate) fn others(alloc: Global, seen: &IdSet, ids: &IdSet) -> Result<IdSet, 
 
 // Adds an id unless it is one of `ids`.
 fn add_other(others: &mut IdSet, ids: &IdSet, id: u32) -> Result<(), NoMemory>
-    ensures { OnOk result (others.new ≡ cond (has_id ids.now id) others.old (with_id others.old id)) }
+    ensures { OnOk result
+        (others.new ≡ cond (has_id ids.now id) others.old (with_id others.old id)) }
 {
     if !ids.has(id) {
         others.insert(id)?;

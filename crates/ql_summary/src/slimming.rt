@@ -37,7 +37,8 @@ fn all_ids(alloc: Global, kept: &Kept) -> Result<IdSet, NoMemory>
 
 // An effect that isn't in an execution yet, with its contents or without them.
 fn draft_of(alloc: Global, effect: &Effect, is_kept: bool) -> Result<Draft, NoMemory>
-    ensures { IfOk result (λ draft. with_stamp draft effect.now.stamp ≡ cond is_kept (bare effect.now) effect.now) }
+    ensures { IfOk result
+        (λ draft. with_stamp draft effect.now.stamp ≡ cond is_kept (bare effect.now) effect.now) }
 {
     let (args, payload, answer) = if is_kept {
         (Values::of(Vec::new(alloc)), Payload::Nothing, Value::Unit)

@@ -3,7 +3,7 @@ use Rattle.std.proofs.Common.{◌≡◌, ℕ, ◌<◌, ◌+◌, length, List, []
 use Rattle.std.specs.List.{flat_map}
 use Rattle.std.proofs.lemmas.List.{flat_map_more, take_more}
 
--- one item more of a list's front
+-- one item more of a list's prefix
 pub one_more : {X : Type 0} (f : X → List ℕ) (out : List ℕ) (xs : List X) (i : ℕ) (d : X) → i < length xs
     → (out ++ flat_map f (take i xs)) ++ f (get_or xs i d) ≡ out ++ flat_map f (take (i + 1) xs)
 one_more f out xs i d lt = flat_map_more f out (take i xs) (get_or xs i d) ∙ ap (λ ys. out ++ flat_map f ys) (sym (take_more xs i d lt))

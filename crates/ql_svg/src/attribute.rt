@@ -29,7 +29,8 @@ pub enum Attribute {
 
 /// Appends attributes in order.
 pub(crate) fn push_attributes(out: &mut Vec<u8>, attributes: &[Attribute]) -> Result<(), NoMemory>
-    ensures { OnOk result (out.new.items ≡ out.old.items ++ flat_map attribute_text attributes.now) }
+    ensures { OnOk result
+        (out.new.items ≡ out.old.items ++ flat_map attribute_text attributes.now) }
 {
     for attribute in attributes {
         push_attribute(out, *attribute)?;

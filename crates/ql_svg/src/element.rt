@@ -31,7 +31,9 @@ pub(crate) fn push_element(
     attributes: &[Attribute],
     text: &[u8],
 ) -> Result<(), NoMemory>
-    ensures { OnOk result (out.new.items ≡ out.old.items ++ element_text head.tag head.style attributes.now text.now) }
+    ensures { OnOk result
+        (out.new.items ≡ out.old.items
+        ++ element_text head.tag head.style attributes.now text.now) }
 {
     push_bytes(out, opening(head.tag))?;
     push_style(out, head.style)?;

@@ -103,7 +103,7 @@ refusal fs (Variables at) h = h
 refusal fs (TxnAtom at) h = h
 refusal fs NoMemory h = tt
 
--- and so is want of memory
+-- and so is out of memory
 pub no_memory : (fs : List TypeFault) (f : TypeFault) → f ≡ NoMemory → IsRefusal fs f
 unfolding IsRefusal
 no_memory fs f e = subst (λ g. IsRefusal fs g) (sym e) tt

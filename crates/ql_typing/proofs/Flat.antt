@@ -64,7 +64,7 @@ is_there [] k below = absurd (omega (arith, below))
 is_there (x ∷ xs) zero below = refl
 is_there (x ∷ xs) (suc k) below = is_there xs k (omega (arith, below))
 
--- from a place in a list of types on: the operation is found in the type there, or looked for behind it
+-- from a place in a list of types on: the operation is found in the type there, or looked for after it
 module _ (types : List TypeDecl) (i : ℕ) (t : TypeDecl) (ops : List OpDecl) (left number : ℕ) (below : i < length types) (is : t ≡ get_or types i t) (ops_are : ops ≡ t.ops) where
   pub found_op : (op : OpDecl) → left < length ops → op ≡ get_or ops left op
       → slice_get (all_ops (drop i types)) left ≡ slice_get (all_ops types) number → Some op ≡ slice_get (all_ops types) number

@@ -24,9 +24,12 @@ pub fn resolve(
 ) -> Result<Formula, TypeFault>
     ensures typed { OnOk result (contract_faults None for_txn (sentence_of contract.now) ≡ []) }
     ensures numbered { OnOk result (ops.new ≡ ops_met ops.old contract.now.vars) }
-    ensures formula { IfOk result (λ formula. resolved_of formula ≡ resolved_in ops.new (sentence_of contract.now)) }
-    ensures refused { IfErr result (IsRefusal (contract_faults None for_txn (sentence_of contract.now))) }
-    ensures first { IfErr result (TellsFirst (contract_faults None for_txn (sentence_of contract.now))) }
+    ensures formula { IfOk result
+        (λ formula. resolved_of formula ≡ resolved_in ops.new (sentence_of contract.now)) }
+    ensures refused { IfErr result
+        (IsRefusal (contract_faults None for_txn (sentence_of contract.now))) }
+    ensures first { IfErr result
+        (TellsFirst (contract_faults None for_txn (sentence_of contract.now))) }
     ensures kept { OnErr result (ops.new ≡ ops.old) }
 {
     let Ok(checked) = check_contract(alloc, contract, None, for_txn) else {
@@ -50,7 +53,8 @@ fn number_or_undo(
 ) -> Result<Formula, NoMemory>
     requires { vars.now ≡ names_met [] (var_names contract.now.vars) }
     ensures numbered { OnOk result (ops.new ≡ ops_met ops.old contract.now.vars) }
-    ensures formula { IfOk result (λ formula. resolved_of formula ≡ resolved_in ops.new (sentence_of contract.now)) }
+    ensures formula { IfOk result
+        (λ formula. resolved_of formula ≡ resolved_in ops.new (sentence_of contract.now)) }
     ensures kept { OnErr result (ops.new ≡ ops.old) }
 {
     let before = ops.len();
@@ -72,7 +76,8 @@ fn number_and_build(
 ) -> Result<Formula, NoMemory>
     requires { vars.now ≡ names_met [] (var_names contract.now.vars) }
     ensures numbered { OnOk result (ops.new ≡ ops_met ops.old contract.now.vars) }
-    ensures formula { IfOk result (λ formula. resolved_of formula ≡ resolved_in ops.new (sentence_of contract.now)) }
+    ensures formula { IfOk result
+        (λ formula. resolved_of formula ≡ resolved_in ops.new (sentence_of contract.now)) }
     ensures kept { take (length ops.old) ops.new ≡ ops.old }
 {
     number_all(contract.vars.items(), ops)?;
@@ -109,7 +114,8 @@ pub(crate) fn build_formula(
     ops: &Names,
 ) -> Result<Formula, NoMemory>
     requires { vars.now ≡ names_met [] (var_names contract.now.vars) }
-    ensures { IfOk result (λ formula. resolved_of formula ≡ resolved_in ops.now (sentence_of contract.now)) }
+    ensures { IfOk result
+        (λ formula. resolved_of formula ≡ resolved_in ops.now (sentence_of contract.now)) }
 {
     let choices = build_choices(alloc, contract.vars.items(), ops)?;
     let body = build_body(alloc, &contract.body, vars)?;
@@ -199,7 +205,8 @@ fn copy_rel(alloc: Global, rel: &Rel) -> Result<Rel, NoMemory>
 /// What a contract says, by the indices of its variables.
 #[tactic(auto, unfolding(crate::specs::Resolved::statement_in))]
 fn build_body(alloc: Global, body: &Prop, vars: &Names) -> Result<Body, NoMemory>
-    ensures { IfOk result (λ statement. statement_of statement ≡ statement_in vars.now (proposition_of body.now)) }
+    ensures { IfOk result
+        (λ statement. statement_of statement ≡ statement_in vars.now (proposition_of body.now)) }
 {
     match body {
         Prop::True => Ok(Body::True),

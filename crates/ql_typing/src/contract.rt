@@ -1,8 +1,7 @@
-ghost use Rattle.std.specs.Prelude.{◌≡◌, ◌∷◌, [], Option, Some, None, List, ℕ, IfOk, map, drop, option_copied};
-ghost use Rattle.ql_base.specs.Numbering.{has_name};
+ghost use Rattle.std.specs.Prelude.{◌≡◌, [], Option, Some, None, IfOk, map, drop, option_copied};
 ghost use Rattle.ql_lang.specs.Trees.{proposition_of, relation_of, sentence_of};
 ghost use Rattle.ql_typing.specs.Faults.{each, first_fault, names_met};
-ghost use Rattle.ql_typing.specs.ContractFaults.{choice_faults, contract_faults, extra_var, is_closure, is_known, op_faults, point_faults, prop_faults, rel_faults, var_names};
+ghost use Rattle.ql_typing.specs.ContractFaults.{choice_faults, contract_faults, extra_var, is_closure, op_faults, point_faults, prop_faults, rel_faults, var_names};
 
 use crate::fault::{TypeFault, first};
 use crate::names::meet;
@@ -133,7 +132,8 @@ fn choice_fault(
     var: &Var,
     known: Option<&Names>,
 ) -> Result<Option<TypeFault>, NoMemory>
-    ensures { IfOk result (λ fault. fault ≡ first_fault (choice_faults (option_copied known.entry) var.now)) }
+    ensures { IfOk result
+        (λ fault. fault ≡ first_fault (choice_faults (option_copied known.entry) var.now)) }
 {
     let met = meet(alloc, var.ops.items())?;
     Ok(first(met.fault, ops_fault(var.ops.items(), known)))
@@ -144,7 +144,8 @@ fn choices_fault(
     vars: &[Var],
     known: Option<&Names>,
 ) -> Result<Option<TypeFault>, NoMemory>
-    ensures { IfOk result (λ fault. fault ≡ first_fault (each (choice_faults (option_copied known.entry)) vars.now)) }
+    ensures { IfOk result
+        (λ fault. fault ≡ first_fault (each (choice_faults (option_copied known.entry)) vars.now)) }
 {
     let mut fault = None;
     for var in vars {
@@ -180,8 +181,12 @@ pub(crate) fn check_contract(
     known: Option<&Names>,
     for_txn: bool,
 ) -> Result<Checked, NoMemory>
-    ensures vars { IfOk result (λ checked. checked.vars ≡ names_met [] (var_names contract.now.vars)) }
-    ensures fault { IfOk result (λ checked. checked.fault ≡ first_fault (contract_faults (option_copied known.entry) for_txn (sentence_of contract.now))) }
+    ensures vars { IfOk result
+        (λ checked. checked.vars ≡ names_met [] (var_names contract.now.vars)) }
+    ensures fault { IfOk result
+        (λ checked. checked.fault
+        ≡ first_fault (contract_faults (option_copied known.entry) for_txn
+        (sentence_of contract.now))) }
 {
     let vars = contract.vars.items();
     let names = names_of(alloc, vars)?;

@@ -13,7 +13,8 @@ use std::alloc::Global;
 
 /// A contract with its names resolved, where operations are numbered by their indices in `ops`.
 fn formula_of(alloc: Global, contract: &Contract, ops: &Names) -> Result<Formula, NoMemory>
-    ensures { IfOk result (λ formula. resolved_of formula ≡ resolved_in ops.now (sentence_of contract.now)) }
+    ensures { IfOk result
+        (λ formula. resolved_of formula ≡ resolved_in ops.now (sentence_of contract.now)) }
 {
     let list = names_of(alloc, contract.vars.items())?;
     let met = meet(alloc, list.as_slice())?;
@@ -26,7 +27,9 @@ pub(crate) fn formulas_of_ops(
     types: &[TypeDecl],
     ops: &Names,
 ) -> Result<Vec<Formula>, NoMemory>
-    ensures { IfOk result (λ formulas. map resolved_of formulas.items ≡ map (op_contract ops.now) (all_ops types.now)) }
+    ensures { IfOk result
+        (λ formulas. map resolved_of formulas.items
+        ≡ map (op_contract ops.now) (all_ops types.now)) }
 {
     let mut formulas = Vec::new(alloc);
     for declared in types {
@@ -42,7 +45,9 @@ fn put_own(
     ops: &Names,
     formulas: &mut Vec<Formula>,
 ) -> Result<(), NoMemory>
-    ensures { OnOk result (map resolved_of formulas.new.items ≡ map resolved_of formulas.old.items ++ map (op_contract ops.now) own.now) }
+    ensures { OnOk result
+        (map resolved_of formulas.new.items ≡ map resolved_of formulas.old.items
+        ++ map (op_contract ops.now) own.now) }
 {
     for op in own {
         let formula = formula_of(alloc, &op.contract, ops)?;
@@ -57,7 +62,8 @@ pub(crate) fn formulas_of_txns(
     txns: &[TxnDecl],
     ops: &Names,
 ) -> Result<Vec<Formula>, NoMemory>
-    ensures { IfOk result (λ formulas. map resolved_of formulas.items ≡ map (txn_contract ops.now) txns.now) }
+    ensures { IfOk result
+        (λ formulas. map resolved_of formulas.items ≡ map (txn_contract ops.now) txns.now) }
 {
     let mut formulas = Vec::with_capacity(alloc, txns.len())?;
     for declared in txns {

@@ -54,7 +54,7 @@ pub fn find_function(word: &[u8]) -> Option<Function>
 
 impl Function {
     /// How many arguments a function takes.
-    pub(crate) fn arity(self) -> usize
+    pub fn arity(self) -> usize
         ensures { result ≡ arity_of self }
     {
         match self {
@@ -66,7 +66,7 @@ impl Function {
     }
 
     /// A function's signature by the kind of its first argument; `None` if that doesn't fit.
-    pub(crate) fn signature(self, first: Kind) -> Option<Signature>
+    pub fn signature(self, first: Kind) -> Option<Signature>
         ensures { result ≡ signature_of self first }
     {
         match (self, first) {
@@ -108,7 +108,8 @@ fn two(second: Base, gives: Kind) -> Signature
 }
 
 fn three(second: Base, third: Base, gives: Kind) -> Signature
-    ensures { result ≡ record { second = Some (of_base second); third = Some (of_base third); gives = gives } }
+    ensures { result ≡ record
+        { second = Some (of_base second); third = Some (of_base third); gives = gives } }
 {
     Signature {
         second: Some(kind_of_base(second)),
@@ -118,7 +119,7 @@ fn three(second: Base, third: Base, gives: Kind) -> Signature
 }
 
 /// A base kind as a kind.
-pub(crate) fn kind_of_base(base: Base) -> Kind
+pub fn kind_of_base(base: Base) -> Kind
     ensures { result ≡ of_base base }
 {
     match base {

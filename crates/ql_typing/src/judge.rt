@@ -1,7 +1,7 @@
 ghost use Rattle.std.specs.Prelude.{◌≡◌, ◌&&◌, Some, None};
 ghost use Rattle.ql_lang.specs.Expressions.{Calling, expression_of, node_of, operands_of};
 ghost use Rattle.ql_typing.specs.Faults.{earlier, first_fault};
-ghost use Rattle.ql_typing.specs.Kinds.{begins_at, chosen_kind, combined_kind, count_faults, faults_as, faults_of, head_faults, kept_kind, kind_of, kind_where, left_faults, meets, mismatch, operand_faults, operand_of, reading_faults, result_of, second_of, signature_at, third_of};
+ghost use Rattle.ql_typing.specs.Kinds.{begins_at, chosen_kind, combined_kind, faults_as, faults_of, head_faults, kept_kind, kind_of, kind_where, left_faults, meets, mismatch, operand_faults, operand_of, reading_faults, result_of, second_of, signature_at, third_of};
 
 use crate::fault::{TypeFault, first};
 use crate::function::{Function, Signature, find_function};
@@ -77,7 +77,8 @@ fn judge_node(scope: &Scope<'_>, at: u32, node: &ExprNode) -> Judged
 fn judge_call(scope: &Scope<'_>, at: u32, name: &Name, args: &[Expr]) -> Judged
     ensures at { result.at ≡ at }
     ensures kind { result.kind ≡ kind_of scope.now (Calling at name.now (operands_of args.now)) }
-    ensures fault { result.fault ≡ first_fault (faults_of scope.now (Calling at name.now (operands_of args.now))) }
+    ensures fault { result.fault
+        ≡ first_fault (faults_of scope.now (Calling at name.now (operands_of args.now))) }
 {
     let function = find_function(name.word.bytes());
     if args.len() == 1 {
@@ -154,8 +155,10 @@ fn read(at: u32, name: &Name, kind: Option<Kind>) -> Judged
 fn choice(at: u32, test: Judged, left: Judged, right: Judged) -> Judged
     ensures at { result.at ≡ at }
     ensures kind { result.kind ≡ chosen_kind test.kind left.kind right.kind }
-    ensures fault { result.fault ≡ earlier (earlier test.fault (first_fault (mismatch (Some Kind.Bool) test.at test.kind)))
-        (earlier left.fault (earlier right.fault (first_fault (mismatch left.kind right.at right.kind)))) }
+    ensures fault { result.fault
+        ≡ earlier (earlier test.fault (first_fault (mismatch (Some Kind.Bool) test.at test.kind)))
+        (earlier left.fault (earlier right.fault
+        (first_fault (mismatch left.kind right.at right.kind)))) }
 {
     let of_test = first(test.fault, misfit(Some(Kind::Bool), test.at, test.kind));
     let of_right = first(right.fault, misfit(left.kind, right.at, right.kind));
@@ -169,8 +172,10 @@ fn choice(at: u32, test: Judged, left: Judged, right: Judged) -> Judged
 fn combination(at: u32, op: BinOp, left: Judged, right: Judged) -> Judged
     ensures at { result.at ≡ at }
     ensures kind { result.kind ≡ combined_kind op left.kind right.kind }
-    ensures fault { result.fault ≡ earlier (earlier left.fault (first_fault (left_faults op left.at left.kind)))
-        (earlier right.fault (first_fault (mismatch (operand_of op left.kind) right.at right.kind))) }
+    ensures fault { result.fault
+        ≡ earlier (earlier left.fault (first_fault (left_faults op left.at left.kind)))
+        (earlier right.fault (first_fault
+        (mismatch (operand_of op left.kind) right.at right.kind))) }
 {
     let of_left = first(left.fault, left_misfit(op, left.at, left.kind));
     let wanted = operand_kind(op, left.kind);
@@ -185,7 +190,8 @@ fn combination(at: u32, op: BinOp, left: Judged, right: Judged) -> Judged
 fn keeping(at: u32, wanted: Kind, operand: Judged) -> Judged
     ensures at { result.at ≡ at }
     ensures kind { result.kind ≡ kept_kind wanted operand.kind }
-    ensures fault { result.fault ≡ earlier operand.fault (first_fault (mismatch (Some wanted) operand.at operand.kind)) }
+    ensures fault { result.fault
+        ≡ earlier operand.fault (first_fault (mismatch (Some wanted) operand.at operand.kind)) }
 {
     Judged {
         at,
@@ -200,7 +206,8 @@ fn keeping(at: u32, wanted: Kind, operand: Judged) -> Judged
 fn call_of_one(at: u32, name: &Name, function: Option<Function>, a: Judged) -> Judged
     ensures at { result.at ≡ at }
     ensures kind { result.kind ≡ result_of (signature_at function 1 a.kind) }
-    ensures fault { result.fault ≡ earlier a.fault (first_fault (head_faults at name.now function 1 a.at a.kind)) }
+    ensures fault { result.fault
+        ≡ earlier a.fault (first_fault (head_faults at name.now function 1 a.at a.kind)) }
 {
     Judged {
         at,
@@ -211,8 +218,12 @@ fn call_of_one(at: u32, name: &Name, function: Option<Function>, a: Judged) -> J
 
 fn call_of_two(at: u32, name: &Name, function: Option<Function>, a: Judged, b: Judged) -> Judged
     ensures at { result.at ≡ at }
-    ensures kind { result.kind ≡ kind_where (meets (second_of (signature_at function 2 a.kind)) b.kind) (result_of (signature_at function 2 a.kind)) }
-    ensures fault { result.fault ≡ earlier (earlier a.fault b.fault) (earlier (first_fault (head_faults at name.now function 2 a.at a.kind))
+    ensures kind { result.kind
+        ≡ kind_where (meets (second_of (signature_at function 2 a.kind)) b.kind)
+        (result_of (signature_at function 2 a.kind)) }
+    ensures fault { result.fault
+        ≡ earlier (earlier a.fault b.fault)
+        (earlier (first_fault (head_faults at name.now function 2 a.at a.kind))
         (first_fault (mismatch (second_of (signature_at function 2 a.kind)) b.at b.kind))) }
 {
     let signature = find_signature(function, 2, a.kind);
@@ -237,9 +248,15 @@ fn call_of_three(
     c: Judged,
 ) -> Judged
     ensures at { result.at ≡ at }
-    ensures kind { result.kind ≡ kind_where (meets (second_of (signature_at function 3 a.kind)) b.kind && meets (third_of (signature_at function 3 a.kind)) c.kind) (result_of (signature_at function 3 a.kind)) }
-    ensures fault { result.fault ≡ earlier (earlier a.fault (earlier b.fault c.fault)) (earlier (first_fault (head_faults at name.now function 3 a.at a.kind))
-        (earlier (first_fault (mismatch (second_of (signature_at function 3 a.kind)) b.at b.kind)) (first_fault (mismatch (third_of (signature_at function 3 a.kind)) c.at c.kind)))) }
+    ensures kind { result.kind
+        ≡ kind_where (meets (second_of (signature_at function 3 a.kind)) b.kind
+        && meets (third_of (signature_at function 3 a.kind)) c.kind)
+        (result_of (signature_at function 3 a.kind)) }
+    ensures fault { result.fault
+        ≡ earlier (earlier a.fault (earlier b.fault c.fault))
+        (earlier (first_fault (head_faults at name.now function 3 a.at a.kind))
+        (earlier (first_fault (mismatch (second_of (signature_at function 3 a.kind)) b.at b.kind))
+        (first_fault (mismatch (third_of (signature_at function 3 a.kind)) c.at c.kind)))) }
 {
     let signature = find_signature(function, 3, a.kind);
     let head = head_fault(at, name, function, 3, a.at, a.kind);

@@ -29,7 +29,8 @@ pub(crate) fn are_same(a: Kind, b: Kind) -> bool
     }
 }
 
-fn is_basic(kind: Kind) -> bool
+/// Whether values of a kind can be compared by `==`.
+pub fn is_basic(kind: Kind) -> bool
     ensures { result ≡ is_base kind }
 {
     matches!(kind, Kind::Int | Kind::Bool | Kind::Text)
@@ -106,7 +107,8 @@ pub(crate) fn left_misfit(op: BinOp, at: u32, kind: Option<Kind>) -> Option<Type
     }
 }
 
-fn operator_gives(op: BinOp) -> Kind
+/// The kind of an operator's result.
+pub fn operator_gives(op: BinOp) -> Kind
     ensures { result ≡ gives_of op }
 {
     match op {

@@ -20,6 +20,7 @@ mod typed;
 
 pub use build::resolve;
 pub use fault::TypeFault;
-pub use function::{Function, Signature, find_function};
+pub use function::{Function, Signature, find_function, kind_of_base};
+pub use kind::{is_basic, operator_gives};
 pub use scope::{Known, Scope, Table};
 pub use typed::{Typed, typecheck};

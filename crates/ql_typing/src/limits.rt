@@ -1,4 +1,4 @@
-ghost use Rattle.std.specs.Prelude.{◌≡◌, drop};
+ghost use Rattle.std.specs.Prelude.{◌≡◌};
 ghost use Rattle.ql_typing.specs.Faults.{each, first_fault};
 ghost use Rattle.ql_typing.specs.Programs.{above, too_many};
 

@@ -1,4 +1,4 @@
-ghost use Rattle.std.specs.Prelude.{◌≡◌, [], IfOk, OnErr, OnOk, MatchResult, Some, None};
+ghost use Rattle.std.specs.Prelude.{◌≡◌, [], IfOk, OnErr, OnOk, Some, None};
 ghost use Rattle.ql_base.specs.Numbering.{has_name, with_name, place};
 ghost use Rattle.ql_typing.specs.Faults.{first_fault, repeats, names_met, where_so};
 
@@ -64,7 +64,9 @@ fn meet_more(names: &mut Names, list: &[Name]) -> Result<Option<TypeFault>, NoMe
 #[tactic(auto, unfolding(crate::specs::Faults::first_fault, crate::specs::Faults::earlier))]
 fn meet_one(names: &mut Names, name: &Name) -> Result<Option<TypeFault>, NoMemory>
     ensures names { OnOk result (names.new ≡ with_name names.old name.now.word) }
-    ensures fault { IfOk result (λ fault. fault ≡ first_fault (where_so (has_name names.old name.now.word) (TypeFault.Twice name.now.at))) }
+    ensures fault { IfOk result
+        (λ fault. fault ≡ first_fault
+        (where_so (has_name names.old name.now.word) (TypeFault.Twice name.now.at))) }
 {
     let known = names.find(name.word.bytes()).is_some();
     put_in(names, &name.word)?;

@@ -1,7 +1,6 @@
 ghost use Rattle.std.specs.Prelude.{◌≡◌, Some, IfOk, OnOk, map};
-ghost use Rattle.ql_lang.specs.Expressions.{expression_of};
 ghost use Rattle.ql_typing.specs.Faults.{each, earlier, first_fault, repeats};
-ghost use Rattle.ql_typing.specs.Kinds.{kind_in, reading_faults};
+ghost use Rattle.ql_typing.specs.Kinds.{reading_faults};
 ghost use Rattle.ql_typing.specs.Programs.{above, bind_faults, bind_names, binds_known, effect_faults, maybe_effect_faults, op_decl_faults, param_names, params_known, places, stmt_faults, target_names};
 
 use crate::contract::check_contract;
@@ -24,7 +23,8 @@ pub(crate) fn op_decl_fault(
     names: &mut Names,
 ) -> Result<Option<TypeFault>, NoMemory>
     ensures names { OnOk result (names.new ≡ names.old) }
-    ensures fault { IfOk result (λ fault. fault ≡ first_fault (op_decl_faults known.now names.old fields.now op.now)) }
+    ensures fault { IfOk result
+        (λ fault. fault ≡ first_fault (op_decl_faults known.now names.old fields.now op.now)) }
 {
     let params = op.params.items();
     let named = params_fault(alloc, params, names)?;
@@ -44,7 +44,9 @@ fn params_fault(
     names: &mut Names,
 ) -> Result<Option<TypeFault>, NoMemory>
     ensures names { OnOk result (names.new ≡ names.old) }
-    ensures fault { IfOk result (λ fault. fault ≡ earlier (first_fault (repeats names.old (param_names params.now))) (first_fault (above 8 (places (param_names params.now))))) }
+    ensures fault { IfOk result
+        (λ fault. fault ≡ earlier (first_fault (repeats names.old (param_names params.now)))
+        (first_fault (above 8 (places (param_names params.now))))) }
 {
     let list = list_params(alloc, params)?;
     let all = places_of(alloc, list.as_slice())?;
@@ -62,7 +64,9 @@ fn maybe_effect_fault(
     scope: &Scope<'_>,
 ) -> Result<Option<TypeFault>, NoMemory>
     ensures names { OnOk result (names.new ≡ names.old) }
-    ensures fault { IfOk result (λ fault. fault ≡ first_fault (maybe_effect_faults names.old fields.now scope.now effect.now)) }
+    ensures fault { IfOk result
+        (λ fault. fault ≡ first_fault
+        (maybe_effect_faults names.old fields.now scope.now effect.now)) }
 {
     match effect {
         Some(effect) => effect_fault(alloc, effect, fields, names, scope),
@@ -79,7 +83,8 @@ fn effect_fault(
     scope: &Scope<'_>,
 ) -> Result<Option<TypeFault>, NoMemory>
     ensures names { OnOk result (names.new ≡ names.old) }
-    ensures fault { IfOk result (λ fault. fault ≡ first_fault (effect_faults names.old fields.now scope.now effect.now)) }
+    ensures fault { IfOk result
+        (λ fault. fault ≡ first_fault (effect_faults names.old fields.now scope.now effect.now)) }
 {
     let binds = effect.binds.items();
     let stmts = effect.stmts.items();
@@ -103,7 +108,9 @@ fn bind_names_fault(
     names: &mut Names,
 ) -> Result<Option<TypeFault>, NoMemory>
     ensures names { OnOk result (names.new ≡ names.old) }
-    ensures fault { IfOk result (λ fault. fault ≡ earlier (first_fault (repeats names.old (bind_names binds.now))) (first_fault (above 4 (places (bind_names binds.now))))) }
+    ensures fault { IfOk result
+        (λ fault. fault ≡ earlier (first_fault (repeats names.old (bind_names binds.now)))
+        (first_fault (above 4 (places (bind_names binds.now))))) }
 {
     let list = list_binds(alloc, binds)?;
     let all = places_of(alloc, list.as_slice())?;

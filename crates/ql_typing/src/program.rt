@@ -1,6 +1,5 @@
-ghost use Rattle.std.specs.Prelude.{◌≡◌, [], IfOk, OnOk, map};
-ghost use Rattle.std.specs.List.{flat_map};
-ghost use Rattle.ql_typing.specs.Faults.{each, earlier, first_fault, names_met, repeats, unless};
+ghost use Rattle.std.specs.Prelude.{◌≡◌, [], IfOk, map};
+ghost use Rattle.ql_typing.specs.Faults.{each, earlier, first_fault, names_met, repeats};
 ghost use Rattle.ql_typing.specs.Programs.{above, field_names, fields_known, init_faults, is_collection, may_begin, op_decl_faults, op_names, op_places, program_faults, txn_faults, type_faults};
 
 use crate::contract::{check_contract, ops_fault};
@@ -107,7 +106,9 @@ fn op_decls_fault(
     fields: &Table,
     names: &mut Names,
 ) -> Result<Option<TypeFault>, NoMemory>
-    ensures { IfOk result (λ fault. fault ≡ first_fault (each (op_decl_faults known.now names.old fields.now) ops.now)) }
+    ensures { IfOk result
+        (λ fault. fault ≡ first_fault
+        (each (op_decl_faults known.now names.old fields.now) ops.now)) }
 {
     let mut fault = None;
     for op in ops {
@@ -190,7 +191,9 @@ fn names_fault(
     types: &[TypeDecl],
     txns: &[TxnDecl],
 ) -> Result<Option<TypeFault>, NoMemory>
-    ensures { IfOk result (λ fault. fault ≡ earlier (first_fault (repeats [] (map (λ t. t.name) types.now))) (first_fault (repeats [] (map (λ d. d.name) txns.now)))) }
+    ensures { IfOk result
+        (λ fault. fault ≡ earlier (first_fault (repeats [] (map (λ t. t.name) types.now)))
+        (first_fault (repeats [] (map (λ d. d.name) txns.now)))) }
 {
     let of_types = list_types(alloc, types)?;
     let met_types = meet(alloc, of_types.as_slice())?;
@@ -205,7 +208,10 @@ fn limits_fault(
     types: &[TypeDecl],
     txns: &[TxnDecl],
 ) -> Result<Option<TypeFault>, NoMemory>
-    ensures { IfOk result (λ fault. fault ≡ earlier (first_fault (above 16 (map (λ t. t.at) types.now))) (earlier (first_fault (above 32 (op_places types.now))) (first_fault (above 16 (map (λ d. d.at) txns.now))))) }
+    ensures { IfOk result
+        (λ fault. fault ≡ earlier (first_fault (above 16 (map (λ t. t.at) types.now)))
+        (earlier (first_fault (above 32 (op_places types.now)))
+        (first_fault (above 16 (map (λ d. d.at) txns.now))))) }
 {
     let of_types = place_types(alloc, types)?;
     let of_ops = place_ops(alloc, types)?;

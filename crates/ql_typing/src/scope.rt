@@ -1,4 +1,4 @@
-ghost use Rattle.std.specs.Prelude.{◌≡◌, ◌++◌, IfOk, length};
+ghost use Rattle.std.specs.Prelude.{◌≡◌, ◌++◌, IfOk};
 ghost use Rattle.ql_typing.specs.Kinds.{kind_in};
 ghost use Rattle.ql_typing.specs.Tables.{FindsKinds};
 

@@ -106,8 +106,10 @@ impl Typed {
     /// The contract of an operation, with its names resolved.
     pub fn op_formula(&self, o: OpId) -> &Formula
         requires { o.0 < length (all_ops self.now.program.types) }
-        ensures resolved { slice_get (op_contracts self.now.program.types) o.0 ≡ Some (resolved_of result.now) }
-        ensures well_formed { IsOpContract (length (all_ops self.now.program.types)) (resolved_of result.now) }
+        ensures resolved { slice_get (op_contracts self.now.program.types) o.0
+            ≡ Some (resolved_of result.now) }
+        ensures well_formed { IsOpContract (length (all_ops self.now.program.types))
+            (resolved_of result.now) }
     {
         &self.op_formulas[o.0 as usize]
     }
@@ -163,8 +165,10 @@ impl Typed {
     /// The contract of a transaction, with its names resolved.
     pub fn txn_formula(&self, d: DeclId) -> &Formula
         requires { d.0 < length self.now.program.txns }
-        ensures resolved { slice_get (txn_contracts self.now.program) d.0 ≡ Some (resolved_of result.now) }
-        ensures well_formed { IsTxnContract (length (all_ops self.now.program.types)) (resolved_of result.now) }
+        ensures resolved { slice_get (txn_contracts self.now.program) d.0
+            ≡ Some (resolved_of result.now) }
+        ensures well_formed { IsTxnContract (length (all_ops self.now.program.types))
+            (resolved_of result.now) }
     {
         &self.txn_formulas[d.0 as usize]
     }

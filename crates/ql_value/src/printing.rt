@@ -88,7 +88,8 @@ fn push_set(out: &mut Vec<u8>, elements: &[Scalar]) -> Result<(), NoMemory>
 
 // Elements that follow a first one.
 fn push_elements(out: &mut Vec<u8>, elements: &[Scalar]) -> Result<(), NoMemory>
-    ensures text { OnOk result (out.new.items ≡ out.old.items ++ followed (map scalar_text elements.now)) }
+    ensures text { OnOk result
+        (out.new.items ≡ out.old.items ++ followed (map scalar_text elements.now)) }
     ensures scalars { OnOk result (All IsScalar elements.now) }
 {
     for element in elements {
@@ -115,7 +116,8 @@ fn push_map(out: &mut Vec<u8>, entries: &[(Scalar, Scalar)]) -> Result<(), NoMem
 
 // Entries that follow a first one.
 fn push_entries(out: &mut Vec<u8>, entries: &[(Scalar, Scalar)]) -> Result<(), NoMemory>
-    ensures text { OnOk result (out.new.items ≡ out.old.items ++ followed (map entry_text entries.now)) }
+    ensures text { OnOk result
+        (out.new.items ≡ out.old.items ++ followed (map entry_text entries.now)) }
     ensures scalars { OnOk result (All IsEntry entries.now) }
 {
     for entry in entries {

@@ -1,5 +1,5 @@
 -- What `verify` can answer of the text of a run.
-use Rattle.std.proofs.Common.{◌≡◌, ◌⊎◌, inl, inr, ℕ, true, false, List, map, Option, Some, None, slice_get, refl, ap, sym, subst, ◌∙◌}
+use Rattle.std.proofs.Common.{◌≡◌, ◌⊎◌, inl, inr, ℕ, List, map, Some, None, slice_get, refl, ap, sym, subst, ◌∙◌}
 use Rattle.std.proofs.lemmas.Bool.{both_ways}
 use Rattle.ql_commands.specs.Sources.{IsSourceOf}
 use Rattle.ql_exec.specs.declared.effect.Effect.{Effect}
@@ -20,8 +20,7 @@ use Rattle.ql_printed_runs.specs.Renumbered.{IsRenumbered}
 use Rattle.ql_run_text.specs.RunTexts.{run_text}
 use Rattle.ql_running.specs.Forms.{IsRunText}
 use Rattle.ql_running.specs.Runs.{TellsRun}
-use Rattle.ql_typing.specs.Operations.{op_contracts, txn_contracts}
-use Rattle.ql_verify.specs.Verdicts.{IsJudgedAt, IsJudgedOf, IsVerdict}
+use Rattle.ql_verify.specs.Verdicts.{IsVerdict}
 use Rattle.ql_verify.specs.declared.breach.Breach.{Breach}
 use Rattle.ql_verify.specs.declared.breach.Breach.TheVariants.{AtOp, AtTxn}
 use Rattle.ql_verified_runs.proofs.SamePrograms.{same-execution, same-op-contracts, same-txn-contracts}

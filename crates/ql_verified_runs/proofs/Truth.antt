@@ -14,7 +14,7 @@ use Rattle.ql_lang.specs.declared.formula.OpChoice.TheVariants.{Any, OneOf}
 use Rattle.ql_lang.specs.declared.formula.Term.{Term}
 use Rattle.ql_exec.specs.declared.effect.Effect.{Effect}
 use Rattle.ql_exec.specs.Effects.{both, effect_at, in_run, one}
-use Rattle.ql_exec.specs.Relations.{hb, hb_step, hbo, hbo_step, inside, leads, same_run, sameobj, sametxn, so, soo, vis}
+use Rattle.ql_exec.specs.Relations.{hb_step, hbo_step, inside, leads, same_run, sameobj, sametxn, so, soo, vis}
 use Rattle.ql_formula.specs.Truth.{Chosen, Holds, HoldsFor, HoldsTxn, in_one_txn, in_range, named, none_inside, place_of, related, statement_true, together}
 use Rattle.ql_printed_runs.specs.Renumbered.{renumbered}
 use Rattle.ql_printed_runs.proofs.Renumbering.{other_at, others}

@@ -1,7 +1,7 @@
 -- Where all contracts of a program hold in an execution, they are judged so in the one with other numbers of objects.
-use Rattle.std.proofs.Common.{◌≡◌, ℕ, zero, suc, ◌<◌, true, false, List, [], ◌∷◌, map, Option, Some, None, length, slice_get, refl, ap, sym, subst, arith, ◌∙◌}
+use Rattle.std.proofs.Common.{◌≡◌, ℕ, zero, suc, true, List, [], ◌∷◌, Option, Some, None, slice_get, refl, ap, sym, subst, arith, ◌∙◌}
 use Rattle.std.specs.Option.{option_map}
-use Rattle.std.proofs.lemmas.Bool.{eq-eqb, eqb-true, false≢true}
+use Rattle.std.proofs.lemmas.Bool.{eq-eqb, eqb-true}
 use Rattle.std.proofs.lemmas.List.{length-map}
 use Rattle.std.proofs.lemmas.Option.{slice_get_within}
 use Rattle.ql_base.specs.IdLists.{has_id}
@@ -21,7 +21,7 @@ use Rattle.ql_printed_runs.specs.Renumbered.{IsRenumbered, renumbered}
 use Rattle.ql_printed_runs.proofs.Renumbering.{other_at, others}
 use Rattle.ql_running.specs.Soundness.{IsSound}
 use Rattle.ql_verify.specs.Verdicts.{AllOpsHold, AllTxnsHold, IsJudgedAt, IsJudgedOf, IsVerdict}
-use Rattle.ql_verify.specs.Work.{runs_of, with_run, with_runs}
+use Rattle.ql_verify.specs.Work.{with_run, with_runs}
 use Rattle.ql_verified_runs.proofs.Truth.{holds-too, holds-txn-too}
 
 -- all effects of a begun transaction are under the name that one of them has

@@ -1,4 +1,4 @@
-ghost use Rattle.std.specs.Prelude.{◌≡◌, ◌⊎◌, ℕ, List, None};
+ghost use Rattle.std.specs.Prelude.{◌≡◌, ◌⊎◌, ℕ, List};
 ghost use Rattle.ql_exec.specs.declared.effect.Effect.{Effect};
 ghost use Rattle.ql_formula.specs.Truth.{Holds, HoldsTxn};
 ghost use Rattle.ql_headline.specs.Stores.{rules_of};
@@ -21,8 +21,10 @@ use ql_printed_runs::printed_runs_are_read_again;
 /// The numbers of objects are names alone: what holds at an effect or of a begun transaction holds in the execution with
 /// other numbers too.
 pub fn object_numbers_are_names()
-    ensures effect { (x y : List Effect) (f : Resolved) (a : ℕ) → IsRenumbered x y → Holds x f a → Holds y f a }
-    ensures txn { (x y : List Effect) (f : Resolved) (run : ℕ) → IsRenumbered x y → HoldsTxn x f run → HoldsTxn y f run }
+    ensures effect { (x y : List Effect) (f : Resolved) (a : ℕ) → IsRenumbered x y → Holds x f a
+        → Holds y f a }
+    ensures txn { (x y : List Effect) (f : Resolved) (run : ℕ) → IsRenumbered x y → HoldsTxn x f run
+        → HoldsTxn y f run }
 {}
 
 /// The execution that the text of a run shows can be printed and read again: operations, transactions and objects are found
@@ -35,7 +37,8 @@ pub fn runs_can_be_printed()
 /// Of a source and the text that `run` printed of it, `verify` says that all contracts hold, or that judging them is too
 /// much work.
 pub fn printed_runs_hold()
-    ensures { (source schedule text said : List ℕ) (status : Status) → TellsRun IsRunText source schedule text
+    ensures { (source schedule text said : List ℕ) (status : Status)
+        → TellsRun IsRunText source schedule text
         → VerifySays source text status said → (status ≡ Done) ⊎ (status ≡ TooLarge) }
 {
     runs_can_be_printed();
@@ -46,7 +49,8 @@ pub fn printed_runs_hold()
 
 /// Agreement, of the run that a text shows: where every package was received, the replicas agree.
 pub fn replicas_of_runs_agree()
-    ensures { (source schedule text : List ℕ) (told : TellsRun IsRunText source schedule text) → AllArrived told.prints.last
+    ensures { (source schedule text : List ℕ) (told : TellsRun IsRunText source schedule text)
+        → AllArrived told.prints.last
         → Agree (rules_of told.program told.levels) told.schedule.replicas told.prints.last }
 {
     replicas_agree();

@@ -66,7 +66,8 @@ fn first_among(
     requires tables { IsTableOf relations.now execution.now }
     requires ascending { IsAscending runs.now }
     ensures { MatchOption result (AllHold execution.now (resolved_of contract.now) runs.now)
-        (λ first. IsFirstOf execution.now (resolved_of contract.now) runs.now first.0.0 (map (λ id. id.0) first.1)) }
+        (λ first. IsFirstOf execution.now (resolved_of contract.now) runs.now first.0.0
+        (map (λ id. id.0) first.1)) }
 {
     for run in runs {
         let run = RunId(*run);

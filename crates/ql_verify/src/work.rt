@@ -20,7 +20,8 @@ pub(crate) fn work(alloc: Global, t: &Typed, execution: &Execution) -> Result<u1
 
 fn work_of_ops(t: &Typed, effects: &[Effect]) -> u128
     requires few { length effects.now ≤ 4000 }
-    ensures sum { result ≡ work_from (length effects.now) (effects_of effects.now) 0 (op_contracts t.now.program.types) }
+    ensures sum { result ≡ work_from (length effects.now) (effects_of effects.now) 0
+        (op_contracts t.now.program.types) }
     ensures bounded { result ≤ 32 * 4000 ^ 6 }
 {
     let mut work = 0;
@@ -33,7 +34,9 @@ fn work_of_ops(t: &Typed, effects: &[Effect]) -> u128
 
 fn work_of_txns(alloc: Global, t: &Typed, effects: &[Effect]) -> Result<u128, NoMemory>
     requires few { length effects.now ≤ 4000 }
-    ensures sum { IfOk result (λ work. work ≡ work_from (length effects.now) (λ d. length (runs_of effects.now d)) 0 (txn_contracts t.now.program)) }
+    ensures sum { IfOk result
+        (λ work. work ≡ work_from (length effects.now)
+        (λ d. length (runs_of effects.now d)) 0 (txn_contracts t.now.program)) }
     ensures bounded { IfOk result (λ work. work ≤ 16 * 4000 ^ 6) }
 {
     let mut work = 0;

@@ -20,7 +20,10 @@ pub(crate) fn is_given(
     known: &[Known],
     body: &Body,
 ) -> Result<bool, NoMemory>
-    ensures { IfOk result (λ given. given ≡ true → IsGiven scene.entry.program.now.program scene.entry.goal scene.entry.vars.now known.now (statement_of body.now)) }
+    ensures { IfOk result
+        (λ given. given ≡ true
+        → IsGiven scene.entry.program.now.program scene.entry.goal scene.entry.vars.now
+        known.now (statement_of body.now)) }
 {
     match body {
         Body::True => Ok(true),
@@ -65,7 +68,8 @@ pub(crate) fn with_parts(
 
 // Whether one of the relations implies another.
 fn is_known(known: &[Known], wanted: Known) -> bool
-    ensures { result ≡ true → (x : List Effect) → IsExecution x → (places : List ℕ) (cur : ℕ) → All (IsKnown x places cur) known.now → IsKnown x places cur wanted }
+    ensures { result ≡ true → (x : List Effect) → IsExecution x → (places : List ℕ) (cur : ℕ)
+        → All (IsKnown x places cur) known.now → IsKnown x places cur wanted }
 {
     for k in 0..known.len() {
         if gives(known[k], wanted) {

@@ -2,7 +2,6 @@
 ghost use Rattle.std.specs.Prelude.{◌≡◌, ◌<◌, ℕ, IfSome, Some, length, option_copied, slice_get, true};
 ghost use Rattle.std.specs.List.{list_any};
 ghost use Rattle.ql_typing.specs.Operations.{op_kinds};
-ghost use Rattle.ql_ground.specs.OfPrograms.{IsGoalOf};
 ghost use Rattle.ql_warnings.specs.Clashes.{AreApart, CantHold, choice_may, is_of, may_be};
 ghost use Rattle.ql_warnings.specs.Names.{is_on_object, is_order};
 
@@ -23,7 +22,9 @@ pub(crate) struct Scene<'a> {
 /// The first of some relations that can't hold together with all the others in any execution.
 pub(crate) fn first_clash(scene: Scene, known: &[Known]) -> Option<Known>
     ensures member { IfSome result (λ k. (i : ℕ) × (slice_get known.now i ≡ Some k)) }
-    ensures clash { IfSome result (λ k. CantHold scene.entry.program.now.program scene.entry.goal scene.entry.vars.now known.now) }
+    ensures clash { IfSome result
+        (λ k. CantHold scene.entry.program.now.program scene.entry.goal scene.entry.vars.now
+        known.now) }
 {
     for k in 0..known.len() {
         let relation = known_at(known, k);
@@ -39,7 +40,8 @@ pub(crate) fn first_clash(scene: Scene, known: &[Known]) -> Option<Known>
 
 /// Whether a relation can't hold together with all the others.
 pub(crate) fn has_clash(scene: Scene, known: &[Known]) -> bool
-    ensures { result ≡ true → CantHold scene.entry.program.now.program scene.entry.goal scene.entry.vars.now known.now }
+    ensures { result ≡ true
+        → CantHold scene.entry.program.now.program scene.entry.goal scene.entry.vars.now known.now }
 {
     match first_clash(scene, known) {
         Some(_) => true,
@@ -56,15 +58,19 @@ pub(crate) fn known_at(known: &[Known], k: usize) -> Known
 
 // Whether a relation puts effects on one object, though no type is possible for that object.
 fn is_of_two_types(scene: Scene, known: Known) -> bool
-    ensures { result ≡ true → (is_on_object known.name ≡ true) × AreApart (op_kinds scene.entry.program.now.program.types) scene.entry.goal scene.entry.vars.now known.first known.second }
+    ensures { result ≡ true → (is_on_object known.name ≡ true)
+        × AreApart (op_kinds scene.entry.program.now.program.types) scene.entry.goal
+        scene.entry.vars.now known.first known.second }
 {
     is_on_object(known.name) && are_apart(scene, known.first, known.second)
 }
 
 // Whether a relation puts one effect before another, and one of these puts the second before the first.
 fn has_turned(known: &[Known], relation: Known) -> bool
-    ensures { result ≡ true → (is_order relation.name ≡ true) × (i : ℕ) × (other : Known) × (slice_get known.now i ≡ Some other)
-        × (is_order other.name ≡ true) × (other.first ≡ relation.second) × (other.second ≡ relation.first) }
+    ensures { result ≡ true → (is_order relation.name ≡ true) × (i : ℕ) × (other : Known)
+        × (slice_get known.now i ≡ Some other)
+        × (is_order other.name ≡ true) × (other.first ≡ relation.second)
+        × (other.second ≡ relation.first) }
 {
     if !is_order(relation.name) {
         return false;
@@ -80,7 +86,9 @@ fn has_turned(known: &[Known], relation: Known) -> bool
 
 // Whether no type is possible for two terms.
 fn are_apart(scene: Scene, first: Term, second: Term) -> bool
-    ensures { result ≡ true → AreApart (op_kinds scene.entry.program.now.program.types) scene.entry.goal scene.entry.vars.now first second }
+    ensures { result ≡ true
+        → AreApart (op_kinds scene.entry.program.now.program.types) scene.entry.goal
+        scene.entry.vars.now first second }
 {
     for o in 0..scene.program.ops() {
         let kind = scene.program.kind_of(OpId(o));
@@ -93,7 +101,8 @@ fn are_apart(scene: Scene, first: Term, second: Term) -> bool
 
 // Whether a term may denote an effect on an object of a type.
 fn may_be(scene: Scene, term: Term, kind: TypeId) -> bool
-    ensures { result ≡ may_be (op_kinds scene.entry.program.now.program.types) scene.entry.goal scene.entry.vars.now term kind.0 }
+    ensures { result ≡ may_be (op_kinds scene.entry.program.now.program.types) scene.entry.goal
+        scene.entry.vars.now term kind.0 }
 {
     match (term, scene.goal) {
         (Term::Var(v), _) => choice_may(scene.program, scene.vars.get(v as usize), kind),
@@ -103,7 +112,8 @@ fn may_be(scene: Scene, term: Term, kind: TypeId) -> bool
 }
 
 fn choice_may(t: &Typed, choice: Option<&OpChoice>, kind: TypeId) -> bool
-    ensures { result ≡ choice_may (op_kinds t.now.program.types) (option_copied choice.entry) kind.0 }
+    ensures { result ≡ choice_may (op_kinds t.now.program.types) (option_copied choice.entry)
+        kind.0 }
 {
     match choice {
         Some(OpChoice::OneOf(ops)) => one_may(t, ops.items(), kind),

@@ -89,7 +89,8 @@ fn of_premises(alloc: Global, source: &[u8], t: &Typed, g: Goal) -> Result<Vec<W
 // The warning that a contract asks for nothing, if it does.
 fn nothing(alloc: Global, t: &Typed, g: Goal) -> Result<Vec<Warning>, NoMemory>
     requires { IsGoalOf t.now.program g }
-    ensures { IfOk result (λ found. (source : List ℕ) → All (IsWarning source t.now.program g) found.items) }
+    ensures { IfOk result
+        (λ found. (source : List ℕ) → All (IsWarning source t.now.program g) found.items) }
 {
     let mut found = Vec::new(alloc);
     if asks_nothing(alloc, t, g)? {

@@ -1,11 +1,8 @@
 // What a statement says of two effects with a named relation.
-ghost use Rattle.std.specs.Prelude.{◌≡◌, OnOk, true, ℕ, List};
-ghost use Rattle.std.specs.List.{All};
-ghost use Rattle.ql_exec.specs.declared.effect.Effect.{Effect};
-ghost use Rattle.ql_exec.specs.Execution.{IsExecution};
-ghost use Rattle.ql_lang.specs.Formulas.{Statement, statement_of};
+ghost use Rattle.std.specs.Prelude.{◌≡◌, OnOk, true};
+ghost use Rattle.ql_lang.specs.Formulas.{statement_of};
 ghost use Rattle.ql_warnings.specs.Names.{is_on_object, is_order, is_symmetric, is_within};
-ghost use Rattle.ql_warnings.specs.Known.{Gives, IsPartOf, PartsKept};
+ghost use Rattle.ql_warnings.specs.Known.{Gives, PartsKept};
 
 use ql_base::NoMemory;
 use ql_lang::{Body, Rel, RelName, Term};

@@ -14,7 +14,8 @@ use std::alloc::Global;
 
 /// A warning for each variable that stands for any effect and has an operation's name.
 pub(crate) fn named(alloc: Global, t: &Typed, vars: &[Var]) -> Result<Vec<Warning>, NoMemory>
-    ensures { IfOk result (λ found. AreNameWarnings t.now.program vars.now (length vars.now) found.items) }
+    ensures { IfOk result
+        (λ found. AreNameWarnings t.now.program vars.now (length vars.now) found.items) }
 {
     let mut found = Vec::new(alloc);
     for k in 0..vars.len() {
@@ -26,7 +27,9 @@ pub(crate) fn named(alloc: Global, t: &Typed, vars: &[Var]) -> Result<Vec<Warnin
 // Appends the warning of one variable, if there is one.
 fn push_named(found: &mut Vec<Warning>, t: &Typed, vars: &[Var], k: usize) -> Result<(), NoMemory>
     requires { k < length vars.now }
-    ensures { OnOk result (AreNameWarnings t.now.program vars.now k found.old.items → AreNameWarnings t.now.program vars.now (k + 1) found.new.items) }
+    ensures { OnOk result
+        (AreNameWarnings t.now.program vars.now k found.old.items
+        → AreNameWarnings t.now.program vars.now (k + 1) found.new.items) }
 {
     match named_as(t, vars, k) {
         Some(op) => {
@@ -40,7 +43,8 @@ fn push_named(found: &mut Vec<Warning>, t: &Typed, vars: &[Var], k: usize) -> Re
 // The operation whose name a variable has, if the variable stands for any effect.
 fn named_as(t: &Typed, vars: &[Var], k: usize) -> Option<OpId>
     requires { k < length vars.now }
-    ensures { MatchOption result ((op : OpId) → IsNamedAs t.now.program vars.now k op → ⊥) (IsNamedAs t.now.program vars.now k) }
+    ensures { MatchOption result ((op : OpId) → IsNamedAs t.now.program vars.now k op → ⊥)
+        (IsNamedAs t.now.program vars.now k) }
 {
     let var = var_at(vars, k);
     if !is_free(var) {

@@ -85,7 +85,8 @@ fn breaks(
     requires findings { AreFindings t.now.program findings.now }
     requires counter { (g : Goal) × IsCounterOf t.now.program g c.now }
     requires tables { IsTableOf relations.now c.now.execution }
-    requires there { (e : Effect) × (effect_at c.now.execution effect.1.0 ≡ Some e) × (e.op ≡ effect.0) }
+    requires there { (e : Effect) × (effect_at c.now.execution effect.1.0 ≡ Some e)
+        × (e.op ≡ effect.0) }
     requires known { effect.0.0 < length (all_ops t.now.program.types) }
     ensures { result ≡ true → BreaksOther t.now.program c.now.execution effect.0 effect.1 }
 {

@@ -7,7 +7,8 @@ use crate::warning::Place;
 /// The line and the column of an offset; none past the end of the source.
 pub(crate) fn place_in(source: &[u8], at: u32) -> Option<Place>
     requires { length source.now < 2 ^ 32 }
-    ensures { MatchOption result (length source.now ≤ at) (λ place. IsPlaceOf source.now place × (place.at ≡ at)) }
+    ensures { MatchOption result (length source.now ≤ at)
+        (λ place. IsPlaceOf source.now place × (place.at ≡ at)) }
 {
     if (at as usize) < source.len() {
         Some(place_of(source, at))

@@ -28,7 +28,9 @@ pub(crate) fn premises(
     body: &Body,
 ) -> Result<Vec<Warning>, NoMemory>
     requires { length source.now < 2 ^ 32 }
-    ensures { IfOk result (λ found. All (IsOfPremises source.now scene.entry.program.now.program scene.entry.goal scene.entry.vars.now (statement_of body.now)) found.items) }
+    ensures { IfOk result
+        (λ found. All (IsOfPremises source.now scene.entry.program.now.program scene.entry.goal
+        scene.entry.vars.now (statement_of body.now)) found.items) }
 {
     let mut found = Vec::new(alloc);
     push_premises(alloc, &mut found, source, scene, body)?;
@@ -43,7 +45,9 @@ fn push_premises(
     body: &Body,
 ) -> Result<(), NoMemory>
     requires { length source.now < 2 ^ 32 }
-    ensures { OnOk result (PremisesKept source.now scene.entry.program.now.program scene.entry.goal scene.entry.vars.now (statement_of body.now) out.old.items out.new.items) }
+    ensures { OnOk result
+        (PremisesKept source.now scene.entry.program.now.program scene.entry.goal
+        scene.entry.vars.now (statement_of body.now) out.old.items out.new.items) }
 {
     match body {
         Body::And(left, right) => {
@@ -74,7 +78,9 @@ fn of_premise(
     premise: &Body,
 ) -> Result<Vec<Warning>, NoMemory>
     requires { length source.now < 2 ^ 32 }
-    ensures { IfOk result (λ found. All (IsOfPremise source.now scene.entry.program.now.program scene.entry.goal scene.entry.vars.now (statement_of premise.now)) found.items) }
+    ensures { IfOk result
+        (λ found. All (IsOfPremise source.now scene.entry.program.now.program scene.entry.goal
+        scene.entry.vars.now (statement_of premise.now)) found.items) }
 {
     let known = with_parts(alloc, &[], premise)?;
     match first_clash(scene, &known) {
@@ -85,7 +91,10 @@ fn of_premise(
 
 fn of_clash(alloc: Global, source: &[u8], at: u32) -> Result<Vec<Warning>, NoMemory>
     requires { length source.now < 2 ^ 32 }
-    ensures { IfOk result (λ found. (p : Program) (g : Goal) (vars : List OpChoice) (premise : Statement) → IsNever p g vars premise at → All (IsOfPremise source.now p g vars premise) found.items) }
+    ensures { IfOk result
+        (λ found. (p : Program) (g : Goal) (vars : List OpChoice) (premise : Statement)
+        → IsNever p g vars premise at
+        → All (IsOfPremise source.now p g vars premise) found.items) }
 {
     let mut found = Vec::new(alloc);
     if let Some(place) = place_in(source, at) {
@@ -97,7 +106,10 @@ fn of_clash(alloc: Global, source: &[u8], at: u32) -> Result<Vec<Warning>, NoMem
 // The relations that others imply.
 fn of_parts(alloc: Global, source: &[u8], known: &[Known]) -> Result<Vec<Warning>, NoMemory>
     requires { length source.now < 2 ^ 32 }
-    ensures { IfOk result (λ found. (p : Program) (g : Goal) (vars : List OpChoice) (premise : Statement) → All (IsPartOf premise) known.now → All (IsOfPremise source.now p g vars premise) found.items) }
+    ensures { IfOk result
+        (λ found. (p : Program) (g : Goal) (vars : List OpChoice) (premise : Statement)
+        → All (IsPartOf premise) known.now
+        → All (IsOfPremise source.now p g vars premise) found.items) }
 {
     let mut found = Vec::new(alloc);
     for k in 0..known.len() {
@@ -114,7 +126,10 @@ fn push_part(
 ) -> Result<(), NoMemory>
     requires few { length source.now < 2 ^ 32 }
     requires there { k < length known.now }
-    ensures { OnOk result ((p : Program) (g : Goal) (vars : List OpChoice) (premise : Statement) → All (IsPartOf premise) known.now → PremiseKept source.now p g vars premise found.old.items found.new.items) }
+    ensures { OnOk result
+        ((p : Program) (g : Goal) (vars : List OpChoice) (premise : Statement)
+        → All (IsPartOf premise) known.now
+        → PremiseKept source.now p g vars premise found.old.items found.new.items) }
 {
     let part = known_at(known, k);
     if !is_unneeded(known, part) {
@@ -126,7 +141,10 @@ fn push_part(
 
 fn push_place(found: &mut Vec<Warning>, source: &[u8], part: Known) -> Result<(), NoMemory>
     requires { length source.now < 2 ^ 32 }
-    ensures { OnOk result ((p : Program) (g : Goal) (vars : List OpChoice) (premise : Statement) → IsUnneeded p g vars premise part.at → PremiseKept source.now p g vars premise found.old.items found.new.items) }
+    ensures { OnOk result
+        ((p : Program) (g : Goal) (vars : List OpChoice) (premise : Statement)
+        → IsUnneeded p g vars premise part.at
+        → PremiseKept source.now p g vars premise found.old.items found.new.items) }
 {
     if let Some(place) = place_in(source, part.at) {
         found.push(Warning::Unneeded(place))?;
@@ -136,7 +154,8 @@ fn push_place(found: &mut Vec<Warning>, source: &[u8], part: Known) -> Result<()
 
 // Whether another relation implies this one. Of two that imply each other, it is the later one.
 fn is_unneeded(known: &[Known], part: Known) -> bool
-    ensures { result ≡ true → (k : ℕ) × (other : Known) × (slice_get known.now k ≡ Some other) × (other.at ≢ part.at) × Gives other part }
+    ensures { result ≡ true → (k : ℕ) × (other : Known) × (slice_get known.now k ≡ Some other)
+        × (other.at ≢ part.at) × Gives other part }
 {
     for k in 0..known.len() {
         let other = known[k];

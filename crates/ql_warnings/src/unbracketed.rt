@@ -88,7 +88,8 @@ pub(crate) fn unbracketed(
     extent: Extent,
 ) -> Result<Vec<Warning>, NoMemory>
     requires { length source.now < 2 ^ 32 }
-    ensures { IfOk result (λ found. AreBracketWarnings source.now extent.start extent.end found.items) }
+    ensures { IfOk result
+        (λ found. AreBracketWarnings source.now extent.start extent.end found.items) }
 {
     ql_lex::one_answer();
     let mut found = Vec::new(alloc);
@@ -115,7 +116,9 @@ fn push_joined(
     requires lexed { Lexes 0 source.now (Ok tokens.now) }
     requires spans { AreSpans 0 (length source.now) tokens.now }
     requires there { k < length tokens.now }
-    ensures { OnOk result (AreJoined source.now extent.start extent.end tokens.now k found.old.items → AreJoined source.now extent.start extent.end tokens.now (k + 1) found.new.items) }
+    ensures { OnOk result
+        (AreJoined source.now extent.start extent.end tokens.now k found.old.items
+        → AreJoined source.now extent.start extent.end tokens.now (k + 1) found.new.items) }
 {
     match joined_at(source, tokens, k, extent) {
         Some(place) => {
@@ -139,8 +142,10 @@ fn joined_at(source: &[u8], tokens: &[Token], k: usize, extent: Extent) -> Optio
     requires spans { AreSpans 0 (length source.now) tokens.now }
     requires there { k < length tokens.now }
     ensures { MatchOption result
-        ((place : Place) → IsPlaceOf source.now place → IsJoinedTo source.now extent.start tokens.now k place.at → place.at < extent.end → ⊥)
-        (λ place. IsPlaceOf source.now place × IsJoinedTo source.now extent.start tokens.now k place.at × (place.at < extent.end)) }
+        ((place : Place) → IsPlaceOf source.now place
+        → IsJoinedTo source.now extent.start tokens.now k place.at → place.at < extent.end → ⊥)
+        (λ place. IsPlaceOf source.now place
+        × IsJoinedTo source.now extent.start tokens.now k place.at × (place.at < extent.end)) }
 {
     match joined_from(source, tokens, k, extent.start) {
         Some(at) => place_before(source, at, extent.end),
@@ -152,7 +157,8 @@ fn joined_at(source: &[u8], tokens: &[Token], k: usize, extent: Extent) -> Optio
 fn joined_from(source: &[u8], tokens: &[Token], k: usize, start: u32) -> Option<u32>
     requires spans { AreSpans 0 (length source.now) tokens.now }
     requires there { k < length tokens.now }
-    ensures { MatchOption result ((at : ℕ) → IsJoinedTo source.now start tokens.now k at → ⊥) (IsJoinedTo source.now start tokens.now k) }
+    ensures { MatchOption result ((at : ℕ) → IsJoinedTo source.now start tokens.now k at → ⊥)
+        (IsJoinedTo source.now start tokens.now k) }
 {
     let token = token_at(tokens, k);
     if token.from < start {
@@ -166,7 +172,8 @@ fn joined_from(source: &[u8], tokens: &[Token], k: usize, start: u32) -> Option<
 
 fn place_before(source: &[u8], at: u32, end: u32) -> Option<Place>
     requires { length source.now < 2 ^ 32 }
-    ensures { MatchOption result ((end ≤ at) ⊎ (length source.now ≤ at)) (λ place. IsPlaceOf source.now place × (place.at ≡ at) × (at < end)) }
+    ensures { MatchOption result ((end ≤ at) ⊎ (length source.now ≤ at))
+        (λ place. IsPlaceOf source.now place × (place.at ≡ at) × (at < end)) }
 {
     if end <= at {
         return None;

@@ -1,5 +1,5 @@
 // Warnings as sentences.
-ghost use Rattle.std.specs.Prelude.{◌≡◌, ◌++◌, IfOk, OnOk};
+ghost use Rattle.std.specs.Prelude.{◌≡◌, IfOk};
 ghost use Rattle.ql_warnings.specs.Texts.{name_in, named_text, placed, ruled_out_text, warning_text, warning_word};
 
 use crate::warning::{Place, Warning};

@@ -1,5 +1,5 @@
 -- A run of the written machine in which one replica is watched.
-use Rattle.std.specs.Prelude.{◌≡◌, ℕ, not, List, [], ◌∷◌, ◌++◌}
+use Rattle.std.specs.Prelude.{ℕ, not, List, [], ◌∷◌, ◌++◌}
 use Rattle.std.specs.List.{filter}
 use Rattle.ql_base.specs.IdLists.{has_id}
 use Rattle.ql_machine.specs.declared.event.Event.{Event}

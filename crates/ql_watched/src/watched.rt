@@ -1,4 +1,4 @@
-ghost use Rattle.std.specs.Prelude.{◌≡◌, ◌≤◌, ◌++◌, ℕ, length, IfOk, OnOk};
+ghost use Rattle.std.specs.Prelude.{◌≡◌, ◌≤◌, ◌++◌, length, IfOk, OnOk};
 ghost use Rattle.std.specs.List.{AllByRecursion};
 ghost use Rattle.ql_eval.specs.Folds.{answered_of};
 ghost use Rattle.ql_machine.specs.Rules.{Rules};
@@ -35,10 +35,15 @@ pub fn watched_run<H: Holder>(
 ) -> Result<Watched<H>, NoMemory>
     requires levels { HasLevelOfEach typed.now.program levels }
     requires schedule { IsSchedule typed.now.program schedule }
-    ensures watched { IfOk result (λ run. (rules : Rules) → rules.promises ≡ promises_of levels → rules.uses ≡ uses_of typed.now.program
+    ensures watched { IfOk result
+        (λ run. (rules : Rules) → rules.promises ≡ promises_of levels
+        → rules.uses ≡ uses_of typed.now.program
         → rules.answer ≡ (λ op args seen. answered_of typed.now.program.types op.0 args seen)
-        → Watches rules schedule.replicas replica.0 schedule.events run.store.machine run.arrivals.items) }
-    ensures there { IfOk result (λ run. AllByRecursion (λ a. (1 ≤ a) × (a ≤ length run.store.machine.effects)) run.arrivals.items) }
+        → Watches rules schedule.replicas replica.0 schedule.events run.store.machine
+        run.arrivals.items) }
+    ensures there { IfOk result
+        (λ run. AllByRecursion
+        (λ a. (1 ≤ a) × (a ≤ length run.store.machine.effects)) run.arrivals.items) }
     ensures few { IfOk result (λ run. length run.store.machine.effects ≤ 4000) }
 {
     let folder = TypedFolder::new(alloc, typed);
@@ -56,7 +61,8 @@ pub fn watched_run<H: Holder>(
 
 // Adds those of the ids that weren't there before.
 fn push_new(arrivals: &mut Vec<u32>, before: &IdSet, after: &[u32]) -> Result<(), NoMemory>
-    ensures { OnOk result (arrivals.new.items ≡ arrivals.old.items ++ new_ids before.now after.now) }
+    ensures { OnOk result
+        (arrivals.new.items ≡ arrivals.old.items ++ new_ids before.now after.now) }
 {
     for id in after {
         if !before.has(*id) {

@@ -1,5 +1,5 @@
 -- What a countermodel's effects name can be printed.
-use Rattle.std.proofs.Common.{◌≡◌, ◌<◌, ℕ, suc, length, Some, get_or, refl, subst}
+use Rattle.std.proofs.Common.{◌<◌, suc, get_or, refl, subst}
 use Rattle.std.proofs.lemmas.Option.{slice_get-get_or}
 use Rattle.ql_counter.specs.declared.counter.Counter.{Counter}
 use Rattle.ql_counter.specs.Countermodels.{AreWithin, IsCounterOf}

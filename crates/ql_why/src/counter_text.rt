@@ -109,7 +109,8 @@ fn push_execution(
     x: &Execution,
 ) -> Result<(), NoMemory>
     requires { AreNamed t.now.program 7 x.now }
-    ensures { OnOk result (out.new.items ≡ out.old.items ++ execution_text t.now.program object_names x.now) }
+    ensures { OnOk result
+        (out.new.items ≡ out.old.items ++ execution_text t.now.program object_names x.now) }
 {
     let objects = object_names(alloc)?;
     let effects = print_effects(alloc, t, &objects, x)?;

@@ -20,7 +20,9 @@ pub(crate) fn refusal_with_reason(
 ) -> Result<Vec<u8>, NoMemory>
     requires { IsRefusal t.now.program (all_tests t.now.program) why }
     ensures known { OnOk result (why ≢ Classless.NoMemory) }
-    ensures text { IfOk result (λ text. (reason : List ℕ) × IsTopText t.now.program why reason × (text.items ≡ refusal_text t.now.program why ++ reason)) }
+    ensures text { IfOk result
+        (λ text. (reason : List ℕ) × IsTopText t.now.program why reason
+        × (text.items ≡ refusal_text t.now.program why ++ reason)) }
 {
     let reason = reason(alloc, t, &why)?;
     let mut text = refusal(alloc, t, why)?;

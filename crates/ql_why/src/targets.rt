@@ -21,7 +21,9 @@ pub(crate) fn levels_with_reasons(
     classified: &Classified,
 ) -> Result<Vec<u8>, NoMemory>
     ensures levels { OnOk result (AreLevelsOf classified.now.program classified.now.levels) }
-    ensures text { IfOk result (λ text. InTurn (TellsTarget classified.now.program) (goals_at classified.now.levels) text.items) }
+    ensures text { IfOk result
+        (λ text. InTurn (TellsTarget classified.now.program) (goals_at classified.now.levels)
+        text.items) }
 {
     let typed = classified.typed();
     let levels = classified.levels();
@@ -44,7 +46,8 @@ fn push_target(
     requires target { target < targets classified.now.program }
     requires at { slice_get (goals_at classified.now.levels) target ≡ Some g }
     requires known { IsGoalOf classified.now.program g }
-    ensures { OnOk result (Appended (TellsTarget classified.now.program g) out.old.items out.new.items) }
+    ensures { OnOk result
+        (Appended (TellsTarget classified.now.program g) out.old.items out.new.items) }
 {
     push_target_line(out, classified.typed(), g)?;
     push_step(alloc, out, classified, target, g, 0)?;
@@ -75,7 +78,8 @@ fn push_line(out: &mut Vec<u8>, t: &Typed, g: Goal) -> Result<(), NoMemory>
 
 fn push_op(out: &mut Vec<u8>, t: &Typed, o: OpId, level: &str) -> Result<(), NoMemory>
     requires { o.0 < length (all_ops t.now.program.types) }
-    ensures { OnOk result (out.new.items ≡ out.old.items ++ why_op_line t.now.program o.0 level.now) }
+    ensures { OnOk result
+        (out.new.items ≡ out.old.items ++ why_op_line t.now.program o.0 level.now) }
 {
     push_bytes(out, b"op ")?;
     push_bytes(out, t.op(o).name.word.bytes())?;
@@ -86,7 +90,8 @@ fn push_op(out: &mut Vec<u8>, t: &Typed, o: OpId, level: &str) -> Result<(), NoM
 
 fn push_txn(out: &mut Vec<u8>, t: &Typed, d: DeclId, level: &str) -> Result<(), NoMemory>
     requires { d.0 < length t.now.program.txns }
-    ensures { OnOk result (out.new.items ≡ out.old.items ++ why_txn_line t.now.program d.0 level.now) }
+    ensures { OnOk result
+        (out.new.items ≡ out.old.items ++ why_txn_line t.now.program d.0 level.now) }
 {
     push_bytes(out, b"txn ")?;
     push_bytes(out, t.txn(d).name.word.bytes())?;
@@ -107,7 +112,9 @@ fn push_step(
     requires target { target < targets classified.now.program }
     requires at { slice_get (goals_at classified.now.levels) target ≡ Some g }
     requires known { IsGoalOf classified.now.program g }
-    ensures { OnOk result (Appended (IsStepText classified.now.program (slice_get (goals_below g) step)) out.old.items out.new.items) }
+    ensures { OnOk result
+        (Appended (IsStepText classified.now.program (slice_get (goals_below g) step)) out.old.items
+        out.new.items) }
 {
     match classified.lower(target, step) {
         Some(assignment) => push_countermodel(

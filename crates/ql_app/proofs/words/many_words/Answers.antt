@@ -1,6 +1,6 @@
 use Rattle.std.proofs.Common.{◌≡◌, ℕ, List, [], ◌∷◌, length, map, MatchOption, ap, refl, sym, subst, ◌∙◌, arith}
 use Rattle.std.specs.String.{string_bytes}
-use Rattle.ql_app.specs.Requests.{call_of}
+use Rattle.ql_app.specs.Requests.{named_request_of}
 use Rattle.ql_app.specs.Words.{NamedRequest, IsRequest}
 use Rattle.ql_reply.specs.Arguments.{word_texts}
 use Rattle.ql_app.proofs.WordLaws.{five-words}
@@ -15,4 +15,4 @@ returns-in-len5 c =
     ∙ five-words c.as_slice.result.now c.word-item.result c.name-item.result c.other-item.result c.replica-item.result c.cut-item.result count
     c.word-item.is c.name-item.is c.other-item.is c.replica-item.is c.cut-item.is
     ∙ rw (c.as_str.ensures.value, c.as_str-in-len5.ensures.value, c.as_str-in-len5-2.ensures.value, c.as_str-in-len5-3.ensures.value, c.as_str-in-len5-4.ensures.value) refl in
-    subst (λ (words : List (List ℕ)). MatchOption c.five_words.result ((call : NamedRequest) → IsRequest words call → ⊥) (λ request. IsRequest words (call_of request))) (sym texts) c.five_words.ensures
+    subst (λ (words : List (List ℕ)). MatchOption c.five_words.result ((named : NamedRequest) → IsRequest words named → ⊥) (λ request. IsRequest words (named_request_of request))) (sym texts) c.five_words.ensures

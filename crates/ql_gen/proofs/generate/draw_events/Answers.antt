@@ -1,7 +1,7 @@
-use Rattle.std.proofs.Common.{◌≡◌, ◌+◌, List, [], ◌∷◌, ◌++◌, sym, ap, ◌∙◌}
+use Rattle.std.proofs.Common.{◌+◌, List, [], ◌∷◌, ◌++◌, sym, ap, ◌∙◌}
 use Rattle.ql_machine.specs.declared.event.Event.{Event}
 use Rattle.ql_gen.specs.Events.{after_event, event_of}
-use Rattle.ql_gen.specs.Generated.{generated_events, state_after}
+use Rattle.ql_gen.specs.Generated.{generated_events}
 use Rattle.ql_gen.proofs.EventLaws.{events_step, state_step}
 use Rattle.ql_gen.proofs.generate.draw_events.Goals as goal
 

@@ -1,4 +1,3 @@
-use Rattle.ql_schedule.specs.Guarantees.{IsSchedule}
 use Rattle.ql_schedule.proofs.Named.{named_of}
 use Rattle.ql_gen.proofs.Lawful.{made_schedule}
 use Rattle.ql_gen.proofs.generate.schedule_of.Goals as goal

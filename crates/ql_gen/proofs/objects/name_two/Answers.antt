@@ -1,4 +1,4 @@
-use Rattle.std.proofs.Common.{◌≡◌, ◌+◌, ◌<◌, ◌++◌, ◌∷◌, [], length, length-append, ap, arith, ◌∙◌}
+use Rattle.std.proofs.Common.{◌∷◌, [], length, length-append, ap, arith, ◌∙◌}
 use Rattle.ql_gen.specs.Objects.{drawn_object_name, drawn_object_names}
 use Rattle.ql_gen.proofs.ObjectLaws.{first_put, length_names, second_put}
 use Rattle.ql_gen.proofs.objects.name_two.Goals as goal

@@ -1,4 +1,4 @@
-use Rattle.std.proofs.Common.{◌≡◌, suc, slice_get, Some, ap, ◌∙◌, length, take, refl, arith, add-one}
+use Rattle.std.proofs.Common.{◌≡◌, slice_get, Some, ap, ◌∙◌, length, take, refl, arith, add-one}
 use Rattle.std.specs.Str.{bytes_eq}
 use Rattle.std.proofs.lemmas.Option.{slice_get_read}
 use Rattle.ql_generated.specs.Summaries.{count, reply_word}

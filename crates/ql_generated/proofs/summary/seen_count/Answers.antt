@@ -1,4 +1,4 @@
-use Rattle.std.proofs.Common.{◌≡◌, ℕ, suc, slice_get, Some, ap, sym, ◌∙◌, length, take, refl, arith, add-one}
+use Rattle.std.proofs.Common.{◌≡◌, ℕ, slice_get, Some, ap, sym, ◌∙◌, length, take, arith, add-one}
 use Rattle.std.specs.Option.{option_map}
 use Rattle.ql_exec.specs.Effects.{effect_at}
 use Rattle.ql_generated.specs.Summaries.{seen_count}

@@ -3,7 +3,8 @@ use Rattle.std.specs.List.{AllByRecursion}
 use Rattle.std.proofs.lemmas.List.{map-append}
 use Rattle.ql_base.specs.IdLists.{IsAscending}
 use Rattle.ql_lines.specs.Fields.{Fields, IsId, fields_of}
-use Rattle.ql_holds_files.proofs.ShortIds.{above_last, ids_more, with_id-end}
+use Rattle.ql_lines.proofs.AscendingIds.{ids_more, with_id-end}
+use Rattle.ql_holds_files.proofs.ShortIds.{above_last}
 use Rattle.ql_holds_files.proofs.ids.short_ids.Goals as goal
 
 pub loop-id-preserved : goal.loop-id-preserved

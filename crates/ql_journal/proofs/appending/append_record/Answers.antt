@@ -1,4 +1,4 @@
-use Rattle.std.proofs.Common.{◌+◌, ℕ, List, length, inl, sym, subst}
+use Rattle.std.proofs.Common.{◌+◌, length, inl, sym, subst}
 use Rattle.std.proofs.lemmas.Result.{on_err_weaker, on_ok_weaker}
 use Rattle.ql_disk.specs.Bytes.{MayLeave}
 use Rattle.ql_disk.proofs.Lasting.{after_failure}

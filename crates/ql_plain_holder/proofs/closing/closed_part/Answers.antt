@@ -3,7 +3,8 @@ use Rattle.std.proofs.lemmas.List.{take_all}
 use Rattle.ql_needs.specs.Closed.{Has}
 use Rattle.ql_needs.specs.Needs.{Needs}
 use Rattle.ql_needs.proofs.ClosedLaws.{closed-member}
-use Rattle.ql_plain_holder.proofs.PlainReceipts.{index-has, closed-more}
+use Rattle.ql_needs.proofs.Members.{index-has}
+use Rattle.ql_plain_holder.proofs.PlainReceipts.{closed-more}
 use Rattle.ql_plain_holder.proofs.closing.closed_part.Goals as goal
 
 pub close-requires-clause-first : goal.close-requires-clause-first

@@ -1,16 +1,10 @@
-use Rattle.std.proofs.Common.{◌&&◌, not, Bool, get_or, take, ap, sym, ◌∙◌, arith}
+use Rattle.std.proofs.Common.{◌≡◌, ℕ, List, false, subst}
 use Rattle.ql_base.specs.IdLists.{has_id}
+use Rattle.ql_needs.specs.Closed.{Has}
 use Rattle.ql_ranges.specs.Ranges.{ids_of}
-use Rattle.ql_replica.proofs.ReceiptLaws.{has_id-take, outside-more}
+use Rattle.ql_replica.proofs.ReceiptLaws.{outside-all}
 use Rattle.ql_replica.proofs.walking.without.Goals as goal
 
-pub loop-id-preserved : goal.loop-id-preserved
-loop-id-preserved c =
-    let ids = c.args.ids.now in
-    let k = c.loop-id.id-index in
-    record {
-      ascending = c.insert_outside.ensures.ascending;
-      lacks = λ a.
-          outside-more c.loop-id.rest c.insert_outside.new.rest (ids_of c.args.set.now) (has_id (take k ids) a) (get_or ids k 0) a (c.loop-id.invariant.lacks a) (c.in_ok-insert_outside.ensures.added a)
-          ∙ ap (λ (b : Bool). b && not (has_id (ids_of c.args.set.now) a)) (sym (has_id-take ids k a (omega arith)));
-    }
+pub returns-then-has_none-clause-lacks : goal.returns-then-has_none-clause-lacks
+returns-then-has_none-clause-lacks c = λ a.
+    outside-all c.args.ids (ids_of c.args.set.now) a (subst (λ (l : List ℕ). (b : ℕ) → Has l b → has_id (ids_of c.args.set.now) b ≡ false) c.items.ensures.same c.if-has_none.ensures.none)

@@ -4,7 +4,7 @@ use Rattle.std.proofs.lemmas.Result.{err_from_is_err_and}
 use Rattle.ql_restart.specs.Journaled.{is_first}
 use Rattle.ql_restart.specs.Progress.{calls_left}
 use Rattle.ql_restart.proofs.Firsts.{all_same, first_is}
-use Rattle.ql_restart.proofs.Journals.{ends, goes, is_new, passes, stops_unless}
+use Rattle.ql_restart.proofs.Journals.{goes, is_new, passes, stops_unless}
 use Rattle.ql_restart.proofs.journal.journal_all.Goals as goal
 use Rattle.ql_restart.proofs.journal.journal_all.Goals.{then-get-id+in_ok-receive_new, else-get-id}
 

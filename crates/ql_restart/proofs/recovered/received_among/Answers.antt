@@ -1,6 +1,5 @@
 use Rattle.std.proofs.Common.{sym, ◌∙◌, add-one}
 use Rattle.std.proofs.lemmas.Bool.{both_ways}
-use Rattle.ql_base.specs.IdLists.{has_id}
 use Rattle.ql_needs.specs.Closed.{Has}
 use Rattle.ql_shim.proofs.JoinedLaws.{those-more, those-same}
 use Rattle.ql_restart.proofs.recovered.received_among.Goals as goal

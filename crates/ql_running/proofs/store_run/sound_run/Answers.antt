@@ -1,4 +1,4 @@
-use Rattle.std.proofs.Common.{◌≡◌, refl, sym, ap}
+use Rattle.std.proofs.Common.{refl, sym, ap}
 use Rattle.ql_headline.specs.Stores.{rules_of}
 use Rattle.ql_machine.specs.Runs.{IsRun}
 use Rattle.ql_running.proofs.OfRuns.{run-answers, run-named}

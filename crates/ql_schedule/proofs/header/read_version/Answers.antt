@@ -1,7 +1,6 @@
 use Rattle.std.proofs.Common.{◌≡◌, ℕ, [], ◌∷◌, List, decimal, inl, inr, arith, refl, sym, ap, ◌∙◌}
 use Rattle.std.proofs.lemmas.Bool.{false≢true}
 use Rattle.std.proofs.lemmas.Fmt.{decimal_digit}
-use Rattle.ql_lines.specs.Fields.{Fields}
 use Rattle.ql_schedule.proofs.header.read_version.Goals as goal
 
 one : decimal 1 ∷ [] ≡ (49 ∷ []) ∷ []

@@ -1,4 +1,4 @@
-use Rattle.std.proofs.Common.{◌≡◌, ℕ, length, get_or, ◌∙◌, sym, ap, add-one, arith}
+use Rattle.std.proofs.Common.{length, get_or, ◌∙◌, sym, ap, add-one, arith}
 use Rattle.ql_shim.proofs.CompleteLaws.{complete-kept, complete-passed}
 use Rattle.ql_shim.proofs.JoinedLaws.{at-has}
 use Rattle.ql_shim.proofs.NextLaws.{effect-read}

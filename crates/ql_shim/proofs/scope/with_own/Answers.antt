@@ -1,4 +1,4 @@
-use Rattle.std.proofs.Common.{◌≡◌, ℕ, List, Option, Some, true, IfSome, subst}
+use Rattle.std.proofs.Common.{◌≡◌, ℕ, List, Option, true, IfSome, subst}
 use Rattle.std.proofs.lemmas.Result.{IfOk-weaker}
 use Rattle.ql_base.specs.declared.ids.ObjId.{ObjId}
 use Rattle.ql_exec.specs.Effects.{effect_at}

@@ -1,4 +1,4 @@
-use Rattle.std.proofs.Common.{◌≡◌, [], List, sym, subst, ◌∙◌}
+use Rattle.std.proofs.Common.{List, sym, subst, ◌∙◌}
 use Rattle.ql_eval.specs.Able.{IsAble}
 use Rattle.ql_exec.specs.Folding.{seen_in_order}
 use Rattle.ql_value.specs.declared.value.Value.{Value}

@@ -1,4 +1,4 @@
-use Rattle.std.proofs.Common.{◌≡◌, ◌+◌, ℕ, suc, List, Some, length, slice_get, refl, sym, subst, ap, add-one}
+use Rattle.std.proofs.Common.{◌≡◌, ℕ, Some, length, slice_get, refl, sym, subst, add-one}
 use Rattle.std.proofs.lemmas.Option.{slice_get_read}
 use Rattle.ql_slimming.specs.Answers.{Adds, InOrder, IsAnswerLine}
 use Rattle.ql_slimming.proofs.Parts.{one_added}

@@ -1,4 +1,4 @@
-use Rattle.std.proofs.Common.{◌+◌, ℕ, sym, subst, add-one}
+use Rattle.std.proofs.Common.{ℕ, sym, subst, add-one}
 use Rattle.ql_slimming.specs.Answers.{Adds, AreAnswersOf, InOrder}
 use Rattle.ql_slimming.proofs.Parts.{one_added}
 use Rattle.ql_slimming.proofs.answers.push_on.Goals as goal

@@ -1,7 +1,6 @@
 use Rattle.std.proofs.Common.{◌≡◌, List, ℕ, All, length, sym, subst, ap, ◌∙◌, arith}
 use Rattle.std.proofs.lemmas.Result.{IfOk-weaker}
 use Rattle.ql_base.specs.declared.ids.TypeId.{TypeId}
-use Rattle.ql_exec.specs.declared.effect.Effect.{Effect}
 use Rattle.ql_runs.specs.Keeping.{FitsSchedule}
 use Rattle.ql_slimming.specs.Answers.{IsSlimText}
 use Rattle.ql_slimming.proofs.command.text_of.Goals as goal

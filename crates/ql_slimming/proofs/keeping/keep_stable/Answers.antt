@@ -1,8 +1,8 @@
-use Rattle.std.proofs.Common.{◌≡◌, ◌<◌, ◌+◌, ℕ, List, length, refl, sym, subst, ap, ◌∙◌, inl, arith}
+use Rattle.std.proofs.Common.{◌<◌, length, refl, sym, subst, inl, arith}
 use Rattle.ql_base.specs.declared.ids.ObjId.{ObjId}
 use Rattle.ql_machine.specs.Sets.{AreThose}
 use Rattle.ql_slimming.specs.Stability.{AreViews, IsStable}
-use Rattle.ql_slimming.proofs.Leaving.{IsKeeping, all_later, is_fit, is_typed, keeping_goes, still_stands}
+use Rattle.ql_slimming.proofs.Leaving.{all_later, is_fit, is_typed, keeping_goes, still_stands}
 use Rattle.ql_slimming.proofs.keeping.keep_stable.Goals as goal
 
 pub advance-requires-clause-stands : goal.advance-requires-clause-stands

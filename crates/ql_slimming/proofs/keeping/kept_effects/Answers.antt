@@ -1,4 +1,4 @@
-use Rattle.std.proofs.Common.{◌≡◌, ◌≤◌, ◌+◌, cond, ℕ, true, Bool, List, sym, subst, ap, ◌∙◌, arith}
+use Rattle.std.proofs.Common.{◌≡◌, ◌≤◌, ◌+◌, cond, ℕ, true, Bool, sym, subst, ap, ◌∙◌, arith}
 use Rattle.ql_base.specs.IdLists.{with_id}
 use Rattle.ql_machine.specs.Sets.{AreThose}
 use Rattle.ql_slimming.specs.Ready.{is_kept_at}

@@ -1,4 +1,4 @@
-use Rattle.std.proofs.Common.{◌+◌, ℕ, suc, Option, sym, subst, add-one}
+use Rattle.std.proofs.Common.{◌+◌, ℕ, suc, sym, subst, add-one}
 use Rattle.ql_base.specs.declared.ids.EffId.{EffId}
 use Rattle.ql_slimming.specs.Stability.{IsFirstOpen}
 use Rattle.ql_slimming.proofs.Prefixes.{first_next}

@@ -1,7 +1,7 @@
-use Rattle.std.proofs.Common.{◌≡◌, ◌≤◌, ◌+◌, ◌&&◌, cond, ℕ, true, Bool, List, sym, subst, ap, ◌∙◌, arith}
+use Rattle.std.proofs.Common.{◌≡◌, ◌≤◌, ◌+◌, ◌&&◌, cond, ℕ, true, Bool, sym, subst, ap, ◌∙◌, arith}
 use Rattle.ql_base.specs.IdLists.{with_id}
 use Rattle.ql_machine.specs.Sets.{AreThose}
-use Rattle.ql_slimming.specs.Stability.{IsFirstOpen, comes_earlier, is_on}
+use Rattle.ql_slimming.specs.Stability.{comes_earlier, is_on}
 use Rattle.ql_slimming.proofs.Prefixes.{one_tested, stable_found}
 use Rattle.ql_slimming.proofs.stability.stable_on.Goals as goal
 

@@ -1,4 +1,4 @@
-use Rattle.std.proofs.Common.{◌≡◌, suc, List, Bool, length, take, refl, sym, subst, ◌∙◌, arith, add-one}
+use Rattle.std.proofs.Common.{◌≡◌, suc, List, Bool, take, refl, sym, subst, ◌∙◌, arith, add-one}
 use Rattle.std.proofs.lemmas.List.{take_all}
 use Rattle.std.proofs.lemmas.Option.{slice_get_read}
 use Rattle.ql_exec.specs.declared.effect.Effect.{Effect}

@@ -1,7 +1,7 @@
 use Rattle.std.proofs.Common.{◌≡◌, ℕ, ◌&&◌, not, take}
 use Rattle.ql_base.specs.IdLists.{IsAscending, has_id}
 use Rattle.ql_ranges.specs.Ranges.{ids_of}
-use Rattle.ql_replica.proofs.walking.without.Given as goal
+use Rattle.ql_replica.proofs.walking.all_outside.Given as goal
 
 abbrev pub invariant-loop-id : goal.invariant-loop-id
 invariant-loop-id l = record {

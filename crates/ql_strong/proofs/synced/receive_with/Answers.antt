@@ -1,5 +1,5 @@
 use Rattle.ql_strong.proofs.SyncLaws.{package-of, received-package}
-use Rattle.ql_strong.proofs.synced.receive_lacking.Goals as goal
+use Rattle.ql_strong.proofs.synced.receive_with.Goals as goal
 
 pub receive-requires-clause-package : goal.receive-requires-clause-package
 receive-requires-clause-package g c = package-of c.args.x.now c.args.id.0 c.in_ok-package.package c.requires.first c.requires.last c.in_ok-package.ensures
