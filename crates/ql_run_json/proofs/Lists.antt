@@ -1,5 +1,5 @@
 -- Lists of JSON values that one value is added to.
-use Rattle.std.proofs.Common.{◌≡◌, ℕ, zero, suc, ◌+◌, ◌≤◌, List, [], ◌∷◌, ◌++◌, Option, None, Some, length, map, take, slice_get, refl, sym, ap, subst, arith, ◌∙◌, add-one}
+use Rattle.std.proofs.Common.{◌≡◌, ℕ, zero, suc, ◌+◌, List, [], ◌∷◌, ◌++◌, Some, map, take, slice_get, refl, sym, ap, subst, arith, ◌∙◌, add-one}
 use Rattle.std.specs.List.{AllByRecursion}
 use Rattle.ql_exec.specs.declared.effect.Effect.{Effect}
 use Rattle.ql_lang.specs.declared.program.Program.{Program}

@@ -16,7 +16,8 @@ use std::alloc::Global;
 /// The effects of an execution, in order, each a JSON object. The objects of the store have these names.
 pub fn effects(alloc: Global, t: &Typed, objects: &Names, x: &Execution) -> Result<Json, NoMemory>
     requires { AreNamed t.now.program (length objects.now) x.now }
-    ensures { IfOk result (λ json. view json ≡ listed (effects_from t.now.program objects.now 1 x.now)) }
+    ensures { IfOk result
+        (λ json. view json ≡ listed (effects_from t.now.program objects.now 1 x.now)) }
 {
     let mut list = Vec::new(alloc);
     for k in 0..x.len() {
@@ -60,7 +61,8 @@ fn put_call(
         (with_member (codes "object") (text_data (object_name objects.now e.now.object.0))
         (with_member (codes "id") (id_data id.0)
         (with_member (codes "args") (listed (map value_data e.now.args))
-        (with_member (codes "answer") (value_data e.now.answer) (members_view members.old.entries)))))) }
+        (with_member (codes "answer") (value_data e.now.answer)
+        (members_view members.old.entries)))))) }
 {
     put(members, alloc, "answer", value(alloc, &e.answer)?)?;
     put(members, alloc, "args", values(alloc, e.args.items())?)?;
@@ -93,7 +95,8 @@ fn put_circumstances(
         (with_member (codes "txn") (member_data t.now.program e.now.member)
         (with_member (codes "stamp") (id_data e.now.stamp)
         (with_member (codes "session") (id_data e.now.session.0)
-        (with_member (codes "payload") (payload_data e.now.payload) (members_view members.old.entries)))))) }
+        (with_member (codes "payload") (payload_data e.now.payload)
+        (members_view members.old.entries)))))) }
 {
     put(members, alloc, "payload", payload(alloc, &e.payload)?)?;
     put(members, alloc, "session", Json::from(e.session.0))?;

@@ -26,7 +26,10 @@ pub(crate) fn levels(alloc: Global, t: &Typed, l: &Levels) -> Result<Json, NoMem
 
 fn push_ops(alloc: Global, list: &mut Vec<Json>, t: &Typed, l: &Levels) -> Result<(), NoMemory>
     requires { length l.now.ops ≡ length (all_ops t.now.program.types) }
-    ensures { OnOk result (map view list.new.items ≡ map view list.old.items ++ upto (length (all_ops t.now.program.types)) (λ o. op_level t.now.program l.now o ∷ [])) }
+    ensures { OnOk result
+        (map view list.new.items ≡ map view list.old.items
+        ++ upto (length (all_ops t.now.program.types))
+        (λ o. op_level t.now.program l.now o ∷ [])) }
 {
     for o in 0..t.ops() {
         let op = OpId(o);
@@ -38,7 +41,9 @@ fn push_ops(alloc: Global, list: &mut Vec<Json>, t: &Typed, l: &Levels) -> Resul
 
 fn push_txns(alloc: Global, list: &mut Vec<Json>, t: &Typed, l: &Levels) -> Result<(), NoMemory>
     requires { length l.now.txns ≡ length t.now.program.txns }
-    ensures { OnOk result (map view list.new.items ≡ map view list.old.items ++ upto (length t.now.program.txns) (λ d. txn_level t.now.program l.now d ∷ [])) }
+    ensures { OnOk result
+        (map view list.new.items ≡ map view list.old.items
+        ++ upto (length t.now.program.txns) (λ d. txn_level t.now.program l.now d ∷ [])) }
 {
     for d in 0..t.txns() {
         let decl = DeclId(d);

@@ -15,7 +15,9 @@ use std::alloc::Global;
 /// The texts of replies.
 pub(crate) fn replies(alloc: Global, replies: &[Reply], x: &Execution) -> Result<Json, NoMemory>
     requires { AreAnswered x.now replies.now }
-    ensures { IfOk result (λ json. view json ≡ listed (map (λ r. text_data (joined (reply_fields x.now r))) replies.now)) }
+    ensures { IfOk result
+        (λ json. view json ≡ listed
+        (map (λ r. text_data (joined (reply_fields x.now r))) replies.now)) }
 {
     let mut list = Vec::with_capacity(alloc, replies.len())?;
     for k in 0..replies.len() {

@@ -27,8 +27,11 @@ pub fn print_run_json(
     requires txns { length l.now.txns ≡ length t.now.program.txns }
     requires named { AreNamed t.now.program (length objects.now) x.now }
     requires answered { AreAnswered x.now replies.now.items }
-    ensures text { IfOk result (λ text. text.items ≡ run_json t.now.program objects.now l.now replies.now.items x.now) }
-    ensures again { IfOk result (λ text. read text.items ≡ Some (run_data t.now.program objects.now l.now replies.now.items x.now)) }
+    ensures text { IfOk result
+        (λ text. text.items ≡ run_json t.now.program objects.now l.now replies.now.items x.now) }
+    ensures again { IfOk result
+        (λ text. read text.items
+        ≡ Some (run_data t.now.program objects.now l.now replies.now.items x.now)) }
 {
     let mut text = Vec::new(alloc);
     push_bytes(&mut text, b"{\"execution\":")?;
