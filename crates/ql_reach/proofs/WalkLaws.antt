@@ -131,6 +131,11 @@ meets-there known found due ids count some bound there = record {
       subst (λ (b : ℕ). InEither known found b) (sym (get_or-take count ids at.0 0 inside) ∙ at.2) (there at.0 inside));
 }
 
+-- some are, if the first is
+pub some-leading : (set ids : List ℕ) (count : ℕ) → 0 < length ids → Has set (get_or ids 0 0) → (count < length ids → has_id set (get_or ids count 0) ≡ false) → 0 < count
+some-leading set ids zero some has end = absurd (both_ways (has_id set (get_or ids 0 0)) (end some) has)
+some-leading set ids (suc count) some has end = omega arith
+
 -- a new id at the front
 pub meets-first : (known found due more later ids : List ℕ) → 0 < length ids → Meets known (get_or ids 0 0 ∷ []) found due more later → MeetsLeading known ids 1 found due more later
 meets-first known found due more later [] some m = absurd (omega arith)

@@ -1,5 +1,5 @@
-ghost use Rattle.std.specs.Prelude.{◌≡◌, ◌≤◌, ◌<◌, ◌^◌, ◌∷◌, ℕ, List, [], false, length, slice_index, IfOk, OnOk};
-ghost use Rattle.ql_base.specs.IdLists.{IsAscending, has_id};
+ghost use Rattle.std.specs.Prelude.{◌≤◌, ◌<◌, ◌^◌, ◌∷◌, ℕ, List, [], length, IfOk, OnOk};
+ghost use Rattle.ql_base.specs.IdLists.{IsAscending};
 ghost use Rattle.ql_exec.specs.declared.effect.Effect.{Effect};
 ghost use Rattle.ql_exec.specs.Execution.{IsExecution};
 ghost use Rattle.ql_needs.specs.Closed.{Has};
@@ -159,6 +159,18 @@ fn meet_each(known: &Ranges, walk: &mut Walk, ids: &[u32]) -> Result<(), NoMemor
         (Meets (ids_of known.now) ids.now (ids_of walk.old.found) walk.old.due.items
         (ids_of walk.new.found) walk.new.due.items) }
 {
+    if walk.found.spans(ids) {
+        return Ok(());
+    }
+    meet_by_ranges(known, walk, ids)
+}
+
+fn meet_by_ranges(known: &Ranges, walk: &mut Walk, ids: &[u32]) -> Result<(), NoMemory>
+    requires { IsAscending ids.now }
+    ensures { OnOk result
+        (Meets (ids_of known.now) ids.now (ids_of walk.old.found) walk.old.due.items
+        (ids_of walk.new.found) walk.new.due.items) }
+{
     let mut met = 0;
     while met < ids.len() {
         met += meet_leading(known, walk, &ids[met..])?;
@@ -174,26 +186,16 @@ fn meet_leading(known: &Ranges, walk: &mut Walk, ids: &[u32]) -> Result<usize, N
         (λ count. MeetsLeading (ids_of known.now) ids.now count (ids_of walk.old.found)
         walk.old.due.items (ids_of walk.new.found) walk.new.due.items) }
 {
-    let count = there(known, &walk.found, ids);
-    if count > 0 {
-        return Ok(count);
+    let first = ids[0];
+    if known.has(first) {
+        return Ok(known.leading(ids));
     }
-    walk.found.insert(ids[0])?;
-    walk.due.push(ids[0])?;
+    if walk.found.has(first) {
+        return Ok(walk.found.leading(ids));
+    }
+    walk.found.insert(first)?;
+    walk.due.push(first)?;
     Ok(1)
-}
-
-// How many of the ids at the front are known, or were found if the first isn't known.
-fn there(known: &Ranges, found: &Ranges, ids: &[u32]) -> usize
-    requires ascending { IsAscending ids.now }
-    requires some { 0 < length ids.now }
-    ensures bound { result ≤ length ids.now }
-    ensures there { (k : ℕ) → k < result
-        → InEither (ids_of known.now) (ids_of found.now) (slice_index ids.now k) }
-    ensures new { result ≡ 0 → has_id (ids_of found.now) (slice_index ids.now 0) ≡ false }
-{
-    let count = known.leading(ids);
-    if count > 0 { count } else { found.leading(ids) }
 }
 
 // Adds an effect, unless it is known or was found before.

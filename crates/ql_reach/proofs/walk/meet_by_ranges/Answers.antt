@@ -5,7 +5,7 @@ use Rattle.ql_base.proofs.IdLemmas.{IsAscending-drop}
 use Rattle.ql_ranges.specs.Ranges.{ids_of}
 use Rattle.ql_reach.specs.Walks.{MeetsLeading}
 use Rattle.ql_reach.proofs.WalkLaws.{meets-more}
-use Rattle.ql_reach.proofs.walk.meet_each.Goals as goal
+use Rattle.ql_reach.proofs.walk.meet_by_ranges.Goals as goal
 
 pub meet_leading-requires-clause-ascending : goal.meet_leading-requires-clause-ascending
 meet_leading-requires-clause-ascending c = subst IsAscending (sym (take_rest c.args.ids.now c.loop-met.met)) (IsAscending-drop c.loop-met.met c.args.ids.now c.requires)

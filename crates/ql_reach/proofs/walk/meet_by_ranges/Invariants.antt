@@ -1,7 +1,7 @@
 use Rattle.std.proofs.Common.{◌≤◌, ◌-◌, length, take}
 use Rattle.ql_ranges.specs.Ranges.{ids_of}
 use Rattle.ql_reach.specs.Walks.{Meets}
-use Rattle.ql_reach.proofs.walk.meet_each.Given as goal
+use Rattle.ql_reach.proofs.walk.meet_by_ranges.Given as goal
 
 abbrev pub invariant-loop-met : goal.invariant-loop-met
 invariant-loop-met l = record {
