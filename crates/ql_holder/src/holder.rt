@@ -44,7 +44,7 @@ pub trait Holder: Drop {
     fn has(&self, e: EffId) -> bool
         ensures { result ≡ has_id (received self.now) e.0 };
 
-    /// The number of effects at the front that were received.
+    /// How many of the effects, from the first on, were received.
     fn leading(&self, ids: &[u32]) -> usize
         requires { IsAscending ids.now }
         ensures bound { result ≤ length ids.now }

@@ -81,7 +81,7 @@ impl Ranges {
         ids.is_empty() || self.has_all(ids[0], ids[ids.len() - 1])
     }
 
-    /// The number of ids at the front that the set has.
+    /// How many of the ids, from the first on, the set has.
     ///
     /// Looks up one id for each range that these are in, and the first that the set lacks.
     pub fn leading(&self, ids: &[u32]) -> usize
@@ -178,7 +178,7 @@ fn has_all_in(ranges: &[IdRange], from: u32, to: u32) -> bool
     }
 }
 
-// The number of ids at the front that are in the ranges.
+// How many of the ids, from the first on, are in the ranges.
 fn leading_in(ranges: &[IdRange], ids: &[u32]) -> usize
     requires apart { AreApart ranges.now }
     requires ascending { IsAscending ids.now }

@@ -178,7 +178,7 @@ fn meet_by_ranges(known: &Ranges, walk: &mut Walk, ids: &[u32]) -> Result<(), No
     Ok(())
 }
 
-// Meets the ids at the front that are known, or those that were found, or the first one, and returns how many.
+// Meets the leading ids that are known, or those that were found, or else the first one, and returns how many.
 fn meet_leading(known: &Ranges, walk: &mut Walk, ids: &[u32]) -> Result<usize, NoMemory>
     requires ascending { IsAscending ids.now }
     requires some { 0 < length ids.now }
