@@ -67,7 +67,7 @@ impl Holder for PlainHolder {
     ghost fits_more = { λ h x more law fits alone. fits-more h.received h.applied x more law fits alone };
 }
 
-// The number of ids at the front that are in the set.
+// How many of the ids, from the first on, are in the set.
 fn leading_in(ids: &[u32], set: &IdSet) -> usize
     ensures bound { result ≤ length ids.now }
     ensures has { (k : ℕ) → k < result → has_id set.now (slice_index ids.now k) ≡ true }
