@@ -5,3 +5,4 @@ pub mod JoinedLaws
 pub mod NextLaws
 pub mod ViewLaws
 pub mod CompleteLaws
+mod LookupLaws

@@ -4,6 +4,7 @@ ghost use Rattle.ql_needs.specs.Closed.{Has};
 ghost use Rattle.ql_holder.specs.Arrivals.{Applied};
 ghost use Rattle.ql_machine.specs.Sets.{AreThose};
 
+use crate::lookup::has_next;
 use ql_base::{EffId, IdSet, NoMemory};
 use ql_holder::Holder;
 use std::alloc::Global;
@@ -31,8 +32,9 @@ pub(crate) fn kept_among(alloc: Global, set: &IdSet, effects: &[u32]) -> Result<
     ensures { IfOk result (λ found. AreThose (λ a. Has effects.now a × Has set.now a) found) }
 {
     let mut found = IdSet::new(alloc);
+    let mut next = 0;
     for a in effects {
-        if set.has(*a) {
+        if has_next(set, &mut next, *a) {
             found.insert(*a)?;
         }
     }

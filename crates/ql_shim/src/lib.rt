@@ -5,6 +5,7 @@
 #![tactic(auto)]
 
 mod among;
+mod lookup;
 mod running;
 mod scope;
 mod shim;

@@ -10,6 +10,7 @@ ghost use Rattle.ql_machine.specs.Blocking.{IsOf};
 ghost use Rattle.ql_machine.specs.Sets.{AreThose, has_all};
 ghost use Rattle.ql_shim.specs.Joined.{IsComplete, IsJoined, IsNextJoined};
 
+use crate::lookup::has_next;
 use crate::running::Running;
 use ql_base::{IdSet, NoMemory};
 use ql_exec::{Effect, Execution};
@@ -67,8 +68,9 @@ fn all_own(
 {
     let effects = x.effects();
     let mut ids = IdSet::new(alloc);
+    let mut next = 0;
     for a in on {
-        if is_kept(*a, running, others) {
+        if is_kept(*a, running, others, &mut next) {
             ids.insert(*a)?;
         } else if is_awaited(&effects[*a as usize - 1], *a, running) {
             return Ok(None);
@@ -77,11 +79,11 @@ fn all_own(
     Ok(Some(ids))
 }
 
-// Whether an effect is an own one or one of the given others.
-fn is_kept(a: u32, running: &Running, others: &IdSet) -> bool
+// Whether an effect is an own one or one of the given others, which are looked up from `next` on.
+fn is_kept(a: u32, running: &Running, others: &IdSet, next: &mut usize) -> bool
     ensures { result ≡ (has_id running.now.own a || has_id others.now a) }
 {
-    running.own.has(a) || others.has(a)
+    has_next(others, next, a) || running.own.has(a)
 }
 
 // Whether own effects may need this one: one of them saw it, or it is of their session.
