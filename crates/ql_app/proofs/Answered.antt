@@ -3,6 +3,7 @@ use Rattle.std.proofs.Common.{◌≡◌, ◌⊎◌, inl, inr, ℕ, ◌≤◌, Li
 use Rattle.std.specs.Prelude.{IfSome}
 use Rattle.ql_reply.specs.declared.status.Status.{Status}
 use Rattle.ql_reply.specs.declared.status.Status.TheVariants.{Done, No, Bad, ReadFault, WriteFault, Usage, TooLarge}
+use Rattle.ql_reply.proofs.Replies.{no_usage}
 use Rattle.ql_app.specs.declared.outcome.Limits.{Limits}
 use Rattle.ql_app.specs.Words.{NamedRequest, OneFile, TwoFiles, IsRequest}
 use Rattle.ql_app.specs.Outcome.{AreHeld, CommandSays, ForRequest, IsAnswered, IsRead, Judges, MeetsFault, MeetsLimit, NoneRose, PairSays, Says, RequestSays, second_limit}
@@ -65,3 +66,8 @@ says_held limits words held before after status text (inr u) = inr u
 pub complete : (limits : Limits) (words : List (List ℕ)) (held : List ℕ → Option (List ℕ)) (before after : List ℕ → ℕ) (status : Status) (text : List ℕ) (named : NamedRequest)
     → IsRequest words named → AreHeld limits held named → NoneRose before after named → SaysHeld limits words held before after status text → IsAnswered (Ok status)
 complete limits words held before after status text named request are_held none says = search rules
+
+-- nothing is to be written with the status of a write fault
+pub never : (limits : Limits) (words : List (List ℕ)) (held : List ℕ → Option (List ℕ)) (before after : List ℕ → ℕ) (text : List ℕ) → Says limits words held before after WriteFault text → ⊥
+never limits words held before after text (inl (named, request, says)) = says
+never limits words held before after text (inr (same, none, is)) = no_usage same

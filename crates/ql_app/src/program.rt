@@ -7,8 +7,8 @@ ghost use Rattle.ql_reply.specs.Wrote.{Wrote};
 
 use crate::outcome::{Limits, outcome};
 use ql_base::{MAX_EXECUTION_BYTES, MAX_SOURCE_BYTES, NoMemory};
-use ql_ports::{Failed, Shelf, Sink, write_whole};
-use ql_reply::Status;
+use ql_ports::{Shelf, Sink};
+use ql_reply::{Status, write_reply};
 use std::alloc::Global;
 
 // Sources, schedules and the files of `holds` and `proof` have one limit, certificates and executions another.
@@ -47,8 +47,5 @@ pub fn quelea<S: Shelf, K: Sink>(
         → IsAnswered result }
 {
     let (status, text) = outcome(alloc, words, shelf, LIMITS)?;
-    match write_whole(sink, text.as_slice()) {
-        Ok(()) => Ok(status),
-        Err(Failed) => Ok(Status::WriteFault),
-    }
+    Ok(write_reply(sink, status, &text))
 }

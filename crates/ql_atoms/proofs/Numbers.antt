@@ -8,23 +8,23 @@ use Rattle.ql_atoms.specs.declared.atoms.PairKind.{PairKind}
 use Rattle.ql_atoms.specs.declared.atoms.PairKind.TheVariants.{Eq, So, SameObj, Vis, Hbo, Hb, SameTxn}
 use Rattle.ql_atoms.specs.Atoms.{Size, Fits, kind_place, atom_place, number_of, count_of, relations_of}
 
-kinds : List PairKind
-kinds = Eq ∷ So ∷ SameObj ∷ Vis ∷ Hbo ∷ Hb ∷ SameTxn ∷ []
+pub kind_at : ℕ → PairKind
+kind_at q = get_or (Eq ∷ So ∷ SameObj ∷ Vis ∷ Hbo ∷ Hb ∷ SameTxn ∷ []) q Eq
 
-kind_at : (k : PairKind) → get_or kinds (kind_place k) Eq ≡ k
-unfolding kinds
-kind_at Eq = refl
-kind_at So = refl
-kind_at SameObj = refl
-kind_at Vis = refl
-kind_at Hbo = refl
-kind_at Hb = refl
-kind_at SameTxn = refl
+pub kind_at-place : (k : PairKind) → kind_at (kind_place k) ≡ k
+unfolding kind_at
+kind_at-place Eq = refl
+kind_at-place So = refl
+kind_at-place SameObj = refl
+kind_at-place Vis = refl
+kind_at-place Hbo = refl
+kind_at-place Hb = refl
+kind_at-place SameTxn = refl
 
 same_kind : (k l : PairKind) → kind_place k ≡ kind_place l → k ≡ l
-same_kind k l e = sym (kind_at k) ∙ ap (λ p. get_or kinds p Eq) e ∙ kind_at l
+same_kind k l e = sym (kind_at-place k) ∙ ap kind_at e ∙ kind_at-place l
 
-few_kinds : (k : PairKind) → kind_place k < 7
+pub few_kinds : (k : PairKind) → kind_place k < 7
 few_kinds Eq = omega arith
 few_kinds So = omega arith
 few_kinds SameObj = omega arith

@@ -6,7 +6,8 @@ use Rattle.std.proofs.lemmas.Str.Parse.{digit_at}
 use Rattle.ql_base.specs.Bytes.{is_name_byte}
 use Rattle.ql_base.specs.Names.{IsName}
 use Rattle.ql_lines.specs.Lines.{ahead_from, begins_with}
-use Rattle.ql_lines.specs.Texts.{EndsNothing, IsPlain, IsPlainLine, file_text, is_ender}
+use Rattle.ql_lines.specs.Texts.{IsPlain, IsPlainLine, file_text, is_ender}
+use Rattle.ql_lines.proofs.Each.{each_by_index}
 use Rattle.ql_lines.proofs.TextLaws.{file_again}
 use Rattle.ql_levels.specs.declared.level.Level.TheVariants.{Eventual, Causal, Wide, Strong}
 use Rattle.ql_levels.specs.declared.level.TxnLevel.TheVariants.{Rc, Mav, Rr}
@@ -22,11 +23,6 @@ use Rattle.ql_cert.specs.Faults.{fields_in}
 use Rattle.ql_cert.specs.OneField.{first_digit}
 use Rattle.ql_cert.specs.CertFile.{IsCertOf, IsSection, cert_lines, end_line, heading, kind_word, level_word, section_lines, sections_lines, title}
 
--- bytes that end no field, told by their places
-by_place : (w : List ℕ) → ((k : ℕ) → k < length w → is_ender (get_or w k 0) ≡ false) → EndsNothing w
-by_place [] h = tt
-by_place (b ∷ bs) h = (h 0 (omega arith), by_place bs (λ k lt. h (suc k) (omega (arith, lt))))
-
 digit_ends_nothing : (b : ℕ) → 48 ≤ b → b ≤ 57 → is_ender b ≡ false
 digit_ends_nothing b low high = grind (arith, low, high)
 
@@ -37,13 +33,13 @@ name_ends_nothing b h = grind (arith, h)
 plain_number : (n : ℕ) → n < 2 ^ 64 → IsPlain (decimal n)
 plain_number n small =
     let h = (decimal_is_IsNumeral n small).0 in
-    record { some = h.0; plain = by_place (decimal n) (λ k lt. let r = digit_at (decimal n) k h.1 lt in digit_ends_nothing (get_or (decimal n) k 0) r.0 r.1) }
+    record { some = h.0; plain = each_by_index (λ b. is_ender b ≡ false) (decimal n) (λ k lt. let r = digit_at (decimal n) k h.1 lt in digit_ends_nothing (get_or (decimal n) k 0) r.0 r.1) }
 
 signed : (c : ℕ) (w : List ℕ) → is_ender c ≡ false → IsPlain w → IsPlain (c ∷ w)
 signed c w e p = record { some = omega arith; plain = (e, p.plain) }
 
 plain_name : (w : List ℕ) → IsName w → IsPlain w
-plain_name w n = record { some = n.shape.some; plain = by_place w (λ k lt. name_ends_nothing (get_or w k 0) (n.shape.all k 0 lt)) }
+plain_name w n = record { some = n.shape.some; plain = each_by_index (λ b. is_ender b ≡ false) w (λ k lt. name_ends_nothing (get_or w k 0) (n.shape.all k 0 lt)) }
 
 plain_signed : (v : ℕ) (positive : Bool) → v < 2 ^ 64 → IsPlain (signed_field v positive)
 unfolding signed_field

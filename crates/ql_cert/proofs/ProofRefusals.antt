@@ -1,5 +1,5 @@
 -- which lines may not follow what was read of a proof
-use Rattle.std.proofs.Common.{◌≡◌, inl, inr, ℕ, suc, Err, Some, None, ◌<◌, ◌≤◌, ◌^◌, List, [], ◌∷◌, ◌++◌, length, drop, decimal, arith, refl, ap, sym, subst, ◌∙◌, append_assoc}
+use Rattle.std.proofs.Common.{◌≡◌, inl, inr, ℕ, suc, Ok, Err, Some, None, ◌<◌, ◌≤◌, ◌^◌, List, [], ◌∷◌, ◌++◌, length, drop, decimal, arith, refl, ap, sym, subst, ◌∙◌, append_assoc}
 use Rattle.std.specs.Prelude.{codes}
 use Rattle.std.specs.List.{AllByRecursion}
 use Rattle.std.proofs.lemmas.Bool.{le-ltb, ne_eqb}
@@ -12,7 +12,11 @@ use Rattle.ql_cnf.specs.Literals.{AllAbove, IsAscendingByVariable, clause_of, wi
 use Rattle.ql_cnf.specs.Satisfaction.{AreInRange, ClauseList, with_clause}
 use Rattle.ql_lines.proofs.Conses.{heads}
 use Rattle.ql_lines.specs.Fields.{Fields}
+use Rattle.ql_line_files.specs.Answers.{IsLineAnswer}
+use Rattle.ql_line_files.specs.declared.fault.LineFault.{LineFault}
+use Rattle.ql_line_files.specs.declared.fault.LineFault.TheVariants.{Breaks, NoMemory}
 use Rattle.ql_refute.specs.declared.refutation.Line.{Line}
+use Rattle.ql_cert.specs.declared.fault.CertRule.{CertRule}
 use Rattle.ql_cert.specs.declared.fault.CertRule.TheVariants.{Unexpected, Number}
 use Rattle.ql_cert.specs.declared.proof_reader.ProofReading.{ProofReading}
 use Rattle.ql_cert.specs.declared.proof_reader.ProofReading.TheVariants.{Unbegun, Within}
@@ -20,7 +24,7 @@ use Rattle.ql_cert.specs.Spelling.{IsClause, IsLine, IsLit, body_fields, clause_
 use Rattle.ql_cert.specs.Faults.{Follows, Gives}
 use Rattle.ql_cert.specs.CertFile.{end_line}
 use Rattle.ql_cert.specs.ProofFile.{GoesOn, IsGiven, ProofTakes, most_variables, variables_line}
-use Rattle.ql_cert.specs.Readings.{IsNext, IsRead, two}
+use Rattle.ql_cert.specs.Readings.{Extends, IsNext, IsRead, two}
 use Rattle.ql_cert.specs.OneField.{no_number, one_literal, same_all}
 use Rattle.ql_cert.proofs.FieldLaws.{read_on}
 use Rattle.ql_cert.proofs.LineLaws.{all_last, ascending_front}
@@ -150,6 +154,24 @@ module _ (cs : ClauseList) (ls : List Line) where
       goes_on = (Within cs (ls ++ l ∷ []), inr (inl (record { next = l; fits = fits; few = few; is = refl; to = refl })));
     },
   )
+
+  -- a numbered line with which the refutation can't go on, and one with which it does
+  pub not_extended : (n : ℕ) (body : Fields) → n < 2 ^ 64 → (fault : LineFault CertRule) → IsLineAnswer (Extends ls n body) (Err fault)
+      → IsLineAnswer (Gives ProofTakes (Within cs ls) (decimal n ∷ body)) (Err fault)
+  not_extended n body small (Breaks Unexpected) none = no_body n body small none
+  not_extended n body small (Breaks Number) (l, fits, few, other, is) =
+      subst (λ (b : Fields). Gives ProofTakes (Within cs ls) (decimal n ∷ b) (Err Number)) is (misnumbered_line l n small fits few other)
+  not_extended n body small NoMemory is = tt
+
+  pub extended : (n : ℕ) (body : Fields) (after : List Line) → Extends ls n body (Ok after) → ProofTakes (Within cs ls) (decimal n ∷ body) (Within cs after)
+  extended n body after (l, fits, few, same, is, added) =
+      inr (inl (record {
+        next = l;
+        fits = fits;
+        few = few;
+        is = ap (λ k. decimal k ∷ body) same ∙ ap (λ (b : Fields). decimal (suc (length ls)) ∷ b) (sym is);
+        to = ap (Within cs) added;
+      }))
 
 -- ---- a clause that was read
 

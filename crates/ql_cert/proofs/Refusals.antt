@@ -1,5 +1,5 @@
 -- which lines may not follow what was read of a certificate
-use Rattle.std.proofs.Common.{◌≡◌, inl, inr, ℕ, suc, Err, Option, Some, None, get_or, unwrap_or, ◌<◌, ◌^◌, List, [], ◌∷◌, length, drop, decimal, arith, refl, ap, sym, subst, ◌∙◌}
+use Rattle.std.proofs.Common.{◌≡◌, inl, inr, ℕ, suc, Ok, Err, Option, Some, None, get_or, unwrap_or, ◌<◌, ◌^◌, List, [], ◌∷◌, length, drop, decimal, arith, refl, ap, sym, subst, ◌∙◌}
 use Rattle.std.specs.Prelude.{codes}
 use Rattle.std.proofs.lemmas.Fmt.{decimal_injective}
 use Rattle.ql_base.specs.Names.{IsName}
@@ -7,18 +7,22 @@ use Rattle.ql_base.specs.Numbers.{Spells}
 use Rattle.ql_levels.specs.declared.level.Level.{Level}
 use Rattle.ql_levels.specs.declared.level.TxnLevel.{TxnLevel}
 use Rattle.ql_levels.specs.Words.{word_of, txn_word_of}
+use Rattle.ql_line_files.specs.Answers.{IsLineAnswer}
+use Rattle.ql_line_files.specs.declared.fault.LineFault.{LineFault}
+use Rattle.ql_line_files.specs.declared.fault.LineFault.TheVariants.{Breaks, NoMemory}
 use Rattle.ql_lines.specs.Fields.{Fields}
 use Rattle.ql_refute.specs.declared.refutation.Line.{Line}
 use Rattle.ql_cert.specs.declared.cert.SectionLevel.{SectionLevel}
 use Rattle.ql_cert.specs.declared.cert.SectionLevel.TheVariants.{Op, Txn}
 use Rattle.ql_cert.specs.declared.cert.Section.{Section}
+use Rattle.ql_cert.specs.declared.fault.CertRule.{CertRule}
 use Rattle.ql_cert.specs.declared.fault.CertRule.TheVariants.{Unexpected, Number}
 use Rattle.ql_cert.specs.Spelling.{IsLine, body_fields}
 use Rattle.ql_cert.specs.Faults.{Follows, Gives}
 use Rattle.ql_cert.specs.declared.cert_reader.CertReading.{CertReading}
 use Rattle.ql_cert.specs.declared.cert_reader.CertReading.TheVariants.{Untitled, Within}
 use Rattle.ql_cert.specs.CertFile.{GoesOn, Takes, end_line, heading, kind_word, level_word, title, with_line}
-use Rattle.ql_cert.specs.Readings.{IsLevelRead, three}
+use Rattle.ql_cert.specs.Readings.{Extends, IsLevelRead, three}
 use Rattle.ql_cert.specs.OneField.{no_number}
 use Rattle.ql_cert.specs.OneLine.{kind_no_number}
 
@@ -117,6 +121,27 @@ module _ (done : List Section) (last : Option Section) where
   -- a numbered line whose body is none
   pub no_body : (n : ℕ) (body : Fields) → n < 2 ^ 64 → ((l : Line) → IsLine l → body_fields l ≡ body → ⊥) → Gives Takes (Within done last) (decimal n ∷ body) (Err Unexpected)
   no_body n body small none = unexpected_line n body small (λ m after g. none g.next g.fits (ap (λ (f : Fields). drop 1 f) (sym g.is)))
+
+  -- a numbered line with which the section's lines can't go on, and one with which they do
+  pub not_extended : (s : Section) (n : ℕ) (body : Fields) → n < 2 ^ 64 → last ≡ Some s → (fault : LineFault CertRule) → IsLineAnswer (Extends s.refutation.lines n body) (Err fault)
+      → IsLineAnswer (Gives Takes (Within done last) (decimal n ∷ body)) (Err fault)
+  not_extended s n body small in_it (Breaks Unexpected) none = no_body n body small none
+  not_extended s n body small in_it (Breaks Number) (l, fits, few, other, is) =
+      subst (λ (b : Fields). Gives Takes (Within done last) (decimal n ∷ b) (Err Number)) is (misnumbered_line s l n small in_it fits few other)
+  not_extended s n body small in_it NoMemory is = tt
+
+  pub extended : (s : Section) (n : ℕ) (body : Fields) (after : List Line) → last ≡ Some s → Extends s.refutation.lines n body (Ok after)
+      → Takes (Within done last) (decimal n ∷ body) (Within done (Some (record { name = s.name; level = s.level; refutation = record { lines = after } })))
+  extended s n body after in_it (l, fits, few, same, is, added) =
+      inr (inl (record {
+        section = s;
+        in_it = in_it;
+        next = l;
+        fits = fits;
+        few = few;
+        is = ap (λ k. decimal k ∷ body) same ∙ ap (λ (b : Fields). decimal (suc (length s.refutation.lines)) ∷ b) (sym is);
+        to = ap (λ (ls : List Line). Within done (Some (record { name = s.name; level = s.level; refutation = record { lines = ls } }))) added;
+      }))
 
   -- a line that begins with no number
   pub no_number_first : (field : List ℕ) (rest line : Fields) → line ≡ field ∷ rest → ((name : List ℕ) (level : SectionLevel) → IsName name → heading name level ≡ line → ⊥) → (line ≡ end_line → ⊥)

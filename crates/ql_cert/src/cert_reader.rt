@@ -11,7 +11,7 @@ ghost use Rattle.ql_cert.specs.Readings.{IsLevelRead, IsRead, three};
 
 use crate::cert::{Section, SectionLevel, Sections};
 use crate::fault::CertRule;
-use crate::line::line_body;
+use crate::numbered::with_line;
 use ql_base::{NoMemory, Word, is_name, number_of};
 use ql_levels::{level_of, txn_of};
 use ql_line_files::{Broken, FileFault, LineFault, LineFormat};
@@ -245,26 +245,16 @@ fn numbered(
     let Some(section) = last else {
         return Err(LineFault::Breaks(CertRule::Unexpected));
     };
-    let Some(line) = line_body(alloc, body)? else {
-        return Err(LineFault::Breaks(CertRule::Unexpected));
-    };
     let Section {
         name,
         level,
         refutation,
     } = section;
-    let mut lines = refutation.lines.into_items();
-    if number != lines.len() as u64 + 1 {
-        return Err(LineFault::Breaks(CertRule::Number));
-    }
-    lines.push(line)?;
-    let refutation = Refutation {
-        lines: Lines::of(lines),
-    };
+    let lines = with_line(alloc, refutation.lines, number, body)?;
     let grown = Section {
         name,
         level,
-        refutation,
+        refutation: Refutation { lines },
     };
     Ok(CertReading::Within(done, Some(grown)))
 }

@@ -7,6 +7,7 @@ mod cert_reader;
 mod fault;
 mod fields;
 mod line;
+mod numbered;
 mod parse;
 mod print;
 mod proof;

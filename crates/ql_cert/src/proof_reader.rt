@@ -11,7 +11,8 @@ ghost use Rattle.ql_cert.specs.Readings.{IsRead, two};
 
 use crate::cert_reader::is_end;
 use crate::fault::CertRule;
-use crate::line::{line_body, literals};
+use crate::line::literals;
+use crate::numbered::with_line;
 use ql_base::number_of;
 use ql_cnf::{Clauses, are_in_range};
 use ql_line_files::{Broken, FileFault, LineFault, LineFormat};
@@ -206,13 +207,6 @@ fn numbered(
     ensures { IsLineAnswer
         (Gives ProofTakes (Within clauses lines) (decimal number ∷ fields_of body.now)) result }
 {
-    let Some(line) = line_body(alloc, body)? else {
-        return Err(LineFault::Breaks(CertRule::Unexpected));
-    };
-    let mut more = lines.into_items();
-    if number != more.len() as u64 + 1 {
-        return Err(LineFault::Breaks(CertRule::Number));
-    }
-    more.push(line)?;
-    Ok(ProofReading::Within(clauses, Lines::of(more)))
+    let more = with_line(alloc, lines, number, body)?;
+    Ok(ProofReading::Within(clauses, more))
 }

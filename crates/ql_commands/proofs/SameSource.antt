@@ -112,11 +112,11 @@ unfolding txn_faults
 same-txn known a b e = ap (λ (t : Transaction). repeats [] t.uses ++ (each (op_faults (Some known)) t.uses ++ contract_faults (Some known) true t.contract)) e
 
 module _ (p q : Program) (e : source_of p ≡ source_of q) where
-  types : map replicated_of p.types ≡ map replicated_of q.types
-  types = ap (λ (s : Source). s.types) e
+  pub same-types : map replicated_of p.types ≡ map replicated_of q.types
+  same-types = ap (λ (s : Source). s.types) e
 
-  txns : map transaction_of p.txns ≡ map transaction_of q.txns
-  txns = ap (λ (s : Source). s.txns) e
+  pub same-txns : map transaction_of p.txns ≡ map transaction_of q.txns
+  same-txns = ap (λ (s : Source). s.txns) e
 
   ops-of : (a b : TypeDecl) → replicated_of a ≡ replicated_of b → map operation_of a.ops ≡ map operation_of b.ops
   ops-of a b s = ap (λ (t : Replicated). t.ops) s
@@ -125,18 +125,18 @@ module _ (p q : Program) (e : source_of p ≡ source_of q) where
   pub same_faults : program_faults p ≡ program_faults q
   unfolding program_faults
   same_faults =
-      let type_names : map (λ (t : TypeDecl). t.name) p.types ≡ map (λ (t : TypeDecl). t.name) q.types = map_alike replicated_of (λ t. t.name) (λ a b s. ap (λ (t : Replicated). t.name) s) p.types q.types types in
-      let type_places : map (λ (t : TypeDecl). t.at) p.types ≡ map (λ (t : TypeDecl). t.at) q.types = map_alike replicated_of (λ t. t.at) (λ a b s. ap (λ (t : Replicated). t.at) s) p.types q.types types in
-      let txn_names : map (λ (d : TxnDecl). d.name) p.txns ≡ map (λ (d : TxnDecl). d.name) q.txns = map_alike transaction_of (λ d. d.name) (λ a b s. ap (λ (t : Transaction). t.name) s) p.txns q.txns txns in
-      let txn_places : map (λ (d : TxnDecl). d.at) p.txns ≡ map (λ (d : TxnDecl). d.at) q.txns = map_alike transaction_of (λ d. d.at) (λ a b s. ap (λ (t : Transaction). t.at) s) p.txns q.txns txns in
-      let names : op_names p.types ≡ op_names q.types = flat_alike replicated_of (λ t. map (λ o. o.name) t.ops) (λ a b s. map_alike operation_of (λ o. o.name) (λ x y r. ap (λ (o : Operation). o.name) r) a.ops b.ops (ops-of a b s)) p.types q.types types in
-      let at : op_places p.types ≡ op_places q.types = flat_alike replicated_of (λ t. map (λ o. o.at) t.ops) (λ a b s. map_alike operation_of (λ o. o.at) (λ x y r. ap (λ (o : Operation). o.at) r) a.ops b.ops (ops-of a b s)) p.types q.types types in
+      let type_names : map (λ (t : TypeDecl). t.name) p.types ≡ map (λ (t : TypeDecl). t.name) q.types = map_alike replicated_of (λ t. t.name) (λ a b s. ap (λ (t : Replicated). t.name) s) p.types q.types same-types in
+      let type_places : map (λ (t : TypeDecl). t.at) p.types ≡ map (λ (t : TypeDecl). t.at) q.types = map_alike replicated_of (λ t. t.at) (λ a b s. ap (λ (t : Replicated). t.at) s) p.types q.types same-types in
+      let txn_names : map (λ (d : TxnDecl). d.name) p.txns ≡ map (λ (d : TxnDecl). d.name) q.txns = map_alike transaction_of (λ d. d.name) (λ a b s. ap (λ (t : Transaction). t.name) s) p.txns q.txns same-txns in
+      let txn_places : map (λ (d : TxnDecl). d.at) p.txns ≡ map (λ (d : TxnDecl). d.at) q.txns = map_alike transaction_of (λ d. d.at) (λ a b s. ap (λ (t : Transaction). t.at) s) p.txns q.txns same-txns in
+      let names : op_names p.types ≡ op_names q.types = flat_alike replicated_of (λ t. map (λ o. o.name) t.ops) (λ a b s. map_alike operation_of (λ o. o.name) (λ x y r. ap (λ (o : Operation). o.name) r) a.ops b.ops (ops-of a b s)) p.types q.types same-types in
+      let at : op_places p.types ≡ op_places q.types = flat_alike replicated_of (λ t. map (λ o. o.at) t.ops) (λ a b s. map_alike operation_of (λ o. o.at) (λ x y r. ap (λ (o : Operation). o.at) r) a.ops b.ops (ops-of a b s)) p.types q.types same-types in
       let of_types : each (type_faults (names_met [] (op_names p.types))) p.types ≡ each (type_faults (names_met [] (op_names q.types))) q.types =
       ap (λ (n : List Name). each (type_faults (names_met [] n)) p.types) names
-      ∙ each_alike replicated_of (type_faults (names_met [] (op_names q.types))) (same-type (names_met [] (op_names q.types))) p.types q.types types in
+      ∙ each_alike replicated_of (type_faults (names_met [] (op_names q.types))) (same-type (names_met [] (op_names q.types))) p.types q.types same-types in
       let of_txns : each (txn_faults (names_met [] (op_names p.types))) p.txns ≡ each (txn_faults (names_met [] (op_names q.types))) q.txns =
       ap (λ (n : List Name). each (txn_faults (names_met [] n)) p.txns) names
-      ∙ each_alike transaction_of (txn_faults (names_met [] (op_names q.types))) (same-txn (names_met [] (op_names q.types))) p.txns q.txns txns in
+      ∙ each_alike transaction_of (txn_faults (names_met [] (op_names q.types))) (same-txn (names_met [] (op_names q.types))) p.txns q.txns same-txns in
       rw (type_names, type_places, txn_names, txn_places, at, of_types, of_txns, names) refl
 
 -- ---- the parts of programs that are read as one source
@@ -157,17 +157,11 @@ map-flat f g [] = refl
 map-flat {A} {B} {C} f g (x ∷ xs) = map-append f (g x) (flat_map g xs) ∙ ap (λ (cs : List C). map f (g x) ++ cs) (map-flat f g xs)
 
 module _ (p q : Program) (e : source_of p ≡ source_of q) where
-  pub same-types : map replicated_of p.types ≡ map replicated_of q.types
-  same-types = ap (λ (s : Source). s.types) e
-
-  pub same-txns : map transaction_of p.txns ≡ map transaction_of q.txns
-  same-txns = ap (λ (s : Source). s.txns) e
-
   pub same-ops : map operation_of (all_ops p.types) ≡ map operation_of (all_ops q.types)
   same-ops =
       map-flat operation_of (λ t. t.ops) p.types
-      ∙ flat_alike replicated_of (λ t. map operation_of t.ops) (λ a b s. ap (λ (r : Replicated). r.ops) s) p.types q.types same-types
+      ∙ flat_alike replicated_of (λ t. map operation_of t.ops) (λ a b s. ap (λ (r : Replicated). r.ops) s) p.types q.types (same-types p q e)
       ∙ sym (map-flat operation_of (λ t. t.ops) q.types)
 
   pub same-op-kinds : op_kinds p.types ≡ op_kinds q.types
-  same-op-kinds = same-kinds 0 p.types q.types same-types
+  same-op-kinds = same-kinds 0 p.types q.types (same-types p q e)

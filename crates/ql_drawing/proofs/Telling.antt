@@ -1,5 +1,5 @@
 -- What is said of a request, from what is said of its files.
-use Rattle.std.proofs.Common.{◌≡◌, inl, inr, ℕ, ◌≤◌, ◌<◌, List, length, Option, Result, Ok, Err, arith, subst}
+use Rattle.std.proofs.Common.{◌≡◌, ℕ, ◌≤◌, ◌<◌, List, length, Option, Result, Ok, Err, subst}
 use Rattle.std.specs.Prelude.{IfOk, IfSome}
 use Rattle.std.specs.Global.{Vec}
 use Rattle.ql_base.specs.declared.no_memory.NoMemory.{NoMemory}
@@ -8,15 +8,10 @@ use Rattle.ql_ports.specs.declared.whole.ReadError.{ReadError}
 use Rattle.ql_ports.specs.declared.whole.ReadError.TheVariants.{Failed, TooLong}
 use Rattle.ql_drawing.specs.Outcomes.{IsAnswer, IsOf, Tells, limit_of}
 use Rattle.ql_reply.specs.Unread.{IsUnread}
-use Rattle.ql_reply.proofs.Replies.{answer_unread}
+use Rattle.ql_reply.proofs.Replies.{answer_unread, rose_before}
 use Rattle.ql_drawing.specs.Words.{Asked}
 use Rattle.ql_reply.specs.declared.status.Status.{Status}
 use Rattle.ql_reply.specs.declared.status.Status.TheVariants.{Done, No, Bad, ReadFault, WriteFault, Usage, TooLarge}
-
--- a count that rose later rose
-rose_before : (a b c : ℕ) → a ≤ b → Rose b c → Rose a c
-rose_before a b c le (inl less) = inl (omega (arith, le, less))
-rose_before a b c le (inr is) = inr is
 
 module _ (held : List ℕ → Option (List ℕ)) (before after : List ℕ → ℕ) (a : Asked) where
   of_answer : (status : Status) (text : List ℕ) → IsAnswer status text → Tells held before after a status text

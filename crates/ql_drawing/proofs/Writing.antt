@@ -1,5 +1,5 @@
 -- What is drawn, and what is written.
-use Rattle.std.proofs.Common.{◌≡◌, ℕ, List, Option, Some, None, Result, Ok, Err, subst}
+use Rattle.std.proofs.Common.{◌≡◌, ℕ, List, Option, Some, None, Result, Ok, Err}
 use Rattle.std.specs.Prelude.{IfOk}
 use Rattle.std.specs.Global.{Vec}
 use Rattle.ql_base.specs.declared.no_memory.NoMemory.{NoMemory}
@@ -11,7 +11,7 @@ use Rattle.ql_svg.specs.declared.picture.Picture.{Picture}
 use Rattle.ql_drawing.specs.Outcomes.{IsDrawn, SaysOf}
 use Rattle.ql_drawing.specs.Words.{Asked}
 use Rattle.ql_drawing.specs.declared.sheet.TheConstants.{SHEET}
-use Rattle.ql_reply.specs.declared.status.Status.{Status}
+use Rattle.ql_reply.proofs.Replies.{no_usage}
 use Rattle.ql_reply.specs.declared.status.Status.TheVariants.{WriteFault}
 
 pub is_drawn : (history : History) (grid : Grid) (picture : Picture) (made : Result (Vec ℕ) NoMemory) → IfOk made (λ text. text.items ≡ svg_text SHEET.now picture)
@@ -20,10 +20,6 @@ is_drawn history grid picture (Ok text) svg dots = record { history = history; g
 is_drawn history grid picture (Err e) svg dots = tt
 
 -- nothing is to be written with the status of a write fault
-abbrev IsWriteFault : Status → Type 0
-IsWriteFault WriteFault = Unit {0}
-IsWriteFault _ = ⊥
-
 pub never : (held : List ℕ → Option (List ℕ)) (before after : List ℕ → ℕ) (a : Option Asked) (text : List ℕ) → SaysOf held before after a WriteFault text → ⊥
-never held before after None text says = subst IsWriteFault says.0 tt
+never held before after None text says = no_usage says.0
 never held before after (Some a) text says = says

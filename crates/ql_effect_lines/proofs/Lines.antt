@@ -1,8 +1,7 @@
 -- a line describes one effect
-use Rattle.std.proofs.Common.{◌≡◌, ℕ, List, [], ◌∷◌, ◌++◌, length, map, get_or, drop, decimal, codes, arith, refl, sym, ap, subst, ◌∙◌, append_assoc, replicate}
-use Rattle.std.specs.List.{AllByRecursion}
+use Rattle.std.proofs.Common.{◌≡◌, ℕ, List, [], ◌∷◌, ◌++◌, length, get_or, drop, decimal, codes, arith, refl, sym, ap, subst, ◌∙◌, append_assoc, replicate}
 use Rattle.std.proofs.lemmas.Fmt.{decimal_injective}
-use Rattle.ql_lines.specs.Fields.{FirstField, fields_of, Fields, IsId}
+use Rattle.ql_lines.specs.Fields.{FirstField, fields_of, Fields}
 use Rattle.ql_value.specs.declared.value.Value.{Value}
 use Rattle.ql_value.specs.Reading.{after_spaces}
 use Rattle.ql_exec.specs.declared.effect.Payload.{Payload}
@@ -11,7 +10,7 @@ use Rattle.ql_effect_lines.specs.declared.effect_line.EffectLine.{EffectLine}
 use Rattle.ql_effect_lines.specs.declared.setting.Setting.{Setting}
 use Rattle.ql_effect_lines.specs.Parts.{FieldAt, FieldsAt, ValueAt, ValuesAt}
 use Rattle.ql_effect_lines.specs.EffectLine.{CallAt, EmitAt, IsEffectLine, IsSetting, PayloadAt, setting_fields}
-use Rattle.ql_lines.proofs.Conses.{both, heads, tails}
+use Rattle.ql_line_files.proofs.WrittenNumbers.{same_numbers}
 use Rattle.ql_effect_lines.proofs.FirstFields.{fields_at, one_first, one_row}
 use Rattle.ql_effect_lines.proofs.Parts.{gap_gone, list_starts, no_list, one_field, one_list, one_value, part_of, value_starts}
 use Rattle.ql_effect_lines.proofs.Txns.{one_txn}
@@ -52,14 +51,6 @@ one_emit p s text r q f g =
 
 -- ---- the setting
 
-same_ids : (xs ys : List ℕ) → AllByRecursion IsId xs → AllByRecursion IsId ys → map decimal xs ≡ map decimal ys → xs ≡ ys
-same_ids [] [] f g e = refl
-same_ids [] (y ∷ ys) f g e = absurd (omega (arith, ap length e))
-same_ids (x ∷ xs) [] f g e = absurd (omega (arith, ap length e))
-same_ids (x ∷ xs) (y ∷ ys) f g e =
-    both x y xs ys (decimal_injective x y (omega (arith, f.0)) (omega (arith, g.0)) (heads (decimal x) (decimal y) (map decimal xs) (map decimal ys) e))
-    (same_ids xs ys f.1 g.1 (tails (decimal x) (decimal y) (map decimal xs) (map decimal ys) e))
-
 pub one_setting : (text : List ℕ) (s t : Setting) → IsSetting text s → IsSetting text t → s ≡ t
 one_setting text s t p q =
     let same : setting_fields s ≡ setting_fields t = sym p.is ∙ q.is in
@@ -68,7 +59,7 @@ one_setting text s t p q =
     let txn : s.txn ≡ t.txn = one_txn s.txn t.txn p.txn q.txn (ap (λ (fs : Fields). get_or fs 3 []) same) in
     let stamp : s.stamp ≡ t.stamp =
     decimal_injective s.stamp t.stamp (omega (arith, p.stamp)) (omega (arith, q.stamp)) (ap (λ (fs : Fields). get_or fs 5 []) same) in
-    let seen : s.seen ≡ t.seen = same_ids s.seen t.seen p.ids q.ids (ap (λ (fs : Fields). drop 7 fs) same) in
+    let seen : s.seen ≡ t.seen = same_numbers s.seen t.seen p.ids q.ids (ap (λ (fs : Fields). drop 7 fs) same) in
     ap (λ a. record { session = a; txn = s.txn; stamp = s.stamp; seen = s.seen }) session
     ∙ ap (λ a. record { session = t.session; txn = a; stamp = s.stamp; seen = s.seen }) txn
     ∙ ap (λ a. record { session = t.session; txn = t.txn; stamp = a; seen = s.seen }) stamp

@@ -1,5 +1,5 @@
 -- values stand at the start of a text in one way
-use Rattle.std.proofs.Common.{◌≡◌, ℕ, zero, suc, ◌+◌, Bool, true, false, cond, List, [], ◌∷◌, ◌++◌, drop, replicate, arith, refl, sym, ap, subst, ◌∙◌, one-add}
+use Rattle.std.proofs.Common.{◌≡◌, ℕ, zero, suc, ◌+◌, Bool, true, false, List, [], ◌∷◌, ◌++◌, drop, replicate, arith, refl, sym, ap, subst, ◌∙◌, one-add}
 use Rattle.std.specs.List.{prefix_len}
 use Rattle.std.proofs.lemmas.Bool.{false≢true}
 use Rattle.std.proofs.lemmas.Bool.Decides.{nat_tests}
@@ -8,19 +8,11 @@ use Rattle.ql_value.specs.declared.value.Value.{Value}
 use Rattle.ql_value.specs.Reading.{after_spaces, is_byte, scalar_at, value_at}
 use Rattle.ql_value.specs.ValueGrammar.{ReadsMore}
 use Rattle.ql_value.proofs.ScalarGrammar.{are_parts}
+use Rattle.ql_value.proofs.ValueLaws.{spaces_split}
 use Rattle.ql_effect_lines.specs.Parts.{FieldAt, ItemsAt, ValueAt, ValuesAt, ends_field}
 use Rattle.ql_lines.proofs.Conses.{both, heads, tails}
 
 -- ---- spaces
-
-pub spaces_split : (text : List ℕ) → text ≡ replicate (prefix_len (is_byte 32) text) 32 ++ after_spaces text
-spaces_split [] = refl
-spaces_split (b ∷ bs) =
-    let P : Bool → Type 0 = λ t. is_byte 32 b ≡ t → b ∷ bs ≡ replicate (cond t (1 + prefix_len (is_byte 32) bs) 0) 32 ++ drop (cond t (1 + prefix_len (is_byte 32) bs) 0) (b ∷ bs) in
-    elim (is_byte 32 b) as P [
-      | true ↦ λ e. let same : b ≡ 32 = grind (arith, nat_tests) in rw (one-add (prefix_len (is_byte 32) bs), same) (ap (λ t. 32 ∷ t) (spaces_split bs))
-      | false ↦ λ e. refl
-    ] refl
 
 stopped : (text : List ℕ) → begins (is_byte 32) text ≡ false → after_spaces text ≡ text
 stopped [] clear = refl

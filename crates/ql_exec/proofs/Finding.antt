@@ -137,6 +137,23 @@ so_parts x a b is =
 pub so_from : (x : List Effect) (a b : ℕ) (e f : Effect) → effect_at x a ≡ Some e → effect_at x b ≡ Some f → e.session.0 ≡ f.session.0 → a < b → so x a b ≡ true
 so_from x a b e f at there same less = rw (at, there) (and_from (nat_eq e.session.0 f.session.0) (nat_lt a b) (eq-eqb e.session.0 f.session.0 same) (lt-ltb a b less))
 
+pub so-trans : (x : List Effect) (a b c : ℕ) → so x a b ≡ true → so x b c ≡ true → so x a c ≡ true
+so-trans x a b c one two =
+    let first = so_parts x a b one in
+    let second = so_parts x b c two in
+    let less = first.less in
+    let more = second.less in
+    let same : first.second ≡ second.first = same_Some first.second second.first (sym first.second_at ∙ second.first_at) in
+    so_from x a c first.first second.second first.first_at second.second_at (first.one_session ∙ ap (λ (f : Effect). f.session.0) same ∙ second.one_session) (omega (arith, less, more))
+
+-- of two that are before a third in its session, the lower is before the higher
+pub so-between : (x : List Effect) (a b c : ℕ) → a < b → so x a c ≡ true → so x b c ≡ true → so x a b ≡ true
+so-between x a b c less one two =
+    let first = so_parts x a c one in
+    let second = so_parts x b c two in
+    let same : first.second ≡ second.second = same_Some first.second second.second (sym first.second_at ∙ second.second_at) in
+    so_from x a b first.first second.first first.first_at second.first_at (first.one_session ∙ ap (λ (f : Effect). f.session.0) same ∙ sym second.one_session) less
+
 pub record InOneRun (x : List Effect) (a b : ℕ) : Type 0 where
   pub first : Effect
   pub second : Effect
@@ -182,14 +199,6 @@ pub take_one_more : (x : List Effect) (k : ℕ) (e : Effect) → slice_get x k �
 take_one_more [] k e is = absurd (let never : None ≡ Some e = is in cc)
 take_one_more (f ∷ x) zero e is = ap (λ (g : Effect). g ∷ []) (same_Some f e is)
 take_one_more (f ∷ x) (suc k) e is = ap (λ (y : List Effect). f ∷ y) (take_one_more x k e is)
-
--- a search for a session's last effect from the end: found, or one further
-pub place_found_at : (x : List Effect) (s : SessId) (k n : ℕ) (e : Effect) → n ≡ suc k → slice_get x k ≡ Some e → e.session.0 ≡ s.0
-    → last (of_session x s) ≡ last (of_session (take n x) s) → effect_at x n ≡ last (of_session x s)
-place_found_at x s k n e n_is is own known =
-    let known_k : last (of_session x s) ≡ last (of_session (take (suc k) x) s) = known ∙ ap (λ (m : ℕ). last (of_session (take m x) s)) n_is in
-    ap (effect_at x) n_is ∙ is
-    ∙ sym (known_k ∙ ap (λ (y : List Effect). last (of_session y s)) (take_one_more x k e is) ∙ ap last (of_session-own (take k x) e s (eq-eqb e.session.0 s.0 own)) ∙ last-push (of_session (take k x) s) e)
 
 all_taken : (x : List Effect) → take (length x) x ≡ x
 all_taken [] = refl

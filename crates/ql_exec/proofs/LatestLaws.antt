@@ -11,8 +11,8 @@ use Rattle.ql_exec.specs.declared.effect.Member.{Member}
 use Rattle.ql_exec.specs.declared.effect.Member.TheVariants.{Alone, Inside}
 use Rattle.ql_exec.specs.declared.latest.Entry.{Entry}
 use Rattle.ql_exec.specs.Effects.{effect_at, in_run, of_session, last}
-use Rattle.ql_exec.specs.Latest.{latest_of, has_entry, with_latest, FindsLast, KnowsRuns, KnowsRunOf}
-use Rattle.ql_exec.proofs.Finding.{effect_at-append, effect_at-last, LastIs, nothing, effect, last_is, last-push, of_session-own, of_session-other}
+use Rattle.ql_exec.specs.Latest.{latest_of, has_entry, with_latest, IsLastOf, FindsLast, KnowsRuns, KnowsRunOf}
+use Rattle.ql_exec.proofs.Finding.{effect_at-within, effect_at-append, cases_pushed, effect_at-last, LastIs, nothing, effect, last_is, last-push, of_session-own, of_session-other}
 
 same_session : (s t : SessId) → s.0 ≡ t.0 → s ≡ t
 same_session s t is = ap (λ (n : ℕ). let u : SessId = record { 0 = n } in u) is
@@ -44,6 +44,9 @@ latest-absent (n ∷ entries) s absent = elim (nat_eq n.session.0 s.0) as (λ b.
   | false ↦ λ other more. rw other (latest-absent entries s more)
 ] refl absent
 
+pub entry-known : (entries : List Entry) (s : SessId) → (latest_of entries s ≡ 0 → ⊥) → has_entry entries s ≡ true
+entry-known entries s some = elim (cases_Bool (has_entry entries s)) [ inl there ↦ there | inr absent ↦ absurd (some (latest-absent entries s absent)) ]
+
 pub latest-push : (entries : List Entry) (s t : SessId) → latest_of (entries ++ record { session = s; last = 0 } ∷ []) t ≡ latest_of entries t
 latest-push [] s t = elim (nat_eq s.0 t.0) as (λ b. nat_eq s.0 t.0 ≡ b → latest_of (record { session = s; last = 0 } ∷ []) t ≡ 0) [
   | true ↦ λ own. rw own refl
@@ -56,16 +59,17 @@ latest-push (n ∷ entries) s t = elim (nat_eq n.session.0 t.0) as (λ b. nat_eq
 
 -- ---- the last effects
 pub FindsLast-from_same : (entries others : List Entry) (x : List Effect) → ((t : SessId) → latest_of others t ≡ latest_of entries t) → FindsLast entries x → FindsLast others x
-FindsLast-from_same entries others x same known t = subst (λ (id : ℕ). (id ≤ length x) × (effect_at x id ≡ last (of_session x t))) (sym (same t)) (known t)
+FindsLast-from_same entries others x same known t = subst (λ (id : ℕ). IsLastOf x t id) (sym (same t)) (known t)
 
 pub FindsLast-push : (entries : List Entry) (x : List Effect) (e : Effect) → has_entry entries e.session ≡ true → FindsLast entries x → FindsLast (with_latest entries e.session (suc (length x))) (x ++ e ∷ [])
 FindsLast-push entries x e there known t = elim (cases_eq e.session.0 t.0) [
   | inl same ↦
-      subst (λ (u : SessId). (latest_of (with_latest entries e.session (suc (length x))) u ≤ length (x ++ e ∷ [])) × (effect_at (x ++ e ∷ []) (latest_of (with_latest entries e.session (suc (length x))) u) ≡ last (of_session (x ++ e ∷ []) u)))
+      subst (λ (u : SessId). IsLastOf (x ++ e ∷ []) u (latest_of (with_latest entries e.session (suc (length x))) u))
       (same_session e.session t same)
       (rw (latest-own entries e.session (suc (length x)) there) (
         omega (arith, length-append x (e ∷ [])),
         effect_at-last x e ∙ sym (ap last (of_session-own x e e.session (eq-eqb e.session.0 e.session.0 refl)) ∙ last-push (of_session x e.session) e),
+        λ a f at own. (let within = effect_at-within (x ++ e ∷ []) a f at in omega (arith, within, length-append x (e ∷ []))),
       ))
   | inr apart ↦
       let is = known t in
@@ -73,6 +77,10 @@ FindsLast-push entries x e there known t = elim (cases_eq e.session.0 t.0) [
       rw (latest-other entries e.session t (suc (length x)) apart) (
         omega (arith, low, length-append x (e ∷ [])),
         effect_at-append x (e ∷ []) (latest_of entries t) low ∙ is.1 ∙ sym (ap last (of_session-other x e t (ne_eqb e.session.0 t.0 apart))),
+        λ a f at own. elim (cases_pushed x e f a at) [
+          | inl before ↦ is.2 a f before.1 own
+          | inr new ↦ absurd (apart (ap (λ (g : Effect). g.session.0) (sym new.1) ∙ own))
+        ],
       )
 ]
 
@@ -85,16 +93,20 @@ entry_there entries x e known = elim (cases_Bool (has_entry entries e.session)) 
       absurd cc
 ]
 
-pub FindsLast-pop : (entries : List Entry) (x : List Effect) (e : Effect) (id : ℕ) → id ≤ length x → effect_at x id ≡ last (of_session x e.session) → FindsLast entries (x ++ e ∷ []) → FindsLast (with_latest entries e.session id) x
-FindsLast-pop entries x e id within is known t = elim (cases_eq e.session.0 t.0) [
+pub FindsLast-pop : (entries : List Entry) (x : List Effect) (e : Effect) (id : ℕ) → IsLastOf x e.session id → FindsLast entries (x ++ e ∷ []) → FindsLast (with_latest entries e.session id) x
+FindsLast-pop entries x e id is known t = elim (cases_eq e.session.0 t.0) [
   | inl same ↦
-      subst (λ (u : SessId). (latest_of (with_latest entries e.session id) u ≤ length x) × (effect_at x (latest_of (with_latest entries e.session id) u) ≡ last (of_session x u)))
+      subst (λ (u : SessId). IsLastOf x u (latest_of (with_latest entries e.session id) u))
       (same_session e.session t same)
-      (rw (latest-own entries e.session id (entry_there entries x e known)) (within, is))
+      (rw (latest-own entries e.session id (entry_there entries x e known)) is)
   | inr apart ↦
       let was = (known t).1 ∙ ap last (of_session-other x e t (ne_eqb e.session.0 t.0 apart)) in
       let few = inside t apart was (last_is x t) in
-      rw (latest-other entries e.session t id apart) (few, sym (effect_at-append x (e ∷ []) (latest_of entries t) few) ∙ was)
+      rw (latest-other entries e.session t id apart) (
+        few,
+        sym (effect_at-append x (e ∷ []) (latest_of entries t) few) ∙ was,
+        λ a f at own. (known t).2 a f (effect_at-append x (e ∷ []) a (effect_at-within x a f at) ∙ at) own,
+      )
 ]
   where
     inside : (t : SessId) → (e.session.0 ≡ t.0 → ⊥) → effect_at (x ++ e ∷ []) (latest_of entries t) ≡ last (of_session x t) → LastIs x t → latest_of entries t ≤ length x

@@ -63,7 +63,7 @@ IsOn-within x object a None is on = absurd on
 IsOn-within x object a (Some e) is on = effect_at-within x a e is
 
 -- ---- a front of an execution
-so-front : (x more : List Effect) (a b : ℕ) → a ≤ length x → b ≤ length x → so (x ++ more) a b ≡ so x a b
+pub so-front : (x more : List Effect) (a b : ℕ) → a ≤ length x → b ≤ length x → so (x ++ more) a b ≡ so x a b
 so-front x more a b first second = rw (effect_at-append x more a first, effect_at-append x more b second) refl
 
 sametxn-front : (x more : List Effect) (a b : ℕ) → a ≤ length x → b ≤ length x → sametxn (x ++ more) a b ≡ sametxn x a b

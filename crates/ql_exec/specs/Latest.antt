@@ -1,5 +1,5 @@
 -- The table of each session's last effect, and what it keeps.
-use Rattle.std.specs.Prelude.{◌≡◌, ℕ, ◌≤◌, length, Bool, true, nat_eq, if◌then◌else◌, List, [], ◌∷◌}
+use Rattle.std.specs.Prelude.{◌≡◌, ℕ, ◌≤◌, length, Bool, true, nat_eq, if◌then◌else◌, List, [], ◌∷◌, Some}
 use Rattle.std.specs.List.{list_any}
 use Rattle.ql_base.specs.IdLists.{has_id}
 use Rattle.ql_base.specs.declared.ids.SessId.{SessId}
@@ -25,10 +25,15 @@ with_latest (entry ∷ entries) session id =
     if nat_eq entry.session.0 session.0 then record { session = entry.session; last = id } ∷ entries
     else entry ∷ with_latest entries session id
 
+-- the id of a session's last effect, 0 if it has none
+abbrev pub IsLastOf : List Effect → SessId → ℕ → Type 0
+IsLastOf x session id =
+    (id ≤ length x) × (effect_at x id ≡ last (of_session x session))
+    × ((a : ℕ) (e : Effect) → effect_at x a ≡ Some e → e.session.0 ≡ session.0 → a ≤ id)
+
 -- the table has the last effect of each session
 abbrev pub FindsLast : List Entry → List Effect → Type 0
-FindsLast entries x =
-    (session : SessId) → (latest_of entries session ≤ length x) × (effect_at x (latest_of entries session) ≡ last (of_session x session))
+FindsLast entries x = (session : SessId) → IsLastOf x session (latest_of entries session)
 
 -- each transaction that has an effect is among these
 abbrev pub KnowsRuns : List ℕ → List Effect → Type 0

@@ -4,12 +4,13 @@ ghost use Rattle.ql_base.specs.IdLists.{IsAscending};
 ghost use Rattle.ql_exec.specs.declared.effect.Effect.{Effect};
 ghost use Rattle.ql_exec.specs.Effects.{effect_at, of_session, last};
 ghost use Rattle.ql_exec.specs.Execution.{IsExecution, fault_of, effect_of, next_id, IsPushAnswer, IsMade, with_stamp};
-ghost use Rattle.ql_exec.specs.Latest.{FindsLast, KnowsRuns, has_entry, KnowsRunOf};
+ghost use Rattle.ql_exec.specs.Latest.{FindsLast, KnowsRuns, has_entry, latest_of, KnowsRunOf};
+ghost use Rattle.ql_exec.specs.Links.{HasLinks};
 
 use crate::copying::copy_effect;
 use crate::effect::{Draft, Effect, Member};
 use crate::fault::ExecFault;
-use crate::judging::{effect, fault_in, last_place, stamp_after};
+use crate::judging::{effect, fault_in, stamp_after};
 use crate::latest::Latest;
 use ql_base::{EffId, IdSet, NoMemory, SessId};
 use std::alloc::Global;
@@ -21,6 +22,8 @@ pub struct Execution {
     effects: Vec<Effect>,
     // The last effect of each session.
     latest: Latest,
+    // For each effect, the one before it in its session.
+    links: Vec<u32>,
     // Each begun transaction that has an effect, and possibly some that have none.
     runs: IdSet,
 }
@@ -33,11 +36,13 @@ impl Model for Execution {
 
     ghost use Rattle.ql_exec.specs.Execution.{IsExecution};
     ghost use Rattle.ql_exec.specs.Latest.{FindsLast, KnowsRuns};
+    ghost use Rattle.ql_exec.specs.Links.{HasLinks};
 
     ghost view = { λ x. x.effects.items };
 
     ghost invariant = { λ x. IsExecution x.effects.items × (length x.effects.items < 2 ^ 32)
-        × FindsLast x.latest x.effects.items × KnowsRuns x.runs x.effects.items };
+        × FindsLast x.latest x.effects.items × HasLinks x.links.items x.effects.items
+        × KnowsRuns x.runs x.effects.items };
 }
 
 impl Execution {
@@ -48,6 +53,7 @@ impl Execution {
         Execution {
             effects: Vec::new(alloc),
             latest: Latest::new(alloc),
+            links: Vec::new(alloc),
             runs: IdSet::new(alloc),
         }
     }
@@ -97,6 +103,13 @@ impl Execution {
         &self.effects
     }
 
+    /// For each effect, the id of the last effect before it in its session, 0 if there is none.
+    pub fn links(&self) -> &[u32]
+        ensures { HasLinks result.now self.now }
+    {
+        &self.links
+    }
+
     /// Appends an effect with its stamp and returns its id. A draft that is refused is dropped, and the
     /// first of its faults is reported.
     pub fn push(&mut self, draft: Draft) -> Result<EffId, ExecFault>
@@ -108,14 +121,23 @@ impl Execution {
             ↔ IsExecution (self.old ++ effect_of self.old draft ∷ []) }
     {
         let id = EffId(self.effects.len() as u32 + 1);
-        let last = effect(&self.effects, self.latest.of(draft.session));
+        let before = self.latest.of(draft.session);
+        let last = effect(&self.effects, before);
         if let Some(fault) = fault_in(&self.effects, last, &self.runs, &draft, id) {
             return Err(fault);
         }
         let stamp = stamp_after(&self.effects, last, draft.session, draft.seen.items());
         let session = draft.session;
-        make_room(&mut self.latest, &mut self.runs, session, draft.member)?;
+        make_room(
+            &mut self.latest,
+            &mut self.runs,
+            session,
+            before,
+            draft.member,
+        )?;
+        self.links.reserve(1)?;
         self.effects.push(stamped(draft, stamp))?;
+        self.links.push_reserved(before);
         self.latest.put(session, id.0);
         Ok(id)
     }
@@ -127,9 +149,9 @@ impl Execution {
     {
         let count = self.effects.len() - 1;
         let session = self.effects[count].session;
+        self.latest.put(session, self.links[count]);
         self.effects.truncate(count);
-        let before = last_place(&self.effects, session);
-        self.latest.put(session, before);
+        self.links.truncate(count);
     }
 
     /// An equal execution.
@@ -141,6 +163,7 @@ impl Execution {
         Ok(Execution {
             effects,
             latest: self.latest.copy()?,
+            links: Vec::from_slice(alloc, &self.links)?,
             runs: self.runs.copy()?,
         })
     }
@@ -156,19 +179,22 @@ fn copy_effects(alloc: Global, effects: &[Effect]) -> Result<Vec<Effect>, NoMemo
     Ok(copied)
 }
 
-// Makes room in the tables for an effect of the session and the transaction.
+// Makes room in the tables for an effect of the session, whose last one is `before`, and the
+// transaction.
 fn make_room(
     latest: &mut Latest,
     runs: &mut IdSet,
     session: SessId,
+    before: u32,
     member: Member,
 ) -> Result<(), NoMemory>
+    requires { before ≡ latest_of latest.old session }
     ensures latest { (x : List Effect) → FindsLast latest.old x → FindsLast latest.new x }
     ensures runs { (x : List Effect) → KnowsRuns runs.old x → KnowsRuns runs.new x }
     ensures entry { OnOk result (has_entry latest.new session ≡ true) }
     ensures run { OnOk result (KnowsRunOf runs.new member) }
 {
-    latest.include(session)?;
+    latest.include(session, before)?;
     if let Member::Inside(run, _) = member {
         runs.insert(run.0)?;
     }

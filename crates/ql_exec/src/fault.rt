@@ -1,5 +1,5 @@
 use ql_base::{EffId, NoMemory};
-use std::alloc::AllocFailed;
+use std::alloc::{AllocError, AllocFailed};
 
 /// Why a draft can't be the next effect of an execution. The id is the one that it would have.
 #[derive(Clone, Copy, Debug, PartialEq, Eq)]
@@ -12,6 +12,17 @@ pub enum ExecFault {
     /// under another declared name, or the session's last effect isn't one of them.
     SplitTxn(EffId),
     NoMemory,
+}
+
+impl From<AllocError> for ExecFault {
+    ghost use Rattle.std.specs.Prelude.{◌≡◌};
+    ghost use Rattle.ql_exec.specs.declared.fault.ExecFault.TheVariants.{NoMemory};
+
+    ghost from_gives = { λ _ fault. fault ≡ NoMemory };
+
+    fn from(_error: AllocError) -> ExecFault {
+        ExecFault::NoMemory
+    }
 }
 
 impl<T: Drop> From<AllocFailed<T>> for ExecFault {

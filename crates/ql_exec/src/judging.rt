@@ -163,19 +163,3 @@ fn stamp_or_none(effect: Option<&Effect>) -> u32
         None => 0,
     }
 }
-
-/// The id of the session's last effect, 0 if it has none. It takes time linear in the number of effects.
-pub(crate) fn last_place(effects: &[Effect], session: SessId) -> u32
-    requires { length effects.now < 2 ^ 32 }
-    ensures within { result ≤ length effects.now }
-    ensures place { effect_at effects.now result ≡ last (of_session effects.now session) }
-{
-    let mut count = effects.len();
-    while count > 0 {
-        if effects[count - 1].session.0 == session.0 {
-            return count as u32;
-        }
-        count -= 1;
-    }
-    0
-}

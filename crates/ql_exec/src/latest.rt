@@ -49,12 +49,14 @@ impl Latest {
         0
     }
 
-    /// Makes room for the session. The last effect of each session stays the same.
-    pub(crate) fn include(&mut self, session: SessId) -> Result<(), NoMemory>
+    /// Makes room for the session, whose last effect is `last`. The last effect of each session stays
+    /// the same.
+    pub(crate) fn include(&mut self, session: SessId, last: u32) -> Result<(), NoMemory>
+        requires { last ≡ latest_of self.old session }
         ensures same { (other : SessId) → latest_of self.new other ≡ latest_of self.old other }
         ensures there { OnOk result (has_entry self.new session ≡ true) }
     {
-        if self.has(session) {
+        if last != 0 || self.has(session) {
             return Ok(());
         }
         self.entries.push(Entry { session, last: 0 })?;

@@ -1,5 +1,5 @@
 -- What is said of the files that words name, from what is said of each.
-use Rattle.std.proofs.Common.{◌≡◌, inl, inr, ℕ, ◌<◌, ◌≤◌, List, length, Option, Some, None, Result, Ok, Err, sym, subst, arith}
+use Rattle.std.proofs.Common.{◌≡◌, ℕ, ◌<◌, ◌≤◌, List, length, Option, Some, None, Result, Ok, Err, sym, subst}
 use Rattle.std.specs.Prelude.{IfOk, IfSome}
 use Rattle.std.specs.Global.{Vec}
 use Rattle.ql_base.specs.declared.no_memory.NoMemory.{NoMemory}
@@ -9,7 +9,7 @@ use Rattle.ql_ports.specs.declared.whole.ReadError.TheVariants.{Failed, TooLong}
 use Rattle.ql_baseline.specs.Comparison.{BaselineSays}
 use Rattle.ql_explain.specs.Outcomes.{IsOf, Means, SaysIn, SaysOf, Tells}
 use Rattle.ql_reply.specs.Unread.{IsUnread}
-use Rattle.ql_reply.proofs.Replies.{answer_unread}
+use Rattle.ql_reply.proofs.Replies.{answer_unread, no_usage, rose_before}
 use Rattle.ql_explain.specs.Words.{Call, Explained, Compared}
 use Rattle.ql_explain.specs.declared.asked.Form.{Form}
 use Rattle.ql_explain.specs.declared.asked.Form.TheVariants.{Text, Json}
@@ -20,11 +20,6 @@ use Rattle.ql_reply.specs.declared.status.Status.TheVariants.{Done, No, Bad, Rea
 of_whole : (o : Option (List ℕ)) (bytes : List ℕ) (P : List ℕ → Type 0) → IfSome o (λ whole. bytes ≡ whole) → P bytes → IfSome o P
 of_whole None bytes P same is = tt
 of_whole (Some whole) bytes P same is = subst P same is
-
--- a count that rose later rose
-rose_before : (a b c : ℕ) → a ≤ b → Rose b c → Rose a c
-rose_before a b c le (inl less) = inl (omega (arith, le, less))
-rose_before a b c le (inr is) = inr is
 
 -- yes, no, or a bad file
 abbrev IsAnswered : Status → Type 0
@@ -119,10 +114,6 @@ pub still_whole : (was is : Option (List ℕ)) (bytes : List ℕ) → is ≡ was
 still_whole was is bytes same whole = subst (λ (h : Option (List ℕ)). IfSome h (λ w. bytes ≡ w)) (sym same) whole
 
 -- nothing is to be written with the status of a write fault
-abbrev IsWriteFault : Status → Type 0
-IsWriteFault WriteFault = Unit {0}
-IsWriteFault _ = ⊥
-
 pub never : (held : List ℕ → Option (List ℕ)) (before after : List ℕ → ℕ) (call : Option Call) (text : List ℕ) → SaysOf held before after call WriteFault text → ⊥
-never held before after None text says = subst IsWriteFault says.0 tt
+never held before after None text says = no_usage says.0
 never held before after (Some call) text says = says

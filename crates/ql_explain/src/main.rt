@@ -10,32 +10,30 @@ mod outcome;
 mod program;
 
 use crate::program::explain_words;
-use ql_base::NoMemory;
 use ql_notes::{KeptSink, write_notes};
 use ql_ports::{FileShelf, StdSink};
-use ql_reply::{NO_MEMORY, arguments};
+use ql_reply::{arguments, exit_number};
 use std::io;
 use std::process::ExitCode;
 
 fn main(rt: HostRuntime) -> ExitCode {
     match arguments(&rt) {
-        Ok(words) => ExitCode::from(exit_number(rt, &words)),
+        Ok(words) => ExitCode::from(run(rt, &words)),
         Err(number) => ExitCode::from(number),
     }
 }
 
-fn exit_number(rt: HostRuntime, words: &Vec<String>) -> u8 {
+// Explains what the arguments name, and returns the exit status.
+fn run(rt: HostRuntime, words: &Vec<String>) -> u8 {
     let mut shelf = FileShelf::new(rt.alloc(), rt);
     let mut sink = KeptSink::over(StdSink::new(rt));
-    match explain_words(rt.alloc(), words, &mut shelf, &mut sink) {
-        Ok(status) => {
-            if let Ok(words) = with_command(&rt, words) {
-                write_notes(rt, &words, status.number(), sink.printed(), &mut shelf);
-            }
-            status.number()
+    let ended = explain_words(rt.alloc(), words, &mut shelf, &mut sink);
+    if let Ok(status) = ended {
+        if let Ok(words) = with_command(&rt, words) {
+            write_notes(rt, &words, status.number(), sink.printed(), &mut shelf);
         }
-        Err(NoMemory) => NO_MEMORY,
     }
+    exit_number(ended)
 }
 
 // The arguments as `./quelea` got them.

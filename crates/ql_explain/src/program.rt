@@ -5,8 +5,8 @@ ghost use Rattle.ql_reply.specs.Arguments.{word_texts};
 
 use crate::outcome::outcome;
 use ql_base::NoMemory;
-use ql_ports::{Failed, Shelf, Sink, write_whole};
-use ql_reply::Status;
+use ql_ports::{Shelf, Sink};
+use ql_reply::{Status, write_reply};
 use std::alloc::Global;
 
 /// Carries out the arguments of the command line, without the program's own name: reads the files that they name from the
@@ -31,8 +31,5 @@ pub(crate) fn explain_words<S: Shelf, K: Sink>(
     ensures sink_count_stays { K.faults sink.old ≤ K.faults sink.new }
 {
     let (status, text) = outcome(alloc, words, shelf)?;
-    match write_whole(sink, text.as_slice()) {
-        Ok(()) => Ok(status),
-        Err(Failed) => Ok(Status::WriteFault),
-    }
+    Ok(write_reply(sink, status, &text))
 }

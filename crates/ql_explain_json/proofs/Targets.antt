@@ -9,11 +9,7 @@ use Rattle.serde_json.specs.declared.value.Value.{Value}
 use Rattle.ql_classify.proofs.Climbing.{zip_push}
 use Rattle.ql_classify.specs.declared.finding.Finding.{Finding}
 use Rattle.ql_lang.specs.declared.program.Program.{Program}
-use Rattle.ql_commands.specs.Sources.{IsSourceOf}
-use Rattle.ql_reply.specs.declared.status.Status.{Status}
-use Rattle.ql_reply.specs.declared.status.Status.TheVariants.{Done, No, Bad, ReadFault, WriteFault, Usage, TooLarge}
-use Rattle.ql_explanation.specs.Explanation.{IsAnswerOf}
-use Rattle.ql_explain_json.specs.JsonExplanations.{AreTargets, ExplainJsonSays, IsJsonExplanation, IsTarget}
+use Rattle.ql_explain_json.specs.JsonExplanations.{AreTargets, IsTarget}
 
 module _ (source : List ℕ) (p : Program) (findings : List Finding) (k : ℕ) where
   pub one_more : (f : Finding) (before after : List Value) (v : Value) → slice_get findings k ≡ Some f → after ≡ before ++ v ∷ [] → IsTarget source p f (view v)
@@ -26,13 +22,3 @@ module _ (source : List ℕ) (p : Program) (findings : List Finding) (k : ℕ) w
 
   pub all_of_them : (values : List Value) → length findings ≤ k → AreTargets source p (take k findings) (map view values) → AreTargets source p findings (map view values)
   all_of_them values l are = subst (λ (fs : List Finding). AreTargets source p fs (map view values)) (take_all k findings l) are
-
--- what is said with an answer
-pub explained : (source text : List ℕ) (p : Program) (answer : Status) → IsSourceOf source p → IsAnswerOf p answer → IsJsonExplanation source p text → ExplainJsonSays source answer text
-explained source text p Done of is told = (p, of, is, told)
-explained source text p No of is told = (p, of, is, told)
-explained source text p Bad of is told = absurd is
-explained source text p ReadFault of is told = absurd is
-explained source text p WriteFault of is told = absurd is
-explained source text p Usage of is told = absurd is
-explained source text p TooLarge of is told = absurd is

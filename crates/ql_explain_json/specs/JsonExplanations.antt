@@ -8,13 +8,11 @@ use Rattle.ql_classify.specs.declared.finding.Finding.{Finding}
 use Rattle.ql_classify.specs.declared.finding.Finding.TheVariants.{Least, NoLevel}
 use Rattle.ql_classify.specs.declared.finding.Unmet.{Unmet}
 use Rattle.ql_reply.specs.declared.status.Status.{Status}
-use Rattle.ql_reply.specs.declared.status.Status.TheVariants.{Done, No, Bad}
-use Rattle.ql_commands.specs.Sources.{BadSourceSays, IsSourceOf}
 use Rattle.ql_counter.specs.Countermodels.{AreWithin, IsCounterOf, numbers}
 use Rattle.ql_counter.specs.declared.counter.At.{At}
 use Rattle.ql_counter.specs.declared.counter.At.TheVariants as at
 use Rattle.ql_counter.specs.declared.counter.Counter.{Counter}
-use Rattle.ql_explanation.specs.Explanation.{AreFindings, AreUsesOf, IsAccepted, IsRefused, goal_of, unmet_of}
+use Rattle.ql_explanation.specs.Explanation.{AreFindings, AreUsesOf, SaysBy, goal_of, unmet_of}
 use Rattle.ql_facts.specs.Facts.{IsTrueOf}
 use Rattle.ql_facts.specs.declared.fact.Claim.{Claim}
 use Rattle.ql_facts.specs.declared.fact.Claim.TheVariants.{Related, Inside, OneTxn}
@@ -171,10 +169,7 @@ IsJsonExplanation source p text =
     (findings : List Finding) × AreFindings p findings × (targets : List Data) × AreTargets source p findings targets × (text ≡ explanation_json targets)
 
 abbrev pub ExplainJsonSays : List ℕ → Status → List ℕ → Type 0
-ExplainJsonSays bytes Done text = (p : Program) × IsSourceOf bytes p × IsAccepted p × IsJsonExplanation bytes p text
-ExplainJsonSays bytes No text = (p : Program) × IsSourceOf bytes p × IsRefused p × IsJsonExplanation bytes p text
-ExplainJsonSays bytes Bad text = BadSourceSays bytes text
-ExplainJsonSays bytes _ text = ⊥
+ExplainJsonSays bytes status text = SaysBy IsJsonExplanation bytes status text
 
 -- ---- parts of it
 

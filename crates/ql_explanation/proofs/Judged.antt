@@ -27,7 +27,7 @@ use Rattle.ql_levels.specs.declared.level.TxnLevel.{TxnLevel}
 use Rattle.ql_levels.specs.declared.level.TxnLevel.TheVariants.{Rr}
 use Rattle.ql_typing.specs.Operations.{all_ops, names_op, uses_op}
 use Rattle.ql_warnings.specs.Warnings.{HasLevel}
-use Rattle.ql_explanation.specs.Explanation.{AreFindings, ExplainSays, HasLeastLevel, IsAccepted, IsAnswerOf, IsExplanation, IsRefused, IsStrong, IsStrongIn}
+use Rattle.ql_explanation.specs.Explanation.{AreFindings, HasLeastLevel, IsAccepted, IsAnswerOf, IsRefused, IsStrong, IsStrongIn, SaysBy}
 
 -- a list's item
 item_at : {X : Type 0} (xs : List X) (k : ℕ) → k < length xs → (x : X) × (slice_get xs k ≡ Some x)
@@ -110,12 +110,13 @@ module _ (p : Program) where
       weak = λ d o is. weak d o (txn_known d o.0 is.used) is;
     }
 
--- what is said with an answer
-pub explained : (source text : List ℕ) (p : Program) (answer : Status) → IsSourceOf source p → IsAnswerOf p answer → IsExplanation source p text → ExplainSays source answer text
-explained source text p Done of is told = (p, of, is, told)
-explained source text p No of is told = (p, of, is, told)
-explained source text p Bad of is told = absurd is
-explained source text p ReadFault of is told = absurd is
-explained source text p WriteFault of is told = absurd is
-explained source text p Usage of is told = absurd is
-explained source text p TooLarge of is told = absurd is
+-- what is said with an answer, in any form of explanation
+pub explained : (Explains : List ℕ → Program → List ℕ → Type 0) (source text : List ℕ) (p : Program) (answer : Status) → IsSourceOf source p → IsAnswerOf p answer → Explains source p text
+    → SaysBy Explains source answer text
+explained Explains source text p Done of is told = (p, of, is, told)
+explained Explains source text p No of is told = (p, of, is, told)
+explained Explains source text p Bad of is told = absurd is
+explained Explains source text p ReadFault of is told = absurd is
+explained Explains source text p WriteFault of is told = absurd is
+explained Explains source text p Usage of is told = absurd is
+explained Explains source text p TooLarge of is told = absurd is

@@ -142,8 +142,12 @@ pub record IsSection (source : List ℕ) (p : Program) (f : Finding) (text : Lis
 abbrev pub IsExplanation : List ℕ → Program → List ℕ → Type 0
 IsExplanation source p text = (findings : List Finding) × AreFindings p findings × InTurn (IsSection source p) findings text
 
+-- what is said of a source: the answer with an explanation of this form, or its first fault
+abbrev pub SaysBy : (List ℕ → Program → List ℕ → Type 0) → List ℕ → Status → List ℕ → Type 0
+SaysBy Explains bytes Done text = (p : Program) × IsSourceOf bytes p × IsAccepted p × Explains bytes p text
+SaysBy Explains bytes No text = (p : Program) × IsSourceOf bytes p × IsRefused p × Explains bytes p text
+SaysBy Explains bytes Bad text = BadSourceSays bytes text
+SaysBy Explains bytes _ text = ⊥
+
 abbrev pub ExplainSays : List ℕ → Status → List ℕ → Type 0
-ExplainSays bytes Done text = (p : Program) × IsSourceOf bytes p × IsAccepted p × IsExplanation bytes p text
-ExplainSays bytes No text = (p : Program) × IsSourceOf bytes p × IsRefused p × IsExplanation bytes p text
-ExplainSays bytes Bad text = BadSourceSays bytes text
-ExplainSays bytes _ text = ⊥
+ExplainSays bytes status text = SaysBy IsExplanation bytes status text

@@ -7,33 +7,11 @@ use Rattle.ql_atoms.specs.declared.atoms.Atom.TheVariants.{Pair, Current, Is}
 use Rattle.ql_atoms.specs.declared.atoms.PairKind.{PairKind}
 use Rattle.ql_atoms.specs.declared.atoms.PairKind.TheVariants.{Eq, So, SameObj, Vis, Hbo, Hb, SameTxn}
 use Rattle.ql_atoms.specs.Atoms.{Size, Fits, kind_place, atom_place, number_of, count_of, relations_of}
-use Rattle.ql_atoms.proofs.Numbers.{counted}
+use Rattle.ql_atoms.proofs.Numbers.{counted, few_kinds, kind_at, kind_at-place}
 use Rattle.ql_cnf.specs.Satisfaction.{variable_value}
 use Rattle.ql_base.specs.Ranges.{upto}
 use Rattle.ql_base.specs.Ids.{op}
 use Rattle.ql_ground.proofs.Upto.{length-upto, upto-at}
-
-kind_at : ℕ → PairKind
-kind_at q = get_or (Eq ∷ So ∷ SameObj ∷ Vis ∷ Hbo ∷ Hb ∷ SameTxn ∷ []) q Eq
-
-kind_at-place : (r : PairKind) → kind_at (kind_place r) ≡ r
-unfolding kind_at
-kind_at-place Eq = refl
-kind_at-place So = refl
-kind_at-place SameObj = refl
-kind_at-place Vis = refl
-kind_at-place Hbo = refl
-kind_at-place Hb = refl
-kind_at-place SameTxn = refl
-
-few_kinds : (r : PairKind) → kind_place r < 7
-few_kinds Eq = omega arith
-few_kinds So = omega arith
-few_kinds SameObj = omega arith
-few_kinds Vis = omega arith
-few_kinds Hbo = omega arith
-few_kinds Hb = omega arith
-few_kinds SameTxn = omega arith
 
 module _ (s : Size) (t : Atom → Bool) where
   cells : (ℕ → ℕ → Bool) → ℕ → ℕ → List Bool

@@ -1,13 +1,13 @@
 -- A line is one thing, and makes one thing of what was read before it.
-use Rattle.std.proofs.Common.{◌≡◌, inl, inr, ℕ, zero, suc, List, [], ◌∷◌, ◌++◌, Option, None, Some, Result, Err, length, map, get_or, drop, replicate, codes, decimal, arith, refl, ap, sym, ◌∙◌}
+use Rattle.std.proofs.Common.{◌≡◌, inl, inr, ℕ, zero, suc, List, [], ◌∷◌, ◌++◌, Option, None, Some, Result, Err, length, get_or, drop, replicate, codes, decimal, arith, refl, ap, sym, ◌∙◌}
 use Rattle.std.proofs.lemmas.Fmt.{decimal_injective}
 use Rattle.std.proofs.lemmas.List.{append_cancel_left}
 use Rattle.std.specs.Coded.{Coded-set, coded_result}
-use Rattle.std.specs.List.{AllByRecursion}
 use Rattle.ql_lang.specs.Trees.{Sentence}
 use Rattle.ql_line_files.specs.declared.fault.Broken.{Broken}
-use Rattle.ql_lines.proofs.Conses.{both, heads, tails}
-use Rattle.ql_lines.specs.Fields.{FirstField, Fields, IsId, fields_of}
+use Rattle.ql_line_files.proofs.WrittenNumbers.{same_numbers}
+use Rattle.ql_lines.proofs.Conses.{heads, tails}
+use Rattle.ql_lines.specs.Fields.{FirstField, Fields, fields_of}
 use Rattle.ql_lines.specs.Lines.{Numbered}
 use Rattle.ql_holds_files.specs.contracts.reading.Stage as stage
 use Rattle.ql_holds_files.specs.contracts.rules.HoldsRule as rules
@@ -43,14 +43,6 @@ one_contract one text c d p q = one q.rest c d (rw (one_rest text p.rest q.rest 
 one_current : (fields : Fields) (a b : ℕ) → IsCurrentLine fields a → IsCurrentLine fields b → a ≡ b
 one_current fields a b p q = decimal_injective a b (omega (arith, p.0)) (omega (arith, q.0)) (ap (λ (fs : Fields). get_or fs 1 []) (sym p.1 ∙ q.1))
 
-same_ids : (xs ys : List ℕ) → AllByRecursion IsId xs → AllByRecursion IsId ys → map decimal xs ≡ map decimal ys → xs ≡ ys
-same_ids [] [] f g e = refl
-same_ids [] (y ∷ ys) f g e = absurd (omega (arith, ap length e))
-same_ids (x ∷ xs) [] f g e = absurd (omega (arith, ap length e))
-same_ids (x ∷ xs) (y ∷ ys) f g e =
-    both x y xs ys (decimal_injective x y (omega (arith, f.0)) (omega (arith, g.0)) (heads (decimal x) (decimal y) (map decimal xs) (map decimal ys) e))
-    (same_ids xs ys f.1 g.1 (tails (decimal x) (decimal y) (map decimal xs) (map decimal ys) e))
-
 one_effect : (fields : Fields) (id : ℕ) (e f : EffectLine) → IsHoldsEffectLine fields id e → IsHoldsEffectLine fields id f → e ≡ f
 one_effect fields id e f p q =
     let same : holds_effect_fields id e ≡ holds_effect_fields id f = sym p.is ∙ q.is in
@@ -58,7 +50,7 @@ one_effect fields id e f p q =
     let op : e.op ≡ f.op = ap (λ (fs : Fields). get_or fs 3 []) same in
     let session : e.session ≡ f.session =
     decimal_injective e.session f.session (omega (arith, p.fits.session)) (omega (arith, q.fits.session)) (ap (λ (fs : Fields). get_or fs 5 []) same) in
-    let seen : e.seen ≡ f.seen = same_ids e.seen f.seen p.fits.ids q.fits.ids (ap (λ (fs : Fields). drop 7 fs) same) in
+    let seen : e.seen ≡ f.seen = same_numbers e.seen f.seen p.fits.ids q.fits.ids (ap (λ (fs : Fields). drop 7 fs) same) in
     ap (λ o. record { object = o; op = e.op; session = e.session; seen = e.seen }) object
     ∙ ap (λ o. record { object = f.object; op = o; session = e.session; seen = e.seen }) op
     ∙ ap (λ s. record { object = f.object; op = f.op; session = s; seen = e.seen }) session

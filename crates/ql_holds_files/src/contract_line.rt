@@ -1,4 +1,5 @@
-ghost use Rattle.std.specs.Prelude.{IfOk, MatchOption};
+ghost use Rattle.std.specs.Prelude.{◌<◌, ◌^◌, IfOk, IfSome, MatchOption, length};
+ghost use Rattle.std.specs.List.{flat_map};
 ghost use Rattle.ql_lang.specs.Trees.{Sentence, sentence_of};
 ghost use Rattle.ql_holds_files.specs.ContractLine.{IsContractLine};
 
@@ -10,11 +11,15 @@ use std::alloc::Global;
 
 /// The contract of a line that is the word `contract` and then a contract; `None` for any other line.
 pub(crate) fn contract_line(alloc: Global, text: &[u8]) -> Result<Option<Contract>, NoMemory>
-    ensures { IfOk result
+    ensures line { IfOk result
         (λ found. MatchOption found ((c : Sentence) → IsContractLine text.now c → ⊥)
         (λ contract. IsContractLine text.now (sentence_of contract))) }
+    ensures few { IfOk result
+        (λ found. IfSome found
+        (λ contract. length (flat_map (λ v. v.ops) contract.vars) < 2 ^ 32)) }
 {
     ql_parse::one_answer();
+    ql_parse::few_operations();
     let Some(rest) = after_word(text, b"contract") else {
         return Ok(None);
     };

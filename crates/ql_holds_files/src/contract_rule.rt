@@ -1,14 +1,14 @@
 ghost use Rattle.std.specs.Prelude.{◌≡◌, ◌≢◌, [], List, ℕ, false, None, Some, IfOk, map};
 ghost use Rattle.std.specs.List.{list_any};
-ghost use Rattle.ql_base.specs.Numbering.{with_name};
 ghost use Rattle.ql_lang.specs.Trees.{proposition_of, sentence_of};
 ghost use Rattle.ql_typing.specs.Faults.{each, names_met, repeats};
 ghost use Rattle.ql_typing.specs.ContractFaults.{choice_faults, point_faults, prop_faults, var_names};
 ghost use Rattle.ql_holds_files.specs.ContractLine.{sentence_faults, is_repeat, is_txn_atom, is_unknown_name, lowest_rule};
 
 use crate::rules::HoldsRule;
-use ql_base::{Names, NoMemory, Word};
+use ql_base::NoMemory;
 use ql_lang::{Contract, Name, Point, Prop, Var};
+use ql_typing::WordSet;
 use std::alloc::Global;
 
 /// The lowest rule that a contract with faults breaks.
@@ -46,7 +46,7 @@ fn names_of(alloc: Global, vars: &[Var]) -> Result<Vec<Name>, NoMemory>
 // Distinct names in the order of their first occurrence, and whether one occurs twice.
 #[derive(Drop)]
 struct Met {
-    names: Names,
+    names: WordSet,
     twice: bool,
 }
 
@@ -56,26 +56,15 @@ fn meet(alloc: Global, list: &[Name]) -> Result<Met, NoMemory>
     ensures names { IfOk result (λ met. met.names ≡ names_met [] list.now) }
     ensures twice { IfOk result (λ met. met.twice ≡ list_any is_repeat (repeats [] list.now)) }
 {
-    let mut names = Names::new(alloc);
+    let mut names = WordSet::new(alloc);
     let mut twice = false;
     let mut rest = list;
     while let Some((name, others)) = rest.split_first() {
-        twice = twice || names.find(name.word.bytes()).is_some();
-        put_in(&mut names, &name.word)?;
+        let is_new = names.add(&name.word)?;
+        twice = twice || !is_new;
         rest = others;
     }
     Ok(Met { names, twice })
-}
-
-// Adds a name. It is out of memory where 32 bits can't number the names.
-fn put_in(names: &mut Names, word: &Word) -> Result<(), NoMemory>
-    ensures { IfOk result (λ _. names.new ≡ with_name names.old word.now) }
-{
-    if names.len() >= u32::MAX {
-        return Err(NoMemory);
-    }
-    names.number(word.bytes())?;
-    Ok(())
 }
 
 // Whether one of the variables names an operation twice.
@@ -96,16 +85,16 @@ fn repeats_an_operation(alloc: Global, vars: &[Var]) -> Result<bool, NoMemory>
 
 // Whether a term is a variable that the contract doesn't bind.
 #[tactic(auto, unfolding(ql_typing::specs::ContractFaults::point_faults))]
-fn is_unbound(point: &Point, vars: &Names) -> bool
+fn is_unbound(point: &Point, vars: &WordSet) -> bool
     ensures { result ≡ list_any is_unknown_name (point_faults false vars.now point.now) }
 {
     match point {
         Point::CurAt(_) => false,
-        Point::Named(name) => vars.find(name.word.bytes()).is_none(),
+        Point::Named(name) => !vars.has(&name.word),
     }
 }
 
-fn has_unbound(points: &[Point], vars: &Names) -> bool
+fn has_unbound(points: &[Point], vars: &WordSet) -> bool
     ensures { result ≡ list_any is_unknown_name (each (point_faults false vars.now) points.now) }
 {
     let mut rest = points;
@@ -120,7 +109,7 @@ fn has_unbound(points: &[Point], vars: &Names) -> bool
 
 // Whether a proposition uses a variable that the contract doesn't bind.
 #[tactic(auto, unfolding(ql_typing::specs::ContractFaults::prop_faults), using(crate::proofs::ContractRules::unknown_application, crate::proofs::ContractRules::unknown_either))]
-fn is_open(prop: &Prop, vars: &Names) -> bool
+fn is_open(prop: &Prop, vars: &WordSet) -> bool
     ensures { result ≡ list_any is_unknown_name
         (prop_faults false vars.now (proposition_of prop.now)) }
 {

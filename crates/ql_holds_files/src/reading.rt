@@ -1,4 +1,5 @@
-ghost use Rattle.std.specs.Prelude.{◌≡◌, ◌≤◌, suc, nat_le, ◌&&◌, IfOk, Ok, length, map};
+ghost use Rattle.std.specs.Prelude.{◌≡◌, ◌<◌, ◌≤◌, ◌^◌, suc, nat_le, ◌&&◌, IfOk, Ok, length, map};
+ghost use Rattle.std.specs.List.{flat_map};
 ghost use Rattle.ql_base.specs.declared.limits.TheConstants.{MAX_EFFECTS};
 ghost use Rattle.ql_lang.specs.Trees.{sentence_of};
 ghost use Rattle.ql_lines.specs.Fields.{fields_of};
@@ -72,6 +73,7 @@ fn begun(alloc: Global, text: &[u8]) -> Result<Stage, LineFault<HoldsRule>>
 
 // The contract with its names resolved, or the lowest rule that it breaks.
 fn with_contract(alloc: Global, contract: &Contract) -> Result<Stage, LineFault<HoldsRule>>
+    requires { length (flat_map (λ v. v.ops) contract.now.vars) < 2 ^ 32 }
     ensures { IsLineAnswer (λ x. x ≡ after_contract (sentence_of contract.now)) result }
 {
     let mut ops = Names::new(alloc);

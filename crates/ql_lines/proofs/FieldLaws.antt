@@ -42,7 +42,7 @@ behind_field xs lt =
     ap fields_of (drop_more xs n 0 lt) ∙ behind_space (get_or xs n 0) (drop (n + 1) xs) (passes_at_first is_space xs 0 lt)
 
 -- a part that isn't empty is a field
-kept : (field : List ℕ) (parts : List (List ℕ)) → 0 < length field → filter isn't_empty (field ∷ parts) ≡ field ∷ filter isn't_empty parts
+pub kept : (field : List ℕ) (parts : List (List ℕ)) → 0 < length field → filter isn't_empty (field ∷ parts) ≡ field ∷ filter isn't_empty parts
 kept [] parts some = absurd (omega (arith, some))
 kept (b ∷ bs) parts some = grind arith
 

@@ -1,6 +1,8 @@
 pub mod Conses
 pub mod AscendingIds
-mod Splits
+pub mod Splits
+pub mod Each
+pub mod LineEnds
 mod FirstBytes
 pub mod FieldLaws
 pub mod LineLaws

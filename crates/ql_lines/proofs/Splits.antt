@@ -1,6 +1,6 @@
 -- a list cut at the elements that pass a test
-use Rattle.std.proofs.Common.{◌≡◌, ◌+◌, ℕ, Bool, true, false, List, [], ◌∷◌, length, arith, refl, ◌∙◌}
-use Rattle.std.specs.List.{position_or_len, slice_split}
+use Rattle.std.proofs.Common.{◌≡◌, ◌+◌, ℕ, Bool, true, false, List, [], ◌∷◌, ◌++◌, length, arith, refl, ◌∙◌}
+use Rattle.std.specs.List.{AllByRecursion, position_or_len, slice_split}
 use Rattle.std.proofs.lemmas.List.Splits.{slice_split-cons_no, slice_split-cons_yes}
 
 module _ (p : ℕ → Bool) where
@@ -24,3 +24,12 @@ module _ (p : ℕ → Bool) where
         | true ↦ λ is. ([], slice_split p xs, slice_split-cons_yes p x xs is)
         | false ↦ λ is. (x ∷ rest.0, rest.1, slice_split-cons_no p x xs is ∙ rw rest.2 refl)
       ] refl
+
+  -- a part goes up to the first element that passes
+  pub part_before : (xs : List ℕ) (y : ℕ) (ys : List ℕ) → AllByRecursion (λ x. p x ≡ false) xs → p y ≡ true → slice_split p (xs ++ y ∷ ys) ≡ xs ∷ slice_split p ys
+  part_before [] y ys none passes = slice_split-cons_yes p y ys passes
+  part_before (x ∷ xs) y ys none passes = slice_split-cons_no p x (xs ++ y ∷ ys) none.0 ∙ rw (part_before xs y ys none.1 passes) refl
+
+  pub whole_part : (xs : List ℕ) → AllByRecursion (λ x. p x ≡ false) xs → slice_split p xs ≡ xs ∷ []
+  whole_part [] none = refl
+  whole_part (x ∷ xs) none = slice_split-cons_no p x xs none.0 ∙ rw (whole_part xs none.1) refl

@@ -22,8 +22,7 @@ abbrev pub is_ender : ℕ → Bool
 is_ender b = (b == 32) || (b == 10) || (b == 13)
 
 abbrev pub EndsNothing : List ℕ → Type 0
-EndsNothing [] = Unit {0}
-EndsNothing (b ∷ bs) = (is_ender b ≡ false) × EndsNothing bs
+EndsNothing field = AllByRecursion (λ b. is_ender b ≡ false) field
 
 -- a field that is read as it is written
 pub record IsPlain (f : List ℕ) : Type 0 where

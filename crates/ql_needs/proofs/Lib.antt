@@ -3,3 +3,4 @@ pub mod NeedsLaws
 pub mod IdSets
 pub mod Packages
 pub mod Members
+pub mod Missing

@@ -13,7 +13,7 @@ use crate::typing::{offset_of, rule_of};
 use ql_base::{Names, NoMemory, push_bytes};
 use ql_excerpt::{File, Spot, line_of, push_fault};
 use ql_lex::{LexFault, Token};
-use ql_parse::{ParseFault, parse_contract};
+use ql_parse::{ParseFault, few_operations, parse_contract};
 use ql_typing::{TypeFault, resolve};
 use std::alloc::Global;
 
@@ -206,6 +206,7 @@ fn offset_in(tokens: &[Token], k: usize) -> usize {
 fn fault_in(alloc: Global, contract: &[u8]) -> Result<ContractFault, NoMemory>
     requires { length contract.now < 2 ^ 32 }
 {
+    few_operations();
     let tree = match parse_contract(alloc, contract) {
         Ok(tree) => tree,
         Err(fault) => return parse_fault(fault),

@@ -4,3 +4,5 @@ pub mod Spans
 pub mod OneReading
 pub mod Answering
 pub mod ArgumentLemmas
+pub mod Lexemes
+pub mod FewOperations

@@ -1,4 +1,5 @@
-ghost use Rattle.std.specs.Prelude.{◌≡◌, ◌⊎◌, Err, List, ℕ};
+ghost use Rattle.std.specs.Prelude.{◌≡◌, ◌≤◌, ◌⊎◌, Err, List, length, ℕ};
+ghost use Rattle.std.specs.List.{flat_map};
 ghost use Rattle.ql_grammar.specs.Limits.{Fault};
 ghost use Rattle.ql_lang.specs.Trees.{Sentence};
 ghost use Rattle.ql_lex.specs.declared.token.LexFault.{LexFault};
@@ -48,3 +49,9 @@ pub fn one_program_answer()
     ql_lex::one_answer();
     ql_grammar::one_program_answer();
 }
+
+/// A contract names at most as many operations as its text has bytes.
+pub fn few_operations()
+    ensures { (bytes : List ℕ) (s : Sentence) → IsContractText bytes s
+        → length (flat_map (λ v. v.ops) s.vars) ≤ length bytes }
+{}

@@ -12,6 +12,6 @@ mod parse;
 mod reader;
 mod relation;
 
-pub use again::{one_answer, one_program_answer};
+pub use again::{few_operations, one_answer, one_program_answer};
 pub use fault::ParseFault;
 pub use parse::{parse_contract, parse_program};

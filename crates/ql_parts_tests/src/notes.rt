@@ -4,12 +4,14 @@ ghost use Rattle.ql_session.specs.Executions.{notes_of};
 use ql_base::{EffId, IdSet, NoMemory, ObjId, SessId};
 use ql_exec::{Effect, Execution, Member};
 use ql_session::Sessions;
-use ql_test_effects::draft;
+use ql_test_effects::{draft, id_set};
 use std::alloc::Global;
 use std::test::Fail;
 
 // Session 1 made effects 7, 3 and 9, the last on another object, and session 2 made effect 2.
-fn notes(alloc: Global) -> Result<Sessions, NoMemory> {
+fn notes(alloc: Global) -> Result<Sessions, NoMemory>
+    ensures { IfOk result (λ sessions. length sessions ≡ 4) }
+{
     let mut sessions = Sessions::new(alloc);
     sessions.note(SessId(1), ObjId(0), EffId(7), 4)?;
     sessions.note(SessId(2), ObjId(0), EffId(2), 1)?;
@@ -20,27 +22,42 @@ fn notes(alloc: Global) -> Result<Sessions, NoMemory> {
 
 #[test]
 fn the_least_effect_that_a_view_lacks(rt: HostRuntime) -> Result<(), Fail> {
-    let sessions = notes(rt.alloc())?;
-    let mut view = IdSet::new(rt.alloc());
-    let (first, zero) = (SessId(1), ObjId(0));
-    assert!(rt; sessions.least_missing(first, zero, &view) == Some(EffId(3)));
-    view.insert(3)?;
-    assert!(rt; sessions.least_missing(first, zero, &view) == Some(EffId(7)));
-    view.insert(7)?;
-    assert!(rt; sessions.least_missing(first, zero, &view).is_none());
-    assert!(rt; sessions.least_missing(SessId(2), zero, &view) == Some(EffId(2)));
-    assert!(rt; sessions.least_missing(SessId(3), ObjId(9), &view).is_none());
+    let alloc = rt.alloc();
+    let sessions = notes(alloc)?;
+    assert!(rt; least(&sessions, 1, &id_set(alloc, &[])?) == Some(EffId(3)));
+    assert!(rt; least(&sessions, 1, &id_set(alloc, &[3])?) == Some(EffId(7)));
+    assert!(rt; lacks_the_other_session(&sessions, &id_set(alloc, &[3, 7])?));
     Ok(())
+}
+
+// The least effect of a session on object 0 that a view lacks.
+fn least(sessions: &Sessions, session: u32, view: &IdSet) -> Option<EffId> {
+    sessions.least_missing(SessId(session), ObjId(0), view)
+}
+
+fn lacks_the_other_session(sessions: &Sessions, view: &IdSet) -> bool {
+    least(sessions, 1, view).is_none()
+        && least(sessions, 2, view) == Some(EffId(2))
+        && sessions.least_missing(SessId(3), ObjId(9), view).is_none()
 }
 
 #[test]
 fn the_last_note_goes_away(rt: HostRuntime) -> Result<(), Fail> {
     let mut sessions = notes(rt.alloc())?;
-    assert!(rt; sessions.last_stamp(SessId(1)) == 8 && sessions.last_stamp(SessId(4)) == 0);
-    assert!(rt; sessions.on(ObjId(0)) == [7, 2, 3].as_slice());
+    assert!(rt; are_all_there(&sessions));
     sessions.undo();
-    assert!(rt; sessions.last_stamp(SessId(1)) == 5 && sessions.on(ObjId(6)).is_empty());
+    assert!(rt; is_last_gone(&sessions));
     Ok(())
+}
+
+fn are_all_there(sessions: &Sessions) -> bool {
+    sessions.last_stamp(SessId(1)) == 8
+        && sessions.last_stamp(SessId(4)) == 0
+        && sessions.on(ObjId(0)) == [7, 2, 3].as_slice()
+}
+
+fn is_last_gone(sessions: &Sessions) -> bool {
+    sessions.last_stamp(SessId(1)) == 5 && sessions.on(ObjId(6)).is_empty()
 }
 
 fn push(
@@ -71,28 +88,42 @@ fn noted(alloc: Global, effects: &[Effect]) -> Result<Sessions, NoMemory>
     Ok(table)
 }
 
-// Session 1 writes on objects 0 and 1, and session 2 saw the second write: the first happened before
-// what it does next, on whatever object.
-#[test]
-fn what_happened_before_by_way_of_another_object(rt: HostRuntime) -> Result<(), Fail> {
-    let alloc = rt.alloc();
-    let mut second = IdSet::new(alloc);
-    second.insert(2)?;
+// Session 1 writes on objects 0 and 1, and session 2 saw the second write.
+fn three_writes(alloc: Global) -> Result<Execution, NoMemory>
+    ensures { IfOk result (λ x. length x ≡ 3) }
+{
     let mut x = Execution::new(alloc);
     push(&mut x, alloc, 1, 0, IdSet::new(alloc))?;
     push(&mut x, alloc, 1, 1, IdSet::new(alloc))?;
-    push(&mut x, alloc, 2, 1, second)?;
+    push(&mut x, alloc, 2, 1, id_set(alloc, &[2])?)?;
+    Ok(x)
+}
+
+// The first write happened before what session 2 does next, on whatever object.
+#[test]
+fn what_happened_before_by_way_of_another_object(rt: HostRuntime) -> Result<(), Fail> {
+    let alloc = rt.alloc();
+    let x = three_writes(alloc)?;
     let sessions = noted(alloc, x.effects())?;
-    let mut view = IdSet::new(alloc);
-    let (two, three, zero) = (SessId(2), SessId(3), ObjId(0));
-    assert!(rt; sessions.least_missing_wide(two, zero, &view, &x)? == Some(EffId(1)));
-    assert!(rt; sessions.least_missing(two, zero, &view).is_none());
-    assert!(rt;
-        sessions
-            .least_missing_wide(three, zero, &view, &x)?
-            .is_none()
-    );
-    view.insert(1)?;
-    assert!(rt; sessions.least_missing_wide(two, zero, &view, &x)?.is_none());
+    assert!(rt; lacks_the_first(&sessions, &x, &id_set(alloc, &[])?)?);
+    assert!(rt; has_the_first(&sessions, &x, &id_set(alloc, &[1])?)?);
     Ok(())
+}
+
+fn lacks_the_first(sessions: &Sessions, x: &Execution, view: &IdSet) -> Result<bool, NoMemory>
+    requires { sessions.now ≡ notes_of x.now }
+{
+    let (two, three, zero) = (SessId(2), SessId(3), ObjId(0));
+    Ok(
+        sessions.least_missing_wide(two, zero, view, x)? == Some(EffId(1))
+            && sessions.least_missing(two, zero, view).is_none()
+            && sessions.least_missing_wide(three, zero, view, x)?.is_none(),
+    )
+}
+
+fn has_the_first(sessions: &Sessions, x: &Execution, view: &IdSet) -> Result<bool, NoMemory>
+    requires { sessions.now ≡ notes_of x.now }
+{
+    let missing = sessions.least_missing_wide(SessId(2), ObjId(0), view, x)?;
+    Ok(missing.is_none())
 }

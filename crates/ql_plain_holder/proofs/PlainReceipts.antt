@@ -6,64 +6,14 @@ use Rattle.ql_base.proofs.IdLemmas.{get_or-rises}
 use Rattle.ql_exec.specs.declared.effect.Effect.{Effect}
 use Rattle.ql_exec.specs.Relations.{sametxn}
 use Rattle.ql_needs.specs.Closed.{Has}
+use Rattle.ql_needs.specs.Missing.{IsFirstMissing}
 use Rattle.ql_needs.specs.Needs.{Needs, AreWhole, IsPackage, IsNeeded}
 use Rattle.ql_needs.proofs.ClosedLaws.{closed-member, closed-from, reached-within}
 use Rattle.ql_needs.proofs.Packages.{package-member, package-reach, package-in, package-out, whole-union, sametxn-there, sametxn-itself}
 use Rattle.ql_needs.proofs.Members.{has_id-index, index-has, has_id-take}
 use Rattle.ql_holder.specs.Arrivals.{Applied, IsLeastMissing, IsGain, IsNew}
 use Rattle.ql_reach.specs.Reach.{InEither, IsReach}
-use Rattle.ql_plain_holder.specs.Plain.{FitsPlain, IsFirstMissing}
-
--- ---- lists
-
-pub first-missing : (ids others : List ℕ) (k : ℕ) → IsAscending ids → k < length ids → ((j : ℕ) → j < k → Has others (get_or ids j 0)) → has_id others (get_or ids k 0) ≡ false → IsFirstMissing ids others (Some (get_or ids k 0))
-first-missing ids others k ascending inside before none = (
-  index-has ids k inside,
-  none,
-  λ a is less.
-      let at = has_id-index ids a is in
-      let within = at.1 in
-      subst (Has others) at.2 (before at.0 (elim (cases_lt at.0 k) [
-        | inl lower ↦ lower
-        | inr past ↦ absurd (let rises = get_or-rises ids k at.0 ascending past within in let same = at.2 in omega (arith, rises, same, less))
-      ])),
-)
-
-pub missing-more : (before now others : List ℕ) (taken : Bool) (id a : ℕ) → has_id before a ≡ (taken && not (has_id others a)) → has_id now a ≡ (has_id before a || (nat_eq id a && not (has_id others id)))
-    → has_id now a ≡ ((nat_eq id a || taken) && not (has_id others a))
-missing-more before now others taken id a old new =
-    new ∙ ap (λ (b : Bool). b || (nat_eq id a && not (has_id others id))) old ∙ by_test (nat_eq id a) refl
-  where
-    cases_set : (s t : Bool) → ((t && not s) || not s) ≡ not s
-    cases_set true true = refl
-    cases_set true false = refl
-    cases_set false true = refl
-    cases_set false false = refl
-
-    or_none : (b : Bool) → (b || false) ≡ b
-    or_none true = refl
-    or_none false = refl
-
-    by_test : (e : Bool) → nat_eq id a ≡ e → ((taken && not (has_id others a)) || (e && not (has_id others id))) ≡ ((e || taken) && not (has_id others a))
-    by_test true same =
-        ap (λ (b : ℕ). (taken && not (has_id others a)) || not (has_id others b)) (eqb-true id a same) ∙ cases_set (has_id others a) taken
-    by_test false other = or_none (taken && not (has_id others a))
-
--- an id that isn't to be added, and one that is
-pub none-more : (rest is there : Bool) → true ≡ there → rest ≡ (rest || (is && not there))
-none-more true is there in_set = refl
-none-more false true there in_set = ap not in_set
-none-more false false there in_set = refl
-
-pub one-more : (before now : List ℕ) (there : Bool) (id a : ℕ) → false ≡ there → has_id now a ≡ (nat_eq id a || has_id before a) → has_id now a ≡ (has_id before a || (nat_eq id a && not there))
-one-more before now there id a none is =
-    is ∙ swap (nat_eq id a) (has_id before a) ∙ ap (λ (t : Bool). has_id before a || (nat_eq id a && not t)) none
-  where
-    swap : (p q : Bool) → (p || q) ≡ (q || (p && not false))
-    swap true true = refl
-    swap true false = refl
-    swap false true = refl
-    swap false false = refl
+use Rattle.ql_plain_holder.specs.Plain.{FitsPlain}
 
 -- ---- a transaction's effects
 
@@ -182,21 +132,6 @@ gain-exact x received after applied now rest fits exact is ascending = record {
     open_ : (b : Bool) → not b ≡ true → b ≡ false
     open_ true never = absurd (false≢true never)
     open_ false is_true = refl
-
-pub first-has : (x : List Effect) (pack : List ℕ) → IsPackage x pack → (0 < length pack) × Has pack (get_or pack 0 0)
-first-has x pack p = (some, index-has pack 0 some)
-  where
-    some : 0 < length pack
-    some = (let at = has_id-index pack p.member (package-member x pack p) in let inside = at.1 in omega (arith, inside))
-
-pub new-from : (x : List Effect) (received pack after : List ℕ) (id : ℕ) → IsPackage x pack → AreWhole x received → id ≡ get_or pack 0 0 → false ≡ has_id received id → after ≡ union_of received pack → IsNew received pack after
-new-from x received pack after id p whole is none added = record {
-  none_before = package-out x pack received p whole id (subst (Has pack) (sym is) (first-has x pack p).1) (sym none);
-  added = added;
-}
-
-pub again-from : (x : List Effect) (received pack : List ℕ) (id : ℕ) → IsPackage x pack → AreWhole x received → id ≡ get_or pack 0 0 → true ≡ has_id received id → (a : ℕ) → Has pack a → Has received a
-again-from x received pack id p whole is there = package-in x pack received p whole id (subst (Has pack) (sym is) (first-has x pack p).1) (sym there)
 
 -- ---- one effect more in the closed part
 

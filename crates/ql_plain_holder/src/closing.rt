@@ -4,7 +4,7 @@ ghost use Rattle.ql_exec.specs.Relations.{sametxn};
 ghost use Rattle.ql_needs.specs.Closed.{Has};
 ghost use Rattle.ql_needs.specs.Needs.{AreWhole, IsPackage};
 ghost use Rattle.ql_holder.specs.Arrivals.{Applied};
-ghost use Rattle.ql_plain_holder.specs.Plain.{IsFirstMissing};
+ghost use Rattle.ql_needs.specs.Missing.{IsFirstMissing};
 
 use ql_base::{IdSet, NoMemory};
 use ql_exec::Execution;

@@ -2,15 +2,12 @@
 use Rattle.std.proofs.Common.{cond, nat_lt, ◌≡◌, ℕ, ◌+◌, ◌-◌, ◌<◌, Bool, true, false, List, [], ◌∷◌, ◌++◌, Result, Ok, Err, length, take, drop, slice_range, refl, sym, ap, ◌∙◌, subst, arith, rules, length-append}
 use Rattle.std.specs.List.{AllByRecursion}
 use Rattle.std.proofs.Math.Seq.{take-append_seam}
-use Rattle.std.proofs.lemmas.List.{drop-drop}
-use Rattle.std.proofs.lemmas.Bool.{false≢true}
 use Rattle.ql_base.specs.Names.{IsName}
 use Rattle.ql_base.specs.Numbers.{Spells}
 use Rattle.ql_lex.specs.Fronts.{IsFront, most_number}
-use Rattle.ql_lex.specs.Fronts.IsFront.{name, number as number_front, text as text_front}
-use Rattle.ql_lex.specs.Tokens.{Lexes, ends, gap, token, no_token, too_long, no_number, preceded}
+use Rattle.ql_lex.specs.Fronts.IsFront.{number as number_front, text as text_front}
+use Rattle.ql_lex.specs.Tokens.{Lexes}
 use Rattle.ql_lex.specs.declared.front.Front.TheVariants.{Lexeme}
-use Rattle.ql_lex.specs.declared.token.LexFault.{LexFault}
 use Rattle.ql_lex.specs.declared.token.Token.{Token}
 use Rattle.ql_lex.specs.declared.token.TokenKind.{TokenKind}
 use Rattle.ql_lex.specs.declared.token.TokenKind.TheVariants.{Name as NameKind, Int, Text, Mark, Keyword}
@@ -20,13 +17,14 @@ use Rattle.ql_lang.specs.declared.contract.Var.{Var}
 use Rattle.ql_lang.specs.ExpressionSpelling.{quoted}
 use Rattle.ql_lang.specs.Trees.{Relation, Proposition, Sentence}
 use Rattle.ql_grammar.specs.declared.terminal.Terminal.{Terminal}
-use Rattle.ql_grammar.specs.declared.terminal.Terminal.TheVariants.{NameToken, IntToken, TextToken, NoTerminal}
-use Rattle.ql_grammar.specs.Terminals.{number, is_spelled, spelled_in, relation_words, relation_word, logic_words, logic_word, expression_words, expression_word, declaration_words, keyword, operators, operator, brackets, mark}
+use Rattle.ql_grammar.specs.declared.terminal.Terminal.TheVariants.{NameToken, IntToken, TextToken}
+use Rattle.ql_grammar.specs.Terminals.{number, keyword, mark}
 use Rattle.ql_grammar.specs.declared.role.Role.{Role}
 use Rattle.ql_grammar.specs.Tokens.{Lexeme as ALexeme, Marked, lexemes, lexeme_of, terminal_of}
 use Rattle.ql_grammar.specs.ContractGrammar.{ReadsTerm, current, variable, ReadsTerms, one, more, ReadsRelation, RelationPart, applied_named, applied_bracket, named, bracket, single, both, product, either, ReadsProp, PropPart, truth, group, equal, applied, txn, atom, and, or, implies, ReadsNames, ReadsVar, free, over, ReadsVars, ReadsContract, plain, forall}
 use Rattle.ql_parse.specs.Readers.{lexemes_of}
 use Rattle.ql_parse.specs.Parsing.{IsContractText}
+use Rattle.ql_parse.proofs.Lexemes.{is_open, keyword_other, lexes_each, mark_other, name_taken, other_than}
 use Rattle.ql_printed.specs.PrintedPrograms.{TextFits}
 use Rattle.ql_printed.proofs.ExpressionStand.{quoted_behind}
 use Rattle.ql_printed.specs.Printed.{TermFits, PropFits, NameFits, VarFits, Fits}
@@ -39,52 +37,7 @@ pub record IsKindly (l : ALexeme) : Type 0 where
   pub quoted : l.what ≡ TextToken → (text : List ℕ) × (l.text ≡ quoted text) × TextFits text
 
 abbrev pub AreKindly : List ALexeme → Type 0
-AreKindly [] = Unit {0}
-AreKindly (l ∷ ls) = IsKindly l × AreKindly ls
-
--- no word and no mark is one of them
-
-abbrev is_open : Terminal → Bool
-is_open t = nat_lt (number t) 3
-
-abbrev AllOther : List (List ℕ × Terminal) → Type 0
-AllOther [] = Unit {0}
-AllOther (row ∷ rows) = (is_open row.1 ≡ false) × AllOther rows
-
-spelled_other : (rows : List (List ℕ × Terminal)) (w : List ℕ) (other : Terminal) → AllOther rows → is_open other ≡ false → is_open (spelled_in rows w other) ≡ false
-spelled_other [] w other all last = last
-spelled_other (row ∷ rows) w other all last = by_test (is_spelled w row.0) (spelled_in rows w other) (spelled_other rows w other all.1 last)
-  where
-    by_test : (b : Bool) (t : Terminal) → is_open t ≡ false → is_open (cond b row.1 t) ≡ false
-    by_test true t h = all.0
-    by_test false t h = h
-
-relation_other : (w : List ℕ) → is_open (relation_word w) ≡ false
-unfolding relation_word number
-relation_other w = spelled_other relation_words w NoTerminal (search rules) refl
-
-logic_other : (w : List ℕ) → is_open (logic_word w) ≡ false
-unfolding logic_word number
-logic_other w = spelled_other logic_words w (relation_word w) (search rules) (relation_other w)
-
-expression_other : (w : List ℕ) → is_open (expression_word w) ≡ false
-unfolding expression_word number
-expression_other w = spelled_other expression_words w (logic_word w) (search rules) (logic_other w)
-
-keyword_other : (w : List ℕ) → is_open (keyword w) ≡ false
-unfolding keyword number
-keyword_other w = spelled_other declaration_words w (expression_word w) (search rules) (expression_other w)
-
-operator_other : (w : List ℕ) → is_open (operator w) ≡ false
-unfolding operator number
-operator_other w = spelled_other operators w NoTerminal (search rules) refl
-
-mark_other : (w : List ℕ) → is_open (mark w) ≡ false
-unfolding mark number
-mark_other w = spelled_other brackets w (operator w) (search rules) (operator_other w)
-
-other_than : (t k : Terminal) → is_open t ≡ false → is_open k ≡ true → t ≡ k → ⊥
-other_than t k other opens is = let same : is_open k ≡ false = subst (λ u. is_open u ≡ false) is other in false≢true (sym same ∙ opens)
+AreKindly ls = AllByRecursion (λ l. IsKindly l) ls
 
 -- a token of another kind
 other_kindly : (l : ALexeme) → is_open l.what ≡ false → IsKindly l
@@ -94,9 +47,6 @@ other_kindly l other = record {
   numbered = λ is. absurd (other_than l.what IntToken other refl is);
   quoted = λ is. absurd (other_than l.what TextToken other refl is);
 }
-
-name_taken : {text : List ℕ} {n : ℕ} → IsFront text (Lexeme NameKind n) → IsName (take n text)
-name_taken (name w rest shape stops unkept short) = rw (take-append_seam w rest) (record { shape = shape; short = short; free = unkept })
 
 number_taken : {text : List ℕ} {n : ℕ} → IsFront text (Lexeme Int n) → (m : ℕ) × Spells most_number m (take n text)
 number_taken (number_front {n = m} w rest spells stops) = (m, rw (take-append_seam w rest) spells)
@@ -114,28 +64,8 @@ one_kindly at Text n front = record { named = λ is. cc; numbered = λ is. cc; q
 one_kindly at {text} Mark n front = other_kindly (record { what = mark (take n text); text = take n text; at = at }) (mark_other (take n text))
 one_kindly at {text} Keyword n front = other_kindly (record { what = keyword (take n text); text = take n text; at = at }) (keyword_other (take n text))
 
-abbrev AnswerKindly : List ℕ → Result (List Token) LexFault → Type 0
-AnswerKindly bytes (Ok ts) = AreKindly (lexemes_of bytes ts)
-AnswerKindly bytes (Err f) = Unit {0}
-
-before_kindly : (bytes : List ℕ) (t : Token) (r : Result (List Token) LexFault) → IsKindly (lexeme_of bytes t) → AnswerKindly bytes r → AnswerKindly bytes (preceded (t ∷ []) r)
-before_kindly bytes t (Ok ts) first others = (first, others)
-before_kindly bytes t (Err f) first others = tt
-
-slice_is : (bytes : List ℕ) (at n : ℕ) → slice_range bytes at (at + n) ≡ take n (drop at bytes)
-slice_is bytes at n = let e : at + n - at ≡ n = omega arith in rw e refl
-
-pub lexes_kindly : {at : ℕ} {text : List ℕ} {r : Result (List Token) LexFault} (bytes : List ℕ) → text ≡ drop at bytes → Lexes at text r → AnswerKindly bytes r
-lexes_kindly bytes is ends = tt
-lexes_kindly bytes is (gap {at} {n} front rest) = lexes_kindly bytes (ap (λ t. drop n t) is ∙ drop-drop n at bytes) rest
-lexes_kindly bytes is (token {at} {n} {what} {text} {r} front rest) =
-    let taken : slice_range bytes at (at + n) ≡ take n text = slice_is bytes at n ∙ ap (λ t. take n t) (sym is) in
-    before_kindly bytes (record { what = what; from = at; to = at + n }) r
-    (subst (λ w. IsKindly (record { what = terminal_of what w; text = w; at = at })) (sym taken) (one_kindly at what n front))
-    (lexes_kindly bytes (ap (λ t. drop n t) is ∙ drop-drop n at bytes) rest)
-lexes_kindly bytes is (no_token front) = tt
-lexes_kindly bytes is (too_long front) = tt
-lexes_kindly bytes is (no_number front) = tt
+pub lexes_kindly : {text : List ℕ} {ts : List Token} (bytes : List ℕ) → text ≡ bytes → Lexes 0 text (Ok ts) → AreKindly (lexemes_of bytes ts)
+lexes_kindly bytes is lexes = lexes_each (λ l. IsKindly l) (λ at text what n front. one_kindly at {text = text} what n front) bytes is lexes
 
 -- so are those of a tree that is read
 

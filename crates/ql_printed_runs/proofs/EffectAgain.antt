@@ -7,7 +7,8 @@ use Rattle.ql_lang.specs.declared.program.Program.{Program}
 use Rattle.ql_lines.specs.Fields.{Fields, IsId, is_space}
 use Rattle.ql_lines.specs.Lines.{is_skipped}
 use Rattle.ql_lines.specs.Texts.{behind, joined}
-use Rattle.ql_lines.proofs.TextLaws.{joined_behind}
+use Rattle.ql_lines.proofs.LineEnds.{Stay, joined_stay, stay_both, stays_of}
+use Rattle.ql_lines.proofs.TextLaws.{joined_behind, tells}
 use Rattle.ql_typing.specs.Names.{op_name, txn_name}
 use Rattle.ql_value.specs.declared.value.Value.{Value}
 use Rattle.ql_value.specs.Spelling.{value_text}
@@ -25,7 +26,7 @@ use Rattle.ql_effect_lines.specs.Parts.{ValueAt, ValuesAt}
 use Rattle.ql_run_text.specs.EffectTexts.{CarriesValues, effect_fields, member_text, object_name, payload_text, values_text}
 use Rattle.ql_printed_runs.specs.Printable.{FitsMember, IsWritable}
 use Rattle.ql_printed_runs.proofs.FieldsAgain.{IsOneField, fields_behind, first_field, high_stay, name_bytes, name_field, next_field, number_field, part_field, txn_field, value_part, value_stay, values_part, values_stay}
-use Rattle.ql_printed_runs.proofs.LinesAgain.{Stay, decimal_stay, joined_stay, stay_both, stays_of, tells}
+use Rattle.ql_printed_runs.proofs.LinesAgain.{decimal_stay}
 
 -- ---- what the line of an effect says
 

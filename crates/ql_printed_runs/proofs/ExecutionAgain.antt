@@ -16,6 +16,7 @@ use Rattle.ql_lang.specs.declared.program.Program.{Program}
 use Rattle.ql_lines.specs.Fields.{IsId, fields_of}
 use Rattle.ql_lines.specs.Lines.{Numbered, is_skipped, told}
 use Rattle.ql_lines.specs.Texts.{file_text, joined}
+use Rattle.ql_lines.proofs.LineEnds.{Stay, stays_of}
 use Rattle.ql_typing.specs.Operations.{op_kinds}
 use Rattle.ql_exec.specs.declared.effect.Effect.{Effect}
 use Rattle.ql_exec.specs.declared.effect.Member.{Member}
@@ -38,7 +39,7 @@ use Rattle.ql_typing.specs.Names.{op_name}
 use Rattle.ql_printed_runs.specs.Printable.{FindsNames, IsPrintable, IsWritable}
 use Rattle.ql_printed_runs.specs.Renumbered.{IsRenumbered, renumbered}
 use Rattle.ql_printed_runs.proofs.EffectAgain.{NamedMember, begun_of, effect_stays, effect_told, is_effect_line, line_of}
-use Rattle.ql_printed_runs.proofs.LinesAgain.{Stay, first_line, stays_of}
+use Rattle.ql_printed_runs.proofs.LinesAgain.{first_line}
 use Rattle.ql_printed_runs.proofs.Numbers.{all_kept, first_of, grown, next_number, one_name}
 use Rattle.ql_printed_runs.proofs.Renumbering.{draft_from, no_other_fault, other_pushed, other_stamp, others}
 

@@ -2,14 +2,16 @@
 use Rattle.std.proofs.Common.{◌≡◌, ℕ, suc, ◌<◌, ◌≤◌, ◌+◌, Bool, true, false, List, [], ◌∷◌, ◌++◌, All, get_or, length, map, decimal, codes, pos, negsuc, arith, refl, ap, sym, ◌∙◌, append_assoc}
 use Rattle.std.proofs.lemmas.List.{append-nil}
 use Rattle.std.proofs.lemmas.List.Elements.{recursion_from_All}
-use Rattle.std.proofs.lemmas.List.Splits.{slice_split-cons_no, slice_split-cons_yes}
 use Rattle.std.proofs.lemmas.Bool.Decides.{nat_tests}
 use Rattle.std.specs.List.{AllByRecursion, filter, slice_split}
 use Rattle.ql_base.specs.Bytes.{begins, is_digit, is_name_byte, is_text_byte}
 use Rattle.ql_base.specs.Names.{IsName}
 use Rattle.ql_lines.specs.Fields.{Fields, FirstField, fields_of, is_space, isn't_empty}
 use Rattle.ql_lines.specs.Texts.{behind}
-use Rattle.ql_lines.proofs.FieldLaws.{behind_space}
+use Rattle.ql_lines.proofs.Each.{each_by_index, each_weaker}
+use Rattle.ql_lines.proofs.FieldLaws.{behind_space, kept}
+use Rattle.ql_lines.proofs.LineEnds.{Stay, StaysIn, stay_both, stays_of}
+use Rattle.ql_lines.proofs.Splits.{part_before, whole_part}
 use Rattle.ql_value.specs.declared.scalar.Scalar.{Scalar}
 use Rattle.ql_value.specs.declared.scalar.Scalar.TheVariants.{Int, Bool as Truth, Text}
 use Rattle.ql_value.specs.declared.value.Value.{Value}
@@ -20,7 +22,7 @@ use Rattle.ql_value.specs.ValueGrammar.{IsEntry, IsScalar, IsValue, ReadsMore}
 use Rattle.ql_value.proofs.ValueLaws.{printed_again}
 use Rattle.ql_effect_lines.specs.Parts.{FieldAt, ValueAt, ValuesAt, ends_field}
 use Rattle.ql_run_text.specs.EffectTexts.{values_text}
-use Rattle.ql_printed_runs.proofs.LinesAgain.{IsDigitByte, Stay, StaysIn, decimal_bytes, decimal_some, decimal_stay, stay_both, stays_of}
+use Rattle.ql_printed_runs.proofs.LinesAgain.{IsDigitByte, decimal_bytes, decimal_some, decimal_stay}
 
 -- ---- fields without spaces
 
@@ -34,23 +36,11 @@ pub record IsOneField (f : List ℕ) : Type 0 where
 no_space_of : (b : ℕ) → 33 ≤ b → is_space b ≡ false
 no_space_of b low = grind (arith, nat_tests, low)
 
-kept : (f : List ℕ) (parts : List (List ℕ)) → 0 < length f → filter isn't_empty (f ∷ parts) ≡ f ∷ filter isn't_empty parts
-kept [] parts some = absurd (omega (arith, some))
-kept (b ∷ bs) parts some = grind arith
-
-part_before : (xs ys : List ℕ) → HasNoSpace xs → slice_split is_space (xs ++ 32 ∷ ys) ≡ xs ∷ slice_split is_space ys
-part_before [] ys h = slice_split-cons_yes is_space 32 ys refl
-part_before (x ∷ xs) ys h = slice_split-cons_no is_space x (xs ++ 32 ∷ ys) h.0 ∙ rw (part_before xs ys h.1) refl
-
-whole_part : (xs : List ℕ) → HasNoSpace xs → slice_split is_space xs ≡ xs ∷ []
-whole_part [] h = refl
-whole_part (x ∷ xs) h = slice_split-cons_no is_space x xs h.0 ∙ rw (whole_part xs h.1) refl
-
 pub field_before : (f : List ℕ) (fs : Fields) → IsOneField f → fields_of (f ++ behind fs) ≡ f ∷ fields_of (behind fs)
 unfolding behind
-field_before f [] h = ap fields_of (append-nil f) ∙ ap (filter isn't_empty) (whole_part f h.no_space) ∙ kept f [] h.some
+field_before f [] h = ap fields_of (append-nil f) ∙ ap (filter isn't_empty) (whole_part is_space f h.no_space) ∙ kept f [] h.some
 field_before f (g ∷ gs) h =
-    ap (filter isn't_empty) (part_before f (g ++ behind gs) h.no_space) ∙ kept f (slice_split is_space (g ++ behind gs)) h.some
+    ap (filter isn't_empty) (part_before is_space f 32 (g ++ behind gs) h.no_space refl) ∙ kept f (slice_split is_space (g ++ behind gs)) h.some
     ∙ ap (λ r. f ∷ r) (sym (behind_space 32 (g ++ behind gs) refl))
 
 field_behind : (f : List ℕ) (fs : Fields) → IsOneField f → fields_of (behind (f ∷ fs)) ≡ f ∷ fields_of (behind fs)
@@ -85,12 +75,8 @@ part_field PartAt x f fs part = record { gap = 1; start = f ++ behind fs; spaces
 
 -- ---- words, numbers and names
 
-digits_no_space : (ds : List ℕ) → AllByRecursion IsDigitByte ds → HasNoSpace ds
-digits_no_space [] h = tt
-digits_no_space (d ∷ ds) h = (no_space_of d (omega (arith, h.0.0)), digits_no_space ds h.1)
-
 pub number_field : (n : ℕ) → IsOneField (decimal n)
-number_field n = record { some = decimal_some n; no_space = digits_no_space (decimal n) (decimal_bytes n) }
+number_field n = record { some = decimal_some n; no_space = each_weaker IsDigitByte (λ b. is_space b ≡ false) (λ d h. no_space_of d (omega (arith, h.0))) (decimal n) (decimal_bytes n) }
 
 name_low : (b : ℕ) → is_name_byte b ≡ true → 33 ≤ b
 unfolding is_name_byte
@@ -100,22 +86,14 @@ name_low b h = grind (arith, nat_tests, h)
 abbrev pub AllFrom : ℕ → List ℕ → Type 0
 AllFrom low bs = AllByRecursion (λ b. low ≤ b) bs
 
-pub each_byte : (P Q : ℕ → Type 0) → ((b : ℕ) → P b → Q b) → (bs : List ℕ) → AllByRecursion P bs → AllByRecursion Q bs
-each_byte P Q f [] h = tt
-each_byte P Q f (b ∷ bs) h = (f b h.0, each_byte P Q f bs h.1)
-
-from_each : (P : ℕ → Type 0) (bs : List ℕ) → ((k : ℕ) → k < length bs → P (get_or bs k 0)) → AllByRecursion P bs
-from_each P [] h = tt
-from_each P (b ∷ bs) h = (h 0 (omega arith), from_each P bs (λ k lt. h (suc k) (omega (arith, lt))))
-
 pub name_bytes : (w : List ℕ) → IsName w → AllFrom 33 w
-name_bytes w n = from_each (λ b. 33 ≤ b) w (λ k lt. name_low (get_or w k 0) (n.shape.all k 0 lt))
+name_bytes w n = each_by_index (λ b. 33 ≤ b) w (λ k lt. name_low (get_or w k 0) (n.shape.all k 0 lt))
 
 pub name_field : (w : List ℕ) → IsName w → IsOneField w
-name_field w n = record { some = n.shape.some; no_space = each_byte (λ b. 33 ≤ b) (λ b. is_space b ≡ false) no_space_of w (name_bytes w n) }
+name_field w n = record { some = n.shape.some; no_space = each_weaker (λ b. 33 ≤ b) (λ b. is_space b ≡ false) no_space_of w (name_bytes w n) }
 
 pub high_stay : (bs : List ℕ) → AllFrom 33 bs → Stay bs
-high_stay bs h = each_byte (λ b. 33 ≤ b) StaysIn (λ b low. stays_of b (omega (arith, low))) bs h
+high_stay bs h = each_weaker (λ b. 33 ≤ b) StaysIn (λ b low. stays_of b (omega (arith, low))) bs h
 
 pub no_space_both : (xs ys : List ℕ) → HasNoSpace xs → HasNoSpace ys → HasNoSpace (xs ++ ys)
 no_space_both [] ys h k = k
@@ -178,7 +156,7 @@ unfolding is_text_byte
 text_low b h = grind (arith, nat_tests, h)
 
 quoted_stay : (t : List ℕ) → IsText t → Stay (quoted t)
-quoted_stay t is = (stays_of 34 (omega arith), stay_both t (34 ∷ []) (from_each StaysIn t (λ k lt. stays_of (get_or t k 0) (text_low (get_or t k 0) (is.plain k 0 lt)))) (stays_of 34 (omega arith), tt))
+quoted_stay t is = (stays_of 34 (omega arith), stay_both t (34 ∷ []) (each_by_index StaysIn t (λ k lt. stays_of (get_or t k 0) (text_low (get_or t k 0) (is.plain k 0 lt)))) (stays_of 34 (omega arith), tt))
 
 signed_stay : (n : ℕ) → Stay (45 ∷ decimal n)
 signed_stay n = (stays_of 45 (omega arith), decimal_stay n)
@@ -206,10 +184,6 @@ module _ {X : Type 0} (P : X → Type 0) (text : X → List ℕ) (stays : (x : X
   separated_stay [] h = tt
   separated_stay (x ∷ xs) h = stay_both (text x) (followed (map text xs)) (stays x h.0) (followed_stay xs h.1)
 
-by_recursion : {X : Type 0} (P : X → Type 0) (xs : List X) → All P xs → AllByRecursion P xs
-by_recursion P [] h = tt
-by_recursion P (x ∷ xs) h = (h 0 x (omega arith), by_recursion P xs (λ k d lt. h (suc k) d (omega (arith, lt))))
-
 closed_stay : (b : ℕ) (inner : List ℕ) (c : ℕ) → 14 ≤ b → 14 ≤ c → Stay inner → Stay (b ∷ inner ++ c ∷ [])
 closed_stay b inner c low high h = (stays_of b low, stay_both inner (c ∷ []) h (stays_of c high, tt))
 
@@ -219,10 +193,10 @@ value_stay (Number (pos n)) h = decimal_stay n
 value_stay (Number (negsuc n)) h = signed_stay (suc n)
 value_stay (TruthValue b) h = bool_stay b
 value_stay (TextValue t) h = quoted_stay t h
-value_stay (Set s) h = closed_stay 123 (separated (map scalar_text s)) 125 (omega arith) (omega arith) (separated_stay IsScalar scalar_text scalar_stay s (by_recursion IsScalar s h.1))
+value_stay (Set s) h = closed_stay 123 (separated (map scalar_text s)) 125 (omega arith) (omega arith) (separated_stay IsScalar scalar_text scalar_stay s (recursion_from_All IsScalar s h.1))
 value_stay (Map []) h = (stays_of 123 (omega arith), (stays_of 58 (omega arith), (stays_of 125 (omega arith), tt)))
 value_stay (Map (e ∷ m)) h =
-    closed_stay 123 (separated (map entry_text (e ∷ m))) 125 (omega arith) (omega arith) (separated_stay IsEntry entry_text entry_stay (e ∷ m) (by_recursion IsEntry (e ∷ m) h.1))
+    closed_stay 123 (separated (map entry_text (e ∷ m))) 125 (omega arith) (omega arith) (separated_stay IsEntry entry_text entry_stay (e ∷ m) (recursion_from_All IsEntry (e ∷ m) h.1))
 
 pub values_stay : (vs : List Value) → All IsValue vs → Stay (values_text vs)
 values_stay vs h = closed_stay 40 (separated (map value_text vs)) 41 (omega arith) (omega arith) (separated_stay IsValue value_text value_stay vs (recursion_from_All IsValue vs h))

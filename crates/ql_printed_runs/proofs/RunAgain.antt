@@ -17,6 +17,7 @@ use Rattle.ql_levels.specs.declared.level.TxnLevel.TheVariants.{Rc, Mav, Rr}
 use Rattle.ql_lines.specs.Fields.{Fields, fields_of, is_space}
 use Rattle.ql_lines.specs.Lines.{ahead_from, is_skipped, told}
 use Rattle.ql_lines.specs.Texts.{file_text, joined}
+use Rattle.ql_lines.proofs.LineEnds.{Stay, joined_stay}
 use Rattle.ql_lines.proofs.TextLaws.{file_text-append}
 use Rattle.ql_typing.specs.Operations.{all_ops}
 use Rattle.ql_typing.specs.Names.{op_name, txn_name}
@@ -40,7 +41,7 @@ use Rattle.ql_printed_runs.proofs.ExecutionAgain.{at-each, execution_leads, numb
 use Rattle.ql_printed_runs.proofs.Numbers.{grown}
 use Rattle.ql_printed_runs.proofs.Renumbering.{others}
 use Rattle.ql_printed_runs.proofs.FieldsAgain.{high_stay, name_bytes, value_stay}
-use Rattle.ql_printed_runs.proofs.LinesAgain.{IsDigitByte, Stay, decimal_bytes, decimal_some, decimal_stay, first_byte, first_line, joined_stay}
+use Rattle.ql_printed_runs.proofs.LinesAgain.{IsDigitByte, decimal_bytes, decimal_some, decimal_stay, first_byte, first_line}
 
 -- ---- lines that are passed over
 

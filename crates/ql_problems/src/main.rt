@@ -7,7 +7,7 @@ mod listing;
 use listing::list_goals;
 use ql_base::NoMemory;
 use ql_parse::{ParseFault, parse_program};
-use ql_reply::words;
+use ql_reply::read_arguments;
 use ql_typing::{TypeFault, Typed, typecheck};
 use std::alloc::Global;
 use std::{fs, io};
@@ -16,7 +16,7 @@ use std::{fs, io};
 const MOST_BYTES: usize = 1 << 20;
 
 fn main(rt: HostRuntime) -> io::Result<()> {
-    let words = words(&rt)?;
+    let words = read_arguments(&rt)?;
     let whole = words
         .first()
         .is_some_and(|word| word.as_str() == "--clauses");

@@ -1,21 +1,14 @@
 -- The first and the last id of an ascending list.
 use Rattle.std.proofs.Common.{◌≡◌, ℕ, suc, ◌+◌, ◌-◌, ◌<◌, ◌≤◌, true, nat_eq, List, [], ◌∷◌, length, get_or, drop, ap, subst, ◌∙◌, inl, inr, arith}
-use Rattle.std.proofs.lemmas.Bool.{false≢true, or_cases, eqb-true}
 use Rattle.std.proofs.lemmas.List.{get_or_default, get_or-drop}
 use Rattle.ql_base.specs.IdLists.{IsAscending, has_id}
 use Rattle.ql_base.proofs.IdLemmas.{get_or-rises}
+use Rattle.ql_needs.proofs.Members.{has_id-index}
 
 -- the ids of an ascending list are from its first to its last
-place_of_id : (ids : List ℕ) (a : ℕ) → has_id ids a ≡ true → (k : ℕ) × (k < length ids) × (get_or ids k 0 ≡ a)
-place_of_id [] a is = absurd (false≢true is)
-place_of_id (id ∷ ids) a is = elim (or_cases (nat_eq id a) (has_id ids a) is) [
-  | inl here ↦ (0, omega arith, eqb-true id a here)
-  | inr later ↦ let rest = place_of_id ids a later in (suc rest.0, omega (arith, rest.1), rest.2)
-]
-
 pub between-ends : (ids : List ℕ) (a : ℕ) → IsAscending ids → has_id ids a ≡ true → (get_or ids 0 0 ≤ a) × (a ≤ get_or ids (length ids - 1) 0)
 between-ends ids a ascending is =
-    let place = place_of_id ids a is in
+    let place = has_id-index ids a is in
     let inside = place.1 in
     let low = get_or-rises ids 0 place.0 ascending (omega arith) inside in
     let high = get_or-rises ids place.0 (length ids - 1) ascending (omega (arith, inside)) (omega (arith, inside)) in (

@@ -118,7 +118,7 @@ impl Ranges {
         ensures united { IfOk result (λ both. ids_of both ≡ union_of (ids_of self.now) ids.now) }
         ensures ascending { IfOk result (λ both. IsAscending (ids_of both)) }
     {
-        let mut both = self.copy()?;
+        let mut both = self.copy_with_room()?;
         insert_each(&mut both, ids.items())?;
         Ok(both)
     }
@@ -129,6 +129,16 @@ impl Ranges {
         ensures apart { AreApart self.now }
     {
         let ranges = Vec::from_slice(*self.ranges.allocator(), &self.ranges)?;
+        Ok(Ranges { ranges })
+    }
+
+    // An equal set with room for one range more.
+    fn copy_with_room(&self) -> Result<Ranges, NoMemory>
+        ensures same { IfOk result (λ copied. copied ≡ self.now) }
+        ensures apart { AreApart self.now }
+    {
+        let mut ranges = Vec::with_capacity(*self.ranges.allocator(), self.ranges.len() + 1)?;
+        ranges.extend_from_slice(&self.ranges)?;
         Ok(Ranges { ranges })
     }
 

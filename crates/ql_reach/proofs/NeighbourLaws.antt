@@ -1,5 +1,5 @@
 -- Searches for the neighbours of an effect.
-use Rattle.std.proofs.Common.{◌≡◌, ℕ, ◌+◌, ◌-◌, ◌<◌, ◌≤◌, Bool, true, false, ◌&&◌, nat_eq, List, length, Option, Some, None, if◌then◌else◌, refl, ap, sym, subst, ◌∙◌, inl, inr, arith}
+use Rattle.std.proofs.Common.{◌≡◌, ℕ, zero, suc, ◌+◌, ◌<◌, ◌≤◌, Bool, true, false, nat_eq, List, length, Option, Some, None, if◌then◌else◌, refl, ap, sym, subst, ◌∙◌, inl, inr, arith}
 use Rattle.std.proofs.lemmas.Option.{same_Some}
 use Rattle.std.proofs.lemmas.Bool.{or_cases, or_left, or_right, and_parts, and_from, eq-eqb, eqb-true, both_ways, cases_order}
 use Rattle.ql_exec.specs.declared.effect.Effect.{Effect}
@@ -8,11 +8,12 @@ use Rattle.ql_exec.specs.declared.effect.Member.TheVariants.{Alone, Inside}
 use Rattle.ql_exec.specs.Effects.{effect_at, both}
 use Rattle.ql_base.specs.IdLists.{has_id}
 use Rattle.ql_exec.specs.Execution.{IsExecution, IsOn}
+use Rattle.ql_exec.specs.Links.{IsLink}
 use Rattle.ql_exec.specs.Relations.{so, soo, sameobj, sametxn, same_run, vis}
 use Rattle.ql_needs.specs.Closed.{Has}
 use Rattle.ql_needs.specs.Needs.{Needs}
 use Rattle.ql_needs.proofs.NeedsLaws.{at-first}
-use Rattle.ql_exec.proofs.Finding.{effect_at-within, both-found, so_parts, so_from}
+use Rattle.ql_exec.proofs.Finding.{effect_at-within, both-found, so_parts, so_from, so-between, so-trans}
 use Rattle.ql_needs.proofs.Packages.{sametxn-back, sametxn-along}
 use Rattle.ql_reach.specs.Searches.{IsLastInSession, IsNextInSession, IsMemberBelow, IsMemberAbove, IsAlone}
 
@@ -47,28 +48,36 @@ soo_parts x a b is =
 object_from : (x : List Effect) (a b : ℕ) (e f : Effect) → effect_at x a ≡ Some e → effect_at x b ≡ Some f → e.object.0 ≡ f.object.0 → sameobj x a b ≡ true
 object_from x a b e f at there same = rw (at, there) (eq-eqb e.object.0 f.object.0 same)
 
-pub soo_from : (x : List Effect) (a b : ℕ) (e f : Effect) → effect_at x a ≡ Some e → effect_at x b ≡ Some f → (nat_eq e.session.0 f.session.0 && nat_eq e.object.0 f.object.0) ≡ true → a < b → soo x a b ≡ true
-soo_from x a b e f at there same less =
-    let parts = and_parts (nat_eq e.session.0 f.session.0) (nat_eq e.object.0 f.object.0) same in
-    and_from (so x a b) (sameobj x a b) (so_from x a b e f at there (eqb-true e.session.0 f.session.0 parts.0) less) (object_from x a b e f at there (eqb-true e.object.0 f.object.0 parts.1))
+pub soo_from : (x : List Effect) (a b : ℕ) (e f : Effect) → effect_at x a ≡ Some e → effect_at x b ≡ Some f → nat_eq e.object.0 f.object.0 ≡ true → so x a b ≡ true → soo x a b ≡ true
+soo_from x a b e f at there same order = and_from (so x a b) (sameobj x a b) order (object_from x a b e f at there (eqb-true e.object.0 f.object.0 same))
 
 -- one further back
-pub on_object-back : (x : List Effect) (e k stop : ℕ) (g f : Effect) → effect_at x k ≡ Some g → effect_at x e ≡ Some f → (nat_eq g.session.0 f.session.0 && nat_eq g.object.0 f.object.0) ≡ false
-    → ((a : ℕ) → soo x a e ≡ true → stop < a → a ≤ k) → (a : ℕ) → soo x a e ≡ true → stop < a → a ≤ k - 1
-on_object-back x e k stop g f at there other so_far a is behind = elim (cases_order a k) [
-  | inl same ↦ absurd (both_ways (nat_eq g.session.0 f.session.0 && nat_eq g.object.0 f.object.0) other (shares same))
-  | inr (inl less) ↦ (let h : a < k = less in omega (arith, h))
+pub on_object-back : (x : List Effect) (e k before stop : ℕ) (g f : Effect) → effect_at x k ≡ Some g → effect_at x e ≡ Some f → nat_eq g.object.0 f.object.0 ≡ false
+    → so x k e ≡ true → IsLink x k before → ((a : ℕ) → soo x a e ≡ true → stop < a → a ≤ k) → (a : ℕ) → soo x a e ≡ true → stop < a → a ≤ before
+on_object-back x e k before stop g f at there other order link so_far a is behind = elim (cases_order a k) [
+  | inl same ↦ absurd (both_ways (nat_eq g.object.0 f.object.0) other (shares same))
+  | inr (inl less) ↦ link.1 a (so-between x a k e less (and_parts (so x a e) (sameobj x a e) is).0 order)
   | inr (inr more) ↦ absurd (let h : k < a = more in let low = so_far a is behind in omega (arith, h, low))
 ]
   where
-    shares : a ≡ k → (nat_eq g.session.0 f.session.0 && nat_eq g.object.0 f.object.0) ≡ true
+    shares : a ≡ k → nat_eq g.object.0 f.object.0 ≡ true
     shares same =
         let line = soo_parts x a e is in
         let one : line.first ≡ g = same_Some line.first g (sym line.first_at ∙ ap (effect_at x) same ∙ at) in
         let two : line.second ≡ f = same_Some line.second f (sym line.second_at ∙ there) in
-        and_from (nat_eq g.session.0 f.session.0) (nat_eq g.object.0 f.object.0)
-        (eq-eqb g.session.0 f.session.0 (sym (ap (λ (h : Effect). h.session.0) one) ∙ line.one_session ∙ ap (λ (h : Effect). h.session.0) two))
-        (eq-eqb g.object.0 f.object.0 (sym (ap (λ (h : Effect). h.object.0) one) ∙ line.one_object ∙ ap (λ (h : Effect). h.object.0) two))
+        eq-eqb g.object.0 f.object.0 (sym (ap (λ (h : Effect). h.object.0) one) ∙ line.one_object ∙ ap (λ (h : Effect). h.object.0) two)
+
+-- on an object only those of the session
+pub on_object-of : (x : List Effect) (e before stop : ℕ) → IsLink x e before → (a : ℕ) → soo x a e ≡ true → stop < a → a ≤ before
+on_object-of x e before stop link a is behind = link.1 a (and_parts (so x a e) (sameobj x a e) is).0
+
+pub link-less : (x : List Effect) (e before : ℕ) → 1 ≤ e → IsLink x e before → before < e
+link-less x e zero first link = first
+link-less x e (suc k) first link = (so_parts x (suc k) e (link.0 (omega arith))).less
+
+-- the one before one in its session is of that session
+pub link-own : (x : List Effect) (e k before : ℕ) → so x k e ≡ true → IsLink x k before → 1 ≤ before → so x before e ≡ true
+link-own x e k before own link some = so-trans x before k e (link.0 some) own
 
 -- ---- in a session
 
@@ -79,13 +88,13 @@ so_same x a b k g f at there is =
     let two : order.second ≡ f = same_Some order.second f (sym order.second_at ∙ there) in
     sym (ap (λ (h : Effect). h.session.0) one) ∙ order.one_session ∙ ap (λ (h : Effect). h.session.0) two
 
-pub in_session-back : (x : List Effect) (e k : ℕ) (g f : Effect) → effect_at x k ≡ Some g → effect_at x e ≡ Some f → (g.session.0 ≡ f.session.0 → ⊥)
-    → ((a : ℕ) → so x a e ≡ true → a ≤ k) → (a : ℕ) → so x a e ≡ true → a ≤ k - 1
-in_session-back x e k g f at there other so_far a is = elim (cases_order a k) [
-  | inl same ↦ absurd (other (so_same x k e k g f at there (subst (λ (b : ℕ). so x b e ≡ true) same is)))
-  | inr (inl less) ↦ (let h : a < k = less in omega (arith, h))
-  | inr (inr more) ↦ absurd (let h : k < a = more in let low = so_far a is in omega (arith, h, low))
-]
+-- the one before
+pub none-before : (x : List Effect) (e : ℕ) → IsLink x e 0 → IsLastInSession x e None
+none-before x e link = λ a is. (let order = so_parts x a e is in let first = at-first x a order.first order.first_at in let low = link.1 a is in omega (arith, first, low))
+
+pub last-before : (x : List Effect) (e before : ℕ) → (before ≡ 0 → ⊥) → IsLink x e before → IsLastInSession x e (Some before)
+last-before x e zero some link = absurd (some refl)
+last-before x e (suc k) some link = (link.0 (omega arith), link.1)
 
 pub in_session-on : (x : List Effect) (e k next : ℕ) (g f : Effect) → next ≡ k + 1 → effect_at x next ≡ Some g → effect_at x e ≡ Some f → (g.session.0 ≡ f.session.0 → ⊥)
     → ((a : ℕ) → so x e a ≡ true → k < a) → (a : ℕ) → so x e a ≡ true → next < a
@@ -145,13 +154,6 @@ below-from x e p found law last is =
     less : p < e
     less = so-less x p e last.0
 
-    between : (a : ℕ) → a < p → so x a e ≡ true → so x a p ≡ true
-    between a below order =
-        let one = so_parts x a e order in
-        let two = so_parts x p e last.0 in
-        let same : one.second ≡ two.second = same_Some one.second two.second (sym one.second_at ∙ two.second_at) in
-        so_from x a p one.first two.first one.first_at two.first_at (one.one_session ∙ ap (λ (f : Effect). f.session.0) same ∙ sym two.one_session) below
-
     by_test : (t : Bool) → both (λ f g. same_run f.member g.member) (effect_at x e) (effect_at x p) ≡ t → IsMemberBelow x e (if t then Some p else None)
     by_test true yes_ = (less, or_right (nat_eq e p) _ yes_, λ a before same. last.1 a (law.one_session a e before (sametxn-back x e a same)))
     by_test false no_ = λ a before same.
@@ -162,7 +164,7 @@ below-from x e p found law last is =
           | inl equal ↦ subst (λ (b : ℕ). sametxn x e b ≡ true) equal same
           | inr (inl below) ↦
               let h : a < p = below in
-              sametxn-along x e a p same (law.unbroken a p e (sametxn-back x e a same) (between a h order) last.0)
+              sametxn-along x e a p same (law.unbroken a p e (sametxn-back x e a same) (so-between x a p e h order last.0) last.0)
           | inr (inr above) ↦ absurd (let h : p < a = above in omega (arith, h, low))
         ]))
 

@@ -1,10 +1,11 @@
 -- What is found, once each of it was visited.
-use Rattle.std.proofs.Common.{◌≡◌, ℕ, zero, suc, ◌-◌, ◌<◌, ◌≤◌, ◌⊎◌, true, nat_eq, List, length, get_or, ap, sym, subst, ◌∙◌, inl, inr, arith}
-use Rattle.std.proofs.lemmas.Bool.{or_cases, and_from, eq-eqb, cases_order}
+use Rattle.std.proofs.Common.{◌≡◌, ℕ, zero, suc, ◌-◌, ◌<◌, ◌≤◌, ◌⊎◌, true, List, length, get_or, ap, sym, subst, ◌∙◌, inl, inr, arith}
+use Rattle.std.proofs.lemmas.Bool.{or_cases, and_parts, eq-eqb, cases_order}
 use Rattle.std.proofs.lemmas.Option.{same_Some}
 use Rattle.ql_exec.specs.declared.effect.Effect.{Effect}
 use Rattle.ql_exec.specs.Execution.{IsExecution}
-use Rattle.ql_exec.specs.Relations.{vis, soo, sametxn}
+use Rattle.ql_exec.specs.Relations.{vis, so, soo, sameobj, sametxn}
+use Rattle.ql_exec.proofs.Finding.{so-between}
 use Rattle.ql_needs.specs.Closed.{Has}
 use Rattle.ql_needs.specs.Needs.{Needs, AreWhole}
 use Rattle.ql_needs.proofs.Packages.{sametxn-back, sametxn-along, needed-there}
@@ -60,10 +61,8 @@ soo-between x a p e one two less =
     let second = soo_parts x p e two in
     let same : first.second ≡ second.second = same_Some first.second second.second (sym first.second_at ∙ second.second_at) in
     soo_from x a p first.first second.first first.first_at second.first_at
-    (and_from (nat_eq first.first.session.0 second.first.session.0) (nat_eq first.first.object.0 second.first.object.0)
-    (eq-eqb first.first.session.0 second.first.session.0 (first.one_session ∙ ap (λ (f : Effect). f.session.0) same ∙ sym second.one_session))
-    (eq-eqb first.first.object.0 second.first.object.0 (first.one_object ∙ ap (λ (f : Effect). f.object.0) same ∙ sym second.one_object)))
-    less
+    (eq-eqb first.first.object.0 second.first.object.0 (first.one_object ∙ ap (λ (f : Effect). f.object.0) same ∙ sym second.one_object))
+    (so-between x a p e less (and_parts (so x a e) (sameobj x a e) one).0 (and_parts (so x p e) (sameobj x p e) two).0)
 
 -- back along the session, from one to the one before it
 soo-met : (x : List Effect) (asked known found : List ℕ) → AreVisited x asked known found → (bound e a : ℕ) → e < bound → Has found e → soo x a e ≡ true → InEither known found a

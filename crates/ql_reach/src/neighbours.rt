@@ -1,6 +1,7 @@
-ghost use Rattle.std.specs.Prelude.{◌≡◌, ◌≤◌, ◌<◌, ◌^◌, ◌&&◌, nat_eq, length, Some, None, if◌then◌else◌};
+ghost use Rattle.std.specs.Prelude.{◌≡◌, ◌≤◌, ◌<◌, ◌^◌, nat_eq, length, Some, None, if◌then◌else◌};
 ghost use Rattle.ql_exec.specs.Effects.{effect_at, both};
 ghost use Rattle.ql_exec.specs.Execution.{IsExecution};
+ghost use Rattle.ql_exec.specs.Links.{HasLinks, IsLink};
 ghost use Rattle.ql_exec.specs.Relations.{same_run};
 ghost use Rattle.ql_reach.specs.Searches.{IsAlone, IsLastOnObject, IsLastInSession, IsNextInSession, IsMemberBelow, IsMemberAbove};
 
@@ -17,31 +18,42 @@ pub(crate) fn effect(effects: &[Effect], id: u32) -> &Effect
 }
 
 /// The last effect before one in its session on its object, if it is later than `stop`.
-pub(crate) fn last_on_object(effects: &[Effect], e: u32, stop: u32) -> Option<u32>
+pub(crate) fn last_on_object(effects: &[Effect], links: &[u32], e: u32, stop: u32) -> Option<u32>
+    requires links { HasLinks links.now effects.now }
     requires first { 1 ≤ e }
     requires last { e ≤ length effects.now }
     ensures { IsLastOnObject effects.now e stop result }
 {
-    let mut k = e - 1;
+    let mut k = link(effects, links, e);
     while k > stop {
-        if share_session_and_object(effect(effects, k), effect(effects, e)) {
+        if share_object(effect(effects, k), effect(effects, e)) {
             return Some(k);
         }
-        k -= 1;
+        k = link(effects, links, k);
     }
     None
 }
 
-fn share_session_and_object(a: &Effect, b: &Effect) -> bool
-    ensures { result ≡ (nat_eq a.now.session.0 b.now.session.0
-        && nat_eq a.now.object.0 b.now.object.0) }
+// The effect before one in its session, 0 if there is none.
+fn link(effects: &[Effect], links: &[u32], e: u32) -> u32
+    requires links { HasLinks links.now effects.now }
+    requires first { 1 ≤ e }
+    requires last { e ≤ length effects.now }
+    ensures { IsLink effects.now e result }
 {
-    a.session.0 == b.session.0 && a.object.0 == b.object.0
+    links[e as usize - 1]
+}
+
+fn share_object(a: &Effect, b: &Effect) -> bool
+    ensures { result ≡ nat_eq a.now.object.0 b.now.object.0 }
+{
+    a.object.0 == b.object.0
 }
 
 /// The last effect before one in its transaction.
-pub(crate) fn member_below(effects: &[Effect], e: u32) -> Option<u32>
+pub(crate) fn member_below(effects: &[Effect], links: &[u32], e: u32) -> Option<u32>
     requires law { IsExecution effects.now }
+    requires links { HasLinks links.now effects.now }
     requires first { 1 ≤ e }
     requires last { e ≤ length effects.now }
     ensures { IsMemberBelow effects.now e result }
@@ -49,7 +61,7 @@ pub(crate) fn member_below(effects: &[Effect], e: u32) -> Option<u32>
     if is_alone(effects, e) {
         return None;
     }
-    match last_in_session(effects, e) {
+    match last_in_session(effects, links, e) {
         Some(k) => only_in_txn(effects, e, k),
         None => None,
     }
@@ -72,19 +84,16 @@ pub(crate) fn member_above(effects: &[Effect], e: u32) -> Option<u32>
     }
 }
 
-fn last_in_session(effects: &[Effect], e: u32) -> Option<u32>
+fn last_in_session(effects: &[Effect], links: &[u32], e: u32) -> Option<u32>
+    requires links { HasLinks links.now effects.now }
     requires first { 1 ≤ e }
     requires last { e ≤ length effects.now }
     ensures { IsLastInSession effects.now e result }
 {
-    let mut k = e - 1;
-    while k > 0 {
-        if effect(effects, k).session.0 == effect(effects, e).session.0 {
-            return Some(k);
-        }
-        k -= 1;
+    match link(effects, links, e) {
+        0 => None,
+        k => Some(k),
     }
-    None
 }
 
 fn next_in_session(effects: &[Effect], e: u32) -> Option<u32>

@@ -2,6 +2,7 @@ ghost use Rattle.std.specs.Prelude.{◌≤◌, ◌<◌, ◌^◌, ◌∷◌, ℕ,
 ghost use Rattle.ql_base.specs.IdLists.{IsAscending};
 ghost use Rattle.ql_exec.specs.declared.effect.Effect.{Effect};
 ghost use Rattle.ql_exec.specs.Execution.{IsExecution};
+ghost use Rattle.ql_exec.specs.Links.{HasLinks};
 ghost use Rattle.ql_needs.specs.Closed.{Has};
 ghost use Rattle.ql_needs.specs.Needs.{AreWhole, Needs};
 ghost use Rattle.ql_ranges.specs.Ranges.{ids_of};
@@ -17,8 +18,8 @@ use std::alloc::Global;
 /// All that some effects need, directly or through others, except for what is needed through known effects
 /// only. The effects asked for are whole transactions, and the known ones have all that they need.
 ///
-/// The time is in proportion to what is found and what that sees, and to the way back from each effect to
-/// the effect before it in its session on its object. Known ids that an effect sees take one lookup together if
+/// The time is in proportion to what is found and what that sees, and to the effects of its session from each
+/// effect back to the one before it on its object. Known ids that an effect sees take one lookup together if
 /// all ids between them are known, and so do ids that were found.
 pub fn reach(alloc: Global, x: &Execution, asked: &IdSet, known: &Ranges) -> Result<IdSet, NoMemory>
     requires asked { AreWhole x.now asked.now }
@@ -27,7 +28,7 @@ pub fn reach(alloc: Global, x: &Execution, asked: &IdSet, known: &Ranges) -> Res
     ensures { IfOk result (λ found. IsReach x.now asked.now (ids_of known.now) found) }
 {
     let mut walk = begin(alloc, asked, known)?;
-    visit_all(x.effects(), asked, known, &mut walk)?;
+    visit_all(x.effects(), x.links(), asked, known, &mut walk)?;
     walk.found.to_ids(alloc)
 }
 
@@ -54,11 +55,13 @@ struct Walk {
 
 fn visit_all(
     effects: &[Effect],
+    links: &[u32],
     asked: &IdSet,
     known: &Ranges,
     walk: &mut Walk,
 ) -> Result<(), NoMemory>
     requires law { IsExecution effects.now }
+    requires links { HasLinks links.now effects.now }
     requires few { length effects.now < 2 ^ 32 }
     requires asked { AreWhole effects.now asked.now }
     requires known { (a b : ℕ) → Has (ids_of known.now) a → Needs effects.now a b
@@ -72,7 +75,7 @@ fn visit_all(
     let mut visited = 0;
     while visited < walk.due.len() {
         let e = walk.due[visited];
-        visit(effects, asked, known, walk, e)?;
+        visit(effects, links, asked, known, walk, e)?;
         visited += 1;
     }
     Ok(())
@@ -81,12 +84,14 @@ fn visit_all(
 // Meets what an effect needs, or enough of it to find the rest from there.
 fn visit(
     effects: &[Effect],
+    links: &[u32],
     asked: &IdSet,
     known: &Ranges,
     walk: &mut Walk,
     e: u32,
 ) -> Result<(), NoMemory>
     requires law { IsExecution effects.now }
+    requires links { HasLinks links.now effects.now }
     requires few { length effects.now < 2 ^ 32 }
     requires first { 1 ≤ e }
     requires last { e ≤ length effects.now }
@@ -97,16 +102,23 @@ fn visit(
         (Visited effects.now asked.now (ids_of known.now) (ids_of walk.new.found) e) }
 {
     meet_each(known, walk, effect(effects, e).seen.items())?;
-    meet_before(effects, known, walk, e)?;
+    meet_before(effects, links, known, walk, e)?;
     if asked.has(e) {
         return Ok(());
     }
-    meet_below(effects, known, walk, e)?;
+    meet_below(effects, links, known, walk, e)?;
     meet_above(effects, known, walk, e)
 }
 
-fn meet_before(effects: &[Effect], known: &Ranges, walk: &mut Walk, e: u32) -> Result<(), NoMemory>
+fn meet_before(
+    effects: &[Effect],
+    links: &[u32],
+    known: &Ranges,
+    walk: &mut Walk,
+    e: u32,
+) -> Result<(), NoMemory>
     requires law { IsExecution effects.now }
+    requires links { HasLinks links.now effects.now }
     requires few { length effects.now < 2 ^ 32 }
     requires first { 1 ≤ e }
     requires last { e ≤ length effects.now }
@@ -115,14 +127,21 @@ fn meet_before(effects: &[Effect], known: &Ranges, walk: &mut Walk, e: u32) -> R
         walk.new.due.items) }
     ensures met { OnOk result (MetBefore effects.now (ids_of known.now) (ids_of walk.new.found) e) }
 {
-    match last_on_object(effects, e, known.whole_to()) {
+    match last_on_object(effects, links, e, known.whole_to()) {
         Some(before) => meet(known, walk, before),
         None => Ok(()),
     }
 }
 
-fn meet_below(effects: &[Effect], known: &Ranges, walk: &mut Walk, e: u32) -> Result<(), NoMemory>
+fn meet_below(
+    effects: &[Effect],
+    links: &[u32],
+    known: &Ranges,
+    walk: &mut Walk,
+    e: u32,
+) -> Result<(), NoMemory>
     requires law { IsExecution effects.now }
+    requires links { HasLinks links.now effects.now }
     requires few { length effects.now < 2 ^ 32 }
     requires first { 1 ≤ e }
     requires last { e ≤ length effects.now }
@@ -131,7 +150,7 @@ fn meet_below(effects: &[Effect], known: &Ranges, walk: &mut Walk, e: u32) -> Re
         walk.new.due.items) }
     ensures met { OnOk result (MetBelow effects.now (ids_of known.now) (ids_of walk.new.found) e) }
 {
-    match member_below(effects, e) {
+    match member_below(effects, links, e) {
         Some(member) => meet(known, walk, member),
         None => Ok(()),
     }

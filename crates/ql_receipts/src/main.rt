@@ -8,13 +8,13 @@ mod receiving;
 use chain::chain;
 use ql_base::NoMemory;
 use ql_replica::Replica;
-use ql_reply::words;
+use ql_reply::read_arguments;
 use receiving::digest;
 use std::alloc::Global;
 use std::io;
 
 fn main(rt: HostRuntime) -> io::Result<()> {
-    let words = words(&rt)?;
+    let words = read_arguments(&rt)?;
     let in_reverse = words.iter().any(|word| word.as_str() == "reverse");
     match answers(rt.alloc(), in_reverse) {
         Ok(digest) => println!(rt; "{digest}")?,

@@ -7,6 +7,7 @@ use Rattle.ql_base.proofs.IdLemmas.{get_or-rises}
 use Rattle.ql_base.specs.declared.ids.EffId.{EffId}
 use Rattle.ql_exec.specs.declared.effect.Effect.{Effect}
 use Rattle.ql_needs.specs.Closed.{Reaches, Has}
+use Rattle.ql_needs.specs.Missing.{IsFirstMissing}
 use Rattle.ql_needs.specs.Needs.{Needs, AreWhole, IsPackage, IsNeeded}
 use Rattle.ql_needs.proofs.ClosedLaws.{closed-member, closed-need, closed-from, closed-larger, reached-along, reached-within}
 use Rattle.ql_needs.proofs.Packages.{package-member, package-each, package-reach, package-in, package-out, whole-union}
@@ -18,7 +19,7 @@ use Rattle.ql_ranges.specs.declared.ranges.IdRange.{IdRange}
 use Rattle.ql_reach.specs.Reach.{InEither, IsReach}
 use Rattle.ql_replica.specs.declared.waiting.Waiting.{Waiting}
 use Rattle.ql_replica.specs.Waiting.{FitsReplica, HoldSame, IsWatchIn, KeepsWaiting, Waits, Watches, held_by}
-use Rattle.ql_replica.specs.Progress.{AreKnown, IsMade, Advances, IsFirstOutside, is_applied, settled, IsDecided, AreDecided, MayWatch, moved}
+use Rattle.ql_replica.specs.Progress.{AreKnown, IsMade, Advances, is_applied, settled, IsDecided, AreDecided, MayWatch, moved}
 
 -- ---- what fits
 
@@ -120,7 +121,7 @@ advances-along a g b h c i one two = record {
 }
 
 -- the first id that is found and wasn't received is the least missing
-pub least-missing : (x : List Effect) (after pack applied found : List ℕ) (id : ℕ) → AreKnown x after applied → IsReach x pack applied found → IsFirstOutside found after (Some id) → IsLeastMissing x after pack id
+pub least-missing : (x : List Effect) (after pack applied found : List ℕ) (id : ℕ) → AreKnown x after applied → IsReach x pack applied found → IsFirstMissing found after (Some id) → IsLeastMissing x after pack id
 least-missing x after pack applied found id known reach first = record {
   needed = reach.needed id first.0;
   absent = first.1;
@@ -263,50 +264,6 @@ moved-settled x received pack after applied held slots missing fits whole is_uni
           needed = needed.0;
           absent = needed.1;
         })
-
--- ---- lists
-
--- a set that has none of some ids lacks them all
-pub outside-all : (ids set : List ℕ) (a : ℕ) → ((b : ℕ) → Has ids b → has_id set b ≡ false) → has_id ids a ≡ (has_id ids a && not (has_id set a))
-outside-all ids set a none = elim (cases_Bool (has_id ids a)) [
-  | inl is ↦ rw (is, none a is) refl
-  | inr other ↦ rw other refl
-]
-
--- what the set lacks of one id more
-pub outside-more : (before now set : List ℕ) (taken : Bool) (id a : ℕ) → has_id before a ≡ (taken && not (has_id set a)) → has_id now a ≡ (has_id before a || (nat_eq id a && not (has_id set id)))
-    → has_id now a ≡ ((nat_eq id a || taken) && not (has_id set a))
-outside-more before now set taken id a old new =
-    new ∙ ap (λ (b : Bool). b || (nat_eq id a && not (has_id set id))) old ∙ by_test (nat_eq id a) refl
-  where
-    cases_set : (s t : Bool) → ((t && not s) || not s) ≡ not s
-    cases_set true true = refl
-    cases_set true false = refl
-    cases_set false true = refl
-    cases_set false false = refl
-
-    or_none : (b : Bool) → (b || false) ≡ b
-    or_none true = refl
-    or_none false = refl
-
-    by_test : (e : Bool) → nat_eq id a ≡ e → ((taken && not (has_id set a)) || (e && not (has_id set id))) ≡ ((e || taken) && not (has_id set a))
-    by_test true same =
-        ap (λ (b : ℕ). (taken && not (has_id set a)) || not (has_id set b)) (eqb-true id a same) ∙ cases_set (has_id set a) taken
-    by_test false other = or_none (taken && not (has_id set a))
-
--- the ids before the first that a set lacks
-pub first-outside : (ids set : List ℕ) (k : ℕ) → IsAscending ids → k < length ids → ((j : ℕ) → j < k → Has set (get_or ids j 0)) → has_id set (get_or ids k 0) ≡ false → IsFirstOutside ids set (Some (get_or ids k 0))
-first-outside ids set k ascending inside before none = (
-  index-has ids k inside,
-  none,
-  λ a is less.
-      let at = has_id-index ids a is in
-      let within = at.1 in
-      subst (Has set) at.2 (before at.0 (elim (cases_lt at.0 k) [
-        | inl lower ↦ lower
-        | inr past ↦ absurd (let rises = get_or-rises ids k at.0 ascending past within in let same = at.2 in omega (arith, rises, same, less))
-      ])),
-)
 
 -- ---- one decision more
 
@@ -481,25 +438,10 @@ keeps-among received applied held others same keeps = record {
       record { key = found.0; waiting = waits.waiting; at = found.1; has = waits.has };
 }
 
-pub first-has : (x : List Effect) (pack : List ℕ) → IsPackage x pack → (0 < length pack) × Has pack (get_or pack 0 0)
-first-has x pack p = (some, index-has pack 0 some)
-  where
-    some : 0 < length pack
-    some = (let at = has_id-index pack p.member (package-member x pack p) in let inside = at.1 in omega (arith, inside))
-
 pub none-before : (x : List Effect) (received pack : List ℕ) (id : ℕ) → IsPackage x pack → AreWhole x received → Has pack id → has_id received id ≡ false → (a : ℕ) → Has pack a → has_id received a ≡ false
 none-before x received pack id p whole is none = package-out x pack received p whole id is none
 
 -- ---- a receipt as it begins
-
-pub new-from : (x : List Effect) (received pack after : List ℕ) (id : ℕ) → IsPackage x pack → AreWhole x received → id ≡ get_or pack 0 0 → false ≡ has_id received id → after ≡ union_of received pack → IsNew received pack after
-new-from x received pack after id p whole is none added = record {
-  none_before = package-out x pack received p whole id (subst (Has pack) (sym is) (first-has x pack p).1) (sym none);
-  added = added;
-}
-
-pub again-from : (x : List Effect) (received pack : List ℕ) (id : ℕ) → IsPackage x pack → AreWhole x received → id ≡ get_or pack 0 0 → true ≡ has_id received id → (a : ℕ) → Has pack a → Has received a
-again-from x received pack id p whole is there = package-in x pack received p whole id (subst (Has pack) (sym is) (first-has x pack p).1) (sym there)
 
 pub known-begin : (x : List Effect) (received applied : List ℕ) (held : ℕ → Option Waiting) (pack after : List ℕ) → FitsReplica received applied held x → after ≡ union_of received pack → AreKnown x after applied
 known-begin x received applied held pack after fits added =

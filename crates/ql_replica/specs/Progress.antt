@@ -26,11 +26,6 @@ abbrev pub IsWalked : List Effect → List ℕ → List ℕ → List ℕ → Lis
 IsWalked x after pack before applied None = (a : ℕ) → Has pack a → Has applied a
 IsWalked x after pack before applied (Some missing) = (applied ≡ before) × IsLeastMissing x after pack missing
 
--- the first id of some, in their order, that a set lacks
-abbrev pub IsFirstOutside : List ℕ → List ℕ → Option ℕ → Type 0
-IsFirstOutside ids set None = (a : ℕ) → Has ids a → Has set a
-IsFirstOutside ids set (Some id) = Has ids id × (has_id set id ≡ false) × ((a : ℕ) → Has ids a → a < id → Has set a)
-
 -- whether the first effect of a package is applied
 abbrev pub is_applied : List ℕ → List ℕ → Bool
 is_applied applied [] = false

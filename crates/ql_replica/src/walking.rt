@@ -5,7 +5,8 @@ ghost use Rattle.ql_needs.specs.Closed.{Has};
 ghost use Rattle.ql_needs.specs.Needs.{IsPackage};
 ghost use Rattle.ql_ranges.specs.Ranges.{ids_of};
 ghost use Rattle.ql_replica.specs.declared.waiting.Waiting.{Waiting};
-ghost use Rattle.ql_replica.specs.Progress.{Advances, AreDecided, AreKnown, IsDecided, IsFirstOutside, IsWalked, MayWatch};
+ghost use Rattle.ql_needs.specs.Missing.{IsFirstMissing};
+ghost use Rattle.ql_replica.specs.Progress.{Advances, AreDecided, AreKnown, IsDecided, IsWalked, MayWatch};
 ghost use Rattle.slab.specs.Slab.{get};
 
 use crate::waiting::Waiting;
@@ -149,7 +150,7 @@ fn walk_held(
 /// The first of the ids that the set lacks.
 pub(crate) fn first_outside(ids: &[u32], set: &Ranges) -> Option<u32>
     requires { IsAscending ids.now }
-    ensures { IsFirstOutside ids.now (ids_of set.now) result }
+    ensures { IsFirstMissing ids.now (ids_of set.now) result }
 {
     for id in ids {
         if !set.has(*id) {

@@ -1,26 +1,50 @@
 -- What follows of a reply, case by case.
-use Rattle.std.proofs.Common.{◌≡◌, ℕ, List, ◌++◌, Option, Result, Ok, Err, codes, refl}
+use Rattle.std.proofs.Common.{◌≡◌, inl, inr, ℕ, ◌≤◌, List, ◌++◌, Option, Result, Ok, Err, codes, arith, refl, subst, sym}
 use Rattle.std.specs.Prelude.{IfOk}
 use Rattle.std.specs.Global.{Vec}
 use Rattle.ql_base.specs.declared.no_memory.NoMemory.{NoMemory}
+use Rattle.ql_ports.specs.Faults.{Rose}
 use Rattle.ql_ports.specs.Written.{appended}
 use Rattle.ql_ports.specs.declared.whole.ReadError.{ReadError}
 use Rattle.ql_ports.specs.declared.whole.ReadError.TheVariants.{Failed, TooLong, NoMemory as NoReadMemory}
 use Rattle.ql_reply.specs.Unread.{IsUnread}
-use Rattle.ql_reply.specs.Wrote.{Wrote}
+use Rattle.ql_reply.specs.Wrote.{IsWritten, Wrote}
 use Rattle.ql_reply.specs.declared.status.Status.{Status}
 use Rattle.ql_reply.specs.declared.status.Status.TheVariants.{Done, No, Bad, ReadFault, WriteFault, Usage, TooLarge}
 
--- where a whole text was appended, this is what was written
-pub wrote : (May : Status → List ℕ → Type 0) (was is : Option (List ℕ)) (before after : ℕ) (status : Status) (text : List ℕ) → (May WriteFault text → ⊥)
-    → May status text → is ≡ appended was text → Wrote May was is before after status
-wrote May was is before after Done text none may same = (text, may, same)
-wrote May was is before after No text none may same = (text, may, same)
-wrote May was is before after Bad text none may same = (text, may, same)
-wrote May was is before after ReadFault text none may same = (text, may, same)
-wrote May was is before after WriteFault text none may same = absurd (none may)
-wrote May was is before after Usage text none may same = (text, may, same)
-wrote May was is before after TooLarge text none may same = (text, may, same)
+module _ (May : Status → List ℕ → Type 0) (was is : Option (List ℕ)) (before after : ℕ) where
+  -- where a whole text was appended, this is what was written
+  whole : (status : Status) (text : List ℕ) → (May WriteFault text → ⊥) → May status text → is ≡ appended was text → Wrote May was is before after status
+  whole Done text none may same = (text, may, same)
+  whole No text none may same = (text, may, same)
+  whole Bad text none may same = (text, may, same)
+  whole ReadFault text none may same = (text, may, same)
+  whole WriteFault text none may same = absurd (none may)
+  whole Usage text none may same = (text, may, same)
+  whole TooLarge text none may same = (text, may, same)
+
+  -- where a reply was written that may be, this is what was written
+  pub wrote : (status ended : Status) (text : List ℕ) → (May WriteFault text → ⊥) → May status text → IsWritten status text was is before after ended → Wrote May was is before after ended
+  wrote status ended text none may (inl (same, all)) = subst (Wrote May was is before after) (sym same) (whole status text none may all)
+  wrote status ended text none may (inr (fault, rose, front)) = subst (Wrote May was is before after) (sym fault) (rose, status, text, may, front)
+
+-- where the sink didn't fail, the call ended as was asked
+pub ended_so : (status ended : Status) (text : List ℕ) (was is : Option (List ℕ)) (before after : ℕ) → IsWritten status text was is before after ended → (Rose before after → ⊥) → ended ≡ status
+ended_so status ended text was is before after (inl (same, all)) none = same
+ended_so status ended text was is before after (inr (fault, rose, front)) none = absurd (none rose)
+
+-- a count that rose later rose
+pub rose_before : (a b c : ℕ) → a ≤ b → Rose b c → Rose a c
+rose_before a b c le (inl less) = inl (omega (arith, le, less))
+rose_before a b c le (inr is) = inr is
+
+-- what is written for words that ask for nothing has not the status of a write fault
+abbrev IsWriteFault : Status → Type 0
+IsWriteFault WriteFault = Unit {0}
+IsWriteFault _ = ⊥
+
+pub no_usage : WriteFault ≡ Usage → ⊥
+no_usage same = subst IsWriteFault same tt
 
 -- a file couldn't be read: the shelf failed, or it has too many bytes
 pub of_unread : (P : Status → List ℕ → Type 0) (name : List ℕ) (error : ReadError) (status : Status) (text : List ℕ) → IsUnread error name status text

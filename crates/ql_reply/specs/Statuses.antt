@@ -1,5 +1,6 @@
 -- The exit statuses of the programs.
-use Rattle.std.specs.Prelude.{ℕ}
+use Rattle.std.specs.Prelude.{ℕ, Result, Ok, Err}
+use Rattle.ql_base.specs.declared.no_memory.NoMemory.{NoMemory}
 use Rattle.ql_reply.specs.declared.status.Status.{Status}
 use Rattle.ql_reply.specs.declared.status.Status.TheVariants.{Done, No, Bad, ReadFault, WriteFault, Usage, TooLarge}
 
@@ -11,3 +12,8 @@ exit_number ReadFault = 3
 exit_number WriteFault = 4
 exit_number Usage = 5
 exit_number TooLarge = 7
+
+-- the exit status of a program whose call ended so: 6 is out of memory
+abbrev pub exit_number_of : Result Status NoMemory → ℕ
+exit_number_of (Ok status) = exit_number status
+exit_number_of (Err error) = 6

@@ -1,5 +1,5 @@
 -- What a call wrote.
-use Rattle.std.specs.Prelude.{◌≡◌, ℕ, List, Option}
+use Rattle.std.specs.Prelude.{◌≡◌, ◌⊎◌, ℕ, List, Option}
 use Rattle.ql_ports.specs.Faults.{Rose}
 use Rattle.ql_ports.specs.Written.{AppendsFront, appended}
 use Rattle.ql_reply.specs.declared.status.Status.{Status}
@@ -19,3 +19,8 @@ Wrote May was is before after Bad = Appends May was is Bad
 Wrote May was is before after ReadFault = Appends May was is ReadFault
 Wrote May was is before after Usage = Appends May was is Usage
 Wrote May was is before after TooLarge = Appends May was is TooLarge
+
+-- A reply was written whole, or the sink failed after a prefix of its text.
+abbrev pub IsWritten : Status → List ℕ → Option (List ℕ) → Option (List ℕ) → ℕ → ℕ → Status → Type 0
+IsWritten status text was is before after ended =
+    ((ended ≡ status) × (is ≡ appended was text)) ⊎ ((ended ≡ WriteFault) × Rose before after × AppendsFront was is text)

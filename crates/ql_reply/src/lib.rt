@@ -1,13 +1,16 @@
 // The arguments of a program's command line, and its reply: a status and one text. The one contract: the line of a bad
-// file names its part, the offset or line, and the rule; that of a file which couldn't be read names the file.
+// file names its part, the offset or line, and the rule; that of a file which couldn't be read names the file; a reply
+// is written whole, or the sink failed.
 #![tactic(auto)]
 
 mod args;
 mod bad;
 mod status;
 mod whole;
+mod write;
 
-pub use args::{NO_MEMORY, arguments, is_file_name, words};
+pub use args::{arguments, is_file_name, read_arguments};
 pub use bad::bad_line;
-pub use status::Status;
+pub use status::{Status, exit_number};
 pub use whole::unread;
+pub use write::write_reply;

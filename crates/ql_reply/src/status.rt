@@ -1,3 +1,11 @@
+ghost use Rattle.std.specs.Prelude.{◌≡◌};
+ghost use Rattle.ql_reply.specs.Statuses.{exit_number_of};
+
+use ql_base::NoMemory;
+
+/// The exit status of a program that ran out of memory. No `Status` has this number.
+pub(crate) const NO_MEMORY: u8 = 6;
+
 /// How a call of a program ended. Its number is the process's exit status.
 #[derive(Clone, Copy, Debug, PartialEq, Eq)]
 pub enum Status {
@@ -26,5 +34,15 @@ impl Status {
         ensures { result ≡ exit_number self }
     {
         self as u8
+    }
+}
+
+/// The exit status of a program whose call ended so.
+pub fn exit_number(ended: Result<Status, NoMemory>) -> u8
+    ensures { result ≡ exit_number_of ended }
+{
+    match ended {
+        Ok(status) => status.number(),
+        Err(NoMemory) => NO_MEMORY,
     }
 }

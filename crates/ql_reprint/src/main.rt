@@ -5,7 +5,7 @@
 use ql_base::NoMemory;
 use ql_lang::print_program;
 use ql_parse::{ParseFault, parse_program};
-use ql_reply::words;
+use ql_reply::read_arguments;
 use std::alloc::Global;
 use std::io::Write;
 use std::{fs, io};
@@ -14,7 +14,7 @@ use std::{fs, io};
 const MOST_BYTES: usize = 1 << 20;
 
 fn main(rt: HostRuntime) -> io::Result<()> {
-    let words = words(&rt)?;
+    let words = read_arguments(&rt)?;
     let check = words.first().is_some_and(|word| word.as_str() == "--check");
     for path in words.iter().skip(check as usize) {
         let text = fs::read(&rt, path)?;

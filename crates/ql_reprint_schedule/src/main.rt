@@ -4,7 +4,7 @@
 
 use ql_base::NoMemory;
 use ql_parse::parse_program;
-use ql_reply::words;
+use ql_reply::read_arguments;
 use ql_schedule::{SchedFault, parse_schedule, print_schedule};
 use ql_typing::{Typed, typecheck};
 use std::alloc::Global;
@@ -15,7 +15,7 @@ use std::{fs, io};
 const MOST_BYTES: usize = 1 << 20;
 
 fn main(rt: HostRuntime) -> io::Result<()> {
-    let paths = words(&rt)?;
+    let paths = read_arguments(&rt)?;
     let mut typed = None;
     for path in paths.iter() {
         let text = fs::read(&rt, path)?;

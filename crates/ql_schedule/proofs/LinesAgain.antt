@@ -1,26 +1,22 @@
 -- lines of parts are read as they are written
-use Rattle.std.proofs.Common.{◌≡◌, ◌⊎◌, inl, inr, ℕ, zero, suc, nat_le, ◌<◌, ◌≤◌, ◌^◌, ◌+◌, ◌-◌, take, Bool, true, false, List, [], ◌∷◌, ◌++◌, length, get_or, decimal, arith, refl, ap, sym, subst, ◌∙◌, append_assoc, one-add}
-use Rattle.std.specs.Prelude.{slice_index, if◌then◌else◌, ◌==◌, ◌&&◌}
-use Rattle.std.specs.List.{AllByRecursion, position_or_len, slice_split}
-use Rattle.std.specs.Str.Lines.{lines, lines_of_parts, strip_carriage_return}
+use Rattle.std.proofs.Common.{◌≡◌, ◌⊎◌, inl, inr, ℕ, zero, suc, nat_le, ◌<◌, ◌≤◌, ◌^◌, ◌+◌, Bool, true, false, List, [], ◌∷◌, ◌++◌, length, get_or, decimal, arith, refl, ap, sym, subst, ◌∙◌, append_assoc}
+use Rattle.std.specs.Prelude.{◌==◌, ◌&&◌}
+use Rattle.std.specs.List.{AllByRecursion}
 use Rattle.std.proofs.lemmas.Bool.Decides.{nat_tests}
 use Rattle.std.proofs.lemmas.Fmt.{decimal_is_IsNumeral}
 use Rattle.std.proofs.lemmas.List.{append-nil}
-use Rattle.std.proofs.lemmas.List.Splits.{slice_split-cons_no, slice_split-cons_yes}
 use Rattle.std.proofs.lemmas.Str.Parse.{digit_at}
 use Rattle.ql_base.specs.Bytes.{is_name_byte, is_text_byte}
 use Rattle.ql_base.specs.Names.{IsName}
 use Rattle.ql_lines.specs.Fields.{Fields, is_space}
-use Rattle.ql_lines.specs.Lines.{Numbered, ahead_from, is_line_feed, is_skipped, told}
+use Rattle.ql_lines.specs.Lines.{Numbered, ahead_from, is_skipped, told}
 use Rattle.ql_lines.specs.Texts.{file_text, joined}
-use Rattle.ql_lines.proofs.FieldLaws.{field_first}
+use Rattle.ql_lines.proofs.Each.{each_by_index, each_weaker}
+use Rattle.ql_lines.proofs.LineEnds.{Stay, StaysIn, joined_stay, line_again, stay_both, stays_of}
+use Rattle.ql_lines.proofs.TextLaws.{tells}
 use Rattle.ql_schedule.specs.Parts.{is_quotation_mark, led_by, parts_in_part, parts_in_text, parts_of}
 
 -- ---- bytes and parts
-
--- a byte that ends no line
-abbrev pub StaysIn : ℕ → Type 0
-StaysIn b = (b ≡ 10 → ⊥) × (b ≡ 13 → ⊥)
 
 -- a byte of a part that no quote begins, and one within a text
 abbrev pub IsPartByte : ℕ → Type 0
@@ -91,68 +87,13 @@ parts_again (f ∷ g ∷ fs) h = part_first f (32 ∷ joined (g ∷ fs)) h.0 (en
 
 -- ---- lines
 
-all_join : (P : ℕ → Type 0) (xs ys : List ℕ) → AllByRecursion P xs → AllByRecursion P ys → AllByRecursion P (xs ++ ys)
-all_join P [] ys h k = k
-all_join P (x ∷ xs) ys h k = (h.0, all_join P xs ys h.1 k)
-
-all_weak : (P Q : ℕ → Type 0) (f : (b : ℕ) → P b → Q b) (xs : List ℕ) → AllByRecursion P xs → AllByRecursion Q xs
-all_weak P Q f [] h = tt
-all_weak P Q f (x ∷ xs) h = (f x h.0, all_weak P Q f xs h.1)
-
-part_stays : (f : List ℕ) → IsPart f → AllByRecursion StaysIn f
+part_stays : (f : List ℕ) → IsPart f → Stay f
 part_stays [] h = tt
-part_stays (b ∷ bs) (inl h) = (h.first.0, all_weak (λ b. IsPartByte b) (λ b. StaysIn b) (λ c k. k.0) bs h.rest)
+part_stays (b ∷ bs) (inl h) = (h.first.0, each_weaker (λ b. IsPartByte b) StaysIn (λ c k. k.0) bs h.rest)
 part_stays (b ∷ bs) (inr h) = (
-  subst StaysIn (sym h.1) ((λ e. omega (arith, e)), (λ e. omega (arith, e))),
-  subst (AllByRecursion StaysIn) (sym h.2) (all_join (λ b. StaysIn b) h.0 (34 ∷ []) (all_weak (λ b. IsInText b) (λ b. StaysIn b) (λ c k. k.0) h.0 h.3) (((λ e. omega (arith, e)), (λ e. omega (arith, e))), tt)),
+  subst StaysIn (sym h.1) (stays_of 34 (omega arith)),
+  subst Stay (sym h.2) (stay_both h.0 (34 ∷ []) (each_weaker (λ b. IsInText b) StaysIn (λ c k. k.0) h.0 h.3) (stays_of 34 (omega arith), tt)),
 )
-
-joined_stays : (fs : Fields) → AllByRecursion IsPart fs → AllByRecursion StaysIn (joined fs)
-joined_stays [] h = tt
-joined_stays (f ∷ []) h = part_stays f h.0
-joined_stays (f ∷ g ∷ fs) h = all_join (λ b. StaysIn b) f (32 ∷ joined (g ∷ fs)) (part_stays f h.0) (((λ e. omega (arith, e)), (λ e. omega (arith, e))), joined_stays (g ∷ fs) h.1)
-
-no_feed : (b : ℕ) → StaysIn b → is_line_feed b ≡ false
-no_feed b h = elim (is_line_feed b) as (λ t. is_line_feed b ≡ t → is_line_feed b ≡ false) [ true ↦ λ e. absurd (h.0 (grind (arith, nat_tests, e))) | false ↦ λ e. e ] refl
-
-line_part : (xs ys : List ℕ) → AllByRecursion StaysIn xs → slice_split is_line_feed (xs ++ 10 ∷ ys) ≡ xs ∷ slice_split is_line_feed ys
-line_part [] ys h = slice_split-cons_yes is_line_feed 10 ys refl
-line_part (x ∷ xs) ys h = slice_split-cons_no is_line_feed x (xs ++ 10 ∷ ys) (no_feed x h.0) ∙ rw (line_part xs ys h.1) refl
-
-index : (x y : ℕ) (ys : List ℕ) → length (x ∷ y ∷ ys) - 1 ≡ suc (length (y ∷ ys) - 1)
-index x y ys = omega arith
-
-last_no_return : (xs : List ℕ) → AllByRecursion StaysIn xs → slice_index xs (length xs - 1) ≡ 13 → ⊥
-last_no_return [] h e = omega (arith, e)
-last_no_return (x ∷ []) h e = h.0.1 e
-last_no_return (x ∷ y ∷ ys) h e = last_no_return (y ∷ ys) h.1 (sym (ap (slice_index (x ∷ y ∷ ys)) (index x y ys)) ∙ e)
-
-no_return : (xs : List ℕ) → AllByRecursion StaysIn xs → strip_carriage_return xs ≡ xs
-no_return xs h =
-    let last = slice_index xs (length xs - 1) in
-    let P : Bool → Type 0 = λ t. (last == 13) ≡ t → (if t then take (length xs - 1) xs else xs) ≡ xs in
-    elim (last == 13) as P [ true ↦ λ e. absurd (last_no_return xs h (grind (arith, e))) | false ↦ λ e. refl ] refl
-
-some_rest : (ys : List ℕ) → (p : List ℕ) × (ps : List (List ℕ)) × (slice_split is_line_feed ys ≡ p ∷ ps)
-some_rest [] = ([], [], refl)
-some_rest (y ∷ ys) =
-    let rest = some_rest ys in
-    let P : Bool → Type 0 = λ t. is_line_feed y ≡ t → (p : List ℕ) × (ps : List (List ℕ)) × (slice_split is_line_feed (y ∷ ys) ≡ p ∷ ps) in
-    elim (is_line_feed y) as P [
-      | true ↦ λ e. ([], slice_split is_line_feed ys, slice_split-cons_yes is_line_feed y ys e)
-      | false ↦ λ e. (y ∷ rest.0, rest.1, slice_split-cons_no is_line_feed y ys e ∙ rw rest.2 refl)
-    ] refl
-
-line_again : (text ys : List ℕ) → AllByRecursion StaysIn text → lines (text ++ 10 ∷ ys) ≡ text ∷ lines ys
-line_again text ys h =
-    let rest = some_rest ys in
-    ap lines_of_parts (line_part text ys h) ∙ ap (λ parts. lines_of_parts (text ∷ parts)) rest.2
-    ∙ ap (λ parts. strip_carriage_return text ∷ lines_of_parts parts) (sym rest.2) ∙ ap (λ l. l ∷ lines ys) (no_return text h)
-
--- a line whose first byte is no space and no `#` tells something
-tells : (b : ℕ) (bs : List ℕ) → is_space b ≡ false → (b == 35) ≡ false → is_skipped (b ∷ bs) ≡ false
-unfolding is_skipped
-tells b bs space hash = rw (field_first b bs space, space, one-add (position_or_len is_space bs)) hash
 
 -- ---- files
 
@@ -181,12 +122,9 @@ pub file_again : (n : ℕ) (ls : List Fields) → AllByRecursion IsLine ls → (
 unfolding file_text told numbered
 file_again n [] h = refl
 file_again n (l ∷ ls) h =
-    ap (told n) (line_again (joined l) (file_text ls) (joined_stays l h.0.parts)) ∙ rw (is_told l h.0.begins) (ap (λ r. record { number = n; text = joined l } ∷ r) (file_again (n + 1) ls h.1))
+    ap (told n) (line_again (joined l) (file_text ls) (joined_stay l (each_weaker IsPart Stay part_stays l h.0.parts))) ∙ rw (is_told l h.0.begins) (ap (λ r. record { number = n; text = joined l } ∷ r) (file_again (n + 1) ls h.1))
 
 -- ---- parts that schedules are printed with
-
-stays_of : (b : ℕ) → 14 ≤ b → StaysIn b
-stays_of b low = ((λ e. omega (arith, e, low)), (λ e. omega (arith, e, low)))
 
 part_byte : (b : ℕ) → 35 ≤ b → IsPartByte b
 part_byte b low = (stays_of b (omega (arith, low)), grind (arith, nat_tests, low))
@@ -199,11 +137,7 @@ bare_of : (f : List ℕ) → 0 < length f → ((k : ℕ) → k < length f → 35
 bare_of [] some h = absurd (omega (arith, some))
 bare_of (b ∷ bs) some h =
     let low : 35 ≤ b = h 0 (omega arith) in
-    inl (record { first = part_byte b low; no_quote = grind (arith, nat_tests, low); rest = all_bytes bs (λ k lt. h (suc k) (omega (arith, lt))) })
-  where
-    all_bytes : (cs : List ℕ) → ((k : ℕ) → k < length cs → 35 ≤ get_or cs k 0) → AllByRecursion IsPartByte cs
-    all_bytes [] g = tt
-    all_bytes (c ∷ cs) g = (part_byte c (g 0 (omega arith)), all_bytes cs (λ k lt. g (suc k) (omega (arith, lt))))
+    inl (record { first = part_byte b low; no_quote = grind (arith, nat_tests, low); rest = each_by_index IsPartByte bs (λ k lt. part_byte (get_or bs k 0) (h (suc k) (omega (arith, lt)))) })
 
 pub number_part : (n : ℕ) → n < 2 ^ 64 → IsPart (decimal n)
 number_part n small =
@@ -229,11 +163,7 @@ unfolding is_text_byte
 text_low b h = (stays_of b (grind (arith, nat_tests, h)), grind (arith, nat_tests, h))
 
 pub text_part : (t : List ℕ) → ((k : ℕ) → k < length t → is_text_byte (get_or t k 0) ≡ true) → IsPart (34 ∷ t ++ 34 ∷ [])
-text_part t h = inr (t, refl, refl, all_text t h)
-  where
-    all_text : (s : List ℕ) → ((k : ℕ) → k < length s → is_text_byte (get_or s k 0) ≡ true) → AllByRecursion IsInText s
-    all_text [] g = tt
-    all_text (b ∷ s) g = (text_low b (g 0 (omega arith)), all_text s (λ k lt. g (suc k) (omega (arith, lt))))
+text_part t h = inr (t, refl, refl, each_by_index IsInText t (λ k lt. text_low (get_or t k 0) (h k lt)))
 
 -- a word of low bytes only
 abbrev pub is_word_of : List ℕ → Bool

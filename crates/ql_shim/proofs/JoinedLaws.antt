@@ -13,6 +13,7 @@ use Rattle.ql_exec.proofs.Finding.{both-found, so_from}
 use Rattle.std.proofs.lemmas.Option.{same_Some}
 use Rattle.ql_needs.specs.Closed.{Has}
 use Rattle.ql_needs.proofs.IdSets.{has_id-with}
+use Rattle.ql_needs.proofs.Members.{index-has}
 use Rattle.ql_machine.specs.Blocking.{IsOf}
 use Rattle.ql_machine.specs.Sets.{AreThose, has_all}
 
@@ -40,17 +41,12 @@ has-above least (id ∷ ids) a below has = elim (or_cases (nat_eq id a) (has_id 
   | inr later ↦ has-above least ids a below.1 later
 ]
 
-pub at-has : (ids : List ℕ) (k : ℕ) → k < length ids → Has ids (get_or ids k 0)
-at-has [] k inside = absurd (omega (arith, inside))
-at-has (id ∷ ids) zero inside = or_left (nat_eq id id) (has_id ids id) (eq-eqb id id refl)
-at-has (id ∷ ids) (suc k) inside = or_right (nat_eq id (get_or ids k 0)) (has_id ids (get_or ids k 0)) (at-has ids k (omega (arith, inside)))
-
 -- the first of an ascending list are those below the next
 pub front-below : (ids : List ℕ) (k : ℕ) → IsAscending ids → k < length ids → (a : ℕ) → Has (take k ids) a → a < get_or ids k 0
 front-below [] k order inside a has = absurd (omega (arith, inside))
 front-below (id ∷ ids) zero order inside a has = absurd (false≢true has)
 front-below (id ∷ ids) (suc k) order inside a has = elim (or_cases (nat_eq id a) (has_id (take k ids) a) has) [
-  | inl here ↦ (let same = eqb-true id a here in let less = has-above id ids (get_or ids k 0) order.0 (at-has ids k (omega (arith, inside))) in omega (arith, same, less))
+  | inl here ↦ (let same = eqb-true id a here in let less = has-above id ids (get_or ids k 0) order.0 (index-has ids k (omega (arith, inside))) in omega (arith, same, less))
   | inr later ↦ front-below ids k order.1 (omega (arith, inside)) a later
 ]
 

@@ -14,10 +14,11 @@ use Rattle.ql_exec.proofs.Finding.{both-found, so_parts}
 use Rattle.ql_needs.specs.Closed.{Has}
 use Rattle.ql_needs.proofs.NeedsLaws.{step-before}
 use Rattle.ql_needs.proofs.IdSets.{has_id-with}
+use Rattle.ql_needs.proofs.Members.{index-has}
 use Rattle.ql_machine.specs.Blocking.{IsOf}
 use Rattle.ql_machine.specs.Sets.{AreThose, has_all}
 use Rattle.ql_shim.specs.Joined.{IsJoined, IsNextJoined, is_seen_next}
-use Rattle.ql_shim.proofs.JoinedLaws.{all-has, at-has, has-all, front-below, below-front, front-has, has-old, has-next, next-has, step-on, step-seen, step-session}
+use Rattle.ql_shim.proofs.JoinedLaws.{all-has, has-all, front-below, below-front, front-has, has-old, has-next, next-has, step-on, step-seen, step-session}
 
 -- ---- ids with one more where a test passes
 
@@ -57,7 +58,7 @@ pub next-is : (x : List Effect) (on : List ℕ) (k : ℕ) (e : Effect) → IsAsc
     → IsNext x on (take k on) (take (suc k) on) (get_or on k 0) e
 next-is x on k e order inside at = record {
   at = at;
-  on_it = at-has on k inside;
+  on_it = index-has on k inside;
   below = front-below on k order inside;
   in_front = below-front on k order inside;
   front_on = front-has on k;

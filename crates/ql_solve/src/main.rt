@@ -8,13 +8,13 @@ use dimacs::clauses;
 use ql_base::NoMemory;
 use ql_cnf::{Clauses, satisfies};
 use ql_refute::{Verdict, check};
-use ql_reply::words;
+use ql_reply::read_arguments;
 use ql_sat::{Decided, decide};
 use std::alloc::Global;
 use std::{fs, io};
 
 fn main(rt: HostRuntime) -> io::Result<()> {
-    let paths = words(&rt)?;
+    let paths = read_arguments(&rt)?;
     for path in &paths {
         let text = fs::read_to_string(&rt, path)?;
         match judge(rt.alloc(), text.as_str()) {

@@ -1,6 +1,6 @@
 use crate::faults::fault;
 use ql_base::{Names, NoMemory, push_bytes, push_number};
-use ql_parse::parse_contract;
+use ql_parse::{few_operations, parse_contract};
 use ql_tables::check_table;
 use ql_typing::resolve;
 use std::alloc::Global;
@@ -98,9 +98,10 @@ fn resolution(
     for_transaction: bool,
     operations: &mut Names,
 ) -> Result<Vec<u8>, NoMemory> {
-    if text.len() > 1_048_576 {
+    if text.len() > 1_048_576 || operations.len() > 1_048_576 {
         return Err(NoMemory);
     }
+    few_operations();
     let Ok(contract) = parse_contract(alloc, text.as_bytes()) else {
         return Ok(Vec::from_slice(alloc, b"not a contract")?);
     };

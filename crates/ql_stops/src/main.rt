@@ -10,7 +10,7 @@ use journaling::{all_effects, journal, recovered};
 use ql_disk::FileDisk;
 use ql_journal::StationWhy;
 use ql_replica::Replica;
-use ql_reply::words;
+use ql_reply::read_arguments;
 use std::fs::OpenOptions;
 use std::io;
 
@@ -18,7 +18,7 @@ use std::io;
 const PACKAGES: u32 = 800;
 
 fn main(rt: HostRuntime) -> io::Result<()> {
-    let words = words(&rt)?;
+    let words = read_arguments(&rt)?;
     match words.as_slice() {
         [command, path] if command.as_str() == "journal" => write_file(&rt, path.as_str()),
         [command, path] if command.as_str() == "recover" => read_file(&rt, path.as_str()),

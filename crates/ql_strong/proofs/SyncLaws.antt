@@ -9,6 +9,7 @@ use Rattle.ql_exec.specs.Relations.{sametxn}
 use Rattle.ql_needs.specs.Closed.{Has}
 use Rattle.ql_needs.specs.Needs.{AreWhole, IsPackage}
 use Rattle.ql_needs.proofs.IdSets.{in_union-left, in_union-right, in_union-cases, same_ids}
+use Rattle.ql_needs.proofs.Members.{has_id-index, index-has}
 use Rattle.ql_needs.proofs.Packages.{sametxn-itself}
 use Rattle.ql_holder.specs.declared.arrival.Arrival.{Arrival}
 use Rattle.ql_holder.specs.declared.arrival.Arrival.TheVariants.{Again, Waits, Applies}
@@ -49,18 +50,6 @@ received-package x before ids after id (Applies gain) those is = joined x before
 
 -- ---- through the committed effects
 
-pub has-at : (ids : List ℕ) (i : ℕ) → i < length ids → Has ids (get_or ids i 0)
-has-at [] i inside = absurd (omega arith)
-has-at (id ∷ ids) zero inside = or_left (nat_eq id id) (has_id ids id) (eq-eqb id id refl)
-has-at (id ∷ ids) (suc i) inside = or_right (nat_eq id (get_or ids i 0)) (has_id ids (get_or ids i 0)) (has-at ids i (omega arith))
-
-at-has : (ids : List ℕ) (a : ℕ) → Has ids a → (i : ℕ) × (i < length ids) × (get_or ids i 0 ≡ a)
-at-has [] a has = absurd (false≢true has)
-at-has (id ∷ ids) a has = elim (or_cases (nat_eq id a) (has_id ids a) has) [
-  | inl here ↦ (zero, omega arith, eqb-true id a here)
-  | inr later ↦ (let rest = at-has ids a later in let inside = rest.1 in (suc rest.0, omega (arith, inside), rest.2))
-]
-
 pub way-begins : (received ids : List ℕ) → IsWithin received ids → IsUnderWay received ids 0
 way-begins received ids within = record { within = within; done = λ i less. absurd (omega (arith, less)) }
 
@@ -72,7 +61,7 @@ way-on x before after ids k whole inside has way = record {
     ascending = has.ascending way.within.ascending;
     among = λ a is. elim (has.only a is) [
       | inl old ↦ way.within.among a old
-      | inr new ↦ whole.whole (get_or ids k 0) a (has-at ids k inside) new
+      | inr new ↦ whole.whole (get_or ids k 0) a (index-has ids k inside) new
     ];
   };
   done = λ i less. has.kept (get_or ids i 0) (way.done i less);
@@ -93,7 +82,7 @@ way-past received ids k n more way = record {
 
 pub way-ends : (received ids : List ℕ) → IsAscending ids → IsUnderWay received ids (length ids) → received ≡ ids
 way-ends received ids ascending way = same_ids received ids way.within.ascending ascending way.within.among
-    (λ a has. (let at = at-has ids a has in subst (λ (n : ℕ). Has received n) at.2 (way.done at.0 at.1)))
+    (λ a has. (let at = has_id-index ids a has in subst (λ (n : ℕ). Has received n) at.2 (way.done at.0 at.1)))
 
 -- ---- all holders
 

@@ -4,27 +4,25 @@
 #![tactic(auto)]
 
 use ql_app::quelea;
-use ql_base::NoMemory;
 use ql_notes::{KeptSink, write_notes};
 use ql_ports::{FileShelf, StdSink};
-use ql_reply::{NO_MEMORY, arguments};
+use ql_reply::{arguments, exit_number};
 use std::process::ExitCode;
 
 fn main(rt: HostRuntime) -> ExitCode {
     match arguments(&rt) {
-        Ok(words) => ExitCode::from(exit_number(rt, &words)),
+        Ok(words) => ExitCode::from(run(rt, &words)),
         Err(number) => ExitCode::from(number),
     }
 }
 
-fn exit_number(rt: HostRuntime, words: &Vec<String>) -> u8 {
+// Answers the arguments, and returns the exit status.
+fn run(rt: HostRuntime, words: &Vec<String>) -> u8 {
     let mut shelf = FileShelf::new(rt.alloc(), rt);
     let mut sink = KeptSink::over(StdSink::new(rt));
-    match quelea(rt.alloc(), words, &mut shelf, &mut sink) {
-        Ok(status) => {
-            write_notes(rt, words, status.number(), sink.printed(), &mut shelf);
-            status.number()
-        }
-        Err(NoMemory) => NO_MEMORY,
+    let ended = quelea(rt.alloc(), words, &mut shelf, &mut sink);
+    if let Ok(status) = ended {
+        write_notes(rt, words, status.number(), sink.printed(), &mut shelf);
     }
+    exit_number(ended)
 }

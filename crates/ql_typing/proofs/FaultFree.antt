@@ -48,7 +48,7 @@ contract_typed known names fields o h =
     left_none _ _ (right_none (above 8 (places (param_names o.params))) _ (right_none (repeats names (param_names o.params)) _ h))
 
 -- and so the contracts of the operations of types without faults
-own_typed : (known : List (List ℕ)) (t : TypeDecl) → type_faults known t ≡ [] → each (λ o. contract_faults (Some known) false (sentence_of o.contract)) t.ops ≡ []
+pub own_typed : (known : List (List ℕ)) (t : TypeDecl) → type_faults known t ≡ [] → each (λ o. contract_faults (Some known) false (sentence_of o.contract)) t.ops ≡ []
 unfolding type_faults
 own_typed known t h =
     each_weaker (op_decl_faults known (names_met [] (field_names t.fields)) (fields_known t.fields)) (λ o. contract_faults (Some known) false (sentence_of o.contract))

@@ -13,3 +13,4 @@ pub mod Formed
 pub mod FaultFree
 pub mod InTypes
 pub mod ResolvedSet
+pub mod Growing

@@ -1,5 +1,5 @@
 -- What follows of each part where nothing is wrong.
-use Rattle.std.proofs.Common.{◌≡◌, ◌≤◌, ℕ, zero, suc, Bool, true, false, List, [], ◌∷◌, ◌++◌, Some, length, map, drop, refl, sym, ap, ◌∙◌, subst, arith, append-nil, append_assoc}
+use Rattle.std.proofs.Common.{◌≡◌, ◌<◌, ◌≤◌, ℕ, get_or, zero, suc, Bool, true, false, List, [], ◌∷◌, ◌++◌, Some, length, map, drop, refl, sym, ap, ◌∙◌, subst, arith, append-nil, append_assoc}
 use Rattle.std.proofs.Math.Logic.{∥∥₁_elim}
 use Rattle.std.specs.List.{flat_map, slice_get}
 use Rattle.std.proofs.lemmas.List.{map-append}
@@ -57,6 +57,12 @@ module _ {A : Type 0} (faults : A → List TypeFault) where
       let same : y ≡ x = cc in
       subst (λ z. faults z ≡ []) same (left_none (faults y) (each faults ys) h)
   each_at (y ∷ ys) (suc k) x h is = each_at ys k x (right_none (faults y) (each faults ys) h) is
+
+  pub each_item : (xs : List A) (k : ℕ) (x : A) → each faults xs ≡ [] → k < length xs → x ≡ get_or xs k x → faults x ≡ []
+  unfolding each
+  each_item [] k x h below is = absurd (omega (arith, below))
+  each_item (y ∷ ys) zero x h below is = subst (λ z. faults z ≡ []) (sym is) (left_none (faults y) (each faults ys) h)
+  each_item (y ∷ ys) (suc k) x h below is = each_item ys k x (right_none (faults y) (each faults ys) h) (omega (arith, below)) is
 
   -- where each item past a limit is a fault, there are no more items than that
   pub few_each : ((x : A) → ¬ faults x ≡ []) → (limit : ℕ) (xs : List A) → each faults (drop limit xs) ≡ [] → length xs ≤ limit

@@ -1,4 +1,5 @@
-ghost use Rattle.std.specs.Prelude.{◌≡◌, [], IfOk, IfErr, OnOk, OnErr, map, take, length, None};
+ghost use Rattle.std.specs.Prelude.{◌≡◌, ◌<◌, ◌≤◌, ◌^◌, [], IfOk, IfErr, OnOk, OnErr, map, take, length, None};
+ghost use Rattle.ql_base.specs.Numbering.{with_name};
 ghost use Rattle.ql_lang.specs.Formulas.{resolved_of, statement_of};
 ghost use Rattle.ql_lang.specs.Trees.{proposition_of, relation_of, sentence_of};
 ghost use Rattle.ql_typing.specs.Faults.{IsRefusal, TellsFirst, names_met};
@@ -7,7 +8,7 @@ ghost use Rattle.ql_typing.specs.Resolved.{choice_of, number_in, ops_met, resolv
 
 use crate::contract::check_contract;
 use crate::fault::TypeFault;
-use crate::names::put_in;
+use crate::word_set::WordSet;
 use ql_base::{IdSet, Names, NoMemory, Word};
 use ql_lang::{
     Body, Choices, Contract, Formula, Name, OpChoice, Point, Prop, Rel, Term, Terms, Var,
@@ -22,6 +23,7 @@ pub fn resolve(
     ops: &mut Names,
     for_txn: bool,
 ) -> Result<Formula, TypeFault>
+    requires { length (ops_met ops.old contract.now.vars) < 2 ^ 32 }
     ensures typed { OnOk result (contract_faults None for_txn (sentence_of contract.now) ≡ []) }
     ensures numbered { OnOk result (ops.new ≡ ops_met ops.old contract.now.vars) }
     ensures formula { IfOk result
@@ -48,10 +50,12 @@ pub fn resolve(
 fn number_or_undo(
     alloc: Global,
     contract: &Contract,
-    vars: &Names,
+    vars: &WordSet,
     ops: &mut Names,
 ) -> Result<Formula, NoMemory>
-    requires { vars.now ≡ names_met [] (var_names contract.now.vars) }
+    requires vars { vars.now ≡ names_met [] (var_names contract.now.vars) }
+    requires few { length contract.now.vars ≤ 5 }
+    requires room { length (ops_met ops.old contract.now.vars) < 2 ^ 32 }
     ensures numbered { OnOk result (ops.new ≡ ops_met ops.old contract.now.vars) }
     ensures formula { IfOk result
         (λ formula. resolved_of formula ≡ resolved_in ops.new (sentence_of contract.now)) }
@@ -71,10 +75,12 @@ fn number_or_undo(
 fn number_and_build(
     alloc: Global,
     contract: &Contract,
-    vars: &Names,
+    vars: &WordSet,
     ops: &mut Names,
 ) -> Result<Formula, NoMemory>
-    requires { vars.now ≡ names_met [] (var_names contract.now.vars) }
+    requires vars { vars.now ≡ names_met [] (var_names contract.now.vars) }
+    requires few { length contract.now.vars ≤ 5 }
+    requires room { length (ops_met ops.old contract.now.vars) < 2 ^ 32 }
     ensures numbered { OnOk result (ops.new ≡ ops_met ops.old contract.now.vars) }
     ensures formula { IfOk result
         (λ formula. resolved_of formula ≡ resolved_in ops.new (sentence_of contract.now)) }
@@ -86,6 +92,7 @@ fn number_and_build(
 
 /// Adds the operations of variables to `ops`, one after another.
 fn number_all(vars: &[Var], ops: &mut Names) -> Result<(), NoMemory>
+    requires { length (ops_met ops.old vars.now) < 2 ^ 32 }
     ensures numbered { OnOk result (ops.new ≡ ops_met ops.old vars.now) }
     ensures kept { take (length ops.old) ops.new ≡ ops.old }
 {
@@ -95,7 +102,9 @@ fn number_all(vars: &[Var], ops: &mut Names) -> Result<(), NoMemory>
     Ok(())
 }
 
-fn number_each(names: &[Name], ops: &mut Names) -> Result<(), NoMemory>
+/// Adds names to `ops`, one after another.
+pub(crate) fn number_each(names: &[Name], ops: &mut Names) -> Result<(), NoMemory>
+    requires { length (names_met ops.old names.now) < 2 ^ 32 }
     ensures numbered { OnOk result (ops.new ≡ names_met ops.old names.now) }
     ensures kept { take (length ops.old) ops.new ≡ ops.old }
 {
@@ -105,15 +114,28 @@ fn number_each(names: &[Name], ops: &mut Names) -> Result<(), NoMemory>
     Ok(())
 }
 
+/// Adds a name unless it is there.
+fn put_in(names: &mut Names, word: &Word) -> Result<(), NoMemory>
+    requires { length (with_name names.old word.now) < 2 ^ 32 }
+    ensures names { OnOk result (names.new ≡ with_name names.old word.now) }
+    ensures kept { OnErr result (names.new ≡ names.old) }
+{
+    if names.find(word.bytes()).is_none() {
+        names.number(word.bytes())?;
+    }
+    Ok(())
+}
+
 /// The formula of a contract, by the indices of its variables and the numbers of operations.
 #[tactic(auto, unfolding(crate::specs::Resolved::resolved_in))]
 pub(crate) fn build_formula(
     alloc: Global,
     contract: &Contract,
-    vars: &Names,
+    vars: &WordSet,
     ops: &Names,
 ) -> Result<Formula, NoMemory>
-    requires { vars.now ≡ names_met [] (var_names contract.now.vars) }
+    requires vars { vars.now ≡ names_met [] (var_names contract.now.vars) }
+    requires few { length contract.now.vars ≤ 5 }
     ensures { IfOk result
         (λ formula. resolved_of formula ≡ resolved_in ops.now (sentence_of contract.now)) }
 {
@@ -163,17 +185,30 @@ fn build_ids(alloc: Global, names: &[Name], ops: &Names) -> Result<IdSet, NoMemo
     Ok(ids)
 }
 
+/// The index of a variable, or 0 if it isn't there.
+fn index_of(vars: &WordSet, word: &Word) -> u32
+    requires { length vars.now ≤ 5 }
+    ensures { result ≡ number_in vars.now word.now }
+{
+    match vars.index_of(word) {
+        Some(index) => index as u32,
+        None => 0,
+    }
+}
+
 #[tactic(auto, unfolding(crate::specs::Resolved::term_of))]
-fn build_term(point: &Point, vars: &Names) -> Term
+fn build_term(point: &Point, vars: &WordSet) -> Term
+    requires { length vars.now ≤ 5 }
     ensures { result ≡ term_of vars.now point.now }
 {
     match point {
         Point::CurAt(_) => Term::Cur,
-        Point::Named(name) => Term::Var(number_of(vars, &name.word)),
+        Point::Named(name) => Term::Var(index_of(vars, &name.word)),
     }
 }
 
-fn build_terms(alloc: Global, points: &[Point], vars: &Names) -> Result<Terms, NoMemory>
+fn build_terms(alloc: Global, points: &[Point], vars: &WordSet) -> Result<Terms, NoMemory>
+    requires { length vars.now ≤ 5 }
     ensures { IfOk result (λ terms. terms ≡ map (term_of vars.now) points.now) }
 {
     let mut terms = Vec::with_capacity(alloc, points.len())?;
@@ -204,7 +239,8 @@ fn copy_rel(alloc: Global, rel: &Rel) -> Result<Rel, NoMemory>
 
 /// What a contract says, by the indices of its variables.
 #[tactic(auto, unfolding(crate::specs::Resolved::statement_in))]
-fn build_body(alloc: Global, body: &Prop, vars: &Names) -> Result<Body, NoMemory>
+fn build_body(alloc: Global, body: &Prop, vars: &WordSet) -> Result<Body, NoMemory>
+    requires { length vars.now ≤ 5 }
     ensures { IfOk result
         (λ statement. statement_of statement ≡ statement_in vars.now (proposition_of body.now)) }
 {

@@ -5,7 +5,8 @@ ghost use Rattle.ql_typing.specs.ContractFaults.{choice_faults, contract_faults,
 
 use crate::fault::{TypeFault, first};
 use crate::names::meet;
-use ql_base::{MAX_VARIABLES, Names, NoMemory};
+use crate::word_set::WordSet;
+use ql_base::{MAX_VARIABLES, NoMemory};
 use ql_lang::{Contract, Name, Point, Prop, Rel, RelName, Var};
 use std::alloc::Global;
 
@@ -38,7 +39,7 @@ fn rel_fault(rel: &Rel, for_txn: bool) -> Option<TypeFault>
 
 /// The fault of a term that is neither one of the variables nor an allowed current effect.
 #[tactic(auto, unfolding(crate::specs::ContractFaults::point_faults, crate::specs::Faults::first_fault, crate::specs::Faults::earlier))]
-fn point_fault(point: &Point, vars: &Names, for_txn: bool) -> Option<TypeFault>
+fn point_fault(point: &Point, vars: &WordSet, for_txn: bool) -> Option<TypeFault>
     ensures { result ≡ first_fault (point_faults for_txn vars.now point.now) }
 {
     match point {
@@ -50,7 +51,7 @@ fn point_fault(point: &Point, vars: &Names, for_txn: bool) -> Option<TypeFault>
             }
         }
         Point::Named(name) => {
-            if vars.find(name.word.bytes()).is_some() {
+            if vars.has(&name.word) {
                 None
             } else {
                 Some(TypeFault::Unknown(name.at))
@@ -59,7 +60,7 @@ fn point_fault(point: &Point, vars: &Names, for_txn: bool) -> Option<TypeFault>
     }
 }
 
-fn points_fault(points: &[Point], vars: &Names, for_txn: bool) -> Option<TypeFault>
+fn points_fault(points: &[Point], vars: &WordSet, for_txn: bool) -> Option<TypeFault>
     ensures { result ≡ first_fault (each (point_faults for_txn vars.now) points.now) }
 {
     let mut fault = None;
@@ -71,7 +72,7 @@ fn points_fault(points: &[Point], vars: &Names, for_txn: bool) -> Option<TypeFau
 
 /// The first fault of a contract's body, with the variables in scope.
 #[tactic(auto, unfolding(crate::specs::ContractFaults::prop_faults, crate::specs::Faults::first_fault, crate::specs::Faults::earlier), using(crate::proofs::FirstFault::first_append))]
-fn prop_fault(body: &Prop, vars: &Names, for_txn: bool) -> Option<TypeFault>
+fn prop_fault(body: &Prop, vars: &WordSet, for_txn: bool) -> Option<TypeFault>
     ensures { result ≡ first_fault (prop_faults for_txn vars.now (proposition_of body.now)) }
 {
     match body {
@@ -106,16 +107,16 @@ fn prop_fault(body: &Prop, vars: &Names, for_txn: bool) -> Option<TypeFault>
 
 /// The fault of an operation that isn't known, if only those of a list are.
 #[tactic(auto, unfolding(crate::specs::ContractFaults::op_faults, crate::specs::Faults::first_fault, crate::specs::Faults::earlier))]
-fn op_fault(name: &Name, known: Option<&Names>) -> Option<TypeFault>
+fn op_fault(name: &Name, known: Option<&WordSet>) -> Option<TypeFault>
     ensures { result ≡ first_fault (op_faults (option_copied known.entry) name.now) }
 {
     match known {
-        Some(ops) if ops.find(name.word.bytes()).is_none() => Some(TypeFault::Unknown(name.at)),
+        Some(ops) if !ops.has(&name.word) => Some(TypeFault::Unknown(name.at)),
         _ => None,
     }
 }
 
-pub(crate) fn ops_fault(names: &[Name], known: Option<&Names>) -> Option<TypeFault>
+pub(crate) fn ops_fault(names: &[Name], known: Option<&WordSet>) -> Option<TypeFault>
     ensures { result ≡ first_fault (each (op_faults (option_copied known.entry)) names.now) }
 {
     let mut fault = None;
@@ -130,7 +131,7 @@ pub(crate) fn ops_fault(names: &[Name], known: Option<&Names>) -> Option<TypeFau
 fn choice_fault(
     alloc: Global,
     var: &Var,
-    known: Option<&Names>,
+    known: Option<&WordSet>,
 ) -> Result<Option<TypeFault>, NoMemory>
     ensures { IfOk result
         (λ fault. fault ≡ first_fault (choice_faults (option_copied known.entry) var.now)) }
@@ -142,7 +143,7 @@ fn choice_fault(
 fn choices_fault(
     alloc: Global,
     vars: &[Var],
-    known: Option<&Names>,
+    known: Option<&WordSet>,
 ) -> Result<Option<TypeFault>, NoMemory>
     ensures { IfOk result
         (λ fault. fault ≡ first_fault (each (choice_faults (option_copied known.entry)) vars.now)) }
@@ -169,7 +170,7 @@ fn extra_fault(names: &[Name]) -> Option<TypeFault>
 /// The variables of a contract in their order, without repeats, and the contract's first fault.
 #[derive(Drop)]
 pub(crate) struct Checked {
-    pub vars: Names,
+    pub vars: WordSet,
     pub fault: Option<TypeFault>,
 }
 
@@ -178,7 +179,7 @@ pub(crate) struct Checked {
 pub(crate) fn check_contract(
     alloc: Global,
     contract: &Contract,
-    known: Option<&Names>,
+    known: Option<&WordSet>,
     for_txn: bool,
 ) -> Result<Checked, NoMemory>
     ensures vars { IfOk result

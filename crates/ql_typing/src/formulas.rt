@@ -1,7 +1,10 @@
-ghost use Rattle.std.specs.Prelude.{◌≡◌, ◌++◌, IfOk, OnOk, map};
+ghost use Rattle.std.specs.Prelude.{◌≡◌, ◌≤◌, ◌++◌, [], IfOk, OnOk, Some, false, length, map};
 ghost use Rattle.ql_lang.specs.Formulas.{resolved_of};
 ghost use Rattle.ql_lang.specs.Trees.{sentence_of};
+ghost use Rattle.ql_typing.specs.ContractFaults.{contract_faults};
+ghost use Rattle.ql_typing.specs.Faults.{each};
 ghost use Rattle.ql_typing.specs.Operations.{all_ops, op_contract, txn_contract};
+ghost use Rattle.ql_typing.specs.Programs.{txn_faults, type_faults};
 ghost use Rattle.ql_typing.specs.Resolved.{resolved_in};
 
 use crate::build::build_formula;
@@ -13,6 +16,7 @@ use std::alloc::Global;
 
 /// A contract with its names resolved, where operations are numbered by their indices in `ops`.
 fn formula_of(alloc: Global, contract: &Contract, ops: &Names) -> Result<Formula, NoMemory>
+    requires { length contract.now.vars ≤ 5 }
     ensures { IfOk result
         (λ formula. resolved_of formula ≡ resolved_in ops.now (sentence_of contract.now)) }
 {
@@ -27,6 +31,7 @@ pub(crate) fn formulas_of_ops(
     types: &[TypeDecl],
     ops: &Names,
 ) -> Result<Vec<Formula>, NoMemory>
+    requires { each (type_faults ops.now) types.now ≡ [] }
     ensures { IfOk result
         (λ formulas. map resolved_of formulas.items
         ≡ map (op_contract ops.now) (all_ops types.now)) }
@@ -45,6 +50,8 @@ fn put_own(
     ops: &Names,
     formulas: &mut Vec<Formula>,
 ) -> Result<(), NoMemory>
+    requires { each (λ o. contract_faults (Some ops.now) false (sentence_of o.contract)) own.now
+        ≡ [] }
     ensures { OnOk result
         (map resolved_of formulas.new.items ≡ map resolved_of formulas.old.items
         ++ map (op_contract ops.now) own.now) }
@@ -62,6 +69,7 @@ pub(crate) fn formulas_of_txns(
     txns: &[TxnDecl],
     ops: &Names,
 ) -> Result<Vec<Formula>, NoMemory>
+    requires { each (txn_faults ops.now) txns.now ≡ [] }
     ensures { IfOk result
         (λ formulas. map resolved_of formulas.items ≡ map (txn_contract ops.now) txns.now) }
 {

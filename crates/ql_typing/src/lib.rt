@@ -17,6 +17,7 @@ mod operation;
 mod program;
 mod scope;
 mod typed;
+mod word_set;
 
 pub use build::resolve;
 pub use fault::TypeFault;
@@ -24,3 +25,4 @@ pub use function::{Function, Signature, find_function, kind_of_base};
 pub use kind::{is_basic, operator_gives};
 pub use scope::{Known, Scope, Table};
 pub use typed::{Typed, typecheck};
+pub use word_set::WordSet;

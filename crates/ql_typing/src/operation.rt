@@ -10,7 +10,8 @@ use crate::judge::fault_as;
 use crate::limits::above_limit;
 use crate::names::meet_after;
 use crate::scope::{Known, Scope, Table};
-use ql_base::{MAX_EMITTED, MAX_PARAMETERS, MAX_STATEMENTS, Names, NoMemory};
+use crate::word_set::WordSet;
+use ql_base::{MAX_EMITTED, MAX_PARAMETERS, MAX_STATEMENTS, NoMemory};
 use ql_lang::{Bind, EmitDecl, Kind, Name, OpDecl, Param, Stmt};
 use std::alloc::Global;
 
@@ -18,9 +19,9 @@ use std::alloc::Global;
 pub(crate) fn op_decl_fault(
     alloc: Global,
     op: &OpDecl,
-    known: &Names,
+    known: &WordSet,
     fields: &Table,
-    names: &mut Names,
+    names: &mut WordSet,
 ) -> Result<Option<TypeFault>, NoMemory>
     ensures names { OnOk result (names.new ≡ names.old) }
     ensures fault { IfOk result
@@ -41,7 +42,7 @@ pub(crate) fn op_decl_fault(
 fn params_fault(
     alloc: Global,
     params: &[Param],
-    names: &mut Names,
+    names: &mut WordSet,
 ) -> Result<Option<TypeFault>, NoMemory>
     ensures names { OnOk result (names.new ≡ names.old) }
     ensures fault { IfOk result
@@ -60,7 +61,7 @@ fn maybe_effect_fault(
     alloc: Global,
     effect: &Option<EmitDecl>,
     fields: &Table,
-    names: &mut Names,
+    names: &mut WordSet,
     scope: &Scope<'_>,
 ) -> Result<Option<TypeFault>, NoMemory>
     ensures names { OnOk result (names.new ≡ names.old) }
@@ -79,7 +80,7 @@ fn effect_fault(
     alloc: Global,
     effect: &EmitDecl,
     fields: &Table,
-    names: &mut Names,
+    names: &mut WordSet,
     scope: &Scope<'_>,
 ) -> Result<Option<TypeFault>, NoMemory>
     ensures names { OnOk result (names.new ≡ names.old) }
@@ -105,7 +106,7 @@ fn effect_fault(
 fn bind_names_fault(
     alloc: Global,
     binds: &[Bind],
-    names: &mut Names,
+    names: &mut WordSet,
 ) -> Result<Option<TypeFault>, NoMemory>
     ensures names { OnOk result (names.new ≡ names.old) }
     ensures fault { IfOk result

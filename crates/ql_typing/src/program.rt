@@ -9,7 +9,8 @@ use crate::limits::above_limit;
 use crate::names::{Met, meet};
 use crate::operation::op_decl_fault;
 use crate::scope::{Known, Table};
-use ql_base::{MAX_FIELDS, MAX_OPERATIONS, MAX_TRANSACTIONS, MAX_TYPES, Names, NoMemory};
+use crate::word_set::WordSet;
+use ql_base::{MAX_FIELDS, MAX_OPERATIONS, MAX_TRANSACTIONS, MAX_TYPES, NoMemory};
 use ql_lang::{Field, InitNode, Kind, Name, OpDecl, Program, TxnDecl, TypeDecl};
 use std::alloc::Global;
 
@@ -83,7 +84,7 @@ fn kinds_of_fields(alloc: Global, fields: &[Field]) -> Result<Vec<Known>, NoMemo
 fn type_fault(
     alloc: Global,
     declared: &TypeDecl,
-    known: &Names,
+    known: &WordSet,
 ) -> Result<Option<TypeFault>, NoMemory>
     ensures { IfOk result (λ fault. fault ≡ first_fault (type_faults known.now declared.now)) }
 {
@@ -102,9 +103,9 @@ fn type_fault(
 fn op_decls_fault(
     alloc: Global,
     ops: &[OpDecl],
-    known: &Names,
+    known: &WordSet,
     fields: &Table,
-    names: &mut Names,
+    names: &mut WordSet,
 ) -> Result<Option<TypeFault>, NoMemory>
     ensures { IfOk result
         (λ fault. fault ≡ first_fault
@@ -121,7 +122,7 @@ fn op_decls_fault(
 fn types_fault(
     alloc: Global,
     types: &[TypeDecl],
-    known: &Names,
+    known: &WordSet,
 ) -> Result<Option<TypeFault>, NoMemory>
     ensures { IfOk result (λ fault. fault ≡ first_fault (each (type_faults known.now) types.now)) }
 {
@@ -137,7 +138,7 @@ fn types_fault(
 fn txn_fault(
     alloc: Global,
     declared: &TxnDecl,
-    known: &Names,
+    known: &WordSet,
 ) -> Result<Option<TypeFault>, NoMemory>
     ensures { IfOk result (λ fault. fault ≡ first_fault (txn_faults known.now declared.now)) }
 {
@@ -148,7 +149,11 @@ fn txn_fault(
     Ok(first(met.fault, first(unknown, checked.fault)))
 }
 
-fn txns_fault(alloc: Global, txns: &[TxnDecl], known: &Names) -> Result<Option<TypeFault>, NoMemory>
+fn txns_fault(
+    alloc: Global,
+    txns: &[TxnDecl],
+    known: &WordSet,
+) -> Result<Option<TypeFault>, NoMemory>
     ensures { IfOk result (λ fault. fault ≡ first_fault (each (txn_faults known.now) txns.now)) }
 {
     let mut fault = None;
@@ -177,7 +182,7 @@ pub(crate) fn program_fault(alloc: Global, program: &Program) -> Result<Option<T
 }
 
 /// Meets the names of all operations.
-pub(crate) fn meet_ops(alloc: Global, types: &[TypeDecl]) -> Result<Met, NoMemory>
+fn meet_ops(alloc: Global, types: &[TypeDecl]) -> Result<Met, NoMemory>
     ensures names { IfOk result (λ met. met.names ≡ names_met [] (op_names types.now)) }
     ensures fault { IfOk result (λ met. met.fault ≡ first_fault (repeats [] (op_names types.now))) }
 {
@@ -285,7 +290,7 @@ fn place_own_ops(alloc: Global, ops: &[OpDecl]) -> Result<Vec<u32>, NoMemory>
     Ok(all)
 }
 
-fn list_ops(alloc: Global, types: &[TypeDecl]) -> Result<Vec<Name>, NoMemory>
+pub(crate) fn list_ops(alloc: Global, types: &[TypeDecl]) -> Result<Vec<Name>, NoMemory>
     ensures { IfOk result (λ names. names.items ≡ op_names types.now) }
 {
     let mut names = Vec::new(alloc);

@@ -1,17 +1,18 @@
-ghost use Rattle.std.specs.Prelude.{◌≡◌, ◌<◌, ◌≤◌, [], IfErr, IfOk, IfSome, OnOk, Some, length, map, option_map, slice_get};
+ghost use Rattle.std.specs.Prelude.{◌≡◌, ◌<◌, ◌≤◌, ◌^◌, [], IfErr, IfOk, IfSome, OnOk, Some, length, map, option_map, slice_get};
 ghost use Rattle.ql_lang.specs.Formulas.{resolved_of};
 ghost use Rattle.std.specs.List.{list_any};
 ghost use Rattle.std.specs.Str.{bytes_eq};
-ghost use Rattle.ql_typing.specs.Faults.{IsRefusal, TellsFirst};
+ghost use Rattle.ql_typing.specs.Faults.{IsRefusal, TellsFirst, names_met};
 ghost use Rattle.ql_typing.specs.Lookups.{txn_place, type_place};
 ghost use Rattle.ql_typing.specs.Operations.{all_ops, op_contracts, op_kinds, op_place, op_words, txn_contracts, uses_op};
-ghost use Rattle.ql_typing.specs.Programs.{program_faults};
+ghost use Rattle.ql_typing.specs.Programs.{op_names, program_faults};
 ghost use Rattle.ql_typing.specs.WellFormed.{IsOpContract, IsTxnContract};
 
+use crate::build::number_each;
 use crate::fault::TypeFault;
 use crate::formulas::{formulas_of_ops, formulas_of_txns};
 use crate::lookup::{find_kind, find_op, find_txn, find_type};
-use crate::program::{meet_ops, program_fault};
+use crate::program::{list_ops, program_fault};
 use ql_base::{DeclId, Names, NoMemory, OpId, TypeId};
 use ql_lang::{Formula, Name, OpDecl, Program, TxnDecl, TypeDecl};
 use std::alloc::Global;
@@ -56,15 +57,26 @@ fn number(alloc: Global, program: Program) -> Result<Typed, NoMemory>
     requires { program_faults program ≡ [] }
     ensures { IfOk result (λ typed. typed.program ≡ program) }
 {
-    let met = meet_ops(alloc, program.types.items())?;
-    let op_formulas = formulas_of_ops(alloc, program.types.items(), &met.names)?;
-    let txn_formulas = formulas_of_txns(alloc, program.txns.items(), &met.names)?;
+    let ops = number_ops(alloc, program.types.items())?;
+    let op_formulas = formulas_of_ops(alloc, program.types.items(), &ops)?;
+    let txn_formulas = formulas_of_txns(alloc, program.txns.items(), &ops)?;
     Ok(Typed {
         program,
-        ops: met.names,
+        ops,
         op_formulas,
         txn_formulas,
     })
+}
+
+/// The names of the operations of types, by their numbers.
+fn number_ops(alloc: Global, types: &[TypeDecl]) -> Result<Names, NoMemory>
+    requires { length (names_met [] (op_names types.now)) < 2 ^ 32 }
+    ensures { IfOk result (λ ops. ops ≡ names_met [] (op_names types.now)) }
+{
+    let list = list_ops(alloc, types)?;
+    let mut ops = Names::new(alloc);
+    number_each(list.as_slice(), &mut ops)?;
+    Ok(ops)
 }
 
 impl Typed {

@@ -20,7 +20,7 @@ use Rattle.ql_value.specs.ValueGrammar.{spaces, IsScalar, IsEntry, IsValue, Read
 use Rattle.ql_value.proofs.ScalarGrammar.{chosen, are_parts, begins_with, word_at_takes, scalar_takes, scalar_again, scalar_first}
 
 -- spaces
-spaces_split : (text : List ℕ) → text ≡ spaces (prefix_len (is_byte 32) text) ++ after_spaces text
+pub spaces_split : (text : List ℕ) → text ≡ spaces (prefix_len (is_byte 32) text) ++ after_spaces text
 spaces_split [] = refl
 spaces_split (b ∷ bs) =
     let P : Bool → Type 0 = λ t. is_byte 32 b ≡ t → b ∷ bs ≡ replicate (cond t (1 + prefix_len (is_byte 32) bs) 0) 32 ++ drop (cond t (1 + prefix_len (is_byte 32) bs) 0) (b ∷ bs) in
@@ -47,22 +47,22 @@ key_follows_of [] k v h = refl
 key_follows_of (x ∷ []) k v h = h
 key_follows_of (x ∷ y ∷ r) k v h = key_follows_of (y ∷ r) k v h
 
--- what was read of a set behind its brace, with elements before
-record TakenSet (s : List Scalar) (text : List ℕ) (v : Value) (rest : List ℕ) : Type 0 where
-  element : Scalar
-  others : List Scalar
+-- what was read of a set or a map after its brace, with items before
+record TakenItems {X : Type 0} (ReadsItem : X → List ℕ → List ℕ → Type 0) (whole : List X → Value) (before : List X) (text : List ℕ) (v : Value) (rest : List ℕ) : Type 0 where
+  item : X
+  others : List X
   behind : List ℕ
-  value : v ≡ Set (s ++ element ∷ others)
-  first : ReadsScalar element text behind
-  more : ReadsMore ReadsScalar others behind (125 ∷ rest)
+  value : v ≡ whole (before ++ item ∷ others)
+  first : ReadsItem item text behind
+  more : ReadsMore ReadsItem others behind (125 ∷ rest)
 
-next_element : (s : List Scalar) (text rest behind : List ℕ) (v : Value) (e : Scalar) → ReadsScalar e text behind → begins (is_byte 44) behind ≡ true
-    → TakenSet (s ++ e ∷ []) (after_spaces (drop 1 behind)) v rest → TakenSet s text v rest
-next_element s text rest behind v e first comma t = record {
-  element = e;
-  others = t.element ∷ t.others;
+next_item : {X : Type 0} (ReadsItem : X → List ℕ → List ℕ → Type 0) (whole : List X → Value) (before : List X) (text rest behind : List ℕ) (v : Value) (x : X) → ReadsItem x text behind
+    → begins (is_byte 44) behind ≡ true → TakenItems ReadsItem whole (before ++ x ∷ []) (after_spaces (drop 1 behind)) v rest → TakenItems ReadsItem whole before text v rest
+next_item ReadsItem whole before text rest behind v x first comma t = record {
+  item = x;
+  others = t.item ∷ t.others;
   behind = behind;
-  value = t.value ∙ ap Set (append_assoc s (e ∷ []) (t.element ∷ t.others));
+  value = t.value ∙ ap whole (append_assoc before (x ∷ []) (t.item ∷ t.others));
   first = first;
   more = record {
     gap = prefix_len (is_byte 32) (drop 1 behind);
@@ -73,6 +73,12 @@ next_element s text rest behind v e first comma t = record {
     next = t.more;
   };
 }
+
+abbrev TakenSet : List Scalar → List ℕ → Value → List ℕ → Type 0
+TakenSet s text v rest = TakenItems (λ e a b. ReadsScalar e a b) Set s text v rest
+
+abbrev TakenMap : List (Scalar × Scalar) → List ℕ → Value → List ℕ → Type 0
+TakenMap m text v rest = TakenItems (λ e a b. ReadsEntry e a b) Map m text v rest
 
 elements_by : (room : ℕ) (s : List Scalar) (text rest : List ℕ) (v : Value) (r : Read Scalar) → scalar_at text ≡ r
     → on_read r (λ e behind. cond (follows scalar_cmp s e) (behind_item (Set (s ++ e ∷ [])) (elements_at room (s ++ e ∷ [])) behind) (Err (length text))) ≡ Ok (v, rest)
@@ -83,7 +89,7 @@ elements_by room s text rest v (Ok p) read h ih =
     chosen {A = Read Value} (TakenSet s text v rest) (follows scalar_cmp s p.0) (behind_item (Set (s ++ p.0 ∷ [])) (elements_at room (s ++ p.0 ∷ [])) p.1) (Err (length text)) (Ok (v, rest)) h
     (λ f i. chosen {A = Read Value} (TakenSet s text v rest) (begins (is_byte 125) p.1) (Ok (Set (s ++ p.0 ∷ []), drop 1 p.1)) _ (Ok (v, rest)) i
     (λ c j. let q = are_parts (Set (s ++ p.0 ∷ [])) v (drop 1 p.1) rest j in record {
-      element = p.0;
+      item = p.0;
       others = [];
       behind = p.1;
       value = sym q.0;
@@ -91,7 +97,7 @@ elements_by room s text rest v (Ok p) read h ih =
       more = begins_with 125 p.1 c ∙ ap (λ u. 125 ∷ u) q.1;
     })
     (λ c j. chosen {A = Read Value} (TakenSet s text v rest) (begins (is_byte 44) p.1) (elements_at room (s ++ p.0 ∷ []) (after_spaces (drop 1 p.1))) (Err (length p.1)) (Ok (v, rest)) j
-    (λ d k. next_element s text rest p.1 v p.0 (scalar_takes text p.1 p.0 read) d (ih (s ++ p.0 ∷ []) (after_spaces (drop 1 p.1)) k))
+    (λ d k. next_item (λ e a b. ReadsScalar e a b) Set s text rest p.1 v p.0 (scalar_takes text p.1 p.0 read) d (ih (s ++ p.0 ∷ []) (after_spaces (drop 1 p.1)) k))
     (λ d k. cc)))
     (λ f i. cc)
 
@@ -101,32 +107,6 @@ elements_take zero s text rest v h = cc
 elements_take (suc room) s text rest v h = elements_by room s text rest v (scalar_at text) refl h (λ s' t' k. elements_take room s' t' rest v k)
 
 -- the same of a map
-record TakenMap (m : List (Scalar × Scalar)) (text : List ℕ) (v : Value) (rest : List ℕ) : Type 0 where
-  entry : Scalar × Scalar
-  others : List (Scalar × Scalar)
-  behind : List ℕ
-  value : v ≡ Map (m ++ entry ∷ others)
-  first : ReadsEntry entry text behind
-  more : ReadsMore ReadsEntry others behind (125 ∷ rest)
-
-next_entry : (m : List (Scalar × Scalar)) (text rest behind : List ℕ) (v : Value) (e : Scalar × Scalar) → ReadsEntry e text behind → begins (is_byte 44) behind ≡ true
-    → TakenMap (m ++ e ∷ []) (after_spaces (drop 1 behind)) v rest → TakenMap m text v rest
-next_entry m text rest behind v e first comma t = record {
-  entry = e;
-  others = t.entry ∷ t.others;
-  behind = behind;
-  value = t.value ∙ ap Map (append_assoc m (e ∷ []) (t.entry ∷ t.others));
-  first = first;
-  more = record {
-    gap = prefix_len (is_byte 32) (drop 1 behind);
-    start = after_spaces (drop 1 behind);
-    behind = t.behind;
-    comma = begins_with 44 behind comma ∙ ap (λ u. 44 ∷ u) (spaces_split (drop 1 behind));
-    item = t.first;
-    next = t.more;
-  };
-}
-
 entry_takes : (text mid behind : List ℕ) (k v : Scalar) → scalar_at text ≡ Ok (k, mid) → entry_value_at mid ≡ Ok (v, behind) → ReadsEntry (k, v) text behind
 entry_takes text mid behind k v key value =
     chosen {A = Read Scalar} (ReadsEntry (k, v) text behind) (begins (is_byte 58) mid) (scalar_at (after_spaces (drop 1 mid))) (Err (length mid)) (Ok (v, behind)) value
@@ -144,7 +124,7 @@ entry_by room m text mid rest v k (Err left) key value h ih = cc
 entry_by room m text mid rest v k (Ok p) key value h ih =
     chosen {A = Read Value} (TakenMap m text v rest) (begins (is_byte 125) p.1) (Ok (Map (m ++ (k, p.0) ∷ []), drop 1 p.1)) _ (Ok (v, rest)) h
     (λ c j. let q = are_parts (Map (m ++ (k, p.0) ∷ [])) v (drop 1 p.1) rest j in record {
-      entry = (k, p.0);
+      item = (k, p.0);
       others = [];
       behind = p.1;
       value = sym q.0;
@@ -152,7 +132,7 @@ entry_by room m text mid rest v k (Ok p) key value h ih =
       more = begins_with 125 p.1 c ∙ ap (λ u. 125 ∷ u) q.1;
     })
     (λ c j. chosen {A = Read Value} (TakenMap m text v rest) (begins (is_byte 44) p.1) (entries_at room (m ++ (k, p.0) ∷ []) (after_spaces (drop 1 p.1))) (Err (length p.1)) (Ok (v, rest)) j
-    (λ d l. next_entry m text rest p.1 v (k, p.0) (entry_takes text mid p.1 k p.0 key value) d (ih (m ++ (k, p.0) ∷ []) (after_spaces (drop 1 p.1)) l))
+    (λ d l. next_item (λ e a b. ReadsEntry e a b) Map m text rest p.1 v (k, p.0) (entry_takes text mid p.1 k p.0 key value) d (ih (m ++ (k, p.0) ∷ []) (after_spaces (drop 1 p.1)) l))
     (λ d l. cc))
 
 entries_by : (room : ℕ) (m : List (Scalar × Scalar)) (text rest : List ℕ) (v : Value) (r : Read Scalar) → scalar_at text ≡ r

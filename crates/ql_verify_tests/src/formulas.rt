@@ -6,7 +6,7 @@ use ql_exec::Execution;
 use ql_execution_files::parse_execution;
 use ql_formula::{Places, Relations, holds_at, holds_txn};
 use ql_lang::{Formula, Rel, RelName};
-use ql_parse::parse_contract;
+use ql_parse::{few_operations, parse_contract};
 use ql_tables::{check_table, field, number};
 use ql_test_programs::declared;
 use ql_typing::resolve;
@@ -147,6 +147,7 @@ fn formula(alloc: Global, contract: &str, for_transaction: bool) -> Option<Formu
     if contract.len() > 4096 {
         return None;
     }
+    few_operations();
     let contract = parse_contract(alloc, contract.as_bytes()).ok()?;
     let mut operations = Names::new(alloc);
     let formula = resolve(alloc, &contract, &mut operations, for_transaction).ok()?;

@@ -1,13 +1,34 @@
+use Rattle.std.proofs.Common.{Ok, subst, sym}
 use Rattle.ql_reply.specs.Arguments.{word_texts}
-use Rattle.ql_app.proofs.Answered.{complete, says_held}
+use Rattle.ql_reply.proofs.Replies.{ended_so, wrote}
+use Rattle.ql_app.specs.declared.outcome.Limits.{Limits}
+use Rattle.ql_app.specs.Outcome.{IsAnswered, Says}
+use Rattle.ql_app.proofs.Answered.{complete, never, says_held}
 use Rattle.ql_app.proofs.program.quelea.Goals as goal
 
-pub returns-in-Ok-clause-complete : goal.returns-in-Ok-clause-complete
-returns-in-Ok-clause-complete g c =
-    λ named request are_held none sink_none.
+pub returns-clause-wrote : goal.returns-clause-wrote
+returns-clause-wrote g c =
+    let limits : Limits = record { file = 1048576; second = 67108864 } in
     let held = g.S.Shelf.held c.args.shelf.now in
     let before = g.S.Shelf.faults c.args.shelf.now in
     let after = g.S.Shelf.faults c.outcome.new.shelf in
     let words = word_texts c.args.words.now in
-    complete (record { file = 1048576; second = 67108864 }) words held before after c.in_ok-status.status c.in_ok-status.text.items named request are_held none
-    (says_held (record { file = 1048576; second = 67108864 }) words held before after c.in_ok-status.status c.in_ok-status.text.items c.in_ok-status.ensures.says)
+    let text = c.in_ok-status.text.items in
+    wrote (Says limits words held before after) (g.K.Sink.written c.args.sink.now) (g.K.Sink.written c.write_reply.new.sink) (g.K.Sink.faults c.args.sink.now) (g.K.Sink.faults c.write_reply.new.sink)
+    c.in_ok-status.status c.write_reply.result text (never limits words held before after text) c.in_ok-status.ensures.says (rw c.deref.ensures.value at c.write_reply.ensures.written)
+
+pub returns-clause-complete : goal.returns-clause-complete
+returns-clause-complete g c =
+    λ named request are_held none sink_none.
+    let limits : Limits = record { file = 1048576; second = 67108864 } in
+    let held = g.S.Shelf.held c.args.shelf.now in
+    let before = g.S.Shelf.faults c.args.shelf.now in
+    let after = g.S.Shelf.faults c.outcome.new.shelf in
+    let words = word_texts c.args.words.now in
+    let status = c.in_ok-status.status in
+    let text = c.in_ok-status.text.items in
+    let same =
+    ended_so status c.write_reply.result c.deref.result.now (g.K.Sink.written c.args.sink.now) (g.K.Sink.written c.write_reply.new.sink) (g.K.Sink.faults c.args.sink.now) (g.K.Sink.faults c.write_reply.new.sink)
+    c.write_reply.ensures.written sink_none in
+    subst (λ s. IsAnswered (Ok s)) (sym same)
+    (complete limits words held before after status text named request are_held none (says_held limits words held before after status text c.in_ok-status.ensures.says))

@@ -5,12 +5,12 @@ use Rattle.ql_explain.proofs.Telling.{never}
 use Rattle.ql_reply.proofs.Replies.{wrote}
 use Rattle.ql_explain.proofs.program.explain_words.Goals as goal
 
-pub returns-in-Ok-clause-wrote : goal.returns-in-Ok-clause-wrote
-returns-in-Ok-clause-wrote g c =
+pub returns-clause-wrote : goal.returns-clause-wrote
+returns-clause-wrote g c =
     let held = g.S.Shelf.held c.args.shelf.now in
     let before = g.S.Shelf.faults c.args.shelf.now in
     let after = g.S.Shelf.faults c.outcome.new.shelf in
     let words = word_texts c.args.words.now in
     let text = c.in_ok-status.text.items in
-    wrote (Says words held before after) (g.K.Sink.written c.args.sink.now) (g.K.Sink.written c.write_whole.new.sink) (g.K.Sink.faults c.args.sink.now) (g.K.Sink.faults c.write_whole.new.sink)
-    c.in_ok-status.status text (never held before after (asked words) text) c.in_ok-status.ensures.says (rw c.as_slice.ensures.value at c.in-Ok.ensures.whole)
+    wrote (Says words held before after) (g.K.Sink.written c.args.sink.now) (g.K.Sink.written c.write_reply.new.sink) (g.K.Sink.faults c.args.sink.now) (g.K.Sink.faults c.write_reply.new.sink)
+    c.in_ok-status.status c.write_reply.result text (never held before after (asked words) text) c.in_ok-status.ensures.says (rw c.deref.ensures.value at c.write_reply.ensures.written)

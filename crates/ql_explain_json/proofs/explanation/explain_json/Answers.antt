@@ -1,8 +1,9 @@
 use Rattle.std.proofs.Common.{map, subst, sym}
 use Rattle.serde_json.specs.View.{view}
 use Rattle.ql_explanation.specs.Explanation.{AreFindings}
+use Rattle.ql_explanation.proofs.Judged.{explained}
 use Rattle.ql_explain_json.proofs.Floats.{targets_none}
-use Rattle.ql_explain_json.proofs.Targets.{explained}
+use Rattle.ql_explain_json.specs.JsonExplanations.{IsJsonExplanation}
 use Rattle.ql_explain_json.proofs.explanation.explain_json.Goals as goal
 
 pub line-requires : goal.line-requires
@@ -11,5 +12,5 @@ line-requires c = targets_none c.args.source.now c.in-Ok.typed.program _ (map vi
 pub returns : goal.returns
 returns c =
     let p = c.in-Ok.typed.program in
-    explained c.args.source.now c.in_ok-text.text.items p c.answer_of.result c.in-Ok.ensures.source c.answer_of.ensures
+    explained IsJsonExplanation c.args.source.now c.in_ok-text.text.items p c.answer_of.result c.in-Ok.ensures.source c.answer_of.ensures
     (c.deref.result.now, subst (AreFindings p) (sym c.deref.ensures.value) c.in_ok-findings.ensures, map view c.in_ok-targets.targets.items, c.in_ok-targets.ensures, c.in_ok-text.ensures)

@@ -1,10 +1,10 @@
 use Rattle.std.proofs.Common.{subst, sym}
-use Rattle.ql_explanation.specs.Explanation.{AreFindings}
+use Rattle.ql_explanation.specs.Explanation.{AreFindings, IsExplanation}
 use Rattle.ql_explanation.proofs.Judged.{explained}
 use Rattle.ql_explanation.proofs.explanation.explain.Goals as goal
 
 pub returns : goal.returns
 returns c =
     let p = c.in-Ok.typed.program in
-    explained c.args.source.now c.in_ok-text.text.items p c.answer_of.result c.in-Ok.ensures.source c.answer_of.ensures
+    explained IsExplanation c.args.source.now c.in_ok-text.text.items p c.answer_of.result c.in-Ok.ensures.source c.answer_of.ensures
     (c.deref.result.now, subst (AreFindings p) (sym c.deref.ensures.value) c.in_ok-findings.ensures, c.in_ok-text.ensures)

@@ -1,5 +1,7 @@
+use Rattle.std.proofs.Common.{[], arith}
 use Rattle.ql_lang.specs.Formulas.{resolved_of}
 use Rattle.ql_lang.specs.Trees.{sentence_of}
+use Rattle.ql_typing.proofs.Growing.{ops_few}
 use Rattle.ql_holds_files.specs.ContractLine.{sentence_faults}
 use Rattle.ql_holds_files.proofs.ContractRules.{has_faults}
 use Rattle.ql_holds_files.proofs.Lines.{contract_read}
@@ -13,3 +15,6 @@ returns-in-Ok c =
 
 pub lowest_rule-requires : goal.lowest_rule-requires
 lowest_rule-requires c = has_faults (sentence_faults (sentence_of c.args.contract.now)) c.in-Err.fault c.in-Err.ensures.refused c.in_default.not-NoMemory
+
+pub resolve-requires : goal.resolve-requires
+resolve-requires c = rw c.new-ops.ensures (omega (arith, ops_few [] c.args.contract.now.vars, c.requires))

@@ -4,10 +4,11 @@ use Rattle.ql_needs.proofs.Packages.{package-whole, whole-union}
 use Rattle.ql_ranges.specs.Ranges.{ids_of}
 use Rattle.ql_ranges.specs.declared.ranges.IdRange.{IdRange}
 use Rattle.ql_base.specs.IdLists.{has_id}
-use Rattle.ql_plain_holder.specs.Plain.{IsFirstMissing}
+use Rattle.ql_needs.specs.Missing.{IsFirstMissing}
 use Rattle.ql_reach.specs.Reach.{IsReach}
-use Rattle.ql_plain_holder.proofs.PlainReceipts.{first-has, again-from, new-from, fits-after, least-missing, pack-closed, gain-exact}
+use Rattle.ql_plain_holder.proofs.PlainReceipts.{fits-after, least-missing, pack-closed, gain-exact}
 use Rattle.ql_plain_holder.proofs.plain_holder.receive_in.Goals as goal
+use Rattle.ql_holder.proofs.Receipts.{again-from, first-has, new-from}
 
 pub get-requires : goal.get-requires
 get-requires c = (first-has c.args.x.now c.args.pack.now c.requires.package).0

@@ -2,9 +2,10 @@ use Rattle.std.proofs.Common.{ℕ, List, Some, refl, subst}
 use Rattle.ql_needs.proofs.Packages.{package-whole}
 use Rattle.ql_ranges.specs.Ranges.{ids_of}
 use Rattle.slab.specs.Slab.{get}
-use Rattle.ql_replica.specs.Progress.{IsFirstOutside}
-use Rattle.ql_replica.proofs.ReceiptLaws.{again-from, first-has, fits-same, known-begin, known-fitted, least-missing, may-watch, new-from}
+use Rattle.ql_replica.proofs.ReceiptLaws.{fits-same, known-begin, known-fitted, least-missing, may-watch}
 use Rattle.ql_replica.proofs.receiving.receive_in.Goals as goal
+use Rattle.ql_needs.specs.Missing.{IsFirstMissing}
+use Rattle.ql_holder.proofs.Receipts.{again-from, first-has, new-from}
 
 pub get-requires : goal.get-requires
 get-requires c = (first-has c.args.x.now c.args.pack.now c.requires.package).0
@@ -42,7 +43,7 @@ returns-in_ok-wait-in-Some-clause-arrival c =
       new-from x received c.args.pack.now after c.get.result c.requires.package c.requires.fits.whole c.get.ensures c.if-has.ensures c.in_ok-after.ensures.united,
       least-missing x after c.args.pack.now (ids_of c.args.applied.now) c.in_ok-found.found c.in-Some.missing
           (known-begin x received (ids_of c.args.applied.now) (get c.args.waiting.now) c.args.pack.now after c.requires.fits c.in_ok-after.ensures.united) c.in_ok-found.ensures
-          (subst (λ (l : List ℕ). IsFirstOutside l after (Some c.in-Some.missing)) c.items.ensures.same c.in-Some.ensures),
+          (subst (λ (l : List ℕ). IsFirstMissing l after (Some c.in-Some.missing)) c.items.ensures.same c.in-Some.ensures),
     )
 
 pub returns-in_ok-wait-in-Some-clause-fits : goal.returns-in_ok-wait-in-Some-clause-fits
@@ -56,7 +57,7 @@ returns-in_ok-wait-in-Some-clause-fits c =
     c.in_ok-after.ensures.ascending
     (least-missing x after c.args.pack.now applied c.in_ok-found.found c.in-Some.missing
     (known-begin x received applied (get c.args.waiting.now) c.args.pack.now after c.requires.fits c.in_ok-after.ensures.united) c.in_ok-found.ensures
-    (subst (λ (l : List ℕ). IsFirstOutside l after (Some c.in-Some.missing)) c.items.ensures.same c.in-Some.ensures))
+    (subst (λ (l : List ℕ). IsFirstMissing l after (Some c.in-Some.missing)) c.items.ensures.same c.in-Some.ensures))
 
 pub returns-in_ok-gain-in-None-clause-arrival : goal.returns-in_ok-gain-in-None-clause-arrival
 returns-in_ok-gain-in-None-clause-arrival c =

@@ -2,7 +2,7 @@ use Rattle.std.proofs.Common.{◌&&◌, not, Bool, get_or, take, ap, sym, ◌∙
 use Rattle.ql_base.specs.IdLists.{has_id}
 use Rattle.ql_ranges.specs.Ranges.{ids_of}
 use Rattle.ql_needs.proofs.Members.{has_id-take}
-use Rattle.ql_replica.proofs.ReceiptLaws.{outside-more}
+use Rattle.ql_needs.proofs.Missing.{missing-more}
 use Rattle.ql_replica.proofs.walking.all_outside.Goals as goal
 
 pub loop-id-preserved : goal.loop-id-preserved
@@ -12,6 +12,6 @@ loop-id-preserved c =
     record {
       ascending = c.insert_outside.ensures.ascending;
       lacks = λ a.
-          outside-more c.loop-id.rest c.insert_outside.new.rest (ids_of c.args.set.now) (has_id (take k ids) a) (get_or ids k 0) a (c.loop-id.invariant.lacks a) (c.in_ok-insert_outside.ensures.added a)
+          missing-more c.loop-id.rest c.insert_outside.new.rest (ids_of c.args.set.now) (has_id (take k ids) a) (get_or ids k 0) a (c.loop-id.invariant.lacks a) (c.in_ok-insert_outside.ensures.added a)
           ∙ ap (λ (b : Bool). b && not (has_id (ids_of c.args.set.now) a)) (sym (has_id-take ids k a (omega arith)));
     }

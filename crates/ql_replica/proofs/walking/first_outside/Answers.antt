@@ -2,11 +2,11 @@ use Rattle.std.proofs.Common.{sym, subst, arith}
 use Rattle.ql_needs.specs.Closed.{Has}
 use Rattle.ql_ranges.specs.Ranges.{ids_of}
 use Rattle.ql_needs.proofs.Members.{has_id-index}
-use Rattle.ql_replica.proofs.ReceiptLaws.{first-outside}
+use Rattle.ql_needs.proofs.Missing.{first-missing}
 use Rattle.ql_replica.proofs.walking.first_outside.Goals as goal
 
 pub returns-then-not-has : goal.returns-then-not-has
-returns-then-not-has c = first-outside c.args.ids.now (ids_of c.args.set.now) c.loop-id.id-index c.requires (omega arith) c.loop-id.invariant (sym c.if-not-has.ensures)
+returns-then-not-has c = first-missing c.args.ids.now (ids_of c.args.set.now) c.loop-id.id-index c.requires (omega arith) c.loop-id.invariant (sym c.if-not-has.ensures)
 
 pub returns : goal.returns
 returns c = λ a is.

@@ -3,9 +3,10 @@ use Rattle.ql_base.specs.IdLists.{union_of}
 use Rattle.ql_needs.specs.Closed.{Has}
 use Rattle.ql_needs.proofs.Packages.{package-whole}
 use Rattle.ql_ranges.specs.Ranges.{ids_of}
-use Rattle.ql_replica.specs.Progress.{Advances, AreKnown, IsFirstOutside}
+use Rattle.ql_replica.specs.Progress.{Advances, AreKnown}
 use Rattle.ql_replica.proofs.ReceiptLaws.{known-more, walked-in, advances-union, least-missing}
 use Rattle.ql_replica.proofs.walking.walk.Goals as goal
+use Rattle.ql_needs.specs.Missing.{IsFirstMissing}
 
 pub reach-requires-clause-asked : goal.reach-requires-clause-asked
 reach-requires-clause-asked c = package-whole c.args.x.now c.args.pack.now c.requires.package
@@ -14,7 +15,7 @@ pub returns-in-Some-clause-walked : goal.returns-in-Some-clause-walked
 returns-in-Some-clause-walked c = (
   refl,
   least-missing c.args.x.now (ids_of c.args.after.now) c.args.pack.now (ids_of c.args.progress.now.applied) c.in_ok-found.found c.in-Some.missing c.requires.known c.in_ok-found.ensures
-      (subst (λ (l : List ℕ). IsFirstOutside l (ids_of c.args.after.now) (Some c.in-Some.missing)) c.items.ensures.same c.in-Some.ensures),
+      (subst (λ (l : List ℕ). IsFirstMissing l (ids_of c.args.after.now) (Some c.in-Some.missing)) c.items.ensures.same c.in-Some.ensures),
 )
 
 pub returns-clause-walked : goal.returns-clause-walked

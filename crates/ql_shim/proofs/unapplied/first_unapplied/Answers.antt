@@ -3,7 +3,8 @@ use Rattle.std.proofs.lemmas.Bool.{both_ways, cases_lt}
 use Rattle.ql_base.specs.IdLists.{has_id}
 use Rattle.ql_needs.specs.Closed.{Closed, Has}
 use Rattle.ql_needs.specs.Needs.{Needs}
-use Rattle.ql_shim.proofs.JoinedLaws.{at-has, below-front, next-has}
+use Rattle.ql_needs.proofs.Members.{index-has}
+use Rattle.ql_shim.proofs.JoinedLaws.{below-front, next-has}
 use Rattle.ql_shim.proofs.unapplied.first_unapplied.Goals as goal
 use Rattle.ql_shim.proofs.unapplied.first_unapplied.Goals.{else-not-has-via-then-not-has+else-not-applied, else-not-has-via-else-not-has}
 
@@ -12,7 +13,7 @@ returns-then-not-applied g c = λ x fits.
     let saw = c.args.saw.now in
     let k = c.loop-a.a-index in
     record {
-      fits = (at-has saw k c.loop-a-test.true, sym c.has.ensures ∙ c.if-not-has.true, λ closed. both_ways c.applied.result c.if-not-applied.true ((c.applied.ensures x fits).1 closed));
+      fits = (index-has saw k c.loop-a-test.true, sym c.has.ensures ∙ c.if-not-has.true, λ closed. both_ways c.applied.result c.if-not-applied.true ((c.applied.ensures x fits).1 closed));
       least = λ b lacks. elim (cases_lt b (get_or saw k 0)) [
         | inl less ↦ absurd (lacks.2 (c.loop-a.invariant x fits b (below-front saw k c.requires c.loop-a-test.true b lacks.0 less) lacks.1))
         | inr more ↦ more

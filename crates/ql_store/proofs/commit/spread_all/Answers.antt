@@ -1,5 +1,5 @@
 use Rattle.std.proofs.Common.{◌≡◌, ◌<◌, length, arith}
-use Rattle.ql_shim.proofs.JoinedLaws.{at-has}
+use Rattle.ql_needs.proofs.Members.{index-has}
 use Rattle.ql_store.proofs.CommitLaws.{none-received, none-sent}
 use Rattle.ql_store.proofs.commit.spread_all.Goals as goal
 
@@ -17,4 +17,4 @@ returns-then-is_empty-clause-sent g c =
 pub spread-requires-clause-package : goal.spread-requires-clause-package
 spread-requires-clause-package g c =
     let some : 0 < length c.args.own.now = grind (arith, c.is_empty.ensures, c.if-is_empty.false) in
-    c.requires.package _ (at-has c.args.own.now 0 some)
+    c.requires.package _ (index-has c.args.own.now 0 some)

@@ -3,14 +3,15 @@ use Rattle.std.proofs.lemmas.List.{take_rest, length-drop}
 use Rattle.ql_base.specs.IdLists.{IsAscending, has_id}
 use Rattle.ql_base.proofs.IdLemmas.{IsAscending-drop}
 use Rattle.ql_strong.specs.Within.{AreAmong, IsUnderWay, IsWithin}
-use Rattle.ql_strong.proofs.SyncLaws.{has-at, way-begins, way-on, way-past, way-ends}
+use Rattle.ql_needs.proofs.Members.{index-has}
+use Rattle.ql_strong.proofs.SyncLaws.{way-begins, way-on, way-past, way-ends}
 use Rattle.ql_strong.proofs.synced.made_whole.Goals as goal
 
 pub receive_with-requires-clause-first : goal.receive_with-requires-clause-first
-receive_with-requires-clause-first g c = (c.requires.whole.there _ (has-at c.args.committed.now c.loop-count.count c.loop-count-test.true)).0
+receive_with-requires-clause-first g c = (c.requires.whole.there _ (index-has c.args.committed.now c.loop-count.count c.loop-count-test.true)).0
 
 pub receive_with-requires-clause-last : goal.receive_with-requires-clause-last
-receive_with-requires-clause-last g c = (c.requires.whole.there _ (has-at c.args.committed.now c.loop-count.count c.loop-count-test.true)).1
+receive_with-requires-clause-last g c = (c.requires.whole.there _ (index-has c.args.committed.now c.loop-count.count c.loop-count-test.true)).1
 
 pub leading-count-requires-in-loop-count : goal.leading-count-requires-in-loop-count
 leading-count-requires-in-loop-count g c =

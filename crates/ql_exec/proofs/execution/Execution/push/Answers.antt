@@ -1,9 +1,10 @@
-use Rattle.std.proofs.Common.{◌≡◌, ◌++◌, ◌∷◌, [], List, ℕ, suc, length-append, ◌+◌, ◌<◌, ◌^◌, length, None, sym, ap, arith, ◌∙◌}
+use Rattle.std.proofs.Common.{◌≡◌, ◌++◌, ◌∷◌, [], List, ℕ, suc, length-append, ◌+◌, ◌<◌, ◌^◌, length, None, sym, ap, subst, arith, ◌∙◌}
 use Rattle.ql_exec.specs.declared.effect.Effect.{Effect}
 use Rattle.ql_exec.specs.Execution.{fault_of, effect_of, stamp_of, with_stamp}
-use Rattle.ql_exec.specs.Latest.{with_latest}
+use Rattle.ql_exec.specs.Latest.{latest_of, with_latest, IsLastOf}
 use Rattle.ql_exec.proofs.Law.{fault_of-None, faultless, IsExecution-push}
 use Rattle.ql_exec.proofs.LatestLaws.{FindsLast-push, KnowsRuns-push}
+use Rattle.ql_exec.proofs.LinksLaws.{HasLinks-push}
 use Rattle.ql_exec.proofs.execution.Execution.push.Goals as goal
 
 pub returns-in-Some-clause-lawful : goal.returns-in-Some-clause-lawful
@@ -12,6 +13,9 @@ returns-in-Some-clause-lawful c = fault_of-None c.args.self.now c.args.draft (rw
 pub returns-in_err-make_room-clause-lawful : goal.returns-in_err-make_room-clause-lawful
 returns-in_err-make_room-clause-lawful c = fault_of-None c.args.self.now c.args.draft (rw (← c.self.view_is) c.self.invariant.0) c.fault_in.ensures.ascending
 
+pub returns-in_err-reserve-clause-lawful : goal.returns-in_err-reserve-clause-lawful
+returns-in_err-reserve-clause-lawful c = fault_of-None c.args.self.now c.args.draft (rw (← c.self.view_is) c.self.invariant.0) c.fault_in.ensures.ascending
+
 pub returns-in_err-push-clause-lawful : goal.returns-in_err-push-clause-lawful
 returns-in_err-push-clause-lawful c = fault_of-None c.args.self.now c.args.draft (rw (← c.self.view_is) c.self.invariant.0) c.fault_in.ensures.ascending
 
@@ -19,12 +23,17 @@ pub returns-clause-lawful : goal.returns-clause-lawful
 returns-clause-lawful c = fault_of-None c.args.self.now c.args.draft (rw (← c.self.view_is) c.self.invariant.0) c.fault_in.ensures.ascending
 
 pub invariant_of-self : goal.invariant_of-self
-invariant_of-self c = (c.self.invariant.0, c.self.invariant.1, c.make_room.ensures.latest c.self.inside.effects.items c.self.invariant.2, c.make_room.ensures.runs c.self.inside.effects.items c.self.invariant.3)
+invariant_of-self c = (c.self.invariant.0, c.self.invariant.1, c.make_room.ensures.latest c.self.inside.effects.items c.self.invariant.2, c.self.invariant.3, c.make_room.ensures.runs c.self.inside.effects.items c.self.invariant.4)
+
+pub invariant_of-self-in_err-reserve : goal.invariant_of-self-in_err-reserve
+invariant_of-self-in_err-reserve c =
+    rw c.in_err-reserve.ensures.items
+    (c.self.invariant.0, c.self.invariant.1, c.make_room.ensures.latest c.self.inside.effects.items c.self.invariant.2, c.self.invariant.3, c.make_room.ensures.runs c.self.inside.effects.items c.self.invariant.4)
 
 pub invariant_of-self-in_err-push : goal.invariant_of-self-in_err-push
 invariant_of-self-in_err-push c =
-    rw c.in_err-push.ensures.items
-    (c.self.invariant.0, c.self.invariant.1, c.make_room.ensures.latest c.self.inside.effects.items c.self.invariant.2, c.make_room.ensures.runs c.self.inside.effects.items c.self.invariant.3)
+    rw (c.in_err-push.ensures.items, c.in_ok-reserve.ensures.items)
+    (c.self.invariant.0, c.self.invariant.1, c.make_room.ensures.latest c.self.inside.effects.items c.self.invariant.2, c.self.invariant.3, c.make_room.ensures.runs c.self.inside.effects.items c.self.invariant.4)
 
 pub invariant_of-self-2 : goal.invariant_of-self-2
 invariant_of-self-2 c =
@@ -38,11 +47,14 @@ invariant_of-self-2 c =
     let items : c.push.new.self.items ≡ x ++ effect_of x draft ∷ [] = c.in_ok-push.ensures.items ∙ ap (λ (e : Effect). x ++ e ∷ []) made in
     let count = c.len.ensures in
     let id : c.len.result + 1 ≡ suc (length x) = omega (arith, count, c.self.inside.effects.ok.0) in
+    let place : c.of-before.result ≡ latest_of c.self.inside.latest draft.session = c.of-before.ensures in
+    let last : IsLastOf x draft.session c.of-before.result = subst (λ (n : ℕ). IsLastOf x draft.session n) (sym place) (c.self.invariant.2 draft.session) in
     let table : c.put.new.self ≡ with_latest c.make_room.new.latest draft.session (suc (length x)) = c.put.ensures ∙ ap (λ (n : ℕ). with_latest c.make_room.new.latest draft.session n) id in
     let room : length x + 1 < 2 ^ 32 = rw c.self.view_is c.requires.room in
-    rw (items, table) (
+    rw (items, table, c.push_reserved.ensures.items, c.in_ok-reserve.ensures.items) (
       IsExecution-push x draft c.self.invariant.0 sound.0 sound.1,
       omega (arith, room, length-append x (effect_of x draft ∷ [])),
       FindsLast-push c.make_room.new.latest x (effect_of x draft) c.in_ok-make_room.ensures.entry (c.make_room.ensures.latest x c.self.invariant.2),
-      KnowsRuns-push c.make_room.new.runs x (effect_of x draft) c.in_ok-make_room.ensures.run (c.make_room.ensures.runs x c.self.invariant.3),
+      HasLinks-push c.self.inside.links.items x (effect_of x draft) c.of-before.result last c.self.invariant.3,
+      KnowsRuns-push c.make_room.new.runs x (effect_of x draft) c.in_ok-make_room.ensures.run (c.make_room.ensures.runs x c.self.invariant.4),
     )
