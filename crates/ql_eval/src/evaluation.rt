@@ -1,15 +1,15 @@
-ghost use Rattle.std.specs.Prelude.{◌≡◌, IfOk, IsSome, Some, drop};
+ghost use Rattle.std.specs.Prelude.{◌≡◌, IfOk, IfSome, IsSome, Some, drop};
 ghost use Rattle.std.specs.Option.{option_copied};
 ghost use Rattle.ql_lang.specs.Expressions.{expression_of, operands_in, operands_of};
 ghost use Rattle.ql_eval.specs.ValueKinds.{IsAccepted, IsNeverStuck};
-ghost use Rattle.ql_eval.specs.Evaluation.{call_value, called_on, combined, value_in, value_of, values_of};
+ghost use Rattle.ql_eval.specs.Evaluation.{Bindings, call_value, called_on, value_in, value_of, values_of};
 
 use crate::call::{with_one, with_three, with_two};
 use crate::env::{Env, find};
 use crate::operator::{combine, deny, negate};
 use crate::scalar::literal;
 use ql_base::{NoMemory, Word};
-use ql_lang::{BinOp, Expr, ExprNode, Exprs, Name};
+use ql_lang::{Expr, ExprNode, Exprs, Name};
 use ql_typing::{Function, find_function};
 use ql_value::{Value, copy};
 use std::alloc::Global;
@@ -57,7 +57,15 @@ pub(crate) fn evaluate(
             Some(Value::Bool(false)) => evaluate(alloc, pairs, right),
             _ => Ok(None),
         },
-        ExprNode::Binary(op, left, right) => binary(alloc, pairs, *op, left, right),
+        ExprNode::Binary(op, left, right) => {
+            // Two names are borrowed, not copied.
+            if let (Some(first), Some(second)) = (name_of(left), name_of(right)) {
+                return Ok(combine(*op, find(pairs, first), find(pairs, second)));
+            }
+            let left = evaluate(alloc, pairs, left)?;
+            let right = evaluate(alloc, pairs, right)?;
+            Ok(combine(*op, left.as_ref(), right.as_ref()))
+        }
         ExprNode::Not(operand) => Ok(deny(evaluate(alloc, pairs, operand)?)),
         ExprNode::Neg(operand) => Ok(negate(evaluate(alloc, pairs, operand)?)),
     }
@@ -73,44 +81,15 @@ fn read(alloc: Global, pairs: &[(Word, Value)], word: &Word) -> Result<Option<Va
     }
 }
 
-// The value of a binary operator. An operand that is a name is borrowed.
-#[cycle(evaluate)]
-fn binary(
-    alloc: Global,
-    pairs: &[(Word, Value)],
-    op: BinOp,
-    left: &Expr,
-    right: &Expr,
-) -> Result<Option<Value>, NoMemory>
-    ensures { IfOk result
-        (λ value. value ≡ combined op (value_of pairs.now (expression_of left.now))
-        (value_of pairs.now (expression_of right.now))) }
+// The name that an expression consists of, if it is one.
+fn name_of(e: &Expr) -> Option<&Word>
+    ensures { IfSome result
+        (λ word. (env : Bindings) → value_of env (expression_of e.now) ≡ value_in env word.now) }
 {
-    if let ExprNode::Var(name) = &left.node {
-        return binary_on(alloc, pairs, op, find(pairs, &name.word), right);
+    match &e.node {
+        ExprNode::Var(name) => Some(&name.word),
+        _ => None,
     }
-    let left = evaluate(alloc, pairs, left)?;
-    binary_on(alloc, pairs, op, left.as_ref(), right)
-}
-
-// The value of a binary operator by the value of its first operand.
-#[cycle(evaluate)]
-fn binary_on(
-    alloc: Global,
-    pairs: &[(Word, Value)],
-    op: BinOp,
-    left: Option<&Value>,
-    right: &Expr,
-) -> Result<Option<Value>, NoMemory>
-    ensures { IfOk result
-        (λ value. value ≡ combined op (option_copied left.entry)
-        (value_of pairs.now (expression_of right.now))) }
-{
-    if let ExprNode::Var(name) = &right.node {
-        return Ok(combine(op, left, find(pairs, &name.word)));
-    }
-    let right = evaluate(alloc, pairs, right)?;
-    Ok(combine(op, left, right.as_ref()))
 }
 
 // The value of a call. Its first argument, which may be a large collection, is borrowed if it is a name.
