@@ -1,8 +1,8 @@
-ghost use Rattle.std.specs.Prelude.{◌≡◌, IfOk, IsSome, Some, drop};
+ghost use Rattle.std.specs.Prelude.{◌≡◌, IfOk, IfSome, IsSome, Some, drop};
 ghost use Rattle.std.specs.Option.{option_copied};
 ghost use Rattle.ql_lang.specs.Expressions.{expression_of, operands_in, operands_of};
 ghost use Rattle.ql_eval.specs.ValueKinds.{IsAccepted, IsNeverStuck};
-ghost use Rattle.ql_eval.specs.Evaluation.{call_value, called_on, value_in, value_of, values_of};
+ghost use Rattle.ql_eval.specs.Evaluation.{Bindings, call_value, called_on, value_in, value_of, values_of};
 
 use crate::call::{with_one, with_three, with_two};
 use crate::env::{Env, find};
@@ -58,9 +58,13 @@ pub(crate) fn evaluate(
             _ => Ok(None),
         },
         ExprNode::Binary(op, left, right) => {
+            // Two names are borrowed, not copied.
+            if let (Some(first), Some(second)) = (name_of(left), name_of(right)) {
+                return Ok(combine(*op, find(pairs, first), find(pairs, second)));
+            }
             let left = evaluate(alloc, pairs, left)?;
             let right = evaluate(alloc, pairs, right)?;
-            Ok(combine(*op, left, right))
+            Ok(combine(*op, left.as_ref(), right.as_ref()))
         }
         ExprNode::Not(operand) => Ok(deny(evaluate(alloc, pairs, operand)?)),
         ExprNode::Neg(operand) => Ok(negate(evaluate(alloc, pairs, operand)?)),
@@ -74,6 +78,17 @@ fn read(alloc: Global, pairs: &[(Word, Value)], word: &Word) -> Result<Option<Va
     match find(pairs, word) {
         Some(value) => Ok(Some(copy(alloc, value)?)),
         None => Ok(None),
+    }
+}
+
+// The name that an expression consists of, if it is one.
+fn name_of(e: &Expr) -> Option<&Word>
+    ensures { IfSome result
+        (λ word. (env : Bindings) → value_of env (expression_of e.now) ≡ value_in env word.now) }
+{
+    match &e.node {
+        ExprNode::Var(name) => Some(&name.word),
+        _ => None,
     }
 }
 

@@ -1,15 +1,16 @@
 ghost use Rattle.std.specs.Prelude.{◌≡◌};
+ghost use Rattle.std.specs.Option.{option_copied};
 ghost use Rattle.ql_eval.specs.Evaluation.{combined, denied, negative_of, on_numbers, on_truths, on_values};
 
 use ql_lang::BinOp;
 use ql_value::{Value, order, sat_add, sat_mul, sat_neg, sat_sub};
 
 /// The value of a binary operator with its operands.
-pub(crate) fn combine(op: BinOp, left: Option<Value>, right: Option<Value>) -> Option<Value>
-    ensures { result ≡ combined op left right }
+pub(crate) fn combine(op: BinOp, left: Option<&Value>, right: Option<&Value>) -> Option<Value>
+    ensures { result ≡ combined op (option_copied left.entry) (option_copied right.entry) }
 {
     match (left, right) {
-        (Some(left), Some(right)) => on_values(op, &left, &right),
+        (Some(left), Some(right)) => on_values(op, left, right),
         _ => None,
     }
 }

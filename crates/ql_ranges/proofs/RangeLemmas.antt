@@ -220,6 +220,25 @@ whole-first (r ∷ ranges) range id is low first last =
     let same : r ≡ range = same_Some r range is in
     subst (λ (s : IdRange). has_id (ids_of (s ∷ ranges)) id ≡ true) (sym same) (in_ranges-first range ranges id (omega (arith, low, first)) last)
 
+-- the id after the first range is missing
+pub whole-ends : (ranges : List IdRange) (range : IdRange) → AreApart ranges → slice_get ranges 0 ≡ Some range → has_id (ids_of ranges) (range.to + 1) ≡ false
+whole-ends [] range apart is = absurd (let never : None ≡ Some range = is in cc)
+whole-ends (r ∷ ranges) range apart is =
+    let same : r ≡ range = same_Some r range is in
+    subst (λ (s : IdRange). has_id (ids_of (r ∷ ranges)) (s.to + 1) ≡ false) same
+    (false_from_ne_true (has_id (ids_of (r ∷ ranges)) (r.to + 1)) (λ has. elim (in_ranges-cases r ranges (r.to + 1) has) [
+      | inl here ↦ (let high = here.1 in omega (arith, high))
+      | inr later ↦ not_below (r.to + 2) (r.to + 1) ranges (omega arith) apart.1 apart.2 later
+    ]))
+
+-- 1 is missing if the first range begins later
+pub whole-none : (ranges : List IdRange) (range : IdRange) → AreApart ranges → slice_get ranges 0 ≡ Some range → 1 < range.from → has_id (ids_of ranges) 1 ≡ false
+whole-none [] range apart is later = absurd (let never : None ≡ Some range = is in cc)
+whole-none (r ∷ ranges) range apart is later =
+    let same : r ≡ range = same_Some r range is in
+    let begin : 2 ≤ r.from = subst (λ (s : IdRange). 2 ≤ s.from) (sym same) later in
+    false_from_ne_true (has_id (ids_of (r ∷ ranges)) 1) (λ has. not_below 2 1 (r ∷ ranges) (omega arith) begin apart has)
+
 pub ids_of-append : (ranges others : List IdRange) → ids_of (ranges ++ others) ≡ ids_of ranges ++ ids_of others
 ids_of-append [] others = refl
 ids_of-append (range ∷ ranges) others = ap (λ (rest : List ℕ). ids_in range ++ rest) (ids_of-append ranges others) ∙ sym (append_assoc (ids_in range) (ids_of ranges) (ids_of others))

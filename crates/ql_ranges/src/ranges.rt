@@ -95,13 +95,15 @@ impl Ranges {
         leading_in(&self.ranges, ids)
     }
 
-    /// An id such that the set has all from 1 to it; 0 if 1 is missing.
+    /// The greatest id such that the set has all from 1 to it; 0 if 1 is missing.
     pub fn whole_to(&self) -> u32
-        ensures { (id : ℕ) → 1 ≤ id → id ≤ result → has_id (ids_of self.now) id ≡ true }
+        ensures whole { (id : ℕ) → 1 ≤ id → id ≤ result → has_id (ids_of self.now) id ≡ true }
+        ensures ends { has_id (ids_of self.now) (result + 1) ≡ false }
     {
         match self.ranges.first() {
             Some(range) if range.from <= 1 => range.to,
-            _ => 0,
+            Some(_) => 0,
+            None => 0,
         }
     }
 

@@ -18,4 +18,4 @@ returns-in-Some-clause-met c =
     (met-one (ids_of c.args.known.now) (ids_of c.args.walk.now.found) c.args.walk.now.due.items (ids_of c.meet.new.walk.found) c.meet.new.walk.due.items c.in-Some.before m)) c.meet.ensures
 
 pub returns-in-None-clause-met : goal.returns-in-None-clause-met
-returns-in-None-clause-met c = known_before (λ a is. c.whole_to.ensures a (soo-first c.args.effects.now a c.args.e is) (c.in-None.ensures a is))
+returns-in-None-clause-met c = known_before (λ a is. c.whole_to.ensures.whole a (soo-first c.args.effects.now a c.args.e is) (c.in-None.ensures a is))
