@@ -36,7 +36,7 @@ pub(crate) fn place_in(source: &[&[u8]], keyword: &[u8], name: &[u8]) -> Option<
 pub(crate) fn type_at<'a>(source: &[&'a [u8]], op: usize) -> &'a [u8] {
     match last_of(source, op, b"type") {
         Some(declared) => piece(source, declared.saturating_add(1)),
-        None => b"".as_slice(),
+        None => b"",
     }
 }
 
@@ -75,7 +75,7 @@ pub(crate) fn word_after<'a>(text: &'a [u8], first: &[u8], second: &[u8]) -> &'a
             }
         }
     }
-    b"".as_slice()
+    b""
 }
 
 /// The word of a line at an index.

@@ -54,7 +54,7 @@ fn without_return(line: &[u8]) -> &[u8] {
 pub(crate) fn field_text<'a>(fields: &[Field<'a>], k: usize) -> &'a [u8] {
     match fields.get(k) {
         Some(field) => field.text,
-        None => b"".as_slice(),
+        None => b"",
     }
 }
 

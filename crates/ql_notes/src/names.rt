@@ -1,7 +1,7 @@
 // Lists of names.
 
+use crate::filled::push_filled;
 use crate::likeness::{likest, push_meant};
-use crate::wanted::push_quoted;
 use ql_base::{NoMemory, push_bytes};
 
 // How many names are listed at most.
@@ -36,10 +36,7 @@ fn push_names(note: &mut Vec<u8>, names: &[&[u8]]) -> Result<(), NoMemory> {
         if count == MOST {
             return push_bytes(note, b" and more");
         }
-        if count > 0 {
-            push_bytes(note, b", ")?;
-        }
-        push_quoted(note, name)?;
+        push_filled(note, if count == 0 { b"`%`" } else { b", `%`" }, &[name])?;
         count = count.saturating_add(1);
     }
     Ok(())

@@ -44,7 +44,7 @@ pub(crate) fn part(text: &[u8], token: Token) -> &[u8] {
 pub(crate) fn piece<'a>(pieces: &[&'a [u8]], k: usize) -> &'a [u8] {
     match pieces.get(k) {
         Some(piece) => *piece,
-        None => b"".as_slice(),
+        None => b"",
     }
 }
 
@@ -58,7 +58,7 @@ pub(crate) fn put<'a>(pieces: &mut [&'a [u8]], k: usize, word: &'a [u8]) {
 /// Replaces pieces by empty ones.
 pub(crate) fn clear(pieces: &mut [&[u8]], from: usize, to: usize) {
     for k in from..to {
-        put(pieces, k, b"".as_slice());
+        put(pieces, k, b"");
     }
 }
 
@@ -133,5 +133,5 @@ pub(crate) fn word_at<'a>(text: &'a [u8], found: &[Token], at: usize) -> &'a [u8
             return part(text, *token);
         }
     }
-    b"".as_slice()
+    b""
 }

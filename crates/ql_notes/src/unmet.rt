@@ -6,7 +6,7 @@ use crate::contracts::contract_at;
 use crate::declared::word_of;
 use crate::likeness::{likest, push_meant};
 use crate::pieces::{next_of, piece, pieces, tokens_of};
-use crate::words::has_word;
+use crate::words::{has_word, is};
 use ql_base::NoMemory;
 use ql_excerpt::{File, Spot, line_of, push_fault};
 use std::alloc::Global;
@@ -71,7 +71,7 @@ fn operations(alloc: Global, text: &[u8]) -> Result<Vec<&[u8]>, NoMemory> {
     for k in 0..text.len() {
         if k == 0 || text[k - 1] == b'\n' {
             let line = line_of(&text[k..]);
-            if first_word(line) == b"effect".as_slice() {
+            if is(first_word(line), b"effect") {
                 names.push(word_of(line, 3))?;
             }
         }
