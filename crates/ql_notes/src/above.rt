@@ -5,6 +5,11 @@ use crate::words::{is, word};
 use ql_base::is_digit;
 use ql_excerpt::line_of;
 
+/// Whether a line of a text begins at an offset.
+pub(crate) fn is_line_start(text: &[u8], k: usize) -> bool {
+    k == 0 || (k <= text.len() && text[k - 1] == b'\n')
+}
+
 /// Counts and marks of the lines above a line, without blank lines and comments.
 #[derive(Clone, Copy)]
 pub(crate) struct Above {
@@ -26,7 +31,7 @@ pub(crate) fn lines_above(text: &[u8], start: usize, is_execution: bool) -> Abov
 {
     let mut above = NOTHING;
     for k in 0..start {
-        if k == 0 || text[k - 1] == b'\n' {
+        if is_line_start(text, k) {
             let first = first_word(line_of(&text[k..]));
             if !is_skipped(first) && (!is_execution || above.is_begun || is(first, b"execution")) {
                 above = above.and(first);
@@ -93,6 +98,7 @@ pub(crate) fn first_word(line: &[u8]) -> &[u8] {
     &line[line.len()..]
 }
 
-fn without_return(word: &[u8]) -> &[u8] {
-    word.strip_suffix(b"\r").unwrap_or(word)
+/// A line or a word without the carriage return at its end.
+pub(crate) fn without_return(line: &[u8]) -> &[u8] {
+    line.strip_suffix(b"\r").unwrap_or(line)
 }

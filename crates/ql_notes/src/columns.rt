@@ -2,7 +2,7 @@
 
 use crate::above::first_word;
 use crate::arguments::misfit;
-use crate::declared::{place_in, word_after, word_of};
+use crate::declared::{line_with, place_in, word_after, word_of};
 use crate::fields::{Field, field_text};
 use crate::ranges::is_too_great;
 use crate::words::{has_word, is};
@@ -224,10 +224,6 @@ fn twice(line: FaultyLine, first: &[u8]) -> usize {
 
 /// How many replicas the schedule begins with.
 pub(crate) fn replicas(above: &[u8]) -> u64 {
-    for k in 0..above.len() {
-        if (k == 0 || above[k - 1] == b'\n') && is(word_of(&above[k..], 0), b"replicas") {
-            return number_of(word_of(&above[k..], 1), 16).unwrap_or(0);
-        }
-    }
-    0
+    let line = line_with(above, b"replicas", 0, b"replicas");
+    number_of(word_of(line, 1), 16).unwrap_or(0)
 }

@@ -1,12 +1,10 @@
 // Why an effect of an execution can't be where it is.
 
-use crate::above::first_word;
 use crate::columns::FaultyLine;
-use crate::declared::{place_in, type_at, word_of};
+use crate::declared::{line_with, place_in, type_at, word_of};
 use crate::fields::field_text;
 use crate::filled::{push_counted, push_filled};
 use crate::stamp::effect_of;
-use crate::words::is;
 use ql_base::{NoMemory, number_of};
 use ql_excerpt::line_of;
 
@@ -82,15 +80,7 @@ fn type_of<'a>(source: &[&'a [u8]], operation: &[u8]) -> &'a [u8] {
 
 // The first line of an effect that has a word at an index.
 fn effect_line<'a>(text: &'a [u8], number: usize, word: &[u8]) -> &'a [u8] {
-    for k in 0..text.len() {
-        if k == 0 || text[k - 1] == b'\n' {
-            let line = line_of(&text[k..]);
-            if is(first_word(line), b"effect") && word_of(line, number) == word {
-                return line;
-            }
-        }
-    }
-    b""
+    line_with(text, b"effect", number, word)
 }
 
 /// Appends why an effect can't belong to its transaction.

@@ -1,8 +1,8 @@
 // Where a name that a source declares or lists again occurs first, and where the name of a value is declared.
 
 use crate::filled::push_filled;
-use crate::meant::is_bound;
-use crate::pieces::{last_of, next_of, piece};
+use crate::meant::{bound_between, is_bound};
+use crate::pieces::{last_of, next_of, piece, place_between};
 use crate::repair::{is_chosen, part_of};
 use crate::words::{has_word, is};
 use ql_base::{NoMemory, push_bytes};
@@ -95,12 +95,7 @@ fn value_before(pieces: &[&[u8]], k: usize) -> Option<usize> {
     } else {
         last_of(pieces, k, b"op")?
     };
-    for (j, word) in pieces.iter().enumerate() {
-        if from < j && j < k && is_bound(pieces, j) && *word == piece(pieces, k) {
-            return Some(j);
-        }
-    }
-    None
+    bound_between(pieces, from, k, piece(pieces, k))
 }
 
 // Whether a token is the name of an emitted value, or is among the statements.
@@ -121,12 +116,7 @@ fn after_keyword(pieces: &[&[u8]], from: usize, k: usize, keyword: &[u8]) -> Opt
 
 // The first token with the word at a token, between two tokens.
 fn same_between(pieces: &[&[u8]], from: usize, k: usize) -> Option<usize> {
-    for (j, word) in pieces.iter().enumerate() {
-        if from <= j && j < k && *word == piece(pieces, k) {
-            return Some(j);
-        }
-    }
-    None
+    place_between(pieces, from, k, piece(pieces, k))
 }
 
 /// Whether the value that is used at a token is a field.

@@ -79,7 +79,7 @@ fn candidates<'a>(
     } else if is(first, b"call") && k == 5 {
         operations_of(alloc, line)
     } else {
-        named(alloc, line.above, b"object")
+        named(alloc, line.above, b"object", 1)
     }
 }
 

@@ -4,7 +4,7 @@ use crate::declared::{declared, place_in};
 use crate::filled::push_filled;
 use crate::likeness::{likest, push_meant};
 use crate::names::{push_known, push_listed};
-use crate::pieces::{last_of, next_of, piece};
+use crate::pieces::{last_of, next_of, piece, place_between};
 use crate::repair::{is_chosen, part_of};
 use crate::words::{has_word, is};
 use ql_base::NoMemory;
@@ -128,12 +128,7 @@ fn push_unused(note: &mut Vec<u8>, tokens: &[&[u8]], k: usize) -> Result<(), NoM
 // Whether a name occurs in an operation after its parameters.
 fn is_used(tokens: &[&[u8]], to: usize, name: &[u8]) -> bool {
     let end = next_of(tokens, to, b"op type transaction").unwrap_or(tokens.len());
-    for (j, token) in tokens.iter().enumerate() {
-        if to < j && j < end && *token == name {
-            return true;
-        }
-    }
-    false
+    place_between(tokens, to.saturating_add(1), end, name).is_some()
 }
 
 // Appends how to quantify the effects of an operation whose name is used as an effect.
@@ -220,13 +215,23 @@ pub(crate) fn is_bound(tokens: &[&[u8]], k: usize) -> bool {
         && is(piece(tokens, k.saturating_add(1)), b":")
 }
 
+/// The first token between two others that is a word with a kind after it.
+pub(crate) fn bound_between(
+    tokens: &[&[u8]],
+    from: usize,
+    to: usize,
+    word: &[u8],
+) -> Option<usize> {
+    for (j, token) in tokens.iter().enumerate() {
+        if from < j && j < to && is_bound(tokens, j) && *token == word {
+            return Some(j);
+        }
+    }
+    None
+}
+
 // Whether a token is the name of a parameter of the operation around it.
 fn is_parameter(tokens: &[&[u8]], k: usize) -> bool {
     let (from, to) = parameters_before(tokens, k);
-    for (j, token) in tokens.iter().enumerate() {
-        if from < j && j < to && is_bound(tokens, j) && *token == piece(tokens, k) {
-            return true;
-        }
-    }
-    false
+    bound_between(tokens, from, to, piece(tokens, k)).is_some()
 }

@@ -83,6 +83,21 @@ pub(crate) fn next_of(pieces: &[&[u8]], k: usize, words: &[u8]) -> Option<usize>
     None
 }
 
+/// The first piece from an index on, and before another one, that is a word.
+pub(crate) fn place_between(
+    pieces: &[&[u8]],
+    from: usize,
+    to: usize,
+    word: &[u8],
+) -> Option<usize> {
+    for (j, piece) in pieces.iter().enumerate() {
+        if from <= j && j < to && *piece == word {
+            return Some(j);
+        }
+    }
+    None
+}
+
 /// The last non-empty piece before an index, or the index itself where there is none.
 pub(crate) fn before(pieces: &[&[u8]], k: usize) -> usize {
     let mut found = k;

@@ -1,12 +1,11 @@
 // The range of a number that is out of range.
 
-use crate::above::first_word;
+use crate::above::lines_above;
 use crate::columns::FaultyLine;
 use crate::fields::field_text;
 use crate::filled::push_counted;
 use crate::words::{has_word, is};
 use ql_base::{NoMemory, number_of, push_bytes};
-use ql_excerpt::line_of;
 
 /// Appends the range of the number in a field, in a file with this text.
 pub(crate) fn push_range(
@@ -70,22 +69,11 @@ fn push_groups(said: &mut Vec<u8>, line: FaultyLine) -> Result<(), NoMemory> {
 }
 
 fn push_effects(said: &mut Vec<u8>, text: &[u8]) -> Result<(), NoMemory> {
-    let count = effects(text);
+    let count = lines_above(text, text.len(), false).effects;
     if count == 0 {
         return push_bytes(said, b"the file has no effect");
     }
     push_counted(said, b"effects are 1 to # here", &[], &[count])
-}
-
-// How many effects a file has.
-fn effects(text: &[u8]) -> u64 {
-    let mut count = 0u64;
-    for k in 0..text.len() {
-        if (k == 0 || text[k - 1] == b'\n') && is(first_word(line_of(&text[k..])), b"effect") {
-            count = count.saturating_add(1);
-        }
-    }
-    count
 }
 
 /// Whether an argument is a number that doesn't fit in 64 bits.

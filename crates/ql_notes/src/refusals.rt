@@ -1,7 +1,7 @@
 // Notes on a certificate or a proof that is refused: the section, the line, and what can be done.
 ghost use Rattle.std.specs.Prelude.{◌≤◌, length};
 
-use crate::above::first_word;
+use crate::above::{first_word, without_return};
 use crate::declared::{declared, word_of};
 use crate::filled::{push_counted, push_filled};
 use crate::pieces::piece;
@@ -238,6 +238,6 @@ fn whole_line(text: &[u8], start: usize) -> Spot
     requires { start ≤ length text.now }
 {
     let line = line_of(&text[start..]);
-    let bytes = line.strip_suffix(b"\r").unwrap_or(line).len();
+    let bytes = without_return(line).len();
     Spot { from: start, bytes }
 }
