@@ -1,9 +1,14 @@
 // What precedes a line in a line file.
 ghost use Rattle.std.specs.Prelude.{◌≤◌, length};
 
-use crate::words::word;
+use crate::words::{is, word};
 use ql_base::is_digit;
 use ql_excerpt::line_of;
+
+/// Whether a line of a text begins at an offset.
+pub(crate) fn is_line_start(text: &[u8], k: usize) -> bool {
+    k == 0 || (k <= text.len() && text[k - 1] == b'\n')
+}
 
 /// Counts and marks of the lines above a line, without blank lines and comments.
 #[derive(Clone, Copy)]
@@ -26,11 +31,9 @@ pub(crate) fn lines_above(text: &[u8], start: usize, is_execution: bool) -> Abov
 {
     let mut above = NOTHING;
     for k in 0..start {
-        if k == 0 || text[k - 1] == b'\n' {
+        if is_line_start(text, k) {
             let first = first_word(line_of(&text[k..]));
-            if !is_skipped(first)
-                && (!is_execution || above.is_begun || first == b"execution".as_slice())
-            {
+            if !is_skipped(first) && (!is_execution || above.is_begun || is(first, b"execution")) {
                 above = above.and(first);
             }
         }
@@ -58,15 +61,15 @@ impl Above {
             return more;
         }
         more.numbered = 0;
-        if first == b"effect".as_slice() {
+        if is(first, b"effect") {
             more.effects = more.effects.saturating_add(1);
-        } else if first == b"join".as_slice() {
+        } else if is(first, b"join") {
             more.joins = more.joins.saturating_add(1);
-        } else if first == b"execution".as_slice() {
+        } else if is(first, b"execution") {
             more.is_begun = true;
-        } else if first == b"events".as_slice() {
+        } else if is(first, b"events") {
             more.has_events = true;
-        } else if first == b"end".as_slice() {
+        } else if is(first, b"end") {
             more.is_ended = true;
         }
         more
@@ -82,7 +85,7 @@ fn is_numbered(first: &[u8]) -> bool {
 
 /// Whether a line is blank or a comment, by its first word.
 fn is_skipped(first: &[u8]) -> bool {
-    first.is_empty() || first.first() == Some(&b'#')
+    first.is_empty() || first.starts_with(b"#")
 }
 
 /// The first word of a line.
@@ -95,6 +98,7 @@ pub(crate) fn first_word(line: &[u8]) -> &[u8] {
     &line[line.len()..]
 }
 
-fn without_return(word: &[u8]) -> &[u8] {
-    word.strip_suffix(b"\r").unwrap_or(word)
+/// A line or a word without the carriage return at its end.
+pub(crate) fn without_return(line: &[u8]) -> &[u8] {
+    line.strip_suffix(b"\r").unwrap_or(line)
 }

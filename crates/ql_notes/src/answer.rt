@@ -1,5 +1,5 @@
 // The fault that an answer reports: bad PART at AT: RULE
-use crate::words::word;
+use crate::words::{is, word};
 use ql_base::number_of;
 
 /// A fault that an answer reports.
@@ -17,7 +17,7 @@ pub(crate) fn fault_of(answer: &[u8]) -> Option<Fault> {
     let (part, rest) = word(rest);
     let (at, rest) = word(rest);
     let (number, rest) = word(rest);
-    if bad != b"bad".as_slice() || at != b"at".as_slice() {
+    if !is(bad, b"bad") || !is(at, b"at") {
         return None;
     }
     let digits = number.split_last()?.1;

@@ -3,10 +3,10 @@
 use crate::columns::FaultyLine;
 use crate::declared::{parameters, place_in, type_at, word_after};
 use crate::fields::field_text;
+use crate::filled::{push_counted, push_filled};
 use crate::pieces::piece;
-use crate::wanted::push_quoted;
-use crate::words::has_word;
-use ql_base::{NoMemory, push_bytes, push_number};
+use crate::words::{has_word, is, sentence_of};
+use ql_base::{NoMemory, push_bytes};
 
 // The fields of a call: its object, its operation, and its first argument.
 const OBJECT: usize = 4;
@@ -62,11 +62,11 @@ fn base<'a>(source: &[&'a [u8]], op: usize, k: usize) -> &'a [u8] {
 // The kind of an argument, by its first byte.
 fn kind_of(argument: &[u8]) -> &'static [u8] {
     if has_word(b"true false", argument) {
-        b"bool".as_slice()
-    } else if argument.first() == Some(&b'"') {
-        b"text".as_slice()
+        b"bool"
+    } else if argument.starts_with(b"\"") {
+        b"text"
     } else {
-        b"int".as_slice()
+        b"int"
     }
 }
 
@@ -79,51 +79,44 @@ pub(crate) fn push_misfit(said: &mut Vec<u8>, line: FaultyLine, k: usize) -> Res
         count(line.source, op),
         line.fields.len().saturating_sub(FIRST),
     );
+    let name = field_text(line.fields, OPERATION);
     if taken != given {
-        return push_counts(said, field_text(line.fields, OPERATION), taken, given);
+        return push_counts(said, name, taken, given);
     }
-    push_bytes(said, b"found ")?;
-    push_kind(said, kind_of(field_text(line.fields, k)))?;
-    push_bytes(said, b", expected ")?;
     let number = k.saturating_sub(FIRST);
-    push_kind(said, base(line.source, op, number))?;
-    push_bytes(said, b": this is argument ")?;
-    push_number(said, number.saturating_add(1) as u64)?;
-    push_bytes(said, b" of ")?;
-    push_quoted(said, field_text(line.fields, OPERATION))
-}
-
-fn push_kind(said: &mut Vec<u8>, kind: &[u8]) -> Result<(), NoMemory> {
-    push_bytes(
+    let found = with_article(kind_of(field_text(line.fields, k)));
+    let expected = with_article(base(line.source, op, number));
+    push_counted(
         said,
-        if kind == b"int".as_slice() {
-            b"an ".as_slice()
-        } else {
-            b"a ".as_slice()
-        },
-    )?;
-    push_bytes(said, kind)
+        b"found %, expected %: this is argument # of `%`",
+        &[found, expected, name],
+        &[number.saturating_add(1) as u64],
+    )
 }
 
-fn push_counts(
+const ARTICLES: &str = "int an int
+bool a bool
+text a text";
+
+fn with_article(kind: &[u8]) -> &'static [u8] {
+    sentence_of(ARTICLES, kind)
+}
+
+/// Appends how many arguments an operation or a function takes, and how many there are.
+pub(crate) fn push_counts(
     said: &mut Vec<u8>,
     operation: &[u8],
     taken: usize,
     given: usize,
 ) -> Result<(), NoMemory> {
-    push_quoted(said, operation)?;
-    push_bytes(said, b" takes ")?;
-    push_number(said, taken as u64)?;
-    push_bytes(
-        said,
-        if taken == 1 {
-            b" argument, and here".as_slice()
-        } else {
-            b" arguments, and here".as_slice()
-        },
-    )?;
-    push_bytes(said, if given == 1 { b" is " } else { b" are " })?;
-    push_number(said, given as u64)
+    let sentence: &[u8] = if taken == 1 {
+        b"`%` takes # argument, and here are #"
+    } else if given == 1 {
+        b"`%` takes # arguments, and here is #"
+    } else {
+        b"`%` takes # arguments, and here are #"
+    };
+    push_counted(said, sentence, &[operation], &[taken as u64, given as u64])
 }
 
 fn push_other_type(said: &mut Vec<u8>, line: FaultyLine) -> Result<(), NoMemory> {
@@ -131,15 +124,18 @@ fn push_other_type(said: &mut Vec<u8>, line: FaultyLine) -> Result<(), NoMemory>
         field_text(line.fields, OBJECT),
         field_text(line.fields, OPERATION),
     );
-    push_quoted(said, object)?;
-    push_bytes(said, b" is of the type ")?;
-    push_quoted(said, word_after(line.above, b"object", object))?;
-    push_bytes(said, b", and ")?;
-    push_quoted(said, operation)?;
-    push_bytes(said, b" is an operation of ")?;
+    let own = word_after(line.above, b"object", object);
     match place_in(line.source, b"op", operation) {
-        Some(op) => push_quoted(said, type_at(line.source, op)),
-        None => push_bytes(said, b"none"),
+        Some(op) => push_filled(
+            said,
+            b"`%` is of the type `%`, and `%` is an operation of `%`",
+            &[object, own, operation, type_at(line.source, op)],
+        ),
+        None => push_filled(
+            said,
+            b"`%` is of the type `%`, and `%` is an operation of none",
+            &[object, own, operation],
+        ),
     }
 }
 
@@ -149,17 +145,17 @@ pub(crate) fn push_operation(note: &mut Vec<u8>, line: FaultyLine) -> Result<(),
     let Some(op) = place_in(line.source, b"op", name) else {
         return Ok(());
     };
-    push_bytes(note, b"  ")?;
-    push_quoted(note, name)?;
-    push_bytes(note, b" is an operation of ")?;
-    push_quoted(note, type_at(line.source, op))?;
-    push_bytes(note, b" and takes `")?;
+    push_filled(
+        note,
+        b"  `%` is an operation of `%` and takes `",
+        &[name, type_at(line.source, op)],
+    )?;
     let (from, to) = parameters(line.source, op);
     for k in from..to {
         let token = piece(line.source, k);
         if k > from
             && !has_word(b", :", token)
-            && piece(line.source, k.saturating_sub(1)) != b"(".as_slice()
+            && !is(piece(line.source, k.saturating_sub(1)), b"(")
         {
             push_bytes(note, b" ")?;
         }

@@ -6,11 +6,13 @@ use crate::columns::FaultyLine;
 use crate::declared::word_of;
 use crate::effects::{push_mixed, push_not_earlier, push_other_object, push_split};
 use crate::fields::field_text;
+use crate::filled::push_filled;
+use crate::first::push_first_at;
 use crate::ranges::push_range;
 use crate::rules::sentence;
-use crate::wanted::push_quoted;
+use crate::words::is;
 use ql_base::{NoMemory, push_bytes};
-use ql_excerpt::{File, line_of, place_of, push_position};
+use ql_excerpt::{File, line_of};
 
 /// Appends what is wrong with a field of a line, of a file with this text.
 pub(crate) fn push_breach(
@@ -20,21 +22,21 @@ pub(crate) fn push_breach(
     text: &[u8],
 ) -> Result<(), NoMemory> {
     let rule = line.rule;
-    if rule == b"NotForward".as_slice() {
+    if is(rule, b"NotForward") {
         push_not_earlier(said, line)
-    } else if rule == b"OtherObject".as_slice() {
+    } else if is(rule, b"OtherObject") {
         push_other_object(said, line, k)
-    } else if rule == b"Mixed".as_slice() {
+    } else if is(rule, b"Mixed") {
         push_mixed(said, line)
-    } else if rule == b"SplitTxn".as_slice() {
+    } else if is(rule, b"SplitTxn") {
         push_split(said, line)
-    } else if rule == b"Range".as_slice() {
+    } else if is(rule, b"Range") {
         push_range(said, line, k, text)
-    } else if rule == b"Kind".as_slice() {
+    } else if is(rule, b"Kind") {
         push_misfit(said, line, k)
-    } else if rule == b"Unknown".as_slice() {
+    } else if is(rule, b"Unknown") {
         push_unknown_name(said, line, k)
-    } else if rule == b"TooMany".as_slice() && line.part == b"schedule".as_slice() {
+    } else if is(rule, b"TooMany") && is(line.part, b"schedule") {
         push_bytes(said, size_sentence(line))
     } else {
         push_bytes(said, sentence(line.part, rule))
@@ -43,34 +45,40 @@ pub(crate) fn push_breach(
 
 // What is unknown, and where it would be declared.
 fn push_unknown_name(said: &mut Vec<u8>, line: FaultyLine, k: usize) -> Result<(), NoMemory> {
+    push_filled(
+        said,
+        unknown_sentence(line, k),
+        &[field_text(line.fields, k)],
+    )
+}
+
+fn unknown_sentence(line: FaultyLine, k: usize) -> &'static [u8] {
     let first = field_text(line.fields, 0);
-    push_quoted(said, field_text(line.fields, k))?;
-    let what = if line.part == b"execution".as_slice() {
+    if is(line.part, b"execution") {
         if k == 3 {
-            b" is no operation of the source".as_slice()
+            b"`%` is no operation of the source"
         } else {
-            b" names no transaction of the source".as_slice()
+            b"`%` names no transaction of the source"
         }
-    } else if first == b"object".as_slice() {
-        b" is no type of the source".as_slice()
-    } else if first == b"begin".as_slice() && k == 4 {
-        b" is no transaction of the source".as_slice()
-    } else if first == b"call".as_slice() && k == 5 {
-        b" is no operation of the source".as_slice()
+    } else if is(first, b"object") {
+        b"`%` is no type of the source"
+    } else if k == 4 && is(first, b"begin") {
+        b"`%` is no transaction of the source"
+    } else if k == 5 && is(first, b"call") {
+        b"`%` is no operation of the source"
     } else {
-        b" is no object that a line `object` declares".as_slice()
-    };
-    push_bytes(said, what)
+        b"`%` is no object that a line `object` declares"
+    }
 }
 
 // Which limit of a schedule a line exceeds.
 fn size_sentence(line: FaultyLine) -> &'static [u8] {
     let first = field_text(line.fields, 0);
-    if first == b"object".as_slice() {
+    if is(first, b"object") {
         b"a schedule has at most 1024 objects, and this is one more"
-    } else if first == b"join".as_slice() {
+    } else if is(first, b"join") {
         b"a store has at most 16 replicas, and this is one more"
-    } else if first == b"begin".as_slice() && line.fields.len() > 21 {
+    } else if is(first, b"begin") && line.fields.len() > 21 {
         b"a transaction declares at most 16 objects, and here are more"
     } else {
         b"a schedule has at most 4000 events, and this is one more"
@@ -84,21 +92,19 @@ pub(crate) fn push_first_line(
     line: FaultyLine,
     k: usize,
 ) -> Result<(), NoMemory> {
-    if line.rule != b"Twice".as_slice() {
+    if !is(line.rule, b"Twice") {
         return Ok(());
     }
     let Some(at) = first_offset(line, k) else {
         return Ok(());
     };
-    push_bytes(note, b"  first declared at ")?;
-    push_position(note, file.name, place_of(file.text, at))?;
-    push_bytes(note, b"\n")
+    push_first_at(note, file, at)
 }
 
 // The offset where the name in a field occurs first: as an object above, or earlier in the line.
 fn first_offset(line: FaultyLine, k: usize) -> Option<usize> {
     let name = field_text(line.fields, k);
-    if field_text(line.fields, 0) != b"object".as_slice() {
+    if !is(field_text(line.fields, 0), b"object") {
         for (j, field) in line.fields.iter().enumerate() {
             if 4 < j && j < k && field.text == name {
                 return Some(field.from);
@@ -109,7 +115,7 @@ fn first_offset(line: FaultyLine, k: usize) -> Option<usize> {
     for k in 0..line.above.len() {
         if k == 0 || line.above[k - 1] == b'\n' {
             let other = line_of(&line.above[k..]);
-            if first_word(other) == b"object".as_slice() && word_of(other, 1) == name {
+            if is(first_word(other), b"object") && word_of(other, 1) == name {
                 return Some(k.saturating_add(offset_of_second(other)));
             }
         }

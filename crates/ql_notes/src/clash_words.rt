@@ -1,11 +1,12 @@
 // A wrong kind as a sentence: what was found, what was expected, and what requires it.
 
+use crate::arguments::push_counts;
 use crate::clashes::{Clash, Operator, Wish};
+use crate::filled::push_filled;
 use crate::kinds::spelling;
 use crate::pieces::{last_of, piece};
-use crate::wanted::push_quoted;
 use crate::words::sentence_of;
-use ql_base::{NoMemory, push_bytes, push_number};
+use ql_base::{NoMemory, push_bytes};
 use ql_lang::{BinOp, Kind};
 use ql_typing::Function;
 
@@ -40,12 +41,14 @@ pub(crate) fn push_clash(
     if let Wish::Count(function, count) = clash.wish {
         return push_count(note, function, count);
     }
-    push_bytes(note, b"found ")?;
     match clash.found {
-        Some(kind) => push_kind(note, kind)?,
-        None => push_bytes(note, b"`empty`")?,
+        Some(kind) => push_filled(
+            note,
+            b"found %%, expected ",
+            &[article(kind), spelling(kind)],
+        )?,
+        None => push_bytes(note, b"found `empty`, expected ")?,
     }
-    push_bytes(note, b", expected ")?;
     push_expected_kind(note, clash.wish)?;
     push_bytes(note, b": ")?;
     push_wish(note, owner(tokens, k, clash.wish), clash.wish)
@@ -62,65 +65,39 @@ fn owner<'a>(tokens: &[&'a [u8]], k: usize, wish: Wish) -> &'a [u8] {
             let sign = last_of(tokens, k, b"=").unwrap_or(k);
             piece(tokens, sign.saturating_sub(3))
         }
-        _ => b"".as_slice(),
+        _ => b"",
     }
 }
 
 fn after_last<'a>(tokens: &[&'a [u8]], k: usize, words: &[u8]) -> &'a [u8] {
     match last_of(tokens, k, words) {
         Some(j) => piece(tokens, j.saturating_add(1)),
-        None => b"".as_slice(),
+        None => b"",
     }
 }
 
 // `has` takes 2 arguments, and here are 3
 fn push_count(note: &mut Vec<u8>, function: Function, count: usize) -> Result<(), NoMemory> {
-    let name = name_of(function).as_bytes();
-    push_quoted(note, name)?;
-    push_bytes(note, b" takes ")?;
-    push_arguments(note, function.arity())?;
-    push_bytes(
-        note,
-        if count == 1 {
-            b", and here is "
-        } else {
-            b", and here are "
-        },
-    )?;
-    push_number(note, count as u64)?;
-    push_bytes(note, b": it takes ")?;
-    push_bytes(note, sentence_of(TAKEN, name))
+    let name = name_of(function);
+    push_counts(note, name, function.arity(), count)?;
+    push_filled(note, b": it takes %", &[sentence_of(TAKEN, name)])
 }
 
-fn push_arguments(note: &mut Vec<u8>, count: usize) -> Result<(), NoMemory> {
-    push_number(note, count as u64)?;
-    push_bytes(
-        note,
-        if count == 1 {
-            b" argument"
-        } else {
-            b" arguments"
-        },
-    )
-}
-
-/// Appends a kind with its article.
-pub(crate) fn push_kind(note: &mut Vec<u8>, kind: Kind) -> Result<(), NoMemory> {
+fn article(kind: Kind) -> &'static [u8] {
     match kind {
-        Kind::Unit => {}
-        Kind::Int => push_bytes(note, b"an ")?,
-        _ => push_bytes(note, b"a ")?,
+        Kind::Unit => b"",
+        Kind::Int => b"an ",
+        _ => b"a ",
     }
-    push_bytes(note, spelling(kind).as_bytes())
 }
 
 fn push_expected_kind(note: &mut Vec<u8>, wish: Wish) -> Result<(), NoMemory> {
     match wish {
         Wish::Comparable(_) => push_bytes(note, b"an int, a bool or a text"),
-        Wish::First(function) => push_bytes(note, sentence_of(FIRST, name_of(function).as_bytes())),
+        Wish::First(function) => push_bytes(note, sentence_of(FIRST, name_of(function))),
         _ => {
             match wish.kind() {
-                Some(kind) => push_kind(note, kind),
+                Some(kind) => push_filled(note, b"%%", &[article(kind), spelling(kind)]),
                 None => push_bytes(note, b"another kind"),
             }
         }
@@ -130,100 +107,95 @@ fn push_expected_kind(note: &mut Vec<u8>, wish: Wish) -> Result<(), NoMemory> {
 // Appends what requires the kind.
 fn push_wish(note: &mut Vec<u8>, owner: &[u8], wish: Wish) -> Result<(), NoMemory> {
     match wish {
-        Wish::Answer(kind) => push_named(note, b"", owner, b" answers ", kind),
-        Wish::Initial(kind) => push_initial(note, owner, kind),
-        Wish::Assigned(kind) => push_named(note, b"the field ", owner, b" is ", kind),
-        Wish::Emitted(kind) => push_named(note, b"the emitted value ", owner, b" is ", kind),
+        Wish::Answer(kind) => push_named(note, b"`%` answers %%", owner, kind),
+        Wish::Initial(kind) => push_named(note, initial_sentence(kind), owner, kind),
+        Wish::Assigned(kind) => push_named(note, b"the field `%` is %%", owner, kind),
+        Wish::Emitted(kind) => push_named(note, b"the emitted value `%` is %%", owner, kind),
         Wish::When => push_bytes(note, b"`when` takes a bool"),
         Wish::Condition => push_bytes(note, b"the condition of `if` is a bool"),
         Wish::Branch(_) => push_bytes(note, b"`else` gives the kind that `then` gives"),
-        Wish::Operand(operator, kind) => push_operand(note, operator, kind),
-        Wish::Comparable(operator) => push_about(
+        Wish::Operand(operator, kind) => push_named(
             note,
-            operator,
-            b" compares values of these kinds alone",
+            b"`%` takes %%",
+            spelling_of(operator),
+            kind,
         ),
-        Wish::SameAsLeft(operator, _) => push_about(note, operator, b" has one kind on both sides"),
+        Wish::Comparable(operator) => push_filled(
+            note,
+            b"`%` compares values of these kinds alone",
+            &[spelling_of(operator)],
+        ),
+        Wish::SameAsLeft(operator, _) => push_filled(
+            note,
+            b"`%` has one kind on both sides",
+            &[spelling_of(operator)],
+        ),
         Wish::First(function) | Wish::Argument(function, _, _) | Wish::Count(function, _) =>
-            push_taken(note, function),
+            push_taken(note, name_of(function)),
         Wish::Any => Ok(()),
     }
 }
 
-fn push_initial(note: &mut Vec<u8>, owner: &[u8], kind: Kind) -> Result<(), NoMemory> {
-    push_named(note, b"the field ", owner, b" is ", kind)?;
+fn initial_sentence(kind: Kind) -> &'static [u8] {
     match kind {
-        Kind::Set(_) | Kind::Map(_, _) => push_bytes(note, b", and begins as `empty`"),
-        _ => Ok(()),
+        Kind::Set(_) | Kind::Map(_, _) => b"the field `%` is %%, and begins as `empty`",
+        _ => b"the field `%` is %%",
     }
 }
 
+// A sentence with a name, and a kind with its article.
 fn push_named(
     note: &mut Vec<u8>,
-    what: &[u8],
+    sentence: &[u8],
     name: &[u8],
-    verb: &[u8],
     kind: Kind,
 ) -> Result<(), NoMemory> {
-    push_bytes(note, what)?;
-    push_quoted(note, name)?;
-    push_bytes(note, verb)?;
-    push_kind(note, kind)
+    push_filled(note, sentence, &[name, article(kind), spelling(kind)])
 }
 
-fn push_operand(note: &mut Vec<u8>, operator: Operator, kind: Kind) -> Result<(), NoMemory> {
-    push_quoted(note, spelling_of(operator).as_bytes())?;
-    push_bytes(note, b" takes ")?;
-    push_kind(note, kind)
+fn push_taken(note: &mut Vec<u8>, function: &[u8]) -> Result<(), NoMemory> {
+    push_filled(
+        note,
+        b"`%` takes %",
+        &[function, sentence_of(TAKEN, function)],
+    )
 }
 
-fn push_about(note: &mut Vec<u8>, operator: Operator, what: &[u8]) -> Result<(), NoMemory> {
-    push_quoted(note, spelling_of(operator).as_bytes())?;
-    push_bytes(note, what)
-}
-
-fn push_taken(note: &mut Vec<u8>, function: Function) -> Result<(), NoMemory> {
-    let name = name_of(function).as_bytes();
-    push_quoted(note, name)?;
-    push_bytes(note, b" takes ")?;
-    push_bytes(note, sentence_of(TAKEN, name))
-}
-
-fn spelling_of(operator: Operator) -> &'static str {
+fn spelling_of(operator: Operator) -> &'static [u8] {
     match operator {
-        Operator::Not => "not",
-        Operator::Minus => "-",
+        Operator::Not => b"not",
+        Operator::Minus => b"-",
         Operator::Two(op) => spelling_of_two(op),
     }
 }
 
-fn spelling_of_two(op: BinOp) -> &'static str {
+fn spelling_of_two(op: BinOp) -> &'static [u8] {
     match op {
-        BinOp::Or => "or",
-        BinOp::And => "and",
-        BinOp::Eq => "==",
-        BinOp::Ne => "!=",
-        BinOp::Lt => "<",
-        BinOp::Le => "<=",
-        BinOp::Gt => ">",
-        BinOp::Ge => ">=",
-        BinOp::Add => "+",
-        BinOp::Sub => "-",
-        BinOp::Mul => "*",
+        BinOp::Or => b"or",
+        BinOp::And => b"and",
+        BinOp::Eq => b"==",
+        BinOp::Ne => b"!=",
+        BinOp::Lt => b"<",
+        BinOp::Le => b"<=",
+        BinOp::Gt => b">",
+        BinOp::Ge => b">=",
+        BinOp::Add => b"+",
+        BinOp::Sub => b"-",
+        BinOp::Mul => b"*",
     }
 }
 
-fn name_of(function: Function) -> &'static str {
+fn name_of(function: Function) -> &'static [u8] {
     match function {
-        Function::Has => "has",
-        Function::Size => "size",
-        Function::Add => "add",
-        Function::Remove => "remove",
-        Function::Union => "union",
-        Function::Put => "put",
-        Function::Drop => "drop",
-        Function::Get => "get",
-        Function::Sum => "sum",
+        Function::Has => b"has",
+        Function::Size => b"size",
+        Function::Add => b"add",
+        Function::Remove => b"remove",
+        Function::Union => b"union",
+        Function::Put => b"put",
+        Function::Drop => b"drop",
+        Function::Get => b"get",
+        Function::Sum => b"sum",
     }
 }
 
@@ -237,9 +209,9 @@ pub(crate) fn push_redeclared(
     let Some(kind) = clash.found else {
         return Ok(());
     };
-    push_bytes(note, b"  did you mean `")?;
-    push_bytes(note, owner(tokens, k, clash.wish))?;
-    push_bytes(note, b": ")?;
-    push_bytes(note, spelling(kind).as_bytes())?;
-    push_bytes(note, b"`?\n")
+    push_filled(
+        note,
+        b"  did you mean `%: %`?\n",
+        &[owner(tokens, k, clash.wish), spelling(kind)],
+    )
 }

@@ -2,10 +2,10 @@
 
 use crate::above::first_word;
 use crate::arguments::misfit;
-use crate::declared::{place_in, word_after, word_of};
+use crate::declared::{line_with, place_in, word_after, word_of};
 use crate::fields::{Field, field_text};
 use crate::ranges::is_too_great;
-use crate::words::has_word;
+use crate::words::{has_word, is};
 use ql_base::number_of;
 use ql_excerpt::line_of;
 
@@ -38,38 +38,34 @@ const SEEN_IN_HOLDS: usize = 7;
 
 /// The index of the field that breaks the rule.
 pub(crate) fn column(line: FaultyLine) -> usize {
-    let first = if line.part == b"holds".as_slice() {
+    let first = if is(line.part, b"holds") {
         SEEN_IN_HOLDS
     } else {
         SEEN
     };
-    if line.rule == b"NotForward".as_slice() {
+    if is(line.rule, b"NotForward") {
         return not_earlier(line, first);
     }
-    if line.rule == b"OtherObject".as_slice() {
+    if is(line.rule, b"OtherObject") {
         return on_other_object(line, first);
     }
-    if line.part == b"schedule".as_slice() {
+    if is(line.part, b"schedule") {
         return in_schedule(line);
     }
-    if line.part == b"execution".as_slice() {
+    if is(line.part, b"execution") {
         return in_execution(line);
     }
-    if line.rule == b"Range".as_slice() {
-        1
-    } else {
-        0
-    }
+    if is(line.rule, b"Range") { 1 } else { 0 }
 }
 
 fn in_execution(line: FaultyLine) -> usize {
-    if line.rule == b"Stamp".as_slice() {
+    if is(line.rule, b"Stamp") {
         STAMP
-    } else if line.rule == b"SplitTxn".as_slice() {
+    } else if is(line.rule, b"SplitTxn") {
         TXN
-    } else if line.rule == b"Mixed".as_slice() {
+    } else if is(line.rule, b"Mixed") {
         OPERATION
-    } else if line.rule == b"Unknown".as_slice() {
+    } else if is(line.rule, b"Unknown") {
         if is_declared(line, b"op", OPERATION) {
             TXN
         } else {
@@ -101,7 +97,7 @@ fn on_other_object(line: FaultyLine, first: usize) -> usize {
     for k in 0..line.above.len() {
         if k == 0 || line.above[k - 1] == b'\n' {
             let text = line_of(&line.above[k..]);
-            if first_word(text) == b"effect".as_slice() && word_of(text, 2) != object {
+            if is(first_word(text), b"effect") && word_of(text, 2) != object {
                 let seen = place_of_id(line, first, word_of(text, 1));
                 if seen > 0 {
                     return seen;
@@ -128,13 +124,13 @@ fn number_in(text: &[u8]) -> u64 {
 
 fn in_schedule(line: FaultyLine) -> usize {
     let first = field_text(line.fields, 0);
-    if line.rule == b"Unknown".as_slice() {
+    if is(line.rule, b"Unknown") {
         unknown(line, first)
-    } else if line.rule == b"Kind".as_slice() {
+    } else if is(line.rule, b"Kind") {
         misfit(line)
-    } else if line.rule == b"Range".as_slice() {
+    } else if is(line.rule, b"Range") {
         out_of_range(line, first)
-    } else if line.rule == b"Twice".as_slice() {
+    } else if is(line.rule, b"Twice") {
         twice(line, first)
     } else {
         0
@@ -142,13 +138,13 @@ fn in_schedule(line: FaultyLine) -> usize {
 }
 
 fn unknown(line: FaultyLine, first: &[u8]) -> usize {
-    if first == b"object".as_slice() {
+    if is(first, b"object") {
         return 2;
     }
-    if first == b"begin".as_slice() && !is_declared(line, b"transaction", 4) {
+    if is(first, b"begin") && !is_declared(line, b"transaction", 4) {
         return 4;
     }
-    let from = if first == b"begin".as_slice() { 5 } else { 4 };
+    let from = if is(first, b"begin") { 5 } else { 4 };
     for (k, object) in line.fields.iter().enumerate() {
         if from <= k && word_after(line.above, b"object", object.text).is_empty() {
             return k;
@@ -167,7 +163,7 @@ fn out_of_range(line: FaultyLine, first: &[u8]) -> usize {
         } else {
             3
         }
-    } else if first == b"resend".as_slice() {
+    } else if is(first, b"resend") {
         if number_of(field_text(line.fields, 1), u32::MAX as u64).is_none() {
             1
         } else if is_replica(line, 3) {
@@ -175,9 +171,9 @@ fn out_of_range(line: FaultyLine, first: &[u8]) -> usize {
         } else {
             3
         }
-    } else if first == b"join".as_slice() {
+    } else if is(first, b"join") {
         2
-    } else if first == b"partition".as_slice() {
+    } else if is(first, b"partition") {
         group(line)
     } else {
         1
@@ -213,7 +209,7 @@ fn group(line: FaultyLine) -> usize {
 
 // The name that occurs twice.
 fn twice(line: FaultyLine, first: &[u8]) -> usize {
-    if first == b"object".as_slice() {
+    if is(first, b"object") {
         return 1;
     }
     for (k, object) in line.fields.iter().enumerate() {
@@ -228,10 +224,6 @@ fn twice(line: FaultyLine, first: &[u8]) -> usize {
 
 /// How many replicas the schedule begins with.
 pub(crate) fn replicas(above: &[u8]) -> u64 {
-    for k in 0..above.len() {
-        if (k == 0 || above[k - 1] == b'\n') && word_of(&above[k..], 0) == b"replicas".as_slice() {
-            return number_of(word_of(&above[k..], 1), 16).unwrap_or(0);
-        }
-    }
-    0
+    let line = line_with(above, b"replicas", 0, b"replicas");
+    number_of(word_of(line, 1), 16).unwrap_or(0)
 }

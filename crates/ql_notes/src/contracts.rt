@@ -10,6 +10,7 @@ use crate::rules::sentence;
 use crate::sources::{after_word, form_sentence};
 use crate::syntax::{Break, push_syntax};
 use crate::typing::{offset_of, rule_of};
+use crate::words::is;
 use ql_base::{Names, NoMemory, push_bytes};
 use ql_excerpt::{File, Spot, line_of, push_fault};
 use ql_lex::{LexFault, Token};
@@ -36,14 +37,10 @@ pub(crate) fn contract_at(text: &[u8], from: usize) -> &[u8]
     ensures { length result.now ≤ 65536 }
 {
     if from > text.len() {
-        return b"".as_slice();
+        return b"";
     }
     let line = line_of(&text[from..]);
-    if line.len() > BYTES {
-        b"".as_slice()
-    } else {
-        line
-    }
+    if line.len() > BYTES { b"" } else { line }
 }
 
 // A contract of a file, and the offset at which it begins.
@@ -83,7 +80,7 @@ pub(crate) fn push_contract_fault(
         return push_fault(note, file, spot, fault.rule, &said);
     }
     let tokens = tokens_of(alloc, text)?;
-    if found.rule == b"Unexpected".as_slice() {
+    if is(found.rule, b"Unexpected") {
         return push_contract_syntax(alloc, note, contract, found.at, &tokens);
     }
     push_contract_misuse(alloc, note, contract, found, &tokens)
@@ -149,7 +146,7 @@ fn push_contract_misuse(
     let k = number_at(tokens, fault.at).saturating_add(TOKENS_BEFORE);
     let word = word_at(contract.text, tokens, fault.at);
     let mut said = Vec::new(alloc);
-    if fault.rule == b"Unknown".as_slice() {
+    if is(fault.rule, b"Unknown") {
         push_unknown(&mut said, &found, k)?;
     } else {
         push_bytes(&mut said, sentence(b"source", fault.rule))?;
@@ -162,11 +159,11 @@ fn push_contract_misuse(
         shown_rule(fault.rule),
         &said,
     )?;
-    if fault.rule == b"Unknown".as_slice() {
+    if is(fault.rule, b"Unknown") {
         return push_instead(alloc, note, &found, k);
     }
     match first_of(&found, k) {
-        Some(first) if fault.rule == b"Twice".as_slice() => push_first_at(
+        Some(first) if is(fault.rule, b"Twice") => push_first_at(
             note,
             contract.file,
             contract.from.saturating_add(offset_in(tokens, first)),
@@ -177,8 +174,8 @@ fn push_contract_misuse(
 
 // The rule as the answer reports it: a contract that doesn't have its form is `Unexpected`.
 fn shown_rule(rule: &'static [u8]) -> &'static [u8] {
-    if rule == b"Deep".as_slice() || rule == b"Wide".as_slice() {
-        b"Unexpected".as_slice()
+    if is(rule, b"Deep") || is(rule, b"Wide") {
+        b"Unexpected"
     } else {
         rule
     }

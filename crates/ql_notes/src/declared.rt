@@ -1,8 +1,8 @@
 // What a source and a schedule declare.
 
-use crate::above::first_word;
+use crate::above::{first_word, is_line_start};
 use crate::pieces::{last_of, next_of, piece};
-use crate::words::word;
+use crate::words::{is, word};
 use ql_base::NoMemory;
 use ql_excerpt::line_of;
 use std::alloc::Global;
@@ -36,7 +36,7 @@ pub(crate) fn place_in(source: &[&[u8]], keyword: &[u8], name: &[u8]) -> Option<
 pub(crate) fn type_at<'a>(source: &[&'a [u8]], op: usize) -> &'a [u8] {
     match last_of(source, op, b"type") {
         Some(declared) => piece(source, declared.saturating_add(1)),
-        None => b"".as_slice(),
+        None => b"",
     }
 }
 
@@ -47,35 +47,38 @@ pub(crate) fn parameters(source: &[&[u8]], op: usize) -> (usize, usize) {
     (from, to)
 }
 
-/// The second words of the lines that begin with a word, as the names after `object`.
+/// The words at an index of the lines that begin with a word, as the names after `object`.
 pub(crate) fn named<'a>(
     alloc: Global,
     text: &'a [u8],
     first: &[u8],
+    number: usize,
 ) -> Result<Vec<&'a [u8]>, NoMemory> {
     let mut names = Vec::new(alloc);
     for k in 0..text.len() {
-        if k == 0 || text[k - 1] == b'\n' {
-            let line = line_of(&text[k..]);
-            if first_word(line) == first {
-                names.push(word_of(line, 1))?;
-            }
+        if is_line_start(text, k) && is(first_word(&text[k..]), first) {
+            names.push(word_of(line_of(&text[k..]), number))?;
         }
     }
     Ok(names)
 }
 
-/// The third word of the first line that begins with these two; empty where there is none.
-pub(crate) fn word_after<'a>(text: &'a [u8], first: &[u8], second: &[u8]) -> &'a [u8] {
+/// The first line that begins with a word and has another one at an index; empty where there is none.
+pub(crate) fn line_with<'a>(text: &'a [u8], first: &[u8], number: usize, word: &[u8]) -> &'a [u8] {
     for k in 0..text.len() {
-        if k == 0 || text[k - 1] == b'\n' {
+        if is_line_start(text, k) {
             let line = line_of(&text[k..]);
-            if first_word(line) == first && word_of(line, 1) == second {
-                return word_of(line, 2);
+            if is(first_word(line), first) && is(word_of(line, number), word) {
+                return line;
             }
         }
     }
-    b"".as_slice()
+    b""
+}
+
+/// The third word of the first line that begins with these two; empty where there is none.
+pub(crate) fn word_after<'a>(text: &'a [u8], first: &[u8], second: &[u8]) -> &'a [u8] {
+    word_of(line_with(text, first, 1, second), 2)
 }
 
 /// The word of a line at an index.

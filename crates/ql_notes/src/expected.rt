@@ -5,6 +5,7 @@
 ghost use Rattle.std.specs.Prelude.{◌≤◌, length};
 
 use crate::guesses::Guess;
+use crate::wanted::push_quoted;
 use crate::words::has_word;
 use ql_base::{NoMemory, push_bytes};
 use ql_lex::LexFault;
@@ -181,10 +182,6 @@ fn push_terminal(note: &mut Vec<u8>, terminal: &str, is_line: bool) -> Result<()
         "x" => push_bytes(note, b"a name"),
         "1" => push_bytes(note, b"a number"),
         "\"\"" => push_bytes(note, b"a text"),
-        word => {
-            push_bytes(note, b"`")?;
-            push_bytes(note, word.as_bytes())?;
-            push_bytes(note, b"`")
-        }
+        word => push_quoted(note, word.as_bytes()),
     }
 }

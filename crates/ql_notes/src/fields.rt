@@ -1,6 +1,7 @@
 // The fields of a line.
 ghost use Rattle.std.specs.Prelude.{◌≤◌, length};
 
+use crate::above::without_return;
 use ql_base::NoMemory;
 use ql_excerpt::line_of;
 use std::alloc::Global;
@@ -45,16 +46,11 @@ fn field_at(text: &[u8], start: usize, from: usize) -> Field {
     }
 }
 
-// A line without the carriage return at its end.
-fn without_return(line: &[u8]) -> &[u8] {
-    line.strip_suffix(b"\r").unwrap_or(line)
-}
-
 /// The bytes of a field, empty where it isn't there.
 pub(crate) fn field_text<'a>(fields: &[Field<'a>], k: usize) -> &'a [u8] {
     match fields.get(k) {
         Some(field) => field.text,
-        None => b"".as_slice(),
+        None => b"",
     }
 }
 

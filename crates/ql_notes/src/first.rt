@@ -1,10 +1,10 @@
 // Where a name that a source declares or lists again occurs first, and where the name of a value is declared.
 
-use crate::meant::is_bound;
-use crate::pieces::{last_of, next_of, piece};
+use crate::filled::push_filled;
+use crate::meant::{bound_between, is_bound};
+use crate::pieces::{last_of, next_of, piece, place_between};
 use crate::repair::{is_chosen, part_of};
-use crate::wanted::push_quoted;
-use crate::words::has_word;
+use crate::words::{has_word, is};
 use ql_base::{NoMemory, push_bytes};
 use ql_excerpt::{File, place_of, push_position};
 use ql_lex::Token;
@@ -34,8 +34,7 @@ pub(crate) fn push_declaration(
     let Some(first) = value_before(pieces, k) else {
         return Ok(());
     };
-    push_bytes(note, b"  ")?;
-    push_quoted(note, piece(pieces, k))?;
+    push_filled(note, b"  `%`", &[piece(pieces, k)])?;
     push_declared(note, file, tokens, first, b" is declared at ")
 }
 
@@ -71,13 +70,13 @@ pub(crate) fn first_of(pieces: &[&[u8]], k: usize) -> Option<usize> {
     if has_word(b"type op transaction", keyword) {
         return after_keyword(pieces, 0, k, keyword);
     }
-    if part.0 == b"uses".as_slice() {
+    if is(part.0, b"uses") {
         return same_between(pieces, part.1, k);
     }
     if is_chosen(pieces, k) {
         return same_between(pieces, last_of(pieces, k, b":")?, k);
     }
-    if part.0 == b"contract".as_slice() {
+    if is(part.0, b"contract") {
         return same_between(pieces, part.1, k);
     }
     value_before(pieces, k)
@@ -96,17 +95,12 @@ fn value_before(pieces: &[&[u8]], k: usize) -> Option<usize> {
     } else {
         last_of(pieces, k, b"op")?
     };
-    for (j, word) in pieces.iter().enumerate() {
-        if from < j && j < k && is_bound(pieces, j) && *word == piece(pieces, k) {
-            return Some(j);
-        }
-    }
-    None
+    bound_between(pieces, from, k, piece(pieces, k))
 }
 
 // Whether a token is the name of an emitted value, or is among the statements.
 fn emits(pieces: &[&[u8]], k: usize) -> bool {
-    is_bound(pieces, k) || part_of(pieces, k).0 == b"apply".as_slice()
+    is_bound(pieces, k) || is(part_of(pieces, k).0, b"apply")
 }
 
 // The first token with the name at a token and right after a keyword, between two tokens.
@@ -122,12 +116,7 @@ fn after_keyword(pieces: &[&[u8]], from: usize, k: usize, keyword: &[u8]) -> Opt
 
 // The first token with the word at a token, between two tokens.
 fn same_between(pieces: &[&[u8]], from: usize, k: usize) -> Option<usize> {
-    for (j, word) in pieces.iter().enumerate() {
-        if from <= j && j < k && *word == piece(pieces, k) {
-            return Some(j);
-        }
-    }
-    None
+    place_between(pieces, from, k, piece(pieces, k))
 }
 
 /// Whether the value that is used at a token is a field.

@@ -1,6 +1,6 @@
 // What a field of a line may be, for each word of a form.
 
-use crate::words::{has_word, word};
+use crate::words::{has_word, is, sentence_of};
 use ql_base::{digit_bytes, is_name, number_of};
 
 // What the words of forms stand for, one word on each line.
@@ -27,7 +27,7 @@ CONTRACT.. a contract";
 
 /// What a word of a form stands for, empty where it stands for itself.
 pub(crate) fn meaning(wanted: &[u8]) -> &'static [u8] {
-    crate::words::sentence_of(MEANINGS, wanted)
+    sentence_of(MEANINGS, wanted)
 }
 
 /// Whether a word of a form stands for itself: it doesn't begin with a capital.
@@ -44,9 +44,9 @@ pub(crate) fn fits(wanted: &[u8], field: &[u8], next: u64) -> bool {
         false
     } else if stands_for_itself(wanted) {
         wanted == field
-    } else if wanted == b"NEXT".as_slice() {
+    } else if is(wanted, b"NEXT") {
         number_of(field, u32::MAX as u64) == Some(next)
-    } else if wanted == b"SESSION".as_slice() {
+    } else if is(wanted, b"SESSION") {
         number_of(field, 255).is_some()
     } else if has_word(b"NUMBER SEEN..", wanted) {
         number_of(field, u32::MAX as u64).is_some()
@@ -60,17 +60,17 @@ pub(crate) fn fits(wanted: &[u8], field: &[u8], next: u64) -> bool {
 }
 
 fn fits_text(wanted: &[u8], field: &[u8]) -> bool {
-    if wanted == b"VALUES".as_slice() {
+    if is(wanted, b"VALUES") {
         is_bracketed(field)
-    } else if wanted == b"PAYLOAD".as_slice() {
-        field == b"-".as_slice() || is_bracketed(field)
-    } else if wanted == b"TXN".as_slice() {
-        field == b"-".as_slice() || is_transaction(field)
-    } else if wanted == b"VALUE".as_slice() || wanted == b"ARGUMENT..".as_slice() {
+    } else if is(wanted, b"PAYLOAD") {
+        is(field, b"-") || is_bracketed(field)
+    } else if is(wanted, b"TXN") {
+        is(field, b"-") || is_transaction(field)
+    } else if is(wanted, b"VALUE") || is(wanted, b"ARGUMENT..") {
         is_value(field)
-    } else if wanted == b"LITERAL..".as_slice() {
+    } else if is(wanted, b"LITERAL..") {
         is_literal(field)
-    } else if wanted == b"HINT..".as_slice() {
+    } else if is(wanted, b"HINT..") {
         is_hint(field)
     } else {
         is_listed(wanted, field)
@@ -82,21 +82,16 @@ fn is_listed(wanted: &[u8], field: &[u8]) -> bool {
     words.is_empty() || has_word(words, field)
 }
 
+// The words that a word of a form allows.
+const LISTED: &str = "OP_LEVEL eventual causal wide strong
+TXN_LEVEL rc mav rr
+JOIN copy bare
+TARGET op txn
+VERSION 1 2";
+
 /// The words that a word of a form allows, empty where it doesn't list them.
 pub(crate) fn listed_words(wanted: &[u8]) -> &'static [u8] {
-    if wanted == b"OP_LEVEL".as_slice() {
-        b"eventual causal wide strong".as_slice()
-    } else if wanted == b"TXN_LEVEL".as_slice() {
-        b"rc mav rr".as_slice()
-    } else if wanted == b"JOIN".as_slice() {
-        b"copy bare".as_slice()
-    } else if wanted == b"TARGET".as_slice() {
-        b"op txn".as_slice()
-    } else if wanted == b"VERSION".as_slice() {
-        b"1 2".as_slice()
-    } else {
-        b"".as_slice()
-    }
+    sentence_of(LISTED, wanted)
 }
 
 // Whether a field is in parentheses, with spaces only after commas and colons.
@@ -143,13 +138,8 @@ fn is_literal(field: &[u8]) -> bool {
 }
 
 fn is_hint(field: &[u8]) -> bool {
-    match field.strip_prefix(b"c") {
+    match field.strip_prefix(b"c").or(field.strip_prefix(b"l")) {
         Some(number) => digit_bytes(number) == number.len(),
-        None => {
-            match field.strip_prefix(b"l") {
-                Some(number) => digit_bytes(number) == number.len(),
-                None => false,
-            }
-        }
+        None => false,
     }
 }

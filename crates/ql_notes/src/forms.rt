@@ -6,7 +6,7 @@
 use crate::above::Above;
 use crate::fields::{Field, field_text};
 use crate::fits::fits;
-use crate::words::word;
+use crate::words::{is, word};
 use ql_excerpt::line_of;
 
 const OF_EXECUTION: &str =
@@ -38,21 +38,21 @@ none TARGET NAME";
 
 /// The forms that a line may have, each on a line, depending on the lines above.
 pub(crate) fn forms(part: &[u8], above: Above) -> &'static str {
-    if above.is_ended && part != b"baseline".as_slice() {
+    if above.is_ended && !is(part, b"baseline") {
         ""
-    } else if part == b"execution".as_slice() {
+    } else if is(part, b"execution") {
         if above.is_begun {
             OF_EXECUTION
         } else {
             "execution"
         }
-    } else if part == b"schedule".as_slice() {
+    } else if is(part, b"schedule") {
         of_schedule(above)
-    } else if part == b"holds".as_slice() {
+    } else if is(part, b"holds") {
         of_holds(above)
-    } else if part == b"certificate".as_slice() {
+    } else if is(part, b"certificate") {
         of_certificate(above)
-    } else if part == b"proof".as_slice() {
+    } else if is(part, b"proof") {
         of_proof(above)
     } else {
         OF_BASELINE

@@ -3,7 +3,7 @@
 
 use crate::likeness::likest;
 use crate::syntax::Break;
-use crate::words::{has_word, sentence_of};
+use crate::words::{has_word, is, sentence_of};
 use ql_base::{NoMemory, is_blank, push_bytes};
 use ql_lex::LexFault;
 use ql_parse::{ParseFault, parse_program};
@@ -74,7 +74,7 @@ pub(crate) fn likeliest_repair(
         }
     }
     for terminal in terminals {
-        let is_end = found.is_line && terminal.as_bytes() == b";".as_slice();
+        let is_end = found.is_line && is(terminal.as_bytes(), b";");
         if has_word(FORGOTTEN, terminal.as_bytes()) && !is_end {
             best.try_repair(alloc, found, Guess::Missing(terminal))?;
         }
@@ -92,7 +92,7 @@ fn without_blanks(text: &[u8]) -> &[u8] {
             return &text[k..];
         }
     }
-    b"".as_slice()
+    b""
 }
 
 fn likest_terminal(

@@ -1,8 +1,8 @@
 // The help text of the commands.
 
+use crate::filled::push_filled;
 use crate::likeness::likest;
-use crate::wanted::push_quoted;
-use ql_base::{NoMemory, push_bytes};
+use ql_base::NoMemory;
 use std::alloc::Global;
 
 /// The help text of the commands.
@@ -60,8 +60,9 @@ pub(crate) fn push_command(
     let Some(meant) = likest(first.as_bytes(), &commands) else {
         return Ok(());
     };
-    push_quoted(note, first.as_bytes())?;
-    push_bytes(note, b" is no command: did you mean `")?;
-    push_bytes(note, meant)?;
-    push_bytes(note, b"`?\n\n")
+    push_filled(
+        note,
+        b"`%` is no command: did you mean `%`?\n\n",
+        &[first.as_bytes(), meant],
+    )
 }

@@ -5,10 +5,12 @@ use crate::arguments::push_operation;
 use crate::columns::FaultyLine;
 use crate::declared::{declared, named, type_at, word_after};
 use crate::fields::field_text;
+use crate::filled::push_counted;
 use crate::names::push_known;
 use crate::pieces::piece;
 use crate::stamp::right_stamp;
-use ql_base::{NoMemory, push_bytes, push_number};
+use crate::words::is;
+use ql_base::NoMemory;
 use ql_excerpt::place_of;
 use std::alloc::Global;
 
@@ -22,21 +24,18 @@ pub(crate) fn push_help(
     above: Above,
     text: &[u8],
 ) -> Result<(), NoMemory> {
-    if line.rule == b"Stamp".as_slice() {
+    if is(line.rule, b"Stamp") {
         return push_stamp(note, text, line.above.len());
     }
-    if line.rule == b"Number".as_slice() {
-        return push_right(
-            note,
-            b"  the next number is ",
-            above.numbered.saturating_add(1),
-        );
+    if is(line.rule, b"Number") {
+        let next = above.numbered.saturating_add(1);
+        return push_counted(note, b"  the next number is #\n", &[], &[next]);
     }
-    if line.rule == b"Unknown".as_slice() && line.part != b"holds".as_slice() {
+    if is(line.rule, b"Unknown") && !is(line.part, b"holds") {
         let names = candidates(alloc, line, k)?;
         return push_known(note, name_in(field_text(line.fields, k)), &names);
     }
-    if line.rule == b"Kind".as_slice() {
+    if is(line.rule, b"Kind") {
         return push_operation(note, line);
     }
     Ok(())
@@ -44,15 +43,9 @@ pub(crate) fn push_help(
 
 fn push_stamp(note: &mut Vec<u8>, text: &[u8], start: usize) -> Result<(), NoMemory> {
     match right_stamp(text, place_of(text, start)) {
-        Some(stamp) => push_right(note, b"  the right stamp is ", stamp),
+        Some(stamp) => push_counted(note, b"  the right stamp is #\n", &[], &[stamp]),
         None => Ok(()),
     }
-}
-
-fn push_right(note: &mut Vec<u8>, text: &[u8], number: u64) -> Result<(), NoMemory> {
-    push_bytes(note, text)?;
-    push_number(note, number)?;
-    push_bytes(note, b"\n")
 }
 
 // The name in a field, without a transaction's number.
@@ -72,22 +65,21 @@ fn candidates<'a>(
     k: usize,
 ) -> Result<Vec<&'a [u8]>, NoMemory> {
     let first = field_text(line.fields, 0);
-    if line.part == b"execution".as_slice() {
-        let keyword = if k == 3 {
-            b"op".as_slice()
-        } else {
-            b"transaction".as_slice()
-        };
-        return declared(alloc, line.source, keyword);
+    if is(line.part, b"execution") {
+        return declared(
+            alloc,
+            line.source,
+            if k == 3 { b"op" } else { b"transaction" },
+        );
     }
-    if first == b"object".as_slice() {
+    if is(first, b"object") {
         declared(alloc, line.source, b"type")
-    } else if first == b"begin".as_slice() && k == 4 {
+    } else if is(first, b"begin") && k == 4 {
         declared(alloc, line.source, b"transaction")
-    } else if first == b"call".as_slice() && k == 5 {
+    } else if is(first, b"call") && k == 5 {
         operations_of(alloc, line)
     } else {
-        named(alloc, line.above, b"object")
+        named(alloc, line.above, b"object", 1)
     }
 }
 
@@ -96,7 +88,7 @@ fn operations_of<'a>(alloc: Global, line: FaultyLine<'a>) -> Result<Vec<&'a [u8]
     let declared = word_after(line.above, b"object", field_text(line.fields, 4));
     let mut names = Vec::new(alloc);
     for (k, token) in line.source.iter().enumerate() {
-        if *token == b"op".as_slice() && type_at(line.source, k) == declared {
+        if is(*token, b"op") && type_at(line.source, k) == declared {
             names.push(piece(line.source, k.saturating_add(1)))?;
         }
     }

@@ -68,29 +68,29 @@ pub(crate) fn kind_of_init(init: &Init) -> Option<Kind> {
 }
 
 /// The spelling of a kind.
-pub(crate) fn spelling(kind: Kind) -> &'static str {
+pub(crate) fn spelling(kind: Kind) -> &'static [u8] {
     match kind {
-        Kind::Unit => "unit",
-        Kind::Int => "int",
-        Kind::Bool => "bool",
-        Kind::Text => "text",
-        Kind::Set(Base::Int) => "set(int)",
-        Kind::Set(Base::Bool) => "set(bool)",
-        Kind::Set(Base::Text) => "set(text)",
+        Kind::Unit => b"unit",
+        Kind::Int => b"int",
+        Kind::Bool => b"bool",
+        Kind::Text => b"text",
+        Kind::Set(Base::Int) => b"set(int)",
+        Kind::Set(Base::Bool) => b"set(bool)",
+        Kind::Set(Base::Text) => b"set(text)",
         Kind::Map(key, value) => spelling_of_map(key, value),
     }
 }
 
-fn spelling_of_map(key: Base, value: Base) -> &'static str {
+fn spelling_of_map(key: Base, value: Base) -> &'static [u8] {
     match (key, value) {
-        (Base::Int, Base::Int) => "map(int, int)",
-        (Base::Int, Base::Bool) => "map(int, bool)",
-        (Base::Int, Base::Text) => "map(int, text)",
-        (Base::Bool, Base::Int) => "map(bool, int)",
-        (Base::Bool, Base::Bool) => "map(bool, bool)",
-        (Base::Bool, Base::Text) => "map(bool, text)",
-        (Base::Text, Base::Int) => "map(text, int)",
-        (Base::Text, Base::Bool) => "map(text, bool)",
-        (Base::Text, Base::Text) => "map(text, text)",
+        (Base::Int, Base::Int) => b"map(int, int)",
+        (Base::Int, Base::Bool) => b"map(int, bool)",
+        (Base::Int, Base::Text) => b"map(int, text)",
+        (Base::Bool, Base::Int) => b"map(bool, int)",
+        (Base::Bool, Base::Bool) => b"map(bool, bool)",
+        (Base::Bool, Base::Text) => b"map(bool, text)",
+        (Base::Text, Base::Int) => b"map(text, int)",
+        (Base::Text, Base::Bool) => b"map(text, bool)",
+        (Base::Text, Base::Text) => b"map(text, text)",
     }
 }

@@ -1,14 +1,13 @@
 // Why bytes aren't a token.
 
-use crate::wanted::push_quoted;
-use ql_base::{NoMemory, digit_bytes, is_word_byte, push_bytes, push_number};
+use crate::filled::{push_counted, push_filled};
+use crate::words::{has_word, is};
+use ql_base::{NoMemory, digit_bytes, is_word_byte, push_bytes};
 use ql_excerpt::Spot;
 
 /// Whether a rule is about tokens.
 pub(crate) fn is_lexical(rule: &[u8]) -> bool {
-    rule == b"BadChar".as_slice()
-        || rule == b"LongWord".as_slice()
-        || rule == b"BadNumber".as_slice()
+    has_word(b"BadChar LongWord BadNumber", rule)
 }
 
 /// Appends why the bytes at an offset aren't a token, and returns the bytes to mark.
@@ -19,24 +18,20 @@ pub(crate) fn push_lexical(
     at: usize,
 ) -> Result<Spot, NoMemory> {
     let rest = rest_of(text, at);
-    if rule == b"BadChar".as_slice() {
+    if is(rule, b"BadChar") {
         return push_bad_byte(said, text, at);
     }
-    let bytes = if rule == b"LongWord".as_slice() {
+    let bytes = if is(rule, b"LongWord") {
         push_long(said, rest)?
     } else {
-        push_bad_number(said, rest)?;
+        push_bytes(said, bad_number(rest))?;
         word_bytes(rest)
     };
     Ok(Spot { from: at, bytes })
 }
 
 fn rest_of(text: &[u8], at: usize) -> &[u8] {
-    if at < text.len() {
-        &text[at..]
-    } else {
-        b"".as_slice()
-    }
+    if at < text.len() { &text[at..] } else { b"" }
 }
 
 // Appends why a byte is wrong, and returns the bytes to mark.
@@ -44,8 +39,7 @@ fn push_bad_byte(said: &mut Vec<u8>, text: &[u8], at: usize) -> Result<Spot, NoM
     let byte = rest_of(text, at).first().copied().unwrap_or(b'\n');
     let one = Spot { from: at, bytes: 1 };
     let Some(quote) = open_quote(text, at) else {
-        push_bytes(said, b"no token begins with ")?;
-        push_byte(said, byte)?;
+        push_byte(said, b"no token begins with ", byte)?;
         push_bytes(said, advice(byte))?;
         return Ok(one);
     };
@@ -59,7 +53,7 @@ fn push_bad_byte(said: &mut Vec<u8>, text: &[u8], at: usize) -> Result<Spot, NoM
             bytes: at.saturating_sub(quote),
         });
     }
-    push_byte(said, byte)?;
+    push_byte(said, b"", byte)?;
     push_bytes(
         said,
         b" may not stand in a text, which has bytes from space to `~` without `\"` and `\\`",
@@ -67,13 +61,13 @@ fn push_bad_byte(said: &mut Vec<u8>, text: &[u8], at: usize) -> Result<Spot, NoM
     Ok(one)
 }
 
-// Appends a printable byte in quotes, and any other byte as a number.
-fn push_byte(said: &mut Vec<u8>, byte: u8) -> Result<(), NoMemory> {
+// Appends some words, and then a printable byte in quotes, or any other byte as a number.
+fn push_byte(said: &mut Vec<u8>, before: &[u8], byte: u8) -> Result<(), NoMemory> {
     if 33 <= byte && byte <= 126 {
-        return push_quoted(said, &[byte]);
+        push_filled(said, b"%`%`", &[before, &[byte]])
+    } else {
+        push_counted(said, b"%the byte #", &[before], &[byte as u64])
     }
-    push_bytes(said, b"the byte ")?;
-    push_number(said, byte)
 }
 
 // What to write instead of a byte with which no token begins.
@@ -112,35 +106,24 @@ fn open_quote(text: &[u8], at: usize) -> Option<usize> {
 
 // Appends how long a name or a text is. Returns the bytes to mark, with the quotes of a text.
 fn push_long(said: &mut Vec<u8>, rest: &[u8]) -> Result<usize, NoMemory> {
-    if rest.first() == Some(&b'"') {
+    if rest.starts_with(b"\"") {
         let bytes = text_bytes(rest);
-        push_length(
+        push_counted(
             said,
-            b"this text has ",
-            bytes,
-            b" bytes, and a text has at most 64",
+            b"this text has # bytes, and a text has at most 64",
+            &[],
+            &[bytes as u64],
         )?;
         return Ok(bytes.saturating_add(2));
     }
     let bytes = word_bytes(rest);
-    push_length(
+    push_counted(
         said,
-        b"this name has ",
-        bytes,
-        b" bytes, and a name has at most 32",
+        b"this name has # bytes, and a name has at most 32",
+        &[],
+        &[bytes as u64],
     )?;
     Ok(bytes)
-}
-
-fn push_length(
-    said: &mut Vec<u8>,
-    what: &[u8],
-    bytes: usize,
-    limit: &[u8],
-) -> Result<(), NoMemory> {
-    push_bytes(said, what)?;
-    push_number(said, bytes as u64)?;
-    push_bytes(said, limit)
 }
 
 // How many bytes there are between the quotes of a text.
@@ -167,16 +150,13 @@ fn word_bytes(rest: &[u8]) -> usize {
     count
 }
 
-fn push_bad_number(said: &mut Vec<u8>, rest: &[u8]) -> Result<(), NoMemory> {
-    let digits = digit_bytes(rest);
-    if digits < word_bytes(rest) {
-        push_bytes(
-            said,
-            b"a letter follows this number at once: a name begins with a letter, and a space parts two tokens",
-        )
-    } else if rest.first() == Some(&b'0') {
-        push_bytes(said, b"a number has no leading zero")
+// Why bytes that begin with a digit aren't a number.
+fn bad_number(rest: &[u8]) -> &'static [u8] {
+    if digit_bytes(rest) < word_bytes(rest) {
+        b"a letter follows this number at once: a name begins with a letter, and a space parts two tokens"
+    } else if rest.starts_with(b"0") {
+        b"a number has no leading zero"
     } else {
-        push_bytes(said, b"a number is at most 9223372036854775807")
+        b"a number is at most 9223372036854775807"
     }
 }

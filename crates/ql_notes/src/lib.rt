@@ -15,6 +15,7 @@ mod declared;
 mod effects;
 mod expected;
 mod fields;
+mod filled;
 mod first;
 mod fits;
 mod forms;

@@ -11,6 +11,7 @@ use crate::forms::{find_misfit, forms};
 use crate::helps::push_help;
 use crate::rules::sentence;
 use crate::wanted::push_wanted;
+use crate::words::is;
 use ql_base::NoMemory;
 use ql_excerpt::{File, Spot, place_of_line, push_fault};
 use std::alloc::Global;
@@ -26,14 +27,11 @@ pub(crate) fn push_line_fault<'x>(
     let start = start_of(file.text, fault.at);
     let above_text = &file.text[..start];
     let fields = fields(alloc, file.text, start)?;
-    let above = lines_above(file.text, start, fault.part == b"execution".as_slice());
-    if field_text(&fields, 0) == b"contract".as_slice()
-        && above.lines == 0
-        && fault.part == b"holds".as_slice()
-    {
+    let above = lines_above(file.text, start, is(fault.part, b"execution"));
+    if is(field_text(&fields, 0), b"contract") && above.lines == 0 && is(fault.part, b"holds") {
         return push_contract_fault(alloc, note, file, fault, end_of(&fields, 0, start));
     }
-    if fault.rule == b"Unexpected".as_slice() {
+    if is(fault.rule, b"Unexpected") {
         let line = Line {
             start,
             fields: &fields,
@@ -78,9 +76,9 @@ fn push_form_fault(
     let is_end = line.start == file.text.len();
     let said = if !is_end {
         sentence(fault.part, fault.rule)
-    } else if last_form(found.form) == b"end".as_slice() {
+    } else if is(last_form(found.form), b"end") {
         b"the file ends here, and the line `end` is missing".as_slice()
-    } else if found.form == b"execution".as_slice() {
+    } else if is(found.form, b"execution") {
         b"the file ends here, and the line `execution` is missing before its first effect".as_slice()
     } else {
         b"the file ends here".as_slice()

@@ -1,13 +1,13 @@
 // What the note says of an unknown name in a source: what was required there, and the names that are known.
 
 use crate::declared::{declared, place_in};
+use crate::filled::push_filled;
 use crate::likeness::{likest, push_meant};
 use crate::names::{push_known, push_listed};
-use crate::pieces::{last_of, next_of, piece};
+use crate::pieces::{last_of, next_of, piece, place_between};
 use crate::repair::{is_chosen, part_of};
-use crate::wanted::push_quoted;
-use crate::words::has_word;
-use ql_base::{NoMemory, push_bytes};
+use crate::words::{has_word, is};
+use ql_base::NoMemory;
 use std::alloc::Global;
 
 // What an unknown name stands for.
@@ -34,19 +34,19 @@ static VALUES: [&str; 3] = ["true", "false", "unit"];
 fn meant_at(tokens: &[&[u8]], k: usize) -> Meant {
     let part = part_of(tokens, k).0;
     let next = piece(tokens, k.saturating_add(1));
-    if part == b"uses".as_slice() || is_chosen(tokens, k) {
+    if is(part, b"uses") || is_chosen(tokens, k) {
         Meant::Operation
-    } else if part == b"contract".as_slice() {
-        if piece(tokens, k) == b"cur".as_slice() {
+    } else if is(part, b"contract") {
+        if is(piece(tokens, k), b"cur") {
             Meant::Current
         } else {
             Meant::Variable
         }
-    } else if next == b"(".as_slice() {
+    } else if is(next, b"(") {
         Meant::Function
-    } else if part != b"apply".as_slice() {
+    } else if !is(part, b"apply") {
         Meant::Value
-    } else if next == b":=".as_slice() {
+    } else if is(next, b":=") {
         Meant::Target
     } else if is_parameter(tokens, k) {
         Meant::Parameter
@@ -57,26 +57,24 @@ fn meant_at(tokens: &[&[u8]], k: usize) -> Meant {
 
 /// Appends what is unknown.
 pub(crate) fn push_unknown(note: &mut Vec<u8>, tokens: &[&[u8]], k: usize) -> Result<(), NoMemory> {
-    let meant = meant_at(tokens, k);
-    if let Meant::Current = meant {
-        return push_bytes(
-            note,
-            b"a transaction's contract has no `cur`: it speaks of the effects that it quantifies",
-        );
-    }
-    push_quoted(note, piece(tokens, k))?;
-    push_bytes(note, what_is_wrong(meant))
+    push_filled(
+        note,
+        what_is_wrong(meant_at(tokens, k)),
+        &[piece(tokens, k)],
+    )
 }
 
 fn what_is_wrong(meant: Meant) -> &'static [u8] {
     match meant {
-        Meant::Operation => b" is no operation of this source",
-        Meant::Current | Meant::Variable => b" isn't quantified by the `forall` of this contract",
-        Meant::Function => b" is no function",
-        Meant::Target => b" is no field, and only fields are assigned to",
+        Meant::Operation => b"`%` is no operation of this source",
+        Meant::Current =>
+            b"a transaction's contract has no `cur`: it speaks of the effects that it quantifies",
+        Meant::Variable => b"`%` isn't quantified by the `forall` of this contract",
+        Meant::Function => b"`%` is no function",
+        Meant::Target => b"`%` is no field, and only fields are assigned to",
         Meant::Parameter =>
-            b" is a parameter, and statements use fields and emitted values alone: emit it under another name",
-        Meant::Value => b" is no name that is known here",
+            b"`%` is a parameter, and statements use fields and emitted values alone: emit it under another name",
+        Meant::Value => b"`%` is no name that is known here",
     }
 }
 
@@ -117,11 +115,11 @@ fn push_unused(note: &mut Vec<u8>, tokens: &[&[u8]], k: usize) -> Result<(), NoM
     let (from, to) = parameters_before(tokens, k);
     for (j, token) in tokens.iter().enumerate() {
         if from < j && j < to && is_bound(tokens, j) && !is_used(tokens, to, token) {
-            push_bytes(note, b"  the parameter ")?;
-            push_quoted(note, token)?;
-            push_bytes(note, b" is used nowhere: perhaps it should be ")?;
-            push_quoted(note, piece(tokens, k))?;
-            push_bytes(note, b"\n")?;
+            push_filled(
+                note,
+                b"  the parameter `%` is used nowhere: perhaps it should be `%`\n",
+                &[*token, piece(tokens, k)],
+            )?;
         }
     }
     Ok(())
@@ -130,19 +128,16 @@ fn push_unused(note: &mut Vec<u8>, tokens: &[&[u8]], k: usize) -> Result<(), NoM
 // Whether a name occurs in an operation after its parameters.
 fn is_used(tokens: &[&[u8]], to: usize, name: &[u8]) -> bool {
     let end = next_of(tokens, to, b"op type transaction").unwrap_or(tokens.len());
-    for (j, token) in tokens.iter().enumerate() {
-        if to < j && j < end && *token == name {
-            return true;
-        }
-    }
-    false
+    place_between(tokens, to.saturating_add(1), end, name).is_some()
 }
 
 // Appends how to quantify the effects of an operation whose name is used as an effect.
 fn push_effects_of(note: &mut Vec<u8>, operation: &[u8]) -> Result<(), NoMemory> {
-    push_bytes(note, b"  it is an operation: `forall x: ")?;
-    push_bytes(note, operation)?;
-    push_bytes(note, b".` quantifies its effects\n")
+    push_filled(
+        note,
+        b"  it is an operation: `forall x: %.` quantifies its effects\n",
+        &[operation],
+    )
 }
 
 fn words(alloc: Global, words: &[&'static str]) -> Result<Vec<&'static [u8]>, NoMemory> {
@@ -157,7 +152,7 @@ fn words(alloc: Global, words: &[&'static str]) -> Result<Vec<&'static [u8]>, No
 fn variables<'a>(alloc: Global, tokens: &[&'a [u8]], k: usize) -> Result<Vec<&'a [u8]>, NoMemory> {
     let start = part_of(tokens, k).1.saturating_add(1);
     let mut names = Vec::new(alloc);
-    if piece(tokens, start) == b"forall".as_slice() {
+    if is(piece(tokens, start), b"forall") {
         let end = next_of(tokens, start, b".").unwrap_or(start);
         for (j, token) in tokens.iter().enumerate() {
             if start < j && j < end && has_word(b"forall ,", piece(tokens, j.saturating_sub(1))) {
@@ -169,7 +164,7 @@ fn variables<'a>(alloc: Global, tokens: &[&'a [u8]], k: usize) -> Result<Vec<&'a
         tokens,
         last_of(tokens, start, b"op transaction").unwrap_or(start),
     );
-    if owner == b"op".as_slice() {
+    if is(owner, b"op") {
         names.push(b"cur".as_slice())?;
     }
     Ok(names)
@@ -180,7 +175,7 @@ fn fields<'a>(alloc: Global, tokens: &[&'a [u8]], k: usize) -> Result<Vec<&'a [u
     let start = last_of(tokens, k, b"type").unwrap_or(k);
     let mut names = Vec::new(alloc);
     for (j, token) in tokens.iter().enumerate() {
-        if start < j && j < k && piece(tokens, j.saturating_sub(1)) == b"state".as_slice() {
+        if start < j && j < k && is(piece(tokens, j.saturating_sub(1)), b"state") {
             names.push(*token)?;
         }
     }
@@ -202,7 +197,7 @@ fn values<'a>(alloc: Global, tokens: &[&'a [u8]], k: usize) -> Result<Vec<&'a [u
 // The tokens between which a token's names other than fields are declared: the parameters, or in a statement the
 // emitted values.
 fn bindings(tokens: &[&[u8]], k: usize) -> (usize, usize) {
-    if part_of(tokens, k).0 == b"apply".as_slice() {
+    if is(part_of(tokens, k).0, b"apply") {
         let from = last_of(tokens, k, b"emit").unwrap_or(k);
         return (from, next_of(tokens, from, b"when").unwrap_or(from));
     }
@@ -217,16 +212,26 @@ fn parameters_before(tokens: &[&[u8]], k: usize) -> (usize, usize) {
 /// Whether a token is a name with a kind after it.
 pub(crate) fn is_bound(tokens: &[&[u8]], k: usize) -> bool {
     has_word(b"emit ( ,", piece(tokens, k.saturating_sub(1)))
-        && piece(tokens, k.saturating_add(1)) == b":".as_slice()
+        && is(piece(tokens, k.saturating_add(1)), b":")
+}
+
+/// The first token between two others that is a word with a kind after it.
+pub(crate) fn bound_between(
+    tokens: &[&[u8]],
+    from: usize,
+    to: usize,
+    word: &[u8],
+) -> Option<usize> {
+    for (j, token) in tokens.iter().enumerate() {
+        if from < j && j < to && is_bound(tokens, j) && *token == word {
+            return Some(j);
+        }
+    }
+    None
 }
 
 // Whether a token is the name of a parameter of the operation around it.
 fn is_parameter(tokens: &[&[u8]], k: usize) -> bool {
     let (from, to) = parameters_before(tokens, k);
-    for (j, token) in tokens.iter().enumerate() {
-        if from < j && j < to && is_bound(tokens, j) && *token == piece(tokens, k) {
-            return true;
-        }
-    }
-    false
+    bound_between(tokens, from, to, piece(tokens, k)).is_some()
 }

@@ -1,7 +1,8 @@
 // Lists of names.
 
+use crate::filled::push_filled;
 use crate::likeness::{likest, push_meant};
-use crate::wanted::push_quoted;
+use crate::pieces::place_between;
 use ql_base::{NoMemory, push_bytes};
 
 // How many names are listed at most.
@@ -30,27 +31,14 @@ pub(crate) fn push_listed(note: &mut Vec<u8>, names: &[&[u8]]) -> Result<(), NoM
 fn push_names(note: &mut Vec<u8>, names: &[&[u8]]) -> Result<(), NoMemory> {
     let mut count = 0usize;
     for (k, name) in names.iter().enumerate() {
-        if has_before(names, k, name) {
+        if place_between(names, 0, k, name).is_some() {
             continue;
         }
         if count == MOST {
             return push_bytes(note, b" and more");
         }
-        if count > 0 {
-            push_bytes(note, b", ")?;
-        }
-        push_quoted(note, name)?;
+        push_filled(note, if count == 0 { b"`%`" } else { b", `%`" }, &[name])?;
         count = count.saturating_add(1);
     }
     Ok(())
-}
-
-// Whether a name occurs before an index.
-fn has_before(names: &[&[u8]], k: usize, name: &[u8]) -> bool {
-    for (j, other) in names.iter().enumerate() {
-        if j < k && *other == name {
-            return true;
-        }
-    }
-    false
 }

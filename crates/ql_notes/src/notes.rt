@@ -9,7 +9,7 @@ use crate::refusals::{Refusal, Source, push_refusal, refusal_in};
 use crate::sources::push_source_fault;
 use crate::unmet::push_unmet;
 use crate::verdicts::{NO, push_verdict};
-use crate::words::has_word;
+use crate::words::{has_word, is};
 use ql_base::NoMemory;
 use ql_excerpt::File;
 use ql_ports::{ReadError, Shelf, read_whole};
@@ -48,9 +48,9 @@ pub fn note<S: Shelf>(
         push_bad_file(alloc, &mut note, words, fault, shelf)?;
     } else if let Some(refusal) = refusal_of(words, status, printed) {
         push_refused(alloc, &mut note, words, refusal, shelf)?;
-    } else if status != NO || command(words) != b"explain".as_slice() {
+    } else if status != NO || !is(command(words), b"explain") {
         push_verdict(&mut note, status, printed)?;
-        if status == 0 && printed.first == b"holds\n".as_slice() {
+        if status == 0 && is(printed.first, b"holds\n") {
             push_holding(alloc, &mut note, words, shelf)?;
         }
     }
@@ -61,7 +61,7 @@ pub fn note<S: Shelf>(
 fn command(words: &Vec<String>) -> &[u8] {
     match words.first() {
         Some(word) => word.as_bytes(),
-        None => b"".as_slice(),
+        None => b"",
     }
 }
 
@@ -82,7 +82,7 @@ fn push_bad_file<S: Shelf>(
     fault: Fault,
     shelf: &mut S,
 ) -> Result<(), NoMemory> {
-    if fault.part == b"source".as_slice() {
+    if is(fault.part, b"source") {
         return push_bad_source(alloc, note, words, fault, shelf);
     }
     let Some(name) = name_of_part(words, fault.part) else {
@@ -121,9 +121,9 @@ fn push_bad_source<S: Shelf>(
 
 // The file of a part of the input that isn't a source.
 fn name_of_part<'a>(words: &'a Vec<String>, part: &[u8]) -> Option<&'a str> {
-    if part == b"baseline".as_slice() {
+    if is(part, b"baseline") {
         baseline_of(words)
-    } else if part == b"holds".as_slice() || part == b"proof".as_slice() {
+    } else if is(part, b"holds") || is(part, b"proof") {
         file_of(words, 0)
     } else {
         file_of(words, 1)
@@ -161,7 +161,7 @@ fn push_holding<S: Shelf>(
     shelf: &mut S,
 ) -> Result<(), NoMemory> {
     match file_of(words, 0) {
-        Some(name) if command(words) == b"holds".as_slice() => {
+        Some(name) if is(command(words), b"holds") => {
             let text = file_text(alloc, shelf, name)?;
             push_unmet(alloc, note, file(name, &text))
         }
@@ -174,13 +174,13 @@ fn file_of(words: &Vec<String>, number: usize) -> Option<&str> {
     let mut count = 0usize;
     let mut is_operand = false;
     for word in words.iter().skip(1) {
-        if word.as_bytes().first() != Some(&b'-') && !is_operand {
+        if !is_operand && !word.as_bytes().starts_with(b"-") {
             if count == number {
                 return Some(word.as_str());
             }
             count = count.saturating_add(1);
         }
-        is_operand = word.as_bytes() == b"--baseline".as_slice();
+        is_operand = is(word.as_bytes(), b"--baseline");
     }
     None
 }
@@ -192,7 +192,7 @@ fn baseline_of(words: &Vec<String>) -> Option<&str> {
         if is_operand {
             return Some(word.as_str());
         }
-        is_operand = word.as_bytes() == b"--baseline".as_slice();
+        is_operand = is(word.as_bytes(), b"--baseline");
     }
     None
 }

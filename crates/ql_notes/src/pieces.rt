@@ -44,7 +44,7 @@ pub(crate) fn part(text: &[u8], token: Token) -> &[u8] {
 pub(crate) fn piece<'a>(pieces: &[&'a [u8]], k: usize) -> &'a [u8] {
     match pieces.get(k) {
         Some(piece) => *piece,
-        None => b"".as_slice(),
+        None => b"",
     }
 }
 
@@ -58,7 +58,7 @@ pub(crate) fn put<'a>(pieces: &mut [&'a [u8]], k: usize, word: &'a [u8]) {
 /// Replaces pieces by empty ones.
 pub(crate) fn clear(pieces: &mut [&[u8]], from: usize, to: usize) {
     for k in from..to {
-        put(pieces, k, b"".as_slice());
+        put(pieces, k, b"");
     }
 }
 
@@ -77,6 +77,21 @@ pub(crate) fn last_of(pieces: &[&[u8]], k: usize, words: &[u8]) -> Option<usize>
 pub(crate) fn next_of(pieces: &[&[u8]], k: usize, words: &[u8]) -> Option<usize> {
     for (j, piece) in pieces.iter().enumerate() {
         if k <= j && has_word(words, piece) {
+            return Some(j);
+        }
+    }
+    None
+}
+
+/// The first piece from an index on, and before another one, that is a word.
+pub(crate) fn place_between(
+    pieces: &[&[u8]],
+    from: usize,
+    to: usize,
+    word: &[u8],
+) -> Option<usize> {
+    for (j, piece) in pieces.iter().enumerate() {
+        if from <= j && j < to && *piece == word {
             return Some(j);
         }
     }
@@ -133,5 +148,5 @@ pub(crate) fn word_at<'a>(text: &'a [u8], found: &[Token], at: usize) -> &'a [u8
             return part(text, *token);
         }
     }
-    b"".as_slice()
+    b""
 }

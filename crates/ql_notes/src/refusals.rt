@@ -1,12 +1,12 @@
 // Notes on a certificate or a proof that is refused: the section, the line, and what can be done.
 ghost use Rattle.std.specs.Prelude.{◌≤◌, length};
 
-use crate::above::first_word;
+use crate::above::{first_word, without_return};
 use crate::declared::{declared, word_of};
+use crate::filled::{push_counted, push_filled};
 use crate::pieces::piece;
-use crate::wanted::push_quoted;
-use crate::words::{has_word, sentence_of, word};
-use ql_base::{NoMemory, number_of, push_bytes, push_number};
+use crate::words::{has_word, is, sentence_of, word};
+use ql_base::{NoMemory, number_of};
 use ql_excerpt::{File, Spot, line_of, push_fault};
 use std::alloc::Global;
 
@@ -30,7 +30,7 @@ pub(crate) struct Refusal<'a> {
 pub(crate) fn refusal_in(line: &[u8]) -> Option<Refusal> {
     let line = line_of(line);
     let (first, rest) = word(line);
-    if first == b"order".as_slice() {
+    if is(first, b"order") {
         return Some(Refusal {
             rule: first,
             section: b"".as_slice(),
@@ -79,7 +79,7 @@ pub(crate) fn push_refusal(
     refusal: Refusal,
 ) -> Result<(), NoMemory> {
     let mut said = Vec::new(alloc);
-    if refusal.rule == b"order".as_slice() {
+    if is(refusal.rule, b"order") {
         let number = number_of(refusal.line, u32::MAX as u64).unwrap_or(1);
         push_order(alloc, &mut said, source, number)?;
         push_fault(
@@ -104,24 +104,22 @@ pub(crate) fn push_refusal(
 
 // The refused line, and why it is refused.
 fn push_cause(said: &mut Vec<u8>, refusal: Refusal) -> Result<(), NoMemory> {
-    if !refusal.section.is_empty() {
-        push_bytes(said, b"section ")?;
-        push_quoted(said, refusal.section)?;
-        push_bytes(
-            said,
-            if refusal.line.is_empty() {
-                b": "
-            } else {
-                b", "
-            },
-        )?;
-    }
-    if !refusal.line.is_empty() {
-        push_bytes(said, b"line ")?;
-        push_bytes(said, refusal.line)?;
-        push_bytes(said, b": ")?;
-    }
-    push_bytes(said, sentence_of(REFUSALS, refusal.rule))
+    let Refusal {
+        rule,
+        section,
+        line,
+    } = refusal;
+    let sentence: &[u8] = match (section.is_empty(), line.is_empty()) {
+        (true, true) => b"%%%",
+        (true, false) => b"%line %: %",
+        (false, true) => b"section `%`%: %",
+        (false, false) => b"section `%`, line %: %",
+    };
+    push_filled(
+        said,
+        sentence,
+        &[section, line, sentence_of(REFUSALS, rule)],
+    )
 }
 
 // Appends what the source has as the section with a number, from 1.
@@ -134,26 +132,26 @@ fn push_order(
     let ops = declared(alloc, source.tokens, b"op")?;
     let txns = declared(alloc, source.tokens, b"transaction")?;
     let k = number.saturating_sub(1) as usize;
-    push_bytes(
-        said,
-        b"sections stand in the order of the source, and section ",
-    )?;
-    push_number(said, number)?;
-    let (keyword, name) = if k < ops.len() {
-        (b"op ".as_slice(), piece(&ops, k))
+    let (name, sentence): (&[u8], &[u8]) = if k < ops.len() {
+        (
+            piece(&ops, k),
+            b"sections stand in the order of the source, and section # is that of `op %` there",
+        )
     } else {
         (
-            b"txn ".as_slice(),
             piece(&txns, k.saturating_sub(ops.len())),
+            b"sections stand in the order of the source, and section # is that of `txn %` there",
         )
     };
     if name.is_empty() {
-        return push_bytes(said, b" is one too many");
+        return push_counted(
+            said,
+            b"sections stand in the order of the source, and section # is one too many",
+            &[],
+            &[number],
+        );
     }
-    push_bytes(said, b" is that of `")?;
-    push_bytes(said, keyword)?;
-    push_bytes(said, name)?;
-    push_bytes(said, b"` there")
+    push_counted(said, sentence, &[name], &[number])
 }
 
 // Whether a higher level could help: the hints lead nowhere, and the level isn't the highest.
@@ -164,18 +162,19 @@ fn may_be_too_low(refusal: Refusal) -> bool {
 }
 
 fn push_levels(note: &mut Vec<u8>, source: Source) -> Result<(), NoMemory> {
-    push_bytes(note, b"  the level may be too low: `./quelea classify ")?;
-    push_bytes(note, source.name)?;
-    push_bytes(note, b"` prints the least levels that are enough\n")
+    push_filled(
+        note,
+        b"  the level may be too low: `./quelea classify %` prints the least levels that are enough\n",
+        &[source.name],
+    )
 }
 
 fn push_anew(note: &mut Vec<u8>, source: Source) -> Result<(), NoMemory> {
-    push_bytes(
+    push_filled(
         note,
-        b"  the certificate, or the source since, may be changed: `./quelea prove ",
-    )?;
-    push_bytes(note, source.name)?;
-    push_bytes(note, b"` makes it anew\n")
+        b"  the certificate, or the source since, may be changed: `./quelea prove %` makes it anew\n",
+        &[source.name],
+    )
 }
 
 // The first line of the section with a number, or the line `end`.
@@ -189,7 +188,7 @@ fn section_spot(text: &[u8], number: u64) -> Spot {
         if has_word(b"op txn end", first) {
             count = count.saturating_add(1);
         }
-        if count == number || first == b"end".as_slice() {
+        if count == number || is(first, b"end") {
             return whole_line(text, k);
         }
     }
@@ -219,7 +218,7 @@ fn spot_of(text: &[u8], refusal: Refusal) -> Spot {
 // The word with which the refused line begins; `end` where a whole proof is refused.
 fn refused_word(refusal: Refusal) -> &[u8] {
     if refusal.line.is_empty() {
-        b"end".as_slice()
+        b"end"
     } else {
         refusal.line
     }
@@ -239,6 +238,6 @@ fn whole_line(text: &[u8], start: usize) -> Spot
     requires { start ≤ length text.now }
 {
     let line = line_of(&text[start..]);
-    let bytes = line.strip_suffix(b"\r").unwrap_or(line).len();
+    let bytes = without_return(line).len();
     Spot { from: start, bytes }
 }

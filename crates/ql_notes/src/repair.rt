@@ -5,7 +5,7 @@
 // another effect, an unknown operation is dropped, and where that isn't enough the contract becomes `true`.
 
 use crate::pieces::{after, before, clear, last_of, next_of, piece, put};
-use crate::words::has_word;
+use crate::words::{has_word, is, sentence_of};
 use ql_typing::TypeFault;
 
 // The words with which the parts of a source begin.
@@ -23,7 +23,7 @@ pub(crate) fn repair(pieces: &mut [&[u8]], k: usize, fault: TypeFault) {
         TypeFault::Unknown(_) => unknown(pieces, k),
         TypeFault::Twice(_) => twice(pieces, k),
         TypeFault::Kind(_) => expression(pieces, k),
-        TypeFault::TxnClosure(_) => put(pieces, k, b"vis".as_slice()),
+        TypeFault::TxnClosure(_) => put(pieces, k, b"vis"),
         TypeFault::Variables(_) | TypeFault::TxnAtom(_) => contract(pieces, k),
         TypeFault::TooMany(_) | TypeFault::NoMemory => {}
     }
@@ -37,9 +37,9 @@ pub(crate) fn part_of<'a>(pieces: &[&'a [u8]], k: usize) -> (&'a [u8], usize) {
 
 fn unknown(pieces: &mut [&[u8]], k: usize) {
     let (part, start) = part_of(pieces, k);
-    if part == b"uses".as_slice() {
+    if is(part, b"uses") {
         drop_used(pieces, k);
-    } else if part != b"contract".as_slice() {
+    } else if !is(part, b"contract") {
         expression(pieces, k);
     } else if is_chosen(pieces, k) {
         drop_chosen(pieces, k);
@@ -50,7 +50,7 @@ fn unknown(pieces: &mut [&[u8]], k: usize) {
 
 fn twice(pieces: &mut [&[u8]], k: usize) {
     let (part, _) = part_of(pieces, k);
-    if part == b"uses".as_slice() {
+    if is(part, b"uses") {
         drop_used(pieces, k);
     } else if is_chosen(pieces, k) {
         drop_chosen(pieces, k);
@@ -61,35 +61,32 @@ fn twice(pieces: &mut [&[u8]], k: usize) {
 
 /// Whether a piece is one of the operations of a variable.
 pub(crate) fn is_chosen(pieces: &[&[u8]], k: usize) -> bool {
-    part_of(pieces, k).0 == b"contract".as_slice()
-        && has_word(b": |", piece(pieces, before(pieces, k)))
+    is(part_of(pieces, k).0, b"contract") && has_word(b": |", piece(pieces, before(pieces, k)))
 }
 
 // Drops an operation of a variable, and with the only one the colon.
 fn drop_chosen(pieces: &mut [&[u8]], k: usize) {
     let (mark, next) = (before(pieces, k), after(pieces, k));
-    let other = if piece(pieces, mark) == b":".as_slice()
-        && piece(pieces, next) == b"|".as_slice()
-    {
+    let other = if is(piece(pieces, mark), b":") && is(piece(pieces, next), b"|") {
         next
     } else {
         mark
     };
-    put(pieces, k, b"".as_slice());
-    put(pieces, other, b"".as_slice());
+    put(pieces, k, b"");
+    put(pieces, other, b"");
 }
 
 // Drops an operation that a transaction uses, or replaces the only one by the first operation of the source.
 fn drop_used(pieces: &mut [&[u8]], k: usize) {
     let (mark, next) = (before(pieces, k), after(pieces, k));
-    let other = if piece(pieces, mark) == b",".as_slice() {
+    let other = if is(piece(pieces, mark), b",") {
         mark
     } else {
         next
     };
-    if piece(pieces, other) == b",".as_slice() {
-        put(pieces, k, b"".as_slice());
-        put(pieces, other, b"".as_slice());
+    if is(piece(pieces, other), b",") {
+        put(pieces, k, b"");
+        put(pieces, other, b"");
         return;
     }
     if let Some(op) = next_of(pieces, 0, b"op") {
@@ -124,11 +121,11 @@ fn effect(pieces: &mut [&[u8]], start: usize, k: usize) {
 // An effect that a contract may name: in an operation the current one, in a transaction the first quantified one.
 fn known_effect<'a>(pieces: &[&'a [u8]], start: usize) -> Option<&'a [u8]> {
     let owner = last_of(pieces, start, b"op transaction")?;
-    if piece(pieces, owner) == b"op".as_slice() {
+    if is(piece(pieces, owner), b"op") {
         return Some(b"cur".as_slice());
     }
     let first = start.saturating_add(1);
-    if piece(pieces, first) == b"forall".as_slice() {
+    if is(piece(pieces, first), b"forall") {
         Some(piece(pieces, first.saturating_add(1)))
     } else {
         None
@@ -138,12 +135,7 @@ fn known_effect<'a>(pieces: &[&'a [u8]], start: usize) -> Option<&'a [u8]> {
 // Replaces the contract around a piece by `true`.
 fn contract(pieces: &mut [&[u8]], k: usize) {
     let (_, start) = part_of(pieces, k);
-    replace(
-        pieces,
-        start.saturating_add(1),
-        end_of(pieces, k),
-        b"true".as_slice(),
-    );
+    replace(pieces, start.saturating_add(1), end_of(pieces, k), b"true");
 }
 
 // The next semicolon.
@@ -161,26 +153,26 @@ fn replace<'a>(pieces: &mut [&'a [u8]], from: usize, to: usize, word: &'a [u8]) 
 fn expression(pieces: &mut [&[u8]], k: usize) {
     let (part, start) = part_of(pieces, k);
     let from = start.saturating_add(1);
-    if part == b"answer".as_slice() {
+    if is(part, b"answer") {
         answer(pieces, from, k);
-    } else if part == b"when".as_slice() {
-        replace(pieces, from, end_of(pieces, k), b"true".as_slice());
-    } else if part == b"emit".as_slice() {
+    } else if is(part, b"when") {
+        replace(pieces, from, end_of(pieces, k), b"true");
+    } else if is(part, b"emit") {
         bound(pieces, k);
-    } else if part == b"state".as_slice() {
+    } else if is(part, b"state") {
         initial(pieces, start, k);
-    } else if part == b"apply".as_slice() {
+    } else if is(part, b"apply") {
         statement(pieces, k);
     }
 }
 
 // Replaces an answer and its kind by `unit`.
 fn answer(pieces: &mut [&[u8]], from: usize, k: usize) {
-    replace(pieces, from, end_of(pieces, k), b"unit".as_slice());
+    replace(pieces, from, end_of(pieces, k), b"unit");
     let op = last_of(pieces, from, b"op").unwrap_or(from);
     let bracket = next_of(pieces, op, b")").unwrap_or(op);
     let end = next_of(pieces, bracket, b"{").unwrap_or(bracket);
-    replace(pieces, bracket.saturating_add(2), end, b"unit".as_slice());
+    replace(pieces, bracket.saturating_add(2), end, b"unit");
 }
 
 // Replaces an emitted value by one of its kind.
@@ -227,19 +219,16 @@ pub(crate) fn redeclare<'a>(pieces: &mut [&'a [u8]], k: usize, kind: &'a [u8]) {
     replace(pieces, colon.saturating_add(1), sign, kind);
 }
 
+// Values by the word with which a kind begins.
+const VALUES: &str = "int 0
+bool true
+text \"\"
+unit unit";
+
 // A value of the kind that begins with a word.
 fn value_of(kind: &[u8]) -> &'static [u8] {
-    if kind == b"int".as_slice() {
-        b"0".as_slice()
-    } else if kind == b"bool".as_slice() {
-        b"true".as_slice()
-    } else if kind == b"text".as_slice() {
-        b"\"\"".as_slice()
-    } else if kind == b"unit".as_slice() {
-        b"unit".as_slice()
-    } else {
-        b"empty".as_slice()
-    }
+    let value = sentence_of(VALUES, kind);
+    if value.is_empty() { b"empty" } else { value }
 }
 
 // Drops a statement.

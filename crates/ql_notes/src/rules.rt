@@ -1,23 +1,23 @@
 // The rules that a file can break, each as a sentence.
 
-use crate::words::sentence_of;
+use crate::words::{is, sentence_of};
 
 /// The sentence of a rule, for a part of the input.
 pub(crate) fn sentence(part: &[u8], rule: &[u8]) -> &'static [u8] {
-    if part == b"source".as_slice() {
+    if is(part, b"source") {
         sentence_of(SOURCE_RULES, rule)
-    } else if rule == b"Unexpected".as_slice() {
-        b"the line isn't of its form, or stands where it may not".as_slice()
-    } else if part == b"schedule".as_slice() {
+    } else if is(rule, b"Unexpected") {
+        b"the line isn't of its form, or stands where it may not"
+    } else if is(part, b"schedule") {
         sentence_of(SCHEDULE_RULES, rule)
-    } else if part == b"holds".as_slice() {
+    } else if is(part, b"holds") {
         sentence_of(HOLDS_RULES, rule)
-    } else if part == b"execution".as_slice() {
+    } else if is(part, b"execution") {
         sentence_of(EXECUTION_RULES, rule)
-    } else if rule == b"Number".as_slice() {
-        b"lines are numbered in turn, and this isn't the next number".as_slice()
+    } else if is(rule, b"Number") {
+        b"lines are numbered in turn, and this isn't the next number"
     } else {
-        b"".as_slice()
+        b""
     }
 }
 

@@ -3,6 +3,7 @@ ghost use Rattle.std.specs.Prelude.{◌≤◌, length};
 
 use crate::answer::Fault;
 use crate::clash_words::{push_clash, push_redeclared};
+use crate::filled::push_filled;
 use crate::first::{push_declaration, push_first};
 use crate::lexical::{is_lexical, push_lexical};
 use crate::meant::{push_instead, push_unknown};
@@ -11,7 +12,7 @@ use crate::rules::sentence;
 use crate::sizes::size_sentence;
 use crate::syntax::{Break, push_syntax};
 use crate::typing::{Misuse, misuses, rule_of};
-use crate::wanted::push_quoted;
+use crate::words::is;
 use ql_base::{NoMemory, push_bytes};
 use ql_excerpt::{File, Spot, place_of, push_fault};
 use ql_lex::Token;
@@ -62,7 +63,7 @@ fn push_parse_fault(
         bytes: word.len(),
     };
     push_fault(note, file, spot, rule, form_sentence(rule, word))?;
-    if rule != b"Unexpected".as_slice() {
+    if !is(rule, b"Unexpected") {
         return Ok(());
     }
     let found = Break {
@@ -77,7 +78,7 @@ fn push_parse_fault(
 /// The sentence of a rule of syntax, at a word or at the end of a text.
 pub(crate) fn form_sentence(rule: &[u8], word: &[u8]) -> &'static [u8] {
     if word.is_empty() {
-        b"something is missing at the end".as_slice()
+        b"something is missing at the end"
     } else {
         sentence(b"source", rule)
     }
@@ -130,19 +131,17 @@ fn push_sentence(said: &mut Vec<u8>, found: &[&[u8]], misuse: Misuse) -> Result<
     match (misuse.fault, misuse.clash) {
         (TypeFault::Unknown(_), _) => push_unknown(said, found, k),
         (TypeFault::Kind(_), Some(clash)) => push_clash(said, found, k, clash),
-        (TypeFault::Twice(_), _) => {
-            push_quoted(said, piece(found, k))?;
-            push_bytes(said, b" is declared or listed already")
-        }
+        (TypeFault::Twice(_), _) => push_filled(
+            said,
+            b"`%` is declared or listed already",
+            &[piece(found, k)],
+        ),
         (TypeFault::TooMany(_), _) => push_bytes(said, size_sentence(found, k)),
-        (TypeFault::TxnClosure(_), _) => {
-            push_bytes(said, b"a transaction's contract can't speak of `")?;
-            push_bytes(said, piece(found, k))?;
-            push_bytes(
-                said,
-                b"`: it may use `vis`, `so`, `soo`, `sameobj` and `txn`",
-            )
-        }
+        (TypeFault::TxnClosure(_), _) => push_filled(
+            said,
+            b"a transaction's contract can't speak of `%`: it may use `vis`, `so`, `soo`, `sameobj` and `txn`",
+            &[piece(found, k)],
+        ),
         (fault, _) => push_bytes(said, sentence(b"source", rule_of(fault))),
     }
 }

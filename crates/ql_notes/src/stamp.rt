@@ -1,7 +1,7 @@
 // The stamp that an effect in an execution's file should have.
 ghost use Rattle.std.specs.Prelude.{◌≤◌, length};
 
-use crate::words::{has_word, word};
+use crate::words::{has_word, is, word};
 use ql_base::number_of;
 use ql_excerpt::{Place, line_of};
 
@@ -41,7 +41,7 @@ pub(crate) fn right_stamp(text: &[u8], place: Place) -> Option<u64>
 pub(crate) fn effect_of(line: &[u8]) -> Option<EffectLine> {
     let (effect, rest) = word(line);
     let (id, _) = word(rest);
-    if effect != b"effect".as_slice() {
+    if !is(effect, b"effect") {
         return None;
     }
     let (session, rest) = word(after_last(line, b" session ")?);

@@ -1,8 +1,8 @@
 // What was found and what was expected, where a text doesn't follow the grammar of sources.
 
 use crate::expected::{expected, push_expected};
+use crate::filled::push_filled;
 use crate::guesses::{Guess, likeliest_repair};
-use crate::wanted::push_quoted;
 use ql_base::{NoMemory, is_keyword, push_bytes};
 use std::alloc::Global;
 
@@ -26,39 +26,38 @@ pub(crate) fn push_syntax(alloc: Global, note: &mut Vec<u8>, found: Break) -> Re
     }
     let terminals = expected(alloc, found.before)?;
     let guess = likeliest_repair(alloc, found, &terminals)?;
-    push_bytes(note, b"  found ")?;
-    if !found.word.is_empty() {
-        push_quoted(note, found.word)?;
-    } else if found.is_line {
-        push_bytes(note, b"the end of the line")?;
-    } else {
-        push_bytes(note, b"the end of the file")?;
-    }
-    push_bytes(note, b", expected ")?;
+    push_found(note, found)?;
     push_expected(alloc, note, &terminals, guess, found.is_line)?;
     push_bytes(note, b"\n")?;
     match (guess, terminals.first()) {
-        (Guess::Nothing, Some(first)) if *first == "x" && is_keyword(found.word) => {
-            push_bytes(note, b"  ")?;
-            push_quoted(note, found.word)?;
-            push_bytes(note, b" is a keyword, and no name\n")
-        }
+        (Guess::Nothing, Some(first)) if *first == "x" && is_keyword(found.word) => push_filled(
+            note,
+            b"  `%` is a keyword, and no name\n",
+            &[found.word],
+        ),
         _ => push_guess(note, guess),
     }
 }
 
+fn push_found(note: &mut Vec<u8>, found: Break) -> Result<(), NoMemory> {
+    let sentence: &[u8] = if !found.word.is_empty() {
+        b"  found `%`, expected "
+    } else if found.is_line {
+        b"  found the end of the line, expected "
+    } else {
+        b"  found the end of the file, expected "
+    };
+    push_filled(note, sentence, &[found.word])
+}
+
 fn push_guess(note: &mut Vec<u8>, guess: Guess) -> Result<(), NoMemory> {
     match guess {
-        Guess::Instead(word) => {
-            push_bytes(note, b"  did you mean ")?;
-            push_quoted(note, word.as_bytes())?;
-            push_bytes(note, b"?\n")
-        }
-        Guess::Missing(word) => {
-            push_bytes(note, b"  perhaps ")?;
-            push_quoted(note, word.as_bytes())?;
-            push_bytes(note, b" is missing before it\n")
-        }
+        Guess::Instead(word) => push_filled(note, b"  did you mean `%`?\n", &[word.as_bytes()]),
+        Guess::Missing(word) => push_filled(
+            note,
+            b"  perhaps `%` is missing before it\n",
+            &[word.as_bytes()],
+        ),
         Guess::Extra => push_bytes(note, b"  perhaps it is one too many\n"),
         Guess::Nothing => Ok(()),
     }

@@ -5,6 +5,7 @@ use crate::first::end_of_scope;
 use crate::kinds::spelling;
 use crate::pieces::{joined, last_of, next_of, piece, piece_at};
 use crate::repair::{redeclare, repair};
+use crate::words::is;
 use ql_base::NoMemory;
 use ql_lang::{Kind, Program};
 use ql_lex::LexFault;
@@ -60,7 +61,7 @@ fn mend(alloc: Global, pieces: &mut [&[u8]], misuse: Misuse) -> Result<Misuse, N
         repair(pieces, misuse.token, misuse.fault);
         return Ok(misuse);
     };
-    let kind = spelling(kind).as_bytes();
+    let kind = spelling(kind);
     let mut redeclared = Vec::from_slice(alloc, pieces)?;
     redeclare(&mut redeclared, misuse.token, kind);
     let mut repaired = Vec::from_slice(alloc, pieces)?;
@@ -152,14 +153,14 @@ pub(crate) fn offset_of(fault: TypeFault) -> usize {
 /// The rule that a fault breaks.
 pub(crate) fn rule_of(fault: TypeFault) -> &'static [u8] {
     match fault {
-        TypeFault::Unknown(_) => b"Unknown".as_slice(),
-        TypeFault::Twice(_) => b"Twice".as_slice(),
-        TypeFault::Kind(_) => b"Kind".as_slice(),
-        TypeFault::TooMany(_) => b"TooMany".as_slice(),
-        TypeFault::TxnClosure(_) => b"TxnClosure".as_slice(),
-        TypeFault::Variables(_) => b"Variables".as_slice(),
-        TypeFault::TxnAtom(_) => b"TxnAtom".as_slice(),
-        TypeFault::NoMemory => b"".as_slice(),
+        TypeFault::Unknown(_) => b"Unknown",
+        TypeFault::Twice(_) => b"Twice",
+        TypeFault::Kind(_) => b"Kind",
+        TypeFault::TooMany(_) => b"TooMany",
+        TypeFault::TxnClosure(_) => b"TxnClosure",
+        TypeFault::Variables(_) => b"Variables",
+        TypeFault::TxnAtom(_) => b"TxnAtom",
+        TypeFault::NoMemory => b"",
     }
 }
 
@@ -217,7 +218,7 @@ fn is_same(tokens: &[&[u8]], one: usize, other: usize) -> bool {
 // a field.
 fn is_one_part(tokens: &[&[u8]], from: usize, to: usize) -> bool {
     let part = last_of(tokens, from, b"type state op transaction").unwrap_or(from);
-    let ends = if piece(tokens, part) == b"state".as_slice() {
+    let ends = if is(piece(tokens, part), b"state") {
         b"type transaction".as_slice()
     } else {
         b"type op transaction".as_slice()

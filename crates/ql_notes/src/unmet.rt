@@ -1,14 +1,13 @@
 // Operations that the contract of a `holds` file names, though no effect has them.
 ghost use Rattle.std.specs.Prelude.{◌≤◌, length};
 
-use crate::above::first_word;
 use crate::contracts::contract_at;
-use crate::declared::word_of;
+use crate::declared::named;
 use crate::likeness::{likest, push_meant};
-use crate::pieces::{next_of, piece, pieces, tokens_of};
+use crate::pieces::{next_of, piece, pieces, place_between, tokens_of};
 use crate::words::has_word;
 use ql_base::NoMemory;
-use ql_excerpt::{File, Spot, line_of, push_fault};
+use ql_excerpt::{File, Spot, push_fault};
 use std::alloc::Global;
 
 /// Appends a note for each operation that the contract names though no effect has it.
@@ -19,12 +18,12 @@ pub(crate) fn push_unmet(alloc: Global, note: &mut Vec<u8>, file: File) -> Resul
     let contract = contract_at(file.text, from);
     let found = tokens_of(alloc, contract)?;
     let pieces = pieces(alloc, contract, &found)?;
-    let ops = operations(alloc, file.text)?;
+    let ops = named(alloc, file.text, b"effect", 3)?;
     let end = next_of(&pieces, 0, b".").unwrap_or(0);
     for (k, token) in found.iter().enumerate() {
         let name = piece(&pieces, k);
         let is_chosen = k > 0 && k < end && has_word(b": |", piece(&pieces, k.saturating_sub(1)));
-        if is_chosen && !is_one_of(name, &ops) {
+        if is_chosen && place_between(&ops, 0, ops.len(), name).is_none() {
             let spot = Spot {
                 from: from.saturating_add(token.from as usize),
                 bytes: name.len(),
@@ -63,27 +62,4 @@ fn is_first(text: &[u8], at: usize) -> bool
         }
     }
     true
-}
-
-// The operations of the effects of a file.
-fn operations(alloc: Global, text: &[u8]) -> Result<Vec<&[u8]>, NoMemory> {
-    let mut names = Vec::new(alloc);
-    for k in 0..text.len() {
-        if k == 0 || text[k - 1] == b'\n' {
-            let line = line_of(&text[k..]);
-            if first_word(line) == b"effect".as_slice() {
-                names.push(word_of(line, 3))?;
-            }
-        }
-    }
-    Ok(names)
-}
-
-fn is_one_of(name: &[u8], names: &[&[u8]]) -> bool {
-    for other in names {
-        if *other == name {
-            return true;
-        }
-    }
-    false
 }

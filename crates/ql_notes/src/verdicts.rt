@@ -1,8 +1,9 @@
 // What an answer that isn't yes means, as a sentence.
 
+use crate::filled::push_filled;
 use crate::notes::Printed;
 use crate::words::{sentence_of, word};
-use ql_base::{NoMemory, push_bytes};
+use ql_base::NoMemory;
 
 // The statuses for no and for too large.
 pub(crate) const NO: u8 = 1;
@@ -40,7 +41,5 @@ fn push_sentence(note: &mut Vec<u8>, sentence: &[u8]) -> Result<(), NoMemory> {
     if sentence.is_empty() {
         return Ok(());
     }
-    push_bytes(note, b"note: ")?;
-    push_bytes(note, sentence)?;
-    push_bytes(note, b"\n")
+    push_filled(note, b"note: %\n", &[sentence])
 }

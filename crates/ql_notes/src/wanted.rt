@@ -1,11 +1,12 @@
 // What a line has where it deviates from its form, and what was expected there.
 
 use crate::fields::{Field, field_text};
+use crate::filled::{push_counted, push_filled};
 use crate::fits::{listed_words, meaning, stands_for_itself};
 use crate::forms::Misfit;
 use crate::likeness::{likest, push_meant};
-use crate::words::word;
-use ql_base::{NoMemory, number_of, push_bytes, push_number};
+use crate::words::{is, word};
+use ql_base::{NoMemory, number_of, push_bytes};
 use ql_excerpt::line_of;
 use std::alloc::Global;
 
@@ -21,13 +22,7 @@ pub(crate) fn push_wanted(
     if found.is_empty() && word(misfit.form).0.ends_with(b"..") {
         return push_descent(note, fields);
     }
-    push_bytes(note, b"  found ")?;
-    if fields.is_empty() {
-        push_bytes(note, b"the end of the file")?;
-    } else {
-        push_found(note, found)?;
-    }
-    push_bytes(note, b", expected ")?;
+    push_found(note, fields, found)?;
     if misfit.is_choice {
         push_first_words(note, misfit.form, next)?;
     } else {
@@ -45,29 +40,33 @@ fn push_descent(note: &mut Vec<u8>, fields: &[Field]) -> Result<(), NoMemory> {
     for field in fields {
         let number = number_of(field.text, u32::MAX as u64).unwrap_or(0);
         if is_seen && number <= last {
-            push_bytes(note, b"  the effects that it sees ascend, and ")?;
-            push_quoted(note, field.text)?;
-            return push_bytes(note, b" doesn't\n");
+            return push_filled(
+                note,
+                b"  the effects that it sees ascend, and `%` doesn't\n",
+                &[field.text],
+            );
         }
         last = number;
-        is_seen = is_seen || field.text == b"vis".as_slice();
+        is_seen = is_seen || is(field.text, b"vis");
     }
     Ok(())
 }
 
-// Appends a word in quotes, or that the line ends.
-fn push_found(note: &mut Vec<u8>, found: &[u8]) -> Result<(), NoMemory> {
-    if found.is_empty() {
-        return push_bytes(note, b"the end of the line");
-    }
-    push_quoted(note, found)
+// Appends the word in a field in quotes, or that the line or the file ends.
+fn push_found(note: &mut Vec<u8>, fields: &[Field], found: &[u8]) -> Result<(), NoMemory> {
+    let sentence: &[u8] = if fields.is_empty() {
+        b"  found the end of the file, expected "
+    } else if found.is_empty() {
+        b"  found the end of the line, expected "
+    } else {
+        b"  found `%`, expected "
+    };
+    push_filled(note, sentence, &[found])
 }
 
 /// Appends a word in quotes.
 pub(crate) fn push_quoted(note: &mut Vec<u8>, word: &[u8]) -> Result<(), NoMemory> {
-    push_bytes(note, b"`")?;
-    push_bytes(note, word)?;
-    push_bytes(note, b"`")
+    push_filled(note, b"`%`", &[word])
 }
 
 // The first words of the forms that a line may have.
@@ -76,14 +75,7 @@ fn push_first_words(note: &mut Vec<u8>, forms: &[u8], next: u64) -> Result<(), N
         if k == 0 || forms[k - 1] == b'\n' {
             if k > 0 {
                 let is_last = line_of(&forms[k..]).len() == forms.len() - k;
-                push_bytes(
-                    note,
-                    if is_last {
-                        b" or ".as_slice()
-                    } else {
-                        b", ".as_slice()
-                    },
-                )?;
+                push_bytes(note, if is_last { b" or " } else { b", " })?;
             }
             push_word(note, word(&forms[k..]).0, next)?;
         }
@@ -110,9 +102,8 @@ fn push_next_words(note: &mut Vec<u8>, form: &[u8], next: u64) -> Result<(), NoM
 fn push_word(note: &mut Vec<u8>, wanted: &[u8], next: u64) -> Result<(), NoMemory> {
     if wanted.is_empty() {
         push_bytes(note, b"nothing more")
-    } else if wanted == b"NEXT".as_slice() {
-        push_bytes(note, b"the next effect's number, ")?;
-        push_number(note, next)
+    } else if is(wanted, b"NEXT") {
+        push_counted(note, b"the next effect's number, #", &[], &[next])
     } else if stands_for_itself(wanted) {
         push_quoted(note, wanted)
     } else {

@@ -12,6 +12,11 @@ pub(crate) fn word(text: &[u8]) -> (&[u8], &[u8]) {
     (text, &text[text.len()..])
 }
 
+/// Whether a word is another one.
+pub(crate) fn is(word: &[u8], other: &[u8]) -> bool {
+    word == other
+}
+
 /// Whether a word is one of those of a text.
 pub(crate) fn has_word(text: &[u8], wanted: &[u8]) -> bool {
     for k in 0..text.len() {

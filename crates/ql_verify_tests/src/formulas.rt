@@ -148,9 +148,11 @@ fn formula(alloc: Global, contract: &str, for_transaction: bool) -> Option<Formu
         return None;
     }
     few_operations();
-    let contract = parse_contract(alloc, contract.as_bytes()).ok()?;
+    let Ok(tree) = parse_contract(alloc, contract.as_bytes()) else {
+        return None;
+    };
     let mut operations = Names::new(alloc);
-    let formula = resolve(alloc, &contract, &mut operations, for_transaction).ok()?;
+    let formula = resolve(alloc, &tree, &mut operations, for_transaction).ok()?;
     if formula.vars.items().len() <= 5 {
         Some(formula)
     } else {

@@ -5,5 +5,5 @@ use Rattle.ql_verify_tests.proofs.formulas.formula.Goals as goal
 
 pub resolve-requires : goal.resolve-requires
 resolve-requires c =
-    let few = c.few_operations.ensures _ (sentence_of c.in_ok-contract.contract) c.in_ok-contract.ensures in
-    rw c.new-operations.ensures (omega (arith, few, ops_few [] c.in_ok-contract.contract.vars))
+    let few = c.few_operations.ensures _ (sentence_of c.in-Ok.tree) c.in-Ok.ensures in
+    rw c.new-operations.ensures (omega (arith, few, ops_few [] c.in-Ok.tree.vars))
