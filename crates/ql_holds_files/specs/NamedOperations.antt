@@ -1,8 +1,9 @@
 -- A file names at most 2^31 operations in its contract, and one more in each effect. So 32 bits number them.
-use Rattle.std.proofs.Common.{◌≡◌, inl, inr, ℕ, ◌+◌, ◌*◌, ◌^◌, ◌++◌, ◌∷◌, ◌<◌, ◌≤◌, List, [], Option, None, Some, Ok, codes, length, replicate, ap, arith, subst, sym}
+use Rattle.std.proofs.Common.{inl, inr, ℕ, ◌+◌, ◌*◌, ◌^◌, ◌++◌, ◌∷◌, ◌<◌, ◌≤◌, List, [], Option, None, Some, Ok, codes, length, replicate, ap, arith, subst, sym}
 use Rattle.std.specs.List.{flat_map}
 use Rattle.std.proofs.lemmas.List.{length-append}
 use Rattle.ql_lang.specs.Trees.{Sentence}
+use Rattle.ql_lines.specs.Fields.{FirstField}
 use Rattle.ql_lines.specs.Lines.{Numbered}
 use Rattle.ql_parse.proofs.FewOperations.{few_operations}
 use Rattle.ql_exec.specs.Execution.{effect_of}
@@ -38,14 +39,14 @@ HasNamedFew (WithEffects formula current effects) = NamesFew effects
 HasNamedFew (Ended formula current effects) = NamesFew effects
 
 -- what follows a word is no longer than the line
-rest_within : (text rest : List ℕ) (n : ℕ) (word : List ℕ) → text ≡ replicate n 32 ++ word ++ rest → length rest ≤ length text
-rest_within text rest n word stands = omega (arith, ap length stands, length-append (replicate n 32) (word ++ rest), length-append word rest)
+pub rest_within : (text word rest : List ℕ) → FirstField text word rest → length rest ≤ length text
+rest_within text word rest first = omega (arith, ap length first.stands, length-append (replicate first.spaces 32) (word ++ rest), length-append word rest)
 
 -- a contract takes two bytes for each operation that it names
 names_few : (text : List ℕ) (c : Sentence) → IsShort (length text) → IsContractLine text c → NamesFew (no_effects c)
 names_few text c short is =
     let few = few_operations is.rest c is.contract in
-    let within = rest_within text is.rest is.first.spaces (codes "contract") is.first.stands in
+    let within = rest_within text (codes "contract") is.rest is.first in
     omega (arith, short, few, within, ops_few [] c.vars)
 
 -- an effect names one operation more at most

@@ -1,5 +1,5 @@
 -- No line of a file is longer than the file.
-use Rattle.std.proofs.Common.{◌≡◌, ◌≤◌, ◌-◌, ℕ, suc, Bool, true, false, List, [], ◌∷◌, ◌++◌, length, take, arith, refl, sym, subst}
+use Rattle.std.proofs.Common.{◌≡◌, ◌+◌, ◌≤◌, ◌-◌, ℕ, suc, Bool, true, false, List, [], ◌∷◌, ◌++◌, length, take, arith, refl, sym, subst}
 use Rattle.std.specs.Prelude.{slice_index, ◌==◌, if◌then◌else◌}
 use Rattle.std.specs.List.{AllByRecursion, onto_first, slice_split}
 use Rattle.std.specs.Str.Lines.{lines_of_parts, strip_carriage_return}
@@ -51,8 +51,8 @@ told_short : (most n : ℕ) (ls : List (List ℕ)) → AreShort most ls → AllB
 unfolding told
 told_short most n [] short = tt
 told_short most n (l ∷ ls) short =
-    let rest = told_short most (suc n) ls short.1 in
-    let P : Bool → Type 0 = λ t. AllByRecursion (HasShort most) (if t then told (suc n) ls else record { number = n; text = l } ∷ told (suc n) ls) in
+    let rest = told_short most (n + 1) ls short.1 in
+    let P : Bool → Type 0 = λ t. AllByRecursion (HasShort most) (if t then told (n + 1) ls else record { number = n; text = l } ∷ told (n + 1) ls) in
     elim (is_skipped l) as P [ true ↦ rest | false ↦ (short.0, rest) ]
 
 among : (most : ℕ) (before : List Numbered) (line : Numbered) (rest : List Numbered) → AllByRecursion (HasShort most) (before ++ line ∷ rest) → length line.text ≤ most
