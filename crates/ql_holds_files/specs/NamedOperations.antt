@@ -40,7 +40,7 @@ HasNamedFew (Ended formula current effects) = NamesFew effects
 
 -- what follows a word is no longer than the line
 pub rest_within : (text word rest : List ℕ) → FirstField text word rest → length rest ≤ length text
-rest_within text word rest first = omega (arith, ap length first.stands, length-append (replicate first.spaces 32) (word ++ rest), length-append word rest)
+rest_within text word rest first = omega (arith, ap length first.stands, length-append (replicate first.spaces 32 ++ word) rest)
 
 -- a contract takes two bytes for each operation that it names
 names_few : (text : List ℕ) (c : Sentence) → IsShort (length text) → IsContractLine text c → NamesFew (no_effects c)
