@@ -1,6 +1,5 @@
 -- A file names at most 2^31 operations in its contract, and one more in each effect. So 32 bits number them.
-use Rattle.std.proofs.Common.{inl, inr, ℕ, ◌+◌, ◌*◌, ◌^◌, ◌++◌, ◌∷◌, ◌<◌, ◌≤◌, List, [], Option, None, Some, Ok, codes, length, replicate, ap, arith, subst, sym}
-use Rattle.std.specs.List.{flat_map}
+use Rattle.std.proofs.Common.{inl, inr, ℕ, ◌+◌, ◌^◌, ◌++◌, ◌∷◌, ◌<◌, ◌≤◌, List, [], None, Some, Ok, codes, length, replicate, ap, arith, subst, sym}
 use Rattle.std.proofs.lemmas.List.{length-append}
 use Rattle.ql_lang.specs.Trees.{Sentence}
 use Rattle.ql_lines.specs.Fields.{FirstField}
@@ -8,7 +7,6 @@ use Rattle.ql_lines.specs.Lines.{Numbered}
 use Rattle.ql_parse.proofs.FewOperations.{few_operations}
 use Rattle.ql_exec.specs.Execution.{effect_of}
 use Rattle.ql_typing.proofs.Growing.{ops_few}
-use Rattle.ql_typing.specs.Resolved.{ops_met}
 use Rattle.ql_holds_files.specs.declared.effect_line.EffectLine.{EffectLine}
 use Rattle.ql_holds_files.specs.declared.effects.NamedEffects.{NamedEffects}
 use Rattle.ql_holds_files.specs.declared.reading.Stage.{Stage}

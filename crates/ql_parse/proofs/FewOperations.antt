@@ -17,7 +17,6 @@ use Rattle.ql_grammar.specs.declared.terminal.Terminal.{Terminal}
 use Rattle.ql_grammar.specs.Tokens.{Marked, lexeme_of, lexemes}
 use Rattle.ql_grammar.specs.ContractGrammar.{ReadsContract, plain, forall, ReadsNames, ReadsVar, free, over, ReadsVars, one, more}
 use Rattle.ql_parse.specs.Parsing.{IsContractText}
-use Rattle.ql_parse.specs.Readers.{lexemes_of}
 
 -- a token lies within its text, and isn't empty
 token_within : {t : List ℕ} {what : TokenKind} {n : ℕ} → IsFront t (Lexeme what n) → (0 < n) × (n ≤ length t)
