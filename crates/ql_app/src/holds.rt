@@ -1,4 +1,4 @@
-ghost use Rattle.std.specs.Prelude.{◌≡◌, ◌≤◌, ◌++◌, IfOk, OnOk, codes, length, map};
+ghost use Rattle.std.specs.Prelude.{◌≡◌, ◌≤◌, ◌<◌, ◌++◌, ◌^◌, IfOk, OnOk, codes, length, map};
 ghost use Rattle.ql_holds_files.specs.Holdings.{asked_of};
 ghost use Rattle.ql_app.specs.HoldsFaults.{IsToldAs};
 ghost use Rattle.ql_app.specs.HoldsFile.{HoldsSays, HoldsTells, named_places_text};
@@ -12,6 +12,7 @@ use std::alloc::Global;
 
 /// Whether the contract in a holds file is true of its effect.
 pub fn holds(alloc: Global, bytes: &[u8]) -> Result<(Status, Vec<u8>), NoMemory>
+    requires { length bytes.now < 2 ^ 32 }
     ensures { IfOk result (λ answer. HoldsSays bytes.now answer.0 answer.1.items) }
 {
     ql_holds_files::one_holding();

@@ -24,6 +24,8 @@ impl LineFormat for Format {
 
     ghost sound = { λ f stored more. Unit {0} };
 
+    ghost allows = { λ f bytes. Unit {0} };
+
     ghost gives = { λ f stored l x. GivesLine stored l.text x };
 
     ghost closes = { λ f stored end x. x ≡ Ok stored };
@@ -53,7 +55,9 @@ impl LineFormat for Format {
         Ok(state)
     }
 
-    ghost stays_sound = { λ f s t l more sound given. tt };
+    ghost allows_less = { λ f n most less allowed. allowed };
+
+    ghost stays_sound = { λ f s t l more allowed sound given. tt };
 
     ghost gives_one = { λ f s l x y p q. gives_one s l.text x y p q };
 

@@ -51,6 +51,8 @@ impl LineFormat for CertFormat {
 
     ghost sound = { λ f read more. Unit {0} };
 
+    ghost allows = { λ f bytes. Unit {0} };
+
     ghost gives = { λ f read l x. Gives Takes read (fields_of l.text) x };
 
     ghost closes = { λ f read end x. Closes (said read) end x };
@@ -82,7 +84,9 @@ impl LineFormat for CertFormat {
         }
     }
 
-    ghost stays_sound = { λ f s t l more sound given. tt };
+    ghost allows_less = { λ f n most less allowed. allowed };
+
+    ghost stays_sound = { λ f s t l more allowed sound given. tt };
 
     ghost gives_one = { λ f s l x y p q. gives_one Takes one_after s (fields_of l.text) x y p q };
 

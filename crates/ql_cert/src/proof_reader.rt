@@ -49,6 +49,8 @@ impl LineFormat for ProofFormat {
     // A line is one clause at most, so 32-bit numbers are enough for the clauses.
     ghost sound = { λ f read more. clause_count read + more < 2 ^ 32 };
 
+    ghost allows = { λ f bytes. Unit {0} };
+
     ghost gives = { λ f read l x. Gives ProofTakes read (fields_of l.text) x };
 
     ghost closes = { λ f read end x. Closes (proof_said read) end x };
@@ -84,7 +86,9 @@ impl LineFormat for ProofFormat {
         }
     }
 
-    ghost stays_sound = { λ f s t l more sound given. stays_sound s t (fields_of l.text) more sound given };
+    ghost allows_less = { λ f n most less allowed. allowed };
+
+    ghost stays_sound = { λ f s t l more allowed sound given. stays_sound s t (fields_of l.text) more sound given };
 
     ghost gives_one = { λ f s l x y p q. gives_one ProofTakes one_after s (fields_of l.text) x y p q };
 

@@ -42,6 +42,8 @@ impl<'a> LineFormat for Format<'a> {
 
     ghost sound = { λ f read more. AreSound f.t.now.program read };
 
+    ghost allows = { λ f bytes. Unit {0} };
+
     ghost gives = { λ f read l x. ExtendsExecution f.t.now.program read l.text x };
 
     ghost closes = { λ f read end x. ClosesExecution read end x };
@@ -77,7 +79,9 @@ impl<'a> LineFormat for Format<'a> {
         }
     }
 
-    ghost stays_sound = { λ f s t l more sound given. takes_sound f.t.now.program s l.text t sound given };
+    ghost allows_less = { λ f n most less allowed. allowed };
+
+    ghost stays_sound = { λ f s t l more allowed sound given. takes_sound f.t.now.program s l.text t sound given };
 
     ghost gives_one = { λ f s l x y p q. gives_one f.t.now.program s l.text x y p q };
 

@@ -6,4 +6,5 @@ pub mod HoldsFile
 pub mod Uniqueness
 pub mod OneLine
 pub mod Limits
+pub mod NamedOperations
 pub mod Holdings

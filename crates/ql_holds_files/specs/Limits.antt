@@ -45,10 +45,10 @@ module _ {A : Type 0} where
   made_is None made given e = (refl, cc)
   made_is (Some rule) made given e = absurd cc
 
-given_is : (made given : Stage) → ◌≡◌ {A = Result Stage HoldsRule} (Ok given) (Ok made) → given ≡ made
+pub given_is : (made given : Stage) → ◌≡◌ {A = Result Stage HoldsRule} (Ok given) (Ok made) → given ≡ made
 given_is made given e = cc
 
-not_given : (given : Stage) → ◌≡◌ {A = Result Stage HoldsRule} (Ok given) (Err Unexpected) → ⊥
+pub not_given : (given : Stage) → ◌≡◌ {A = Result Stage HoldsRule} (Ok given) (Err Unexpected) → ⊥
 not_given given e = cc
 
 -- ---- variables
@@ -100,7 +100,7 @@ few_effects named e none =
 
 -- ---- objects
 
-one_name_more : (names : List (List ℕ)) (w : List ℕ) → length (with_name names w) ≤ length names + 1
+pub one_name_more : (names : List (List ℕ)) (w : List ℕ) → length (with_name names w) ≤ length names + 1
 one_name_more names w = by (has_name names w)
   where
     by : (b : Bool) → length (if b then names else names ++ w ∷ []) ≤ length names + 1

@@ -2,6 +2,7 @@ ghost use Rattle.std.specs.Prelude.{◌<◌, ◌^◌, IfOk, IfSome, MatchOption,
 ghost use Rattle.std.specs.List.{flat_map};
 ghost use Rattle.ql_lang.specs.Trees.{Sentence, sentence_of};
 ghost use Rattle.ql_holds_files.specs.ContractLine.{IsContractLine};
+ghost use Rattle.ql_holds_files.specs.NamedOperations.{IsShort};
 
 use ql_base::NoMemory;
 use ql_lang::Contract;
@@ -11,6 +12,7 @@ use std::alloc::Global;
 
 /// The contract of a line that is the word `contract` and then a contract; `None` for any other line.
 pub(crate) fn contract_line(alloc: Global, text: &[u8]) -> Result<Option<Contract>, NoMemory>
+    requires { IsShort (length text.now) }
     ensures line { IfOk result
         (λ found. MatchOption found ((c : Sentence) → IsContractLine text.now c → ⊥)
         (λ contract. IsContractLine text.now (sentence_of contract))) }
@@ -23,10 +25,6 @@ pub(crate) fn contract_line(alloc: Global, text: &[u8]) -> Result<Option<Contrac
     let Some(rest) = after_word(text, b"contract") else {
         return Ok(None);
     };
-    // A contract is out of memory where 32 bits can't count its bytes.
-    if rest.len() > u32::MAX as usize {
-        return Err(NoMemory);
-    }
     match parse_contract(alloc, rest) {
         Ok(contract) => Ok(Some(contract)),
         Err(fault) => match fault {

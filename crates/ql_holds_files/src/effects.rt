@@ -4,6 +4,7 @@ ghost use Rattle.ql_base.specs.Numbering.{with_name};
 ghost use Rattle.ql_base.specs.declared.limits.TheConstants.{MAX_EFFECTS};
 ghost use Rattle.ql_line_files.specs.Answers.{IsLineAnswer};
 ghost use Rattle.ql_holds_files.specs.EffectLine.{effect_rule, number_among, plain_draft, with_named_effect};
+ghost use Rattle.ql_holds_files.specs.NamedOperations.{NamesFew};
 ghost use Rattle.ql_holds_files.specs.Rules.{unless_broken};
 
 use crate::effect_line::EffectLine;
@@ -32,16 +33,13 @@ impl NamedEffects {
     ) -> Result<NamedEffects, LineFault<HoldsRule>>
         requires few { length self.effects ≤ MAX_EFFECTS }
         requires objects { length self.objects ≤ length self.effects }
+        requires operations { NamesFew self }
         ensures { IsLineAnswer
             (λ x. x ≡ unless_broken (effect_rule self line) (with_named_effect self line)) result }
     {
         let mut named = self;
         let (last_object, last_op) = last_numbers(named.effects.effects());
         let object = ObjId(number(&mut named.objects, &line.object, last_object)?);
-        // A contract may name as many operations as 32 bits can number. One more is out of memory.
-        if named.ops.len() >= u32::MAX {
-            return Err(LineFault::NoMemory);
-        }
         let op = OpId(number(&mut named.ops, &line.op, last_op)?);
         let drafted = draft(alloc, object, op, line);
         match named.effects.push(drafted) {

@@ -20,6 +20,7 @@ impl LineFormat for Format {
     ghost use Rattle.ql_holds_files.specs.declared.reading.Stage.TheVariants.{Unbegun};
     ghost use Rattle.ql_holds_files.specs.HoldsFile.{ExtendsHolds, closed};
     ghost use Rattle.ql_holds_files.specs.Limits.{IsWithin, stays_within};
+    ghost use Rattle.ql_holds_files.specs.NamedOperations.{HasNamedFew, IsShort, shorter, stays_few};
     ghost use Rattle.ql_holds_files.specs.OneLine.{closes_one, closes_some, gives_one, gives_some, one_equation};
 
     type State = Stage;
@@ -30,7 +31,10 @@ impl LineFormat for Format {
 
     ghost start = { λ f. Unbegun };
 
-    ghost sound = { λ f read more. IsWithin read };
+    ghost sound = { λ f read more. IsWithin read × HasNamedFew read };
+
+    // Offsets in a contract are numbers of 32 bits.
+    ghost allows = { λ f bytes. IsShort bytes };
 
     ghost gives = { λ f read l x. ExtendsHolds read l x };
 
@@ -48,7 +52,9 @@ impl LineFormat for Format {
         finish(state, end)
     }
 
-    ghost stays_sound = { λ f s t l more within given. stays_within s t l within given };
+    ghost allows_less = { λ f n most less short. shorter n most less short };
+
+    ghost stays_sound = { λ f s t l more short sound given. (stays_within s t l sound.0 given, stays_few s t l short sound.1 given) };
 
     ghost gives_one = { λ f s l x y p q. ∥∥₁_elim f.one_contract (one_equation x y) (λ one. gives_one one s l x y p q) };
 

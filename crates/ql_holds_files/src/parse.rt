@@ -1,4 +1,4 @@
-ghost use Rattle.std.specs.Prelude.{◌≤◌, IfOk, Ok, MatchResult, length};
+ghost use Rattle.std.specs.Prelude.{◌≤◌, ◌<◌, ◌^◌, IfOk, Ok, MatchResult, length};
 ghost use Rattle.ql_lines.specs.Lines.{ahead_from};
 ghost use Rattle.ql_holds_files.specs.HoldsFile.{HoldsOutcome};
 ghost use Rattle.ql_holds_files.specs.Holdings.{IsRefusal, asked_of};
@@ -10,8 +10,9 @@ use crate::holds_fault::{HoldsFault, fault_of};
 use ql_line_files::read_file;
 use std::alloc::Global;
 
-/// Reads the question of a holds file, or reports its first fault.
+/// Reads the question of a holds file of fewer than 2^32 bytes, or reports its first fault.
 pub fn parse_holds(alloc: Global, bytes: &[u8]) -> Result<Holding, HoldsFault>
+    requires { length bytes.now < 2 ^ 32 }
     ensures read { MatchResult result
         (λ h. HoldsOutcome (ahead_from 1 bytes.now) (Ok (asked_of h)))
         (IsRefusal (ahead_from 1 bytes.now)) }

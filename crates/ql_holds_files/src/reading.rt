@@ -8,6 +8,7 @@ ghost use Rattle.ql_line_files.specs.declared.fault.FileFault.TheVariants.{Broke
 ghost use Rattle.ql_holds_files.specs.ContractLine.{IsContractLine};
 ghost use Rattle.ql_holds_files.specs.HoldsFile.{ExtendsHolds, ExtendsHoldsAs, IsCurrentLine, IsMore, after_contract, after_more, closed};
 ghost use Rattle.ql_holds_files.specs.Limits.{IsWithin};
+ghost use Rattle.ql_holds_files.specs.NamedOperations.{HasNamedFew, IsShort, NamesFew};
 ghost use Rattle.ql_holds_files.specs.declared.reading.Stage.TheVariants.{WithEffects};
 
 use crate::asked::{Asked, ReadContract};
@@ -47,7 +48,9 @@ pub(crate) fn take(
     number: u64,
     text: &[u8],
 ) -> Result<Stage, LineFault<HoldsRule>>
-    requires { IsWithin read }
+    requires within { IsWithin read }
+    requires few { HasNamedFew read }
+    requires short { IsShort (length text.now) }
     ensures { IsLineAnswer (ExtendsHolds read (record { number = number; text = text.now }))
         result }
 {
@@ -63,6 +66,7 @@ pub(crate) fn take(
 
 // The first line is the contract.
 fn begun(alloc: Global, text: &[u8]) -> Result<Stage, LineFault<HoldsRule>>
+    requires { IsShort (length text.now) }
     ensures { IsLineAnswer (ExtendsHoldsAs (IsContractLine text.now) after_contract) result }
 {
     let Some(contract) = contract_line(alloc, text)? else {
@@ -132,6 +136,7 @@ fn with_more(
 ) -> Result<Stage, LineFault<HoldsRule>>
     requires few { length effects.effects ≤ MAX_EFFECTS }
     requires objects { length effects.objects ≤ length effects.effects }
+    requires operations { NamesFew effects }
     ensures { IsLineAnswer
         (ExtendsHoldsAs (IsMore (suc (length effects.effects)) (fields_of text.now))
         (after_more contract current effects)) result }

@@ -1,4 +1,4 @@
-ghost use Rattle.std.specs.Prelude.{◌≡◌, ℕ, suc, Result, Ok};
+ghost use Rattle.std.specs.Prelude.{◌≡◌, ◌≤◌, ℕ, suc, Result, Ok, length};
 ghost use Rattle.ql_lines.specs.Lines.{Numbered};
 ghost use Rattle.ql_line_files.specs.declared.fault.Broken.{Broken};
 ghost use Rattle.ql_line_files.specs.Answers.{IsEndAnswer, IsLineAnswer};
@@ -21,6 +21,9 @@ pub trait LineFormat {
     // An invariant of the state, for a number of lines that are still to come.
     ghost sound: { Self → Self.State → ℕ → Type 0 };
 
+    // Whether a file may have this many bytes, and so each of its lines.
+    ghost allows: { Self → ℕ → Type 0 };
+
     // What a line does to a state: the next state, or the rule that the line breaks.
     ghost gives: { Self → Self.State → Numbered → Result Self.State Self.Rule → Type 0 };
 
@@ -37,7 +40,8 @@ pub trait LineFormat {
         number: u64,
         text: &[u8],
     ) -> Result<Self::State, LineFault<Self::Rule>>
-        requires { (more : ℕ) × sound self.now state (suc more) }
+        requires sound { (more : ℕ) × sound self.now state (suc more) }
+        requires allowed { allows self.now (length text.now) }
         ensures { IsLineAnswer (gives self.now state (record { number = number; text = text.now }))
             result };
 
@@ -45,7 +49,9 @@ pub trait LineFormat {
     fn finish(&self, state: Self::State, end: u64) -> Result<Self::Said, FileFault<Self::Rule>>
         ensures { IsEndAnswer (closes self.now state end) result };
 
-    ghost stays_sound: { (f : Self) (s t : Self.State) (l : Numbered) (more : ℕ) → sound f s (suc more) → gives f s l (Ok t) → sound f t more };
+    ghost allows_less: { (f : Self) (n most : ℕ) → n ≤ most → allows f most → allows f n };
+
+    ghost stays_sound: { (f : Self) (s t : Self.State) (l : Numbered) (more : ℕ) → allows f (length l.text) → sound f s (suc more) → gives f s l (Ok t) → sound f t more };
 
     // A line has one result, and always has one.
     ghost gives_one: { (f : Self) (s : Self.State) (l : Numbered) (x y : Result Self.State Self.Rule) → gives f s l x → gives f s l y → x ≡ y };

@@ -11,6 +11,7 @@ use ql_lines::Lines;
 pub fn read_file<F: LineFormat>(format: &F, bytes: &[u8]) -> Result<F::Said, FileFault<F::Rule>>
     requires sound { F.sound format.now (F.start format.now)
         (length (ahead_from 1 bytes.now).lines) }
+    requires allowed { F.allows format.now (length bytes.now) }
     ensures { IsEndAnswer
         (Outcome (F.gives format.now) (F.closes format.now) (F.start format.now)
         (ahead_from 1 bytes.now)) result }

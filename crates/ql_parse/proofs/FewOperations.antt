@@ -1,5 +1,5 @@
--- A contract names at most as many operations as its text has bytes.
-use Rattle.std.proofs.Common.{◌≡◌, ◌+◌, ◌≤◌, ◌<◌, ℕ, List, [], ◌∷◌, ◌++◌, Result, Ok, Err, refl, subst, ap, arith, length, drop, length-append}
+-- A text has at least two bytes for each operation that its contract's variables name.
+use Rattle.std.proofs.Common.{◌≡◌, ◌+◌, ◌*◌, ◌≤◌, ◌<◌, ℕ, List, [], ◌∷◌, ◌++◌, Result, Ok, Err, refl, subst, ap, arith, length, drop, length-append}
 use Rattle.std.specs.List.{flat_map}
 use Rattle.std.proofs.lemmas.List.{length-drop, length-map}
 use Rattle.std.proofs.lemmas.Fmt.{decimal_nonempty}
@@ -17,7 +17,6 @@ use Rattle.ql_grammar.specs.declared.terminal.Terminal.{Terminal}
 use Rattle.ql_grammar.specs.Tokens.{Marked, lexeme_of, lexemes}
 use Rattle.ql_grammar.specs.ContractGrammar.{ReadsContract, plain, forall, ReadsNames, ReadsVar, free, over, ReadsVars, one, more}
 use Rattle.ql_parse.specs.Parsing.{IsContractText}
-use Rattle.ql_parse.specs.Readers.{lexemes_of}
 
 -- a token lies within its text, and isn't empty
 token_within : {t : List ℕ} {what : TokenKind} {n : ℕ} → IsFront t (Lexeme what n) → (0 < n) × (n ≤ length t)
@@ -44,13 +43,13 @@ few_tokens (no_token front) ts is = cc
 few_tokens (too_long front) ts is = cc
 few_tokens (no_number front) ts is = cc
 
--- each name takes a token
+-- each operation takes a token, and the colon or the bar before it another
 
-names_read : {k : Terminal} {ts rest : List Marked} {ns : List Name} → ReadsNames k ts rest ns → length ns + length rest ≤ length ts
+names_read : {k : Terminal} {ts rest : List Marked} {ns : List Name} → ReadsNames k ts rest ns → 2 * length ns + length rest ≤ length ts + 1
 names_read one = omega arith
 names_read (more {x = x} {n = n} {names = ns} reads) = omega (arith, names_read reads, length-append ns (record { word = x; at = n } ∷ []))
 
-var_read : {ts rest : List Marked} {v : Var} → ReadsVar ts rest v → length v.ops + length rest ≤ length ts
+var_read : {ts rest : List Marked} {v : Var} → ReadsVar ts rest v → 2 * length v.ops + length rest ≤ length ts
 var_read free = omega arith
 var_read (over reads) = omega (arith, names_read reads)
 
@@ -60,11 +59,11 @@ ops_after (w ∷ ws) v =
     let rest = ops_after ws v in
     omega (arith, rest, length-append w.ops (flat_map (λ (u : Var). u.ops) (ws ++ v ∷ [])), length-append w.ops (flat_map (λ (u : Var). u.ops) ws))
 
-vars_read : {ts rest : List Marked} {vs : List Var} → ReadsVars ts rest vs → length (flat_map (λ (u : Var). u.ops) vs) + length rest ≤ length ts
+vars_read : {ts rest : List Marked} {vs : List Var} → ReadsVars ts rest vs → 2 * length (flat_map (λ (u : Var). u.ops) vs) + length rest ≤ length ts
 vars_read (one {v = v} reads) = omega (arith, var_read reads, length-append v.ops [])
 vars_read (more {vs = vs} {v = v} many reads) = omega (arith, vars_read many, var_read reads, ops_after vs v)
 
-contract_read : {ts rest : List Marked} {s : Sentence} → ReadsContract ts rest s → length (flat_map (λ (u : Var). u.ops) s.vars) ≤ length ts
+contract_read : {ts rest : List Marked} {s : Sentence} → ReadsContract ts rest s → 2 * length (flat_map (λ (u : Var). u.ops) s.vars) ≤ length ts
 contract_read (plain reads) = omega arith
 contract_read (forall many reads) = omega (arith, vars_read many)
 
@@ -72,6 +71,6 @@ count_lexemes : (ms : List Marked) → length (lexemes ms) ≡ length ms
 count_lexemes [] = refl
 count_lexemes (m ∷ ms) = omega (arith, count_lexemes ms)
 
-pub few_operations : (bytes : List ℕ) (s : Sentence) → IsContractText bytes s → length (flat_map (λ v. v.ops) s.vars) ≤ length bytes
+pub few_operations : (bytes : List ℕ) (s : Sentence) → IsContractText bytes s → 2 * length (flat_map (λ v. v.ops) s.vars) ≤ length bytes
 few_operations bytes s t =
     omega (arith, contract_read t.parses.reads, count_lexemes t.parses.marks, ap length t.parses.are, length-map t.tokens (lexeme_of bytes), few_tokens t.lexes t.tokens refl)

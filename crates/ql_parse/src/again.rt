@@ -1,4 +1,4 @@
-ghost use Rattle.std.specs.Prelude.{◌≡◌, ◌≤◌, ◌⊎◌, Err, List, length, ℕ};
+ghost use Rattle.std.specs.Prelude.{◌≡◌, ◌≤◌, ◌*◌, ◌⊎◌, Err, List, length, ℕ};
 ghost use Rattle.std.specs.List.{flat_map};
 ghost use Rattle.ql_grammar.specs.Limits.{Fault};
 ghost use Rattle.ql_lang.specs.Trees.{Sentence};
@@ -50,8 +50,9 @@ pub fn one_program_answer()
     ql_grammar::one_program_answer();
 }
 
-/// A contract names at most as many operations as its text has bytes.
+/// A text has at least two bytes for each operation that its contract's variables name: the name has one,
+/// and a colon or a bar stands before it.
 pub fn few_operations()
     ensures { (bytes : List ℕ) (s : Sentence) → IsContractText bytes s
-        → length (flat_map (λ v. v.ops) s.vars) ≤ length bytes }
+        → 2 * length (flat_map (λ v. v.ops) s.vars) ≤ length bytes }
 {}

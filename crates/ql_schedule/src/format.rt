@@ -28,6 +28,8 @@ impl<'a> LineFormat for Format<'a> {
 
     ghost sound = { λ f read more. Unit {0} };
 
+    ghost allows = { λ f bytes. Unit {0} };
+
     ghost gives = { λ f read l x. GivesLine f.t.now.program read l x };
 
     ghost closes = { λ f read end x. Closes read end x };
@@ -55,7 +57,9 @@ impl<'a> LineFormat for Format<'a> {
         }
     }
 
-    ghost stays_sound = { λ f s t l more sound given. tt };
+    ghost allows_less = { λ f n most less allowed. allowed };
+
+    ghost stays_sound = { λ f s t l more allowed sound given. tt };
 
     ghost gives_one = { λ f s l x y p q. gives_one f.t.now.program s _ x y p q };
 

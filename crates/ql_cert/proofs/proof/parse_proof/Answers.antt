@@ -7,8 +7,8 @@ use Rattle.ql_cert.proofs.FirstFaults.{refusal, says_file}
 use Rattle.ql_cert.proofs.ProofStates.{proof_reader}
 use Rattle.ql_cert.proofs.proof.parse_proof.Goals as goal
 
-pub read_file-requires : goal.read_file-requires
-read_file-requires c = omega (arith, few_lines 1 c.args.bytes.now, c.requires)
+pub read_file-requires-clause-sound : goal.read_file-requires-clause-sound
+read_file-requires-clause-sound c = omega (arith, few_lines 1 c.args.bytes.now, c.requires)
 
 pub returns-in-Ok : goal.returns-in-Ok
 returns-in-Ok c = says_file proof_reader (ahead_from 1 c.args.bytes.now) (c.in-Ok.clauses, c.in-Ok.lines) c.in-Ok.ensures

@@ -3,6 +3,7 @@ use Rattle.std.proofs.lemmas.List.{append-nil}
 use Rattle.ql_lines.specs.Lines.{Ahead, Numbered, ahead_from}
 use Rattle.ql_line_files.specs.Answers.{IsEndAnswer}
 use Rattle.ql_line_files.specs.Outcomes.{Leads, Outcome}
+use Rattle.ql_line_files.proofs.ShortLines.{line_within}
 use Rattle.ql_line_files.proofs.OneOutcome.{ends_answer, leads_nowhere, leads_on, refused_at}
 use Rattle.ql_line_files.proofs.read.read_file.Goals as goal
 
@@ -38,13 +39,23 @@ loop-line-preserved g c =
     let h = c.loop-line.invariant in
     let line : Numbered = record { number = c.in-Some.line.number; text = c.in-Some.line.text.now } in
     let rest = c.next_line.new.self.lines in
-    let are : (ahead_from 1 c.args.bytes.now).lines ≡ h.0 ++ line ∷ rest = h.1 ∙ ap (λ (ls : List Numbered). h.0 ++ ls) c.in-Some.ensures.line in (
+    let are : (ahead_from 1 c.args.bytes.now).lines ≡ h.0 ++ line ∷ rest = h.1 ∙ ap (λ (ls : List Numbered). h.0 ++ ls) c.in-Some.ensures.line in
+    let allowed = g.met.F.LineFormat.allows_less f (length line.text) (length c.args.bytes.now) (line_within c.args.bytes.now h.0 line rest are) c.requires.allowed in (
       h.0 ++ line ∷ [],
       are ∙ sym (append_assoc h.0 (line ∷ []) rest),
       h.2 ∙ sym c.in-Some.ensures.end,
       leads_on (of.gives f) (of.closes f) h.0 (of.start f) c.loop-line.state c.in-Ok.more line h.3 c.in-Ok.ensures,
-      g.met.F.LineFormat.stays_sound f c.loop-line.state c.in-Ok.more line (length rest) (subst (λ (ls : List Numbered). of.sound f c.loop-line.state (length ls)) c.in-Some.ensures.line h.4) c.in-Ok.ensures,
+      g.met.F.LineFormat.stays_sound f c.loop-line.state c.in-Ok.more line (length rest) allowed (subst (λ (ls : List Numbered). of.sound f c.loop-line.state (length ls)) c.in-Some.ensures.line h.4) c.in-Ok.ensures,
     )
+
+pub take-requires-clause-allowed : goal.take-requires-clause-allowed
+take-requires-clause-allowed g c =
+    let f = c.args.format.now in
+    let h = c.loop-line.invariant in
+    let line : Numbered = record { number = c.in-Some.line.number; text = c.in-Some.line.text.now } in
+    let rest = c.next_line.new.self.lines in
+    let are : (ahead_from 1 c.args.bytes.now).lines ≡ h.0 ++ line ∷ rest = h.1 ∙ ap (λ (ls : List Numbered). h.0 ++ ls) c.in-Some.ensures.line in
+    g.met.F.LineFormat.allows_less f (length line.text) (length c.args.bytes.now) (line_within c.args.bytes.now h.0 line rest are) c.requires.allowed
 
 pub returns : goal.returns
 returns g c =

@@ -10,14 +10,14 @@ returns-then-len-gt-MAX_EFFECTS c =
     let named = c.args.self in
     let same = drafted_is named c.args.line c.draft-drafted.result c.in_ok-number.field-0 c.in_ok-number-2.field-0 c.draft-drafted.ensures c.in_ok-number.ensures.numbered c.in_ok-number-2.ensures.numbered in
     let more = ap length c.in-Ok.ensures.pushed ∙ length-append named.effects (effect_of named.effects c.draft-drafted.result ∷ []) in
-    refused_by named c.args.line (too_many named c.args.line (ap (fault_of named.effects) (sym same) ∙ c.in-Ok.ensures.answer.0) (omega (arith, more, c.len-2.ensures.length, c.if-len-gt-MAX_EFFECTS.true)))
+    refused_by named c.args.line (too_many named c.args.line (ap (fault_of named.effects) (sym same) ∙ c.in-Ok.ensures.answer.0) (omega (arith, more, c.len.ensures.length, c.if-len-gt-MAX_EFFECTS.true)))
 
 pub returns : goal.returns
 returns c =
     let named = c.args.self in
     let same = drafted_is named c.args.line c.draft-drafted.result c.in_ok-number.field-0 c.in_ok-number-2.field-0 c.draft-drafted.ensures c.in_ok-number.ensures.numbered c.in_ok-number-2.ensures.numbered in
     let more = ap length c.in-Ok.ensures.pushed ∙ length-append named.effects (effect_of named.effects c.draft-drafted.result ∷ []) in
-    made_with named c.args.line (lawful named c.args.line (ap (fault_of named.effects) (sym same) ∙ c.in-Ok.ensures.answer.0) (omega (arith, more, c.len-2.ensures.length, c.if-len-gt-MAX_EFFECTS.false)))
+    made_with named c.args.line (lawful named c.args.line (ap (fault_of named.effects) (sym same) ∙ c.in-Ok.ensures.answer.0) (omega (arith, more, c.len.ensures.length, c.if-len-gt-MAX_EFFECTS.false)))
     (put_is named c.args.line c.draft-drafted.result _ _ _ same c.in_ok-number.ensures.names c.in_ok-number-2.ensures.names c.in-Ok.ensures.pushed)
 
 pub returns-in-Err-NotForward : goal.returns-in-Err-NotForward
