@@ -2,6 +2,7 @@ ghost use Rattle.std.specs.Prelude.{◌≡◌, ◌<◌, ◌++◌, ◌^◌, ℕ, 
 ghost use Rattle.std.specs.List.{concat};
 ghost use Rattle.ql_classify.specs.Finding.{IsFinding};
 ghost use Rattle.ql_explanation.specs.Explanation.{AreFindings};
+ghost use Rattle.ql_ground.specs.SmallBodies.{HasSmallBodies};
 ghost use Rattle.ql_baseline.specs.Comparison.{BaselineSays, IsComparison, bad_text, rise_of};
 
 use crate::format::Format;
@@ -44,6 +45,7 @@ fn bad_baseline(alloc: Global, fault: Broken<BaselineRule>) -> Result<Vec<u8>, N
 
 // What became of the levels since this answer was stored.
 fn against(alloc: Global, t: &Typed, stored: &[Stored]) -> Result<(Status, Vec<u8>), NoMemory>
+    requires { HasSmallBodies t.now.program }
     ensures { IfOk result
         (λ answer. IsComparison t.now.program stored.now answer.0 answer.1.items) }
 {

@@ -10,3 +10,4 @@ pub mod Due
 pub mod Telling
 pub mod SameProblems
 pub mod Accepted
+pub mod SmallBodies

@@ -1,4 +1,5 @@
 ghost use Rattle.std.specs.Prelude.{◌<◌, ◌^◌, length, IfOk};
+ghost use Rattle.ql_ground.specs.SmallBodies.{HasSmallBodies};
 ghost use Rattle.ql_commands.specs.Check.{CheckSays, SectionsSay};
 
 use crate::cert_fault::bad_certificate;
@@ -38,6 +39,7 @@ fn check_sections(
     t: &Typed,
     sections: &[Section],
 ) -> Result<(Status, Vec<u8>), NoMemory>
+    requires { HasSmallBodies t.now.program }
     ensures { IfOk result
         (λ answer. SectionsSay t.now.program sections.now answer.0 answer.1.items) }
 {

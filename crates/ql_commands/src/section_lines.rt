@@ -1,6 +1,7 @@
 // The sections of a certificate, each checked against the ground problem of its own target.
 ghost use Rattle.std.specs.Prelude.{◌≡◌, ◌≤◌, ◌+◌, ◌++◌, ℕ, List, IfOk, OnOk, length, slice_get, Some};
 ghost use Rattle.ql_ground.specs.OfPrograms.{IsGoalOf};
+ghost use Rattle.ql_ground.specs.SmallBodies.{HasSmallBodies};
 ghost use Rattle.ql_commands.specs.Check.{Tells, goal_of, refusal_end, section_text, target_of, targets_due, verdict_text};
 ghost use Rattle.ql_commands.specs.Judging.{AreDueFrom, IsVerdictOn};
 
@@ -23,6 +24,7 @@ pub(crate) fn tell_sections(
 ) -> Result<Status, NoMemory>
     requires due { AreDueFrom t.now.program place sections.now }
     requires few { place + length sections.now ≤ 48 }
+    requires small { HasSmallBodies t.now.program }
     ensures { IfOk result
         (λ status. (text : List ℕ) × Tells t.now.program place sections.now status text
         × (out.new.items ≡ out.old.items ++ text)) }
@@ -59,7 +61,8 @@ fn verdict_on(
     goal: Goal,
     refutation: &Refutation,
 ) -> Result<Verdict, NoMemory>
-    requires { IsGoalOf t.now.program goal }
+    requires goal { IsGoalOf t.now.program goal }
+    requires small { HasSmallBodies t.now.program }
     ensures { IfOk result (IsVerdictOn t.now.program goal refutation.now.lines) }
 {
     let clauses = problem(alloc, t, goal)?;

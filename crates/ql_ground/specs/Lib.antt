@@ -9,4 +9,5 @@ pub mod Worked
 pub mod Least
 pub mod Parts
 pub mod OfPrograms
+pub mod SmallBodies
 pub mod Order

@@ -1,25 +1,23 @@
-ghost use Rattle.std.specs.Prelude.{◌≡◌, suc, ◌+◌, ◌<◌, ◌≤◌, ◌++◌, true, false, length, IfOk, IfSome, OnOk};
+ghost use Rattle.std.specs.Prelude.{◌≡◌, ◌+◌, ◌<◌, ◌≤◌, ◌++◌, true, false, length, IfOk, OnOk};
+ghost use Rattle.ql_base.specs.declared.limits.TheConstants.{MAX_BODY_VARIABLES};
 ghost use Rattle.ql_atoms.specs.Atoms.{size_of, count_of};
-ghost use Rattle.ql_cnf.specs.Circuits.{InputsInRange, circuit_of, gates, denying, clauses_of};
+ghost use Rattle.ql_cnf.specs.Circuits.{InputsInRange, gates, denying, clauses_of};
 ghost use Rattle.ql_cnf.specs.Satisfaction.{IsUnsatisfiable};
 ghost use Rattle.ql_lang.specs.Formulas.{resolved_of, statement_of};
 ghost use Rattle.ql_ground.specs.Bodies.{body_circuit};
 ghost use Rattle.ql_ground.specs.Ground as groups;
 ghost use Rattle.ql_ground.specs.Implication.{IsContractOf, Implies, ImpliesTxn};
 ghost use Rattle.ql_ground.specs.Parts.{OverConstants, most_ground_clauses};
+ghost use Rattle.ql_ground.specs.SmallBodies.{IsSmall};
 
 use crate::body::ground_body;
 use crate::goal_groups::{add_op_groups, add_txn_groups};
 use ql_atoms::Shape;
 use ql_base::{NoMemory, OpId};
-use ql_cnf::{Clauses, Ground, clausify};
+use ql_cnf::{Clauses, clausify};
 use ql_lang::{Body, Formula};
 use ql_levels::{Level, TxnLevel};
 use std::alloc::Global;
-
-/// The most nodes that a body may have; beyond that there would be no numbers for the variables. No contract
-/// that is parsed has so many, and a larger one is reported as out of memory.
-const MOST_GATES: u32 = 1 << 30;
 
 /// The ground problem of an operation at a level: can what the level guarantees hold at a call of the operation
 /// where its contract is false? Here `types` lists the type number of each operation of the program, and `f` is
@@ -35,6 +33,7 @@ pub(crate) fn op_problem(
     requires operation { o.0 < length types.now }
     requires few_variables { length f.now.vars ≤ 5 }
     requires contract { IsContractOf types.now true (resolved_of f.now) }
+    requires small { IsSmall (statement_of f.now.body) }
 
     // The clauses are those of the goal, in their order.
     ensures list { IfOk result
@@ -65,6 +64,7 @@ pub(crate) fn txn_problem(
     requires few_operations { length types.now ≤ 32 }
     requires few_variables { length f.now.vars ≤ 5 }
     requires contract { IsContractOf types.now false (resolved_of f.now) }
+    requires small { IsSmall (statement_of f.now.body) }
     ensures list { IfOk result (λ c. c ≡ groups.txn_problem types.now level (resolved_of f.now)) }
     ensures sound { IfOk result
         (λ c. IsUnsatisfiable c → ImpliesTxn types.now level (resolved_of f.now)) }
@@ -97,6 +97,8 @@ fn deny(alloc: Global, body: &Body, s: Shape, c: &mut Clauses) -> Result<(), NoM
     requires variables { c.old.variables ≡ count_of (size_of s) }
     requires few { count_of (size_of s) ≤ 450 }
     requires room { length c.old.clauses ≤ most_ground_clauses }
+    requires small { gates (body_circuit (size_of s) (statement_of body.now))
+        ≤ MAX_BODY_VARIABLES }
     ensures variables { OnOk result
         (c.new.variables ≡ count_of (size_of s)
         + gates (body_circuit (size_of s) (statement_of body.now))) }
@@ -106,27 +108,5 @@ fn deny(alloc: Global, body: &Body, s: Shape, c: &mut Clauses) -> Result<(), NoM
         (body_circuit (size_of s) (statement_of body.now)))) }
 {
     let circuit = ground_body(alloc, body, s)?;
-    match count_gates(&circuit) {
-        Some(gates) if gates <= MOST_GATES => clausify(&circuit, c),
-        _ => Err(NoMemory),
-    }
-}
-
-// How many nodes aren't leaves; none if there are too many for a 32-bit number.
-fn count_gates(g: &Ground) -> Option<u32>
-    ensures { IfSome result (λ n. n ≡ gates (circuit_of g.now)) }
-{
-    match g {
-        Ground::True => Some(1),
-        Ground::Leaf(_) => Some(0),
-        Ground::And(p, q) => count_pair(count_gates(p)?, count_gates(q)?),
-        Ground::Or(p, q) => count_pair(count_gates(p)?, count_gates(q)?),
-        Ground::Implies(p, q) => count_pair(count_gates(p)?, count_gates(q)?),
-    }
-}
-
-fn count_pair(left: u32, right: u32) -> Option<u32>
-    ensures { IfSome result (λ n. n ≡ suc (left + right)) }
-{
-    left.checked_add(right)?.checked_add(1)
+    clausify(&circuit, c)
 }

@@ -1,4 +1,6 @@
 // The problems of a program's goals, as text.
+ghost use Rattle.ql_ground.specs.SmallBodies.{HasSmallBodies};
+
 use ql_base::{DeclId, NoMemory, OpId};
 use ql_cnf::{Clause, Clauses};
 use ql_ground::{Goal, problem};
@@ -13,7 +15,9 @@ const OFFSET: u64 = 0xcbf29ce484222325;
 const PRIME: u64 = 0x100000001b3;
 
 // A line for each goal, and with `whole` a line for each clause after it.
-pub fn list_goals(alloc: Global, t: &Typed, whole: bool, out: &mut String) -> Result<(), NoMemory> {
+pub fn list_goals(alloc: Global, t: &Typed, whole: bool, out: &mut String) -> Result<(), NoMemory>
+    requires { HasSmallBodies t.now.program }
+{
     for o in 0..t.ops() {
         for level in [Level::Eventual, Level::Causal, Level::Wide, Level::Strong] {
             let clauses = problem(alloc, t, Goal::OpAt(OpId(o), level))?;

@@ -2,13 +2,17 @@
 // literals in their order. With `--clauses` as its first argument it prints the clauses themselves.
 #![tactic(auto)]
 
+ghost use Rattle.std.specs.Prelude.{IfOk, IfSome};
+ghost use Rattle.ql_ground.specs.SmallBodies.{HasSmallBodies};
+
 mod listing;
 
 use listing::list_goals;
 use ql_base::NoMemory;
-use ql_parse::{ParseFault, parse_program};
+use ql_commands::{SourceFault, read_source};
+use ql_parse::ParseFault;
 use ql_reply::read_arguments;
-use ql_typing::{TypeFault, Typed, typecheck};
+use ql_typing::{TypeFault, Typed};
 use std::alloc::Global;
 use std::{fs, io};
 
@@ -41,18 +45,16 @@ fn text_of(alloc: Global, text: &str, whole: bool) -> Result<Option<String>, NoM
 }
 
 // The program of a source; none where the text isn't one.
-fn typed(alloc: Global, text: &str) -> Result<Option<Typed>, NoMemory> {
+fn typed(alloc: Global, text: &str) -> Result<Option<Typed>, NoMemory>
+    ensures { IfOk result (λ typed. IfSome typed (λ t. HasSmallBodies t.program)) }
+{
     if text.len() > MOST_BYTES {
         return Ok(None);
     }
-    let program = match parse_program(alloc, text.as_bytes()) {
-        Ok(program) => program,
-        Err(ParseFault::NoMemory) => return Err(NoMemory),
-        Err(_) => return Ok(None),
-    };
-    match typecheck(alloc, program) {
+    match read_source(alloc, text.as_bytes()) {
         Ok(typed) => Ok(Some(typed)),
-        Err(TypeFault::NoMemory) => Err(NoMemory),
+        Err(SourceFault::Parse(ParseFault::NoMemory)) => Err(NoMemory),
+        Err(SourceFault::Typing(TypeFault::NoMemory)) => Err(NoMemory),
         Err(_) => Ok(None),
     }
 }

@@ -8,4 +8,4 @@ returns-in-Ok c =
     let p = c.args.t.now.program in
     let g = op_at c.args.o.0 c.in-Ok.level in
     let shown : IsEvidence p g c.in-Ok.evidence = c.in-Ok.ensures.least in
-    ((refl, c.requires), least p g c.in-Ok.evidence shown, shown.enough.2, c.last_of_op.ensures p c.in-Ok.level shown.lower)
+    ((refl, c.requires.op), least p g c.in-Ok.evidence shown, shown.enough.2, c.last_of_op.ensures p c.in-Ok.level shown.lower)

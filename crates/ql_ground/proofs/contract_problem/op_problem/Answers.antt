@@ -19,6 +19,9 @@ deny-requires-clause-leaves c =
 pub deny-requires-clause-room : goal.deny-requires-clause-room
 deny-requires-clause-room c = omega (arith, c.in_ok-add_op_groups.ensures.counted, ap length c.new-c.ensures.empty)
 
+pub deny-requires-clause-small : goal.deny-requires-clause-small
+deny-requires-clause-small c = c.requires.small (size (length c.items-variables.result.now + 1) (length c.args.types.now))
+
 pub returns-clause-list : goal.returns-clause-list
 returns-clause-list c =
     let counted : length c.items-variables.result.now + 1 ≡ suc (length c.args.f.now.vars) = omega (arith, ap length c.items-variables.ensures) in

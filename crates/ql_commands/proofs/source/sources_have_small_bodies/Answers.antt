@@ -1,0 +1,5 @@
+use Rattle.ql_commands.proofs.SmallBodies.{program_small}
+use Rattle.ql_commands.proofs.source.sources_have_small_bodies.Goals as goal
+
+pub returns : goal.returns
+returns c = λ bytes p source. program_small p (c.source_printed_again.ensures.few bytes _ source.0)
