@@ -86,10 +86,11 @@ pub(crate) fn push_misfit(said: &mut Vec<u8>, line: FaultyLine, k: usize) -> Res
     let number = k.saturating_sub(FIRST);
     let found = with_article(kind_of(field_text(line.fields, k)));
     let expected = with_article(base(line.source, op, number));
+    push_filled(said, b"found %, expected %: ", &[found, expected])?;
     push_counted(
         said,
-        b"found %, expected %: this is argument # of `%`",
-        &[found, expected, name],
+        b"this is argument # of `%`",
+        &[name],
         &[number.saturating_add(1) as u64],
     )
 }

@@ -97,7 +97,7 @@ fn push_expected_kind(note: &mut Vec<u8>, wish: Wish) -> Result<(), NoMemory> {
         Wish::First(function) => push_bytes(note, sentence_of(FIRST, name_of(function))),
         _ => {
             match wish.kind() {
-                Some(kind) => push_filled(note, b"%%", &[article(kind), spelling(kind)]),
+                Some(kind) => push_kind(note, kind),
                 None => push_bytes(note, b"another kind"),
             }
         }
@@ -107,16 +107,16 @@ fn push_expected_kind(note: &mut Vec<u8>, wish: Wish) -> Result<(), NoMemory> {
 // Appends what requires the kind.
 fn push_wish(note: &mut Vec<u8>, owner: &[u8], wish: Wish) -> Result<(), NoMemory> {
     match wish {
-        Wish::Answer(kind) => push_named(note, b"`%` answers %%", owner, kind),
-        Wish::Initial(kind) => push_named(note, initial_sentence(kind), owner, kind),
-        Wish::Assigned(kind) => push_named(note, b"the field `%` is %%", owner, kind),
-        Wish::Emitted(kind) => push_named(note, b"the emitted value `%` is %%", owner, kind),
+        Wish::Answer(kind) => push_named(note, b"`%` answers ", owner, kind),
+        Wish::Initial(kind) => push_initial(note, owner, kind),
+        Wish::Assigned(kind) => push_named(note, b"the field `%` is ", owner, kind),
+        Wish::Emitted(kind) => push_named(note, b"the emitted value `%` is ", owner, kind),
         Wish::When => push_bytes(note, b"`when` takes a bool"),
         Wish::Condition => push_bytes(note, b"the condition of `if` is a bool"),
         Wish::Branch(_) => push_bytes(note, b"`else` gives the kind that `then` gives"),
         Wish::Operand(operator, kind) => push_named(
             note,
-            b"`%` takes %%",
+            b"`%` takes ",
             spelling_of(operator),
             kind,
         ),
@@ -136,29 +136,33 @@ fn push_wish(note: &mut Vec<u8>, owner: &[u8], wish: Wish) -> Result<(), NoMemor
     }
 }
 
-fn initial_sentence(kind: Kind) -> &'static [u8] {
+fn push_initial(note: &mut Vec<u8>, field: &[u8], kind: Kind) -> Result<(), NoMemory> {
+    push_named(note, b"the field `%` is ", field, kind)?;
     match kind {
-        Kind::Set(_) | Kind::Map(_, _) => b"the field `%` is %%, and begins as `empty`",
-        _ => b"the field `%` is %%",
+        Kind::Set(_) | Kind::Map(_, _) => push_bytes(note, b", and begins as `empty`"),
+        _ => Ok(()),
     }
 }
 
-// A sentence with a name, and a kind with its article.
+// A sentence with a name, and then a kind.
 fn push_named(
     note: &mut Vec<u8>,
     sentence: &[u8],
     name: &[u8],
     kind: Kind,
 ) -> Result<(), NoMemory> {
-    push_filled(note, sentence, &[name, article(kind), spelling(kind)])
+    push_filled(note, sentence, &[name])?;
+    push_kind(note, kind)
+}
+
+// A kind with its article.
+fn push_kind(note: &mut Vec<u8>, kind: Kind) -> Result<(), NoMemory> {
+    push_filled(note, b"%%", &[article(kind), spelling(kind)])
 }
 
 fn push_taken(note: &mut Vec<u8>, function: &[u8]) -> Result<(), NoMemory> {
-    push_filled(
-        note,
-        b"`%` takes %",
-        &[function, sentence_of(TAKEN, function)],
-    )
+    push_filled(note, b"`%` takes ", &[function])?;
+    push_bytes(note, sentence_of(TAKEN, function))
 }
 
 fn spelling_of(operator: Operator) -> &'static [u8] {
@@ -211,7 +215,8 @@ pub(crate) fn push_redeclared(
     };
     push_filled(
         note,
-        b"  did you mean `%: %`?\n",
-        &[owner(tokens, k, clash.wish), spelling(kind)],
-    )
+        b"  did you mean `%: ",
+        &[owner(tokens, k, clash.wish)],
+    )?;
+    push_filled(note, b"%`?\n", &[spelling(kind)])
 }

@@ -62,7 +62,8 @@ pub(crate) fn push_command(
     };
     push_filled(
         note,
-        b"`%` is no command: did you mean `%`?\n\n",
-        &[first.as_bytes(), meant],
-    )
+        b"`%` is no command: did you mean ",
+        &[first.as_bytes()],
+    )?;
+    push_filled(note, b"`%`?\n\n", &[meant])
 }

@@ -109,17 +109,21 @@ fn push_cause(said: &mut Vec<u8>, refusal: Refusal) -> Result<(), NoMemory> {
         section,
         line,
     } = refusal;
-    let sentence: &[u8] = match (section.is_empty(), line.is_empty()) {
-        (true, true) => b"%%%",
-        (true, false) => b"%line %: %",
-        (false, true) => b"section `%`%: %",
-        (false, false) => b"section `%`, line %: %",
-    };
-    push_filled(
-        said,
-        sentence,
-        &[section, line, sentence_of(REFUSALS, rule)],
-    )
+    if !section.is_empty() {
+        push_filled(said, b"section `%`", &[section])?;
+    }
+    if !line.is_empty() {
+        let place: &[u8] = if section.is_empty() {
+            b"line %"
+        } else {
+            b", line %"
+        };
+        push_filled(said, place, &[line])?;
+    }
+    if !section.is_empty() || !line.is_empty() {
+        push_bytes(said, b": ")?;
+    }
+    push_bytes(said, sentence_of(REFUSALS, rule))
 }
 
 // Appends what the source has as the section with a number, from 1.
