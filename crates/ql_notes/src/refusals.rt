@@ -6,7 +6,7 @@ use crate::declared::{declared, word_of};
 use crate::filled::{push_counted, push_filled};
 use crate::pieces::piece;
 use crate::words::{has_word, is, sentence_of, word};
-use ql_base::{NoMemory, number_of};
+use ql_base::{NoMemory, number_of, push_bytes};
 use ql_excerpt::{File, Spot, line_of, push_fault};
 use std::alloc::Global;
 
