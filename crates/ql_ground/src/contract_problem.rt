@@ -1,5 +1,4 @@
-ghost use Rattle.std.specs.Prelude.{◌≡◌, ◌+◌, ◌<◌, ◌≤◌, ◌++◌, true, false, length, IfOk, OnOk};
-ghost use Rattle.ql_base.specs.declared.limits.TheConstants.{MAX_BODY_VARIABLES};
+ghost use Rattle.std.specs.Prelude.{◌≡◌, ◌+◌, ◌^◌, ◌<◌, ◌≤◌, ◌++◌, true, false, length, IfOk, OnOk};
 ghost use Rattle.ql_atoms.specs.Atoms.{size_of, count_of};
 ghost use Rattle.ql_cnf.specs.Circuits.{InputsInRange, gates, denying, clauses_of};
 ghost use Rattle.ql_cnf.specs.Satisfaction.{IsUnsatisfiable};
@@ -97,8 +96,7 @@ fn deny(alloc: Global, body: &Body, s: Shape, c: &mut Clauses) -> Result<(), NoM
     requires variables { c.old.variables ≡ count_of (size_of s) }
     requires few { count_of (size_of s) ≤ 450 }
     requires room { length c.old.clauses ≤ most_ground_clauses }
-    requires small { gates (body_circuit (size_of s) (statement_of body.now))
-        ≤ MAX_BODY_VARIABLES }
+    requires small { gates (body_circuit (size_of s) (statement_of body.now)) < 2 ^ 30 }
     ensures variables { OnOk result
         (c.new.variables ≡ count_of (size_of s)
         + gates (body_circuit (size_of s) (statement_of body.now))) }
