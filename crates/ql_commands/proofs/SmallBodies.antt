@@ -3,7 +3,7 @@ use Rattle.std.proofs.Common.{◌≡◌, ℕ, zero, suc, ◌+◌, ◌≤◌, Lis
 use Rattle.std.specs.Prelude.{slice_get}
 use Rattle.std.specs.List.{AllByRecursion}
 use Rattle.std.proofs.lemmas.List.{length-map}
-use Rattle.ql_base.specs.declared.limits.TheConstants.{MAX_NODES}
+use Rattle.ql_base.specs.declared.limits.TheConstants.{MAX_BODY_VARIABLES, MAX_NODES}
 use Rattle.ql_atoms.specs.declared.atoms.Atom.{Atom}
 use Rattle.ql_atoms.specs.declared.atoms.Atom.TheVariants.{Pair, Current}
 use Rattle.ql_atoms.specs.declared.atoms.PairKind.TheVariants.{SameTxn}
@@ -14,7 +14,7 @@ use Rattle.ql_lang.specs.declared.program.Program.{Program}
 use Rattle.ql_lang.specs.declared.program.TypeDecl.{TypeDecl}
 use Rattle.ql_lang.specs.declared.program.TxnDecl.{TxnDecl}
 use Rattle.ql_lang.specs.declared.relation.RelName.TheVariants.{Vis, So, Soo, SameObj, Eq, Hb, Hbo}
-use Rattle.ql_lang.specs.Formulas.{Resolved}
+use Rattle.ql_lang.specs.Formulas.{Resolved, Statement}
 use Rattle.ql_lang.specs.Expressions.{Expression}
 use Rattle.ql_lang.specs.Programs.{operation_of, replicated_of, transaction_of, source_of}
 use Rattle.ql_lang.specs.Trees.{Relation, Basic, Union, Intersection, Proposition, Truth, Application, Conjunction, Disjunction, Implication, InTxn, Sentence, sentence_of}
@@ -23,7 +23,7 @@ use Rattle.ql_typing.specs.ContractFaults.{var_names}
 use Rattle.ql_typing.specs.Faults.{names_met}
 use Rattle.ql_typing.specs.Resolved.{statement_in, resolved_in, term_of}
 use Rattle.ql_ground.specs.Bodies.{holds, constant_of, relation_circuit, grouped, all_of, other_circuits, txn_circuit, body_circuit}
-use Rattle.ql_ground.specs.SmallBodies.{IsSmall, HasSmallBodies}
+use Rattle.ql_ground.specs.SmallBodies.{IsBodyWithin, AreBodiesWithin, HasSmallBodies}
 use Rattle.ql_printed.specs.Printed.{relation_nodes, prop_nodes}
 use Rattle.ql_printed.specs.PrintedPrograms.{EachOfOperation, EachOfType, EachOfTransaction, HasFewNodes, expression_nodes}
 
@@ -84,27 +84,31 @@ body_small s vars (InTxn at members others) =
     let ns = map (term_of vars) others in
     omega (arith, txn_small s (map (constant_of s) ms) (map (constant_of s) ns), length-map ms (constant_of s), length-map ns (constant_of s), length-map members (term_of vars), length-map others (term_of vars))
 
+-- at most as many gates as a contract may have nodes
+abbrev IsFew : Statement → Type 0
+IsFew body = IsBodyWithin MAX_BODY_VARIABLES body
+
 abbrev HasFew : Sentence → Type 0
 HasFew c = prop_nodes c.body ≤ MAX_NODES
 
-sentence_small : (ops : List (List ℕ)) (c : Sentence) → HasFew c → IsSmall (resolved_in ops c).body
+sentence_small : (ops : List (List ℕ)) (c : Sentence) → HasFew c → IsFew (resolved_in ops c).body
 unfolding resolved_in
 sentence_small ops c few = λ s. omega (arith, body_small s (names_met [] (var_names c.vars)) c.body, few)
 
 -- each contract of a list of operations, of types and of transactions
 
-ops_small : (words : List (List ℕ)) (os : List OpDecl) → AllByRecursion (λ (o : OpDecl). HasFew (sentence_of o.contract)) os → (k : ℕ) (f : Resolved) → slice_get (map (op_contract words) os) k ≡ Some f → IsSmall f.body
+ops_small : (words : List (List ℕ)) (os : List OpDecl) → AllByRecursion (λ (o : OpDecl). HasFew (sentence_of o.contract)) os → (k : ℕ) (f : Resolved) → slice_get (map (op_contract words) os) k ≡ Some f → IsFew f.body
 ops_small words [] few k f h = absurd (cc)
 ops_small words (o ∷ os) few zero f h =
     let same : op_contract words o ≡ f = cc in
-    subst (λ (g : Resolved). IsSmall g.body) same (sentence_small words (sentence_of o.contract) few.0)
+    subst (λ (g : Resolved). IsFew g.body) same (sentence_small words (sentence_of o.contract) few.0)
 ops_small words (o ∷ os) few (suc k) f h = ops_small words os few.1 k f h
 
-txns_small : (words : List (List ℕ)) (ds : List TxnDecl) → AllByRecursion (λ (d : TxnDecl). HasFew (sentence_of d.contract)) ds → (k : ℕ) (f : Resolved) → slice_get (map (txn_contract words) ds) k ≡ Some f → IsSmall f.body
+txns_small : (words : List (List ℕ)) (ds : List TxnDecl) → AllByRecursion (λ (d : TxnDecl). HasFew (sentence_of d.contract)) ds → (k : ℕ) (f : Resolved) → slice_get (map (txn_contract words) ds) k ≡ Some f → IsFew f.body
 txns_small words [] few k f h = absurd (cc)
 txns_small words (d ∷ ds) few zero f h =
     let same : txn_contract words d ≡ f = cc in
-    subst (λ (g : Resolved). IsSmall g.body) same (sentence_small words (sentence_of d.contract) few.0)
+    subst (λ (g : Resolved). IsFew g.body) same (sentence_small words (sentence_of d.contract) few.0)
 txns_small words (d ∷ ds) few (suc k) f h = txns_small words ds few.1 k f h
 
 module _ (OfExpression : Expression → Type 0) where
@@ -120,8 +124,14 @@ module _ (OfExpression : Expression → Type 0) where
   txns_few [] few = tt
   txns_few (d ∷ ds) few = (few.0, txns_few ds few.1)
 
-pub program_small : (p : Program) → HasFewNodes (source_of p) → HasSmallBodies p
-program_small p few = record {
+pub program_few : (p : Program) → HasFewNodes (source_of p) → AreBodiesWithin MAX_BODY_VARIABLES p
+program_few p few = record {
   ops = ops_small (op_words p.types) (all_ops p.types) (ops_few (λ e. expression_nodes e ≤ MAX_NODES) p.types few.0);
   txns = txns_small (op_words p.types) p.txns (txns_few (λ e. expression_nodes e ≤ MAX_NODES) p.txns few.1);
+}
+
+pub program_small : (p : Program) → AreBodiesWithin MAX_BODY_VARIABLES p → HasSmallBodies p
+program_small p few = record {
+  ops = λ o f is s. omega (arith, few.ops o f is s);
+  txns = λ d f is s. omega (arith, few.txns d f is s);
 }

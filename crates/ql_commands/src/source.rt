@@ -1,5 +1,6 @@
 ghost use Rattle.std.specs.Prelude.{◌<◌, ◌^◌, ℕ, List, length, IfErr, IfOk};
-ghost use Rattle.ql_ground.specs.SmallBodies.{HasSmallBodies};
+ghost use Rattle.ql_base.specs.declared.limits.TheConstants.{MAX_BODY_VARIABLES};
+ghost use Rattle.ql_ground.specs.SmallBodies.{AreBodiesWithin, HasSmallBodies};
 ghost use Rattle.ql_lang.specs.declared.program.Program.{Program};
 ghost use Rattle.ql_commands.specs.Sources.{DeniesSource, IsSourceFault, IsSourceOf};
 ghost use Rattle.ql_commands.specs.declared.source_fault.SourceFault.{SourceFault};
@@ -37,9 +38,11 @@ fn faults_deny_sources()
     one_program_answer();
 }
 
-/// The law that each contract of a source's program is small.
+/// The law that the circuit of each contract of a source's program has at most 256 gates.
 fn sources_have_small_bodies()
-    ensures { (bytes : List ℕ) (p : Program) → IsSourceOf bytes p → HasSmallBodies p }
+    ensures few { (bytes : List ℕ) (p : Program) → IsSourceOf bytes p
+        → AreBodiesWithin MAX_BODY_VARIABLES p }
+    ensures small { (bytes : List ℕ) (p : Program) → IsSourceOf bytes p → HasSmallBodies p }
 {
     source_printed_again();
 }

@@ -96,7 +96,7 @@ fn deny(alloc: Global, body: &Body, s: Shape, c: &mut Clauses) -> Result<(), NoM
     requires variables { c.old.variables ≡ count_of (size_of s) }
     requires few { count_of (size_of s) ≤ 450 }
     requires room { length c.old.clauses ≤ most_ground_clauses }
-    requires small { gates (body_circuit (size_of s) (statement_of body.now)) < 2 ^ 30 }
+    requires small { gates (body_circuit (size_of s) (statement_of body.now)) ≤ 2 ^ 30 }
     ensures variables { OnOk result
         (c.new.variables ≡ count_of (size_of s)
         + gates (body_circuit (size_of s) (statement_of body.now))) }
