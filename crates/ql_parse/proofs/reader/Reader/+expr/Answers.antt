@@ -1,12 +1,16 @@
 use Rattle.std.proofs.Common.{◌≡◌, sym, ◌∙◌, ap, refl, ◌∷◌, [], ◌++◌, arith}
 use Rattle.std.proofs.lemmas.Result.{err_from_is_err_and}
 use Rattle.ql_lang.specs.Expressions.{expression_of, node_of}
-use Rattle.ql_grammar.specs.ExpressionGrammar.{Unary, Multiplied, Added, Compared, Conjoined, Disjoined, Chosen}
-use Rattle.ql_grammar.specs.Table.{Do, Then, Arguments, ExprAt, Called, Comparison, MoreArguments, MoreTimes, MorePlus, MoreConjoined, MoreDisjoined, to_arguments}
+use Rattle.ql_grammar.specs.ExpressionGrammar.{Chosen}
+use Rattle.ql_grammar.specs.Machine.{read}
+use Rattle.ql_grammar.specs.Table.{AnExpr, Do, Then, Arguments, ExprAt, Called, MoreArguments, to_arguments}
 use Rattle.ql_grammar.proofs.Choices.{read-do}
 use Rattle.ql_grammar.proofs.Rules.{read-as, then-on, then-past}
 use Rattle.ql_grammar.proofs.ByToken.{unary-name, unary-group, unary-not, unary-minus, unary-constant, chosen-if, chosen-plain}
-use Rattle.ql_parse.proofs.ArgumentLemmas.{called, map_more, same_operand}
+use Rattle.ql_parse.specs.Precedences.{following, more_at}
+use Rattle.ql_parse.proofs.ArgumentLemmas.{called, map_more}
+use Rattle.ql_parse.proofs.PrecedenceLaws.{goes_on, goes_past, inside, alone, read_part, ends}
+use Rattle.ql_parse.proofs.reader.Reader.+expr.Goals.{following-in-Some+in_ok-first-in-Some, following-in-None}
 use Rattle.ql_parse.proofs.reader.Reader.+expr.Goals as goal
 
 pub named-returns-in_err-name-clause-refused : goal.named-returns-in_err-name-clause-refused
@@ -132,174 +136,56 @@ unary-returns-in_err-value-clause-refused t c =
 pub unary-returns-clause-gave : goal.unary-returns-clause-gave
 unary-returns-clause-gave t c = λ below vs. unary-constant c.args.self.now below vs (sym c.sees.ensures ∙ c.if-sees.false) (sym c.sees-2.ensures ∙ c.if-sees-2.false) (sym c.sees-3.ensures ∙ c.if-sees-3.false) (sym c.sees-4.ensures ∙ c.if-sees-4.false) (sym c.sees-5.ensures ∙ c.if-sees-5.false) (sym c.sees-6.ensures ∙ c.if-sees-6.false) ∙ c.in_ok-value.ensures.gave _ _
 
-pub multiplication-returns-in_err-left-clause-refused : goal.multiplication-returns-in_err-left-clause-refused
-multiplication-returns-in_err-left-clause-refused t c =
+pub combined-returns-in_err-op-clause-refused : goal.combined-returns-in_err-op-clause-refused
+combined-returns-in_err-op-clause-refused t c =
     let p = err_from_is_err_and c.from_residual.result c.from_residual.ensures.1 in
-    rw (p.1, p.2) (λ f is below vs. read-as c.args.self.now (ExprAt Multiplied) (ExprAt Unary) below (Then MoreTimes ∷ below) vs refl ∙ c.in_err-left.ensures.refused f is _ _)
+    rw (p.1, p.2) (λ f is below vs. goes_on c.args.self.now c.args.precedence below _ c.requires ∙ c.in_err-op.ensures.refused f is _ _)
 
-pub multiplication-returns-in_err-product-clause-refused : goal.multiplication-returns-in_err-product-clause-refused
-multiplication-returns-in_err-product-clause-refused t c =
-    let p = err_from_is_err_and c.from_residual-in_err-product.result c.from_residual-in_err-product.ensures.1 in
-    rw (p.1, p.2) (λ f is below vs. read-as c.args.self.now (ExprAt Multiplied) (ExprAt Unary) below (Then MoreTimes ∷ below) vs refl ∙ c.in_ok-left.ensures.gave _ _ ∙ c.in_err-product.ensures.refused f is _ _)
-
-pub multiplication-returns-then-sees_operator-clause-gave : goal.multiplication-returns-then-sees_operator-clause-gave
-multiplication-returns-then-sees_operator-clause-gave t c = λ below vs. read-as c.args.self.now (ExprAt Multiplied) (ExprAt Unary) below (Then MoreTimes ∷ below) vs refl ∙ c.in_ok-left.ensures.gave _ _ ∙ c.in_ok-product.ensures.gave _ _
-
-pub multiplication-returns-clause-gave : goal.multiplication-returns-clause-gave
-multiplication-returns-clause-gave t c = λ below vs. read-as c.args.self.now (ExprAt Multiplied) (ExprAt Unary) below (Then MoreTimes ∷ below) vs refl ∙ c.in_ok-left.ensures.gave _ _ ∙ then-past _ MoreTimes below _ (sym c.sees_operator.ensures ∙ c.if-sees_operator.false)
-
-pub more_times-returns-in_err-op-clause-refused : goal.more_times-returns-in_err-op-clause-refused
-more_times-returns-in_err-op-clause-refused t c =
-    let p = err_from_is_err_and c.from_residual.result c.from_residual.ensures.1 in
-    rw (p.1, p.2) (λ f is below vs. then-on c.args.self.now MoreTimes below _ c.requires ∙ c.in_err-op.ensures.refused f is _ _)
-
-pub more_times-returns-in_err-right-clause-refused : goal.more_times-returns-in_err-right-clause-refused
-more_times-returns-in_err-right-clause-refused t c =
+pub combined-returns-in_err-right-clause-refused : goal.combined-returns-in_err-right-clause-refused
+combined-returns-in_err-right-clause-refused t c =
     let p = err_from_is_err_and c.from_residual-in_err-right.result c.from_residual-in_err-right.ensures.1 in
-    rw (p.1, p.2) (λ f is below vs. then-on c.args.self.now MoreTimes below _ c.requires ∙ c.in_ok-op.ensures.gave _ _ ∙ c.in_err-right.ensures.refused f is _ _)
+    rw (p.1, p.2) (λ f is below vs. goes_on c.args.self.now c.args.precedence below _ c.requires ∙ c.in_ok-op.ensures.gave _ _ ∙ c.in_err-right.ensures.refused f is _ _)
 
-pub more_times-returns-in_err-product-clause-refused : goal.more_times-returns-in_err-product-clause-refused
-more_times-returns-in_err-product-clause-refused t c =
-    let p = err_from_is_err_and c.from_residual-in_err-product.result c.from_residual-in_err-product.ensures.1 in
-    rw (p.1, p.2) (λ f is below vs. then-on c.args.self.now MoreTimes below _ c.requires ∙ c.in_ok-op.ensures.gave _ _ ∙ c.in_ok-right.ensures.gave _ _ ∙ read-do _ _ _ _ ∙ same_operand _ _ _ c.in_ok-both.ensures.start c.in_ok-both.ensures.tree ∙ c.in_err-product.ensures.refused f is _ _)
+pub combined-returns-clause-gave : goal.combined-returns-clause-gave
+combined-returns-clause-gave t c = λ below vs. rw (c.in_ok-both.ensures.start, c.in_ok-both.ensures.tree) (goes_on c.args.self.now c.args.precedence below _ c.requires ∙ c.in_ok-op.ensures.gave _ _ ∙ c.in_ok-right.ensures.gave _ _ ∙ read-do _ _ _ _)
 
-pub more_times-returns-then-sees_operator-clause-gave : goal.more_times-returns-then-sees_operator-clause-gave
-more_times-returns-then-sees_operator-clause-gave t c = λ below vs. then-on c.args.self.now MoreTimes below _ c.requires ∙ c.in_ok-op.ensures.gave _ _ ∙ c.in_ok-right.ensures.gave _ _ ∙ read-do _ _ _ _ ∙ same_operand _ _ _ c.in_ok-both.ensures.start c.in_ok-both.ensures.tree ∙ c.in_ok-product.ensures.gave _ _
+pub more_operands-returns-then-not-sees_operator-clause-gave : goal.more_operands-returns-then-not-sees_operator-clause-gave
+more_operands-returns-then-not-sees_operator-clause-gave t c = λ below vs. goes_past c.args.self.now c.args.precedence below _ (sym c.sees_operator.ensures ∙ c.if-not-sees_operator.true)
 
-pub more_times-returns-clause-gave : goal.more_times-returns-clause-gave
-more_times-returns-clause-gave t c = λ below vs. rw (c.in_ok-both.ensures.start, c.in_ok-both.ensures.tree) (then-on c.args.self.now MoreTimes below _ c.requires ∙ c.in_ok-op.ensures.gave _ _ ∙ c.in_ok-right.ensures.gave _ _ ∙ read-do _ _ _ _ ∙ then-past _ MoreTimes below _ (sym c.sees_operator.ensures ∙ c.if-sees_operator.false))
-
-pub addition-returns-in_err-left-clause-refused : goal.addition-returns-in_err-left-clause-refused
-addition-returns-in_err-left-clause-refused t c =
+pub following-returns-in_err-first-in-Some-clause-refused : goal.following-returns-in_err-first-in-Some-clause-refused
+following-returns-in_err-first-in-Some-clause-refused t c =
     let p = err_from_is_err_and c.from_residual.result c.from_residual.ensures.1 in
-    rw (p.1, p.2) (λ f is below vs. read-as c.args.self.now (ExprAt Added) (ExprAt Multiplied) below (Then MorePlus ∷ below) vs refl ∙ c.in_err-left.ensures.refused f is _ _)
+    rw (p.1, p.2) (λ f is below vs. inside c.args.self.now c.args.precedence c.in-Some.inner below _ (sym c.tighter.ensures ∙ c.in-Some.is) ∙ c.in_err-first-in-Some.ensures.refused f is _ _)
 
-pub addition-returns-in_err-sum-clause-refused : goal.addition-returns-in_err-sum-clause-refused
-addition-returns-in_err-sum-clause-refused t c =
-    let p = err_from_is_err_and c.from_residual-in_err-sum.result c.from_residual-in_err-sum.ensures.1 in
-    rw (p.1, p.2) (λ f is below vs. read-as c.args.self.now (ExprAt Added) (ExprAt Multiplied) below (Then MorePlus ∷ below) vs refl ∙ c.in_ok-left.ensures.gave _ _ ∙ c.in_err-sum.ensures.refused f is _ _)
+pub following-returns-in_err-all-clause-refused : goal.following-returns-in_err-all-clause-refused
+following-returns-in_err-all-clause-refused t c =
+    let p = err_from_is_err_and c.from_residual-in_err-all.result c.from_residual-in_err-all.ensures.1 in
+    rw (p.1, p.2) (λ f is below vs.
+    let first : read c.args.self.now (following c.args.precedence below) (AnExpr c.args.left.start (expression_of c.args.left.expr) ∷ vs) ≡ read c.match-tighter.self (Then (more_at c.args.precedence) ∷ below) (AnExpr c.match-tighter.first.start (expression_of c.match-tighter.first.expr) ∷ vs) =
+    elim c.match-tighter.branch [ following-in-Some+in_ok-first-in-Some w ↦ rw (w.self-is, w.first-is) (inside c.args.self.now c.args.precedence w.in-Some.inner below _ (sym c.tighter.ensures ∙ w.in-Some.is) ∙ w.in_ok-first-in-Some.ensures.gave _ _) | following-in-None w ↦ rw (w.self-is, w.first-is) (alone c.args.self.now c.args.precedence below _ (sym c.tighter.ensures ∙ w.in-None.is)) ] in
+    first ∙ c.in_err-all.ensures.refused f is _ _)
 
-pub addition-returns-then-sees_operator-clause-gave : goal.addition-returns-then-sees_operator-clause-gave
-addition-returns-then-sees_operator-clause-gave t c = λ below vs. read-as c.args.self.now (ExprAt Added) (ExprAt Multiplied) below (Then MorePlus ∷ below) vs refl ∙ c.in_ok-left.ensures.gave _ _ ∙ c.in_ok-sum.ensures.gave _ _
+pub following-returns-clause-gave : goal.following-returns-clause-gave
+following-returns-clause-gave t c = λ below vs.
+    let first : read c.args.self.now (following c.args.precedence below) (AnExpr c.args.left.start (expression_of c.args.left.expr) ∷ vs) ≡ read c.match-tighter.self (Then (more_at c.args.precedence) ∷ below) (AnExpr c.match-tighter.first.start (expression_of c.match-tighter.first.expr) ∷ vs) =
+    elim c.match-tighter.branch [ following-in-Some+in_ok-first-in-Some w ↦ rw (w.self-is, w.first-is) (inside c.args.self.now c.args.precedence w.in-Some.inner below _ (sym c.tighter.ensures ∙ w.in-Some.is) ∙ w.in_ok-first-in-Some.ensures.gave _ _) | following-in-None w ↦ rw (w.self-is, w.first-is) (alone c.args.self.now c.args.precedence below _ (sym c.tighter.ensures ∙ w.in-None.is)) ] in
+    first ∙ c.in_ok-all.ensures.gave _ _
 
-pub addition-returns-clause-gave : goal.addition-returns-clause-gave
-addition-returns-clause-gave t c = λ below vs. read-as c.args.self.now (ExprAt Added) (ExprAt Multiplied) below (Then MorePlus ∷ below) vs refl ∙ c.in_ok-left.ensures.gave _ _ ∙ then-past _ MorePlus below _ (sym c.sees_operator.ensures ∙ c.if-sees_operator.false)
-
-pub more_plus-returns-in_err-op-clause-refused : goal.more_plus-returns-in_err-op-clause-refused
-more_plus-returns-in_err-op-clause-refused t c =
+pub operands-returns-in_err-first-clause-refused : goal.operands-returns-in_err-first-clause-refused
+operands-returns-in_err-first-clause-refused t c =
     let p = err_from_is_err_and c.from_residual.result c.from_residual.ensures.1 in
-    rw (p.1, p.2) (λ f is below vs. then-on c.args.self.now MorePlus below _ c.requires ∙ c.in_err-op.ensures.refused f is _ _)
+    rw (p.1, p.2) (λ f is below vs. read_part c.args.self.now c.args.precedence below vs ∙ c.in_err-first.ensures.refused f is _ _)
 
-pub more_plus-returns-in_err-right-clause-refused : goal.more_plus-returns-in_err-right-clause-refused
-more_plus-returns-in_err-right-clause-refused t c =
-    let p = err_from_is_err_and c.from_residual-in_err-right.result c.from_residual-in_err-right.ensures.1 in
-    rw (p.1, p.2) (λ f is below vs. then-on c.args.self.now MorePlus below _ c.requires ∙ c.in_ok-op.ensures.gave _ _ ∙ c.in_err-right.ensures.refused f is _ _)
+pub operands-returns-then-not-sees_any_operator-clause-gave : goal.operands-returns-then-not-sees_any_operator-clause-gave
+operands-returns-then-not-sees_any_operator-clause-gave t c = λ below vs. read_part c.args.self.now c.args.precedence below vs ∙ c.in_ok-first.ensures.gave _ _ ∙ ends c.unary.new.self c.args.precedence below _ (sym c.sees_any_operator.ensures ∙ c.if-not-sees_any_operator.true)
 
-pub more_plus-returns-in_err-sum-clause-refused : goal.more_plus-returns-in_err-sum-clause-refused
-more_plus-returns-in_err-sum-clause-refused t c =
-    let p = err_from_is_err_and c.from_residual-in_err-sum.result c.from_residual-in_err-sum.ensures.1 in
-    rw (p.1, p.2) (λ f is below vs. then-on c.args.self.now MorePlus below _ c.requires ∙ c.in_ok-op.ensures.gave _ _ ∙ c.in_ok-right.ensures.gave _ _ ∙ read-do _ _ _ _ ∙ same_operand _ _ _ c.in_ok-both.ensures.start c.in_ok-both.ensures.tree ∙ c.in_err-sum.ensures.refused f is _ _)
+pub operands-returns-in_err-all-clause-refused : goal.operands-returns-in_err-all-clause-refused
+operands-returns-in_err-all-clause-refused t c =
+    let p = err_from_is_err_and c.from_residual-in_err-all.result c.from_residual-in_err-all.ensures.1 in
+    rw (p.1, p.2) (λ f is below vs. read_part c.args.self.now c.args.precedence below vs ∙ c.in_ok-first.ensures.gave _ _ ∙ c.in_err-all.ensures.refused f is _ _)
 
-pub more_plus-returns-then-sees_operator-clause-gave : goal.more_plus-returns-then-sees_operator-clause-gave
-more_plus-returns-then-sees_operator-clause-gave t c = λ below vs. then-on c.args.self.now MorePlus below _ c.requires ∙ c.in_ok-op.ensures.gave _ _ ∙ c.in_ok-right.ensures.gave _ _ ∙ read-do _ _ _ _ ∙ same_operand _ _ _ c.in_ok-both.ensures.start c.in_ok-both.ensures.tree ∙ c.in_ok-sum.ensures.gave _ _
-
-pub more_plus-returns-clause-gave : goal.more_plus-returns-clause-gave
-more_plus-returns-clause-gave t c = λ below vs. rw (c.in_ok-both.ensures.start, c.in_ok-both.ensures.tree) (then-on c.args.self.now MorePlus below _ c.requires ∙ c.in_ok-op.ensures.gave _ _ ∙ c.in_ok-right.ensures.gave _ _ ∙ read-do _ _ _ _ ∙ then-past _ MorePlus below _ (sym c.sees_operator.ensures ∙ c.if-sees_operator.false))
-
-pub conjunction-returns-in_err-left-clause-refused : goal.conjunction-returns-in_err-left-clause-refused
-conjunction-returns-in_err-left-clause-refused t c =
-    let p = err_from_is_err_and c.from_residual.result c.from_residual.ensures.1 in
-    rw (p.1, p.2) (λ f is below vs. read-as c.args.self.now (ExprAt Conjoined) (ExprAt Compared) below (Then MoreConjoined ∷ below) vs refl ∙ c.in_err-left.ensures.refused f is _ _)
-
-pub conjunction-returns-in_err-conjunction-clause-refused : goal.conjunction-returns-in_err-conjunction-clause-refused
-conjunction-returns-in_err-conjunction-clause-refused t c =
-    let p = err_from_is_err_and c.from_residual-in_err-conjunction.result c.from_residual-in_err-conjunction.ensures.1 in
-    rw (p.1, p.2) (λ f is below vs. read-as c.args.self.now (ExprAt Conjoined) (ExprAt Compared) below (Then MoreConjoined ∷ below) vs refl ∙ c.in_ok-left.ensures.gave _ _ ∙ c.in_err-conjunction.ensures.refused f is _ _)
-
-pub conjunction-returns-then-sees_operator-clause-gave : goal.conjunction-returns-then-sees_operator-clause-gave
-conjunction-returns-then-sees_operator-clause-gave t c = λ below vs. read-as c.args.self.now (ExprAt Conjoined) (ExprAt Compared) below (Then MoreConjoined ∷ below) vs refl ∙ c.in_ok-left.ensures.gave _ _ ∙ c.in_ok-conjunction.ensures.gave _ _
-
-pub conjunction-returns-clause-gave : goal.conjunction-returns-clause-gave
-conjunction-returns-clause-gave t c = λ below vs. read-as c.args.self.now (ExprAt Conjoined) (ExprAt Compared) below (Then MoreConjoined ∷ below) vs refl ∙ c.in_ok-left.ensures.gave _ _ ∙ then-past _ MoreConjoined below _ (sym c.sees_operator.ensures ∙ c.if-sees_operator.false)
-
-pub more_conjoined-returns-in_err-op-clause-refused : goal.more_conjoined-returns-in_err-op-clause-refused
-more_conjoined-returns-in_err-op-clause-refused t c =
-    let p = err_from_is_err_and c.from_residual.result c.from_residual.ensures.1 in
-    rw (p.1, p.2) (λ f is below vs. then-on c.args.self.now MoreConjoined below _ c.requires ∙ c.in_err-op.ensures.refused f is _ _)
-
-pub more_conjoined-returns-in_err-right-clause-refused : goal.more_conjoined-returns-in_err-right-clause-refused
-more_conjoined-returns-in_err-right-clause-refused t c =
-    let p = err_from_is_err_and c.from_residual-in_err-right.result c.from_residual-in_err-right.ensures.1 in
-    rw (p.1, p.2) (λ f is below vs. then-on c.args.self.now MoreConjoined below _ c.requires ∙ c.in_ok-op.ensures.gave _ _ ∙ c.in_err-right.ensures.refused f is _ _)
-
-pub more_conjoined-returns-in_err-conjunction-clause-refused : goal.more_conjoined-returns-in_err-conjunction-clause-refused
-more_conjoined-returns-in_err-conjunction-clause-refused t c =
-    let p = err_from_is_err_and c.from_residual-in_err-conjunction.result c.from_residual-in_err-conjunction.ensures.1 in
-    rw (p.1, p.2) (λ f is below vs. then-on c.args.self.now MoreConjoined below _ c.requires ∙ c.in_ok-op.ensures.gave _ _ ∙ c.in_ok-right.ensures.gave _ _ ∙ read-do _ _ _ _ ∙ same_operand _ _ _ c.in_ok-both.ensures.start c.in_ok-both.ensures.tree ∙ c.in_err-conjunction.ensures.refused f is _ _)
-
-pub more_conjoined-returns-then-sees_operator-clause-gave : goal.more_conjoined-returns-then-sees_operator-clause-gave
-more_conjoined-returns-then-sees_operator-clause-gave t c = λ below vs. then-on c.args.self.now MoreConjoined below _ c.requires ∙ c.in_ok-op.ensures.gave _ _ ∙ c.in_ok-right.ensures.gave _ _ ∙ read-do _ _ _ _ ∙ same_operand _ _ _ c.in_ok-both.ensures.start c.in_ok-both.ensures.tree ∙ c.in_ok-conjunction.ensures.gave _ _
-
-pub more_conjoined-returns-clause-gave : goal.more_conjoined-returns-clause-gave
-more_conjoined-returns-clause-gave t c = λ below vs. rw (c.in_ok-both.ensures.start, c.in_ok-both.ensures.tree) (then-on c.args.self.now MoreConjoined below _ c.requires ∙ c.in_ok-op.ensures.gave _ _ ∙ c.in_ok-right.ensures.gave _ _ ∙ read-do _ _ _ _ ∙ then-past _ MoreConjoined below _ (sym c.sees_operator.ensures ∙ c.if-sees_operator.false))
-
-pub disjunction-returns-in_err-left-clause-refused : goal.disjunction-returns-in_err-left-clause-refused
-disjunction-returns-in_err-left-clause-refused t c =
-    let p = err_from_is_err_and c.from_residual.result c.from_residual.ensures.1 in
-    rw (p.1, p.2) (λ f is below vs. read-as c.args.self.now (ExprAt Disjoined) (ExprAt Conjoined) below (Then MoreDisjoined ∷ below) vs refl ∙ c.in_err-left.ensures.refused f is _ _)
-
-pub disjunction-returns-in_err-disjunction-clause-refused : goal.disjunction-returns-in_err-disjunction-clause-refused
-disjunction-returns-in_err-disjunction-clause-refused t c =
-    let p = err_from_is_err_and c.from_residual-in_err-disjunction.result c.from_residual-in_err-disjunction.ensures.1 in
-    rw (p.1, p.2) (λ f is below vs. read-as c.args.self.now (ExprAt Disjoined) (ExprAt Conjoined) below (Then MoreDisjoined ∷ below) vs refl ∙ c.in_ok-left.ensures.gave _ _ ∙ c.in_err-disjunction.ensures.refused f is _ _)
-
-pub disjunction-returns-then-sees_operator-clause-gave : goal.disjunction-returns-then-sees_operator-clause-gave
-disjunction-returns-then-sees_operator-clause-gave t c = λ below vs. read-as c.args.self.now (ExprAt Disjoined) (ExprAt Conjoined) below (Then MoreDisjoined ∷ below) vs refl ∙ c.in_ok-left.ensures.gave _ _ ∙ c.in_ok-disjunction.ensures.gave _ _
-
-pub disjunction-returns-clause-gave : goal.disjunction-returns-clause-gave
-disjunction-returns-clause-gave t c = λ below vs. read-as c.args.self.now (ExprAt Disjoined) (ExprAt Conjoined) below (Then MoreDisjoined ∷ below) vs refl ∙ c.in_ok-left.ensures.gave _ _ ∙ then-past _ MoreDisjoined below _ (sym c.sees_operator.ensures ∙ c.if-sees_operator.false)
-
-pub more_disjoined-returns-in_err-op-clause-refused : goal.more_disjoined-returns-in_err-op-clause-refused
-more_disjoined-returns-in_err-op-clause-refused t c =
-    let p = err_from_is_err_and c.from_residual.result c.from_residual.ensures.1 in
-    rw (p.1, p.2) (λ f is below vs. then-on c.args.self.now MoreDisjoined below _ c.requires ∙ c.in_err-op.ensures.refused f is _ _)
-
-pub more_disjoined-returns-in_err-right-clause-refused : goal.more_disjoined-returns-in_err-right-clause-refused
-more_disjoined-returns-in_err-right-clause-refused t c =
-    let p = err_from_is_err_and c.from_residual-in_err-right.result c.from_residual-in_err-right.ensures.1 in
-    rw (p.1, p.2) (λ f is below vs. then-on c.args.self.now MoreDisjoined below _ c.requires ∙ c.in_ok-op.ensures.gave _ _ ∙ c.in_err-right.ensures.refused f is _ _)
-
-pub more_disjoined-returns-in_err-disjunction-clause-refused : goal.more_disjoined-returns-in_err-disjunction-clause-refused
-more_disjoined-returns-in_err-disjunction-clause-refused t c =
-    let p = err_from_is_err_and c.from_residual-in_err-disjunction.result c.from_residual-in_err-disjunction.ensures.1 in
-    rw (p.1, p.2) (λ f is below vs. then-on c.args.self.now MoreDisjoined below _ c.requires ∙ c.in_ok-op.ensures.gave _ _ ∙ c.in_ok-right.ensures.gave _ _ ∙ read-do _ _ _ _ ∙ same_operand _ _ _ c.in_ok-both.ensures.start c.in_ok-both.ensures.tree ∙ c.in_err-disjunction.ensures.refused f is _ _)
-
-pub more_disjoined-returns-then-sees_operator-clause-gave : goal.more_disjoined-returns-then-sees_operator-clause-gave
-more_disjoined-returns-then-sees_operator-clause-gave t c = λ below vs. then-on c.args.self.now MoreDisjoined below _ c.requires ∙ c.in_ok-op.ensures.gave _ _ ∙ c.in_ok-right.ensures.gave _ _ ∙ read-do _ _ _ _ ∙ same_operand _ _ _ c.in_ok-both.ensures.start c.in_ok-both.ensures.tree ∙ c.in_ok-disjunction.ensures.gave _ _
-
-pub more_disjoined-returns-clause-gave : goal.more_disjoined-returns-clause-gave
-more_disjoined-returns-clause-gave t c = λ below vs. rw (c.in_ok-both.ensures.start, c.in_ok-both.ensures.tree) (then-on c.args.self.now MoreDisjoined below _ c.requires ∙ c.in_ok-op.ensures.gave _ _ ∙ c.in_ok-right.ensures.gave _ _ ∙ read-do _ _ _ _ ∙ then-past _ MoreDisjoined below _ (sym c.sees_operator.ensures ∙ c.if-sees_operator.false))
-
-pub comparison-returns-in_err-left-clause-refused : goal.comparison-returns-in_err-left-clause-refused
-comparison-returns-in_err-left-clause-refused t c =
-    let p = err_from_is_err_and c.from_residual.result c.from_residual.ensures.1 in
-    rw (p.1, p.2) (λ f is below vs. read-as c.args.self.now (ExprAt Compared) (ExprAt Added) below (Then Comparison ∷ below) vs refl ∙ c.in_err-left.ensures.refused f is _ _)
-
-pub comparison-returns-in_err-op-clause-refused : goal.comparison-returns-in_err-op-clause-refused
-comparison-returns-in_err-op-clause-refused t c =
-    let p = err_from_is_err_and c.from_residual-in_err-op.result c.from_residual-in_err-op.ensures.1 in
-    rw (p.1, p.2) (λ f is below vs. read-as c.args.self.now (ExprAt Compared) (ExprAt Added) below (Then Comparison ∷ below) vs refl ∙ c.in_ok-left.ensures.gave _ _ ∙ then-on _ Comparison below _ (sym c.sees_operator.ensures ∙ c.if-sees_operator.true) ∙ c.in_err-op.ensures.refused f is _ _)
-
-pub comparison-returns-in_err-right-clause-refused : goal.comparison-returns-in_err-right-clause-refused
-comparison-returns-in_err-right-clause-refused t c =
-    let p = err_from_is_err_and c.from_residual-in_err-right.result c.from_residual-in_err-right.ensures.1 in
-    rw (p.1, p.2) (λ f is below vs. read-as c.args.self.now (ExprAt Compared) (ExprAt Added) below (Then Comparison ∷ below) vs refl ∙ c.in_ok-left.ensures.gave _ _ ∙ then-on _ Comparison below _ (sym c.sees_operator.ensures ∙ c.if-sees_operator.true) ∙ c.in_ok-op.ensures.gave _ _ ∙ c.in_err-right.ensures.refused f is _ _)
-
-pub comparison-returns-then-sees_operator-clause-gave : goal.comparison-returns-then-sees_operator-clause-gave
-comparison-returns-then-sees_operator-clause-gave t c = λ below vs. rw (c.in_ok-both.ensures.start, c.in_ok-both.ensures.tree) (read-as c.args.self.now (ExprAt Compared) (ExprAt Added) below (Then Comparison ∷ below) vs refl ∙ c.in_ok-left.ensures.gave _ _ ∙ then-on _ Comparison below _ (sym c.sees_operator.ensures ∙ c.if-sees_operator.true) ∙ c.in_ok-op.ensures.gave _ _ ∙ c.in_ok-right.ensures.gave _ _ ∙ read-do _ _ _ _)
-
-pub comparison-returns-clause-gave : goal.comparison-returns-clause-gave
-comparison-returns-clause-gave t c = λ below vs. read-as c.args.self.now (ExprAt Compared) (ExprAt Added) below (Then Comparison ∷ below) vs refl ∙ c.in_ok-left.ensures.gave _ _ ∙ then-past _ Comparison below _ (sym c.sees_operator.ensures ∙ c.if-sees_operator.false)
+pub operands-returns-clause-gave : goal.operands-returns-clause-gave
+operands-returns-clause-gave t c = λ below vs. read_part c.args.self.now c.args.precedence below vs ∙ c.in_ok-first.ensures.gave _ _ ∙ c.in_ok-all.ensures.gave _ _
 
 pub branch-returns-in_err-take-clause-refused : goal.branch-returns-in_err-take-clause-refused
 branch-returns-in_err-take-clause-refused t c =

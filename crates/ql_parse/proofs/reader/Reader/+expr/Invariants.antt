@@ -2,6 +2,7 @@ use Rattle.std.proofs.Common.{length, map, ◌+◌, ◌*◌}
 use Rattle.ql_lang.specs.Expressions.{expression_of}
 use Rattle.ql_grammar.specs.Table.{APart, TheExprs, Arguments, MoreArguments}
 use Rattle.ql_parse.specs.Readings.{Started}
+use Rattle.ql_parse.proofs.PrecedenceLaws.{rank}
 use Rattle.ql_parse.proofs.reader.Reader.+expr.Given as goal
 
 abbrev pub decreases-named : goal.decreases-named
@@ -25,32 +26,20 @@ decreases-negation l = 9 * length l.self.now.tokens
 abbrev pub decreases-unary : goal.decreases-unary
 decreases-unary l = 9 * length l.self.now.tokens + 1
 
-abbrev pub decreases-multiplication : goal.decreases-multiplication
-decreases-multiplication l = 9 * length l.self.now.tokens + 2
+abbrev pub decreases-operand : goal.decreases-operand
+decreases-operand l = 9 * length l.self.now.tokens + 3
 
-abbrev pub decreases-more_times : goal.decreases-more_times
-decreases-more_times l = 9 * length l.self.now.tokens
+abbrev pub decreases-combined : goal.decreases-combined
+decreases-combined l = 9 * length l.self.now.tokens
 
-abbrev pub decreases-addition : goal.decreases-addition
-decreases-addition l = 9 * length l.self.now.tokens + 3
+abbrev pub decreases-more_operands : goal.decreases-more_operands
+decreases-more_operands l = 9 * length l.self.now.tokens + 1
 
-abbrev pub decreases-more_plus : goal.decreases-more_plus
-decreases-more_plus l = 9 * length l.self.now.tokens
+abbrev pub decreases-following : goal.decreases-following
+decreases-following l = 9 * length l.self.now.tokens + 2 + rank l.precedence
 
-abbrev pub decreases-comparison : goal.decreases-comparison
-decreases-comparison l = 9 * length l.self.now.tokens + 4
-
-abbrev pub decreases-conjunction : goal.decreases-conjunction
-decreases-conjunction l = 9 * length l.self.now.tokens + 5
-
-abbrev pub decreases-more_conjoined : goal.decreases-more_conjoined
-decreases-more_conjoined l = 9 * length l.self.now.tokens
-
-abbrev pub decreases-disjunction : goal.decreases-disjunction
-decreases-disjunction l = 9 * length l.self.now.tokens + 6
-
-abbrev pub decreases-more_disjoined : goal.decreases-more_disjoined
-decreases-more_disjoined l = 9 * length l.self.now.tokens
+abbrev pub decreases-operands : goal.decreases-operands
+decreases-operands l = 9 * length l.self.now.tokens + 2
 
 abbrev pub decreases-branch : goal.decreases-branch
 decreases-branch l = 9 * length l.self.now.tokens
