@@ -1,15 +1,12 @@
 -- What is read at each precedence of operators.
-use Rattle.std.specs.Prelude.{◌≡◌, ◌||◌, Bool, true, false, List, ◌∷◌, Option, Some, None, Err, if◌then◌else◌, is_some}
+use Rattle.std.specs.Prelude.{◌≡◌, ◌||◌, Bool, true, false, ◌<◌, length, List, [], ◌∷◌, Option, Some, None, if◌then◌else◌, is_some}
 use Rattle.ql_grammar.specs.declared.precedence.Precedence.{Precedence}
 use Rattle.ql_grammar.specs.declared.precedence.Precedence.TheVariants.{Product, Sum, Comparison, Conjunction, Disjunction}
 use Rattle.ql_grammar.specs.ExpressionGrammar.{ExprPart, Unary, Multiplied, Added, Compared, Conjoined, Disjoined}
-use Rattle.ql_grammar.specs.Table.{Rest, Sym, Then, Value, MoreTimes, MorePlus, MoreConjoined, MoreDisjoined}
+use Rattle.ql_grammar.specs.Table.{Rest, Sym, Then, APart, ExprAt, Value, MoreTimes, MorePlus, MoreConjoined, MoreDisjoined}
 use Rattle.ql_grammar.specs.Table as table
-use Rattle.ql_grammar.specs.Limits as limits
 use Rattle.ql_grammar.specs.Tokens.{Lexeme}
 use Rattle.ql_grammar.specs.Machine.{Reading, read, operator_ahead}
-use Rattle.ql_parse.specs.declared.fault.Refusal.{Refusal}
-use Rattle.ql_parse.specs.Readings.{fault_of}
 
 -- the next tighter one
 abbrev pub tighter : Precedence → Option Precedence
@@ -57,13 +54,18 @@ more_at Comparison = table.Comparison
 more_at Conjunction = MoreConjoined
 more_at Disjunction = MoreDisjoined
 
--- the operators of it and of tighter ones that may follow
-abbrev pub following : Precedence → List Sym → List Sym
-following Product below = Then MoreTimes ∷ below
-following Sum below = Then MoreTimes ∷ Then MorePlus ∷ below
-following Comparison below = Then MoreTimes ∷ Then MorePlus ∷ Then table.Comparison ∷ below
-following Conjunction below = Then MoreTimes ∷ Then MorePlus ∷ Then table.Comparison ∷ Then MoreConjoined ∷ below
-following Disjunction below = Then MoreTimes ∷ Then MorePlus ∷ Then table.Comparison ∷ Then MoreConjoined ∷ Then MoreDisjoined ∷ below
+-- it and all tighter ones, the tightest first
+abbrev pub up_to : Precedence → List Precedence
+up_to Product = Product ∷ []
+up_to Sum = Product ∷ Sum ∷ []
+up_to Comparison = Product ∷ Sum ∷ Comparison ∷ []
+up_to Conjunction = Product ∷ Sum ∷ Comparison ∷ Conjunction ∷ []
+up_to Disjunction = Product ∷ Sum ∷ Comparison ∷ Conjunction ∷ Disjunction ∷ []
+
+-- operators of these that may follow, one precedence after another
+abbrev pub following : List Precedence → List Sym → List Sym
+following [] below = below
+following (p ∷ ps) below = Then (more_at p) ∷ following ps below
 
 -- what may follow two operands with an operator of it between them
 abbrev pub after_two : Precedence → List Sym → List Sym
@@ -73,9 +75,7 @@ after_two p below = if chains p then Then (more_at p) ∷ below else below
 abbrev pub Combined : Precedence → Value → Value → Reading → Reading → Type 0
 Combined p a b old new = (below : List Sym) (vs : List Value) → read old (Then (more_at p) ∷ below) (a ∷ vs) ≡ read new (after_two p below) (b ∷ vs)
 
--- all operators of it and of tighter ones were read
-abbrev pub GaveFollowing : Precedence → Value → Value → Reading → Reading → Type 0
-GaveFollowing p a b old new = (below : List Sym) (vs : List Value) → read old (following p below) (a ∷ vs) ≡ read new below (b ∷ vs)
-
-abbrev pub IsFollowingRefused : Precedence → Value → Reading → Refusal → Type 0
-IsFollowingRefused p a old e = (f : limits.Fault) → fault_of e ≡ Some f → (below : List Sym) (vs : List Value) → read old (following p below) (a ∷ vs) ≡ Err f
+-- operands were begun, and yielded a value so far; operators of these precedences may follow
+pub record Begun (p : Precedence) (ps : List Precedence) (v : Value) (old new : Reading) : Type 0 where
+  pub so_far : (below : List Sym) (vs : List Value) → read old (APart (ExprAt (part_at p)) ∷ below) vs ≡ read new (following ps below) (v ∷ vs)
+  pub shorter : length new.tokens < length old.tokens

@@ -21,13 +21,12 @@ ghost use Rattle.ql_grammar.specs.Table.{
 ghost use Rattle.ql_lang.specs.Expressions.{Choosing, Combining, expression_of};
 ghost use Rattle.ql_parse.specs.Precedences.{
   Combined,
-  GaveFollowing,
-  IsFollowingRefused,
   chains,
   more_at,
   operand_at,
   part_at,
   tighter,
+  up_to,
 };
 ghost use Rattle.ql_parse.specs.Readings.{
   AreRefused,
@@ -65,6 +64,32 @@ fn tighter(precedence: Precedence) -> Option<Precedence>
         Precedence::Comparison => Some(Precedence::Sum),
         Precedence::Conjunction => Some(Precedence::Comparison),
         Precedence::Disjunction => Some(Precedence::Conjunction),
+    }
+}
+
+/// This precedence and all tighter ones, the tightest first.
+fn up_to(precedence: Precedence) -> &'static [Precedence]
+    ensures { result.now ≡ up_to precedence }
+{
+    match precedence {
+        Precedence::Product => &[Precedence::Product],
+        Precedence::Sum => &[Precedence::Product, Precedence::Sum],
+        Precedence::Comparison => {
+            &[Precedence::Product, Precedence::Sum, Precedence::Comparison]
+        }
+        Precedence::Conjunction => &[
+            Precedence::Product,
+            Precedence::Sum,
+            Precedence::Comparison,
+            Precedence::Conjunction,
+        ],
+        Precedence::Disjunction => &[
+            Precedence::Product,
+            Precedence::Sum,
+            Precedence::Comparison,
+            Precedence::Conjunction,
+            Precedence::Disjunction,
+        ],
     }
 }
 
@@ -366,11 +391,10 @@ impl Reader<'_> {
         ensures refused { IfErr result
             (IsRefused (APart (ExprAt (operand_at precedence))) self.old) }
     {
-        let operand = match tighter(precedence) {
-            Some(inner) => self.operands(alloc, inner)?,
-            None => self.unary(alloc)?,
-        };
-        Ok(operand)
+        if let Some(inner) = tighter(precedence) {
+            return self.operands(alloc, inner);
+        }
+        self.unary(alloc)
     }
 
     /// The next operator, which has this precedence, and its second operand.
@@ -396,7 +420,7 @@ impl Reader<'_> {
         Ok(both)
     }
 
-    /// All operators of this precedence that follow an operand, each with its second operand.
+    /// The next operators, which have this precedence, each with its second operand.
     #[cycle(expr)]
     fn more_operands(
         &mut self,
@@ -404,47 +428,23 @@ impl Reader<'_> {
         precedence: Precedence,
         left: Operand,
     ) -> Result<Operand, Refusal>
+        requires { is_some (operator_ahead precedence self.old.tokens) ≡ true }
         ensures gave { IfOk result
             (λ o. GaveRest (more_at precedence) (AnExpr left.start (expression_of left.expr))
             (AnExpr o.start (expression_of o.expr)) self.old self.new) }
-        ensures within { OnOk result (length self.new.tokens ≤ length self.old.tokens) }
+        ensures shorter { OnOk result (length self.new.tokens < length self.old.tokens) }
         ensures refused { IfErr result
             (IsRestRefused (more_at precedence) (AnExpr left.start (expression_of left.expr))
             self.old) }
     {
-        if !self.sees_operator(precedence) {
-            return Ok(left);
-        }
         let both = self.combined(alloc, precedence, left)?;
         if !chains(precedence) {
             return Ok(both);
         }
-        let all = self.more_operands(alloc, precedence, both)?;
-        Ok(all)
-    }
-
-    /// All operators of this precedence and of tighter ones that follow an operand.
-    #[cycle(expr)]
-    fn following(
-        &mut self,
-        alloc: Global,
-        precedence: Precedence,
-        left: Operand,
-    ) -> Result<Operand, Refusal>
-        ensures gave { IfOk result
-            (λ o. GaveFollowing precedence (AnExpr left.start (expression_of left.expr))
-            (AnExpr o.start (expression_of o.expr)) self.old self.new) }
-        ensures within { OnOk result (length self.new.tokens ≤ length self.old.tokens) }
-        ensures refused { IfErr result
-            (IsFollowingRefused precedence (AnExpr left.start (expression_of left.expr))
-            self.old) }
-    {
-        let first = match tighter(precedence) {
-            Some(inner) => self.following(alloc, inner, left)?,
-            None => left,
-        };
-        let all = self.more_operands(alloc, precedence, first)?;
-        Ok(all)
+        if !self.sees_operator(precedence) {
+            return Ok(both);
+        }
+        self.more_operands(alloc, precedence, both)
     }
 
     /// Operands with operators of this precedence and of tighter ones between them.
@@ -456,12 +456,17 @@ impl Reader<'_> {
         ensures shorter { OnOk result (length self.new.tokens < length self.old.tokens) }
         ensures refused { IfErr result (IsRefused (APart (ExprAt (part_at precedence))) self.old) }
     {
-        let first = self.unary(alloc)?;
+        let mut left = self.unary(alloc)?;
         if !self.sees_any_operator() {
-            return Ok(first);
+            return Ok(left);
         }
-        let all = self.following(alloc, precedence, first)?;
-        Ok(all)
+        for level in up_to(precedence) {
+            if !self.sees_operator(*level) {
+                continue;
+            }
+            left = self.more_operands(alloc, *level, left)?;
+        }
+        Ok(left)
     }
 
     /// A word and the expression after it.
@@ -508,7 +513,6 @@ impl Reader<'_> {
         if self.sees(Terminal::IfWord) {
             return self.choice(alloc);
         }
-        let value = self.operands(alloc, Precedence::Disjunction)?;
-        Ok(value)
+        self.operands(alloc, Precedence::Disjunction)
     }
 }

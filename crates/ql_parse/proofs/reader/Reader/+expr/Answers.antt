@@ -7,10 +7,9 @@ use Rattle.ql_grammar.specs.Table.{AnExpr, Do, Then, Arguments, ExprAt, Called, 
 use Rattle.ql_grammar.proofs.Choices.{read-do}
 use Rattle.ql_grammar.proofs.Rules.{read-as, then-on, then-past}
 use Rattle.ql_grammar.proofs.ByToken.{unary-name, unary-group, unary-not, unary-minus, unary-constant, chosen-if, chosen-plain}
-use Rattle.ql_parse.specs.Precedences.{following, more_at}
 use Rattle.ql_parse.proofs.ArgumentLemmas.{called, map_more}
-use Rattle.ql_parse.proofs.PrecedenceLaws.{goes_on, goes_past, inside, alone, read_part, ends}
-use Rattle.ql_parse.proofs.reader.Reader.+expr.Goals.{following-in-Some+in_ok-first-in-Some, following-in-None}
+use Rattle.ql_parse.specs.Precedences.{up_to}
+use Rattle.ql_parse.proofs.PrecedenceLaws.{goes_on, goes_past, after_chain, read_part, ends, level_on, level_past, levels_done, if_ok, if_err}
 use Rattle.ql_parse.proofs.reader.Reader.+expr.Goals as goal
 
 pub named-returns-in_err-name-clause-refused : goal.named-returns-in_err-name-clause-refused
@@ -149,44 +148,6 @@ combined-returns-in_err-right-clause-refused t c =
 pub combined-returns-clause-gave : goal.combined-returns-clause-gave
 combined-returns-clause-gave t c = λ below vs. rw (c.in_ok-both.ensures.start, c.in_ok-both.ensures.tree) (goes_on c.args.self.now c.args.precedence below _ c.requires ∙ c.in_ok-op.ensures.gave _ _ ∙ c.in_ok-right.ensures.gave _ _ ∙ read-do _ _ _ _)
 
-pub more_operands-returns-then-not-sees_operator-clause-gave : goal.more_operands-returns-then-not-sees_operator-clause-gave
-more_operands-returns-then-not-sees_operator-clause-gave t c = λ below vs. goes_past c.args.self.now c.args.precedence below _ (sym c.sees_operator.ensures ∙ c.if-not-sees_operator.true)
-
-pub following-returns-in_err-first-in-Some-clause-refused : goal.following-returns-in_err-first-in-Some-clause-refused
-following-returns-in_err-first-in-Some-clause-refused t c =
-    let p = err_from_is_err_and c.from_residual.result c.from_residual.ensures.1 in
-    rw (p.1, p.2) (λ f is below vs. inside c.args.self.now c.args.precedence c.in-Some.inner below _ (sym c.tighter.ensures ∙ c.in-Some.is) ∙ c.in_err-first-in-Some.ensures.refused f is _ _)
-
-pub following-returns-in_err-all-clause-refused : goal.following-returns-in_err-all-clause-refused
-following-returns-in_err-all-clause-refused t c =
-    let p = err_from_is_err_and c.from_residual-in_err-all.result c.from_residual-in_err-all.ensures.1 in
-    rw (p.1, p.2) (λ f is below vs.
-    let first : read c.args.self.now (following c.args.precedence below) (AnExpr c.args.left.start (expression_of c.args.left.expr) ∷ vs) ≡ read c.match-tighter.self (Then (more_at c.args.precedence) ∷ below) (AnExpr c.match-tighter.first.start (expression_of c.match-tighter.first.expr) ∷ vs) =
-    elim c.match-tighter.branch [ following-in-Some+in_ok-first-in-Some w ↦ rw (w.self-is, w.first-is) (inside c.args.self.now c.args.precedence w.in-Some.inner below _ (sym c.tighter.ensures ∙ w.in-Some.is) ∙ w.in_ok-first-in-Some.ensures.gave _ _) | following-in-None w ↦ rw (w.self-is, w.first-is) (alone c.args.self.now c.args.precedence below _ (sym c.tighter.ensures ∙ w.in-None.is)) ] in
-    first ∙ c.in_err-all.ensures.refused f is _ _)
-
-pub following-returns-clause-gave : goal.following-returns-clause-gave
-following-returns-clause-gave t c = λ below vs.
-    let first : read c.args.self.now (following c.args.precedence below) (AnExpr c.args.left.start (expression_of c.args.left.expr) ∷ vs) ≡ read c.match-tighter.self (Then (more_at c.args.precedence) ∷ below) (AnExpr c.match-tighter.first.start (expression_of c.match-tighter.first.expr) ∷ vs) =
-    elim c.match-tighter.branch [ following-in-Some+in_ok-first-in-Some w ↦ rw (w.self-is, w.first-is) (inside c.args.self.now c.args.precedence w.in-Some.inner below _ (sym c.tighter.ensures ∙ w.in-Some.is) ∙ w.in_ok-first-in-Some.ensures.gave _ _) | following-in-None w ↦ rw (w.self-is, w.first-is) (alone c.args.self.now c.args.precedence below _ (sym c.tighter.ensures ∙ w.in-None.is)) ] in
-    first ∙ c.in_ok-all.ensures.gave _ _
-
-pub operands-returns-in_err-first-clause-refused : goal.operands-returns-in_err-first-clause-refused
-operands-returns-in_err-first-clause-refused t c =
-    let p = err_from_is_err_and c.from_residual.result c.from_residual.ensures.1 in
-    rw (p.1, p.2) (λ f is below vs. read_part c.args.self.now c.args.precedence below vs ∙ c.in_err-first.ensures.refused f is _ _)
-
-pub operands-returns-then-not-sees_any_operator-clause-gave : goal.operands-returns-then-not-sees_any_operator-clause-gave
-operands-returns-then-not-sees_any_operator-clause-gave t c = λ below vs. read_part c.args.self.now c.args.precedence below vs ∙ c.in_ok-first.ensures.gave _ _ ∙ ends c.unary.new.self c.args.precedence below _ (sym c.sees_any_operator.ensures ∙ c.if-not-sees_any_operator.true)
-
-pub operands-returns-in_err-all-clause-refused : goal.operands-returns-in_err-all-clause-refused
-operands-returns-in_err-all-clause-refused t c =
-    let p = err_from_is_err_and c.from_residual-in_err-all.result c.from_residual-in_err-all.ensures.1 in
-    rw (p.1, p.2) (λ f is below vs. read_part c.args.self.now c.args.precedence below vs ∙ c.in_ok-first.ensures.gave _ _ ∙ c.in_err-all.ensures.refused f is _ _)
-
-pub operands-returns-clause-gave : goal.operands-returns-clause-gave
-operands-returns-clause-gave t c = λ below vs. read_part c.args.self.now c.args.precedence below vs ∙ c.in_ok-first.ensures.gave _ _ ∙ c.in_ok-all.ensures.gave _ _
-
 pub branch-returns-in_err-take-clause-refused : goal.branch-returns-in_err-take-clause-refused
 branch-returns-in_err-take-clause-refused t c =
     let p = err_from_is_err_and c.from_residual.result c.from_residual.ensures.1 in
@@ -223,10 +184,46 @@ choice-returns-in_err-other-clause-refused t c =
 pub choice-returns-clause-gave : goal.choice-returns-clause-gave
 choice-returns-clause-gave t c = λ below vs. rw (c.in_ok-choice.ensures.start, c.in_ok-choice.ensures.tree) (chosen-if c.args.self.now below vs c.requires ∙ c.in_ok-at.ensures.gave _ _ ∙ c.in_ok-test.ensures.gave _ _ ∙ c.in_ok-then.ensures.gave _ _ ∙ c.in_ok-other.ensures.gave _ _ ∙ read-do _ _ _ _)
 
-pub whole_expression-returns-in_err-value-clause-refused : goal.whole_expression-returns-in_err-value-clause-refused
-whole_expression-returns-in_err-value-clause-refused t c =
+pub more_operands-returns-then-not-sees_operator-clause-gave : goal.more_operands-returns-then-not-sees_operator-clause-gave
+more_operands-returns-then-not-sees_operator-clause-gave t c = λ below vs.
+    c.in_ok-both.ensures.gave below vs ∙ after_chain c.combined.new.self c.args.precedence below _ (sym c.chains.ensures ∙ c.if-not-chains.false) ∙ goes_past c.combined.new.self c.args.precedence below _ (sym c.sees_operator.ensures ∙ c.if-not-sees_operator.true)
+
+pub operands-returns-in_err-left-clause-refused : goal.operands-returns-in_err-left-clause-refused
+operands-returns-in_err-left-clause-refused t c =
     let p = err_from_is_err_and c.from_residual.result c.from_residual.ensures.1 in
-    rw (p.1, p.2) (λ f is below vs. chosen-plain c.args.self.now below vs (sym c.sees.ensures ∙ c.if-sees.false) ∙ c.in_err-value.ensures.refused f is _ _)
+    rw (p.1, p.2) (λ f is below vs. read_part c.args.self.now c.args.precedence below vs ∙ c.in_err-left.ensures.refused f is _ _)
+
+pub operands-returns-then-not-sees_any_operator-clause-gave : goal.operands-returns-then-not-sees_any_operator-clause-gave
+operands-returns-then-not-sees_any_operator-clause-gave t c = λ below vs. read_part c.args.self.now c.args.precedence below vs ∙ c.in_ok-left.ensures.gave _ _ ∙ ends c.unary.new.self (up_to c.args.precedence) below _ (sym c.sees_any_operator.ensures ∙ c.if-not-sees_any_operator.true)
+
+pub operands-loop-level-init : goal.operands-loop-level-init
+operands-loop-level-init t c = rw c.up_to-level-items.ensures (record {
+  so_far = λ below vs. read_part c.args.self.now c.args.precedence below vs ∙ c.in_ok-left.ensures.gave _ _;
+  shorter = c.in_ok-left.ensures.shorter;
+})
+
+pub operands-loop-level-preserved-then-not-sees_operator : goal.operands-loop-level-preserved-then-not-sees_operator
+operands-loop-level-preserved-then-not-sees_operator t c = record {
+  so_far = λ below vs. c.loop-level.invariant.so_far below vs ∙ level_past c.loop-level.self c.up_to-level-items.result.now c.loop-level.level-index _ below _ c.loop-level-test.true (sym c.sees_operator.ensures ∙ c.if-not-sees_operator.true);
+  shorter = c.loop-level.invariant.shorter;
+}
+
+pub operands-returns-in_err-left-2-clause-refused : goal.operands-returns-in_err-left-2-clause-refused
+operands-returns-in_err-left-2-clause-refused t c =
+    let p = err_from_is_err_and c.from_residual-in_err-left-2.result c.from_residual-in_err-left-2.ensures.1 in
+    rw (p.1, p.2) (λ f is below vs. c.loop-level.invariant.so_far below vs ∙ level_on c.loop-level.self c.up_to-level-items.result.now c.loop-level.level-index _ below _ c.loop-level-test.true ∙ c.in_err-left-2.ensures.refused f is _ _)
+
+pub operands-loop-level-preserved : goal.operands-loop-level-preserved
+operands-loop-level-preserved t c = record {
+  so_far = λ below vs. c.loop-level.invariant.so_far below vs ∙ level_on c.loop-level.self c.up_to-level-items.result.now c.loop-level.level-index _ below _ c.loop-level-test.true ∙ c.in_ok-left-2.ensures.gave _ _;
+  shorter = omega (arith, c.loop-level.invariant.shorter, c.in_ok-left-2.ensures.shorter);
+}
+
+pub operands-returns-clause-gave : goal.operands-returns-clause-gave
+operands-returns-clause-gave t c = λ below vs. c.loop-level.invariant.so_far below vs ∙ levels_done c.loop-level.self c.up_to-level-items.result.now c.loop-level.level-index below _ (omega (arith, c.loop-level-test.false))
 
 pub whole_expression-returns-clause-gave : goal.whole_expression-returns-clause-gave
-whole_expression-returns-clause-gave t c = λ below vs. chosen-plain c.args.self.now below vs (sym c.sees.ensures ∙ c.if-sees.false) ∙ c.in_ok-value.ensures.gave _ _
+whole_expression-returns-clause-gave t c = if_ok c.operands.result c.operands.ensures.gave (λ o gave below vs. chosen-plain c.args.self.now below vs (sym c.sees.ensures ∙ c.if-sees.false) ∙ gave below vs)
+
+pub whole_expression-returns-clause-refused : goal.whole_expression-returns-clause-refused
+whole_expression-returns-clause-refused t c = if_err c.operands.result c.operands.ensures.refused (λ e refused f is below vs. chosen-plain c.args.self.now below vs (sym c.sees.ensures ∙ c.if-sees.false) ∙ refused f is below vs)

@@ -1,8 +1,8 @@
-use Rattle.std.proofs.Common.{length, map, ◌+◌, ◌*◌}
+use Rattle.std.proofs.Common.{length, map, drop, ◌+◌, ◌*◌}
 use Rattle.ql_lang.specs.Expressions.{expression_of}
-use Rattle.ql_grammar.specs.Table.{APart, TheExprs, Arguments, MoreArguments}
+use Rattle.ql_grammar.specs.Table.{APart, AnExpr, TheExprs, Arguments, MoreArguments}
+use Rattle.ql_parse.specs.Precedences.{Begun}
 use Rattle.ql_parse.specs.Readings.{Started}
-use Rattle.ql_parse.proofs.PrecedenceLaws.{rank}
 use Rattle.ql_parse.proofs.reader.Reader.+expr.Given as goal
 
 abbrev pub decreases-named : goal.decreases-named
@@ -35,9 +35,6 @@ decreases-combined l = 9 * length l.self.now.tokens
 abbrev pub decreases-more_operands : goal.decreases-more_operands
 decreases-more_operands l = 9 * length l.self.now.tokens + 1
 
-abbrev pub decreases-following : goal.decreases-following
-decreases-following l = 9 * length l.self.now.tokens + 2 + rank l.precedence
-
 abbrev pub decreases-operands : goal.decreases-operands
 decreases-operands l = 9 * length l.self.now.tokens + 2
 
@@ -55,3 +52,6 @@ invariant-arguments_of_call-more l = Started (APart Arguments) MoreArguments (Th
 
 abbrev pub decreases-arguments_of_call-more : goal.decreases-arguments_of_call-more
 decreases-arguments_of_call-more l = length l.self.tokens
+
+abbrev pub invariant-operands-loop-level : goal.invariant-operands-loop-level
+invariant-operands-loop-level l = Begun l.fn.precedence (drop l.level-index l.level-items) (AnExpr l.left.start (expression_of l.left.expr)) l.fn.self l.self
