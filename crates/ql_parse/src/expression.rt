@@ -47,6 +47,9 @@ use ql_grammar::{Precedence, Role, Terminal};
 use ql_lang::{BinOp, Expr, ExprNode, Exprs};
 use std::alloc::Global;
 
+/// No function takes more arguments than `get` and `put`.
+const MOST_ARGUMENTS: usize = 3;
+
 /// An expression that was read, and where it starts: at its own offset, or at that of a bracket round it.
 #[derive(Drop)]
 pub(crate) struct Operand {
@@ -283,7 +286,7 @@ impl Reader<'_> {
         ensures refused { IfErr result (IsRefused (APart Arguments) self.old) }
     {
         let first = self.whole_expression(alloc)?;
-        let mut found = Vec::new(alloc);
+        let mut found = Vec::with_capacity(alloc, MOST_ARGUMENTS)?;
         found.push(first.expr)?;
         'more: while self.sees(Terminal::Comma) {
             self.take(Terminal::Comma, Role::Plain)?;

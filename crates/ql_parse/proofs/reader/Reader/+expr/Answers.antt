@@ -55,7 +55,7 @@ arguments_of_call-returns-in_err-first-clause-refused t c =
 
 pub arguments_of_call-more-init : goal.arguments_of_call-more-init
 arguments_of_call-more-init t c =
-    let e : c.push.new.self.items ≡ c.in_ok-first.first.expr ∷ [] = c.in_ok-push.ensures.items ∙ ap (λ l. l ++ c.in_ok-first.first.expr ∷ []) c.new-found.ensures.items in
+    let e : c.push.new.self.items ≡ c.in_ok-first.first.expr ∷ [] = c.in_ok-push.ensures.items ∙ ap (λ l. l ++ c.in_ok-first.first.expr ∷ []) c.in_ok-found.ensures.items in
     rw e (record {
       so_far = λ below vs. read-as c.args.self.now Arguments (ExprAt Chosen) below (Do to_arguments ∷ Then MoreArguments ∷ below) vs refl ∙ c.in_ok-first.ensures.gave _ _ ∙ read-do _ _ _ _;
       shorter = c.in_ok-first.ensures.shorter;
