@@ -4,5 +4,6 @@ pub mod Spans
 pub mod OneReading
 pub mod Answering
 pub mod ArgumentLemmas
+pub mod PrecedenceLaws
 pub mod Lexemes
 pub mod FewOperations

@@ -1,3 +1,4 @@
 pub mod Readers
 pub mod Readings
+pub mod Precedences
 pub mod Parsing

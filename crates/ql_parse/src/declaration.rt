@@ -92,6 +92,9 @@ use ql_lang::{
 };
 use std::alloc::Global;
 
+/// For so many parameters, emitted values or statements a list has room at first.
+const USUAL_PARTS: usize = 2;
+
 /// What stands before the braces of an operation.
 #[derive(Drop)]
 struct Heading {
@@ -208,7 +211,7 @@ impl Reader<'_> {
         ensures refused { IfErr result (IsRestRefused SomeParams (TheParams []) self.old) }
     {
         let first = self.param()?;
-        let mut found = Vec::new(alloc);
+        let mut found = Vec::with_capacity(alloc, USUAL_PARTS)?;
         found.push(first)?;
         'more: while self.sees(Terminal::Comma) {
             self.take(Terminal::Comma, Role::Plain)?;
@@ -315,7 +318,7 @@ impl Reader<'_> {
     {
         self.take(Terminal::EmitWord, Role::Plain)?;
         let first = self.binding(alloc)?;
-        let mut found = Vec::new(alloc);
+        let mut found = Vec::with_capacity(alloc, USUAL_PARTS)?;
         found.push(first)?;
         'more: while self.sees(Terminal::Comma) {
             self.take(Terminal::Comma, Role::Plain)?;
@@ -349,7 +352,7 @@ impl Reader<'_> {
         ensures refused { IfErr result
             (IsRestRefused MoreAssignments (TheAssignments []) self.old) }
     {
-        let mut found = Vec::new(alloc);
+        let mut found = Vec::with_capacity(alloc, USUAL_PARTS)?;
         'more: while self.sees(Terminal::NameToken) {
             let item = self.assignment(alloc)?;
             found.push(item)?;

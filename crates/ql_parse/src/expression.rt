@@ -1,4 +1,4 @@
-ghost use Rattle.std.specs.Prelude.{◌≡◌, ◌<◌, IfErr, IfOk, OnOk, is_some, length, map, true};
+ghost use Rattle.std.specs.Prelude.{◌≡◌, ◌<◌, ◌≤◌, IfErr, IfOk, OnOk, is_some, length, map, true};
 ghost use Rattle.ql_grammar.specs.declared.terminal.Terminal.TheVariants.{
   IfWord,
   IntToken,
@@ -8,30 +8,26 @@ ghost use Rattle.ql_grammar.specs.declared.terminal.Terminal.TheVariants.{
   OpenParen,
   TextToken,
 };
-ghost use Rattle.ql_grammar.specs.ExpressionGrammar.{
-  Added,
-  Chosen,
-  Compared,
-  Conjoined,
-  Disjoined,
-  Multiplied,
-  Unary,
-};
+ghost use Rattle.ql_grammar.specs.ExpressionGrammar.{Chosen, Unary};
 ghost use Rattle.ql_grammar.specs.Machine.{is_ahead, operator_ahead};
 ghost use Rattle.ql_grammar.specs.Table.{
   APart,
   AnExpr,
   Arguments,
-  Comparison,
   ExprAt,
-  MoreConjoined,
-  MoreDisjoined,
-  MorePlus,
-  MoreTimes,
   TheExprs,
   constant_ways,
 };
 ghost use Rattle.ql_lang.specs.Expressions.{Choosing, Combining, expression_of};
+ghost use Rattle.ql_parse.specs.Precedences.{
+  Combined,
+  chains,
+  more_at,
+  operand_at,
+  part_at,
+  tighter,
+  up_to,
+};
 ghost use Rattle.ql_parse.specs.Readings.{
   AreRefused,
   Gave,
@@ -51,11 +47,63 @@ use ql_grammar::{Precedence, Role, Terminal};
 use ql_lang::{BinOp, Expr, ExprNode, Exprs};
 use std::alloc::Global;
 
+/// No function takes more arguments than `get` and `put`.
+const MOST_ARGUMENTS: usize = 3;
+
 /// An expression that was read, and where it starts: at its own offset, or at that of a bracket round it.
 #[derive(Drop)]
 pub(crate) struct Operand {
     pub(crate) start: u32,
     pub(crate) expr: Expr,
+}
+
+/// The next tighter precedence.
+fn tighter(precedence: Precedence) -> Option<Precedence>
+    ensures { result ≡ tighter precedence }
+{
+    match precedence {
+        Precedence::Product => None,
+        Precedence::Sum => Some(Precedence::Product),
+        Precedence::Comparison => Some(Precedence::Sum),
+        Precedence::Conjunction => Some(Precedence::Comparison),
+        Precedence::Disjunction => Some(Precedence::Conjunction),
+    }
+}
+
+/// This precedence and all tighter ones, the tightest first.
+fn up_to(precedence: Precedence) -> &'static [Precedence]
+    ensures { result.now ≡ up_to precedence }
+{
+    match precedence {
+        Precedence::Product => &[Precedence::Product],
+        Precedence::Sum => &[Precedence::Product, Precedence::Sum],
+        Precedence::Comparison => {
+            &[Precedence::Product, Precedence::Sum, Precedence::Comparison]
+        }
+        Precedence::Conjunction => &[
+            Precedence::Product,
+            Precedence::Sum,
+            Precedence::Comparison,
+            Precedence::Conjunction,
+        ],
+        Precedence::Disjunction => &[
+            Precedence::Product,
+            Precedence::Sum,
+            Precedence::Comparison,
+            Precedence::Conjunction,
+            Precedence::Disjunction,
+        ],
+    }
+}
+
+/// Whether operators of this precedence may follow one another without brackets.
+fn chains(precedence: Precedence) -> bool
+    ensures { result ≡ chains precedence }
+{
+    match precedence {
+        Precedence::Comparison => false,
+        _ => true,
+    }
 }
 
 /// The operator with its two operands, which starts where the first one does.
@@ -238,7 +286,7 @@ impl Reader<'_> {
         ensures refused { IfErr result (IsRefused (APart Arguments) self.old) }
     {
         let first = self.whole_expression(alloc)?;
-        let mut found = Vec::new(alloc);
+        let mut found = Vec::with_capacity(alloc, MOST_ARGUMENTS)?;
         found.push(first.expr)?;
         'more: while self.sees(Terminal::Comma) {
             self.take(Terminal::Comma, Role::Plain)?;
@@ -336,173 +384,90 @@ impl Reader<'_> {
         Ok(value)
     }
 
-    /// Expressions with `*` between them.
+    /// An operand of operators of this precedence.
     #[cycle(expr)]
-    fn multiplication(&mut self, alloc: Global) -> Result<Operand, Refusal>
+    fn operand(&mut self, alloc: Global, precedence: Precedence) -> Result<Operand, Refusal>
         ensures gave { IfOk result
-            (λ o. Gave (APart (ExprAt Multiplied)) (AnExpr o.start (expression_of o.expr)) self.old
-            self.new) }
-        ensures shorter { OnOk result (length self.new.tokens < length self.old.tokens) }
-        ensures refused { IfErr result (IsRefused (APart (ExprAt Multiplied)) self.old) }
-    {
-        let left = self.unary(alloc)?;
-        if self.sees_operator(Precedence::Product) {
-            let product = self.more_times(alloc, left)?;
-            return Ok(product);
-        }
-        Ok(left)
-    }
-
-    /// The rest of a product, from its next operator on.
-    #[cycle(expr)]
-    fn more_times(&mut self, alloc: Global, left: Operand) -> Result<Operand, Refusal>
-        requires { is_some (operator_ahead Precedence.Product self.old.tokens) ≡ true }
-        ensures gave { IfOk result
-            (λ o. GaveRest MoreTimes (AnExpr left.start (expression_of left.expr))
+            (λ o. Gave (APart (ExprAt (operand_at precedence)))
             (AnExpr o.start (expression_of o.expr)) self.old self.new) }
         ensures shorter { OnOk result (length self.new.tokens < length self.old.tokens) }
         ensures refused { IfErr result
-            (IsRestRefused MoreTimes (AnExpr left.start (expression_of left.expr)) self.old) }
+            (IsRefused (APart (ExprAt (operand_at precedence))) self.old) }
     {
-        let op = self.operator(Precedence::Product)?;
-        let right = self.unary(alloc)?;
-        let both = combination(alloc, left, op, right)?;
-        if self.sees_operator(Precedence::Product) {
-            let product = self.more_times(alloc, both)?;
-            return Ok(product);
+        if let Some(inner) = tighter(precedence) {
+            return self.operands(alloc, inner);
         }
-        Ok(both)
+        self.unary(alloc)
     }
 
-    /// Expressions with `+` and `-` between them.
+    /// The next operator, which has this precedence, and its second operand.
     #[cycle(expr)]
-    fn addition(&mut self, alloc: Global) -> Result<Operand, Refusal>
+    fn combined(
+        &mut self,
+        alloc: Global,
+        precedence: Precedence,
+        left: Operand,
+    ) -> Result<Operand, Refusal>
+        requires { is_some (operator_ahead precedence self.old.tokens) ≡ true }
         ensures gave { IfOk result
-            (λ o. Gave (APart (ExprAt Added)) (AnExpr o.start (expression_of o.expr)) self.old
-            self.new) }
-        ensures shorter { OnOk result (length self.new.tokens < length self.old.tokens) }
-        ensures refused { IfErr result (IsRefused (APart (ExprAt Added)) self.old) }
-    {
-        let left = self.multiplication(alloc)?;
-        if self.sees_operator(Precedence::Sum) {
-            let sum = self.more_plus(alloc, left)?;
-            return Ok(sum);
-        }
-        Ok(left)
-    }
-
-    /// The rest of a sum, from its next operator on.
-    #[cycle(expr)]
-    fn more_plus(&mut self, alloc: Global, left: Operand) -> Result<Operand, Refusal>
-        requires { is_some (operator_ahead Precedence.Sum self.old.tokens) ≡ true }
-        ensures gave { IfOk result
-            (λ o. GaveRest MorePlus (AnExpr left.start (expression_of left.expr))
+            (λ o. Combined precedence (AnExpr left.start (expression_of left.expr))
             (AnExpr o.start (expression_of o.expr)) self.old self.new) }
         ensures shorter { OnOk result (length self.new.tokens < length self.old.tokens) }
         ensures refused { IfErr result
-            (IsRestRefused MorePlus (AnExpr left.start (expression_of left.expr)) self.old) }
+            (IsRestRefused (more_at precedence) (AnExpr left.start (expression_of left.expr))
+            self.old) }
     {
-        let op = self.operator(Precedence::Sum)?;
-        let right = self.multiplication(alloc)?;
+        let op = self.operator(precedence)?;
+        let right = self.operand(alloc, precedence)?;
         let both = combination(alloc, left, op, right)?;
-        if self.sees_operator(Precedence::Sum) {
-            let sum = self.more_plus(alloc, both)?;
-            return Ok(sum);
-        }
         Ok(both)
     }
 
-    /// Expressions with `and` between them.
+    /// The next operators, which have this precedence, each with its second operand.
     #[cycle(expr)]
-    fn conjunction(&mut self, alloc: Global) -> Result<Operand, Refusal>
+    fn more_operands(
+        &mut self,
+        alloc: Global,
+        precedence: Precedence,
+        left: Operand,
+    ) -> Result<Operand, Refusal>
+        requires { is_some (operator_ahead precedence self.old.tokens) ≡ true }
         ensures gave { IfOk result
-            (λ o. Gave (APart (ExprAt Conjoined)) (AnExpr o.start (expression_of o.expr)) self.old
-            self.new) }
-        ensures shorter { OnOk result (length self.new.tokens < length self.old.tokens) }
-        ensures refused { IfErr result (IsRefused (APart (ExprAt Conjoined)) self.old) }
-    {
-        let left = self.comparison(alloc)?;
-        if self.sees_operator(Precedence::Conjunction) {
-            let conjunction = self.more_conjoined(alloc, left)?;
-            return Ok(conjunction);
-        }
-        Ok(left)
-    }
-
-    /// The rest of a conjunction, from its next operator on.
-    #[cycle(expr)]
-    fn more_conjoined(&mut self, alloc: Global, left: Operand) -> Result<Operand, Refusal>
-        requires { is_some (operator_ahead Precedence.Conjunction self.old.tokens) ≡ true }
-        ensures gave { IfOk result
-            (λ o. GaveRest MoreConjoined (AnExpr left.start (expression_of left.expr))
+            (λ o. GaveRest (more_at precedence) (AnExpr left.start (expression_of left.expr))
             (AnExpr o.start (expression_of o.expr)) self.old self.new) }
         ensures shorter { OnOk result (length self.new.tokens < length self.old.tokens) }
         ensures refused { IfErr result
-            (IsRestRefused MoreConjoined (AnExpr left.start (expression_of left.expr)) self.old) }
+            (IsRestRefused (more_at precedence) (AnExpr left.start (expression_of left.expr))
+            self.old) }
     {
-        let op = self.operator(Precedence::Conjunction)?;
-        let right = self.comparison(alloc)?;
-        let both = combination(alloc, left, op, right)?;
-        if self.sees_operator(Precedence::Conjunction) {
-            let conjunction = self.more_conjoined(alloc, both)?;
-            return Ok(conjunction);
-        }
-        Ok(both)
-    }
-
-    /// Expressions with `or` between them.
-    #[cycle(expr)]
-    fn disjunction(&mut self, alloc: Global) -> Result<Operand, Refusal>
-        ensures gave { IfOk result
-            (λ o. Gave (APart (ExprAt Disjoined)) (AnExpr o.start (expression_of o.expr)) self.old
-            self.new) }
-        ensures shorter { OnOk result (length self.new.tokens < length self.old.tokens) }
-        ensures refused { IfErr result (IsRefused (APart (ExprAt Disjoined)) self.old) }
-    {
-        let left = self.conjunction(alloc)?;
-        if self.sees_operator(Precedence::Disjunction) {
-            let disjunction = self.more_disjoined(alloc, left)?;
-            return Ok(disjunction);
-        }
-        Ok(left)
-    }
-
-    /// The rest of a disjunction, from its next operator on.
-    #[cycle(expr)]
-    fn more_disjoined(&mut self, alloc: Global, left: Operand) -> Result<Operand, Refusal>
-        requires { is_some (operator_ahead Precedence.Disjunction self.old.tokens) ≡ true }
-        ensures gave { IfOk result
-            (λ o. GaveRest MoreDisjoined (AnExpr left.start (expression_of left.expr))
-            (AnExpr o.start (expression_of o.expr)) self.old self.new) }
-        ensures shorter { OnOk result (length self.new.tokens < length self.old.tokens) }
-        ensures refused { IfErr result
-            (IsRestRefused MoreDisjoined (AnExpr left.start (expression_of left.expr)) self.old) }
-    {
-        let op = self.operator(Precedence::Disjunction)?;
-        let right = self.conjunction(alloc)?;
-        let both = combination(alloc, left, op, right)?;
-        if self.sees_operator(Precedence::Disjunction) {
-            let disjunction = self.more_disjoined(alloc, both)?;
-            return Ok(disjunction);
-        }
-        Ok(both)
-    }
-
-    /// Two expressions that are compared, or one.
-    #[cycle(expr)]
-    fn comparison(&mut self, alloc: Global) -> Result<Operand, Refusal>
-        ensures gave { IfOk result
-            (λ o. Gave (APart (ExprAt Compared)) (AnExpr o.start (expression_of o.expr)) self.old
-            self.new) }
-        ensures shorter { OnOk result (length self.new.tokens < length self.old.tokens) }
-        ensures refused { IfErr result (IsRefused (APart (ExprAt Compared)) self.old) }
-    {
-        let left = self.addition(alloc)?;
-        if self.sees_operator(Precedence::Comparison) {
-            let op = self.operator(Precedence::Comparison)?;
-            let right = self.addition(alloc)?;
-            let both = combination(alloc, left, op, right)?;
+        let both = self.combined(alloc, precedence, left)?;
+        if !chains(precedence) {
             return Ok(both);
+        }
+        if !self.sees_operator(precedence) {
+            return Ok(both);
+        }
+        self.more_operands(alloc, precedence, both)
+    }
+
+    /// Operands with operators of this precedence and of tighter ones between them.
+    #[cycle(expr)]
+    fn operands(&mut self, alloc: Global, precedence: Precedence) -> Result<Operand, Refusal>
+        ensures gave { IfOk result
+            (λ o. Gave (APart (ExprAt (part_at precedence)))
+            (AnExpr o.start (expression_of o.expr)) self.old self.new) }
+        ensures shorter { OnOk result (length self.new.tokens < length self.old.tokens) }
+        ensures refused { IfErr result (IsRefused (APart (ExprAt (part_at precedence))) self.old) }
+    {
+        let mut left = self.unary(alloc)?;
+        if !self.sees_any_operator() {
+            return Ok(left);
+        }
+        for level in up_to(precedence) {
+            if !self.sees_operator(*level) {
+                continue;
+            }
+            left = self.more_operands(alloc, *level, left)?;
         }
         Ok(left)
     }
@@ -551,7 +516,6 @@ impl Reader<'_> {
         if self.sees(Terminal::IfWord) {
             return self.choice(alloc);
         }
-        let value = self.disjunction(alloc)?;
-        Ok(value)
+        self.operands(alloc, Precedence::Disjunction)
     }
 }

@@ -6,6 +6,7 @@ ghost use Rattle.ql_grammar.specs.Table.{ANameOf, AName, AnOperator, APlace, ASp
 ghost use Rattle.ql_grammar.specs.Machine.{is_ahead, operator_ahead, place_ahead};
 ghost use Rattle.ql_grammar.proofs.Taking.{text_ahead};
 ghost use Rattle.ql_parse.specs.Readers.{AreSpans, lexemes_of, terminal_ahead};
+ghost use Rattle.ql_parse.specs.Precedences.{sees_any};
 ghost use Rattle.ql_parse.specs.Readings.{EndsHere, EndsNot, Gave, IsPast, IsRefused, Took};
 
 use crate::fault::Refusal;
@@ -311,6 +312,17 @@ impl<'a> Reader<'a> {
         ensures { result ≡ is_some (operator_ahead precedence self.now.tokens) }
     {
         self.operator_ahead(precedence).is_some()
+    }
+
+    /// Whether an operator between two operands comes next.
+    pub(crate) fn sees_any_operator(&self) -> bool
+        ensures { result ≡ sees_any self.now.tokens }
+    {
+        self.sees_operator(Precedence::Product)
+            || self.sees_operator(Precedence::Sum)
+            || self.sees_operator(Precedence::Comparison)
+            || self.sees_operator(Precedence::Conjunction)
+            || self.sees_operator(Precedence::Disjunction)
     }
 
     /// The operator of this precedence that comes next, which has to be one, with its offset.

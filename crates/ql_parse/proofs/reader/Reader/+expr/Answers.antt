@@ -1,12 +1,15 @@
 use Rattle.std.proofs.Common.{◌≡◌, sym, ◌∙◌, ap, refl, ◌∷◌, [], ◌++◌, arith}
 use Rattle.std.proofs.lemmas.Result.{err_from_is_err_and}
 use Rattle.ql_lang.specs.Expressions.{expression_of, node_of}
-use Rattle.ql_grammar.specs.ExpressionGrammar.{Unary, Multiplied, Added, Compared, Conjoined, Disjoined, Chosen}
-use Rattle.ql_grammar.specs.Table.{Do, Then, Arguments, ExprAt, Called, Comparison, MoreArguments, MoreTimes, MorePlus, MoreConjoined, MoreDisjoined, to_arguments}
+use Rattle.ql_grammar.specs.ExpressionGrammar.{Chosen}
+use Rattle.ql_grammar.specs.Machine.{read}
+use Rattle.ql_grammar.specs.Table.{AnExpr, Do, Then, Arguments, ExprAt, Called, MoreArguments, to_arguments}
 use Rattle.ql_grammar.proofs.Choices.{read-do}
 use Rattle.ql_grammar.proofs.Rules.{read-as, then-on, then-past}
 use Rattle.ql_grammar.proofs.ByToken.{unary-name, unary-group, unary-not, unary-minus, unary-constant, chosen-if, chosen-plain}
-use Rattle.ql_parse.proofs.ArgumentLemmas.{called, map_more, same_operand}
+use Rattle.ql_parse.proofs.ArgumentLemmas.{called, map_more}
+use Rattle.ql_parse.specs.Precedences.{up_to}
+use Rattle.ql_parse.proofs.PrecedenceLaws.{goes_on, goes_past, after_chain, read_part, ends, level_on, level_past, levels_done, if_ok, if_err}
 use Rattle.ql_parse.proofs.reader.Reader.+expr.Goals as goal
 
 pub named-returns-in_err-name-clause-refused : goal.named-returns-in_err-name-clause-refused
@@ -52,7 +55,7 @@ arguments_of_call-returns-in_err-first-clause-refused t c =
 
 pub arguments_of_call-more-init : goal.arguments_of_call-more-init
 arguments_of_call-more-init t c =
-    let e : c.push.new.self.items ≡ c.in_ok-first.first.expr ∷ [] = c.in_ok-push.ensures.items ∙ ap (λ l. l ++ c.in_ok-first.first.expr ∷ []) c.new-found.ensures.items in
+    let e : c.push.new.self.items ≡ c.in_ok-first.first.expr ∷ [] = c.in_ok-push.ensures.items ∙ ap (λ l. l ++ c.in_ok-first.first.expr ∷ []) c.in_ok-found.ensures.items in
     rw e (record {
       so_far = λ below vs. read-as c.args.self.now Arguments (ExprAt Chosen) below (Do to_arguments ∷ Then MoreArguments ∷ below) vs refl ∙ c.in_ok-first.ensures.gave _ _ ∙ read-do _ _ _ _;
       shorter = c.in_ok-first.ensures.shorter;
@@ -132,174 +135,18 @@ unary-returns-in_err-value-clause-refused t c =
 pub unary-returns-clause-gave : goal.unary-returns-clause-gave
 unary-returns-clause-gave t c = λ below vs. unary-constant c.args.self.now below vs (sym c.sees.ensures ∙ c.if-sees.false) (sym c.sees-2.ensures ∙ c.if-sees-2.false) (sym c.sees-3.ensures ∙ c.if-sees-3.false) (sym c.sees-4.ensures ∙ c.if-sees-4.false) (sym c.sees-5.ensures ∙ c.if-sees-5.false) (sym c.sees-6.ensures ∙ c.if-sees-6.false) ∙ c.in_ok-value.ensures.gave _ _
 
-pub multiplication-returns-in_err-left-clause-refused : goal.multiplication-returns-in_err-left-clause-refused
-multiplication-returns-in_err-left-clause-refused t c =
+pub combined-returns-in_err-op-clause-refused : goal.combined-returns-in_err-op-clause-refused
+combined-returns-in_err-op-clause-refused t c =
     let p = err_from_is_err_and c.from_residual.result c.from_residual.ensures.1 in
-    rw (p.1, p.2) (λ f is below vs. read-as c.args.self.now (ExprAt Multiplied) (ExprAt Unary) below (Then MoreTimes ∷ below) vs refl ∙ c.in_err-left.ensures.refused f is _ _)
+    rw (p.1, p.2) (λ f is below vs. goes_on c.args.self.now c.args.precedence below _ c.requires ∙ c.in_err-op.ensures.refused f is _ _)
 
-pub multiplication-returns-in_err-product-clause-refused : goal.multiplication-returns-in_err-product-clause-refused
-multiplication-returns-in_err-product-clause-refused t c =
-    let p = err_from_is_err_and c.from_residual-in_err-product.result c.from_residual-in_err-product.ensures.1 in
-    rw (p.1, p.2) (λ f is below vs. read-as c.args.self.now (ExprAt Multiplied) (ExprAt Unary) below (Then MoreTimes ∷ below) vs refl ∙ c.in_ok-left.ensures.gave _ _ ∙ c.in_err-product.ensures.refused f is _ _)
-
-pub multiplication-returns-then-sees_operator-clause-gave : goal.multiplication-returns-then-sees_operator-clause-gave
-multiplication-returns-then-sees_operator-clause-gave t c = λ below vs. read-as c.args.self.now (ExprAt Multiplied) (ExprAt Unary) below (Then MoreTimes ∷ below) vs refl ∙ c.in_ok-left.ensures.gave _ _ ∙ c.in_ok-product.ensures.gave _ _
-
-pub multiplication-returns-clause-gave : goal.multiplication-returns-clause-gave
-multiplication-returns-clause-gave t c = λ below vs. read-as c.args.self.now (ExprAt Multiplied) (ExprAt Unary) below (Then MoreTimes ∷ below) vs refl ∙ c.in_ok-left.ensures.gave _ _ ∙ then-past _ MoreTimes below _ (sym c.sees_operator.ensures ∙ c.if-sees_operator.false)
-
-pub more_times-returns-in_err-op-clause-refused : goal.more_times-returns-in_err-op-clause-refused
-more_times-returns-in_err-op-clause-refused t c =
-    let p = err_from_is_err_and c.from_residual.result c.from_residual.ensures.1 in
-    rw (p.1, p.2) (λ f is below vs. then-on c.args.self.now MoreTimes below _ c.requires ∙ c.in_err-op.ensures.refused f is _ _)
-
-pub more_times-returns-in_err-right-clause-refused : goal.more_times-returns-in_err-right-clause-refused
-more_times-returns-in_err-right-clause-refused t c =
+pub combined-returns-in_err-right-clause-refused : goal.combined-returns-in_err-right-clause-refused
+combined-returns-in_err-right-clause-refused t c =
     let p = err_from_is_err_and c.from_residual-in_err-right.result c.from_residual-in_err-right.ensures.1 in
-    rw (p.1, p.2) (λ f is below vs. then-on c.args.self.now MoreTimes below _ c.requires ∙ c.in_ok-op.ensures.gave _ _ ∙ c.in_err-right.ensures.refused f is _ _)
+    rw (p.1, p.2) (λ f is below vs. goes_on c.args.self.now c.args.precedence below _ c.requires ∙ c.in_ok-op.ensures.gave _ _ ∙ c.in_err-right.ensures.refused f is _ _)
 
-pub more_times-returns-in_err-product-clause-refused : goal.more_times-returns-in_err-product-clause-refused
-more_times-returns-in_err-product-clause-refused t c =
-    let p = err_from_is_err_and c.from_residual-in_err-product.result c.from_residual-in_err-product.ensures.1 in
-    rw (p.1, p.2) (λ f is below vs. then-on c.args.self.now MoreTimes below _ c.requires ∙ c.in_ok-op.ensures.gave _ _ ∙ c.in_ok-right.ensures.gave _ _ ∙ read-do _ _ _ _ ∙ same_operand _ _ _ c.in_ok-both.ensures.start c.in_ok-both.ensures.tree ∙ c.in_err-product.ensures.refused f is _ _)
-
-pub more_times-returns-then-sees_operator-clause-gave : goal.more_times-returns-then-sees_operator-clause-gave
-more_times-returns-then-sees_operator-clause-gave t c = λ below vs. then-on c.args.self.now MoreTimes below _ c.requires ∙ c.in_ok-op.ensures.gave _ _ ∙ c.in_ok-right.ensures.gave _ _ ∙ read-do _ _ _ _ ∙ same_operand _ _ _ c.in_ok-both.ensures.start c.in_ok-both.ensures.tree ∙ c.in_ok-product.ensures.gave _ _
-
-pub more_times-returns-clause-gave : goal.more_times-returns-clause-gave
-more_times-returns-clause-gave t c = λ below vs. rw (c.in_ok-both.ensures.start, c.in_ok-both.ensures.tree) (then-on c.args.self.now MoreTimes below _ c.requires ∙ c.in_ok-op.ensures.gave _ _ ∙ c.in_ok-right.ensures.gave _ _ ∙ read-do _ _ _ _ ∙ then-past _ MoreTimes below _ (sym c.sees_operator.ensures ∙ c.if-sees_operator.false))
-
-pub addition-returns-in_err-left-clause-refused : goal.addition-returns-in_err-left-clause-refused
-addition-returns-in_err-left-clause-refused t c =
-    let p = err_from_is_err_and c.from_residual.result c.from_residual.ensures.1 in
-    rw (p.1, p.2) (λ f is below vs. read-as c.args.self.now (ExprAt Added) (ExprAt Multiplied) below (Then MorePlus ∷ below) vs refl ∙ c.in_err-left.ensures.refused f is _ _)
-
-pub addition-returns-in_err-sum-clause-refused : goal.addition-returns-in_err-sum-clause-refused
-addition-returns-in_err-sum-clause-refused t c =
-    let p = err_from_is_err_and c.from_residual-in_err-sum.result c.from_residual-in_err-sum.ensures.1 in
-    rw (p.1, p.2) (λ f is below vs. read-as c.args.self.now (ExprAt Added) (ExprAt Multiplied) below (Then MorePlus ∷ below) vs refl ∙ c.in_ok-left.ensures.gave _ _ ∙ c.in_err-sum.ensures.refused f is _ _)
-
-pub addition-returns-then-sees_operator-clause-gave : goal.addition-returns-then-sees_operator-clause-gave
-addition-returns-then-sees_operator-clause-gave t c = λ below vs. read-as c.args.self.now (ExprAt Added) (ExprAt Multiplied) below (Then MorePlus ∷ below) vs refl ∙ c.in_ok-left.ensures.gave _ _ ∙ c.in_ok-sum.ensures.gave _ _
-
-pub addition-returns-clause-gave : goal.addition-returns-clause-gave
-addition-returns-clause-gave t c = λ below vs. read-as c.args.self.now (ExprAt Added) (ExprAt Multiplied) below (Then MorePlus ∷ below) vs refl ∙ c.in_ok-left.ensures.gave _ _ ∙ then-past _ MorePlus below _ (sym c.sees_operator.ensures ∙ c.if-sees_operator.false)
-
-pub more_plus-returns-in_err-op-clause-refused : goal.more_plus-returns-in_err-op-clause-refused
-more_plus-returns-in_err-op-clause-refused t c =
-    let p = err_from_is_err_and c.from_residual.result c.from_residual.ensures.1 in
-    rw (p.1, p.2) (λ f is below vs. then-on c.args.self.now MorePlus below _ c.requires ∙ c.in_err-op.ensures.refused f is _ _)
-
-pub more_plus-returns-in_err-right-clause-refused : goal.more_plus-returns-in_err-right-clause-refused
-more_plus-returns-in_err-right-clause-refused t c =
-    let p = err_from_is_err_and c.from_residual-in_err-right.result c.from_residual-in_err-right.ensures.1 in
-    rw (p.1, p.2) (λ f is below vs. then-on c.args.self.now MorePlus below _ c.requires ∙ c.in_ok-op.ensures.gave _ _ ∙ c.in_err-right.ensures.refused f is _ _)
-
-pub more_plus-returns-in_err-sum-clause-refused : goal.more_plus-returns-in_err-sum-clause-refused
-more_plus-returns-in_err-sum-clause-refused t c =
-    let p = err_from_is_err_and c.from_residual-in_err-sum.result c.from_residual-in_err-sum.ensures.1 in
-    rw (p.1, p.2) (λ f is below vs. then-on c.args.self.now MorePlus below _ c.requires ∙ c.in_ok-op.ensures.gave _ _ ∙ c.in_ok-right.ensures.gave _ _ ∙ read-do _ _ _ _ ∙ same_operand _ _ _ c.in_ok-both.ensures.start c.in_ok-both.ensures.tree ∙ c.in_err-sum.ensures.refused f is _ _)
-
-pub more_plus-returns-then-sees_operator-clause-gave : goal.more_plus-returns-then-sees_operator-clause-gave
-more_plus-returns-then-sees_operator-clause-gave t c = λ below vs. then-on c.args.self.now MorePlus below _ c.requires ∙ c.in_ok-op.ensures.gave _ _ ∙ c.in_ok-right.ensures.gave _ _ ∙ read-do _ _ _ _ ∙ same_operand _ _ _ c.in_ok-both.ensures.start c.in_ok-both.ensures.tree ∙ c.in_ok-sum.ensures.gave _ _
-
-pub more_plus-returns-clause-gave : goal.more_plus-returns-clause-gave
-more_plus-returns-clause-gave t c = λ below vs. rw (c.in_ok-both.ensures.start, c.in_ok-both.ensures.tree) (then-on c.args.self.now MorePlus below _ c.requires ∙ c.in_ok-op.ensures.gave _ _ ∙ c.in_ok-right.ensures.gave _ _ ∙ read-do _ _ _ _ ∙ then-past _ MorePlus below _ (sym c.sees_operator.ensures ∙ c.if-sees_operator.false))
-
-pub conjunction-returns-in_err-left-clause-refused : goal.conjunction-returns-in_err-left-clause-refused
-conjunction-returns-in_err-left-clause-refused t c =
-    let p = err_from_is_err_and c.from_residual.result c.from_residual.ensures.1 in
-    rw (p.1, p.2) (λ f is below vs. read-as c.args.self.now (ExprAt Conjoined) (ExprAt Compared) below (Then MoreConjoined ∷ below) vs refl ∙ c.in_err-left.ensures.refused f is _ _)
-
-pub conjunction-returns-in_err-conjunction-clause-refused : goal.conjunction-returns-in_err-conjunction-clause-refused
-conjunction-returns-in_err-conjunction-clause-refused t c =
-    let p = err_from_is_err_and c.from_residual-in_err-conjunction.result c.from_residual-in_err-conjunction.ensures.1 in
-    rw (p.1, p.2) (λ f is below vs. read-as c.args.self.now (ExprAt Conjoined) (ExprAt Compared) below (Then MoreConjoined ∷ below) vs refl ∙ c.in_ok-left.ensures.gave _ _ ∙ c.in_err-conjunction.ensures.refused f is _ _)
-
-pub conjunction-returns-then-sees_operator-clause-gave : goal.conjunction-returns-then-sees_operator-clause-gave
-conjunction-returns-then-sees_operator-clause-gave t c = λ below vs. read-as c.args.self.now (ExprAt Conjoined) (ExprAt Compared) below (Then MoreConjoined ∷ below) vs refl ∙ c.in_ok-left.ensures.gave _ _ ∙ c.in_ok-conjunction.ensures.gave _ _
-
-pub conjunction-returns-clause-gave : goal.conjunction-returns-clause-gave
-conjunction-returns-clause-gave t c = λ below vs. read-as c.args.self.now (ExprAt Conjoined) (ExprAt Compared) below (Then MoreConjoined ∷ below) vs refl ∙ c.in_ok-left.ensures.gave _ _ ∙ then-past _ MoreConjoined below _ (sym c.sees_operator.ensures ∙ c.if-sees_operator.false)
-
-pub more_conjoined-returns-in_err-op-clause-refused : goal.more_conjoined-returns-in_err-op-clause-refused
-more_conjoined-returns-in_err-op-clause-refused t c =
-    let p = err_from_is_err_and c.from_residual.result c.from_residual.ensures.1 in
-    rw (p.1, p.2) (λ f is below vs. then-on c.args.self.now MoreConjoined below _ c.requires ∙ c.in_err-op.ensures.refused f is _ _)
-
-pub more_conjoined-returns-in_err-right-clause-refused : goal.more_conjoined-returns-in_err-right-clause-refused
-more_conjoined-returns-in_err-right-clause-refused t c =
-    let p = err_from_is_err_and c.from_residual-in_err-right.result c.from_residual-in_err-right.ensures.1 in
-    rw (p.1, p.2) (λ f is below vs. then-on c.args.self.now MoreConjoined below _ c.requires ∙ c.in_ok-op.ensures.gave _ _ ∙ c.in_err-right.ensures.refused f is _ _)
-
-pub more_conjoined-returns-in_err-conjunction-clause-refused : goal.more_conjoined-returns-in_err-conjunction-clause-refused
-more_conjoined-returns-in_err-conjunction-clause-refused t c =
-    let p = err_from_is_err_and c.from_residual-in_err-conjunction.result c.from_residual-in_err-conjunction.ensures.1 in
-    rw (p.1, p.2) (λ f is below vs. then-on c.args.self.now MoreConjoined below _ c.requires ∙ c.in_ok-op.ensures.gave _ _ ∙ c.in_ok-right.ensures.gave _ _ ∙ read-do _ _ _ _ ∙ same_operand _ _ _ c.in_ok-both.ensures.start c.in_ok-both.ensures.tree ∙ c.in_err-conjunction.ensures.refused f is _ _)
-
-pub more_conjoined-returns-then-sees_operator-clause-gave : goal.more_conjoined-returns-then-sees_operator-clause-gave
-more_conjoined-returns-then-sees_operator-clause-gave t c = λ below vs. then-on c.args.self.now MoreConjoined below _ c.requires ∙ c.in_ok-op.ensures.gave _ _ ∙ c.in_ok-right.ensures.gave _ _ ∙ read-do _ _ _ _ ∙ same_operand _ _ _ c.in_ok-both.ensures.start c.in_ok-both.ensures.tree ∙ c.in_ok-conjunction.ensures.gave _ _
-
-pub more_conjoined-returns-clause-gave : goal.more_conjoined-returns-clause-gave
-more_conjoined-returns-clause-gave t c = λ below vs. rw (c.in_ok-both.ensures.start, c.in_ok-both.ensures.tree) (then-on c.args.self.now MoreConjoined below _ c.requires ∙ c.in_ok-op.ensures.gave _ _ ∙ c.in_ok-right.ensures.gave _ _ ∙ read-do _ _ _ _ ∙ then-past _ MoreConjoined below _ (sym c.sees_operator.ensures ∙ c.if-sees_operator.false))
-
-pub disjunction-returns-in_err-left-clause-refused : goal.disjunction-returns-in_err-left-clause-refused
-disjunction-returns-in_err-left-clause-refused t c =
-    let p = err_from_is_err_and c.from_residual.result c.from_residual.ensures.1 in
-    rw (p.1, p.2) (λ f is below vs. read-as c.args.self.now (ExprAt Disjoined) (ExprAt Conjoined) below (Then MoreDisjoined ∷ below) vs refl ∙ c.in_err-left.ensures.refused f is _ _)
-
-pub disjunction-returns-in_err-disjunction-clause-refused : goal.disjunction-returns-in_err-disjunction-clause-refused
-disjunction-returns-in_err-disjunction-clause-refused t c =
-    let p = err_from_is_err_and c.from_residual-in_err-disjunction.result c.from_residual-in_err-disjunction.ensures.1 in
-    rw (p.1, p.2) (λ f is below vs. read-as c.args.self.now (ExprAt Disjoined) (ExprAt Conjoined) below (Then MoreDisjoined ∷ below) vs refl ∙ c.in_ok-left.ensures.gave _ _ ∙ c.in_err-disjunction.ensures.refused f is _ _)
-
-pub disjunction-returns-then-sees_operator-clause-gave : goal.disjunction-returns-then-sees_operator-clause-gave
-disjunction-returns-then-sees_operator-clause-gave t c = λ below vs. read-as c.args.self.now (ExprAt Disjoined) (ExprAt Conjoined) below (Then MoreDisjoined ∷ below) vs refl ∙ c.in_ok-left.ensures.gave _ _ ∙ c.in_ok-disjunction.ensures.gave _ _
-
-pub disjunction-returns-clause-gave : goal.disjunction-returns-clause-gave
-disjunction-returns-clause-gave t c = λ below vs. read-as c.args.self.now (ExprAt Disjoined) (ExprAt Conjoined) below (Then MoreDisjoined ∷ below) vs refl ∙ c.in_ok-left.ensures.gave _ _ ∙ then-past _ MoreDisjoined below _ (sym c.sees_operator.ensures ∙ c.if-sees_operator.false)
-
-pub more_disjoined-returns-in_err-op-clause-refused : goal.more_disjoined-returns-in_err-op-clause-refused
-more_disjoined-returns-in_err-op-clause-refused t c =
-    let p = err_from_is_err_and c.from_residual.result c.from_residual.ensures.1 in
-    rw (p.1, p.2) (λ f is below vs. then-on c.args.self.now MoreDisjoined below _ c.requires ∙ c.in_err-op.ensures.refused f is _ _)
-
-pub more_disjoined-returns-in_err-right-clause-refused : goal.more_disjoined-returns-in_err-right-clause-refused
-more_disjoined-returns-in_err-right-clause-refused t c =
-    let p = err_from_is_err_and c.from_residual-in_err-right.result c.from_residual-in_err-right.ensures.1 in
-    rw (p.1, p.2) (λ f is below vs. then-on c.args.self.now MoreDisjoined below _ c.requires ∙ c.in_ok-op.ensures.gave _ _ ∙ c.in_err-right.ensures.refused f is _ _)
-
-pub more_disjoined-returns-in_err-disjunction-clause-refused : goal.more_disjoined-returns-in_err-disjunction-clause-refused
-more_disjoined-returns-in_err-disjunction-clause-refused t c =
-    let p = err_from_is_err_and c.from_residual-in_err-disjunction.result c.from_residual-in_err-disjunction.ensures.1 in
-    rw (p.1, p.2) (λ f is below vs. then-on c.args.self.now MoreDisjoined below _ c.requires ∙ c.in_ok-op.ensures.gave _ _ ∙ c.in_ok-right.ensures.gave _ _ ∙ read-do _ _ _ _ ∙ same_operand _ _ _ c.in_ok-both.ensures.start c.in_ok-both.ensures.tree ∙ c.in_err-disjunction.ensures.refused f is _ _)
-
-pub more_disjoined-returns-then-sees_operator-clause-gave : goal.more_disjoined-returns-then-sees_operator-clause-gave
-more_disjoined-returns-then-sees_operator-clause-gave t c = λ below vs. then-on c.args.self.now MoreDisjoined below _ c.requires ∙ c.in_ok-op.ensures.gave _ _ ∙ c.in_ok-right.ensures.gave _ _ ∙ read-do _ _ _ _ ∙ same_operand _ _ _ c.in_ok-both.ensures.start c.in_ok-both.ensures.tree ∙ c.in_ok-disjunction.ensures.gave _ _
-
-pub more_disjoined-returns-clause-gave : goal.more_disjoined-returns-clause-gave
-more_disjoined-returns-clause-gave t c = λ below vs. rw (c.in_ok-both.ensures.start, c.in_ok-both.ensures.tree) (then-on c.args.self.now MoreDisjoined below _ c.requires ∙ c.in_ok-op.ensures.gave _ _ ∙ c.in_ok-right.ensures.gave _ _ ∙ read-do _ _ _ _ ∙ then-past _ MoreDisjoined below _ (sym c.sees_operator.ensures ∙ c.if-sees_operator.false))
-
-pub comparison-returns-in_err-left-clause-refused : goal.comparison-returns-in_err-left-clause-refused
-comparison-returns-in_err-left-clause-refused t c =
-    let p = err_from_is_err_and c.from_residual.result c.from_residual.ensures.1 in
-    rw (p.1, p.2) (λ f is below vs. read-as c.args.self.now (ExprAt Compared) (ExprAt Added) below (Then Comparison ∷ below) vs refl ∙ c.in_err-left.ensures.refused f is _ _)
-
-pub comparison-returns-in_err-op-clause-refused : goal.comparison-returns-in_err-op-clause-refused
-comparison-returns-in_err-op-clause-refused t c =
-    let p = err_from_is_err_and c.from_residual-in_err-op.result c.from_residual-in_err-op.ensures.1 in
-    rw (p.1, p.2) (λ f is below vs. read-as c.args.self.now (ExprAt Compared) (ExprAt Added) below (Then Comparison ∷ below) vs refl ∙ c.in_ok-left.ensures.gave _ _ ∙ then-on _ Comparison below _ (sym c.sees_operator.ensures ∙ c.if-sees_operator.true) ∙ c.in_err-op.ensures.refused f is _ _)
-
-pub comparison-returns-in_err-right-clause-refused : goal.comparison-returns-in_err-right-clause-refused
-comparison-returns-in_err-right-clause-refused t c =
-    let p = err_from_is_err_and c.from_residual-in_err-right.result c.from_residual-in_err-right.ensures.1 in
-    rw (p.1, p.2) (λ f is below vs. read-as c.args.self.now (ExprAt Compared) (ExprAt Added) below (Then Comparison ∷ below) vs refl ∙ c.in_ok-left.ensures.gave _ _ ∙ then-on _ Comparison below _ (sym c.sees_operator.ensures ∙ c.if-sees_operator.true) ∙ c.in_ok-op.ensures.gave _ _ ∙ c.in_err-right.ensures.refused f is _ _)
-
-pub comparison-returns-then-sees_operator-clause-gave : goal.comparison-returns-then-sees_operator-clause-gave
-comparison-returns-then-sees_operator-clause-gave t c = λ below vs. rw (c.in_ok-both.ensures.start, c.in_ok-both.ensures.tree) (read-as c.args.self.now (ExprAt Compared) (ExprAt Added) below (Then Comparison ∷ below) vs refl ∙ c.in_ok-left.ensures.gave _ _ ∙ then-on _ Comparison below _ (sym c.sees_operator.ensures ∙ c.if-sees_operator.true) ∙ c.in_ok-op.ensures.gave _ _ ∙ c.in_ok-right.ensures.gave _ _ ∙ read-do _ _ _ _)
-
-pub comparison-returns-clause-gave : goal.comparison-returns-clause-gave
-comparison-returns-clause-gave t c = λ below vs. read-as c.args.self.now (ExprAt Compared) (ExprAt Added) below (Then Comparison ∷ below) vs refl ∙ c.in_ok-left.ensures.gave _ _ ∙ then-past _ Comparison below _ (sym c.sees_operator.ensures ∙ c.if-sees_operator.false)
+pub combined-returns-clause-gave : goal.combined-returns-clause-gave
+combined-returns-clause-gave t c = λ below vs. rw (c.in_ok-both.ensures.start, c.in_ok-both.ensures.tree) (goes_on c.args.self.now c.args.precedence below _ c.requires ∙ c.in_ok-op.ensures.gave _ _ ∙ c.in_ok-right.ensures.gave _ _ ∙ read-do _ _ _ _)
 
 pub branch-returns-in_err-take-clause-refused : goal.branch-returns-in_err-take-clause-refused
 branch-returns-in_err-take-clause-refused t c =
@@ -337,10 +184,46 @@ choice-returns-in_err-other-clause-refused t c =
 pub choice-returns-clause-gave : goal.choice-returns-clause-gave
 choice-returns-clause-gave t c = λ below vs. rw (c.in_ok-choice.ensures.start, c.in_ok-choice.ensures.tree) (chosen-if c.args.self.now below vs c.requires ∙ c.in_ok-at.ensures.gave _ _ ∙ c.in_ok-test.ensures.gave _ _ ∙ c.in_ok-then.ensures.gave _ _ ∙ c.in_ok-other.ensures.gave _ _ ∙ read-do _ _ _ _)
 
-pub whole_expression-returns-in_err-value-clause-refused : goal.whole_expression-returns-in_err-value-clause-refused
-whole_expression-returns-in_err-value-clause-refused t c =
+pub more_operands-returns-then-not-sees_operator-clause-gave : goal.more_operands-returns-then-not-sees_operator-clause-gave
+more_operands-returns-then-not-sees_operator-clause-gave t c = λ below vs.
+    c.in_ok-both.ensures.gave below vs ∙ after_chain c.combined.new.self c.args.precedence below _ (sym c.chains.ensures ∙ c.if-not-chains.false) ∙ goes_past c.combined.new.self c.args.precedence below _ (sym c.sees_operator.ensures ∙ c.if-not-sees_operator.true)
+
+pub operands-returns-in_err-left-clause-refused : goal.operands-returns-in_err-left-clause-refused
+operands-returns-in_err-left-clause-refused t c =
     let p = err_from_is_err_and c.from_residual.result c.from_residual.ensures.1 in
-    rw (p.1, p.2) (λ f is below vs. chosen-plain c.args.self.now below vs (sym c.sees.ensures ∙ c.if-sees.false) ∙ c.in_err-value.ensures.refused f is _ _)
+    rw (p.1, p.2) (λ f is below vs. read_part c.args.self.now c.args.precedence below vs ∙ c.in_err-left.ensures.refused f is _ _)
+
+pub operands-returns-then-not-sees_any_operator-clause-gave : goal.operands-returns-then-not-sees_any_operator-clause-gave
+operands-returns-then-not-sees_any_operator-clause-gave t c = λ below vs. read_part c.args.self.now c.args.precedence below vs ∙ c.in_ok-left.ensures.gave _ _ ∙ ends c.unary.new.self (up_to c.args.precedence) below _ (sym c.sees_any_operator.ensures ∙ c.if-not-sees_any_operator.true)
+
+pub operands-loop-level-init : goal.operands-loop-level-init
+operands-loop-level-init t c = rw c.up_to-level-items.ensures (record {
+  so_far = λ below vs. read_part c.args.self.now c.args.precedence below vs ∙ c.in_ok-left.ensures.gave _ _;
+  shorter = c.in_ok-left.ensures.shorter;
+})
+
+pub operands-loop-level-preserved-then-not-sees_operator : goal.operands-loop-level-preserved-then-not-sees_operator
+operands-loop-level-preserved-then-not-sees_operator t c = record {
+  so_far = λ below vs. c.loop-level.invariant.so_far below vs ∙ level_past c.loop-level.self c.up_to-level-items.result.now c.loop-level.level-index _ below _ c.loop-level-test.true (sym c.sees_operator.ensures ∙ c.if-not-sees_operator.true);
+  shorter = c.loop-level.invariant.shorter;
+}
+
+pub operands-returns-in_err-left-2-clause-refused : goal.operands-returns-in_err-left-2-clause-refused
+operands-returns-in_err-left-2-clause-refused t c =
+    let p = err_from_is_err_and c.from_residual-in_err-left-2.result c.from_residual-in_err-left-2.ensures.1 in
+    rw (p.1, p.2) (λ f is below vs. c.loop-level.invariant.so_far below vs ∙ level_on c.loop-level.self c.up_to-level-items.result.now c.loop-level.level-index _ below _ c.loop-level-test.true ∙ c.in_err-left-2.ensures.refused f is _ _)
+
+pub operands-loop-level-preserved : goal.operands-loop-level-preserved
+operands-loop-level-preserved t c = record {
+  so_far = λ below vs. c.loop-level.invariant.so_far below vs ∙ level_on c.loop-level.self c.up_to-level-items.result.now c.loop-level.level-index _ below _ c.loop-level-test.true ∙ c.in_ok-left-2.ensures.gave _ _;
+  shorter = omega (arith, c.loop-level.invariant.shorter, c.in_ok-left-2.ensures.shorter);
+}
+
+pub operands-returns-clause-gave : goal.operands-returns-clause-gave
+operands-returns-clause-gave t c = λ below vs. c.loop-level.invariant.so_far below vs ∙ levels_done c.loop-level.self c.up_to-level-items.result.now c.loop-level.level-index below _ (omega (arith, c.loop-level-test.false))
 
 pub whole_expression-returns-clause-gave : goal.whole_expression-returns-clause-gave
-whole_expression-returns-clause-gave t c = λ below vs. chosen-plain c.args.self.now below vs (sym c.sees.ensures ∙ c.if-sees.false) ∙ c.in_ok-value.ensures.gave _ _
+whole_expression-returns-clause-gave t c = if_ok c.operands.result c.operands.ensures.gave (λ o gave below vs. chosen-plain c.args.self.now below vs (sym c.sees.ensures ∙ c.if-sees.false) ∙ gave below vs)
+
+pub whole_expression-returns-clause-refused : goal.whole_expression-returns-clause-refused
+whole_expression-returns-clause-refused t c = if_err c.operands.result c.operands.ensures.refused (λ e refused f is below vs. chosen-plain c.args.self.now below vs (sym c.sees.ensures ∙ c.if-sees.false) ∙ refused f is below vs)

@@ -1,6 +1,7 @@
-use Rattle.std.proofs.Common.{length, map, ◌+◌, ◌*◌}
+use Rattle.std.proofs.Common.{length, map, drop, ◌+◌, ◌*◌}
 use Rattle.ql_lang.specs.Expressions.{expression_of}
-use Rattle.ql_grammar.specs.Table.{APart, TheExprs, Arguments, MoreArguments}
+use Rattle.ql_grammar.specs.Table.{APart, AnExpr, TheExprs, Arguments, MoreArguments}
+use Rattle.ql_parse.specs.Precedences.{Begun}
 use Rattle.ql_parse.specs.Readings.{Started}
 use Rattle.ql_parse.proofs.reader.Reader.+expr.Given as goal
 
@@ -25,32 +26,17 @@ decreases-negation l = 9 * length l.self.now.tokens
 abbrev pub decreases-unary : goal.decreases-unary
 decreases-unary l = 9 * length l.self.now.tokens + 1
 
-abbrev pub decreases-multiplication : goal.decreases-multiplication
-decreases-multiplication l = 9 * length l.self.now.tokens + 2
+abbrev pub decreases-operand : goal.decreases-operand
+decreases-operand l = 9 * length l.self.now.tokens + 3
 
-abbrev pub decreases-more_times : goal.decreases-more_times
-decreases-more_times l = 9 * length l.self.now.tokens
+abbrev pub decreases-combined : goal.decreases-combined
+decreases-combined l = 9 * length l.self.now.tokens
 
-abbrev pub decreases-addition : goal.decreases-addition
-decreases-addition l = 9 * length l.self.now.tokens + 3
+abbrev pub decreases-more_operands : goal.decreases-more_operands
+decreases-more_operands l = 9 * length l.self.now.tokens + 1
 
-abbrev pub decreases-more_plus : goal.decreases-more_plus
-decreases-more_plus l = 9 * length l.self.now.tokens
-
-abbrev pub decreases-comparison : goal.decreases-comparison
-decreases-comparison l = 9 * length l.self.now.tokens + 4
-
-abbrev pub decreases-conjunction : goal.decreases-conjunction
-decreases-conjunction l = 9 * length l.self.now.tokens + 5
-
-abbrev pub decreases-more_conjoined : goal.decreases-more_conjoined
-decreases-more_conjoined l = 9 * length l.self.now.tokens
-
-abbrev pub decreases-disjunction : goal.decreases-disjunction
-decreases-disjunction l = 9 * length l.self.now.tokens + 6
-
-abbrev pub decreases-more_disjoined : goal.decreases-more_disjoined
-decreases-more_disjoined l = 9 * length l.self.now.tokens
+abbrev pub decreases-operands : goal.decreases-operands
+decreases-operands l = 9 * length l.self.now.tokens + 2
 
 abbrev pub decreases-branch : goal.decreases-branch
 decreases-branch l = 9 * length l.self.now.tokens
@@ -66,3 +52,6 @@ invariant-arguments_of_call-more l = Started (APart Arguments) MoreArguments (Th
 
 abbrev pub decreases-arguments_of_call-more : goal.decreases-arguments_of_call-more
 decreases-arguments_of_call-more l = length l.self.tokens
+
+abbrev pub invariant-operands-loop-level : goal.invariant-operands-loop-level
+invariant-operands-loop-level l = Begun l.fn.precedence (drop l.level-index l.level-items) (AnExpr l.left.start (expression_of l.left.expr)) l.fn.self l.self

@@ -12,7 +12,7 @@ returns-in_err-first-clause-refused c =
 
 pub names-init : goal.names-init
 names-init c =
-    let e : c.push.new.self.items ≡ c.in_ok-first.first ∷ [] = c.in_ok-push.ensures.items ∙ ap (λ l. l ++ c.in_ok-first.first ∷ []) c.new-names.ensures.items in
+    let e : c.push.new.self.items ≡ c.in_ok-first.first ∷ [] = c.in_ok-push.ensures.items ∙ ap (λ l. l ++ c.in_ok-first.first ∷ []) c.in_ok-names.ensures.items in
     rw e (record {
       so_far = λ below vs. names-start c.args.self.now below vs ∙ c.in_ok-first.ensures.gave _ _ ∙ read-do _ _ _ _;
       shorter = c.in_ok-first.ensures.shorter;

@@ -11,7 +11,7 @@ returns-in_err-first-clause-refused c =
 
 pub more-init : goal.more-init
 more-init c =
-    let e : c.push.new.self.items ≡ c.in_ok-first.first ∷ [] = c.in_ok-push.ensures.items ∙ ap (λ l. l ++ c.in_ok-first.first ∷ []) c.new-found.ensures.items in
+    let e : c.push.new.self.items ≡ c.in_ok-first.first ∷ [] = c.in_ok-push.ensures.items ∙ ap (λ l. l ++ c.in_ok-first.first ∷ []) c.in_ok-found.ensures.items in
     rw e (record {
       so_far = λ below vs. then-on c.args.self.now SomeParams below _ c.requires ∙ c.in_ok-first.ensures.gave _ _ [];
       within = omega (arith, c.in_ok-first.ensures.shorter);

@@ -7,11 +7,11 @@ use Rattle.ql_parse.proofs.ArgumentLemmas.{map_more}
 use Rattle.ql_parse.proofs.reader.Reader.statements.Goals as goal
 
 pub more-init : goal.more-init
-more-init c = rw c.new-found.ensures.items (record { so_far = λ below vs. refl; within = omega arith })
+more-init c = rw c.in_ok-found.ensures.items (record { so_far = λ below vs. refl; within = omega arith })
 
 pub returns-in_err-item-clause-refused : goal.returns-in_err-item-clause-refused
 returns-in_err-item-clause-refused c =
-    let p = err_from_is_err_and c.from_residual.result c.from_residual.ensures.1 in
+    let p = err_from_is_err_and c.from_residual-in_err-item.result c.from_residual-in_err-item.ensures.1 in
     rw (p.1, p.2) (λ f is below vs. c.more.invariant.so_far below vs ∙ then-on c.more.self MoreAssignments below _ (sym c.sees.ensures ∙ c.more-test.true) ∙ c.in_err-item.ensures.refused f is _ _ _)
 
 pub more-preserved : goal.more-preserved

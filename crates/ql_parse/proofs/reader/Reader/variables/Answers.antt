@@ -12,7 +12,7 @@ returns-in_err-first-clause-refused c =
 
 pub vars-init : goal.vars-init
 vars-init c =
-    let e : c.push.new.self.items ≡ c.in_ok-first.first ∷ [] = c.in_ok-push.ensures.items ∙ ap (λ l. l ++ c.in_ok-first.first ∷ []) c.new-vars.ensures.items in
+    let e : c.push.new.self.items ≡ c.in_ok-first.first ∷ [] = c.in_ok-push.ensures.items ∙ ap (λ l. l ++ c.in_ok-first.first ∷ []) c.in_ok-vars.ensures.items in
     rw e (record {
       so_far = λ below vs. read-as c.args.self.now VarList Variable below (Do to_vars ∷ Then MoreVars ∷ below) vs refl ∙ c.in_ok-first.ensures.gave _ _ ∙ read-do _ _ _ _;
       shorter = c.in_ok-first.ensures.shorter;
