@@ -4,6 +4,7 @@ pub mod NeverStuck
 mod FoldSteps
 pub mod Accepted
 mod StableOrder
+mod Insertion
 pub mod EffectOrder
 mod Fitting
 pub mod Answering

@@ -1,5 +1,5 @@
-ghost use Rattle.std.specs.Prelude.{◌≡◌, IfOk, map, reverse};
-ghost use Rattle.std.specs.List.{filter, filter_map};
+ghost use Rattle.std.specs.Prelude.{◌≡◌, IfOk, map};
+ghost use Rattle.std.specs.List.{IsAllAdjacentAnswer, filter, filter_map};
 ghost use Rattle.std.specs.Option.{option_copied};
 ghost use Rattle.std.specs.Ordering.{is_lt};
 ghost use Rattle.ql_exec.specs.Effects.{effect_at};
@@ -21,28 +21,39 @@ pub(crate) fn emitting_in_order<'a>(
         (λ order. map (λ e. e.now) order.items
         ≡ filter has_emitted (seen_in_order execution.now seen.now)) }
 {
-    let mut order = found_backwards(alloc, execution.effects(), seen.items())?;
+    let mut order = emitting(alloc, execution.effects(), seen.items())?;
+    if is_in_order(&order) {
+        return Ok(order);
+    }
+    order.reverse();
     order.sort_by(|a, b| compare(a, b))?;
     Ok(order)
 }
 
-// Of the effects with some ids those that emitted values, that of the last id first.
-fn found_backwards<'a>(
+// Of the effects with some ids those that emitted values.
+fn emitting<'a>(
     alloc: Global,
     effects: &'a [Effect],
     ids: &[u32],
 ) -> Result<Vec<&'a Effect>, NoMemory>
     ensures { IfOk result
-        (λ found. map (λ e. e.now) found.items
-        ≡ reverse (filter_map (emitting_at effects.now) ids.now)) }
+        (λ found. map (λ e. e.now) found.items ≡ filter_map (emitting_at effects.now) ids.now) }
 {
     let mut found = Vec::with_capacity(alloc, ids.len())?;
-    for k in 0..ids.len() {
-        if let Some(effect) = find_emitting(effects, ids[ids.len() - 1 - k]) {
+    for id in ids {
+        if let Some(effect) = find_emitting(effects, *id) {
             found.push(effect)?;
         }
     }
     Ok(found)
+}
+
+// Whether each effect comes before the next one.
+fn is_in_order(effects: &[&Effect]) -> bool
+    ensures { IsAllAdjacentAnswer (λ a b answer. answer ≡ comes_before a.now b.now)
+        effects.now result }
+{
+    effects.is_sorted_by(|a, b| compare(a, b).is_lt())
 }
 
 // The effect with an id, if it emitted values.
