@@ -1,11 +1,12 @@
--- The order of effects is a sort's: by stamp and session, and of what ties the last of the ids first.
-use Rattle.std.proofs.Common.{◌≡◌, ℕ, Bool, true, false, ◌&&◌, ◌||◌, cond, filter, nat_eq, nat_lt, List, [], ◌∷◌, Option, Some, None, length, map, reverse, refl, sym, ap, ◌∙◌, subst}
-use Rattle.std.specs.List.{AllAdjacentBelow, cons_option, filter_map}
+-- The order of effects is that of a sort by stamp and session.
+use Rattle.std.proofs.Common.{◌≡◌, ℕ, Bool, true, false, ◌&&◌, ◌||◌, cond, filter, nat_eq, nat_lt, List, [], ◌∷◌, Option, Some, None, map, refl, sym, ap, ◌∙◌, subst}
+use Rattle.std.specs.List.{cons_option, filter_map}
 use Rattle.std.specs.Option.{option_and_then}
 use Rattle.std.specs.Cmp.{IsStrictWeakOrder}
-use Rattle.std.specs.List.Sorted.{IsSortedBy, IsStableBy}
+use Rattle.std.specs.List.Sorted.{IsSortedBy, IsStableBy, ties}
 use Rattle.std.specs.Ordering.{is_lt, nat_cmp, ordering_then}
 use Rattle.std.specs.declared.cmp.Ordering.TheVariants.{Less, Equal, Greater}
+use Rattle.std.proofs.lemmas.List.{get_or-map, length-map}
 use Rattle.std.proofs.lemmas.Cmp.{nat_cmp_total, on_total, then_total}
 use Rattle.std.proofs.lemmas.List.Sorted.{ranks_by}
 use Rattle.ql_exec.specs.declared.effect.Effect.{Effect}
@@ -13,7 +14,7 @@ use Rattle.ql_exec.specs.Effects.{effect_at}
 use Rattle.ql_exec.specs.Folding.{comes_before, in_order, with_effect}
 use Rattle.ql_eval.specs.Folds.{emitting_at, has_emitted}
 use Rattle.ql_eval.proofs.StableOrder.{Rises, filter_put, put, put_rises}
-use Rattle.ql_eval.proofs.Insertion.{inserted, inserted_is, sorted_back_is}
+use Rattle.ql_eval.proofs.Insertion.{Apart, inserted, sorted_is}
 
 -- a lower stamp, or the same and a lower session, as an answer of `cmp`
 less_is : (p q r s : Bool) → is_lt (ordering_then (cond p Less (cond q Equal Greater)) (cond r Less (cond s Equal Greater))) ≡ (p || (q && r))
@@ -47,14 +48,17 @@ module _ {X : Type 0} (f : X → Effect) where
   inserted_map [] = refl
   inserted_map (x ∷ xs) = put_map x (inserted (λ a b. comes_before (f a) (f b)) xs) ∙ ap (with_effect (f x)) (inserted_map xs)
 
-  -- what is sorted stably, from the last of the effects on, is in order
-  pub sorted_effects : (xs ys : List X) → IsSortedBy (λ x y. comes_before (f x) (f y)) ys → IsStableBy (λ x y. comes_before (f x) (f y)) (reverse xs) ys
-      → map f ys ≡ in_order (map f xs)
-  sorted_effects xs ys up stable = ap (map f) (sorted_back_is (λ x y. comes_before (f x) (f y)) is_order xs ys up stable) ∙ inserted_map xs
+  apart_by : (xs : List X) → Apart comes_before (map f xs) → Apart (λ x y. comes_before (f x) (f y)) xs
+  apart_by [] apart = tt
+  apart_by (x ∷ xs) apart = (
+    λ k d below. ap (λ e. ties comes_before (f x) e) (sym (get_or-map f xs k d (f d) below)) ∙ apart.0 k (f d) (rw (length-map xs f) below),
+    apart_by xs apart.1,
+  )
 
-  -- effects that each come before the next are in order
-  pub ascending_effects : (xs : List X) → AllAdjacentBelow (λ x y. true ≡ comes_before (f x) (f y)) xs (length xs) → map f xs ≡ in_order (map f xs)
-  ascending_effects xs up = ap (map f) (sym (inserted_is (λ x y. comes_before (f x) (f y)) xs up)) ∙ inserted_map xs
+  -- effects of which no two tie, sorted stably, are in order
+  pub sorted_effects : (xs ys : List X) → Apart comes_before (map f xs) → IsSortedBy (λ x y. comes_before (f x) (f y)) ys → IsStableBy (λ x y. comes_before (f x) (f y)) xs ys
+      → map f ys ≡ in_order (map f xs)
+  sorted_effects xs ys apart up stable = ap (map f) (sorted_is (λ x y. comes_before (f x) (f y)) is_order xs ys (apart_by xs apart) up stable) ∙ inserted_map xs
 
 -- effects that are left out change nothing in the order of the others
 put_is : (e : Effect) (es : List Effect) → put comes_before e es ≡ with_effect e es

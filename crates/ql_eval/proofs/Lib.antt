@@ -5,6 +5,7 @@ mod FoldSteps
 pub mod Accepted
 mod StableOrder
 mod Insertion
+mod EffectsApart
 pub mod EffectOrder
 mod Fitting
 pub mod Answering

@@ -1,5 +1,5 @@
 ghost use Rattle.std.specs.Prelude.{◌≡◌, IfOk, map};
-ghost use Rattle.std.specs.List.{IsAllAdjacentAnswer, filter, filter_map};
+ghost use Rattle.std.specs.List.{filter, filter_map};
 ghost use Rattle.std.specs.Option.{option_copied};
 ghost use Rattle.std.specs.Ordering.{is_lt};
 ghost use Rattle.ql_exec.specs.Effects.{effect_at};
@@ -22,10 +22,6 @@ pub(crate) fn emitting_in_order<'a>(
         ≡ filter has_emitted (seen_in_order execution.now seen.now)) }
 {
     let mut order = emitting(alloc, execution.effects(), seen.items())?;
-    if is_in_order(&order) {
-        return Ok(order);
-    }
-    order.reverse();
     order.sort_by(|a, b| compare(a, b))?;
     Ok(order)
 }
@@ -46,14 +42,6 @@ fn emitting<'a>(
         }
     }
     Ok(found)
-}
-
-// Whether each effect comes before the next one.
-fn is_in_order(effects: &[&Effect]) -> bool
-    ensures { IsAllAdjacentAnswer (λ a b answer. answer ≡ comes_before a.now b.now)
-        effects.now result }
-{
-    effects.is_sorted_by(|a, b| compare(a, b).is_lt())
 }
 
 // The effect with an id, if it emitted values.
