@@ -1,20 +1,20 @@
--- The order of effects is a sort's: by stamp and session, and of what ties the last of the ids first.
-use Rattle.std.proofs.Common.{◌≡◌, ◌≤◌, ◌<◌, ◌+◌, ◌-◌, ℕ, suc, Bool, true, false, ◌&&◌, ◌||◌, cond, filter, nat_eq, nat_lt, List, [], ◌∷◌, ◌++◌, Option, Some, None, length, get_or, drop, map, reverse, refl, sym, ap, ◌∙◌, subst, arith}
+-- The order of effects is that of a sort by stamp and session.
+use Rattle.std.proofs.Common.{◌≡◌, ℕ, Bool, true, false, ◌&&◌, ◌||◌, cond, filter, nat_eq, nat_lt, List, [], ◌∷◌, Option, Some, None, map, refl, sym, ap, ◌∙◌, subst}
 use Rattle.std.specs.List.{cons_option, filter_map}
 use Rattle.std.specs.Option.{option_and_then}
 use Rattle.std.specs.Cmp.{IsStrictWeakOrder}
-use Rattle.std.specs.List.Sorted.{IsSortedBy, IsStableBy}
+use Rattle.std.specs.List.Sorted.{IsSortedBy, IsStableBy, ties}
 use Rattle.std.specs.Ordering.{is_lt, nat_cmp, ordering_then}
 use Rattle.std.specs.declared.cmp.Ordering.TheVariants.{Less, Equal, Greater}
-use Rattle.std.proofs.Math.Seq.{drop-cons}
+use Rattle.std.proofs.lemmas.List.{get_or-map, length-map}
 use Rattle.std.proofs.lemmas.Cmp.{nat_cmp_total, on_total, then_total}
-use Rattle.std.proofs.lemmas.List.{drop_all, reverse-append}
 use Rattle.std.proofs.lemmas.List.Sorted.{ranks_by}
 use Rattle.ql_exec.specs.declared.effect.Effect.{Effect}
 use Rattle.ql_exec.specs.Effects.{effect_at}
 use Rattle.ql_exec.specs.Folding.{comes_before, in_order, with_effect}
 use Rattle.ql_eval.specs.Folds.{emitting_at, has_emitted}
-use Rattle.ql_eval.proofs.StableOrder.{Rises, filter_put, placed, put, put_rises, sorted_is}
+use Rattle.ql_eval.proofs.StableOrder.{Rises, filter_put, put, put_rises}
+use Rattle.ql_eval.proofs.Insertion.{Apart, inserted, sorted_is}
 
 -- a lower stamp, or the same and a lower session, as an answer of `cmp`
 less_is : (p q r s : Bool) → is_lt (ordering_then (cond p Less (cond q Equal Greater)) (cond r Less (cond s Equal Greater))) ≡ (p || (q && r))
@@ -26,19 +26,6 @@ less_is false false r s = refl
 
 pub compared : (e f : Effect) → is_lt (ordering_then (nat_cmp e.stamp f.stamp) (nat_cmp e.session.0 f.session.0)) ≡ comes_before e f
 compared e f = less_is (nat_lt e.stamp f.stamp) (nat_eq e.stamp f.stamp) (nat_lt e.session.0 f.session.0) (nat_eq e.session.0 f.session.0)
-
--- insertion from the last on
-abbrev placed_effects : List Effect → List Effect → List Effect
-placed_effects acc [] = acc
-placed_effects acc (e ∷ es) = placed_effects (with_effect e acc) es
-
-placed_last : (acc es : List Effect) (e : Effect) → placed_effects acc (es ++ e ∷ []) ≡ with_effect e (placed_effects acc es)
-placed_last acc [] e = refl
-placed_last acc (g ∷ es) e = placed_last (with_effect g acc) es e
-
-placed_back : (es : List Effect) → placed_effects [] (reverse es) ≡ in_order es
-placed_back [] = refl
-placed_back (e ∷ es) = ap (placed_effects []) (reverse-append (e ∷ []) es) ∙ placed_last [] (reverse es) e ∙ ap (with_effect e) (placed_back es)
 
 module _ {X : Type 0} (f : X → Effect) where
   pub is_order : IsStrictWeakOrder (λ x y. comes_before (f x) (f y))
@@ -57,15 +44,21 @@ module _ {X : Type 0} (f : X → Effect) where
       by true rest = refl
       by false rest = ap (λ es. f y ∷ es) rest
 
-  placed_map : (acc xs : List X) → map f (placed (λ a b. comes_before (f a) (f b)) acc xs) ≡ placed_effects (map f acc) (map f xs)
-  placed_map acc [] = refl
-  placed_map acc (x ∷ xs) = placed_map (put (λ a b. comes_before (f a) (f b)) x acc) xs ∙ ap (λ es. placed_effects es (map f xs)) (put_map x acc)
+  inserted_map : (xs : List X) → map f (inserted (λ x y. comes_before (f x) (f y)) xs) ≡ in_order (map f xs)
+  inserted_map [] = refl
+  inserted_map (x ∷ xs) = put_map x (inserted (λ a b. comes_before (f a) (f b)) xs) ∙ ap (with_effect (f x)) (inserted_map xs)
 
-  -- what is sorted stably, from the last of the effects on, is in order
-  pub sorted_effects : (xs ys : List X) (es : List Effect) → IsSortedBy (λ x y. comes_before (f x) (f y)) ys → IsStableBy (λ x y. comes_before (f x) (f y)) xs ys
-      → map f xs ≡ reverse es → map f ys ≡ in_order es
-  sorted_effects xs ys es up stable is =
-      ap (map f) (sorted_is (λ x y. comes_before (f x) (f y)) is_order xs ys up stable) ∙ placed_map [] xs ∙ ap (placed_effects []) is ∙ placed_back es
+  apart_by : (xs : List X) → Apart comes_before (map f xs) → Apart (λ x y. comes_before (f x) (f y)) xs
+  apart_by [] apart = tt
+  apart_by (x ∷ xs) apart = (
+    λ k d below. ap (λ e. ties comes_before (f x) e) (sym (get_or-map f xs k d (f d) below)) ∙ apart.0 k (f d) (rw (length-map xs f) below),
+    apart_by xs apart.1,
+  )
+
+  -- effects of which no two tie, sorted stably, are in order
+  pub sorted_effects : (xs ys : List X) → Apart comes_before (map f xs) → IsSortedBy (λ x y. comes_before (f x) (f y)) ys → IsStableBy (λ x y. comes_before (f x) (f y)) xs ys
+      → map f ys ≡ in_order (map f xs)
+  sorted_effects xs ys apart up stable = ap (map f) (sorted_is (λ x y. comes_before (f x) (f y)) is_order xs ys (apart_by xs apart) up stable) ∙ inserted_map xs
 
 -- effects that are left out change nothing in the order of the others
 put_is : (e : Effect) (es : List Effect) → put comes_before e es ≡ with_effect e es
@@ -101,25 +94,3 @@ emitting_alone x (id ∷ ids) = by (effect_at x id) (emitting_alone x ids)
 
 pub emitting_in_order : (x : List Effect) (ids : List ℕ) → in_order (filter_map (emitting_at x) ids) ≡ filter has_emitted (in_order (filter_map (effect_at x) ids))
 emitting_in_order x ids = ap in_order (emitting_alone x ids) ∙ filter_in_order has_emitted (filter_map (effect_at x) ids)
-
--- the effects of ids, the last first
-earlier_id : (ids : List ℕ) (k : ℕ) (id : ℕ) → k < length ids → id ≡ get_or ids (length ids - 1 - k) id → drop (length ids - (k + 1)) ids ≡ id ∷ drop (length ids - k) ids
-earlier_id ids k id lt is =
-    let same : length ids - (k + 1) ≡ length ids - 1 - k = omega arith in
-    let next : suc (length ids - 1 - k) ≡ length ids - k = omega arith in
-    rw same (drop-cons ids (length ids - 1 - k) id (omega arith) ∙ rw (← is, next) refl)
-
-pub more_found : (g : ℕ → Option Effect) (ids : List ℕ) (k id : ℕ) (e : Effect) (found next : List Effect) → k < length ids → id ≡ get_or ids (length ids - 1 - k) id → g id ≡ Some e
-    → found ≡ reverse (filter_map g (drop (length ids - k) ids)) → next ≡ found ++ e ∷ [] → next ≡ reverse (filter_map g (drop (length ids - (k + 1)) ids))
-more_found g ids k id e found next lt is there h step =
-    rw (earlier_id ids k id lt is, there) (step ∙ ap (λ es. es ++ e ∷ []) h ∙ sym (reverse-append (e ∷ []) (filter_map g (drop (length ids - k) ids))))
-
-pub same_found : (g : ℕ → Option Effect) (ids : List ℕ) (k id : ℕ) (found : List Effect) → k < length ids → id ≡ get_or ids (length ids - 1 - k) id → g id ≡ None
-    → found ≡ reverse (filter_map g (drop (length ids - k) ids)) → found ≡ reverse (filter_map g (drop (length ids - (k + 1)) ids))
-same_found g ids k id found lt is there h = rw (earlier_id ids k id lt is, there) h
-
-pub none_found : (g : ℕ → Option Effect) (ids : List ℕ) → [] ≡ reverse (filter_map g (drop (length ids - 0) ids))
-none_found g ids = let past : length ids ≤ length ids - 0 = omega arith in rw (drop_all (length ids - 0) ids past) refl
-
-pub all_found : (g : ℕ → Option Effect) (ids : List ℕ) (k : ℕ) (found : List Effect) → length ids ≤ k → found ≡ reverse (filter_map g (drop (length ids - k) ids)) → found ≡ reverse (filter_map g ids)
-all_found g ids k found past h = let none : length ids - k ≡ 0 = omega arith in rw none at h

@@ -13,7 +13,7 @@ use Rattle.ql_value.specs.declared.value.Value.{Value}
 use Rattle.ql_exec.specs.declared.effect.Effect.{Effect}
 use Rattle.ql_exec.specs.declared.effect.Payload.{Payload}
 use Rattle.ql_exec.specs.declared.effect.Payload.TheVariants.{Nothing, Emitted}
-use Rattle.ql_eval.specs.Evaluation.{Bindings, value_of}
+use Rattle.ql_eval.specs.Evaluation.{Bindings, value_in, value_of}
 use Rattle.ql_eval.specs.Folds.{after_payload, after_stmt, after_stmts, assigned, bound_values, folded, has_emitted, is_emitted, under}
 
 pub next_item : {A : Type 0} (xs : List A) (i : ℕ) (x : A) → i < length xs → x ≡ get_or xs i x → drop i xs ≡ x ∷ drop (i + 1) xs
@@ -39,6 +39,47 @@ assigns_none (p ∷ ps) w v le = by_test (bytes_eq p.0 w) le (assigns_none ps w 
       → p ∷ ps ≡ cond b ((w, v) ∷ ps) (p ∷ assigned ps w v)
   by_test true le' rest = absurd (omega arith)
   by_test false le' rest = ap (λ qs. p ∷ qs) (rest (omega arith))
+
+pub assigned_front : (ps qs : Bindings) (w : List ℕ) (v : Value) → prefix_len (λ p. not (bytes_eq p.0 w)) ps < length ps → assigned ps w v ++ qs ≡ assigned (ps ++ qs) w v
+unfolding assigned
+assigned_front [] qs w v lt = absurd (omega arith)
+assigned_front (p ∷ ps) qs w v lt = by_test (bytes_eq p.0 w) lt (assigned_front ps qs w v) where
+  by_test : (b : Bool) → cond (not b) (1 + prefix_len (λ q. not (bytes_eq q.0 w)) ps) 0 < suc (length ps)
+      → (prefix_len (λ q. not (bytes_eq q.0 w)) ps < length ps → assigned ps w v ++ qs ≡ assigned (ps ++ qs) w v)
+      → cond b ((w, v) ∷ ps) (p ∷ assigned ps w v) ++ qs ≡ cond b ((w, v) ∷ ps ++ qs) (p ∷ assigned (ps ++ qs) w v)
+  by_test true lt' rest = refl
+  by_test false lt' rest = ap (λ rs. p ∷ rs) (rest (omega arith))
+
+-- the value of a name
+pub value_here : (p : List ℕ × Value) (ps : Bindings) (w : List ℕ) → bytes_eq p.0 w ≡ true → value_in (p ∷ ps) w ≡ Some p.1
+unfolding value_in
+value_here p ps w e = rw e refl
+
+pub value_after : (p : List ℕ × Value) (ps : Bindings) (w : List ℕ) → bytes_eq p.0 w ≡ false → value_in (p ∷ ps) w ≡ value_in ps w
+unfolding value_in
+value_after p ps w e = rw e refl
+
+pub value_nowhere : (w : List ℕ) → None ≡ value_in [] w
+unfolding value_in
+value_nowhere w = refl
+
+pub value_in_first : (ps qs : Bindings) (w : List ℕ) (v : Value) → Some v ≡ value_in ps w → Some v ≡ value_in (ps ++ qs) w
+unfolding value_in
+value_in_first [] qs w v e = let no : Some v ≡ None = e in cc
+value_in_first (p ∷ ps) qs w v e = by (bytes_eq p.0 w) e (value_in_first ps qs w v)
+  where
+    by : (b : Bool) → Some v ≡ cond b (Some p.1) (value_in ps w) → (Some v ≡ value_in ps w → Some v ≡ value_in (ps ++ qs) w) → Some v ≡ cond b (Some p.1) (value_in (ps ++ qs) w)
+    by true here rest = here
+    by false later rest = rest later
+
+pub value_in_later : (ps qs : Bindings) (w : List ℕ) → None ≡ value_in ps w → value_in qs w ≡ value_in (ps ++ qs) w
+unfolding value_in
+value_in_later [] qs w e = refl
+value_in_later (p ∷ ps) qs w e = by (bytes_eq p.0 w) e (value_in_later ps qs w)
+  where
+    by : (b : Bool) → None ≡ cond b (Some p.1) (value_in ps w) → (None ≡ value_in ps w → value_in qs w ≡ value_in (ps ++ qs) w) → value_in qs w ≡ cond b (Some p.1) (value_in (ps ++ qs) w)
+    by true here rest = let no : None ≡ Some p.1 = here in cc
+    by false later rest = rest later
 
 -- statements
 pub more_stmts : (env : Bindings) (stmts : List Stmt) (i : ℕ) (s : Stmt) (next : Bindings) → i < length stmts → s ≡ get_or stmts i s → Some next ≡ after_stmt env s → after_stmts env (drop i stmts) ≡ after_stmts next (drop (i + 1) stmts)
@@ -94,11 +135,15 @@ pub more_under : {X : Type 0} (word : X → List ℕ) (env : Bindings) (xs : Lis
 more_under word env xs vs i x v lt lt' is v_is =
     rw (next_item xs i x lt is, next_item vs i v lt' v_is) (sym (append_assoc env ((word x, v) ∷ []) (under word (drop (i + 1) xs) (drop (i + 1) vs))))
 
+pub next_under : {X : Type 0} (word : X → List ℕ) (xs : List X) (vs : List Value) (i : ℕ) (x : X) (v : Value) → i < length xs → i < length vs
+    → under word (drop i xs) (drop i vs) ≡ (word (get_or xs i x), get_or vs i v) ∷ under word (drop (i + 1) xs) (drop (i + 1) vs)
+next_under word xs vs i x v lt lt' = rw (drop-cons xs i x lt, drop-cons vs i v lt', add-one i) refl
+
 under_none : {X : Type 0} (word : X → List ℕ) (xs : List X) → under word xs [] ≡ []
 under_none word [] = refl
 under_none word (x ∷ xs) = refl
 
-under_end : {X : Type 0} (word : X → List ℕ) (xs : List X) (vs : List Value) (i : ℕ) → min (length xs) (length vs) ≤ i → under word (drop i xs) (drop i vs) ≡ []
+pub under_end : {X : Type 0} (word : X → List ℕ) (xs : List X) (vs : List Value) (i : ℕ) → min (length xs) (length vs) ≤ i → under word (drop i xs) (drop i vs) ≡ []
 under_end {X} word [] vs i past = rw (drop_all {X = X} i [] (omega arith)) refl
 under_end word (x ∷ xs) [] i past = rw (drop_all {X = Value} i [] (omega arith)) (under_none word (drop i (x ∷ xs)))
 under_end word (x ∷ xs) (v ∷ vs) zero past = absurd (omega arith)

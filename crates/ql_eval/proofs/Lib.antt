@@ -4,6 +4,8 @@ pub mod NeverStuck
 mod FoldSteps
 pub mod Accepted
 mod StableOrder
+mod Insertion
+mod EffectsApart
 pub mod EffectOrder
 mod Fitting
 pub mod Answering

@@ -1,22 +1,22 @@
 -- A list that is sorted stably is the one that insertion makes.
-use Rattle.std.proofs.Common.{◌≡◌, ◌+◌, suc, Bool, true, false, not, ◌&&◌, cond, List, [], ◌∷◌, ◌++◌, All, filter, get_or, refl, sym, ap, ◌∙◌, subst, append_assoc, arith}
+use Rattle.std.proofs.Common.{◌≡◌, ◌+◌, suc, Bool, true, false, not, ◌&&◌, cond, List, [], ◌∷◌, ◌++◌, All, filter, get_or, refl, sym, ap, ◌∙◌, subst, arith}
 use Rattle.std.specs.Cmp.{IsStrictWeakOrder}
-use Rattle.std.specs.List.Sorted.{IsSortedBy, IsStableBy, ties}
+use Rattle.std.specs.List.Sorted.{IsSortedBy, ties}
 use Rattle.std.proofs.lemmas.List.{append-nil}
-use Rattle.std.proofs.lemmas.List.Elements.{All-cons, All-filter, All-head, All-tail, filter-append}
+use Rattle.std.proofs.lemmas.List.Elements.{All-cons, All-filter, All-head, All-tail}
 use Rattle.std.proofs.lemmas.List.Sorted.{sorted_far}
 
-both : (a b : Bool) → (a && b) ≡ true → (a ≡ true) × (b ≡ true)
+pub both : (a b : Bool) → (a && b) ≡ true → (a ≡ true) × (b ≡ true)
 both true true h = (refl, refl)
 both true false h = cc
 both false b h = cc
 
-denied : (b : Bool) → not b ≡ true → b ≡ false
+pub denied : (b : Bool) → not b ≡ true → b ≡ false
 denied true h = cc
 denied false h = refl
 
 module _ {X : Type 0} where
-  none_pass : (p : X → Bool) (ys : List X) → All (λ z. p z ≡ false) ys → filter p ys ≡ []
+  pub none_pass : (p : X → Bool) (ys : List X) → All (λ z. p z ≡ false) ys → filter p ys ≡ []
   none_pass p [] h = refl
   none_pass p (y ∷ ys) h = rw (All-head (λ z. p z ≡ false) y ys h) (none_pass p ys (All-tail (λ z. p z ≡ false) y ys h))
 
@@ -41,14 +41,6 @@ module _ {X : Type 0} (lt : X → X → Bool) where
   put x [] = x ∷ []
   put x (y ∷ ys) = cond (lt x y) (x ∷ y ∷ ys) (y ∷ put x ys)
 
-  abbrev pub placed : List X → List X → List X
-  placed acc [] = acc
-  placed acc (x ∷ xs) = placed (put x acc) xs
-
-  pub placed_push : (acc xs : List X) (x : X) → placed acc (xs ++ x ∷ []) ≡ put x (placed acc xs)
-  placed_push acc [] x = refl
-  placed_push acc (y ∷ ys) x = placed_push (put y acc) ys x
-
 module _ {X : Type 0} (lt : X → X → Bool) (o : IsStrictWeakOrder lt) where
   itself : (x : X) → lt x x ≡ false
   itself x = by (lt x x) refl
@@ -60,7 +52,7 @@ module _ {X : Type 0} (lt : X → X → Bool) (o : IsStrictWeakOrder lt) where
   tied_itself : (x : X) → ties lt x x ≡ true
   tied_itself x = rw (itself x) refl
 
-  rises : (ys : List X) → IsSortedBy lt ys → Rises lt ys
+  pub rises : (ys : List X) → IsSortedBy lt ys → Rises lt ys
   rises [] up = tt
   rises (y ∷ ys) up = (
     λ k d below. sorted_far lt o (y ∷ ys) up 0 (suc k) d (omega arith) (omega arith),
@@ -98,7 +90,7 @@ module _ {X : Type 0} (lt : X → X → Bool) (o : IsStrictWeakOrder lt) where
           let no : true ≡ false = sym e ∙ o.chain x z y (o.chain x w z back h) low in
           absurd cc
 
-  put_ties : (w x : X) (ys : List X) → Rises lt ys → filter (ties lt w) (put lt x ys) ≡ filter (ties lt w) ys ++ filter (ties lt w) (x ∷ [])
+  pub put_ties : (w x : X) (ys : List X) → Rises lt ys → filter (ties lt w) (put lt x ys) ≡ filter (ties lt w) ys ++ filter (ties lt w) (x ∷ [])
   put_ties w x [] up = refl
   put_ties w x (y ∷ ys) up = by (lt x y) refl (put_ties w x ys up.1)
     where
@@ -119,17 +111,6 @@ module _ {X : Type 0} (lt : X → X → Bool) (o : IsStrictWeakOrder lt) where
       by true e rest = here (ties lt w x) refl e
       by false e rest = later (ties lt w y) rest
 
-  placed_rises : (acc xs : List X) → Rises lt acc → Rises lt (placed lt acc xs)
-  placed_rises acc [] up = up
-  placed_rises acc (x ∷ xs) up = placed_rises (put lt x acc) xs (put_rises x acc up)
-
-  placed_ties : (w : X) (acc xs : List X) → Rises lt acc → filter (ties lt w) (placed lt acc xs) ≡ filter (ties lt w) acc ++ filter (ties lt w) xs
-  placed_ties w acc [] up = sym (append-nil (filter (ties lt w) acc))
-  placed_ties w acc (x ∷ xs) up =
-      placed_ties w (put lt x acc) xs (put_rises x acc up) ∙ ap (λ ys. ys ++ filter (ties lt w) xs) (put_ties w x acc up)
-      ∙ append_assoc (filter (ties lt w) acc) (filter (ties lt w) (x ∷ [])) (filter (ties lt w) xs)
-      ∙ ap (λ ys. filter (ties lt w) acc ++ ys) (sym (filter-append (ties lt w) (x ∷ []) xs))
-
   filter_first : (y : X) (ys : List X) → filter (ties lt y) (y ∷ ys) ≡ y ∷ filter (ties lt y) ys
   filter_first y ys = rw (tied_itself y) refl
 
@@ -141,7 +122,7 @@ module _ {X : Type 0} (lt : X → X → Bool) (o : IsStrictWeakOrder lt) where
       All-head (λ u. lt u z ≡ false) y (filter (ties lt y) ys) some
 
   -- two lists in order that agree on what ties are one
-  one_order : (ys zs : List X) → Rises lt ys → Rises lt zs → ((w : X) → filter (ties lt w) ys ≡ filter (ties lt w) zs) → ys ≡ zs
+  pub one_order : (ys zs : List X) → Rises lt ys → Rises lt zs → ((w : X) → filter (ties lt w) ys ≡ filter (ties lt w) zs) → ys ≡ zs
   one_order [] [] up vp same = refl
   one_order [] (z ∷ zs) up vp same =
       let no : [] ≡ z ∷ filter (ties lt z) zs = same z ∙ filter_first z zs in
@@ -155,9 +136,6 @@ module _ {X : Type 0} (lt : X → X → Bool) (o : IsStrictWeakOrder lt) where
       let first = first_is y z _ _ heads in
       let rest = one_order ys zs up.1 vp.1 (λ w. filter_rest (ties lt w y) y (filter (ties lt w) ys) (filter (ties lt w) zs) (same w ∙ ap (λ u. filter (ties lt w) (u ∷ zs)) (sym first))) in
       ap (λ u. u ∷ ys) first ∙ ap (λ us. z ∷ us) rest
-
-  pub sorted_is : (zs ws : List X) → IsSortedBy lt ws → IsStableBy lt zs ws → ws ≡ placed lt [] zs
-  sorted_is zs ws up stable = one_order ws (placed lt [] zs) (rises ws up) (placed_rises [] zs tt) (λ w. stable w ∙ sym (placed_ties w [] zs tt))
 
   put_first : (x : X) (zs : List X) → All (λ z. lt x z ≡ true) zs → put lt x zs ≡ x ∷ zs
   put_first x [] above = refl

@@ -1,4 +1,4 @@
-ghost use Rattle.std.specs.Prelude.{◌≡◌, ◌∷◌, ◌++◌, [], IfOk, OnOk, length, not, take};
+ghost use Rattle.std.specs.Prelude.{◌≡◌, ◌<◌, ◌∷◌, ◌++◌, [], IfOk, OnOk, length, not, set, take};
 ghost use Rattle.std.specs.List.{prefix_len};
 ghost use Rattle.std.specs.Str.{bytes_eq};
 ghost use Rattle.std.specs.Option.{option_copied};
@@ -80,6 +80,21 @@ impl Env {
         ensures { self.new ≡ take len self.old }
     {
         self.pairs.truncate(len);
+    }
+
+    /// Where a name stands first, or the number of names if it isn't there.
+    pub(crate) fn place_of(&self, word: &Word) -> usize
+        ensures { result ≡ prefix_len (λ pair. not (bytes_eq pair.0 word.now)) self.now }
+    {
+        count_others(&self.pairs, word)
+    }
+
+    /// Puts a name with a value in place of another one.
+    pub(crate) fn put(&mut self, place: usize, word: Word, value: Value)
+        requires { place < length self.old }
+        ensures { self.new ≡ set self.old place (word, value) }
+    {
+        self.pairs[place] = (word, value);
     }
 
     /// Assigns another value to a name.

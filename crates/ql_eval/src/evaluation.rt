@@ -5,9 +5,10 @@ ghost use Rattle.ql_eval.specs.ValueKinds.{IsAccepted, IsNeverStuck};
 ghost use Rattle.ql_eval.specs.Evaluation.{Bindings, call_value, called_on, value_in, value_of, values_of};
 
 use crate::call::{with_one, with_three, with_two};
-use crate::env::{Env, find};
+use crate::env::Env;
 use crate::operator::{combine, deny, negate};
 use crate::scalar::literal;
+use crate::scope::Scope;
 use ql_base::{NoMemory, Word};
 use ql_lang::{Expr, ExprNode, Exprs, Name};
 use ql_typing::{Function, find_function};
@@ -22,7 +23,7 @@ pub fn eval(alloc: Global, e: &Expr, env: &Env) -> Result<Value, NoMemory>
     ensures never_stuck { IsNeverStuck (expression_of e.now) }
     ensures accepted { IsAccepted (expression_of e.now) }
 {
-    match evaluate(alloc, env.items(), e)? {
+    match evaluate(alloc, &Scope::of(env.items()), e)? {
         Some(value) => Ok(value),
         None => unreachable!(),
     }
@@ -32,7 +33,7 @@ pub fn eval(alloc: Global, e: &Expr, env: &Env) -> Result<Value, NoMemory>
 pub fn try_eval(alloc: Global, e: &Expr, env: &Env) -> Result<Option<Value>, NoMemory>
     ensures { IfOk result (λ value. value ≡ value_of env.now (expression_of e.now)) }
 {
-    evaluate(alloc, env.items(), e)
+    evaluate(alloc, &Scope::of(env.items()), e)
 }
 
 // The value of an expression, if it has one.
@@ -40,42 +41,42 @@ pub fn try_eval(alloc: Global, e: &Expr, env: &Env) -> Result<Option<Value>, NoM
 #[tactic(auto, unfolding(ql_lang::specs::Expressions::node_of, crate::specs::Evaluation::value_of))]
 pub(crate) fn evaluate(
     alloc: Global,
-    pairs: &[(Word, Value)],
+    scope: &Scope<'_>,
     e: &Expr,
 ) -> Result<Option<Value>, NoMemory>
-    ensures { IfOk result (λ value. value ≡ value_of pairs.now (expression_of e.now)) }
+    ensures { IfOk result (λ value. value ≡ value_of scope.now (expression_of e.now)) }
 {
     match &e.node {
         ExprNode::Int(n) => Ok(Some(Value::Int(*n))),
         ExprNode::Text(text) => Ok(Some(Value::Text(literal(alloc, text)?))),
         ExprNode::Bool(b) => Ok(Some(Value::Bool(*b))),
         ExprNode::Unit => Ok(Some(Value::Unit)),
-        ExprNode::Var(name) => read(alloc, pairs, &name.word),
-        ExprNode::Call(name, args) => call(alloc, pairs, name, args),
-        ExprNode::If(test, left, right) => match evaluate(alloc, pairs, test)? {
-            Some(Value::Bool(true)) => evaluate(alloc, pairs, left),
-            Some(Value::Bool(false)) => evaluate(alloc, pairs, right),
+        ExprNode::Var(name) => read(alloc, scope, &name.word),
+        ExprNode::Call(name, args) => call(alloc, scope, name, args),
+        ExprNode::If(test, left, right) => match evaluate(alloc, scope, test)? {
+            Some(Value::Bool(true)) => evaluate(alloc, scope, left),
+            Some(Value::Bool(false)) => evaluate(alloc, scope, right),
             _ => Ok(None),
         },
         ExprNode::Binary(op, left, right) => {
             // Two names are borrowed, not copied.
             if let (Some(first), Some(second)) = (name_of(left), name_of(right)) {
-                return Ok(combine(*op, find(pairs, first), find(pairs, second)));
+                return Ok(combine(*op, scope.find(first), scope.find(second)));
             }
-            let left = evaluate(alloc, pairs, left)?;
-            let right = evaluate(alloc, pairs, right)?;
+            let left = evaluate(alloc, scope, left)?;
+            let right = evaluate(alloc, scope, right)?;
             Ok(combine(*op, left.as_ref(), right.as_ref()))
         }
-        ExprNode::Not(operand) => Ok(deny(evaluate(alloc, pairs, operand)?)),
-        ExprNode::Neg(operand) => Ok(negate(evaluate(alloc, pairs, operand)?)),
+        ExprNode::Not(operand) => Ok(deny(evaluate(alloc, scope, operand)?)),
+        ExprNode::Neg(operand) => Ok(negate(evaluate(alloc, scope, operand)?)),
     }
 }
 
 // A copy of the value of a name.
-fn read(alloc: Global, pairs: &[(Word, Value)], word: &Word) -> Result<Option<Value>, NoMemory>
-    ensures { IfOk result (λ value. value ≡ value_in pairs.now word.now) }
+fn read(alloc: Global, scope: &Scope<'_>, word: &Word) -> Result<Option<Value>, NoMemory>
+    ensures { IfOk result (λ value. value ≡ value_in scope.now word.now) }
 {
-    match find(pairs, word) {
+    match scope.find(word) {
         Some(value) => Ok(Some(copy(alloc, value)?)),
         None => Ok(None),
     }
@@ -96,12 +97,12 @@ fn name_of(e: &Expr) -> Option<&Word>
 #[cycle(evaluate)]
 fn call(
     alloc: Global,
-    pairs: &[(Word, Value)],
+    scope: &Scope<'_>,
     name: &Name,
     args: &Exprs,
 ) -> Result<Option<Value>, NoMemory>
     ensures { IfOk result
-        (λ value. value ≡ call_value pairs.now name.now.word (operands_in args.now)) }
+        (λ value. value ≡ call_value scope.now name.now.word (operands_in args.now)) }
 {
     let function = find_function(name.word.bytes());
     let items = args.items();
@@ -109,24 +110,24 @@ fn call(
         return Ok(None);
     }
     if let ExprNode::Var(name) = &items[0].node {
-        return call_on(alloc, pairs, function, find(pairs, &name.word), items);
+        return call_on(alloc, scope, function, scope.find(&name.word), items);
     }
-    let first = evaluate(alloc, pairs, &items[0])?;
-    call_on(alloc, pairs, function, first.as_ref(), items)
+    let first = evaluate(alloc, scope, &items[0])?;
+    call_on(alloc, scope, function, first.as_ref(), items)
 }
 
 // The value of a call by the value of its first argument.
 #[cycle(evaluate)]
 fn call_on(
     alloc: Global,
-    pairs: &[(Word, Value)],
+    scope: &Scope<'_>,
     function: Option<Function>,
     first: Option<&Value>,
     args: &[Expr],
 ) -> Result<Option<Value>, NoMemory>
     ensures { IfOk result
         (λ value. value ≡ called_on function (option_copied first.entry)
-        (values_of pairs.now (operands_of (drop 1 args.now)))) }
+        (values_of scope.now (operands_of (drop 1 args.now)))) }
 {
     let Some(first) = first else {
         return Ok(None);
@@ -134,11 +135,11 @@ fn call_on(
     if args.len() <= 1 {
         Ok(with_one(function, first))
     } else if args.len() == 2 {
-        let second = evaluate(alloc, pairs, &args[1])?;
+        let second = evaluate(alloc, scope, &args[1])?;
         with_two(alloc, function, first, second)
     } else if args.len() == 3 {
-        let second = evaluate(alloc, pairs, &args[1])?;
-        let third = evaluate(alloc, pairs, &args[2])?;
+        let second = evaluate(alloc, scope, &args[1])?;
+        let third = evaluate(alloc, scope, &args[2])?;
         with_three(alloc, function, first, second, third)
     } else {
         Ok(None)

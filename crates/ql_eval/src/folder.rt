@@ -10,6 +10,7 @@ ghost use Rattle.ql_eval.specs.Able.{AnswersAll, AnswersFit, IsAble};
 use crate::env::Env;
 use crate::evaluation::evaluate;
 use crate::folding::state_after;
+use crate::scope::Scope;
 use crate::statement::with_args;
 use ql_base::{IdSet, NoMemory, OpId};
 use ql_exec::{Answered, Execution, Folder, Payload};
@@ -90,8 +91,9 @@ pub(crate) fn answer_over(
     ensures { IfOk result (λ given. given ≡ answer_over op.now args.now state) }
 {
     let env = with_args(alloc, state, op.params.items(), args.items())?;
-    let answer = evaluate(alloc, env.items(), &op.answer)?;
-    let payload = emitted(alloc, &env, &op.effect)?;
+    let scope = Scope::of(env.items());
+    let answer = evaluate(alloc, &scope, &op.answer)?;
+    let payload = emitted(alloc, &scope, &op.effect)?;
     Ok(together(answer, payload))
 }
 
@@ -105,37 +107,49 @@ fn together(answer: Option<Value>, payload: Option<Payload>) -> Option<Answered>
 }
 
 // What an operation emits, by its test.
-fn emitted(alloc: Global, env: &Env, effect: &Option<EmitDecl>) -> Result<Option<Payload>, NoMemory>
-    ensures { IfOk result (λ payload. payload ≡ emitted env.now effect.now) }
+fn emitted(
+    alloc: Global,
+    scope: &Scope<'_>,
+    effect: &Option<EmitDecl>,
+) -> Result<Option<Payload>, NoMemory>
+    ensures { IfOk result (λ payload. payload ≡ emitted scope.now effect.now) }
 {
     let Some(emit) = effect else {
         return Ok(Some(Payload::Nothing));
     };
-    match evaluate(alloc, env.items(), &emit.test)? {
-        Some(Value::Bool(true)) => emit_values(alloc, env, emit.binds.items()),
+    match evaluate(alloc, scope, &emit.test)? {
+        Some(Value::Bool(true)) => emit_values(alloc, scope, emit.binds.items()),
         Some(Value::Bool(false)) => Ok(Some(Payload::Nothing)),
         _ => Ok(None),
     }
 }
 
-fn emit_values(alloc: Global, env: &Env, binds: &[Bind]) -> Result<Option<Payload>, NoMemory>
+fn emit_values(
+    alloc: Global,
+    scope: &Scope<'_>,
+    binds: &[Bind],
+) -> Result<Option<Payload>, NoMemory>
     ensures { IfOk result
         (λ payload. payload ≡ option_map
-        (λ values. Payload.Emitted values) (bound_values env.now binds.now)) }
+        (λ values. Payload.Emitted values) (bound_values scope.now binds.now)) }
 {
-    match bound_values(alloc, env, binds)? {
+    match bound_values(alloc, scope, binds)? {
         Some(values) => Ok(Some(Payload::Emitted(values))),
         None => Ok(None),
     }
 }
 
 // The values of emitted expressions.
-fn bound_values(alloc: Global, env: &Env, binds: &[Bind]) -> Result<Option<Values>, NoMemory>
-    ensures { IfOk result (λ values. values ≡ bound_values env.now binds.now) }
+fn bound_values(
+    alloc: Global,
+    scope: &Scope<'_>,
+    binds: &[Bind],
+) -> Result<Option<Values>, NoMemory>
+    ensures { IfOk result (λ values. values ≡ bound_values scope.now binds.now) }
 {
     let mut values = Vec::with_capacity(alloc, binds.len())?;
     for bind in binds {
-        match evaluate(alloc, env.items(), &bind.value)? {
+        match evaluate(alloc, scope, &bind.value)? {
             Some(value) => values.push(value)?,
             None => return Ok(None),
         }

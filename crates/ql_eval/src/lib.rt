@@ -11,7 +11,9 @@ mod folding;
 mod operator;
 mod order;
 mod resuming;
+mod running;
 mod scalar;
+mod scope;
 mod statement;
 
 pub use env::Env;

@@ -1,4 +1,4 @@
-ghost use Rattle.std.specs.Prelude.{◌≡◌, IfOk, map, reverse};
+ghost use Rattle.std.specs.Prelude.{◌≡◌, IfOk, map};
 ghost use Rattle.std.specs.List.{filter, filter_map};
 ghost use Rattle.std.specs.Option.{option_copied};
 ghost use Rattle.std.specs.Ordering.{is_lt};
@@ -21,24 +21,23 @@ pub(crate) fn emitting_in_order<'a>(
         (λ order. map (λ e. e.now) order.items
         ≡ filter has_emitted (seen_in_order execution.now seen.now)) }
 {
-    let mut order = found_backwards(alloc, execution.effects(), seen.items())?;
+    let mut order = emitting(alloc, execution.effects(), seen.items())?;
     order.sort_by(|a, b| compare(a, b))?;
     Ok(order)
 }
 
-// Of the effects with some ids those that emitted values, that of the last id first.
-fn found_backwards<'a>(
+// Of the effects with some ids those that emitted values.
+fn emitting<'a>(
     alloc: Global,
     effects: &'a [Effect],
     ids: &[u32],
 ) -> Result<Vec<&'a Effect>, NoMemory>
     ensures { IfOk result
-        (λ found. map (λ e. e.now) found.items
-        ≡ reverse (filter_map (emitting_at effects.now) ids.now)) }
+        (λ found. map (λ e. e.now) found.items ≡ filter_map (emitting_at effects.now) ids.now) }
 {
     let mut found = Vec::with_capacity(alloc, ids.len())?;
-    for k in 0..ids.len() {
-        if let Some(effect) = find_emitting(effects, ids[ids.len() - 1 - k]) {
+    for id in ids {
+        if let Some(effect) = find_emitting(effects, *id) {
             found.push(effect)?;
         }
     }

@@ -1,10 +1,11 @@
-ghost use Rattle.std.specs.Prelude.{◌≡◌, ◌++◌, IfOk, take};
-ghost use Rattle.ql_eval.specs.Folds.{after_emit, after_stmt, after_stmts, bind_word, param_word, under};
+ghost use Rattle.std.specs.Prelude.{◌≡◌, ◌++◌, IfOk};
+ghost use Rattle.ql_eval.specs.Folds.{after_emit, after_stmt, after_stmts, param_word, under};
 
 use crate::env::Env;
 use crate::evaluation::evaluate;
+use crate::running::Running;
 use ql_base::NoMemory;
-use ql_lang::{Bind, EmitDecl, Param, Stmt};
+use ql_lang::{EmitDecl, Param, Stmt};
 use ql_value::{Value, Values, copy};
 use std::alloc::Global;
 
@@ -18,57 +19,42 @@ pub(crate) fn run(
     ensures { IfOk result (λ after. after ≡ after_emit state emit.now payload.now) }
 {
     let fields = state.len();
-    let env = with_emitted(alloc, state, emit.binds.items(), payload.items())?;
-    match run_all(alloc, env, emit.stmts.items())? {
-        Some(env) => Ok(Some(first_of(env, fields))),
+    let begun = Running::of(state, emit.binds.items(), payload.items());
+    match run_all(alloc, begun, emit.stmts.items())? {
+        Some(ended) => Ok(Some(ended.first(alloc, fields)?)),
         None => Ok(None),
     }
-}
-
-fn first_of(env: Env, len: usize) -> Env
-    ensures { result ≡ take len env }
-{
-    let mut env = env;
-    env.truncate(len);
-    env
 }
 
 // Statements one after another.
-fn run_all(alloc: Global, env: Env, stmts: &[Stmt]) -> Result<Option<Env>, NoMemory>
-    ensures { IfOk result (λ after. after ≡ after_stmts env stmts.now) }
+fn run_all<'a>(
+    alloc: Global,
+    begun: Running<'a>,
+    stmts: &[Stmt],
+) -> Result<Option<Running<'a>>, NoMemory>
+    ensures { IfOk result (λ after. after ≡ after_stmts begun.entry stmts.now) }
 {
-    let mut env = env;
+    let mut running = begun;
     for stmt in stmts {
-        match run_one(alloc, env, stmt)? {
-            Some(next) => env = next,
+        match run_one(alloc, running, stmt)? {
+            Some(next) => running = next,
             None => return Ok(None),
         }
     }
-    Ok(Some(env))
+    Ok(Some(running))
 }
 
-fn run_one(alloc: Global, env: Env, stmt: &Stmt) -> Result<Option<Env>, NoMemory>
-    ensures { IfOk result (λ after. after ≡ after_stmt env stmt.now) }
+fn run_one<'a>(
+    alloc: Global,
+    running: Running<'a>,
+    stmt: &Stmt,
+) -> Result<Option<Running<'a>>, NoMemory>
+    ensures { IfOk result (λ after. after ≡ after_stmt running.entry stmt.now) }
 {
-    match evaluate(alloc, env.items(), &stmt.value)? {
-        Some(value) => {
-            let mut env = env;
-            env.assign(&stmt.target.word, value);
-            Ok(Some(env))
-        }
+    match evaluate(alloc, &running.scope(), &stmt.value)? {
+        Some(value) => Ok(Some(running.assigned(alloc, &stmt.target.word, value)?)),
         None => Ok(None),
     }
-}
-
-/// The names in scope, with an operation's emitted values added under their names.
-fn with_emitted(alloc: Global, env: Env, binds: &[Bind], values: &[Value]) -> Result<Env, NoMemory>
-    ensures { IfOk result (λ whole. whole ≡ env ++ under bind_word binds.now values.now) }
-{
-    let mut env = env;
-    for k in 0..binds.len().min(values.len()) {
-        env.push(binds[k].name.word, copy(alloc, &values[k])?)?;
-    }
-    Ok(env)
 }
 
 /// The names in scope, with an operation's arguments added under their names.

@@ -1,22 +1,11 @@
-use Rattle.std.proofs.Common.{◌≡◌, ◌<◌, ◌+◌, ℕ, true, false, List, [], ◌∷◌, Some, None, length, drop, get_or, refl, sym, ◌∙◌, ap, add-one}
+use Rattle.std.proofs.Common.{◌≡◌, ◌<◌, ◌+◌, ℕ, true, false, List, ◌∷◌, length, drop, get_or, refl, sym, ◌∙◌, ap, add-one}
 use Rattle.std.specs.Str.{bytes_eq}
 use Rattle.std.proofs.Math.Seq.{drop-cons}
 use Rattle.std.proofs.lemmas.List.{drop_all}
 use Rattle.ql_value.specs.declared.value.Value.{Value}
 use Rattle.ql_eval.specs.Evaluation.{Bindings, value_in}
+use Rattle.ql_eval.proofs.FoldSteps.{value_after, value_here, value_nowhere}
 use Rattle.ql_eval.proofs.env.find.Goals as goal
-
-value_here : (p : List ℕ × Value) (ps : Bindings) (w : List ℕ) → bytes_eq p.0 w ≡ true → value_in (p ∷ ps) w ≡ Some p.1
-unfolding value_in
-value_here p ps w e = rw e refl
-
-value_after : (p : List ℕ × Value) (ps : Bindings) (w : List ℕ) → bytes_eq p.0 w ≡ false → value_in (p ∷ ps) w ≡ value_in ps w
-unfolding value_in
-value_after p ps w e = rw e refl
-
-value_nowhere : (w : List ℕ) → None ≡ value_in [] w
-unfolding value_in
-value_nowhere w = refl
 
 next_pair : (xs : Bindings) (i : ℕ) (x : List ℕ × Value) → i < length xs → x ≡ get_or xs i x → drop i xs ≡ x ∷ drop (i + 1) xs
 next_pair xs i x lt is = drop-cons xs i x lt ∙ rw (← is, add-one i) refl

@@ -8,34 +8,34 @@ use Rattle.ql_eval.proofs.evaluation.+evaluate.Goals as goal
 pub call-returns-then-is_empty : goal.call-returns-then-is_empty
 call-returns-then-is_empty t c =
     let none : length c.items-items.result.now ≡ 0 = let h = sym c.is_empty.ensures ∙ c.if-is_empty.true in grind (arith, nat_tests) in
-    empty_call c.args.pairs.now c.args.name.now.word c.items-items.result.now none ∙ ap (λ args. call_value c.args.pairs.now c.args.name.now.word args) c.items-items.ensures.operands
+    empty_call c.args.scope.now c.args.name.now.word c.items-items.result.now none ∙ ap (λ args. call_value c.args.scope.now c.args.name.now.word args) c.items-items.ensures.operands
 
 pub call-returns-in-Var : goal.call-returns-in-Var
 call-returns-in-Var t c =
     let f = c.find_function-function.ensures ∙ ap function_named c.bytes.ensures.same in
     let some : 0 < length c.items-items.result.now = let h = sym c.is_empty.ensures ∙ c.if-is_empty.false in grind (arith, nat_tests) in
-    let value = named_value c.args.pairs.now c.index-items-0.result c.in-Var.name (ap (λ x. x.node) c.index-items-0.is ∙ c.in-Var.is) ∙ sym c.find.ensures in
-    same_answer c.call_on.result _ _ (call_again c.args.pairs.now c.args.name.now.word c.items-items.result.now c.index-items-0.result c.args.args.now c.find_function-function.result _ some c.index-items-0.is c.items-items.ensures.operands f value) c.call_on.ensures
+    let value = named_value c.args.scope.now c.index-items-0.result c.in-Var.name (ap (λ x. x.node) c.index-items-0.is ∙ c.in-Var.is) ∙ sym c.find.ensures in
+    same_answer c.call_on.result _ _ (call_again c.args.scope.now c.args.name.now.word c.items-items.result.now c.index-items-0.result c.args.args.now c.find_function-function.result _ some c.index-items-0.is c.items-items.ensures.operands f value) c.call_on.ensures
 
 pub call-returns : goal.call-returns
 call-returns t c =
     let f = c.find_function-function.ensures ∙ ap function_named c.bytes.ensures.same in
     let some : 0 < length c.items-items.result.now = let h = sym c.is_empty.ensures ∙ c.if-is_empty.false in grind (arith, nat_tests) in
     let value = sym c.in_ok-first.ensures ∙ sym c.as_ref.ensures.value in
-    same_answer c.call_on-2.result _ _ (call_again c.args.pairs.now c.args.name.now.word c.items-items.result.now c.index-items-0-2.result c.args.args.now c.find_function-function.result _ some c.index-items-0-2.is c.items-items.ensures.operands f value) c.call_on-2.ensures
+    same_answer c.call_on-2.result _ _ (call_again c.args.scope.now c.args.name.now.word c.items-items.result.now c.index-items-0-2.result c.args.args.now c.find_function-function.result _ some c.index-items-0-2.is c.items-items.ensures.operands f value) c.call_on-2.ensures
 
 pub call_on-returns-then-args-le1 : goal.call_on-returns-then-args-le1
 call_on-returns-then-args-le1 t c =
-    c.with_one.ensures ∙ sym (rw (c.in-Some.is, no_others c.args.pairs.now c.args.args.now c.if-args-le1.true) refl)
+    c.with_one.ensures ∙ sym (rw (c.in-Some.is, no_others c.args.scope.now c.args.args.now c.if-args-le1.true) refl)
 
 pub call_on-returns-in_ok-second : goal.call_on-returns-in_ok-second
 call_on-returns-in_ok-second t c =
-    same_answer c.with_two.result _ _ (sym (rw (c.in-Some.is, one_other c.args.pairs.now c.args.args.now c.index-args-1.result c.in_ok-second.second c.if-args-eq2.true c.index-args-1.is c.in_ok-second.ensures) refl)) c.with_two.ensures
+    same_answer c.with_two.result _ _ (sym (rw (c.in-Some.is, one_other c.args.scope.now c.args.args.now c.index-args-1.result c.in_ok-second.second c.if-args-eq2.true c.index-args-1.is c.in_ok-second.ensures) refl)) c.with_two.ensures
 
 pub call_on-returns-in_ok-third : goal.call_on-returns-in_ok-third
 call_on-returns-in_ok-third t c =
-    same_answer c.with_three.result _ _ (sym (rw (c.in-Some.is, two_others c.args.pairs.now c.args.args.now c.index-args-1-then-args-eq3.result c.index-args-2.result c.in_ok-second-2.second c.in_ok-third.third c.if-args-eq3.true c.index-args-1-then-args-eq3.is c.index-args-2.is c.in_ok-second-2.ensures c.in_ok-third.ensures) refl)) c.with_three.ensures
+    same_answer c.with_three.result _ _ (sym (rw (c.in-Some.is, two_others c.args.scope.now c.args.args.now c.index-args-1-then-args-eq3.result c.index-args-2.result c.in_ok-second-2.second c.in_ok-third.third c.if-args-eq3.true c.index-args-1-then-args-eq3.is c.index-args-2.is c.in_ok-second-2.ensures c.in_ok-third.ensures) refl)) c.with_three.ensures
 
 pub call_on-returns-else-args-eq3 : goal.call_on-returns-else-args-eq3
 call_on-returns-else-args-eq3 t c =
-    rw c.in-Some.is (sym (more_others c.args.pairs.now c.args.function c.in-Some.first.now c.args.args.now (omega arith) c.if-args-eq2.false c.if-args-eq3.false))
+    rw c.in-Some.is (sym (more_others c.args.scope.now c.args.function c.in-Some.first.now c.args.args.now (omega arith) c.if-args-eq2.false c.if-args-eq3.false))
