@@ -18,7 +18,6 @@ use Rattle.ql_exec.specs.declared.effect.Draft.{Draft}
 use Rattle.ql_exec.specs.declared.effect.Effect.{Effect}
 use Rattle.ql_exec.specs.declared.effect.Member.{Member}
 use Rattle.ql_exec.specs.declared.fault.ExecFault.{ExecFault}
-use Rattle.ql_exec.specs.declared.fault.ExecFault.TheVariants as exec
 use Rattle.ql_exec.specs.Execution.{effect_of, fault_of, stamp_of}
 use Rattle.ql_effect_lines.specs.declared.effect_line.EffectLine.{EffectLine}
 use Rattle.ql_effect_lines.specs.declared.rules.ReportRule.{ReportRule}

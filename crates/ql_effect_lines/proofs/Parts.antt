@@ -1,15 +1,16 @@
 -- values stand at the start of a text in one way
-use Rattle.std.proofs.Common.{◌≡◌, ℕ, zero, suc, ◌+◌, Bool, true, false, List, [], ◌∷◌, ◌++◌, drop, replicate, arith, refl, sym, ap, subst, ◌∙◌, one-add}
+use Rattle.std.proofs.Common.{◌≡◌, ℕ, zero, suc, Bool, true, false, Ok, List, [], ◌∷◌, ◌++◌, drop, replicate, arith, refl, sym, ap, subst, ◌∙◌, one-add}
 use Rattle.std.specs.List.{prefix_len}
 use Rattle.std.proofs.lemmas.Bool.{false≢true}
 use Rattle.std.proofs.lemmas.Bool.Decides.{nat_tests}
-use Rattle.ql_base.specs.Bytes.{begins, is_digit}
+use Rattle.ql_base.specs.Bytes.{StopsBefore, begins, is_digit}
 use Rattle.ql_value.specs.declared.value.Value.{Value}
 use Rattle.ql_value.specs.Reading.{after_spaces, is_byte, scalar_at, value_at}
 use Rattle.ql_value.specs.ValueGrammar.{ReadsMore}
 use Rattle.ql_value.proofs.ScalarGrammar.{are_parts}
 use Rattle.ql_value.proofs.ValueLaws.{spaces_split}
 use Rattle.ql_effect_lines.specs.Parts.{FieldAt, ItemsAt, ValueAt, ValuesAt, ends_field}
+use Rattle.ql_effect_lines.proofs.Values.{is_read, stands}
 use Rattle.ql_lines.proofs.Conses.{both, heads, tails}
 
 -- ---- spaces
@@ -62,15 +63,15 @@ module _ {X : Type 0} (At : X → List ℕ → List ℕ → Type 0) (starts : St
 -- ---- one value
 
 pub one_value : IsOne ValueAt
-one_value v w text r q p s = are_parts v w r q (sym p ∙ s)
+one_value v w text r q p s = are_parts v w r q (sym (is_read v text r p).0 ∙ (is_read w text q s).0)
 
 no_space : (v : Value) (text rest : List ℕ) → ValueAt v (32 ∷ text) rest → ⊥
 unfolding value_at scalar_at is_digit
-no_space v text rest p = cc
+no_space v text rest p = let read : value_at (32 ∷ text) ≡ Ok (v, rest) = (is_read v (32 ∷ text) rest p).0 in cc
 
 pub no_bracket : (v : Value) (text rest : List ℕ) → ValueAt v (41 ∷ text) rest → ⊥
 unfolding value_at scalar_at is_digit
-no_bracket v text rest p = cc
+no_bracket v text rest p = let read : value_at (41 ∷ text) ≡ Ok (v, rest) = (is_read v (41 ∷ text) rest p).0 in cc
 
 pub value_starts : Starts ValueAt
 value_starts v [] rest p = refl
@@ -80,6 +81,12 @@ value_starts v (b ∷ bs) rest p =
       | true ↦ λ e. let same : b ≡ 32 = grind (arith, nat_tests) in absurd (no_space v bs rest (subst (λ (c : ℕ). ValueAt v (c ∷ bs) rest) same p))
       | false ↦ λ e. refl
     ] refl
+
+-- a value that ends a field isn't followed by a digit
+pub no_digit : (rest : List ℕ) → ends_field rest ≡ true → StopsBefore is_digit rest
+unfolding is_digit
+no_digit [] end = refl
+no_digit (b ∷ bs) end = grind (arith, nat_tests, end)
 
 -- ---- several values
 
@@ -129,18 +136,29 @@ pub no_items : (text : List ℕ) → ((v : Value) (rest : List ℕ) → ValueAt 
 no_items text none [] rest p = p
 no_items text none (v ∷ vs) rest p = none v p.0 p.1
 
+bracket_ends : (rest : List ℕ) → StopsBefore is_digit (41 ∷ rest)
+unfolding is_digit
+bracket_ends rest = refl
+
+comma_ends : (rest : List ℕ) → StopsBefore is_digit (44 ∷ rest)
+unfolding is_digit
+comma_ends rest = refl
+
 -- a value is read, and what stands after it
-module _ (v : Value) (text behind : List ℕ) (read : ValueAt v text behind) where
+module _ (v : Value) (text behind : List ℕ) (read : value_at text ≡ Ok (v, behind)) where
+  pub same_value : (w : Value) (rest : List ℕ) → ValueAt w text rest → (v ≡ w) × (behind ≡ rest)
+  same_value w rest p = are_parts v w behind rest (sym read ∙ (is_read w text rest p).0)
+
   pub last_item : (rest : List ℕ) → behind ≡ 41 ∷ rest → ItemsAt (v ∷ []) text rest
-  last_item rest e = (behind, read, e)
+  last_item rest e = (behind, stands v text behind read (subst (StopsBefore is_digit) (sym e) (bracket_ends rest)), e)
 
   pub stray_item : begins (is_byte 41) behind ≡ false → begins (is_byte 44) behind ≡ false → (vs : List Value) (rest : List ℕ) → ItemsAt vs text rest → ⊥
   stray_item unended unparted [] rest p = p
   stray_item unended unparted (w ∷ []) rest p =
-      let first = one_value v w text behind p.0 read p.1 in
+      let first = same_value w p.0 p.1 in
       false≢true (sym unended ∙ ap (begins (is_byte 41)) (first.1 ∙ p.2))
   stray_item unended unparted (w ∷ x ∷ ws) rest p =
-      let first = one_value v w text behind p.0 read p.1 in
+      let first = same_value w p.0 p.1 in
       false≢true (sym unparted ∙ ap (begins (is_byte 44)) (first.1 ∙ p.2.comma))
 
   module _ (tail : List ℕ) (comma : behind ≡ 44 ∷ tail) where
@@ -148,7 +166,7 @@ module _ (v : Value) (text behind : List ℕ) (read : ValueAt v text behind) whe
     more_items [] rest p = absurd p
     more_items (w ∷ ws) rest p = (
       behind,
-      read,
+      stands v text behind read (subst (StopsBefore is_digit) (sym comma) (comma_ends tail)),
       record {
         gap = prefix_len (is_byte 32) tail;
         start = after_spaces tail;
@@ -162,10 +180,10 @@ module _ (v : Value) (text behind : List ℕ) (read : ValueAt v text behind) whe
     pub items_left : (vs : List Value) (rest : List ℕ) → ItemsAt vs text rest → (ws : List Value) × (vs ≡ v ∷ ws) × ItemsAt ws (after_spaces tail) rest
     items_left [] rest p = absurd p
     items_left (w ∷ []) rest p =
-        let first = one_value v w text behind p.0 read p.1 in
+        let first = same_value w p.0 p.1 in
         absurd (omega (arith, heads 44 41 tail rest (sym comma ∙ first.1 ∙ p.2)))
     items_left (w ∷ x ∷ ws) rest p =
-        let first = one_value v w text behind p.0 read p.1 in
+        let first = same_value w p.0 p.1 in
         let more = p.2 in
         let gaps = tails 44 44 tail (replicate more.gap 32 ++ more.start) (sym comma ∙ first.1 ∙ more.comma) in
         let start = next_start x tail more.start more.behind more.gap more.item gaps in

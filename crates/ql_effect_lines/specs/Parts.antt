@@ -1,18 +1,21 @@
 -- The parts of an effect's line: fields, values, and values in round brackets. `XAt x text rest` says that `text`
 -- starts with `x`, and that `rest` follows it.
-use Rattle.std.specs.Prelude.{◌≡◌, ℕ, Bool, true, Ok, List, [], ◌∷◌, ◌++◌, replicate, codes}
+use Rattle.std.specs.Prelude.{◌≡◌, ℕ, Bool, true, List, [], ◌∷◌, ◌++◌, replicate, codes}
+use Rattle.ql_base.specs.Bytes.{StopsBefore, is_digit}
 use Rattle.ql_lines.specs.Fields.{Fields, FirstField, is_space}
 use Rattle.ql_value.specs.declared.value.Value.{Value}
-use Rattle.ql_value.specs.Reading.{value_at}
-use Rattle.ql_value.specs.ValueGrammar.{ReadsMore}
+use Rattle.ql_value.specs.ValueGrammar.{IsValue, ReadsMore, ReadsValue}
 
 -- fields, each after any number of spaces
 abbrev pub FieldsAt : Fields → List ℕ → List ℕ → Type 0
 FieldsAt [] text rest = text ≡ rest
 FieldsAt (f ∷ fs) text rest = (behind : List ℕ) × FirstField text f behind × FieldsAt fs behind rest
 
-abbrev pub ValueAt : Value → List ℕ → List ℕ → Type 0
-ValueAt v text rest = value_at text ≡ Ok (v, rest)
+-- a value within the limits, as the grammar of values spells it, and no digit directly after it
+pub record ValueAt (v : Value) (text rest : List ℕ) : Type 0 where
+  pub fits : IsValue v
+  pub spelled : ReadsValue v text rest
+  pub ended : StopsBefore is_digit rest
 
 -- values, and the bracket after them: there are a comma and any number of spaces between two
 abbrev pub ItemsAt : List Value → List ℕ → List ℕ → Type 0

@@ -1,7 +1,7 @@
-ghost use Rattle.std.specs.Prelude.{◌≡◌, ◌≤◌, ◌∷◌, List, ℕ, IfOk, MatchOption, length, false};
+ghost use Rattle.std.specs.Prelude.{◌≡◌, ◌≤◌, ◌∷◌, List, ℕ, IfOk, MatchOption, Ok, length, false};
 ghost use Rattle.ql_base.specs.Bytes.{begins};
 ghost use Rattle.ql_value.specs.declared.value.Value.{Value};
-ghost use Rattle.ql_value.specs.Reading.{is_byte};
+ghost use Rattle.ql_value.specs.Reading.{is_byte, value_at};
 ghost use Rattle.ql_effect_lines.specs.Parts.{FieldAt, ItemsAt, ValueAt, ValuesAt, ends_field};
 
 use ql_base::NoMemory;
@@ -80,11 +80,11 @@ fn items(alloc: Global, text: &[u8]) -> Result<Option<(Values, &[u8])>, NoMemory
     Ok(None)
 }
 
-// The value at the start of a text.
+// The value at the start of a text, whatever follows it.
 fn value(alloc: Global, text: &[u8]) -> Result<Option<(Value, &[u8])>, NoMemory>
     ensures read { IfOk result
         (λ read. MatchOption read ((v : Value) (rest : List ℕ) → ValueAt v text.now rest → ⊥)
-        (λ x. ValueAt x.0 text.now x.1.now × (length x.1.now ≤ length text.now))) }
+        (λ x. (value_at text.now ≡ Ok (x.0, x.1.now)) × (length x.1.now ≤ length text.now))) }
 {
     match parse_value(alloc, text, 0) {
         Ok((value, to)) => Ok(Some((value, &text[to..]))),

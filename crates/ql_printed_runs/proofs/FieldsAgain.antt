@@ -1,5 +1,5 @@
 -- the fields of a line are read as they are written
-use Rattle.std.proofs.Common.{◌≡◌, ℕ, suc, ◌<◌, ◌≤◌, ◌+◌, Bool, true, false, List, [], ◌∷◌, ◌++◌, All, get_or, length, map, decimal, codes, pos, negsuc, arith, refl, ap, sym, ◌∙◌, append_assoc}
+use Rattle.std.proofs.Common.{◌≡◌, ℕ, suc, ◌<◌, ◌≤◌, Bool, true, false, List, [], ◌∷◌, ◌++◌, All, get_or, length, map, decimal, codes, pos, negsuc, arith, refl, ap, sym, ◌∙◌, append_assoc}
 use Rattle.std.proofs.lemmas.List.{append-nil}
 use Rattle.std.proofs.lemmas.List.Elements.{recursion_from_All}
 use Rattle.std.proofs.lemmas.Bool.Decides.{nat_tests}
@@ -21,6 +21,7 @@ use Rattle.ql_value.specs.Texts.{IsText}
 use Rattle.ql_value.specs.ValueGrammar.{IsEntry, IsScalar, IsValue, ReadsMore}
 use Rattle.ql_value.proofs.ValueLaws.{printed_again}
 use Rattle.ql_effect_lines.specs.Parts.{FieldAt, ValueAt, ValuesAt, ends_field}
+use Rattle.ql_effect_lines.proofs.Values.{stands}
 use Rattle.ql_run_text.specs.EffectTexts.{values_text}
 use Rattle.ql_printed_runs.proofs.LinesAgain.{IsDigitByte, decimal_bytes, decimal_some, decimal_stay}
 
@@ -116,8 +117,12 @@ unfolding behind is_digit
 behind_digit [] = refl
 behind_digit (f ∷ fs) = refl
 
+-- a value as it is written, which no digit follows
+value_written : (v : Value) (rest : List ℕ) → IsValue v → begins is_digit rest ≡ false → ValueAt v (value_text v ++ rest) rest
+value_written v rest fits stop = stands v (value_text v ++ rest) rest (printed_again v rest fits stop) stop
+
 pub value_part : (v : Value) (fs : Fields) → IsValue v → ValueAt v (value_text v ++ behind fs) (behind fs)
-value_part v fs fits = printed_again v (behind fs) fits (behind_digit fs)
+value_part v fs fits = value_written v (behind fs) fits (behind_digit fs)
 
 more_digit : (ts : List (List ℕ)) (rest : List ℕ) → begins is_digit (followed ts ++ 41 ∷ rest) ≡ false
 unfolding is_digit
@@ -132,7 +137,7 @@ more_values (v ∷ vs) rest h =
       start = value_text v ++ more;
       behind = more;
       comma = ap (λ t. 44 ∷ 32 ∷ t) (append_assoc (value_text v) (followed (map value_text vs)) (41 ∷ rest));
-      item = printed_again v more h.0 (more_digit (map value_text vs) rest);
+      item = value_written v more h.0 (more_digit (map value_text vs) rest);
       next = more_values vs rest h.1;
     }
 
@@ -143,7 +148,7 @@ values_at (v ∷ vs) rest h =
     let more = texts ++ 41 ∷ rest in (
       value_text v ++ more,
       ap (λ t. 40 ∷ t) (append_assoc (value_text v ++ texts) (41 ∷ []) rest ∙ append_assoc (value_text v) texts (41 ∷ rest)),
-      (more, printed_again v more h.0 (more_digit (map value_text vs) rest), more_values vs rest h.1),
+      (more, value_written v more h.0 (more_digit (map value_text vs) rest), more_values vs rest h.1),
     )
 
 pub values_part : (vs : List Value) (fs : Fields) → All IsValue vs → ValuesAt vs (values_text vs ++ behind fs) (behind fs)
