@@ -83,18 +83,18 @@ impl Env {
     }
 
     /// Where a name stands first, or the number of names if it isn't there.
-    pub(crate) fn place_of(&self, word: &Word) -> usize
+    pub(crate) fn index_of(&self, word: &Word) -> usize
         ensures { result ≡ prefix_len (λ pair. not (bytes_eq pair.0 word.now)) self.now }
     {
         count_others(&self.pairs, word)
     }
 
     /// Puts a name with a value in place of another one.
-    pub(crate) fn put(&mut self, place: usize, word: Word, value: Value)
-        requires { place < length self.old }
-        ensures { self.new ≡ set self.old place (word, value) }
+    pub(crate) fn put(&mut self, index: usize, word: Word, value: Value)
+        requires { index < length self.old }
+        ensures { self.new ≡ set self.old index (word, value) }
     {
-        self.pairs[place] = (word, value);
+        self.pairs[index] = (word, value);
     }
 
     /// Assigns another value to a name.
@@ -108,9 +108,9 @@ impl Env {
 fn assign_in(pairs: &mut [(Word, Value)], word: &Word, value: Value)
     ensures { pairs.new ≡ assigned pairs.old word.now value }
 {
-    let place = count_others(pairs, word);
-    if place < pairs.len() {
-        pairs[place] = (*word, value);
+    let index = count_others(pairs, word);
+    if index < pairs.len() {
+        pairs[index] = (*word, value);
     }
 }
 

@@ -4,6 +4,7 @@
 #![tactic(auto)]
 
 mod call;
+mod emitted;
 mod env;
 mod evaluation;
 mod folder;

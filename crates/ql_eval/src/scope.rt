@@ -1,11 +1,10 @@
 ghost use Rattle.std.specs.Prelude.{◌≡◌, ◌++◌};
 ghost use Rattle.std.specs.Option.{option_copied};
 ghost use Rattle.ql_eval.specs.Evaluation.{value_in};
-ghost use Rattle.ql_eval.specs.Folds.{bind_word, under};
 
+use crate::emitted::Emitted;
 use crate::env::find;
 use ql_base::Word;
-use ql_lang::Bind;
 use ql_value::Value;
 use std::marker::Model;
 
@@ -13,18 +12,16 @@ use std::marker::Model;
 #[derive(Drop)]
 pub(crate) struct Scope<'a> {
     pairs: &'a [(Word, Value)],
-    binds: &'a [Bind],
-    emitted: &'a [Value],
+    emitted: Emitted<'a>,
 }
 
 impl<'a> Model for Scope<'a> {
     ghost use Rattle.std.specs.Prelude.{List, ℕ, ◌++◌};
     ghost use Rattle.ql_value.specs.declared.value.Value.{Value as OneValue};
-    ghost use Rattle.ql_eval.specs.Folds.{bind_word, under};
 
     ghost Value = { List (List ℕ × OneValue) };
 
-    ghost view = { λ s. s.pairs.now ++ under bind_word s.binds.now s.emitted.now };
+    ghost view = { λ s. s.pairs.now ++ s.emitted };
 }
 
 impl<'a> Scope<'a> {
@@ -32,26 +29,14 @@ impl<'a> Scope<'a> {
     pub(crate) fn of(pairs: &'a [(Word, Value)]) -> Scope<'a>
         ensures { result ≡ pairs.now }
     {
-        Scope {
-            pairs,
-            binds: &[],
-            emitted: &[],
-        }
+        Scope::with(pairs, Emitted::none())
     }
 
     /// These names with their values, and emitted values.
-    pub(crate) fn with(
-        pairs: &'a [(Word, Value)],
-        binds: &'a [Bind],
-        emitted: &'a [Value],
-    ) -> Scope<'a>
-        ensures { result ≡ pairs.now ++ under bind_word binds.now emitted.now }
+    pub(crate) fn with(pairs: &'a [(Word, Value)], emitted: Emitted<'a>) -> Scope<'a>
+        ensures { result ≡ pairs.now ++ emitted }
     {
-        Scope {
-            pairs,
-            binds,
-            emitted,
-        }
+        Scope { pairs, emitted }
     }
 
     /// The value of a name.
@@ -60,19 +45,7 @@ impl<'a> Scope<'a> {
     {
         match find(self.pairs, word) {
             Some(value) => Some(value),
-            None => find_emitted(self.binds, self.emitted, word),
+            None => self.emitted.find(word),
         }
     }
-}
-
-// The emitted value of a name.
-fn find_emitted<'a>(binds: &[Bind], emitted: &'a [Value], word: &Word) -> Option<&'a Value>
-    ensures { option_copied result ≡ value_in (under bind_word binds.now emitted.now) word.now }
-{
-    for k in 0..binds.len().min(emitted.len()) {
-        if binds[k].name.word.bytes() == word.bytes() {
-            return Some(&emitted[k]);
-        }
-    }
-    None
 }

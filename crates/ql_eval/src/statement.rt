@@ -1,6 +1,7 @@
 ghost use Rattle.std.specs.Prelude.{◌≡◌, ◌++◌, IfOk};
 ghost use Rattle.ql_eval.specs.Folds.{after_emit, after_stmt, after_stmts, param_word, under};
 
+use crate::emitted::Emitted;
 use crate::env::Env;
 use crate::evaluation::evaluate;
 use crate::running::Running;
@@ -19,7 +20,8 @@ pub(crate) fn run(
     ensures { IfOk result (λ after. after ≡ after_emit state emit.now payload.now) }
 {
     let fields = state.len();
-    let begun = Running::of(state, emit.binds.items(), payload.items());
+    let emitted = Emitted::of(emit.binds.items(), payload.items());
+    let begun = Running::of(state, emitted);
     match run_all(alloc, begun, emit.stmts.items())? {
         Some(ended) => Ok(Some(ended.first(alloc, fields)?)),
         None => Ok(None),

@@ -28,7 +28,8 @@ pub fn reach(alloc: Global, x: &Execution, asked: &IdSet, known: &Ranges) -> Res
     ensures { IfOk result (λ found. IsReach x.now asked.now (ids_of known.now) found) }
 {
     let mut walk = begin(alloc, asked, known)?;
-    visit_all(x.effects(), x.links(), asked, known, &mut walk)?;
+    let search = Search { asked, known };
+    visit_all(x.effects(), x.links(), &search, &mut walk)?;
     walk.found.to_ids(alloc)
 }
 
@@ -46,6 +47,13 @@ fn begin(alloc: Global, asked: &IdSet, known: &Ranges) -> Result<Walk, NoMemory>
     Ok(walk)
 }
 
+// The effects asked for, and the known ones.
+#[derive(Drop)]
+struct Search<'a> {
+    asked: &'a IdSet,
+    known: &'a Ranges,
+}
+
 // What was found, and the same effects in the order in which they are visited.
 #[derive(Drop)]
 struct Walk {
@@ -56,26 +64,25 @@ struct Walk {
 fn visit_all(
     effects: &[Effect],
     links: &[u32],
-    asked: &IdSet,
-    known: &Ranges,
+    search: &Search,
     walk: &mut Walk,
 ) -> Result<(), NoMemory>
     requires law { IsExecution effects.now }
     requires links { HasLinks links.now effects.now }
     requires few { length effects.now < 2 ^ 32 }
-    requires asked { AreWhole effects.now asked.now }
-    requires known { (a b : ℕ) → Has (ids_of known.now) a → Needs effects.now a b
-        → Has (ids_of known.now) b }
-    requires walk { IsWalk effects.now asked.now (ids_of walk.old.found) walk.old.due.items }
-    requires begins { (a : ℕ) → Has asked.now a
-        → InEither (ids_of known.now) (ids_of walk.old.found) a }
+    requires asked { AreWhole effects.now search.now.asked.now }
+    requires known { (a b : ℕ) → Has (ids_of search.now.known.now) a → Needs effects.now a b
+        → Has (ids_of search.now.known.now) b }
+    requires walk { IsWalk effects.now search.now.asked.now (ids_of walk.old.found) walk.old.due.items }
+    requires begins { (a : ℕ) → Has search.now.asked.now a
+        → InEither (ids_of search.now.known.now) (ids_of walk.old.found) a }
     ensures { OnOk result
-        (IsReach effects.now asked.now (ids_of known.now) (ids_of walk.new.found)) }
+        (IsReach effects.now search.now.asked.now (ids_of search.now.known.now) (ids_of walk.new.found)) }
 {
     let mut visited = 0;
     while visited < walk.due.len() {
         let e = walk.due[visited];
-        visit(effects, links, asked, known, walk, e)?;
+        visit(effects, links, search, walk, e)?;
         visited += 1;
     }
     Ok(())
@@ -85,8 +92,7 @@ fn visit_all(
 fn visit(
     effects: &[Effect],
     links: &[u32],
-    asked: &IdSet,
-    known: &Ranges,
+    search: &Search,
     walk: &mut Walk,
     e: u32,
 ) -> Result<(), NoMemory>
@@ -99,15 +105,15 @@ fn visit(
         (GoesOn effects.now e (ids_of walk.old.found) walk.old.due.items (ids_of walk.new.found)
         walk.new.due.items) }
     ensures visited { OnOk result
-        (Visited effects.now asked.now (ids_of known.now) (ids_of walk.new.found) e) }
+        (Visited effects.now search.now.asked.now (ids_of search.now.known.now) (ids_of walk.new.found) e) }
 {
-    meet_each(known, walk, effect(effects, e).seen.items())?;
-    meet_before(effects, links, known, walk, e)?;
-    if asked.has(e) {
+    meet_each(search.known, walk, effect(effects, e).seen.items())?;
+    meet_before(effects, links, search.known, walk, e)?;
+    if search.asked.has(e) {
         return Ok(());
     }
-    meet_below(effects, links, known, walk, e)?;
-    meet_above(effects, known, walk, e)
+    meet_below(effects, links, search.known, walk, e)?;
+    meet_above(effects, search.known, walk, e)
 }
 
 fn meet_before(

@@ -4,7 +4,7 @@ use Rattle.ql_value.specs.declared.value.Value.TheVariants.{Unit as Nothing}
 use Rattle.ql_eval.specs.Evaluation.{value_in}
 use Rattle.ql_eval.specs.Folds.{bind_word}
 use Rattle.ql_eval.proofs.FoldSteps.{next_under, under_end, value_after, value_here, value_nowhere}
-use Rattle.ql_eval.proofs.scope.find_emitted.Goals as goal
+use Rattle.ql_eval.proofs.emitted.find_emitted.Goals as goal
 
 pub returns-then-eq : goal.returns-then-eq
 returns-then-eq c =
