@@ -67,7 +67,8 @@ fn find_op(alloc: Global, t: &Typed, o: OpId) -> Result<Finding, NoMemory>
             goal: Goal::OpAt(o, Level::Strong),
             assignment,
         })),
-        Err(_) => Err(NoMemory),
+        Err(Classless::NoMemory) => Err(NoMemory),
+        Err(Classless::StrongInTxn { .. }) => unreachable!(),
     }
 }
 
@@ -99,7 +100,8 @@ fn find_txn(alloc: Global, t: &Typed, d: DeclId) -> Result<Finding, NoMemory>
             goal: Goal::TxnAt(d, TxnLevel::Rr),
             assignment,
         })),
-        Err(_) => Err(NoMemory),
+        Err(Classless::NoMemory) => Err(NoMemory),
+        Err(Classless::StrongInTxn { .. }) => unreachable!(),
     }
 }
 

@@ -38,7 +38,8 @@ pub(crate) fn stopped_disk<H: Holder>(
     };
     match journal_all(alloc, station, &mut disk, x, arrivals) {
         Ok(()) | Err(StationWhy::Failed) => Ok(Some(disk.crash(false))),
-        Err(_) => Err(NoMemory),
+        Err(StationWhy::NoMemory) => Err(NoMemory),
+        Err(_) => unreachable!(),
     }
 }
 
