@@ -44,7 +44,7 @@ use ql_lang::{Contract, NameList, Point, Points, Prop, Rel, RelName, Var, Vars};
 use std::alloc::Global;
 
 /// For so many variables, or operations of one, a list has room at first.
-const USUAL_NAMES: usize = 1;
+const USUAL_PARTS: usize = 1;
 
 impl Reader<'_> {
     /// A variable or `cur`.
@@ -279,7 +279,7 @@ impl Reader<'_> {
         ensures refused { IfErr result (IsRefused (APart BarredNames) self.old) }
     {
         let first = self.name(Role::Plain)?;
-        let mut names = Vec::with_capacity(alloc, USUAL_NAMES)?;
+        let mut names = Vec::with_capacity(alloc, USUAL_PARTS)?;
         names.push(first)?;
         'names: while self.sees(Terminal::Bar) {
             self.take(Terminal::Bar, Role::Plain)?;
@@ -313,7 +313,7 @@ impl Reader<'_> {
         ensures refused { IfErr result (IsRefused (APart VarList) self.old) }
     {
         let first = self.variable(alloc)?;
-        let mut vars = Vec::with_capacity(alloc, USUAL_NAMES)?;
+        let mut vars = Vec::with_capacity(alloc, USUAL_PARTS)?;
         vars.push(first)?;
         'vars: while self.sees(Terminal::Comma) {
             self.take(Terminal::Comma, Role::Plain)?;

@@ -7,10 +7,10 @@ use Rattle.ql_reach.proofs.walk.visit_all.Given as goal
 
 abbrev pub invariant-loop-visited : goal.invariant-loop-visited
 invariant-loop-visited l = record {
-  walk : IsWalk l.effects l.search.asked (ids_of l.walk.found) l.walk.due.items;
-  begins : (a : ℕ) → Has l.search.asked a → InEither (ids_of l.search.known) (ids_of l.walk.found) a;
+  walk : IsWalk l.effects l.search.asked.now (ids_of l.walk.found) l.walk.due.items;
+  begins : (a : ℕ) → Has l.search.asked.now a → InEither (ids_of l.search.known.now) (ids_of l.walk.found) a;
   inside : l.visited ≤ length l.walk.due.items;
-  done : (k : ℕ) → k < l.visited → Visited l.effects l.search.asked (ids_of l.search.known) (ids_of l.walk.found) (get_or l.walk.due.items k 0);
+  done : (k : ℕ) → k < l.visited → Visited l.effects l.search.asked.now (ids_of l.search.known.now) (ids_of l.walk.found) (get_or l.walk.due.items k 0);
 }
 
 abbrev pub decreases-loop-visited : goal.decreases-loop-visited
