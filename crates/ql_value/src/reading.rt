@@ -1,5 +1,6 @@
 ghost use Rattle.std.specs.Prelude.{◌≡◌, ◌≤◌, ◌+◌, [], IfOk, length, drop};
 ghost use Rattle.std.specs.List.{prefix_len};
+ghost use Rattle.ql_value.specs.Contents.{value_of_scalar};
 ghost use Rattle.ql_value.specs.Order.{key_cmp, scalar_cmp};
 ghost use Rattle.ql_value.specs.Reading.{
   IsRead,
@@ -10,7 +11,6 @@ ghost use Rattle.ql_value.specs.Reading.{
   follows,
   is_byte,
   value_at,
-  value_of_scalar,
 };
 ghost use Rattle.ql_value.specs.ValueGrammar.{ReadsEach, ReadsValue};
 
