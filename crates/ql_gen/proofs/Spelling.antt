@@ -1,6 +1,6 @@
 -- What is generated is spelled as files of schedules are: names of objects that differ, values of the grammar, ascending
 -- objects of a transaction, and numbers of 32 bits.
-use Rattle.std.proofs.Common.{◌≡◌, ℕ, zero, suc, ◌+◌, ◌*◌, ◌<◌, ◌≤◌, ◌^◌, Bool, true, false, ◌||◌, ◌&&◌, ◌==◌, nat_eq, nat_le, nat_lt, List, [], ◌∷◌, ◌++◌, codes, decimal, length, refl, sym, ap, subst, arith, append_assoc, length-append}
+use Rattle.std.proofs.Common.{◌≡◌, ℕ, zero, suc, pos, ◌+◌, ◌*◌, ◌<◌, ◌≤◌, ◌^◌, Bool, true, false, ◌||◌, ◌&&◌, ◌==◌, nat_eq, nat_le, nat_lt, List, [], ◌∷◌, ◌++◌, codes, decimal, length, refl, sym, ap, subst, arith, append_assoc, length-append}
 use Rattle.std.specs.List.{AllByRecursion, AllPass}
 use Rattle.std.proofs.lemmas.Bool.Decides.{nat_tests}
 use Rattle.std.proofs.lemmas.Fmt.{decimal_nonempty, digits_decimal}
@@ -18,6 +18,7 @@ use Rattle.ql_machine.specs.declared.event.Event.TheVariants.{Begin, Call, Commi
 use Rattle.ql_schedule.specs.Spelled.{AreNew, IsSpelledValue}
 use Rattle.ql_schedule.proofs.ObjectNames.{new_more}
 use Rattle.ql_typing.specs.Operations.{all_ops}
+use Rattle.ql_value.specs.declared.scalar.Scalar.TheVariants as scalar
 use Rattle.ql_gen.specs.Draws.{draw, next}
 use Rattle.ql_gen.specs.Events.{arg_of, args_of, begin_of, call_of, event_of, network_of, op_of, params_of}
 use Rattle.ql_gen.specs.Generated.{generated_events, state_after}
@@ -95,9 +96,9 @@ names_new (suc i) few =
 -- ---- arguments
 
 spelled_arg : (b : Base) (x : ℕ) → IsSpelledValue (arg_of b x)
-spelled_arg base.Int x = let less = draw_below 100 x (omega arith) in (refl, record { sfits = omega (arith, less) })
-spelled_arg base.Bool x = (refl, tt)
-spelled_arg base.Text x = (refl, numbered_text (draw 10 x) (draw_below 10 x (omega arith)))
+spelled_arg base.Int x = let less = draw_below 100 x (omega arith) in (scalar.Int (pos (draw 100 x)), refl, record { sfits = omega (arith, less) })
+spelled_arg base.Bool x = (scalar.Bool (nat_eq (draw 2 x) 1), refl, tt)
+spelled_arg base.Text x = (scalar.Text (codes "t" ++ decimal (draw 10 x)), refl, numbered_text (draw 10 x) (draw_below 10 x (omega arith)))
 
 spelled_args : (ps : List Param) (x : ℕ) → AllByRecursion IsSpelledValue (args_of ps x)
 unfolding args_of

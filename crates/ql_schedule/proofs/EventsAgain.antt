@@ -31,9 +31,7 @@ use Rattle.ql_typing.specs.Operations.{all_ops, op_kinds, op_place}
 use Rattle.ql_typing.specs.Names.{op_name, txn_name}
 use Rattle.ql_value.specs.declared.value.Value.{Value}
 use Rattle.ql_value.specs.declared.value.Value.TheVariants.{Unit as Nothing, Int as Number, Bool as Truth, Text, Set, Map}
-use Rattle.ql_value.specs.Reading.{value_at}
 use Rattle.ql_value.specs.Spelling.{value_text}
-use Rattle.ql_value.proofs.ValueLaws.{printed_again}
 use Rattle.ql_schedule.specs.declared.argument.Argument.TheVariants.{Given}
 use Rattle.ql_schedule.specs.declared.event_line.EventLine.{EventLine}
 use Rattle.ql_schedule.specs.declared.event_line.EventLine.TheVariants.{Call, Begin, Commit, Deliver, Repeat, Lose, Resend, Partition, Heal, Join}
@@ -48,6 +46,7 @@ use Rattle.ql_schedule.specs.Numbers.{IsNumber}
 use Rattle.ql_schedule.specs.Rules.{lowest}
 use Rattle.ql_schedule.specs.Spelled.{IsFound, IsSpelledEvent, IsSpelledValue}
 use Rattle.ql_schedule.specs.Texts.{event_fields, name_at}
+use Rattle.ql_schedule.proofs.ArgumentLaws.{scalar_value_text}
 
 -- the line of an event, as it is written
 abbrev pub line_of : Program → List (List ℕ) → Event → EventLine
@@ -70,7 +69,10 @@ small n lt = inl (lt, refl)
 
 values_again : (vs : List Value) → AllByRecursion IsSpelledValue vs → AreArguments (map value_text vs) (map Given vs)
 values_again [] h = tt
-values_again (v ∷ vs) h = ((h.0.0, ap value_at (sym (append-nil (value_text v))) ∙ printed_again v [] h.0.1 refl), values_again vs h.1)
+values_again (v ∷ vs) h = (
+  (h.0.0, h.0.1, record { fits = h.0.2; spelled = ap value_text h.0.1 ∙ scalar_value_text h.0.0 }),
+  values_again vs h.1,
+)
 
 numbers_again : (ns : List ℕ) → AllByRecursion (λ g. g < 16) ns → AreNumbers (map decimal ns) ns
 numbers_again [] h = tt

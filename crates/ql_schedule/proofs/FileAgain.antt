@@ -17,9 +17,11 @@ use Rattle.ql_machine.specs.declared.event.Event.TheVariants as event
 use Rattle.ql_machine.specs.Runs.{replicas_after, replicas_behind}
 use Rattle.ql_typing.specs.Lookups.{type_place}
 use Rattle.ql_typing.specs.Names.{op_name, txn_name, type_name}
+use Rattle.ql_value.specs.declared.scalar.Scalar.{Scalar}
+use Rattle.ql_value.specs.declared.scalar.Scalar.TheVariants.{Int as Number, Bool as Truth, Text}
 use Rattle.ql_value.specs.declared.value.Value.{Value}
-use Rattle.ql_value.specs.declared.value.Value.TheVariants.{Unit as Nothing, Int as Number, Bool as Truth, Text, Set, Map}
-use Rattle.ql_value.specs.Spelling.{value_text}
+use Rattle.ql_value.specs.Spelling.{scalar_text, value_text}
+use Rattle.ql_value.specs.ValueGrammar.{IsScalar}
 use Rattle.ql_schedule.specs.declared.header.Declaration.TheVariants.{Object, Events}
 use Rattle.ql_schedule.specs.declared.reading.Reading.{Reading}
 use Rattle.ql_schedule.specs.declared.reading.Reading.TheVariants.{Untitled, Titled, Declaring, Running}
@@ -32,6 +34,7 @@ use Rattle.ql_schedule.specs.Makings.{event_of, of_replicas}
 use Rattle.ql_schedule.specs.Outcomes.{Closes, ExtendsSchedule}
 use Rattle.ql_schedule.specs.Spelled.{AreNew, IsFound, IsSpelled, IsSpelledEvent, IsSpelledType, IsSpelledValue}
 use Rattle.ql_schedule.specs.Texts.{event_fields, name_at, object_fields, object_lines, schedule_lines}
+use Rattle.ql_schedule.proofs.ArgumentLaws.{scalar_value_text}
 use Rattle.ql_schedule.proofs.EventsAgain.{counted_again, few_behind, in_version, is_event, lawful, line_of, made_again}
 use Rattle.ql_schedule.proofs.LinesAgain.{IsLine, IsPart, file_again, minus_part, name_part, number_part, numbered, parts_again, text_part, word_part}
 
@@ -139,15 +142,15 @@ steps p s is =
 
 -- ---- its lines
 
+scalar_part : (s : Scalar) → IsScalar s → IsPart (scalar_text s)
+scalar_part (Number (pos n)) h = number_part n (omega (arith, h.sfits))
+scalar_part (Number (negsuc n)) h = minus_part (suc n) (omega (arith, h.sfits))
+scalar_part (Truth true) h = word_part (codes "true") refl (omega arith)
+scalar_part (Truth false) h = word_part (codes "false") refl (omega arith)
+scalar_part (Text t) h = text_part t (λ k lt. h.plain k 0 lt)
+
 value_part : (v : Value) → IsSpelledValue v → IsPart (value_text v)
-value_part Nothing h = absurd cc
-value_part (Number (pos n)) h = number_part n (omega (arith, h.1.sfits))
-value_part (Number (negsuc n)) h = minus_part (suc n) (omega (arith, h.1.sfits))
-value_part (Truth true) h = word_part (codes "true") refl (omega arith)
-value_part (Truth false) h = word_part (codes "false") refl (omega arith)
-value_part (Text t) h = text_part t (λ k lt. h.1.plain k 0 lt)
-value_part (Set s) h = absurd cc
-value_part (Map m) h = absurd cc
+value_part v h = subst IsPart (sym (ap value_text h.1 ∙ scalar_value_text h.0)) (scalar_part h.0 h.2)
 
 all_parts : {X : Type 0} (P : X → Type 0) (field : X → List ℕ) → ((x : X) → P x → IsPart (field x)) → (xs : List X) → AllByRecursion P xs → AllByRecursion IsPart (map field xs)
 all_parts P field part [] h = tt

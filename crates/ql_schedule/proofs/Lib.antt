@@ -1,5 +1,6 @@
 mod PartLaws
 mod Loops
+mod ArgumentLaws
 mod Fronts
 mod Clean
 pub mod Sound

@@ -1,24 +1,19 @@
 -- The arguments of a call: numbers, truth values and texts, as values are written.
-use Rattle.std.specs.Prelude.{ℕ, ◌≡◌, ◌⊎◌, Bool, true, false, ◌&&◌, List, [], ◌∷◌, Ok, slice_index}
+use Rattle.std.specs.Prelude.{ℕ, ◌≡◌, ◌⊎◌, Bool, true, false, ◌&&◌, List, [], ◌∷◌, slice_index}
 use Rattle.std.specs.List.{flat_map}
 use Rattle.ql_base.specs.Numbers.{IsNumeral}
 use Rattle.ql_lines.specs.Fields.{Fields}
 use Rattle.ql_lang.specs.declared.operation.Base.{Base}
 use Rattle.ql_lang.specs.declared.operation.Base.TheVariants as base
 use Rattle.ql_lang.specs.declared.operation.Param.{Param}
+use Rattle.ql_value.specs.declared.scalar.Scalar.{Scalar}
 use Rattle.ql_value.specs.declared.value.Value.{Value}
-use Rattle.ql_value.specs.declared.value.Value.TheVariants.{Unit as Nothing, Int as Number, Bool as Truth, Text, Set, Map}
-use Rattle.ql_value.specs.Reading.{value_at}
+use Rattle.ql_value.specs.declared.value.Value.TheVariants.{Int as Number, Bool as Truth, Text}
+use Rattle.ql_value.specs.Contents.{value_of_scalar}
+use Rattle.ql_value.specs.Spelling.{scalar_text}
+use Rattle.ql_value.specs.ValueGrammar.{IsScalar}
 use Rattle.ql_schedule.specs.declared.argument.Argument.{Argument}
 use Rattle.ql_schedule.specs.declared.argument.Argument.TheVariants.{Given, TooGreat}
-
-abbrev pub is_scalar : Value → Bool
-is_scalar Nothing = false
-is_scalar (Number z) = true
-is_scalar (Truth b) = true
-is_scalar (Text t) = true
-is_scalar (Set s) = false
-is_scalar (Map m) = false
 
 -- digits without a zero at the start
 pub record IsPositive (digits : List ℕ) : Type 0 where
@@ -34,12 +29,18 @@ IsNegative (b ∷ bs) = (b ≡ 45) × IsPositive bs
 abbrev pub IsInteger : List ℕ → Type 0
 IsInteger part = IsNumeral part ⊎ IsNegative part
 
-abbrev pub SpellsNone : List ℕ → Type 0
-SpellsNone part = (v : Value) → value_at part ≡ Ok (v, []) → ⊥
+-- the whole part is the text of a scalar within the limits
+pub record SpellsScalar (part : List ℕ) (s : Scalar) : Type 0 where
+  pub fits : IsScalar s
+  pub spelled : part ≡ scalar_text s
 
--- a part spells a scalar, or an integer that spells no value since 64 bits can't hold it
+-- the part is the text of no scalar
+abbrev pub SpellsNone : List ℕ → Type 0
+SpellsNone part = (s : Scalar) → SpellsScalar part s → ⊥
+
+-- a part spells a scalar, or is an integer that spells none since 64 bits can't hold it
 abbrev pub IsArgument : List ℕ → Argument → Type 0
-IsArgument part (Given v) = (is_scalar v ≡ true) × (value_at part ≡ Ok (v, []))
+IsArgument part (Given v) = (s : Scalar) × (v ≡ value_of_scalar s) × SpellsScalar part s
 IsArgument part TooGreat = IsInteger part × SpellsNone part
 
 abbrev pub AreArguments : Fields → List Argument → Type 0

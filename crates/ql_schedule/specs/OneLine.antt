@@ -1,11 +1,18 @@
 -- A line spells one thing, and leads from one state of reading to one next state.
-use Rattle.std.proofs.Common.{◌≡◌, ◌⊎◌, inl, inr, ℕ, ◌+◌, ◌*◌, ◌<◌, ◌^◌, Bool, true, false, List, [], ◌∷◌, Option, Some, None, Result, Ok, Err, length, get_or, drop, codes, arith, refl, ap, sym, subst, ◌∙◌}
+use Rattle.std.proofs.Common.{◌≡◌, ◌⊎◌, inl, inr, ℕ, ◌+◌, ◌*◌, ◌<◌, ◌^◌, Bool, true, false, List, [], ◌∷◌, ◌++◌, Option, Some, None, Result, Ok, Err, length, get_or, drop, codes, arith, refl, ap, sym, subst, ◌∙◌}
 use Rattle.std.proofs.lemmas.Fmt.{decimal_injective}
+use Rattle.std.proofs.lemmas.List.{append-nil}
 use Rattle.ql_lang.specs.declared.program.Program.{Program}
 use Rattle.ql_line_files.specs.declared.fault.Broken.{Broken}
 use Rattle.ql_lines.specs.Fields.{Fields}
+use Rattle.ql_value.specs.declared.scalar.Scalar.{Scalar}
+use Rattle.ql_value.specs.declared.scalar.Scalar.TheVariants.{Int, Bool as Truth, Text}
 use Rattle.ql_value.specs.declared.value.Value.{Value}
-use Rattle.ql_value.specs.Reading.{Read}
+use Rattle.ql_value.specs.Contents.{value_of_scalar}
+use Rattle.ql_value.specs.Reading.{Read, value_at}
+use Rattle.ql_value.specs.Spelling.{scalar_text}
+use Rattle.ql_value.specs.ValueGrammar.{IsScalar, IsValue, ReadsValue}
+use Rattle.ql_value.proofs.ValueLaws.{value_again}
 use Rattle.ql_schedule.specs.declared.argument.Argument.{Argument}
 use Rattle.ql_schedule.specs.declared.argument.Argument.TheVariants.{Given, TooGreat}
 use Rattle.ql_schedule.specs.declared.event_line.EventLine.{EventLine}
@@ -19,7 +26,7 @@ use Rattle.ql_schedule.specs.declared.rules.Faults.{Faults}
 use Rattle.ql_schedule.specs.declared.rules.SchedRule.{SchedRule}
 use Rattle.ql_schedule.specs.declared.rules.SchedRule.TheVariants.{Unexpected, Unknown, Kind, Range, TooMany, Twice}
 use Rattle.ql_schedule.specs.declared.schedule.Schedule.{Schedule}
-use Rattle.ql_schedule.specs.Arguments.{AreArguments, IsArgument}
+use Rattle.ql_schedule.specs.Arguments.{AreArguments, IsArgument, SpellsScalar}
 use Rattle.ql_schedule.specs.EventLines.{AreNumbers, CallerAt, IsBegin, IsCallLine, IsCalled, IsEventIn, IsEventLine, IsJoin, IsOneNumber, IsResend, IsRest, join_word, event_word}
 use Rattle.ql_schedule.specs.Headers.{IsDeclaration, IsReplicas, IsTitle, IsVersion}
 use Rattle.ql_schedule.specs.Judging.{declaration_faults, event_faults, replicas_faults}
@@ -49,15 +56,37 @@ one_caller c d parts r q a b =
       ap (λ (fs : Fields). drop 3 fs) e,
     )
 
+-- the limits and the grammar are the same for a scalar and for its value
+value_fits_of : (s : Scalar) → IsScalar s → IsValue (value_of_scalar s)
+value_fits_of (Int z) h = h
+value_fits_of (Truth b) h = tt
+value_fits_of (Text t) h = h
+
+value_reads_of : (s : Scalar) (part : List ℕ) → part ≡ scalar_text s ++ [] → ReadsValue (value_of_scalar s) part []
+value_reads_of (Int z) part h = h
+value_reads_of (Truth b) part h = h
+value_reads_of (Text t) part h = h
+
+-- a scalar that a part spells is read there
+pub scalar_read : (part : List ℕ) (s : Scalar) → SpellsScalar part s → value_at part ≡ Ok (value_of_scalar s, [])
+scalar_read part s h =
+    value_again (value_of_scalar s) part [] (value_fits_of s h.fits) refl (value_reads_of s part (h.spelled ∙ sym (append-nil (scalar_text s))))
+
+pub given_read : (part : List ℕ) (v : Value) → IsArgument part (Given v) → value_at part ≡ Ok (v, [])
+given_read part v h = subst (λ w. value_at part ≡ Ok (w, [])) (sym h.1) (scalar_read part h.0 h.2)
+
 the_value : Value → Read Value → Value
 the_value v (Ok p) = p.0
 the_value v (Err left) = v
 
-one_argument : (part : List ℕ) (a b : Argument) → IsArgument part a → IsArgument part b → a ≡ b
+pub one_value : (part : List ℕ) (v w : Value) → value_at part ≡ Ok (v, []) → value_at part ≡ Ok (w, []) → v ≡ w
 unfolding the_value
-one_argument part (Given v) (Given w) h k = ap Given (ap (the_value v) (sym h.1 ∙ k.1))
-one_argument part (Given v) TooGreat h k = absurd (k.1 v h.1)
-one_argument part TooGreat (Given w) h k = absurd (h.1 w k.1)
+one_value part v w h k = ap (the_value v) (sym h ∙ k)
+
+one_argument : (part : List ℕ) (a b : Argument) → IsArgument part a → IsArgument part b → a ≡ b
+one_argument part (Given v) (Given w) h k = ap Given (one_value part v w (given_read part v h) (given_read part w k))
+one_argument part (Given v) TooGreat h k = absurd (k.1 h.0 h.2)
+one_argument part TooGreat (Given w) h k = absurd (h.1 k.0 k.2)
 one_argument part TooGreat TooGreat h k = refl
 
 pub one_arguments : (parts : Fields) (xs ys : List Argument) → AreArguments parts xs → AreArguments parts ys → xs ≡ ys

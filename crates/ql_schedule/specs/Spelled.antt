@@ -1,6 +1,6 @@
 -- The schedules that are read back as they are printed: names are valid and not repeated, so that each is found by its
 -- own; arguments are scalars; and numbers are in range.
-use Rattle.std.specs.Prelude.{ℕ, ◌≡◌, ◌<◌, ◌≤◌, ◌^◌, false, true, List, [], ◌∷◌, ◌++◌, Some, length}
+use Rattle.std.specs.Prelude.{ℕ, ◌≡◌, ◌<◌, ◌≤◌, ◌^◌, false, List, [], ◌∷◌, ◌++◌, Some, length}
 use Rattle.std.specs.List.{AllByRecursion}
 use Rattle.ql_base.specs.IdLists.{IsAscending}
 use Rattle.ql_base.specs.Names.{IsName}
@@ -12,10 +12,11 @@ use Rattle.ql_machine.specs.declared.event.Event.TheVariants.{Call, Begin, Commi
 use Rattle.ql_typing.specs.Lookups.{txn_place, type_place}
 use Rattle.ql_typing.specs.Operations.{op_place}
 use Rattle.ql_typing.specs.Names.{op_name, txn_name, type_name}
+use Rattle.ql_value.specs.declared.scalar.Scalar.{Scalar}
 use Rattle.ql_value.specs.declared.value.Value.{Value}
-use Rattle.ql_value.specs.ValueGrammar.{IsValue}
+use Rattle.ql_value.specs.Contents.{value_of_scalar}
+use Rattle.ql_value.specs.ValueGrammar.{IsScalar}
 use Rattle.ql_schedule.specs.declared.schedule.Schedule.{Schedule}
-use Rattle.ql_schedule.specs.Arguments.{is_scalar}
 use Rattle.ql_schedule.specs.Guarantees.{IsSchedule}
 use Rattle.ql_schedule.specs.Texts.{name_at}
 
@@ -28,8 +29,9 @@ AreNew before (w ∷ ws) = IsName w × (has_name before w ≡ false) × AreNew (
 abbrev pub IsFound : List (List ℕ) → ℕ → Type 0
 IsFound objects o = IsName (name_at objects o) × (place objects (name_at objects o) ≡ Some o)
 
+-- the value of a scalar within the limits
 abbrev pub IsSpelledValue : Value → Type 0
-IsSpelledValue v = (is_scalar v ≡ true) × IsValue v
+IsSpelledValue v = (s : Scalar) × (v ≡ value_of_scalar s) × IsScalar s
 
 module _ (p : Program) (objects : List (List ℕ)) where
   pub record IsSpelledCall (object op : ℕ) (args : List Value) : Type 0 where

@@ -1,8 +1,10 @@
 ghost use Rattle.std.specs.Prelude.{◌≡◌, IfOk, IsTrue, MatchOption, ◌↔◌, [], Ok, List};
+ghost use Rattle.ql_value.specs.declared.scalar.Scalar.{Scalar};
 ghost use Rattle.ql_value.specs.declared.value.Value.{Value};
+ghost use Rattle.ql_value.specs.Contents.{value_of_scalar};
 ghost use Rattle.ql_value.specs.Reading.{value_at};
 ghost use Rattle.ql_schedule.specs.declared.argument.Argument.{Argument};
-ghost use Rattle.ql_schedule.specs.Arguments.{AreArguments, IsArgument, IsInteger, IsNegative, IsPositive, has_base, is_scalar};
+ghost use Rattle.ql_schedule.specs.Arguments.{AreArguments, IsArgument, IsInteger, IsNegative, IsPositive, has_base};
 ghost use Rattle.ql_schedule.specs.Parts.{parts_of};
 
 use crate::lists::Arguments;
@@ -88,7 +90,7 @@ fn value(alloc: Global, part: &[u8]) -> Result<Option<Value>, NoMemory>
 
 // Whether a value may be an argument: a number, a truth value or a text.
 fn is_scalar(value: &Value) -> bool
-    ensures { result ≡ is_scalar value.now }
+    ensures { IsTrue result ↔ ((s : Scalar) × (value.now ≡ value_of_scalar s)) }
 {
     matches!(value, Value::Int(_) | Value::Bool(_) | Value::Text(_))
 }

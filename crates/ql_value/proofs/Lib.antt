@@ -8,3 +8,4 @@ mod QuotedText
 mod ReadSteps
 pub mod ScalarGrammar
 pub mod ValueLaws
+pub mod ValueLimits

@@ -12,7 +12,8 @@ use Rattle.ql_value.specs.declared.value.Value.TheVariants.{Unit as Nothing, Set
 use Rattle.ql_value.specs.declared.fault.ValueFault.{ValueFault}
 use Rattle.ql_value.specs.declared.fault.ValueFault.TheVariants.{Unexpected, NoMemory}
 use Rattle.ql_value.specs.Order.{scalar_cmp, key_cmp}
-use Rattle.ql_value.specs.Reading.{Read, IsRead, IsWordRead, is_byte, scalar_at, word_at, standing_for, quoted_at, negative_at, plain_at, after_spaces, elements_at, entries_at, entry_value_at, collection_at, value_at, value_of_scalar, follows}
+use Rattle.ql_value.specs.Contents.{value_of_scalar}
+use Rattle.ql_value.specs.Reading.{Read, IsRead, IsWordRead, is_byte, scalar_at, word_at, standing_for, quoted_at, negative_at, plain_at, after_spaces, elements_at, entries_at, entry_value_at, collection_at, value_at, follows}
 
 -- a reading from one place that is one from another
 pub moved : {X : Type 0} (f g : List ℕ → Read X) (bytes : List ℕ) (at sp : ℕ) (r : Result (X × ℕ) ValueFault) → f (drop at bytes) ≡ g (drop sp bytes) → IsRead g bytes sp r → IsRead f bytes at r

@@ -15,7 +15,8 @@ use Rattle.ql_value.specs.declared.value.Value.TheVariants.{Unit as Nothing, Int
 use Rattle.ql_value.specs.Order.{scalar_cmp, key_cmp}
 use Rattle.ql_value.specs.Collections.{Ascends}
 use Rattle.ql_value.specs.Spelling.{scalar_text, entry_text, followed, value_text}
-use Rattle.ql_value.specs.Reading.{Read, is_byte, on_read, follows, behind_item, after_spaces, scalar_at, word_at, word_end, elements_at, entries_at, entry_value_at, collection_at, value_at, value_of_scalar}
+use Rattle.ql_value.specs.Contents.{value_of_scalar}
+use Rattle.ql_value.specs.Reading.{Read, is_byte, on_read, follows, behind_item, after_spaces, scalar_at, word_at, word_end, elements_at, entries_at, entry_value_at, collection_at, value_at}
 use Rattle.ql_value.specs.ValueGrammar.{spaces, IsScalar, IsEntry, IsValue, ReadsScalar, ReadsEntry, ReadsMore, ReadsBraced, ReadsSet, ReadsMap, ReadsValue}
 use Rattle.ql_value.proofs.ScalarGrammar.{chosen, are_parts, begins_with, word_at_takes, scalar_takes, scalar_again, scalar_first}
 

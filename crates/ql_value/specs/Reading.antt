@@ -8,9 +8,10 @@ use Rattle.ql_base.specs.Bytes.{begins, is_digit, is_text_byte}
 use Rattle.ql_value.specs.declared.scalar.Scalar.{Scalar}
 use Rattle.ql_value.specs.declared.scalar.Scalar.TheVariants.{Int, Bool as Truth, Text}
 use Rattle.ql_value.specs.declared.value.Value.{Value}
-use Rattle.ql_value.specs.declared.value.Value.TheVariants.{Unit as Nothing, Int as Number, Bool as TruthValue, Text as TextValue, Set, Map}
+use Rattle.ql_value.specs.declared.value.Value.TheVariants.{Unit as Nothing, Set, Map}
 use Rattle.ql_value.specs.declared.fault.ValueFault.{ValueFault}
 use Rattle.ql_value.specs.declared.fault.ValueFault.TheVariants.{Unexpected, NoMemory}
+use Rattle.ql_value.specs.Contents.{value_of_scalar}
 use Rattle.ql_value.specs.Order.{scalar_cmp, key_cmp}
 
 -- what a text starts with, and the text after it; or how many bytes are left at the first fault
@@ -116,11 +117,6 @@ collection_at room text =
     else if begins (is_byte 58) text then word_at (Map []) (codes ":}") text
     else on_read (scalar_at text) (λ first rest.
     if begins (is_byte 58) rest then entries_at room [] text else elements_at room [] text)
-
-abbrev pub value_of_scalar : Scalar → Value
-value_of_scalar (Int n) = Number n
-value_of_scalar (Truth b) = TruthValue b
-value_of_scalar (Text t) = TextValue t
 
 -- a value
 unfoldable pub value_at : List ℕ → Read Value

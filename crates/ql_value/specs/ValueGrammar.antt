@@ -1,4 +1,4 @@
-use Rattle.std.specs.Prelude.{ℕ, ◌≡◌, List, [], ◌∷◌, ◌++◌, Ok, replicate, codes, All, FitsSigned}
+use Rattle.std.specs.Prelude.{ℕ, ◌≡◌, List, [], ◌∷◌, ◌++◌, Result, Ok, Err, drop, replicate, codes, All, FitsSigned}
 use mir.Syntax.{w64}
 use Rattle.std.specs.Fmt.{signed_decimal}
 use Rattle.ql_base.specs.Bytes.{StopsBefore, is_digit}
@@ -6,6 +6,8 @@ use Rattle.ql_value.specs.declared.scalar.Scalar.{Scalar}
 use Rattle.ql_value.specs.declared.scalar.Scalar.TheVariants.{Int, Bool as Truth, Text}
 use Rattle.ql_value.specs.declared.value.Value.{Value}
 use Rattle.ql_value.specs.declared.value.Value.TheVariants.{Unit as Nothing, Int as Number, Bool as TruthValue, Text as TextValue, Set, Map}
+use Rattle.ql_value.specs.declared.fault.ValueFault.{ValueFault}
+use Rattle.ql_value.specs.declared.fault.ValueFault.TheVariants.{Unexpected, NoMemory}
 use Rattle.ql_value.specs.Collections.{IsMap, IsSet}
 use Rattle.ql_value.specs.Reading.{value_at}
 use Rattle.ql_value.specs.Spelling.{bool_text, quoted, scalar_text, value_text}
@@ -80,6 +82,13 @@ IsValue (TruthValue b) = Unit {0}
 IsValue (TextValue t) = IsText t
 IsValue (Set s) = IsSet s × All IsScalar s
 IsValue (Map m) = IsMap m × All IsEntry m
+
+-- what is read at an offset is a value within the limits, as the grammar spells it; at a fault there is none, unless a
+-- digit follows it
+abbrev pub IsValueRead : List ℕ → ℕ → Result (Value × ℕ) ValueFault → Type 0
+IsValueRead bytes at (Ok x) = IsValue x.0 × ReadsValue x.0 (drop at bytes) (drop x.1 bytes)
+IsValueRead bytes at (Err NoMemory) = Unit {0}
+IsValueRead bytes at (Err (Unexpected place)) = (v : Value) (rest : List ℕ) → IsValue v → StopsBefore is_digit rest → ReadsValue v (drop at bytes) rest → ⊥
 
 -- each text that the grammar allows is read as its value, if no digit follows it
 abbrev pub ReadsEach : List ℕ → Type 0

@@ -1,5 +1,6 @@
-ghost use Rattle.std.specs.Prelude.{◌≡◌, ◌≤◌, ◌+◌, [], IfOk, length, drop};
+ghost use Rattle.std.specs.Prelude.{◌≡◌, ◌≤◌, ◌+◌, [], length, drop};
 ghost use Rattle.std.specs.List.{prefix_len};
+ghost use Rattle.ql_value.specs.Contents.{value_of_scalar};
 ghost use Rattle.ql_value.specs.Order.{key_cmp, scalar_cmp};
 ghost use Rattle.ql_value.specs.Reading.{
   IsRead,
@@ -10,9 +11,8 @@ ghost use Rattle.ql_value.specs.Reading.{
   follows,
   is_byte,
   value_at,
-  value_of_scalar,
 };
-ghost use Rattle.ql_value.specs.ValueGrammar.{ReadsEach, ReadsValue};
+ghost use Rattle.ql_value.specs.ValueGrammar.{IsValueRead, ReadsEach};
 
 use crate::fault::ValueFault;
 use crate::ordering::scalar_order;
@@ -23,11 +23,11 @@ use ql_base::MAX_ENTRIES;
 use std::alloc::Global;
 
 /// The value whose text starts at the offset `from`, and the offset after it; or the first fault. What
-/// is read is in the grammar of values, and each text of the grammar is read.
+/// is read is in the grammar of values and within its limits, and each text of the grammar is read.
 pub fn parse_value(alloc: Global, bytes: &[u8], from: usize) -> Result<(Value, usize), ValueFault>
     requires { from ≤ length bytes.now }
     ensures read { IsRead value_at bytes.now from result }
-    ensures spelled { IfOk result (λ r. ReadsValue r.0 (drop from bytes.now) (drop r.1 bytes.now)) }
+    ensures spelled { IsValueRead bytes.now from result }
     ensures all { ReadsEach (drop from bytes.now) }
 {
     read_value(alloc, bytes, from)
