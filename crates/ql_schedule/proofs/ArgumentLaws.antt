@@ -1,5 +1,5 @@
 -- the arguments of the grammar are what the reader of values reads
-use Rattle.std.proofs.Common.{◌≡◌, ◌⊎◌, inl, inr, ◌++◌, ◌∷◌, [], ◌∙◌, ℕ, Bool, true, false, Ok, List, arith, refl, sym, ap, subst}
+use Rattle.std.proofs.Common.{◌≡◌, ◌⊎◌, inl, inr, ◌++◌, ◌∷◌, [], ◌∙◌, ℕ, ℤ, Bool, true, false, IsTrue, ◌↔◌, Ok, List, Option, Some, None, MatchOption, arith, refl, sym, ap, subst}
 use Rattle.std.proofs.lemmas.List.{append-nil}
 use Rattle.ql_base.specs.Bytes.{is_digit}
 use Rattle.ql_value.specs.declared.scalar.Scalar.{Scalar}
@@ -14,7 +14,7 @@ use Rattle.ql_value.proofs.ValueLaws.{value_takes}
 use Rattle.ql_value.proofs.ValueLimits.{value_fits}
 use Rattle.ql_schedule.specs.declared.argument.Argument.{Argument}
 use Rattle.ql_schedule.specs.declared.argument.Argument.TheVariants.{Given, TooGreat}
-use Rattle.ql_schedule.specs.Arguments.{IsArgument, IsInteger, SpellsNone}
+use Rattle.ql_schedule.specs.Arguments.{IsArgument, IsInteger}
 use Rattle.ql_schedule.specs.OneLine.{given_read, one_value, scalar_read}
 
 -- a scalar, as a value, has the same text
@@ -22,6 +22,14 @@ pub scalar_value_text : (s : Scalar) → value_text (value_of_scalar s) ≡ scal
 scalar_value_text (NumberOf z) = refl
 scalar_value_text (TruthOf b) = refl
 scalar_value_text (TextOf t) = refl
+
+is_of_scalar : (v : Value) (s : Scalar) → v ≡ value_of_scalar s → IsTrue true ↔ ((x : Scalar) × (v ≡ value_of_scalar x))
+is_of_scalar v s is = (λ t. (s, is), λ x. refl)
+
+pub matched : (v : Value) → ((z : ℤ) × (v ≡ Number z)) ⊎ (((b : Bool) × (v ≡ Truth b)) ⊎ ((t : List ℕ) × (v ≡ Text t))) → IsTrue true ↔ ((x : Scalar) × (v ≡ value_of_scalar x))
+matched v (inl number) = is_of_scalar v (NumberOf number.0) number.1
+matched v (inr (inl truth)) = is_of_scalar v (TruthOf truth.0) truth.1
+matched v (inr (inr text)) = is_of_scalar v (TextOf text.0) text.1
 
 -- the limits and the grammar are the same for a value and for its scalar
 scalar_fits_of : (s : Scalar) → IsValue (value_of_scalar s) → IsScalar s
@@ -35,19 +43,11 @@ scalar_reads_of (TruthOf b) part h = h
 scalar_reads_of (TextOf t) part h = h
 
 -- a scalar that is read is spelled
-pub is_given : (part : List ℕ) (s : Scalar) (v : Value) → v ≡ value_of_scalar s → value_at part ≡ Ok (v, []) → IsArgument part (Given v)
+is_given : (part : List ℕ) (s : Scalar) (v : Value) → v ≡ value_of_scalar s → value_at part ≡ Ok (v, []) → IsArgument part (Given v)
 is_given part s v is read =
     let fits = subst IsValue is (value_fits part [] v read) in
     let reads = subst (λ w. ReadsValue w part []) is (value_takes part [] v read) in
     (s, is, record { fits = scalar_fits_of s fits; spelled = scalar_reads_of s part reads ∙ append-nil (scalar_text s) })
-
-pub spells_none : (part : List ℕ) → ((v : Value) → value_at part ≡ Ok (v, []) → ⊥) → SpellsNone part
-spells_none part none = λ s h. none (value_of_scalar s) (scalar_read part s h)
-
--- a part that spells no value, and is no integer, is no argument
-pub no_argument : (part : List ℕ) → ((v : Value) → value_at part ≡ Ok (v, []) → ⊥) → (IsInteger part → ⊥) → (a : Argument) → IsArgument part a → ⊥
-no_argument part none other (Given v) h = none v (given_read part v h)
-no_argument part none other TooGreat h = other h.0
 
 -- ---- a part that spells another value than a scalar is no argument
 
@@ -81,6 +81,33 @@ module _ (part : List ℕ) (is : IsInteger part) where
   scalar_of_integer (Map []) h = absurd (braced part _ h is)
   scalar_of_integer (Map (e ∷ es)) h = absurd (braced part h.start h.brace is)
 
-pub no_scalar : (part : List ℕ) (v : Value) → value_at part ≡ Ok (v, []) → (((s : Scalar) × (v ≡ value_of_scalar s)) → ⊥) → (a : Argument) → IsArgument part a → ⊥
-no_scalar part v read other (Given w) h = other (h.0, one_value part v w read (given_read part w h) ∙ h.1)
-no_scalar part v read other TooGreat h = other (scalar_of_integer part h.0 v (value_takes part [] v read))
+no_scalar : (part : List ℕ) (v : Value) → value_at part ≡ Ok (v, []) → (((s : Scalar) × (v ≡ value_of_scalar s)) → ⊥) → (a : Argument) → IsArgument part a → ⊥
+no_scalar part v read none (Given w) h = none (h.0, one_value part v w read (given_read part w h) ∙ h.1)
+no_scalar part v read none TooGreat h = none (scalar_of_integer part h.0 v (value_takes part [] v read))
+
+-- ---- what is read of a part
+
+pub untrue : (b : Bool) → b ≡ true → b ≡ false → ⊥
+untrue b holds fails = let both : true ≡ false = sym holds ∙ fails in cc
+
+abbrev IsRead : List ℕ → Option Argument → Type 0
+IsRead part r = MatchOption r ((a : Argument) → IsArgument part a → ⊥) (λ a. IsArgument part a)
+
+module _ (part : List ℕ) where
+  module _ (v : Value) (read : value_at part ≡ Ok (v, [])) (r : Option Argument) where
+    pub given : r ≡ Some (Given v) → ((s : Scalar) × (v ≡ value_of_scalar s)) → IsRead part r
+    given is scalar = subst (IsRead part) (sym is) (is_given part scalar.0 v scalar.1 read)
+
+    pub other : r ≡ None → (((s : Scalar) × (v ≡ value_of_scalar s)) → ⊥) → IsRead part r
+    other is none = subst (IsRead part) (sym is) (no_scalar part v read none)
+
+  module _ (none : (v : Value) → value_at part ≡ Ok (v, []) → ⊥) (r : Option Argument) where
+    pub great : r ≡ Some TooGreat → IsInteger part → IsRead part r
+    great is integer = subst (IsRead part) (sym is) (integer, λ s h. none (value_of_scalar s) (scalar_read part s h))
+
+    no_argument : (IsInteger part → ⊥) → (a : Argument) → IsArgument part a → ⊥
+    no_argument other_part (Given v) h = none v (given_read part v h)
+    no_argument other_part TooGreat h = other_part h.0
+
+    pub neither : r ≡ None → (IsInteger part → ⊥) → IsRead part r
+    neither is other_part = subst (IsRead part) (sym is) (no_argument other_part)
