@@ -23,6 +23,10 @@ fetches_of shelf = shelf.fetches
 abbrev pub held_of : MemShelf → List ℕ → Option (List ℕ)
 held_of shelf name = bytes_under shelf.files.items name
 
+-- no file has this name
+abbrev pub Lacks : MemShelf → List ℕ → Type 0
+Lacks shelf name = held_of shelf name ≡ None
+
 -- how many faults a name has met
 abbrev pub count_of : MemShelf → List ℕ → ℕ
 count_of shelf name = count_under shelf.files.items shelf.counts.items shelf.missing name

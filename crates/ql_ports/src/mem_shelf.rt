@@ -47,12 +47,14 @@ impl MemShelf {
 }
 
 impl Shelf for MemShelf {
-    ghost use Rattle.std.specs.Prelude.{◌≡◌, ◌≢◌, ◌≤◌, ℕ, List, [], length, take, drop, IfOk, OnOk, OnErr, IfSome};
+    ghost use Rattle.std.specs.Prelude.{◌≡◌, ◌≢◌, ◌≤◌, ◌↔◌, ℕ, List, [], length, take, drop, IfOk, IsErr, OnOk, OnErr, IfSome};
     ghost use Rattle.std.specs.Result.{result_ok};
     ghost use Rattle.ql_ports.specs.Faults.{Rose};
-    ghost use Rattle.ql_ports.specs.MemShelf.{held_of, count_of, fetched, IsFetchedShelf};
+    ghost use Rattle.ql_ports.specs.MemShelf.{held_of, count_of, fetched, IsFetchedShelf, Lacks};
 
     ghost held = { held_of };
+
+    ghost lacks = { Lacks };
 
     ghost faults = { count_of };
 
@@ -63,9 +65,11 @@ impl Shelf for MemShelf {
             (λ whole. take count into.new ≡ take count (drop at whole))) }
         ensures end { IfOk result (λ count. IfSome (held_of self.old name.now)
             (λ whole. count ≡ 0 → into.new ≢ [] → length whole ≤ at)) }
+        ensures lacking { Lacks self.old name.now → IsErr result }
         ensures failed { OnErr result
             (Rose (count_of self.old name.now) (count_of self.new name.now)) }
         ensures same_contents { (other : List ℕ) → held_of self.new other ≡ held_of self.old other }
+        ensures same_files { (other : List ℕ) → Lacks self.new other ↔ Lacks self.old other }
         ensures counts_stay { (other : List ℕ) → count_of self.old other ≤ count_of self.new other }
 
         // What this shelf returns.

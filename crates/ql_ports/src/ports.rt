@@ -1,4 +1,4 @@
-ghost use Rattle.std.specs.Prelude.{◌≡◌, ◌≢◌, ◌<◌, ◌≤◌, ℕ, List, [], Option, length, take, drop, IfOk, OnErr, IfSome};
+ghost use Rattle.std.specs.Prelude.{◌≡◌, ◌≢◌, ◌<◌, ◌≤◌, ◌↔◌, ℕ, List, [], Option, length, take, drop, IfOk, IsErr, OnErr, IfSome};
 ghost use Rattle.ql_ports.specs.Faults.{Rose};
 ghost use Rattle.ql_ports.specs.Written.{appended};
 
@@ -8,11 +8,14 @@ pub struct Failed;
 
 /// Named byte strings that are read piece by piece.
 ///
-/// A shelf in memory reports what it holds. A shelf of real files reports nothing, and the clauses
-/// then say nothing about the bytes that it returns.
+/// A shelf in memory reports what it holds and what it lacks. A shelf of real files reports nothing,
+/// and the clauses then say nothing about the bytes that it returns.
 pub trait Shelf {
     // The bytes under a name, if the shelf reports them.
     ghost held: { Self → List ℕ → Option (List ℕ) };
+
+    // The shelf reports that it has no file of this name.
+    ghost lacks: { Self → List ℕ → Type 0 };
 
     // How many faults the fetches of a name have met.
     ghost faults: { Self → List ℕ → ℕ };
@@ -26,8 +29,10 @@ pub trait Shelf {
             (λ whole. take count into.new ≡ take count (drop at whole))) }
         ensures end { IfOk result (λ count. IfSome (held self.old name.now)
             (λ whole. count ≡ 0 → into.new ≢ [] → length whole ≤ at)) }
+        ensures lacking { lacks self.old name.now → IsErr result }
         ensures failed { OnErr result (Rose (faults self.old name.now) (faults self.new name.now)) }
         ensures same_contents { (other : List ℕ) → held self.new other ≡ held self.old other }
+        ensures same_files { (other : List ℕ) → lacks self.new other ↔ lacks self.old other }
         ensures counts_stay { (other : List ℕ) → faults self.old other ≤ faults self.new other };
 }
 

@@ -69,11 +69,13 @@ impl<R: Files + Drop> FileShelf<R> {
 }
 
 impl<R: Files + Drop> Shelf for FileShelf<R> {
-    ghost use Rattle.std.specs.Prelude.{◌≡◌, ◌≢◌, ◌≤◌, ℕ, List, [], length, take, drop, IfOk, OnOk, OnErr, IfSome};
+    ghost use Rattle.std.specs.Prelude.{◌≡◌, ◌≢◌, ◌≤◌, ◌↔◌, ℕ, List, [], length, take, drop, IfOk, IsErr, OnOk, OnErr, IfSome};
     ghost use Rattle.ql_ports.specs.Faults.{Rose, IsCountable, next_count_of};
     ghost use Rattle.ql_ports.specs.System.{unreported};
 
     ghost held = { λ _ _. unreported };
+
+    ghost lacks = { λ _ _. ⊥ };
 
     ghost faults = { λ shelf _. shelf.faults };
 
@@ -84,8 +86,10 @@ impl<R: Files + Drop> Shelf for FileShelf<R> {
             (λ whole. take count into.new ≡ take count (drop at whole))) }
         ensures end { IfOk result (λ count. IfSome unreported
             (λ whole. count ≡ 0 → into.new ≢ [] → length whole ≤ at)) }
+        ensures lacking { ⊥ → IsErr result }
         ensures failed { OnErr result (Rose self.old.faults self.new.faults) }
         ensures same_contents { (other : List ℕ) → unreported ≡ unreported }
+        ensures same_files { (other : List ℕ) → ⊥ ↔ ⊥ }
         ensures counts_stay { (other : List ℕ) → self.old.faults ≤ self.new.faults }
 
         // What this shelf counts: each fault and nothing else. At its maximum the count can't rise,

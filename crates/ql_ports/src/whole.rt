@@ -1,4 +1,4 @@
-ghost use Rattle.std.specs.Prelude.{◌≡◌, ◌<◌, ◌≤◌, ℕ, List, length, IfOk, OnOk, OnErr, IsErrOf, IfSome, IsTrue, IsFalse, vec_len};
+ghost use Rattle.std.specs.Prelude.{◌≡◌, ◌<◌, ◌≤◌, ◌⊎◌, ◌↔◌, ℕ, List, length, IfOk, OnOk, OnErr, IsErrOf, IfSome, IsTrue, IsFalse, vec_len};
 ghost use Rattle.ql_ports.specs.Faults.{Rose};
 ghost use Rattle.ql_ports.specs.Whole.{IsFront};
 ghost use Rattle.ql_ports.specs.Written.{appended, AppendsFront};
@@ -57,9 +57,12 @@ pub fn read_whole<S: Shelf>(
     ensures in_limit { IfOk result (λ bytes. vec_len bytes ≤ limit) }
     ensures failed { IsErrOf result ReadError.Failed →
         Rose (S.faults shelf.old name.now) (S.faults shelf.new name.now) }
+    ensures lacking { S.lacks shelf.old name.now →
+        IsErrOf result ReadError.Failed ⊎ IsErrOf result ReadError.NoMemory }
     ensures too_long { IsErrOf result ReadError.TooLong →
         IfSome (S.held shelf.old name.now) (λ whole. limit < length whole) }
     ensures same_contents { (other : List ℕ) → S.held shelf.new other ≡ S.held shelf.old other }
+    ensures same_files { (other : List ℕ) → S.lacks shelf.new other ↔ S.lacks shelf.old other }
     ensures counts_stay { (other : List ℕ) → S.faults shelf.old other ≤ S.faults shelf.new other }
 {
     let mut buffer = make_buffer(alloc, PIECE)?;
@@ -93,9 +96,11 @@ fn read_piece<S: Shelf>(
         IfSome (S.held shelf.old name.now) (λ whole. bytes.new.items ≡ whole)) }
     ensures failed { IsErrOf result ReadError.Failed →
         Rose (S.faults shelf.old name.now) (S.faults shelf.new name.now) }
+    ensures lacking { S.lacks shelf.old name.now → IsErrOf result ReadError.Failed }
     ensures too_long { IsErrOf result ReadError.TooLong →
         IfSome (S.held shelf.old name.now) (λ whole. limit < length whole) }
     ensures same_contents { (other : List ℕ) → S.held shelf.new other ≡ S.held shelf.old other }
+    ensures same_files { (other : List ℕ) → S.lacks shelf.new other ↔ S.lacks shelf.old other }
     ensures counts_stay { (other : List ℕ) → S.faults shelf.old other ≤ S.faults shelf.new other }
 {
     let count = shelf.fetch(name, bytes.len() as u64, piece)?;

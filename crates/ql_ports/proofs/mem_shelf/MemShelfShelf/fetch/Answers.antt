@@ -1,4 +1,4 @@
-use Rattle.std.proofs.Common.{◌≡◌, ◌<◌, length, rules, Some, false}
+use Rattle.std.proofs.Common.{◌≡◌, ◌<◌, ◌∙◌, length, rules, sym, Some, None, false}
 use Rattle.ql_ports.specs.Faults.{next_count_of}
 use Rattle.ql_ports.specs.Memory.{place_of, bytes_under, is_failing}
 use Rattle.ql_ports.proofs.mem_shelf.MemShelfShelf.fetch.Goals as goal
@@ -19,6 +19,14 @@ returns-clause-end c =
     let is : bytes_under c.args.self.now.files.items c.args.name.now ≡ Some c.index-2.result.now.1.items =
     bytes_under-at _ _ c.place_named-place.result c.index-2.result.now at inside c.index-2.ensures in
     rw is (search rules)
+
+pub returns-clause-lacking : goal.returns-clause-lacking
+returns-clause-lacking c = λ lacks.
+    let at : c.place_named-place.result ≡ place_of c.args.self.now.files.items c.args.name.now = search rules in
+    let inside : c.place_named-place.result < length c.args.self.now.files.items = search rules in
+    let is : bytes_under c.args.self.now.files.items c.args.name.now ≡ Some c.index-2.result.now.1.items =
+    bytes_under-at _ _ c.place_named-place.result c.index-2.result.now at inside c.index-2.ensures in
+    absurd (let never : Some c.index-2.result.now.1.items ≡ None = sym is ∙ lacks in cc)
 
 pub returns-then-place-len-clause-answer : goal.returns-then-place-len-clause-answer
 returns-then-place-len-clause-answer c =
