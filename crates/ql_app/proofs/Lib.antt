@@ -4,5 +4,6 @@ pub mod OutcomeLaws
 pub mod ProofLaws
 mod RunWritten
 mod LeastWritten
+mod RequestLaws
 mod WordLaws
 mod Answered

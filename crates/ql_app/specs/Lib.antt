@@ -4,5 +4,6 @@ pub mod HoldsFile
 pub mod HoldsFaults
 pub mod ProofFile
 pub mod Outcome
+pub mod MissingFiles
 pub mod RunWritten
 pub mod LeastWritten

@@ -1,6 +1,7 @@
-ghost use Rattle.std.specs.Prelude.{◌≡◌, ◌<◌, ◌≤◌, ◌^◌, ℕ, List, IfOk, length};
+ghost use Rattle.std.specs.Prelude.{◌≡◌, ◌<◌, ◌≤◌, ◌^◌, ◌↔◌, ℕ, List, IfOk, length};
+ghost use Rattle.ql_app.specs.MissingFiles.{ReportsMissing};
 ghost use Rattle.ql_app.specs.Outcome.{CommandSays, PairSays, Says, RequestSays, second_limit};
-ghost use Rattle.ql_app.specs.Words.{IsInRange, OneFile, TwoFiles};
+ghost use Rattle.ql_app.specs.Words.{NamedRequest, IsInRange, IsRequest, OneFile, TwoFiles};
 ghost use Rattle.ql_reply.specs.Arguments.{word_texts};
 
 use crate::holds::holds;
@@ -36,7 +37,10 @@ pub fn outcome<S: Shelf>(
 ) -> Result<(Status, Vec<u8>), NoMemory>
     ensures says { IfOk result (λ answer. Says limits (word_texts words.now) (S.held shelf.old)
         (S.faults shelf.old) (S.faults shelf.new) answer.0 answer.1.items) }
+    ensures lacking { (named : NamedRequest) → IsRequest (word_texts words.now) named
+        → IfOk result (λ answer. ReportsMissing (S.lacks shelf.old) named answer.0 answer.1.items) }
     ensures same_contents { (other : List ℕ) → S.held shelf.new other ≡ S.held shelf.old other }
+    ensures same_files { (other : List ℕ) → S.lacks shelf.new other ↔ S.lacks shelf.old other }
     ensures counts_stay { (other : List ℕ) → S.faults shelf.old other ≤ S.faults shelf.new other }
 {
     match parse_words(words) {
@@ -59,7 +63,10 @@ fn of_file<S: Shelf>(
     ensures says { IfOk result
         (λ answer. RequestSays limits (S.held shelf.old) (S.faults shelf.old) (S.faults shelf.new)
         (OneFile command name.now) answer.0 answer.1.items) }
+    ensures lacking { IfOk result (λ answer. ReportsMissing (S.lacks shelf.old)
+        (OneFile command name.now) answer.0 answer.1.items) }
     ensures same_contents { (other : List ℕ) → S.held shelf.new other ≡ S.held shelf.old other }
+    ensures same_files { (other : List ℕ) → S.lacks shelf.new other ↔ S.lacks shelf.old other }
     ensures counts_stay { (other : List ℕ) → S.faults shelf.old other ≤ S.faults shelf.new other }
 {
     match read_whole(alloc, shelf, name, limits.file as usize) {
@@ -79,7 +86,10 @@ fn of_files<S: Shelf>(
     ensures says { IfOk result
         (λ answer. RequestSays limits (S.held shelf.old) (S.faults shelf.old) (S.faults shelf.new)
         (TwoFiles command name.now other.now) answer.0 answer.1.items) }
+    ensures lacking { IfOk result (λ answer. ReportsMissing (S.lacks shelf.old)
+        (TwoFiles command name.now other.now) answer.0 answer.1.items) }
     ensures same_contents { (third : List ℕ) → S.held shelf.new third ≡ S.held shelf.old third }
+    ensures same_files { (third : List ℕ) → S.lacks shelf.new third ↔ S.lacks shelf.old third }
     ensures counts_stay { (third : List ℕ) → S.faults shelf.old third ≤ S.faults shelf.new third }
 {
     let bytes = match read_whole(alloc, shelf, name, limits.file as usize) {

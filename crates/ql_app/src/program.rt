@@ -1,5 +1,6 @@
-ghost use Rattle.std.specs.Prelude.{◌≡◌, ◌≤◌, ℕ, List, IfOk, OnErr};
+ghost use Rattle.std.specs.Prelude.{◌≡◌, ◌≤◌, ◌↔◌, ℕ, List, IfOk, OnErr};
 ghost use Rattle.ql_ports.specs.Faults.{Rose};
+ghost use Rattle.ql_app.specs.MissingFiles.{ReportsMissing};
 ghost use Rattle.ql_app.specs.Words.{NamedRequest, IsRequest};
 ghost use Rattle.ql_reply.specs.Arguments.{word_texts};
 ghost use Rattle.ql_app.specs.Outcome.{AreHeld, IsAnswered, NoneRose, Says};
@@ -34,8 +35,14 @@ pub fn quelea<S: Shelf, K: Sink>(
         (K.written sink.old) (K.written sink.new) (K.faults sink.old) (K.faults sink.new)) }
     ensures no_memory { OnErr result (K.written sink.new ≡ K.written sink.old) }
 
+    // A file that the shelf lacks is reported as a read fault.
+    ensures lacking { (named : NamedRequest) → IsRequest (word_texts words.now) named
+        → IfOk result (Wrote (ReportsMissing (S.lacks shelf.old) named)
+        (K.written sink.old) (K.written sink.new) (K.faults sink.old) (K.faults sink.new)) }
+
     // The files are as they were, and no count of faults falls.
     ensures same_contents { (other : List ℕ) → S.held shelf.new other ≡ S.held shelf.old other }
+    ensures same_files { (other : List ℕ) → S.lacks shelf.new other ↔ S.lacks shelf.old other }
     ensures counts_stay { (other : List ℕ) → S.faults shelf.old other ≤ S.faults shelf.new other }
     ensures sink_count_stays { K.faults sink.old ≤ K.faults sink.new }
 

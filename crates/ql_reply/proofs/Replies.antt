@@ -28,6 +28,17 @@ module _ (May : Status → List ℕ → Type 0) (was is : Option (List ℕ)) (be
   wrote status ended text none may (inl (same, all)) = subst (Wrote May was is before after) (sym same) (whole status text none may all)
   wrote status ended text none may (inr (fault, rose, front)) = subst (Wrote May was is before after) (sym fault) (rose, status, text, may, front)
 
+-- what was written for a reply of which this is so, was written for one of which anything is so that follows
+pub weaker : (P Q : Status → List ℕ → Type 0) (was is : Option (List ℕ)) (before after : ℕ) (ended : Status)
+    → ((status : Status) (text : List ℕ) → P status text → Q status text) → Wrote P was is before after ended → Wrote Q was is before after ended
+weaker P Q was is before after Done all (text, may, same) = (text, all Done text may, same)
+weaker P Q was is before after No all (text, may, same) = (text, all No text may, same)
+weaker P Q was is before after Bad all (text, may, same) = (text, all Bad text may, same)
+weaker P Q was is before after ReadFault all (text, may, same) = (text, all ReadFault text may, same)
+weaker P Q was is before after WriteFault all (rose, status, text, may, front) = (rose, status, text, all status text may, front)
+weaker P Q was is before after Usage all (text, may, same) = (text, all Usage text may, same)
+weaker P Q was is before after TooLarge all (text, may, same) = (text, all TooLarge text may, same)
+
 -- where the sink didn't fail, the call ended as was asked
 pub ended_so : (status ended : Status) (text : List ℕ) (was is : Option (List ℕ)) (before after : ℕ) → IsWritten status text was is before after ended → (Rose before after → ⊥) → ended ≡ status
 ended_so status ended text was is before after (inl (same, all)) none = same

@@ -1,7 +1,9 @@
-use Rattle.std.proofs.Common.{Ok, subst, sym}
+use Rattle.std.proofs.Common.{ℕ, List, Ok, subst, sym}
+use Rattle.ql_reply.specs.declared.status.Status.{Status}
 use Rattle.ql_reply.specs.Arguments.{word_texts}
-use Rattle.ql_reply.proofs.Replies.{ended_so, wrote}
+use Rattle.ql_reply.proofs.Replies.{ended_so, weaker, wrote}
 use Rattle.ql_app.specs.declared.outcome.Limits.{Limits}
+use Rattle.ql_app.specs.MissingFiles.{ReportsMissing}
 use Rattle.ql_app.specs.Outcome.{IsAnswered, Says}
 use Rattle.ql_app.proofs.Answered.{complete, never, says_held}
 use Rattle.ql_app.proofs.program.quelea.Goals as goal
@@ -16,6 +18,21 @@ returns-clause-wrote g c =
     let text = c.in_ok-status.text.items in
     wrote (Says limits words held before after) (g.K.Sink.written c.args.sink.now) (g.K.Sink.written c.write_reply.new.sink) (g.K.Sink.faults c.args.sink.now) (g.K.Sink.faults c.write_reply.new.sink)
     c.in_ok-status.status c.write_reply.result text (never limits words held before after text) c.in_ok-status.ensures.says (rw c.deref.ensures.value at c.write_reply.ensures.written)
+
+pub returns-clause-lacking : goal.returns-clause-lacking
+returns-clause-lacking g c = λ named request.
+    let limits : Limits = record { file = 1048576; second = 67108864 } in
+    let held = g.S.Shelf.held c.args.shelf.now in
+    let before = g.S.Shelf.faults c.args.shelf.now in
+    let after = g.S.Shelf.faults c.outcome.new.shelf in
+    let words = word_texts c.args.words.now in
+    let text = c.in_ok-status.text.items in
+    let Both : Status → List ℕ → Type 0 = λ status line. Says limits words held before after status line × ReportsMissing (g.S.Shelf.lacks c.args.shelf.now) named status line in
+    weaker Both (ReportsMissing (g.S.Shelf.lacks c.args.shelf.now) named) (g.K.Sink.written c.args.sink.now) (g.K.Sink.written c.write_reply.new.sink) (g.K.Sink.faults c.args.sink.now) (g.K.Sink.faults c.write_reply.new.sink)
+    c.write_reply.result (λ status line both. both.1)
+    (wrote Both (g.K.Sink.written c.args.sink.now) (g.K.Sink.written c.write_reply.new.sink) (g.K.Sink.faults c.args.sink.now) (g.K.Sink.faults c.write_reply.new.sink)
+    c.in_ok-status.status c.write_reply.result text (λ both. never limits words held before after text both.0)
+    (c.in_ok-status.ensures.says, c.in_ok-status.ensures.lacking named request) (rw c.deref.ensures.value at c.write_reply.ensures.written))
 
 pub returns-clause-complete : goal.returns-clause-complete
 returns-clause-complete g c =
