@@ -1,5 +1,5 @@
 -- The arguments ask for one thing only.
-use Rattle.std.proofs.Common.{◌≡◌, ℕ, List, Result, Ok, Err, rules}
+use Rattle.std.proofs.Common.{ℕ, List, Result, Ok, Err, rules}
 use Rattle.std.specs.Prelude.{IfOk}
 use Rattle.std.specs.Global.{Vec}
 use Rattle.ql_base.specs.declared.no_memory.NoMemory.{NoMemory}
