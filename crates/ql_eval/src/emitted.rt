@@ -11,7 +11,7 @@ use std::alloc::Global;
 use std::marker::Model;
 
 /// Emitted values under their names. All are borrowed.
-#[derive(Clone, Copy)]
+#[derive(Drop)]
 pub(crate) struct Emitted<'a> {
     binds: &'a [Bind],
     values: &'a [Value],
@@ -43,6 +43,13 @@ impl<'a> Emitted<'a> {
             binds: &[],
             values: &[],
         }
+    }
+
+    /// The same, borrowed once more.
+    pub(crate) fn again(&self) -> Emitted<'a>
+        ensures { result ≡ self.now }
+    {
+        Emitted::of(self.binds, self.values)
     }
 
     /// The value of a name.

@@ -29,7 +29,7 @@ impl<'a> Model for Running<'a> {
 impl<'a> Running<'a> {
     /// A state, and emitted values.
     pub(crate) fn of(state: Env, emitted: Emitted<'a>) -> Running<'a>
-        ensures { result ≡ state ++ emitted }
+        ensures { result ≡ state ++ emitted.entry }
     {
         Running { state, emitted }
     }
@@ -38,7 +38,7 @@ impl<'a> Running<'a> {
     pub(crate) fn scope(&self) -> Scope<'_>
         ensures { result ≡ self.now }
     {
-        Scope::with(self.state.items(), self.emitted)
+        Scope::with(self.state.items(), self.emitted.again())
     }
 
     /// The same with another value of a name.
@@ -66,11 +66,13 @@ impl<'a> Running<'a> {
     pub(crate) fn first(self, alloc: Global, len: usize) -> Result<Env, NoMemory>
         ensures { IfOk result (λ kept. kept ≡ take len self.entry) }
     {
-        if len <= self.state.len() {
-            return Ok(first_of(self.state, len));
+        let emitted = self.emitted;
+        let state = self.state;
+        if len <= state.len() {
+            return Ok(first_of(state, len));
         }
-        let state = self.emitted.added_to(alloc, self.state)?;
-        Ok(first_of(state, len))
+        let whole = emitted.added_to(alloc, state)?;
+        Ok(first_of(whole, len))
     }
 }
 

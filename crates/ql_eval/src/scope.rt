@@ -34,7 +34,7 @@ impl<'a> Scope<'a> {
 
     /// These names with their values, and emitted values.
     pub(crate) fn with(pairs: &'a [(Word, Value)], emitted: Emitted<'a>) -> Scope<'a>
-        ensures { result ≡ pairs.now ++ emitted }
+        ensures { result ≡ pairs.now ++ emitted.entry }
     {
         Scope { pairs, emitted }
     }

@@ -12,6 +12,6 @@ returns-in-Some c =
 pub returns-in-None : goal.returns-in-None
 returns-in-None c =
     let later = value_in_later c.self.inside.pairs.now c.self.inside.emitted c.args.word.now (ap option_copied (sym c.in-None.is) ∙ c.find.ensures) in
-    let found = c.find-2.ensures in
+    let found = c.find-in-None.ensures in
     let view = c.self.view_is in
     cc
