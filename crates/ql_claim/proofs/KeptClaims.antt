@@ -23,6 +23,7 @@ use Rattle.ql_execution_files.specs.declared.report_fault.ReportFault.{ReportFau
 use Rattle.ql_implication.specs.Executions.{FitsProgram}
 use Rattle.ql_judging.specs.Verify.{VerifySays, VerifyTells}
 use Rattle.ql_judging.proofs.Begun.{under}
+use Rattle.ql_judging.proofs.SamePrograms.{same-execution, same-op-contracts, same-op-name, same-txn-contracts, same-txn-name, same-work}
 use Rattle.ql_lang.specs.Formulas.{Resolved}
 use Rattle.ql_lang.specs.declared.program.Program.{Program}
 use Rattle.ql_lang.specs.Programs.{Source, source_of}
@@ -38,7 +39,6 @@ use Rattle.ql_claim.specs.InTurn.{NothingFailed}
 use Rattle.ql_claim.specs.Kept.{KeepsLevels, AreKeptInTurn, IsUpheld}
 use Rattle.ql_claim.specs.Soundness.{op_with_level, txn_with_level}
 use Rattle.ql_claim.proofs.Asked.{asks-verify, said-of-files}
-use Rattle.ql_verified_runs.proofs.SamePrograms.{same-execution, same-op-contracts, same-op-name, same-txn-contracts, same-txn-name, same-work}
 use Rattle.ql_claim.proofs.SoundClaims.{classified}
 use Rattle.ql_claim.proofs.SoundLines.{IsPrinted}
 

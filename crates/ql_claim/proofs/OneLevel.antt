@@ -24,7 +24,7 @@ use Rattle.ql_levels.specs.declared.level.Level.TheVariants.{Eventual, Causal, W
 use Rattle.ql_levels.specs.declared.level.TxnLevel.{TxnLevel}
 use Rattle.ql_levels.specs.declared.level.TxnLevel.TheVariants.{Rc, Mav, Rr}
 use Rattle.ql_typing.specs.Operations.{op_kinds}
-use Rattle.ql_verified_runs.proofs.SamePrograms.{same-op-contracts, same-txn-contracts}
+use Rattle.ql_judging.proofs.SamePrograms.{same-op-contracts, same-txn-contracts}
 
 -- ---- lists
 

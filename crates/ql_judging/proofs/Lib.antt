@@ -1,2 +1,3 @@
 pub mod Begun
+pub mod SamePrograms
 pub mod Saying

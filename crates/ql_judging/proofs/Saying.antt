@@ -6,11 +6,14 @@ use Rattle.ql_execution_files.specs.ExecutionFile.{FirstExecutionFault, IsExecut
 use Rattle.ql_execution_files.specs.declared.report_fault.ReportFault.{ReportFault}
 use Rattle.ql_execution_files.specs.declared.report_fault.ReportFault.TheVariants.{Unexpected, Unknown, Mixed, Stamp, NotForward, OtherObject, SplitTxn, TooMany, NoMemory}
 use Rattle.ql_lang.specs.declared.program.Program.{Program}
+use Rattle.ql_lang.specs.Programs.{Source, source_of}
 use Rattle.ql_lines.specs.Lines.{Ahead, ahead_from}
+use Rattle.ql_parse.specs.Parsing.{IsProgramText}
 use Rattle.ql_reply.specs.declared.status.Status.{Status}
 use Rattle.ql_reply.specs.declared.status.Status.TheVariants.{Done, No, Bad, ReadFault, WriteFault, Usage, TooLarge}
 use Rattle.ql_verify.specs.Work.{work_of}
 use Rattle.ql_judging.specs.Verify.{BadExecutionSays, ExecutionSays, TellsExecution, VerifySays, execution_fault_text}
+use Rattle.ql_judging.proofs.SamePrograms.{same-execution, same-work}
 
 -- a refusal that is told is the first fault
 first_fault : (p : Program) (file : Ahead) (f : ReportFault) (text : List ℕ) → IsRefusal p file f → execution_fault_text f ≡ Some text → FirstExecutionFault p file f
@@ -24,27 +27,34 @@ first_fault p file (SplitTxn line) text h told = h
 first_fault p file (TooMany line) text h told = h
 first_fault p file NoMemory text h told = absurd (cc)
 
-pub execution_is_bad : ((p : Program) (file : Ahead) (x : List Effect) (f : ReportFault) → IsExecutionFile p file x → FirstExecutionFault p file f → ⊥)
+-- what the other file reports of one program that the source reads as, it reports of each
+reports-same : ((bytes : List ℕ) (s t : Source) → IsProgramText bytes s → IsProgramText bytes t → s ≡ t)
+    → (source execution : List ℕ) (p q : Program) (x : List Effect) → IsSourceOf source p → IsSourceOf source q → TellsExecution p execution x → TellsExecution q execution x
+reports-same tree source execution p q x p_is q_is tells = same-execution p q (tree source (source_of p) (source_of q) p_is.0 q_is.0) (ahead_from 1 execution) x tells
+
+pub execution_is_bad : ((bytes : List ℕ) (s t : Source) → IsProgramText bytes s → IsProgramText bytes t → s ≡ t)
+    → ((p : Program) (file : Ahead) (x : List Effect) (f : ReportFault) → IsExecutionFile p file x → FirstExecutionFault p file f → ⊥)
     → (source execution : List ℕ) (p : Program) (f : ReportFault) (text : List ℕ) → IsSourceOf source p → IsRefusal p (ahead_from 1 execution) f → execution_fault_text f ≡ Some text
     → BadExecutionSays source execution text
-execution_is_bad apart source execution p f text is h told =
+execution_is_bad tree apart source execution p f text is h told =
     let first = first_fault p (ahead_from 1 execution) f text h told in
-    ((λ j. let judged = j.1 p is in apart p (ahead_from 1 execution) judged.0 f judged.1 first), p, is, f, first, told)
+    ((λ j. apart p (ahead_from 1 execution) j.2 f (reports-same tree source execution j.0 p j.2 j.1 is j.3) first), p, is, f, first, told)
 
-pub verify_says : ((p : Program) (file : Ahead) (x y : List Effect) → IsExecutionFile p file x → IsExecutionFile p file y → x ≡ y)
+pub verify_says : ((bytes : List ℕ) (s t : Source) → IsProgramText bytes s → IsProgramText bytes t → s ≡ t)
+    → ((p : Program) (file : Ahead) (x y : List Effect) → IsExecutionFile p file x → IsExecutionFile p file y → x ≡ y)
     → (source execution : List ℕ) (p : Program) (x : List Effect) (status : Status) (text : List ℕ) → IsSourceOf source p → TellsExecution p execution x → ExecutionSays p x status text
     → VerifySays source execution status text
-verify_says one source execution p x Done text is tells says = (p, is, x, tells, says)
-verify_says one source execution p x No text is tells says = (p, is, x, tells, says)
-verify_says one source execution p x TooLarge text is tells says = (
-  λ j. (let judged = j.1 p is in
-      let same = ap (work_of p) (one p (ahead_from 1 execution) judged.0 x judged.1 tells) in
-      let less = judged.2 in
+verify_says tree one source execution p x Done text is tells says = (p, is, x, tells, says)
+verify_says tree one source execution p x No text is tells says = (p, is, x, tells, says)
+verify_says tree one source execution p x TooLarge text is tells says = (
+  λ j. (let own = same-work j.0 p (tree source (source_of j.0) (source_of p) j.1.0 is.0) j.2 in
+      let same = ap (work_of p) (one p (ahead_from 1 execution) j.2 x (reports-same tree source execution j.0 p j.2 j.1 is j.3) tells) in
+      let less = j.4 in
       let more = says.0 in
-      omega (arith, same, less, more)),
+      omega (arith, own, same, less, more)),
   (p, is, x, tells, says),
 )
-verify_says one source execution p x Bad text is tells says = absurd says
-verify_says one source execution p x ReadFault text is tells says = absurd says
-verify_says one source execution p x WriteFault text is tells says = absurd says
-verify_says one source execution p x Usage text is tells says = absurd says
+verify_says tree one source execution p x Bad text is tells says = absurd says
+verify_says tree one source execution p x ReadFault text is tells says = absurd says
+verify_says tree one source execution p x WriteFault text is tells says = absurd says
+verify_says tree one source execution p x Usage text is tells says = absurd says

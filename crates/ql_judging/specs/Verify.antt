@@ -1,7 +1,7 @@
 -- What `verify` says of a source and an execution.
 use Rattle.std.specs.Prelude.{◌≡◌, ◌⊎◌, ◌<◌, ◌≤◌, ℕ, List, [], ◌∷◌, ◌++◌, map, Option, None, Some, codes, decimal}
 use Rattle.ql_base.specs.declared.ids.EffId.{EffId}
-use Rattle.ql_commands.specs.Sources.{IsSource, IsSourceOf, BadSourceSays}
+use Rattle.ql_commands.specs.Sources.{IsSourceOf, BadSourceSays}
 use Rattle.ql_exec.specs.declared.effect.Effect.{Effect}
 use Rattle.ql_exec.specs.Effects.{effect_at}
 use Rattle.ql_execution_files.specs.ExecutionFile.{FirstExecutionFault, IsExecutionFile}
@@ -72,11 +72,9 @@ ExecutionSays p x _ text = ⊥
 
 -- ---- the two files
 
--- The source is a typed program's, the other file reports an execution of it, and its work isn't above the limit. Programs
--- with one source differ in nothing but where their parts are kept.
+-- the source is a typed program's, the other file reports an execution of it, and its work isn't above the limit
 abbrev pub AreJudgeable : List ℕ → List ℕ → Type 0
-AreJudgeable source execution =
-    IsSource source × ((p : Program) → IsSourceOf source p → (x : List Effect) × TellsExecution p execution x × (work_of p x ≤ 20000000))
+AreJudgeable source execution = (p : Program) × IsSourceOf source p × (x : List Effect) × TellsExecution p execution x × (work_of p x ≤ 20000000)
 
 -- the first fault of the execution's file
 abbrev pub BadExecutionSays : List ℕ → List ℕ → List ℕ → Type 0

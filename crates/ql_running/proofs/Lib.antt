@@ -1,2 +1,3 @@
 mod OfRuns
+mod SameScheduleFiles
 mod Saying

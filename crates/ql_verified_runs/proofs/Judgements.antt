@@ -23,7 +23,7 @@ use Rattle.ql_running.specs.Runs.{TellsRun}
 use Rattle.ql_verify.specs.Verdicts.{IsVerdict}
 use Rattle.ql_verify.specs.declared.breach.Breach.{Breach}
 use Rattle.ql_verify.specs.declared.breach.Breach.TheVariants.{AtOp, AtTxn}
-use Rattle.ql_verified_runs.proofs.SamePrograms.{same-execution, same-op-contracts, same-txn-contracts}
+use Rattle.ql_judging.proofs.SamePrograms.{same-execution, same-op-contracts, same-txn-contracts}
 use Rattle.ql_verified_runs.proofs.Verdicts.{sound-verdict}
 
 -- where all contracts hold there is no breach

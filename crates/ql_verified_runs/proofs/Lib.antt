@@ -1,6 +1,5 @@
 mod Truth
 mod Verdicts
-pub mod SamePrograms
 mod Judgements
 mod FoundNames
 mod Made

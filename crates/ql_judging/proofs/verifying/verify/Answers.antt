@@ -5,11 +5,11 @@ use Rattle.ql_judging.proofs.verifying.verify.Goals as goal
 
 pub returns-in-Err-parse_execution : goal.returns-in-Err-parse_execution
 returns-in-Err-parse_execution c =
-    inr (execution_is_bad c.one_execution.ensures.apart c.args.source.now c.args.execution.now c.in-Ok.typed.program c.in-Err-parse_execution.fault c.in_ok-bad_execution-in-Err-parse_execution.field-0.items
+    inr (execution_is_bad c.one_program_answer.ensures.tree c.one_execution.ensures.apart c.args.source.now c.args.execution.now c.in-Ok.typed.program c.in-Err-parse_execution.fault c.in_ok-bad_execution-in-Err-parse_execution.field-0.items
     c.in-Ok.ensures.source c.in-Err-parse_execution.ensures.read c.in_ok-bad_execution-in-Err-parse_execution.ensures)
 
 pub returns : goal.returns
 returns c =
     IfOk-weaker c.verify_execution.result _ _
-    (λ answer said. verify_says c.one_execution.ensures.one c.args.source.now c.args.execution.now c.in-Ok.typed.program c.in-Ok-parse_execution.execution answer.0 answer.1.items c.in-Ok.ensures.source c.in-Ok-parse_execution.ensures.read said)
+    (λ answer said. verify_says c.one_program_answer.ensures.tree c.one_execution.ensures.one c.args.source.now c.args.execution.now c.in-Ok.typed.program c.in-Ok-parse_execution.execution answer.0 answer.1.items c.in-Ok.ensures.source c.in-Ok-parse_execution.ensures.read said)
     c.verify_execution.ensures
