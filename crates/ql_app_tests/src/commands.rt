@@ -37,6 +37,7 @@ prove --why touch; 1 0 0; touch: type t { op touch(): unit { contract true; answ
 classify --why -own; 1 0 0; touch: type t { op touch(): unit { contract true; answer unit; } } -> 5: usage␊
 classify --why other; 1 0 0; touch: type t { op touch(): unit { contract true; answer unit; } } -> 3: read fault other␊
 verify touch other; 1 0 0; touch: type t { op touch(): unit { contract true; answer unit; } } -> 3: read fault other␊
+verify own other; 1 0 0; touch: type t { op touch(): unit { contract true; answer unit; } } -> 3: read fault own␊
 gen touch 0 2; 1 0 0; touch: type t { op touch(): unit { contract true; answer unit; } } -> 0: quelea schedule 1␊replicas 3␊object o0_0 t␊object o0_1 t␊events␊call 0 at 1 o0_0 touch␊deliver 2␊
 gen touch 2147483648 2; 1 0 0; touch: type t { op touch(): unit { contract true; answer unit; } } -> 5: usage␊
 gen touch 0 4001; 1 0 0; touch: type t { op touch(): unit { contract true; answer unit; } } -> 5: usage␊
