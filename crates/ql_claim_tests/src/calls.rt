@@ -6,9 +6,6 @@ use ql_tables::check_table;
 use std::alloc::Global;
 use std::test::Fail;
 
-// How many bytes a text may have.
-const ROOM: usize = 4096;
-
 // The files: a source, the certificate that `prove` prints of it, and an execution.
 const SOURCE: &str = "type t { op touch(): unit { contract true; answer unit; } }";
 
@@ -122,7 +119,7 @@ fn new_shelf(alloc: Global) -> Result<MemShelf, NoMemory> {
     files.push(file(alloc, "source", SOURCE)?)?;
     files.push(file(alloc, "certificate", CERTIFICATE)?)?;
     files.push(file(alloc, "execution", EXECUTION)?)?;
-    MemShelf::new(alloc, files, ROOM, Vec::new(alloc))
+    MemShelf::new(alloc, files, 4096, Vec::new(alloc))
 }
 
 fn file(alloc: Global, name: &str, text: &str) -> Result<(String, Vec<u8>), NoMemory> {
@@ -133,7 +130,7 @@ fn file(alloc: Global, name: &str, text: &str) -> Result<(String, Vec<u8>), NoMe
 }
 
 fn new_sink(alloc: Global) -> Result<MemSink, NoMemory> {
-    MemSink::new(alloc, ROOM, ROOM, Vec::new(alloc))
+    MemSink::new(alloc, 4096, 4096, Vec::new(alloc))
 }
 
 fn push_report(out: &mut Vec<u8>, status: Status, sink: &MemSink) -> Result<(), NoMemory> {

@@ -40,7 +40,11 @@ fn levels_that_rose(rt: HostRuntime) -> Result<(), Fail> {
 }
 
 fn compared(alloc: Global, stored: &str) -> Result<Vec<u8>, NoMemory> {
-    let (status, text) = compare(alloc, BANK.as_bytes(), stored.as_bytes())?;
+    let source = BANK.as_bytes();
+    if source.len() > 1_048_576 {
+        return Err(NoMemory);
+    }
+    let (status, text) = compare(alloc, source, stored.as_bytes())?;
     report(alloc, status, &text)
 }
 

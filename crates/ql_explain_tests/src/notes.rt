@@ -30,5 +30,6 @@ fn noted(alloc: Global, row: &str) -> Result<Vec<u8>, NoMemory> {
         first: line.as_bytes(),
         last_line: line.as_bytes(),
     };
-    note(alloc, &words, number(status, 0) as u8, printed, &mut shelf)
+    let status = if number(status, 0) == 2 { 2 } else { 0 };
+    note(alloc, &words, status, printed, &mut shelf)
 }
