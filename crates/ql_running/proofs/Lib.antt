@@ -1,3 +1,2 @@
 mod OfRuns
-mod SameScheduleFiles
 mod Saying
