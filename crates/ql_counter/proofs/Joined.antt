@@ -1,10 +1,11 @@
 -- The parts of a countermodel are those that are built of the assignment.
-use Rattle.std.proofs.Common.{◌≡◌, ℕ, suc, Bool, List, length, refl, sym, ap, subst, ◌∙◌}
+use Rattle.std.proofs.Common.{◌≡◌, ℕ, suc, ◌+◌, Bool, List, length, refl, sym, ap, subst, ◌∙◌, arith}
 use Rattle.ql_base.specs.declared.ids.DeclId.{DeclId}
 use Rattle.ql_base.specs.declared.ids.EffId.{EffId}
 use Rattle.ql_atoms.specs.Atoms.{Size}
 use Rattle.ql_exec.specs.declared.effect.Effect.{Effect}
 use Rattle.ql_exec.specs.declared.effect.Member.{Member}
+use Rattle.ql_exec.specs.Execution.{IsExecution}
 use Rattle.ql_lang.specs.Formulas.{Resolved}
 use Rattle.ql_blocks.specs.declared.slot.Extra.{Extra}
 use Rattle.ql_blocks.specs.declared.slot.Slot.{Slot}
@@ -13,6 +14,7 @@ use Rattle.ql_blocks.specs.Blocks.{no_parts, slots_of}
 use Rattle.ql_blocks.specs.Built.{built, constant_place}
 use Rattle.ql_counter.specs.declared.counter.At.TheVariants.{Effect as AtEffect, Run}
 use Rattle.ql_counter.specs.Assigned.{alone, begun, constant_places, current_by, extra_of, op_current, op_execution, op_places, pattern_of, run_by, txn_current, txn_execution, txn_pattern, txn_places}
+use Rattle.ql_counter.specs.Coded.{IsLawfulOp, IsLawfulTxn}
 use Rattle.ql_counter.specs.Countermodels.{numbers}
 
 abbrev pub size : ℕ → ℕ → Size
@@ -60,3 +62,19 @@ module _ (a : List Bool) (types : List ℕ) (f : Resolved) where
 
     pub txn-made : (n m : ℕ) → n ≡ length f.vars → length types ≡ m → TxnMade n m
     txn-made n m e g = subst (λ k. TxnMade k m) (sym e) (subst (λ k. TxnMade (length f.vars) k) g txn-exact)
+
+-- ---- what is built is an execution
+
+-- the blocks as the code has them, for an operation and for a transaction
+pub op-lawful : (a : List Bool) (f : Resolved) (n m : ℕ) (slots list : List Slot) → n ≡ length f.vars → slots ≡ slots_of (pattern_of a (size (n + 1) m) alone) (extra_of f.body) → list ≡ slots
+    → IsLawfulOp a m f → IsExecution (built (pattern_of a (size (n + 1) m) alone) list)
+op-lawful a f n m slots list e is same law =
+    let last : suc (length f.vars) ≡ n + 1 = omega (arith, e) in
+    subst (λ ys. IsExecution (built (pattern_of a (size (n + 1) m) alone) ys)) (sym (same ∙ is))
+    (subst (λ k. IsExecution (built (pattern_of a (size k m) alone) (slots_of (pattern_of a (size k m) alone) (extra_of f.body)))) last law)
+
+pub txn-lawful : (a : List Bool) (f : Resolved) (name : DeclId) (n m : ℕ) (slots list : List Slot) → n ≡ length f.vars → slots ≡ slots_of (pattern_of a (size n m) alone) no_parts → list ≡ slots
+    → IsLawfulTxn a m name.0 f → IsExecution (built (pattern_of a (size n m) (begun a (size n m) name.0)) list)
+txn-lawful a f name n m slots list e is same law =
+    subst (λ ys. IsExecution (built (pattern_of a (size n m) (begun a (size n m) name.0)) ys)) (sym (same ∙ is ∙ slots-same a (size n m) alone (begun a (size n m) name.0) no_parts))
+    (subst (λ k. IsExecution (built (pattern_of a (size k m) (begun a (size k m) name.0)) (slots_of (pattern_of a (size k m) (begun a (size k m) name.0)) no_parts))) (sym e) law)

@@ -1,6 +1,6 @@
 -- What the functions that build an execution make, a loop's turn at a time.
-use Rattle.std.proofs.Common.{◌≡◌, ℕ, zero, suc, ◌+◌, ◌<◌, ◌≤◌, Bool, true, false, cond, nat_eq, get_or, take, List, [], ◌∷◌, ◌++◌, map, length, Option, Some, None, Ok, Err, refl, sym, ap, subst, ◌∙◌, inl, inr, arith}
-use Rattle.std.proofs.lemmas.List.{length-map, take_more}
+use Rattle.std.proofs.Common.{◌≡◌, ℕ, zero, suc, ◌+◌, ◌<◌, ◌≤◌, Bool, true, false, cond, nat_eq, get_or, take, append_assoc, List, [], ◌∷◌, ◌++◌, map, length, Option, Some, None, Ok, Err, refl, sym, ap, subst, ◌∙◌, inl, inr, arith}
+use Rattle.std.proofs.lemmas.List.{append-nil, length-map, take_more}
 use Rattle.std.proofs.lemmas.Option.{same_Some, slice_get-get_or}
 use Rattle.std.proofs.lemmas.Bool.{cases_Bool, eq-eqb, le-ltb, lt-ltb, or_left, or_right}
 use Rattle.std.specs.List.{slice_index_or}
@@ -11,7 +11,10 @@ use Rattle.ql_base.specs.Ranges.{upto}
 use Rattle.ql_exec.specs.declared.effect.Effect.{Effect}
 use Rattle.ql_exec.specs.declared.effect.Draft.{Draft}
 use Rattle.ql_exec.specs.declared.fault.ExecFault.{ExecFault}
-use Rattle.ql_exec.specs.Execution.{effect_of, fault_of, made_after}
+use Rattle.ql_exec.specs.Execution.{IsExecution, effect_of, fault_of, made_after}
+use Rattle.ql_exec.proofs.Finding.{effect_at-last}
+use Rattle.ql_exec.proofs.Law.{IsExecution-front, fault_of-None}
+use Rattle.ql_exec.proofs.Making.{made_step}
 use Rattle.ql_blocks.specs.declared.slot.Extra.{Extra}
 use Rattle.ql_blocks.specs.declared.slot.Part.TheVariants.{Own}
 use Rattle.ql_blocks.specs.declared.slot.Slot.{Slot}
@@ -108,3 +111,24 @@ made-stored x (d ∷ drafts) y h = made-stored (x ++ effect_of x d ∷ []) draft
     step : (fault : Option ExecFault) → option_map_or (λ f. Err f) fault (made_after (x ++ effect_of x d ∷ []) drafts) ≡ Ok y → made_after (x ++ effect_of x d ∷ []) drafts ≡ Ok y
     step None h = h
     step (Some f) h = absurd (let never : Err f ≡ Ok y = h in cc)
+
+-- what is stored after some effects begins with them
+stored-longer : (x : List Effect) (drafts : List Draft) → (more : List Effect) × (stored_after x drafts ≡ x ++ more)
+stored-longer x [] = ([], stored-end x ∙ sym (append-nil x))
+stored-longer x (d ∷ drafts) =
+    let e : Effect = effect_of x d in
+    let rest = stored-longer (x ++ e ∷ []) drafts in
+    (e ∷ rest.0, stored-step x d drafts ∙ rest.1 ∙ append_assoc x (e ∷ []) rest.0)
+
+-- drafts whose effects form an execution are all taken
+pub made-lawful : (x : List Effect) (drafts : List Draft) → IsExecution (stored_after x drafts) → made_after x drafts ≡ Ok (stored_after x drafts)
+made-lawful x [] law = ap (λ (y : List Effect). Ok y) (sym (stored-end x))
+made-lawful x (d ∷ drafts) law =
+    let e : Effect = effect_of x d in
+    let later : IsExecution (stored_after (x ++ e ∷ []) drafts) = subst IsExecution (stored-step x d drafts) law in
+    let rest = stored-longer (x ++ e ∷ []) drafts in
+    let next : IsExecution (x ++ e ∷ []) = IsExecution-front (x ++ e ∷ []) rest.0 (subst IsExecution rest.1 later) in
+    let ascending = (next.sees (suc (length x)) e (effect_at-last x e)).1 in
+    made_step x d drafts ((fault_of-None x d (IsExecution-front x (e ∷ []) next) ascending).1 next)
+    ∙ made-lawful (x ++ e ∷ []) drafts later
+    ∙ ap (λ (y : List Effect). Ok y) (sym (stored-step x d drafts))

@@ -19,6 +19,7 @@ use Rattle.ql_ground.specs.declared.goal.Goal.{Goal}
 use Rattle.ql_ground.specs.declared.goal.Goal.TheVariants.{OpAt, TxnAt}
 use Rattle.ql_ground.proofs.Typing.{count_types}
 use Rattle.ql_implication.specs.Countermodels.{IsCounter, IsTxnCounter}
+use Rattle.ql_counter.specs.Coded.{IsLawfulOp, IsLawfulTxn}
 use Rattle.ql_counter.specs.declared.counter.Counter.{Counter}
 use Rattle.ql_counter.specs.Assigned.{op_current, op_execution, op_places, txn_current, txn_execution, txn_places}
 use Rattle.ql_counter.specs.Countermodels.{HasCounter, IsBuiltOfOp, IsBuiltOfTxn, IsCounterOf, IsSatisfiedBy, numbers}
@@ -79,6 +80,19 @@ module _ (p : Program) where
     subst (λ x. IsTxnCounter types d.0 level f x (txn_current a types f) (numbers c.places)) (sym h.0)
         (subst (λ ids. IsTxnCounter types d.0 level f (txn_execution a types d.0 f) (txn_current a types f) ids) (sym h.2) (txn_counter d level f a e contract sat)),
   )
+
+  -- and it is an execution, whatever the number of operations is called
+  pub op_lawful : (o : OpId) (level : Level) (f : Resolved) (a items : List Bool) (n : ℕ) → slice_get (op_contracts p.types) o.0 ≡ Some f → IsOpContract (length (all_ops p.types)) f → o.0 < length (all_ops p.types) → IsSatisfiedBy p (OpAt o level) a
+      → items ≡ a → n ≡ length (all_ops p.types) → IsLawfulOp items n f
+  op_lawful o level f a items n e contract known sat same count =
+      subst (λ z. IsLawfulOp z n f) (sym same)
+      (subst (λ k. IsLawfulOp a k f) (count_types p.types types refl ∙ sym count) (op_counter o level f a e contract known sat).lawful)
+
+  pub txn_lawful : (d : DeclId) (level : TxnLevel) (f : Resolved) (a items : List Bool) (n : ℕ) → slice_get (txn_contracts p) d.0 ≡ Some f → IsTxnContract (length (all_ops p.types)) f → IsSatisfiedBy p (TxnAt d level) a
+      → items ≡ a → n ≡ length (all_ops p.types) → IsLawfulTxn items n d.0 f
+  txn_lawful d level f a items n e contract sat same count =
+      subst (λ z. IsLawfulTxn z n d.0 f) (sym same)
+      (subst (λ k. IsLawfulTxn a k d.0 f) (count_types p.types types refl ∙ sym count) (txn_counter d level f a e contract sat).lawful)
 
   -- in a typed program
   pub goal_fails : program_faults p ≡ [] → (g : Goal) → IsGoalOf p g → (a : List Bool) → IsSatisfiedBy p g a → HasCounter p g

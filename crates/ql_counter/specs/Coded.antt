@@ -1,17 +1,20 @@
 -- What the functions that build an execution compute of an assignment.
-use Rattle.std.specs.Prelude.{ℕ, Bool, true, not, ◌&&◌, List, Option, None, Some}
+use Rattle.std.specs.Prelude.{ℕ, suc, length, Bool, true, not, ◌&&◌, List, Option, None, Some}
 use Rattle.ql_base.specs.declared.ids.DeclId.{DeclId}
 use Rattle.ql_atoms.specs.declared.shapes.Shape.{Shape}
 use Rattle.ql_atoms.specs.declared.atoms.PairKind.TheVariants.{Eq, SameObj, Vis, Hbo, SameTxn}
 use Rattle.ql_atoms.specs.Atoms.{Size, size_of}
 use Rattle.ql_exec.specs.declared.effect.Member.{Member}
 use Rattle.ql_exec.specs.declared.effect.Member.TheVariants.{Alone}
+use Rattle.ql_exec.specs.Execution.{IsExecution}
 use Rattle.ql_blocks.specs.declared.slot.Part.{Part}
 use Rattle.ql_blocks.specs.declared.slot.Part.TheVariants.{Opening, Aide, Own, Closing}
 use Rattle.ql_blocks.specs.Patterns.{Pattern, one_session}
-use Rattle.ql_blocks.specs.Blocks.{is_link}
+use Rattle.ql_blocks.specs.Blocks.{is_link, no_parts, slots_of}
+use Rattle.ql_blocks.specs.Built.{built}
+use Rattle.ql_lang.specs.Formulas.{Resolved}
 use Rattle.ql_lang.specs.declared.relation.RelName.{RelName}
-use Rattle.ql_counter.specs.Assigned.{alone, begun, is_hb, is_hbo, pattern_of}
+use Rattle.ql_counter.specs.Assigned.{alone, begun, extra_of, is_hb, is_hbo, pattern_of}
 use Rattle.ql_counter.specs.declared.naming.Closure.{Closure}
 use Rattle.ql_counter.specs.declared.naming.Closure.TheVariants.{OnOneObject, Across}
 use Rattle.ql_counter.specs.declared.classes.Likeness.{Likeness}
@@ -43,3 +46,16 @@ members_by a s (Some name) c = begun a s name.0 c
 abbrev pub is_closure : Closure → RelName → Bool
 is_closure OnOneObject name = is_hbo name
 is_closure Across name = is_hb name
+
+-- what is built of an assignment for an operation's contract, where there are so many operations, is an execution
+abbrev pub IsLawfulOp : List Bool → ℕ → Resolved → Type 0
+IsLawfulOp a operations f =
+    let p : Pattern = pattern_of a (record { constants = suc (length f.vars); operations = operations }) alone in
+    IsExecution (built p (slots_of p (extra_of f.body)))
+
+-- and for a transaction's, under a declared name
+abbrev pub IsLawfulTxn : List Bool → ℕ → ℕ → Resolved → Type 0
+IsLawfulTxn a operations d f =
+    let s : Size = record { constants = length f.vars; operations = operations } in
+    let p : Pattern = pattern_of a s (begun a s d) in
+    IsExecution (built p (slots_of p no_parts))

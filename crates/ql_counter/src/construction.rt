@@ -1,6 +1,7 @@
 ghost use Rattle.std.specs.Prelude.{◌≡◌, ◌≤◌, ℕ, List, length, IfOk};
 ghost use Rattle.ql_lang.specs.Formulas.{resolved_of};
 ghost use Rattle.ql_ground.specs.OfPrograms.{IsGoalOf};
+ghost use Rattle.ql_counter.specs.Coded.{IsLawfulOp, IsLawfulTxn};
 ghost use Rattle.ql_counter.specs.Countermodels.{AreWithin, IsBuiltOfOp, IsBuiltOfTxn, IsCounterOf, IsSatisfiedBy};
 
 use crate::blocks::slots;
@@ -42,6 +43,7 @@ fn of_operation(
 ) -> Result<Counter, NoMemory>
     requires vars { length f.now.vars ≤ 5 }
     requires few { operations ≤ 32 }
+    requires lawful { IsLawfulOp a.now operations (resolved_of f.now) }
     ensures { (types : List ℕ) → length types ≡ operations
         → IfOk result (IsBuiltOfOp a.now types (resolved_of f.now)) }
 {
@@ -68,6 +70,7 @@ fn of_transaction(
 ) -> Result<Counter, NoMemory>
     requires vars { length f.now.vars ≤ 5 }
     requires few { operations ≤ 32 }
+    requires lawful { IsLawfulTxn a.now operations name.0 (resolved_of f.now) }
     ensures { (types : List ℕ) → length types ≡ operations
         → IfOk result (IsBuiltOfTxn a.now types name (resolved_of f.now)) }
 {

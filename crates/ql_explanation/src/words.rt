@@ -38,10 +38,10 @@ pub(crate) fn counter_words(
     push_bytes(&mut text, not.as_bytes())?;
     push_bytes(
         &mut text,
-        b" isn't enough. Here all holds that it guarantees, but the contract of ",
+        b" isn't enough. Here everything that it guarantees holds, but the contract of ",
     )?;
     push_bytes(&mut text, name_of(t, g).word.bytes())?;
-    push_bytes(&mut text, b" is false of ")?;
+    push_bytes(&mut text, b" is false ")?;
     push_at(&mut text, c)?;
     push_places(&mut text, vars_of(t, g), c.places.items())?;
     push_bytes(&mut text, b":\n\n")?;
@@ -55,11 +55,11 @@ pub(crate) fn counter_words(
 fn push_at(text: &mut Vec<u8>, c: &Counter) -> Result<(), NoMemory> {
     match c.at {
         At::Effect(id) => {
-            push_bytes(text, b"effect ")?;
+            push_bytes(text, b"at effect ")?;
             push_number(text, id.0)?;
         }
         At::Run(run) => {
-            push_bytes(text, b"transaction ")?;
+            push_bytes(text, b"for transaction ")?;
             push_number(text, run.0)?;
         }
     }

@@ -13,7 +13,7 @@ name_in p o = option_map_or (λ op. op.name.word) (slice_get (all_ops p.types) o
 
 -- what is at LINE:COLUMN, and a sentence on it
 abbrev pub placed : Place → List ℕ → List ℕ
-placed place said = codes "What stands at " ++ decimal place.line ++ codes ":" ++ decimal place.column ++ codes " " ++ said
+placed place said = codes "The part at " ++ decimal place.line ++ codes ":" ++ decimal place.column ++ codes " " ++ said
 
 abbrev pub unbracketed : List ℕ
 unbracketed = codes "joins two statements with `=>` without brackets, so the second one is a part of the first: write (a => b) /\\ (c => d)."
@@ -22,7 +22,7 @@ abbrev pub asks_nothing : List ℕ
 asks_nothing = codes "The contract asks for nothing: it holds in every execution, whatever the level."
 
 abbrev pub never : List ℕ
-never = codes "can't hold with the rest before its `=>`, in any execution: so what stands behind that is never asked for."
+never = codes "can't hold with the rest before its `=>`, in any execution: so what comes after it is never required."
 
 abbrev pub unneeded : List ℕ
 unneeded = codes "isn't needed: it holds wherever the rest before its `=>` does."
@@ -31,7 +31,7 @@ abbrev pub named_text : List ℕ → List ℕ
 named_text name = codes "The variable " ++ name ++ codes " has an operation's name, and stands for any effect: `a: " ++ name ++ codes "` stands for the operation's."
 
 abbrev pub ruled_out_text : List ℕ → ℕ → List ℕ
-ruled_out_text name at = codes "The contract of " ++ name ++ codes " is false here too, of effect " ++ decimal at ++ codes ": where " ++ name ++ codes " has its level, this execution can't be."
+ruled_out_text name at = codes "The contract of " ++ name ++ codes " is false here too, at effect " ++ decimal at ++ codes ": where " ++ name ++ codes " has its level, this execution can't happen."
 
 abbrev pub warning_text : Program → Warning → List ℕ
 warning_text p (warning.NamedAsOperation v op) = named_text (name_in p op.0)

@@ -42,7 +42,7 @@ const ASKS_NOTHING: &[u8] =
     b"The contract asks for nothing: it holds in every execution, whatever the level.";
 
 const NEVER: &[u8] =
-    b"can't hold with the rest before its `=>`, in any execution: so what stands behind that is never asked for.";
+    b"can't hold with the rest before its `=>`, in any execution: so what comes after it is never required.";
 
 const UNNEEDED: &[u8] = b"isn't needed: it holds wherever the rest before its `=>` does.";
 
@@ -60,7 +60,7 @@ fn name_in(t: &Typed, op: OpId) -> &[u8]
 fn placed(alloc: Global, place: Place, said: &[u8]) -> Result<Vec<u8>, NoMemory>
     ensures { IfOk result (λ text. text.items ≡ placed place said.now) }
 {
-    let mut text = Vec::from_slice(alloc, b"What stands at ")?;
+    let mut text = Vec::from_slice(alloc, b"The part at ")?;
     push_number(&mut text, place.line)?;
     push_bytes(&mut text, b":")?;
     push_number(&mut text, place.column)?;
@@ -88,10 +88,10 @@ fn ruled_out_text(alloc: Global, name: &[u8], at: u32) -> Result<Vec<u8>, NoMemo
 {
     let mut text = Vec::from_slice(alloc, b"The contract of ")?;
     push_bytes(&mut text, name)?;
-    push_bytes(&mut text, b" is false here too, of effect ")?;
+    push_bytes(&mut text, b" is false here too, at effect ")?;
     push_number(&mut text, at)?;
     push_bytes(&mut text, b": where ")?;
     push_bytes(&mut text, name)?;
-    push_bytes(&mut text, b" has its level, this execution can't be.")?;
+    push_bytes(&mut text, b" has its level, this execution can't happen.")?;
     Ok(text)
 }

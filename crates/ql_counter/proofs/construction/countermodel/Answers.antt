@@ -5,7 +5,7 @@ use Rattle.ql_ground.specs.OfPrograms.{IsGoalOf}
 use Rattle.ql_ground.specs.declared.goal.Goal.{Goal}
 use Rattle.ql_ground.proofs.Typing.{count_types}
 use Rattle.ql_counter.specs.Countermodels.{IsBuiltOfOp, IsBuiltOfTxn, IsCounterOf, IsSatisfiedBy}
-use Rattle.ql_counter.proofs.Programs.{op_built, txn_built}
+use Rattle.ql_counter.proofs.Programs.{op_built, op_lawful, txn_built, txn_lawful}
 use Rattle.ql_counter.proofs.Within.{op_within, txn_within}
 use Rattle.ql_counter.proofs.construction.countermodel.Goals as goal
 
@@ -46,3 +46,18 @@ returns-in-TxnAt-clause-within c =
     let built = subst (λ a. IfOk c.of_transaction.result (IsBuiltOfTxn a types c.in-TxnAt.d f)) c.items-in-TxnAt.ensures (c.of_transaction.ensures types (count_types p.types types refl ∙ sym c.ops-in-TxnAt.ensures.count)) in
     let known = subst (IsGoalOf p) c.in-TxnAt.is c.requires.goal in
     txn_within p c.args.a.now types c.in-TxnAt.d f c.of_transaction.result c.txn_formula.ensures.well_formed.few known built
+
+pub of_operation-requires-clause-lawful : goal.of_operation-requires-clause-lawful
+of_operation-requires-clause-lawful c =
+    let p = c.args.t.now.program in
+    let known = subst (IsGoalOf p) c.in-OpAt.is c.requires.goal in
+    let satisfied = subst (λ (g : Goal). IsSatisfiedBy p g c.args.a.now) c.in-OpAt.is c.requires.satisfied in
+    op_lawful p c.in-OpAt.o c.in-OpAt.field-1 (resolved_of c.op_formula.result.now) c.args.a.now c.items.result.now c.ops.result
+    c.op_formula.ensures.resolved c.op_formula.ensures.well_formed known satisfied c.items.ensures c.ops.ensures.count
+
+pub of_transaction-requires-clause-lawful : goal.of_transaction-requires-clause-lawful
+of_transaction-requires-clause-lawful c =
+    let p = c.args.t.now.program in
+    let satisfied = subst (λ (g : Goal). IsSatisfiedBy p g c.args.a.now) c.in-TxnAt.is c.requires.satisfied in
+    txn_lawful p c.in-TxnAt.d c.in-TxnAt.field-1 (resolved_of c.txn_formula.result.now) c.args.a.now c.items-in-TxnAt.result.now c.ops-in-TxnAt.result
+    c.txn_formula.ensures.resolved c.txn_formula.ensures.well_formed satisfied c.items-in-TxnAt.ensures c.ops-in-TxnAt.ensures.count

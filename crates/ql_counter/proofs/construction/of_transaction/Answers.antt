@@ -4,7 +4,7 @@ use Rattle.ql_atoms.specs.declared.atoms.PairKind.TheVariants.{SameTxn}
 use Rattle.ql_blocks.specs.Patterns.{class_of}
 use Rattle.ql_blocks.specs.Built.{built}
 use Rattle.ql_counter.specs.Assigned.{alone, begun, constant_places, pattern_of, related_by}
-use Rattle.ql_counter.proofs.Joined.{size, txn-made}
+use Rattle.ql_counter.proofs.Joined.{size, txn-lawful, txn-made}
 use Rattle.ql_counter.proofs.construction.of_transaction.Goals as goal
 
 pub returns : goal.returns
@@ -20,3 +20,8 @@ returns c = λ types e.
     c.in_ok-execution.field-0 (c.in_ok-execution.ensures ∙ ap (built (pattern_of a s (begun a s c.args.name.0))) c.deref.ensures.value)
     (c.class-run.result + 1) (omega (arith, run) ∙ ap (λ k. suc (class_of n (related_by a s SameTxn) k)) first)
     c.in_ok-places.field-0 (c.in_ok-places.ensures ∙ ap (λ ys. constant_places (pattern_of a s alone) ys n) c.deref-2.ensures.value)
+
+pub execution-requires-clause-lawful : goal.execution-requires-clause-lawful
+execution-requires-clause-lawful c =
+    txn-lawful c.args.a.now (resolved_of c.args.f.now) c.args.name (length c.items.result.now) c.args.operations
+    c.in_ok-slots.slots.items c.deref.result.now (ap length c.items.ensures) c.in_ok-slots.ensures.slots c.deref.ensures.value c.requires.lawful
