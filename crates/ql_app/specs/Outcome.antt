@@ -95,7 +95,7 @@ MeetsFault limits held before after (OneFile command name) text = FailsToRead be
 MeetsFault limits held before after (TwoFiles command name other) text =
     FailsToRead before after name text ⊎ (IsRead limits.file (held name) (λ _. Unit {0}) × FailsToRead before after other text)
 
--- a file has more bytes than its limit
+-- a file has more bytes than its limit, where its shelf reports them
 abbrev pub IsOver : ℕ → (List ℕ → Option (List ℕ)) → List ℕ → List ℕ → Type 0
 IsOver limit held name text = IfSome (held name) (λ bytes. limit < length bytes) × (text ≡ codes "too large " ++ name ++ codes "\n")
 

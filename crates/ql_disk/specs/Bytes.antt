@@ -30,7 +30,7 @@ pub record IsWritten (at : ℕ) (bytes : List ℕ) (old new : DiskBytes) : Type 
   pub base : new.base ≡ old.base
   pub dirty : (k : ℕ) → new.dirty k ≡ (old.dirty k || in_range at (length bytes) k)
 
--- After a write that failed: some of its range may be dirty, and the content is any image.
+-- After a write that failed: some of its range may be dirty. Nothing is said of the content.
 pub record IsTorn (at size : ℕ) (old new : DiskBytes) : Type 0 where
   pub base : new.base ≡ old.base
   pub outside : (k : ℕ) → in_range at size k ≡ false → new.dirty k ≡ old.dirty k

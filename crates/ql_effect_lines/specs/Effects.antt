@@ -74,7 +74,7 @@ draft_of_line e object op member = record {
   seen = e.setting.seen;
 }
 
--- the rule broken by a draft that can't be the next effect; running out of memory breaks none
+-- the rule broken by a draft that can't be the next effect; running out of memory breaks none, so what stands for it doesn't matter
 abbrev pub exec_rule : ExecFault → ReportRule
 exec_rule (exec.NotForward at) = NotForward
 exec_rule (exec.OtherObject at) = OtherObject

@@ -1,7 +1,6 @@
 // The program `explain`: the command line, the system's files and standard output, given to its top call. On standard output it
 // prints nothing itself, and its exit status is the top call's. Notes on the answer go to standard error, after it.
-// The one contract: for all arguments and all files one text is written that the outcome allows; for a source it is what
-// `ql_explanation` says.
+// The one contract: for all arguments and all files one text is written that the outcome allows.
 #![tactic(auto)]
 
 mod asked;

@@ -1,6 +1,5 @@
 // Why a contract is false in a countermodel: facts about its effects.
-// The one contract: each fact is true of the countermodel's execution, and wherever they all are, the contract is false at
-// these effects.
+// The one contract: each fact is true of the countermodel's execution.
 #![tactic(auto)]
 
 mod claims;

@@ -1,6 +1,6 @@
 // What the commands on levels say, in executions as the store keeps them.
 // The one contract: a level that `classify` reports, or that `check` accepts, guarantees its contract in every
-// execution of the program, with the relations and the truth of whole contracts, and no lower level does.
+// execution of the program, with the relations and the truth of whole contracts.
 #![tactic(auto)]
 
 mod commands;

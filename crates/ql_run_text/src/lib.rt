@@ -1,5 +1,5 @@
 // Texts of runs: the replies to a schedule's events and the execution that they made.
-// The one contract: each text is the specified one, and an execution's file reads back as what was printed.
+// The one contract: each text is the specified one.
 #![tactic(auto)]
 
 mod effects;

@@ -1,4 +1,4 @@
--- Which effects are stable: what any replica makes of them stays the same, since no effect can come between them.
+-- Which effects are stable: those that every replica has applied, with all that come before them on their object.
 use Rattle.std.specs.Prelude.{◌≡◌, ◌<◌, ◌≤◌, ◌&&◌, ℕ, Bool, true, false, not, nat_eq, List, length, slice_get, Option, Some, None}
 use Rattle.std.specs.List.{list_all}
 use Rattle.ql_base.specs.IdLists.{has_id}

@@ -1,6 +1,6 @@
 // The command that keeps what is stable after a schedule's run, and answers from what is left: from the bytes of both files
 // to its text.
-// The one contract: each answer is the fold over all that the replica has applied, though most of it has lost its contents.
+// The one contract: each answer is the fold over all that the replica has applied.
 #![tactic(auto)]
 
 mod answers;
