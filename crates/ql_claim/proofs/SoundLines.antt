@@ -16,10 +16,10 @@ use Rattle.ql_cert.specs.declared.cert.SectionLevel.TheVariants.{Op, Txn}
 use Rattle.ql_classify.specs.Targets.{op_at, txn_at}
 use Rattle.ql_reply.specs.declared.status.Status.{Status}
 use Rattle.ql_reply.specs.declared.status.Status.TheVariants.{Done, No, Bad, ReadFault, WriteFault, Usage, TooLarge}
-use Rattle.ql_commands.specs.Check.{AreDue, Operation, Transaction, goal_at, order_text, refusal_end, section_text, target_named, targets_due, verdict_text}
-use Rattle.ql_commands.specs.Judging.{AreDueFrom}
+use Rattle.ql_commands.specs.Check.{AreExpected, Operation, Transaction, goal_at, order_text, refusal_end, section_text, target_named, expected_targets, verdict_text}
+use Rattle.ql_commands.specs.Judging.{AreExpectedFrom}
 use Rattle.ql_commands.specs.Sources.{IsSourceOf}
-use Rattle.ql_commands.proofs.Due.{due_from, due_op, due_txn, op_below, txn_above}
+use Rattle.ql_commands.proofs.Expected.{expected_from, expected_op, expected_txn, op_below, txn_above}
 use Rattle.ql_commands.proofs.FoundNames.{found, op-found, txn-found}
 use Rattle.ql_implication.specs.OfPrograms.{GivesContract}
 use Rattle.ql_implication.specs.Executions.{IsImplied, IsImpliedTxn}
@@ -259,66 +259,66 @@ module _ (source : List ℕ) (p : Program) (is : IsSourceOf source p) where
   unlike : (w : List ℕ) → (final 0 w ≡ 100 → ⊥) → (line : List ℕ) → w ≡ line ++ codes " accepted" → ⊥
   unlike w other line e = other (ap (final 0) e ∙ final-append 0 line 32 (codes "accepted"))
 
-  section-line : (place : ℕ) (name : List ℕ) (level : SectionLevel) → slice_get (targets_due p) place ≡ Some (target_named name level)
+  section-line : (place : ℕ) (name : List ℕ) (level : SectionLevel) → slice_get (expected_targets p) place ≡ Some (target_named name level)
       → IsOneLine (kind_word level ++ codes " " ++ name ++ codes " " ++ level_word level)
   unfolding kind_word level_word
-  section-line place name (Op l) due =
-      let below = op_below p place name due in
-      let same : Operation (op_name p place) ≡ Operation name = same_Some (Operation (op_name p place)) (Operation name) (sym (due_op p place below) ∙ due) in
+  section-line place name (Op l) expected =
+      let below = op_below p place name expected in
+      let same : Operation (op_name p place) ≡ Operation name = same_Some (Operation (op_name p place)) (Operation name) (sym (expected_op p place below) ∙ expected) in
       let named : op_name p place ≡ name = cc in
       subst (λ (n : List ℕ). IsOneLine (codes "op " ++ n ++ codes " " ++ word_of l)) named (op-one-line place l below)
-  section-line place name (Txn l) due =
-      let above = txn_above p place name due in
+  section-line place name (Txn l) expected =
+      let above = txn_above p place name expected in
       let d = place - length (all_ops p.types) in
       let number : place ≡ length (all_ops p.types) + d = omega (arith, above.0) in
-      let same : Transaction (txn_name p d) ≡ Transaction name = same_Some (Transaction (txn_name p d)) (Transaction name) (sym (due_txn p place d number above.1) ∙ due) in
+      let same : Transaction (txn_name p d) ≡ Transaction name = same_Some (Transaction (txn_name p d)) (Transaction name) (sym (expected_txn p place d number above.1) ∙ expected) in
       let named : txn_name p d ≡ name = cc in
       subst (λ (n : List ℕ). IsOneLine (codes "txn " ++ n ++ codes " " ++ txn_word_of l)) named (txn-one-line d l above.1)
 
-  accepted-line : (place : ℕ) (name : List ℕ) (level : SectionLevel) → slice_get (targets_due p) place ≡ Some (target_named name level)
+  accepted-line : (place : ℕ) (name : List ℕ) (level : SectionLevel) → slice_get (expected_targets p) place ≡ Some (target_named name level)
       → GivesContract p (goal_at (length (all_ops p.types)) place level)
       → IsTold p (codes " accepted") ((kind_word level ++ codes " " ++ name ++ codes " " ++ level_word level) ++ codes " accepted")
   unfolding kind_word level_word
-  accepted-line place name (Op l) due gives =
-      let below = op_below p place name due in
-      let same : Operation (op_name p place) ≡ Operation name = same_Some (Operation (op_name p place)) (Operation name) (sym (due_op p place below) ∙ due) in
+  accepted-line place name (Op l) expected gives =
+      let below = op_below p place name expected in
+      let same : Operation (op_name p place) ≡ Operation name = same_Some (Operation (op_name p place)) (Operation name) (sym (expected_op p place below) ∙ expected) in
       let named : op_name p place ≡ name = cc in
       subst (λ (n : List ℕ). IsTold p (codes " accepted") ((codes "op " ++ n ++ codes " " ++ word_of l) ++ codes " accepted")) named (
         both-line (op_with_level p place l) (codes " accepted") (op-one-line place l below) (spaced-line [] (codes "accepted") refl (solid-line (codes "accepted") refl)),
         inl (record { op = place; level = l; within = below; gives = gives; line = refl }),
       )
-  accepted-line place name (Txn l) due gives =
-      let above = txn_above p place name due in
+  accepted-line place name (Txn l) expected gives =
+      let above = txn_above p place name expected in
       let d = place - length (all_ops p.types) in
       let number : place ≡ length (all_ops p.types) + d = omega (arith, above.0) in
-      let same : Transaction (txn_name p d) ≡ Transaction name = same_Some (Transaction (txn_name p d)) (Transaction name) (sym (due_txn p place d number above.1) ∙ due) in
+      let same : Transaction (txn_name p d) ≡ Transaction name = same_Some (Transaction (txn_name p d)) (Transaction name) (sym (expected_txn p place d number above.1) ∙ expected) in
       let named : txn_name p d ≡ name = cc in
       subst (λ (n : List ℕ). IsTold p (codes " accepted") ((codes "txn " ++ n ++ codes " " ++ txn_word_of l) ++ codes " accepted")) named (
         both-line (txn_with_level p d l) (codes " accepted") (txn-one-line d l above.1) (spaced-line [] (codes "accepted") refl (solid-line (codes "accepted") refl)),
         inr (inl (record { txn = d; level = l; within = above.1; gives = gives; line = refl })),
       )
 
-  -- the lines of sections that are accepted, and what is due after them
+  -- the lines of sections that are accepted, and what is expected after them
   record AreAccepted (ss others : List Section) : Type 0 where
     its : List (List ℕ)
     all : AllByRecursion (IsTold p (codes " accepted")) its
     are : accepted_lines ss ≡ ended its
     next : ℕ
-    due : AreDueFrom p next others
+    expected : AreExpectedFrom p next others
 
-  accepted : (place : ℕ) (ss others : List Section) → AreDueFrom p place (ss ++ others) → EachGives p place ss → AreAccepted ss others
+  accepted : (place : ℕ) (ss others : List Section) → AreExpectedFrom p place (ss ++ others) → EachGives p place ss → AreAccepted ss others
   unfolding accepted_lines
-  accepted place [] others due gives = record { its = []; all = tt; are = refl; next = place; due = due }
-  accepted place (s ∷ ss) others due gives =
-      let later = accepted (suc place) ss others due.1 gives.1 in
+  accepted place [] others expected gives = record { its = []; all = tt; are = refl; next = place; expected = expected }
+  accepted place (s ∷ ss) others expected gives =
+      let later = accepted (suc place) ss others expected.1 gives.1 in
       record {
         its = (section_text s ++ codes " accepted") ∷ later.its;
-        all = (accepted-line place s.name s.level due.0 gives.0, later.all);
+        all = (accepted-line place s.name s.level expected.0 gives.0, later.all);
         are = ap (λ (w : List ℕ). section_text s ++ codes " accepted\n" ++ w) later.are
             ∙ ap (λ (w : List ℕ). w ++ ended later.its) (sym (append_assoc (section_text s) (codes " accepted") (10 ∷ [])))
             ∙ append_assoc (section_text s ++ codes " accepted") (10 ∷ []) (ended later.its);
         next = later.next;
-        due = later.due;
+        expected = later.expected;
       }
 
   -- a line with another verdict
@@ -364,26 +364,26 @@ module _ (source : List ℕ) (p : Program) (is : IsSourceOf source p) where
       one-end end (w ++ codes " refused NoEmpty") (are ∙ sym (append_assoc w (codes " refused NoEmpty") (10 ∷ [])))
       (both-line w (codes " refused NoEmpty") line rest, inr (inr (unlike (w ++ codes " refused NoEmpty") (λ e. let never : 121 ≡ 100 = sym last ∙ e in omega (arith, never)))))
 
-  its-end : (next : ℕ) (others : List Section) (a : Status) (end : List ℕ) → AreDueFrom p next others → EndsWith others a end → IsEnd end
-  its-end next [] Done end due ends = record { its = []; all = tt; are = ends }
-  its-end next [] No end due ends = absurd ends
-  its-end next [] Bad end due ends = absurd ends
-  its-end next [] ReadFault end due ends = absurd ends
-  its-end next [] WriteFault end due ends = absurd ends
-  its-end next [] Usage end due ends = absurd ends
-  its-end next [] TooLarge end due ends = absurd ends
-  its-end next (s ∷ ss) Done end due ends = absurd ends
-  its-end next (s ∷ ss) No end due ends = other-verdict end (section_text s) ends.0 (section-line next s.name s.level due.0) ends.1 ends.2
-  its-end next (s ∷ ss) Bad end due ends = absurd ends
-  its-end next (s ∷ ss) ReadFault end due ends = absurd ends
-  its-end next (s ∷ ss) WriteFault end due ends = absurd ends
-  its-end next (s ∷ ss) Usage end due ends = absurd ends
-  its-end next (s ∷ ss) TooLarge end due ends = absurd ends
+  its-end : (next : ℕ) (others : List Section) (a : Status) (end : List ℕ) → AreExpectedFrom p next others → EndsWith others a end → IsEnd end
+  its-end next [] Done end expected ends = record { its = []; all = tt; are = ends }
+  its-end next [] No end expected ends = absurd ends
+  its-end next [] Bad end expected ends = absurd ends
+  its-end next [] ReadFault end expected ends = absurd ends
+  its-end next [] WriteFault end expected ends = absurd ends
+  its-end next [] Usage end expected ends = absurd ends
+  its-end next [] TooLarge end expected ends = absurd ends
+  its-end next (s ∷ ss) Done end expected ends = absurd ends
+  its-end next (s ∷ ss) No end expected ends = other-verdict end (section_text s) ends.0 (section-line next s.name s.level expected.0) ends.1 ends.2
+  its-end next (s ∷ ss) Bad end expected ends = absurd ends
+  its-end next (s ∷ ss) ReadFault end expected ends = absurd ends
+  its-end next (s ∷ ss) WriteFault end expected ends = absurd ends
+  its-end next (s ∷ ss) Usage end expected ends = absurd ends
+  its-end next (s ∷ ss) TooLarge end expected ends = absurd ends
 
-  pub accepted-sound : (ss : List Section) (a : Status) (text : List ℕ) → AreDue p ss → AcceptsFront p 0 ss a text → IsSoundAnswer (codes " accepted") source text
-  accepted-sound ss a text due accepts =
-      let front = accepted 0 accepts.front accepts.others (subst (λ (ts : List Section). AreDueFrom p 0 ts) accepts.sections (due_from p ss due)) accepts.each in
-      let end = its-end front.next accepts.others a accepts.end front.due accepts.ends in
+  pub accepted-sound : (ss : List Section) (a : Status) (text : List ℕ) → AreExpected p ss → AcceptsFront p 0 ss a text → IsSoundAnswer (codes " accepted") source text
+  accepted-sound ss a text expected accepts =
+      let front = accepted 0 accepts.front accepts.others (subst (λ (ts : List Section). AreExpectedFrom p 0 ts) accepts.sections (expected_from p ss expected)) accepts.each in
+      let end = its-end front.next accepts.others a accepts.end front.expected accepts.ends in
       let are : text ≡ ended (front.its ++ end.its) =
       accepts.lines ∙ ap (λ (w : List ℕ). w ++ accepts.end) front.are ∙ ap (λ (w : List ℕ). ended front.its ++ w) end.are ∙ sym (ended-append front.its end.its) in
       sound-text (codes " accepted") text (front.its ++ end.its) are (all-append (IsTold p (codes " accepted")) front.its end.its front.all end.all)

@@ -23,12 +23,12 @@ use Rattle.ql_refute.specs.declared.refutation.Line.{Line}
 use Rattle.ql_typing.specs.Operations.{all_ops}
 use Rattle.ql_reply.specs.declared.status.Status.{Status}
 use Rattle.ql_reply.specs.declared.status.Status.TheVariants.{Done, No, Bad, ReadFault, WriteFault, Usage, TooLarge}
-use Rattle.ql_commands.specs.Check.{AreDue, BeginOtherwise, CheckSays, IsOutOfOrder, Operation, Target, Tells, Transaction, goal_at, goal_of, target_named, target_of}
+use Rattle.ql_commands.specs.Check.{AreExpected, BeginOtherwise, CheckSays, IsOutOfOrder, Operation, Target, Tells, Transaction, goal_at, goal_of, target_named, target_of}
 use Rattle.ql_commands.specs.Check.Tells.{all, accepted, refused}
 use Rattle.ql_classify.specs.Least.{AreLevelsOf}
 use Rattle.ql_commands.specs.Prove.{IsSectionOf, ProveSays, level_of, name_of}
 use Rattle.std.proofs.lemmas.List.{append_cancel_left, map-append}
-use Rattle.ql_commands.proofs.SameProblems.{same_count, same_due, same_refuted}
+use Rattle.ql_commands.proofs.SameProblems.{same_count, same_expected, same_refuted}
 
 -- ---- sections in order are judged against the problems that they refute
 
@@ -86,7 +86,7 @@ all-refuted p q levels ss e are h =
     let count : 0 + length levels.ops ≡ length (all_ops q.types) + 0 = omega (arith, are.least.enough.ops, same_count p q e) in
     ops-refuted p q 0 levels.ops (txns_from 0 levels.txns) ss h to (λ ts zipped. txns-refuted p q 0 (0 + length levels.ops) levels.txns ts count zipped to)
 
--- ---- the sections are those that are due
+-- ---- the sections are those that are expected
 
 -- the name of a target
 abbrev target_at : Program → Goal → Target
@@ -131,8 +131,8 @@ txns-named p k (l ∷ levels) (t ∷ txns) n at =
     ap (λ (u : Target). u ∷ map (target_at p) (txns_from (suc k) levels)) (at-txn p t k l here)
     ∙ ap (λ (ts : List Target). Transaction t.name.word ∷ ts) (txns-named p (suc k) levels txns (omega (arith, n)) later)
 
-sections-due : (p : Program) (levels : LevelLists) (ss : List Section) → AreLevelsOf p levels → AllZip (IsSectionOf p) (goals_at levels) ss → AreDue p ss
-sections-due p levels ss are h =
+sections-expected : (p : Program) (levels : LevelLists) (ss : List Section) → AreLevelsOf p levels → AllZip (IsSectionOf p) (goals_at levels) ss → AreExpected p ss
+sections-expected p levels ss are h =
     let ops = ops-named p 0 levels.ops (all_ops p.types) are.least.enough.ops (λ j. let place : 0 + j ≡ j = omega arith in ap (λ (n : ℕ). slice_get (all_ops p.types) n) place) in
     let txns = txns-named p 0 levels.txns p.txns are.least.enough.txns (λ j. let place : 0 + j ≡ j = omega arith in ap (λ (n : ℕ). slice_get p.txns n) place) in
     targets-zipped p (goals_at levels) ss h
@@ -146,10 +146,10 @@ begin-alike : (ts : List Target) → BeginOtherwise ts ts → ⊥
 begin-alike [] h = h
 begin-alike (t ∷ ts) h = h refl
 
-in-order : (q : Program) (ss : List Section) (place : ℕ) → AreDue q ss → IsOutOfOrder q ss place → ⊥
-in-order q ss place due out =
-    let same : out.before ++ out.due ≡ out.before ++ out.given = sym out.are_due ∙ sym due ∙ out.are_given in
-    let rest : out.due ≡ out.given = append_cancel_left out.before out.due out.given same in
+in-order : (q : Program) (ss : List Section) (place : ℕ) → AreExpected q ss → IsOutOfOrder q ss place → ⊥
+in-order q ss place expected out =
+    let same : out.before ++ out.expected ≡ out.before ++ out.given = sym out.are_expected ∙ sym expected ∙ out.are_given in
+    let rest : out.expected ≡ out.given = append_cancel_left out.before out.expected out.given same in
     begin-alike out.given (subst (λ ts. BeginOtherwise ts out.given) rest out.differ)
 
 pub accepted_again : (tree : (bytes : List ℕ) (s t : Source) → IsProgramText bytes s → IsProgramText bytes t → s ≡ t)
@@ -169,9 +169,9 @@ accepted_again tree source cert text No proved checked =
     let c = proved.4 in
     let same : source_of p ≡ source_of q = tree source (source_of p) (source_of q) proved.1.0 checked.1.0 in
     let one : c.sections ≡ checked.2 = one_cert _ c.sections checked.2 c.spells checked.3 in
-    let due : AreDue q c.sections = sections-due p proved.2 c.sections proved.3 c.of_targets ∙ same_due p q same in
+    let expected : AreExpected q c.sections = sections-expected p proved.2 c.sections proved.3 c.of_targets ∙ same_expected p q same in
     let refuted : AreRefuted q 0 c.sections = all-refuted p q proved.2 c.sections same proved.3 c.of_targets in
     elim checked.4 [
-      | inl out ↦ absurd (in-order q checked.2 out.0 (subst (λ ss. AreDue q ss) one due) out.1)
+      | inl out ↦ absurd (in-order q checked.2 out.0 (subst (λ ss. AreExpected q ss) one expected) out.1)
       | inr told ↦ absurd (none-refused q 0 checked.2 No text told.1 (subst (λ ss. AreRefuted q 0 ss) one refuted) refl)
     ]

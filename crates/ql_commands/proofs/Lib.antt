@@ -6,7 +6,7 @@ pub mod ReadNames
 pub mod FoundNames
 pub mod SpelledLines
 pub mod Headings
-pub mod Due
+pub mod Expected
 pub mod Telling
 pub mod SameProblems
 pub mod Accepted

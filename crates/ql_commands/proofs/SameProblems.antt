@@ -16,7 +16,7 @@ use Rattle.ql_lang.specs.Programs.{Operation as ReadOperation, Transaction as Re
 use Rattle.ql_refute.specs.declared.refutation.Line.{Line}
 use Rattle.ql_typing.specs.Operations.{all_ops, op_contract, op_contracts, op_words, txn_contract, txn_contracts}
 use Rattle.ql_typing.specs.Resolved.{resolved_in}
-use Rattle.ql_commands.specs.Check.{Target, Operation, Transaction, targets_due}
+use Rattle.ql_commands.specs.Check.{Target, Operation, Transaction, expected_targets}
 use Rattle.ql_commands.proofs.SameSource.{map_alike, same-op-kinds, same-ops, same-txns}
 
 module _ (p q : Program) (e : source_of p ≡ source_of q) where
@@ -32,8 +32,8 @@ module _ (p q : Program) (e : source_of p ≡ source_of q) where
   pub same_count : length (all_ops p.types) ≡ length (all_ops q.types)
   same_count = sym (length-map (all_ops p.types) operation_of) ∙ ap (λ (os : List ReadOperation). length os) ops ∙ length-map (all_ops q.types) operation_of
 
-  pub same_due : targets_due p ≡ targets_due q
-  same_due =
+  pub same_expected : expected_targets p ≡ expected_targets q
+  same_expected =
       let of_ops = map_alike operation_of (λ o. Operation o.name.word) (λ a b s. ap (λ (o : ReadOperation). Operation o.name.word) s) (all_ops p.types) (all_ops q.types) ops in
       let of_txns = map_alike transaction_of (λ t. Transaction t.name.word) (λ a b s. ap (λ (t : ReadTransaction). Transaction t.name.word) s) p.txns q.txns txns in
       ap (λ (ts : List Target). ts ++ map (λ (t : TxnDecl). Transaction t.name.word) p.txns) of_ops ∙ ap (λ (ts : List Target). map (λ (o : OpDecl). Operation o.name.word) (all_ops q.types) ++ ts) of_txns

@@ -16,7 +16,7 @@ use Rattle.ql_refute.specs.declared.verdict.Verdict.TheVariants.{Accepted}
 use Rattle.ql_reply.specs.declared.status.Status.{Status}
 use Rattle.ql_reply.specs.declared.status.Status.TheVariants.{Done, No, Bad, ReadFault, WriteFault, Usage, TooLarge}
 use Rattle.ql_commands.specs.Certificates.{SpellsCert}
-use Rattle.ql_commands.specs.Check.{AreDue, BadCertSays, CheckSays, SectionsSay, Tells, cert_fault_text, goal_of, section_text, verdict_text}
+use Rattle.ql_commands.specs.Check.{AreExpected, BadCertSays, CheckSays, SectionsSay, Tells, cert_fault_text, goal_of, section_text, verdict_text}
 use Rattle.ql_commands.specs.Check.Tells.{all, accepted, refused}
 use Rattle.ql_commands.specs.Judging.{IsVerdictOn}
 use Rattle.ql_commands.specs.Sources.{IsSourceOf}
@@ -73,14 +73,14 @@ yes-or-no p place ss a text (all k) = tt
 yes-or-no p place ss a text (accepted k s more b rest refuted gives tells) = yes-or-no p (suc k) more b rest tells
 yes-or-no p place ss a text (refused k s more c problem not) = tt
 
-pub sections_say : (p : Program) (ss : List Section) (a : Status) (start new : List ℕ) → AreDue p ss → start ≡ [] → IsTold p 0 ss a start new → SectionsSay p ss a new
-sections_say p ss Done start new due e told = (due, subst (λ t. Tells p 0 ss Done t) (sym (told.2 ∙ ap (λ (z : List ℕ). z ++ told.0) e)) told.1)
-sections_say p ss No start new due e told = inr (due, subst (λ t. Tells p 0 ss No t) (sym (told.2 ∙ ap (λ (z : List ℕ). z ++ told.0) e)) told.1)
-sections_say p ss Bad start new due e told = absurd (yes-or-no p 0 ss Bad told.0 told.1)
-sections_say p ss ReadFault start new due e told = absurd (yes-or-no p 0 ss ReadFault told.0 told.1)
-sections_say p ss WriteFault start new due e told = absurd (yes-or-no p 0 ss WriteFault told.0 told.1)
-sections_say p ss Usage start new due e told = absurd (yes-or-no p 0 ss Usage told.0 told.1)
-sections_say p ss TooLarge start new due e told = absurd (yes-or-no p 0 ss TooLarge told.0 told.1)
+pub sections_say : (p : Program) (ss : List Section) (a : Status) (start new : List ℕ) → AreExpected p ss → start ≡ [] → IsTold p 0 ss a start new → SectionsSay p ss a new
+sections_say p ss Done start new expected e told = (expected, subst (λ t. Tells p 0 ss Done t) (sym (told.2 ∙ ap (λ (z : List ℕ). z ++ told.0) e)) told.1)
+sections_say p ss No start new expected e told = inr (expected, subst (λ t. Tells p 0 ss No t) (sym (told.2 ∙ ap (λ (z : List ℕ). z ++ told.0) e)) told.1)
+sections_say p ss Bad start new expected e told = absurd (yes-or-no p 0 ss Bad told.0 told.1)
+sections_say p ss ReadFault start new expected e told = absurd (yes-or-no p 0 ss ReadFault told.0 told.1)
+sections_say p ss WriteFault start new expected e told = absurd (yes-or-no p 0 ss WriteFault told.0 told.1)
+sections_say p ss Usage start new expected e told = absurd (yes-or-no p 0 ss Usage told.0 told.1)
+sections_say p ss TooLarge start new expected e told = absurd (yes-or-no p 0 ss TooLarge told.0 told.1)
 
 pub cert_is_bad : (bytes : List ℕ) (f : CertFault) (text : List ℕ) → IsRefusal IsCertFile (ahead_from 1 bytes) f → cert_fault_text f ≡ Some text → BadCertSays bytes text
 cert_is_bad bytes (Unexpected line) text h e = (no_file IsCertFile (ahead_from 1 bytes) (Unexpected line) h, Unexpected line, h, e)

@@ -44,8 +44,8 @@ pub data Target : Type 0 where
   Transaction : List ℕ → Target
 
 -- the targets of a program, in the order in which a certificate has them
-abbrev pub targets_due : Program → List Target
-targets_due p = map (λ op. Operation op.name.word) (all_ops p.types) ++ map (λ txn. Transaction txn.name.word) p.txns
+abbrev pub expected_targets : Program → List Target
+expected_targets p = map (λ op. Operation op.name.word) (all_ops p.types) ++ map (λ txn. Transaction txn.name.word) p.txns
 
 abbrev pub target_named : List ℕ → SectionLevel → Target
 target_named name (Op level) = Operation name
@@ -55,8 +55,8 @@ abbrev pub target_of : Section → Target
 target_of s = target_named s.name s.level
 
 -- the sections are those that are expected
-abbrev pub AreDue : Program → List Section → Type 0
-AreDue p ss = map target_of ss ≡ targets_due p
+abbrev pub AreExpected : Program → List Section → Type 0
+AreExpected p ss = map target_of ss ≡ expected_targets p
 
 -- two lists begin otherwise, or one of them has ended
 abbrev pub BeginOtherwise : List Target → List Target → Type 0
@@ -69,11 +69,11 @@ BeginOtherwise (t ∷ ts) (u ∷ us) = t ≢ u
 pub record IsOutOfOrder (p : Program) (ss : List Section) (place : ℕ) : Type 0 where
   pub before : List Target
   pub at : place ≡ suc (length before)
-  pub due : List Target
+  pub expected : List Target
   pub given : List Target
-  pub are_due : targets_due p ≡ before ++ due
+  pub are_expected : expected_targets p ≡ before ++ expected
   pub are_given : map target_of ss ≡ before ++ given
-  pub differ : BeginOtherwise due given
+  pub differ : BeginOtherwise expected given
 
 abbrev pub order_text : ℕ → List ℕ
 order_text place = codes "order " ++ decimal place ++ codes "\n"
@@ -117,9 +117,9 @@ pub data Tells (p : Program) : ℕ → List Section → Status → List ℕ → 
 
 -- what is said of a program and of sections
 abbrev pub SectionsSay : Program → List Section → Status → List ℕ → Type 0
-SectionsSay p ss Done text = AreDue p ss × Tells p 0 ss Done text
+SectionsSay p ss Done text = AreExpected p ss × Tells p 0 ss Done text
 SectionsSay p ss No text =
-    ((place : ℕ) × IsOutOfOrder p ss place × (text ≡ order_text place)) ⊎ (AreDue p ss × Tells p 0 ss No text)
+    ((place : ℕ) × IsOutOfOrder p ss place × (text ≡ order_text place)) ⊎ (AreExpected p ss × Tells p 0 ss No text)
 SectionsSay p ss _ text = ⊥
 
 abbrev pub CheckTells : List ℕ → List ℕ → Status → List ℕ → Type 0

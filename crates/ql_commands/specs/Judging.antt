@@ -10,12 +10,12 @@ use Rattle.ql_refute.specs.Verdict.{verdict}
 use Rattle.ql_refute.specs.declared.refutation.Line.{Line}
 use Rattle.ql_refute.specs.declared.verdict.Verdict.{Verdict}
 use Rattle.ql_refute.specs.declared.verdict.Verdict.TheVariants.{Accepted}
-use Rattle.ql_commands.specs.Check.{target_of, targets_due}
+use Rattle.ql_commands.specs.Check.{target_of, expected_targets}
 
 -- the sections from an index on are those that are expected
-abbrev pub AreDueFrom : Program → ℕ → List Section → Type 0
-AreDueFrom p place [] = Unit {0}
-AreDueFrom p place (s ∷ ss) = (slice_get (targets_due p) place ≡ Some (target_of s)) × AreDueFrom p (suc place) ss
+abbrev pub AreExpectedFrom : Program → ℕ → List Section → Type 0
+AreExpectedFrom p place [] = Unit {0}
+AreExpectedFrom p place (s ∷ ss) = (slice_get (expected_targets p) place ≡ Some (target_of s)) × AreExpectedFrom p (suc place) ss
 
 -- the verdict on the lines as a refutation of the goal's ground problem; where it is accepted, the level guarantees the contract
 pub record IsVerdictOn (p : Program) (g : Goal) (lines : List Line) (v : Verdict) : Type 0 where

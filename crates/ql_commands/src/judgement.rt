@@ -4,7 +4,7 @@ ghost use Rattle.ql_commands.specs.Check.{CheckSays, SectionsSay};
 
 use crate::cert_fault::bad_certificate;
 use crate::order::{first_out_of_order, order_line};
-use crate::section_lines::tell_sections;
+use crate::section_lines::push_sections;
 use crate::source::read_source;
 use crate::source_fault::bad_source;
 use ql_base::NoMemory;
@@ -47,6 +47,6 @@ fn check_sections(
         return Ok((Status::No, order_line(alloc, place)?));
     }
     let mut text = Vec::new(alloc);
-    let status = tell_sections(alloc, t, 0, sections, &mut text)?;
+    let status = push_sections(alloc, t, 0, sections, &mut text)?;
     Ok((status, text))
 }

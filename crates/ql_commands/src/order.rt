@@ -1,6 +1,6 @@
 // Whether the sections of a certificate are those that are expected.
 ghost use Rattle.std.specs.Prelude.{◌≡◌, ◌↔◌, ◌<◌, ◌≤◌, IfNone, IsTrue, MatchOption, Some, IfOk, length, map, slice_get};
-ghost use Rattle.ql_commands.specs.Check.{AreDue, IsOutOfOrder, Operation, Transaction, order_text, target_of, targets_due};
+ghost use Rattle.ql_commands.specs.Check.{AreExpected, IsOutOfOrder, Operation, Transaction, order_text, target_of, expected_targets};
 
 use ql_base::{DeclId, NoMemory, OpId, push_bytes, push_number};
 use ql_cert::{Section, SectionLevel};
@@ -9,13 +9,13 @@ use std::alloc::Global;
 
 /// The first position, from 1, at which the sections aren't those that are expected.
 pub(crate) fn first_out_of_order(t: &Typed, sections: &[Section]) -> Option<u32>
-    ensures order { MatchOption result (AreDue t.now.program sections.now)
+    ensures order { MatchOption result (AreExpected t.now.program sections.now)
         (IsOutOfOrder t.now.program sections.now) }
     ensures few { IfNone result (length sections.now ≤ 48) }
 {
     let targets = t.ops() + t.txns();
     for place in 0..targets {
-        if !is_due(t, place, sections) {
+        if !is_expected(t, place, sections) {
             return Some(place + 1);
         }
     }
@@ -27,25 +27,25 @@ pub(crate) fn first_out_of_order(t: &Typed, sections: &[Section]) -> Option<u32>
 }
 
 // Whether the section of an index is of the target that is expected there.
-fn is_due(t: &Typed, place: u32, sections: &[Section]) -> bool
-    requires { place < length (targets_due t.now.program) }
+fn is_expected(t: &Typed, place: u32, sections: &[Section]) -> bool
+    requires { place < length (expected_targets t.now.program) }
     ensures { IsTrue result
-        ↔ (slice_get (targets_due t.now.program) place
+        ↔ (slice_get (expected_targets t.now.program) place
         ≡ slice_get (map target_of sections.now) place) }
 {
     let Some(section) = sections.get(place as usize) else {
         return false;
     };
     match section.level {
-        SectionLevel::Op(_) => is_op_due(t, place, section.name.bytes()),
-        SectionLevel::Txn(_) => is_txn_due(t, place, section.name.bytes()),
+        SectionLevel::Op(_) => is_op_expected(t, place, section.name.bytes()),
+        SectionLevel::Txn(_) => is_txn_expected(t, place, section.name.bytes()),
     }
 }
 
 // Whether the operation of a name is expected.
-fn is_op_due(t: &Typed, place: u32, name: &[u8]) -> bool
+fn is_op_expected(t: &Typed, place: u32, name: &[u8]) -> bool
     ensures { IsTrue result
-        ↔ (slice_get (targets_due t.now.program) place ≡ Some (Operation name.now)) }
+        ↔ (slice_get (expected_targets t.now.program) place ≡ Some (Operation name.now)) }
 {
     if place >= t.ops() {
         return false;
@@ -54,9 +54,9 @@ fn is_op_due(t: &Typed, place: u32, name: &[u8]) -> bool
 }
 
 // Whether the transaction of a name is expected.
-fn is_txn_due(t: &Typed, place: u32, name: &[u8]) -> bool
+fn is_txn_expected(t: &Typed, place: u32, name: &[u8]) -> bool
     ensures { IsTrue result
-        ↔ (slice_get (targets_due t.now.program) place ≡ Some (Transaction name.now)) }
+        ↔ (slice_get (expected_targets t.now.program) place ≡ Some (Transaction name.now)) }
 {
     if place < t.ops() {
         return false;

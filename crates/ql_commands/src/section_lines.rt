@@ -2,8 +2,8 @@
 ghost use Rattle.std.specs.Prelude.{◌≡◌, ◌≤◌, ◌+◌, ◌++◌, ℕ, List, IfOk, OnOk, length, slice_get, Some};
 ghost use Rattle.ql_ground.specs.OfPrograms.{IsGoalOf};
 ghost use Rattle.ql_ground.specs.SmallBodies.{HasSmallBodies};
-ghost use Rattle.ql_commands.specs.Check.{Tells, goal_of, refusal_end, section_text, target_of, targets_due, verdict_text};
-ghost use Rattle.ql_commands.specs.Judging.{AreDueFrom, IsVerdictOn};
+ghost use Rattle.ql_commands.specs.Check.{Tells, goal_of, refusal_end, section_text, target_of, expected_targets, verdict_text};
+ghost use Rattle.ql_commands.specs.Judging.{AreExpectedFrom, IsVerdictOn};
 
 use ql_base::{DeclId, NoMemory, OpId, push_bytes, push_number};
 use ql_cert::{Section, SectionLevel};
@@ -15,14 +15,14 @@ use ql_typing::Typed;
 use std::alloc::Global;
 
 /// Appends a line for each section, the first of which has the index `place`, up to the first that is refused.
-pub(crate) fn tell_sections(
+pub(crate) fn push_sections(
     alloc: Global,
     t: &Typed,
     place: u32,
     sections: &[Section],
     out: &mut Vec<u8>,
 ) -> Result<Status, NoMemory>
-    requires due { AreDueFrom t.now.program place sections.now }
+    requires expected { AreExpectedFrom t.now.program place sections.now }
     requires few { place + length sections.now ≤ 48 }
     requires small { HasSmallBodies t.now.program }
     ensures { IfOk result
@@ -37,14 +37,14 @@ pub(crate) fn tell_sections(
     push_section(out, section)?;
     push_verdict(out, verdict)?;
     match verdict {
-        Verdict::Accepted => tell_sections(alloc, t, place + 1, others, out),
+        Verdict::Accepted => push_sections(alloc, t, place + 1, others, out),
         _ => Ok(Status::No),
     }
 }
 
 // The goal of the section of an index.
 fn goal_of(t: &Typed, place: u32, section: &Section) -> Goal
-    requires { slice_get (targets_due t.now.program) place ≡ Some (target_of section.now) }
+    requires { slice_get (expected_targets t.now.program) place ≡ Some (target_of section.now) }
     ensures value { result ≡ goal_of t.now.program place section.now }
     ensures goal { IsGoalOf t.now.program result }
 {

@@ -34,7 +34,7 @@ pub(crate) struct Spelled<'a> {
 pub(crate) fn read_spelled(text: &[u8], id: u32) -> Option<Spelled> {
     let (object, op, rest) = heading(text, id)?;
     match after_word(rest, b"session") {
-        Some(behind) => bare(object, op, behind),
+        Some(after) => bare(object, op, after),
         None => full(object, op, rest),
     }
 }
@@ -44,9 +44,9 @@ fn heading(text: &[u8], id: u32) -> Option<(&[u8], &[u8], &[u8])> {
     let rest = after_word(text, b"effect")?;
     let (number, rest) = after_number(rest, u32::MAX)?;
     let (object, rest) = after_name(rest)?;
-    let (op, behind) = after_name(rest)?;
+    let (op, after) = after_name(rest)?;
     if number == id {
-        Some((object, op, behind))
+        Some((object, op, after))
     } else {
         None
     }
@@ -88,8 +88,8 @@ fn call(text: &[u8]) -> Option<(&[u8], &[u8], &[u8])> {
     let rest = after_word(rest, b"=")?;
     let (answer, rest) = first_part(rest)?;
     let rest = after_word(rest, b"emit")?;
-    let (_, behind) = first_part(rest)?;
-    Some((args, answer, behind))
+    let (_, after) = first_part(rest)?;
+    Some((args, answer, after))
 }
 
 // The session, the field of the begun transaction, and the rest of the line after the word `vis`.
@@ -110,8 +110,8 @@ fn setting(text: &[u8]) -> Option<(u32, &[u8], &[u8])> {
 fn after_stamp(text: &[u8]) -> Option<&[u8]> {
     let rest = after_word(text, b"stamp")?;
     let (_, rest) = after_number(rest, u32::MAX)?;
-    let behind = after_word(rest, b"vis")?;
-    Some(behind)
+    let after = after_word(rest, b"vis")?;
+    Some(after)
 }
 
 /// The effect with these fields, on the object with this index. None where the ids that it sees don't ascend.

@@ -6,10 +6,11 @@ use crate::seat::{Seat, seat_of};
 use ql_base::NoMemory;
 use std::alloc::Global;
 
-/// How many effects, and how many events, are drawn at most.
-pub const MOST_DRAWN: u32 = 200;
+/// How many effects are drawn at most.
+pub(crate) const MOST_DRAWN: u32 = 200;
 
-pub const MOST_COLUMNS: u32 = 1000;
+/// How many events are drawn at most.
+pub(crate) const MOST_COLUMNS: u32 = 1000;
 
 /// What happened at an event.
 #[derive(Clone, Copy)]
@@ -122,9 +123,9 @@ fn bare(alloc: Global, run: &Run) -> Result<History, NoMemory> {
 impl History {
     /// The event by which a replica joined; none for a replica that was there at the start.
     pub fn join_of(&self, replica: u32) -> Option<u32> {
-        let behind = self.replicas.checked_sub(replica)? as usize;
-        let place = self.joins.len().checked_sub(behind)?;
-        self.joins.get(place).copied()
+        let from_the_end = self.replicas.checked_sub(replica)? as usize;
+        let index = self.joins.len().checked_sub(from_the_end)?;
+        self.joins.get(index).copied()
     }
 
     /// An empty history of this many replicas.

@@ -66,7 +66,7 @@ impl Joining {
         reply: &Reply,
     ) -> Result<bool, NoMemory> {
         match step {
-            Step::Call { caller, call, .. } => self.call(alloc, run, *caller, call, reply),
+            Step::Call { caller, call } => self.call(alloc, run, *caller, call, reply),
             Step::Begin { caller, name } => self.begin(alloc, *caller, name, reply),
             Step::Commit(caller) => self.commit(alloc, *caller, reply),
             Step::Deliver(number) => self.deliver(alloc, *number, reply),
@@ -147,7 +147,7 @@ impl Joining {
         reply: &Reply,
     ) -> Result<bool, NoMemory> {
         let spot = self.spot(caller.replica, Some(caller.session));
-        let text = behind(alloc, b"begin ", name)?;
+        let text = joined(alloc, b"begin ", name)?;
         if reply.word != ReplyWord::Begun {
             return self.stop(alloc, spot, &text, reply);
         }
@@ -350,7 +350,7 @@ fn cause_of(reply: &Reply) -> Option<Cause> {
     }
 }
 
-fn behind(alloc: Global, before: &[u8], name: &[u8]) -> Result<Vec<u8>, NoMemory> {
+fn joined(alloc: Global, before: &[u8], name: &[u8]) -> Result<Vec<u8>, NoMemory> {
     let mut text = Vec::from_slice(alloc, before)?;
     push_bytes(&mut text, name)?;
     Ok(text)

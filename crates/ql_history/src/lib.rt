@@ -20,7 +20,7 @@ mod step;
 pub use begun::Begun;
 pub use effect::Effect;
 pub use fault::{DrawnFault, DrawnRule};
-pub use history::{Cause, Column, Happening, History, MOST_COLUMNS, MOST_DRAWN, history_of};
+pub use history::{Cause, Column, Happening, History, history_of};
 pub use messages::{Fate, Passage, Span, Spot};
 pub use plan::{Plan, read_plan};
 pub use reply::{Reply, ReplyWord};

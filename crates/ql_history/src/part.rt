@@ -15,7 +15,7 @@ pub(crate) fn first_part(text: &[u8]) -> Option<(&[u8], &[u8])> {
 /// Whether a line consists of this word.
 pub(crate) fn is_word(text: &[u8], word: &[u8]) -> bool {
     match first_field(text) {
-        Some((field, behind)) => field == word && first_field(behind).is_none(),
+        Some((field, after)) => field == word && first_field(after).is_none(),
         None => false,
     }
 }
@@ -47,17 +47,17 @@ impl Inside {
         match (self, b) {
             (Inside::Nothing, b'"') => Inside::Quotes(0),
             (Inside::Brackets(depth), b'"') => Inside::Quotes(depth),
-            (Inside::Quotes(depth), b'"') => Inside::out_of_quotes(depth),
+            (Inside::Quotes(depth), b'"') => Inside::at_depth(depth),
             (Inside::Nothing, b'(' | b'{') => Inside::Brackets(1),
             (Inside::Brackets(depth), b'(' | b'{') => Inside::Brackets(depth.saturating_add(1)),
-            (Inside::Brackets(depth), b')' | b'}') => Inside::out_of_quotes(depth.saturating_sub(
+            (Inside::Brackets(depth), b')' | b'}') => Inside::at_depth(depth.saturating_sub(
                 1,
             )),
             (same, _) => same,
         }
     }
 
-    fn out_of_quotes(depth: u32) -> Inside {
+    fn at_depth(depth: u32) -> Inside {
         if depth == 0 {
             Inside::Nothing
         } else {

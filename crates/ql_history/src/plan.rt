@@ -1,12 +1,9 @@
 use crate::fault::{DrawnFault, DrawnRule, LineFault};
 use crate::part::is_word;
 use crate::step::{Step, step_of};
+use ql_base::{MAX_EVENTS, MAX_REPLICAS};
 use ql_lines::{Lines, after_number, after_word, first_field};
 use std::alloc::Global;
-
-const MOST_EVENTS: usize = 4000;
-
-const MOST_REPLICAS: u32 = 16;
 
 /// A schedule as a picture shows it.
 #[derive(Drop)]
@@ -103,7 +100,7 @@ fn take_replicas(plan: &mut Plan, place: Place, text: &[u8]) -> Result<Place, Li
     let Some(number) = replicas(text) else {
         return Err(LineFault::Breaks(DrawnRule::Unexpected));
     };
-    if number == 0 || number > MOST_REPLICAS {
+    if number == 0 || number > MAX_REPLICAS {
         return Err(LineFault::Breaks(DrawnRule::Range));
     }
     plan.replicas = number;
@@ -116,8 +113,8 @@ fn take_replicas(plan: &mut Plan, place: Place, text: &[u8]) -> Result<Place, Li
 
 fn replicas(text: &[u8]) -> Option<u32> {
     let rest = after_word(text, b"replicas")?;
-    let (number, behind) = after_number(rest, u32::MAX)?;
-    match first_field(behind) {
+    let (number, after) = after_number(rest, u32::MAX)?;
+    match first_field(after) {
         Some(_) => None,
         None => Some(number),
     }
@@ -129,22 +126,22 @@ fn take_event(
     place: Place,
     text: &[u8],
 ) -> Result<Place, LineFault> {
-    if plan.events.len() >= MOST_EVENTS {
+    if plan.events.len() >= MAX_EVENTS {
         return Err(LineFault::Breaks(DrawnRule::TooMany));
     }
     let Some(step) = step_of(alloc, text, place.replicas)? else {
         return Err(LineFault::Breaks(DrawnRule::Unexpected));
     };
-    let more = behind(place, &step)?;
+    let more = state_after(place, &step)?;
     plan.events.push(step)?;
     Ok(more)
 }
 
 // The state after an event.
-fn behind(place: Place, step: &Step) -> Result<Place, LineFault> {
+fn state_after(place: Place, step: &Step) -> Result<Place, LineFault> {
     match step {
         Step::Join(_) if !place.has_joins => Err(LineFault::Breaks(DrawnRule::Unexpected)),
-        Step::Join(_) if place.replicas >= MOST_REPLICAS => Err(LineFault::Breaks(
+        Step::Join(_) if place.replicas >= MAX_REPLICAS => Err(LineFault::Breaks(
             DrawnRule::TooMany,
         )),
         Step::Join(_) => Ok(Place {

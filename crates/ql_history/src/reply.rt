@@ -46,16 +46,16 @@ pub(crate) fn reply_of(alloc: Global, text: &[u8], number: u32) -> Result<Option
 // The text of a reply, its word, and the number after that.
 fn spelled(text: &[u8], number: u32) -> Option<(&[u8], ReplyWord, Option<u32>)> {
     let (told, rest) = after_number(text, u32::MAX)?;
-    let (field, behind) = first_field(rest)?;
+    let (field, after) = first_field(rest)?;
     let word = word_of(field)?;
     if told == number {
-        Some((after_spaces(rest), word, number_behind(behind)))
+        Some((after_spaces(rest), word, number_after(after)))
     } else {
         None
     }
 }
 
-fn number_behind(text: &[u8]) -> Option<u32> {
+fn number_after(text: &[u8]) -> Option<u32> {
     let (field, _) = first_field(text)?;
     let number = number_of(field, u64::from(u32::MAX))?;
     Some(number as u32)

@@ -4,14 +4,9 @@ use crate::effect::{Effect, Spelled, effect_of, read_spelled};
 use crate::fault::{DrawnFault, DrawnRule, LineFault};
 use crate::part::is_word;
 use crate::reply::{Reply, reply_of};
-use ql_base::{Names, NoMemory, Word};
+use ql_base::{MAX_EFFECTS, MAX_EVENTS, MAX_NAME_BYTES, MAX_OBJECTS, Names, NoMemory, Word};
 use ql_lines::{Line, Lines, after_name, after_number, after_spaces, after_word, first_field};
 use std::alloc::Global;
-
-// The most effects and the most replies of a file, and its most objects.
-const MOST: usize = 4000;
-
-const MOST_OBJECTS: u32 = 1024;
 
 /// The level of an operation or of a transaction.
 #[derive(Drop)]
@@ -115,22 +110,22 @@ fn take_ahead(alloc: Global, run: &mut Run, text: &[u8]) -> Result<Stage, LineFa
         Some((b"execution", _)) if is_word(text, b"execution") => return Ok(Stage::Effects),
         Some((b"replies", _)) if is_word(text, b"replies") => return Ok(Stage::Replying),
         Some((b"contract", _)) => return Ok(Stage::Judging),
-        Some((b"why", behind)) => run.why = Vec::from_slice(alloc, after_spaces(behind))?,
-        Some((b"op", behind)) => push_level(alloc, run, false, behind)?,
-        Some((b"txn", behind)) => push_level(alloc, run, true, behind)?,
+        Some((b"why", after)) => run.why = Vec::from_slice(alloc, after_spaces(after))?,
+        Some((b"op", after)) => push_level(alloc, run, false, after)?,
+        Some((b"txn", after)) => push_level(alloc, run, true, after)?,
         _ => {}
     }
     Ok(Stage::Ahead)
 }
 
 fn push_level(alloc: Global, run: &mut Run, is_txn: bool, text: &[u8]) -> Result<(), NoMemory> {
-    let Some((name, behind)) = after_name(text) else {
+    let Some((name, after)) = after_name(text) else {
         return Ok(());
     };
     run.levels.push(Level {
         is_txn,
         name: Word::of(name),
-        level: Vec::from_slice(alloc, after_spaces(behind))?,
+        level: Vec::from_slice(alloc, after_spaces(after))?,
     })?;
     Ok(())
 }
@@ -138,7 +133,7 @@ fn push_level(alloc: Global, run: &mut Run, is_txn: bool, text: &[u8]) -> Result
 // The line after a contract, which names the effect at which it is judged.
 fn take_place(alloc: Global, run: &mut Run, text: &[u8]) -> Result<Stage, LineFault> {
     match after_word(text, b"at") {
-        Some(behind) if after_number(behind, u32::MAX).is_some() => {
+        Some(after) if after_number(after, u32::MAX).is_some() => {
             run.why = Vec::from_slice(alloc, after_spaces(text))?;
             Ok(Stage::Effects)
         }
@@ -148,7 +143,7 @@ fn take_place(alloc: Global, run: &mut Run, text: &[u8]) -> Result<Stage, LineFa
 
 fn take_reply(alloc: Global, run: &mut Run, text: &[u8]) -> Result<Stage, LineFault> {
     let count = run.replies.len();
-    if count >= MOST {
+    if count >= MAX_EVENTS {
         return Err(LineFault::Breaks(DrawnRule::TooMany));
     }
     match reply_of(alloc, text, count as u32 + 1)? {
@@ -165,7 +160,7 @@ fn take_effect(alloc: Global, run: &mut Run, text: &[u8]) -> Result<Stage, LineF
         return Ok(Stage::Ended);
     }
     let count = run.effects.len();
-    if count >= MOST {
+    if count >= MAX_EFFECTS as usize {
         return Err(LineFault::Breaks(DrawnRule::TooMany));
     }
     match read_spelled(text, count as u32 + 1) {
@@ -175,7 +170,7 @@ fn take_effect(alloc: Global, run: &mut Run, text: &[u8]) -> Result<Stage, LineF
     Ok(Stage::Effects)
 }
 
-// The next effect, after `before` others.
+// The next effect, after this many others.
 fn push_effect(
     alloc: Global,
     run: &mut Run,
@@ -196,9 +191,12 @@ fn push_effect(
     Ok(())
 }
 
-// The index of an object's name; none where there are too many.
+// The index of an object's name, which is added where it is new; none where there are too many.
 fn object_number(objects: &mut Names, name: &[u8]) -> Result<Option<u32>, NoMemory> {
-    if objects.len() >= MOST_OBJECTS || name.is_empty() || name.len() > 32 {
+    if let Some(number) = objects.find(name) {
+        return Ok(Some(number));
+    }
+    if objects.len() as usize >= MAX_OBJECTS || name.is_empty() || name.len() > MAX_NAME_BYTES {
         return Ok(None);
     }
     Ok(Some(objects.number(name)?))

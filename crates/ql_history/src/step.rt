@@ -8,7 +8,6 @@ pub enum Step {
     /// A session's call, with its operation and arguments as they are written.
     Call {
         caller: Caller,
-        object: Vec<u8>,
         call: Vec<u8>,
     },
     /// The begin of a transaction, with its name.
@@ -67,22 +66,21 @@ fn other(word: &[u8], rest: &[u8], replicas: u32) -> Option<Step> {
 }
 
 fn call(alloc: Global, text: &[u8], replicas: u32) -> Result<Option<Step>, NoMemory> {
-    let Some((caller, object, call)) = called(text, replicas) else {
+    let Some((caller, call)) = called(text, replicas) else {
         return Ok(None);
     };
     Ok(Some(Step::Call {
         caller,
-        object: Vec::from_slice(alloc, object)?,
         call: Vec::from_slice(alloc, call)?,
     }))
 }
 
-// The caller, the name of the object, and the rest of the line from the operation on.
-fn called(text: &[u8], replicas: u32) -> Option<(Caller, &[u8], &[u8])> {
+// The caller, and the rest of the line from the operation on.
+fn called(text: &[u8], replicas: u32) -> Option<(Caller, &[u8])> {
     let (caller, rest) = after_caller(text, replicas)?;
-    let (object, rest) = after_name(rest)?;
+    let (_, rest) = after_name(rest)?;
     let (_, _) = after_name(rest)?;
-    Some((caller, object, after_spaces(rest)))
+    Some((caller, after_spaces(rest)))
 }
 
 fn begin(alloc: Global, text: &[u8], replicas: u32) -> Result<Option<Step>, NoMemory> {
@@ -139,9 +137,9 @@ fn join(text: &[u8], replicas: u32) -> Option<Step> {
 fn after_caller(text: &[u8], replicas: u32) -> Option<(Caller, &[u8])> {
     let (session, rest) = after_number(text, 255)?;
     let rest = after_word(rest, b"at")?;
-    let (replica, behind) = after_number(rest, replicas)?;
+    let (replica, after) = after_number(rest, replicas)?;
     if replica < replicas {
-        Some((Caller { session, replica }, behind))
+        Some((Caller { session, replica }, after))
     } else {
         None
     }
@@ -149,8 +147,8 @@ fn after_caller(text: &[u8], replicas: u32) -> Option<(Caller, &[u8])> {
 
 // The number at the end of a line.
 fn last_number(text: &[u8]) -> Option<u32> {
-    let (number, behind) = after_number(text, u32::MAX)?;
-    match first_field(behind) {
+    let (number, after) = after_number(text, u32::MAX)?;
+    match first_field(after) {
         Some(_) => None,
         None => Some(number),
     }
@@ -161,11 +159,11 @@ fn partition(alloc: Global, text: &[u8], replicas: u32) -> Result<Option<Step>, 
     let mut groups = Vec::new(alloc);
     let mut rest = text;
     for _ in 0..replicas {
-        let Some((group, behind)) = after_number(rest, 15) else {
+        let Some((group, after)) = after_number(rest, 15) else {
             return Ok(None);
         };
         groups.push(group)?;
-        rest = behind;
+        rest = after;
     }
     match first_field(rest) {
         Some(_) => Ok(None),

@@ -11,7 +11,7 @@ use Rattle.ql_report.specs.Levels.{levels_text}
 use Rattle.ql_reply.specs.declared.status.Status.{Status}
 use Rattle.ql_reply.specs.declared.status.Status.TheVariants.{Done, No}
 use Rattle.ql_commands.specs.Certificates.{SpellsCert}
-use Rattle.ql_commands.specs.Check.{AreDue, goal_of, section_text, verdict_text}
+use Rattle.ql_commands.specs.Check.{AreExpected, goal_of, section_text, verdict_text}
 use Rattle.ql_commands.specs.Levels.{refusal_text}
 use Rattle.ql_commands.specs.Sources.{IsSourceOf}
 use Rattle.ql_implication.specs.OfPrograms.{GivesContract}
@@ -55,4 +55,4 @@ pub record AcceptsFront (p : Program) (place : ℕ) (ss : List Section) (status 
 -- `accepted` states an implication that is valid in the store's executions.
 abbrev pub TellsAccepted : List ℕ → List ℕ → Status → List ℕ → Type 0
 TellsAccepted source cert status text =
-    (p : Program) × IsSourceOf source p × (ss : List Section) × SpellsCert cert ss × AreDue p ss × AcceptsFront p 0 ss status text
+    (p : Program) × IsSourceOf source p × (ss : List Section) × SpellsCert cert ss × AreExpected p ss × AcceptsFront p 0 ss status text

@@ -1,7 +1,7 @@
 use Rattle.std.proofs.Common.{Some, arith, ap, ◌∙◌}
 use Rattle.ql_cert.specs.declared.cert.SectionLevel.{SectionLevel}
 use Rattle.ql_commands.specs.Check.{target_named}
-use Rattle.ql_commands.proofs.Due.{op_below, txn_above}
+use Rattle.ql_commands.proofs.Expected.{op_below, txn_above}
 use Rattle.ql_commands.proofs.section_lines.goal_of.Goals as goal
 
 pub overflow_sub-result : goal.overflow_sub-result

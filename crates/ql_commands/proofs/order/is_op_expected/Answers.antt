@@ -1,8 +1,8 @@
 use Rattle.std.proofs.Common.{arith}
 use Rattle.std.proofs.lemmas.Bool.Decides.{Decides-eqb}
 use Rattle.std.proofs.lemmas.Slice.Eq.{slice_eq-Decides}
-use Rattle.ql_commands.proofs.Due.{op_not, op_told}
-use Rattle.ql_commands.proofs.order.is_op_due.Goals as goal
+use Rattle.ql_commands.proofs.Expected.{op_not, op_told}
+use Rattle.ql_commands.proofs.order.is_op_expected.Goals as goal
 
 pub returns-then-place-ops : goal.returns-then-place-ops
 returns-then-place-ops c =

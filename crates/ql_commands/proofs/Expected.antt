@@ -1,4 +1,4 @@
--- The targets that are due, by place, and the first place out of order.
+-- The targets that are expected, by place, and the first place out of order.
 use Rattle.std.proofs.Common.{◌≡◌, ◌≢◌, ℕ, zero, suc, ◌+◌, ◌-◌, ◌≤◌, ◌<◌, ◌⊎◌, inl, inr, Bool, false, List, [], ◌∷◌, ◌++◌, map, length, take, drop, add-one, Option, None, Some, refl, sym, ap, ◌∙◌, arith, length-append}
 use Rattle.std.specs.Bool.{IsTrue}
 use Rattle.std.specs.List.{slice_get}
@@ -15,8 +15,8 @@ use Rattle.ql_lang.specs.declared.program.Program.{Program}
 use Rattle.ql_lang.specs.declared.program.TxnDecl.{TxnDecl}
 use Rattle.ql_typing.specs.Operations.{all_ops}
 use Rattle.ql_typing.specs.Names.{op_name, txn_name}
-use Rattle.ql_commands.specs.Check.{Target, Operation, Transaction, targets_due, target_of, target_named, goal_at, AreDue, BeginOtherwise, IsOutOfOrder}
-use Rattle.ql_commands.specs.Judging.{AreDueFrom}
+use Rattle.ql_commands.specs.Check.{Target, Operation, Transaction, expected_targets, target_of, target_named, goal_at, AreExpected, BeginOtherwise, IsOutOfOrder}
+use Rattle.ql_commands.specs.Judging.{AreExpectedFrom}
 
 -- ---- items of lists by place
 
@@ -37,8 +37,8 @@ at-back (x ∷ xs) ys k =
     ap (λ (n : ℕ). slice_get ((x ∷ xs) ++ ys) n) place ∙ at-back xs ys k
 
 module _ (p : Program) where
-  pub due_count : length (targets_due p) ≡ length (all_ops p.types) + length p.txns
-  due_count =
+  pub expected_count : length (expected_targets p) ≡ length (all_ops p.types) + length p.txns
+  expected_count =
       let whole = length-append (map (λ (op : OpDecl). Operation op.name.word) (all_ops p.types)) (map (λ (txn : TxnDecl). Transaction txn.name.word) p.txns) in
       let first = length-map (all_ops p.types) (λ (op : OpDecl). Operation op.name.word) in
       let second = length-map p.txns (λ (txn : TxnDecl). Transaction txn.name.word) in
@@ -58,57 +58,57 @@ module _ (p : Program) where
       step None = refl
       step (Some txn) = refl
 
-  pub due_op : (o : ℕ) → o < length (all_ops p.types) → slice_get (targets_due p) o ≡ Some (Operation (op_name p o))
-  due_op o l =
+  pub expected_op : (o : ℕ) → o < length (all_ops p.types) → slice_get (expected_targets p) o ≡ Some (Operation (op_name p o))
+  expected_op o l =
       let count = length-map (all_ops p.types) (λ (op : OpDecl). Operation op.name.word) in
       at-front (map (λ (op : OpDecl). Operation op.name.word) (all_ops p.types)) (map (λ (txn : TxnDecl). Transaction txn.name.word) p.txns) o (omega (arith, l, count))
       ∙ at-map (λ (op : OpDecl). Operation op.name.word) (Operation []) (all_ops p.types) o l ∙ ap (λ (t : Target). Some t) (op-at o l)
 
-  pub due_txn : (k d : ℕ) → k ≡ length (all_ops p.types) + d → d < length p.txns → slice_get (targets_due p) k ≡ Some (Transaction (txn_name p d))
-  due_txn k d is l =
+  pub expected_txn : (k d : ℕ) → k ≡ length (all_ops p.types) + d → d < length p.txns → slice_get (expected_targets p) k ≡ Some (Transaction (txn_name p d))
+  expected_txn k d is l =
       let count = length-map (all_ops p.types) (λ (op : OpDecl). Operation op.name.word) in
       let place : k ≡ length (map (λ (op : OpDecl). Operation op.name.word) (all_ops p.types)) + d = omega (arith, is, count) in
-      ap (λ (n : ℕ). slice_get (targets_due p) n) place
+      ap (λ (n : ℕ). slice_get (expected_targets p) n) place
       ∙ at-back (map (λ (op : OpDecl). Operation op.name.word) (all_ops p.types)) (map (λ (txn : TxnDecl). Transaction txn.name.word) p.txns) d
       ∙ at-map (λ (txn : TxnDecl). Transaction txn.name.word) (Transaction []) p.txns d l ∙ ap (λ (t : Target). Some t) (txn-at d)
 
-  due-none : (k : ℕ) → length (all_ops p.types) + length p.txns ≤ k → slice_get (targets_due p) k ≡ None
-  due-none k l = slice_get_past (targets_due p) k (omega (arith, l, due_count))
+  expected-none : (k : ℕ) → length (all_ops p.types) + length p.txns ≤ k → slice_get (expected_targets p) k ≡ None
+  expected-none k l = slice_get_past (expected_targets p) k (omega (arith, l, expected_count))
 
-  -- an operation is due below the count of operations alone
-  pub op_below : (k : ℕ) (w : List ℕ) → slice_get (targets_due p) k ≡ Some (Operation w) → k < length (all_ops p.types)
+  -- an operation is expected below the count of operations alone
+  pub op_below : (k : ℕ) (w : List ℕ) → slice_get (expected_targets p) k ≡ Some (Operation w) → k < length (all_ops p.types)
   op_below k w e = elim (cases_lt k (length (all_ops p.types))) [
     | inl less ↦ less
     | inr more ↦ elim (cases_lt (k - length (all_ops p.types)) (length p.txns)) [
-      | inl within ↦ let at = due_txn k (k - length (all_ops p.types)) (omega (arith, more)) within in absurd (cc)
-      | inr past ↦ let none = due-none k (omega (arith, more, past)) in absurd (cc)
+      | inl within ↦ let at = expected_txn k (k - length (all_ops p.types)) (omega (arith, more)) within in absurd (cc)
+      | inr past ↦ let none = expected-none k (omega (arith, more, past)) in absurd (cc)
     ]
   ]
 
-  pub txn_above : (k : ℕ) (w : List ℕ) → slice_get (targets_due p) k ≡ Some (Transaction w) → (length (all_ops p.types) ≤ k) × (k - length (all_ops p.types) < length p.txns)
+  pub txn_above : (k : ℕ) (w : List ℕ) → slice_get (expected_targets p) k ≡ Some (Transaction w) → (length (all_ops p.types) ≤ k) × (k - length (all_ops p.types) < length p.txns)
   txn_above k w e = elim (cases_lt k (length (all_ops p.types))) [
-    | inl less ↦ let at = due_op k less in absurd (cc)
+    | inl less ↦ let at = expected_op k less in absurd (cc)
     | inr more ↦ elim (cases_lt (k - length (all_ops p.types)) (length p.txns)) [
       | inl within ↦ (more, within)
-      | inr past ↦ let none = due-none k (omega (arith, more, past)) in absurd (cc)
+      | inr past ↦ let none = expected-none k (omega (arith, more, past)) in absurd (cc)
     ]
   ]
 
-  pub due_is_goal : (k : ℕ) (w : List ℕ) (level : SectionLevel) → slice_get (targets_due p) k ≡ Some (target_named w level) → IsGoalOf p (goal_at (length (all_ops p.types)) k level)
-  due_is_goal k w (Op level) e = op_below k w e
-  due_is_goal k w (Txn level) e = (txn_above k w e).1
+  pub expected_is_goal : (k : ℕ) (w : List ℕ) (level : SectionLevel) → slice_get (expected_targets p) k ≡ Some (target_named w level) → IsGoalOf p (goal_at (length (all_ops p.types)) k level)
+  expected_is_goal k w (Op level) e = op_below k w e
+  expected_is_goal k w (Txn level) e = (txn_above k w e).1
 
-  from-place : (k : ℕ) (ss : List Section) → ((j : ℕ) → slice_get (map target_of ss) j ≡ slice_get (targets_due p) (k + j)) → AreDueFrom p k ss
+  from-place : (k : ℕ) (ss : List Section) → ((j : ℕ) → slice_get (map target_of ss) j ≡ slice_get (expected_targets p) (k + j)) → AreExpectedFrom p k ss
   from-place k [] same = tt
   from-place k (s ∷ ss) same =
       let place : k + 0 ≡ k = omega arith in
-      let first : Some (target_of s) ≡ slice_get (targets_due p) (k + 0) = same 0 in (
-        sym (first ∙ ap (λ (n : ℕ). slice_get (targets_due p) n) place),
-        from-place (suc k) ss (λ j. let next : k + suc j ≡ suc k + j = omega arith in same (suc j) ∙ ap (λ (n : ℕ). slice_get (targets_due p) n) next),
+      let first : Some (target_of s) ≡ slice_get (expected_targets p) (k + 0) = same 0 in (
+        sym (first ∙ ap (λ (n : ℕ). slice_get (expected_targets p) n) place),
+        from-place (suc k) ss (λ j. let next : k + suc j ≡ suc k + j = omega arith in same (suc j) ∙ ap (λ (n : ℕ). slice_get (expected_targets p) n) next),
       )
 
-  pub due_from : (ss : List Section) → AreDue p ss → AreDueFrom p 0 ss
-  due_from ss due = from-place 0 ss (λ j. let place : j ≡ 0 + j = omega arith in ap (λ (ts : List Target). slice_get ts j) due ∙ ap (λ (n : ℕ). slice_get (targets_due p) n) place)
+  pub expected_from : (ss : List Section) → AreExpected p ss → AreExpectedFrom p 0 ss
+  expected_from ss expected = from-place 0 ss (λ j. let place : j ≡ 0 + j = omega arith in ap (λ (ts : List Target). slice_get ts j) expected ∙ ap (λ (n : ℕ). slice_get (expected_targets p) n) place)
 
 -- ---- lists that are alike up to a place
 
@@ -157,24 +157,24 @@ otherwise (suc k) [] (y ∷ ys) h = first-ended k ys h
 otherwise (suc k) (x ∷ xs) [] h = second-ended k xs h
 otherwise (suc k) (x ∷ xs) (y ∷ ys) h = otherwise k xs ys h
 
--- the first place at which the sections aren't those that are due
-pub out_of_order : (p : Program) (ss : List Section) (k place : ℕ) → place ≡ k + 1 → k ≤ length (targets_due p) → take k (targets_due p) ≡ take k (map target_of ss) → slice_get (targets_due p) k ≢ slice_get (map target_of ss) k → IsOutOfOrder p ss place
+-- the first place at which the sections aren't those that are expected
+pub out_of_order : (p : Program) (ss : List Section) (k place : ℕ) → place ≡ k + 1 → k ≤ length (expected_targets p) → take k (expected_targets p) ≡ take k (map target_of ss) → slice_get (expected_targets p) k ≢ slice_get (map target_of ss) k → IsOutOfOrder p ss place
 out_of_order p ss k place is l alike differ =
-    let count = length-take k (targets_due p) l in
+    let count = length-take k (expected_targets p) l in
     record {
-      before = take k (targets_due p);
+      before = take k (expected_targets p);
       at = omega (arith, is, count);
-      due = drop k (targets_due p);
+      expected = drop k (expected_targets p);
       given = drop k (map target_of ss);
-      are_due = parts k (targets_due p);
+      are_expected = parts k (expected_targets p);
       are_given = parts k (map target_of ss) ∙ ap (λ (ts : List Target). ts ++ drop k (map target_of ss)) (sym alike);
-      differ = otherwise k (targets_due p) (map target_of ss) differ;
+      differ = otherwise k (expected_targets p) (map target_of ss) differ;
     }
 
 -- more sections than targets, and no more
-pub too_many : (p : Program) (ss : List Section) (k : ℕ) → k ≡ length (targets_due p) → k < length ss → slice_get (targets_due p) k ≢ slice_get (map target_of ss) k
+pub too_many : (p : Program) (ss : List Section) (k : ℕ) → k ≡ length (expected_targets p) → k < length ss → slice_get (expected_targets p) k ≢ slice_get (map target_of ss) k
 too_many p ss k is l same =
-    let none : slice_get (targets_due p) k ≡ None = slice_get_past (targets_due p) k (omega (arith, is)) in
+    let none : slice_get (expected_targets p) k ≡ None = slice_get_past (expected_targets p) k (omega (arith, is)) in
     let count = length-map ss target_of in
     present (map target_of ss) k (omega (arith, l, count)) (sym same ∙ none)
   where
@@ -183,36 +183,36 @@ too_many p ss k is l same =
     present (x ∷ xs) zero l e = absurd (cc)
     present (x ∷ xs) (suc k) l e = present xs k (omega (arith, l)) e
 
-pub all_due : (p : Program) (ss : List Section) (k : ℕ) → k ≡ length (targets_due p) → length ss ≤ k → take k (targets_due p) ≡ take k (map target_of ss) → AreDue p ss
-all_due p ss k is l alike =
+pub all_expected : (p : Program) (ss : List Section) (k : ℕ) → k ≡ length (expected_targets p) → length ss ≤ k → take k (expected_targets p) ≡ take k (map target_of ss) → AreExpected p ss
+all_expected p ss k is l alike =
     let count = length-map ss target_of in
-    sym (sym (take_all k (targets_due p) (omega (arith, is))) ∙ alike ∙ take_all k (map target_of ss) (omega (arith, l, count)))
+    sym (sym (take_all k (expected_targets p) (omega (arith, is))) ∙ alike ∙ take_all k (map target_of ss) (omega (arith, l, count)))
 
 -- ---- what the order test tells of one place
 
 module _ (p : Program) (k : ℕ) (w : List ℕ) where
   pub op_told : (b : Bool) (name : List ℕ) (d : OpDecl) → slice_get (all_ops p.types) k ≡ Some d → name ≡ d.name.word → (IsTrue b → name ≡ w) × (name ≡ w → IsTrue b)
-      → (IsTrue b → slice_get (targets_due p) k ≡ Some (Operation w)) × (slice_get (targets_due p) k ≡ Some (Operation w) → IsTrue b)
+      → (IsTrue b → slice_get (expected_targets p) k ≡ Some (Operation w)) × (slice_get (expected_targets p) k ≡ Some (Operation w) → IsTrue b)
   op_told b name d at is same =
       let own : op_name p k ≡ name = rw at (sym is) in
-      let due : slice_get (targets_due p) k ≡ Some (Operation name) = due_op p k (slice_get_within (all_ops p.types) k d at) ∙ ap (λ (n : List ℕ). Some (Operation n)) own in (
-        λ yes. due ∙ ap (λ (n : List ℕ). Some (Operation n)) (same.0 yes),
-        λ e. let both : Some (Operation name) ≡ Some (Operation w) = sym due ∙ e in let equal : name ≡ w = cc in same.1 equal,
+      let expected : slice_get (expected_targets p) k ≡ Some (Operation name) = expected_op p k (slice_get_within (all_ops p.types) k d at) ∙ ap (λ (n : List ℕ). Some (Operation n)) own in (
+        λ yes. expected ∙ ap (λ (n : List ℕ). Some (Operation n)) (same.0 yes),
+        λ e. let both : Some (Operation name) ≡ Some (Operation w) = sym expected ∙ e in let equal : name ≡ w = cc in same.1 equal,
       )
 
-  pub op_not : (length (all_ops p.types) ≤ k) → (IsTrue false → slice_get (targets_due p) k ≡ Some (Operation w)) × (slice_get (targets_due p) k ≡ Some (Operation w) → IsTrue false)
+  pub op_not : (length (all_ops p.types) ≤ k) → (IsTrue false → slice_get (expected_targets p) k ≡ Some (Operation w)) × (slice_get (expected_targets p) k ≡ Some (Operation w) → IsTrue false)
   op_not past = (λ no. absurd (cc), λ e. let below = op_below p k w e in absurd (omega (arith, past, below)))
 
   pub txn_told : (b : Bool) (name : List ℕ) (n : ℕ) (d : TxnDecl) → k ≡ length (all_ops p.types) + n → slice_get p.txns n ≡ Some d → name ≡ d.name.word → (IsTrue b → name ≡ w) × (name ≡ w → IsTrue b)
-      → (IsTrue b → slice_get (targets_due p) k ≡ Some (Transaction w)) × (slice_get (targets_due p) k ≡ Some (Transaction w) → IsTrue b)
+      → (IsTrue b → slice_get (expected_targets p) k ≡ Some (Transaction w)) × (slice_get (expected_targets p) k ≡ Some (Transaction w) → IsTrue b)
   txn_told b name n d place at is same =
       let own : txn_name p n ≡ name = rw at (sym is) in
-      let due : slice_get (targets_due p) k ≡ Some (Transaction name) = due_txn p k n place (slice_get_within p.txns n d at) ∙ ap (λ (m : List ℕ). Some (Transaction m)) own in (
-        λ yes. due ∙ ap (λ (m : List ℕ). Some (Transaction m)) (same.0 yes),
-        λ e. let both : Some (Transaction name) ≡ Some (Transaction w) = sym due ∙ e in let equal : name ≡ w = cc in same.1 equal,
+      let expected : slice_get (expected_targets p) k ≡ Some (Transaction name) = expected_txn p k n place (slice_get_within p.txns n d at) ∙ ap (λ (m : List ℕ). Some (Transaction m)) own in (
+        λ yes. expected ∙ ap (λ (m : List ℕ). Some (Transaction m)) (same.0 yes),
+        λ e. let both : Some (Transaction name) ≡ Some (Transaction w) = sym expected ∙ e in let equal : name ≡ w = cc in same.1 equal,
       )
 
-  pub txn_not : (k < length (all_ops p.types)) ⊎ (length p.txns ≤ k - length (all_ops p.types)) → (IsTrue false → slice_get (targets_due p) k ≡ Some (Transaction w)) × (slice_get (targets_due p) k ≡ Some (Transaction w) → IsTrue false)
+  pub txn_not : (k < length (all_ops p.types)) ⊎ (length p.txns ≤ k - length (all_ops p.types)) → (IsTrue false → slice_get (expected_targets p) k ≡ Some (Transaction w)) × (slice_get (expected_targets p) k ≡ Some (Transaction w) → IsTrue false)
   txn_not out = (
     λ no. absurd (cc),
     λ e. let above = txn_above p k w e in elim out [
