@@ -18,7 +18,7 @@ use std::alloc::Global;
 ///
 /// Operations are judged in their order, then the transactions in theirs: for each, first the operations that
 /// it uses, in the order in which it names them, and then its contract. The first that fails is reported. The
-/// time is that of the solver on at most three ground problems a target.
+/// time is that of the solver on at most four ground problems for an operation, and three for a transaction.
 pub fn classify<'a>(alloc: Global, t: &'a Typed) -> Result<Classified<'a>, Classless>
     requires { HasSmallBodies t.now.program }
     ensures same { IfOk result (λ c. c.program ≡ t.now.program) }

@@ -4,13 +4,13 @@ ghost use Rattle.std.specs.List.{All};
 ghost use Rattle.serde_json.specs.Data.{put as with_member};
 ghost use Rattle.serde_json.specs.View.{members_view, view};
 ghost use Rattle.ql_classify.specs.Finding.{IsFinding};
-ghost use Rattle.ql_explanation.specs.Explanation.{AreFindings, goal_of, unmet_of};
+ghost use Rattle.ql_explanation.specs.Explanation.{AreFindings, goal_of};
 ghost use Rattle.ql_ground.specs.OfPrograms.{IsGoalOf};
 ghost use Rattle.ql_run_json.specs.Values.{listed, text_data};
 ghost use Rattle.ql_typing.specs.Operations.{all_ops};
-ghost use Rattle.ql_explain_json.specs.JsonExplanations.{IsReasonData, IsShown, IsTarget, kind_text, level_data, name_text, target_data, use_data};
+ghost use Rattle.ql_explain_json.specs.JsonExplanations.{IsReasonData, IsTarget, kind_text, level_data, name_text, target_data, use_data};
 
-use crate::counter::{Shown, shown_of, shown_value};
+use crate::counter::{shown_of, shown_value};
 use crate::names::{kind_of, name_of};
 use crate::warnings::warnings;
 use ql_base::{NoMemory, OpId};
@@ -38,9 +38,8 @@ pub(crate) fn target(
 {
     let goal = goal_of(finding);
     let uses = uses_of(alloc, t, findings, goal)?;
-    let shown = shown_of(alloc, t, finding)?;
     let warnings = warnings(alloc, source, t, goal)?;
-    let reason = reason(alloc, t, findings, finding, &shown)?;
+    let reason = reason(alloc, t, findings, finding)?;
     target_value(alloc, t, finding, goal, &uses, reason, warnings)
 }
 
@@ -50,16 +49,13 @@ fn reason(
     t: &Typed,
     findings: &[Finding],
     finding: &Finding,
-    shown: &Option<Shown>,
 ) -> Result<Json, NoMemory>
     requires findings { AreFindings t.now.program findings.now }
     requires finding { (target : ℕ) × IsFinding t.now.program target finding.now }
-    requires shown { IsShown t.now.program (unmet_of finding.now) shown.now }
     ensures { IfOk result (λ json. IsReasonData t.now.program finding.now (view json)) }
 {
-    let _finding = finding;
-    match shown {
-        Some(shown) => shown_value(alloc, t, findings, shown),
+    match shown_of(alloc, t, finding)? {
+        Some(shown) => shown_value(alloc, t, findings, &shown),
         None => Ok(Json::Null),
     }
 }

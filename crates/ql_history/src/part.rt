@@ -50,9 +50,7 @@ impl Inside {
             (Inside::Quotes(depth), b'"') => Inside::at_depth(depth),
             (Inside::Nothing, b'(' | b'{') => Inside::Brackets(1),
             (Inside::Brackets(depth), b'(' | b'{') => Inside::Brackets(depth.saturating_add(1)),
-            (Inside::Brackets(depth), b')' | b'}') => Inside::at_depth(depth.saturating_sub(
-                1,
-            )),
+            (Inside::Brackets(depth), b')' | b'}') => Inside::at_depth(depth.saturating_sub(1)),
             (same, _) => same,
         }
     }

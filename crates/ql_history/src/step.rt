@@ -6,24 +6,15 @@ use std::alloc::Global;
 #[derive(Drop)]
 pub enum Step {
     /// A session's call, with its operation and arguments as they are written.
-    Call {
-        caller: Caller,
-        call: Vec<u8>,
-    },
+    Call { caller: Caller, call: Vec<u8> },
     /// The begin of a transaction, with its name.
-    Begin {
-        caller: Caller,
-        name: Vec<u8>,
-    },
+    Begin { caller: Caller, name: Vec<u8> },
     Commit(Caller),
     Deliver(u32),
     Repeat(u32),
     Lose(u32),
     /// A replica sends an effect to another once more.
-    Resend {
-        from: u32,
-        to: u32,
-    },
+    Resend { from: u32, to: u32 },
     /// The group of each replica.
     Partition(Vec<u32>),
     Heal,
