@@ -6,7 +6,8 @@ use Rattle.ql_reply.specs.declared.status.Status.TheVariants.{Done, No, Bad, Rea
 use Rattle.ql_reply.proofs.Replies.{no_usage}
 use Rattle.ql_app.specs.declared.outcome.Limits.{Limits}
 use Rattle.ql_app.specs.Words.{NamedRequest, OneFile, TwoFiles, IsRequest}
-use Rattle.ql_app.specs.Outcome.{AreHeld, CommandSays, ForRequest, IsAnswered, IsRead, Judges, MeetsFault, MeetsLimit, NoneRose, PairSays, Says, RequestSays, second_limit}
+use Rattle.ql_app.specs.Outcome.{AreHeld, CommandSays, ForRequest, IsAnswered, Judges, MeetsFault, MeetsLimit, NoneRose, PairSays, Says, RequestSays, second_limit}
+use Rattle.ql_reply.specs.Read.{IsRead}
 
 -- what is read is so of what is held, where that is reported
 abbrev IsOfHeld : ℕ → Option (List ℕ) → (List ℕ → Type 0) → Type 0

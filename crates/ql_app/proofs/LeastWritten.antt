@@ -8,7 +8,8 @@ use Rattle.ql_app.specs.declared.words.Command.TheVariants.{Holds, Proof, Classi
 use Rattle.ql_app.specs.declared.words.PairCommand.TheVariants.{Check, Verify, Run, Slim, Restart}
 use Rattle.ql_running.specs.declared.form.Form.TheVariants.{Text, Json}
 use Rattle.ql_app.specs.LeastWritten.{WritesLeast, WritesNone}
-use Rattle.ql_app.specs.Outcome.{IsRead, Judges, Says}
+use Rattle.ql_app.specs.Outcome.{Judges, Says}
+use Rattle.ql_reply.specs.Read.{IsRead}
 use Rattle.ql_reply.specs.Wrote.{Wrote}
 use Rattle.ql_app.specs.Words.{NamedRequest, IsRequest, OneFile, TwoFiles}
 use Rattle.ql_commands.specs.Classify.{ClassifySays}

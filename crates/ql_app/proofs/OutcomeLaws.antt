@@ -14,7 +14,8 @@ use Rattle.ql_app.specs.declared.words.Command.TheVariants.{Holds, Proof, Classi
 use Rattle.ql_app.specs.declared.words.PairCommand.{PairCommand}
 use Rattle.ql_app.specs.declared.words.PairCommand.TheVariants.{Check, Verify, Run, Slim, Restart}
 use Rattle.ql_app.specs.Words.{OneFile, TwoFiles}
-use Rattle.ql_app.specs.Outcome.{CommandSays, IsRead, PairSays, RequestSays, second_limit}
+use Rattle.ql_app.specs.Outcome.{CommandSays, PairSays, RequestSays, second_limit}
+use Rattle.ql_reply.specs.Read.{IsRead}
 use Rattle.ql_reply.specs.Unread.{IsUnread}
 use Rattle.ql_reply.proofs.Replies.{answer_unread}
 

@@ -5,7 +5,8 @@ use Rattle.ql_app.specs.declared.outcome.Limits.{Limits}
 use Rattle.ql_reply.specs.declared.status.Status.TheVariants.{Done, Usage}
 use Rattle.ql_app.specs.declared.words.Command.TheVariants.{Holds, Proof, Classify, ClassifyWhy, Prove, Gen, Soak}
 use Rattle.ql_app.specs.declared.words.PairCommand.TheVariants.{Check, Verify, Run, Slim, Restart}
-use Rattle.ql_app.specs.Outcome.{IsRead, Judges, Says}
+use Rattle.ql_app.specs.Outcome.{Judges, Says}
+use Rattle.ql_reply.specs.Read.{IsRead}
 use Rattle.ql_reply.specs.Wrote.{Wrote}
 use Rattle.ql_app.specs.RunWritten.{WritesRun}
 use Rattle.ql_app.specs.Words.{NamedRequest, IsRequest, OneFile, TwoFiles, pair_words}

@@ -1,8 +1,9 @@
 -- What may be printed: for the arguments, the bytes of the files that they name and a status.
-use Rattle.std.specs.Prelude.{◌≡◌, ◌⊎◌, ℕ, ◌<◌, ◌≤◌, List, ◌++◌, length, Option, Some, Result, Ok, Err, IfSome, codes}
+use Rattle.std.specs.Prelude.{◌≡◌, ◌⊎◌, ℕ, ◌<◌, List, ◌++◌, length, Option, Some, Result, Ok, Err, IfSome, codes}
 use Rattle.ql_base.specs.declared.no_memory.NoMemory.{NoMemory}
 use Rattle.ql_ports.specs.Faults.{Rose}
 use Rattle.ql_app.specs.declared.outcome.Limits.{Limits}
+use Rattle.ql_reply.specs.Read.{IsRead}
 use Rattle.ql_reply.specs.declared.status.Status.{Status}
 use Rattle.ql_reply.specs.declared.status.Status.TheVariants.{Done, No, Bad, ReadFault, WriteFault, Usage, TooLarge}
 use Rattle.ql_app.specs.declared.words.Command.{Command}
@@ -70,14 +71,6 @@ second_limit limits Verify = limits.second
 second_limit limits (Run form) = limits.file
 second_limit limits Slim = limits.file
 second_limit limits (Restart replica cut) = limits.file
-
--- a file was read whole: some bytes within a limit, which are those that the shelf holds where it reports them, and this is
--- so of them
-pub record IsRead (limit : ℕ) (held : Option (List ℕ)) (P : List ℕ → Type 0) : Type 0 where
-  pub bytes : List ℕ
-  pub are_held : IfSome held (λ whole. bytes ≡ whole)
-  pub short : length bytes ≤ limit
-  pub is_so : P bytes
 
 -- the files were read whole, in the order of the arguments, and this is said of them
 abbrev pub Judges : Limits → (List ℕ → Option (List ℕ)) → NamedRequest → Status → List ℕ → Type 0

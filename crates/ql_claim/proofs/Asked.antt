@@ -7,7 +7,8 @@ use Rattle.ql_app.specs.declared.words.Command.TheVariants.{Holds, Proof, Classi
 use Rattle.ql_app.specs.declared.words.PairCommand.{PairCommand}
 use Rattle.ql_app.specs.declared.words.PairCommand.TheVariants.{Check, Verify, Run, Slim, Restart}
 use Rattle.ql_running.specs.declared.form.Form.TheVariants.{Text, Json}
-use Rattle.ql_app.specs.Outcome.{CommandSays, IsRead, Judges, PairSays, second_limit}
+use Rattle.ql_app.specs.Outcome.{CommandSays, Judges, PairSays, second_limit}
+use Rattle.ql_reply.specs.Read.{IsRead}
 use Rattle.ql_app.specs.Words.{NamedRequest, IsRequest, OneFile, TwoFiles}
 use Rattle.ql_app.proofs.OutcomeLaws.{of_held}
 

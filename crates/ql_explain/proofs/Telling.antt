@@ -7,7 +7,8 @@ use Rattle.ql_ports.specs.Faults.{Rose}
 use Rattle.ql_ports.specs.declared.whole.ReadError.{ReadError}
 use Rattle.ql_ports.specs.declared.whole.ReadError.TheVariants.{Failed, TooLong}
 use Rattle.ql_baseline.specs.Comparison.{BaselineSays}
-use Rattle.ql_explain.specs.Outcomes.{IsOf, Means, SaysIn, SaysOf, Tells}
+use Rattle.ql_explain.specs.Outcomes.{IsOf, Means, SaysIn, SaysOf, Tells, most_bytes}
+use Rattle.ql_reply.specs.Read.{IsRead}
 use Rattle.ql_reply.specs.Unread.{IsUnread}
 use Rattle.ql_reply.proofs.Replies.{answer_unread, no_usage, rose_before}
 use Rattle.ql_explain.specs.Words.{Call, Explained, Compared}
@@ -15,11 +16,6 @@ use Rattle.ql_explain.specs.declared.asked.Form.{Form}
 use Rattle.ql_explain.specs.declared.asked.Form.TheVariants.{Text, Json}
 use Rattle.ql_reply.specs.declared.status.Status.{Status}
 use Rattle.ql_reply.specs.declared.status.Status.TheVariants.{Done, No, Bad, ReadFault, WriteFault, Usage, TooLarge}
-
--- what is said of the bytes is said of what the shelf tells
-of_whole : (o : Option (List ℕ)) (bytes : List ℕ) (P : List ℕ → Type 0) → IfSome o (λ whole. bytes ≡ whole) → P bytes → IfSome o P
-of_whole None bytes P same is = tt
-of_whole (Some whole) bytes P same is = subst P same is
 
 -- yes, no, or a bad file
 abbrev IsAnswered : Status → Type 0
@@ -75,25 +71,29 @@ module _ (held : List ℕ → Option (List ℕ)) (before after : List ℕ → �
 
 module _ (held : List ℕ → Option (List ℕ)) (before after : List ℕ → ℕ) where
   -- a source was read
-  pub source_said : (form : Form) (name bytes source : List ℕ) → source ≡ bytes → IfSome (held name) (λ whole. bytes ≡ whole)
+  pub source_said : (form : Form) (name bytes source : List ℕ) → source ≡ bytes → IfSome (held name) (λ whole. bytes ≡ whole) → length bytes ≤ most_bytes
       → (said : Result (Status × Vec ℕ) NoMemory) → IfOk said (λ x. SaysIn form source x.0 x.1.items) → IfOk said (λ x. Tells held before after (Explained form name) x.0 x.1.items)
-  source_said form name bytes source e same said is =
+  source_said form name bytes source e same short said is =
       one_answer held before after (Explained form name) (SaysIn form source) (source_answered form source)
-      (λ a text says. of_whole (held name) bytes (λ b. SaysIn form b a text) same (subst (λ b. SaysIn form b a text) e says)) said is
+      (λ a text says. record { bytes = bytes; are_held = same; short = short; is_so = subst (λ b. SaysIn form b a text) e says }) said is
 
   -- a stored answer and a source were read
-  pub pair_said : (file name baseline bytes source : List ℕ) → source ≡ bytes → IfSome (held file) (λ whole. baseline ≡ whole) → IfSome (held name) (λ whole. bytes ≡ whole)
+  pub pair_said : (file name baseline bytes source : List ℕ) → source ≡ bytes → IfSome (held file) (λ whole. baseline ≡ whole) → length baseline ≤ most_bytes → IfSome (held name) (λ whole. bytes ≡ whole) → length bytes ≤ most_bytes
       → (said : Result (Status × Vec ℕ) NoMemory) → IfOk said (λ x. BaselineSays source baseline x.0 x.1.items) → IfOk said (λ x. Tells held before after (Compared file name) x.0 x.1.items)
-  pair_said file name baseline bytes source e stored same said is =
+  pair_said file name baseline bytes source e stored long same short said is =
       one_answer held before after (Compared file name) (BaselineSays source baseline) (pair_answered source baseline)
-      (λ a text says. of_whole (held file) baseline (λ b. IfSome (held name) (λ s. BaselineSays s b a text)) stored
-      (of_whole (held name) bytes (λ s. BaselineSays s baseline a text) same (subst (λ s. BaselineSays s baseline a text) e says))) said is
+      (λ a text says. record {
+        bytes = baseline;
+        are_held = stored;
+        short = long;
+        is_so = record { bytes = bytes; are_held = same; short = short; is_so = subst (λ s. BaselineSays s baseline a text) e says };
+      }) said is
 
 -- what is said after a file was read is said of both
 module _ (held later : List ℕ → Option (List ℕ)) (before between after : List ℕ → ℕ) (file name : List ℕ) (same : (n : List ℕ) → later n ≡ held n) (less : (n : List ℕ) → before n ≤ between n) where
   means_sooner : (a : Status) (text : List ℕ) → Means later (Compared file name) a text → Means held (Compared file name) a text
-  means_sooner a text is = subst (λ (h : Option (List ℕ)). IfSome h (λ baseline. IfSome (held name) (λ source. BaselineSays source baseline a text))) (same file)
-      (subst (λ (h : Option (List ℕ)). IfSome (later file) (λ baseline. IfSome h (λ source. BaselineSays source baseline a text))) (same name) is)
+  means_sooner a text is = subst (λ (h : Option (List ℕ)). IsRead most_bytes h (λ baseline. IsRead most_bytes (held name) (λ source. BaselineSays source baseline a text))) (same file)
+      (subst (λ (h : Option (List ℕ)). IsRead most_bytes (later file) (λ baseline. IsRead most_bytes h (λ source. BaselineSays source baseline a text))) (same name) is)
 
   sooner : (status : Status) (text : List ℕ) → Tells later between after (Compared file name) status text → Tells held before after (Compared file name) status text
   sooner Done text is = means_sooner Done text is

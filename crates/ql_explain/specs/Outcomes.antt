@@ -8,6 +8,7 @@ use Rattle.ql_explain.specs.Words.{Call, Explained, Compared, asked}
 use Rattle.ql_explain.specs.declared.asked.Form.{Form}
 use Rattle.ql_explain.specs.declared.asked.Form.TheVariants.{Text, Json}
 use Rattle.ql_explain.specs.declared.help.TheConstants.{HELP}
+use Rattle.ql_reply.specs.Read.{IsRead}
 use Rattle.ql_reply.specs.declared.status.Status.{Status}
 use Rattle.ql_reply.specs.declared.status.Status.TheVariants.{Done, No, Bad, ReadFault, WriteFault, Usage, TooLarge}
 
@@ -16,10 +17,15 @@ abbrev pub SaysIn : Form → List ℕ → Status → List ℕ → Type 0
 SaysIn Text bytes status text = ExplainSays bytes status text
 SaysIn Json bytes status text = ExplainJsonSays bytes status text
 
--- what the files mean
+-- the most bytes of a file
+abbrev pub most_bytes : ℕ
+most_bytes = 1048576
+
+-- the files were read whole, in the order of the arguments, and this is said of them
 abbrev pub Means : (List ℕ → Option (List ℕ)) → Call → Status → List ℕ → Type 0
-Means held (Explained form name) status text = IfSome (held name) (λ bytes. SaysIn form bytes status text)
-Means held (Compared file name) status text = IfSome (held file) (λ baseline. IfSome (held name) (λ source. BaselineSays source baseline status text))
+Means held (Explained form name) status text = IsRead most_bytes (held name) (λ bytes. SaysIn form bytes status text)
+Means held (Compared file name) status text =
+    IsRead most_bytes (held file) (λ baseline. IsRead most_bytes (held name) (λ source. BaselineSays source baseline status text))
 
 -- a file that is asked about has this name
 abbrev pub IsOf : Call → List ℕ → Type 0
@@ -30,9 +36,9 @@ IsOf (Compared file name) other = (other ≡ file) ⊎ (other ≡ name)
 abbrev pub Fails : (List ℕ → ℕ) → (List ℕ → ℕ) → Call → List ℕ → Type 0
 Fails before after call text = (name : List ℕ) × IsOf call name × Rose (before name) (after name) × (text ≡ codes "read fault " ++ name ++ codes "\n")
 
--- a file with more bytes than the limit
+-- a file with more bytes than the limit, where its shelf reports them
 abbrev pub IsOver : (List ℕ → Option (List ℕ)) → Call → List ℕ → Type 0
-IsOver held call text = (name : List ℕ) × IsOf call name × IfSome (held name) (λ bytes. 1048576 < length bytes) × (text ≡ codes "too large " ++ name ++ codes "\n")
+IsOver held call text = (name : List ℕ) × IsOf call name × IfSome (held name) (λ bytes. most_bytes < length bytes) × (text ≡ codes "too large " ++ name ++ codes "\n")
 
 -- what is reported about the files, by the status
 abbrev pub Tells : (List ℕ → Option (List ℕ)) → (List ℕ → ℕ) → (List ℕ → ℕ) → Call → Status → List ℕ → Type 0

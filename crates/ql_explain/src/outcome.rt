@@ -1,5 +1,5 @@
 ghost use Rattle.std.specs.Prelude.{◌≡◌, ◌<◌, ◌≤◌, ◌^◌, ℕ, List, IfOk, IfSome, length};
-ghost use Rattle.ql_explain.specs.Outcomes.{Says, SaysIn, Tells};
+ghost use Rattle.ql_explain.specs.Outcomes.{Says, SaysIn, Tells, most_bytes};
 ghost use Rattle.ql_explain.specs.Words.{Compared, Explained};
 ghost use Rattle.ql_reply.specs.Arguments.{word_texts};
 
@@ -78,7 +78,8 @@ fn with_baseline<S: Shelf>(
     baseline: &[u8],
     shelf: &mut S,
 ) -> Result<(Status, Vec<u8>), NoMemory>
-    requires { IfSome (S.held shelf.old pair.baseline.now) (λ whole. baseline.now ≡ whole) }
+    requires held { IfSome (S.held shelf.old pair.baseline.now) (λ whole. baseline.now ≡ whole) }
+    requires short { length baseline.now ≤ most_bytes }
     ensures says { IfOk result
         (λ answer. Tells (S.held shelf.old) (S.faults shelf.old) (S.faults shelf.new)
         (Compared pair.entry.baseline.now pair.entry.source.now) answer.0 answer.1.items) }

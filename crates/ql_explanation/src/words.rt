@@ -34,8 +34,8 @@ pub(crate) fn counter_words(
 {
     let mut text = Vec::from_slice(alloc, b"  ")?;
     push_bytes(&mut text, level_text(g).as_bytes())?;
-    let not = if is_top { ", the highest level," } else { "" };
-    push_bytes(&mut text, not.as_bytes())?;
+    let top = if is_top { ", the highest level," } else { "" };
+    push_bytes(&mut text, top.as_bytes())?;
     push_bytes(
         &mut text,
         b" isn't enough. Here everything that it guarantees holds, but the contract of ",

@@ -1,5 +1,6 @@
 pub mod Arguments
 pub mod Lines
+pub mod Read
 pub mod Statuses
 pub mod Unread
 pub mod Wrote

@@ -1,15 +1,20 @@
-use Rattle.std.proofs.Common.{◌≡◌, ℕ, List, Err, ap, inl, refl, subst, sym}
+use Rattle.std.proofs.Common.{◌≡◌, ◌≤◌, ℕ, List, Err, ap, arith, inl, length, refl, subst, sym}
 use Rattle.std.specs.Prelude.{IfSome}
+use Rattle.ql_explain.specs.Outcomes.{most_bytes}
 use Rattle.ql_explain.specs.Words.{Compared}
 use Rattle.ql_explain.proofs.Telling.{one_unread, said_sooner, still_whole}
 use Rattle.ql_explain.proofs.outcome.of_pair.Goals as goal
 
-pub with_baseline-requires : goal.with_baseline-requires
-with_baseline-requires g c =
+pub with_baseline-requires-clause-held : goal.with_baseline-requires-clause-held
+with_baseline-requires-clause-held g c =
     let file = c.args.pair.baseline.now in
     let held = g.S.Shelf.held c.read_whole.new.shelf file in
     subst (λ (b : List ℕ). IfSome held (λ whole. b ≡ whole)) (sym c.deref.ensures.value)
     (still_whole (g.S.Shelf.held c.args.shelf.now file) held c.in-Ok.baseline.items (c.in-Ok.ensures.same_contents file) c.in-Ok.ensures.whole)
+
+pub with_baseline-requires-clause-short : goal.with_baseline-requires-clause-short
+with_baseline-requires-clause-short g c =
+    subst (λ (b : List ℕ). length b ≤ most_bytes) (sym c.deref.ensures.value) (omega (arith, c.in-Ok.baseline.ok.0, c.in-Ok.ensures.in_limit))
 
 pub returns-in-Ok-clause-says : goal.returns-in-Ok-clause-says
 returns-in-Ok-clause-says g c =

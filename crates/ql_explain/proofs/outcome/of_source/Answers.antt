@@ -1,4 +1,4 @@
-use Rattle.std.proofs.Common.{Err, ap, refl}
+use Rattle.std.proofs.Common.{Err, ap, arith, refl}
 use Rattle.ql_explain.specs.Words.{Explained}
 use Rattle.ql_explain.proofs.Telling.{one_unread, source_said}
 use Rattle.ql_explain.proofs.outcome.of_source.Goals as goal
@@ -6,7 +6,7 @@ use Rattle.ql_explain.proofs.outcome.of_source.Goals as goal
 pub returns-in-Ok-clause-says : goal.returns-in-Ok-clause-says
 returns-in-Ok-clause-says g c =
     source_said (g.S.Shelf.held c.args.shelf.now) (g.S.Shelf.faults c.args.shelf.now) (g.S.Shelf.faults c.read_whole.new.shelf) c.args.form c.args.name.now c.in-Ok.bytes.items c.deref.result.now
-    c.deref.ensures.value c.in-Ok.ensures.whole c.answer.result c.answer.ensures
+    c.deref.ensures.value c.in-Ok.ensures.whole (omega (arith, c.in-Ok.bytes.ok.0, c.in-Ok.ensures.in_limit)) c.answer.result c.answer.ensures
 
 pub returns-in-Err-clause-says : goal.returns-in-Err-clause-says
 returns-in-Err-clause-says g c =

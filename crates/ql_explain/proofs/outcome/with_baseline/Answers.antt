@@ -1,4 +1,4 @@
-use Rattle.std.proofs.Common.{Err, ap, inr, refl}
+use Rattle.std.proofs.Common.{Err, ap, arith, inr, refl}
 use Rattle.ql_explain.specs.Words.{Compared}
 use Rattle.ql_explain.proofs.Telling.{one_unread, pair_said}
 use Rattle.ql_explain.proofs.outcome.with_baseline.Goals as goal
@@ -6,7 +6,7 @@ use Rattle.ql_explain.proofs.outcome.with_baseline.Goals as goal
 pub returns-in-Ok-clause-says : goal.returns-in-Ok-clause-says
 returns-in-Ok-clause-says g c =
     pair_said (g.S.Shelf.held c.args.shelf.now) (g.S.Shelf.faults c.args.shelf.now) (g.S.Shelf.faults c.read_whole.new.shelf) c.args.pair.baseline.now c.args.pair.source.now c.args.baseline.now c.in-Ok.source.items c.deref.result.now
-    c.deref.ensures.value c.requires c.in-Ok.ensures.whole c.compare.result c.compare.ensures
+    c.deref.ensures.value c.requires.held c.requires.short c.in-Ok.ensures.whole (omega (arith, c.in-Ok.source.ok.0, c.in-Ok.ensures.in_limit)) c.compare.result c.compare.ensures
 
 pub returns-in-Err-clause-says : goal.returns-in-Err-clause-says
 returns-in-Err-clause-says g c =
