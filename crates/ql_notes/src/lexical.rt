@@ -44,10 +44,7 @@ fn push_bad_byte(said: &mut Vec<u8>, text: &[u8], at: usize) -> Result<Spot, NoM
         return Ok(one);
     };
     if byte == b'\n' || byte == b'\r' {
-        push_bytes(
-            said,
-            b"this text has no closing `\"` on the same line",
-        )?;
+        push_bytes(said, b"this text has no closing `\"` on the same line")?;
         return Ok(Spot {
             from: quote,
             bytes: at.saturating_sub(quote),
@@ -75,8 +72,8 @@ fn advice(byte: u8) -> &'static [u8] {
     match byte {
         b'A'..=b'Z' => b": names and keywords are in lower case",
         b'_' => b": a name begins with a lower-case letter",
-        b'/' => b": a comment begins with `#`, `/\\` is the `and` of contracts, and there is no division",
-        b'\\' => b": `\\/` is the `or` of contracts",
+        b'/' => b": a comment begins with `#`, `/\\` joins contracts, and there is no division",
+        b'\\' => b": `\\/` joins contracts, and `or` joins expressions",
         b'\'' | b'`' => b": a text is written in double quotes",
         b'!' => b": `!=` means not equal, and `not` negates",
         b'%' => b": there is no division, only `+`, `-` and `*`",
