@@ -7,7 +7,7 @@ use std::test::Fail;
 
 // A status, a source, the first line that `classify` prints of it, and the note.
 const NOTES: &str = "
-2 ~ type account {␊  state balance: int = 0;␊  op deposit(n: int): unit { contract true; answer unit;␊    emit p: int = n when n > 0; apply { balnce := balance + p; } }␊}␊ ~ bad source at 138: Unknown␊ -> source:4:41: Unknown: `balnce` is no field, and only fields are assigned to␊        emit p: int = n when n > 0; apply { balnce := balance + p; } }␊                                            ^^^^^^␊  did you mean `balance`?␊
+2 ~ type account {␊  state balance: int = 0;␊  op deposit(n: int): unit { contract true; answer unit;␊    emit p: int = n when n > 0; apply { balnce := balance + p; } }␊}␊ ~ bad source at 138: Unknown␊ -> source:4:41: Unknown: `balnce` isn't a field, and only fields can be assigned to␊        emit p: int = n when n > 0; apply { balnce := balance + p; } }␊                                            ^^^^^^␊  did you mean `balance`?␊
 0 ~ type t { op touch(): unit { contract true; answer unit; } } ~ op touch eventual␊ -> 
 ";
 

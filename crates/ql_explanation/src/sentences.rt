@@ -81,9 +81,9 @@ fn push_fact(text: &mut Vec<u8>, t: &Typed, c: &Counter, fact: Fact) -> Result<(
                 verb: " and ",
                 object: second,
                 end: if fact.holds {
-                    " are in one transaction"
+                    " are in the same transaction"
                 } else {
-                    " aren't in one transaction"
+                    " aren't in the same transaction"
                 },
             };
             push_phrase(text, t, c, phrase)
@@ -95,14 +95,14 @@ fn phrase_of(name: RelName, holds: bool, first: EffId, second: EffId) -> Phrase 
     let (seer, verb, end) = match (name, holds) {
         (RelName::Vis, true) => (true, " sees ", ""),
         (RelName::Vis, false) => (true, " doesn't see ", ""),
-        (RelName::So | RelName::Soo, true) => (false, " is before ", " in their session"),
-        (RelName::So | RelName::Soo, false) => (false, " isn't before ", " in one session"),
+        (RelName::So | RelName::Soo, true) => (false, " is before ", " in the same session"),
+        (RelName::So | RelName::Soo, false) => (false, " isn't before ", " in the same session"),
         (RelName::Hb | RelName::Hbo, true) => (false, " happened before ", ""),
         (RelName::Hb | RelName::Hbo, false) => (false, " didn't happen before ", ""),
-        (RelName::SameObj, true) => (false, " and ", " are on one object"),
-        (RelName::SameObj, false) => (false, " and ", " are on two objects"),
-        (RelName::Eq, true) => (false, " and ", " are one effect"),
-        (RelName::Eq, false) => (false, " and ", " are two effects"),
+        (RelName::SameObj, true) => (false, " and ", " are on the same object"),
+        (RelName::SameObj, false) => (false, " and ", " are on different objects"),
+        (RelName::Eq, true) => (false, " and ", " are the same effect"),
+        (RelName::Eq, false) => (false, " and ", " are different effects"),
     };
     if seer {
         Phrase {

@@ -19,7 +19,7 @@ use ql_why::{level_text, vars_of};
 use std::alloc::Global;
 
 /// The line for a target at the lowest level.
-pub(crate) const LOWEST: &str = "  No level is lower.\n";
+pub(crate) const LOWEST: &str = "  There is no lower level.\n";
 
 /// What a countermodel shows: its effects as a table, and why the contract is false.
 pub(crate) fn counter_words(
@@ -98,10 +98,10 @@ pub(crate) fn ways_out(alloc: Global, t: &Typed, uses: &[OpId]) -> Result<Vec<u8
 }
 
 const STRONG_USE: &str = ", which is strong. A strong call is ordered with all effects on its
-  object, and every replica has its effect before the next one is made; what a
-  transaction does reaches others when it commits, all at once.
+  object, and every replica has its effect before the next one is made; but the
+  effects of a transaction reach other replicas only when it commits, together.
 ";
 
-const WAY_OUT: &str = " outside the transaction, before it begins or once it is committed;
-  or ask less of it: an operation whose level is lower can be used in one.
+const WAY_OUT: &str = " outside the transaction, before it begins or after it commits;
+  or weaken the operation's contract: a transaction can use it at a lower level.
 ";

@@ -111,11 +111,11 @@ pub(crate) fn push_counts(
     given: usize,
 ) -> Result<(), NoMemory> {
     let sentence: &[u8] = if taken == 1 {
-        b"`%` takes # argument, and here are #"
+        b"`%` takes # argument, but # were given"
     } else if given == 1 {
-        b"`%` takes # arguments, and here is #"
+        b"`%` takes # arguments, but # was given"
     } else {
-        b"`%` takes # arguments, and here are #"
+        b"`%` takes # arguments, but # were given"
     };
     push_counted(said, sentence, &[operation], &[taken as u64, given as u64])
 }
@@ -129,12 +129,12 @@ fn push_other_type(said: &mut Vec<u8>, line: FaultyLine) -> Result<(), NoMemory>
     match place_in(line.source, b"op", operation) {
         Some(op) => push_filled(
             said,
-            b"`%` is of the type `%`, and `%` is an operation of `%`",
+            b"`%` has type `%`, but `%` is an operation of `%`",
             &[object, own, operation, type_at(line.source, op)],
         ),
         None => push_filled(
             said,
-            b"`%` is of the type `%`, and `%` is an operation of none",
+            b"`%` has type `%`, but no type has an operation `%`",
             &[object, own, operation],
         ),
     }

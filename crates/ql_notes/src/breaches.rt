@@ -56,18 +56,18 @@ fn unknown_sentence(line: FaultyLine, k: usize) -> &'static [u8] {
     let first = field_text(line.fields, 0);
     if is(line.part, b"execution") {
         if k == 3 {
-            b"`%` is no operation of the source"
+            b"`%` isn't an operation of the source"
         } else {
-            b"`%` names no transaction of the source"
+            b"`%` doesn't name a transaction of the source"
         }
     } else if is(first, b"object") {
-        b"`%` is no type of the source"
+        b"`%` isn't a type of the source"
     } else if k == 4 && is(first, b"begin") {
-        b"`%` is no transaction of the source"
+        b"`%` isn't a transaction of the source"
     } else if k == 5 && is(first, b"call") {
-        b"`%` is no operation of the source"
+        b"`%` isn't an operation of the source"
     } else {
-        b"`%` is no object that a line `object` declares"
+        b"no line `object` declares `%`"
     }
 }
 
@@ -75,13 +75,13 @@ fn unknown_sentence(line: FaultyLine, k: usize) -> &'static [u8] {
 fn size_sentence(line: FaultyLine) -> &'static [u8] {
     let first = field_text(line.fields, 0);
     if is(first, b"object") {
-        b"a schedule has at most 1024 objects, and this is one more"
+        b"a schedule has at most 1024 objects, and this is one too many"
     } else if is(first, b"join") {
-        b"a store has at most 16 replicas, and this is one more"
+        b"a store has at most 16 replicas, and this is one too many"
     } else if is(first, b"begin") && line.fields.len() > 21 {
-        b"a transaction declares at most 16 objects, and here are more"
+        b"a transaction declares at most 16 objects, and this one declares more"
     } else {
-        b"a schedule has at most 4000 events, and this is one more"
+        b"a schedule has at most 4000 events, and this is one too many"
     }
 }
 

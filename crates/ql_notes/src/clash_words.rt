@@ -19,17 +19,17 @@ union a set
 put a map
 drop a map
 get a map
-sum a map to int";
+sum a map with int values";
 
 const TAKEN: &str = "has a set or a map, then an element or a key
 size a set or a map
 add a set, then an element
 remove a set, then an element
-union two sets of one kind
+union two sets of the same kind
 put a map, then a key, then its value
 drop a map, then a key
-get a map, then a key, then the value where the key isn't there
-sum a map to int";
+get a map, then a key, then the value to use if the key is missing
+sum a map with int values";
 
 /// Appends the found and the expected kind at a token, and what requires the expected one.
 pub(crate) fn push_clash(
@@ -76,7 +76,7 @@ fn after_last<'a>(tokens: &[&'a [u8]], k: usize, words: &[u8]) -> &'a [u8] {
     }
 }
 
-// `has` takes 2 arguments, and here are 3
+// `has` takes 2 arguments, but 3 were given
 fn push_count(note: &mut Vec<u8>, function: Function, count: usize) -> Result<(), NoMemory> {
     let name = name_of(function);
     push_counts(note, name, function.arity(), count)?;
@@ -107,13 +107,13 @@ fn push_expected_kind(note: &mut Vec<u8>, wish: Wish) -> Result<(), NoMemory> {
 // Appends what requires the kind.
 fn push_wish(note: &mut Vec<u8>, owner: &[u8], wish: Wish) -> Result<(), NoMemory> {
     match wish {
-        Wish::Answer(kind) => push_named(note, b"`%` answers ", owner, kind),
+        Wish::Answer(kind) => push_named(note, b"the answer of `%` is ", owner, kind),
         Wish::Initial(kind) => push_initial(note, owner, kind),
         Wish::Assigned(kind) => push_named(note, b"the field `%` is ", owner, kind),
         Wish::Emitted(kind) => push_named(note, b"the emitted value `%` is ", owner, kind),
         Wish::When => push_bytes(note, b"`when` takes a bool"),
         Wish::Condition => push_bytes(note, b"the condition of `if` is a bool"),
-        Wish::Branch(_) => push_bytes(note, b"`else` gives the kind that `then` gives"),
+        Wish::Branch(_) => push_bytes(note, b"`then` and `else` must have the same kind"),
         Wish::Operand(operator, kind) => push_named(
             note,
             b"`%` takes ",
@@ -122,12 +122,12 @@ fn push_wish(note: &mut Vec<u8>, owner: &[u8], wish: Wish) -> Result<(), NoMemor
         ),
         Wish::Comparable(operator) => push_filled(
             note,
-            b"`%` compares values of these kinds alone",
+            b"`%` compares only values of these kinds",
             &[spelling_of(operator)],
         ),
         Wish::SameAsLeft(operator, _) => push_filled(
             note,
-            b"`%` has one kind on both sides",
+            b"both sides of `%` must have the same kind",
             &[spelling_of(operator)],
         ),
         Wish::First(function) | Wish::Argument(function, _, _) | Wish::Count(function, _) =>
@@ -139,7 +139,7 @@ fn push_wish(note: &mut Vec<u8>, owner: &[u8], wish: Wish) -> Result<(), NoMemor
 fn push_initial(note: &mut Vec<u8>, field: &[u8], kind: Kind) -> Result<(), NoMemory> {
     push_named(note, b"the field `%` is ", field, kind)?;
     match kind {
-        Kind::Set(_) | Kind::Map(_, _) => push_bytes(note, b", and begins as `empty`"),
+        Kind::Set(_) | Kind::Map(_, _) => push_bytes(note, b", which begins as `empty`"),
         _ => Ok(()),
     }
 }

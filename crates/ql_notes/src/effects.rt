@@ -25,11 +25,11 @@ pub(crate) fn push_not_earlier(said: &mut Vec<u8>, line: FaultyLine) -> Result<(
     match number_of(own, u32::MAX as u64) {
         Some(number) if number > 1 => push_counted(
             said,
-            b"effect % sees earlier effects alone: 1 to #",
+            b"effect % can see only earlier effects: 1 to #",
             &[own],
             &[number - 1],
         ),
-        _ => push_filled(said, b"effect % is the first, so it sees none", &[own]),
+        _ => push_filled(said, b"effect % is the first, so it can't see any", &[own]),
     }
 }
 
@@ -43,7 +43,7 @@ pub(crate) fn push_other_object(
     let other = word_of(effect_line(line.above, ID, seen), OBJECT);
     push_filled(
         said,
-        b"effect % is on `%`, and effect %, which sees it, on `%`",
+        b"effect % is on `%`, but effect %, which sees it, is on `%`",
         &[
             seen,
             other,
@@ -60,7 +60,7 @@ pub(crate) fn push_mixed(said: &mut Vec<u8>, line: FaultyLine) -> Result<(), NoM
     let other = word_of(first, OPERATION);
     push_filled(
         said,
-        b"an object has one type: `%` is of `%`, and `%` at effect % of `%`",
+        b"an object has one type: `%` belongs to `%`, but `%` at effect % belongs to `%`",
         &[
             operation,
             type_of(line.source, operation),
@@ -101,14 +101,14 @@ pub(crate) fn push_split(said: &mut Vec<u8>, line: FaultyLine) -> Result<(), NoM
         if is_one && other.session != session {
             return push_filled(
                 said,
-                b"a transaction has one number, name and session: effect % is of session %, and this one of %",
+                b"a transaction has one number, name and session: effect % is in session %, but this one is in session %",
                 &[other.id, other.session, session],
             );
         }
         if is_one && other.txn != own {
             return push_filled(
                 said,
-                b"a transaction has one number, name and session: effect % is of transaction %, and this one of %",
+                b"a transaction has one number, name and session: effect % is in transaction %, but this one is in %",
                 &[other.id, other.txn, own],
             );
         }
@@ -118,7 +118,7 @@ pub(crate) fn push_split(said: &mut Vec<u8>, line: FaultyLine) -> Result<(), NoM
     }
     push_filled(
         said,
-        b"a transaction's effects follow one another in their session, and effect % of this session stands between and isn't of it",
+        b"a transaction's effects follow one another in its session, but effect % of this session comes between them",
         &[since],
     )
 }

@@ -7,14 +7,14 @@ use ql_base::{digit_bytes, is_name, number_of};
 const MEANINGS: &str = "NAME a name
 NUMBER a number
 DIGITS a number
-SESSION a session, 0 to 255
-VALUES arguments in brackets, as `(1, \"a\")`
-VALUE an answer, as `unit`, `5` or `\"a\"`
-PAYLOAD `-`, or what is emitted in brackets
-TXN `-`, or a transaction as `1:audit`
-SEEN.. the effects that it sees, ascending
-LITERAL.. a variable's number, with `-` before it where it is denied
-HINT.. a hint, as `c1` or `l1`
+SESSION a session from 0 to 255
+VALUES arguments in brackets, such as `(1, \"a\")`
+VALUE an answer, such as `unit`, `5` or `\"a\"`
+PAYLOAD `-`, or the emitted values in brackets
+TXN `-`, or a transaction such as `1:audit`
+SEEN.. the effects that it sees, in ascending order
+LITERAL.. a variable's number, with `-` before it to negate it
+HINT.. a hint, such as `c1` or `l1`
 OP_LEVEL `eventual`, `causal`, `wide` or `strong`
 TXN_LEVEL `rc`, `mav` or `rr`
 ARGUMENT.. a number, `true`, `false` or a text in quotes

@@ -9,9 +9,9 @@ use std::alloc::Global;
 pub const HELP: &str = "usage: ./quelea COMMAND ..
 
   classify [--why] SOURCE     the least level of each operation and transaction;
-                              with --why an execution for each lower level
-  explain [--json] SOURCE     the same of every target, also of those that have
-                              no level, as a table and in words, or as JSON
+                              with --why, an execution for each lower level
+  explain [--json] SOURCE     the same for every target, including those that
+                              have no level, as a table and in words, or as JSON
   explain --baseline FILE SOURCE
                               which levels are higher than in a stored answer
   prove SOURCE                a certificate of these levels
@@ -19,20 +19,20 @@ pub const HELP: &str = "usage: ./quelea COMMAND ..
   verify SOURCE EXECUTION     whether every contract is true in an execution
   holds FILE                  whether a contract is true at one effect
   run [--json] SOURCE SCHEDULE
-                              a simulated store: replies and the execution
+                              the replies and the execution of a simulated store
   slim SOURCE SCHEDULE        what is stable after a schedule
   restart SOURCE SCHEDULE REPLICA CUT
                               what a replica recovers from its journal
-  gen SOURCE NUMBER EVENTS    the schedule of a number
-  soak SOURCE NUMBER          what the run of a number's schedule comes to
+  gen SOURCE NUMBER EVENTS    the schedule that is generated from a number
+  soak SOURCE NUMBER          a summary of the run of such a schedule
   proof FILE                  whether a refutation is right
   draw [--all] FILE [SCHEDULE] [--breach WORD..]
                               a picture in SVG
 
-Status 0 is yes, 1 no, 2 a file with a fault, 3 a file that can't be read, 5
-other arguments, 7 too large. docs/GUIDE.md is a first walk, README.md has each
-command. QUELEA_NOTES=1 prints notes on faults on standard error, as on a
-terminal; QUELEA_NOTES=0 prints none.
+Status: 0 yes, 1 no, 2 a file has a fault, 3 a file can't be read, 5 wrong
+arguments, 7 too large. README.md describes each command, and docs/GUIDE.md
+walks through an example. QUELEA_NOTES=1 prints notes on faults on standard
+error even without a terminal; QUELEA_NOTES=0 never prints them.
 ";
 
 // The commands.
@@ -62,7 +62,7 @@ pub(crate) fn push_command(
     };
     push_filled(
         note,
-        b"`%` is no command: did you mean ",
+        b"`%` isn't a command: did you mean ",
         &[first.as_bytes()],
     )?;
     push_filled(note, b"`%`?\n\n", &[meant])

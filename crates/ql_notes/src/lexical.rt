@@ -44,10 +44,7 @@ fn push_bad_byte(said: &mut Vec<u8>, text: &[u8], at: usize) -> Result<Spot, NoM
         return Ok(one);
     };
     if byte == b'\n' || byte == b'\r' {
-        push_bytes(
-            said,
-            b"this text isn't ended: a second `\"` is missing, on the same line",
-        )?;
+        push_bytes(said, b"this text has no closing `\"` on the same line")?;
         return Ok(Spot {
             from: quote,
             bytes: at.saturating_sub(quote),
@@ -56,7 +53,7 @@ fn push_bad_byte(said: &mut Vec<u8>, text: &[u8], at: usize) -> Result<Spot, NoM
     push_byte(said, b"", byte)?;
     push_bytes(
         said,
-        b" may not stand in a text, which has bytes from space to `~` without `\"` and `\\`",
+        b" isn't allowed in a text, which may have bytes from space to `~` except `\"` and `\\`",
     )?;
     Ok(one)
 }
@@ -73,14 +70,14 @@ fn push_byte(said: &mut Vec<u8>, before: &[u8], byte: u8) -> Result<(), NoMemory
 // What to write instead of a byte with which no token begins.
 fn advice(byte: u8) -> &'static [u8] {
     match byte {
-        b'A'..=b'Z' => b": names and keywords have lower-case letters alone",
+        b'A'..=b'Z' => b": names and keywords are in lower case",
         b'_' => b": a name begins with a lower-case letter",
-        b'/' => b": a comment begins with `#`, `/\\` joins contracts, and nothing divides",
-        b'\\' => b": `\\/` joins contracts, and `or` expressions",
-        b'\'' | b'`' => b": a text stands in double quotes",
-        b'!' => b": `!=` compares, and `not` denies",
-        b'%' => b": nothing divides, there are `+`, `-` and `*`",
-        128..=255 => b": other than ASCII may stand in comments alone",
+        b'/' => b": a comment begins with `#`, `/\\` joins contracts, and there is no division",
+        b'\\' => b": `\\/` joins contracts, and `or` joins expressions",
+        b'\'' | b'`' => b": a text is written in double quotes",
+        b'!' => b": `!=` means not equal, and `not` negates",
+        b'%' => b": there is no division, only `+`, `-` and `*`",
+        128..=255 => b": only comments may contain characters other than ASCII",
         _ => b"",
     }
 }
@@ -110,7 +107,7 @@ fn push_long(said: &mut Vec<u8>, rest: &[u8]) -> Result<usize, NoMemory> {
         let bytes = text_bytes(rest);
         push_counted(
             said,
-            b"this text has # bytes, and a text has at most 64",
+            b"this text is # bytes long, but at most 64 are allowed",
             &[],
             &[bytes as u64],
         )?;
@@ -119,7 +116,7 @@ fn push_long(said: &mut Vec<u8>, rest: &[u8]) -> Result<usize, NoMemory> {
     let bytes = word_bytes(rest);
     push_counted(
         said,
-        b"this name has # bytes, and a name has at most 32",
+        b"this name is # bytes long, but at most 32 are allowed",
         &[],
         &[bytes as u64],
     )?;
@@ -153,9 +150,9 @@ fn word_bytes(rest: &[u8]) -> usize {
 // Why bytes that begin with a digit aren't a number.
 fn bad_number(rest: &[u8]) -> &'static [u8] {
     if digit_bytes(rest) < word_bytes(rest) {
-        b"a letter follows this number at once: a name begins with a letter, and a space parts two tokens"
+        b"a letter follows this number directly: separate them by a space, or begin the name with a letter"
     } else if rest.starts_with(b"0") {
-        b"a number has no leading zero"
+        b"a number can't have leading zeros"
     } else {
         b"a number is at most 9223372036854775807"
     }

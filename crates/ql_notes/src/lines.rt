@@ -77,9 +77,9 @@ fn push_form_fault(
     let said = if !is_end {
         sentence(fault.part, fault.rule)
     } else if is(last_form(found.form), b"end") {
-        b"the file ends here, and the line `end` is missing".as_slice()
+        b"the file ends here, but the line `end` is missing".as_slice()
     } else if is(found.form, b"execution") {
-        b"the file ends here, and the line `execution` is missing before its first effect".as_slice()
+        b"the file ends here, but the line `execution` is missing before the first effect".as_slice()
     } else {
         b"the file ends here".as_slice()
     };

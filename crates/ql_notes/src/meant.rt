@@ -66,15 +66,15 @@ pub(crate) fn push_unknown(note: &mut Vec<u8>, tokens: &[&[u8]], k: usize) -> Re
 
 fn what_is_wrong(meant: Meant) -> &'static [u8] {
     match meant {
-        Meant::Operation => b"`%` is no operation of this source",
+        Meant::Operation => b"`%` isn't an operation of this source",
         Meant::Current =>
-            b"a transaction's contract has no `cur`: it speaks of the effects that it quantifies",
+            b"a transaction's contract has no `cur`, only the variables of its `forall`",
         Meant::Variable => b"`%` isn't quantified by the `forall` of this contract",
-        Meant::Function => b"`%` is no function",
-        Meant::Target => b"`%` is no field, and only fields are assigned to",
+        Meant::Function => b"`%` isn't a function",
+        Meant::Target => b"`%` isn't a field, and only fields can be assigned to",
         Meant::Parameter =>
-            b"`%` is a parameter, and statements use fields and emitted values alone: emit it under another name",
-        Meant::Value => b"`%` is no name that is known here",
+            b"`%` is a parameter, but statements can use only fields and emitted values: emit it under another name",
+        Meant::Value => b"`%` isn't known here",
     }
 }
 
@@ -117,7 +117,7 @@ fn push_unused(note: &mut Vec<u8>, tokens: &[&[u8]], k: usize) -> Result<(), NoM
         if from < j && j < to && is_bound(tokens, j) && !is_used(tokens, to, token) {
             push_filled(
                 note,
-                b"  the parameter `%` is used nowhere: perhaps it should be `%`\n",
+                b"  the parameter `%` is never used: perhaps it should be `%`\n",
                 &[*token, piece(tokens, k)],
             )?;
         }

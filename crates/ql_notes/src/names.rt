@@ -20,7 +20,7 @@ pub(crate) fn push_known(note: &mut Vec<u8>, word: &[u8], names: &[&[u8]]) -> Re
 /// Appends the names that are known.
 pub(crate) fn push_listed(note: &mut Vec<u8>, names: &[&[u8]]) -> Result<(), NoMemory> {
     if names.is_empty() {
-        return push_bytes(note, b"  no name is known here\n");
+        return push_bytes(note, b"  no names are known here\n");
     }
     push_bytes(note, b"  known here: ")?;
     push_names(note, names)?;

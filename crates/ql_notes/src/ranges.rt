@@ -28,11 +28,11 @@ pub(crate) fn push_range(
     } else if is(first, b"resend") {
         push_bytes(said, b"an effect's number is at most 4294967295")
     } else if k == 1 {
-        push_bytes(said, b"a session is 0 to 255")
+        push_bytes(said, b"a session is a number from 0 to 255")
     } else {
         push_bytes(
             said,
-            b"a number is -9223372036854775808 to 9223372036854775807",
+            b"a number is between -9223372036854775808 and 9223372036854775807",
         )
     }
 }
@@ -50,19 +50,19 @@ fn is_replica_field(first: &[u8], k: usize) -> bool {
 
 fn push_replicas(said: &mut Vec<u8>, count: u64) -> Result<(), NoMemory> {
     if count < 2 {
-        return push_bytes(said, b"the one replica here is 0");
+        return push_bytes(said, b"the only replica here is 0");
     }
-    push_counted(said, b"replicas are 0 to # here", &[], &[count - 1])
+    push_counted(said, b"the replicas here are 0 to #", &[], &[count - 1])
 }
 
 fn push_groups(said: &mut Vec<u8>, line: FaultyLine) -> Result<(), NoMemory> {
     let count = line.fields.len().saturating_sub(1) as u64;
     if count == line.replicas {
-        return push_bytes(said, b"a group is 0 to 15");
+        return push_bytes(said, b"a group is a number from 0 to 15");
     }
     push_counted(
         said,
-        b"each replica has a group: here are # groups, and there are # replicas",
+        b"a partition lists one group for each replica: # listed, # expected",
         &[],
         &[count, line.replicas],
     )
@@ -71,9 +71,9 @@ fn push_groups(said: &mut Vec<u8>, line: FaultyLine) -> Result<(), NoMemory> {
 fn push_effects(said: &mut Vec<u8>, text: &[u8]) -> Result<(), NoMemory> {
     let count = lines_above(text, text.len(), false).effects;
     if count == 0 {
-        return push_bytes(said, b"the file has no effect");
+        return push_bytes(said, b"the file has no effects");
     }
-    push_counted(said, b"effects are 1 to # here", &[], &[count])
+    push_counted(said, b"the effects here are 1 to #", &[], &[count])
 }
 
 /// Whether an argument is a number that doesn't fit in 64 bits.

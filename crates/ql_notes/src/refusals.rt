@@ -11,11 +11,11 @@ use ql_excerpt::{File, Spot, line_of, push_fault};
 use std::alloc::Global;
 
 // Sentences by the rule for which a section is refused.
-const REFUSALS: &str = "BadVariable this line has a variable that the clauses don't have
-BadHint a hint of this line names a clause that isn't there, or a line that isn't earlier
-NotUnit a hint of this line names a clause that leaves open more than one literal, or is true already
-NoConflict the hints lead to no contradiction: one is missing at the end, or one is wrong
-NoEmpty no line is the empty clause, so nothing is shown: a last line without literals, NUMBER : HINTS, is missing";
+const REFUSALS: &str = "BadVariable this line uses a variable that isn't in the clauses
+BadHint a hint of this line names a clause that doesn't exist, or a line that isn't earlier
+NotUnit a hint of this line names a clause that leaves more than one literal open, or is already true
+NoConflict the hints don't lead to a contradiction: one is missing at the end, or one is wrong
+NoEmpty no line is the empty clause, so nothing is refuted: a last line without literals, NUMBER : HINTS, is missing";
 
 /// What a line of an answer refuses: the rule, the first line of the section, which is empty in a proof, and the number
 /// of the line, which is empty where the whole section is refused.
@@ -139,18 +139,18 @@ fn push_order(
     let (name, sentence): (&[u8], &[u8]) = if k < ops.len() {
         (
             piece(&ops, k),
-            b"sections stand in the order of the source, and section # is that of `op %` there",
+            b"sections follow the order of the source, so section # must be that of `op %`",
         )
     } else {
         (
             piece(&txns, k.saturating_sub(ops.len())),
-            b"sections stand in the order of the source, and section # is that of `txn %` there",
+            b"sections follow the order of the source, so section # must be that of `txn %`",
         )
     };
     if name.is_empty() {
         return push_counted(
             said,
-            b"sections stand in the order of the source, and section # is one too many",
+            b"sections follow the order of the source, and section # is one too many",
             &[],
             &[number],
         );
@@ -176,7 +176,7 @@ fn push_levels(note: &mut Vec<u8>, source: Source) -> Result<(), NoMemory> {
 fn push_anew(note: &mut Vec<u8>, source: Source) -> Result<(), NoMemory> {
     push_filled(
         note,
-        b"  the certificate, or the source since, may be changed: `./quelea prove %` makes it anew\n",
+        b"  the certificate or the source may have been changed: `./quelea prove %` prints a new certificate\n",
         &[source.name],
     )
 }

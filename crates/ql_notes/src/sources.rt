@@ -133,13 +133,13 @@ fn push_sentence(said: &mut Vec<u8>, found: &[&[u8]], misuse: Misuse) -> Result<
         (TypeFault::Kind(_), Some(clash)) => push_clash(said, found, k, clash),
         (TypeFault::Twice(_), _) => push_filled(
             said,
-            b"`%` is declared or listed already",
+            b"`%` is already declared or listed",
             &[piece(found, k)],
         ),
         (TypeFault::TooMany(_), _) => push_bytes(said, size_sentence(found, k)),
         (TypeFault::TxnClosure(_), _) => push_filled(
             said,
-            b"a transaction's contract can't speak of `%`: it may use `vis`, `so`, `soo`, `sameobj` and `txn`",
+            b"a transaction's contract can't use `%`: it may use `vis`, `so`, `soo`, `sameobj` and `txn`",
             &[piece(found, k)],
         ),
         (fault, _) => push_bytes(said, sentence(b"source", rule_of(fault))),

@@ -32,7 +32,7 @@ pub(crate) fn push_syntax(alloc: Global, note: &mut Vec<u8>, found: Break) -> Re
     match (guess, terminals.first()) {
         (Guess::Nothing, Some(first)) if *first == "x" && is_keyword(found.word) => push_filled(
             note,
-            b"  `%` is a keyword, and no name\n",
+            b"  `%` is a keyword, so it can't be a name\n",
             &[found.word],
         ),
         _ => push_guess(note, guess),
@@ -58,7 +58,7 @@ fn push_guess(note: &mut Vec<u8>, guess: Guess) -> Result<(), NoMemory> {
             b"  perhaps `%` is missing before it\n",
             &[word.as_bytes()],
         ),
-        Guess::Extra => push_bytes(note, b"  perhaps it is one too many\n"),
+        Guess::Extra => push_bytes(note, b"  perhaps it should be removed\n"),
         Guess::Nothing => Ok(()),
     }
 }

@@ -33,7 +33,7 @@ pub(crate) fn push_unmet(alloc: Global, note: &mut Vec<u8>, file: File) -> Resul
                 file,
                 spot,
                 b"note",
-                b"no effect is one of this operation, so the contract asks nothing of it",
+                b"there is no effect of this operation, so the contract says nothing about it",
             )?;
             push_meant(note, likest(name, &ops))?;
         }

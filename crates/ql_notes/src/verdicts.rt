@@ -12,14 +12,14 @@ const TOO_LARGE: u8 = 7;
 
 // Sentences by the first word of an answer.
 const ANSWERS: &str =
-    "none no level is enough for this contract; `./quelea explain SOURCE` shows an execution in which the strongest isn't
-strong a transaction can't use a strong operation; `./quelea explain SOURCE` says what one can do
-fails the contract is false at this effect or transaction, where its variables stand for the effects named here";
+    "none no level is enough for this contract; `./quelea explain SOURCE` shows an execution in which even the highest isn't
+strong a transaction can't use a strong operation; `./quelea explain SOURCE` says what to do instead
+fails the contract is false at this effect or transaction if its variables stand for the effects named here";
 
 // Sentences by the second word of an answer that something is too large.
 const LIMITS: &str =
-    "large a source has at most 1 MiB, and a certificate or an execution at most 64 MiB
-much all choices of effects are tried: fewer effects or fewer variables need less, and at most 20000000 is done";
+    "large a source may have at most 1 MiB, and a certificate or an execution at most 64 MiB
+much every choice of effects is tried, and the work may be at most 20000000: fewer effects or variables need less";
 
 /// Appends a sentence on an answer that isn't yes, where one helps.
 pub(crate) fn push_verdict(

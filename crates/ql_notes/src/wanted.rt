@@ -42,7 +42,7 @@ fn push_descent(note: &mut Vec<u8>, fields: &[Field]) -> Result<(), NoMemory> {
         if is_seen && number <= last {
             return push_filled(
                 note,
-                b"  the effects that it sees ascend, and `%` doesn't\n",
+                b"  the effects that it sees must be in ascending order: `%` comes too late\n",
                 &[field.text],
             );
         }
