@@ -132,3 +132,8 @@ made-lawful x (d ∷ drafts) law =
     made_step x d drafts ((fault_of-None x d (IsExecution-front x (e ∷ []) next) ascending).1 next)
     ∙ made-lawful (x ++ e ∷ []) drafts later
     ∙ ap (λ (y : List Effect). Ok y) (sym (stored-step x d drafts))
+
+-- so none of them is refused
+pub never-refused : (all drafts : List Draft) (fault : ExecFault) → drafts ≡ all → IsExecution (stored_after [] all) → made_after [] drafts ≡ Err fault → ⊥
+never-refused all drafts fault same law made =
+    absurd (let never : Ok (stored_after [] all) ≡ Err fault = sym (made-lawful [] all law) ∙ ap (made_after []) (sym same) ∙ made in cc)

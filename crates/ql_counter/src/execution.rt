@@ -35,6 +35,8 @@ pub(crate) fn execution(
     match Execution::from_effects(alloc, drafts) {
         Ok(execution) => Ok(execution),
         Err(ExecFault::NoMemory) => Err(NoMemory),
-        Err(_) => unreachable!(),
+        Err(ExecFault::NotForward(_)) => unreachable!(),
+        Err(ExecFault::OtherObject(_)) => unreachable!(),
+        Err(ExecFault::SplitTxn(_)) => unreachable!(),
     }
 }
