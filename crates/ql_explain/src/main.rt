@@ -29,7 +29,7 @@ fn run(rt: HostRuntime, words: &Vec<String>) -> u8 {
     let ended = explain_words(rt.alloc(), words, &mut shelf, &mut sink);
     if let Ok(status) = ended {
         if let Ok(words) = with_command(&rt, words) {
-            write_notes(rt, &words, status.number(), sink.printed(), &mut shelf);
+            write_notes(rt, &words, status, sink.printed(), &mut shelf);
         }
     }
     exit_number(ended)

@@ -1,6 +1,7 @@
 use ql_base::NoMemory;
 use ql_notes::{Printed, note};
 use ql_ports::MemShelf;
+use ql_reply::Status;
 use ql_tables::{check_table, number};
 use std::alloc::Global;
 use std::test::Fail;
@@ -30,6 +31,10 @@ fn noted(alloc: Global, row: &str) -> Result<Vec<u8>, NoMemory> {
         first: line.as_bytes(),
         last_line: line.as_bytes(),
     };
-    let status = if number(status, 0) == 2 { 2 } else { 0 };
+    let status = if number(status, 0) == 2 {
+        Status::Bad
+    } else {
+        Status::Done
+    };
     note(alloc, &words, status, printed, &mut shelf)
 }

@@ -5,6 +5,7 @@ use crate::answer::Fault;
 use crate::first::{first_of, push_first_at};
 use crate::lexical::{is_lexical, push_lexical};
 use crate::meant::{push_instead, push_unknown};
+use crate::notes::SOURCE_BYTES;
 use crate::pieces::{pieces, tokens_of, word_at};
 use crate::rules::sentence;
 use crate::sources::{after_word, form_sentence};
@@ -20,9 +21,6 @@ use std::alloc::Global;
 
 // The most bytes of a contract that gets a note.
 const BYTES: usize = 65_536;
-
-// The most bytes of a source.
-const SOURCE_BYTES: usize = 1_048_576;
 
 // A source around a contract: what comes before and after it.
 const BEFORE: &[u8] = b"type t { op f(): unit { contract ";

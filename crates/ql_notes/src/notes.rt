@@ -8,21 +8,19 @@ use crate::pieces::{pieces, tokens_of};
 use crate::refusals::{Refusal, Source, push_refusal, refusal_in};
 use crate::sources::push_source_fault;
 use crate::unmet::push_unmet;
-use crate::verdicts::{NO, push_verdict};
+use crate::verdicts::push_verdict;
 use crate::words::{has_word, is};
 use ql_base::NoMemory;
 use ql_excerpt::File;
 use ql_ports::{ReadError, Shelf, read_whole};
+use ql_reply::Status;
 use std::alloc::Global;
 
-// The most bytes of a source.
-const SOURCE_BYTES: usize = 1_048_576;
+/// The most bytes of a source.
+pub(crate) const SOURCE_BYTES: usize = 1_048_576;
 
 // The most bytes of other files.
 const FILE_BYTES: usize = 67_108_864;
-
-// The status for arguments that don't ask for anything.
-const USAGE: u8 = 5;
 
 /// The beginning of an answer, and its last line.
 #[derive(Clone, Copy)]
@@ -36,21 +34,21 @@ pub struct Printed<'a> {
 pub fn note<S: Shelf>(
     alloc: Global,
     words: &Vec<String>,
-    status: u8,
+    status: Status,
     printed: Printed,
     shelf: &mut S,
 ) -> Result<Vec<u8>, NoMemory> {
     let mut note = Vec::new(alloc);
-    if status == USAGE {
+    if status == Status::Usage {
         push_command(alloc, &mut note, words)?;
         note.extend_from_slice(HELP.as_bytes())?;
     } else if let Some(fault) = fault_of(printed.first) {
         push_bad_file(alloc, &mut note, words, fault, shelf)?;
     } else if let Some(refusal) = refusal_of(words, status, printed) {
         push_refused(alloc, &mut note, words, refusal, shelf)?;
-    } else if status != NO || !is(command(words), b"explain") {
+    } else if status != Status::No || !is(command(words), b"explain") {
         push_verdict(&mut note, status, printed)?;
-        if status == 0 && is(printed.first, b"holds\n") {
+        if status == Status::Done && is(printed.first, b"holds\n") {
             push_holding(alloc, &mut note, words, shelf)?;
         }
     }
@@ -66,8 +64,12 @@ fn command(words: &Vec<String>) -> &[u8] {
 }
 
 // The refusal that a command reports, if it judges certificates or proofs.
-fn refusal_of<'a>(words: &Vec<String>, status: u8, printed: Printed<'a>) -> Option<Refusal<'a>> {
-    if status == NO && has_word(b"check proof", command(words)) {
+fn refusal_of<'a>(
+    words: &Vec<String>,
+    status: Status,
+    printed: Printed<'a>,
+) -> Option<Refusal<'a>> {
+    if status == Status::No && has_word(b"check proof", command(words)) {
         refusal_in(printed.last_line)
     } else {
         None

@@ -3,11 +3,9 @@
 use crate::expected::{expected, push_expected};
 use crate::filled::push_filled;
 use crate::guesses::{Guess, likeliest_repair};
+use crate::notes::SOURCE_BYTES;
 use ql_base::{NoMemory, is_keyword, push_bytes};
 use std::alloc::Global;
-
-// The most bytes of a source.
-const SOURCE_BYTES: usize = 1_048_576;
 
 /// Where a text doesn't follow the grammar: the text before, the word there, and the rest after it.
 #[derive(Clone, Copy)]

@@ -2,20 +2,18 @@
 
 use crate::notes::{Printed, note};
 use ql_ports::Shelf;
+use ql_reply::Status;
 use std::env::Env;
 use std::fs::Files;
 use std::io::{Eprint, IsTerminal, Write};
 use std::{env, fs};
-
-// The exit status of a file that can't be read.
-const READ_FAULT: u8 = 3;
 
 /// Writes the note on an answer to standard error, if notes are wanted; for a file that can't be read, also the system's
 /// reason. Out of memory, or if standard error fails, no note is written.
 pub fn write_notes<S: Shelf>(
     rt: HostRuntime,
     words: &Vec<String>,
-    status: u8,
+    status: Status,
     printed: Printed,
     shelf: &mut S,
 ) {
@@ -25,7 +23,7 @@ pub fn write_notes<S: Shelf>(
     if let Ok(text) = note(rt.alloc(), words, status, printed, shelf) {
         let _ = rt.stderr().write_all(&text);
     }
-    if status == READ_FAULT {
+    if status == Status::ReadFault {
         write_reason(&rt, words);
     }
 }

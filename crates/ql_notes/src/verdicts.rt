@@ -4,11 +4,7 @@ use crate::filled::push_filled;
 use crate::notes::Printed;
 use crate::words::{sentence_of, word};
 use ql_base::NoMemory;
-
-// The statuses for no and for too large.
-pub(crate) const NO: u8 = 1;
-
-const TOO_LARGE: u8 = 7;
+use ql_reply::Status;
 
 // Sentences by the first word of an answer.
 const ANSWERS: &str =
@@ -24,16 +20,14 @@ much every choice of effects is tried, and the work may be at most 20000000: few
 /// Appends a sentence on an answer that isn't yes, where one helps.
 pub(crate) fn push_verdict(
     note: &mut Vec<u8>,
-    status: u8,
+    status: Status,
     printed: Printed,
 ) -> Result<(), NoMemory> {
     let (first, rest) = word(printed.first);
-    if status == TOO_LARGE {
-        push_sentence(note, sentence_of(LIMITS, word(rest).0))
-    } else if status != NO {
-        Ok(())
-    } else {
-        push_sentence(note, sentence_of(ANSWERS, first))
+    match status {
+        Status::No => push_sentence(note, sentence_of(ANSWERS, first)),
+        Status::TooLarge => push_sentence(note, sentence_of(LIMITS, word(rest).0)),
+        _ => Ok(()),
     }
 }
 

@@ -22,7 +22,7 @@ fn run(rt: HostRuntime, words: &Vec<String>) -> u8 {
     let mut sink = KeptSink::over(StdSink::new(rt));
     let ended = quelea(rt.alloc(), words, &mut shelf, &mut sink);
     if let Ok(status) = ended {
-        write_notes(rt, words, status.number(), sink.printed(), &mut shelf);
+        write_notes(rt, words, status, sink.printed(), &mut shelf);
     }
     exit_number(ended)
 }
