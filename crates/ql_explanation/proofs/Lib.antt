@@ -3,4 +3,5 @@ pub mod Known
 pub mod Judged
 mod StrongUses
 pub mod Named
+mod BlankLines
 mod Texts

@@ -1,6 +1,6 @@
 -- What `explain` says of a source: of each target its least level or that none is enough, the strong operations that it
 -- uses, warnings, and a countermodel of it at the next lower level, or at the highest.
-use Rattle.std.specs.Prelude.{ℕ, ◌≡◌, ◌<◌, ◌⊎◌, Bool, true, if◌then◌else◌, List, [], ◌∷◌, ◌++◌, Option, None, Some, length, map, codes}
+use Rattle.std.specs.Prelude.{ℕ, ◌≡◌, ◌<◌, ◌⊎◌, true, List, [], ◌∷◌, ◌++◌, Option, None, Some, length, map, codes}
 use Rattle.std.specs.List.{All, Contains}
 use Rattle.ql_base.specs.IdLists.{IsAscending}
 use Rattle.ql_base.specs.declared.ids.OpId.{OpId}
@@ -26,6 +26,7 @@ use Rattle.ql_warnings.specs.Texts.{warning_text}
 use Rattle.ql_warnings.specs.Warnings.{AreWarnings, IsRuledOut}
 use Rattle.ql_warnings.specs.Warnings as warnings
 use Rattle.ql_warnings.specs.declared.warning.Warning.{Warning}
+use Rattle.ql_explanation.specs.declared.words.TheConstants.{LOWEST, STRONG_USE, WAY_OUT}
 
 -- ---- what is found
 
@@ -105,42 +106,55 @@ abbrev pub strong_lines : Program → Goal → List OpId → List ℕ
 strong_lines p (OpAt o level) uses = []
 strong_lines p (TxnAt d level) uses = uses_text p d.0 uses
 
+-- the sentences on why a transaction can't use a strong operation, and what one can do
+abbrev pub way_out_text : List ℕ → List ℕ
+way_out_text name = codes "  No transaction may use " ++ name ++ STRONG_USE.now ++ codes "  Call " ++ name ++ WAY_OUT.now
+
+-- those sentences for each operation
+abbrev pub ways_out_text : Program → List OpId → List ℕ
+ways_out_text p [] = []
+ways_out_text p (o ∷ uses) = way_out_text (op_name p o.0) ++ ways_out_text p uses
+
 -- warnings, each a line
 abbrev pub warned_text : Program → List Warning → List ℕ
 warned_text p [] = []
 warned_text p (w ∷ ws) = codes "  " ++ warning_text p w ++ codes "\n" ++ warned_text p ws
 
--- some words, the warnings that are so of a countermodel, and its text
+-- words that are left open, warnings that are so of a countermodel, and its text
 abbrev pub IsCounterPart : Program → Goal → List ℕ → Type 0
 IsCounterPart p g text =
     (c : Counter) × IsCounterOf p g c × (words : List ℕ) × (warned : List Warning) × All (IsRuledOut p g c) warned × (text ≡ words ++ warned_text p warned ++ codes "\n" ++ counter_text p g c)
 
--- why the lower levels, or all, aren't enough
+-- why the lower levels, or all, aren't enough; or that there is no lower one
 abbrev pub IsReasonOf : Program → Option Unmet → List ℕ → Type 0
-IsReasonOf p None text = Unit {0}
+IsReasonOf p None text = text ≡ LOWEST.now
 IsReasonOf p (Some u) text = IsCounterPart p u.goal text
 
 abbrev pub IsReason : Program → Finding → List ℕ → Type 0
 IsReason p f text = IsReasonOf p (unmet_of f) text
 
--- a blank line, but for the first
-abbrev pub gap : Bool → List ℕ
-gap is_first = if is_first then [] else codes "\n"
-
 -- the section of a target
 pub record IsSection (source : List ℕ) (p : Program) (f : Finding) (text : List ℕ) : Type 0 where
-  pub is_first : Bool
   pub uses : List OpId
   pub are_uses : AreUsesOf p (goal_of f) uses
-  pub words : List ℕ
   pub warned : List Warning
   pub are_warned : AreWarnings source p (goal_of f) warned
   pub reason : List ℕ
   pub is_reason : IsReason p f reason
-  pub whole : text ≡ gap is_first ++ first_line p f ++ strong_lines p (goal_of f) uses ++ words ++ warned_text p warned ++ reason
+  pub whole : text ≡ first_line p f ++ strong_lines p (goal_of f) uses ++ ways_out_text p uses ++ warned_text p warned ++ reason
+
+-- a section after a blank line
+abbrev pub IsNextSection : List ℕ → Program → Finding → List ℕ → Type 0
+IsNextSection source p f text = (section : List ℕ) × IsSection source p f section × (text ≡ codes "\n" ++ section)
+
+-- the section of each finding in order, with a blank line between them
+abbrev pub AreSections : List ℕ → Program → List Finding → List ℕ → Type 0
+AreSections source p [] text = text ≡ []
+AreSections source p (f ∷ findings) text =
+    (first : List ℕ) × (others : List ℕ) × IsSection source p f first × InTurn (IsNextSection source p) findings others × (text ≡ first ++ others)
 
 abbrev pub IsExplanation : List ℕ → Program → List ℕ → Type 0
-IsExplanation source p text = (findings : List Finding) × AreFindings p findings × InTurn (IsSection source p) findings text
+IsExplanation source p text = (findings : List Finding) × AreFindings p findings × AreSections source p findings text
 
 -- what is said of a source: the answer with an explanation of this form, or its first fault
 abbrev pub SaysBy : (List ℕ → Program → List ℕ → Type 0) → List ℕ → Status → List ℕ → Type 0

@@ -1,7 +1,7 @@
-ghost use Rattle.std.specs.Prelude.{◌<◌, ◌^◌, ℕ, IfOk, OnOk, length};
+ghost use Rattle.std.specs.Prelude.{◌≡◌, ◌<◌, ◌^◌, ◌++◌, ℕ, IfOk, OnOk, codes, length};
 ghost use Rattle.ql_classify.specs.Finding.{IsFinding};
-ghost use Rattle.ql_why.specs.Why.{Appended, InTurn};
-ghost use Rattle.ql_explanation.specs.Explanation.{AreFindings, ExplainSays, IsSection};
+ghost use Rattle.ql_why.specs.Why.{Appended};
+ghost use Rattle.ql_explanation.specs.Explanation.{AreFindings, AreSections, ExplainSays, IsSection};
 
 use crate::answer::answer_of;
 use crate::finding::{finding_at, findings};
@@ -30,7 +30,7 @@ pub fn explain(alloc: Global, source: &[u8]) -> Result<(Status, Vec<u8>), NoMemo
     Ok((answer_of(&typed, &findings), text))
 }
 
-// The sections of all targets.
+// The sections of all targets, with a blank line between them.
 fn sections_of(
     alloc: Global,
     source: &[u8],
@@ -40,14 +40,26 @@ fn sections_of(
     requires source { length source.now < 2 ^ 32 }
     requires findings { AreFindings t.now.program findings.now }
     ensures { IfOk result
-        (λ text. InTurn (IsSection source.now t.now.program) findings.now text.items) }
+        (λ text. AreSections source.now t.now.program findings.now text.items) }
 {
     let mut text = Vec::new(alloc);
     for k in 0..findings.len() {
         let finding = finding_at(findings, k);
+        push_gap(&mut text, k)?;
         push_section(alloc, &mut text, source, t, findings, finding)?;
     }
     Ok(text)
+}
+
+// Appends a blank line, except before the first section.
+fn push_gap(text: &mut Vec<u8>, k: usize) -> Result<(), NoMemory>
+    ensures first { OnOk result (k ≡ 0 → text.new.items ≡ text.old.items) }
+    ensures others { OnOk result (0 < k → text.new.items ≡ text.old.items ++ codes "\n") }
+{
+    if k == 0 {
+        return Ok(());
+    }
+    push_bytes(text, b"\n")
 }
 
 // Appends the section of a target.
@@ -72,6 +84,6 @@ fn push_section(
         uses: &uses,
         warned: &warned,
     };
-    let section = section(alloc, t, findings, finding, goal, remarks, text.is_empty())?;
+    let section = section(alloc, t, findings, finding, goal, remarks)?;
     push_bytes(text, &section)
 }

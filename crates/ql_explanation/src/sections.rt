@@ -13,16 +13,16 @@ ghost use Rattle.ql_explanation.specs.Explanation.{
   IsSection,
   IsStrongIn,
   first_line,
-  gap,
   goal_of,
   none_line,
   strong_lines,
   unmet_of,
   uses_text,
   warned_text,
+  ways_out_text,
 };
 
-use crate::words::{LOWEST, counter_words, ways_out};
+use crate::words::{LOWEST, counter_words, push_ways_out};
 use ql_base::{DeclId, NoMemory, OpId, push_bytes};
 use ql_classify::{Finding, Unmet};
 use ql_counter::countermodel;
@@ -34,7 +34,7 @@ use ql_why::{push_counter, push_target_line};
 use std::alloc::Global;
 
 /// The section of a target of which this is found, with the strong operations that it uses and what there is to warn of in
-/// its contract. A blank line stands before all but the first.
+/// its contract.
 pub(crate) fn section(
     alloc: Global,
     t: &Typed,
@@ -42,7 +42,6 @@ pub(crate) fn section(
     finding: &Finding,
     g: Goal,
     remarks: Remarks,
-    is_first: bool,
 ) -> Result<Vec<u8>, NoMemory>
     requires findings { AreFindings t.now.program findings.now }
     requires finding { (target : ℕ) × IsFinding t.now.program target finding.now }
@@ -53,7 +52,7 @@ pub(crate) fn section(
         (λ text. (source : List ℕ) → AreWarnings source t.now.program g remarks.entry.warned.now
         → IsSection source t.now.program finding.now text.items) }
 {
-    let mut text = gap(alloc, is_first)?;
+    let mut text = Vec::new(alloc);
     push_first_line(&mut text, t, finding, g)?;
     push_remarks(alloc, &mut text, t, g, remarks)?;
     let reason = reason(alloc, t, findings, finding)?;
@@ -78,13 +77,13 @@ fn push_remarks(
     requires known { IsGoalOf t.now.program g }
     requires uses { AreUsesOf t.now.program g remarks.uses.now }
     ensures { OnOk result
-        ((words : List ℕ) × (out.new.items ≡ out.old.items
-        ++ strong_lines t.now.program g remarks.entry.uses.now ++ words
-        ++ warned_text t.now.program remarks.entry.warned.now)) }
+        (out.new.items ≡ out.old.items
+        ++ strong_lines t.now.program g remarks.entry.uses.now
+        ++ ways_out_text t.now.program remarks.entry.uses.now
+        ++ warned_text t.now.program remarks.entry.warned.now) }
 {
     push_uses(alloc, out, t, g, remarks.uses)?;
-    let ways_out = ways_out(alloc, t, remarks.uses)?;
-    push_bytes(out, &ways_out)?;
+    push_ways_out(out, t, remarks.uses)?;
     push_warned(alloc, out, t, remarks.warned)
 }
 
@@ -105,16 +104,6 @@ fn push_warned(
     push_bytes(out, &sentence)?;
     push_bytes(out, b"\n")?;
     push_warned(alloc, out, t, others)
-}
-
-fn gap(alloc: Global, is_first: bool) -> Result<Vec<u8>, NoMemory>
-    ensures { IfOk result (λ text. text.items ≡ gap is_first) }
-{
-    if is_first {
-        Ok(Vec::new(alloc))
-    } else {
-        Ok(Vec::from_slice(alloc, b"\n")?)
-    }
 }
 
 /// The target at the level that its line reports, or at the highest.

@@ -1,9 +1,10 @@
 // What `explain` says about a target in words.
-ghost use Rattle.std.specs.Prelude.{◌<◌, length};
+ghost use Rattle.std.specs.Prelude.{◌≡◌, ◌<◌, ◌++◌, OnOk, length};
 ghost use Rattle.std.specs.List.{All};
 ghost use Rattle.ql_typing.specs.Operations.{all_ops};
 ghost use Rattle.ql_ground.specs.OfPrograms.{IsGoalOf};
 ghost use Rattle.ql_run_text.specs.EffectTexts.{AreNamed};
+ghost use Rattle.ql_explanation.specs.Explanation.{way_out_text, ways_out_text};
 
 use crate::sentences::push_facts;
 use crate::table::table;
@@ -81,20 +82,26 @@ fn name_of(t: &Typed, g: Goal) -> Name
 }
 
 /// Why a target can't use strong operations, and what one can do.
-pub(crate) fn ways_out(alloc: Global, t: &Typed, uses: &[OpId]) -> Result<Vec<u8>, NoMemory>
+pub(crate) fn push_ways_out(out: &mut Vec<u8>, t: &Typed, uses: &[OpId]) -> Result<(), NoMemory>
     requires { All (λ o. o.0 < length (all_ops t.now.program.types)) uses.now }
+    ensures { OnOk result (out.new.items ≡ out.old.items ++ ways_out_text t.now.program uses.now) }
 {
-    let mut text = Vec::new(alloc);
-    for o in uses {
-        let name = t.op(*o).name.word;
-        push_bytes(&mut text, b"  No transaction may use ")?;
-        push_bytes(&mut text, name.bytes())?;
-        push_bytes(&mut text, STRONG_USE.as_bytes())?;
-        push_bytes(&mut text, b"  Call ")?;
-        push_bytes(&mut text, name.bytes())?;
-        push_bytes(&mut text, WAY_OUT.as_bytes())?;
-    }
-    Ok(text)
+    let Some((o, others)) = uses.split_first() else {
+        return Ok(());
+    };
+    push_way_out(out, t.op(*o).name.word.bytes())?;
+    push_ways_out(out, t, others)
+}
+
+fn push_way_out(out: &mut Vec<u8>, name: &[u8]) -> Result<(), NoMemory>
+    ensures { OnOk result (out.new.items ≡ out.old.items ++ way_out_text name.now) }
+{
+    push_bytes(out, b"  No transaction may use ")?;
+    push_bytes(out, name)?;
+    push_bytes(out, STRONG_USE.as_bytes())?;
+    push_bytes(out, b"  Call ")?;
+    push_bytes(out, name)?;
+    push_bytes(out, WAY_OUT.as_bytes())
 }
 
 const STRONG_USE: &str = ", which is strong. A strong call is ordered with all effects on its

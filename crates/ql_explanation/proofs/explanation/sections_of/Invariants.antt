@@ -1,7 +1,6 @@
 use Rattle.std.proofs.Common.{take}
-use Rattle.ql_why.specs.Why.{InTurn}
-use Rattle.ql_explanation.specs.Explanation.{IsSection}
+use Rattle.ql_explanation.specs.Explanation.{AreSections}
 use Rattle.ql_explanation.proofs.explanation.sections_of.Given as goal
 
 abbrev pub invariant-loop-k : goal.invariant-loop-k
-invariant-loop-k l = InTurn (IsSection l.source l.t.program) (take l.k l.findings) l.text.items
+invariant-loop-k l = AreSections l.source l.t.program (take l.k l.findings) l.text.items
