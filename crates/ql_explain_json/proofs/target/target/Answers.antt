@@ -1,6 +1,6 @@
 use Rattle.std.proofs.Common.{subst, sym}
 use Rattle.ql_ground.specs.OfPrograms.{IsGoalOf}
-use Rattle.ql_explanation.proofs.Known.{goal_known, uses_known}
+use Rattle.ql_explanation.proofs.Known.{goal_known}
 use Rattle.ql_explain_json.proofs.target.target.Goals as goal
 
 pub uses_of-requires-clause-goal : goal.uses_of-requires-clause-goal
