@@ -53,14 +53,6 @@ impl Clause {
             Ok(None)
         }
     }
-
-    /// The literals.
-    pub fn into_items(self) -> Vec<Lit>
-        ensures same { result.items ≡ self }
-        ensures ascending { IsAscendingByVariable self }
-    {
-        self.items
-    }
 }
 
 // Inserts the literal in order, unless it is already there; false if its negation is there. A literal that

@@ -40,13 +40,6 @@ impl Env {
         &self.pairs
     }
 
-    /// The names with their values, by value.
-    pub fn into_items(self) -> Vec<(Word, Value)>
-        ensures { result.items ≡ self }
-    {
-        self.pairs
-    }
-
     /// Equal names with equal values.
     pub fn copy(&self, alloc: Global) -> Result<Env, NoMemory>
         ensures { IfOk result (λ copied. copied ≡ self.now) }

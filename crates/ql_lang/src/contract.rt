@@ -45,12 +45,6 @@ impl Vars {
     {
         self.items.as_slice()
     }
-
-    pub fn into_items(self) -> Vec<Var>
-        ensures { result.items ≡ self }
-    {
-        self.items
-    }
 }
 
 /// What a contract says. `Txn` has the source offset of the word `txn`.
@@ -97,11 +91,5 @@ impl Points {
         ensures { result.now ≡ self.now }
     {
         self.items.as_slice()
-    }
-
-    pub fn into_items(self) -> Vec<Point>
-        ensures { result.items ≡ self }
-    {
-        self.items
     }
 }

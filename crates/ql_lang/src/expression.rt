@@ -49,12 +49,6 @@ impl Exprs {
     {
         self.items.as_slice()
     }
-
-    pub fn into_items(self) -> Vec<Expr>
-        ensures { result.items ≡ arguments self }
-    {
-        self.items
-    }
 }
 
 /// The binary operators.
@@ -98,11 +92,5 @@ impl TextLit {
         ensures { result.now ≡ self.now }
     {
         self.bytes.as_slice()
-    }
-
-    pub fn into_items(self) -> Vec<u8>
-        ensures { result.items ≡ self }
-    {
-        self.bytes
     }
 }

@@ -45,12 +45,6 @@ impl Choices {
     {
         self.items.as_slice()
     }
-
-    pub fn into_items(self) -> Vec<OpChoice>
-        ensures { result.items ≡ self }
-    {
-        self.items
-    }
 }
 
 /// What a formula says.
@@ -97,11 +91,5 @@ impl Terms {
         ensures { result.now ≡ self.now }
     {
         self.items.as_slice()
-    }
-
-    pub fn into_items(self) -> Vec<Term>
-        ensures { result.items ≡ self }
-    {
-        self.items
     }
 }

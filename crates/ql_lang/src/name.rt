@@ -37,10 +37,4 @@ impl NameList {
     {
         self.items.as_slice()
     }
-
-    pub fn into_items(self) -> Vec<Name>
-        ensures { result.items ≡ self }
-    {
-        self.items
-    }
 }

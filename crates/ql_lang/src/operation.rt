@@ -58,12 +58,6 @@ impl Params {
     {
         self.items.as_slice()
     }
-
-    pub fn into_items(self) -> Vec<Param>
-        ensures { result.items ≡ self }
-    {
-        self.items
-    }
 }
 
 /// A value that an operation emits, under a name.
@@ -106,12 +100,6 @@ impl Binds {
     {
         self.items.as_slice()
     }
-
-    pub fn into_items(self) -> Vec<Bind>
-        ensures { result.items ≡ self }
-    {
-        self.items
-    }
 }
 
 /// A statement: the new value of a state field.
@@ -152,12 +140,6 @@ impl Stmts {
         ensures { result.now ≡ self.now }
     {
         self.items.as_slice()
-    }
-
-    pub fn into_items(self) -> Vec<Stmt>
-        ensures { result.items ≡ self }
-    {
-        self.items
     }
 }
 
@@ -214,11 +196,5 @@ impl OpDecls {
         ensures { result.now ≡ self.now }
     {
         self.items.as_slice()
-    }
-
-    pub fn into_items(self) -> Vec<OpDecl>
-        ensures { result.items ≡ self }
-    {
-        self.items
     }
 }

@@ -39,14 +39,6 @@ impl SetVal {
     {
         &self.elements
     }
-
-    /// The elements, by value.
-    pub fn into_items(self) -> Vec<Scalar>
-        ensures same { result.items ≡ self }
-        ensures set { IsSet self }
-    {
-        self.elements
-    }
 }
 
 /// A map: at most 256 pairs of a key and a value, strictly ascending by key. Seen as the list of its
@@ -84,14 +76,6 @@ impl MapVal {
         ensures map { IsMap self.now }
     {
         &self.entries
-    }
-
-    /// The entries, by value.
-    pub fn into_items(self) -> Vec<(Scalar, Scalar)>
-        ensures same { result.items ≡ self }
-        ensures map { IsMap self }
-    {
-        self.entries
     }
 }
 
@@ -134,12 +118,5 @@ impl Values {
         ensures { result.now ≡ self.now }
     {
         &self.items
-    }
-
-    /// The values, by value.
-    pub fn into_items(self) -> Vec<Value>
-        ensures { result.items ≡ self }
-    {
-        self.items
     }
 }
