@@ -15,7 +15,7 @@ use Rattle.ql_reply.specs.Wrote.{Wrote}
 use Rattle.ql_app.specs.Words.{NamedRequest, TwoFiles}
 use Rattle.ql_reply.specs.Arguments.{IsFileName}
 use Rattle.ql_commands.specs.Sources.{IsSourceOf}
-use Rattle.ql_commands.proofs.SameSource.{same-op-kinds}
+use Rattle.ql_typing.proofs.SameSource.{same-op-kinds}
 use Rattle.ql_exec.specs.declared.effect.Effect.{Effect}
 use Rattle.ql_exec.specs.Execution.{IsExecution}
 use Rattle.ql_execution_files.specs.ExecutionFile.{FirstExecutionFault, IsExecutionFile}

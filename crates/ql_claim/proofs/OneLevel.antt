@@ -6,7 +6,7 @@ use Rattle.ql_base.specs.declared.ids.OpId.{OpId}
 use Rattle.ql_base.specs.declared.ids.DeclId.{DeclId}
 use Rattle.ql_classify.specs.Targets.{goals_at, goals_below, op_at, ops_from, txn_at, txns_from}
 use Rattle.ql_commands.proofs.SameProblems.{same_count}
-use Rattle.ql_commands.proofs.SameSource.{same-op-kinds, same-txns}
+use Rattle.ql_typing.proofs.SameSource.{same-op-kinds, same-txns}
 use Rattle.ql_counter.specs.Countermodels.{HasCounter}
 use Rattle.ql_exec.specs.declared.effect.Effect.{Effect}
 use Rattle.ql_ground.specs.declared.goal.Goal.{Goal}

@@ -13,7 +13,7 @@ use Rattle.ql_typing.specs.declared.fault.TypeFault.TheVariants.{Unknown, Twice,
 use Rattle.ql_commands.specs.Sources.{IsSourceFault, DeniesSource, source_fault_text}
 use Rattle.ql_commands.specs.declared.source_fault.SourceFault.{SourceFault}
 use Rattle.ql_commands.specs.declared.source_fault.SourceFault.TheVariants.{Parse, Typing}
-use Rattle.ql_commands.proofs.SameSource.{same_faults}
+use Rattle.ql_typing.proofs.SameSource.{same_faults}
 
 no-member : (f : TypeFault) → IsFirstOf [] f → ⊥
 no-member f first = let less = first.member.1 in omega (arith, less)

@@ -1,5 +1,4 @@
 pub mod NamedTargets
-pub mod SameSource
 pub mod Faults
 pub mod NameTokens
 pub mod ReadNames

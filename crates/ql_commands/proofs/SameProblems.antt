@@ -17,7 +17,7 @@ use Rattle.ql_refute.specs.declared.refutation.Line.{Line}
 use Rattle.ql_typing.specs.Operations.{all_ops, op_contract, op_contracts, op_words, txn_contract, txn_contracts}
 use Rattle.ql_typing.specs.Resolved.{resolved_in}
 use Rattle.ql_commands.specs.Check.{Target, Operation, Transaction, expected_targets}
-use Rattle.ql_commands.proofs.SameSource.{map_alike, same-op-kinds, same-ops, same-txns}
+use Rattle.ql_typing.proofs.SameSource.{map_alike, same-op-kinds, same-ops, same-txns}
 
 module _ (p q : Program) (e : source_of p ≡ source_of q) where
   ops : map operation_of (all_ops p.types) ≡ map operation_of (all_ops q.types)

@@ -3,7 +3,7 @@ use Rattle.std.proofs.Common.{◌≡◌, ℕ, zero, suc, ◌+◌, List, [], ◌�
 use Rattle.std.specs.Option.{option_map_or}
 use Rattle.std.proofs.lemmas.List.{length-map}
 use Rattle.ql_base.specs.declared.ids.TypeId.{TypeId}
-use Rattle.ql_commands.proofs.SameSource.{same-op-kinds, same-ops, same-txns, same-types}
+use Rattle.ql_typing.proofs.SameSource.{same-op-kinds, same-ops, same-txns, same-types}
 use Rattle.ql_lang.specs.declared.program.Program.{Program}
 use Rattle.ql_lang.specs.Programs.{Operation, Replicated, Transaction, operation_of, replicated_of, source_of, transaction_of}
 use Rattle.ql_lines.specs.Fields.{Fields}

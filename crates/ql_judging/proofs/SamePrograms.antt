@@ -2,10 +2,8 @@
 use Rattle.std.proofs.Common.{◌≡◌, inl, inr, ℕ, zero, suc, List, [], ◌∷◌, map, slice_get, Option, None, Some, Err, refl, sym, ap, ◌∙◌}
 use Rattle.std.specs.Prelude.{unwrap_or}
 use Rattle.std.specs.Option.{option_map_or}
-use Rattle.std.specs.Str.{bytes_eq}
-use Rattle.ql_base.specs.Numbering.{place}
 use Rattle.ql_base.specs.declared.ids.OpId.{OpId}
-use Rattle.ql_commands.proofs.SameSource.{map_alike, same-op-kinds, same-ops, same-txns}
+use Rattle.ql_typing.proofs.SameSource.{map_alike, same-op-kinds, same-op-place, same-op-words, same-ops, same-txn-place, same-txn-words, same-txns}
 use Rattle.ql_exec.specs.declared.effect.Effect.{Effect}
 use Rattle.ql_exec.specs.declared.effect.Member.{Member}
 use Rattle.ql_effect_lines.specs.Effects.{after_effect, after_known, known_of, member_of_line}
@@ -22,10 +20,8 @@ use Rattle.ql_lang.specs.declared.program.Program.{Program}
 use Rattle.ql_lang.specs.declared.program.TxnDecl.{TxnDecl}
 use Rattle.ql_lang.specs.Programs.{Operation, Transaction, operation_of, source_of, transaction_of}
 use Rattle.ql_lines.specs.Lines.{Ahead, Numbered}
-use Rattle.ql_typing.specs.Lookups.{txn_place}
-use Rattle.ql_typing.specs.Operations.{all_ops, op_contract, op_contracts, op_place, op_words, txn_contract, txn_contracts}
+use Rattle.ql_typing.specs.Operations.{all_ops, op_contract, op_contracts, op_words, txn_contract, txn_contracts}
 use Rattle.ql_typing.specs.Resolved.{resolved_in}
-use Rattle.ql_typing.proofs.Positions.{op_place_of, position-map}
 use Rattle.ql_typing.specs.Names.{op_name, txn_name}
 use Rattle.ql_verify.specs.Work.{work_of}
 
@@ -36,32 +32,26 @@ text-at text (x ∷ xs) zero = refl
 text-at text (x ∷ xs) (suc k) = text-at text xs k
 
 module _ (p q : Program) (e : source_of p ≡ source_of q) where
-  words : op_words p.types ≡ op_words q.types
-  words = map_alike operation_of (λ o. o.name.word) (λ a b s. ap (λ (o : Operation). o.name.word) s) (all_ops p.types) (all_ops q.types) (same-ops p q e)
-
-  txn-words : map (λ (d : TxnDecl). d.name.word) p.txns ≡ map (λ (d : TxnDecl). d.name.word) q.txns
-  txn-words = map_alike transaction_of (λ d. d.name.word) (λ a b s. ap (λ (t : Transaction). t.name.word) s) p.txns q.txns (same-txns p q e)
-
   -- ---- names and contracts
 
   pub same-op-name : (o : ℕ) → op_name p o ≡ op_name q o
   same-op-name o =
-      text-at (λ (op : OpDecl). op.name.word) (all_ops p.types) o ∙ ap (λ (ws : List (List ℕ)). unwrap_or (slice_get ws o) []) words
+      text-at (λ (op : OpDecl). op.name.word) (all_ops p.types) o ∙ ap (λ (ws : List (List ℕ)). unwrap_or (slice_get ws o) []) (same-op-words p q e)
       ∙ sym (text-at (λ (op : OpDecl). op.name.word) (all_ops q.types) o)
 
   pub same-txn-name : (d : ℕ) → txn_name p d ≡ txn_name q d
   same-txn-name d =
-      text-at (λ (txn : TxnDecl). txn.name.word) p.txns d ∙ ap (λ (ws : List (List ℕ)). unwrap_or (slice_get ws d) []) txn-words
+      text-at (λ (txn : TxnDecl). txn.name.word) p.txns d ∙ ap (λ (ws : List (List ℕ)). unwrap_or (slice_get ws d) []) (same-txn-words p q e)
       ∙ sym (text-at (λ (txn : TxnDecl). txn.name.word) q.txns d)
 
   pub same-op-contracts : op_contracts p.types ≡ op_contracts q.types
   same-op-contracts =
-      ap (λ (ws : List (List ℕ)). map (op_contract ws) (all_ops p.types)) words
+      ap (λ (ws : List (List ℕ)). map (op_contract ws) (all_ops p.types)) (same-op-words p q e)
       ∙ map_alike operation_of (op_contract (op_words q.types)) (λ a b s. ap (λ (o : Operation). resolved_in (op_words q.types) o.contract) s) (all_ops p.types) (all_ops q.types) (same-ops p q e)
 
   pub same-txn-contracts : txn_contracts p ≡ txn_contracts q
   same-txn-contracts =
-      ap (λ (ws : List (List ℕ)). map (txn_contract ws) p.txns) words
+      ap (λ (ws : List (List ℕ)). map (txn_contract ws) p.txns) (same-op-words p q e)
       ∙ map_alike transaction_of (txn_contract (op_words q.types)) (λ a b s. ap (λ (t : Transaction). resolved_in (op_words q.types) t.contract) s) p.txns q.txns (same-txns p q e)
 
   pub same-work : (x : List Effect) → work_of p x ≡ work_of q x
@@ -69,20 +59,12 @@ module _ (p q : Program) (e : source_of p ≡ source_of q) where
 
   -- ---- executions
 
-  op-place : (w : List ℕ) → op_place p.types w ≡ op_place q.types w
-  op-place w = sym (op_place_of (op_words p.types) p.types w refl) ∙ ap (λ (ws : List (List ℕ)). place ws w) words ∙ op_place_of (op_words q.types) q.types w refl
-
-  txn-place : (w : List ℕ) → txn_place p.txns w ≡ txn_place q.txns w
-  txn-place w =
-      sym (position-map (bytes_eq w) (λ (d : TxnDecl). d.name.word) p.txns) ∙ ap (λ (ws : List (List ℕ)). place ws w) txn-words
-      ∙ position-map (bytes_eq w) (λ (d : TxnDecl). d.name.word) q.txns
-
   same-member : (t : Option Begun) → member_of_line p t ≡ member_of_line q t
   same-member None = refl
-  same-member (Some t) = rw (txn-place t.name) refl
+  same-member (Some t) = rw (same-txn-place p q e t.name) refl
 
   same-known : (l : EffectLine) → known_of p l ≡ known_of q l
-  same-known l = rw (op-place l.op, same-member l.setting.txn) refl
+  same-known l = rw (same-op-place p q e l.op, same-member l.setting.txn) refl
 
   same-after : (read : EffectsRead) (l : EffectLine) → after_effect p read l ≡ after_effect q read l
   same-after read l = rw (same-known l) (by (known_of q l))

@@ -4,7 +4,7 @@ use Rattle.ql_reply.specs.declared.status.Status.{Status}
 use Rattle.ql_reply.specs.declared.status.Status.TheVariants.{Done, No, Bad}
 use Rattle.ql_classify.specs.Least.{AreLevelsOf}
 use Rattle.ql_commands.specs.Levels.{RefusalSays}
-use Rattle.ql_commands.specs.Sources.{BadSourceSays, IsSource, IsSourceOf}
+use Rattle.ql_commands.specs.Sources.{BadSourceSays, IsSourceOf}
 use Rattle.ql_exec.specs.declared.effect.Effect.{Effect}
 use Rattle.ql_headline.specs.Stores.{rules_of}
 use Rattle.ql_lang.specs.declared.program.Program.{Program}
@@ -44,7 +44,7 @@ pub record TellsRun (format : Format) (source file text : List ℕ) : Type 0 whe
 
 -- the source is a typed program's, and the other file says a schedule of it
 abbrev pub AreRunnable : List ℕ → List ℕ → Type 0
-AreRunnable source file = IsSource source × ((p : Program) → IsSourceOf source p → (s : Schedule) × IsScheduleFile p (ahead_from 1 file) s)
+AreRunnable source file = (p : Program) × IsSourceOf source p × (s : Schedule) × IsScheduleFile p (ahead_from 1 file) s
 
 -- the first fault of the schedule's file
 abbrev pub BadScheduleSays : List ℕ → List ℕ → List ℕ → Type 0

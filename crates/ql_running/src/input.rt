@@ -12,6 +12,7 @@ use crate::schedule_fault::bad_schedule;
 use ql_base::NoMemory;
 use ql_commands::{bad_source, read_source, refusal};
 use ql_levels::Levels;
+use ql_parse::one_program_answer;
 use ql_reply::Status;
 use ql_schedule::{Schedule, one_schedule, parse_schedule};
 use ql_typing::Typed;
@@ -46,6 +47,7 @@ pub fn read_run_input(
         (λ read. IfErr read (λ answer. NoRunSays source.now schedule.now answer.0 answer.1.items)) }
 {
     one_schedule();
+    one_program_answer();
     let typed = match read_source(alloc, source) {
         Ok(typed) => typed,
         Err(fault) => return Ok(Err((Status::Bad, bad_source(alloc, fault)?))),

@@ -13,3 +13,4 @@ mod Printing
 mod NoEvents
 mod Joins
 pub mod Named
+pub mod SameFiles

@@ -14,3 +14,4 @@ pub mod FaultFree
 pub mod InTypes
 pub mod ResolvedSet
 pub mod Growing
+pub mod SameSource

@@ -12,7 +12,7 @@ use Rattle.ql_app.proofs.laws.generated_schedules_are_run.Goals as goal
 runs : (source file text : List ℕ) (form : Form) (status : Status) → AreRunnable source file → PairSays (Run form) source file status text → (status ≡ Done) ⊎ (status ≡ No)
 runs source file text form Done runnable says = inl refl
 runs source file text form No runnable says = inr refl
-runs source file text form Bad runnable (inl bad) = absurd (bad.0 runnable.0)
+runs source file text form Bad runnable (inl bad) = absurd (bad.0 (runnable.0, runnable.1))
 runs source file text form Bad runnable (inr bad) = absurd (bad.0 runnable)
 runs source file text form ReadFault runnable says = absurd says
 runs source file text form WriteFault runnable says = absurd says

@@ -7,6 +7,8 @@ returns-clause-read c = schedule-read c.one_program_answer.ensures.tree c.printe
 
 pub returns-clause-accepted : goal.returns-clause-accepted
 returns-clause-accepted c = λ source text number events told few. (
-  (told.program, told.is_source),
-  λ p is. (generated p number events, schedule-read c.one_program_answer.ensures.tree c.printed_is_read_again.ensures source text number events p told few is),
+  told.program,
+  told.is_source,
+  generated told.program number events,
+  schedule-read c.one_program_answer.ensures.tree c.printed_is_read_again.ensures source text number events told.program told few told.is_source,
 )

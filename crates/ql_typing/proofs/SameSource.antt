@@ -1,7 +1,9 @@
--- Programs that are read as one source have the same faults and the same contracts, wherever their parts are kept.
+-- Programs that are read as one source have the same faults, contracts and names, wherever their parts are kept.
 use Rattle.std.proofs.Common.{◌≡◌, ℕ, suc, List, [], ◌∷◌, ◌++◌, length, map, replicate, true, false, Option, Some, None, refl, ap, sym, ◌∙◌}
 use Rattle.std.specs.List.{flat_map}
 use Rattle.std.specs.Option.{option_map}
+use Rattle.std.specs.Str.{bytes_eq}
+use Rattle.ql_base.specs.Numbering.{place}
 use Rattle.std.proofs.lemmas.List.{length-map, map-append}
 use Rattle.ql_lang.specs.declared.name.Name.{Name}
 use Rattle.ql_lang.specs.declared.operation.Bind.{Bind}
@@ -20,7 +22,9 @@ use Rattle.ql_typing.specs.Faults.{each, names_met, repeats}
 use Rattle.ql_typing.specs.ContractFaults.{contract_faults, op_faults}
 use Rattle.ql_typing.specs.Functions.{of_base}
 use Rattle.ql_typing.specs.Kinds.{faults_as, kind_in, reading_faults}
-use Rattle.ql_typing.specs.Operations.{all_ops, kinds_from, op_kinds}
+use Rattle.ql_typing.specs.Lookups.{txn_place, type_place}
+use Rattle.ql_typing.specs.Operations.{all_ops, kinds_from, op_kinds, op_place, op_words}
+use Rattle.ql_typing.proofs.Positions.{op_place_of, position-map}
 use Rattle.ql_typing.specs.Programs.{above, bind_faults, bind_names, binds_known, effect_faults, field_names, fields_known, init_faults, maybe_effect_faults, op_decl_faults, op_names, op_places, param_names, params_known, places, program_faults, stmt_faults, target_names, txn_faults, type_faults}
 
 -- what two lists agree on in each item, they agree on as lists
@@ -165,3 +169,29 @@ module _ (p q : Program) (e : source_of p ≡ source_of q) where
 
   pub same-op-kinds : op_kinds p.types ≡ op_kinds q.types
   same-op-kinds = same-kinds 0 p.types q.types (same-types p q e)
+
+  -- ---- names and their places
+
+  pub same-type-words : map (λ (t : TypeDecl). t.name.word) p.types ≡ map (λ (t : TypeDecl). t.name.word) q.types
+  same-type-words = map_alike replicated_of (λ t. t.name.word) (λ a b s. ap (λ (t : Replicated). t.name.word) s) p.types q.types (same-types p q e)
+
+  pub same-op-words : op_words p.types ≡ op_words q.types
+  same-op-words = map_alike operation_of (λ o. o.name.word) (λ a b s. ap (λ (o : Operation). o.name.word) s) (all_ops p.types) (all_ops q.types) same-ops
+
+  pub same-txn-words : map (λ (d : TxnDecl). d.name.word) p.txns ≡ map (λ (d : TxnDecl). d.name.word) q.txns
+  same-txn-words = map_alike transaction_of (λ d. d.name.word) (λ a b s. ap (λ (t : Transaction). t.name.word) s) p.txns q.txns (same-txns p q e)
+
+  pub same-type-place : (w : List ℕ) → type_place p.types w ≡ type_place q.types w
+  same-type-place w =
+      sym (position-map (bytes_eq w) (λ (t : TypeDecl). t.name.word) p.types) ∙ ap (λ (ws : List (List ℕ)). place ws w) same-type-words
+      ∙ position-map (bytes_eq w) (λ (t : TypeDecl). t.name.word) q.types
+
+  pub same-op-place : (w : List ℕ) → op_place p.types w ≡ op_place q.types w
+  same-op-place w =
+      sym (op_place_of (op_words p.types) p.types w refl) ∙ ap (λ (ws : List (List ℕ)). place ws w) same-op-words
+      ∙ op_place_of (op_words q.types) q.types w refl
+
+  pub same-txn-place : (w : List ℕ) → txn_place p.txns w ≡ txn_place q.txns w
+  same-txn-place w =
+      sym (position-map (bytes_eq w) (λ (d : TxnDecl). d.name.word) p.txns) ∙ ap (λ (ws : List (List ℕ)). place ws w) same-txn-words
+      ∙ position-map (bytes_eq w) (λ (d : TxnDecl). d.name.word) q.txns
