@@ -46,7 +46,8 @@ impl NamedEffects {
             Ok(_) => {}
             Err(ExecFault::NotForward(_)) => return Err(LineFault::Breaks(HoldsRule::NotForward)),
             Err(ExecFault::OtherObject(_)) => return Err(LineFault::Breaks(HoldsRule::OtherObject)),
-            Err(_) => return Err(LineFault::NoMemory),
+            Err(ExecFault::SplitTxn(_)) => unreachable!(),
+            Err(ExecFault::NoMemory) => return Err(LineFault::NoMemory),
         }
         if named.effects.len() > MAX_EFFECTS {
             return Err(LineFault::Breaks(HoldsRule::TooMany));

@@ -11,7 +11,7 @@ ghost use Rattle.ql_session.specs.Executions.{notes_of};
 
 use crate::spread::spread;
 use ql_base::{EffId, IdSet, NoMemory, ReplicaId};
-use ql_exec::{Draft, Execution};
+use ql_exec::{Draft, ExecFault, Execution};
 use ql_holder::Holder;
 use ql_machine::Reply;
 use ql_net::Net;
@@ -79,9 +79,7 @@ pub(crate) fn push_noted(
 {
     let session = draft.session;
     let object = draft.object;
-    let Ok(id) = x.push(draft) else {
-        return Err(NoMemory);
-    };
+    let id = push_lawful(x, draft)?;
     let stamp = x.get(id).stamp;
     match sessions.note(session, object, id, stamp) {
         Err(NoMemory) => {
@@ -89,6 +87,23 @@ pub(crate) fn push_noted(
             return Err(NoMemory);
         }
         Ok(()) => Ok(id),
+    }
+}
+
+// Appends an effect with which an execution stays one.
+fn push_lawful(x: &mut Execution, draft: Draft) -> Result<EffId, NoMemory>
+    requires room { length x.old + 1 < 2 ^ 32 }
+    requires lawful { IsExecution (x.old ++ effect_of x.old draft ∷ []) }
+    ensures number { IfOk result (λ id. id ≡ next_id x.old) }
+    ensures made { OnOk result (x.new ≡ x.old ++ effect_of x.old draft ∷ []) }
+    ensures same { OnErr result (x.new ≡ x.old) }
+{
+    match x.push(draft) {
+        Ok(id) => Ok(id),
+        Err(ExecFault::NoMemory) => Err(NoMemory),
+        Err(ExecFault::NotForward(_)) => unreachable!(),
+        Err(ExecFault::OtherObject(_)) => unreachable!(),
+        Err(ExecFault::SplitTxn(_)) => unreachable!(),
     }
 }
 
