@@ -1,8 +1,8 @@
-"""The ground problems of a source as files in the DIMACS form, from what ql_problems prints."""
+"""The ground problems of a source as files in the DIMACS form, from what `ql_measure problems` prints."""
 import pathlib
 import subprocess
 
-PROGRAM = pathlib.Path(__file__).resolve().parent.parent / "crates/ql_problems/out/ql_problems"
+PROGRAM = pathlib.Path(__file__).resolve().parent.parent / "crates/ql_measure/out/ql_measure"
 
 
 def write_list(path, variables, clauses):
@@ -11,7 +11,7 @@ def write_list(path, variables, clauses):
 
 def write_problems(source, folder):
     """Writes a file for each goal at each level, and returns the paths."""
-    run = subprocess.run([PROGRAM, "--clauses", source], capture_output=True, text=True, check=True)
+    run = subprocess.run([PROGRAM, "problems", "--clauses", source], capture_output=True, text=True, check=True)
     paths = []
     for k, (variables, clauses) in enumerate(problems_of(run.stdout)):
         path = pathlib.Path(folder) / f"{source.name}-{k}.cnf"

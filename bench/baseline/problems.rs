@@ -1,4 +1,4 @@
-//! Prints the size and a checksum of each ground problem of a source, as `ql_problems` does.
+//! Prints the size and a checksum of each ground problem of a source, as `ql_measure problems` does.
 mod common;
 
 use common::ground::{Level, OP_LEVELS, Problem, TXN_LEVELS, Target, problem};

@@ -1,4 +1,4 @@
-//! Prints a source in its one spelling, or with `--check` only tells whether it is one, as `ql_reprint` does.
+//! Prints a source in its one spelling, or with `--check` only tells whether it is one, as `ql_measure reprint` does.
 mod common;
 
 use common::parse::parse_program;

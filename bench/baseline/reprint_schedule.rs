@@ -1,4 +1,5 @@
-//! Prints schedules for the program of a source in their one spelling, as `ql_reprint_schedule` does.
+//! Prints schedules for the program of a source in their one spelling, as `ql_measure
+//! reprint_schedule` does.
 mod common;
 
 use common::parse::parse_program;

@@ -1,5 +1,0 @@
-use Rattle.ql_journal.specs.Stations.{holder_of}
-use Rattle.ql_stops.proofs.journaling.journal.Given as goal
-
-abbrev pub invariant-loop-id : goal.invariant-loop-id
-invariant-loop-id g l = g.H.Holder.fits (holder_of l.station) l.x
