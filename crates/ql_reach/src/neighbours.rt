@@ -133,7 +133,10 @@ fn only_in_txn(effects: &[Effect], e: u32, other: u32) -> Option<u32>
         (λ f g. same_run f.member g.member) (effect_at effects.now e)
         (effect_at effects.now other) then Some other else None) }
 {
-    if effect(effects, e).member.is_with(effect(effects, other).member) {
+    if effect(effects, e)
+        .member
+        .is_with(effect(effects, other).member)
+    {
         Some(other)
     } else {
         None
