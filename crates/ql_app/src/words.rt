@@ -14,18 +14,15 @@ ghost use Rattle.ql_app.specs.Words.{
 };
 ghost use Rattle.ql_reply.specs.Arguments.{IsFileName, word_texts};
 
-use ql_base::number_of;
+use ql_base::{MAX_EVENTS, MAX_REPLICAS, number_of};
 use ql_reply::is_file_name;
 use ql_running::Form;
 
 // The greatest number of a schedule.
 const MAX_NUMBER: u32 = 2_147_483_647;
 
-// The most events of a schedule.
-const MAX_EVENTS: u32 = 4000;
-
 // The highest number of a replica.
-const MAX_REPLICA: u32 = 15;
+const MAX_REPLICA: u32 = MAX_REPLICAS - 1;
 
 // The highest number of a call at which a disk may be stopped.
 const MAX_CUT: u32 = 1_000_000;
@@ -175,7 +172,7 @@ fn gen_request<'a>(name: &'a str, number: &str, events: &str) -> Option<Request<
         (named_request_of request)) }
 {
     let number = number_up_to(number, MAX_NUMBER)?;
-    let events = number_up_to(events, MAX_EVENTS)?;
+    let events = number_up_to(events, MAX_EVENTS as u32)?;
     on_one_file(Command::Gen { number, events }, name)
 }
 

@@ -6,15 +6,15 @@ ghost use Rattle.ql_reply.specs.Arguments.{word_texts};
 use crate::drawing::{Drawing, drawing_text, why_text};
 use crate::help::HELP;
 use crate::words::{Request, parse_words};
-use ql_base::{NoMemory, push_bytes};
+use ql_base::{MAX_EXECUTION_BYTES, MAX_SCHEDULE_BYTES, NoMemory, push_bytes};
 use ql_ports::{Shelf, read_whole};
 use ql_reply::{Status, unread};
 use std::alloc::Global;
 
 // The greatest lengths of a run's text and of a schedule, in bytes.
-const RUN_BYTES: usize = 67_108_864;
+const RUN_BYTES: usize = MAX_EXECUTION_BYTES as usize;
 
-const SCHEDULE_BYTES: usize = 1_048_576;
+const SCHEDULE_BYTES: usize = MAX_SCHEDULE_BYTES as usize;
 
 /// The status and the text for these arguments. The named files are each read once, to the end, in the order of the
 /// arguments.

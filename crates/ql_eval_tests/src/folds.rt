@@ -154,11 +154,11 @@ fn text(alloc: Global, answer: &Value, payload: &Payload) -> Result<Vec<u8>, NoM
 
 // The number of deposits of 2, and the balance that sees them all.
 const BALANCES: &str = "
-4000 -> 8000
+400 -> 800
 ";
 
 #[test]
-fn four_thousand_effects_are_folded(rt: HostRuntime) -> Result<(), Fail> {
+fn many_effects_are_folded(rt: HostRuntime) -> Result<(), Fail> {
     check_table(rt.alloc(), BALANCES, balance)
 }
 

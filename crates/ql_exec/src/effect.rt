@@ -1,3 +1,7 @@
+ghost use Rattle.std.specs.Prelude.{◌≡◌};
+ghost use Rattle.ql_exec.specs.Effects.{in_run};
+ghost use Rattle.ql_exec.specs.Relations.{same_run};
+
 use ql_base::{DeclId, IdSet, ObjId, OpId, RunId, SessId};
 use ql_value::{Value, Values};
 
@@ -8,6 +12,28 @@ pub enum Member {
     Alone,
     /// It was made in a begun transaction, which was declared under a name.
     Inside(RunId, DeclId),
+}
+
+impl Member {
+    /// Whether it is that of a begun transaction.
+    pub fn is_in(self, run: RunId) -> bool
+        ensures { result ≡ in_run run.0 self }
+    {
+        match self {
+            Member::Alone => false,
+            Member::Inside(other, _) => other.0 == run.0,
+        }
+    }
+
+    /// Whether both are in one begun transaction.
+    pub fn is_with(self, other: Member) -> bool
+        ensures { result ≡ same_run self other }
+    {
+        match other {
+            Member::Alone => false,
+            Member::Inside(run, _) => self.is_in(run),
+        }
+    }
 }
 
 /// What an effect carries to the calls that see it.

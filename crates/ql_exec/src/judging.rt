@@ -93,7 +93,7 @@ fn splits(
     };
     match last_of_session {
         Some(last) => {
-            if is_in_run(last, run) {
+            if last.member.is_in(run) {
                 !is_under_name(last, name)
             } else {
                 has_begun(effects, runs, run)
@@ -108,16 +108,7 @@ fn has_begun(effects: &[Effect], runs: &IdSet, run: RunId) -> bool
     requires { KnowsRuns runs.now effects.now }
     ensures { result ≡ list_any (λ e. in_run run.0 e.member) effects.now }
 {
-    runs.has(run.0) && effects.iter().any(|effect| is_in_run(effect, run))
-}
-
-fn is_in_run(effect: &Effect, run: RunId) -> bool
-    ensures { result ≡ in_run run.0 effect.now.member }
-{
-    match effect.member {
-        Member::Alone => false,
-        Member::Inside(other, _) => other.0 == run.0,
-    }
+    runs.has(run.0) && effects.iter().any(|effect| effect.member.is_in(run))
 }
 
 fn is_under_name(effect: &Effect, name: DeclId) -> bool

@@ -5,7 +5,7 @@ ghost use Rattle.ql_reply.specs.Arguments.{word_texts};
 
 use crate::asked::{Asked, Form, Pair, parse_words};
 use crate::help::HELP;
-use ql_base::NoMemory;
+use ql_base::{MAX_SOURCE_BYTES, NoMemory};
 use ql_baseline::compare;
 use ql_explain_json::explain_json;
 use ql_explanation::explain;
@@ -13,8 +13,8 @@ use ql_ports::{Shelf, read_whole};
 use ql_reply::{Status, unread};
 use std::alloc::Global;
 
-// The greatest length of a file in bytes.
-const FILE_BYTES: usize = 1_048_576;
+// Sources and stored answers have one limit.
+const FILE_BYTES: usize = MAX_SOURCE_BYTES as usize;
 
 /// The status and the text for these arguments. The named files are each read once, to the end, in the order of the
 /// arguments.

@@ -1,17 +1,17 @@
 // Whether a claim holds in an execution.
 ghost use Rattle.std.specs.Prelude.{◌≡◌};
 ghost use Rattle.std.specs.Option.{option_copied};
-ghost use Rattle.ql_exec.specs.Effects.{effect_at, in_run};
-ghost use Rattle.ql_exec.specs.Relations.{same_run, sametxn};
+ghost use Rattle.ql_exec.specs.Effects.{effect_at};
+ghost use Rattle.ql_exec.specs.Relations.{sametxn};
 ghost use Rattle.ql_formula.specs.Tables.{IsTableOf};
 ghost use Rattle.ql_formula.specs.Truth.{place_of};
 ghost use Rattle.ql_lang.specs.declared.formula.Term.TheVariants.{Var};
 ghost use Rattle.ql_facts.specs.Facts.{claim_true, cur_of, inside_of, numbers};
 
 use crate::fact::Claim;
-use ql_base::{EffId, RunId};
+use ql_base::EffId;
 use ql_counter::At;
-use ql_exec::{Effect, Execution, Member};
+use ql_exec::{Effect, Execution};
 use ql_formula::Relations;
 use ql_lang::{Rel, Term};
 
@@ -72,17 +72,8 @@ fn is_inside(effects: &[Effect], at: At, id: EffId) -> bool
     ensures { result ≡ inside_of effects.now at id.0 }
 {
     match (at, effect(effects, id)) {
-        (At::Run(run), Some(effect)) => is_in_run(effect.member, run),
+        (At::Run(run), Some(effect)) => effect.member.is_in(run),
         _ => false,
-    }
-}
-
-fn is_in_run(member: Member, run: RunId) -> bool
-    ensures { result ≡ in_run run.0 member }
-{
-    match member {
-        Member::Alone => false,
-        Member::Inside(other, _) => other.0 == run.0,
     }
 }
 
@@ -91,18 +82,9 @@ fn is_one_txn(effects: &[Effect], first: EffId, second: EffId) -> bool
 {
     first.0 == second.0
         || match (effect(effects, first), effect(effects, second)) {
-            (Some(one), Some(other)) => are_in_one_run(one.member, other.member),
+            (Some(one), Some(other)) => one.member.is_with(other.member),
             _ => false,
         }
-}
-
-fn are_in_one_run(first: Member, second: Member) -> bool
-    ensures { result ≡ same_run first second }
-{
-    match second {
-        Member::Alone => false,
-        Member::Inside(run, _) => is_in_run(first, run),
-    }
 }
 
 fn effect(effects: &[Effect], id: EffId) -> Option<&Effect>

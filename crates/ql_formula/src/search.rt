@@ -2,15 +2,15 @@ ghost use Rattle.std.specs.Prelude.{◌≡◌, ◌≤◌, ◌-◌, length, take,
 ghost use Rattle.std.specs.List.{list_all};
 ghost use Rattle.std.specs.Option.{option_copied};
 ghost use Rattle.ql_lang.specs.Formulas.{statement_of};
-ghost use Rattle.ql_exec.specs.Effects.{effect_at, in_run};
-ghost use Rattle.ql_exec.specs.Relations.{sametxn, same_run};
+ghost use Rattle.ql_exec.specs.Effects.{effect_at};
+ghost use Rattle.ql_exec.specs.Relations.{sametxn};
 ghost use Rattle.ql_formula.specs.Tables.{IsTableOf};
 ghost use Rattle.ql_formula.specs.Truth.{place_of, together, in_one_txn, statement_true, in_range};
 ghost use Rattle.ql_formula.specs.Search.{inside_of, cur_of, AllTrueFrom, IsFirstFrom};
 
 use crate::relations::Relations;
 use ql_base::{EffId, RunId};
-use ql_exec::{Effect, Execution, Member};
+use ql_exec::{Effect, Execution};
 use ql_lang::{Body, OpChoice, Term};
 
 /// What a formula refers to: an effect, or a begun transaction.
@@ -199,17 +199,8 @@ fn is_inside(effects: &[Effect], current: Current, id: u32) -> bool
     ensures { result ≡ inside_of effects.now current id }
 {
     match (current, effect(effects, id)) {
-        (Current::OfRun(run), Some(effect)) => is_in_run(effect, run),
+        (Current::OfRun(run), Some(effect)) => effect.member.is_in(run),
         _ => false,
-    }
-}
-
-fn is_in_run(effect: &Effect, run: RunId) -> bool
-    ensures { result ≡ in_run run.0 effect.now.member }
-{
-    match effect.member {
-        Member::Alone => false,
-        Member::Inside(other, _) => other.0 == run.0,
     }
 }
 
@@ -219,18 +210,9 @@ fn is_one_txn(effects: &[Effect], a: u32, b: u32) -> bool
 {
     a == b
         || match (effect(effects, a), effect(effects, b)) {
-            (Some(first), Some(second)) => are_in_one_run(first.member, second.member),
+            (Some(first), Some(second)) => first.member.is_with(second.member),
             _ => false,
         }
-}
-
-fn are_in_one_run(first: Member, second: Member) -> bool
-    ensures { result ≡ same_run first second }
-{
-    match (first, second) {
-        (Member::Inside(run, _), Member::Inside(other, _)) => run.0 == other.0,
-        _ => false,
-    }
 }
 
 fn effect(effects: &[Effect], id: u32) -> Option<&Effect>

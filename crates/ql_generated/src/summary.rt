@@ -14,13 +14,13 @@ ghost use Rattle.ql_generated.specs.Summaries.{
   reply_word,
 };
 
-use ql_base::{EffId, NoMemory, push_bytes, push_number};
+use ql_base::{EffId, MAX_EVENTS, NoMemory, push_bytes, push_number};
 use ql_exec::Execution;
 use ql_machine::Reply;
 use std::alloc::Global;
 
 /// How many events a summary is of.
-pub(crate) const EVENTS: u32 = 4000;
+pub(crate) const EVENTS: u32 = MAX_EVENTS as u32;
 
 /// What a run of these events came to: how many replies there are of each kind, how many effects, how many ids they see
 /// together, and their greatest stamp.

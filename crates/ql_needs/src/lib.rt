@@ -8,4 +8,4 @@ mod laws;
 mod transactions;
 
 pub use laws::{closed_part_stays, closed_parts, lists_as_sets, packages_are_whole};
-pub use transactions::{is_same_run, is_same_txn};
+pub use transactions::is_same_txn;

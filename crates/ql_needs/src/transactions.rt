@@ -1,8 +1,8 @@
 ghost use Rattle.std.specs.Prelude.{◌≡◌, ◌≤◌, length};
-ghost use Rattle.ql_exec.specs.Relations.{sametxn, same_run};
+ghost use Rattle.ql_exec.specs.Relations.{sametxn};
 
 use ql_base::EffId;
-use ql_exec::{Execution, Member};
+use ql_exec::Execution;
 
 /// Whether two effects of an execution are one, or in one transaction.
 pub fn is_same_txn(x: &Execution, id: u32, other: u32) -> bool
@@ -12,15 +12,5 @@ pub fn is_same_txn(x: &Execution, id: u32, other: u32) -> bool
     requires last_other { other ≤ length x.now }
     ensures { result ≡ sametxn x.now id other }
 {
-    id == other || is_same_run(x.get(EffId(id)).member, x.get(EffId(other)).member)
-}
-
-/// Whether two effects were emitted in the same run of a transaction.
-pub fn is_same_run(member: Member, other: Member) -> bool
-    ensures { result ≡ same_run member other }
-{
-    match (member, other) {
-        (Member::Inside(run, _), Member::Inside(other_run, _)) => run.0 == other_run.0,
-        _ => false,
-    }
+    id == other || x.get(EffId(id)).member.is_with(x.get(EffId(other)).member)
 }

@@ -6,7 +6,6 @@ ghost use Rattle.ql_exec.specs.Relations.{same_run};
 ghost use Rattle.ql_reach.specs.Searches.{IsAlone, IsLastOnObject, IsLastInSession, IsNextInSession, IsMemberBelow, IsMemberAbove};
 
 use ql_exec::{Effect, Member};
-use ql_needs::is_same_run;
 
 /// The effect with this id.
 pub(crate) fn effect(effects: &[Effect], id: u32) -> &Effect
@@ -134,7 +133,10 @@ fn only_in_txn(effects: &[Effect], e: u32, other: u32) -> Option<u32>
         (λ f g. same_run f.member g.member) (effect_at effects.now e)
         (effect_at effects.now other) then Some other else None) }
 {
-    if is_same_run(effect(effects, e).member, effect(effects, other).member) {
+    if effect(effects, e)
+        .member
+        .is_with(effect(effects, other).member)
+    {
         Some(other)
     } else {
         None

@@ -1,5 +1,4 @@
 ghost use Rattle.std.specs.Prelude.{◌≡◌, ◌+◌, ◌^◌, ◌<◌, ◌≤◌, true, length, IfOk};
-ghost use Rattle.ql_exec.specs.Effects.{in_run};
 ghost use Rattle.ql_exec.specs.Relations.{inside, sametxn};
 ghost use Rattle.ql_machine.specs.Sets.{AreThose};
 
@@ -34,18 +33,9 @@ fn members(alloc: Global, effects: &[Effect], run: RunId) -> Result<IdSet, NoMem
 {
     let mut ids = IdSet::new(alloc);
     for (k, effect) in effects.iter().enumerate() {
-        if is_in_run(effect, run) {
+        if effect.member.is_in(run) {
             ids.insert(k as u32 + 1)?;
         }
     }
     Ok(ids)
-}
-
-fn is_in_run(effect: &Effect, run: RunId) -> bool
-    ensures { result ≡ in_run run.0 effect.now.member }
-{
-    match effect.member {
-        Member::Alone => false,
-        Member::Inside(other, _) => other.0 == run.0,
-    }
 }

@@ -1,4 +1,4 @@
-use Rattle.std.proofs.Common.{◌≡◌, ⊥, List, None, Some, Err, subst}
+use Rattle.std.proofs.Common.{◌≡◌, List, None, Some, Err, subst}
 use Rattle.ql_exec.specs.declared.effect.Draft.{Draft}
 use Rattle.ql_exec.specs.declared.effect.Effect.{Effect}
 use Rattle.ql_exec.specs.declared.fault.ExecFault.{ExecFault}
