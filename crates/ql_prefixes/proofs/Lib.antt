@@ -1,0 +1,5 @@
+mod Respelled
+mod Terminals
+mod Spellings
+mod Cut
+mod Continued
