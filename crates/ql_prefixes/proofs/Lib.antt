@@ -3,3 +3,4 @@ mod Terminals
 mod Spellings
 mod Cut
 mod Continued
+mod Beginnings
