@@ -4,3 +4,4 @@ mod Spellings
 mod Cut
 mod Continued
 mod Beginnings
+mod Prefixes
