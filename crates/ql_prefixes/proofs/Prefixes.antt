@@ -10,7 +10,7 @@ use Rattle.ql_grammar.specs.Tokens.{Lexeme, Marked, lexemes, lexeme_of}
 use Rattle.ql_grammar.proofs.Laws.{IsWhole, lexemes_append}
 use Rattle.ql_prefixes.specs.Stub.{IsFaultAs, IsInGrammarAs}
 use Rattle.ql_prefixes.specs.Offsets.{offset_of}
-use Rattle.ql_prefixes.proofs.Cut.{Cut, IsBefore, cut}
+use Rattle.ql_prefixes.proofs.Cut.{Cut, IsBefore, cut, stops_at_line}
 use Rattle.ql_prefixes.proofs.Continued.{lines_of, tokens_of, marks_of, lines_lex, lines_lexemes}
 use Rattle.ql_prefixes.proofs.Beginnings.{StartsAt, Begun, fault_begun, Continued, continued}
 
@@ -46,7 +46,7 @@ place_of bytes pre post [] (l ∷ ls) at is are before starts = cc
 place_of bytes pre post (t ∷ ts) [] at is are before starts = cc
 place_of bytes pre post (t ∷ ts) (l ∷ ls) at is are before starts =
     let first : lexeme_of bytes t ≡ l = cc in
-    sym before ∙ ap (λ (k : Lexeme). k.at) first ∙ starts
+    sym before.from ∙ ap (λ (k : Lexeme). k.at) first ∙ starts
 
 module _ {A : Type 0} {p : Part} {value : A → Value} {Reads : List Marked → List Marked → A → Type 0} (w : IsWhole p value Reads) (bytes : List ℕ) (f : Fault) (fault : IsFaultAs Reads bytes f) where
   begun : Begun Reads (map (lexeme_of bytes) fault.tokens) (length bytes) (offset_of f)
@@ -79,7 +79,7 @@ module _ {A : Type 0} {p : Part} {value : A → Value} {Reads : List Marked → 
   lexemes_are : lexemes (begun.before ++ marks_of (length front.pre) goes_on.more) ≡ map (lexeme_of (front.pre ++ more)) tokens
   lexemes_are =
       let at = length front.pre in
-      let first : lexemes begun.before ≡ map (lexeme_of (front.pre ++ more)) parts.first = sym parts.left ∙ front.lexemes (lines_of goes_on.more) in
+      let first : lexemes begun.before ≡ map (lexeme_of (front.pre ++ more)) parts.first = sym parts.left ∙ front.lexemes more in
       let second : lexemes (marks_of at goes_on.more) ≡ map (lexeme_of (front.pre ++ more)) (tokens_of at goes_on.more) = sym (lines_lexemes goes_on.more front.pre (front.pre ++ more) at refl refl) in
       lexemes_append begun.before (marks_of at goes_on.more)
       ∙ ap (λ ls. ls ++ lexemes (marks_of at goes_on.more)) first
@@ -89,7 +89,7 @@ module _ {A : Type 0} {p : Part} {value : A → Value} {Reads : List Marked → 
   text : IsInGrammarAs Reads (front.pre ++ more) goes_on.tree
   text = record {
     tokens = tokens;
-    lexes = front.lexes (lines_of goes_on.more) (tokens_of (length front.pre) goes_on.more) 
+    lexes = front.lexes more (Ok (tokens_of (length front.pre) goes_on.more)) (stops_at_line front.post (lines_of goes_on.more)) 
         (subst (λ at. Lexes at more (Ok (tokens_of (length front.pre) goes_on.more))) (sym from_start) (lines_lex goes_on.more (length front.pre)));
     marks = begun.before ++ marks_of (length front.pre) goes_on.more;
     are = lexemes_are;
