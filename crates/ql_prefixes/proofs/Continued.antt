@@ -11,6 +11,7 @@ use Rattle.ql_lex.specs.declared.token.TokenKind.{TokenKind}
 use Rattle.ql_grammar.specs.declared.role.Role.{Role}
 use Rattle.ql_grammar.specs.declared.terminal.Terminal.{Terminal}
 use Rattle.ql_grammar.specs.Tokens.{Marked, marked, lexemes, lexeme_of, terminal_of}
+use Rattle.ql_prefixes.proofs.Lexemes.{part_at}
 use Rattle.ql_prefixes.proofs.Respelled.{AreAlike}
 use Rattle.ql_prefixes.proofs.Terminals.{AreSomeTokens}
 use Rattle.ql_prefixes.proofs.Spellings.{IsSpelling, Spelling, spelling_of}
@@ -49,12 +50,6 @@ lines_lex (s ∷ all) at =
     gap (line_feed (w ++ 10 ∷ lines_of all))
     (token {r = Ok (tokens_of (at + 1 + length w) all)} (s.spelling.is.front (lines_of all))
     (subst (λ t. Lexes (at + 1 + length w) t (Ok (tokens_of (at + 1 + length w) all))) (sym (drop-append_seam w (10 ∷ lines_of all))) others))
-
--- what stands after so many bytes
-part_at : (before w rest bytes : List ℕ) → bytes ≡ before ++ (w ++ rest) → slice_range bytes (length before) (length before + length w) ≡ w
-part_at before w rest bytes is =
-    let n : length before + length w - length before ≡ length w = omega arith in
-    rw (is, drop-append_seam before (w ++ rest), n) (take-append_seam w rest)
 
 pub lines_lexemes : (all : List Spelled) (before bytes : List ℕ) (at : ℕ) → at ≡ length before → bytes ≡ before ++ 10 ∷ lines_of all → map (lexeme_of bytes) (tokens_of at all) ≡ lexemes (marks_of at all)
 lines_lexemes [] before bytes at here is = refl

@@ -15,13 +15,14 @@ use Rattle.ql_lex.specs.declared.token.Token.{Token}
 use Rattle.ql_lex.specs.declared.token.TokenKind.{TokenKind}
 use Rattle.ql_lex.specs.declared.token.TokenKind.TheVariants.{Text}
 use Rattle.ql_lex.specs.declared.token.LexFault.{LexFault}
-use Rattle.ql_grammar.specs.Tokens.{lexeme_of, terminal_of}
+use Rattle.ql_grammar.specs.Tokens.{lexeme_of}
+use Rattle.ql_prefixes.proofs.Lexemes.{lexeme_at}
 
 -- each test that a line feed fails and that stops before the one text stops before the other
 abbrev pub StopsAlike : List ℕ → List ℕ → Type 0
 StopsAlike rest other = (test : ℕ → Bool) → test 10 ≡ false → StopsBefore test rest → StopsBefore test other
 
-cut_stops : (pre post other : List ℕ) → StopsAlike post other → StopsAlike (pre ++ post) (pre ++ other)
+pub cut_stops : (pre post other : List ℕ) → StopsAlike post other → StopsAlike (pre ++ post) (pre ++ other)
 cut_stops [] post other alike = alike
 cut_stops (b ∷ pre) post other alike = λ test fails stops. stops
 
@@ -159,17 +160,11 @@ module _ (before text bytes rest : List ℕ) (is : text ≡ bytes ++ rest) where
           (subst (λ t. Lexes at t (preceded ts r)) (sym (append_assoc bytes next.pre other)) (gap (again (next.pre ++ other) (goes_on other alike)) (cut_behind other r alike at n here len h)));
     }
 
-    token_at : (what : TokenKind) (at n : ℕ) (post : List ℕ) → at ≡ length before → length bytes ≡ n → lexeme_of (before ++ (bytes ++ post)) (record { what = what; from = at; to = at + n }) ≡ record { what = terminal_of what bytes; text = bytes; at = at }
-    token_at what at n post here len =
-        let count : at + n - at ≡ n = omega arith in
-        let part : slice_range (before ++ (bytes ++ post)) at (at + n) ≡ bytes = rw (count, here, drop-append_seam before (bytes ++ post), ← len) (take-append_seam bytes post) in
-        rw part refl
-
     token_same : (what : TokenKind) (at n : ℕ) (other : List ℕ) → at ≡ length before → length bytes ≡ n → lexeme_of (before ++ text) (record { what = what; from = at; to = at + n }) ≡ lexeme_of (before ++ ((bytes ++ next.pre) ++ other)) (record { what = what; from = at; to = at + n })
     token_same what at n other here len =
         let t : Token = record { what = what; from = at; to = at + n } in
-        ap (λ b. lexeme_of (before ++ b) t) is ∙ token_at what at n rest here len
-        ∙ sym (ap (λ b. lexeme_of (before ++ b) t) (append_assoc bytes next.pre other) ∙ token_at what at n (next.pre ++ other) here len)
+        ap (λ b. lexeme_of (before ++ b) t) is ∙ lexeme_at before bytes rest what at n here len
+        ∙ sym (ap (λ b. lexeme_of (before ++ b) t) (append_assoc bytes next.pre other) ∙ lexeme_at before bytes (next.pre ++ other) what at n here len)
 
     cut_token : (what : TokenKind) (at n : ℕ) → at ≡ length before → length bytes ≡ n → ((other : List ℕ) → StopsAlike rest other → IsFront (bytes ++ other) (Lexeme what n)) → Cut before text (record { what = what; from = at; to = at + n } ∷ ts) us
     cut_token what at n here len again =

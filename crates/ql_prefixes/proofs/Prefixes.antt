@@ -8,34 +8,14 @@ use Rattle.ql_grammar.specs.Limits.{Fault}
 use Rattle.ql_grammar.specs.Table.{Value, Part}
 use Rattle.ql_grammar.specs.Tokens.{Lexeme, Marked, lexemes, lexeme_of}
 use Rattle.ql_grammar.proofs.Laws.{IsWhole, lexemes_append}
-use Rattle.ql_prefixes.specs.Stub.{IsFaultAs, IsInGrammarAs}
-use Rattle.ql_prefixes.specs.Offsets.{offset_of}
+use Rattle.ql_parse.specs.Readers.{lexemes_of}
+use Rattle.ql_parse.specs.Parsing.{IsFaultAs}
+use Rattle.ql_prefixes.specs.Stub.{IsInGrammarAs}
+use Rattle.ql_prefixes.specs.Prefixes.{offset_of}
+use Rattle.ql_prefixes.proofs.Lexemes.{Parted, parted}
 use Rattle.ql_prefixes.proofs.Cut.{Cut, IsBefore, cut, stops_at_line}
 use Rattle.ql_prefixes.proofs.Continued.{lines_of, tokens_of, marks_of, lines_lex, lines_lexemes}
 use Rattle.ql_prefixes.proofs.Beginnings.{StartsAt, Begun, fault_begun, Continued, continued}
-
--- tokens whose lexemes are two lists are two lists of tokens
-record Parted (bytes : List ℕ) (tokens : List Token) (ls ms : List Lexeme) : Type 0 where
-  pub first : List Token
-  pub second : List Token
-  pub are : tokens ≡ first ++ second
-  pub left : map (lexeme_of bytes) first ≡ ls
-  pub right : map (lexeme_of bytes) second ≡ ms
-
-parted : (bytes : List ℕ) (tokens : List Token) (ls ms : List Lexeme) → map (lexeme_of bytes) tokens ≡ ls ++ ms → Parted bytes tokens ls ms
-parted bytes tokens [] ms is = record { first = []; second = tokens; are = refl; left = refl; right = is }
-parted bytes [] (l ∷ ls) ms is = cc
-parted bytes (t ∷ tokens) (l ∷ ls) ms is =
-    let first : lexeme_of bytes t ≡ l = cc in
-    let others : map (lexeme_of bytes) tokens ≡ ls ++ ms = cc in
-    let next = parted bytes tokens ls ms others in
-    record {
-      first = t ∷ next.first;
-      second = next.second;
-      are = ap (λ ts. t ∷ ts) next.are;
-      left = ap (λ k. k ∷ map (lexeme_of bytes) next.first) first ∙ ap (λ ks. l ∷ ks) next.left;
-      right = next.right;
-    }
 
 -- a cut before these tokens is at the offset where they start
 place_of : (bytes pre post : List ℕ) (ts : List Token) (ls : List Lexeme) (at : ℕ) → bytes ≡ pre ++ post → map (lexeme_of bytes) ts ≡ ls → IsBefore (length pre) post ts → StartsAt ls (length bytes) at → length pre ≡ at

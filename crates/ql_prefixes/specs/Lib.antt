@@ -1,2 +1,2 @@
-pub mod Offsets
+pub mod Prefixes
 pub mod Stub
