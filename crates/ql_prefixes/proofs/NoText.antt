@@ -14,7 +14,7 @@ use Rattle.ql_grammar.specs.Texts.{IsTextOf, Begins}
 use Rattle.ql_grammar.specs.Tokens.{Lexeme, Marked, lexemes, lexeme_of}
 use Rattle.ql_parse.specs.Readers.{lexemes_of}
 use Rattle.ql_parse.specs.Parsing.{IsFaultAs}
-use Rattle.ql_prefixes.specs.Stub.{IsInGrammarAs}
+use Rattle.ql_printed.specs.Printed.{IsInGrammarAs}
 use Rattle.ql_prefixes.specs.Prefixes.{BeginsText, EndsTexts}
 use Rattle.ql_prefixes.proofs.Lexemes.{lexeme_at, Parted, parted, marks_parted}
 use Rattle.ql_prefixes.proofs.Cut.{Cut, StandsFirst, Front-of, StopsAlike, cut, cut_stops, token_front, stops_at_line}

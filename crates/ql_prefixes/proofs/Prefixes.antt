@@ -10,8 +10,8 @@ use Rattle.ql_grammar.specs.Tokens.{Lexeme, Marked, lexemes, lexeme_of}
 use Rattle.ql_grammar.proofs.Laws.{IsWhole, lexemes_append}
 use Rattle.ql_parse.specs.Readers.{lexemes_of}
 use Rattle.ql_parse.specs.Parsing.{IsFaultAs}
-use Rattle.ql_prefixes.specs.Stub.{IsInGrammarAs}
-use Rattle.ql_prefixes.specs.Prefixes.{offset_of}
+use Rattle.ql_printed.specs.Printed.{IsInGrammarAs}
+use Rattle.ql_prefixes.specs.Prefixes.{offset_of, BeginsText}
 use Rattle.ql_prefixes.proofs.Lexemes.{Parted, parted}
 use Rattle.ql_prefixes.proofs.Cut.{Cut, IsBefore, cut, stops_at_line}
 use Rattle.ql_prefixes.proofs.Continued.{lines_of, tokens_of, marks_of, lines_lex, lines_lexemes}
@@ -79,5 +79,5 @@ module _ {A : Type 0} {p : Part} {value : A → Value} {Reads : List Marked → 
   taken : take (offset_of f) bytes ≡ front.pre
   taken = ap (λ n. take n bytes) (sym at_offset) ∙ ap (λ t. take (length front.pre) t) front.is ∙ take-append_seam front.pre front.post
 
-  pub prefix : (rest : List ℕ) × (a : A) × IsInGrammarAs Reads (take (offset_of f) bytes ++ rest) a
+  pub prefix : BeginsText Reads (take (offset_of f) bytes)
   prefix = (more, goes_on.tree, subst (λ t. IsInGrammarAs Reads (t ++ more) goes_on.tree) (sym taken) text)

@@ -8,7 +8,7 @@ use Rattle.ql_grammar.specs.Limits.{Fault, Unexpected, Deep, Wide}
 use Rattle.ql_grammar.specs.Tokens.{Marked}
 use Rattle.ql_grammar.specs.ContractGrammar.{ReadsContract}
 use Rattle.ql_grammar.specs.ProgramGrammar.{ReadsProgram}
-use Rattle.ql_prefixes.specs.Stub.{IsInGrammarAs}
+use Rattle.ql_printed.specs.Printed.{IsInGrammarAs}
 
 -- the source offset of a fault
 abbrev pub offset_of : Fault → ℕ
