@@ -1,20 +1,19 @@
 -- Tokens, each spelled before a line feed.
-use Rattle.std.proofs.Common.{◌≡◌, ℕ, ◌+◌, ◌-◌, List, [], ◌∷◌, ◌++◌, Ok, length, drop, slice_range, map, refl, sym, ap, ◌∙◌, subst, arith, append_assoc, length-append}
-use Rattle.std.proofs.Math.Seq.{take-append_seam, drop-append_seam}
+use Rattle.std.proofs.Common.{◌≡◌, ℕ, ◌+◌, List, [], ◌∷◌, ◌++◌, Ok, length, slice_range, map, refl, sym, ap, ◌∙◌, subst, arith, append_assoc, length-append}
+use Rattle.std.proofs.Math.Seq.{drop-append_seam}
 use Rattle.ql_base.specs.Bytes.{is_blank}
 use Rattle.ql_lex.specs.Fronts.{IsFront}
 use Rattle.ql_lex.specs.Fronts.IsFront.{blank}
 use Rattle.ql_lex.specs.Tokens.{Lexes, ends, gap, token}
 use Rattle.ql_lex.specs.declared.front.Front.TheVariants.{Gap}
 use Rattle.ql_lex.specs.declared.token.Token.{Token}
-use Rattle.ql_lex.specs.declared.token.TokenKind.{TokenKind}
 use Rattle.ql_grammar.specs.declared.role.Role.{Role}
 use Rattle.ql_grammar.specs.declared.terminal.Terminal.{Terminal}
-use Rattle.ql_grammar.specs.Tokens.{Marked, marked, lexemes, lexeme_of, terminal_of}
+use Rattle.ql_grammar.specs.Tokens.{Marked, marked, lexemes, lexeme_of}
 use Rattle.ql_prefixes.proofs.Lexemes.{part_at}
 use Rattle.ql_prefixes.proofs.Respelled.{AreAlike}
 use Rattle.ql_prefixes.proofs.Terminals.{AreSomeTokens}
-use Rattle.ql_prefixes.proofs.Spellings.{IsSpelling, Spelling, spelling_of}
+use Rattle.ql_prefixes.proofs.Spellings.{Spelling, spelling_of}
 
 -- a token of a terminal in a role, with its bytes
 pub record Spelled : Type 0 where

@@ -6,18 +6,16 @@ use Rattle.ql_lex.specs.Fronts.{IsFront}
 use Rattle.ql_lex.specs.Tokens.{Lexes, ends, gap, token, no_token, too_long, no_number, preceded}
 use Rattle.ql_lex.specs.declared.front.Front.TheVariants.{Lexeme as LexemeFront}
 use Rattle.ql_lex.specs.declared.token.Token.{Token}
-use Rattle.ql_lex.specs.declared.token.TokenKind.{TokenKind}
 use Rattle.ql_lex.specs.declared.token.LexFault.{LexFault}
-use Rattle.ql_lex.specs.declared.token.LexFault.TheVariants.{BadChar, LongWord, BadNumber}
-use Rattle.ql_grammar.specs.Limits.{Fault, Unexpected}
+use Rattle.ql_grammar.specs.Limits.{Unexpected}
 use Rattle.ql_grammar.specs.Texts.{IsTextOf, Begins}
 use Rattle.ql_grammar.specs.Tokens.{Lexeme, Marked, lexemes, lexeme_of}
 use Rattle.ql_parse.specs.Readers.{lexemes_of}
 use Rattle.ql_parse.specs.Parsing.{IsFaultAs}
 use Rattle.ql_printed.specs.Printed.{IsInGrammarAs}
-use Rattle.ql_prefixes.specs.Prefixes.{BeginsText, EndsTexts}
+use Rattle.ql_prefixes.specs.Prefixes.{EndsTexts}
 use Rattle.ql_prefixes.proofs.Lexemes.{lexeme_at, Parted, parted, marks_parted}
-use Rattle.ql_prefixes.proofs.Cut.{Cut, StandsFirst, Front-of, StopsAlike, cut, cut_stops, token_front, stops_at_line}
+use Rattle.ql_prefixes.proofs.Cut.{Cut, Front-of, StopsAlike, cut, cut_stops, token_front, stops_at_line}
 use Rattle.ql_prefixes.proofs.Beginnings.{IsStuck, IsEnded, unexpected_at}
 
 abbrev Answer : Type 0

@@ -8,7 +8,6 @@ use Rattle.ql_grammar.specs.Limits.{Fault}
 use Rattle.ql_grammar.specs.Table.{Value, Part}
 use Rattle.ql_grammar.specs.Tokens.{Lexeme, Marked, lexemes, lexeme_of}
 use Rattle.ql_grammar.proofs.Laws.{IsWhole, lexemes_append}
-use Rattle.ql_parse.specs.Readers.{lexemes_of}
 use Rattle.ql_parse.specs.Parsing.{IsFaultAs}
 use Rattle.ql_printed.specs.Printed.{IsInGrammarAs}
 use Rattle.ql_prefixes.specs.Prefixes.{offset_of, BeginsText}
@@ -69,7 +68,7 @@ module _ {A : Type 0} {p : Part} {value : A → Value} {Reads : List Marked → 
   text : IsInGrammarAs Reads (front.pre ++ more) goes_on.tree
   text = record {
     tokens = tokens;
-    lexes = front.lexes more (Ok (tokens_of (length front.pre) goes_on.more)) (stops_at_line front.post (lines_of goes_on.more)) 
+    lexes = front.lexes more (Ok (tokens_of (length front.pre) goes_on.more)) (stops_at_line front.post (lines_of goes_on.more))
         (subst (λ at. Lexes at more (Ok (tokens_of (length front.pre) goes_on.more))) (sym from_start) (lines_lex goes_on.more (length front.pre)));
     marks = begun.before ++ marks_of (length front.pre) goes_on.more;
     are = lexemes_are;

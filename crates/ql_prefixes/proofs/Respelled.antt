@@ -1,13 +1,12 @@
 -- A text of the grammar stays one when its tokens are spelled otherwise, each with the same terminal in the same role.
-use Rattle.std.proofs.Common.{◌≡◌, ℕ, List, [], ◌∷◌, ◌++◌, Bool, true, false, cond, Option, Some, None, Result, Ok, Err, refl, sym, ◌∙◌, subst}
+use Rattle.std.proofs.Common.{◌≡◌, ℕ, List, [], ◌∷◌, ◌++◌, Bool, true, false, cond, Option, Some, None, Result, Ok, Err, refl, ◌∙◌, subst}
 use Rattle.ql_lang.specs.declared.expression.BinOp.{BinOp}
-use Rattle.ql_grammar.specs.declared.precedence.Precedence.{Precedence}
 use Rattle.ql_grammar.specs.declared.terminal.Terminal.{Terminal}
 use Rattle.ql_grammar.specs.declared.terminal.Terminal.TheVariants.{NameToken}
 use Rattle.ql_grammar.specs.declared.role.Role.{Role}
 use Rattle.ql_grammar.specs.Terminals.{is_same}
 use Rattle.ql_grammar.specs.Tokens.{Marked, marked}
-use Rattle.ql_grammar.specs.Limits.{Fault, Unexpected}
+use Rattle.ql_grammar.specs.Limits.{Fault}
 use Rattle.ql_grammar.specs.Table.{Value, APlace, AName, ASpelling, Sym, Word, Placed, ANameOf, Kept, Operator, Do, APart, Then, operator_at, ways, way_on}
 use Rattle.ql_grammar.specs.Machine.{Taken, or_else, operator_taken, lead, first_fit, step, finish}
 use Rattle.ql_grammar.proofs.Wanted.{Has}

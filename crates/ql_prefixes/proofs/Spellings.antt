@@ -1,5 +1,5 @@
 -- A spelling of each terminal.
-use Rattle.std.proofs.Common.{◌≡◌, ℕ, ◌<◌, Bool, true, false, not, List, [], ◌∷◌, ◌++◌, length, codes, slice_index, refl, arith}
+use Rattle.std.proofs.Common.{◌≡◌, ℕ, ◌<◌, true, false, List, [], ◌∷◌, ◌++◌, length, codes, slice_index, refl, arith}
 use Rattle.std.specs.List.{prefix_len}
 use Rattle.std.proofs.lemmas.Fmt.{decimal_digit}
 use Rattle.ql_base.specs.Bytes.{is_lower, is_name_byte, is_word_byte}

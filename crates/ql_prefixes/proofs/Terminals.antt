@@ -1,5 +1,5 @@
 -- Each token of a text of the grammar is a word, a mark, a name, a number or a text, and never `NoTerminal`.
-use Rattle.std.proofs.Common.{◌≡◌, ℕ, List, [], ◌∷◌, ◌++◌, Bool, true, false, not, ◌&&◌, cond, Option, Some, None, refl, sym, ◌∙◌, subst}
+use Rattle.std.proofs.Common.{◌≡◌, ℕ, List, [], ◌∷◌, ◌++◌, Bool, true, false, not, ◌&&◌, cond, Option, Some, None, refl, sym, subst}
 use Rattle.ql_lang.specs.declared.expression.BinOp.{BinOp}
 use Rattle.ql_grammar.specs.declared.precedence.Precedence.{Precedence}
 use Rattle.ql_grammar.specs.declared.precedence.Precedence.TheVariants as precedence
@@ -11,7 +11,7 @@ use Rattle.ql_grammar.specs.Tokens.{Marked}
 use Rattle.ql_grammar.specs.ContractGrammar.{Applied, Single, Product, Sum, Atom, Both, Either, Whole}
 use Rattle.ql_grammar.specs.ExpressionGrammar.{Unary, Multiplied, Added, Compared, Conjoined, Disjoined, Chosen}
 use Rattle.ql_grammar.specs.Table.{Value, APlace, AName, ASpelling, Sym, Word, Placed, ANameOf, Kept, Operator, Do, APart, Then, Part, Rest, operator_at, ways, way_on, Term, TermList, RelationAt, PropAt, BarredNames, Variable, VarList, WholeContract, ExprAt, Arguments, BaseKind, AnyKind, Beginning, ListedNames, WholeSource, MoreTerms, MoreFactors, MoreSummands, MoreAnds, MoreOrs, MoreImplied, MoreNames, Operations, MoreVars, MoreTimes, MorePlus, Comparison, MoreConjoined, MoreDisjoined, Called, MoreArguments, MoreFields, SomeParams, MoreParams, MoreListed, MoreBindings, MoreAssignments, Effect, MoreOperations, MoreTypes, MoreTransactions}
-use Rattle.ql_grammar.specs.Machine.{Taken, or_else, operator_taken, lead, first_fit, step, finish}
+use Rattle.ql_grammar.specs.Machine.{Taken, or_else, operator_taken, lead, first_fit, step}
 use Rattle.ql_grammar.proofs.TerminalLemmas.{same_terminal}
 use Rattle.ql_prefixes.proofs.Respelled.{Walk, stop, walk}
 

@@ -1,6 +1,4 @@
 use Rattle.std.specs.Prelude.{ℕ, ◌+◌, List, [], ◌∷◌, ◌++◌, take, drop}
-use Rattle.ql_lang.specs.Trees.{Sentence}
-use Rattle.ql_lang.specs.Programs.{Source}
 use Rattle.ql_lex.specs.Fronts.{IsFront}
 use Rattle.ql_lex.specs.declared.front.Front.TheVariants.{Lexeme}
 use Rattle.ql_lex.specs.declared.token.TokenKind.{TokenKind}
