@@ -109,11 +109,8 @@ cut_here before text us place = record {
       subst (λ at. Lexes at other (preceded [] r)) same (subst (λ s. Lexes (length before + 0) other s) (preceded_none r) h);
 }
 
+-- a text with a front of these bytes
 module _ (before text bytes rest : List ℕ) (is : text ≡ bytes ++ rest) where
-  -- the bytes before what stands behind the front
-  longer : (post : List ℕ) → before ++ (bytes ++ post) ≡ (before ++ bytes) ++ post
-  longer post = sym (append_assoc before bytes post)
-
   behind_is : drop (length bytes) text ≡ rest
   behind_is = rw is (drop-append_seam bytes rest)
 
@@ -146,8 +143,7 @@ module _ (before text bytes rest : List ℕ) (is : text ≡ bytes ++ rest) where
         let moved = next.lexes other r alike (subst (λ i. Lexes i other r) (sym (further next.pre)) h) in
         subst (λ t. Lexes (at + n) t (preceded ts r)) tail (subst (λ i. Lexes i (next.pre ++ other) (preceded ts r)) there moved)
 
-    -- the front and what stands behind it, for a cut text
-
+    -- a gap at the front, and the cut of what stands behind it
     cut_gap : (at n : ℕ) → at ≡ length before → length bytes ≡ n → ((other : List ℕ) → StopsAlike rest other → IsFront (bytes ++ other) (Gap n)) → Cut before text ts us
     cut_gap at n here len again = record {
       pre = bytes ++ next.pre;
@@ -166,6 +162,7 @@ module _ (before text bytes rest : List ℕ) (is : text ≡ bytes ++ rest) where
         ap (λ b. lexeme_of (before ++ b) t) is ∙ lexeme_at before bytes rest what at n here len
         ∙ sym (ap (λ b. lexeme_of (before ++ b) t) (append_assoc bytes next.pre other) ∙ lexeme_at before bytes (next.pre ++ other) what at n here len)
 
+    -- a token at the front, likewise
     cut_token : (what : TokenKind) (at n : ℕ) → at ≡ length before → length bytes ≡ n → ((other : List ℕ) → StopsAlike rest other → IsFront (bytes ++ other) (Lexeme what n)) → Cut before text (record { what = what; from = at; to = at + n } ∷ ts) us
     cut_token what at n here len again =
         let t : Token = record { what = what; from = at; to = at + n } in
