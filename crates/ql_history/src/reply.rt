@@ -61,31 +61,32 @@ fn number_after(text: &[u8]) -> Option<u32> {
     Some(number as u32)
 }
 
-fn word_of(field: &[u8]) -> Option<ReplyWord> {
-    match field {
-        b"ok" => Some(ReplyWord::Ok),
-        b"begun" => Some(ReplyWord::Begun),
-        b"committed" => Some(ReplyWord::Committed),
-        b"blocked" => Some(ReplyWord::Blocked),
-        b"unavailable" => Some(ReplyWord::Unavailable),
-        b"held" => Some(ReplyWord::Held),
-        b"refused" => Some(ReplyWord::Refused),
-        b"applies" => Some(ReplyWord::Applies),
-        _ => other_word(field),
-    }
-}
+// The words with which replies begin.
+static WORDS: [(&str, ReplyWord); 17] = [
+    ("ok", ReplyWord::Ok),
+    ("begun", ReplyWord::Begun),
+    ("committed", ReplyWord::Committed),
+    ("blocked", ReplyWord::Blocked),
+    ("unavailable", ReplyWord::Unavailable),
+    ("held", ReplyWord::Held),
+    ("refused", ReplyWord::Refused),
+    ("applies", ReplyWord::Applies),
+    ("waits", ReplyWord::Waits),
+    ("again", ReplyWord::Again),
+    ("cut", ReplyWord::Cut),
+    ("gone", ReplyWord::Gone),
+    ("sent", ReplyWord::Sent),
+    ("lost", ReplyWord::Lost),
+    ("split", ReplyWord::Split),
+    ("healed", ReplyWord::Healed),
+    ("joined", ReplyWord::Joined),
+];
 
-fn other_word(field: &[u8]) -> Option<ReplyWord> {
-    match field {
-        b"waits" => Some(ReplyWord::Waits),
-        b"again" => Some(ReplyWord::Again),
-        b"cut" => Some(ReplyWord::Cut),
-        b"gone" => Some(ReplyWord::Gone),
-        b"sent" => Some(ReplyWord::Sent),
-        b"lost" => Some(ReplyWord::Lost),
-        b"split" => Some(ReplyWord::Split),
-        b"healed" => Some(ReplyWord::Healed),
-        b"joined" => Some(ReplyWord::Joined),
-        _ => None,
+fn word_of(field: &[u8]) -> Option<ReplyWord> {
+    for (word, reply) in WORDS.iter() {
+        if word.as_bytes() == field {
+            return Some(*reply);
+        }
     }
+    None
 }

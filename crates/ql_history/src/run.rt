@@ -106,16 +106,34 @@ fn take(alloc: Global, run: &mut Run, stage: Stage, line: Line) -> Result<Stage,
 
 // A line before the effects that isn't a reply.
 fn take_ahead(alloc: Global, run: &mut Run, text: &[u8]) -> Result<Stage, LineFault> {
-    match first_field(text) {
-        Some((b"execution", _)) if is_word(text, b"execution") => return Ok(Stage::Effects),
-        Some((b"replies", _)) if is_word(text, b"replies") => return Ok(Stage::Replying),
-        Some((b"contract", _)) => return Ok(Stage::Judging),
-        Some((b"why", after)) => run.why = Vec::from_slice(alloc, after_spaces(after))?,
-        Some((b"op", after)) => push_level(alloc, run, false, after)?,
-        Some((b"txn", after)) => push_level(alloc, run, true, after)?,
-        _ => {}
+    if is_word(text, b"execution") {
+        return Ok(Stage::Effects);
     }
+    if is_word(text, b"replies") {
+        return Ok(Stage::Replying);
+    }
+    let Some((word, after)) = first_field(text) else {
+        return Ok(Stage::Ahead);
+    };
+    if word == b"contract".as_slice() {
+        return Ok(Stage::Judging);
+    }
+    take_word(alloc, run, word, after)?;
     Ok(Stage::Ahead)
+}
+
+// What a line says of a run after its first word; other words say nothing.
+fn take_word(alloc: Global, run: &mut Run, word: &[u8], after: &[u8]) -> Result<(), NoMemory> {
+    if word == b"why".as_slice() {
+        run.why = Vec::from_slice(alloc, after_spaces(after))?;
+        Ok(())
+    } else if word == b"op".as_slice() {
+        push_level(alloc, run, false, after)
+    } else if word == b"txn".as_slice() {
+        push_level(alloc, run, true, after)
+    } else {
+        Ok(())
+    }
 }
 
 fn push_level(alloc: Global, run: &mut Run, is_txn: bool, text: &[u8]) -> Result<(), NoMemory> {

@@ -34,25 +34,49 @@ pub(crate) fn step_of(alloc: Global, text: &[u8], replicas: u32) -> Result<Optio
     let Some((word, rest)) = first_field(text) else {
         return Ok(None);
     };
-    match word {
-        b"call" => call(alloc, rest, replicas),
-        b"begin" => begin(alloc, rest, replicas),
-        b"partition" => partition(alloc, rest, replicas),
-        _ => Ok(other(word, rest, replicas)),
+    if word == b"call".as_slice() {
+        call(alloc, rest, replicas)
+    } else if word == b"begin".as_slice() {
+        begin(alloc, rest, replicas)
+    } else if word == b"partition".as_slice() {
+        partition(alloc, rest, replicas)
+    } else {
+        Ok(other(word, rest, replicas))
     }
 }
 
 // An event that consists of numbers only.
 fn other(word: &[u8], rest: &[u8], replicas: u32) -> Option<Step> {
-    match word {
-        b"commit" => commit(rest, replicas),
-        b"resend" => resend(rest, replicas),
-        b"deliver" => Some(Step::Deliver(last_number(rest)?)),
-        b"repeat" => Some(Step::Repeat(last_number(rest)?)),
-        b"lose" => Some(Step::Lose(last_number(rest)?)),
-        b"heal" if first_field(rest).is_none() => Some(Step::Heal),
-        b"join" => join(rest, replicas),
-        _ => None,
+    if word == b"commit".as_slice() {
+        commit(rest, replicas)
+    } else if word == b"resend".as_slice() {
+        resend(rest, replicas)
+    } else if word == b"join".as_slice() {
+        join(rest, replicas)
+    } else if word == b"heal".as_slice() {
+        heal(rest)
+    } else {
+        with_message(word, last_number(rest)?)
+    }
+}
+
+// What happens to the message with this number.
+fn with_message(word: &[u8], number: u32) -> Option<Step> {
+    if word == b"deliver".as_slice() {
+        Some(Step::Deliver(number))
+    } else if word == b"repeat".as_slice() {
+        Some(Step::Repeat(number))
+    } else if word == b"lose".as_slice() {
+        Some(Step::Lose(number))
+    } else {
+        None
+    }
+}
+
+fn heal(text: &[u8]) -> Option<Step> {
+    match first_field(text) {
+        Some(_) => None,
+        None => Some(Step::Heal),
     }
 }
 
@@ -113,11 +137,10 @@ fn resend(text: &[u8], replicas: u32) -> Option<Step> {
 
 // A replica that joins the group of another.
 fn join(text: &[u8], replicas: u32) -> Option<Step> {
-    let near = match first_field(text) {
-        Some((b"copy" | b"bare", near)) => last_number(near)?,
-        _ => return None,
-    };
-    if near < replicas {
+    let (kind, near) = first_field(text)?;
+    let near = last_number(near)?;
+    let is_kind = kind == b"copy".as_slice() || kind == b"bare".as_slice();
+    if is_kind && near < replicas {
         Some(Step::Join(near))
     } else {
         None

@@ -4,7 +4,7 @@ use crate::columns::FaultyLine;
 use crate::declared::{parameters, place_in, type_at, word_after};
 use crate::fields::field_text;
 use crate::filled::{push_counted, push_filled};
-use crate::pieces::piece;
+use crate::pieces::{piece, piece_before};
 use crate::words::{has_word, is, sentence_of};
 use ql_base::{NoMemory, push_bytes};
 
@@ -151,16 +151,18 @@ pub(crate) fn push_operation(note: &mut Vec<u8>, line: FaultyLine) -> Result<(),
         b"  `%` is an operation of `%` and takes `",
         &[name, type_at(line.source, op)],
     )?;
-    let (from, to) = parameters(line.source, op);
-    for k in from..to {
-        let token = piece(line.source, k);
-        if k > from
-            && !has_word(b", :", token)
-            && !is(piece(line.source, k.saturating_sub(1)), b"(")
-        {
-            push_bytes(note, b" ")?;
-        }
-        push_bytes(note, token)?;
-    }
+    push_parameters(note, line.source, op)?;
     push_bytes(note, b")`\n")
+}
+
+// Appends the parameters of an operation after their bracket, laid out as in a source.
+fn push_parameters(note: &mut Vec<u8>, source: &[&[u8]], op: usize) -> Result<(), NoMemory> {
+    let (from, to) = parameters(source, op);
+    for k in from..to {
+        let token = piece(source, k);
+        let is_close = k == from || has_word(b", :", token) || is(piece_before(source, k), b"(");
+        let space: &[u8] = if is_close { b"" } else { b" " };
+        push_filled(note, b"%%", &[space, token])?;
+    }
+    Ok(())
 }

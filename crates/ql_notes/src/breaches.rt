@@ -5,7 +5,7 @@ use crate::arguments::push_misfit;
 use crate::columns::FaultyLine;
 use crate::declared::word_of;
 use crate::effects::{push_mixed, push_not_earlier, push_other_object, push_split};
-use crate::fields::field_text;
+use crate::fields::{Field, field_text};
 use crate::filled::push_filled;
 use crate::first::push_first_at;
 use crate::ranges::push_range;
@@ -104,19 +104,30 @@ pub(crate) fn push_first_line(
 // The offset where the name in a field occurs first: as an object above, or earlier in the line.
 fn first_offset(line: FaultyLine, k: usize) -> Option<usize> {
     let name = field_text(line.fields, k);
-    if !is(field_text(line.fields, 0), b"object") {
-        for (j, field) in line.fields.iter().enumerate() {
-            if 4 < j && j < k && field.text == name {
-                return Some(field.from);
-            }
-        }
-        return None;
+    if is(field_text(line.fields, 0), b"object") {
+        offset_of_object(line.above, name)
+    } else {
+        offset_of_earlier(line.fields, k, name)
     }
-    for k in 0..line.above.len() {
-        if k == 0 || line.above[k - 1] == b'\n' {
-            let other = line_of(&line.above[k..]);
-            if is(first_word(other), b"object") && word_of(other, 1) == name {
-                return Some(k.saturating_add(offset_of_second(other)));
+}
+
+// The offset of a name in a field before an index, among those that a line `begin` lists.
+fn offset_of_earlier(fields: &[Field], k: usize, name: &[u8]) -> Option<usize> {
+    for (j, field) in fields.iter().enumerate() {
+        if 4 < j && j < k && field.text == name {
+            return Some(field.from);
+        }
+    }
+    None
+}
+
+// The offset of a name in the first line that declares an object of this name.
+fn offset_of_object(above: &[u8], name: &[u8]) -> Option<usize> {
+    for k in 0..above.len() {
+        if k == 0 || above[k - 1] == b'\n' {
+            let line = line_of(&above[k..]);
+            if is(first_word(line), b"object") && word_of(line, 1) == name {
+                return Some(k.saturating_add(offset_of_second(line)));
             }
         }
     }

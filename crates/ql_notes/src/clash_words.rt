@@ -4,7 +4,7 @@ use crate::arguments::push_counts;
 use crate::clashes::{Clash, Operator, Wish};
 use crate::filled::push_filled;
 use crate::kinds::spelling;
-use crate::pieces::{last_of, piece};
+use crate::pieces::{last_of, piece, piece_after_last};
 use crate::words::sentence_of;
 use ql_base::{NoMemory, push_bytes};
 use ql_lang::{BinOp, Kind};
@@ -57,22 +57,15 @@ pub(crate) fn push_clash(
 // The name of what requires a kind at a token: an operation, a field or an emitted value.
 fn owner<'a>(tokens: &[&'a [u8]], k: usize, wish: Wish) -> &'a [u8] {
     match wish {
-        Wish::Answer(_) => after_last(tokens, k, b"op"),
-        Wish::Initial(_) => after_last(tokens, k, b"state"),
-        Wish::Assigned(_) => after_last(tokens, k, b"{ ;"),
+        Wish::Answer(_) => piece_after_last(tokens, k, b"op"),
+        Wish::Initial(_) => piece_after_last(tokens, k, b"state"),
+        Wish::Assigned(_) => piece_after_last(tokens, k, b"{ ;"),
         // NAME : BASE =
         Wish::Emitted(_) => {
             let sign = last_of(tokens, k, b"=").unwrap_or(k);
             piece(tokens, sign.saturating_sub(3))
         }
         _ => b"",
-    }
-}
-
-fn after_last<'a>(tokens: &[&'a [u8]], k: usize, words: &[u8]) -> &'a [u8] {
-    match last_of(tokens, k, words) {
-        Some(j) => piece(tokens, j.saturating_add(1)),
-        None => b"",
     }
 }
 

@@ -1,7 +1,7 @@
 // What a source and a schedule declare.
 
 use crate::above::{first_word, is_line_start};
-use crate::pieces::{last_of, next_of, piece};
+use crate::pieces::{next_of, piece_after, piece_after_last, pieces_after};
 use crate::words::{is, word};
 use ql_base::NoMemory;
 use ql_excerpt::line_of;
@@ -13,19 +13,13 @@ pub(crate) fn declared<'a>(
     source: &[&'a [u8]],
     keyword: &[u8],
 ) -> Result<Vec<&'a [u8]>, NoMemory> {
-    let mut names = Vec::new(alloc);
-    for (k, token) in source.iter().enumerate() {
-        if *token == keyword {
-            names.push(piece(source, k.saturating_add(1)))?;
-        }
-    }
-    Ok(names)
+    pieces_after(alloc, source, 0, source.len(), keyword)
 }
 
 /// The index of the keyword after which a source declares a name.
 pub(crate) fn place_in(source: &[&[u8]], keyword: &[u8], name: &[u8]) -> Option<usize> {
     for (k, token) in source.iter().enumerate() {
-        if *token == keyword && piece(source, k.saturating_add(1)) == name {
+        if *token == keyword && piece_after(source, k) == name {
             return Some(k);
         }
     }
@@ -34,10 +28,7 @@ pub(crate) fn place_in(source: &[&[u8]], keyword: &[u8], name: &[u8]) -> Option<
 
 /// The type that has the operation at a token.
 pub(crate) fn type_at<'a>(source: &[&'a [u8]], op: usize) -> &'a [u8] {
-    match last_of(source, op, b"type") {
-        Some(declared) => piece(source, declared.saturating_add(1)),
-        None => b"",
-    }
+    piece_after_last(source, op, b"type")
 }
 
 /// The parameters of the operation at a token, from bracket to bracket.

@@ -4,9 +4,8 @@ use crate::columns::FaultyLine;
 use crate::declared::{line_with, place_in, type_at, word_of};
 use crate::fields::field_text;
 use crate::filled::{push_counted, push_filled};
-use crate::stamp::effect_of;
+use crate::stamp::{EffectLine, effect_at};
 use ql_base::{NoMemory, number_of};
-use ql_excerpt::line_of;
 
 // The fields of an effect in an execution.
 const ID: usize = 1;
@@ -85,32 +84,18 @@ fn effect_line<'a>(text: &'a [u8], number: usize, word: &[u8]) -> &'a [u8] {
 
 /// Appends why an effect can't belong to its transaction.
 pub(crate) fn push_split(said: &mut Vec<u8>, line: FaultyLine) -> Result<(), NoMemory> {
-    let (own, session) = (
+    let (txn, session) = (
         field_text(line.fields, TXN),
         field_text(line.fields, SESSION),
     );
     let mut since = b"".as_slice();
     for k in 0..line.above.len() {
-        if k > 0 && line.above[k - 1] != b'\n' {
-            continue;
-        }
-        let Some(other) = effect_of(line_of(&line.above[k..])) else {
+        let Some(other) = effect_at(line.above, k) else {
             continue;
         };
-        let is_one = number_in(other.txn) == number_in(own);
-        if is_one && other.session != session {
-            return push_filled(
-                said,
-                b"a transaction has one number, name and session: effect % is in session %, but this one is in session %",
-                &[other.id, other.session, session],
-            );
-        }
-        if is_one && other.txn != own {
-            return push_filled(
-                said,
-                b"a transaction has one number, name and session: effect % is in transaction %, but this one is in %",
-                &[other.id, other.txn, own],
-            );
+        let is_one = number_in(other.txn) == number_in(txn);
+        if is_one && (other.session != session || other.txn != txn) {
+            return push_elsewhere(said, other, txn, session);
         }
         if other.session == session && !is_one {
             since = other.id;
@@ -121,6 +106,28 @@ pub(crate) fn push_split(said: &mut Vec<u8>, line: FaultyLine) -> Result<(), NoM
         b"a transaction's effects follow one another in its session, but effect % of this session comes between them",
         &[since],
     )
+}
+
+// Appends that another effect of a transaction is in another session, or has another name of the transaction.
+fn push_elsewhere(
+    said: &mut Vec<u8>,
+    other: EffectLine,
+    txn: &[u8],
+    session: &[u8],
+) -> Result<(), NoMemory> {
+    if other.session == session {
+        push_filled(
+            said,
+            b"a transaction has one number, name and session: effect % is in transaction %, but this one is in %",
+            &[other.id, other.txn, txn],
+        )
+    } else {
+        push_filled(
+            said,
+            b"a transaction has one number, name and session: effect % is in session %, but this one is in session %",
+            &[other.id, other.session, session],
+        )
+    }
 }
 
 // The number of a begun transaction, as it is written.

@@ -5,90 +5,29 @@
 ghost use Rattle.std.specs.Prelude.{◌≤◌, length};
 
 use crate::guesses::Guess;
-use crate::wanted::push_quoted;
-use crate::words::has_word;
+use crate::wanted::{push_quoted, push_separator};
+use crate::words::{has_word, is, sentence_of, words_of};
 use ql_base::{NoMemory, push_bytes};
 use ql_lex::LexFault;
 use ql_parse::{ParseFault, parse_program};
 use std::alloc::Global;
 
 // A spelling of each terminal.
-static TERMINALS: [&str; 64] = [
-    "x",
-    "1",
-    "\"\"",
-    "type",
-    "state",
-    "op",
-    "contract",
-    "answer",
-    "emit",
-    "when",
-    "apply",
-    "transaction",
-    "uses",
-    "forall",
-    "true",
-    "false",
-    "unit",
-    "empty",
-    "if",
-    "then",
-    "else",
-    "and",
-    "or",
-    "not",
-    "int",
-    "bool",
-    "text",
-    "set",
-    "map",
-    "cur",
-    "txn",
-    "vis",
-    "so",
-    "soo",
-    "sameobj",
-    "eq",
-    "hb",
-    "hbo",
-    "{",
-    "}",
-    "(",
-    ")",
-    "[",
-    "]",
-    ",",
-    ";",
-    ":",
-    ".",
-    "=",
-    ":=",
-    "=>",
-    "==",
-    "!=",
-    "<",
-    "<=",
-    ">",
-    ">=",
-    "+",
-    "-",
-    "*",
-    "/\\",
-    "\\/",
-    "|",
-    "&",
-];
+const TERMINALS: &[u8] =
+    b"x 1 \"\" type state op contract answer emit when apply transaction uses forall true \
+    false unit empty if then else and or not int bool text set map cur txn vis so soo \
+    sameobj eq hb hbo { } ( ) [ ] , ; : . = := => == != < <= > >= + - * /\\ \\/ | &";
 
 // How many are listed at most.
 const MOST: usize = 12;
 
 /// The terminals that the grammar allows after the first bytes of a source.
-pub(crate) fn expected(alloc: Global, before: &[u8]) -> Result<Vec<&'static str>, NoMemory>
+pub(crate) fn expected(alloc: Global, before: &[u8]) -> Result<Vec<&'static [u8]>, NoMemory>
     requires { length before.now ≤ 1048576 }
 {
     let mut found = Vec::new(alloc);
-    for terminal in TERMINALS.iter() {
+    let terminals = words_of(alloc, TERMINALS)?;
+    for terminal in terminals.iter() {
         if is_allowed(alloc, before, terminal)? {
             found.push(*terminal)?;
         }
@@ -97,7 +36,7 @@ pub(crate) fn expected(alloc: Global, before: &[u8]) -> Result<Vec<&'static str>
 }
 
 // Whether the grammar allows a terminal after these bytes.
-fn is_allowed(alloc: Global, before: &[u8], terminal: &str) -> Result<bool, NoMemory>
+fn is_allowed(alloc: Global, before: &[u8], terminal: &[u8]) -> Result<bool, NoMemory>
     requires { length before.now ≤ 1048576 }
 {
     if terminal.len() > 32 {
@@ -105,7 +44,7 @@ fn is_allowed(alloc: Global, before: &[u8], terminal: &str) -> Result<bool, NoMe
     }
     let mut text = Vec::from_slice(alloc, before)?;
     push_bytes(&mut text, b"\n")?;
-    push_bytes(&mut text, terminal.as_bytes())?;
+    push_bytes(&mut text, terminal)?;
     match parse_program(alloc, &text) {
         Ok(_) => Ok(true),
         Err(ParseFault::NoMemory | ParseFault::Lex(LexFault::NoMemory)) => Err(NoMemory),
@@ -121,7 +60,7 @@ fn is_allowed(alloc: Global, before: &[u8], terminal: &str) -> Result<bool, NoMe
 pub(crate) fn push_expected(
     alloc: Global,
     note: &mut Vec<u8>,
-    terminals: &[&'static str],
+    terminals: &[&'static [u8]],
     guess: Guess,
     is_line: bool,
 ) -> Result<(), NoMemory> {
@@ -130,16 +69,7 @@ pub(crate) fn push_expected(
         if k == MOST {
             return push_bytes(note, b" and more");
         }
-        if k > 0 {
-            push_bytes(
-                note,
-                if k + 1 == ordered.len() {
-                    b" or "
-                } else {
-                    b", "
-                },
-            )?;
-        }
+        push_separator(note, k, ordered.len())?;
         push_terminal(note, ordered[k], is_line)?;
     }
     Ok(())
@@ -148,9 +78,9 @@ pub(crate) fn push_expected(
 // Terminals by how likely it is that they were meant.
 fn ordered(
     alloc: Global,
-    terminals: &[&'static str],
+    terminals: &[&'static [u8]],
     guess: Guess,
-) -> Result<Vec<&'static str>, NoMemory> {
+) -> Result<Vec<&'static [u8]>, NoMemory> {
     let mut ordered = Vec::new(alloc);
     for rank in 0..3 {
         for terminal in terminals {
@@ -162,26 +92,34 @@ fn ordered(
     Ok(ordered)
 }
 
-fn rank_of(terminal: &str, guess: Guess) -> usize {
+fn rank_of(terminal: &[u8], guess: Guess) -> usize {
     let is_guessed = match guess {
-        Guess::Instead(word) | Guess::Missing(word) => word.as_bytes() == terminal.as_bytes(),
+        Guess::Instead(word) | Guess::Missing(word) => word == terminal,
         _ => false,
     };
     if is_guessed {
         0
-    } else if has_word(b"; ) } ] . , :", terminal.as_bytes()) {
+    } else if has_word(b"; ) } ] . , :", terminal) {
         1
     } else {
         2
     }
 }
 
-fn push_terminal(note: &mut Vec<u8>, terminal: &str, is_line: bool) -> Result<(), NoMemory> {
-    match terminal {
-        ";" if is_line => push_bytes(note, b"the end of the line"),
-        "x" => push_bytes(note, b"a name"),
-        "1" => push_bytes(note, b"a number"),
-        "\"\"" => push_bytes(note, b"a text"),
-        word => push_quoted(note, word.as_bytes()),
+// What the terminals stand for that don't stand for themselves.
+const MEANINGS: &str = "x a name
+1 a number
+\"\" a text";
+
+fn push_terminal(note: &mut Vec<u8>, terminal: &[u8], is_line: bool) -> Result<(), NoMemory> {
+    let meaning: &[u8] = if is_line && is(terminal, b";") {
+        b"the end of the line"
+    } else {
+        sentence_of(MEANINGS, terminal)
+    };
+    if meaning.is_empty() {
+        push_quoted(note, terminal)
+    } else {
+        push_bytes(note, meaning)
     }
 }

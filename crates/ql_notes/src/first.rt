@@ -2,7 +2,7 @@
 
 use crate::filled::push_filled;
 use crate::meant::{bound_between, is_bound};
-use crate::pieces::{last_of, next_of, piece, place_between};
+use crate::pieces::{last_of, next_of, piece, piece_before, place_between};
 use crate::repair::{is_chosen, part_of};
 use crate::words::{has_word, is};
 use ql_base::{NoMemory, push_bytes};
@@ -65,7 +65,7 @@ fn push_place(note: &mut Vec<u8>, file: File, at: usize) -> Result<(), NoMemory>
 
 /// The first token with the name at a token, in the same list or among the declarations of the same sort.
 pub(crate) fn first_of(pieces: &[&[u8]], k: usize) -> Option<usize> {
-    let keyword = piece(pieces, k.saturating_sub(1));
+    let keyword = piece_before(pieces, k);
     let part = part_of(pieces, k);
     if has_word(b"type op transaction", keyword) {
         return after_keyword(pieces, 0, k, keyword);
@@ -106,7 +106,7 @@ fn emits(pieces: &[&[u8]], k: usize) -> bool {
 // The first token with the name at a token and right after a keyword, between two tokens.
 fn after_keyword(pieces: &[&[u8]], from: usize, k: usize, keyword: &[u8]) -> Option<usize> {
     for (j, word) in pieces.iter().enumerate() {
-        let before = piece(pieces, j.saturating_sub(1));
+        let before = piece_before(pieces, j);
         if from < j && j < k && *word == piece(pieces, k) && before == keyword {
             return Some(j);
         }

@@ -1,10 +1,11 @@
 // What was perhaps meant where a text doesn't follow the grammar: each repair is tried, and the one with which most of
 // the text can be read is the likeliest.
 
+use crate::filled::push_filled;
 use crate::likeness::likest;
 use crate::syntax::Break;
 use crate::words::{has_word, is, sentence_of};
-use ql_base::{NoMemory, is_blank, push_bytes};
+use ql_base::{NoMemory, is_blank};
 use ql_lex::LexFault;
 use ql_parse::{ParseFault, parse_program};
 use std::alloc::Global;
@@ -16,9 +17,9 @@ const BYTES: usize = 65_536;
 #[derive(Clone, Copy)]
 pub(crate) enum Guess {
     /// This word instead of the one that is there.
-    Instead(&'static str),
+    Instead(&'static [u8]),
     /// This word before the one that is there.
-    Missing(&'static str),
+    Missing(&'static [u8]),
     /// The text without the word that is there.
     Extra,
     Nothing,
@@ -57,7 +58,7 @@ const FORGOTTEN: &[u8] =
 pub(crate) fn likeliest_repair(
     alloc: Global,
     found: Break,
-    terminals: &[&'static str],
+    terminals: &[&'static [u8]],
 ) -> Result<Guess, NoMemory> {
     let mut best = Best {
         guess: Guess::Nothing,
@@ -66,19 +67,8 @@ pub(crate) fn likeliest_repair(
     if found.before.len() > BYTES || found.rest.len() > BYTES {
         return Ok(best.guess);
     }
-    let like = likest_terminal(alloc, found.word, terminals)?;
-    for terminal in terminals {
-        let word = terminal.as_bytes();
-        if Some(word) == like || has_word(sentence_of(CONFUSIONS, found.word), word) {
-            best.try_repair(alloc, found, Guess::Instead(terminal))?;
-        }
-    }
-    for terminal in terminals {
-        let is_end = found.is_line && is(terminal.as_bytes(), b";");
-        if has_word(FORGOTTEN, terminal.as_bytes()) && !is_end {
-            best.try_repair(alloc, found, Guess::Missing(terminal))?;
-        }
-    }
+    best.try_instead(alloc, found, terminals)?;
+    best.try_missing(alloc, found, terminals)?;
     if !found.word.is_empty() {
         best.try_repair(alloc, found, Guess::Extra)?;
     }
@@ -95,18 +85,6 @@ fn without_blanks(text: &[u8]) -> &[u8] {
     b""
 }
 
-fn likest_terminal(
-    alloc: Global,
-    word: &[u8],
-    terminals: &[&'static str],
-) -> Result<Option<&'static [u8]>, NoMemory> {
-    let mut words = Vec::new(alloc);
-    for terminal in terminals {
-        words.push(terminal.as_bytes())?;
-    }
-    Ok(likest(word, &words))
-}
-
 // The best repair so far, and how many bytes of the text it leaves unread.
 #[derive(Clone, Copy)]
 struct Best {
@@ -115,12 +93,45 @@ struct Best {
 }
 
 impl Best {
+    // Tries the terminals that may be meant by the word that is there.
+    fn try_instead(
+        &mut self,
+        alloc: Global,
+        found: Break,
+        terminals: &[&'static [u8]],
+    ) -> Result<(), NoMemory> {
+        let like = likest(found.word, terminals);
+        let confused = sentence_of(CONFUSIONS, found.word);
+        for terminal in terminals {
+            if Some(*terminal) == like || has_word(confused, terminal) {
+                self.try_repair(alloc, found, Guess::Instead(*terminal))?;
+            }
+        }
+        Ok(())
+    }
+
+    // Tries the terminals that are often forgotten.
+    fn try_missing(
+        &mut self,
+        alloc: Global,
+        found: Break,
+        terminals: &[&'static [u8]],
+    ) -> Result<(), NoMemory> {
+        for terminal in terminals {
+            let is_end = found.is_line && is(terminal, b";");
+            if has_word(FORGOTTEN, terminal) && !is_end {
+                self.try_repair(alloc, found, Guess::Missing(*terminal))?;
+            }
+        }
+        Ok(())
+    }
+
     // Takes a repair if it leaves fewer bytes unread.
     fn try_repair(&mut self, alloc: Global, found: Break, guess: Guess) -> Result<(), NoMemory> {
         let left = match guess {
             Guess::Instead(word) => unread(alloc, found, word, b"")?,
             Guess::Missing(word) => unread(alloc, found, word, found.word)?,
-            _ => unread(alloc, found, "", b"")?,
+            _ => unread(alloc, found, b"", b"")?,
         };
         if left < self.left {
             self.guess = guess;
@@ -131,12 +142,9 @@ impl Best {
 }
 
 // How many bytes are left after the first fault, where two words replace the one that is there.
-fn unread(alloc: Global, found: Break, first: &str, second: &[u8]) -> Result<usize, NoMemory> {
+fn unread(alloc: Global, found: Break, first: &[u8], second: &[u8]) -> Result<usize, NoMemory> {
     let mut text = Vec::from_slice(alloc, found.before)?;
-    for part in [first.as_bytes(), second, found.rest] {
-        push_bytes(&mut text, b" ")?;
-        push_bytes(&mut text, part)?;
-    }
+    push_filled(&mut text, b" % % %", &[first, second, found.rest])?;
     if text.len() > 4 * BYTES {
         return Ok(text.len());
     }

@@ -2,6 +2,7 @@
 
 use crate::filled::push_filled;
 use crate::likeness::likest;
+use crate::words::{has_word, words_of};
 use ql_base::NoMemory;
 use std::alloc::Global;
 
@@ -36,10 +37,8 @@ error even without a terminal; QUELEA_NOTES=0 never prints them.
 ";
 
 // The commands.
-static COMMANDS: [&str; 13] = [
-    "classify", "explain", "prove", "check", "verify", "holds", "run", "slim", "restart", "gen",
-    "soak", "proof", "draw",
-];
+const COMMANDS: &[u8] =
+    b"classify explain prove check verify holds run slim restart gen soak proof draw";
 
 /// Appends the command that was perhaps meant, if the first argument isn't a command.
 pub(crate) fn push_command(
@@ -50,20 +49,15 @@ pub(crate) fn push_command(
     let Some(first) = words.first() else {
         return Ok(());
     };
-    let mut commands = Vec::new(alloc);
-    for command in COMMANDS.iter() {
-        if command.as_bytes() == first.as_bytes() {
-            return Ok(());
-        }
-        commands.push(command.as_bytes())?;
-    }
-    let Some(meant) = likest(first.as_bytes(), &commands) else {
+    let word = first.as_bytes();
+    if has_word(COMMANDS, word) {
         return Ok(());
-    };
-    push_filled(
-        note,
-        b"`%` isn't a command: did you mean ",
-        &[first.as_bytes()],
-    )?;
-    push_filled(note, b"`%`?\n\n", &[meant])
+    }
+    match likest(word, &words_of(alloc, COMMANDS)?) {
+        Some(meant) => {
+            push_filled(note, b"`%` isn't a command: did you mean ", &[word])?;
+            push_filled(note, b"`%`?\n\n", &[meant])
+        }
+        None => Ok(()),
+    }
 }

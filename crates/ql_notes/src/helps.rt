@@ -3,11 +3,11 @@
 use crate::above::Above;
 use crate::arguments::push_operation;
 use crate::columns::FaultyLine;
-use crate::declared::{declared, named, type_at, word_after};
+use crate::declared::{declared, named, place_in, word_after};
 use crate::fields::field_text;
 use crate::filled::push_counted;
 use crate::names::push_known;
-use crate::pieces::piece;
+use crate::pieces::{next_of, pieces_after};
 use crate::stamp::right_stamp;
 use crate::words::is;
 use ql_base::NoMemory;
@@ -85,12 +85,8 @@ fn candidates<'a>(
 
 // The operations of the type of a call's object.
 fn operations_of<'a>(alloc: Global, line: FaultyLine<'a>) -> Result<Vec<&'a [u8]>, NoMemory> {
-    let declared = word_after(line.above, b"object", field_text(line.fields, 4));
-    let mut names = Vec::new(alloc);
-    for (k, token) in line.source.iter().enumerate() {
-        if is(*token, b"op") && type_at(line.source, k) == declared {
-            names.push(piece(line.source, k.saturating_add(1)))?;
-        }
-    }
-    Ok(names)
+    let name = word_after(line.above, b"object", field_text(line.fields, 4));
+    let start = place_in(line.source, b"type", name).unwrap_or(line.source.len());
+    let end = next_of(line.source, start.saturating_add(1), b"type").unwrap_or(line.source.len());
+    pieces_after(alloc, line.source, start, end, b"op")
 }

@@ -39,8 +39,7 @@ fn push_bad_byte(said: &mut Vec<u8>, text: &[u8], at: usize) -> Result<Spot, NoM
     let byte = rest_of(text, at).first().copied().unwrap_or(b'\n');
     let one = Spot { from: at, bytes: 1 };
     let Some(quote) = open_quote(text, at) else {
-        push_byte(said, b"no token begins with ", byte)?;
-        push_bytes(said, advice(byte))?;
+        push_byte(said, b"no token begins with ", byte, advice(byte))?;
         return Ok(one);
     };
     if byte == b'\n' || byte == b'\r' {
@@ -50,20 +49,21 @@ fn push_bad_byte(said: &mut Vec<u8>, text: &[u8], at: usize) -> Result<Spot, NoM
             bytes: at.saturating_sub(quote),
         });
     }
-    push_byte(said, b"", byte)?;
-    push_bytes(
+    push_byte(
         said,
+        b"",
+        byte,
         b" isn't allowed in a text, which may have bytes from space to `~` except `\"` and `\\`",
     )?;
     Ok(one)
 }
 
-// Appends some words, and then a printable byte in quotes, or any other byte as a number.
-fn push_byte(said: &mut Vec<u8>, before: &[u8], byte: u8) -> Result<(), NoMemory> {
+// Appends a printable byte in quotes, or any other byte as a number, between some words.
+fn push_byte(said: &mut Vec<u8>, before: &[u8], byte: u8, after: &[u8]) -> Result<(), NoMemory> {
     if 33 <= byte && byte <= 126 {
-        push_filled(said, b"%`%`", &[before, &[byte]])
+        push_filled(said, b"%`%`%", &[before, &[byte], after])
     } else {
-        push_counted(said, b"%the byte #", &[before], &[byte as u64])
+        push_counted(said, b"%the byte #%", &[before, after], &[byte as u64])
     }
 }
 
@@ -103,24 +103,21 @@ fn open_quote(text: &[u8], at: usize) -> Option<usize> {
 
 // Appends how long a name or a text is. Returns the bytes to mark, with the quotes of a text.
 fn push_long(said: &mut Vec<u8>, rest: &[u8]) -> Result<usize, NoMemory> {
-    if rest.starts_with(b"\"") {
-        let bytes = text_bytes(rest);
-        push_counted(
-            said,
+    let is_text = rest.starts_with(b"\"");
+    let (sentence, bytes): (&[u8], usize) = if is_text {
+        (
             b"this text is # bytes long, but at most 64 are allowed",
-            &[],
-            &[bytes as u64],
-        )?;
-        return Ok(bytes.saturating_add(2));
-    }
-    let bytes = word_bytes(rest);
-    push_counted(
-        said,
-        b"this name is # bytes long, but at most 32 are allowed",
-        &[],
-        &[bytes as u64],
-    )?;
-    Ok(bytes)
+            text_bytes(rest),
+        )
+    } else {
+        (
+            b"this name is # bytes long, but at most 32 are allowed",
+            word_bytes(rest),
+        )
+    };
+    push_counted(said, sentence, &[], &[bytes as u64])?;
+    let quotes = if is_text { 2 } else { 0 };
+    Ok(bytes.saturating_add(quotes))
 }
 
 // How many bytes there are between the quotes of a text.

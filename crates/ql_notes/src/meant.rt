@@ -4,9 +4,11 @@ use crate::declared::{declared, place_in};
 use crate::filled::push_filled;
 use crate::likeness::{likest, push_meant};
 use crate::names::{push_known, push_listed};
-use crate::pieces::{last_of, next_of, piece, place_between};
+use crate::pieces::{
+    last_of, next_of, piece, piece_after, piece_before, pieces_after, place_between,
+};
 use crate::repair::{is_chosen, part_of};
-use crate::words::{has_word, is};
+use crate::words::{has_word, is, words_of};
 use ql_base::NoMemory;
 use std::alloc::Global;
 
@@ -25,15 +27,13 @@ enum Meant {
     Value,
 }
 
-static FUNCTIONS: [&str; 9] = [
-    "has", "size", "add", "remove", "union", "put", "drop", "get", "sum",
-];
+const FUNCTIONS: &[u8] = b"has size add remove union put drop get sum";
 
-static VALUES: [&str; 3] = ["true", "false", "unit"];
+const LITERALS: &[u8] = b"true false unit";
 
 fn meant_at(tokens: &[&[u8]], k: usize) -> Meant {
     let part = part_of(tokens, k).0;
-    let next = piece(tokens, k.saturating_add(1));
+    let next = piece_after(tokens, k);
     if is(part, b"uses") || is_chosen(tokens, k) {
         Meant::Operation
     } else if is(part, b"contract") {
@@ -86,28 +86,44 @@ pub(crate) fn push_instead(
     k: usize,
 ) -> Result<(), NoMemory> {
     let word = piece(tokens, k);
-    let names = match meant_at(tokens, k) {
-        Meant::Operation => declared(alloc, tokens, b"op")?,
-        Meant::Current => return push_listed(note, &variables(alloc, tokens, k)?),
-        Meant::Variable => {
-            if place_in(tokens, b"op", word).is_some() {
-                return push_effects_of(note, word);
-            }
-            variables(alloc, tokens, k)?
-        }
-        Meant::Function => words(alloc, &FUNCTIONS)?,
-        Meant::Target => fields(alloc, tokens, k)?,
-        Meant::Parameter => return push_listed(note, &values(alloc, tokens, k)?),
-        Meant::Value => {
-            let meant = likest(word, &words(alloc, &VALUES)?);
-            if meant.is_some() {
-                return push_meant(note, meant);
-            }
-            push_known(note, word, &values(alloc, tokens, k)?)?;
-            return push_unused(note, tokens, k);
-        }
-    };
-    push_known(note, word, &names)
+    match meant_at(tokens, k) {
+        Meant::Variable if place_in(tokens, b"op", word).is_some() => push_effects_of(note, word),
+        Meant::Current => push_listed(note, &variables(alloc, tokens, k)?),
+        Meant::Parameter => push_listed(note, &values(alloc, tokens, k)?),
+        Meant::Value => push_value(alloc, note, tokens, k),
+        meant => push_known(note, word, &known_names(alloc, tokens, k, meant)?),
+    }
+}
+
+// The names of which one was perhaps meant.
+fn known_names<'a>(
+    alloc: Global,
+    tokens: &[&'a [u8]],
+    k: usize,
+    meant: Meant,
+) -> Result<Vec<&'a [u8]>, NoMemory> {
+    match meant {
+        Meant::Operation => declared(alloc, tokens, b"op"),
+        Meant::Function => words_of(alloc, FUNCTIONS),
+        Meant::Target => fields(alloc, tokens, k),
+        _ => variables(alloc, tokens, k),
+    }
+}
+
+// Appends the literal or the name that was perhaps meant by an unknown value, or else what could be mended.
+fn push_value(
+    alloc: Global,
+    note: &mut Vec<u8>,
+    tokens: &[&[u8]],
+    k: usize,
+) -> Result<(), NoMemory> {
+    let word = piece(tokens, k);
+    let literal = likest(word, &words_of(alloc, LITERALS)?);
+    if literal.is_some() {
+        return push_meant(note, literal);
+    }
+    push_known(note, word, &values(alloc, tokens, k)?)?;
+    push_unused(note, tokens, k)
 }
 
 // A parameter that its operation never uses may be the unknown name, misspelt where it is declared.
@@ -140,46 +156,39 @@ fn push_effects_of(note: &mut Vec<u8>, operation: &[u8]) -> Result<(), NoMemory>
     )
 }
 
-fn words(alloc: Global, words: &[&'static str]) -> Result<Vec<&'static [u8]>, NoMemory> {
-    let mut bytes = Vec::new(alloc);
-    for word in words {
-        bytes.push(word.as_bytes())?;
-    }
-    Ok(bytes)
-}
-
 // The variables of the contract around a token, and in an operation the current effect.
 fn variables<'a>(alloc: Global, tokens: &[&'a [u8]], k: usize) -> Result<Vec<&'a [u8]>, NoMemory> {
     let start = part_of(tokens, k).1.saturating_add(1);
-    let mut names = Vec::new(alloc);
-    if is(piece(tokens, start), b"forall") {
-        let end = next_of(tokens, start, b".").unwrap_or(start);
-        for (j, token) in tokens.iter().enumerate() {
-            if start < j && j < end && has_word(b"forall ,", piece(tokens, j.saturating_sub(1))) {
-                names.push(*token)?;
-            }
-        }
-    }
-    let owner = piece(
-        tokens,
-        last_of(tokens, start, b"op transaction").unwrap_or(start),
-    );
-    if is(owner, b"op") {
+    let end = end_of_quantifiers(tokens, start);
+    let mut names = pieces_after(alloc, tokens, start, end, b"forall ,")?;
+    if is_in_operation(tokens, start) {
         names.push(b"cur".as_slice())?;
     }
     Ok(names)
 }
 
+// Where the variables end in a contract that begins at a token: before the piece ahead of the point.
+fn end_of_quantifiers(tokens: &[&[u8]], start: usize) -> usize {
+    if is(piece(tokens, start), b"forall") {
+        next_of(tokens, start, b".")
+            .unwrap_or(start)
+            .saturating_sub(1)
+    } else {
+        start
+    }
+}
+
+fn is_in_operation(tokens: &[&[u8]], k: usize) -> bool {
+    match last_of(tokens, k, b"op transaction") {
+        Some(owner) => is(piece(tokens, owner), b"op"),
+        None => false,
+    }
+}
+
 // The fields of the type around a token.
 fn fields<'a>(alloc: Global, tokens: &[&'a [u8]], k: usize) -> Result<Vec<&'a [u8]>, NoMemory> {
     let start = last_of(tokens, k, b"type").unwrap_or(k);
-    let mut names = Vec::new(alloc);
-    for (j, token) in tokens.iter().enumerate() {
-        if start < j && j < k && is(piece(tokens, j.saturating_sub(1)), b"state") {
-            names.push(*token)?;
-        }
-    }
-    Ok(names)
+    pieces_after(alloc, tokens, start, k.saturating_sub(1), b"state")
 }
 
 // The names that an expression may use: fields, and parameters or, in a statement, emitted values.
@@ -211,8 +220,7 @@ fn parameters_before(tokens: &[&[u8]], k: usize) -> (usize, usize) {
 
 /// Whether a token is a name with a kind after it.
 pub(crate) fn is_bound(tokens: &[&[u8]], k: usize) -> bool {
-    has_word(b"emit ( ,", piece(tokens, k.saturating_sub(1)))
-        && is(piece(tokens, k.saturating_add(1)), b":")
+    has_word(b"emit ( ,", piece_before(tokens, k)) && is(piece_after(tokens, k), b":")
 }
 
 /// The first token between two others that is a word with a kind after it.

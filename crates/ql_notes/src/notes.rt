@@ -90,11 +90,41 @@ fn push_bad_file<S: Shelf>(
     let Some(name) = name_of_part(words, fault.part) else {
         return Ok(());
     };
-    let text = source_text(alloc, shelf, file_of(words, 0).unwrap_or(name))?;
+    let source = file_of(words, 0).unwrap_or(name);
+    push_finding(alloc, note, source, name, Finding::Fault(fault), shelf)
+}
+
+// What an answer says of a file that isn't a source.
+#[derive(Clone, Copy)]
+enum Finding<'a> {
+    Fault(Fault<'a>),
+    Refusal(Refusal<'a>),
+}
+
+// Appends a note on a file that goes with a source.
+fn push_finding<S: Shelf>(
+    alloc: Global,
+    note: &mut Vec<u8>,
+    source: &str,
+    name: &str,
+    finding: Finding,
+    shelf: &mut S,
+) -> Result<(), NoMemory> {
+    let text = text_of(alloc, shelf, source, SOURCE_BYTES)?;
     let found = tokens_of(alloc, &text)?;
     let tokens = pieces(alloc, &text, &found)?;
-    let other = file_text(alloc, shelf, name)?;
-    push_line_fault(alloc, note, file(name, &other), fault, &tokens)
+    let other = text_of(alloc, shelf, name, FILE_BYTES)?;
+    let file = file(name, &other);
+    match finding {
+        Finding::Fault(fault) => push_line_fault(alloc, note, file, fault, &tokens),
+        Finding::Refusal(refusal) => {
+            let source = Source {
+                name: source.as_bytes(),
+                tokens: &tokens,
+            };
+            push_refusal(alloc, note, file, source, refusal)
+        }
+    }
 }
 
 fn file<'a>(name: &'a str, text: &'a [u8]) -> File<'a>
@@ -117,7 +147,7 @@ fn push_bad_source<S: Shelf>(
     let Some(name) = file_of(words, 0) else {
         return Ok(());
     };
-    let text = source_text(alloc, shelf, name)?;
+    let text = text_of(alloc, shelf, name, SOURCE_BYTES)?;
     push_source_fault(alloc, note, file(name, &text), fault)
 }
 
@@ -144,15 +174,7 @@ fn push_refused<S: Shelf>(
         return Ok(());
     };
     let name = file_of(words, 1).unwrap_or(source);
-    let text = source_text(alloc, shelf, source)?;
-    let found = tokens_of(alloc, &text)?;
-    let tokens = pieces(alloc, &text, &found)?;
-    let other = file_text(alloc, shelf, name)?;
-    let source = Source {
-        name: source.as_bytes(),
-        tokens: &tokens,
-    };
-    push_refusal(alloc, note, file(name, &other), source, refusal)
+    push_finding(alloc, note, source, name, Finding::Refusal(refusal), shelf)
 }
 
 // Appends a note on a contract that holds.
@@ -164,7 +186,7 @@ fn push_holding<S: Shelf>(
 ) -> Result<(), NoMemory> {
     match file_of(words, 0) {
         Some(name) if is(command(words), b"holds") => {
-            let text = file_text(alloc, shelf, name)?;
+            let text = text_of(alloc, shelf, name, FILE_BYTES)?;
             push_unmet(alloc, note, file(name, &text))
         }
         _ => Ok(()),
@@ -199,20 +221,16 @@ fn baseline_of(words: &Vec<String>) -> Option<&str> {
     None
 }
 
-// The bytes of a source; none where it can't be read again.
-fn source_text<S: Shelf>(alloc: Global, shelf: &mut S, name: &str) -> Result<Vec<u8>, NoMemory>
-    ensures { IfOk result (λ text. length text.items ≤ 1048576) }
+// The bytes of a file, at most this many; none where it can't be read again.
+fn text_of<S: Shelf>(
+    alloc: Global,
+    shelf: &mut S,
+    name: &str,
+    most: usize,
+) -> Result<Vec<u8>, NoMemory>
+    ensures { IfOk result (λ text. length text.items ≤ most) }
 {
-    match read_whole(alloc, shelf, name, SOURCE_BYTES) {
-        Ok(text) => Ok(text),
-        Err(ReadError::NoMemory) => Err(NoMemory),
-        Err(_) => Ok(Vec::new(alloc)),
-    }
-}
-
-// The bytes of another file; none where it can't be read again.
-fn file_text<S: Shelf>(alloc: Global, shelf: &mut S, name: &str) -> Result<Vec<u8>, NoMemory> {
-    match read_whole(alloc, shelf, name, FILE_BYTES) {
+    match read_whole(alloc, shelf, name, most) {
         Ok(text) => Ok(text),
         Err(ReadError::NoMemory) => Err(NoMemory),
         Err(_) => Ok(Vec::new(alloc)),

@@ -48,6 +48,41 @@ pub(crate) fn piece<'a>(pieces: &[&'a [u8]], k: usize) -> &'a [u8] {
     }
 }
 
+/// The piece after an index, empty where there is none.
+pub(crate) fn piece_after<'a>(pieces: &[&'a [u8]], k: usize) -> &'a [u8] {
+    piece(pieces, k.saturating_add(1))
+}
+
+/// The piece before an index; at the index 0 the first piece itself.
+pub(crate) fn piece_before<'a>(pieces: &[&'a [u8]], k: usize) -> &'a [u8] {
+    piece(pieces, k.saturating_sub(1))
+}
+
+/// The piece after the last one up to an index, inclusive, that is one of some words; empty where there is none.
+pub(crate) fn piece_after_last<'a>(pieces: &[&'a [u8]], k: usize, words: &[u8]) -> &'a [u8] {
+    match last_of(pieces, k, words) {
+        Some(j) => piece_after(pieces, j),
+        None => b"",
+    }
+}
+
+/// The pieces that follow some words, which are from an index on and before another one.
+pub(crate) fn pieces_after<'a>(
+    alloc: Global,
+    pieces: &[&'a [u8]],
+    from: usize,
+    to: usize,
+    words: &[u8],
+) -> Result<Vec<&'a [u8]>, NoMemory> {
+    let mut found = Vec::new(alloc);
+    for (j, piece) in pieces.iter().enumerate() {
+        if from <= j && j < to && has_word(words, piece) {
+            found.push(piece_after(pieces, j))?;
+        }
+    }
+    Ok(found)
+}
+
 /// Replaces a piece by a word.
 pub(crate) fn put<'a>(pieces: &mut [&'a [u8]], k: usize, word: &'a [u8]) {
     if k < pieces.len() {

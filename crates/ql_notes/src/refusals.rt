@@ -1,7 +1,7 @@
 // Notes on a certificate or a proof that is refused: the section, the line, and what can be done.
 ghost use Rattle.std.specs.Prelude.{◌≤◌, length};
 
-use crate::above::{first_word, without_return};
+use crate::above::{first_word, is_line_start, without_return};
 use crate::declared::{declared, word_of};
 use crate::filled::{push_counted, push_filled};
 use crate::pieces::piece;
@@ -79,27 +79,27 @@ pub(crate) fn push_refusal(
     refusal: Refusal,
 ) -> Result<(), NoMemory> {
     let mut said = Vec::new(alloc);
-    if is(refusal.rule, b"order") {
+    let spot = if is(refusal.rule, b"order") {
         let number = number_of(refusal.line, u32::MAX as u64).unwrap_or(1);
         push_order(alloc, &mut said, source, number)?;
-        push_fault(
-            note,
-            file,
-            section_spot(file.text, number),
-            refusal.rule,
-            &said,
-        )?;
-        return push_anew(note, source);
-    }
-    push_cause(&mut said, refusal)?;
-    push_fault(note, file, spot_of(file.text, refusal), refusal.rule, &said)?;
-    if refusal.section.is_empty() {
-        return Ok(());
-    }
+        section_spot(file.text, number)
+    } else {
+        push_cause(&mut said, refusal)?;
+        spot_of(file.text, refusal)
+    };
+    push_fault(note, file, spot, refusal.rule, &said)?;
+    push_remedies(note, source, refusal)
+}
+
+// What can be done about a refused certificate; a proof has neither sections nor an order.
+fn push_remedies(note: &mut Vec<u8>, source: Source, refusal: Refusal) -> Result<(), NoMemory> {
     if may_be_too_low(refusal) {
         push_levels(note, source)?;
     }
-    push_anew(note, source)
+    if is(refusal.rule, b"order") || !refusal.section.is_empty() {
+        push_anew(note, source)?;
+    }
+    Ok(())
 }
 
 // The refused line, and why it is refused.
@@ -109,19 +109,11 @@ fn push_cause(said: &mut Vec<u8>, refusal: Refusal) -> Result<(), NoMemory> {
         section,
         line,
     } = refusal;
-    if !section.is_empty() {
-        push_filled(said, b"section `%`", &[section])?;
-    }
-    if !line.is_empty() {
-        let place: &[u8] = if section.is_empty() {
-            b"line %"
-        } else {
-            b", line %"
-        };
-        push_filled(said, place, &[line])?;
-    }
-    if !section.is_empty() || !line.is_empty() {
-        push_bytes(said, b": ")?;
+    match (section.is_empty(), line.is_empty()) {
+        (false, false) => push_filled(said, b"section `%`, line %: ", &[section, line])?,
+        (false, true) => push_filled(said, b"section `%`: ", &[section])?,
+        (true, false) => push_filled(said, b"line %: ", &[line])?,
+        (true, true) => {}
     }
     push_bytes(said, sentence_of(REFUSALS, rule))
 }
@@ -134,33 +126,26 @@ fn push_order(
     number: u64,
 ) -> Result<(), NoMemory> {
     let ops = declared(alloc, source.tokens, b"op")?;
-    let txns = declared(alloc, source.tokens, b"transaction")?;
     let k = number.saturating_sub(1) as usize;
-    let (name, sentence): (&[u8], &[u8]) = if k < ops.len() {
-        (
-            piece(&ops, k),
-            b"sections follow the order of the source, so section # must be that of `op %`",
-        )
-    } else {
-        (
-            piece(&txns, k.saturating_sub(ops.len())),
-            b"sections follow the order of the source, so section # must be that of `txn %`",
-        )
+    let (sort, name) = match ops.get(k) {
+        Some(name) => (b"op".as_slice(), *name),
+        None => {
+            let txns = declared(alloc, source.tokens, b"transaction")?;
+            (b"txn".as_slice(), piece(&txns, k.saturating_sub(ops.len())))
+        }
     };
-    if name.is_empty() {
-        return push_counted(
-            said,
-            b"sections follow the order of the source, and section # is one too many",
-            &[],
-            &[number],
-        );
-    }
-    push_counted(said, sentence, &[name], &[number])
+    let sentence: &[u8] = if name.is_empty() {
+        b"sections follow the order of the source, and section # is one too many"
+    } else {
+        b"sections follow the order of the source, so section # must be that of `% %`"
+    };
+    push_counted(said, sentence, &[sort, name], &[number])
 }
 
 // Whether a higher level could help: the hints lead nowhere, and the level isn't the highest.
 fn may_be_too_low(refusal: Refusal) -> bool {
     has_word(b"NotUnit NoConflict NoEmpty", refusal.rule)
+        && !refusal.section.is_empty()
         && !refusal.section.ends_with(b" strong")
         && !refusal.section.ends_with(b" rr")
 }
@@ -185,7 +170,7 @@ fn push_anew(note: &mut Vec<u8>, source: Source) -> Result<(), NoMemory> {
 fn section_spot(text: &[u8], number: u64) -> Spot {
     let mut count = 0u64;
     for k in 0..text.len() {
-        if k > 0 && text[k - 1] != b'\n' {
+        if !is_line_start(text, k) {
             continue;
         }
         let first = first_word(line_of(&text[k..]));
@@ -203,7 +188,7 @@ fn section_spot(text: &[u8], number: u64) -> Spot {
 fn spot_of(text: &[u8], refusal: Refusal) -> Spot {
     let mut is_inside = refusal.section.is_empty();
     for k in 0..text.len() {
-        if k > 0 && text[k - 1] != b'\n' {
+        if !is_line_start(text, k) {
             continue;
         }
         let line = line_of(&text[k..]);

@@ -4,7 +4,7 @@
 // name; an expression becomes one of its kind, and a statement is dropped; an unknown effect of a contract becomes
 // another effect, an unknown operation is dropped, and where that isn't enough the contract becomes `true`.
 
-use crate::pieces::{after, before, clear, last_of, next_of, piece, put};
+use crate::pieces::{after, before, clear, last_of, next_of, piece, piece_after, put};
 use crate::words::{has_word, is, sentence_of};
 use ql_typing::TypeFault;
 
@@ -90,7 +90,7 @@ fn drop_used(pieces: &mut [&[u8]], k: usize) {
         return;
     }
     if let Some(op) = next_of(pieces, 0, b"op") {
-        let name = piece(pieces, op.saturating_add(1));
+        let name = piece_after(pieces, op);
         put(pieces, k, name);
     }
 }
@@ -126,7 +126,7 @@ fn known_effect<'a>(pieces: &[&'a [u8]], start: usize) -> Option<&'a [u8]> {
     }
     let first = start.saturating_add(1);
     if is(piece(pieces, first), b"forall") {
-        Some(piece(pieces, first.saturating_add(1)))
+        Some(piece_after(pieces, first))
     } else {
         None
     }
@@ -208,7 +208,7 @@ fn end_of_bound(pieces: &[&[u8]], from: usize) -> usize {
 fn initial(pieces: &mut [&[u8]], start: usize, k: usize) {
     let colon = next_of(pieces, start, b":").unwrap_or(k);
     let sign = next_of(pieces, start, b"=").unwrap_or(k);
-    let value = value_of(piece(pieces, colon.saturating_add(1)));
+    let value = value_of(piece_after(pieces, colon));
     replace(pieces, sign.saturating_add(1), end_of(pieces, k), value);
 }
 

@@ -1,6 +1,7 @@
 // The stamp that an effect in an execution's file should have.
 ghost use Rattle.std.specs.Prelude.{◌≤◌, length};
 
+use crate::above::is_line_start;
 use crate::words::{has_word, is, word};
 use ql_base::number_of;
 use ql_excerpt::{Place, line_of};
@@ -24,10 +25,7 @@ pub(crate) fn right_stamp(text: &[u8], place: Place) -> Option<u64>
     let effect = effect_of(line_of(&text[place.start..]))?;
     let mut greatest = 0;
     for k in 0..place.start {
-        if k > 0 && text[k - 1] != b'\n' {
-            continue;
-        }
-        if let Some(other) = effect_of(line_of(&text[k..]))
+        if let Some(other) = effect_at(text, k)
             && (other.session == effect.session || has_word(effect.seen, other.id))
             && other.stamp > greatest
         {
@@ -37,8 +35,19 @@ pub(crate) fn right_stamp(text: &[u8], place: Place) -> Option<u64>
     Some(greatest.saturating_add(1))
 }
 
-/// effect ID .. session S txn T stamp N vis ID..
-pub(crate) fn effect_of(line: &[u8]) -> Option<EffectLine> {
+/// The effect of the line that begins at an offset, if a line with one begins there.
+pub(crate) fn effect_at(text: &[u8], k: usize) -> Option<EffectLine>
+    requires { k ≤ length text.now }
+{
+    if is_line_start(text, k) {
+        effect_of(line_of(&text[k..]))
+    } else {
+        None
+    }
+}
+
+// effect ID .. session S txn T stamp N vis ID..
+fn effect_of(line: &[u8]) -> Option<EffectLine> {
     let (effect, rest) = word(line);
     let (id, _) = word(rest);
     if !is(effect, b"effect") {

@@ -4,6 +4,7 @@ use crate::expected::{expected, push_expected};
 use crate::filled::push_filled;
 use crate::guesses::{Guess, likeliest_repair};
 use crate::notes::SOURCE_BYTES;
+use crate::words::is;
 use ql_base::{NoMemory, is_keyword, push_bytes};
 use std::alloc::Global;
 
@@ -28,7 +29,7 @@ pub(crate) fn push_syntax(alloc: Global, note: &mut Vec<u8>, found: Break) -> Re
     push_expected(alloc, note, &terminals, guess, found.is_line)?;
     push_bytes(note, b"\n")?;
     match (guess, terminals.first()) {
-        (Guess::Nothing, Some(first)) if *first == "x" && is_keyword(found.word) => push_filled(
+        (Guess::Nothing, Some(first)) if is(first, b"x") && is_keyword(found.word) => push_filled(
             note,
             b"  `%` is a keyword, so it can't be a name\n",
             &[found.word],
@@ -50,12 +51,8 @@ fn push_found(note: &mut Vec<u8>, found: Break) -> Result<(), NoMemory> {
 
 fn push_guess(note: &mut Vec<u8>, guess: Guess) -> Result<(), NoMemory> {
     match guess {
-        Guess::Instead(word) => push_filled(note, b"  did you mean `%`?\n", &[word.as_bytes()]),
-        Guess::Missing(word) => push_filled(
-            note,
-            b"  perhaps `%` is missing before it\n",
-            &[word.as_bytes()],
-        ),
+        Guess::Instead(word) => push_filled(note, b"  did you mean `%`?\n", &[word]),
+        Guess::Missing(word) => push_filled(note, b"  perhaps `%` is missing before it\n", &[word]),
         Guess::Extra => push_bytes(note, b"  perhaps it should be removed\n"),
         Guess::Nothing => Ok(()),
     }

@@ -4,7 +4,7 @@ ghost use Rattle.std.specs.Prelude.{◌≤◌, length};
 use crate::contracts::contract_at;
 use crate::declared::named;
 use crate::likeness::{likest, push_meant};
-use crate::pieces::{next_of, piece, pieces, place_between, tokens_of};
+use crate::pieces::{next_of, piece, piece_before, pieces, place_between, tokens_of};
 use crate::words::has_word;
 use ql_base::NoMemory;
 use ql_excerpt::{File, Spot, push_fault};
@@ -22,7 +22,7 @@ pub(crate) fn push_unmet(alloc: Global, note: &mut Vec<u8>, file: File) -> Resul
     let end = next_of(&pieces, 0, b".").unwrap_or(0);
     for (k, token) in found.iter().enumerate() {
         let name = piece(&pieces, k);
-        let is_chosen = k > 0 && k < end && has_word(b": |", piece(&pieces, k.saturating_sub(1)));
+        let is_chosen = k > 0 && k < end && has_word(b": |", piece_before(&pieces, k));
         if is_chosen && place_between(&ops, 0, ops.len(), name).is_none() {
             let spot = Spot {
                 from: from.saturating_add(token.from as usize),

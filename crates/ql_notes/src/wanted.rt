@@ -1,13 +1,13 @@
 // What a line has where it deviates from its form, and what was expected there.
 
+use crate::above::is_line_start;
 use crate::fields::{Field, field_text};
 use crate::filled::{push_counted, push_filled};
 use crate::fits::{listed_words, meaning, stands_for_itself};
 use crate::forms::Misfit;
 use crate::likeness::{likest, push_meant};
-use crate::words::{is, word};
+use crate::words::{is, push_words, word};
 use ql_base::{NoMemory, number_of, push_bytes};
-use ql_excerpt::line_of;
 use std::alloc::Global;
 
 /// Appends what was found and what was expected, and a word that was perhaps meant.
@@ -22,15 +22,26 @@ pub(crate) fn push_wanted(
     if found.is_empty() && word(misfit.form).0.ends_with(b"..") {
         return push_descent(note, fields);
     }
+    let firsts = first_words(alloc, misfit.form)?;
     push_found(note, fields, found)?;
     if misfit.is_choice {
-        push_first_words(note, misfit.form, next)?;
+        push_first_words(note, &firsts, next)?;
     } else {
         push_next_words(note, misfit.form, next)?;
     }
     push_bytes(note, b"\n")?;
-    let words = own_words(alloc, misfit)?;
-    push_meant(note, likest(found, &words))
+    push_meant(note, likest(found, &own_words(alloc, &firsts)?))
+}
+
+// The first word of each line of a form.
+fn first_words(alloc: Global, form: &'static [u8]) -> Result<Vec<&'static [u8]>, NoMemory> {
+    let mut words = Vec::new(alloc);
+    for k in 0..form.len() {
+        if is_line_start(form, k) {
+            words.push(word(&form[k..]).0)?;
+        }
+    }
+    Ok(words)
 }
 
 // Appends which of the effects that an effect sees isn't in ascending order.
@@ -69,18 +80,24 @@ pub(crate) fn push_quoted(note: &mut Vec<u8>, word: &[u8]) -> Result<(), NoMemor
     push_filled(note, b"`%`", &[word])
 }
 
-// The first words of the forms that a line may have.
-fn push_first_words(note: &mut Vec<u8>, forms: &[u8], next: u64) -> Result<(), NoMemory> {
-    for k in 0..forms.len() {
-        if k == 0 || forms[k - 1] == b'\n' {
-            if k > 0 {
-                let is_last = line_of(&forms[k..]).len() == forms.len() - k;
-                push_bytes(note, if is_last { b" or " } else { b", " })?;
-            }
-            push_word(note, word(&forms[k..]).0, next)?;
-        }
+// Appends the first words of the forms that a line may have.
+fn push_first_words(note: &mut Vec<u8>, firsts: &[&[u8]], next: u64) -> Result<(), NoMemory> {
+    for (k, first) in firsts.iter().enumerate() {
+        push_separator(note, k, firsts.len())?;
+        push_word(note, first, next)?;
     }
     Ok(())
+}
+
+/// Appends what comes before the item at an index of a list of alternatives.
+pub(crate) fn push_separator(note: &mut Vec<u8>, k: usize, count: usize) -> Result<(), NoMemory> {
+    if k == 0 {
+        Ok(())
+    } else if k.saturating_add(1) == count {
+        push_bytes(note, b" or ")
+    } else {
+        push_bytes(note, b", ")
+    }
 }
 
 // Appends what comes next in a form: its next word, and the one after it if the first stands for itself.
@@ -112,29 +129,15 @@ fn push_word(note: &mut Vec<u8>, wanted: &[u8], next: u64) -> Result<(), NoMemor
 }
 
 // The words that may come next in a form: those that stand for themselves, and those that are listed.
-fn own_words(alloc: Global, misfit: Misfit) -> Result<Vec<&'static [u8]>, NoMemory> {
+fn own_words(alloc: Global, firsts: &[&'static [u8]]) -> Result<Vec<&'static [u8]>, NoMemory> {
     let mut words = Vec::new(alloc);
-    let forms = misfit.form;
-    for k in 0..forms.len() {
-        if k == 0 || (misfit.is_choice && forms[k - 1] == b'\n') {
-            let first = word(line_of(&forms[k..])).0;
-            if stands_for_itself(first) {
-                words.push(first)?;
-            }
-            push_listed_words(&mut words, listed_words(first))?;
-        }
+    for first in firsts {
+        let own = if stands_for_itself(first) {
+            *first
+        } else {
+            listed_words(first)
+        };
+        push_words(&mut words, own)?;
     }
     Ok(words)
-}
-
-fn push_listed_words(
-    words: &mut Vec<&'static [u8]>,
-    listed: &'static [u8],
-) -> Result<(), NoMemory> {
-    for k in 0..listed.len() {
-        if k == 0 || listed[k - 1] == b' ' {
-            words.push(word(&listed[k..]).0)?;
-        }
-    }
-    Ok(())
 }

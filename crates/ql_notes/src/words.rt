@@ -1,6 +1,8 @@
 // Words of a text, separated by blanks.
 
+use ql_base::NoMemory;
 use ql_excerpt::line_of;
+use std::alloc::Global;
 
 /// The bytes before the first blank, and those after it.
 pub(crate) fn word(text: &[u8]) -> (&[u8], &[u8]) {
@@ -25,6 +27,23 @@ pub(crate) fn has_word(text: &[u8], wanted: &[u8]) -> bool {
         }
     }
     false
+}
+
+/// The words of a text.
+pub(crate) fn words_of<'a>(alloc: Global, text: &'a [u8]) -> Result<Vec<&'a [u8]>, NoMemory> {
+    let mut words = Vec::new(alloc);
+    push_words(&mut words, text)?;
+    Ok(words)
+}
+
+/// Appends the words of a text.
+pub(crate) fn push_words<'a>(words: &mut Vec<&'a [u8]>, text: &'a [u8]) -> Result<(), NoMemory> {
+    for k in 0..text.len() {
+        if k == 0 || text[k - 1] == b' ' {
+            words.push(word(&text[k..]).0)?;
+        }
+    }
+    Ok(())
 }
 
 /// The sentence after a word, in a text that has one on each line.
