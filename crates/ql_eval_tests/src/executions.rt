@@ -121,13 +121,17 @@ fn stepped_back(alloc: Global, row: &str) -> Result<Vec<u8>, NoMemory> {
         return spelled(alloc, "no execution");
     };
     let copy = execution.copy()?;
-    if execution.len() >= 1 {
-        execution.pop();
-    }
+    step_back(&mut execution);
     let mut out = pushed(alloc, &mut execution, then)?;
     push_bytes(&mut out, b", copy of ")?;
     push_number(&mut out, copy.len())?;
     Ok(out)
+}
+
+fn step_back(execution: &mut Execution) {
+    if execution.len() >= 1 {
+        execution.pop();
+    }
 }
 
 fn drafts(alloc: Global, text: &str) -> Result<Vec<Draft>, NoMemory> {
