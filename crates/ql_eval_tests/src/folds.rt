@@ -98,17 +98,21 @@ fn answered(alloc: Global, name: &str) -> Result<Vec<u8>, NoMemory> {
     let Ok(execution) = parse_execution(alloc, &typed, file.as_bytes()) else {
         return spelled(alloc, "no execution");
     };
-    let mut count = 0u32;
-    for effect in execution.effects() {
-        if is_answered(alloc, &typed, &execution, effect)? {
-            count = count.saturating_add(1);
-        }
-    }
     let mut out = Vec::new(alloc);
-    push_number(&mut out, count)?;
+    push_number(&mut out, count_answered(alloc, &typed, &execution)?)?;
     push_bytes(&mut out, b" of ")?;
     push_number(&mut out, execution.len())?;
     Ok(out)
+}
+
+fn count_answered(alloc: Global, typed: &Typed, execution: &Execution) -> Result<u32, NoMemory> {
+    let mut count = 0u32;
+    for effect in execution.effects() {
+        if is_answered(alloc, typed, execution, effect)? {
+            count = count.saturating_add(1);
+        }
+    }
+    Ok(count)
 }
 
 fn named(name: &str) -> (&'static str, &'static str) {
