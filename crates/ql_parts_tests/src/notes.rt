@@ -1,9 +1,10 @@
 ghost use Rattle.std.specs.Prelude.{◌≡◌, ◌+◌, ◌^◌, ◌<◌, IfOk, OnOk, length};
 ghost use Rattle.ql_session.specs.Executions.{notes_of};
 
-use ql_base::{EffId, IdSet, NoMemory, ObjId, SessId};
+use ql_base::{EffId, IdSet, NoMemory, ObjId, SessId, push_bytes, push_number};
 use ql_exec::{Effect, Execution, Member};
 use ql_session::Sessions;
+use ql_tables::{check_table, number};
 use ql_test_effects::{draft, id_set};
 use std::alloc::Global;
 use std::test::Fail;
@@ -20,25 +21,45 @@ fn notes(alloc: Global) -> Result<Sessions, NoMemory>
     Ok(sessions)
 }
 
+// The least effect that a session made on an object and that a view lacks.
+const LACKED: &str = "
+session 1 object 0 view -> 3
+session 1 object 0 view 3 -> 7
+session 1 object 0 view 3 7 -> none
+session 2 object 0 view 3 7 -> 2
+session 3 object 9 view 3 7 -> none
+";
+
 #[test]
 fn the_least_effect_that_a_view_lacks(rt: HostRuntime) -> Result<(), Fail> {
-    let alloc = rt.alloc();
+    check_table(rt.alloc(), LACKED, lacked)
+}
+
+fn lacked(alloc: Global, row: &str) -> Result<Vec<u8>, NoMemory> {
+    let (_, ids) = row.split_once("view").unwrap_or((row, ""));
+    let view = set_of(alloc, ids)?;
     let sessions = notes(alloc)?;
-    assert!(rt; least(&sessions, 1, &id_set(alloc, &[])?) == Some(EffId(3)));
-    assert!(rt; least(&sessions, 1, &id_set(alloc, &[3])?) == Some(EffId(7)));
-    assert!(rt; lacks_the_other_session(&sessions, &id_set(alloc, &[3, 7])?));
-    Ok(())
+    least(
+        alloc,
+        sessions.least_missing(SessId(number(row, 1)), ObjId(number(row, 3)), &view),
+    )
 }
 
-// The least effect of a session on object 0 that a view lacks.
-fn least(sessions: &Sessions, session: u32, view: &IdSet) -> Option<EffId> {
-    sessions.least_missing(SessId(session), ObjId(0), view)
+fn set_of(alloc: Global, ids: &str) -> Result<IdSet, NoMemory> {
+    let mut set = IdSet::new(alloc);
+    for id in ids.split_whitespace() {
+        set.insert(number(id, 0))?;
+    }
+    Ok(set)
 }
 
-fn lacks_the_other_session(sessions: &Sessions, view: &IdSet) -> bool {
-    least(sessions, 1, view).is_none()
-        && least(sessions, 2, view) == Some(EffId(2))
-        && sessions.least_missing(SessId(3), ObjId(9), view).is_none()
+fn least(alloc: Global, found: Option<EffId>) -> Result<Vec<u8>, NoMemory> {
+    let mut out = Vec::new(alloc);
+    match found {
+        Some(id) => push_number(&mut out, id.0)?,
+        None => push_bytes(&mut out, b"none")?,
+    }
+    Ok(out)
 }
 
 #[test]
