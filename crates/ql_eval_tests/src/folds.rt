@@ -174,19 +174,21 @@ fn balance(alloc: Global, row: &str) -> Result<Vec<u8>, NoMemory> {
     let Ok(execution) = parse_execution(alloc, &typed, &deposits(alloc, count)?) else {
         return spelled(alloc, "no execution");
     };
+    balance_seeing(alloc, &typed, &execution, &first_ids(alloc, count)?)
+}
+
+fn balance_seeing(
+    alloc: Global,
+    typed: &Typed,
+    execution: &Execution,
+    seen: &IdSet,
+) -> Result<Vec<u8>, NoMemory> {
     let Some(op) = typed.op_named(b"getbalance") else {
         return spelled(alloc, "no operation");
     };
     let none = Values::of(Vec::new(alloc));
     let mut out = Vec::new(alloc);
-    match try_answer(
-        alloc,
-        &typed,
-        op,
-        &none,
-        &execution,
-        &first_ids(alloc, count)?,
-    )? {
+    match try_answer(alloc, typed, op, &none, execution, seen)? {
         Some(answered) => print_value(&mut out, &answered.answer)?,
         None => push_bytes(&mut out, b"no answer")?,
     }
