@@ -15,7 +15,7 @@ pub enum Member {
 }
 
 impl Member {
-    /// Whether it is that of a begun transaction.
+    /// Whether it is in this begun transaction.
     pub fn is_in(self, run: RunId) -> bool
         ensures { result ≡ in_run run.0 self }
     {
