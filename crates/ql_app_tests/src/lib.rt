@@ -1,9 +1,11 @@
-// Tests of the program's commands over files in memory, with answers from outside.
-// It has no contract of its own: each question goes through `quelea`.
+// Tests of the program's commands over files in memory, with answers from outside, and of the calls that the claims
+// are about. It has no contract of its own.
 #![tactic(auto)]
 
 #[cfg(test)]
 mod asking;
+#[cfg(test)]
+mod calls;
 #[cfg(test)]
 mod certificates;
 #[cfg(test)]

@@ -1,9 +1,7 @@
 use crate::texts::spelled;
-use ql_base::{
-    DeclId, EffId, IdSet, NoMemory, ObjId, OpId, RunId, SessId, push_bytes, push_number,
-};
+use ql_base::{DeclId, EffId, NoMemory, ObjId, OpId, RunId, SessId, push_bytes, push_number};
 use ql_exec::{Draft, Effect, ExecFault, Execution, Member, Payload};
-use ql_tables::{check_table, field, number};
+use ql_tables::{check_table, field, id_set_of, number};
 use ql_value::{Value, Values};
 use std::alloc::Global;
 use std::test::Fail;
@@ -81,7 +79,7 @@ fn draft(alloc: Global, row: &str) -> Result<Draft, NoMemory> {
         answer: Value::Unit,
         session: SessId(number(row, 1)),
         member: member(field(row, 2)),
-        seen: set_of(alloc, seen)?,
+        seen: id_set_of(alloc, seen)?,
     })
 }
 
@@ -90,14 +88,6 @@ fn member(text: &str) -> Member {
         Some((run, name)) => Member::Inside(RunId(number(run, 0)), DeclId(number(name, 0))),
         None => Member::Alone,
     }
-}
-
-fn set_of(alloc: Global, ids: &str) -> Result<IdSet, NoMemory> {
-    let mut set = IdSet::new(alloc);
-    for id in ids.split_whitespace() {
-        set.insert(number(id, 0))?;
-    }
-    Ok(set)
 }
 
 // An execution whose last effect is taken back, the effect that replaces it, and how many effects a copy of the first

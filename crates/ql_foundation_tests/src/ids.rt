@@ -1,5 +1,5 @@
-use ql_base::{IdSet, Names, NoMemory, push_bytes, push_number};
-use ql_tables::{check_table, field, number};
+use ql_base::{Names, NoMemory, push_bytes, push_number};
+use ql_tables::{check_table, field, id_set_of, number};
 use std::alloc::Global;
 use std::test::Fail;
 
@@ -22,7 +22,7 @@ fn keeps_each_id_once_in_order(rt: HostRuntime) -> Result<(), Fail> {
 
 fn added(alloc: Global, row: &str) -> Result<Vec<u8>, NoMemory> {
     let (ids, one_more) = row.split_once(" + ").unwrap_or((row, ""));
-    let mut set = set_of(alloc, ids)?;
+    let mut set = id_set_of(alloc, ids)?;
     let id = number(one_more, 0);
     let known = set.has(id);
     let new = set.insert(id)?;
@@ -53,16 +53,8 @@ fn unites(rt: HostRuntime) -> Result<(), Fail> {
 
 fn united(alloc: Global, row: &str) -> Result<Vec<u8>, NoMemory> {
     let (left, right) = row.split_once(" +").unwrap_or((row, ""));
-    let both = set_of(alloc, left)?.union(&set_of(alloc, right.trim_start())?)?;
+    let both = id_set_of(alloc, left)?.union(&id_set_of(alloc, right.trim_start())?)?;
     spelled(alloc, "union:", both.items())
-}
-
-fn set_of(alloc: Global, ids: &str) -> Result<IdSet, NoMemory> {
-    let mut set = IdSet::new(alloc);
-    for id in ids.split_whitespace() {
-        set.insert(number(id, 0))?;
-    }
-    Ok(set)
 }
 
 fn spelled(alloc: Global, word: &str, ids: &[u32]) -> Result<Vec<u8>, NoMemory> {

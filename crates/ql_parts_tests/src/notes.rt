@@ -4,7 +4,7 @@ ghost use Rattle.ql_session.specs.Executions.{notes_of};
 use ql_base::{EffId, IdSet, NoMemory, ObjId, SessId, push_bytes, push_number};
 use ql_exec::{Effect, Execution, Member};
 use ql_session::Sessions;
-use ql_tables::{check_table, number};
+use ql_tables::{check_table, id_set_of, number};
 use ql_test_effects::{draft, id_set};
 use std::alloc::Global;
 use std::test::Fail;
@@ -37,20 +37,12 @@ fn the_least_effect_that_a_view_lacks(rt: HostRuntime) -> Result<(), Fail> {
 
 fn lacked(alloc: Global, row: &str) -> Result<Vec<u8>, NoMemory> {
     let (_, ids) = row.split_once("view").unwrap_or((row, ""));
-    let view = set_of(alloc, ids)?;
+    let view = id_set_of(alloc, ids)?;
     let sessions = notes(alloc)?;
     least(
         alloc,
         sessions.least_missing(SessId(number(row, 1)), ObjId(number(row, 3)), &view),
     )
-}
-
-fn set_of(alloc: Global, ids: &str) -> Result<IdSet, NoMemory> {
-    let mut set = IdSet::new(alloc);
-    for id in ids.split_whitespace() {
-        set.insert(number(id, 0))?;
-    }
-    Ok(set)
 }
 
 fn least(alloc: Global, found: Option<EffId>) -> Result<Vec<u8>, NoMemory> {

@@ -1,5 +1,7 @@
-// Tests of schedules over texts, with answers from outside.
+// Tests of schedules over texts, those that are read and those that are generated, with answers from outside.
 #![tactic(auto)]
 
+#[cfg(test)]
+mod generated;
 #[cfg(test)]
 mod schedules;

@@ -7,6 +7,6 @@ mod fields;
 mod sources;
 mod table;
 
-pub use fields::{field, number};
+pub use fields::{field, id_set_of, number};
 pub use sources::{BANK, REGISTER, SHOP};
 pub use table::check_table;

@@ -1,7 +1,7 @@
-use ql_base::{NoMemory, push_bytes, push_number};
+use crate::asking::{file, report, words_of};
+use ql_base::{NoMemory, push_bytes};
 use ql_claim::{answer, classify_and_verify, prove_and_check};
 use ql_ports::{MemShelf, MemSink};
-use ql_reply::Status;
 use ql_tables::check_table;
 use std::alloc::Global;
 use std::test::Fail;
@@ -38,9 +38,7 @@ fn answered(alloc: Global, row: &str) -> Result<Vec<u8>, NoMemory> {
     let mut shelf = new_shelf(alloc)?;
     let mut sink = new_sink(alloc)?;
     let status = answer(alloc, &words, &mut shelf, &mut sink)?;
-    let mut out = Vec::new(alloc);
-    push_report(&mut out, status, &sink)?;
-    Ok(out)
+    report(alloc, status, sink.bytes())
 }
 
 // The arguments of two calls, with the status and the text of each.
@@ -69,9 +67,8 @@ fn proved_and_checked(alloc: Global, row: &str) -> Result<Vec<u8>, NoMemory> {
         &mut next_shelf,
         &mut next_sink,
     )?;
-    let mut out = Vec::new(alloc);
-    push_report(&mut out, proved, &sink)?;
-    push_report(&mut out, checked, &next_sink)?;
+    let mut out = report(alloc, proved, sink.bytes())?;
+    push_bytes(&mut out, &report(alloc, checked, next_sink.bytes())?)?;
     Ok(out)
 }
 
@@ -100,41 +97,19 @@ fn classified_and_verified(alloc: Global, row: &str) -> Result<Vec<u8>, NoMemory
         &mut next_shelf,
         &mut next_sink,
     )?;
-    let mut out = Vec::new(alloc);
-    push_report(&mut out, classified, &sink)?;
-    push_report(&mut out, verified, &next_sink)?;
+    let mut out = report(alloc, classified, sink.bytes())?;
+    push_bytes(&mut out, &report(alloc, verified, next_sink.bytes())?)?;
     Ok(out)
-}
-
-fn words_of(alloc: Global, text: &str) -> Result<Vec<String>, NoMemory> {
-    let mut words = Vec::new(alloc);
-    for word in text.split_whitespace() {
-        words.push(String::from_str(alloc, word)?)?;
-    }
-    Ok(words)
 }
 
 fn new_shelf(alloc: Global) -> Result<MemShelf, NoMemory> {
     let mut files = Vec::new(alloc);
-    files.push(file(alloc, "source", SOURCE)?)?;
-    files.push(file(alloc, "certificate", CERTIFICATE)?)?;
-    files.push(file(alloc, "execution", EXECUTION)?)?;
+    files.push(file(alloc, "source", SOURCE.as_bytes())?)?;
+    files.push(file(alloc, "certificate", CERTIFICATE.as_bytes())?)?;
+    files.push(file(alloc, "execution", EXECUTION.as_bytes())?)?;
     MemShelf::new(alloc, files, 4096, Vec::new(alloc))
-}
-
-fn file(alloc: Global, name: &str, text: &str) -> Result<(String, Vec<u8>), NoMemory> {
-    Ok((
-        String::from_str(alloc, name)?,
-        Vec::from_slice(alloc, text.as_bytes())?,
-    ))
 }
 
 fn new_sink(alloc: Global) -> Result<MemSink, NoMemory> {
     MemSink::new(alloc, 4096, 4096, Vec::new(alloc))
-}
-
-fn push_report(out: &mut Vec<u8>, status: Status, sink: &MemSink) -> Result<(), NoMemory> {
-    push_number(out, status.number())?;
-    push_bytes(out, b": ")?;
-    push_bytes(out, sink.bytes())
 }

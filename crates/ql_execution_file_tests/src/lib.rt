@@ -1,5 +1,0 @@
-// Tests of execution files over texts, with answers from outside.
-#![tactic(auto)]
-
-#[cfg(test)]
-mod files;

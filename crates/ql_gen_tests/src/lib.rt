@@ -1,5 +1,0 @@
-// Tests of generated schedules as texts, with answers from outside.
-#![tactic(auto)]
-
-#[cfg(test)]
-mod generated;
