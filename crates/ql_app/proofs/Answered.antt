@@ -29,18 +29,18 @@ JudgesHeld limits held (OneFile command name) status text = IsOfHeld limits.file
 JudgesHeld limits held (TwoFiles command name other) status text =
     IsOfHeld limits.file (held name) (λ bytes. IsOfHeld (second_limit limits command) (held other) (λ more. PairSays command bytes more status text))
 
-abbrev TellsHeld : Limits → (List ℕ → Option (List ℕ)) → (List ℕ → ℕ) → (List ℕ → ℕ) → NamedRequest → Status → List ℕ → Type 0
-TellsHeld limits held before after named Done text = JudgesHeld limits held named Done text
-TellsHeld limits held before after named No text = JudgesHeld limits held named No text
-TellsHeld limits held before after named Bad text = JudgesHeld limits held named Bad text
-TellsHeld limits held before after named ReadFault text = MeetsFault limits held before after named text
-TellsHeld limits held before after named WriteFault text = ⊥
-TellsHeld limits held before after named Usage text = ⊥
-TellsHeld limits held before after named TooLarge text = JudgesHeld limits held named TooLarge text ⊎ MeetsLimit limits held named text
+abbrev ReportsHeld : Limits → (List ℕ → Option (List ℕ)) → (List ℕ → ℕ) → (List ℕ → ℕ) → NamedRequest → Status → List ℕ → Type 0
+ReportsHeld limits held before after named Done text = JudgesHeld limits held named Done text
+ReportsHeld limits held before after named No text = JudgesHeld limits held named No text
+ReportsHeld limits held before after named Bad text = JudgesHeld limits held named Bad text
+ReportsHeld limits held before after named ReadFault text = MeetsFault limits held before after named text
+ReportsHeld limits held before after named WriteFault text = ⊥
+ReportsHeld limits held before after named Usage text = ⊥
+ReportsHeld limits held before after named TooLarge text = JudgesHeld limits held named TooLarge text ⊎ MeetsLimit limits held named text
 
 abbrev pub SaysHeld : Limits → List (List ℕ) → (List ℕ → Option (List ℕ)) → (List ℕ → ℕ) → (List ℕ → ℕ) → Status → List ℕ → Type 0
 SaysHeld limits words held before after status text =
-    ForRequest words (λ named. TellsHeld limits held before after named status text)
+    ForRequest words (λ named. ReportsHeld limits held before after named status text)
     ⊎ ((status ≡ Usage) × (ForRequest words (λ _. Unit {0}) → ⊥) × (text ≡ codes "usage\n"))
 
 judges_held : (limits : Limits) (held : List ℕ → Option (List ℕ)) (named : NamedRequest) (status : Status) (text : List ℕ) → Judges limits held named status text → JudgesHeld limits held named status text
@@ -48,20 +48,20 @@ judges_held limits held (OneFile command name) status text r = of_read limits.fi
 judges_held limits held (TwoFiles command name other) status text r =
     both limits.file (second_limit limits command) (held name) (held other) (λ bytes more. PairSays command bytes more status text) r
 
-tells_held : (limits : Limits) (held : List ℕ → Option (List ℕ)) (before after : List ℕ → ℕ) (named : NamedRequest) (status : Status) (text : List ℕ)
-    → RequestSays limits held before after named status text → TellsHeld limits held before after named status text
-tells_held limits held before after named Done text t = judges_held limits held named Done text t
-tells_held limits held before after named No text t = judges_held limits held named No text t
-tells_held limits held before after named Bad text t = judges_held limits held named Bad text t
-tells_held limits held before after named ReadFault text t = t
-tells_held limits held before after named WriteFault text t = t
-tells_held limits held before after named Usage text t = t
-tells_held limits held before after named TooLarge text (inl t) = inl (judges_held limits held named TooLarge text t)
-tells_held limits held before after named TooLarge text (inr t) = inr t
+reports_held : (limits : Limits) (held : List ℕ → Option (List ℕ)) (before after : List ℕ → ℕ) (named : NamedRequest) (status : Status) (text : List ℕ)
+    → RequestSays limits held before after named status text → ReportsHeld limits held before after named status text
+reports_held limits held before after named Done text t = judges_held limits held named Done text t
+reports_held limits held before after named No text t = judges_held limits held named No text t
+reports_held limits held before after named Bad text t = judges_held limits held named Bad text t
+reports_held limits held before after named ReadFault text t = t
+reports_held limits held before after named WriteFault text t = t
+reports_held limits held before after named Usage text t = t
+reports_held limits held before after named TooLarge text (inl t) = inl (judges_held limits held named TooLarge text t)
+reports_held limits held before after named TooLarge text (inr t) = inr t
 
 pub says_held : (limits : Limits) (words : List (List ℕ)) (held : List ℕ → Option (List ℕ)) (before after : List ℕ → ℕ) (status : Status) (text : List ℕ)
     → Says limits words held before after status text → SaysHeld limits words held before after status text
-says_held limits words held before after status text (inl (named, request, t)) = inl (named, request, tells_held limits held before after named status text t)
+says_held limits words held before after status text (inl (named, request, t)) = inl (named, request, reports_held limits held before after named status text t)
 says_held limits words held before after status text (inr u) = inr u
 
 pub complete : (limits : Limits) (words : List (List ℕ)) (held : List ℕ → Option (List ℕ)) (before after : List ℕ → ℕ) (status : Status) (text : List ℕ) (named : NamedRequest)

@@ -15,8 +15,8 @@ use Rattle.ql_holds_files.specs.Rules.{rule_at}
 use Rattle.ql_reply.specs.Lines.{fault_line}
 use Rattle.ql_reply.specs.declared.status.Status.{Status}
 use Rattle.ql_reply.specs.declared.status.Status.TheVariants.{Done, No, Bad, ReadFault, WriteFault, Usage, TooLarge}
-use Rattle.ql_app.specs.HoldsFaults.{IsToldAs, holds_fault_text}
-use Rattle.ql_app.specs.HoldsFile.{HoldsSays, HoldsTells, rule_word, work}
+use Rattle.ql_app.specs.HoldsFaults.{IsReportedAs, holds_fault_text}
+use Rattle.ql_app.specs.HoldsFile.{HoldsSays, HoldsReports, rule_word, work}
 
 abbrev OneOutcome : Type 0
 OneOutcome = (file : Ahead) (x y : Result Asked (Broken HoldsRule)) → HoldsOutcome file x → HoldsOutcome file y → x ≡ y
@@ -40,27 +40,27 @@ Reports file text = (broken : Broken HoldsRule) × HoldsOutcome file (Err broken
 
 module _ (file : Ahead) (text : List ℕ) where
   reported : (f : HoldsFault) → ((broken : Broken HoldsRule) × HoldsOutcome file (Err broken) × (f ≡ rule_at broken.rule broken.line)) → text ≡ holds_fault_text f → Reports file text
-  reported f (broken, first, is) told = (broken, first, told ∙ ap holds_fault_text is ∙ text_is broken.rule broken.line)
+  reported f (broken, first, is) said = (broken, first, said ∙ ap holds_fault_text is ∙ text_is broken.rule broken.line)
 
-  first_fault : (f : HoldsFault) → IsRefusal file f → IsToldAs f text → Reports file text
-  first_fault (fault.Unexpected line) h told = reported (fault.Unexpected line) h told
-  first_fault (fault.Unknown line) h told = reported (fault.Unknown line) h told
-  first_fault (fault.Twice line) h told = reported (fault.Twice line) h told
-  first_fault (fault.TxnAtom line) h told = reported (fault.TxnAtom line) h told
-  first_fault (fault.Variables line) h told = reported (fault.Variables line) h told
-  first_fault (fault.Range line) h told = reported (fault.Range line) h told
-  first_fault (fault.NotForward line) h told = reported (fault.NotForward line) h told
-  first_fault (fault.OtherObject line) h told = reported (fault.OtherObject line) h told
-  first_fault (fault.TooMany line) h told = reported (fault.TooMany line) h told
-  first_fault fault.NoMemory h told = absurd told
+  first_fault : (f : HoldsFault) → IsRefusal file f → IsReportedAs f text → Reports file text
+  first_fault (fault.Unexpected line) h said = reported (fault.Unexpected line) h said
+  first_fault (fault.Unknown line) h said = reported (fault.Unknown line) h said
+  first_fault (fault.Twice line) h said = reported (fault.Twice line) h said
+  first_fault (fault.TxnAtom line) h said = reported (fault.TxnAtom line) h said
+  first_fault (fault.Variables line) h said = reported (fault.Variables line) h said
+  first_fault (fault.Range line) h said = reported (fault.Range line) h said
+  first_fault (fault.NotForward line) h said = reported (fault.NotForward line) h said
+  first_fault (fault.OtherObject line) h said = reported (fault.OtherObject line) h said
+  first_fault (fault.TooMany line) h said = reported (fault.TooMany line) h said
+  first_fault fault.NoMemory h said = absurd said
 
 apart : OneOutcome → (file : Ahead) (p : Asked) (broken : Broken HoldsRule) → HoldsOutcome file (Ok p) → HoldsOutcome file (Err broken) → ⊥
 apart one file p broken h k = let same : ◌≡◌ {A = Result Asked (Broken HoldsRule)} (Ok p) (Err broken) = one file (Ok p) (Err broken) h k in absurd cc
 
 -- a file with a first fault is bad
-pub is_bad : OneOutcome → (bytes : List ℕ) (f : HoldsFault) (text : List ℕ) → IsRefusal (ahead_from 1 bytes) f → IsToldAs f text → HoldsSays bytes Bad text
-is_bad one bytes f text h told =
-    let first = first_fault (ahead_from 1 bytes) text f h told in
+pub is_bad : OneOutcome → (bytes : List ℕ) (f : HoldsFault) (text : List ℕ) → IsRefusal (ahead_from 1 bytes) f → IsReportedAs f text → HoldsSays bytes Bad text
+is_bad one bytes f text h said =
+    let first = first_fault (ahead_from 1 bytes) text f h said in
     ((λ file. apart one (ahead_from 1 bytes) file.0 first.0 file.1 first.1), first.0, first.1, first.2)
 
 -- ---- what is asked
@@ -69,22 +69,22 @@ one_asked : OneOutcome → (file : Ahead) (p q : Asked) → HoldsOutcome file (O
 one_asked one file p q h k = let same : ◌≡◌ {A = Result Asked (Broken HoldsRule)} (Ok p) (Ok q) = one file (Ok p) (Ok q) h k in cc
 
 -- what is said where this is asked is said of a file that asks it
-is_told : OneOutcome → (bytes : List ℕ) (asked : Asked) (status : Status) (text : List ℕ) → HoldsOutcome (ahead_from 1 bytes) (Ok asked) → HoldsTells asked status text → HoldsSays bytes status text
-is_told one bytes asked Done text asks tells = (asked, asks, tells)
-is_told one bytes asked No text asks tells = (asked, asks, tells)
-is_told one bytes asked TooLarge text asks tells =
-    ((λ file. let same = ap work (one_asked one (ahead_from 1 bytes) file.0 asked file.1 asks) in let more = tells.0 in let less = file.2 in omega (arith, same, more, less)), asked, asks, tells)
-is_told one bytes asked Bad text asks tells = absurd tells
-is_told one bytes asked ReadFault text asks tells = absurd tells
-is_told one bytes asked WriteFault text asks tells = absurd tells
-is_told one bytes asked Usage text asks tells = absurd tells
+is_reported : OneOutcome → (bytes : List ℕ) (asked : Asked) (status : Status) (text : List ℕ) → HoldsOutcome (ahead_from 1 bytes) (Ok asked) → HoldsReports asked status text → HoldsSays bytes status text
+is_reported one bytes asked Done text asks said = (asked, asks, said)
+is_reported one bytes asked No text asks said = (asked, asks, said)
+is_reported one bytes asked TooLarge text asks said =
+    ((λ file. let same = ap work (one_asked one (ahead_from 1 bytes) file.0 asked file.1 asks) in let more = said.0 in let less = file.2 in omega (arith, same, more, less)), asked, asks, said)
+is_reported one bytes asked Bad text asks said = absurd said
+is_reported one bytes asked ReadFault text asks said = absurd said
+is_reported one bytes asked WriteFault text asks said = absurd said
+is_reported one bytes asked Usage text asks said = absurd said
 
 -- and so of the answer
-pub answer_told : OneOutcome → (bytes : List ℕ) (asked : Asked) (answer : Result (Status × Vec ℕ) NoMemoryLeft) → HoldsOutcome (ahead_from 1 bytes) (Ok asked)
-    → IfOk answer (λ a. HoldsTells asked a.0 a.1.items) → IfOk answer (λ a. HoldsSays bytes a.0 a.1.items)
-answer_told one bytes asked (Ok a) asks tells = is_told one bytes asked a.0 a.1.items asks tells
-answer_told one bytes asked (Err e) asks tells = tt
+pub answer_reported : OneOutcome → (bytes : List ℕ) (asked : Asked) (answer : Result (Status × Vec ℕ) NoMemoryLeft) → HoldsOutcome (ahead_from 1 bytes) (Ok asked)
+    → IfOk answer (λ a. HoldsReports asked a.0 a.1.items) → IfOk answer (λ a. HoldsSays bytes a.0 a.1.items)
+answer_reported one bytes asked (Ok a) asks said = is_reported one bytes asked a.0 a.1.items asks said
+answer_reported one bytes asked (Err e) asks said = tt
 
 -- a line that reports a fault, by another name of it
-pub told_so : (line : Result (Vec ℕ) NoMemoryLeft) (f fault : HoldsFault) → fault ≡ f → IfOk line (λ l. IsToldAs f l.items) → IfOk line (λ l. IsToldAs fault l.items)
-told_so line f fault e h = subst (λ g. IfOk line (λ l. IsToldAs g l.items)) (sym e) h
+pub reported_so : (line : Result (Vec ℕ) NoMemoryLeft) (f fault : HoldsFault) → fault ≡ f → IfOk line (λ l. IsReportedAs f l.items) → IfOk line (λ l. IsReportedAs fault l.items)
+reported_so line f fault e h = subst (λ g. IfOk line (λ l. IsReportedAs g l.items)) (sym e) h

@@ -1,4 +1,4 @@
--- What is said of the bytes that were read is what is told of the request.
+-- What is said of the bytes that were read is what is reported of the request.
 use Rattle.std.proofs.Common.{◌≡◌, inl, inr, ℕ, ◌≤◌, ◌<◌, List, length, Option, Some, Result, Ok, Err, subst}
 use Rattle.std.specs.Prelude.{IfSome, IfOk}
 use Rattle.std.specs.Global.{Vec}

@@ -13,7 +13,7 @@ use Rattle.ql_app.specs.Words.{NamedRequest, IsRequest, OneFile, TwoFiles, pair_
 use Rattle.ql_running.specs.declared.form.Form.{Form}
 use Rattle.ql_running.specs.declared.form.Form.TheVariants.{Text, Json}
 use Rattle.ql_running.specs.Forms.{format_of}
-use Rattle.ql_running.specs.Runs.{TellsRun}
+use Rattle.ql_running.specs.Runs.{ReportsRun}
 use Rattle.ql_app.proofs.OutcomeLaws.{of_held}
 
 -- the first byte of the first argument
@@ -36,13 +36,13 @@ same_files Text Json n m name other same = absurd (let never : 3 ≡ 4 = ap leng
 same_files Json Text n m name other same = absurd (let never : 4 ≡ 3 = ap length same in omega (arith, never))
 
 module _ (limits : Limits) (held : List ℕ → Option (List ℕ)) (form : Form) (name other source file text : List ℕ) (name_held : held name ≡ Some source) (other_held : held other ≡ Some file) where
-  told : (f : Form) (n m : List ℕ) → f ≡ form → n ≡ name → m ≡ other → Judges limits held (TwoFiles (Run f) n m) Done text → TellsRun (format_of form) source file text
-  told f n m f_is n_is m_is says =
-      let whole = of_held limits.file (held n) (λ bytes. IsRead limits.file (held m) (λ more. TellsRun (format_of f) bytes more text)) source (ap held n_is ∙ name_held) says in
-      let both = of_held limits.file (held m) (λ more. TellsRun (format_of f) source more text) file (ap held m_is ∙ other_held) whole.1 in
-      subst (λ (g : Form). TellsRun (format_of g) source file text) f_is both.1
+  reported : (f : Form) (n m : List ℕ) → f ≡ form → n ≡ name → m ≡ other → Judges limits held (TwoFiles (Run f) n m) Done text → ReportsRun (format_of form) source file text
+  reported f n m f_is n_is m_is says =
+      let whole = of_held limits.file (held n) (λ bytes. IsRead limits.file (held m) (λ more. ReportsRun (format_of f) bytes more text)) source (ap held n_is ∙ name_held) says in
+      let both = of_held limits.file (held m) (λ more. ReportsRun (format_of f) source more text) file (ap held m_is ∙ other_held) whole.1 in
+      subst (λ (g : Form). ReportsRun (format_of g) source file text) f_is both.1
 
-  asked : (words : List (List ℕ)) → words ≡ pair_words (Run form) name other → (named : NamedRequest) → IsRequest words named → Judges limits held named Done text → TellsRun (format_of form) source file text
+  asked : (words : List (List ℕ)) → words ≡ pair_words (Run form) name other → (named : NamedRequest) → IsRequest words named → Judges limits held named Done text → ReportsRun (format_of form) source file text
   asked words are (OneFile Holds n) is says = absurd (let never : first (pair_words (Run form) name other) ≡ 104 = ap first (sym are ∙ is.0) in omega (arith, never, run_first form name other))
   asked words are (OneFile Proof n) is says = absurd (let never : first (pair_words (Run form) name other) ≡ 112 = ap first (sym are ∙ is.0) in omega (arith, never, run_first form name other))
   asked words are (OneFile Classify n) is says = absurd (let never : first (pair_words (Run form) name other) ≡ 99 = ap first (sym are ∙ is.0) in omega (arith, never, run_first form name other))
@@ -55,13 +55,13 @@ module _ (limits : Limits) (held : List ℕ → Option (List ℕ)) (form : Form)
   asked words are (TwoFiles Slim n m) is says = absurd (let never : first (pair_words (Run form) name other) ≡ 115 = ap first (sym are ∙ is.0) in omega (arith, never, run_first form name other))
   asked words are (TwoFiles (Restart replica cut) n m) is says =
       absurd (let never : length (pair_words (Run form) name other) ≡ 5 = ap length (sym are ∙ is.0) in omega (arith, never, run_length form name other))
-  asked words are (TwoFiles (Run f) n m) is says = let same = same_files f form n m name other (sym is.0 ∙ are) in told f n m same.0 same.1 same.2 says
+  asked words are (TwoFiles (Run f) n m) is says = let same = same_files f form n m name other (sym is.0 ∙ are) in reported f n m same.0 same.1 same.2 says
 
 pub writes-run : (limits : Limits) (words : List (List ℕ)) (held : List ℕ → Option (List ℕ)) (before after : List ℕ → ℕ) (was is : Option (List ℕ)) (counts sums : ℕ)
     → Wrote (Says limits words held before after) was is counts sums Done → WritesRun words held was is
 writes-run limits words held before after was is counts sums wrote form name other source file start are name_held other_held begun = by wrote.1 wrote.2
   where
-    by : Says limits words held before after Done wrote.0 → is ≡ appended was wrote.0 → (text : List ℕ) × (is ≡ Some (start ++ text)) × TellsRun (format_of form) source file text
+    by : Says limits words held before after Done wrote.0 → is ≡ appended was wrote.0 → (text : List ℕ) × (is ≡ Some (start ++ text)) × ReportsRun (format_of form) source file text
     by (inl asks) put = (
       wrote.0,
       put ∙ ap (λ (w : Option (List ℕ)). appended w wrote.0) begun,

@@ -17,6 +17,6 @@ holds_fault_text (TooMany line) = fault_line (codes "holds") line (codes "TooMan
 holds_fault_text NoMemory = codes ""
 
 -- this line reports the fault, which isn't out of memory
-abbrev pub IsToldAs : HoldsFault → List ℕ → Type 0
-IsToldAs NoMemory text = ⊥
-IsToldAs fault text = text ≡ holds_fault_text fault
+abbrev pub IsReportedAs : HoldsFault → List ℕ → Type 0
+IsReportedAs NoMemory text = ⊥
+IsReportedAs fault text = text ≡ holds_fault_text fault

@@ -47,25 +47,25 @@ rule_word OtherObject = codes "OtherObject"
 rule_word TooMany = codes "TooMany"
 
 -- what is said where this is asked
-abbrev pub HoldsTells : Asked → Status → List ℕ → Type 0
-HoldsTells asked Done text = (work asked ≤ MAX_WORK) × Holds asked.execution asked.contract.formula asked.cur.0 × (text ≡ codes "holds\n")
-HoldsTells asked No text =
+abbrev pub HoldsReports : Asked → Status → List ℕ → Type 0
+HoldsReports asked Done text = (work asked ≤ MAX_WORK) × Holds asked.execution asked.contract.formula asked.cur.0 × (text ≡ codes "holds\n")
+HoldsReports asked No text =
     (work asked ≤ MAX_WORK) × (places : List ℕ) × IsFirstFalse asked.execution none_inside asked.cur.0 asked.contract.formula places
     × (text ≡ codes "fails" ++ named_places_text asked.contract.names places ++ codes "\n")
-HoldsTells asked TooLarge text = (MAX_WORK < work asked) × (text ≡ codes "too much " ++ decimal (work asked) ++ codes "\n")
-HoldsTells asked Bad text = ⊥
-HoldsTells asked ReadFault text = ⊥
-HoldsTells asked WriteFault text = ⊥
-HoldsTells asked Usage text = ⊥
+HoldsReports asked TooLarge text = (MAX_WORK < work asked) × (text ≡ codes "too much " ++ decimal (work asked) ++ codes "\n")
+HoldsReports asked Bad text = ⊥
+HoldsReports asked ReadFault text = ⊥
+HoldsReports asked WriteFault text = ⊥
+HoldsReports asked Usage text = ⊥
 
 -- what is said of a file
 abbrev pub HoldsSays : List ℕ → Status → List ℕ → Type 0
 HoldsSays bytes Bad text =
     (IsHoldsFile bytes → ⊥) × (broken : Broken HoldsRule) × HoldsOutcome (ahead_from 1 bytes) (Err broken)
     × (text ≡ fault_line (codes "holds") broken.line (rule_word broken.rule))
-HoldsSays bytes Done text = (asked : Asked) × Asks bytes asked × HoldsTells asked Done text
-HoldsSays bytes No text = (asked : Asked) × Asks bytes asked × HoldsTells asked No text
-HoldsSays bytes TooLarge text = (IsAnswerableHolds bytes → ⊥) × (asked : Asked) × Asks bytes asked × HoldsTells asked TooLarge text
+HoldsSays bytes Done text = (asked : Asked) × Asks bytes asked × HoldsReports asked Done text
+HoldsSays bytes No text = (asked : Asked) × Asks bytes asked × HoldsReports asked No text
+HoldsSays bytes TooLarge text = (IsAnswerableHolds bytes → ⊥) × (asked : Asked) × Asks bytes asked × HoldsReports asked TooLarge text
 HoldsSays bytes ReadFault text = ⊥
 HoldsSays bytes WriteFault text = ⊥
 HoldsSays bytes Usage text = ⊥

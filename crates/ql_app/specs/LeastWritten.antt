@@ -1,6 +1,6 @@
 -- What a reader may quote of `classify`.
 use Rattle.std.specs.Prelude.{◌≡◌, ℕ, List, [], ◌∷◌, ◌++◌, Option, Some, codes}
-use Rattle.ql_implied.specs.Commands.{TellsLeast, TellsNone}
+use Rattle.ql_implied.specs.Commands.{ReportsLeast, ReportsNone}
 
 -- The arguments are `classify NAME`, the file holds these bytes, and so much was written before: then a text was appended of
 -- which this is said.
@@ -12,8 +12,8 @@ WritesOfSource Says words held was is =
 -- The levels of the source's operations and transactions: each guarantees its contract in every execution of the program, and each
 -- lower one fails in some execution of it.
 abbrev pub WritesLeast : List (List ℕ) → (List ℕ → Option (List ℕ)) → Option (List ℕ) → Option (List ℕ) → Type 0
-WritesLeast words held was is = WritesOfSource TellsLeast words held was is
+WritesLeast words held was is = WritesOfSource ReportsLeast words held was is
 
 -- Why there are none: where no level is enough for a target, its highest fails in some execution of the program.
 abbrev pub WritesNone : List (List ℕ) → (List ℕ → Option (List ℕ)) → Option (List ℕ) → Option (List ℕ) → Type 0
-WritesNone words held was is = WritesOfSource TellsNone words held was is
+WritesNone words held was is = WritesOfSource ReportsNone words held was is

@@ -42,19 +42,19 @@ proof_fault_text (Number at) = fault_line (codes "proof") at (codes "Number")
 proof_fault_text NoMemory = codes ""
 
 -- what is said of clauses and of lines that are to refute them
-abbrev pub ProofTells : ClauseList → List Line → Status → List ℕ → Type 0
-ProofTells cs ls Done text = (verdict cs ls ≡ Accepted) × IsUnsatisfiable cs × (text ≡ codes "accepted\n")
-ProofTells cs ls No text = refusal_of (verdict cs ls) ≡ Some text
-ProofTells cs ls Bad text = ⊥
-ProofTells cs ls ReadFault text = ⊥
-ProofTells cs ls WriteFault text = ⊥
-ProofTells cs ls Usage text = ⊥
-ProofTells cs ls TooLarge text = ⊥
+abbrev pub ProofReports : ClauseList → List Line → Status → List ℕ → Type 0
+ProofReports cs ls Done text = (verdict cs ls ≡ Accepted) × IsUnsatisfiable cs × (text ≡ codes "accepted\n")
+ProofReports cs ls No text = refusal_of (verdict cs ls) ≡ Some text
+ProofReports cs ls Bad text = ⊥
+ProofReports cs ls ReadFault text = ⊥
+ProofReports cs ls WriteFault text = ⊥
+ProofReports cs ls Usage text = ⊥
+ProofReports cs ls TooLarge text = ⊥
 
 -- what is said of a file; where its refutation is accepted no assignment satisfies its clauses
 abbrev pub ProofSays : List ℕ → Status → List ℕ → Type 0
-ProofSays bytes Done text = (cs : ClauseList) × (ls : List Line) × SpellsProof bytes cs ls × ProofTells cs ls Done text
-ProofSays bytes No text = (cs : ClauseList) × (ls : List Line) × SpellsProof bytes cs ls × ProofTells cs ls No text
+ProofSays bytes Done text = (cs : ClauseList) × (ls : List Line) × SpellsProof bytes cs ls × ProofReports cs ls Done text
+ProofSays bytes No text = (cs : ClauseList) × (ls : List Line) × SpellsProof bytes cs ls × ProofReports cs ls No text
 ProofSays bytes Bad text = (IsProofText bytes → ⊥) × (f : CertFault) × FirstFileFault files.IsProofFile (ahead_from 1 bytes) f × (text ≡ proof_fault_text f)
 ProofSays bytes ReadFault text = ⊥
 ProofSays bytes WriteFault text = ⊥

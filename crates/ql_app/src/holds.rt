@@ -1,7 +1,7 @@
 ghost use Rattle.std.specs.Prelude.{◌≡◌, ◌≤◌, ◌<◌, ◌++◌, ◌^◌, IfOk, OnOk, codes, length, map};
 ghost use Rattle.ql_holds_files.specs.Holdings.{asked_of};
-ghost use Rattle.ql_app.specs.HoldsFaults.{IsToldAs};
-ghost use Rattle.ql_app.specs.HoldsFile.{HoldsSays, HoldsTells, named_places_text};
+ghost use Rattle.ql_app.specs.HoldsFaults.{IsReportedAs};
+ghost use Rattle.ql_app.specs.HoldsFile.{HoldsSays, HoldsReports, named_places_text};
 
 use crate::text::at_line;
 use ql_base::{EffId, MAX_WORK, NoMemory, Word, push_bytes, push_number};
@@ -24,7 +24,7 @@ pub fn holds(alloc: Global, bytes: &[u8]) -> Result<(Status, Vec<u8>), NoMemory>
 
 // The line that reports a file's first fault.
 fn bad_holds(alloc: Global, fault: HoldsFault) -> Result<Vec<u8>, NoMemory>
-    ensures { IfOk result (λ line. IsToldAs fault line.items) }
+    ensures { IfOk result (λ line. IsReportedAs fault line.items) }
 {
     match fault {
         HoldsFault::Unexpected(line) => bad_line(alloc, "holds", line, "Unexpected"),
@@ -45,7 +45,7 @@ fn bad_holds(alloc: Global, fault: HoldsFault) -> Result<Vec<u8>, NoMemory>
 fn truth_of(alloc: Global, holding: &Holding) -> Result<(Status, Vec<u8>), NoMemory>
     requires few { length holding.now.formula.vars ≤ 5 }
     requires few_effects { length holding.now.execution ≤ 4000 }
-    ensures { IfOk result (λ answer. HoldsTells (asked_of holding.now) answer.0 answer.1.items) }
+    ensures { IfOk result (λ answer. HoldsReports (asked_of holding.now) answer.0 answer.1.items) }
 {
     let variables = holding.formula.vars.items().len() as u32;
     let work = u64::from(holding.execution.len()).pow(variables);

@@ -18,7 +18,7 @@ ghost use Rattle.ql_verified_runs.specs.Agreement.{Agree};
 
 use ql_commands::what_is_proved_is_accepted;
 use ql_generated::generated_schedules_are_read;
-use ql_implied::told_levels_are_least;
+use ql_implied::reported_levels_are_least;
 use ql_schedule::one_schedule;
 use ql_verified_runs::{printed_runs_hold, replicas_of_runs_agree};
 
@@ -55,7 +55,7 @@ pub fn levels_are_least()
         → Wrote (Says limits words held before after) was is faults sums No
         → WritesNone words held was is }
 {
-    told_levels_are_least();
+    reported_levels_are_least();
 }
 
 /// Of a source and the text that `run` prints of it with status 0, `verify` ends with status 0, since all contracts hold,
@@ -70,9 +70,9 @@ pub fn printed_runs_are_verified()
 
 /// Agreement, of the run whose text `run` prints with status 0: where every package was received, the replicas agree.
 pub fn replicas_agree_in_runs()
-    ensures { (source schedule text : List ℕ) (told : PairSays (Run Text) source schedule Done text)
-        → AllArrived told.prints.last
-        → Agree (rules_of told.program told.levels) told.schedule.replicas told.prints.last }
+    ensures { (source schedule text : List ℕ) (reported : PairSays (Run Text) source schedule Done text)
+        → AllArrived reported.prints.last
+        → Agree (rules_of reported.program reported.levels) reported.schedule.replicas reported.prints.last }
 {
     replicas_of_runs_agree();
 }
@@ -86,8 +86,8 @@ pub fn generated_schedules_are_run()
         → PairSays (Run form) source file status text → (status ≡ Done) ⊎ (status ≡ No) }
     ensures shown { (source file text : List ℕ) (number events : ℕ) (form : Form)
         → IsInRange (Gen number events) → CommandSays (Gen number events) source Done file
-        → (told : PairSays (Run form) source file Done text)
-        → told.schedule ≡ generated told.program number events }
+        → (reported : PairSays (Run form) source file Done text)
+        → reported.schedule ≡ generated reported.program number events }
 {
     generated_schedules_are_read();
     one_schedule();

@@ -1,6 +1,6 @@
 ghost use Rattle.std.specs.Prelude.{◌≡◌, ◌<◌, ◌^◌, IfOk, length};
 ghost use Rattle.std.specs.Option.{option_map};
-ghost use Rattle.ql_app.specs.ProofFile.{ProofSays, ProofTells, refusal_of};
+ghost use Rattle.ql_app.specs.ProofFile.{ProofSays, ProofReports, refusal_of};
 
 use crate::text::at_line;
 use ql_base::NoMemory;
@@ -36,7 +36,7 @@ fn verdict_on(
     refutation: &Refutation,
 ) -> Result<(Status, Vec<u8>), NoMemory>
     ensures { IfOk result
-        (λ answer. ProofTells clauses.now refutation.now.lines answer.0 answer.1.items) }
+        (λ answer. ProofReports clauses.now refutation.now.lines answer.0 answer.1.items) }
 {
     let mut marks = vec![in alloc; 0; clauses.variables() as usize + 1]?;
     match refusal(alloc, check(clauses, refutation, marks.as_mut_slice()))? {

@@ -38,7 +38,7 @@ prove: type t { op f(): int { contract true; answer true; } } -> 2: bad source a
 ";
 
 #[test]
-fn tells_least_levels_or_the_first_fault(rt: HostRuntime) -> Result<(), Fail> {
+fn reports_least_levels_or_the_first_fault(rt: HostRuntime) -> Result<(), Fail> {
     check_table(rt.alloc(), CLASSIFIED, asked)
 }
 
@@ -51,7 +51,7 @@ prove: type t { op touch(): unit { contract true; answer unit; } }␊transaction
 ";
 
 #[test]
-fn tells_where_no_level_is_enough(rt: HostRuntime) -> Result<(), Fail> {
+fn reports_where_no_level_is_enough(rt: HostRuntime) -> Result<(), Fail> {
     check_table(rt.alloc(), NO_LEVEL, front_of_asked)
 }
 

@@ -87,26 +87,26 @@ plain_body l f =
     both_plain IsPlain (clause_fields l.clause) (colon ∷ map hint_field l.hints) (all_plain IsLit lit_field plain_lit l.clause f.clause.lits)
     (plain_colon, all_plain IsHint hint_field plain_hint l.hints f.hints)
 
-number_tells : (n : ℕ) → n < 2 ^ 64 → begins_with 35 (decimal n) ≡ false
-number_tells n small =
+number_reports : (n : ℕ) → n < 2 ^ 64 → begins_with 35 (decimal n) ≡ false
+number_reports n small =
     let P : List ℕ → Type 0 = λ w. decimal n ≡ w → begins_with 35 w ≡ false in
     elim (decimal n) as P [ [] ↦ λ e. refl | c ∷ cs ↦ λ e. let r = first_digit n small c cs e in grind (arith, r) ] refl
 
 plain_line : (n : ℕ) (l : Line) → n < 2 ^ 64 → IsLine l → IsPlainLine (line_fields n l)
-plain_line n l small f = record { plain = (plain_number n small, plain_body l f); told = number_tells n small }
+plain_line n l small f = record { plain = (plain_number n small, plain_body l f); told = number_reports n small }
 
 plain_numbered : (n : ℕ) (ls : List Line) → n + length ls ≤ 2 ^ 64 → AllByRecursion IsLine ls → AllByRecursion IsPlainLine (numbered_lines n ls)
 unfolding numbered_lines
 plain_numbered n [] few f = tt
 plain_numbered n (l ∷ ls) few f = (plain_line n l (omega (arith, few)) f.0, plain_numbered (suc n) ls (omega (arith, few)) f.1)
 
-kind_tells : (l : SectionLevel) → begins_with 35 (kind_word l) ≡ false
+kind_reports : (l : SectionLevel) → begins_with 35 (kind_word l) ≡ false
 unfolding kind_word
-kind_tells (Op l) = refl
-kind_tells (Txn l) = refl
+kind_reports (Op l) = refl
+kind_reports (Txn l) = refl
 
 plain_heading : (name : List ℕ) (l : SectionLevel) → IsName name → IsPlainLine (heading name l)
-plain_heading name l n = record { plain = (plain_kind l, (plain_name name n, (plain_level l, tt))); told = kind_tells l }
+plain_heading name l n = record { plain = (plain_kind l, (plain_name name n, (plain_level l, tt))); told = kind_reports l }
 
 plain_section : (s : Section) → IsSection s → AllByRecursion IsPlainLine (section_lines s)
 plain_section s f = (plain_heading s.name s.level f.name, plain_numbered 1 s.refutation.lines (omega (arith, f.few)) f.lines)

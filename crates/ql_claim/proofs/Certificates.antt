@@ -14,7 +14,7 @@ use Rattle.ql_levels.specs.declared.level.Level.TheVariants.{Strong}
 use Rattle.ql_parse.specs.Parsing.{IsProgramText}
 use Rattle.ql_running.specs.declared.form.Form.{Form}
 use Rattle.ql_running.specs.Forms.{format_of}
-use Rattle.ql_running.specs.Runs.{TellsRun}
+use Rattle.ql_running.specs.Runs.{ReportsRun}
 use Rattle.ql_typing.specs.Operations.{uses_op}
 use Rattle.ql_typing.specs.Programs.{program_faults}
 use Rattle.ql_claim.specs.Headline.{IsProvedCertificate, IsProvedRun, UseNoStrong}
@@ -39,7 +39,7 @@ no-strong weak p typed levels are d o uses at =
     weak p typed are.accepted d o Strong uses (subst (λ (l : Level). IsOpLevel p o l) same (of-op (IsLeastLevel p) levels are.first o less)) refl
 
 pub proved-run : (weak : (p : Program) → program_faults p ≡ [] → IsAccepted p → (d o : ℕ) (level : Level) → uses_op p d o ≡ true → IsOpLevel p o level → level ≢ Strong)
-    → (form : Form) (source file text : List ℕ) → TellsRun (format_of form) source file text → IsProvedRun form source file text
+    → (form : Form) (source file text : List ℕ) → ReportsRun (format_of form) source file text → IsProvedRun form source file text
 proved-run weak form source file text told = record {
   program = told.program;
   is_source = told.is_source;

@@ -45,16 +45,16 @@ record IsNext (p : Program) (told more : EffectsRead) (e : EffectLine) : Type 0 
   faultless : fault_of told.effects draft ≡ None
   effects : more.effects ≡ told.effects ++ effect_of told.effects draft ∷ []
 
-abbrev ok_told : EffectsRead → Result EffectsRead ReportRule
-ok_told told = Ok told
+abbrev ok_reported : EffectsRead → Result EffectsRead ReportRule
+ok_reported told = Ok told
 
-told_in : EffectsRead → Result EffectsRead ReportRule → EffectsRead
-told_in other (Ok told) = told
-told_in other (Err fault) = other
+reported_in : EffectsRead → Result EffectsRead ReportRule → EffectsRead
+reported_in other (Ok told) = told
+reported_in other (Err fault) = other
 
-same-told : (a b : EffectsRead) → ok_told a ≡ ok_told b → a ≡ b
-unfolding told_in
-same-told a b e = ap (told_in a) e
+same-told : (a b : EffectsRead) → ok_reported a ≡ ok_reported b → a ≡ b
+unfolding reported_in
+same-told a b e = ap (reported_in a) e
 
 within : {X : Type 0} (test : X → Bool) (xs : List X) (k : ℕ) → position test xs ≡ Some k → k < length xs
 within test [] k e = absurd (let never : None ≡ Some k = e in cc)
@@ -74,18 +74,18 @@ module _ (p : Program) (told more : EffectsRead) (e : EffectLine) where
     abbrev grown : EffectsRead
     grown = with_read_effect (with_object_name told e.object) drafted
 
-    room : (full : Bool) → (if full then Err TooMany else ok_told grown) ≡ Ok more → grown ≡ more
-    room true h = absurd (let never : Err TooMany ≡ ok_told more = h in cc)
+    room : (full : Bool) → (if full then Err TooMany else ok_reported grown) ≡ Ok more → grown ≡ more
+    room true h = absurd (let never : Err TooMany ≡ ok_reported more = h in cc)
     room false h = same-told grown more h
 
-    stamped : (other : Bool) → (if other then Err Stamp else (if nat_le most_effects (length told.effects) then Err TooMany else ok_told grown)) ≡ Ok more → grown ≡ more
-    stamped true h = absurd (let never : Err Stamp ≡ ok_told more = h in cc)
+    stamped : (other : Bool) → (if other then Err Stamp else (if nat_le most_effects (length told.effects) then Err TooMany else ok_reported grown)) ≡ Ok more → grown ≡ more
+    stamped true h = absurd (let never : Err Stamp ≡ ok_reported more = h in cc)
     stamped false h = room (nat_le most_effects (length told.effects)) h
 
     unfaulted : is_mixed p told.effects object op ≡ false → (r : Option ExecFault) → fault_of told.effects drafted ≡ r
         → option_map_or (λ fault. Err (exec_rule fault)) r (if not (nat_eq (stamp_of told.effects drafted.session drafted.seen) e.setting.stamp) then Err Stamp
-        else (if nat_le most_effects (length told.effects) then Err TooMany else ok_told grown)) ≡ Ok more → IsNext p told more e
-    unfaulted unmixed (Some fault) none h = absurd (let never : Err (exec_rule fault) ≡ ok_told more = h in cc)
+        else (if nat_le most_effects (length told.effects) then Err TooMany else ok_reported grown)) ≡ Ok more → IsNext p told more e
+    unfaulted unmixed (Some fault) none h = absurd (let never : Err (exec_rule fault) ≡ ok_reported more = h in cc)
     unfaulted unmixed None none h = record {
       draft = drafted;
       seen = refl;
@@ -96,7 +96,7 @@ module _ (p : Program) (told more : EffectsRead) (e : EffectLine) where
     }
 
     of-type : (mixed : Bool) → is_mixed p told.effects object op ≡ mixed → (if mixed then Err Mixed else with_draft (with_object_name told e.object) drafted e.setting.stamp) ≡ Ok more → IsNext p told more e
-    of-type true is h = absurd (let never : Err Mixed ≡ ok_told more = h in cc)
+    of-type true is h = absurd (let never : Err Mixed ≡ ok_reported more = h in cc)
     of-type false is h = unfaulted is (fault_of told.effects drafted) refl h
 
   abbrev known_as : ℕ → Member → OpId × Member
@@ -104,12 +104,12 @@ module _ (p : Program) (told more : EffectsRead) (e : EffectLine) where
 
   with-member : (o : ℕ) → op_place p.types e.op ≡ Some o → (r : Option Member)
       → option_map_or (λ known. after_known p told e known.0 known.1) (option_map (λ member. known_as o member) r) (Err Unknown) ≡ Ok more → IsNext p told more e
-  with-member o here None h = absurd (let never : Err Unknown ≡ ok_told more = h in cc)
+  with-member o here None h = absurd (let never : Err Unknown ≡ ok_reported more = h in cc)
   with-member o here (Some member) h = of-type o here member (is_mixed p told.effects (object o here member) (op o here member)) refl h
 
   with-place : (r : Option ℕ) → op_place p.types e.op ≡ r
       → option_map_or (λ known. after_known p told e known.0 known.1) (option_and_then (λ o. option_map (λ member. known_as o member) (member_of_line p e.setting.txn)) r) (Err Unknown) ≡ Ok more → IsNext p told more e
-  with-place None here h = absurd (let never : Err Unknown ≡ ok_told more = h in cc)
+  with-place None here h = absurd (let never : Err Unknown ≡ ok_reported more = h in cc)
   with-place (Some o) here h = with-member o here (member_of_line p e.setting.txn) h
 
   is-next : after_effect p told e ≡ Ok more → IsNext p told more e

@@ -21,7 +21,7 @@ use Rattle.ql_exec.specs.Execution.{IsExecution}
 use Rattle.ql_execution_files.specs.ExecutionFile.{FirstExecutionFault, IsExecutionFile}
 use Rattle.ql_execution_files.specs.declared.report_fault.ReportFault.{ReportFault}
 use Rattle.ql_implication.specs.Executions.{FitsProgram}
-use Rattle.ql_judging.specs.Verify.{VerifySays, VerifyTells}
+use Rattle.ql_judging.specs.Verify.{VerifySays, VerifyReports}
 use Rattle.ql_judging.proofs.Begun.{under}
 use Rattle.ql_judging.proofs.SamePrograms.{same-execution, same-op-contracts, same-op-name, same-txn-contracts, same-txn-name, same-work}
 use Rattle.ql_lang.specs.Formulas.{Resolved}
@@ -107,7 +107,7 @@ module _ (tree : (bytes : List ℕ) (s t : Source) → IsProgramText bytes s →
   same-as : (q : Program) (is : IsSourceOf source q) (y : List Effect) → IsExecutionFile q (ahead_from 1 file) y → x ≡ y
   same-as q is y read = one q (ahead_from 1 file) x y (same-execution p q (between q is.0) (ahead_from 1 file) x reports) read
 
-  never-fails : (said : List ℕ) → VerifyTells source file No said → ⊥
+  never-fails : (said : List ℕ) → VerifyReports source file No said → ⊥
   never-fails said tells =
       let q = tells.0 in
       let says = tells.4 in

@@ -12,7 +12,7 @@ use Rattle.ql_app.specs.Outcome.{Says}
 use Rattle.ql_reply.specs.Wrote.{Wrote}
 use Rattle.ql_commands.specs.Check.{CheckSays, order_text}
 use Rattle.ql_commands.specs.Classify.{ClassifySays}
-use Rattle.ql_implied.specs.Commands.{TellsAccepted}
+use Rattle.ql_implied.specs.Commands.{ReportsAccepted}
 use Rattle.ql_claim.specs.Headline.{Gained}
 use Rattle.ql_claim.specs.Soundness.{IsSoundAnswer, Soundness}
 use Rattle.ql_claim.proofs.Asked.{asks-check, asks-classify, said-of-file, said-of-files}
@@ -37,7 +37,7 @@ module _ (limits : Limits) (words : List (List ℕ)) (held : List ℕ → Option
       by (inr usage) put = absurd (let never : Done ≡ Usage = usage.0 in cc)
 
   module _ (other certificate : List ℕ) (other_held : held other ≡ Some certificate) (are : words ≡ codes "check" ∷ name ∷ other ∷ []) where
-    pub accepted-all : ((source cert text : List ℕ) → CheckSays source cert Done text → TellsAccepted source cert Done text)
+    pub accepted-all : ((source cert text : List ℕ) → CheckSays source cert Done text → ReportsAccepted source cert Done text)
         → Wrote (Says limits words held before after) was is faults sums Done → Gained start is (IsSoundAnswer (codes " accepted") source)
     accepted-all law wrote = by wrote.1 wrote.2
       where
@@ -47,11 +47,11 @@ module _ (limits : Limits) (words : List (List ℕ)) (held : List ℕ → Option
             (wrote.0, gained was is start wrote.0 begun put, check-sound source certificate Done wrote.0 (law source certificate wrote.0 said))
         by (inr usage) put = absurd (let never : Done ≡ Usage = usage.0 in cc)
 
-    pub accepted-some : ((source cert text : List ℕ) → CheckSays source cert No text → ((place : ℕ) × (text ≡ order_text place)) ⊎ TellsAccepted source cert No text)
+    pub accepted-some : ((source cert text : List ℕ) → CheckSays source cert No text → ((place : ℕ) × (text ≡ order_text place)) ⊎ ReportsAccepted source cert No text)
         → Wrote (Says limits words held before after) was is faults sums No → Gained start is (IsSoundAnswer (codes " accepted") source)
     accepted-some law wrote = by wrote.1 wrote.2
       where
-        sound : (text : List ℕ) → CheckSays source certificate No text → ((place : ℕ) × (text ≡ order_text place)) ⊎ TellsAccepted source certificate No text → IsSoundAnswer (codes " accepted") source text
+        sound : (text : List ℕ) → CheckSays source certificate No text → ((place : ℕ) × (text ≡ order_text place)) ⊎ ReportsAccepted source certificate No text → IsSoundAnswer (codes " accepted") source text
         sound text said (inl order) = order-sound source said.0 said.1 order.0 text order.1
         sound text said (inr told) = check-sound source certificate No text told
 
@@ -61,8 +61,8 @@ module _ (limits : Limits) (words : List (List ℕ)) (held : List ℕ → Option
             (wrote.0, gained was is start wrote.0 begun put, sound wrote.0 said (law source certificate wrote.0 said))
         by (inr usage) put = absurd (let never : No ≡ Usage = usage.0 in cc)
 
-pub all-sound : ((source cert text : List ℕ) → CheckSays source cert Done text → TellsAccepted source cert Done text)
-    → ((source cert text : List ℕ) → CheckSays source cert No text → ((place : ℕ) × (text ≡ order_text place)) ⊎ TellsAccepted source cert No text)
+pub all-sound : ((source cert text : List ℕ) → CheckSays source cert Done text → ReportsAccepted source cert Done text)
+    → ((source cert text : List ℕ) → CheckSays source cert No text → ((place : ℕ) × (text ≡ order_text place)) ⊎ ReportsAccepted source cert No text)
     → (status : Status) (limits : Limits) (words : List (List ℕ)) (held : List ℕ → Option (List ℕ)) (before after : List ℕ → ℕ) (was is : Option (List ℕ)) (faults sums : ℕ)
     → Wrote (Says limits words held before after) was is faults sums status → Soundness status words held was is
 all-sound accepted refused status limits words held before after was is faults sums wrote = record {

@@ -24,7 +24,7 @@ use Rattle.ql_commands.proofs.FoundNames.{found, op-found, txn-found}
 use Rattle.ql_implication.specs.OfPrograms.{GivesContract}
 use Rattle.ql_implication.specs.Executions.{IsImplied, IsImpliedTxn}
 use Rattle.ql_classify.specs.Least.{AreEnough}
-use Rattle.ql_implied.specs.Commands.{AcceptsFront, EachGives, EndsWith, TellsAccepted, accepted_lines}
+use Rattle.ql_implied.specs.Commands.{AcceptsFront, EachGives, EndsWith, ReportsAccepted, accepted_lines}
 use Rattle.ql_lang.specs.Formulas.{Resolved}
 use Rattle.ql_lang.specs.declared.operation.OpDecl.{OpDecl}
 use Rattle.ql_lang.specs.declared.program.Program.{Program}
@@ -63,8 +63,8 @@ pub record IsTxnLine (p : Program) (ending w : List ℕ) : Type 0 where
   pub line : w ≡ txn_with_level p txn level ++ ending
 
 -- a line of a target whose level guarantees its contract, or one without the ending
-abbrev IsTold : Program → List ℕ → List ℕ → Type 0
-IsTold p ending w = IsOneLine w × (IsOpLine p ending w ⊎ (IsTxnLine p ending w ⊎ ((line : List ℕ) → w ≡ line ++ ending → ⊥)))
+abbrev IsReported : Program → List ℕ → List ℕ → Type 0
+IsReported p ending w = IsOneLine w × (IsOpLine p ending w ⊎ (IsTxnLine p ending w ⊎ ((line : List ℕ) → w ≡ line ++ ending → ⊥)))
 
 -- what `classify` prints of a source is sound, and has a line for each target
 pub record IsPrinted (source text : List ℕ) : Type 0 where
@@ -140,23 +140,23 @@ module _ (source : List ℕ) (p : Program) (is : IsSourceOf source p) where
 
   -- ---- a sound text
 
-  module _ (ending text : List ℕ) (ws : List (List ℕ)) (are : text ≡ ended ws) (all : AllByRecursion (IsTold p ending) ws) where
-    all-lines : (vs : List (List ℕ)) → AllByRecursion (IsTold p ending) vs → AllByRecursion IsOneLine vs
+  module _ (ending text : List ℕ) (ws : List (List ℕ)) (are : text ≡ ended ws) (all : AllByRecursion (IsReported p ending) ws) where
+    all-lines : (vs : List (List ℕ)) → AllByRecursion (IsReported p ending) vs → AllByRecursion IsOneLine vs
     all-lines [] told = tt
     all-lines (v ∷ vs) told = (told.0.0, all-lines vs told.1)
 
     its-lines : lines text ≡ ws
     its-lines = ap lines are ∙ lines-ended ws (all-lines ws all)
 
-    told : (w : List ℕ) → Contains (lines text) w → IsTold p ending w
-    told w has = All-contains (IsTold p ending) ws w (All-from_recursion (IsTold p ending) ws all) (subst (λ (ls : List (List ℕ)). Contains ls w) its-lines has)
+    told : (w : List ℕ) → Contains (lines text) w → IsReported p ending w
+    told w has = All-contains (IsReported p ending) ws w (All-from_recursion (IsReported p ending) ws all) (subst (λ (ls : List (List ℕ)). Contains ls w) its-lines has)
 
-    target : (line : List ℕ) → IsTold p ending (line ++ ending) → IsTargetWithLevel p line
+    target : (line : List ℕ) → IsReported p ending (line ++ ending) → IsTargetWithLevel p line
     target line (one, inl o) = inl (o.op, o.level, o.within, append_cancel_right line (op_with_level p o.op o.level) ending o.line)
     target line (one, inr (inl d)) = inr (d.txn, d.level, d.within, append_cancel_right line (txn_with_level p d.txn d.level) ending d.line)
     target line (one, inr (inr other)) = absurd (other line refl)
 
-    op-implied : (o : ℕ) (level : Level) (f : Resolved) → slice_get (op_contracts p.types) o ≡ Some f → IsTold p ending (op_with_level p o level ++ ending) → IsImplied (op_kinds p.types) o level f
+    op-implied : (o : ℕ) (level : Level) (f : Resolved) → slice_get (op_contracts p.types) o ≡ Some f → IsReported p ending (op_with_level p o level ++ ending) → IsImplied (op_kinds p.types) o level f
     op-implied o level f at (one, inl k) =
         let within = slice_get_within (op_contracts p.types) o f at in
         let count = length-map (all_ops p.types) (op_contract (op_words p.types)) in
@@ -166,7 +166,7 @@ module _ (source : List ℕ) (p : Program) (is : IsSourceOf source p) where
     op-implied o level f at (one, inr (inl d)) = absurd (two-kinds o d.txn level d.level ending d.line)
     op-implied o level f at (one, inr (inr other)) = absurd (other (op_with_level p o level) refl)
 
-    txn-implied : (d : ℕ) (level : TxnLevel) (f : Resolved) → slice_get (txn_contracts p) d ≡ Some f → IsTold p ending (txn_with_level p d level ++ ending) → IsImpliedTxn (op_kinds p.types) level f
+    txn-implied : (d : ℕ) (level : TxnLevel) (f : Resolved) → slice_get (txn_contracts p) d ≡ Some f → IsReported p ending (txn_with_level p d level ++ ending) → IsImpliedTxn (op_kinds p.types) level f
     txn-implied d level f at (one, inl o) = absurd (two-kinds o.op d o.level level ending (sym o.line))
     txn-implied d level f at (one, inr (inl k)) =
         let within = slice_get_within (txn_contracts p) d f at in
@@ -198,7 +198,7 @@ module _ (source : List ℕ) (p : Program) (is : IsSourceOf source p) where
         let at : slice_get levels.txns d ≡ Some (get_or levels.txns d Rr) = slice_get-get_or levels.txns d Rr (omega (arith, less, enough.txns)) in
         ap (λ (r : Option TxnLevel). codes "txn " ++ txn_name p d ++ codes " " ++ option_map_or txn_word_of r [] ++ codes "\n") at
 
-    op-told : (o : ℕ) → o < length (all_ops p.types) → IsTold p (codes "") (leveled-op p levels o)
+    op-told : (o : ℕ) → o < length (all_ops p.types) → IsReported p (codes "") (leveled-op p levels o)
     op-told o less = (
       op-one-line o (get_or levels.ops o Strong) less,
       inl (record {
@@ -210,7 +210,7 @@ module _ (source : List ℕ) (p : Program) (is : IsSourceOf source p) where
       }),
     )
 
-    txn-told : (d : ℕ) → d < length p.txns → IsTold p (codes "") (leveled-txn p levels d)
+    txn-told : (d : ℕ) → d < length p.txns → IsReported p (codes "") (leveled-txn p levels d)
     txn-told d less = (
       txn-one-line d (get_or levels.txns d Rr) less,
       inr (inl (record {
@@ -229,11 +229,11 @@ module _ (source : List ℕ) (p : Program) (is : IsSourceOf source p) where
         ∙ ap (λ (w : List ℕ). ended (op-lines p levels) ++ w) (ended-upto (length p.txns) (txn_line p levels) (leveled-txn p levels) txn-text)
         ∙ sym (ended-append (op-lines p levels) (txn-lines p levels))
 
-    all-told : AllByRecursion (IsTold p (codes "")) (op-lines p levels ++ txn-lines p levels)
+    all-told : AllByRecursion (IsReported p (codes "")) (op-lines p levels ++ txn-lines p levels)
     all-told =
-        all-append (IsTold p (codes "")) (op-lines p levels) (txn-lines p levels)
-        (all-upto (IsTold p (codes "")) (length (all_ops p.types)) (leveled-op p levels) op-told)
-        (all-upto (IsTold p (codes "")) (length p.txns) (leveled-txn p levels) txn-told)
+        all-append (IsReported p (codes "")) (op-lines p levels) (txn-lines p levels)
+        (all-upto (IsReported p (codes "")) (length (all_ops p.types)) (leveled-op p levels) op-told)
+        (all-upto (IsReported p (codes "")) (length p.txns) (leveled-txn p levels) txn-told)
 
     has : (w : List ℕ) → Contains (op-lines p levels ++ txn-lines p levels) w → Contains (lines text) w
     has w at = subst (λ (ls : List (List ℕ)). Contains ls w) (sym (its-lines (codes "") text (op-lines p levels ++ txn-lines p levels) are-ended all-told)) at
@@ -277,13 +277,13 @@ module _ (source : List ℕ) (p : Program) (is : IsSourceOf source p) where
 
   accepted-line : (place : ℕ) (name : List ℕ) (level : SectionLevel) → slice_get (expected_targets p) place ≡ Some (target_named name level)
       → GivesContract p (goal_at (length (all_ops p.types)) place level)
-      → IsTold p (codes " accepted") ((kind_word level ++ codes " " ++ name ++ codes " " ++ level_word level) ++ codes " accepted")
+      → IsReported p (codes " accepted") ((kind_word level ++ codes " " ++ name ++ codes " " ++ level_word level) ++ codes " accepted")
   unfolding kind_word level_word
   accepted-line place name (Op l) expected gives =
       let below = op_below p place name expected in
       let same : Operation (op_name p place) ≡ Operation name = same_Some (Operation (op_name p place)) (Operation name) (sym (expected_op p place below) ∙ expected) in
       let named : op_name p place ≡ name = cc in
-      subst (λ (n : List ℕ). IsTold p (codes " accepted") ((codes "op " ++ n ++ codes " " ++ word_of l) ++ codes " accepted")) named (
+      subst (λ (n : List ℕ). IsReported p (codes " accepted") ((codes "op " ++ n ++ codes " " ++ word_of l) ++ codes " accepted")) named (
         both-line (op_with_level p place l) (codes " accepted") (op-one-line place l below) (spaced-line [] (codes "accepted") refl (solid-line (codes "accepted") refl)),
         inl (record { op = place; level = l; within = below; gives = gives; line = refl }),
       )
@@ -293,7 +293,7 @@ module _ (source : List ℕ) (p : Program) (is : IsSourceOf source p) where
       let number : place ≡ length (all_ops p.types) + d = omega (arith, above.0) in
       let same : Transaction (txn_name p d) ≡ Transaction name = same_Some (Transaction (txn_name p d)) (Transaction name) (sym (expected_txn p place d number above.1) ∙ expected) in
       let named : txn_name p d ≡ name = cc in
-      subst (λ (n : List ℕ). IsTold p (codes " accepted") ((codes "txn " ++ n ++ codes " " ++ txn_word_of l) ++ codes " accepted")) named (
+      subst (λ (n : List ℕ). IsReported p (codes " accepted") ((codes "txn " ++ n ++ codes " " ++ txn_word_of l) ++ codes " accepted")) named (
         both-line (txn_with_level p d l) (codes " accepted") (txn-one-line d l above.1) (spaced-line [] (codes "accepted") refl (solid-line (codes "accepted") refl)),
         inr (inl (record { txn = d; level = l; within = above.1; gives = gives; line = refl })),
       )
@@ -301,7 +301,7 @@ module _ (source : List ℕ) (p : Program) (is : IsSourceOf source p) where
   -- the lines of sections that are accepted, and what is expected after them
   record AreAccepted (ss others : List Section) : Type 0 where
     its : List (List ℕ)
-    all : AllByRecursion (IsTold p (codes " accepted")) its
+    all : AllByRecursion (IsReported p (codes " accepted")) its
     are : accepted_lines ss ≡ ended its
     next : ℕ
     expected : AreExpectedFrom p next others
@@ -323,7 +323,7 @@ module _ (source : List ℕ) (p : Program) (is : IsSourceOf source p) where
 
   -- a line with another verdict
   refused-line : (w rule : List ℕ) (k : ℕ) → IsOneLine w → is_solid rule ≡ true → (final 32 rule ≡ 100 → ⊥)
-      → IsTold p (codes " accepted") (w ++ (codes " refused " ++ decimal k ++ codes " " ++ rule))
+      → IsReported p (codes " accepted") (w ++ (codes " refused " ++ decimal k ++ codes " " ++ rule))
   refused-line w rule k line solid other =
       let spaced : codes " refused " ++ decimal k ++ codes " " ++ rule ≡ codes " refused " ++ (decimal k ++ 32 ∷ rule) =
       append_assoc (codes " refused " ++ decimal k) (codes " ") rule ∙ append_assoc (codes " refused ") (decimal k) (32 ∷ rule) in
@@ -342,10 +342,10 @@ module _ (source : List ℕ) (p : Program) (is : IsSourceOf source p) where
   -- what stands after the accepted lines
   record IsEnd (end : List ℕ) : Type 0 where
     its : List (List ℕ)
-    all : AllByRecursion (IsTold p (codes " accepted")) its
+    all : AllByRecursion (IsReported p (codes " accepted")) its
     are : end ≡ ended its
 
-  one-end : (end w : List ℕ) → end ≡ w ++ 10 ∷ [] → IsTold p (codes " accepted") w → IsEnd end
+  one-end : (end w : List ℕ) → end ≡ w ++ 10 ∷ [] → IsReported p (codes " accepted") w → IsEnd end
   one-end end w are told = record { its = w ∷ []; all = (told, tt); are = are }
 
   other-verdict : (end w : List ℕ) (v : Verdict) → IsOneLine w → v ≢ Accepted → end ≡ w ++ verdict_text v → IsEnd end
@@ -386,7 +386,7 @@ module _ (source : List ℕ) (p : Program) (is : IsSourceOf source p) where
       let end = its-end front.next accepts.others a accepts.end front.expected accepts.ends in
       let are : text ≡ ended (front.its ++ end.its) =
       accepts.lines ∙ ap (λ (w : List ℕ). w ++ accepts.end) front.are ∙ ap (λ (w : List ℕ). ended front.its ++ w) end.are ∙ sym (ended-append front.its end.its) in
-      sound-text (codes " accepted") text (front.its ++ end.its) are (all-append (IsTold p (codes " accepted")) front.its end.its front.all end.all)
+      sound-text (codes " accepted") text (front.its ++ end.its) are (all-append (IsReported p (codes " accepted")) front.its end.its front.all end.all)
 
   pub order-sound : (place : ℕ) (text : List ℕ) → text ≡ order_text place → IsSoundAnswer (codes " accepted") source text
   order-sound place text are =
@@ -397,5 +397,5 @@ module _ (source : List ℕ) (p : Program) (is : IsSourceOf source p) where
       sound-text (codes " accepted") text end.its end.are end.all
 
 -- what `check` says of its files is sound
-pub check-sound : (source cert : List ℕ) (a : Status) (text : List ℕ) → TellsAccepted source cert a text → IsSoundAnswer (codes " accepted") source text
+pub check-sound : (source cert : List ℕ) (a : Status) (text : List ℕ) → ReportsAccepted source cert a text → IsSoundAnswer (codes " accepted") source text
 check-sound source cert a text told = accepted-sound source told.0 told.1 told.2 a text told.4 told.5

@@ -11,7 +11,7 @@ use Rattle.ql_exec.specs.declared.effect.Effect.{Effect}
 use Rattle.ql_exec.specs.declared.effect.Member.TheVariants.{Inside}
 use Rattle.ql_exec.specs.Effects.{effect_at}
 use Rattle.ql_formula.specs.Truth.{Holds, HoldsTxn}
-use Rattle.ql_judging.specs.Verify.{TellsExecution}
+use Rattle.ql_judging.specs.Verify.{ReportsExecution}
 use Rattle.ql_lang.specs.Programs.{source_of}
 use Rattle.ql_lang.specs.declared.program.Program.{Program}
 use Rattle.ql_levels.specs.Formulas.{formula_of, txn_formula_of}
@@ -56,7 +56,7 @@ pub record AreKeptInTurn (words : List (List ℕ)) (held : List ℕ → Option (
   pub program : Program
   pub reads : IsProgramText source (source_of program)
   pub execution : List Effect
-  pub reports : TellsExecution program file execution
+  pub reports : ReportsExecution program file execution
   -- in which these levels are kept
   pub kept : KeepsLevels program levels execution
 

@@ -19,7 +19,7 @@ ghost use Rattle.ql_claim.specs.Soundness.{Soundness};
 
 use ql_app::contracts_hold_in_runs;
 use ql_implication::countermodels_refute;
-use ql_implied::{accepted_lines_give_contracts, strong_uses_are_told};
+use ql_implied::{accepted_lines_give_contracts, strong_uses_are_reported};
 use ql_parse::one_program_answer;
 
 /// The headline, of what `quelea` wrote by its clause `wrote`: with status 0, to `run` of a source and a schedule, the text
@@ -33,7 +33,7 @@ pub fn headline()
     contracts_hold_in_runs();
     least_levels_are_one();
     one_program_answer();
-    strong_uses_are_told();
+    strong_uses_are_reported();
 }
 
 /// Soundness alone, of what `quelea` wrote by its clause `wrote`: in every execution that fits the source's program, each

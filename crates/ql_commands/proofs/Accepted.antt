@@ -23,8 +23,8 @@ use Rattle.ql_refute.specs.declared.refutation.Line.{Line}
 use Rattle.ql_typing.specs.Operations.{all_ops}
 use Rattle.ql_reply.specs.declared.status.Status.{Status}
 use Rattle.ql_reply.specs.declared.status.Status.TheVariants.{Done, No, Bad, ReadFault, WriteFault, Usage, TooLarge}
-use Rattle.ql_commands.specs.Check.{AreExpected, BeginOtherwise, CheckSays, IsOutOfOrder, Operation, Target, Tells, Transaction, goal_at, goal_of, target_named, target_of}
-use Rattle.ql_commands.specs.Check.Tells.{all, accepted, refused}
+use Rattle.ql_commands.specs.Check.{AreExpected, BeginOtherwise, CheckSays, IsOutOfOrder, Operation, Target, Reports, Transaction, goal_at, goal_of, target_named, target_of}
+use Rattle.ql_commands.specs.Check.Reports.{all, accepted, refused}
 use Rattle.ql_classify.specs.Least.{AreLevelsOf}
 use Rattle.ql_commands.specs.Prove.{IsSectionOf, ProveSays, level_of, name_of}
 use Rattle.std.proofs.lemmas.List.{append_cancel_left, map-append}
@@ -47,9 +47,9 @@ one-problem q (TxnAt o level) c d h g =
     let same : h.0 ≡ g.0 = cc in
     h.2 ∙ rw same (sym g.2)
 
-none-refused : (q : Program) (place : ℕ) (ss : List Section) (a : Status) (text : List ℕ) → Tells q place ss a text → AreRefuted q place ss → a ≡ No → ⊥
+none-refused : (q : Program) (place : ℕ) (ss : List Section) (a : Status) (text : List ℕ) → Reports q place ss a text → AreRefuted q place ss → a ≡ No → ⊥
 none-refused q place ss a text (all k) h is = absurd (cc)
-none-refused q place ss a text (accepted k s more b rest refuted gives tells) h is = none-refused q (suc k) more b rest tells h.1 is
+none-refused q place ss a text (accepted k s more b rest refuted gives reports) h is = none-refused q (suc k) more b rest reports h.1 is
 none-refused q place ss a text (refused k s more c problem not) h is =
     not (ap (λ (d : ClauseList). verdict d s.refutation.lines) (one-problem q (goal_of q k s) c h.0.0 problem h.0.1) ∙ h.0.2)
 
@@ -173,5 +173,5 @@ accepted_again tree source cert text No proved checked =
     let refuted : AreRefuted q 0 c.sections = all-refuted p q proved.2 c.sections same proved.3 c.of_targets in
     elim checked.4 [
       | inl out ↦ absurd (in-order q checked.2 out.0 (subst (λ ss. AreExpected q ss) one expected) out.1)
-      | inr told ↦ absurd (none-refused q 0 checked.2 No text told.1 (subst (λ ss. AreRefuted q 0 ss) one refuted) refl)
+      | inr reported ↦ absurd (none-refused q 0 checked.2 No text reported.1 (subst (λ ss. AreRefuted q 0 ss) one refuted) refl)
     ]

@@ -188,12 +188,12 @@ all_expected p ss k is l alike =
     let count = length-map ss target_of in
     sym (sym (take_all k (expected_targets p) (omega (arith, is))) ∙ alike ∙ take_all k (map target_of ss) (omega (arith, l, count)))
 
--- ---- what the order test tells of one place
+-- ---- what the order test reports of one place
 
 module _ (p : Program) (k : ℕ) (w : List ℕ) where
-  pub op_told : (b : Bool) (name : List ℕ) (d : OpDecl) → slice_get (all_ops p.types) k ≡ Some d → name ≡ d.name.word → (IsTrue b → name ≡ w) × (name ≡ w → IsTrue b)
+  pub op_reported : (b : Bool) (name : List ℕ) (d : OpDecl) → slice_get (all_ops p.types) k ≡ Some d → name ≡ d.name.word → (IsTrue b → name ≡ w) × (name ≡ w → IsTrue b)
       → (IsTrue b → slice_get (expected_targets p) k ≡ Some (Operation w)) × (slice_get (expected_targets p) k ≡ Some (Operation w) → IsTrue b)
-  op_told b name d at is same =
+  op_reported b name d at is same =
       let own : op_name p k ≡ name = rw at (sym is) in
       let expected : slice_get (expected_targets p) k ≡ Some (Operation name) = expected_op p k (slice_get_within (all_ops p.types) k d at) ∙ ap (λ (n : List ℕ). Some (Operation n)) own in (
         λ yes. expected ∙ ap (λ (n : List ℕ). Some (Operation n)) (same.0 yes),
@@ -203,9 +203,9 @@ module _ (p : Program) (k : ℕ) (w : List ℕ) where
   pub op_not : (length (all_ops p.types) ≤ k) → (IsTrue false → slice_get (expected_targets p) k ≡ Some (Operation w)) × (slice_get (expected_targets p) k ≡ Some (Operation w) → IsTrue false)
   op_not past = (λ no. absurd (cc), λ e. let below = op_below p k w e in absurd (omega (arith, past, below)))
 
-  pub txn_told : (b : Bool) (name : List ℕ) (n : ℕ) (d : TxnDecl) → k ≡ length (all_ops p.types) + n → slice_get p.txns n ≡ Some d → name ≡ d.name.word → (IsTrue b → name ≡ w) × (name ≡ w → IsTrue b)
+  pub txn_reported : (b : Bool) (name : List ℕ) (n : ℕ) (d : TxnDecl) → k ≡ length (all_ops p.types) + n → slice_get p.txns n ≡ Some d → name ≡ d.name.word → (IsTrue b → name ≡ w) × (name ≡ w → IsTrue b)
       → (IsTrue b → slice_get (expected_targets p) k ≡ Some (Transaction w)) × (slice_get (expected_targets p) k ≡ Some (Transaction w) → IsTrue b)
-  txn_told b name n d place at is same =
+  txn_reported b name n d place at is same =
       let own : txn_name p n ≡ name = rw at (sym is) in
       let expected : slice_get (expected_targets p) k ≡ Some (Transaction name) = expected_txn p k n place (slice_get_within p.txns n d at) ∙ ap (λ (m : List ℕ). Some (Transaction m)) own in (
         λ yes. expected ∙ ap (λ (m : List ℕ). Some (Transaction m)) (same.0 yes),

@@ -17,7 +17,7 @@ use Rattle.ql_typing.specs.Lookups.{txn_place, type_place}
 use Rattle.ql_typing.specs.Operations.{all_ops, op_place}
 use Rattle.ql_typing.specs.Programs.{program_faults}
 use Rattle.ql_typing.specs.declared.fault.TypeFault.TheVariants.{Twice}
-use Rattle.ql_typing.proofs.Parts.{flat_of_map, left_none, right_none, told_false}
+use Rattle.ql_typing.proofs.Parts.{flat_of_map, left_none, right_none, reported_false}
 use Rattle.ql_commands.specs.Sources.{IsSourceOf}
 use Rattle.ql_commands.proofs.ReadNames.{has_names}
 
@@ -53,9 +53,9 @@ module _ {X : Type 0} (name : X → Name) where
   not-before before [] k x h is = absurd (let never : None ≡ Some x = is in cc)
   not-before before (y ∷ xs) zero x h is =
       let same : y ≡ x = cc in
-      subst (λ (z : X). has_name before (name z).word ≡ false) same (told_false (has_name before (name y).word) (Twice (name y).at) (left_none _ _ h))
+      subst (λ (z : X). has_name before (name z).word ≡ false) same (reported_false (has_name before (name y).word) (Twice (name y).at) (left_none _ _ h))
   not-before before (y ∷ xs) (suc k) x h is =
-      let new : has_name before (name y).word ≡ false = told_false (has_name before (name y).word) (Twice (name y).at) (left_none _ _ h) in
+      let new : has_name before (name y).word ≡ false = reported_false (has_name before (name y).word) (Twice (name y).at) (left_none _ _ h) in
       (unmet before (name y).word (name x).word new (not-before (with_name before (name y).word) xs k x (right_none _ _ h) is)).0
 
   -- the first of a name stands where it does
@@ -67,7 +67,7 @@ module _ {X : Type 0} (name : X → Name) where
       let here : bytes_eq (name x).word (name y).word ≡ true = (bytes_eq-Decides (name x).word (name y).word).1 (ap (λ (z : X). (name z).word) (sym same)) in
       rw here (first-place 0 (suc (length xs)) (omega arith))
   place-of before (y ∷ xs) (suc k) x h is =
-      let new : has_name before (name y).word ≡ false = told_false (has_name before (name y).word) (Twice (name y).at) (left_none _ _ h) in
+      let new : has_name before (name y).word ≡ false = reported_false (has_name before (name y).word) (Twice (name y).at) (left_none _ _ h) in
       let met : bytes_eq (name x).word (name y).word ≡ false = (unmet before (name y).word (name x).word new (not-before (with_name before (name y).word) xs k x (right_none _ _ h) is)).1 in
       let later = place-of (with_name before (name y).word) xs k x (right_none _ _ h) is in
       rw met (next (prefix_len (λ z. not (bytes_eq (name x).word (name z).word)) xs) later)

@@ -6,7 +6,7 @@ pub mod FoundNames
 pub mod SpelledLines
 pub mod Headings
 pub mod Expected
-pub mod Telling
+pub mod Report
 pub mod SameProblems
 pub mod Accepted
 pub mod SmallBodies

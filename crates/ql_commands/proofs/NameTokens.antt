@@ -2,9 +2,9 @@
 use Rattle.std.proofs.Common.{◌≡◌, ℕ, List, Ok, take, refl}
 use Rattle.std.specs.List.{AllByRecursion}
 use Rattle.ql_base.specs.Names.{IsName}
-use Rattle.ql_lex.specs.Fronts.{IsFront}
+use Rattle.ql_lex.specs.Starts.{StartsWith}
 use Rattle.ql_lex.specs.Tokens.{Lexes}
-use Rattle.ql_lex.specs.declared.front.Front.TheVariants.{Lexeme}
+use Rattle.ql_lex.specs.declared.start.Start.TheVariants.{Lexeme}
 use Rattle.ql_lex.specs.declared.token.Token.{Token}
 use Rattle.ql_lex.specs.declared.token.TokenKind.{TokenKind}
 use Rattle.ql_lex.specs.declared.token.TokenKind.TheVariants.{Name as NameKind, Int, Text, Mark, Keyword}
@@ -22,7 +22,7 @@ IsNamed l = l.what ≡ NameToken → IsName l.text
 abbrev pub AreNamed : List ALexeme → Type 0
 AreNamed ls = AllByRecursion (λ l. IsNamed l) ls
 
-one_named : {text : List ℕ} (what : TokenKind) (n : ℕ) → IsFront text (Lexeme what n) → terminal_of what (take n text) ≡ NameToken → IsName (take n text)
+one_named : {text : List ℕ} (what : TokenKind) (n : ℕ) → StartsWith text (Lexeme what n) → terminal_of what (take n text) ≡ NameToken → IsName (take n text)
 unfolding terminal_of number
 one_named NameKind n front is = name_taken front
 one_named Int n front is = cc

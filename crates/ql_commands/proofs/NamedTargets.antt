@@ -77,7 +77,7 @@ module _ (p : Program) where
   refusal_names_targets (StrongInTxn txn op) h = names_targets (StrongInTxn txn op) h
   refusal_names_targets NoMemory h = tt
 
-  -- and a refusal that isn't out of memory tells the first test that fails
+  -- and a refusal that isn't out of memory reports the first test that fails
   pub first_fails : (e : Classless) → IsRefusal p (all_tests p) e → (e ≡ NoMemory → ⊥) → FirstFails p (all_tests p) e
   first_fails (NoLevel target a) h known = h
   first_fails (StrongInTxn txn op) h known = h

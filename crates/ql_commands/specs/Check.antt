@@ -106,27 +106,27 @@ verdict_text NoEmpty = codes " refused NoEmpty\n"
 
 -- The lines that report the sections from an index on, up to the first that is refused. Where a line ends in `accepted`,
 -- the refutation is one of the section's own ground problem, and the level guarantees the contract in every execution.
-pub data Tells (p : Program) : ℕ → List Section → Status → List ℕ → Type 0 where
-  all : (place : ℕ) → Tells p place [] Done []
+pub data Reports (p : Program) : ℕ → List Section → Status → List ℕ → Type 0 where
+  all : (place : ℕ) → Reports p place [] Done []
   accepted : (place : ℕ) (s : Section) (ss : List Section) (status : Status) (text : List ℕ)
-      → IsRefutedBy p (goal_of p place s) s.refutation.lines → GivesContract p (goal_of p place s) → Tells p (suc place) ss status text
-      → Tells p place (s ∷ ss) status (section_text s ++ verdict_text Accepted ++ text)
+      → IsRefutedBy p (goal_of p place s) s.refutation.lines → GivesContract p (goal_of p place s) → Reports p (suc place) ss status text
+      → Reports p place (s ∷ ss) status (section_text s ++ verdict_text Accepted ++ text)
   refused : (place : ℕ) (s : Section) (ss : List Section) (c : ClauseList)
       → IsProblemOf p (goal_of p place s) c → verdict c s.refutation.lines ≢ Accepted
-      → Tells p place (s ∷ ss) No (section_text s ++ verdict_text (verdict c s.refutation.lines))
+      → Reports p place (s ∷ ss) No (section_text s ++ verdict_text (verdict c s.refutation.lines))
 
 -- what is said of a program and of sections
 abbrev pub SectionsSay : Program → List Section → Status → List ℕ → Type 0
-SectionsSay p ss Done text = AreExpected p ss × Tells p 0 ss Done text
+SectionsSay p ss Done text = AreExpected p ss × Reports p 0 ss Done text
 SectionsSay p ss No text =
-    ((place : ℕ) × IsOutOfOrder p ss place × (text ≡ order_text place)) ⊎ (AreExpected p ss × Tells p 0 ss No text)
+    ((place : ℕ) × IsOutOfOrder p ss place × (text ≡ order_text place)) ⊎ (AreExpected p ss × Reports p 0 ss No text)
 SectionsSay p ss _ text = ⊥
 
-abbrev pub CheckTells : List ℕ → List ℕ → Status → List ℕ → Type 0
-CheckTells source cert status text = (p : Program) × IsSourceOf source p × (ss : List Section) × SpellsCert cert ss × SectionsSay p ss status text
+abbrev pub CheckReports : List ℕ → List ℕ → Status → List ℕ → Type 0
+CheckReports source cert status text = (p : Program) × IsSourceOf source p × (ss : List Section) × SpellsCert cert ss × SectionsSay p ss status text
 
 abbrev pub CheckSays : List ℕ → List ℕ → Status → List ℕ → Type 0
-CheckSays source cert Done text = CheckTells source cert Done text
-CheckSays source cert No text = CheckTells source cert No text
+CheckSays source cert Done text = CheckReports source cert Done text
+CheckSays source cert No text = CheckReports source cert No text
 CheckSays source cert Bad text = BadSourceSays source text ⊎ (IsSource source × BadCertSays cert text)
 CheckSays source cert _ text = ⊥

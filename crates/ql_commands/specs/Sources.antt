@@ -11,7 +11,7 @@ use Rattle.ql_parse.specs.Parsing.{IsProgramText, IsProgramAnswer}
 use Rattle.ql_reply.specs.Lines.{fault_line}
 use Rattle.ql_typing.specs.declared.fault.TypeFault.{TypeFault}
 use Rattle.ql_typing.specs.declared.fault.TypeFault.TheVariants.{Unknown, Twice, Kind, TooMany, TxnClosure, Variables, TxnAtom, NoMemory as NoTypeMemory}
-use Rattle.ql_typing.specs.Faults.{TellsFirst}
+use Rattle.ql_typing.specs.Faults.{ReportsFirst}
 use Rattle.ql_typing.specs.Programs.{program_faults}
 use Rattle.ql_commands.specs.declared.source_fault.SourceFault.{SourceFault}
 use Rattle.ql_commands.specs.declared.source_fault.SourceFault.TheVariants.{Parse, Typing}
@@ -27,7 +27,7 @@ IsSource bytes = (p : Program) × IsSourceOf bytes p
 -- the first fault of bytes that are none: of their syntax, and else of the typing of the program that they read as
 abbrev pub IsSourceFault : List ℕ → SourceFault → Type 0
 IsSourceFault bytes (Parse f) = IsProgramAnswer bytes (Err f)
-IsSourceFault bytes (Typing f) = (p : Program) × IsProgramText bytes (source_of p) × TellsFirst (program_faults p) f
+IsSourceFault bytes (Typing f) = (p : Program) × IsProgramText bytes (source_of p) × ReportsFirst (program_faults p) f
 
 -- the offset of a fault and the name of its rule, and none where memory ran out
 abbrev pub lexical_fault : LexFault → Option (ℕ × List ℕ)
@@ -53,13 +53,13 @@ typing_fault (Variables at) = Some (at, codes "Variables")
 typing_fault (TxnAtom at) = Some (at, codes "TxnAtom")
 typing_fault NoTypeMemory = None
 
-abbrev pub told_fault : SourceFault → Option (ℕ × List ℕ)
-told_fault (Parse f) = syntax_fault f
-told_fault (Typing f) = typing_fault f
+abbrev pub reported_fault : SourceFault → Option (ℕ × List ℕ)
+reported_fault (Parse f) = syntax_fault f
+reported_fault (Typing f) = typing_fault f
 
 -- the line that reports a source's first fault, and none where memory ran out
 abbrev pub source_fault_text : SourceFault → Option (List ℕ)
-source_fault_text f = option_map (λ told. fault_line (codes "source") told.0 told.1) (told_fault f)
+source_fault_text f = option_map (λ reported. fault_line (codes "source") reported.0 reported.1) (reported_fault f)
 
 -- a fault that is reported is none of a source
 abbrev pub DeniesSource : List ℕ → SourceFault → Type 0

@@ -2,7 +2,7 @@
 ghost use Rattle.std.specs.Prelude.{◌≡◌, ◌≤◌, ◌+◌, ◌++◌, ℕ, List, IfOk, OnOk, length, slice_get, Some};
 ghost use Rattle.ql_ground.specs.OfPrograms.{IsGoalOf};
 ghost use Rattle.ql_ground.specs.SmallBodies.{HasSmallBodies};
-ghost use Rattle.ql_commands.specs.Check.{Tells, goal_of, refusal_end, section_text, target_of, expected_targets, verdict_text};
+ghost use Rattle.ql_commands.specs.Check.{Reports, goal_of, refusal_end, section_text, target_of, expected_targets, verdict_text};
 ghost use Rattle.ql_commands.specs.Judging.{AreExpectedFrom, IsVerdictOn};
 
 use ql_base::{DeclId, NoMemory, OpId, push_bytes, push_number};
@@ -26,7 +26,7 @@ pub(crate) fn push_sections(
     requires few { place + length sections.now ≤ 48 }
     requires small { HasSmallBodies t.now.program }
     ensures { IfOk result
-        (λ status. (text : List ℕ) × Tells t.now.program place sections.now status text
+        (λ status. (text : List ℕ) × Reports t.now.program place sections.now status text
         × (out.new.items ≡ out.old.items ++ text)) }
 {
     let Some((section, others)) = sections.split_first() else {

@@ -1,7 +1,7 @@
 // What is reported of a source that is none.
 ghost use Rattle.std.specs.Prelude.{◌≡◌, IfOk, Some};
 ghost use Rattle.std.specs.Option.{option_map};
-ghost use Rattle.ql_commands.specs.Sources.{lexical_fault, source_fault_text, syntax_fault, told_fault, typing_fault};
+ghost use Rattle.ql_commands.specs.Sources.{lexical_fault, source_fault_text, syntax_fault, reported_fault, typing_fault};
 
 use ql_base::NoMemory;
 use ql_lex::LexFault;
@@ -31,7 +31,7 @@ pub fn bad_source(alloc: Global, fault: SourceFault) -> Result<Vec<u8>, NoMemory
 
 // The offset of a fault and the name of its rule; none where memory ran out.
 fn place_and_rule(fault: SourceFault) -> Option<(u32, &'static str)>
-    ensures { option_map (λ told. (told.0, told.1.now)) result ≡ told_fault fault }
+    ensures { option_map (λ reported. (reported.0, reported.1.now)) result ≡ reported_fault fault }
 {
     match fault {
         SourceFault::Parse(fault) => of_syntax(fault),
@@ -40,7 +40,7 @@ fn place_and_rule(fault: SourceFault) -> Option<(u32, &'static str)>
 }
 
 fn of_tokens(fault: LexFault) -> Option<(u32, &'static str)>
-    ensures { option_map (λ told. (told.0, told.1.now)) result ≡ lexical_fault fault }
+    ensures { option_map (λ reported. (reported.0, reported.1.now)) result ≡ lexical_fault fault }
 {
     match fault {
         LexFault::BadChar(at) => Some((at, "BadChar")),
@@ -51,7 +51,7 @@ fn of_tokens(fault: LexFault) -> Option<(u32, &'static str)>
 }
 
 fn of_syntax(fault: ParseFault) -> Option<(u32, &'static str)>
-    ensures { option_map (λ told. (told.0, told.1.now)) result ≡ syntax_fault fault }
+    ensures { option_map (λ reported. (reported.0, reported.1.now)) result ≡ syntax_fault fault }
 {
     match fault {
         ParseFault::Lex(fault) => of_tokens(fault),
@@ -63,7 +63,7 @@ fn of_syntax(fault: ParseFault) -> Option<(u32, &'static str)>
 }
 
 fn of_typing(fault: TypeFault) -> Option<(u32, &'static str)>
-    ensures { option_map (λ told. (told.0, told.1.now)) result ≡ typing_fault fault }
+    ensures { option_map (λ reported. (reported.0, reported.1.now)) result ≡ typing_fault fault }
 {
     match fault {
         TypeFault::Unknown(at) => Some((at, "Unknown")),

@@ -1,6 +1,6 @@
 pub mod Bytes
 pub mod Moments
 pub mod Forecasts
-pub mod Untold
+pub mod Unreported
 pub mod Marks
 pub mod MemDisks

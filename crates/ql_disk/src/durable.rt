@@ -12,15 +12,15 @@ use ql_ports::Failed;
 /// changes bytes only in their range and past the end. After `Failed` the last good sync is still the one before the
 /// call.
 pub fn write_durably<D: Disk>(disk: &mut D, at: u64, bytes: &[u8]) -> Result<(), Failed>
-    requires begins { D.tells → at ≤ length (D.held disk.old).content }
+    requires begins { D.reports → at ≤ length (D.held disk.old).content }
     requires ends { at + length bytes.now < 2 ^ 40 }
-    requires clean { D.tells → IsClean (D.held disk.old) }
-    ensures written { D.tells
+    requires clean { D.reports → IsClean (D.held disk.old) }
+    ensures written { D.reports
         → OnOk result ((D.held disk.new).content
         ≡ overwritten (D.held disk.old).content at bytes.now) }
-    ensures clean { D.tells → OnOk result (IsClean (D.held disk.new)) }
-    ensures base { D.tells → OnErr result ((D.held disk.new).base ≡ (D.held disk.old).content) }
-    ensures any_moment { D.tells
+    ensures clean { D.reports → OnOk result (IsClean (D.held disk.new)) }
+    ensures base { D.reports → OnErr result ((D.held disk.new).base ≡ (D.held disk.old).content) }
+    ensures any_moment { D.reports
         → LeavesOnly D.moment D.left_since disk.old disk.new
         (MayLeave (D.held disk.old).content at (length bytes.now)) }
     ensures failed { OnErr result (Rose (D.faults disk.old) (D.faults disk.new)) }

@@ -2,7 +2,7 @@ ghost use Rattle.std.specs.Prelude.{◌≡◌, ◌≤◌, IsOk, IsErr, OnErr};
 ghost use Rattle.std.specs.Result.{is_ok};
 ghost use Rattle.ql_ports.specs.Faults.{Rose, next_count_of};
 ghost use Rattle.ql_disk.specs.Forecasts.{Forecast};
-ghost use Rattle.ql_disk.specs.Untold.{unknown, untold};
+ghost use Rattle.ql_disk.specs.Unreported.{unknown, unreported};
 
 use crate::disk::Disk;
 use ql_ports::Failed;
@@ -50,9 +50,9 @@ impl FileDisk {
 impl Disk for FileDisk {
     ghost use Rattle.std.specs.Prelude.{ℕ, List};
 
-    ghost tells = { ⊥ };
+    ghost reports = { ⊥ };
 
-    ghost held = { λ disk. untold };
+    ghost held = { λ disk. unreported };
 
     ghost moment = { λ disk. 0 };
 
@@ -83,9 +83,9 @@ impl Disk for FileDisk {
         self.counted(answer)
     }
 
-    ghost reads_an_image = { λ disk told. absurd told };
+    ghost reads_an_image = { λ disk reported. absurd reported };
 
-    ghost counts_now = { λ disk t image told le now. absurd told };
+    ghost counts_now = { λ disk t image reported le now. absurd reported };
 
-    ghost only_now = { λ disk image told left. absurd told };
+    ghost only_now = { λ disk image reported left. absurd reported };
 }

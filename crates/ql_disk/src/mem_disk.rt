@@ -89,7 +89,7 @@ impl Disk for MemDisk {
     ghost use Rattle.ql_disk.specs.MemDisks.{bytes_of, faults_of, forecast_of};
     ghost use Rattle.ql_disk.specs.Bytes.{IsImage};
 
-    ghost tells = { Unit {0} };
+    ghost reports = { Unit {0} };
 
     ghost held = { bytes_of };
 
@@ -134,11 +134,11 @@ impl Disk for MemDisk {
         Ok(())
     }
 
-    ghost reads_an_image = { λ disk told. disk.is_image };
+    ghost reads_an_image = { λ disk reported. disk.is_image };
 
-    ghost counts_now = { λ disk t image told le now. now };
+    ghost counts_now = { λ disk t image reported le now. now };
 
-    ghost only_now = { λ disk image told left. left };
+    ghost only_now = { λ disk image reported left. left };
 }
 
 // Replaces all bytes of a vector.

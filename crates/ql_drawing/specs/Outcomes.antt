@@ -61,20 +61,20 @@ IsOver held a text =
     (name : List ℕ) × (limit : ℕ) × limit_of a name limit × IfSome (held name) (λ bytes. limit < length bytes) × (text ≡ codes "too large " ++ name ++ codes "\n")
 
 -- what is written for a request
-abbrev pub Tells : (List ℕ → Option (List ℕ)) → (List ℕ → ℕ) → (List ℕ → ℕ) → Asked → Status → List ℕ → Type 0
-Tells held before after a Done text = IsDrawn text
-Tells held before after a No text = ⊥
-Tells held before after a Bad text = (w : Why) × IsWhyText w text
-Tells held before after a ReadFault text = Fails before after a text
-Tells held before after a TooLarge text = IsOver held a text
-Tells held before after a WriteFault text = ⊥
-Tells held before after a Usage text = ⊥
+abbrev pub Reports : (List ℕ → Option (List ℕ)) → (List ℕ → ℕ) → (List ℕ → ℕ) → Asked → Status → List ℕ → Type 0
+Reports held before after a Done text = IsDrawn text
+Reports held before after a No text = ⊥
+Reports held before after a Bad text = (w : Why) × IsWhyText w text
+Reports held before after a ReadFault text = Fails before after a text
+Reports held before after a TooLarge text = IsOver held a text
+Reports held before after a WriteFault text = ⊥
+Reports held before after a Usage text = ⊥
 
 -- The text to be written with a status. `held` is what the shelf holds under each name, where it reports it, and the
 -- counts are those of its faults at each name, before and after the call.
 abbrev pub SaysOf : (List ℕ → Option (List ℕ)) → (List ℕ → ℕ) → (List ℕ → ℕ) → Option Asked → Status → List ℕ → Type 0
 SaysOf held before after None status text = (status ≡ Usage) × (text ≡ HELP.now)
-SaysOf held before after (Some a) status text = Tells held before after a status text
+SaysOf held before after (Some a) status text = Reports held before after a status text
 
 abbrev pub Says : List (List ℕ) → (List ℕ → Option (List ℕ)) → (List ℕ → ℕ) → (List ℕ → ℕ) → Status → List ℕ → Type 0
 Says words held before after status text = SaysOf held before after (asked words) status text

@@ -1,5 +1,5 @@
 ghost use Rattle.std.specs.Prelude.{◌≡◌, ◌≤◌, ℕ, List, Some, IfOk};
-ghost use Rattle.ql_drawing.specs.Outcomes.{IsAnswer, Says, Tells};
+ghost use Rattle.ql_drawing.specs.Outcomes.{IsAnswer, Says, Reports};
 ghost use Rattle.ql_drawing.specs.Words.{asked_of};
 ghost use Rattle.ql_reply.specs.Arguments.{word_texts};
 
@@ -41,7 +41,7 @@ fn of_request<S: Shelf>(
     shelf: &mut S,
 ) -> Result<(Status, Vec<u8>), NoMemory>
     ensures says { IfOk result
-        (λ answer. Tells (S.held shelf.old) (S.faults shelf.old) (S.faults shelf.new)
+        (λ answer. Reports (S.held shelf.old) (S.faults shelf.old) (S.faults shelf.new)
         (asked_of request.entry) answer.0 answer.1.items) }
     ensures same_contents { (other : List ℕ) → S.held shelf.new other ≡ S.held shelf.old other }
     ensures counts_stay { (other : List ℕ) → S.faults shelf.old other ≤ S.faults shelf.new other }
@@ -60,7 +60,7 @@ fn of_run<S: Shelf>(
     shelf: &mut S,
 ) -> Result<(Status, Vec<u8>), NoMemory>
     ensures says { IfOk result
-        (λ answer. Tells (S.held shelf.old) (S.faults shelf.old) (S.faults shelf.new)
+        (λ answer. Reports (S.held shelf.old) (S.faults shelf.old) (S.faults shelf.new)
         (asked_of request.entry) answer.0 answer.1.items) }
     ensures same_contents { (other : List ℕ) → S.held shelf.new other ≡ S.held shelf.old other }
     ensures counts_stay { (other : List ℕ) → S.faults shelf.old other ≤ S.faults shelf.new other }
@@ -81,7 +81,7 @@ fn with_schedule<S: Shelf>(
 ) -> Result<(Status, Vec<u8>), NoMemory>
     requires { (asked_of request).schedule ≡ Some name.now }
     ensures says { IfOk result
-        (λ answer. Tells (S.held shelf.old) (S.faults shelf.old) (S.faults shelf.new)
+        (λ answer. Reports (S.held shelf.old) (S.faults shelf.old) (S.faults shelf.new)
         (asked_of request.entry) answer.0 answer.1.items) }
     ensures same_contents { (other : List ℕ) → S.held shelf.new other ≡ S.held shelf.old other }
     ensures counts_stay { (other : List ℕ) → S.faults shelf.old other ≤ S.faults shelf.new other }

@@ -24,7 +24,7 @@ use Rattle.ql_typing.specs.ContractFaults.{contract_faults}
 use Rattle.ql_typing.specs.Kinds.{faults_as, kind_in, reading_faults}
 use Rattle.ql_typing.specs.Operations.{all_ops, op_kinds, op_words}
 use Rattle.ql_typing.specs.Programs.{above, bind_faults, bind_names, binds_known, effect_faults, field_names, fields_known, init_faults, may_begin, maybe_effect_faults, op_decl_faults, param_names, params_known, places, program_faults, stmt_faults, target_names, type_faults}
-use Rattle.ql_typing.proofs.Parts.{left_none, right_none, told_true}
+use Rattle.ql_typing.proofs.Parts.{left_none, right_none, reported_true}
 use Rattle.ql_typing.proofs.FaultFree.{type_typed}
 use Rattle.ql_typing.proofs.Flat.{length-kinds}
 use Rattle.ql_typing.proofs.InTypes.{op_fault_free}
@@ -100,7 +100,7 @@ begun_fits : (fields : List Field) → each init_faults fields ≡ [] → FitsSc
 unfolding each init_faults
 begun_fits [] h = tt
 begun_fits (f ∷ fs) h = (
-  record { word = refl; value = begins f.kind f.init.node (told_true (may_begin f.kind f.init.node) (fault.Kind f.init.at) (left_none _ _ h)) },
+  record { word = refl; value = begins f.kind f.init.node (reported_true (may_begin f.kind f.init.node) (fault.Kind f.init.at) (left_none _ _ h)) },
   begun_fits fs (right_none (init_faults f) _ h),
 )
 
@@ -129,9 +129,9 @@ kind_in_front (x ∷ ks) ls w k h = by (bytes_eq x.word w) h (kind_in_front ks l
     by true e rest = e
     by false e rest = rest e
 
-told_kind : (k : Option Kind) (at : ℕ) → reading_faults k at ≡ [] → (j : Kind) × (k ≡ Some j)
-told_kind (Some j) at h = (j, refl)
-told_kind None at h = let no : ⊥ = cc in absurd no
+reported_kind : (k : Option Kind) (at : ℕ) → reading_faults k at ≡ [] → (j : Kind) × (k ≡ Some j)
+reported_kind (Some j) at h = (j, refl)
+reported_kind None at h = let no : ⊥ = cc in absurd no
 
 value_assigned : (scope : List Known) (env : Bindings) (w : List ℕ) (k : Kind) (v : Option Value) → FitsScope scope env → kind_in scope w ≡ Some k → HasValue (Some k) v → Fits scope (option_map (λ x. assigned env w x) v)
 value_assigned scope env w k (Some v) f is h = assigned_fits scope env w k v f is h
@@ -140,7 +140,7 @@ value_assigned scope env w k None f is h = absurd h
 stmt_fits : (fields more : List Known) (env : Bindings) (s : Stmt) → FitsScope (fields ++ more) env → stmt_faults fields (fields ++ more) s ≡ [] → Fits (fields ++ more) (after_stmt env s)
 unfolding stmt_faults
 stmt_fits fields more env s f h =
-    let t = told_kind (kind_in fields s.target.word) s.target.at (left_none _ _ h) in
+    let t = reported_kind (kind_in fields s.target.word) s.target.at (left_none _ _ h) in
     let typed : faults_as (fields ++ more) (Some t.0) (expression_of s.value) ≡ [] =
     subst (λ k. faults_as (fields ++ more) k (expression_of s.value) ≡ []) t.1 (right_none (reading_faults (kind_in fields s.target.word) s.target.at) _ h) in
     value_assigned (fields ++ more) env s.target.word t.0 (value_of env (expression_of s.value)) f (kind_in_front fields more s.target.word t.0 t.1) (accepted (expression_of s.value) (fields ++ more) env t.0 f typed)

@@ -41,14 +41,14 @@ abbrev pub IsOver : (List ℕ → Option (List ℕ)) → Call → List ℕ → T
 IsOver held call text = (name : List ℕ) × IsOf call name × IfSome (held name) (λ bytes. most_bytes < length bytes) × (text ≡ codes "too large " ++ name ++ codes "\n")
 
 -- what is reported about the files, by the status
-abbrev pub Tells : (List ℕ → Option (List ℕ)) → (List ℕ → ℕ) → (List ℕ → ℕ) → Call → Status → List ℕ → Type 0
-Tells held before after call Done text = Means held call Done text
-Tells held before after call No text = Means held call No text
-Tells held before after call Bad text = Means held call Bad text
-Tells held before after call ReadFault text = Fails before after call text
-Tells held before after call TooLarge text = IsOver held call text
-Tells held before after call WriteFault text = ⊥
-Tells held before after call Usage text = ⊥
+abbrev pub Reports : (List ℕ → Option (List ℕ)) → (List ℕ → ℕ) → (List ℕ → ℕ) → Call → Status → List ℕ → Type 0
+Reports held before after call Done text = Means held call Done text
+Reports held before after call No text = Means held call No text
+Reports held before after call Bad text = Means held call Bad text
+Reports held before after call ReadFault text = Fails before after call text
+Reports held before after call TooLarge text = IsOver held call text
+Reports held before after call WriteFault text = ⊥
+Reports held before after call Usage text = ⊥
 
 abbrev pub IsUsage : Status → List ℕ → Type 0
 IsUsage status text = (status ≡ Usage) × (text ≡ HELP.now)
@@ -57,7 +57,7 @@ IsUsage status text = (status ≡ Usage) × (text ≡ HELP.now)
 -- counts are those of its faults at each name, before the call and after it.
 abbrev pub SaysOf : (List ℕ → Option (List ℕ)) → (List ℕ → ℕ) → (List ℕ → ℕ) → Option Call → Status → List ℕ → Type 0
 SaysOf held before after None status text = IsUsage status text
-SaysOf held before after (Some call) status text = Tells held before after call status text
+SaysOf held before after (Some call) status text = Reports held before after call status text
 
 abbrev pub Says : List (List ℕ) → (List ℕ → Option (List ℕ)) → (List ℕ → ℕ) → (List ℕ → ℕ) → Status → List ℕ → Type 0
 Says words held before after status text = SaysOf held before after (asked words) status text

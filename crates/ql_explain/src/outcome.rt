@@ -1,5 +1,5 @@
 ghost use Rattle.std.specs.Prelude.{◌≡◌, ◌<◌, ◌≤◌, ◌^◌, ℕ, List, IfOk, IfSome, length};
-ghost use Rattle.ql_explain.specs.Outcomes.{Says, SaysIn, Tells, most_bytes};
+ghost use Rattle.ql_explain.specs.Outcomes.{Says, SaysIn, Reports, most_bytes};
 ghost use Rattle.ql_explain.specs.Words.{Compared, Explained};
 ghost use Rattle.ql_reply.specs.Arguments.{word_texts};
 
@@ -43,7 +43,7 @@ fn of_source<S: Shelf>(
     shelf: &mut S,
 ) -> Result<(Status, Vec<u8>), NoMemory>
     ensures says { IfOk result
-        (λ answer. Tells (S.held shelf.old) (S.faults shelf.old) (S.faults shelf.new)
+        (λ answer. Reports (S.held shelf.old) (S.faults shelf.old) (S.faults shelf.new)
         (Explained form name.now) answer.0 answer.1.items) }
     ensures same_contents { (other : List ℕ) → S.held shelf.new other ≡ S.held shelf.old other }
     ensures counts_stay { (other : List ℕ) → S.faults shelf.old other ≤ S.faults shelf.new other }
@@ -60,7 +60,7 @@ fn of_pair<S: Shelf>(
     shelf: &mut S,
 ) -> Result<(Status, Vec<u8>), NoMemory>
     ensures says { IfOk result
-        (λ answer. Tells (S.held shelf.old) (S.faults shelf.old) (S.faults shelf.new)
+        (λ answer. Reports (S.held shelf.old) (S.faults shelf.old) (S.faults shelf.new)
         (Compared pair.entry.baseline.now pair.entry.source.now) answer.0 answer.1.items) }
     ensures same_contents { (other : List ℕ) → S.held shelf.new other ≡ S.held shelf.old other }
     ensures counts_stay { (other : List ℕ) → S.faults shelf.old other ≤ S.faults shelf.new other }
@@ -81,7 +81,7 @@ fn with_baseline<S: Shelf>(
     requires held { IfSome (S.held shelf.old pair.baseline.now) (λ whole. baseline.now ≡ whole) }
     requires short { length baseline.now ≤ most_bytes }
     ensures says { IfOk result
-        (λ answer. Tells (S.held shelf.old) (S.faults shelf.old) (S.faults shelf.new)
+        (λ answer. Reports (S.held shelf.old) (S.faults shelf.old) (S.faults shelf.new)
         (Compared pair.entry.baseline.now pair.entry.source.now) answer.0 answer.1.items) }
     ensures same_contents { (other : List ℕ) → S.held shelf.new other ≡ S.held shelf.old other }
     ensures counts_stay { (other : List ℕ) → S.faults shelf.old other ≤ S.faults shelf.new other }

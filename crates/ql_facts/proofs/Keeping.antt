@@ -9,5 +9,5 @@ use Rattle.ql_facts.specs.declared.fact.Fact.{Fact}
 
 -- first one part, of which some may be taken back, and then the other
 pub two_parts : {A : Type 0} (x : List Effect) (here : At) (a b c d : List Fact) (last : Result A NoMemory) → KeepsTrue x here a b → KeepsAny b c → OnOk last (KeepsTrue x here c d) → OnOk last (KeepsTrue x here a d)
-two_parts x here a b c d (Ok told) first back second = λ all. second (back x here (first all))
+two_parts x here a b c d (Ok reported) first back second = λ all. second (back x here (first all))
 two_parts x here a b c d (Err e) first back second = tt

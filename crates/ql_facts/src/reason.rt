@@ -24,12 +24,12 @@ pub fn reasons(alloc: Global, formula: &Formula, c: &Counter) -> Result<Vec<Fact
         places: c.places.items(),
     };
     let mut facts = Vec::new(alloc);
-    let _is_false = tell(&mut facts, scene, &formula.body, false)?;
+    let _is_false = report(&mut facts, scene, &formula.body, false)?;
     Ok(facts)
 }
 
 // Appends facts by which the body has this value, if it has it; returns whether it does.
-fn tell(facts: &mut Vec<Fact>, scene: Scene, body: &Body, value: bool) -> Result<bool, NoMemory>
+fn report(facts: &mut Vec<Fact>, scene: Scene, body: &Body, value: bool) -> Result<bool, NoMemory>
     requires { IsTableOf scene.relations.now scene.execution.now }
     ensures { OnOk result
         (KeepsTrue scene.entry.execution.now scene.entry.at facts.old.items facts.new.items) }
@@ -39,50 +39,50 @@ fn tell(facts: &mut Vec<Fact>, scene: Scene, body: &Body, value: bool) -> Result
         Body::True => Ok(value),
         Body::Apply(relation, first, second) => {
             let (first, second) = (place_of(scene, *first), place_of(scene, *second));
-            tell_related(facts, scene, relation, (first, second), value)
+            report_related(facts, scene, relation, (first, second), value)
         }
         Body::And(left, right) => {
-            let told = tell(facts, scene, left, value)?;
-            if is_settled(facts, mark, told, value) {
-                return Ok(told);
+            let reported = report(facts, scene, left, value)?;
+            if is_settled(facts, mark, reported, value) {
+                return Ok(reported);
             }
-            tell(facts, scene, right, value)
+            report(facts, scene, right, value)
         }
         Body::Or(left, right) => {
-            let told = tell(facts, scene, left, value)?;
-            if is_settled(facts, mark, told, !value) {
-                return Ok(told);
+            let reported = report(facts, scene, left, value)?;
+            if is_settled(facts, mark, reported, !value) {
+                return Ok(reported);
             }
-            tell(facts, scene, right, value)
+            report(facts, scene, right, value)
         }
         Body::Implies(left, right) => {
-            let told = tell(facts, scene, left, !value)?;
-            if is_settled(facts, mark, told, !value) {
-                return Ok(told);
+            let reported = report(facts, scene, left, !value)?;
+            if is_settled(facts, mark, reported, !value) {
+                return Ok(reported);
             }
-            tell(facts, scene, right, value)
+            report(facts, scene, right, value)
         }
         Body::Txn(members, others) => {
-            tell_txn(facts, scene, members.items(), others.items(), value)
+            report_txn(facts, scene, members.items(), others.items(), value)
         }
     }
 }
 
 // Whether the left of two parts settles if the body has the value. The value takes both parts if `both`, else one of
 // them. If the right part has to be tried instead of the left, the facts of the left one are dropped.
-fn is_settled(facts: &mut Vec<Fact>, mark: usize, told: bool, both: bool) -> bool
+fn is_settled(facts: &mut Vec<Fact>, mark: usize, reported: bool, both: bool) -> bool
     ensures { KeepsAny facts.old.items facts.new.items }
 {
-    if told != both {
+    if reported != both {
         return true;
     }
-    if !told {
+    if !reported {
         facts.truncate(mark);
     }
     false
 }
 
-fn tell_related(
+fn report_related(
     facts: &mut Vec<Fact>,
     scene: Scene,
     relation: &Rel,
@@ -97,26 +97,26 @@ fn tell_related(
     match relation {
         Rel::Base(name, _) => {
             let claim = Claim::Related(*name, pair.0, pair.1);
-            tell_claim(facts, scene, claim, value)
+            report_claim(facts, scene, claim, value)
         }
         Rel::Union(left, right) => {
-            let told = tell_related(facts, scene, left, pair, value)?;
-            if is_settled(facts, mark, told, !value) {
-                return Ok(told);
+            let reported = report_related(facts, scene, left, pair, value)?;
+            if is_settled(facts, mark, reported, !value) {
+                return Ok(reported);
             }
-            tell_related(facts, scene, right, pair, value)
+            report_related(facts, scene, right, pair, value)
         }
         Rel::Inter(left, right) => {
-            let told = tell_related(facts, scene, left, pair, value)?;
-            if is_settled(facts, mark, told, value) {
-                return Ok(told);
+            let reported = report_related(facts, scene, left, pair, value)?;
+            if is_settled(facts, mark, reported, value) {
+                return Ok(reported);
             }
-            tell_related(facts, scene, right, pair, value)
+            report_related(facts, scene, right, pair, value)
         }
     }
 }
 
-fn tell_claim(
+fn report_claim(
     facts: &mut Vec<Fact>,
     scene: Scene,
     claim: Claim,
@@ -137,7 +137,7 @@ fn tell_claim(
 }
 
 // The members are in the current transaction; the others aren't, and are in one transaction.
-fn tell_txn(
+fn report_txn(
     facts: &mut Vec<Fact>,
     scene: Scene,
     members: &[Term],
@@ -169,11 +169,11 @@ fn tell_txn(
             })?;
         }
     }
-    tell_all(facts, scene, &asked, value)
+    report_all(facts, scene, &asked, value)
 }
 
 // Appends that all of these hold, or for the value false the first that doesn't.
-fn tell_all(
+fn report_all(
     facts: &mut Vec<Fact>,
     scene: Scene,
     asked: &[Fact],
@@ -185,10 +185,10 @@ fn tell_all(
 {
     for fact in asked {
         if value {
-            if !tell_claim(facts, scene, fact.claim, fact.holds)? {
+            if !report_claim(facts, scene, fact.claim, fact.holds)? {
                 return Ok(false);
             }
-        } else if tell_claim(facts, scene, fact.claim, !fact.holds)? {
+        } else if report_claim(facts, scene, fact.claim, !fact.holds)? {
             return Ok(true);
         }
     }

@@ -32,7 +32,7 @@ use Rattle.ql_gen.specs.Objects.{object_kinds, drawn_object_names}
 use Rattle.ql_gen.proofs.Lawful.{all_more, is_schedule}
 use Rattle.ql_gen.proofs.Spelling.{Spells, events_spell, names_new}
 use Rattle.ql_typing.specs.Names.{op_name, txn_name, type_name}
-use Rattle.ql_generated.specs.Schedules.{TellsSchedule}
+use Rattle.ql_generated.specs.Schedules.{ReportsSchedule}
 use Rattle.ql_generated.proofs.SameSchedules.{same-lines}
 
 module _ (source : List ℕ) (p : Program) (is : IsSourceOf source p) where
@@ -109,7 +109,7 @@ module _ (source : List ℕ) (p : Program) (is : IsSourceOf source p) where
 
 pub schedule-read : ((bytes : List ℕ) (s t : Source) → IsProgramText bytes s → IsProgramText bytes t → s ≡ t)
     → ((p : Program) (s : Schedule) → IsSpelled p s → IsScheduleFile p (ahead_from 1 (file_text (schedule_lines p s))) s)
-    → (source text : List ℕ) (number events : ℕ) (p : Program) → TellsSchedule source number events text → events ≤ 4000 → IsSourceOf source p
+    → (source text : List ℕ) (number events : ℕ) (p : Program) → ReportsSchedule source number events text → events ≤ 4000 → IsSourceOf source p
     → IsScheduleFile p (ahead_from 1 text) (generated p number events)
 schedule-read tree again source text number events p told few is =
     let q = told.program in

@@ -13,7 +13,7 @@ use Rattle.ql_generated.specs.Summaries.{IsSummary}
 
 -- The summary of the run of the number's schedule, with 4000 events, at the least levels of the source's program; in its
 -- execution every contract holds.
-pub record TellsSoak (source : List ℕ) (number : ℕ) (text : List ℕ) : Type 0 where
+pub record ReportsSoak (source : List ℕ) (number : ℕ) (text : List ℕ) : Type 0 where
   pub program : Program
   pub levels : LevelLists
   pub is_source : IsSourceOf source program
@@ -21,7 +21,7 @@ pub record TellsSoak (source : List ℕ) (number : ℕ) (text : List ℕ) : Type
   pub prints : PrintsRun IsSummary program levels (generated program number 4000) text
 
 abbrev pub SoakSays : List ℕ → ℕ → Status → List ℕ → Type 0
-SoakSays source number Done text = TellsSoak source number text
+SoakSays source number Done text = ReportsSoak source number text
 SoakSays source number No text = (p : Program) × IsSourceOf source p × RefusalSays p text
 SoakSays source number Bad text = BadSourceSays source text
 SoakSays source number _ text = ⊥

@@ -1,7 +1,7 @@
 ghost use Rattle.std.specs.Prelude.{◌<◌, ◌^◌, ℕ, List, length, IfOk};
 ghost use Rattle.ql_classify.specs.Least.{AreLevelsOf};
 ghost use Rattle.ql_commands.specs.Sources.{IsSourceOf};
-ghost use Rattle.ql_generated.specs.Soaks.{SoakSays, TellsSoak};
+ghost use Rattle.ql_generated.specs.Soaks.{SoakSays, ReportsSoak};
 
 use crate::summary::{EVENTS, print_summary};
 use ql_base::NoMemory;
@@ -44,7 +44,7 @@ fn summary_of_run(
     requires number { number < 2 ^ 31 }
     ensures { IfOk result
         (λ text. (source : List ℕ) → IsSourceOf source t.now.program
-        → TellsSoak source number text.items) }
+        → ReportsSoak source number text.items) }
 {
     let schedule = schedule_of(alloc, t, number, EVENTS)?;
     let run = sound_run(alloc, t, levels, schedule)?;

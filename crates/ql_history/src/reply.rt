@@ -45,10 +45,10 @@ pub(crate) fn reply_of(alloc: Global, text: &[u8], number: u32) -> Result<Option
 
 // The text of a reply, its word, and the number after that.
 fn spelled(text: &[u8], number: u32) -> Option<(&[u8], ReplyWord, Option<u32>)> {
-    let (told, rest) = after_number(text, u32::MAX)?;
+    let (reported, rest) = after_number(text, u32::MAX)?;
     let (field, after) = first_field(rest)?;
     let word = word_of(field)?;
-    if told == number {
+    if reported == number {
         Some((after_spaces(rest), word, number_after(after)))
     } else {
         None

@@ -19,7 +19,7 @@ use Rattle.ql_typing.specs.Operations.{all_ops, names_op, op_place, op_words, us
 use Rattle.ql_typing.specs.Programs.{op_names, program_faults, txn_faults}
 use Rattle.ql_typing.specs.declared.fault.TypeFault.TheVariants.{Twice, Unknown}
 use Rattle.ql_typing.proofs.FaultFree.{txn_typed}
-use Rattle.ql_typing.proofs.Parts.{each_at, flat_of_map, left_none, right_none, told_false, told_true}
+use Rattle.ql_typing.proofs.Parts.{each_at, flat_of_map, left_none, right_none, reported_false, reported_true}
 use Rattle.ql_typing.proofs.Positions.{op_place_of}
 use Rattle.ql_implied.specs.Uses.{NamesOp}
 use Rattle.ql_implied.proofs.Lists.{any_at, any_found, or_left, or_right, place_found}
@@ -40,9 +40,9 @@ not_before before [] k n h is =
     absurd no
 not_before before (m ∷ ns) zero n h is =
     let same : m ≡ n = cc in
-    subst (λ (x : Name). has_name before x.word ≡ false) same (told_false (has_name before m.word) (Twice m.at) (left_none _ _ h))
+    subst (λ (x : Name). has_name before x.word ≡ false) same (reported_false (has_name before m.word) (Twice m.at) (left_none _ _ h))
 not_before before (m ∷ ns) (suc k) n h is =
-    let new : has_name before m.word ≡ false = told_false (has_name before m.word) (Twice m.at) (left_none _ _ h) in
+    let new : has_name before m.word ≡ false = reported_false (has_name before m.word) (Twice m.at) (left_none _ _ h) in
     let later = unmet before m.word n.word new (not_before (with_name before m.word) ns k n (right_none _ _ h) is) in
     later.0
 
@@ -50,7 +50,7 @@ not_before before (m ∷ ns) (suc k) n h is =
 first_apart : (before : List (List ℕ)) (m : Name) (ns : List Name) (k : ℕ) (b : Name) → repeats before (m ∷ ns) ≡ [] → slice_get ns k ≡ Some b → b.word ≡ m.word → ⊥
 unfolding repeats
 first_apart before m ns k b h at same =
-    let new : has_name before m.word ≡ false = told_false (has_name before m.word) (Twice m.at) (left_none _ _ h) in
+    let new : has_name before m.word ≡ false = reported_false (has_name before m.word) (Twice m.at) (left_none _ _ h) in
     let later = unmet before m.word b.word new (not_before (with_name before m.word) ns k b (right_none _ _ h) at) in
     both_ways (bytes_eq b.word m.word) later.1 ((bytes_eq-Decides b.word m.word).1 same)
 
@@ -106,7 +106,7 @@ unfolding txn_faults op_faults
 known_use p typed d k t n is at =
     let fine = txn_typed p typed d t is in
     let uses : each (op_faults (Some (op_words p.types))) t.uses ≡ [] = left_none _ _ (right_none (repeats [] t.uses) _ fine) in
-    told_true (has_name (op_words p.types) n.word) (Unknown n.at) (each_at (op_faults (Some (op_words p.types))) t.uses k n uses at)
+    reported_true (has_name (op_words p.types) n.word) (Unknown n.at) (each_at (op_faults (Some (op_words p.types))) t.uses k n uses at)
 
 pub used_by_number : (p : Program) (d k o : ℕ) (t : TxnDecl) (n : Name) → slice_get p.txns d ≡ Some t → slice_get t.uses k ≡ Some n → op_place p.types n.word ≡ Some o → uses_op p d o ≡ true
 used_by_number p d k o t n is at number =

@@ -1,4 +1,4 @@
-pub mod Told
+pub mod Reported
 mod Lists
 mod Distinct
 mod StrongUses

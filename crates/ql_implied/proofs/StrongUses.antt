@@ -90,8 +90,8 @@ own_used p d o w op is same (Some t) e h =
     ∙ ap (λ (v : List ℕ). list_any (λ (n : Name). bytes_eq v n.word) t.uses) same
     ∙ h
 
-pub told_use : (p : Program) (d : DeclId) (o : OpId) → FirstFails p (all_tests p) (StrongInTxn d o) → (uses_op p d.0 o.0 ≡ true) × IsOpLevel p o.0 Strong
-told_use p d o h =
-    let told = failing p (all_tests p) d o (own_tests p) h in
-    let op = op_of p.types told.0 o.0 told.2.0 in
-    (own_used p d.0 o.0 told.0 op.0 op.1 op.2 (slice_get p.txns d.0) refl told.1, told.2.1)
+pub reported_use : (p : Program) (d : DeclId) (o : OpId) → FirstFails p (all_tests p) (StrongInTxn d o) → (uses_op p d.0 o.0 ≡ true) × IsOpLevel p o.0 Strong
+reported_use p d o h =
+    let reported = failing p (all_tests p) d o (own_tests p) h in
+    let op = op_of p.types reported.0 o.0 reported.2.0 in
+    (own_used p d.0 o.0 reported.0 op.0 op.1 op.2 (slice_get p.txns d.0) refl reported.1, reported.2.1)

@@ -17,12 +17,12 @@ use Rattle.ql_commands.specs.Sources.{IsSourceOf}
 use Rattle.ql_implication.specs.OfPrograms.{GivesContract}
 
 -- the text reports the least levels of the source
-abbrev pub TellsLeast : List ℕ → List ℕ → Type 0
-TellsLeast source text = (p : Program) × IsSourceOf source p × (levels : LevelLists) × AreLeast p levels × (text ≡ levels_text p levels)
+abbrev pub ReportsLeast : List ℕ → List ℕ → Type 0
+ReportsLeast source text = (p : Program) × IsSourceOf source p × (levels : LevelLists) × AreLeast p levels × (text ≡ levels_text p levels)
 
 -- the text says why the source's program has no levels: where no level is enough for a target, its highest fails in some execution
-abbrev pub TellsNone : List ℕ → List ℕ → Type 0
-TellsNone source text = (p : Program) × IsSourceOf source p × (e : Classless) × TopFails p e × (text ≡ refusal_text p e)
+abbrev pub ReportsNone : List ℕ → List ℕ → Type 0
+ReportsNone source text = (p : Program) × IsSourceOf source p × (e : Classless) × TopFails p e × (text ≡ refusal_text p e)
 
 -- the sections from an index on, each with a level that guarantees the contract of the target of its index
 abbrev pub EachGives : Program → ℕ → List Section → Type 0
@@ -53,6 +53,6 @@ pub record AcceptsFront (p : Program) (place : ℕ) (ss : List Section) (status 
 
 -- The certificate has the sections that are expected of the source's program, and the text is as above: each line that ends in
 -- `accepted` states an implication that is valid in the store's executions.
-abbrev pub TellsAccepted : List ℕ → List ℕ → Status → List ℕ → Type 0
-TellsAccepted source cert status text =
+abbrev pub ReportsAccepted : List ℕ → List ℕ → Status → List ℕ → Type 0
+ReportsAccepted source cert status text =
     (p : Program) × IsSourceOf source p × (ss : List Section) × SpellsCert cert ss × AreExpected p ss × AcceptsFront p 0 ss status text

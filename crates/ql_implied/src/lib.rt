@@ -6,5 +6,5 @@
 mod commands;
 mod uses;
 
-pub use commands::{accepted_lines_give_contracts, told_levels_are_least};
-pub use uses::{strong_uses_are_told, uses_are_operations};
+pub use commands::{accepted_lines_give_contracts, reported_levels_are_least};
+pub use uses::{strong_uses_are_reported, uses_are_operations};

@@ -31,8 +31,8 @@ pub fn uses_are_operations()
 
 /// The law of strong uses by number: of an accepted program no transaction uses an operation whose level is
 /// strong, and where a strong use is reported, the transaction does use that operation, and its level is strong.
-pub fn strong_uses_are_told()
+pub fn strong_uses_are_reported()
     ensures accepted { (p : Program) → program_faults p ≡ [] → IsAccepted p
         → (d o : ℕ) (level : Level) → uses_op p d o ≡ true → IsOpLevel p o level → level ≢ Strong }
-    ensures told { (p : Program) (d : DeclId) (o : OpId) → FirstFails p (all_tests p) (StrongInTxn d o) → (uses_op p d.0 o.0 ≡ true) × IsOpLevel p o.0 Strong }
+    ensures reported { (p : Program) (d : DeclId) (o : OpId) → FirstFails p (all_tests p) (StrongInTxn d o) → (uses_op p d.0 o.0 ≡ true) × IsOpLevel p o.0 Strong }
 {}

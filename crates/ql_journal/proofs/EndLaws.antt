@@ -6,7 +6,7 @@ use Rattle.ql_journal.specs.declared.why.StationWhy.{StationWhy}
 use Rattle.ql_journal.specs.declared.why.StationWhy.TheVariants as why
 use Rattle.ql_journal.specs.Records.{HasRecords, IsClosed, IsLawful, body, records_of}
 use Rattle.ql_journal.specs.Ends.{AreKnown, EndsIn, IsBroken, IsDamaged, IsKnown, IsStrange, IsStranger}
-use Rattle.ql_journal.specs.Stations.{IsSound, Recovers, TellsUnlessNone}
+use Rattle.ql_journal.specs.Stations.{IsSound, Recovers, ReportsUnlessNone}
 use Rattle.ql_journal.proofs.Numbers.{body-front}
 
 -- no lawful record of a kind stands first
@@ -73,7 +73,7 @@ one_list records others file has is =
     (same_records (λ ids. Unit {0}) records others has.end is.end (lawful_of records has.lawful) (lawful_of others is.lawful)
     (sym has.split ∙ is.split) (closed_stops (λ ids. Unit {0}) has.end has.closed) (closed_stops (λ ids. Unit {0}) is.end is.closed)).0
 
--- ---- what a recovery tells
+-- ---- what a recovery reports
 
 module _ {T : Type 0} (x : List Effect) (committed file : List ℕ) (P : T → Type 0) where
   abbrev K : List ℕ → Type 0
@@ -97,7 +97,7 @@ module _ {T : Type 0} (x : List Effect) (committed file : List ℕ) (P : T → T
 
   -- a file of known records is no other
   module _ (has : (value : T) → P value → (records : List (List ℕ)) × AreKnown x committed records × HasRecords records file) where
-    pub damaged : (at : ℕ) → IsDamaged x committed file at → (result : Result T StationWhy) → Recovers P x committed file result → TellsUnlessNone (why.Damaged at) result
+    pub damaged : (at : ℕ) → IsDamaged x committed file at → (result : Result T StationWhy) → Recovers P x committed file result → ReportsUnlessNone (why.Damaged at) result
     damaged at broken (Ok value) is =
         let h = has value is in
         let same = both h.0 h.2.end at IsBroken h.1 h.2.split (closed_stops K h.2.end h.2.closed) broken (broken_stops K broken.end broken.ends) in
@@ -112,7 +112,7 @@ module _ {T : Type 0} (x : List Effect) (committed file : List ℕ) (P : T → T
         absurd (broken_or_strange x committed is.end (subst IsBroken same.1 broken.ends) is.ends)
     damaged at broken (Err why.NoMemory) is = tt
 
-    pub stranger : (at : ℕ) → IsStranger x committed file at → (result : Result T StationWhy) → Recovers P x committed file result → TellsUnlessNone (why.Stranger at) result
+    pub stranger : (at : ℕ) → IsStranger x committed file at → (result : Result T StationWhy) → Recovers P x committed file result → ReportsUnlessNone (why.Stranger at) result
     stranger at strange (Ok value) is =
         let h = has value is in
         let same = both h.0 h.2.end at (IsStrange x committed) h.1 h.2.split (closed_stops K h.2.end h.2.closed) strange (strange_stops x committed strange.end strange.ends) in

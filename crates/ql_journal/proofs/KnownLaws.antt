@@ -1,4 +1,4 @@
--- Packages of committed effects, as a walk over an execution tells them.
+-- Packages of committed effects, as a walk over an execution reports them.
 use Rattle.std.proofs.Common.{◌≡◌, ℕ, suc, ◌-◌, ◌<◌, ◌≤◌, Bool, true, false, eqb, List, [], ◌∷◌, length, get_or, refl, sym, ◌∙◌, inl, inr, arith}
 use Rattle.std.proofs.lemmas.Bool.{or_cases, or_left, or_right, eqb-true, eq-eqb, false≢true}
 use Rattle.ql_base.specs.IdLists.{has_id}

@@ -83,13 +83,13 @@ IsSound (Err (why.Stranger at)) = ⊥
 IsSound (Err why.NoMemory) = Unit {0}
 
 -- this cause is returned, unless the disk fails or memory runs out
-abbrev pub TellsUnlessNone : {T : Type 0} → StationWhy → Result T StationWhy → Type 0
-TellsUnlessNone cause (Ok value) = ⊥
-TellsUnlessNone cause (Err why.Failed) = Unit {0}
-TellsUnlessNone cause (Err why.Reopen) = ⊥
-TellsUnlessNone cause (Err (why.Damaged at)) = cause ≡ why.Damaged at
-TellsUnlessNone cause (Err (why.Stranger at)) = cause ≡ why.Stranger at
-TellsUnlessNone cause (Err why.NoMemory) = Unit {0}
+abbrev pub ReportsUnlessNone : {T : Type 0} → StationWhy → Result T StationWhy → Type 0
+ReportsUnlessNone cause (Ok value) = ⊥
+ReportsUnlessNone cause (Err why.Failed) = Unit {0}
+ReportsUnlessNone cause (Err why.Reopen) = ⊥
+ReportsUnlessNone cause (Err (why.Damaged at)) = cause ≡ why.Damaged at
+ReportsUnlessNone cause (Err (why.Stranger at)) = cause ≡ why.Stranger at
+ReportsUnlessNone cause (Err why.NoMemory) = Unit {0}
 
 -- the result of a recovery from a file, unless the disk fails or memory runs out: something of its known records, or
 -- where it is damaged, or where its first stranger is

@@ -13,16 +13,16 @@ use ql_ports::Failed;
 /// Writes what follows the gate of a record, with a closed gate after it, and then opens the record's gate.
 pub(crate) fn append_record<D: Disk>(disk: &mut D, gate: u64, bytes: &[u8]) -> Result<(), Failed>
     requires ends { gate + 1 + length bytes.now < 2 ^ 40 }
-    requires inside { D.tells → gate < length (D.held disk.old).content }
-    requires clean { D.tells → IsClean (D.held disk.old) }
-    ensures clean { D.tells → OnOk result (IsClean (D.held disk.new)) }
-    ensures any_moment { D.tells → (records : List (List ℕ)) (ids : List ℕ)
+    requires inside { D.reports → gate < length (D.held disk.old).content }
+    requires clean { D.reports → IsClean (D.held disk.old) }
+    ensures clean { D.reports → OnOk result (IsClean (D.held disk.new)) }
+    ensures any_moment { D.reports → (records : List (List ℕ)) (ids : List ℕ)
         → IsAppended records ids gate bytes.now (D.held disk.old).content
         → LeavesOnly D.moment D.left_since disk.old disk.new (IsBeforeOrAfter records ids) }
-    ensures appended { D.tells → (records : List (List ℕ)) (ids : List ℕ)
+    ensures appended { D.reports → (records : List (List ℕ)) (ids : List ℕ)
         → IsAppended records ids gate bytes.now (D.held disk.old).content
         → OnOk result (HasRecords (records ++ ids ∷ []) (D.held disk.new).content) }
-    ensures kept { D.tells → (records : List (List ℕ)) (ids : List ℕ)
+    ensures kept { D.reports → (records : List (List ℕ)) (ids : List ℕ)
         → IsAppended records ids gate bytes.now (D.held disk.old).content
         → OnErr result (HasRecords records (D.held disk.new).base) }
     ensures failed { OnErr result (Rose (D.faults disk.old) (D.faults disk.new)) }

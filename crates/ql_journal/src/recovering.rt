@@ -16,9 +16,9 @@ use std::alloc::Global;
 
 /// All bytes of a disk, after a sync.
 pub(crate) fn read_file<D: Disk>(alloc: Global, disk: &mut D) -> Result<Vec<u8>, StationWhy>
-    ensures bytes { D.tells → IfOk result (λ bytes. bytes.items ≡ (D.held disk.old).content) }
-    ensures content { D.tells → (D.held disk.new).content ≡ (D.held disk.old).content }
-    ensures clean { D.tells → OnOk result (IsClean (D.held disk.new)) }
+    ensures bytes { D.reports → IfOk result (λ bytes. bytes.items ≡ (D.held disk.old).content) }
+    ensures content { D.reports → (D.held disk.new).content ≡ (D.held disk.old).content }
+    ensures clean { D.reports → OnOk result (IsClean (D.held disk.new)) }
     ensures causes { IfErr result IsOfReading }
     ensures failed { IsErrOf result why.Failed → Rose (D.faults disk.old) (D.faults disk.new) }
     ensures count_stays { D.faults disk.old ≤ D.faults disk.new }

@@ -19,7 +19,7 @@ ghost use Rattle.ql_journal.specs.Stations.{
   IsSound,
   Received,
   Recovers,
-  TellsUnlessNone,
+  ReportsUnlessNone,
   IsForetold,
   IsOfReceipt,
   end_after,
@@ -53,11 +53,11 @@ pub struct Station<H: Holder> {
 
 /// A station that has received nothing, on an empty disk. It writes the closed gate, and allocates nothing.
 pub fn create<H: Holder, D: Disk>(alloc: Global, disk: &mut D) -> Result<Station<H>, StationWhy>
-    requires { D.tells → (D.held disk.old).content ≡ [] }
+    requires { D.reports → (D.held disk.old).content ≡ [] }
     ensures nothing { IfOk result (λ station. H.received (holder_of station) ≡ []) }
     ensures fits { IfOk result (λ station. (x : List Effect) → H.fits (holder_of station) x) }
     ensures start { IfOk result (λ station. (end_of station ≡ 0) × (is_stopped station ≡ false)) }
-    ensures agrees { D.tells → IfOk result (Agrees H.received (D.held disk.new)) }
+    ensures agrees { D.reports → IfOk result (Agrees H.received (D.held disk.new)) }
     ensures cause { IfErr result (λ cause. cause ≡ why.Failed) }
     ensures failed { OnErr result (Rose (D.faults disk.old) (D.faults disk.new)) }
     ensures count_stays { D.faults disk.old ≤ D.faults disk.new }
@@ -82,24 +82,24 @@ pub fn recover<H: Holder, D: Disk>(
     committed: &IdSet,
 ) -> Result<Station<H>, StationWhy>
     // What the result means for the file.
-    ensures recovers { D.tells
+    ensures recovers { D.reports
         → Recovers (λ station. Received H.received x.now committed.now (D.held disk.old).content
         (holder_of station) (end_of station))
         x.now committed.now (D.held disk.old).content result }
 
     // Which files have which result.
-    ensures sound { D.tells → (records : List (List ℕ)) → AreKnown x.now committed.now records
+    ensures sound { D.reports → (records : List (List ℕ)) → AreKnown x.now committed.now records
         → HasRecords records (D.held disk.old).content → IsSound result }
-    ensures damaged { D.tells → (at : ℕ)
+    ensures damaged { D.reports → (at : ℕ)
         → IsDamaged x.now committed.now (D.held disk.old).content at
-        → TellsUnlessNone (why.Damaged at) result }
-    ensures strange { D.tells → (at : ℕ)
+        → ReportsUnlessNone (why.Damaged at) result }
+    ensures strange { D.reports → (at : ℕ)
         → IsStranger x.now committed.now (D.held disk.old).content at
-        → TellsUnlessNone (why.Stranger at) result }
+        → ReportsUnlessNone (why.Stranger at) result }
     ensures fits { IfOk result (λ station. H.fits (holder_of station) x.now) }
     ensures start { IfOk result (λ station. is_stopped station ≡ false) }
-    ensures agrees { D.tells → IfOk result (Agrees H.received (D.held disk.new)) }
-    ensures content { D.tells → (D.held disk.new).content ≡ (D.held disk.old).content }
+    ensures agrees { D.reports → IfOk result (Agrees H.received (D.held disk.new)) }
+    ensures content { D.reports → (D.held disk.new).content ≡ (D.held disk.old).content }
     ensures causes { IfErr result IsOfRecovery }
     ensures failed { IsErrOf result why.Failed → Rose (D.faults disk.old) (D.faults disk.new) }
     ensures count_stays { D.faults disk.old ≤ D.faults disk.new }
@@ -145,7 +145,7 @@ impl<H: Holder> Station<H> {
         requires package { IsPackage x.now pack.now }
         requires few { length pack.now ≤ 4000 }
         requires room { end_of self.old + record_size (length pack.now) + 1 < 2 ^ 40 }
-        requires agrees { D.tells → is_stopped self.old ≡ false
+        requires agrees { D.reports → is_stopped self.old ≡ false
             → Agrees H.received (D.held disk.old) self.old }
         ensures arrival { IfOk result
             (IsArrival x.now (H.received (holder_of self.old)) pack.now
@@ -167,23 +167,23 @@ impl<H: Holder> Station<H> {
         ensures foretold { IfSome (D.forecast disk.old)
             (λ f. IsForetold f (end_of self.old + record_size (length pack.now) + 1) result
             (D.forecast disk.new)) }
-        ensures agrees { D.tells → is_stopped self.new ≡ false
+        ensures agrees { D.reports → is_stopped self.new ≡ false
             → Agrees H.received (D.held disk.new) self.new }
 
         // Whatever a stop since the start of the call may leave has the records from before, or these with the package.
-        ensures any_moment { D.tells → is_stopped self.old ≡ false → (records : List (List ℕ))
+        ensures any_moment { D.reports → is_stopped self.old ≡ false → (records : List (List ℕ))
             → HasRecords records (D.held disk.old).content
             → LeavesOnly D.moment D.left_since disk.old disk.new
             (IsBeforeOrAfter records pack.now) }
 
         // After `Ok` it has the package.
-        ensures acknowledged { D.tells → is_stopped self.old ≡ false → (records : List (List ℕ))
+        ensures acknowledged { D.reports → is_stopped self.old ≡ false → (records : List (List ℕ))
             → HasRecords records (D.held disk.old).content
             → IfOk result (λ arrival. (image : List ℕ) → IsImage (D.held disk.new) image
             → HasRecords (records_after arrival records pack.now) image) }
 
         // After `Failed` what the last good sync left doesn't have it.
-        ensures unacknowledged { D.tells → is_stopped self.old ≡ false → (records : List (List ℕ))
+        ensures unacknowledged { D.reports → is_stopped self.old ≡ false → (records : List (List ℕ))
             → HasRecords records (D.held disk.old).content
             → IsErrOf result why.Failed → HasRecords records (D.held disk.new).base }
     {

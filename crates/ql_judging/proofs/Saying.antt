@@ -12,7 +12,7 @@ use Rattle.ql_parse.specs.Parsing.{IsProgramText}
 use Rattle.ql_reply.specs.declared.status.Status.{Status}
 use Rattle.ql_reply.specs.declared.status.Status.TheVariants.{Done, No, Bad, ReadFault, WriteFault, Usage, TooLarge}
 use Rattle.ql_verify.specs.Work.{work_of}
-use Rattle.ql_judging.specs.Verify.{BadExecutionSays, ExecutionSays, TellsExecution, VerifySays, execution_fault_text}
+use Rattle.ql_judging.specs.Verify.{BadExecutionSays, ExecutionSays, ReportsExecution, VerifySays, execution_fault_text}
 use Rattle.ql_judging.proofs.SamePrograms.{same-execution, same-work}
 
 -- a refusal that is told is the first fault
@@ -29,7 +29,7 @@ first_fault p file NoMemory text h told = absurd (cc)
 
 -- what the other file reports of one program that the source reads as, it reports of each
 reports-same : ((bytes : List ℕ) (s t : Source) → IsProgramText bytes s → IsProgramText bytes t → s ≡ t)
-    → (source execution : List ℕ) (p q : Program) (x : List Effect) → IsSourceOf source p → IsSourceOf source q → TellsExecution p execution x → TellsExecution q execution x
+    → (source execution : List ℕ) (p q : Program) (x : List Effect) → IsSourceOf source p → IsSourceOf source q → ReportsExecution p execution x → ReportsExecution q execution x
 reports-same tree source execution p q x p_is q_is tells = same-execution p q (tree source (source_of p) (source_of q) p_is.0 q_is.0) (ahead_from 1 execution) x tells
 
 pub execution_is_bad : ((bytes : List ℕ) (s t : Source) → IsProgramText bytes s → IsProgramText bytes t → s ≡ t)
@@ -42,7 +42,7 @@ execution_is_bad tree apart source execution p f text is h told =
 
 pub verify_says : ((bytes : List ℕ) (s t : Source) → IsProgramText bytes s → IsProgramText bytes t → s ≡ t)
     → ((p : Program) (file : Ahead) (x y : List Effect) → IsExecutionFile p file x → IsExecutionFile p file y → x ≡ y)
-    → (source execution : List ℕ) (p : Program) (x : List Effect) (status : Status) (text : List ℕ) → IsSourceOf source p → TellsExecution p execution x → ExecutionSays p x status text
+    → (source execution : List ℕ) (p : Program) (x : List Effect) (status : Status) (text : List ℕ) → IsSourceOf source p → ReportsExecution p execution x → ExecutionSays p x status text
     → VerifySays source execution status text
 verify_says tree one source execution p x Done text is tells says = (p, is, x, tells, says)
 verify_says tree one source execution p x No text is tells says = (p, is, x, tells, says)

@@ -24,8 +24,8 @@ use Rattle.ql_judging.specs.Members.{IsBegunOf}
 -- ---- the execution's text
 
 -- the file reports this execution of the program
-abbrev pub TellsExecution : Program → List ℕ → List Effect → Type 0
-TellsExecution p bytes x = IsExecutionFile p (ahead_from 1 bytes) x
+abbrev pub ReportsExecution : Program → List ℕ → List Effect → Type 0
+ReportsExecution p bytes x = IsExecutionFile p (ahead_from 1 bytes) x
 
 -- the line that reports its first fault, and none where memory ran out
 abbrev pub execution_fault_text : ReportFault → Option (List ℕ)
@@ -59,14 +59,14 @@ abbrev pub effect_numbers : List EffId → List ℕ
 effect_numbers ids = map (λ id. id.0) ids
 
 -- the text reports a breach: with the effect's operation, or with the transaction that the begun one is declared as
-abbrev pub TellsBreach : Program → List Effect → Breach → List ℕ → Type 0
-TellsBreach p x (AtOp at places) text = (e : Effect) × (effect_at x at.0 ≡ Some e) × (text ≡ op_text p e.op.0 at.0 (effect_numbers places))
-TellsBreach p x (AtTxn run places) text = (name : ℕ) × IsBegunOf x run.0 name × (text ≡ txn_breach_text p run.0 name (effect_numbers places))
+abbrev pub ReportsBreach : Program → List Effect → Breach → List ℕ → Type 0
+ReportsBreach p x (AtOp at places) text = (e : Effect) × (effect_at x at.0 ≡ Some e) × (text ≡ op_text p e.op.0 at.0 (effect_numbers places))
+ReportsBreach p x (AtTxn run places) text = (name : ℕ) × IsBegunOf x run.0 name × (text ≡ txn_breach_text p run.0 name (effect_numbers places))
 
 -- what is said of an execution
 abbrev pub ExecutionSays : Program → List Effect → Status → List ℕ → Type 0
 ExecutionSays p x Done text = (work_of p x ≤ 20000000) × IsVerdict p x None × (text ≡ codes "holds\n")
-ExecutionSays p x No text = (work_of p x ≤ 20000000) × (b : Breach) × IsVerdict p x (Some b) × TellsBreach p x b text
+ExecutionSays p x No text = (work_of p x ≤ 20000000) × (b : Breach) × IsVerdict p x (Some b) × ReportsBreach p x b text
 ExecutionSays p x TooLarge text = (20000000 < work_of p x) × (text ≡ codes "too much " ++ decimal (work_of p x) ++ codes "\n")
 ExecutionSays p x _ text = ⊥
 
@@ -74,7 +74,7 @@ ExecutionSays p x _ text = ⊥
 
 -- the source is a typed program's, the other file reports an execution of it, and its work isn't above the limit
 abbrev pub AreJudgeable : List ℕ → List ℕ → Type 0
-AreJudgeable source execution = (p : Program) × IsSourceOf source p × (x : List Effect) × TellsExecution p execution x × (work_of p x ≤ 20000000)
+AreJudgeable source execution = (p : Program) × IsSourceOf source p × (x : List Effect) × ReportsExecution p execution x × (work_of p x ≤ 20000000)
 
 -- the first fault of the execution's file
 abbrev pub BadExecutionSays : List ℕ → List ℕ → List ℕ → Type 0
@@ -82,12 +82,12 @@ BadExecutionSays source execution text =
     (AreJudgeable source execution → ⊥) × (p : Program) × IsSourceOf source p
     × (f : ReportFault) × FirstExecutionFault p (ahead_from 1 execution) f × (execution_fault_text f ≡ Some text)
 
-abbrev pub VerifyTells : List ℕ → List ℕ → Status → List ℕ → Type 0
-VerifyTells source execution status text = (p : Program) × IsSourceOf source p × (x : List Effect) × TellsExecution p execution x × ExecutionSays p x status text
+abbrev pub VerifyReports : List ℕ → List ℕ → Status → List ℕ → Type 0
+VerifyReports source execution status text = (p : Program) × IsSourceOf source p × (x : List Effect) × ReportsExecution p execution x × ExecutionSays p x status text
 
 abbrev pub VerifySays : List ℕ → List ℕ → Status → List ℕ → Type 0
-VerifySays source execution Done text = VerifyTells source execution Done text
-VerifySays source execution No text = VerifyTells source execution No text
-VerifySays source execution TooLarge text = (AreJudgeable source execution → ⊥) × VerifyTells source execution TooLarge text
+VerifySays source execution Done text = VerifyReports source execution Done text
+VerifySays source execution No text = VerifyReports source execution No text
+VerifySays source execution TooLarge text = (AreJudgeable source execution → ⊥) × VerifyReports source execution TooLarge text
 VerifySays source execution Bad text = BadSourceSays source text ⊎ BadExecutionSays source execution text
 VerifySays source execution _ text = ⊥

@@ -2,7 +2,7 @@
 ghost use Rattle.std.specs.Prelude.{◌≡◌, ◌<◌, ◌++◌, Some, IfOk, OnErr, OnOk, length};
 ghost use Rattle.ql_typing.specs.Operations.{all_ops};
 ghost use Rattle.ql_verify.specs.Verdicts.{AreOfProgram, IsVerdict};
-ghost use Rattle.ql_judging.specs.Verify.{TellsBreach, effect_numbers, op_text, places_text, txn_breach_text};
+ghost use Rattle.ql_judging.specs.Verify.{ReportsBreach, effect_numbers, op_text, places_text, txn_breach_text};
 
 use crate::member::declared_of;
 use ql_base::{DeclId, EffId, NoMemory, OpId, RunId, push_bytes, push_number};
@@ -21,7 +21,7 @@ pub(crate) fn breach_line(
 ) -> Result<Vec<u8>, NoMemory>
     requires ops { AreOfProgram t.now.program x.now }
     requires verdict { IsVerdict t.now.program x.now (Some breach.now) }
-    ensures { IfOk result (λ text. TellsBreach t.now.program x.now breach.now text.items) }
+    ensures { IfOk result (λ text. ReportsBreach t.now.program x.now breach.now text.items) }
 {
     match breach {
         Breach::AtOp(at, places) => op_line(alloc, t, x.get(*at).op, *at, places.items()),

@@ -2,6 +2,6 @@ mod Classes
 mod Within
 mod Steps
 mod Spans
-mod OneFront
-mod SomeFront
+mod OneStart
+mod SomeStart
 mod OneLexing

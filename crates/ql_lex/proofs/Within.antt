@@ -1,12 +1,12 @@
 use Rattle.std.proofs.Common.{ℕ, List, ◌∷◌, length, arith, length-append}
 use Rattle.std.proofs.lemmas.Fmt.{decimal_nonempty}
-use Rattle.ql_lex.specs.Fronts.{IsFront}
-use Rattle.ql_lex.specs.Fronts.IsFront.{blank, comment, name, keyword, long_name, number, no_number, text, long_text, no_text, pair, mark, stray}
+use Rattle.ql_lex.specs.Starts.{StartsWith}
+use Rattle.ql_lex.specs.Starts.StartsWith.{blank, comment, name, keyword, long_name, number, no_number, text, long_text, no_text, pair, mark, stray}
 use Rattle.ql_lex.specs.Tokens.{FitsIn}
-use Rattle.ql_lex.specs.declared.front.Front.{Front}
+use Rattle.ql_lex.specs.declared.start.Start.{Start}
 
 -- a front lies within its text
-pub front_within : {t : List ℕ} {f : Front} → IsFront t f → FitsIn (length t) f
+pub front_within : {t : List ℕ} {f : Start} → StartsWith t f → FitsIn (length t) f
 front_within (blank h) = (omega arith, omega arith)
 front_within (comment line rest h s) = (omega arith, omega (arith, length-append line rest))
 front_within (name w rest word stop free short) = (word.some, omega (arith, length-append w rest))

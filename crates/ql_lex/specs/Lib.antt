@@ -1,4 +1,4 @@
 pub mod Bytes
 pub mod Marks
-pub mod Fronts
+pub mod Starts
 pub mod Tokens

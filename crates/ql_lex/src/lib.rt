@@ -3,9 +3,9 @@
 // offset that fits no token.
 #![tactic(auto)]
 
-mod front;
 mod marks;
 mod scan;
+mod start;
 mod token;
 mod unique;
 

@@ -1,7 +1,7 @@
 ghost use Rattle.std.specs.Prelude.{◌≡◌, ◌<◌, ◌^◌, Ok, length, IfOk, MatchResult};
 ghost use Rattle.ql_lex.specs.Tokens.{AreSpans, IsFirstFault, Lexes};
 
-use crate::front::Front;
+use crate::start::Start;
 use crate::token::{LexFault, Token};
 use std::alloc::Global;
 
@@ -17,9 +17,9 @@ pub fn tokens(alloc: Global, bytes: &[u8]) -> Result<Vec<Token>, LexFault>
     let mut found = Vec::new(alloc);
     let mut at = 0;
     while at < bytes.len() {
-        match Front::of(&bytes[at..]) {
-            Front::Gap(len) => at += len,
-            Front::Lexeme(what, len) => {
+        match Start::of(&bytes[at..]) {
+            Start::Gap(len) => at += len,
+            Start::Lexeme(what, len) => {
                 let to = at + len;
                 found.push(Token {
                     what,
@@ -28,9 +28,9 @@ pub fn tokens(alloc: Global, bytes: &[u8]) -> Result<Vec<Token>, LexFault>
                 })?;
                 at = to;
             }
-            Front::NoToken(len) => return Err(LexFault::BadChar((at + len) as u32)),
-            Front::TooLong => return Err(LexFault::LongWord(at as u32)),
-            Front::NoNumber => return Err(LexFault::BadNumber(at as u32)),
+            Start::NoToken(len) => return Err(LexFault::BadChar((at + len) as u32)),
+            Start::TooLong => return Err(LexFault::LongWord(at as u32)),
+            Start::NoNumber => return Err(LexFault::BadNumber(at as u32)),
         }
     }
     Ok(found)

@@ -4,7 +4,7 @@ use Rattle.std.specs.Prelude.{if◌then◌else◌}
 use Rattle.std.specs.List.{after_first, before_first, onto_first, position_or_len}
 use Rattle.std.specs.Str.Lines.{lines, lines_of_parts, strip_carriage_return}
 use Rattle.std.proofs.lemmas.List.Splits.{slice_split-cons_no, slice_split-cons_yes, slice_split_first}
-use Rattle.ql_lines.specs.Lines.{ahead_from, is_line_feed, is_skipped, told}
+use Rattle.ql_lines.specs.Lines.{ahead_from, is_line_feed, is_skipped, numbered_lines}
 use Rattle.ql_lines.proofs.Splits.{none_passes, some_part}
 
 pub last_line : (xs : List ℕ) → 0 < length xs → position_or_len is_line_feed xs ≡ length xs → lines xs ≡ xs ∷ []
@@ -30,18 +30,18 @@ module _ (n : ℕ) (rest behind text : List ℕ) (first : lines rest ≡ text �
   pub same_end : (ahead_from n rest).end ≡ (ahead_from (n + 1) behind).end
   same_end = omega (arith, ap length first)
 
-  -- a line that tells nothing is passed over
+  -- a line that is_next nothing is passed over
   pub passes_over : is_skipped text ≡ true → ahead_from n rest ≡ ahead_from (n + 1) behind
-  unfolding told
+  unfolding numbered_lines
   passes_over skipped =
-      let lines_left : told n (lines rest) ≡ told (n + 1) (lines behind) = ap (told n) first ∙ rw skipped refl in
+      let lines_left : numbered_lines n (lines rest) ≡ numbered_lines (n + 1) (lines behind) = ap (numbered_lines n) first ∙ rw skipped refl in
       ap (λ ls. record { lines = ls; end = n + length (lines rest) }) lines_left
-      ∙ ap (λ end. record { lines = told (n + 1) (lines behind); end = end }) same_end
+      ∙ ap (λ end. record { lines = numbered_lines (n + 1) (lines behind); end = end }) same_end
 
-  -- a line that tells something is the next one
-  pub tells : is_skipped text ≡ false → (ahead_from n rest).lines ≡ record { number = n; text = text } ∷ (ahead_from (n + 1) behind).lines
-  unfolding told
-  tells kept = ap (told n) first ∙ rw kept refl
+  -- a line that is_next something is the next one
+  pub is_next : is_skipped text ≡ false → (ahead_from n rest).lines ≡ record { number = n; text = text } ∷ (ahead_from (n + 1) behind).lines
+  unfolding numbered_lines
+  is_next kept = ap (numbered_lines n) first ∙ rw kept refl
 
 -- ---- there are no more lines than bytes
 
@@ -66,13 +66,13 @@ few_parts (x ∷ xs) =
           omega (arith, cut, parts, few, more)
     ] refl
 
-few_told : (n : ℕ) (ls : List (List ℕ)) → length (told n ls) ≤ length ls
-unfolding told
-few_told n [] = omega arith
-few_told n (l ∷ ls) =
-    let few = few_told (n + 1) ls in
-    let P : Bool → Type 0 = λ t. length (if t then told (n + 1) ls else record { number = n; text = l } ∷ told (n + 1) ls) ≤ suc (length ls) in
+few_numbered : (n : ℕ) (ls : List (List ℕ)) → length (numbered_lines n ls) ≤ length ls
+unfolding numbered_lines
+few_numbered n [] = omega arith
+few_numbered n (l ∷ ls) =
+    let few = few_numbered (n + 1) ls in
+    let P : Bool → Type 0 = λ t. length (if t then numbered_lines (n + 1) ls else record { number = n; text = l } ∷ numbered_lines (n + 1) ls) ≤ suc (length ls) in
     elim (is_skipped l) as P [ true ↦ omega (arith, few) | false ↦ omega (arith, few) ]
 
 pub few_lines : (n : ℕ) (bytes : List ℕ) → length (ahead_from n bytes).lines ≤ length bytes
-few_lines n bytes = let told_few = few_told n (lines bytes) in let few = few_parts bytes in omega (arith, told_few, few)
+few_lines n bytes = let numbered_few = few_numbered n (lines bytes) in let few = few_parts bytes in omega (arith, numbered_few, few)

@@ -17,17 +17,17 @@ abbrev pub is_line_feed : ℕ → Bool
 is_line_feed b = b == 10
 
 -- whether a line with these fields is blank or a comment
-abbrev pub tell_nothing : List (List ℕ) → Bool
-tell_nothing [] = true
-tell_nothing (f ∷ fs) = begins_with 35 f
+abbrev pub are_skipped : List (List ℕ) → Bool
+are_skipped [] = true
+are_skipped (f ∷ fs) = begins_with 35 f
 
 unfoldable pub is_skipped : List ℕ → Bool
-is_skipped line = tell_nothing (fields_of line)
+is_skipped line = are_skipped (fields_of line)
 
 -- the lines that aren't skipped, where the first line has the number n
-unfoldable pub told : ℕ → List (List ℕ) → List Numbered
-told n [] = []
-told n (l ∷ ls) = if is_skipped l then told (n + 1) ls else record { number = n; text = l } ∷ told (n + 1) ls
+unfoldable pub numbered_lines : ℕ → List (List ℕ) → List Numbered
+numbered_lines n [] = []
+numbered_lines n (l ∷ ls) = if is_skipped l then numbered_lines (n + 1) ls else record { number = n; text = l } ∷ numbered_lines (n + 1) ls
 
 -- what is left to read: lines, and the line number of the file's end, which is one more than that of its last line
 pub record Ahead : Type 0 where
@@ -35,4 +35,4 @@ pub record Ahead : Type 0 where
   pub end : ℕ
 
 abbrev pub ahead_from : ℕ → List ℕ → Ahead
-ahead_from n bytes = record { lines = told n (lines bytes); end = n + length (lines bytes) }
+ahead_from n bytes = record { lines = numbered_lines n (lines bytes); end = n + length (lines bytes) }

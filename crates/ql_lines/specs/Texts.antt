@@ -1,7 +1,7 @@
 -- How lines of fields are written: fields with one space between them, each line ended by a line feed.
 use Rattle.std.specs.Prelude.{◌≡◌, ℕ, ◌<◌, Bool, false, ◌||◌, ◌==◌, List, [], ◌∷◌, ◌++◌, length}
 use Rattle.std.specs.List.{AllByRecursion}
-use Rattle.ql_lines.specs.Lines.{tell_nothing}
+use Rattle.ql_lines.specs.Lines.{are_skipped}
 
 abbrev pub joined : List (List ℕ) → List ℕ
 joined [] = []
@@ -32,4 +32,4 @@ pub record IsPlain (f : List ℕ) : Type 0 where
 -- fields that are read as they are written, of a line that isn't skipped
 pub record IsPlainLine (fields : List (List ℕ)) : Type 0 where
   pub plain : AllByRecursion IsPlain fields
-  pub told : tell_nothing fields ≡ false
+  pub numbered_lines : are_skipped fields ≡ false

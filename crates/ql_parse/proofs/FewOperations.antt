@@ -3,10 +3,10 @@ use Rattle.std.proofs.Common.{◌≡◌, ◌+◌, ◌*◌, ◌≤◌, ◌<◌, �
 use Rattle.std.specs.List.{flat_map}
 use Rattle.std.proofs.lemmas.List.{length-drop, length-map}
 use Rattle.std.proofs.lemmas.Fmt.{decimal_nonempty}
-use Rattle.ql_lex.specs.Fronts.{IsFront}
-use Rattle.ql_lex.specs.Fronts.IsFront.{name, keyword, number, text as quoted, pair, mark}
+use Rattle.ql_lex.specs.Starts.{StartsWith}
+use Rattle.ql_lex.specs.Starts.StartsWith.{name, keyword, number, text as quoted, pair, mark}
 use Rattle.ql_lex.specs.Tokens.{Lexes, ends, gap, token, no_token, too_long, no_number, preceded}
-use Rattle.ql_lex.specs.declared.front.Front.TheVariants.{Lexeme}
+use Rattle.ql_lex.specs.declared.start.Start.TheVariants.{Lexeme}
 use Rattle.ql_lex.specs.declared.token.LexFault.{LexFault}
 use Rattle.ql_lex.specs.declared.token.Token.{Token}
 use Rattle.ql_lex.specs.declared.token.TokenKind.{TokenKind}
@@ -19,7 +19,7 @@ use Rattle.ql_grammar.specs.ContractGrammar.{ReadsContract, plain, forall, Reads
 use Rattle.ql_parse.specs.Parsing.{IsContractText}
 
 -- a token lies within its text, and isn't empty
-token_within : {t : List ℕ} {what : TokenKind} {n : ℕ} → IsFront t (Lexeme what n) → (0 < n) × (n ≤ length t)
+token_within : {t : List ℕ} {what : TokenKind} {n : ℕ} → StartsWith t (Lexeme what n) → (0 < n) × (n ≤ length t)
 token_within (name w rest word stop unkept short) = (word.some, omega (arith, length-append w rest))
 token_within (keyword w rest word stop kept) = (word.some, omega (arith, length-append w rest))
 token_within (number {n} w rest spelled stop) = (rw (← spelled.spelled) (decimal_nonempty n (omega (arith, spelled.bounded))), omega (arith, length-append w rest))

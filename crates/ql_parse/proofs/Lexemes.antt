@@ -5,10 +5,10 @@ use Rattle.std.proofs.Math.Seq.{take-append_seam}
 use Rattle.std.proofs.lemmas.List.{drop-drop}
 use Rattle.std.proofs.lemmas.Bool.{false≢true}
 use Rattle.ql_base.specs.Names.{IsName}
-use Rattle.ql_lex.specs.Fronts.{IsFront}
-use Rattle.ql_lex.specs.Fronts.IsFront.{name}
+use Rattle.ql_lex.specs.Starts.{StartsWith}
+use Rattle.ql_lex.specs.Starts.StartsWith.{name}
 use Rattle.ql_lex.specs.Tokens.{Lexes, ends, gap, token, no_token, too_long, no_number, preceded}
-use Rattle.ql_lex.specs.declared.front.Front.TheVariants.{Lexeme}
+use Rattle.ql_lex.specs.declared.start.Start.TheVariants.{Lexeme}
 use Rattle.ql_lex.specs.declared.token.LexFault.{LexFault}
 use Rattle.ql_lex.specs.declared.token.Token.{Token}
 use Rattle.ql_lex.specs.declared.token.TokenKind.{TokenKind}
@@ -64,11 +64,11 @@ pub other_than : (t k : Terminal) → is_open t ≡ false → is_open k ≡ true
 other_than t k other opens is = let same : is_open k ≡ false = subst (λ u. is_open u ≡ false) is other in false≢true (sym same ∙ opens)
 
 -- a token that is a name has a name
-pub name_taken : {text : List ℕ} {n : ℕ} → IsFront text (Lexeme NameKind n) → IsName (take n text)
+pub name_taken : {text : List ℕ} {n : ℕ} → StartsWith text (Lexeme NameKind n) → IsName (take n text)
 name_taken (name w rest shape stops unkept short) = rw (take-append_seam w rest) (record { shape = shape; short = short; free = unkept })
 
 -- what is so for what each prefix of a text makes is so for all lexemes of the text
-module _ (Holds : ALexeme → Type 0) (each : (at : ℕ) (text : List ℕ) (what : TokenKind) (n : ℕ) → IsFront text (Lexeme what n) → Holds (record { what = terminal_of what (take n text); text = take n text; at = at })) where
+module _ (Holds : ALexeme → Type 0) (each : (at : ℕ) (text : List ℕ) (what : TokenKind) (n : ℕ) → StartsWith text (Lexeme what n) → Holds (record { what = terminal_of what (take n text); text = take n text; at = at })) where
   abbrev AnswerHolds : List ℕ → Result (List Token) LexFault → Type 0
   AnswerHolds bytes (Ok ts) = AllByRecursion Holds (lexemes_of bytes ts)
   AnswerHolds bytes (Err f) = Unit {0}

@@ -10,7 +10,7 @@ use Rattle.ql_base.specs.Numbers.{Spells}
 use Rattle.std.specs.Str.Parse.{digits_value}
 use Rattle.std.proofs.lemmas.Fmt.{decimal_is_IsNumeral}
 use Rattle.ql_lang.specs.declared.expression.BinOp.{BinOp}
-use Rattle.ql_lex.specs.Fronts.{most_number}
+use Rattle.ql_lex.specs.Starts.{most_number}
 use Rattle.ql_grammar.specs.declared.precedence.Precedence.{Precedence}
 use Rattle.ql_grammar.specs.declared.role.Role.TheVariants.{Makes}
 use Rattle.ql_grammar.proofs.Fixed.{name_token, int_token, text_token}

@@ -1,9 +1,9 @@
 use Rattle.std.proofs.Common.{◌≡◌, ℕ, ◌+◌, ◌≤◌, ◌<◌, List, [], ◌∷◌, Result, Ok, Err, refl, subst, arith, length, take, drop, slice_range, ◌-◌, ap, ◌∙◌, drop-drop}
 use Rattle.std.proofs.Math.Seq.{take-append_seam}
 use Rattle.ql_base.specs.Numbers.{Spells}
-use Rattle.ql_lex.specs.Fronts.{IsFront, name, text as quoted_text, number, most_number}
+use Rattle.ql_lex.specs.Starts.{StartsWith, name, text as quoted_text, number, most_number}
 use Rattle.ql_lex.specs.Tokens.{Lexes, ends, gap, token, no_token, too_long, no_number, preceded, AreSpans as Ascend}
-use Rattle.ql_lex.specs.declared.front.Front.TheVariants.{Lexeme}
+use Rattle.ql_lex.specs.declared.start.Start.TheVariants.{Lexeme}
 use Rattle.ql_lex.specs.declared.token.LexFault.{LexFault}
 use Rattle.ql_lex.specs.declared.token.Token.{Token}
 use Rattle.ql_lex.specs.declared.token.TokenKind.{TokenKind}
@@ -20,21 +20,21 @@ abbrev AreKindly : List ℕ → List Token → Type 0
 AreKindly bytes [] = Unit {0}
 AreKindly bytes (t ∷ ts) = IsKindly bytes t × AreKindly bytes ts
 
-name_front : {text : List ℕ} {n : ℕ} → IsFront text (Lexeme Name n) → n ≤ 32
+name_front : {text : List ℕ} {n : ℕ} → StartsWith text (Lexeme Name n) → n ≤ 32
 name_front (name w rest shape stops free short) = short
 
-text_front : {text : List ℕ} {n : ℕ} → IsFront text (Lexeme Text n) → 2 ≤ n
+text_front : {text : List ℕ} {n : ℕ} → StartsWith text (Lexeme Text n) → 2 ≤ n
 text_front (quoted_text w rest shape short) = omega arith
 
-number_front : {text : List ℕ} {n : ℕ} → IsFront text (Lexeme Int n) → (m : ℕ) × Spells most_number m (take n text)
+number_front : {text : List ℕ} {n : ℕ} → StartsWith text (Lexeme Int n) → (m : ℕ) × Spells most_number m (take n text)
 number_front (number {n = m} w rest spells stops) = (m, rw (take-append_seam w rest) spells)
 
-kindly_front : (bytes text : List ℕ) (what : TokenKind) (n at : ℕ) → text ≡ drop at bytes → IsFront text (Lexeme what n) → IsKindly bytes (record { what = what; from = at; to = at + n })
+kindly_front : (bytes text : List ℕ) (what : TokenKind) (n at : ℕ) → text ≡ drop at bytes → StartsWith text (Lexeme what n) → IsKindly bytes (record { what = what; from = at; to = at + n })
 kindly_front bytes text what n at is front = record {
-  short = λ e. let short : n ≤ 32 = name_front (subst (λ k. IsFront text (Lexeme k n)) e front) in omega arith;
-  quoted = λ e. let long : 2 ≤ n = text_front (subst (λ k. IsFront text (Lexeme k n)) e front) in omega arith;
+  short = λ e. let short : n ≤ 32 = name_front (subst (λ k. StartsWith text (Lexeme k n)) e front) in omega arith;
+  quoted = λ e. let long : 2 ≤ n = text_front (subst (λ k. StartsWith text (Lexeme k n)) e front) in omega arith;
   numeral = λ e.
-      let m = number_front (subst (λ k. IsFront text (Lexeme k n)) e front) in
+      let m = number_front (subst (λ k. StartsWith text (Lexeme k n)) e front) in
       let count : at + n - at ≡ n = omega arith in
       (m.0, rw (count, ← is) m.1);
 }

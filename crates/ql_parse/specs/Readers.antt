@@ -1,6 +1,6 @@
 use Rattle.std.specs.Prelude.{◌≡◌, ℕ, ◌≤◌, ◌<◌, ◌+◌, ◌^◌, List, [], ◌∷◌, Option, Some, None, length, map, slice_range}
 use Rattle.ql_base.specs.Numbers.{Spells}
-use Rattle.ql_lex.specs.Fronts.{most_number}
+use Rattle.ql_lex.specs.Starts.{most_number}
 use Rattle.ql_lex.specs.declared.token.Token.{Token}
 use Rattle.ql_lex.specs.declared.token.TokenKind.TheVariants.{Name, Int, Text}
 use Rattle.ql_grammar.specs.declared.terminal.Terminal.{Terminal}

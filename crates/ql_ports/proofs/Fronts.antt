@@ -1,30 +1,30 @@
 use Rattle.std.proofs.Common.{◌≡◌, ℕ, ◌+◌, ◌-◌, ◌≤◌, List, ◌++◌, length, take, drop, Option, Some, None, IfSome, ap, refl, ◌∙◌, append_assoc, length-append, length-drop}
 use Rattle.std.proofs.lemmas.List.{take-append-drop, drop-drop, length-take-le}
 use Rattle.std.proofs.Math.Seq.{take-add, take-length}
-use Rattle.ql_ports.specs.Whole.{IsFront}
+use Rattle.ql_ports.specs.Whole.{IsPrefix}
 use Rattle.ql_ports.specs.Written.{appended}
 
 -- a front and the next bytes of the whole are a front
-pub IsFront-append : (front whole piece : List ℕ) (count : ℕ)
-    → IsFront front whole
+pub IsPrefix-append : (front whole piece : List ℕ) (count : ℕ)
+    → IsPrefix front whole
     → count ≤ length piece
     → take count piece ≡ take count (drop (length front) whole)
-    → IsFront (front ++ take count piece) whole
-IsFront-append front whole piece count is_front within same =
+    → IsPrefix (front ++ take count piece) whole
+IsPrefix-append front whole piece count is_front within same =
     let longer : length (front ++ take count piece) ≡ length front + count =
     length-append front (take count piece) ∙ ap (λ n. length front + n) (length-take-le count piece within) in
     rw (longer, ← drop-drop count (length front) whole, same, append_assoc, take-append-drop) is_front
 
 -- the same, where the whole is told
 pub IfSome-front-append : (told : Option (List ℕ)) (front piece : List ℕ) (at count : ℕ)
-    → IfSome told (IsFront front)
+    → IfSome told (IsPrefix front)
     → at ≡ length front
     → count ≤ length piece
     → IfSome told (λ whole. take count piece ≡ take count (drop at whole))
-    → IfSome told (IsFront (front ++ take count piece))
+    → IfSome told (IsPrefix (front ++ take count piece))
 IfSome-front-append None front piece at count is_front seam within same = is_front
 IfSome-front-append (Some whole) front piece at count is_front seam within same =
-    IsFront-append front whole piece count is_front within (rw seam at same)
+    IsPrefix-append front whole piece count is_front within (rw seam at same)
 
 -- appending a front and then a front of the rest
 pub appended-front : (before : Option (List ℕ)) (bytes : List ℕ) (n m : ℕ)

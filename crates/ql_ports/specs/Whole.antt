@@ -1,5 +1,5 @@
 use Rattle.std.specs.Prelude.{◌≡◌, ℕ, List, ◌++◌, length, drop}
 
 -- a list is a prefix of another
-abbrev pub IsFront : List ℕ → List ℕ → Type 0
-IsFront front whole = front ++ drop (length front) whole ≡ whole
+abbrev pub IsPrefix : List ℕ → List ℕ → Type 0
+IsPrefix front whole = front ++ drop (length front) whole ≡ whole

@@ -1,6 +1,6 @@
 ghost use Rattle.std.specs.Prelude.{◌≡◌, ◌<◌, ◌≤◌, ◌⊎◌, ◌↔◌, ℕ, List, length, IfOk, OnOk, OnErr, IsErrOf, IfSome, IsTrue, IsFalse, vec_len};
 ghost use Rattle.ql_ports.specs.Faults.{Rose};
-ghost use Rattle.ql_ports.specs.Whole.{IsFront};
+ghost use Rattle.ql_ports.specs.Whole.{IsPrefix};
 ghost use Rattle.ql_ports.specs.Written.{appended, AppendsFront};
 ghost use Rattle.ql_ports.specs.declared.whole.ReadError.{ReadError};
 
@@ -88,10 +88,10 @@ fn read_piece<S: Shelf>(
 ) -> Result<bool, ReadError>
     requires room { 0 < length piece.old }
     requires in_limit { vec_len bytes.old ≤ limit }
-    requires front { IfSome (S.held shelf.old name.now) (IsFront bytes.old.items) }
+    requires front { IfSome (S.held shelf.old name.now) (IsPrefix bytes.old.items) }
     ensures grows { IfOk result (λ more. IsTrue more → vec_len bytes.old < vec_len bytes.new) }
     ensures within { IfOk result (λ _. vec_len bytes.new ≤ limit) }
-    ensures reads { OnOk result (IfSome (S.held shelf.old name.now) (IsFront bytes.new.items)) }
+    ensures reads { OnOk result (IfSome (S.held shelf.old name.now) (IsPrefix bytes.new.items)) }
     ensures end { IfOk result (λ more. IsFalse more →
         IfSome (S.held shelf.old name.now) (λ whole. bytes.new.items ≡ whole)) }
     ensures failed { IsErrOf result ReadError.Failed →

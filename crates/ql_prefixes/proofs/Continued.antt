@@ -2,10 +2,10 @@
 use Rattle.std.proofs.Common.{◌≡◌, ℕ, ◌+◌, List, [], ◌∷◌, ◌++◌, Ok, length, slice_range, map, refl, sym, ap, ◌∙◌, subst, arith, append_assoc, length-append}
 use Rattle.std.proofs.Math.Seq.{drop-append_seam}
 use Rattle.ql_base.specs.Bytes.{is_blank}
-use Rattle.ql_lex.specs.Fronts.{IsFront}
-use Rattle.ql_lex.specs.Fronts.IsFront.{blank}
+use Rattle.ql_lex.specs.Starts.{StartsWith}
+use Rattle.ql_lex.specs.Starts.StartsWith.{blank}
 use Rattle.ql_lex.specs.Tokens.{Lexes, ends, gap, token}
-use Rattle.ql_lex.specs.declared.front.Front.TheVariants.{Gap}
+use Rattle.ql_lex.specs.declared.start.Start.TheVariants.{Gap}
 use Rattle.ql_lex.specs.declared.token.Token.{Token}
 use Rattle.ql_grammar.specs.declared.role.Role.{Role}
 use Rattle.ql_grammar.specs.declared.terminal.Terminal.{Terminal}
@@ -37,7 +37,7 @@ abbrev pub marks_of : ℕ → List Spelled → List Marked
 marks_of at [] = []
 marks_of at (s ∷ all) = marked s.role s.what (bytes_of s) (at + 1) ∷ marks_of (at + 1 + length (bytes_of s)) all
 
-line_feed : (text : List ℕ) → IsFront (10 ∷ text) (Gap 1)
+line_feed : (text : List ℕ) → StartsWith (10 ∷ text) (Gap 1)
 unfolding is_blank
 line_feed text = blank refl
 

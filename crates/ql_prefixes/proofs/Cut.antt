@@ -5,12 +5,12 @@ use Rattle.std.proofs.Math.Seq.{drop-append_seam}
 use Rattle.std.proofs.lemmas.Bool.Decides.{nat_tests}
 use Rattle.ql_base.specs.Bytes.{StopsBefore, is_name_byte, is_word_byte}
 use Rattle.ql_lex.specs.Bytes.{is_in_line}
-use Rattle.ql_lex.specs.Fronts.{IsFront}
-use Rattle.ql_lex.specs.Fronts.IsFront.{blank, comment, name, keyword, number, text as text_front, pair, mark}
+use Rattle.ql_lex.specs.Starts.{StartsWith}
+use Rattle.ql_lex.specs.Starts.StartsWith.{blank, comment, name, keyword, number, text as text_front, pair, mark}
 use Rattle.ql_lex.specs.Marks.{is_mark_pair}
 use Rattle.ql_lex.specs.Tokens.{Lexes, ends, gap, token, no_token, too_long, no_number, preceded}
-use Rattle.ql_lex.specs.declared.front.Front.{Front}
-use Rattle.ql_lex.specs.declared.front.Front.TheVariants.{Gap, Lexeme}
+use Rattle.ql_lex.specs.declared.start.Start.{Start}
+use Rattle.ql_lex.specs.declared.start.Start.TheVariants.{Gap, Lexeme}
 use Rattle.ql_lex.specs.declared.token.Token.{Token}
 use Rattle.ql_lex.specs.declared.token.TokenKind.{TokenKind}
 use Rattle.ql_lex.specs.declared.token.TokenKind.TheVariants.{Text}
@@ -31,14 +31,14 @@ pub stops_at_line : (rest more : List ℕ) → StopsAlike rest (10 ∷ more)
 stops_at_line rest more test fails stops = fails
 
 -- the bytes of a gap or a token, and the text after it, which may be another
-pub record Front-of (text : List ℕ) (f : Front) (n : ℕ) : Type 0 where
+pub record Start-of (text : List ℕ) (f : Start) (n : ℕ) : Type 0 where
   pub bytes : List ℕ
   pub rest : List ℕ
   pub is : text ≡ bytes ++ rest
   pub len : length bytes ≡ n
-  pub again : (other : List ℕ) → StopsAlike rest other → IsFront (bytes ++ other) f
+  pub again : (other : List ℕ) → StopsAlike rest other → StartsWith (bytes ++ other) f
 
-gap_front : {t : List ℕ} {n : ℕ} → IsFront t (Gap n) → Front-of t (Gap n) n
+gap_front : {t : List ℕ} {n : ℕ} → StartsWith t (Gap n) → Start-of t (Gap n) n
 gap_front (blank {b = b} {rest = rest} is) = record { bytes = b ∷ []; rest = rest; is = refl; len = refl; again = λ other stops. blank is }
 gap_front (comment line rest all stop) = record {
   bytes = 35 ∷ line;
@@ -52,7 +52,7 @@ no_pair : (a : ℕ) → is_mark_pair a 10 ≡ false
 unfolding is_mark_pair
 no_pair a = grind (arith, nat_tests)
 
-pub token_front : {t : List ℕ} {what : TokenKind} {n : ℕ} → IsFront t (Lexeme what n) → Front-of t (Lexeme what n) n
+pub token_front : {t : List ℕ} {what : TokenKind} {n : ℕ} → StartsWith t (Lexeme what n) → Start-of t (Lexeme what n) n
 unfolding is_name_byte is_word_byte
 token_front (name w rest word stop free short) = record { bytes = w; rest = rest; is = refl; len = refl; again = λ other stops. name w other word (stops is_name_byte refl stop) free short }
 token_front (keyword w rest word stop kept) = record { bytes = w; rest = rest; is = refl; len = refl; again = λ other stops. keyword w other word (stops is_name_byte refl stop) kept }
@@ -62,7 +62,7 @@ token_front (text_front w rest all short) = record {
   rest = rest;
   is = ap (λ t. 34 ∷ t) (sym (append_assoc w (34 ∷ []) rest));
   len = omega (arith, length-append w (34 ∷ []));
-  again = λ other stops. subst (λ t. IsFront (34 ∷ t) (Lexeme Text (length w + 2))) (sym (append_assoc w (34 ∷ []) other)) (text_front w other all short);
+  again = λ other stops. subst (λ t. StartsWith (34 ∷ t) (Lexeme Text (length w + 2))) (sym (append_assoc w (34 ∷ []) other)) (text_front w other all short);
 }
 token_front (pair {a = a} {b = b} {rest = rest} is) = record { bytes = a ∷ b ∷ []; rest = rest; is = refl; len = refl; again = λ other stops. pair is }
 token_front (mark {a = a} {rest = rest} is stop) = record { bytes = a ∷ []; rest = rest; is = refl; len = refl; again = λ other stops. mark is (stops (is_mark_pair a) (no_pair a) stop) }
@@ -72,7 +72,7 @@ pub record StandsFirst (at : ℕ) (text : List ℕ) (t : Token) : Type 0 where
   pub from : t.from ≡ at
   pub len : ℕ
   pub to : t.to ≡ at + len
-  pub front : IsFront text (Lexeme t.what len)
+  pub front : StartsWith text (Lexeme t.what len)
 
 -- the cut is before the first of these tokens, or at the end
 abbrev pub IsBefore : ℕ → List ℕ → List Token → Type 0
@@ -144,7 +144,7 @@ module _ (before text bytes rest : List ℕ) (is : text ≡ bytes ++ rest) where
         subst (λ t. Lexes (at + n) t (preceded ts r)) tail (subst (λ i. Lexes i (next.pre ++ other) (preceded ts r)) there moved)
 
     -- a gap at the front, and the cut of what stands behind it
-    cut_gap : (at n : ℕ) → at ≡ length before → length bytes ≡ n → ((other : List ℕ) → StopsAlike rest other → IsFront (bytes ++ other) (Gap n)) → Cut before text ts us
+    cut_gap : (at n : ℕ) → at ≡ length before → length bytes ≡ n → ((other : List ℕ) → StopsAlike rest other → StartsWith (bytes ++ other) (Gap n)) → Cut before text ts us
     cut_gap at n here len again = record {
       pre = bytes ++ next.pre;
       post = next.post;
@@ -163,7 +163,7 @@ module _ (before text bytes rest : List ℕ) (is : text ≡ bytes ++ rest) where
         ∙ sym (ap (λ b. lexeme_of (before ++ b) t) (append_assoc bytes next.pre other) ∙ lexeme_at before bytes (next.pre ++ other) what at n here len)
 
     -- a token at the front, likewise
-    cut_token : (what : TokenKind) (at n : ℕ) → at ≡ length before → length bytes ≡ n → ((other : List ℕ) → StopsAlike rest other → IsFront (bytes ++ other) (Lexeme what n)) → Cut before text (record { what = what; from = at; to = at + n } ∷ ts) us
+    cut_token : (what : TokenKind) (at n : ℕ) → at ≡ length before → length bytes ≡ n → ((other : List ℕ) → StopsAlike rest other → StartsWith (bytes ++ other) (Lexeme what n)) → Cut before text (record { what = what; from = at; to = at + n } ∷ ts) us
     cut_token what at n here len again =
         let t : Token = record { what = what; from = at; to = at + n } in
         record {
@@ -189,12 +189,12 @@ moved_cut {before} {ts = ts} {us = us} is cut = subst (λ t. Cut before t ts us)
 abbrev Cuts : ℕ → List ℕ → List ℕ → Result (List Token) LexFault → Type 0
 Cuts at before text r = (ts us : List Token) → r ≡ Ok (ts ++ us) → Cut before text ts us
 
-behind_gap : {text : List ℕ} (before : List ℕ) (at n : ℕ) (r : Result (List Token) LexFault) (f : Front-of text (Gap n) n) → at ≡ length before → Cuts (at + n) (before ++ f.bytes) (drop n text) r → Cuts at before text r
+behind_gap : {text : List ℕ} (before : List ℕ) (at n : ℕ) (r : Result (List Token) LexFault) (f : Start-of text (Gap n) n) → at ≡ length before → Cuts (at + n) (before ++ f.bytes) (drop n text) r → Cuts at before text r
 behind_gap {text} before at n r f here next ts us is =
     let tail : drop n text ≡ f.rest = subst (λ i. drop i text ≡ f.rest) f.len (behind_is before text f.bytes f.rest f.is) in
     cut_gap before text f.bytes f.rest f.is (moved_cut tail (next ts us is)) at n here f.len f.again
 
-behind_token : {text : List ℕ} {what : TokenKind} (before : List ℕ) (at n : ℕ) (r : Result (List Token) LexFault) → IsFront text (Lexeme what n) → (f : Front-of text (Lexeme what n) n) → at ≡ length before → Cuts (at + n) (before ++ f.bytes) (drop n text) r → Cuts at before text (preceded (record { what = what; from = at; to = at + n } ∷ []) r)
+behind_token : {text : List ℕ} {what : TokenKind} (before : List ℕ) (at n : ℕ) (r : Result (List Token) LexFault) → StartsWith text (Lexeme what n) → (f : Start-of text (Lexeme what n) n) → at ≡ length before → Cuts (at + n) (before ++ f.bytes) (drop n text) r → Cuts at before text (preceded (record { what = what; from = at; to = at + n } ∷ []) r)
 behind_token before at n (Err e) front f here next ts us is = cc
 behind_token {text} {what} before at n (Ok vs) front f here next [] us is =
     let t : Token = record { what = what; from = at; to = at + n } in

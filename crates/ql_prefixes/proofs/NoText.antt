@@ -2,9 +2,9 @@
 use Rattle.std.proofs.Common.{◌≡◌, ◌<◌, ℕ, ◌+◌, List, [], ◌∷◌, ◌++◌, Result, Ok, Err, ◌⊎◌, inl, inr, length, take, drop, map, refl, sym, ap, ◌∙◌, subst, arith, append_assoc, length-append}
 use Rattle.std.proofs.Math.Seq.{take-append_seam, drop-append_seam}
 use Rattle.std.proofs.lemmas.List.{map-append}
-use Rattle.ql_lex.specs.Fronts.{IsFront}
+use Rattle.ql_lex.specs.Starts.{StartsWith}
 use Rattle.ql_lex.specs.Tokens.{Lexes, ends, gap, token, no_token, too_long, no_number, preceded}
-use Rattle.ql_lex.specs.declared.front.Front.TheVariants.{Lexeme as LexemeFront}
+use Rattle.ql_lex.specs.declared.start.Start.TheVariants.{Lexeme as LexemeFront}
 use Rattle.ql_lex.specs.declared.token.Token.{Token}
 use Rattle.ql_lex.specs.declared.token.LexFault.{LexFault}
 use Rattle.ql_grammar.specs.Limits.{Unexpected}
@@ -15,7 +15,7 @@ use Rattle.ql_parse.specs.Parsing.{IsFaultAs}
 use Rattle.ql_printed.specs.Printed.{IsInGrammarAs}
 use Rattle.ql_prefixes.specs.Prefixes.{EndsTexts}
 use Rattle.ql_prefixes.proofs.Lexemes.{lexeme_at, Parted, parted, marks_parted}
-use Rattle.ql_prefixes.proofs.Cut.{Cut, Front-of, StopsAlike, cut, cut_stops, token_front, stops_at_line}
+use Rattle.ql_prefixes.proofs.Cut.{Cut, Start-of, StopsAlike, cut, cut_stops, token_front, stops_at_line}
 use Rattle.ql_prefixes.proofs.Beginnings.{IsStuck, IsEnded, unexpected_at}
 
 abbrev Answer : Type 0
@@ -98,7 +98,7 @@ module _ {A : Type 0} (Reads : List Marked → List Marked → A → Type 0) whe
     abbrev len : ℕ
     len = front.place.len
 
-    word : Front-of front.post (LexemeFront last.first.what len) len
+    word : Start-of front.post (LexemeFront last.first.what len) len
     word = token_front front.place.front
 
     from_start : 0 + length front.pre ≡ length front.pre
@@ -165,7 +165,7 @@ module _ {A : Type 0} (Reads : List Marked → List Marked → A → Type 0) whe
       len = len;
       token =
           let post : front.post ≡ drop at bytes = sym (drop-append_seam front.pre front.post) ∙ ap (λ t. drop (length front.pre) t) (sym front.is) ∙ ap (λ n. drop n bytes) at_is in
-          subst (λ t. IsFront t (LexemeFront last.first.what len)) post front.place.front;
+          subst (λ t. StartsWith t (LexemeFront last.first.what len)) post front.place.front;
       none = λ begins.
           let more = begins.0 in
           let text : (take (at + len) bytes ++ 10 ∷ []) ++ more ≡ whole more = ap (λ t. (t ++ 10 ∷ []) ++ more) part_is ∙ append_assoc (front.pre ++ word.bytes) (10 ∷ []) more ∙ append_assoc front.pre word.bytes (10 ∷ more) in

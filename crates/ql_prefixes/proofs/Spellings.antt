@@ -5,11 +5,11 @@ use Rattle.std.proofs.lemmas.Fmt.{decimal_digit}
 use Rattle.ql_base.specs.Bytes.{is_lower, is_name_byte, is_word_byte}
 use Rattle.ql_base.specs.Names.{IsWord, is_keyword, keywords}
 use Rattle.ql_base.specs.Numbers.{Spells}
-use Rattle.ql_base.proofs.Fronts.{all_front}
-use Rattle.ql_lex.specs.Fronts.{IsFront, most_number}
-use Rattle.ql_lex.specs.Fronts.IsFront.{name, keyword as keyword_front, number as number_front, text as text_front, pair, mark as mark_front}
+use Rattle.ql_base.proofs.Starts.{all_front}
+use Rattle.ql_lex.specs.Starts.{StartsWith, most_number}
+use Rattle.ql_lex.specs.Starts.StartsWith.{name, keyword as keyword_front, number as number_front, text as text_front, pair, mark as mark_front}
 use Rattle.ql_lex.specs.Marks.{is_mark_byte, is_mark_pair}
-use Rattle.ql_lex.specs.declared.front.Front.TheVariants.{Lexeme}
+use Rattle.ql_lex.specs.declared.start.Start.TheVariants.{Lexeme}
 use Rattle.ql_lex.specs.declared.token.TokenKind.{TokenKind}
 use Rattle.ql_lex.specs.declared.token.TokenKind.TheVariants.{Name, Int, Text, Mark, Keyword}
 use Rattle.ql_grammar.specs.declared.terminal.Terminal.{Terminal}
@@ -20,7 +20,7 @@ use Rattle.ql_prefixes.proofs.Terminals.{is_some_token}
 
 -- before a line feed, these bytes are one token of this terminal
 pub record IsSpelling (k : TokenKind) (w : List ℕ) (t : Terminal) : Type 0 where
-  pub front : (rest : List ℕ) → IsFront (w ++ 10 ∷ rest) (Lexeme k (length w))
+  pub front : (rest : List ℕ) → StartsWith (w ++ 10 ∷ rest) (Lexeme k (length w))
   pub terminal : terminal_of k w ≡ t
 
 pub record Spelling (t : Terminal) : Type 0 where

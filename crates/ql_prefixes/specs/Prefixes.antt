@@ -1,6 +1,6 @@
 use Rattle.std.specs.Prelude.{ℕ, ◌+◌, List, [], ◌∷◌, ◌++◌, take, drop}
-use Rattle.ql_lex.specs.Fronts.{IsFront}
-use Rattle.ql_lex.specs.declared.front.Front.TheVariants.{Lexeme}
+use Rattle.ql_lex.specs.Starts.{StartsWith}
+use Rattle.ql_lex.specs.declared.start.Start.TheVariants.{Lexeme}
 use Rattle.ql_lex.specs.declared.token.TokenKind.{TokenKind}
 use Rattle.ql_grammar.specs.Limits.{Fault, Unexpected, Deep, Wide}
 use Rattle.ql_grammar.specs.Tokens.{Marked}
@@ -28,7 +28,7 @@ BeginsSource = BeginsText ReadsProgram
 pub record EndsTexts {A : Type 0} (Reads : List Marked → List Marked → A → Type 0) (bytes : List ℕ) (at : ℕ) : Type 0 where
   pub what : TokenKind
   pub len : ℕ
-  pub token : IsFront (drop at bytes) (Lexeme what len)
+  pub token : StartsWith (drop at bytes) (Lexeme what len)
   pub none : BeginsText Reads (take (at + len) bytes ++ 10 ∷ []) → ⊥
 
 abbrev pub EndsContracts : List ℕ → ℕ → Type 0

@@ -5,11 +5,11 @@ use Rattle.std.proofs.lemmas.Bool.Decides.{nat_tests}
 use Rattle.std.proofs.lemmas.Fmt.{digits_decimal}
 use Rattle.ql_base.specs.Bytes.{is_digit, is_lower, is_name_byte, is_text_byte, is_word_byte, StopsBefore}
 use Rattle.ql_base.specs.Names.{is_keyword, keywords}
-use Rattle.ql_base.proofs.Fronts.{passes_head, passes_tail}
+use Rattle.ql_base.proofs.Starts.{passes_head, passes_tail}
 use Rattle.ql_base.proofs.Numerals.{digits_model}
-use Rattle.ql_lex.specs.Fronts.{IsFront, number as number_front, text as text_front, most_number}
+use Rattle.ql_lex.specs.Starts.{StartsWith, number as number_front, text as text_front, most_number}
 use Rattle.ql_lex.specs.Marks.{is_mark_byte, is_mark_pair}
-use Rattle.ql_lex.specs.declared.front.Front.TheVariants.{Lexeme}
+use Rattle.ql_lex.specs.declared.start.Start.TheVariants.{Lexeme}
 use Rattle.ql_lex.specs.declared.token.TokenKind.TheVariants.{Int as IntKind, Text as TextKind, Mark}
 use Rattle.ql_lang.specs.declared.expression.BinOp.{BinOp}
 use Rattle.ql_lang.specs.declared.expression.BinOp.TheVariants.{Or, And, Eq, Ne, Lt, Le, Gt, Ge, Add, Sub, Mul}
@@ -116,11 +116,11 @@ run_quoted (b ∷ bs) rest most before all h =
 pub quoted_behind : (text rest : List ℕ) → quoted text ++ rest ≡ 34 ∷ (text ++ 34 ∷ rest)
 quoted_behind text rest = ap (λ t. 34 ∷ t) (append_assoc text (34 ∷ []) rest)
 
-text_is_front : (text rest : List ℕ) → TextFits text → IsFront (quoted text ++ rest) (Lexeme TextKind (length (quoted text)))
+text_is_front : (text rest : List ℕ) → TextFits text → StartsWith (quoted text ++ rest) (Lexeme TextKind (length (quoted text)))
 text_is_front text rest fits =
     let long : length text + 2 ≡ length (quoted text) = omega (arith, length-append text (34 ∷ [])) in
-    let front : IsFront (34 ∷ (text ++ 34 ∷ rest)) (Lexeme TextKind (length text + 2)) = text_front text rest fits.0 fits.1 in
-    subst (λ t. IsFront t (Lexeme TextKind (length (quoted text)))) (sym (quoted_behind text rest)) (subst (λ n. IsFront (34 ∷ (text ++ 34 ∷ rest)) (Lexeme TextKind n)) long front)
+    let front : StartsWith (34 ∷ (text ++ 34 ∷ rest)) (Lexeme TextKind (length text + 2)) = text_front text rest fits.0 fits.1 in
+    subst (λ t. StartsWith t (Lexeme TextKind (length (quoted text)))) (sym (quoted_behind text rest)) (subst (λ n. StartsWith (34 ∷ (text ++ 34 ∷ rest)) (Lexeme TextKind n)) long front)
 
 quiet_open : {r : Role} → IsQuiet r → (most before : ℕ) (rest : List ℕ) → OpensAtMost most false before rest → OpensAtMost most false (open_by r before) rest
 quiet_open plain most before rest h = h

@@ -6,12 +6,12 @@ use Rattle.std.proofs.Math.Seq.{take-append_seam, drop-append_seam}
 use Rattle.std.proofs.lemmas.Bool.Decides.{nat_tests}
 use Rattle.ql_base.specs.Bytes.{is_blank, is_name_byte, StopsBefore}
 use Rattle.ql_base.specs.Names.{IsWord, IsName, is_keyword}
-use Rattle.ql_base.proofs.Fronts.{passes_head, passes_tail}
-use Rattle.ql_lex.specs.Fronts.{IsFront}
-use Rattle.ql_lex.specs.Fronts.IsFront.{blank, name, keyword, pair, mark}
+use Rattle.ql_base.proofs.Starts.{passes_head, passes_tail}
+use Rattle.ql_lex.specs.Starts.{StartsWith}
+use Rattle.ql_lex.specs.Starts.StartsWith.{blank, name, keyword, pair, mark}
 use Rattle.ql_lex.specs.Marks.{is_mark_byte, is_mark_pair}
 use Rattle.ql_lex.specs.Tokens.{Lexes, gap, token, ends}
-use Rattle.ql_lex.specs.declared.front.Front.TheVariants.{Gap, Lexeme}
+use Rattle.ql_lex.specs.declared.start.Start.TheVariants.{Gap, Lexeme}
 use Rattle.ql_lex.specs.declared.token.Token.{Token}
 use Rattle.ql_lex.specs.declared.token.TokenKind.{TokenKind}
 use Rattle.ql_lex.specs.declared.token.TokenKind.TheVariants.{Name, Mark, Keyword}
@@ -74,7 +74,7 @@ Opening false r w rest = Unit {0}
 -- this token, with the text after it, is at the front, and where its brackets count, it opens and closes what its role
 -- says
 pub record IsSaid (counts : Bool) (k : TokenKind) (t : Terminal) (r : Role) (w rest : List ℕ) : Type 0 where
-  pub front : IsFront (w ++ rest) (Lexeme k (length w))
+  pub front : StartsWith (w ++ rest) (Lexeme k (length w))
   pub terminal : terminal_of k w ≡ t
   pub opens : Opening counts r w rest
 
@@ -86,11 +86,11 @@ Stands counts (Said k t r w ∷ ps) = IsSaid counts k t r w (text_of ps) × Stan
 
 -- its tokens
 
-blank_front : (text : List ℕ) → IsFront (32 ∷ text) (Gap 1)
+blank_front : (text : List ℕ) → StartsWith (32 ∷ text) (Gap 1)
 unfolding is_blank
 blank_front text = blank refl
 
-line_front : (text : List ℕ) → IsFront (10 ∷ text) (Gap 1)
+line_front : (text : List ℕ) → StartsWith (10 ∷ text) (Gap 1)
 unfolding is_blank
 line_front text = blank refl
 

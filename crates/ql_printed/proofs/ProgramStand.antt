@@ -3,7 +3,7 @@ use Rattle.std.proofs.Common.{◌≡◌, ℕ, suc, true, false, List, [], ◌∷
 use Rattle.std.specs.List.{AllByRecursion}
 use Rattle.ql_base.specs.Bytes.{is_lower, is_name_byte, is_word_byte, StopsBefore}
 use Rattle.ql_base.specs.Names.{is_keyword, keywords}
-use Rattle.ql_lex.specs.Fronts.IsFront.{keyword as keyword_front, pair, mark as mark_front}
+use Rattle.ql_lex.specs.Starts.StartsWith.{keyword as keyword_front, pair, mark as mark_front}
 use Rattle.ql_lex.specs.Marks.{is_mark_byte, is_mark_pair}
 use Rattle.ql_lex.specs.declared.token.TokenKind.TheVariants.{Mark, Keyword}
 use Rattle.ql_lang.specs.declared.name.Name.{Name}
@@ -33,11 +33,11 @@ use Rattle.ql_printed.proofs.ProgramPieces.{ends_line, each_pieces, base_termina
 
 -- tokens whose brackets don't count
 
-told_word : {t : Terminal} {r : Role} {w : List ℕ} (rest : List ℕ) → IsFixed w t → StopsBefore is_name_byte rest → IsSaid false Keyword t r w rest
-told_word {w = w} rest f stops = record { front = keyword_front w rest f.word stops f.kept; terminal = f.terminal; opens = tt }
+reported_word : {t : Terminal} {r : Role} {w : List ℕ} (rest : List ℕ) → IsFixed w t → StopsBefore is_name_byte rest → IsSaid false Keyword t r w rest
+reported_word {w = w} rest f stops = record { front = keyword_front w rest f.word stops f.kept; terminal = f.terminal; opens = tt }
 
-told_mark : {t : Terminal} {r : Role} (a : ℕ) (rest : List ℕ) → is_mark_byte a ≡ true → StopsBefore (is_mark_pair a) rest → terminal_of Mark (a ∷ []) ≡ t → IsSaid false Mark t r (a ∷ []) rest
-told_mark a rest is_one stops is = record { front = mark_front is_one stops; terminal = is; opens = tt }
+reported_mark : {t : Terminal} {r : Role} (a : ℕ) (rest : List ℕ) → is_mark_byte a ≡ true → StopsBefore (is_mark_pair a) rest → terminal_of Mark (a ∷ []) ≡ t → IsSaid false Mark t r (a ∷ []) rest
+reported_mark a rest is_one stops is = record { front = mark_front is_one stops; terminal = is; opens = tt }
 
 -- the words
 
@@ -117,15 +117,15 @@ base_fixed base.Text = text_fixed
 
 semicolon_said : (rest : List ℕ) → IsSaid false Mark Semicolon Plain (codes ";") rest
 unfolding is_mark_byte terminal_of mark operator
-semicolon_said rest = told_mark 59 rest refl (lone 59 refl rest) refl
+semicolon_said rest = reported_mark 59 rest refl (lone 59 refl rest) refl
 
 colon_said : (rest : List ℕ) → IsSaid false Mark Colon Plain (codes ":") (32 ∷ rest)
 unfolding is_mark_byte is_mark_pair terminal_of mark operator
-colon_said rest = told_mark 58 (32 ∷ rest) refl refl refl
+colon_said rest = reported_mark 58 (32 ∷ rest) refl refl refl
 
 equals_said : {r : Role} (rest : List ℕ) → IsSaid false Mark Equals r (codes "=") (32 ∷ rest)
 unfolding is_mark_byte is_mark_pair terminal_of mark operator
-equals_said rest = told_mark 61 (32 ∷ rest) refl refl refl
+equals_said rest = reported_mark 61 (32 ∷ rest) refl refl refl
 
 assign_said : (rest : List ℕ) → IsSaid false Mark Assign Before (codes ":=") rest
 unfolding is_mark_pair terminal_of mark operator
@@ -133,15 +133,15 @@ assign_said rest = record { front = pair refl; terminal = refl; opens = tt }
 
 minus_said : (rest : List ℕ) → IsSaid false Mark Minus Plain (codes "-") rest
 unfolding is_mark_byte terminal_of mark operator
-minus_said rest = told_mark 45 rest refl (lone 45 refl rest) refl
+minus_said rest = reported_mark 45 rest refl (lone 45 refl rest) refl
 
 paren_opens : (rest : List ℕ) → IsSaid false Mark OpenParen Plain (codes "(") rest
 unfolding is_mark_byte terminal_of mark operator
-paren_opens rest = told_mark 40 rest refl (lone 40 refl rest) refl
+paren_opens rest = reported_mark 40 rest refl (lone 40 refl rest) refl
 
 paren_closes : (rest : List ℕ) → IsSaid false Mark CloseParen Plain (codes ")") rest
 unfolding is_mark_byte terminal_of mark operator
-paren_closes rest = told_mark 41 rest refl (lone 41 refl rest) refl
+paren_closes rest = reported_mark 41 rest refl (lone 41 refl rest) refl
 
 -- the parts stand
 
@@ -158,30 +158,30 @@ module _ (T : Type 0) (pieces : T → List Piece → List Piece) (ItemFits : T �
 
 kind_stands : (k : Kind) (below : List Piece) → Stops below → Stand below → Stand (kind_pieces k below)
 unfolding is_name_byte
-kind_stands kind.Unit below stops stands = (told_word _ unit_fixed stops, stands)
-kind_stands kind.Int below stops stands = (told_word _ int_fixed stops, stands)
-kind_stands kind.Bool below stops stands = (told_word _ bool_fixed stops, stands)
-kind_stands kind.Text below stops stands = (told_word _ text_fixed stops, stands)
-kind_stands (kind.Set b) below stops stands = (told_word _ set_fixed refl, (paren_opens _, (told_word _ (base_fixed b) refl, (paren_closes _, stands))))
+kind_stands kind.Unit below stops stands = (reported_word _ unit_fixed stops, stands)
+kind_stands kind.Int below stops stands = (reported_word _ int_fixed stops, stands)
+kind_stands kind.Bool below stops stands = (reported_word _ bool_fixed stops, stands)
+kind_stands kind.Text below stops stands = (reported_word _ text_fixed stops, stands)
+kind_stands (kind.Set b) below stops stands = (reported_word _ set_fixed refl, (paren_opens _, (reported_word _ (base_fixed b) refl, (paren_closes _, stands))))
 kind_stands (kind.Map b c) below stops stands =
-    (told_word _ map_fixed refl, (paren_opens _, (told_word _ (base_fixed b) refl, (comma_said _, (told_word _ (base_fixed c) refl, (paren_closes _, stands))))))
+    (reported_word _ map_fixed refl, (paren_opens _, (reported_word _ (base_fixed b) refl, (comma_said _, (reported_word _ (base_fixed c) refl, (paren_closes _, stands))))))
 
 init_stands : (i : InitNode) → InitFits i → (below : List Piece) → Ends below → Stand below → Stand (init_pieces i below)
 init_stands (init.Int (pos n)) fits below ends stands = (said_number n fits plain (text_of below) ends, stands)
 init_stands (init.Int (negsuc n)) fits below ends stands = (minus_said _, (said_number (suc n) (omega arith) plain (text_of below) ends, stands))
 init_stands (init.Text text) fits below ends stands = (said_text text fits plain (text_of below), stands)
-init_stands (init.Bool b) fits below ends stands = (told_word _ (truth_fixed b) (text_ends (text_of below) ends), stands)
-init_stands init.Unit fits below ends stands = (told_word _ unit_fixed (text_ends (text_of below) ends), stands)
-init_stands init.Empty fits below ends stands = (told_word _ empty_fixed (text_ends (text_of below) ends), stands)
+init_stands (init.Bool b) fits below ends stands = (reported_word _ (truth_fixed b) (text_ends (text_of below) ends), stands)
+init_stands init.Unit fits below ends stands = (reported_word _ unit_fixed (text_ends (text_of below) ends), stands)
+init_stands init.Empty fits below ends stands = (reported_word _ empty_fixed (text_ends (text_of below) ends), stands)
 
 field_stands : (f : Field) → FieldFits f → (below : List Piece) → Stand below → Stand (field_pieces f below)
 unfolding is_name_byte is_word_byte
 field_stands f fits below stands =
-    (told_word _ state_fixed refl, (said_name f.name.word _ fits.0 plain refl, (colon_said _, kind_stands f.kind _ refl (equals_said _, init_stands f.init.node fits.1 (ends_line below) refl (semicolon_said _, stands)))))
+    (reported_word _ state_fixed refl, (said_name f.name.word _ fits.0 plain refl, (colon_said _, kind_stands f.kind _ refl (equals_said _, init_stands f.init.node fits.1 (ends_line below) refl (semicolon_said _, stands)))))
 
 param_stands : (p : Param) → ParamFits p → (below : List Piece) → Stops below → Stand below → Stand (param_pieces p below)
 unfolding is_name_byte
-param_stands p fits below stops stands = (said_name p.name.word _ fits plain refl, (colon_said _, (told_word _ (base_fixed p.base) stops, stands)))
+param_stands p fits below stops stands = (said_name p.name.word _ fits plain refl, (colon_said _, (reported_word _ (base_fixed p.base) stops, stands)))
 
 -- items with a comma between them, which end as expressions do
 module _ (T : Type 0) (pieces : T → List Piece → List Piece) (ItemFits : T → Type 0) (item : (t : T) → ItemFits t → (below : List Piece) → Ends below → Stand below → Stand (pieces t below)) where
@@ -201,7 +201,7 @@ module _ (T : Type 0) (pieces : T → List Piece → List Piece) (ItemFits : T �
 binding_stands : (b : Binding) → BindingFits b → (below : List Piece) → Ends below → Stand below → Stand (binding_pieces b below)
 unfolding is_name_byte
 binding_stands b fits below ends stands =
-    (said_name b.name.word _ fits.0 plain refl, (colon_said _, (told_word _ (base_fixed b.base) refl, (equals_said _, expression_stands false b.value fits.1 below ends stands))))
+    (said_name b.name.word _ fits.0 plain refl, (colon_said _, (reported_word _ (base_fixed b.base) refl, (equals_said _, expression_stands false b.value fits.1 below ends stands))))
 
 assignment_stands : (a : Assignment) → AssignmentFits a → (below : List Piece) → Stand below → Stand (assignment_pieces a below)
 unfolding is_name_byte is_word_byte
@@ -211,12 +211,12 @@ effect_stands : (o : Option Emission) → EffectFits o → (below : List Piece) 
 unfolding is_name_byte is_word_byte
 effect_stands None fits below stands = stands
 effect_stands (Some e) fits below stands = (
-  told_word _ emit_fixed refl,
+  reported_word _ emit_fixed refl,
   listed_stand Binding binding_pieces BindingFits binding_stands e.binds fits.1 _ refl (
-    told_word _ when_fixed refl,
+    reported_word _ when_fixed refl,
     expression_stands false e.test fits.2 _ refl (
       semicolon_said _,
-      (told_word _ apply_fixed refl, (open_brace _, each_stand Assignment assignment_pieces AssignmentFits assignment_stands e.stmts fits.3 _ (close_brace _, stands))),
+      (reported_word _ apply_fixed refl, (open_brace _, each_stand Assignment assignment_pieces AssignmentFits assignment_stands e.stmts fits.3 _ (close_brace _, stands))),
     ),
   ),
 )
@@ -235,15 +235,15 @@ signature_stands o named fits below stops stands = (
 operation_stands : (o : Operation) → OperationFits o → (below : List Piece) → Stand below → Stand (operation_pieces o below)
 unfolding is_name_byte is_word_byte
 operation_stands o fits below stands = (
-  told_word _ op_fixed refl,
+  reported_word _ op_fixed refl,
   signature_stands o fits.0 fits.1 _ refl (
     open_brace _,
     (
-      told_word _ contract_fixed refl,
+      reported_word _ contract_fixed refl,
       contract_stands false o.contract fits.2 _ refl (
         semicolon_said _,
         (
-          told_word _ answer_fixed refl,
+          reported_word _ answer_fixed refl,
           expression_stands false o.answer fits.3 _ refl (
             semicolon_said _,
             effect_stands o.effect fits.4 _ (close_brace _, stands),
@@ -257,7 +257,7 @@ operation_stands o fits below stands = (
 type_stands : (t : Replicated) → TypeFits t → (below : List Piece) → Stand below → Stand (type_pieces t below)
 unfolding is_name_byte
 type_stands t fits below stands = (
-  told_word _ type_fixed refl,
+  reported_word _ type_fixed refl,
   (
     said_name t.name.word _ fits.0 plain refl,
     (
@@ -271,16 +271,16 @@ type_stands t fits below stands = (
 transaction_stands : (t : Transaction) → TransactionFits t → (below : List Piece) → Stand below → Stand (transaction_pieces t below)
 unfolding is_name_byte
 transaction_stands t fits below stands = (
-  told_word _ transaction_fixed refl,
+  reported_word _ transaction_fixed refl,
   (
     said_name t.name.word _ fits.0 plain refl,
     (
       open_brace _,
       (
-        told_word _ uses_fixed refl,
+        reported_word _ uses_fixed refl,
         items_stand false Name name_pieces comma NameFits (comma_stops false) (comma_stands false) name_first t.uses fits.2 _ refl (
           semicolon_said _,
-          (told_word _ contract_fixed refl, contract_stands false t.contract fits.3 _ refl (semicolon_said _, (close_brace _, stands))),
+          (reported_word _ contract_fixed refl, contract_stands false t.contract fits.3 _ refl (semicolon_said _, (close_brace _, stands))),
         ),
       ),
     ),

@@ -4,10 +4,10 @@ use Rattle.std.specs.List.{AllByRecursion}
 use Rattle.std.proofs.Math.Seq.{take-append_seam}
 use Rattle.ql_base.specs.Names.{IsName}
 use Rattle.ql_base.specs.Numbers.{Spells}
-use Rattle.ql_lex.specs.Fronts.{IsFront, most_number}
-use Rattle.ql_lex.specs.Fronts.IsFront.{number as number_front, text as text_front}
+use Rattle.ql_lex.specs.Starts.{StartsWith, most_number}
+use Rattle.ql_lex.specs.Starts.StartsWith.{number as number_front, text as text_front}
 use Rattle.ql_lex.specs.Tokens.{Lexes}
-use Rattle.ql_lex.specs.declared.front.Front.TheVariants.{Lexeme}
+use Rattle.ql_lex.specs.declared.start.Start.TheVariants.{Lexeme}
 use Rattle.ql_lex.specs.declared.token.Token.{Token}
 use Rattle.ql_lex.specs.declared.token.TokenKind.{TokenKind}
 use Rattle.ql_lex.specs.declared.token.TokenKind.TheVariants.{Name as NameKind, Int, Text, Mark, Keyword}
@@ -48,15 +48,15 @@ other_kindly l other = record {
   quoted = λ is. absurd (other_than l.what TextToken other refl is);
 }
 
-number_taken : {text : List ℕ} {n : ℕ} → IsFront text (Lexeme Int n) → (m : ℕ) × Spells most_number m (take n text)
+number_taken : {text : List ℕ} {n : ℕ} → StartsWith text (Lexeme Int n) → (m : ℕ) × Spells most_number m (take n text)
 number_taken (number_front {n = m} w rest spells stops) = (m, rw (take-append_seam w rest) spells)
 
-text_taken : {text : List ℕ} {n : ℕ} → IsFront text (Lexeme Text n) → (t : List ℕ) × (take n text ≡ quoted t) × TextFits t
+text_taken : {text : List ℕ} {n : ℕ} → StartsWith text (Lexeme Text n) → (t : List ℕ) × (take n text ≡ quoted t) × TextFits t
 text_taken (text_front w rest shape short) =
     let long : length w + 2 ≡ length (quoted w) = omega (arith, length-append w (34 ∷ [])) in
     (w, ap (λ n. take n (34 ∷ (w ++ 34 ∷ rest))) long ∙ ap (λ t. take (length (quoted w)) t) (sym (quoted_behind w rest)) ∙ take-append_seam (quoted w) rest, (shape, short))
 
-one_kindly : (at : ℕ) {text : List ℕ} (what : TokenKind) (n : ℕ) → IsFront text (Lexeme what n) → IsKindly (record { what = terminal_of what (take n text); text = take n text; at = at })
+one_kindly : (at : ℕ) {text : List ℕ} (what : TokenKind) (n : ℕ) → StartsWith text (Lexeme what n) → IsKindly (record { what = terminal_of what (take n text); text = take n text; at = at })
 unfolding terminal_of
 one_kindly at NameKind n front = record { named = λ is. name_taken front; numbered = λ is. cc; quoted = λ is. cc }
 one_kindly at Int n front = record { named = λ is. cc; numbered = λ is. number_taken front; quoted = λ is. cc }

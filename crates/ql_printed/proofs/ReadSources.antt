@@ -3,7 +3,7 @@ use Rattle.std.proofs.Common.{◌≡◌, ℕ, zero, suc, ◌+◌, ◌≤◌, ◌
 use Rattle.std.specs.List.{AllByRecursion}
 use Rattle.ql_base.specs.Numbers.{Spells}
 use Rattle.ql_base.specs.declared.limits.TheConstants.{MAX_NODES}
-use Rattle.ql_lex.specs.Fronts.{most_number}
+use Rattle.ql_lex.specs.Starts.{most_number}
 use Rattle.ql_lang.specs.declared.name.Name.{Name}
 use Rattle.ql_lang.specs.declared.operation.Base.{Base}
 use Rattle.ql_lang.specs.declared.operation.Kind.{Kind}

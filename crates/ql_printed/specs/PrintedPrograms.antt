@@ -13,7 +13,7 @@ use Rattle.ql_lang.specs.Expressions.{Expression, Number, Literal, Truth, Nothin
 use Rattle.ql_lang.specs.Programs.{Binding, Assignment, Emission, Operation, Replicated, Transaction, Source, source_of}
 use Rattle.ql_lang.specs.Spelling.{contract_text}
 use Rattle.ql_lang.specs.ExpressionSpelling.{expression_text}
-use Rattle.ql_lex.specs.Fronts.{most_number}
+use Rattle.ql_lex.specs.Starts.{most_number}
 use Rattle.ql_grammar.specs.ProgramGrammar.{ReadsProgram}
 use Rattle.ql_parse.specs.declared.fault.ParseFault.{ParseFault}
 use Rattle.ql_printed.specs.Printed.{unplaced, unplaced_name, Fits, NameFits, prop_nodes, OpensFew, IsInGrammarAs, IsTreeAgain}

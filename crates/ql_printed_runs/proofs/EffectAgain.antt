@@ -239,5 +239,5 @@ module _ (p : Program) (objects : List (List ℕ)) (id : ℕ) (e : Effect) (name
     ),
   )
 
-  pub effect_told : is_skipped (joined (effect_fields p objects id e)) ≡ false
-  effect_told = tells 101 _ refl refl
+  pub effect_reported : is_skipped (joined (effect_fields p objects id e)) ≡ false
+  effect_reported = tells 101 _ refl refl

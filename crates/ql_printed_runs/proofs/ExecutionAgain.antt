@@ -38,7 +38,7 @@ use Rattle.ql_run_text.specs.NumberedLines.{lines_from}
 use Rattle.ql_typing.specs.Names.{op_name}
 use Rattle.ql_printed_runs.specs.Printable.{FindsNames, IsPrintable, IsWritable}
 use Rattle.ql_printed_runs.specs.Renumbered.{IsRenumbered, renumbered}
-use Rattle.ql_printed_runs.proofs.EffectAgain.{NamedMember, begun_of, effect_stays, effect_told, is_effect_line, line_of}
+use Rattle.ql_printed_runs.proofs.EffectAgain.{NamedMember, begun_of, effect_stays, effect_reported, is_effect_line, line_of}
 use Rattle.ql_printed_runs.proofs.LinesAgain.{first_line}
 use Rattle.ql_printed_runs.proofs.Numbers.{all_kept, first_of, grown, next_number, one_name}
 use Rattle.ql_printed_runs.proofs.Renumbering.{draft_from, no_other_fault, other_pushed, other_stamp, others}
@@ -232,8 +232,8 @@ module _ (p : Program) (objects : List (List ℕ)) (x : List Effect) (is : IsPri
       to = refl;
     })
 
-    its_told : is_skipped (joined (effect_fields p objects (suc (length done)) e)) ≡ false
-    its_told = effect_told p objects (suc (length done)) e named_object named_op (member-named e.member its_name.txn) writable
+    its_reported : is_skipped (joined (effect_fields p objects (suc (length done)) e)) ≡ false
+    its_reported = effect_reported p objects (suc (length done)) e named_object named_op (member-named e.member its_name.txn) writable
 
     its_stay : Stay (joined (effect_fields p objects (suc (length done)) e))
     its_stay = effect_stays p objects (suc (length done)) e named_object named_op (member-named e.member its_name.txn) writable
@@ -244,12 +244,12 @@ module _ (p : Program) (objects : List (List ℕ)) (x : List Effect) (is : IsPri
   unfolding told file_text is_skipped
   end_lines n = (record { number = n; text = codes "end" }, refl, ap (told n) (first_line (codes "end" ∷ []) [] [] (stays_of 101 (omega arith), (stays_of 110 (omega arith), (stays_of 100 (omega arith), tt)))))
 
-  ended : (told_all : EffectsRead) (n : ℕ) → Leads (gives p) ClosesExecution (WithEffects told_all) (told n (lines (codes "end\n"))) (Ended told_all)
+  ended : (reported_all : EffectsRead) (n : ℕ) → Leads (gives p) ClosesExecution (WithEffects reported_all) (told n (lines (codes "end\n"))) (Ended reported_all)
   unfolding Leads
-  ended told_all n =
+  ended reported_all n =
       let l = end_lines n in
-      subst (λ ls. Leads (gives p) ClosesExecution (WithEffects told_all) ls (Ended told_all)) (sym l.2)
-      (Ended told_all, inr (record { is = ap fields_of l.1; to = refl }), refl)
+      subst (λ ls. Leads (gives p) ClosesExecution (WithEffects reported_all) ls (Ended reported_all)) (sym l.2)
+      (Ended reported_all, inr (record { is = ap fields_of l.1; to = refl }), refl)
 
   from_here : (done es : List Effect) (ns : List (List ℕ)) (k n : ℕ) → x ≡ done ++ es → k ≡ suc (length done) → grown objects ns es ≡ grown objects [] x
       → Leads (gives p) ClosesExecution (WithEffects (record { objects = ns; effects = others number done })) (told n (lines (file_text (lines_from (effect_fields p objects) k es) ++ codes "end\n"))) (Ended (record { objects = grown objects [] x; effects = others number x }))
@@ -268,7 +268,7 @@ module _ (p : Program) (objects : List (List ℕ)) (x : List Effect) (is : IsPri
       let first : lines (file_text (l ∷ lines_from (effect_fields p objects) (k + 1) es) ++ codes "end\n") ≡ joined l ∷ lines after =
       first_line l (lines_from (effect_fields p objects) (k + 1) es) (codes "end\n") (subst Stay (sym text) (its_stay done e es split)) in
       let line : Numbered = record { number = n; text = joined l } in
-      let here : told n (joined l ∷ lines after) ≡ line ∷ told (n + 1) (lines after) = rw (ap is_skipped text ∙ its_told done e es split) refl in
+      let here : told n (joined l ∷ lines after) ≡ line ∷ told (n + 1) (lines after) = rw (ap is_skipped text ∙ its_reported done e es split) refl in
       let next : EffectsRead = record { objects = with_name ns w; effects = others number (done ++ e ∷ []) } in
       let numbered : object_number ns w ≡ number e.object.0 = next_number objects ns e es ∙ ap (λ (m : List (List ℕ)). first_of m w) same in
       let count = length-append done (e ∷ []) in

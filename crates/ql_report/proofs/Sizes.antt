@@ -9,7 +9,7 @@ use Rattle.ql_lang.specs.declared.program.TxnDecl.{TxnDecl}
 use Rattle.ql_lang.specs.declared.program.Program.{Program}
 use Rattle.ql_typing.specs.Operations.{all_ops, op_contract, op_contracts, op_words, txn_contract, txn_contracts}
 use Rattle.ql_typing.specs.Resolved.{choice_of, resolved_in}
-use Rattle.ql_report.specs.Refusals.{op_told, txn_told}
+use Rattle.ql_report.specs.Refusals.{op_reported, txn_reported}
 
 same-count : (words : List (List ℕ)) (s : Sentence) → length (resolved_in words s).vars ≡ length s.vars
 unfolding resolved_in
@@ -28,17 +28,17 @@ pub txn_variables : (p : Program) (o : ℕ) (d : TxnDecl) (f : Resolved) → sli
 txn_variables p o d f e g =
     ap (λ (r : Resolved). length r.vars) (at-map (txn_contract (op_words p.types)) p.txns o d f e g) ∙ same-count (op_words p.types) (sentence_of d.contract)
 
--- what is told of a contract, by the number of its resolved variables
-pub op_told_is : (p : Program) (o : ℕ) (d : OpDecl) (f : Resolved) (values : List Bool) (n m : ℕ) → slice_get (all_ops p.types) o ≡ Some d → slice_get (op_contracts p.types) o ≡ Some f
+-- what is reported of a contract, by the number of its resolved variables
+pub op_reported_is : (p : Program) (o : ℕ) (d : OpDecl) (f : Resolved) (values : List Bool) (n m : ℕ) → slice_get (all_ops p.types) o ≡ Some d → slice_get (op_contracts p.types) o ≡ Some f
     → n ≡ length f.vars + 1 → m ≡ length (all_ops p.types)
-    → record { program = p; vars = d.contract.vars; size = record { constants = n; operations = m }; values = values } ≡ op_told p o values
-op_told_is p o d f values n m e g is ops =
+    → record { program = p; vars = d.contract.vars; size = record { constants = n; operations = m }; values = values } ≡ op_reported p o values
+op_reported_is p o d f values n m e g is ops =
     let same : n ≡ suc (length d.contract.vars) = omega (arith, is, op_variables p o d f e g) in
     rw (e, same, ops) refl
 
-pub txn_told_is : (p : Program) (o : ℕ) (d : TxnDecl) (f : Resolved) (values : List Bool) (n m : ℕ) → slice_get p.txns o ≡ Some d → slice_get (txn_contracts p) o ≡ Some f
+pub txn_reported_is : (p : Program) (o : ℕ) (d : TxnDecl) (f : Resolved) (values : List Bool) (n m : ℕ) → slice_get p.txns o ≡ Some d → slice_get (txn_contracts p) o ≡ Some f
     → n ≡ length f.vars → m ≡ length (all_ops p.types)
-    → record { program = p; vars = d.contract.vars; size = record { constants = n; operations = m }; values = values } ≡ txn_told p o values
-txn_told_is p o d f values n m e g is ops =
+    → record { program = p; vars = d.contract.vars; size = record { constants = n; operations = m }; values = values } ≡ txn_reported p o values
+txn_reported_is p o d f values n m e g is ops =
     let same : n ≡ length d.contract.vars = is ∙ txn_variables p o d f e g in
     rw (e, same, ops) refl

@@ -34,37 +34,37 @@ atom_text p vars (Current i) = codes "current(" ++ constant_word vars i ++ codes
 atom_text p vars (Is o i) = codes "is(" ++ op_name p o.0 ++ codes "," ++ constant_word vars i ++ codes ")"
 
 -- What is reported: the program, the variables of the contract, the size of the ground problem, and the assignment.
-pub record Told : Type 0 where
+pub record Reported : Type 0 where
   pub program : Program
   pub vars : List Var
   pub size : Size
   pub values : List Bool
 
 -- an atom after a space, if it is true
-abbrev pub told_atom : Told → Atom → List ℕ
-told_atom t atom = if unwrap_or (slice_get t.values (atom_place t.size atom)) false then 32 ∷ atom_text t.program t.vars atom else []
+abbrev pub reported_atom : Reported → Atom → List ℕ
+reported_atom t atom = if unwrap_or (slice_get t.values (atom_place t.size atom)) false then 32 ∷ atom_text t.program t.vars atom else []
 
 -- a relation: all pairs, where the first constant changes slowest
-abbrev pub row_text : Told → PairKind → ℕ → List ℕ
-row_text t kind i = upto t.size.constants (λ j. told_atom t (Pair kind i j))
+abbrev pub row_text : Reported → PairKind → ℕ → List ℕ
+row_text t kind i = upto t.size.constants (λ j. reported_atom t (Pair kind i j))
 
-abbrev pub relation_text : Told → PairKind → List ℕ
+abbrev pub relation_text : Reported → PairKind → List ℕ
 relation_text t kind = upto t.size.constants (row_text t kind)
 
-unfoldable pub relations_text : Told → List ℕ
+unfoldable pub relations_text : Reported → List ℕ
 relations_text t =
     relation_text t Eq ++ relation_text t So ++ relation_text t SameObj ++ relation_text t Vis
     ++ relation_text t Hbo ++ relation_text t Hb ++ relation_text t SameTxn
 
-unfoldable pub currents_text : Told → List ℕ
-currents_text t = upto t.size.constants (λ i. told_atom t (Current i))
+unfoldable pub currents_text : Reported → List ℕ
+currents_text t = upto t.size.constants (λ i. reported_atom t (Current i))
 
-abbrev pub operation_text : Told → ℕ → List ℕ
-operation_text t o = upto t.size.constants (λ i. told_atom t (Is (op o) i))
+abbrev pub operation_text : Reported → ℕ → List ℕ
+operation_text t o = upto t.size.constants (λ i. reported_atom t (Is (op o) i))
 
-unfoldable pub operations_text : Told → List ℕ
+unfoldable pub operations_text : Reported → List ℕ
 operations_text t = upto t.size.operations (operation_text t)
 
 -- the line of the true atoms
-unfoldable pub atoms_line : Told → List ℕ
+unfoldable pub atoms_line : Reported → List ℕ
 atoms_line t = codes "atoms" ++ relations_text t ++ currents_text t ++ operations_text t ++ codes "\n"

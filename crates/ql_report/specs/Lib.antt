@@ -1,4 +1,4 @@
 pub mod Levels
 pub mod Atoms
-pub mod Telling
+pub mod Report
 pub mod Refusals

@@ -5,7 +5,7 @@ use Rattle.ql_lang.specs.declared.contract.Var.{Var}
 use Rattle.ql_lang.specs.declared.program.Program.{Program}
 use Rattle.ql_typing.specs.Operations.{all_ops}
 use Rattle.ql_typing.specs.Names.{op_name, txn_name}
-use Rattle.ql_report.specs.Atoms.{Told, atoms_line}
+use Rattle.ql_report.specs.Atoms.{Reported, atoms_line}
 
 -- the variables of a contract
 abbrev pub op_vars : Program → ℕ → List Var
@@ -15,16 +15,16 @@ abbrev pub txn_vars : Program → ℕ → List Var
 txn_vars p d = option_map_or (λ txn. txn.contract.vars) (slice_get p.txns d) []
 
 -- An operation's problem has the contract's variables and the current effect as constants, a transaction's the variables.
-abbrev pub op_told : Program → ℕ → List Bool → Told
-op_told p o values = record {
+abbrev pub op_reported : Program → ℕ → List Bool → Reported
+op_reported p o values = record {
   program = p;
   vars = op_vars p o;
   size = record { constants = suc (length (op_vars p o)); operations = length (all_ops p.types) };
   values = values;
 }
 
-abbrev pub txn_told : Program → ℕ → List Bool → Told
-txn_told p d values = record {
+abbrev pub txn_reported : Program → ℕ → List Bool → Reported
+txn_reported p d values = record {
   program = p;
   vars = txn_vars p d;
   size = record { constants = length (txn_vars p d); operations = length (all_ops p.types) };
@@ -33,10 +33,10 @@ txn_told p d values = record {
 
 -- no level is enough for the operation, or for the transaction, as the assignment shows
 abbrev pub none_op_text : Program → ℕ → List Bool → List ℕ
-none_op_text p o values = codes "none op " ++ op_name p o ++ codes "\n" ++ atoms_line (op_told p o values)
+none_op_text p o values = codes "none op " ++ op_name p o ++ codes "\n" ++ atoms_line (op_reported p o values)
 
 abbrev pub none_txn_text : Program → ℕ → List Bool → List ℕ
-none_txn_text p d values = codes "none txn " ++ txn_name p d ++ codes "\n" ++ atoms_line (txn_told p d values)
+none_txn_text p d values = codes "none txn " ++ txn_name p d ++ codes "\n" ++ atoms_line (txn_reported p d values)
 
 -- the transaction uses the operation, which is strong
 abbrev pub strong_text : Program → ℕ → ℕ → List ℕ

@@ -2,8 +2,8 @@
 ghost use Rattle.std.specs.Prelude.{◌≡◌, ◌<◌, ◌++◌, false, length, slice_get, unwrap_or, OnOk};
 ghost use Rattle.ql_atoms.specs.Atoms.{Fits, atom_place, size_of};
 ghost use Rattle.ql_typing.specs.Operations.{all_ops};
-ghost use Rattle.ql_report.specs.Atoms.{atom_text, atoms_line, constant_word, currents_text, pair_kind_word, operation_text, operations_text, relation_text, relations_text, row_text, told_atom};
-ghost use Rattle.ql_report.specs.Telling.{told_of};
+ghost use Rattle.ql_report.specs.Atoms.{atom_text, atoms_line, constant_word, currents_text, pair_kind_word, operation_text, operations_text, relation_text, relations_text, row_text, reported_atom};
+ghost use Rattle.ql_report.specs.Report.{reported_of};
 
 use crate::levels::op_name;
 use ql_atoms::{Atom, PairKind, Shape, number};
@@ -13,7 +13,7 @@ use ql_typing::Typed;
 
 /// The ground problem of a contract, with an assignment of its atoms.
 #[derive(Drop)]
-pub(crate) struct Telling<'a> {
+pub(crate) struct Report<'a> {
     pub(crate) typed: &'a Typed,
     pub(crate) vars: &'a [Var],
     pub(crate) shape: Shape,
@@ -21,99 +21,99 @@ pub(crate) struct Telling<'a> {
 }
 
 /// Appends the line that lists the true atoms.
-pub(crate) fn push_atoms(out: &mut Vec<u8>, told: &Telling) -> Result<(), NoMemory>
-    requires { told.now.shape.operations ≡ length (all_ops told.now.typed.now.program.types) }
-    ensures { OnOk result (out.new.items ≡ out.old.items ++ atoms_line (told_of told.now)) }
+pub(crate) fn push_atoms(out: &mut Vec<u8>, reported: &Report) -> Result<(), NoMemory>
+    requires { reported.now.shape.operations ≡ length (all_ops reported.now.typed.now.program.types) }
+    ensures { OnOk result (out.new.items ≡ out.old.items ++ atoms_line (reported_of reported.now)) }
 {
     push_bytes(out, b"atoms")?;
-    push_relations(out, told)?;
-    push_currents(out, told)?;
-    push_operations(out, told)?;
+    push_relations(out, reported)?;
+    push_currents(out, reported)?;
+    push_operations(out, reported)?;
     push_bytes(out, b"\n")
 }
 
 #[tactic(auto, unfolding(crate::specs::Atoms::relations_text))]
-fn push_relations(out: &mut Vec<u8>, told: &Telling) -> Result<(), NoMemory>
-    requires { told.now.shape.operations ≡ length (all_ops told.now.typed.now.program.types) }
-    ensures { OnOk result (out.new.items ≡ out.old.items ++ relations_text (told_of told.now)) }
+fn push_relations(out: &mut Vec<u8>, reported: &Report) -> Result<(), NoMemory>
+    requires { reported.now.shape.operations ≡ length (all_ops reported.now.typed.now.program.types) }
+    ensures { OnOk result (out.new.items ≡ out.old.items ++ relations_text (reported_of reported.now)) }
 {
-    push_relation(out, told, PairKind::Eq)?;
-    push_relation(out, told, PairKind::So)?;
-    push_relation(out, told, PairKind::SameObj)?;
-    push_relation(out, told, PairKind::Vis)?;
-    push_relation(out, told, PairKind::Hbo)?;
-    push_relation(out, told, PairKind::Hb)?;
-    push_relation(out, told, PairKind::SameTxn)
+    push_relation(out, reported, PairKind::Eq)?;
+    push_relation(out, reported, PairKind::So)?;
+    push_relation(out, reported, PairKind::SameObj)?;
+    push_relation(out, reported, PairKind::Vis)?;
+    push_relation(out, reported, PairKind::Hbo)?;
+    push_relation(out, reported, PairKind::Hb)?;
+    push_relation(out, reported, PairKind::SameTxn)
 }
 
-fn push_relation(out: &mut Vec<u8>, told: &Telling, kind: PairKind) -> Result<(), NoMemory>
-    requires { told.now.shape.operations ≡ length (all_ops told.now.typed.now.program.types) }
-    ensures { OnOk result (out.new.items ≡ out.old.items ++ relation_text (told_of told.now) kind) }
+fn push_relation(out: &mut Vec<u8>, reported: &Report, kind: PairKind) -> Result<(), NoMemory>
+    requires { reported.now.shape.operations ≡ length (all_ops reported.now.typed.now.program.types) }
+    ensures { OnOk result (out.new.items ≡ out.old.items ++ relation_text (reported_of reported.now) kind) }
 {
-    for i in 0..told.shape.constants {
-        push_row(out, told, kind, i)?;
+    for i in 0..reported.shape.constants {
+        push_row(out, reported, kind, i)?;
     }
     Ok(())
 }
 
-fn push_row(out: &mut Vec<u8>, told: &Telling, kind: PairKind, i: u32) -> Result<(), NoMemory>
-    requires operations { told.now.shape.operations
-        ≡ length (all_ops told.now.typed.now.program.types) }
-    requires row { i < told.now.shape.constants }
-    ensures { OnOk result (out.new.items ≡ out.old.items ++ row_text (told_of told.now) kind i) }
+fn push_row(out: &mut Vec<u8>, reported: &Report, kind: PairKind, i: u32) -> Result<(), NoMemory>
+    requires operations { reported.now.shape.operations
+        ≡ length (all_ops reported.now.typed.now.program.types) }
+    requires row { i < reported.now.shape.constants }
+    ensures { OnOk result (out.new.items ≡ out.old.items ++ row_text (reported_of reported.now) kind i) }
 {
-    for j in 0..told.shape.constants {
-        push_if_true(out, told, Atom::Pair(kind, i, j))?;
+    for j in 0..reported.shape.constants {
+        push_if_true(out, reported, Atom::Pair(kind, i, j))?;
     }
     Ok(())
 }
 
 #[tactic(auto, unfolding(crate::specs::Atoms::currents_text))]
-fn push_currents(out: &mut Vec<u8>, told: &Telling) -> Result<(), NoMemory>
-    requires { told.now.shape.operations ≡ length (all_ops told.now.typed.now.program.types) }
-    ensures { OnOk result (out.new.items ≡ out.old.items ++ currents_text (told_of told.now)) }
+fn push_currents(out: &mut Vec<u8>, reported: &Report) -> Result<(), NoMemory>
+    requires { reported.now.shape.operations ≡ length (all_ops reported.now.typed.now.program.types) }
+    ensures { OnOk result (out.new.items ≡ out.old.items ++ currents_text (reported_of reported.now)) }
 {
-    for i in 0..told.shape.constants {
-        push_if_true(out, told, Atom::Current(i))?;
+    for i in 0..reported.shape.constants {
+        push_if_true(out, reported, Atom::Current(i))?;
     }
     Ok(())
 }
 
 #[tactic(auto, unfolding(crate::specs::Atoms::operations_text))]
-fn push_operations(out: &mut Vec<u8>, told: &Telling) -> Result<(), NoMemory>
-    requires { told.now.shape.operations ≡ length (all_ops told.now.typed.now.program.types) }
-    ensures { OnOk result (out.new.items ≡ out.old.items ++ operations_text (told_of told.now)) }
+fn push_operations(out: &mut Vec<u8>, reported: &Report) -> Result<(), NoMemory>
+    requires { reported.now.shape.operations ≡ length (all_ops reported.now.typed.now.program.types) }
+    ensures { OnOk result (out.new.items ≡ out.old.items ++ operations_text (reported_of reported.now)) }
 {
-    for o in 0..told.shape.operations {
-        push_operation(out, told, OpId(o))?;
+    for o in 0..reported.shape.operations {
+        push_operation(out, reported, OpId(o))?;
     }
     Ok(())
 }
 
-fn push_operation(out: &mut Vec<u8>, told: &Telling, o: OpId) -> Result<(), NoMemory>
-    requires operations { told.now.shape.operations
-        ≡ length (all_ops told.now.typed.now.program.types) }
-    requires op { o.0 < told.now.shape.operations }
-    ensures { OnOk result (out.new.items ≡ out.old.items ++ operation_text (told_of told.now) o.0) }
+fn push_operation(out: &mut Vec<u8>, reported: &Report, o: OpId) -> Result<(), NoMemory>
+    requires operations { reported.now.shape.operations
+        ≡ length (all_ops reported.now.typed.now.program.types) }
+    requires op { o.0 < reported.now.shape.operations }
+    ensures { OnOk result (out.new.items ≡ out.old.items ++ operation_text (reported_of reported.now) o.0) }
 {
-    for i in 0..told.shape.constants {
-        push_if_true(out, told, Atom::Is(o, i))?;
+    for i in 0..reported.shape.constants {
+        push_if_true(out, reported, Atom::Is(o, i))?;
     }
     Ok(())
 }
 
 // Appends an atom after a space, if it is true.
-fn push_if_true(out: &mut Vec<u8>, told: &Telling, atom: Atom) -> Result<(), NoMemory>
-    requires operations { told.now.shape.operations
-        ≡ length (all_ops told.now.typed.now.program.types) }
-    requires atom { Fits (size_of told.now.shape) atom }
-    ensures { OnOk result (out.new.items ≡ out.old.items ++ told_atom (told_of told.now) atom) }
+fn push_if_true(out: &mut Vec<u8>, reported: &Report, atom: Atom) -> Result<(), NoMemory>
+    requires operations { reported.now.shape.operations
+        ≡ length (all_ops reported.now.typed.now.program.types) }
+    requires atom { Fits (size_of reported.now.shape) atom }
+    ensures { OnOk result (out.new.items ≡ out.old.items ++ reported_atom (reported_of reported.now) atom) }
 {
-    if !is_true(told.values, atom, told.shape) {
+    if !is_true(reported.values, atom, reported.shape) {
         return Ok(());
     }
     push_bytes(out, b" ")?;
-    push_atom(out, told, atom)
+    push_atom(out, reported, atom)
 }
 
 // Whether an atom is true; an atom without a value isn't.
@@ -127,31 +127,31 @@ fn is_true(values: &[bool], atom: Atom, shape: Shape) -> bool
     }
 }
 
-fn push_atom(out: &mut Vec<u8>, told: &Telling, atom: Atom) -> Result<(), NoMemory>
-    requires operations { told.now.shape.operations
-        ≡ length (all_ops told.now.typed.now.program.types) }
-    requires atom { Fits (size_of told.now.shape) atom }
+fn push_atom(out: &mut Vec<u8>, reported: &Report, atom: Atom) -> Result<(), NoMemory>
+    requires operations { reported.now.shape.operations
+        ≡ length (all_ops reported.now.typed.now.program.types) }
+    requires atom { Fits (size_of reported.now.shape) atom }
     ensures { OnOk result
         (out.new.items ≡ out.old.items
-        ++ atom_text told.now.typed.now.program told.now.vars.now atom) }
+        ++ atom_text reported.now.typed.now.program reported.now.vars.now atom) }
 {
     match atom {
         Atom::Pair(kind, i, j) => {
             push_bytes(out, relation_word(kind))?;
             push_bytes(out, b"(")?;
-            push_bytes(out, constant_word(told.vars, i))?;
+            push_bytes(out, constant_word(reported.vars, i))?;
             push_bytes(out, b",")?;
-            push_bytes(out, constant_word(told.vars, j))?;
+            push_bytes(out, constant_word(reported.vars, j))?;
         }
         Atom::Current(i) => {
             push_bytes(out, b"current(")?;
-            push_bytes(out, constant_word(told.vars, i))?;
+            push_bytes(out, constant_word(reported.vars, i))?;
         }
         Atom::Is(o, i) => {
             push_bytes(out, b"is(")?;
-            push_bytes(out, op_name(told.typed, o))?;
+            push_bytes(out, op_name(reported.typed, o))?;
             push_bytes(out, b",")?;
-            push_bytes(out, constant_word(told.vars, i))?;
+            push_bytes(out, constant_word(reported.vars, i))?;
         }
     }
     push_bytes(out, b")")

@@ -1,10 +1,10 @@
 // Why a program has no levels.
 ghost use Rattle.std.specs.Prelude.{◌≡◌, ◌<◌, IfOk, length};
 ghost use Rattle.ql_typing.specs.Operations.{all_ops};
-ghost use Rattle.ql_report.specs.Refusals.{none_op_text, none_txn_text, op_told, strong_text, txn_told};
-ghost use Rattle.ql_report.specs.Telling.{told_of};
+ghost use Rattle.ql_report.specs.Refusals.{none_op_text, none_txn_text, op_reported, strong_text, txn_reported};
+ghost use Rattle.ql_report.specs.Report.{reported_of};
 
-use crate::atoms::{Telling, push_atoms};
+use crate::atoms::{Report, push_atoms};
 use crate::levels::{op_name, txn_name};
 use ql_atoms::Shape;
 use ql_base::{DeclId, NoMemory, OpId, push_bytes};
@@ -25,17 +25,17 @@ pub fn print_none_op(
     let mut text = Vec::from_slice(alloc, b"none op ")?;
     push_bytes(&mut text, op_name(t, o))?;
     push_bytes(&mut text, b"\n")?;
-    push_atoms(&mut text, &op_telling(t, o, assignment))?;
+    push_atoms(&mut text, &op_report(t, o, assignment))?;
     Ok(text)
 }
 
-fn op_telling<'a>(t: &'a Typed, o: OpId, assignment: &'a Assignment) -> Telling<'a>
+fn op_report<'a>(t: &'a Typed, o: OpId, assignment: &'a Assignment) -> Report<'a>
     requires { o.0 < length (all_ops t.now.program.types) }
-    ensures told { told_of result ≡ op_told t.now.program o.0 assignment.now }
+    ensures reported { reported_of result ≡ op_reported t.now.program o.0 assignment.now }
     ensures operations { result.shape.operations ≡ length (all_ops result.typed.now.program.types) }
 {
     let constants = t.op_formula(o).vars.items().len() as u32 + 1;
-    Telling {
+    Report {
         typed: t,
         vars: t.op(o).contract.vars.items(),
         shape: Shape {
@@ -59,17 +59,17 @@ pub fn print_none_txn(
     let mut text = Vec::from_slice(alloc, b"none txn ")?;
     push_bytes(&mut text, txn_name(t, d))?;
     push_bytes(&mut text, b"\n")?;
-    push_atoms(&mut text, &txn_telling(t, d, assignment))?;
+    push_atoms(&mut text, &txn_report(t, d, assignment))?;
     Ok(text)
 }
 
-fn txn_telling<'a>(t: &'a Typed, d: DeclId, assignment: &'a Assignment) -> Telling<'a>
+fn txn_report<'a>(t: &'a Typed, d: DeclId, assignment: &'a Assignment) -> Report<'a>
     requires { d.0 < length t.now.program.txns }
-    ensures told { told_of result ≡ txn_told t.now.program d.0 assignment.now }
+    ensures reported { reported_of result ≡ txn_reported t.now.program d.0 assignment.now }
     ensures operations { result.shape.operations ≡ length (all_ops result.typed.now.program.types) }
 {
     let constants = t.txn_formula(d).vars.items().len() as u32;
-    Telling {
+    Report {
         typed: t,
         vars: t.txn(d).contract.vars.items(),
         shape: Shape {

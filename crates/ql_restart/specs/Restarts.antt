@@ -33,7 +33,7 @@ pub data IsRestartText (s : Machine) (arrivals : List ℕ) (cut : ℕ) : List �
       → IsRestartText s arrivals cut (id_line (codes "received") received ++ id_line (codes "applied") applied ++ codes "end\n")
 
 -- The replica in the written machine's run of the schedule at the least levels of the source's program.
-pub record TellsRestart (source file : List ℕ) (replica cut : ℕ) (text : List ℕ) : Type 0 where
+pub record ReportsRestart (source file : List ℕ) (replica cut : ℕ) (text : List ℕ) : Type 0 where
   pub program : Program
   pub schedule : Schedule
   pub levels : LevelLists
@@ -47,7 +47,7 @@ pub record TellsRestart (source file : List ℕ) (replica cut : ℕ) (text : Lis
   pub printed : IsRestartText last arrivals cut text
 
 -- The program is accepted, and the replica isn't there after the events of the schedule.
-pub record TellsNoReplica (source file : List ℕ) (replica : ℕ) (text : List ℕ) : Type 0 where
+pub record ReportsNoReplica (source file : List ℕ) (replica : ℕ) (text : List ℕ) : Type 0 where
   pub program : Program
   pub schedule : Schedule
   pub is_source : IsSourceOf source program
@@ -57,6 +57,6 @@ pub record TellsNoReplica (source file : List ℕ) (replica : ℕ) (text : List 
   pub printed : text ≡ codes "no replica " ++ decimal replica ++ codes "\n"
 
 abbrev pub RestartSays : List ℕ → List ℕ → ℕ → ℕ → Status → List ℕ → Type 0
-RestartSays source file replica cut Done text = TellsRestart source file replica cut text
-RestartSays source file replica cut No text = NoRunSays source file No text ⊎ TellsNoReplica source file replica text
+RestartSays source file replica cut Done text = ReportsRestart source file replica cut text
+RestartSays source file replica cut No text = NoRunSays source file No text ⊎ ReportsNoReplica source file replica text
 RestartSays source file replica cut status text = NoRunSays source file status text

@@ -5,7 +5,7 @@ ghost use Rattle.ql_lines.specs.Lines.{ahead_from};
 ghost use Rattle.ql_machine.specs.Runs.{replicas_behind};
 ghost use Rattle.ql_schedule.specs.Files.{IsScheduleFile};
 ghost use Rattle.ql_schedule.specs.Guarantees.{IsSchedule};
-ghost use Rattle.ql_restart.specs.Restarts.{RestartSays, TellsRestart};
+ghost use Rattle.ql_restart.specs.Restarts.{RestartSays, ReportsRestart};
 
 use crate::recovered::print_recovered;
 use ql_base::{NoMemory, ReplicaId, push_bytes, push_number};
@@ -54,7 +54,7 @@ fn text_of(
     ensures { IfOk result
         (λ text. (source file : List ℕ) → IsSourceOf source input.typed.program
         → IsScheduleFile input.typed.program (ahead_from 1 file) input.schedule
-        → TellsRestart source file replica.0 cut text.items) }
+        → ReportsRestart source file replica.0 cut text.items) }
 {
     let RunInput {
         typed,

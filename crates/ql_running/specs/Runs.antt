@@ -33,7 +33,7 @@ pub record PrintsRun (format : Format) (p : Program) (levels : LevelLists) (s : 
   pub sound : IsSound p last.effects
 
 -- The bytes of a source and of a schedule, and the text of the schedule's run at the least levels of the source's program.
-pub record TellsRun (format : Format) (source file text : List ℕ) : Type 0 where
+pub record ReportsRun (format : Format) (source file text : List ℕ) : Type 0 where
   pub program : Program
   pub schedule : Schedule
   pub levels : LevelLists
@@ -59,5 +59,5 @@ NoRunSays source file Bad text = BadSourceSays source text ⊎ BadScheduleSays s
 NoRunSays source file _ text = ⊥
 
 abbrev pub RunSays : Format → List ℕ → List ℕ → Status → List ℕ → Type 0
-RunSays format source file Done text = TellsRun format source file text
+RunSays format source file Done text = ReportsRun format source file text
 RunSays format source file status text = NoRunSays source file status text

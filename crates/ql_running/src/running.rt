@@ -8,7 +8,7 @@ ghost use Rattle.ql_run_text.specs.EffectTexts.{AreNamed};
 ghost use Rattle.ql_run_text.specs.ReplyTexts.{AreAnswered};
 ghost use Rattle.ql_typing.specs.Operations.{all_ops};
 ghost use Rattle.ql_running.specs.Forms.{format_of};
-ghost use Rattle.ql_running.specs.Runs.{RunSays, TellsRun};
+ghost use Rattle.ql_running.specs.Runs.{RunSays, ReportsRun};
 
 use crate::form::Form;
 use crate::input::{RunInput, read_run_input};
@@ -48,7 +48,7 @@ fn text_of(alloc: Global, form: Form, input: RunInput) -> Result<Vec<u8>, NoMemo
     ensures { IfOk result
         (λ text. (source file : List ℕ) → IsSourceOf source input.typed.program
         → IsScheduleFile input.typed.program (ahead_from 1 file) input.schedule
-        → TellsRun (format_of form) source file text.items) }
+        → ReportsRun (format_of form) source file text.items) }
 {
     let RunInput {
         typed,

@@ -110,8 +110,8 @@ first_byte [] h = absurd h
 first_byte (f ∷ []) h = h
 first_byte (f ∷ g ∷ fs) h = (h.0, h.1 ++ 32 ∷ joined (g ∷ fs), ap (λ w. w ++ 32 ∷ joined (g ∷ fs)) h.2, h.3, h.4)
 
-is_told : (fs : Fields) → begins_so fs → is_skipped (joined fs) ≡ false
-is_told fs h = let k = first_byte fs h in ap is_skipped k.2 ∙ tells k.0 k.1 k.3 k.4
+is_reported : (fs : Fields) → begins_so fs → is_skipped (joined fs) ≡ false
+is_reported fs h = let k = first_byte fs h in ap is_skipped k.2 ∙ tells k.0 k.1 k.3 k.4
 
 -- lines as a reader has them before it
 unfoldable pub numbered : ℕ → List Fields → List Numbered
@@ -122,7 +122,7 @@ pub file_again : (n : ℕ) (ls : List Fields) → AllByRecursion IsLine ls → (
 unfolding file_text told numbered
 file_again n [] h = refl
 file_again n (l ∷ ls) h =
-    ap (told n) (line_again (joined l) (file_text ls) (joined_stay l (each_weaker IsPart Stay part_stays l h.0.parts))) ∙ rw (is_told l h.0.begins) (ap (λ r. record { number = n; text = joined l } ∷ r) (file_again (n + 1) ls h.1))
+    ap (told n) (line_again (joined l) (file_text ls) (joined_stay l (each_weaker IsPart Stay part_stays l h.0.parts))) ∙ rw (is_reported l h.0.begins) (ap (λ r. record { number = n; text = joined l } ∷ r) (file_again (n + 1) ls h.1))
 
 -- ---- parts that schedules are printed with
 

@@ -19,7 +19,7 @@ use Rattle.ql_slimming.specs.Answers.{IsSlimText}
 
 -- What is stable, and each replica's answers, in the last state of the written machine's run of the schedule at the least
 -- levels of the source's program; in its execution every contract holds.
-pub record TellsSlim (source file text : List ℕ) : Type 0 where
+pub record ReportsSlim (source file text : List ℕ) : Type 0 where
   pub program : Program
   pub schedule : Schedule
   pub levels : LevelLists
@@ -33,5 +33,5 @@ pub record TellsSlim (source file text : List ℕ) : Type 0 where
   pub printed : IsSlimText program schedule.objects schedule.kinds last text
 
 abbrev pub SlimSays : List ℕ → List ℕ → Status → List ℕ → Type 0
-SlimSays source file Done text = TellsSlim source file text
+SlimSays source file Done text = ReportsSlim source file text
 SlimSays source file status text = NoRunSays source file status text

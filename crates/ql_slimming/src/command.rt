@@ -6,7 +6,7 @@ ghost use Rattle.ql_schedule.specs.Files.{IsScheduleFile};
 ghost use Rattle.ql_schedule.specs.Guarantees.{IsSchedule};
 ghost use Rattle.ql_slimming.specs.Answers.{IsSlimText, kept_line};
 ghost use Rattle.ql_runs.specs.Keeping.{FitsSchedule};
-ghost use Rattle.ql_slimming.specs.Slims.{SlimSays, TellsSlim};
+ghost use Rattle.ql_slimming.specs.Slims.{SlimSays, ReportsSlim};
 
 use crate::answers::{Left, push_answers};
 use crate::keeping::{keep_stable, kept_effects};
@@ -43,7 +43,7 @@ fn text_of(alloc: Global, input: RunInput) -> Result<Vec<u8>, NoMemory>
     ensures { IfOk result
         (λ text. (source file : List ℕ) → IsSourceOf source input.typed.program
         → IsScheduleFile input.typed.program (ahead_from 1 file) input.schedule
-        → TellsSlim source file text.items) }
+        → ReportsSlim source file text.items) }
 {
     let RunInput {
         typed,

@@ -80,8 +80,8 @@ fn numbered(alloc: Global, row: &str) -> Result<Vec<u8>, NoMemory> {
     let mut operations = Names::new(alloc);
     let mut out = Vec::new(alloc);
     for text in row.split("; ") {
-        let told = resolution(alloc, text, false, &mut operations)?;
-        push_bytes(&mut out, &told)?;
+        let reported = resolution(alloc, text, false, &mut operations)?;
+        push_bytes(&mut out, &reported)?;
         push_bytes(&mut out, b", ")?;
     }
     for index in 0..operations.len() {

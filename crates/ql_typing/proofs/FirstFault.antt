@@ -2,7 +2,7 @@ use Rattle.std.proofs.Common.{◌≡◌, ◌≤◌, ◌+◌, ◌*◌, ℕ, Bool,
 use Rattle.std.proofs.lemmas.Bool.Decides.{nat_tests}
 use Rattle.ql_typing.specs.declared.fault.TypeFault.{TypeFault}
 use Rattle.ql_typing.specs.declared.fault.TypeFault.TheVariants.{Unknown, Twice, Kind, TooMany, TxnClosure, Variables, TxnAtom, NoMemory}
-use Rattle.ql_typing.specs.Faults.{fault_place, rule_of, stands_before, earlier, first_fault, IsRefusal, IsFirstOf, TellsFirst}
+use Rattle.ql_typing.specs.Faults.{fault_place, rule_of, stands_before, earlier, first_fault, IsRefusal, IsFirstOf, ReportsFirst}
 
 rule_small : (f : TypeFault) → rule_of f ≤ 7
 rule_small (Unknown at) = omega arith
@@ -179,8 +179,8 @@ is_first_of (g ∷ gs) f h = by (λ m n. is_first_of gs m n) (first_fault gs) re
     by rest (Some m) n k = by_two m (rest m n) (stands_before m g) refl k
 
 -- so a refusal with the first fault tells it
-pub tells : (fs : List TypeFault) (f : TypeFault) → first_fault fs ≡ Some f → TellsFirst fs f
-unfolding TellsFirst
+pub tells : (fs : List TypeFault) (f : TypeFault) → first_fault fs ≡ Some f → ReportsFirst fs f
+unfolding ReportsFirst
 tells fs (Unknown at) h = is_first_of fs (Unknown at) h
 tells fs (Twice at) h = is_first_of fs (Twice at) h
 tells fs (Kind at) h = is_first_of fs (Kind at) h

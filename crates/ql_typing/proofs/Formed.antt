@@ -16,7 +16,7 @@ use Rattle.ql_typing.specs.Faults.{each, names_met, repeats, unless}
 use Rattle.ql_typing.specs.ContractFaults.{choice_faults, contract_faults, extra_var, is_closure, op_faults, point_faults, prop_faults, rel_faults, var_names}
 use Rattle.ql_typing.specs.Resolved.{choice_of, number_in, resolved_in, statement_in, term_of, with_numbers}
 use Rattle.ql_typing.specs.WellFormed.{AreBelow, AreChoicesOf, AreTermsOf, HasNoClosure, HasNoTxn, IsBodyOf, IsOpContract, IsPlain, IsTermOf, IsTxnContract}
-use Rattle.ql_typing.proofs.Parts.{distinct_met, few_each, left_none, right_none, told_false, told_true}
+use Rattle.ql_typing.proofs.Parts.{distinct_met, few_each, left_none, right_none, reported_false, reported_true}
 
 -- a known name has a number below the count of names
 pub number_below : (names : List (List ℕ)) (w : List ℕ) → has_name names w ≡ true → number_in names w < length names
@@ -32,8 +32,8 @@ number_below (x ∷ xs) w known = by (place (x ∷ xs) w) refl
 module _ (for_txn : Bool) (vars : List (List ℕ)) where
   term_in : (p : Point) → point_faults for_txn vars p ≡ [] → IsTermOf (length vars) (not for_txn) (term_of vars p)
   unfolding point_faults term_of
-  term_in (CurAt at) h = ap not (told_false for_txn (Unknown at) h)
-  term_in (Named n) h = number_below vars n.word (told_true (has_name vars n.word) (Unknown n.at) h)
+  term_in (CurAt at) h = ap not (reported_false for_txn (Unknown at) h)
+  term_in (Named n) h = number_below vars n.word (reported_true (has_name vars n.word) (Unknown n.at) h)
 
   terms_in : (ps : List Point) → each (point_faults for_txn vars) ps ≡ [] → AreTermsOf (length vars) (not for_txn) (map (term_of vars) ps)
   unfolding each
@@ -68,7 +68,7 @@ no_txn_in vars (InTxn at members others) h =
 -- a transaction's contract has no closures
 plain_in : (r : Relation) → rel_faults true r ≡ [] → IsPlain r
 unfolding rel_faults
-plain_in (Basic name at) h = told_false (is_closure name) (TxnClosure at) h
+plain_in (Basic name at) h = reported_false (is_closure name) (TxnClosure at) h
 plain_in (Union a b) h = (plain_in a (left_none _ _ h), plain_in b (right_none (rel_faults true a) _ h))
 plain_in (Intersection a b) h = (plain_in a (left_none _ _ h), plain_in b (right_none (rel_faults true a) _ h))
 
@@ -96,7 +96,7 @@ module _ (words : List (List ℕ)) where
   unfolding each op_faults with_numbers
   numbers_below ids [] all h = all
   numbers_below ids (n ∷ ns) all h =
-      let known = told_true (has_name words n.word) (Unknown n.at) (left_none _ _ h) in
+      let known = reported_true (has_name words n.word) (Unknown n.at) (left_none _ _ h) in
       numbers_below (with_id ids (number_in words n.word)) ns (below-with_id (length words) (number_in words n.word) ids (number_below words n.word known) all)
       (right_none (unless (has_name words n.word) (Unknown n.at)) _ h)
 

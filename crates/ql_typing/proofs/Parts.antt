@@ -29,15 +29,15 @@ none_indeed (x ∷ xs) h =
     let no : ⊥ = ∥∥₁_elim h (λ a b. absurd a) (λ e. cc) in
     absurd no
 
-pub told_false : (b : Bool) (f : TypeFault) → where_so b f ≡ [] → b ≡ false
-told_false false f h = refl
-told_false true f h =
+pub reported_false : (b : Bool) (f : TypeFault) → where_so b f ≡ [] → b ≡ false
+reported_false false f h = refl
+reported_false true f h =
     let no : ⊥ = cc in
     absurd no
 
-pub told_true : (b : Bool) (f : TypeFault) → unless b f ≡ [] → b ≡ true
-told_true true f h = refl
-told_true false f h =
+pub reported_true : (b : Bool) (f : TypeFault) → unless b f ≡ [] → b ≡ true
+reported_true true f h = refl
+reported_true false f h =
     let no : ⊥ = cc in
     absurd no
 
@@ -85,7 +85,7 @@ pub distinct_met : (before : List (List ℕ)) (ns : List Name) → repeats befor
 unfolding repeats names_met
 distinct_met before [] h = sym (append-nil before)
 distinct_met before (n ∷ ns) h =
-    let new : has_name before n.word ≡ false = told_false (has_name before n.word) (Twice n.at) (left_none _ _ h) in
+    let new : has_name before n.word ≡ false = reported_false (has_name before n.word) (Twice n.at) (left_none _ _ h) in
     let rest = distinct_met (with_name before n.word) ns (right_none _ _ h) in
     rest ∙ rw new (append_assoc before (n.word ∷ []) (map (λ m. m.word) ns))
 

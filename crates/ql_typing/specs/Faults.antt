@@ -52,9 +52,9 @@ pub record IsFirstOf (faults : List TypeFault) (f : TypeFault) : Type 0 where
   pub none_before : All (λ g. stands_before g f ≡ false) faults
 
 -- a refusal reports that memory ran out, or a fault before which none comes
-unfoldable pub TellsFirst : List TypeFault → TypeFault → Type 0
-TellsFirst faults NoMemory = Unit {0}
-TellsFirst faults f = IsFirstOf faults f
+unfoldable pub ReportsFirst : List TypeFault → TypeFault → Type 0
+ReportsFirst faults NoMemory = Unit {0}
+ReportsFirst faults f = IsFirstOf faults f
 
 -- the fault f if b is false
 abbrev pub unless : Bool → TypeFault → List TypeFault

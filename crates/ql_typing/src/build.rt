@@ -2,7 +2,7 @@ ghost use Rattle.std.specs.Prelude.{◌≡◌, ◌<◌, ◌≤◌, ◌^◌, [], 
 ghost use Rattle.ql_base.specs.Numbering.{with_name};
 ghost use Rattle.ql_lang.specs.Formulas.{resolved_of, statement_of};
 ghost use Rattle.ql_lang.specs.Trees.{proposition_of, relation_of, sentence_of};
-ghost use Rattle.ql_typing.specs.Faults.{IsRefusal, TellsFirst, names_met};
+ghost use Rattle.ql_typing.specs.Faults.{IsRefusal, ReportsFirst, names_met};
 ghost use Rattle.ql_typing.specs.ContractFaults.{contract_faults, var_names};
 ghost use Rattle.ql_typing.specs.Resolved.{choice_of, number_in, ops_met, resolved_in, statement_in, term_of, with_numbers};
 
@@ -16,7 +16,7 @@ use ql_lang::{
 use std::alloc::Global;
 
 /// The formula of a contract. An operation's number is its index in `ops`, to which new ones are appended.
-#[tactic(auto, unfolding(crate::specs::Faults::IsRefusal, crate::specs::Faults::TellsFirst))]
+#[tactic(auto, unfolding(crate::specs::Faults::IsRefusal, crate::specs::Faults::ReportsFirst))]
 pub fn resolve(
     alloc: Global,
     contract: &Contract,
@@ -31,7 +31,7 @@ pub fn resolve(
     ensures refused { IfErr result
         (IsRefusal (contract_faults None for_txn (sentence_of contract.now))) }
     ensures first { IfErr result
-        (TellsFirst (contract_faults None for_txn (sentence_of contract.now))) }
+        (ReportsFirst (contract_faults None for_txn (sentence_of contract.now))) }
     ensures kept { OnErr result (ops.new ≡ ops.old) }
 {
     let Ok(checked) = check_contract(alloc, contract, None, for_txn) else {

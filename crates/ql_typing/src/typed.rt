@@ -2,7 +2,7 @@ ghost use Rattle.std.specs.Prelude.{◌≡◌, ◌<◌, ◌≤◌, ◌^◌, [], 
 ghost use Rattle.ql_lang.specs.Formulas.{resolved_of};
 ghost use Rattle.std.specs.List.{list_any};
 ghost use Rattle.std.specs.Str.{bytes_eq};
-ghost use Rattle.ql_typing.specs.Faults.{IsRefusal, TellsFirst, names_met};
+ghost use Rattle.ql_typing.specs.Faults.{IsRefusal, ReportsFirst, names_met};
 ghost use Rattle.ql_typing.specs.Lookups.{txn_place, type_place};
 ghost use Rattle.ql_typing.specs.Operations.{all_ops, op_contracts, op_kinds, op_place, op_words, txn_contracts, uses_op};
 ghost use Rattle.ql_typing.specs.Programs.{op_names, program_faults};
@@ -33,12 +33,12 @@ pub struct Typed {
 
 /// The program as a well-typed one, or its first fault: the one at the lowest source offset, and there of the lowest
 /// rule.
-#[tactic(auto, unfolding(crate::specs::Faults::IsRefusal, crate::specs::Faults::TellsFirst))]
+#[tactic(auto, unfolding(crate::specs::Faults::IsRefusal, crate::specs::Faults::ReportsFirst))]
 pub fn typecheck(alloc: Global, program: Program) -> Result<Typed, TypeFault>
     ensures typed { OnOk result (program_faults program ≡ []) }
     ensures same { IfOk result (λ typed. typed.program ≡ program) }
     ensures refused { IfErr result (IsRefusal (program_faults program)) }
-    ensures first { IfErr result (TellsFirst (program_faults program)) }
+    ensures first { IfErr result (ReportsFirst (program_faults program)) }
 {
     let Ok(fault) = program_fault(alloc, &program) else {
         return Err(TypeFault::NoMemory);

@@ -5,7 +5,7 @@ use Rattle.ql_commands.specs.Sources.{IsSourceOf}
 use Rattle.ql_exec.specs.declared.effect.Effect.{Effect}
 use Rattle.ql_execution_files.specs.ExecutionFile.{FirstExecutionFault, IsExecutionFile}
 use Rattle.ql_execution_files.specs.declared.report_fault.ReportFault.{ReportFault}
-use Rattle.ql_judging.specs.Verify.{VerifySays, VerifyTells}
+use Rattle.ql_judging.specs.Verify.{VerifySays, VerifyReports}
 use Rattle.ql_reply.specs.declared.status.Status.{Status}
 use Rattle.ql_reply.specs.declared.status.Status.TheVariants.{Done, No, Bad, ReadFault, WriteFault, Usage, TooLarge}
 use Rattle.ql_lang.specs.Formulas.{Resolved}
@@ -19,7 +19,7 @@ use Rattle.ql_printed_runs.specs.Printable.{IsPrintable}
 use Rattle.ql_printed_runs.specs.Renumbered.{IsRenumbered}
 use Rattle.ql_run_text.specs.RunTexts.{run_text}
 use Rattle.ql_running.specs.Forms.{IsRunText}
-use Rattle.ql_running.specs.Runs.{TellsRun}
+use Rattle.ql_running.specs.Runs.{ReportsRun}
 use Rattle.ql_verify.specs.Verdicts.{IsVerdict}
 use Rattle.ql_verify.specs.declared.breach.Breach.{Breach}
 use Rattle.ql_verify.specs.declared.breach.Breach.TheVariants.{AtOp, AtTxn}
@@ -55,13 +55,13 @@ module _ (tree : (bytes : List ℕ) (s t : Source) → IsProgramText bytes s →
   same-as : (q : Program) → IsSourceOf source q → source_of p ≡ source_of q
   same-as q is_q = tree source (source_of p) (source_of q) is.0 is_q.0
 
-  never-fails : (said : List ℕ) → VerifyTells source text No said → ⊥
-  never-fails said tells =
-      let q = tells.0 in
-      let same = same-as q tells.1 in
-      let x = tells.2 in
-      let here : y ≡ x = one q (ahead_from 1 text) y x (same-execution p q same (ahead_from 1 text) y read) tells.3 in
-      let says = tells.4 in
+  never-fails : (said : List ℕ) → VerifyReports source text No said → ⊥
+  never-fails said reports =
+      let q = reports.0 in
+      let same = same-as q reports.1 in
+      let x = reports.2 in
+      let here : y ≡ x = one q (ahead_from 1 text) y x (same-execution p q same (ahead_from 1 text) y read) reports.3 in
+      let says = reports.4 in
       no-breach q x (subst (λ (z : List Effect). IsVerdict q z None) here (verdict-of p q y same holds)) says.1 says.2
 
   judged-so : (said : List ℕ) (j : Status) → VerifySays source text j said → (j ≡ Done) ⊎ (j ≡ TooLarge)
@@ -80,12 +80,12 @@ pub run-judged : ((bytes : List ℕ) (s t : Source) → IsProgramText bytes s �
     → ((p : Program) (file : Ahead) (x : List Effect) (f : ReportFault) → IsExecutionFile p file x → FirstExecutionFault p file f → ⊥)
     → ((p : Program) (objects : List (List ℕ)) (levels : LevelLists) (replies : List Reply) (x : List Effect) → IsPrintable p objects x
     → (y : List Effect) × IsRenumbered x y × IsExecutionFile p (ahead_from 1 (run_text p objects levels replies x)) y)
-    → (source schedule text said : List ℕ) (j : Status) (tells : TellsRun IsRunText source schedule text) → IsPrintable tells.program tells.schedule.objects tells.prints.last.effects
+    → (source schedule text said : List ℕ) (j : Status) (reports : ReportsRun IsRunText source schedule text) → IsPrintable reports.program reports.schedule.objects reports.prints.last.effects
     → VerifySays source text j said → (j ≡ Done) ⊎ (j ≡ TooLarge)
-run-judged tree one apart again source schedule text said j tells printable says =
-    let p = tells.program in
-    let run = tells.prints in
+run-judged tree one apart again source schedule text said j reports printable says =
+    let p = reports.program in
+    let run = reports.prints in
     let x = run.last.effects in
-    let read = again p tells.schedule.objects tells.levels run.replies x printable in
+    let read = again p reports.schedule.objects reports.levels run.replies x printable in
     let file = subst (λ (t : List ℕ). IsExecutionFile p (ahead_from 1 t) read.0) (sym run.printed.written) read.2 in
-    judged-so tree one apart source text p tells.is_source read.0 file (sound-verdict p x read.0 printable.execution run.sound read.1) said j says
+    judged-so tree one apart source text p reports.is_source read.0 file (sound-verdict p x read.0 printable.execution run.sound read.1) said j says

@@ -16,7 +16,7 @@ use Rattle.ql_machine_laws.proofs.Runs.{kept}
 use Rattle.ql_printed_runs.specs.Printable.{AreObjects, FitsMember, IsPrintable, IsWritable}
 use Rattle.ql_run_text.specs.EffectTexts.{IsDeclared}
 use Rattle.ql_running.specs.Forms.{IsRunText}
-use Rattle.ql_running.specs.Runs.{TellsRun}
+use Rattle.ql_running.specs.Runs.{ReportsRun}
 use Rattle.ql_schedule.proofs.ObjectNames.{file_names, found_by_name}
 use Rattle.ql_schedule.proofs.Sound.{file_sound}
 use Rattle.ql_schedule.specs.Spelled.{AreNew}
@@ -42,14 +42,14 @@ objects-apart objects new = record {
       ap (λ (k : Option ℕ). unwrap_or k 0) one);
 }
 
-pub run-printable : (source file text : List ℕ) (told : TellsRun IsRunText source file text) → IsPrintable told.program told.schedule.objects told.prints.last.effects
-run-printable source file text told =
-    let p = told.program in
-    let s = told.schedule in
-    let run = told.prints in
+pub run-printable : (source file text : List ℕ) (reported : ReportsRun IsRunText source file text) → IsPrintable reported.program reported.schedule.objects reported.prints.last.effects
+run-printable source file text reported =
+    let p = reported.program in
+    let s = reported.schedule in
+    let run = reported.prints in
     let x = run.last.effects in
-    let rules = rules_of p told.levels in
-    let lawful = file_sound p (ahead_from 1 file) s told.is_schedule in
+    let rules = rules_of p reported.levels in
+    let lawful = file_sound p (ahead_from 1 file) s reported.is_schedule in
     let made : Keeps p (length s.objects) s.kinds (length s.events) x run.last.open_txns run.last.begun =
     run-keeps p (length s.objects) s.kinds rules s.replicas s.events run.replies run.last run.run lawful.events in
     let events = lawful.few_events in
@@ -58,8 +58,8 @@ run-printable source file text told =
     let begun : run.last.begun ≤ 4000 = omega (arith, events, few_begun) in
     let each = λ (k : ℕ) (d : Effect) (less : k < length x). made.made (suc k) (get_or x k d) (slice_get-get_or x k d less) in
     record {
-      names = finds-names source p told.is_source;
-      distinct = objects-apart s.objects (file_names p (ahead_from 1 file) s told.is_schedule);
+      names = finds-names source p reported.is_source;
+      distinct = objects-apart s.objects (file_names p (ahead_from 1 file) s reported.is_schedule);
       execution = (kept rules s.replicas s.events run.replies run.last run.run).sound.execution;
       few = omega (arith, events, few);
       named = λ k d less. record {

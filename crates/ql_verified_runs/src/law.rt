@@ -10,7 +10,7 @@ ghost use Rattle.ql_machine_laws.specs.Promised.{AllArrived};
 ghost use Rattle.ql_printed_runs.specs.Printable.{IsPrintable};
 ghost use Rattle.ql_printed_runs.specs.Renumbered.{IsRenumbered};
 ghost use Rattle.ql_running.specs.Forms.{IsRunText};
-ghost use Rattle.ql_running.specs.Runs.{TellsRun};
+ghost use Rattle.ql_running.specs.Runs.{ReportsRun};
 ghost use Rattle.ql_verified_runs.specs.Agreement.{Agree};
 
 use ql_execution_files::one_execution;
@@ -30,15 +30,15 @@ pub fn object_numbers_are_names()
 /// The execution that the text of a run shows can be printed and read again: operations, transactions and objects are found
 /// by their names, all numbers fit, and all values are of the grammar.
 pub fn runs_can_be_printed()
-    ensures { (source schedule text : List ℕ) (told : TellsRun IsRunText source schedule text)
-        → IsPrintable told.program told.schedule.objects told.prints.last.effects }
+    ensures { (source schedule text : List ℕ) (reported : ReportsRun IsRunText source schedule text)
+        → IsPrintable reported.program reported.schedule.objects reported.prints.last.effects }
 {}
 
 /// Of a source and the text that `run` printed of it, `verify` says that all contracts hold, or that judging them is too
 /// much work.
 pub fn printed_runs_hold()
     ensures { (source schedule text said : List ℕ) (status : Status)
-        → TellsRun IsRunText source schedule text
+        → ReportsRun IsRunText source schedule text
         → VerifySays source text status said → (status ≡ Done) ⊎ (status ≡ TooLarge) }
 {
     runs_can_be_printed();
@@ -49,9 +49,9 @@ pub fn printed_runs_hold()
 
 /// Agreement, of the run that a text shows: where every package was received, the replicas agree.
 pub fn replicas_of_runs_agree()
-    ensures { (source schedule text : List ℕ) (told : TellsRun IsRunText source schedule text)
-        → AllArrived told.prints.last
-        → Agree (rules_of told.program told.levels) told.schedule.replicas told.prints.last }
+    ensures { (source schedule text : List ℕ) (reported : ReportsRun IsRunText source schedule text)
+        → AllArrived reported.prints.last
+        → Agree (rules_of reported.program reported.levels) reported.schedule.replicas reported.prints.last }
 {
     replicas_agree();
 }

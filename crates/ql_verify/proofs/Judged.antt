@@ -125,8 +125,8 @@ module _ (x : List Effect) (f : Resolved) where
   first_at runs i places lt false_of l = first_left runs (get_or runs i 0) (drop (suc i) runs) places false_of (subst (Left runs) (drop-cons runs i 0 lt) l)
 
 -- declared transactions
-abbrev pub Tells : List Effect → Resolved → List ℕ → Option Found → Type 0
-Tells x f runs found = MatchOption found (AllHold x f runs) (λ first. IsFirstOf x f runs first.0.0 (map (λ id. id.0) first.1))
+abbrev pub Reports : List Effect → Resolved → List ℕ → Option Found → Type 0
+Reports x f runs found = MatchOption found (AllHold x f runs) (λ first. IsFirstOf x f runs first.0.0 (map (λ id. id.0) first.1))
 
 module _ (p : Program) (x : List Effect) where
   pub none_below : IsFirstBelow p x 0 None
@@ -147,7 +147,7 @@ module _ (p : Program) (x : List Effect) where
             let same : f ≡ g = let there : slice_get (txn_contracts p) d ≡ Some g = subst (λ n. slice_get (txn_contracts p) n ≡ Some g) here at in cc in
             subst (λ h. HoldsTxn x h run) same (own run (subst (λ n. has_id (runs_of x n) run ≡ true) here begun) ahead)
 
-    pub more_below : (first found : Option Found) → Tells x f (runs_of x d) found → IsFirstBelow p x d first → IsFirstBelow p x (d + 1) (earlier first found)
+    pub more_below : (first found : Option Found) → Reports x f (runs_of x d) found → IsFirstBelow p x d first → IsFirstBelow p x (d + 1) (earlier first found)
     more_below None None h l = further None None tt (λ run a. a) (λ run begun a. h run begun) l
     more_below None (Some b) h l = further (Some b) None (false_of b h) (λ run a. tt) (λ run begun a. h.below run a begun) l
     more_below (Some a) None h l = further (Some a) (Some a) l.found (λ run q. q) (λ run begun q. h run begun) l

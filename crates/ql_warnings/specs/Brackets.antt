@@ -43,16 +43,16 @@ met Joins zero from None = Some from
 met sign depth from found = found
 
 -- what was met, if the search ends at an `=>`
-abbrev pub told : Sign → Option ℕ → Option ℕ
-told Arrow found = found
-told sign found = None
+abbrev pub reported : Sign → Option ℕ → Option ℕ
+reported Arrow found = found
+reported sign found = None
 
 -- the offset of the first `/\` or `\/` before the next `=>`, both outside brackets, if that comes before the end of the
 -- enclosing brackets and of the contract
 abbrev pub joined : List ℕ → ℕ → Option ℕ → List Token → Option ℕ
 joined source depth found [] = None
 joined source depth found (t ∷ ts) =
-    option_map_or (λ d. joined source d (met (sign_of (word_of source t)) depth t.from found) ts) (deeper (sign_of (word_of source t)) depth) (told (sign_of (word_of source t)) found)
+    option_map_or (λ d. joined source d (met (sign_of (word_of source t)) depth t.from found) ts) (deeper (sign_of (word_of source t)) depth) (reported (sign_of (word_of source t)) found)
 
 -- the token at an index is an `=>` at or after an offset of the source, and this is the offset of the `/\` or `\/`
 -- between it and the next `=>`

@@ -7,7 +7,7 @@ ghost use Rattle.ql_warnings.specs.Places.{IsPlaceOf};
 ghost use Rattle.ql_warnings.specs.declared.unbracketed.Sign.TheVariants.{Arrow};
 ghost use Rattle.ql_warnings.specs.declared.warning.Place.{Place};
 ghost use Rattle.std.specs.Str.{bytes_eq};
-ghost use Rattle.ql_warnings.specs.Brackets.{IsJoinedTo, closes, deeper, joined, joins, met, opens, sign_of, told, word_of};
+ghost use Rattle.ql_warnings.specs.Brackets.{IsJoinedTo, closes, deeper, joined, joins, met, opens, sign_of, reported, word_of};
 
 use crate::place::place_in;
 use crate::warning::{Place, Warning};
@@ -203,7 +203,7 @@ fn joined(
             let next = met(sign, depth, token.from, found);
             joined(source, tokens, k + 1, inside, next)
         }
-        None => told(sign, found),
+        None => reported(sign, found),
     }
 }
 
@@ -255,8 +255,8 @@ fn met(sign: Sign, depth: usize, from: u32, found: Option<u32>) -> Option<u32>
 }
 
 // What was found, if the search ends at an `=>`.
-fn told(sign: Sign, found: Option<u32>) -> Option<u32>
-    ensures { result ≡ told sign found }
+fn reported(sign: Sign, found: Option<u32>) -> Option<u32>
+    ensures { result ≡ reported sign found }
 {
     match sign {
         Sign::Arrow => found,

@@ -6,7 +6,7 @@ use Rattle.std.proofs.lemmas.Option.{get_or_from_slice_get, slice_get_within}
 use Rattle.ql_classify.specs.Targets.{goals_below}
 use Rattle.ql_ground.specs.declared.goal.Goal.{Goal}
 use Rattle.ql_lang.specs.declared.program.Program.{Program}
-use Rattle.ql_why.specs.Why.{Appended, InTurn, IsCounterText, IsStepText, TellsTarget, target_line}
+use Rattle.ql_why.specs.Why.{Appended, InTurn, IsCounterText, IsStepText, ReportsTarget, target_line}
 use Rattle.ql_why.proofs.Lower.{few_below}
 
 module _ {X : Type 0} (Says : X → List ℕ → Type 0) where
@@ -37,10 +37,10 @@ module _ (p : Program) where
   three-steps [] a b c l none more most = ap (λ (z : List ℕ). z ++ (b ++ c)) none ∙ ap (λ (z : List ℕ). z ++ c) more ∙ most
   three-steps (g ∷ goals) a b c l first second third = (a, b ++ c, first, two-steps goals b c (omega (arith, l)) second third, refl)
 
-  pub target_told : (g : Goal) (out lined first second last : List ℕ) → lined ≡ out ++ target_line p g
+  pub target_reported : (g : Goal) (out lined first second last : List ℕ) → lined ≡ out ++ target_line p g
       → Appended (IsStepText p (slice_get (goals_below g) 0)) lined first → Appended (IsStepText p (slice_get (goals_below g) 1)) first second
-      → Appended (IsStepText p (slice_get (goals_below g) 2)) second last → Appended (TellsTarget p g) out last
-  target_told g out lined first second last line (a, lowest, e) (b, next, f) (c, highest, h) =
+      → Appended (IsStepText p (slice_get (goals_below g) 2)) second last → Appended (ReportsTarget p g) out last
+  target_reported g out lined first second last line (a, lowest, e) (b, next, f) (c, highest, h) =
       let counters = a ++ (b ++ c) in (
         target_line p g ++ counters,
         (counters, three-steps (goals_below g) a b c (few_below g) lowest next highest, refl),

@@ -74,8 +74,8 @@ InTurn Says [] text = text ≡ []
 InTurn Says (x ∷ xs) text = (first : List ℕ) × (others : List ℕ) × Says x first × InTurn Says xs others × (text ≡ first ++ others)
 
 -- a target's line, and a countermodel for each level below its own, the lowest first
-abbrev pub TellsTarget : Program → Goal → List ℕ → Type 0
-TellsTarget p g text = (counters : List ℕ) × InTurn (IsCounterText p) (goals_below g) counters × (text ≡ target_line p g ++ counters)
+abbrev pub ReportsTarget : Program → Goal → List ℕ → Type 0
+ReportsTarget p g text = (counters : List ℕ) × InTurn (IsCounterText p) (goals_below g) counters × (text ≡ target_line p g ++ counters)
 
 -- after a refusal: a countermodel of the highest level, where that isn't enough
 abbrev pub IsTopText : Program → Classless → List ℕ → Type 0
@@ -84,13 +84,13 @@ IsTopText p (StrongInTxn d o) text = text ≡ []
 IsTopText p NoMemory text = text ≡ []
 
 -- the text reports the first test that fails
-abbrev pub TellsRefusal : Program → List ℕ → Type 0
-TellsRefusal p text =
+abbrev pub ReportsRefusal : Program → List ℕ → Type 0
+ReportsRefusal p text =
     (e : Classless) × FirstFails p (all_tests p) e × (counter : List ℕ) × IsTopText p e counter × (text ≡ refusal_text p e ++ counter)
 
 abbrev pub WhySays : List ℕ → Status → List ℕ → Type 0
-WhySays bytes Done text = (p : Program) × IsSourceOf bytes p × (levels : LevelLists) × AreLevelsOf p levels × InTurn (TellsTarget p) (goals_at levels) text
-WhySays bytes No text = (p : Program) × IsSourceOf bytes p × TellsRefusal p text
+WhySays bytes Done text = (p : Program) × IsSourceOf bytes p × (levels : LevelLists) × AreLevelsOf p levels × InTurn (ReportsTarget p) (goals_at levels) text
+WhySays bytes No text = (p : Program) × IsSourceOf bytes p × ReportsRefusal p text
 WhySays bytes Bad text = BadSourceSays bytes text
 WhySays bytes _ text = ⊥
 

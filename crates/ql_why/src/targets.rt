@@ -4,7 +4,7 @@ ghost use Rattle.ql_classify.specs.Targets.{goals_at, goals_below, targets};
 ghost use Rattle.ql_classify.specs.Least.{AreLevelsOf};
 ghost use Rattle.ql_ground.specs.OfPrograms.{IsGoalOf};
 ghost use Rattle.ql_typing.specs.Operations.{all_ops};
-ghost use Rattle.ql_why.specs.Why.{Appended, InTurn, IsStepText, TellsTarget, why_op_line, target_line, why_txn_line};
+ghost use Rattle.ql_why.specs.Why.{Appended, InTurn, IsStepText, ReportsTarget, why_op_line, target_line, why_txn_line};
 
 use crate::counter_text::push_countermodel;
 use crate::goals::{goal_of, lower_goal};
@@ -22,7 +22,7 @@ pub(crate) fn levels_with_reasons(
 ) -> Result<Vec<u8>, NoMemory>
     ensures levels { OnOk result (AreLevelsOf classified.now.program classified.now.levels) }
     ensures text { IfOk result
-        (λ text. InTurn (TellsTarget classified.now.program) (goals_at classified.now.levels)
+        (λ text. InTurn (ReportsTarget classified.now.program) (goals_at classified.now.levels)
         text.items) }
 {
     let typed = classified.typed();
@@ -47,7 +47,7 @@ fn push_target(
     requires at { slice_get (goals_at classified.now.levels) target ≡ Some g }
     requires known { IsGoalOf classified.now.program g }
     ensures { OnOk result
-        (Appended (TellsTarget classified.now.program g) out.old.items out.new.items) }
+        (Appended (ReportsTarget classified.now.program g) out.old.items out.new.items) }
 {
     push_target_line(out, classified.typed(), g)?;
     push_step(alloc, out, classified, target, g, 0)?;

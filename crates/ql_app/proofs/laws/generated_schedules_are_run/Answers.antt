@@ -24,6 +24,6 @@ returns-clause-accepted c = λ source file text number events form status in_ran
     runs source file text form status (c.generated_schedules_are_read.ensures.accepted source file number events generates in_range.1) says
 
 pub returns-clause-shown : goal.returns-clause-shown
-returns-clause-shown c = λ source file text number events form in_range generates told.
-    c.one_schedule.ensures.one told.program (ahead_from 1 file) told.schedule (generated told.program number events) told.is_schedule
-    (c.generated_schedules_are_read.ensures.read source file number events told.program generates in_range.1 told.is_source)
+returns-clause-shown c = λ source file text number events form in_range generates reported.
+    c.one_schedule.ensures.one reported.program (ahead_from 1 file) reported.schedule (generated reported.program number events) reported.is_schedule
+    (c.generated_schedules_are_read.ensures.read source file number events reported.program generates in_range.1 reported.is_source)

@@ -1,6 +1,6 @@
 use Rattle.std.proofs.Common.{inr}
 use Rattle.std.proofs.lemmas.Result.{IfOk-weaker}
-use Rattle.ql_commands.proofs.Telling.{cert_is_bad, check_says}
+use Rattle.ql_commands.proofs.Report.{cert_is_bad, check_says}
 use Rattle.ql_commands.proofs.judgement.check.Goals as goal
 
 pub returns-in-Err-parse_cert : goal.returns-in-Err-parse_cert

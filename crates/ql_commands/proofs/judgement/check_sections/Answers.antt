@@ -1,5 +1,5 @@
 use Rattle.ql_commands.proofs.Expected.{expected_from}
-use Rattle.ql_commands.proofs.Telling.{sections_say}
+use Rattle.ql_commands.proofs.Report.{sections_say}
 use Rattle.ql_commands.proofs.judgement.check_sections.Goals as goal
 
 pub push_sections-requires-clause-expected : goal.push_sections-requires-clause-expected

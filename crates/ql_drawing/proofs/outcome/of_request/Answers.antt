@@ -1,6 +1,6 @@
 use Rattle.std.proofs.Common.{Err, ap, inl, refl}
 use Rattle.ql_drawing.specs.Words.{asked_of}
-use Rattle.ql_drawing.proofs.Telling.{one_unread, said_sooner}
+use Rattle.ql_drawing.proofs.Report.{one_unread, said_sooner}
 use Rattle.ql_drawing.proofs.outcome.of_request.Goals as goal
 
 pub returns-in-Ok-clause-says : goal.returns-in-Ok-clause-says

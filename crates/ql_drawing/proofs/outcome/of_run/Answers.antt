@@ -1,5 +1,5 @@
 use Rattle.ql_drawing.specs.Words.{asked_of}
-use Rattle.ql_drawing.proofs.Telling.{one_answer}
+use Rattle.ql_drawing.proofs.Report.{one_answer}
 use Rattle.ql_drawing.proofs.outcome.of_run.Goals as goal
 
 pub returns-in-None-clause-says : goal.returns-in-None-clause-says

@@ -1,6 +1,6 @@
 use Rattle.std.proofs.Common.{Err, ap, inr, refl}
 use Rattle.ql_drawing.specs.Words.{asked_of}
-use Rattle.ql_drawing.proofs.Telling.{one_answer, one_unread}
+use Rattle.ql_drawing.proofs.Report.{one_answer, one_unread}
 use Rattle.ql_drawing.proofs.outcome.with_schedule.Goals as goal
 
 pub returns-in-Ok-clause-says : goal.returns-in-Ok-clause-says

@@ -2,7 +2,7 @@ use Rattle.std.proofs.Common.{◌≡◌, ◌≤◌, ℕ, List, Err, ap, arith, i
 use Rattle.std.specs.Prelude.{IfSome}
 use Rattle.ql_explain.specs.Outcomes.{most_bytes}
 use Rattle.ql_explain.specs.Words.{Compared}
-use Rattle.ql_explain.proofs.Telling.{one_unread, said_sooner, still_whole}
+use Rattle.ql_explain.proofs.Report.{one_unread, said_sooner, still_whole}
 use Rattle.ql_explain.proofs.outcome.of_pair.Goals as goal
 
 pub with_baseline-requires-clause-held : goal.with_baseline-requires-clause-held

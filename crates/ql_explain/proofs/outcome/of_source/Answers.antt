@@ -1,6 +1,6 @@
 use Rattle.std.proofs.Common.{Err, ap, arith, refl}
 use Rattle.ql_explain.specs.Words.{Explained}
-use Rattle.ql_explain.proofs.Telling.{one_unread, source_said}
+use Rattle.ql_explain.proofs.Report.{one_unread, source_said}
 use Rattle.ql_explain.proofs.outcome.of_source.Goals as goal
 
 pub returns-in-Ok-clause-says : goal.returns-in-Ok-clause-says

@@ -1,6 +1,6 @@
 use Rattle.std.proofs.Common.{Err, ap, arith, inr, refl}
 use Rattle.ql_explain.specs.Words.{Compared}
-use Rattle.ql_explain.proofs.Telling.{one_unread, pair_said}
+use Rattle.ql_explain.proofs.Report.{one_unread, pair_said}
 use Rattle.ql_explain.proofs.outcome.with_baseline.Goals as goal
 
 pub returns-in-Ok-clause-says : goal.returns-in-Ok-clause-says

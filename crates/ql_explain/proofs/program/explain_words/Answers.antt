@@ -1,7 +1,7 @@
 use Rattle.ql_explain.specs.Outcomes.{Says}
 use Rattle.ql_explain.specs.Words.{asked}
 use Rattle.ql_reply.specs.Arguments.{word_texts}
-use Rattle.ql_explain.proofs.Telling.{never}
+use Rattle.ql_explain.proofs.Report.{never}
 use Rattle.ql_reply.proofs.Replies.{wrote}
 use Rattle.ql_explain.proofs.program.explain_words.Goals as goal
 

@@ -1,4 +1,4 @@
-use Rattle.ql_implied.proofs.Told.{all_accepted, front_accepted}
+use Rattle.ql_implied.proofs.Reported.{all_accepted, front_accepted}
 use Rattle.ql_implied.proofs.commands.accepted_lines_give_contracts.Goals as goal
 
 pub returns-clause-yes : goal.returns-clause-yes

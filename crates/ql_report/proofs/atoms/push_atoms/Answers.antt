@@ -1,14 +1,14 @@
 use Rattle.std.proofs.Common.{ℕ, List, ◌++◌, ◌∙◌, ap, codes}
 use Rattle.std.proofs.lemmas.Result.{on_ok_weaker}
 use Rattle.ql_report.specs.Atoms.{atoms_line, currents_text, operations_text, relations_text}
-use Rattle.ql_report.specs.Telling.{told_of}
+use Rattle.ql_report.specs.Report.{reported_of}
 use Rattle.ql_report.proofs.Loops.{line_pieces}
 use Rattle.ql_report.proofs.atoms.push_atoms.Goals as goal
 
 pub returns : goal.returns
 unfolding atoms_line
 returns c =
-    let t = told_of c.args.told.now in
+    let t = reported_of c.args.reported.now in
     on_ok_weaker c.push_bytes-2.result
     (λ last. last ∙ ap (λ (z : List ℕ). z ++ codes "\n")
     (c.in_ok-push_operations.ensures ∙ ap (λ (z : List ℕ). z ++ operations_text t)

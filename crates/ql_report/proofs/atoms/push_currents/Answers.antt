@@ -1,11 +1,11 @@
 use Rattle.ql_atoms.specs.declared.atoms.Atom.TheVariants.{Current}
-use Rattle.ql_report.specs.Atoms.{told_atom}
-use Rattle.ql_report.specs.Telling.{told_of}
+use Rattle.ql_report.specs.Atoms.{reported_atom}
+use Rattle.ql_report.specs.Report.{reported_of}
 use Rattle.ql_report.proofs.Loops.{none_yet, one_more}
 use Rattle.ql_report.proofs.atoms.push_currents.Goals as goal
 
 pub loop-i-init : goal.loop-i-init
-loop-i-init c = none_yet c.args.out.now.items (λ i. told_atom (told_of c.args.told.now) (Current i))
+loop-i-init c = none_yet c.args.out.now.items (λ i. reported_atom (reported_of c.args.reported.now) (Current i))
 
 pub loop-i-preserved : goal.loop-i-preserved
-loop-i-preserved c = rw (c.in_ok-push_if_true.ensures, c.loop-i.invariant) (one_more c.args.out.now.items c.loop-i.i (λ i. told_atom (told_of c.args.told.now) (Current i)))
+loop-i-preserved c = rw (c.in_ok-push_if_true.ensures, c.loop-i.invariant) (one_more c.args.out.now.items c.loop-i.i (λ i. reported_atom (reported_of c.args.reported.now) (Current i)))

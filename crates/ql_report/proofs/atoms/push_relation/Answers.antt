@@ -1,10 +1,10 @@
 use Rattle.ql_report.specs.Atoms.{row_text}
-use Rattle.ql_report.specs.Telling.{told_of}
+use Rattle.ql_report.specs.Report.{reported_of}
 use Rattle.ql_report.proofs.Loops.{none_yet, one_more}
 use Rattle.ql_report.proofs.atoms.push_relation.Goals as goal
 
 pub loop-i-init : goal.loop-i-init
-loop-i-init c = none_yet c.args.out.now.items (row_text (told_of c.args.told.now) c.args.kind)
+loop-i-init c = none_yet c.args.out.now.items (row_text (reported_of c.args.reported.now) c.args.kind)
 
 pub loop-i-preserved : goal.loop-i-preserved
-loop-i-preserved c = rw (c.in_ok-push_row.ensures, c.loop-i.invariant) (one_more c.args.out.now.items c.loop-i.i (row_text (told_of c.args.told.now) c.args.kind))
+loop-i-preserved c = rw (c.in_ok-push_row.ensures, c.loop-i.invariant) (one_more c.args.out.now.items c.loop-i.i (row_text (reported_of c.args.reported.now) c.args.kind))

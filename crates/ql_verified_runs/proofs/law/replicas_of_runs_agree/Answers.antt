@@ -2,13 +2,13 @@ use Rattle.ql_headline.specs.Stores.{rules_of}
 use Rattle.ql_verified_runs.proofs.law.replicas_of_runs_agree.Goals as goal
 
 pub returns : goal.returns
-returns c = λ source schedule text told arrived.
-    (let rules = rules_of told.program told.levels in
-    let n = told.schedule.replicas in
-    let events = told.schedule.events in
-    let replies = told.prints.replies in
-    let last = told.prints.last in
-    let run = told.prints.run in
+returns c = λ source schedule text reported arrived.
+    (let rules = rules_of reported.program reported.levels in
+    let n = reported.schedule.replicas in
+    let events = reported.schedule.events in
+    let replies = reported.prints.replies in
+    let last = reported.prints.last in
+    let run = reported.prints.run in
     record {
       received = c.replicas_agree.ensures.received rules n events replies last run arrived;
       applied = c.replicas_agree.ensures.applied rules n events replies last run arrived;

@@ -15,5 +15,5 @@ returns-in-Some t c =
 
 pub returns-in-None : goal.returns-in-None
 returns-in-None t c =
-    ends c.args.source.now c.args.tokens.now c.args.k c.token_at-token.result c.sign_at-sign.result c.args.depth c.args.found c.told.result
-    c.token_at-token.ensures c.sign_at-sign.ensures c.in-None.ensures.exact c.told.ensures
+    ends c.args.source.now c.args.tokens.now c.args.k c.token_at-token.result c.sign_at-sign.result c.args.depth c.args.found c.reported.result
+    c.token_at-token.ensures c.sign_at-sign.ensures c.in-None.ensures.exact c.reported.ensures

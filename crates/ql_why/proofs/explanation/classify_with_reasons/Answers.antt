@@ -2,7 +2,7 @@ use Rattle.std.proofs.Common.{subst}
 use Rattle.ql_classify.specs.Targets.{goals_at}
 use Rattle.ql_classify.specs.Least.{AreLevelsOf}
 use Rattle.ql_lang.specs.declared.program.Program.{Program}
-use Rattle.ql_why.specs.Why.{InTurn, TellsTarget}
+use Rattle.ql_why.specs.Why.{InTurn, ReportsTarget}
 use Rattle.ql_why.proofs.explanation.classify_with_reasons.Goals as goal
 
 pub returns-in-Ok-classify : goal.returns-in-Ok-classify
@@ -14,5 +14,5 @@ returns-in-Ok-classify c =
       c.in-Ok.ensures.source,
       levels,
       subst (λ (q : Program). AreLevelsOf q levels) c.in-Ok-classify.ensures.same told.levels,
-      subst (λ (q : Program). InTurn (TellsTarget q) (goals_at levels) text) c.in-Ok-classify.ensures.same told.text,
+      subst (λ (q : Program). InTurn (ReportsTarget q) (goals_at levels) text) c.in-Ok-classify.ensures.same told.text,
     )

@@ -5,7 +5,7 @@ use Rattle.ql_ground.specs.OfPrograms.{IsGoalOf}
 use Rattle.ql_lang.specs.declared.program.Program.{Program}
 use Rattle.ql_levels.specs.Lists.{LevelLists}
 use Rattle.ql_typing.specs.Operations.{all_ops}
-use Rattle.ql_why.specs.Why.{TellsTarget}
+use Rattle.ql_why.specs.Why.{ReportsTarget}
 use Rattle.ql_why.proofs.Turns.{turn_all, turn_more}
 use Rattle.ql_why.proofs.targets.levels_with_reasons.Goals as goal
 
@@ -20,7 +20,7 @@ loop-target-preserved c =
     let p = c.args.classified.now.program in
     let goals = goals_at c.args.classified.now.levels in
     let at = subst (λ (l : LevelLists). slice_get (goals_at l) c.loop-target.target ≡ Some c.goal_of-goal.result) c.levels-levels.ensures.same c.goal_of-goal.ensures.at in
-    turn_more (TellsTarget p) goals c.loop-target.target c.goal_of-goal.result c.loop-target.text.items c.push_target.new.out.items at c.loop-target.invariant c.in_ok-push_target.ensures
+    turn_more (ReportsTarget p) goals c.loop-target.target c.goal_of-goal.result c.loop-target.text.items c.push_target.new.out.items at c.loop-target.invariant c.in_ok-push_target.ensures
 
 pub returns-clause-text : goal.returns-clause-text
 returns-clause-text c =
@@ -32,4 +32,4 @@ returns-clause-text c =
     let of_ops = c.ops.ensures.count ∙ ap (λ (q : Program). length (all_ops q.types)) c.typed-typed.ensures in
     let of_txns = c.txns.ensures.count ∙ ap (λ (q : Program). length q.txns) c.typed-typed.ensures in
     let past = c.loop-target-test.false in
-    turn_all (TellsTarget p) (goals_at levels) c.loop-target.target c.loop-target.text.items (omega (arith, count, ops, txns, of_ops, of_txns, past)) c.loop-target.invariant
+    turn_all (ReportsTarget p) (goals_at levels) c.loop-target.target c.loop-target.text.items (omega (arith, count, ops, txns, of_ops, of_txns, past)) c.loop-target.invariant

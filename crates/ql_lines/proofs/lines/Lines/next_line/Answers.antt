@@ -1,15 +1,15 @@
 use Rattle.std.proofs.Common.{◌≡◌, [], ℕ, List, ap, sym, ◌∙◌, arith}
 use Rattle.std.specs.Str.Lines.{lines}
 use Rattle.std.proofs.lemmas.List.{nil_from_length}
-use Rattle.ql_lines.specs.Lines.{Ahead, told}
-use Rattle.ql_lines.proofs.LineLaws.{passes_over, tells}
+use Rattle.ql_lines.specs.Lines.{Ahead, numbered_lines}
+use Rattle.ql_lines.proofs.LineLaws.{passes_over, is_next}
 use Rattle.ql_lines.proofs.lines.Lines.next_line.Goals as goal
 
 pub returns-then-not-is_skipped-clause-line : goal.returns-then-not-is_skipped-clause-line
 returns-then-not-is_skipped-clause-line c =
     let now = c.loop-text.self-inside in
     ap (λ (a : Ahead). a.lines) (sym c.loop-text.invariant.0)
-    ∙ tells now.next now.rest.now c.in-Some.rest.now c.in-Some.text.now c.in-Some.ensures.1 (sym c.is_skipped.ensures ∙ c.if-not-is_skipped.true)
+    ∙ is_next now.next now.rest.now c.in-Some.rest.now c.in-Some.text.now c.in-Some.ensures.1 (sym c.is_skipped.ensures ∙ c.if-not-is_skipped.true)
 
 pub loop-text-preserved : goal.loop-text-preserved
 loop-text-preserved c =
@@ -20,8 +20,8 @@ loop-text-preserved c =
     )
 
 pub returns-clause-line : goal.returns-clause-line
-unfolding told
+unfolding numbered_lines
 returns-clause-line c =
     let now = c.loop-text.self-inside in
-    let none : told now.next (lines now.rest.now) ≡ [] = ap (λ (r : List ℕ). told now.next (lines r)) (nil_from_length now.rest.now c.in_default.ensures) in
+    let none : numbered_lines now.next (lines now.rest.now) ≡ [] = ap (λ (r : List ℕ). numbered_lines now.next (lines r)) (nil_from_length now.rest.now c.in_default.ensures) in
     (ap (λ (a : Ahead). a.lines) (sym c.loop-text.invariant.0) ∙ none, none)

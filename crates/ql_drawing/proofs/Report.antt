@@ -6,7 +6,7 @@ use Rattle.ql_base.specs.declared.no_memory.NoMemory.{NoMemory}
 use Rattle.ql_ports.specs.Faults.{Rose}
 use Rattle.ql_ports.specs.declared.whole.ReadError.{ReadError}
 use Rattle.ql_ports.specs.declared.whole.ReadError.TheVariants.{Failed, TooLong}
-use Rattle.ql_drawing.specs.Outcomes.{IsAnswer, IsOf, Tells, limit_of}
+use Rattle.ql_drawing.specs.Outcomes.{IsAnswer, IsOf, Reports, limit_of}
 use Rattle.ql_reply.specs.Unread.{IsUnread}
 use Rattle.ql_reply.proofs.Replies.{answer_unread, rose_before}
 use Rattle.ql_drawing.specs.Words.{Asked}
@@ -14,7 +14,7 @@ use Rattle.ql_reply.specs.declared.status.Status.{Status}
 use Rattle.ql_reply.specs.declared.status.Status.TheVariants.{Done, No, Bad, ReadFault, WriteFault, Usage, TooLarge}
 
 module _ (held : List ℕ → Option (List ℕ)) (before after : List ℕ → ℕ) (a : Asked) where
-  of_answer : (status : Status) (text : List ℕ) → IsAnswer status text → Tells held before after a status text
+  of_answer : (status : Status) (text : List ℕ) → IsAnswer status text → Reports held before after a status text
   of_answer Done text is = is
   of_answer No text is = absurd is
   of_answer Bad text is = is
@@ -24,7 +24,7 @@ module _ (held : List ℕ → Option (List ℕ)) (before after : List ℕ → �
   of_answer TooLarge text is = absurd is
 
   -- the files were read
-  pub one_answer : (answer : Result (Status × Vec ℕ) NoMemory) → IfOk answer (λ x. IsAnswer x.0 x.1.items) → IfOk answer (λ x. Tells held before after a x.0 x.1.items)
+  pub one_answer : (answer : Result (Status × Vec ℕ) NoMemory) → IfOk answer (λ x. IsAnswer x.0 x.1.items) → IfOk answer (λ x. Reports held before after a x.0 x.1.items)
   one_answer (Ok x) is = of_answer x.0 x.1.items is
   one_answer (Err e) is = tt
 
@@ -32,13 +32,13 @@ module _ (held : List ℕ → Option (List ℕ)) (before after : List ℕ → �
   pub one_unread : (name : List ℕ) (limit : ℕ) → IsOf a name → limit_of a name limit → (error : ReadError) (answer : Result (Status × Vec ℕ) NoMemory)
       → IfOk answer (λ x. IsUnread error name x.0 x.1.items)
       → (error ≡ Failed → Rose (before name) (after name)) → (error ≡ TooLong → IfSome (held name) (λ bytes. limit < length bytes))
-      → IfOk answer (λ x. Tells held before after a x.0 x.1.items)
+      → IfOk answer (λ x. Reports held before after a x.0 x.1.items)
   one_unread name limit of most error answer is f l =
-      answer_unread (Tells held before after a) name error answer is (λ text e says. (name, of, f e, says)) (λ text e says. (name, limit, most, l e, says))
+      answer_unread (Reports held before after a) name error answer is (λ text e says. (name, of, f e, says)) (λ text e says. (name, limit, most, l e, says))
 
 -- what is said after a file was read is said of both
 sooner : (held later : List ℕ → Option (List ℕ)) (before between after : List ℕ → ℕ) (a : Asked) → ((n : List ℕ) → later n ≡ held n) → ((n : List ℕ) → before n ≤ between n)
-    → (status : Status) (text : List ℕ) → Tells later between after a status text → Tells held before after a status text
+    → (status : Status) (text : List ℕ) → Reports later between after a status text → Reports held before after a status text
 sooner held later before between after a same less Done text is = is
 sooner held later before between after a same less No text is = absurd is
 sooner held later before between after a same less Bad text is = is
@@ -49,6 +49,6 @@ sooner held later before between after a same less TooLarge text is = (is.0, is.
 
 pub said_sooner : (held later : List ℕ → Option (List ℕ)) (before between after : List ℕ → ℕ) (a : Asked) (answer : Result (Status × Vec ℕ) NoMemory)
     → ((n : List ℕ) → later n ≡ held n) → ((n : List ℕ) → before n ≤ between n)
-    → IfOk answer (λ x. Tells later between after a x.0 x.1.items) → IfOk answer (λ x. Tells held before after a x.0 x.1.items)
+    → IfOk answer (λ x. Reports later between after a x.0 x.1.items) → IfOk answer (λ x. Reports held before after a x.0 x.1.items)
 said_sooner held later before between after a (Ok x) same less is = sooner held later before between after a same less x.0 x.1.items is
 said_sooner held later before between after a (Err e) same less is = tt

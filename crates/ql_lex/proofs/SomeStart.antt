@@ -8,16 +8,16 @@ use Rattle.ql_base.specs.Bytes.{begins, StopsBefore, is_blank, is_digit, is_lowe
 use Rattle.ql_base.specs.Names.{is_keyword}
 use Rattle.ql_lex.specs.Bytes.{is_in_line, is_quote}
 use Rattle.ql_lex.specs.Marks.{is_mark_byte, is_mark_pair}
-use Rattle.ql_lex.specs.Fronts.{IsFront, BeginsNothing}
-use Rattle.ql_lex.specs.Fronts.IsFront.{blank, pair, mark, stray}
+use Rattle.ql_lex.specs.Starts.{StartsWith, BeginsNothing}
+use Rattle.ql_lex.specs.Starts.StartsWith.{blank, pair, mark, stray}
 use Rattle.ql_lex.specs.declared.token.TokenKind.TheVariants.{Name, Int, Text, Mark, Keyword}
-use Rattle.ql_lex.specs.declared.front.Front.{Front}
-use Rattle.ql_lex.specs.declared.front.Front.TheVariants.{Gap, Lexeme, NoToken, TooLong, NoNumber}
+use Rattle.ql_lex.specs.declared.start.Start.{Start}
+use Rattle.ql_lex.specs.declared.start.Start.TheVariants.{Gap, Lexeme, NoToken, TooLong, NoNumber}
 use Rattle.ql_lex.proofs.Classes.{comment_is, name_is, keyword_is, long_name_is, number_is, no_number_is, text_is, long_text_is, no_text_is}
-use Rattle.ql_lex.proofs.OneFront.{spells, of_spells, spells_of}
+use Rattle.ql_lex.proofs.OneStart.{spells, of_spells, spells_of}
 
 abbrev pub HasFront : List ℕ → Type 0
-HasFront t = (f : Front) × IsFront t f
+HasFront t = (f : Start) × StartsWith t f
 
 tested : {X : Type 0} (b : Bool) → (b ≡ true → X) → (b ≡ false → X) → X
 tested true f g = f refl

@@ -18,7 +18,7 @@ const MOST_NUMBER: u64 = 9_223_372_036_854_775_807;
 
 // What a text starts with, and its length or the offset of its fault, in bytes.
 #[derive(Clone, Copy, PartialEq, Eq)]
-pub enum Front {
+pub enum Start {
     Gap(usize),
     Lexeme(TokenKind, usize),
     NoToken(usize),
@@ -26,96 +26,96 @@ pub enum Front {
     NoNumber,
 }
 
-impl Front {
-    ghost use Rattle.ql_lex.specs.Fronts.{IsFront, BeginsNothing};
+impl Start {
+    ghost use Rattle.ql_lex.specs.Starts.{StartsWith, BeginsNothing};
     ghost use Rattle.ql_lex.specs.Tokens.{FitsIn};
 
     // What a text that isn't empty starts with.
     #[tactic(auto, using(crate::proofs::Classes::blank_is, crate::proofs::Within::front_within), unfolding(ql_base::specs::Bytes::is_blank, ql_base::specs::Bytes::is_lower, ql_base::specs::Bytes::is_digit))]
-    pub(crate) fn of(text: &[u8]) -> Front
+    pub(crate) fn of(text: &[u8]) -> Start
         requires { 0 < length text.now }
-        ensures kind { IsFront text.now result }
+        ensures kind { StartsWith text.now result }
         ensures within { FitsIn (length text.now) result }
     {
         match text[0] {
-            b' ' | b'\t' | b'\n' | b'\r' => Front::Gap(1),
-            HASH => Front::comment(text),
-            b'a'..=b'z' => Front::word(text),
-            b'0'..=b'9' => Front::number(text),
-            QUOTE => Front::quoted(text),
-            _ => Front::mark(text),
+            b' ' | b'\t' | b'\n' | b'\r' => Start::Gap(1),
+            HASH => Start::comment(text),
+            b'a'..=b'z' => Start::word(text),
+            b'0'..=b'9' => Start::number(text),
+            QUOTE => Start::quoted(text),
+            _ => Start::mark(text),
         }
     }
 
     #[tactic(auto, using(crate::proofs::Classes::comment_is))]
-    fn comment(text: &[u8]) -> Front
+    fn comment(text: &[u8]) -> Start
         requires some { 0 < length text.now }
         requires first { slice_index text.now 0 ≡ HASH }
-        ensures { IsFront text.now result }
+        ensures { StartsWith text.now result }
     {
-        Front::Gap(line_bytes(&text[1..]) + 1)
+        Start::Gap(line_bytes(&text[1..]) + 1)
     }
 
     #[tactic(auto, using(crate::proofs::Classes::word_begins, crate::proofs::Classes::name_is, crate::proofs::Classes::keyword_is, crate::proofs::Classes::long_name_is))]
-    fn word(text: &[u8]) -> Front
+    fn word(text: &[u8]) -> Start
         requires some { 0 < length text.now }
         requires first { is_lower (slice_index text.now 0) ≡ true }
-        ensures { IsFront text.now result }
+        ensures { StartsWith text.now result }
     {
         let len = name_bytes(text);
         if is_keyword(&text[..len]) {
-            Front::Lexeme(TokenKind::Keyword, len)
+            Start::Lexeme(TokenKind::Keyword, len)
         } else if len <= MAX_NAME_BYTES {
-            Front::Lexeme(TokenKind::Name, len)
+            Start::Lexeme(TokenKind::Name, len)
         } else {
-            Front::TooLong
+            Start::TooLong
         }
     }
 
     #[tactic(auto, using(crate::proofs::Classes::int_is, crate::proofs::Classes::no_int_is, crate::proofs::Classes::digits_fit))]
-    fn number(text: &[u8]) -> Front
+    fn number(text: &[u8]) -> Start
         requires some { 0 < length text.now }
         requires first { is_digit (slice_index text.now 0) ≡ true }
-        ensures { IsFront text.now result }
+        ensures { StartsWith text.now result }
     {
         let (digits, rest) = text.split_at(digit_bytes(text));
         if begins_word(rest) {
-            return Front::NoNumber;
+            return Start::NoNumber;
         }
         match number_of(digits, MOST_NUMBER) {
-            Some(_) => Front::Lexeme(TokenKind::Int, digits.len()),
-            None => Front::NoNumber,
+            Some(_) => Start::Lexeme(TokenKind::Int, digits.len()),
+            None => Start::NoNumber,
         }
     }
 
     #[tactic(auto, using(crate::proofs::Classes::tail_is, crate::proofs::Classes::long_text_is, crate::proofs::Classes::text_is, crate::proofs::Classes::no_text_is))]
-    fn quoted(text: &[u8]) -> Front
+    fn quoted(text: &[u8]) -> Start
         requires some { 0 < length text.now }
         requires first { slice_index text.now 0 ≡ QUOTE }
-        ensures { IsFront text.now result }
+        ensures { StartsWith text.now result }
     {
         let (inside, rest) = text[1..].split_at(text_bytes(&text[1..]));
         if inside.len() > MAX_TEXT_BYTES {
-            Front::TooLong
+            Start::TooLong
         } else if begins_quote(rest) {
-            Front::Lexeme(TokenKind::Text, inside.len() + 2)
+            Start::Lexeme(TokenKind::Text, inside.len() + 2)
         } else {
-            Front::NoToken(inside.len() + 1)
+            Start::NoToken(inside.len() + 1)
         }
     }
 
     #[tactic(auto, using(crate::proofs::Classes::pair_is, crate::proofs::Classes::no_pair, crate::proofs::Classes::no_second, crate::proofs::Classes::mark_is, crate::proofs::Classes::stray_is))]
-    fn mark(text: &[u8]) -> Front
+    fn mark(text: &[u8]) -> Start
         requires some { 0 < length text.now }
         requires first { BeginsNothing (slice_index text.now 0) }
-        ensures { IsFront text.now result }
+        ensures { StartsWith text.now result }
     {
         if text.len() > 1 && is_mark_pair(text[0], text[1]) {
-            Front::Lexeme(TokenKind::Mark, 2)
+            Start::Lexeme(TokenKind::Mark, 2)
         } else if is_mark_byte(text[0]) {
-            Front::Lexeme(TokenKind::Mark, 1)
+            Start::Lexeme(TokenKind::Mark, 1)
         } else {
-            Front::NoToken(0)
+            Start::NoToken(0)
         }
     }
 }

@@ -10,37 +10,37 @@ use Rattle.std.proofs.lemmas.Slice.Eq.{bytes_eq-Decides}
 use Rattle.ql_base.specs.Bytes.{begins, StopsBefore, is_blank, is_digit, is_lower, is_name_byte, is_word_byte, is_text_byte}
 use Rattle.ql_base.specs.Names.{IsWord, is_keyword, keywords}
 use Rattle.ql_base.specs.Numbers.{Spells}
-use Rattle.ql_base.proofs.Fronts.{front-append, passes_head, passes_tail, front_next}
+use Rattle.ql_base.proofs.Starts.{front-append, passes_head, passes_tail, front_next}
 use Rattle.ql_base.proofs.Numerals.{digits_model}
 use Rattle.ql_lex.specs.Bytes.{is_in_line, is_quote}
 use Rattle.ql_lex.specs.Marks.{is_mark_byte, is_mark_pair}
-use Rattle.ql_lex.specs.Fronts.{IsFront, BeginsNothing, most_number}
-use Rattle.ql_lex.specs.Fronts.IsFront.{blank, comment, name, keyword, long_name, number, no_number, text, long_text, no_text, pair, mark, stray}
+use Rattle.ql_lex.specs.Starts.{StartsWith, BeginsNothing, most_number}
+use Rattle.ql_lex.specs.Starts.StartsWith.{blank, comment, name, keyword, long_name, number, no_number, text, long_text, no_text, pair, mark, stray}
 use Rattle.ql_lex.specs.declared.token.TokenKind.TheVariants.{Name, Int, Text, Mark, Keyword}
-use Rattle.ql_lex.specs.declared.front.Front.{Front}
-use Rattle.ql_lex.specs.declared.front.Front.TheVariants.{Gap, Lexeme, NoToken, TooLong, NoNumber}
+use Rattle.ql_lex.specs.declared.start.Start.{Start}
+use Rattle.ql_lex.specs.declared.start.Start.TheVariants.{Gap, Lexeme, NoToken, TooLong, NoNumber}
 
 -- the front as a function of the text: by its first byte, and there by the longest run of bytes that go on with it
 
-abbrev word_front : List ℕ → Front
+abbrev word_front : List ℕ → Start
 word_front w = if is_keyword w then Lexeme Keyword (length w) else (if nat_le (length w) 32 then Lexeme Name (length w) else TooLong)
 
 abbrev pub spells : List ℕ → Bool
 spells w = if nat_le (digits_value 10 w) most_number then bytes_eq (decimal (digits_value 10 w)) w else false
 
-abbrev number_front : List ℕ → List ℕ → Front
+abbrev number_front : List ℕ → List ℕ → Start
 number_front w rest = if begins is_word_byte rest then NoNumber else (if spells w then Lexeme Int (length w) else NoNumber)
 
-abbrev quoted_front : List ℕ → List ℕ → Front
+abbrev quoted_front : List ℕ → List ℕ → Start
 quoted_front w rest = if nat_le (length w) 64 then (if begins is_quote rest then Lexeme Text (length w + 2) else NoToken (length w + 1)) else TooLong
 
-abbrev mark_front : ℕ → List ℕ → Front
+abbrev mark_front : ℕ → List ℕ → Start
 mark_front b more = if begins (is_mark_pair b) more then Lexeme Mark 2 else (if is_mark_byte b then Lexeme Mark 1 else NoToken 0)
 
-abbrev parted : (ℕ → Bool) → (List ℕ → List ℕ → Front) → List ℕ → Front
+abbrev parted : (ℕ → Bool) → (List ℕ → List ℕ → Start) → List ℕ → Start
 parted p f t = f (take (prefix_len p t) t) (drop (prefix_len p t) t)
 
-abbrev front_by : ℕ → List ℕ → Front
+abbrev front_by : ℕ → List ℕ → Start
 front_by b more =
     if is_blank b then Gap 1 else (
     if b == 35 then Gap (prefix_len is_in_line more + 1) else (
@@ -48,13 +48,13 @@ front_by b more =
     if is_digit b then parted is_digit number_front (b ∷ more) else (
     if is_quote b then parted is_text_byte quoted_front more else mark_front b more))))
 
-abbrev pub front_of : List ℕ → Front
+abbrev pub front_of : List ℕ → Start
 front_of [] = NoToken 0
 front_of (b ∷ more) = front_by b more
 
 -- the longest run of bytes that pass, where it is known
 
-parted_is : (p : ℕ → Bool) (f : List ℕ → List ℕ → Front) (w rest : List ℕ) → AllPass p w → StopsBefore p rest → parted p f (w ++ rest) ≡ f w rest
+parted_is : (p : ℕ → Bool) (f : List ℕ → List ℕ → Start) (w rest : List ℕ) → AllPass p w → StopsBefore p rest → parted p f (w ++ rest) ≡ f w rest
 parted_is p f w rest passes stops = rw (front-append p w rest passes stops, take-append_seam w rest, drop-append_seam w rest) refl
 
 -- no shorter than a run of bytes that pass
@@ -213,7 +213,7 @@ closed : (rest : List ℕ) → StopsBefore is_text_byte (34 ∷ rest)
 unfolding is_text_byte
 closed rest = refl
 
-pub front_is : {t : List ℕ} {f : Front} → IsFront t f → f ≡ front_of t
+pub front_is : {t : List ℕ} {f : Start} → StartsWith t f → f ≡ front_of t
 front_is (blank h) = rw h refl
 front_is (comment line rest h s) = sym (hash_kind (line ++ rest) ∙ ap (λ n. Gap (n + 1)) (front-append is_in_line line rest h s))
 front_is (name w rest word stops free short) = sym (word_is w rest word stops ∙ short_name w free short)
@@ -231,7 +231,7 @@ front_is (mark {a} {rest} h stops) = sym (nothing_kind a (mark_nothing a h) rest
 front_is (stray {a} {rest} nothing h stops) = sym (nothing_kind a nothing rest ∙ rw (stops, h) refl)
 
 -- nothing is in front of a text that is at its end
-pub front_some : {t : List ℕ} {f : Front} → IsFront t f → 0 < length t
+pub front_some : {t : List ℕ} {f : Start} → StartsWith t f → 0 < length t
 front_some (blank h) = omega arith
 front_some (comment line rest h s) = omega arith
 front_some (name w rest word stops free short) = omega (arith, word.some, length-append w rest)

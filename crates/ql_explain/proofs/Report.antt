@@ -7,7 +7,7 @@ use Rattle.ql_ports.specs.Faults.{Rose}
 use Rattle.ql_ports.specs.declared.whole.ReadError.{ReadError}
 use Rattle.ql_ports.specs.declared.whole.ReadError.TheVariants.{Failed, TooLong}
 use Rattle.ql_baseline.specs.Comparison.{BaselineSays}
-use Rattle.ql_explain.specs.Outcomes.{IsOf, Means, SaysIn, SaysOf, Tells, most_bytes}
+use Rattle.ql_explain.specs.Outcomes.{IsOf, Means, SaysIn, SaysOf, Reports, most_bytes}
 use Rattle.ql_reply.specs.Read.{IsRead}
 use Rattle.ql_reply.specs.Unread.{IsUnread}
 use Rattle.ql_reply.proofs.Replies.{answer_unread, no_usage, rose_before}
@@ -47,7 +47,7 @@ pair_answered source baseline Usage text says = absurd says
 pair_answered source baseline TooLarge text says = absurd says
 
 module _ (held : List ℕ → Option (List ℕ)) (before after : List ℕ → ℕ) (call : Call) where
-  of_answer : (status : Status) (text : List ℕ) → IsAnswered status → Means held call status text → Tells held before after call status text
+  of_answer : (status : Status) (text : List ℕ) → IsAnswered status → Means held call status text → Reports held before after call status text
   of_answer Done text answered means = means
   of_answer No text answered means = means
   of_answer Bad text answered means = means
@@ -58,28 +58,28 @@ module _ (held : List ℕ → Option (List ℕ)) (before after : List ℕ → �
 
   one_answer : (Says : Status → List ℕ → Type 0) → ((status : Status) (text : List ℕ) → Says status text → IsAnswered status)
       → ((status : Status) (text : List ℕ) → Says status text → Means held call status text)
-      → (said : Result (Status × Vec ℕ) NoMemory) → IfOk said (λ x. Says x.0 x.1.items) → IfOk said (λ x. Tells held before after call x.0 x.1.items)
+      → (said : Result (Status × Vec ℕ) NoMemory) → IfOk said (λ x. Says x.0 x.1.items) → IfOk said (λ x. Reports held before after call x.0 x.1.items)
   one_answer Says answered means (Ok x) says = of_answer x.0 x.1.items (answered x.0 x.1.items says) (means x.0 x.1.items says)
   one_answer Says answered means (Err error) is = tt
 
   -- a file couldn't be read whole
   pub one_unread : (name : List ℕ) → IsOf call name → (error : ReadError) (said : Result (Status × Vec ℕ) NoMemory) → IfOk said (λ x. IsUnread error name x.0 x.1.items)
       → (error ≡ Failed → Rose (before name) (after name)) → (error ≡ TooLong → IfSome (held name) (λ bytes. 1048576 < length bytes))
-      → IfOk said (λ x. Tells held before after call x.0 x.1.items)
+      → IfOk said (λ x. Reports held before after call x.0 x.1.items)
   one_unread name of error said is f l =
-      answer_unread (Tells held before after call) name error said is (λ text e says. (name, of, f e, says)) (λ text e says. (name, of, l e, says))
+      answer_unread (Reports held before after call) name error said is (λ text e says. (name, of, f e, says)) (λ text e says. (name, of, l e, says))
 
 module _ (held : List ℕ → Option (List ℕ)) (before after : List ℕ → ℕ) where
   -- a source was read
   pub source_said : (form : Form) (name bytes source : List ℕ) → source ≡ bytes → IfSome (held name) (λ whole. bytes ≡ whole) → length bytes ≤ most_bytes
-      → (said : Result (Status × Vec ℕ) NoMemory) → IfOk said (λ x. SaysIn form source x.0 x.1.items) → IfOk said (λ x. Tells held before after (Explained form name) x.0 x.1.items)
+      → (said : Result (Status × Vec ℕ) NoMemory) → IfOk said (λ x. SaysIn form source x.0 x.1.items) → IfOk said (λ x. Reports held before after (Explained form name) x.0 x.1.items)
   source_said form name bytes source e same short said is =
       one_answer held before after (Explained form name) (SaysIn form source) (source_answered form source)
       (λ a text says. record { bytes = bytes; are_held = same; short = short; is_so = subst (λ b. SaysIn form b a text) e says }) said is
 
   -- a stored answer and a source were read
   pub pair_said : (file name baseline bytes source : List ℕ) → source ≡ bytes → IfSome (held file) (λ whole. baseline ≡ whole) → length baseline ≤ most_bytes → IfSome (held name) (λ whole. bytes ≡ whole) → length bytes ≤ most_bytes
-      → (said : Result (Status × Vec ℕ) NoMemory) → IfOk said (λ x. BaselineSays source baseline x.0 x.1.items) → IfOk said (λ x. Tells held before after (Compared file name) x.0 x.1.items)
+      → (said : Result (Status × Vec ℕ) NoMemory) → IfOk said (λ x. BaselineSays source baseline x.0 x.1.items) → IfOk said (λ x. Reports held before after (Compared file name) x.0 x.1.items)
   pair_said file name baseline bytes source e stored long same short said is =
       one_answer held before after (Compared file name) (BaselineSays source baseline) (pair_answered source baseline)
       (λ a text says. record {
@@ -95,7 +95,7 @@ module _ (held later : List ℕ → Option (List ℕ)) (before between after : L
   means_sooner a text is = subst (λ (h : Option (List ℕ)). IsRead most_bytes h (λ baseline. IsRead most_bytes (held name) (λ source. BaselineSays source baseline a text))) (same file)
       (subst (λ (h : Option (List ℕ)). IsRead most_bytes (later file) (λ baseline. IsRead most_bytes h (λ source. BaselineSays source baseline a text))) (same name) is)
 
-  sooner : (status : Status) (text : List ℕ) → Tells later between after (Compared file name) status text → Tells held before after (Compared file name) status text
+  sooner : (status : Status) (text : List ℕ) → Reports later between after (Compared file name) status text → Reports held before after (Compared file name) status text
   sooner Done text is = means_sooner Done text is
   sooner No text is = means_sooner No text is
   sooner Bad text is = means_sooner Bad text is
@@ -104,8 +104,8 @@ module _ (held later : List ℕ → Option (List ℕ)) (before between after : L
   sooner Usage text is = absurd is
   sooner TooLarge text is = (is.0, is.1, subst (λ (h : Option (List ℕ)). IfSome h (λ bytes. 1048576 < length bytes)) (same is.0) is.2, is.3)
 
-  pub said_sooner : (said : Result (Status × Vec ℕ) NoMemory) → IfOk said (λ x. Tells later between after (Compared file name) x.0 x.1.items)
-      → IfOk said (λ x. Tells held before after (Compared file name) x.0 x.1.items)
+  pub said_sooner : (said : Result (Status × Vec ℕ) NoMemory) → IfOk said (λ x. Reports later between after (Compared file name) x.0 x.1.items)
+      → IfOk said (λ x. Reports held before after (Compared file name) x.0 x.1.items)
   said_sooner (Ok x) is = sooner x.0 x.1.items is
   said_sooner (Err e) is = tt
 
