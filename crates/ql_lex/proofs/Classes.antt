@@ -9,7 +9,7 @@ use Rattle.std.proofs.lemmas.Bool.{false≢true}
 use Rattle.ql_base.specs.Bytes.{begins, StopsBefore, is_blank, is_digit, is_lower, is_name_byte, is_word_byte, is_text_byte}
 use Rattle.ql_base.specs.Names.{IsWord, is_keyword}
 use Rattle.ql_base.specs.Numbers.{Spells}
-use Rattle.ql_base.proofs.Starts.{front_passes, front_stops, front_next}
+use Rattle.ql_base.proofs.Fronts.{front_passes, front_stops, front_next}
 use Rattle.ql_lex.specs.Bytes.{is_in_line, is_quote}
 use Rattle.ql_lex.specs.Marks.{is_mark_byte, is_mark_pair}
 use Rattle.ql_lex.specs.Starts.{StartsWith, BeginsNothing, most_number}

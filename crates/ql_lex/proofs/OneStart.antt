@@ -10,7 +10,7 @@ use Rattle.std.proofs.lemmas.Slice.Eq.{bytes_eq-Decides}
 use Rattle.ql_base.specs.Bytes.{begins, StopsBefore, is_blank, is_digit, is_lower, is_name_byte, is_word_byte, is_text_byte}
 use Rattle.ql_base.specs.Names.{IsWord, is_keyword, keywords}
 use Rattle.ql_base.specs.Numbers.{Spells}
-use Rattle.ql_base.proofs.Starts.{front-append, passes_head, passes_tail, front_next}
+use Rattle.ql_base.proofs.Fronts.{front-append, passes_head, passes_tail, front_next}
 use Rattle.ql_base.proofs.Numerals.{digits_model}
 use Rattle.ql_lex.specs.Bytes.{is_in_line, is_quote}
 use Rattle.ql_lex.specs.Marks.{is_mark_byte, is_mark_pair}

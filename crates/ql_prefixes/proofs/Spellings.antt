@@ -5,7 +5,7 @@ use Rattle.std.proofs.lemmas.Fmt.{decimal_digit}
 use Rattle.ql_base.specs.Bytes.{is_lower, is_name_byte, is_word_byte}
 use Rattle.ql_base.specs.Names.{IsWord, is_keyword, keywords}
 use Rattle.ql_base.specs.Numbers.{Spells}
-use Rattle.ql_base.proofs.Starts.{all_front}
+use Rattle.ql_base.proofs.Fronts.{all_front}
 use Rattle.ql_lex.specs.Starts.{StartsWith, most_number}
 use Rattle.ql_lex.specs.Starts.StartsWith.{name, keyword as keyword_front, number as number_front, text as text_front, pair, mark as mark_front}
 use Rattle.ql_lex.specs.Marks.{is_mark_byte, is_mark_pair}

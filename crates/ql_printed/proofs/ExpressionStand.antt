@@ -5,7 +5,7 @@ use Rattle.std.proofs.lemmas.Bool.Decides.{nat_tests}
 use Rattle.std.proofs.lemmas.Fmt.{digits_decimal}
 use Rattle.ql_base.specs.Bytes.{is_digit, is_lower, is_name_byte, is_text_byte, is_word_byte, StopsBefore}
 use Rattle.ql_base.specs.Names.{is_keyword, keywords}
-use Rattle.ql_base.proofs.Starts.{passes_head, passes_tail}
+use Rattle.ql_base.proofs.Fronts.{passes_head, passes_tail}
 use Rattle.ql_base.proofs.Numerals.{digits_model}
 use Rattle.ql_lex.specs.Starts.{StartsWith, number as number_front, text as text_front, most_number}
 use Rattle.ql_lex.specs.Marks.{is_mark_byte, is_mark_pair}

@@ -6,7 +6,7 @@ use Rattle.std.proofs.Math.Seq.{take-append_seam, drop-append_seam}
 use Rattle.std.proofs.lemmas.Bool.Decides.{nat_tests}
 use Rattle.ql_base.specs.Bytes.{is_blank, is_name_byte, StopsBefore}
 use Rattle.ql_base.specs.Names.{IsWord, IsName, is_keyword}
-use Rattle.ql_base.proofs.Starts.{passes_head, passes_tail}
+use Rattle.ql_base.proofs.Fronts.{passes_head, passes_tail}
 use Rattle.ql_lex.specs.Starts.{StartsWith}
 use Rattle.ql_lex.specs.Starts.StartsWith.{blank, name, keyword, pair, mark}
 use Rattle.ql_lex.specs.Marks.{is_mark_byte, is_mark_pair}

@@ -3,7 +3,7 @@ use Rattle.std.proofs.Common.{◌≡◌, ℕ, ◌<◌, Bool, true, false, List, 
 use Rattle.std.specs.List.{AllByRecursion, prefix_len}
 use Rattle.ql_base.specs.Bytes.{is_lower, is_name_byte, StopsBefore}
 use Rattle.ql_base.specs.Names.{IsWord, is_keyword, keywords}
-use Rattle.ql_base.proofs.Starts.{all_front}
+use Rattle.ql_base.proofs.Fronts.{all_front}
 use Rattle.ql_lex.specs.Marks.{is_mark_byte, is_mark_pair}
 use Rattle.ql_lex.specs.declared.token.TokenKind.TheVariants.{Mark, Keyword}
 use Rattle.ql_lang.specs.declared.name.Name.{Name}
