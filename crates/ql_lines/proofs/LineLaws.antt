@@ -30,7 +30,7 @@ module _ (n : ℕ) (rest behind text : List ℕ) (first : lines rest ≡ text �
   pub same_end : (ahead_from n rest).end ≡ (ahead_from (n + 1) behind).end
   same_end = omega (arith, ap length first)
 
-  -- a line that is_next nothing is passed over
+  -- a line that is skipped is passed over
   pub passes_over : is_skipped text ≡ true → ahead_from n rest ≡ ahead_from (n + 1) behind
   unfolding numbered_lines
   passes_over skipped =
@@ -38,7 +38,7 @@ module _ (n : ℕ) (rest behind text : List ℕ) (first : lines rest ≡ text �
       ap (λ ls. record { lines = ls; end = n + length (lines rest) }) lines_left
       ∙ ap (λ end. record { lines = numbered_lines (n + 1) (lines behind); end = end }) same_end
 
-  -- a line that is_next something is the next one
+  -- a line that isn't skipped is the next one
   pub is_next : is_skipped text ≡ false → (ahead_from n rest).lines ≡ record { number = n; text = text } ∷ (ahead_from (n + 1) behind).lines
   unfolding numbered_lines
   is_next kept = ap (numbered_lines n) first ∙ rw kept refl

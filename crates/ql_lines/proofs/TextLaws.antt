@@ -35,9 +35,9 @@ plain_stays : (f : List ℕ) → IsPlain f → Stay f
 plain_stays f h = each_weaker (λ b. is_ender b ≡ false) StaysIn stays_in f h.plain
 
 -- a line whose first byte is no space and no `#` isn't skipped
-pub is_next : (b : ℕ) (bs : List ℕ) → is_space b ≡ false → (b == 35) ≡ false → is_skipped (b ∷ bs) ≡ false
+pub not_skipped : (b : ℕ) (bs : List ℕ) → is_space b ≡ false → (b == 35) ≡ false → is_skipped (b ∷ bs) ≡ false
 unfolding is_skipped
-is_next b bs space hash = rw (field_first b bs space, space, one-add (position_or_len is_space bs)) hash
+not_skipped b bs space hash = rw (field_first b bs space, space, one-add (position_or_len is_space bs)) hash
 
 is_kept : (fields : List (List ℕ)) → IsPlainLine fields → is_skipped (joined fields) ≡ false
 unfolding is_skipped

@@ -9,7 +9,7 @@ use Rattle.ql_grammar.specs.Texts.{FirstFault, IsTextOf, ParsesAs}
 use Rattle.ql_grammar.specs.Limits.{nothing_yet}
 use Rattle.ql_grammar.specs.Table.{Part, Value}
 use Rattle.ql_grammar.specs.Machine.{run}
-use Rattle.ql_grammar.proofs.Reported.{Reported, run_reported}
+use Rattle.ql_grammar.proofs.Told.{Told, run_told}
 use Rattle.ql_grammar.proofs.Laws.{IsWhole, start, fault_found}
 use Rattle.ql_parse.specs.Readers.{lexemes_of}
 use Rattle.ql_parse.specs.Parsing.{IsFaultAs, IsTextAs}
@@ -56,7 +56,7 @@ module _ {A : Type 0} {p : Part} {value : A → Value} {Reads : List Marked → 
 
   by_run : (ts : List Lexeme) (end : ℕ) (o : Result (List Value) limits.Fault) → run ts (start w) [] nothing_yet end ≡ o → HasAnswer ts end
   by_run ts end (Ok out) is =
-      let told = subst (Reported (start w) [] nothing_yet ts end) is (run_reported ts (start w) [] nothing_yet end) in
+      let told = subst (Told (start w) [] nothing_yet ts end) is (run_told ts (start w) [] nothing_yet end) in
       let text = w.text told.2 in
       inl (text.0, record { marks = told.0; are = told.1; within = (told.3, told.4); reads = text.1 })
   by_run ts end (Err f) is = inr (f, fault_found w ts end f is)

@@ -8,7 +8,7 @@ use Rattle.ql_lines.specs.Fields.{Fields, IsId, is_space}
 use Rattle.ql_lines.specs.Lines.{is_skipped}
 use Rattle.ql_lines.specs.Texts.{behind, joined}
 use Rattle.ql_lines.proofs.LineEnds.{Stay, joined_stay, stay_both, stays_of}
-use Rattle.ql_lines.proofs.TextLaws.{joined_behind, tells}
+use Rattle.ql_lines.proofs.TextLaws.{joined_behind, not_skipped}
 use Rattle.ql_typing.specs.Names.{op_name, txn_name}
 use Rattle.ql_value.specs.declared.value.Value.{Value}
 use Rattle.ql_value.specs.Spelling.{value_text}
@@ -240,4 +240,4 @@ module _ (p : Program) (objects : List (List ℕ)) (id : ℕ) (e : Effect) (name
   )
 
   pub effect_reported : is_skipped (joined (effect_fields p objects id e)) ≡ false
-  effect_reported = tells 101 _ refl refl
+  effect_reported = not_skipped 101 _ refl refl

@@ -9,11 +9,11 @@ use Rattle.std.proofs.lemmas.Str.Parse.{digit_at}
 use Rattle.ql_base.specs.Bytes.{is_name_byte, is_text_byte}
 use Rattle.ql_base.specs.Names.{IsName}
 use Rattle.ql_lines.specs.Fields.{Fields, is_space}
-use Rattle.ql_lines.specs.Lines.{Numbered, ahead_from, is_skipped, told}
+use Rattle.ql_lines.specs.Lines.{Numbered, ahead_from, is_skipped, numbered_lines}
 use Rattle.ql_lines.specs.Texts.{file_text, joined}
 use Rattle.ql_lines.proofs.Each.{each_by_index, each_weaker}
 use Rattle.ql_lines.proofs.LineEnds.{Stay, StaysIn, joined_stay, line_again, stay_both, stays_of}
-use Rattle.ql_lines.proofs.TextLaws.{tells}
+use Rattle.ql_lines.proofs.TextLaws.{not_skipped}
 use Rattle.ql_schedule.specs.Parts.{is_quotation_mark, led_by, parts_in_part, parts_in_text, parts_of}
 
 -- ---- bytes and parts
@@ -111,7 +111,7 @@ first_byte (f ∷ []) h = h
 first_byte (f ∷ g ∷ fs) h = (h.0, h.1 ++ 32 ∷ joined (g ∷ fs), ap (λ w. w ++ 32 ∷ joined (g ∷ fs)) h.2, h.3, h.4)
 
 is_reported : (fs : Fields) → begins_so fs → is_skipped (joined fs) ≡ false
-is_reported fs h = let k = first_byte fs h in ap is_skipped k.2 ∙ tells k.0 k.1 k.3 k.4
+is_reported fs h = let k = first_byte fs h in ap is_skipped k.2 ∙ not_skipped k.0 k.1 k.3 k.4
 
 -- lines as a reader has them before it
 unfoldable pub numbered : ℕ → List Fields → List Numbered
@@ -119,10 +119,10 @@ numbered n [] = []
 numbered n (l ∷ ls) = record { number = n; text = joined l } ∷ numbered (n + 1) ls
 
 pub file_again : (n : ℕ) (ls : List Fields) → AllByRecursion IsLine ls → (ahead_from n (file_text ls)).lines ≡ numbered n ls
-unfolding file_text told numbered
+unfolding file_text numbered_lines numbered
 file_again n [] h = refl
 file_again n (l ∷ ls) h =
-    ap (told n) (line_again (joined l) (file_text ls) (joined_stay l (each_weaker IsPart Stay part_stays l h.0.parts))) ∙ rw (is_reported l h.0.begins) (ap (λ r. record { number = n; text = joined l } ∷ r) (file_again (n + 1) ls h.1))
+    ap (numbered_lines n) (line_again (joined l) (file_text ls) (joined_stay l (each_weaker IsPart Stay part_stays l h.0.parts))) ∙ rw (is_reported l h.0.begins) (ap (λ r. record { number = n; text = joined l } ∷ r) (file_again (n + 1) ls h.1))
 
 -- ---- parts that schedules are printed with
 
