@@ -93,7 +93,7 @@ number_reports n small =
     elim (decimal n) as P [ [] ↦ λ e. refl | c ∷ cs ↦ λ e. let r = first_digit n small c cs e in grind (arith, r) ] refl
 
 plain_line : (n : ℕ) (l : Line) → n < 2 ^ 64 → IsLine l → IsPlainLine (line_fields n l)
-plain_line n l small f = record { plain = (plain_number n small, plain_body l f); told = number_reports n small }
+plain_line n l small f = record { plain = (plain_number n small, plain_body l f); kept = number_reports n small }
 
 plain_numbered : (n : ℕ) (ls : List Line) → n + length ls ≤ 2 ^ 64 → AllByRecursion IsLine ls → AllByRecursion IsPlainLine (numbered_lines n ls)
 unfolding numbered_lines
@@ -106,7 +106,7 @@ kind_reports (Op l) = refl
 kind_reports (Txn l) = refl
 
 plain_heading : (name : List ℕ) (l : SectionLevel) → IsName name → IsPlainLine (heading name l)
-plain_heading name l n = record { plain = (plain_kind l, (plain_name name n, (plain_level l, tt))); told = kind_reports l }
+plain_heading name l n = record { plain = (plain_kind l, (plain_name name n, (plain_level l, tt))); kept = kind_reports l }
 
 plain_section : (s : Section) → IsSection s → AllByRecursion IsPlainLine (section_lines s)
 plain_section s f = (plain_heading s.name s.level f.name, plain_numbered 1 s.refutation.lines (omega (arith, f.few)) f.lines)
@@ -124,11 +124,11 @@ plain_title = record {
       (record { some = omega arith; plain = (refl, tt) }, tt),
     ),
   );
-  told = refl;
+  kept = refl;
 }
 
 plain_end : IsPlainLine end_line
-plain_end = record { plain = (record { some = omega arith; plain = (refl, (refl, (refl, tt))) }, tt); told = refl }
+plain_end = record { plain = (record { some = omega arith; plain = (refl, (refl, (refl, tt))) }, tt); kept = refl }
 
 -- all lines of a certificate are read as they are written
 pub plain_cert : (ss : List Section) → AllByRecursion IsSection ss → AllByRecursion IsPlainLine (cert_lines ss)

@@ -6,7 +6,7 @@ use Rattle.std.specs.Str.Lines.{lines_of_parts, strip_carriage_return}
 use Rattle.std.proofs.lemmas.List.{length-take}
 use Rattle.std.proofs.lemmas.List.Splits.{slice_split-cons_no, slice_split-cons_yes}
 use Rattle.ql_lines.proofs.Each.{each_weaker}
-use Rattle.ql_lines.specs.Lines.{Numbered, ahead_from, is_line_feed, is_skipped, numbered_lines}
+use Rattle.ql_lines.specs.Lines.{Numbered, ahead_from, is_line_feed, is_skipped, kept_lines}
 
 abbrev IsShort : ℕ → List ℕ → Type 0
 IsShort most bytes = length bytes ≤ most
@@ -47,12 +47,12 @@ lines_short most (part ∷ next ∷ parts) short = (stripped_short most part sho
 abbrev HasShort : ℕ → Numbered → Type 0
 HasShort most line = length line.text ≤ most
 
-numbered_short : (most n : ℕ) (ls : List (List ℕ)) → AreShort most ls → AllByRecursion (HasShort most) (numbered_lines n ls)
-unfolding numbered_lines
-numbered_short most n [] short = tt
-numbered_short most n (l ∷ ls) short =
-    let rest = numbered_short most (n + 1) ls short.1 in
-    let P : Bool → Type 0 = λ t. AllByRecursion (HasShort most) (if t then numbered_lines (n + 1) ls else record { number = n; text = l } ∷ numbered_lines (n + 1) ls) in
+kept_short : (most n : ℕ) (ls : List (List ℕ)) → AreShort most ls → AllByRecursion (HasShort most) (kept_lines n ls)
+unfolding kept_lines
+kept_short most n [] short = tt
+kept_short most n (l ∷ ls) short =
+    let rest = kept_short most (n + 1) ls short.1 in
+    let P : Bool → Type 0 = λ t. AllByRecursion (HasShort most) (if t then kept_lines (n + 1) ls else record { number = n; text = l } ∷ kept_lines (n + 1) ls) in
     elim (is_skipped l) as P [ true ↦ rest | false ↦ (short.0, rest) ]
 
 among : (most : ℕ) (before : List Numbered) (line : Numbered) (rest : List Numbered) → AllByRecursion (HasShort most) (before ++ line ∷ rest) → length line.text ≤ most
@@ -63,5 +63,5 @@ pub line_within : (bytes : List ℕ) (before : List Numbered) (line : Numbered) 
     → length line.text ≤ length bytes
 line_within bytes before line rest are =
     let most = length bytes in
-    let short = numbered_short most 1 _ (lines_short most _ (parts_short bytes)) in
+    let short = kept_short most 1 _ (lines_short most _ (parts_short bytes)) in
     among most before line rest (subst (AllByRecursion (HasShort most)) are short)

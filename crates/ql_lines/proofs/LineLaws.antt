@@ -4,7 +4,7 @@ use Rattle.std.specs.Prelude.{if◌then◌else◌}
 use Rattle.std.specs.List.{after_first, before_first, onto_first, position_or_len}
 use Rattle.std.specs.Str.Lines.{lines, lines_of_parts, strip_carriage_return}
 use Rattle.std.proofs.lemmas.List.Splits.{slice_split-cons_no, slice_split-cons_yes, slice_split_first}
-use Rattle.ql_lines.specs.Lines.{ahead_from, is_line_feed, is_skipped, numbered_lines}
+use Rattle.ql_lines.specs.Lines.{ahead_from, is_line_feed, is_skipped, kept_lines}
 use Rattle.ql_lines.proofs.Splits.{none_passes, some_part}
 
 pub last_line : (xs : List ℕ) → 0 < length xs → position_or_len is_line_feed xs ≡ length xs → lines xs ≡ xs ∷ []
@@ -32,16 +32,16 @@ module _ (n : ℕ) (rest behind text : List ℕ) (first : lines rest ≡ text �
 
   -- a line that is skipped is passed over
   pub passes_over : is_skipped text ≡ true → ahead_from n rest ≡ ahead_from (n + 1) behind
-  unfolding numbered_lines
+  unfolding kept_lines
   passes_over skipped =
-      let lines_left : numbered_lines n (lines rest) ≡ numbered_lines (n + 1) (lines behind) = ap (numbered_lines n) first ∙ rw skipped refl in
+      let lines_left : kept_lines n (lines rest) ≡ kept_lines (n + 1) (lines behind) = ap (kept_lines n) first ∙ rw skipped refl in
       ap (λ ls. record { lines = ls; end = n + length (lines rest) }) lines_left
-      ∙ ap (λ end. record { lines = numbered_lines (n + 1) (lines behind); end = end }) same_end
+      ∙ ap (λ end. record { lines = kept_lines (n + 1) (lines behind); end = end }) same_end
 
   -- a line that isn't skipped is the next one
   pub is_next : is_skipped text ≡ false → (ahead_from n rest).lines ≡ record { number = n; text = text } ∷ (ahead_from (n + 1) behind).lines
-  unfolding numbered_lines
-  is_next kept = ap (numbered_lines n) first ∙ rw kept refl
+  unfolding kept_lines
+  is_next kept = ap (kept_lines n) first ∙ rw kept refl
 
 -- ---- there are no more lines than bytes
 
@@ -66,13 +66,13 @@ few_parts (x ∷ xs) =
           omega (arith, cut, parts, few, more)
     ] refl
 
-few_numbered : (n : ℕ) (ls : List (List ℕ)) → length (numbered_lines n ls) ≤ length ls
-unfolding numbered_lines
-few_numbered n [] = omega arith
-few_numbered n (l ∷ ls) =
-    let few = few_numbered (n + 1) ls in
-    let P : Bool → Type 0 = λ t. length (if t then numbered_lines (n + 1) ls else record { number = n; text = l } ∷ numbered_lines (n + 1) ls) ≤ suc (length ls) in
+few_kept : (n : ℕ) (ls : List (List ℕ)) → length (kept_lines n ls) ≤ length ls
+unfolding kept_lines
+few_kept n [] = omega arith
+few_kept n (l ∷ ls) =
+    let few = few_kept (n + 1) ls in
+    let P : Bool → Type 0 = λ t. length (if t then kept_lines (n + 1) ls else record { number = n; text = l } ∷ kept_lines (n + 1) ls) ≤ suc (length ls) in
     elim (is_skipped l) as P [ true ↦ omega (arith, few) | false ↦ omega (arith, few) ]
 
 pub few_lines : (n : ℕ) (bytes : List ℕ) → length (ahead_from n bytes).lines ≤ length bytes
-few_lines n bytes = let numbered_few = few_numbered n (lines bytes) in let few = few_parts bytes in omega (arith, numbered_few, few)
+few_lines n bytes = let kept_few = few_kept n (lines bytes) in let few = few_parts bytes in omega (arith, kept_few, few)

@@ -6,7 +6,7 @@ use Rattle.std.specs.List.{AllByRecursion, filter, position_or_len, slice_split}
 use Rattle.std.specs.Str.Lines.{lines}
 use Rattle.std.proofs.lemmas.List.{append-nil}
 use Rattle.ql_lines.specs.Fields.{fields_of, is_space, isn't_empty}
-use Rattle.ql_lines.specs.Lines.{Numbered, ahead_from, is_skipped, are_skipped, numbered_lines}
+use Rattle.ql_lines.specs.Lines.{Numbered, ahead_from, is_skipped, are_skipped, kept_lines}
 use Rattle.ql_lines.specs.Texts.{IsPlain, IsPlainLine, behind, file_text, is_ender, joined}
 use Rattle.ql_lines.proofs.Each.{each_weaker}
 use Rattle.ql_lines.proofs.FieldLaws.{field_first, kept}
@@ -41,15 +41,15 @@ not_skipped b bs space hash = rw (field_first b bs space, space, one-add (positi
 
 is_kept : (fields : List (List ℕ)) → IsPlainLine fields → is_skipped (joined fields) ≡ false
 unfolding is_skipped
-is_kept fields h = ap are_skipped (fields_again fields h.plain) ∙ h.numbered_lines
+is_kept fields h = ap are_skipped (fields_again fields h.plain) ∙ h.kept
 
 pub file_again : (n : ℕ) (ls : List (List (List ℕ))) → AllByRecursion IsPlainLine ls → map (λ (l : Numbered). fields_of l.text) (ahead_from n (file_text ls)).lines ≡ ls
-unfolding file_text numbered_lines
+unfolding file_text kept_lines
 file_again n [] h = refl
 file_again n (l ∷ ls) h =
     let first = line_again (joined l) (file_text ls) (joined_stay l (each_weaker IsPlain Stay plain_stays l h.0.plain)) in
-    ap (λ ts. map (λ (m : Numbered). fields_of m.text) (numbered_lines n ts)) first
-    ∙ rw (is_kept l h.0) (ap (λ f. f ∷ map (λ (m : Numbered). fields_of m.text) (numbered_lines (n + 1) (lines (file_text ls)))) (fields_again l h.0.plain) ∙ ap (λ r. l ∷ r) (file_again (n + 1) ls h.1))
+    ap (λ ts. map (λ (m : Numbered). fields_of m.text) (kept_lines n ts)) first
+    ∙ rw (is_kept l h.0) (ap (λ f. f ∷ map (λ (m : Numbered). fields_of m.text) (kept_lines (n + 1) (lines (file_text ls)))) (fields_again l h.0.plain) ∙ ap (λ r. l ∷ r) (file_again (n + 1) ls h.1))
 
 -- ---- piece by piece
 

@@ -25,9 +25,9 @@ unfoldable pub is_skipped : List ℕ → Bool
 is_skipped line = are_skipped (fields_of line)
 
 -- the lines that aren't skipped, where the first line has the number n
-unfoldable pub numbered_lines : ℕ → List (List ℕ) → List Numbered
-numbered_lines n [] = []
-numbered_lines n (l ∷ ls) = if is_skipped l then numbered_lines (n + 1) ls else record { number = n; text = l } ∷ numbered_lines (n + 1) ls
+unfoldable pub kept_lines : ℕ → List (List ℕ) → List Numbered
+kept_lines n [] = []
+kept_lines n (l ∷ ls) = if is_skipped l then kept_lines (n + 1) ls else record { number = n; text = l } ∷ kept_lines (n + 1) ls
 
 -- what is left to read: lines, and the line number of the file's end, which is one more than that of its last line
 pub record Ahead : Type 0 where
@@ -35,4 +35,4 @@ pub record Ahead : Type 0 where
   pub end : ℕ
 
 abbrev pub ahead_from : ℕ → List ℕ → Ahead
-ahead_from n bytes = record { lines = numbered_lines n (lines bytes); end = n + length (lines bytes) }
+ahead_from n bytes = record { lines = kept_lines n (lines bytes); end = n + length (lines bytes) }

@@ -32,4 +32,4 @@ pub record IsPlain (f : List ℕ) : Type 0 where
 -- fields that are read as they are written, of a line that isn't skipped
 pub record IsPlainLine (fields : List (List ℕ)) : Type 0 where
   pub plain : AllByRecursion IsPlain fields
-  pub numbered_lines : are_skipped fields ≡ false
+  pub kept : are_skipped fields ≡ false

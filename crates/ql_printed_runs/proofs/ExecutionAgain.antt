@@ -14,7 +14,7 @@ use Rattle.ql_base.specs.Numbering.{with_name}
 use Rattle.ql_base.specs.declared.ids.OpId.{OpId}
 use Rattle.ql_lang.specs.declared.program.Program.{Program}
 use Rattle.ql_lines.specs.Fields.{IsId, fields_of}
-use Rattle.ql_lines.specs.Lines.{Numbered, is_skipped, numbered_lines}
+use Rattle.ql_lines.specs.Lines.{Numbered, is_skipped, kept_lines}
 use Rattle.ql_lines.specs.Texts.{file_text, joined}
 use Rattle.ql_lines.proofs.LineEnds.{Stay, stays_of}
 use Rattle.ql_typing.specs.Operations.{op_kinds}
@@ -240,11 +240,11 @@ module _ (p : Program) (objects : List (List ℕ)) (x : List Effect) (is : IsPri
 
   -- ---- line after line
 
-  end_lines : (n : ℕ) → (l : Numbered) × (l.text ≡ codes "end") × (numbered_lines n (lines (codes "end\n")) ≡ l ∷ [])
-  unfolding numbered_lines file_text is_skipped
-  end_lines n = (record { number = n; text = codes "end" }, refl, ap (numbered_lines n) (first_line (codes "end" ∷ []) [] [] (stays_of 101 (omega arith), (stays_of 110 (omega arith), (stays_of 100 (omega arith), tt)))))
+  end_lines : (n : ℕ) → (l : Numbered) × (l.text ≡ codes "end") × (kept_lines n (lines (codes "end\n")) ≡ l ∷ [])
+  unfolding kept_lines file_text is_skipped
+  end_lines n = (record { number = n; text = codes "end" }, refl, ap (kept_lines n) (first_line (codes "end" ∷ []) [] [] (stays_of 101 (omega arith), (stays_of 110 (omega arith), (stays_of 100 (omega arith), tt)))))
 
-  ended : (reported_all : EffectsRead) (n : ℕ) → Leads (gives p) ClosesExecution (WithEffects reported_all) (numbered_lines n (lines (codes "end\n"))) (Ended reported_all)
+  ended : (reported_all : EffectsRead) (n : ℕ) → Leads (gives p) ClosesExecution (WithEffects reported_all) (kept_lines n (lines (codes "end\n"))) (Ended reported_all)
   unfolding Leads
   ended reported_all n =
       let l = end_lines n in
@@ -252,11 +252,11 @@ module _ (p : Program) (objects : List (List ℕ)) (x : List Effect) (is : IsPri
       (Ended reported_all, inr (record { is = ap fields_of l.1; to = refl }), refl)
 
   from_here : (done es : List Effect) (ns : List (List ℕ)) (k n : ℕ) → x ≡ done ++ es → k ≡ suc (length done) → grown objects ns es ≡ grown objects [] x
-      → Leads (gives p) ClosesExecution (WithEffects (record { objects = ns; effects = others number done })) (numbered_lines n (lines (file_text (lines_from (effect_fields p objects) k es) ++ codes "end\n"))) (Ended (record { objects = grown objects [] x; effects = others number x }))
-  unfolding Leads grown lines_from file_text numbered_lines number
+      → Leads (gives p) ClosesExecution (WithEffects (record { objects = ns; effects = others number done })) (kept_lines n (lines (file_text (lines_from (effect_fields p objects) k es) ++ codes "end\n"))) (Ended (record { objects = grown objects [] x; effects = others number x }))
+  unfolding Leads grown lines_from file_text kept_lines number
   from_here done [] ns k n split at same =
       let all : others number x ≡ others number done = ap (others number) (split ∙ append-nil done) in
-      subst (λ (t : EffectsRead). Leads (gives p) ClosesExecution (WithEffects (record { objects = ns; effects = others number done })) (numbered_lines n (lines (codes "end\n"))) (Ended t))
+      subst (λ (t : EffectsRead). Leads (gives p) ClosesExecution (WithEffects (record { objects = ns; effects = others number done })) (kept_lines n (lines (codes "end\n"))) (Ended t))
       (ap (λ (es : List Effect). record { objects = ns; effects = es }) (sym all) ∙ ap (λ (m : List (List ℕ)). record { objects = m; effects = others number x }) same)
       (ended (record { objects = ns; effects = others number done }) n)
   from_here done (e ∷ es) ns k n split at same =
@@ -268,24 +268,24 @@ module _ (p : Program) (objects : List (List ℕ)) (x : List Effect) (is : IsPri
       let first : lines (file_text (l ∷ lines_from (effect_fields p objects) (k + 1) es) ++ codes "end\n") ≡ joined l ∷ lines after =
       first_line l (lines_from (effect_fields p objects) (k + 1) es) (codes "end\n") (subst Stay (sym text) (its_stay done e es split)) in
       let line : Numbered = record { number = n; text = joined l } in
-      let here : numbered_lines n (joined l ∷ lines after) ≡ line ∷ numbered_lines (n + 1) (lines after) = rw (ap is_skipped text ∙ its_reported done e es split) refl in
+      let here : kept_lines n (joined l ∷ lines after) ≡ line ∷ kept_lines (n + 1) (lines after) = rw (ap is_skipped text ∙ its_reported done e es split) refl in
       let next : EffectsRead = record { objects = with_name ns w; effects = others number (done ++ e ∷ []) } in
       let numbered : object_number ns w ≡ number e.object.0 = next_number objects ns e es ∙ ap (λ (m : List (List ℕ)). first_of m w) same in
       let count = length-append done (e ∷ []) in
-      subst (λ ls. Leads (gives p) ClosesExecution (WithEffects (record { objects = ns; effects = others number done })) ls (Ended (record { objects = grown objects [] x; effects = others number x }))) (sym (ap (numbered_lines n) first ∙ here)) (
+      subst (λ ls. Leads (gives p) ClosesExecution (WithEffects (record { objects = ns; effects = others number done })) ls (Ended (record { objects = grown objects [] x; effects = others number x }))) (sym (ap (kept_lines n) first ∙ here)) (
         WithEffects next,
         its_line done e es split ns numbered line text,
         from_here (done ++ e ∷ []) es (with_name ns w) (k + 1) (n + 1) (split ∙ sym (append_assoc done (e ∷ []) es)) (omega (arith, id, count)) same,
       )
 
   -- the lines of an execution from its first line on
-  pub execution_leads : (n : ℕ) → Leads (gives p) ClosesExecution Unbegun (numbered_lines n (lines (execution_text p objects x))) (Ended (record { objects = grown objects [] x; effects = others number x }))
-  unfolding Leads numbered_lines file_text is_skipped
+  pub execution_leads : (n : ℕ) → Leads (gives p) ClosesExecution Unbegun (kept_lines n (lines (execution_text p objects x))) (Ended (record { objects = grown objects [] x; effects = others number x }))
+  unfolding Leads kept_lines file_text is_skipped
   execution_leads n =
       let after = effects_text p objects x ++ codes "end\n" in
       let first : lines (codes "execution\n" ++ after) ≡ codes "execution" ∷ lines after =
       first_line (codes "execution" ∷ []) [] after (stays_of 101 (omega arith), (stays_of 120 (omega arith), (stays_of 101 (omega arith), (stays_of 99 (omega arith), (stays_of 117 (omega arith), (stays_of 116 (omega arith), (stays_of 105 (omega arith), (stays_of 111 (omega arith), (stays_of 110 (omega arith), tt))))))))) in
-      subst (λ ls. Leads (gives p) ClosesExecution Unbegun (numbered_lines n ls) (Ended (record { objects = grown objects [] x; effects = others number x }))) (sym first) (
+      subst (λ ls. Leads (gives p) ClosesExecution Unbegun (kept_lines n ls) (Ended (record { objects = grown objects [] x; effects = others number x }))) (sym first) (
         WithEffects nothing_read,
         inl (refl, refl),
         from_here [] x [] 1 (n + 1) refl refl refl,

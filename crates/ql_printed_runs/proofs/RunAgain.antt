@@ -15,7 +15,7 @@ use Rattle.ql_levels.specs.declared.level.Level.TheVariants.{Eventual, Causal, W
 use Rattle.ql_levels.specs.declared.level.TxnLevel.{TxnLevel}
 use Rattle.ql_levels.specs.declared.level.TxnLevel.TheVariants.{Rc, Mav, Rr}
 use Rattle.ql_lines.specs.Fields.{Fields, fields_of, is_space}
-use Rattle.ql_lines.specs.Lines.{ahead_from, is_skipped, numbered_lines}
+use Rattle.ql_lines.specs.Lines.{ahead_from, is_skipped, kept_lines}
 use Rattle.ql_lines.specs.Texts.{file_text, joined}
 use Rattle.ql_lines.proofs.LineEnds.{Stay, joined_stay}
 use Rattle.ql_lines.proofs.TextLaws.{file_text-append}
@@ -65,15 +65,15 @@ not_first l h e =
     k.4 (first_byte k.0 k.1 (codes "execution") [] 101 (codes "xecution") k.3 (ap fields_of (sym k.2) ∙ e) refl)
 
 module _ (p : Program) (after : ExecutionReading) where
-  one_more : (n : ℕ) (l : Fields) (more : List (List ℕ)) → BeginsOtherwise l → (t : Bool) → is_skipped (joined l) ≡ t → Leads (gives p) ClosesExecution Unbegun (numbered_lines (n + 1) more) after → Leads (gives p) ClosesExecution Unbegun (numbered_lines n (joined l ∷ more)) after
-  unfolding numbered_lines Leads
+  one_more : (n : ℕ) (l : Fields) (more : List (List ℕ)) → BeginsOtherwise l → (t : Bool) → is_skipped (joined l) ≡ t → Leads (gives p) ClosesExecution Unbegun (kept_lines (n + 1) more) after → Leads (gives p) ClosesExecution Unbegun (kept_lines n (joined l ∷ more)) after
+  unfolding kept_lines Leads
   one_more n l more begins true skipped later = rw skipped later
   one_more n l more begins false kept later = rw kept (Unbegun, inr (not_first l begins, refl), later)
 
-  pass : (n : ℕ) (ls : List Fields) (rest : List ℕ) → AllByRecursion IsPassed ls → ((m : ℕ) → Leads (gives p) ClosesExecution Unbegun (numbered_lines m (lines rest)) after) → Leads (gives p) ClosesExecution Unbegun (numbered_lines n (lines (file_text ls ++ rest))) after
+  pass : (n : ℕ) (ls : List Fields) (rest : List ℕ) → AllByRecursion IsPassed ls → ((m : ℕ) → Leads (gives p) ClosesExecution Unbegun (kept_lines m (lines rest)) after) → Leads (gives p) ClosesExecution Unbegun (kept_lines n (lines (file_text ls ++ rest))) after
   unfolding file_text
   pass n [] rest h later = later n
-  pass n (l ∷ ls) rest h later = subst (λ ts. Leads (gives p) ClosesExecution Unbegun (numbered_lines n ts) after) (sym (first_line l ls rest h.0.stays))
+  pass n (l ∷ ls) rest h later = subst (λ ts. Leads (gives p) ClosesExecution Unbegun (kept_lines n ts) after) (sym (first_line l ls rest h.0.stays))
       (one_more n l (lines (file_text ls ++ rest)) h.0.begins (is_skipped (joined l)) refl (pass (n + 1) ls rest h.1 later))
 
 -- ---- the lines before an execution
@@ -262,7 +262,7 @@ module _ (p : Program) (objects : List (List ℕ)) (levels : LevelLists) (replie
     record {
       state = last_read;
       leads =
-          subst (λ (t : List ℕ). Leads (gives p) ClosesExecution Unbegun (numbered_lines 1 (lines t)) last_read) (sym front_text)
+          subst (λ (t : List ℕ). Leads (gives p) ClosesExecution Unbegun (kept_lines 1 (lines t)) last_read) (sym front_text)
           (pass p last_read 1 front (execution_text p objects x) front_passes (execution_leads p objects x is));
       ends = refl;
     },

@@ -9,7 +9,7 @@ use Rattle.std.proofs.lemmas.Str.Parse.{digit_at}
 use Rattle.ql_base.specs.Bytes.{is_name_byte, is_text_byte}
 use Rattle.ql_base.specs.Names.{IsName}
 use Rattle.ql_lines.specs.Fields.{Fields, is_space}
-use Rattle.ql_lines.specs.Lines.{Numbered, ahead_from, is_skipped, numbered_lines}
+use Rattle.ql_lines.specs.Lines.{Numbered, ahead_from, is_skipped, kept_lines}
 use Rattle.ql_lines.specs.Texts.{file_text, joined}
 use Rattle.ql_lines.proofs.Each.{each_by_index, each_weaker}
 use Rattle.ql_lines.proofs.LineEnds.{Stay, StaysIn, joined_stay, line_again, stay_both, stays_of}
@@ -119,10 +119,10 @@ numbered n [] = []
 numbered n (l ∷ ls) = record { number = n; text = joined l } ∷ numbered (n + 1) ls
 
 pub file_again : (n : ℕ) (ls : List Fields) → AllByRecursion IsLine ls → (ahead_from n (file_text ls)).lines ≡ numbered n ls
-unfolding file_text numbered_lines numbered
+unfolding file_text kept_lines numbered
 file_again n [] h = refl
 file_again n (l ∷ ls) h =
-    ap (numbered_lines n) (line_again (joined l) (file_text ls) (joined_stay l (each_weaker IsPart Stay part_stays l h.0.parts))) ∙ rw (is_reported l h.0.begins) (ap (λ r. record { number = n; text = joined l } ∷ r) (file_again (n + 1) ls h.1))
+    ap (kept_lines n) (line_again (joined l) (file_text ls) (joined_stay l (each_weaker IsPart Stay part_stays l h.0.parts))) ∙ rw (is_reported l h.0.begins) (ap (λ r. record { number = n; text = joined l } ∷ r) (file_again (n + 1) ls h.1))
 
 -- ---- parts that schedules are printed with
 

@@ -1,7 +1,7 @@
 use Rattle.std.proofs.Common.{◌≡◌, [], ℕ, List, ap, sym, ◌∙◌, arith}
 use Rattle.std.specs.Str.Lines.{lines}
 use Rattle.std.proofs.lemmas.List.{nil_from_length}
-use Rattle.ql_lines.specs.Lines.{Ahead, numbered_lines}
+use Rattle.ql_lines.specs.Lines.{Ahead, kept_lines}
 use Rattle.ql_lines.proofs.LineLaws.{passes_over, is_next}
 use Rattle.ql_lines.proofs.lines.Lines.next_line.Goals as goal
 
@@ -20,8 +20,8 @@ loop-text-preserved c =
     )
 
 pub returns-clause-line : goal.returns-clause-line
-unfolding numbered_lines
+unfolding kept_lines
 returns-clause-line c =
     let now = c.loop-text.self-inside in
-    let none : numbered_lines now.next (lines now.rest.now) ≡ [] = ap (λ (r : List ℕ). numbered_lines now.next (lines r)) (nil_from_length now.rest.now c.in_default.ensures) in
+    let none : kept_lines now.next (lines now.rest.now) ≡ [] = ap (λ (r : List ℕ). kept_lines now.next (lines r)) (nil_from_length now.rest.now c.in_default.ensures) in
     (ap (λ (a : Ahead). a.lines) (sym c.loop-text.invariant.0) ∙ none, none)
