@@ -1,4 +1,4 @@
--- The tables report the relations.
+-- The tables tell the relations.
 use Rattle.std.proofs.Common.{◌≡◌, ℕ, zero, suc, Bool, ◌&&◌, ◌||◌, nat_eq, nat_lt, List, map, length, Option, Some, None, refl, ap, ◌∙◌}
 use Rattle.std.specs.Option.{option_map}
 use Rattle.std.proofs.lemmas.Option.{slice_get-map}
@@ -23,14 +23,14 @@ both_keys-map test None f = refl
 both_keys-map test (Some a) None = refl
 both_keys-map test (Some a) (Some b) = refl
 
-so-reported : (x : List Effect) (a b : ℕ) → so_in (map key_of x) a b ≡ so x a b
-so-reported x a b =
+so-told : (x : List Effect) (a b : ℕ) → so_in (map key_of x) a b ≡ so x a b
+so-told x a b =
     let test = λ (e f : Key). nat_eq e.session.0 f.session.0 && nat_lt a b in
     ap (λ (o : Option Key). both_keys test o (key_at (map key_of x) b)) (key_at-map x a)
     ∙ ap (both_keys test (option_map key_of (effect_at x a))) (key_at-map x b) ∙ both_keys-map test (effect_at x a) (effect_at x b)
 
-sameobj-reported : (x : List Effect) (a b : ℕ) → sameobj_in (map key_of x) a b ≡ sameobj x a b
-sameobj-reported x a b =
+sameobj-told : (x : List Effect) (a b : ℕ) → sameobj_in (map key_of x) a b ≡ sameobj x a b
+sameobj-told x a b =
     let test = λ (e f : Key). nat_eq e.object.0 f.object.0 in
     ap (λ (o : Option Key). both_keys test o (key_at (map key_of x) b)) (key_at-map x a)
     ∙ ap (both_keys test (option_map key_of (effect_at x a))) (key_at-map x b) ∙ both_keys-map test (effect_at x a) (effect_at x b)
@@ -40,15 +40,15 @@ pub table_of : (x : List Effect) (t : Table) → IsExecution x → t.keys ≡ ma
     → length t.before_on_object ≡ length x → AreRows (leads (step_of OnOneObject x)) t.before_on_object
     → length t.before ≡ length x → AreRows (leads (step_of Across x)) t.before → IsTableOf t x
 table_of x t law keys seen_count seen object_count on_object count before Vis a b = cell_is (vis x) t.seen (length x) seen seen_count (vis_within x law) a b
-table_of x t law keys seen_count seen object_count on_object count before So a b = ap (λ (k : List Key). so_in k a b) keys ∙ so-reported x a b
+table_of x t law keys seen_count seen object_count on_object count before So a b = ap (λ (k : List Key). so_in k a b) keys ∙ so-told x a b
 table_of x t law keys seen_count seen object_count on_object count before Soo a b =
-    ap (λ (k : List Key). so_in k a b && sameobj_in k a b) keys ∙ ap (λ (s : Bool). s && sameobj_in (map key_of x) a b) (so-reported x a b) ∙ ap (λ (s : Bool). so x a b && s) (sameobj-reported x a b)
-table_of x t law keys seen_count seen object_count on_object count before SameObj a b = ap (λ (k : List Key). sameobj_in k a b) keys ∙ sameobj-reported x a b
+    ap (λ (k : List Key). so_in k a b && sameobj_in k a b) keys ∙ ap (λ (s : Bool). s && sameobj_in (map key_of x) a b) (so-told x a b) ∙ ap (λ (s : Bool). so x a b && s) (sameobj-told x a b)
+table_of x t law keys seen_count seen object_count on_object count before SameObj a b = ap (λ (k : List Key). sameobj_in k a b) keys ∙ sameobj-told x a b
 table_of x t law keys seen_count seen object_count on_object count before Eq a b = refl
 table_of x t law keys seen_count seen object_count on_object count before Hb a b = cell_is (leads (step_of Across x)) t.before (length x) before count (leads_within x law Across) a b
 table_of x t law keys seen_count seen object_count on_object count before Hbo a b = cell_is (leads (step_of OnOneObject x)) t.before_on_object (length x) on_object object_count (leads_within x law OnOneObject) a b
 
-pub related-reported : (t : Table) (x : List Effect) → IsTableOf t x → (r : Relation) (a b : ℕ) → related_in t r a b ≡ related x r a b
-related-reported t x is (Basic name at) a b = is name a b
-related-reported t x is (Union r s) a b = ap (λ (l : Bool). l || related_in t s a b) (related-reported t x is r a b) ∙ ap (λ (l : Bool). related x r a b || l) (related-reported t x is s a b)
-related-reported t x is (Intersection r s) a b = ap (λ (l : Bool). l && related_in t s a b) (related-reported t x is r a b) ∙ ap (λ (l : Bool). related x r a b && l) (related-reported t x is s a b)
+pub related-told : (t : Table) (x : List Effect) → IsTableOf t x → (r : Relation) (a b : ℕ) → related_in t r a b ≡ related x r a b
+related-told t x is (Basic name at) a b = is name a b
+related-told t x is (Union r s) a b = ap (λ (l : Bool). l || related_in t s a b) (related-told t x is r a b) ∙ ap (λ (l : Bool). related x r a b || l) (related-told t x is s a b)
+related-told t x is (Intersection r s) a b = ap (λ (l : Bool). l && related_in t s a b) (related-told t x is r a b) ∙ ap (λ (l : Bool). related x r a b && l) (related-told t x is s a b)

@@ -38,7 +38,7 @@ impl Lasts {
     }
 }
 
-// The session, and the object where sessions are reported apart by object.
+// The session, and the object where sessions are told apart by object.
 fn group_of(closure: Closure, key: Key) -> (u32, Option<u32>)
     ensures { result ≡ group_of closure key }
 {

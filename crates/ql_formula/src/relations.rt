@@ -59,20 +59,20 @@ impl Relations {
         ensures real { (x : List Effect) → IsTableOf self.now x
             → result ≡ related x (relation_of relation.now) a.0 b.0 }
     {
-        self.reports(relation, a.0, b.0)
+        self.tells(relation, a.0, b.0)
     }
 
-    fn reports(&self, relation: &Rel, a: u32, b: u32) -> bool
+    fn tells(&self, relation: &Rel, a: u32, b: u32) -> bool
         ensures { result ≡ related_in self.now (relation_of relation.now) a b }
     {
         match relation {
-            Rel::Base(name, _) => self.reports_named(*name, a, b),
-            Rel::Union(left, right) => self.reports(left, a, b) || self.reports(right, a, b),
-            Rel::Inter(left, right) => self.reports(left, a, b) && self.reports(right, a, b),
+            Rel::Base(name, _) => self.tells_named(*name, a, b),
+            Rel::Union(left, right) => self.tells(left, a, b) || self.tells(right, a, b),
+            Rel::Inter(left, right) => self.tells(left, a, b) && self.tells(right, a, b),
         }
     }
 
-    fn reports_named(&self, name: RelName, a: u32, b: u32) -> bool
+    fn tells_named(&self, name: RelName, a: u32, b: u32) -> bool
         ensures { result ≡ named_in self.now name a b }
     {
         match name {
