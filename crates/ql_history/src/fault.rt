@@ -7,9 +7,9 @@ pub enum DrawnRule {
     Unexpected,
     /// An effect sees one that isn't earlier.
     NotForward,
-    /// It exceeds the limit of 4,000 effects or events, or of 1,024 objects.
+    /// It is the 4,001st effect, reply or event, has the 1,025th object, or joins a 17th replica.
     TooMany,
-    /// A number, a replica or a session is out of range.
+    /// A schedule has no replicas, or more than 16.
     Range,
 }
 

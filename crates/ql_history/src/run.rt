@@ -4,7 +4,10 @@ use crate::effect::{Effect, Spelled, effect_of, read_spelled};
 use crate::fault::{DrawnFault, DrawnRule, LineFault};
 use crate::part::is_word;
 use crate::reply::{Reply, reply_of};
-use ql_base::{MAX_EFFECTS, MAX_EVENTS, MAX_NAME_BYTES, MAX_OBJECTS, Names, NoMemory, Word};
+use ql_base::{
+    MAX_EFFECTS, MAX_EVENTS, MAX_NAME_BYTES, MAX_OBJECTS, MAX_OPERATIONS, MAX_TRANSACTIONS, Names,
+    NoMemory, Word,
+};
 use ql_lines::{Line, Lines, after_name, after_number, after_spaces, after_word, first_field};
 use std::alloc::Global;
 
@@ -140,6 +143,10 @@ fn push_level(alloc: Global, run: &mut Run, is_txn: bool, text: &[u8]) -> Result
     let Some((name, after)) = after_name(text) else {
         return Ok(());
     };
+    // A program has no more targets.
+    if run.levels.len() >= MAX_OPERATIONS + MAX_TRANSACTIONS {
+        return Ok(());
+    }
     run.levels.push(Level {
         is_txn,
         name: Word::of(name),

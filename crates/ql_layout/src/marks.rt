@@ -1,6 +1,9 @@
-use ql_base::{NoMemory, number_of, push_bytes};
+use ql_base::{MAX_VARIABLES, NoMemory, number_of, push_bytes};
 use ql_lines::first_field;
 use std::alloc::Global;
+
+// The most names in the description of a breach: a contract's variables and the current effect.
+const MAX_MARKS: usize = MAX_VARIABLES + 1;
 
 /// An effect, counted from 1, with the variables that denote it, as `a` or `a cur`.
 #[derive(Drop)]
@@ -10,28 +13,32 @@ pub struct Marked {
 }
 
 /// The effects that the description of a breach names: `a=3` is effect 3 as `a`, and `at 2` effect 2 as `cur`. All
-/// other words are skipped.
+/// other words are skipped, and so are names after the sixth: a contract has five variables and the current effect.
 pub fn marks_of(alloc: Global, words: &[u8]) -> Result<Vec<Marked>, NoMemory> {
     let mut marks = Vec::new(alloc);
     let mut rest = words;
-    let mut is_behind_at = false;
+    let mut is_after_at = false;
+    let mut left = MAX_MARKS;
     for _ in 0..words.len() {
-        let Some((field, behind)) = first_field(rest) else {
+        let Some((field, after)) = first_field(rest) else {
             return Ok(marks);
         };
-        match named(field, is_behind_at) {
-            Some((name, effect)) => put_mark(alloc, &mut marks, name, effect)?,
-            None => {}
+        if let Some((name, effect)) = named(field, is_after_at) {
+            if left == 0 {
+                return Ok(marks);
+            }
+            put_mark(alloc, &mut marks, name, effect)?;
+            left -= 1;
         }
-        is_behind_at = field == b"at".as_slice();
-        rest = behind;
+        is_after_at = field == b"at".as_slice();
+        rest = after;
     }
     Ok(marks)
 }
 
 // The name and the effect that a word denotes.
-fn named(field: &[u8], is_behind_at: bool) -> Option<(&[u8], u32)> {
-    if is_behind_at {
+fn named(field: &[u8], is_after_at: bool) -> Option<(&[u8], u32)> {
+    if is_after_at {
         return Some((b"cur", effect_number(field)?));
     }
     let at = field.iter().position(|b| *b == b'=')?;
