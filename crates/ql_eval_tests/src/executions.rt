@@ -1,7 +1,6 @@
-use crate::texts::spelled;
 use ql_base::{DeclId, EffId, NoMemory, ObjId, OpId, RunId, SessId, push_bytes, push_number};
 use ql_exec::{Draft, Effect, ExecFault, Execution, Member, Payload};
-use ql_tables::{check_table, field, id_set_of, number};
+use ql_tables::{check_table, field, id_set_of, number, spelled, with_number};
 use ql_value::{Value, Values};
 use std::alloc::Global;
 use std::test::Fail;
@@ -44,15 +43,15 @@ fn pushed(alloc: Global, execution: &mut Execution, row: &str) -> Result<Vec<u8>
             effect_text(alloc, id, execution.get(id))
         }
         Ok(_) => spelled(alloc, "no effect"),
-        Err(ExecFault::NotForward(id)) => placed(alloc, "NotForward ", id),
-        Err(ExecFault::OtherObject(id)) => placed(alloc, "OtherObject ", id),
-        Err(ExecFault::SplitTxn(id)) => placed(alloc, "SplitTxn ", id),
+        Err(ExecFault::NotForward(id)) => with_number(alloc, "NotForward ", u64::from(id.0)),
+        Err(ExecFault::OtherObject(id)) => with_number(alloc, "OtherObject ", u64::from(id.0)),
+        Err(ExecFault::SplitTxn(id)) => with_number(alloc, "SplitTxn ", u64::from(id.0)),
         Err(ExecFault::NoMemory) => Err(NoMemory),
     }
 }
 
 fn effect_text(alloc: Global, id: EffId, effect: &Effect) -> Result<Vec<u8>, NoMemory> {
-    let mut out = placed(alloc, "effect ", id)?;
+    let mut out = with_number(alloc, "effect ", u64::from(id.0))?;
     push_bytes(&mut out, b" stamp ")?;
     push_number(&mut out, effect.stamp)?;
     push_bytes(&mut out, b" sees")?;
@@ -60,12 +59,6 @@ fn effect_text(alloc: Global, id: EffId, effect: &Effect) -> Result<Vec<u8>, NoM
         push_bytes(&mut out, b" ")?;
         push_number(&mut out, *id)?;
     }
-    Ok(out)
-}
-
-fn placed(alloc: Global, word: &str, id: EffId) -> Result<Vec<u8>, NoMemory> {
-    let mut out = spelled(alloc, word)?;
-    push_number(&mut out, id.0)?;
     Ok(out)
 }
 

@@ -5,7 +5,7 @@ ghost use Rattle.ql_eval.specs.Able.{AreArgs, AreFields, FitsOp, type_of_op};
 use ql_base::{IdSet, NoMemory, OpId, push_bytes};
 use ql_eval::{TypedFolder, apply, fold};
 use ql_exec::{Answered, Execution, Folder, Payload};
-use ql_tables::check_table;
+use ql_tables::{check_table, spelled};
 use ql_test_effects::push_values;
 use ql_test_programs::declared;
 use ql_typing::Typed;
@@ -92,8 +92,4 @@ fn answered_alone(alloc: Global, typed: &Typed, op: OpId) -> Result<Answered, No
     let none = Values::of(Vec::new(alloc));
     let seen = IdSet::new(alloc);
     folder.answer(op, &none, &execution, &seen)
-}
-
-fn spelled(alloc: Global, text: &str) -> Result<Vec<u8>, NoMemory> {
-    Ok(Vec::from_slice(alloc, text.as_bytes())?)
 }

@@ -1,9 +1,8 @@
-use crate::texts::spelled;
 use ql_base::{IdSet, NoMemory, push_bytes, push_number};
 use ql_eval::try_answer;
 use ql_exec::{Answered, Effect, Execution, Payload};
 use ql_execution_files::parse_execution;
-use ql_tables::check_table;
+use ql_tables::{check_table, spelled};
 use ql_test_effects::push_values;
 use ql_test_programs::declared;
 use ql_typing::Typed;

@@ -12,6 +12,4 @@ mod folders;
 #[cfg(test)]
 mod folds;
 #[cfg(test)]
-mod texts;
-#[cfg(test)]
 mod values;

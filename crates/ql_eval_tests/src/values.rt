@@ -1,6 +1,5 @@
-use crate::texts::spelled;
 use ql_base::{NoMemory, push_bytes, push_number};
-use ql_tables::{check_table, field};
+use ql_tables::{check_table, field, spelled};
 use ql_value::{
     MapVal, Scalar, SetVal, Value, ValueFault, add, order, parse_value, print_value, put, sat_add,
     sat_mul, sat_neg, sat_sub, size,

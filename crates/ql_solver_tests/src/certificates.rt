@@ -1,7 +1,6 @@
-use crate::texts::spelled;
 use ql_base::{MAX_PROOF_BYTES, NoMemory, push_bytes, push_number};
 use ql_cert::{CertFault, parse_cert, parse_proof, print_cert};
-use ql_tables::check_table;
+use ql_tables::{check_table, spelled, with_number};
 use std::alloc::Global;
 use std::test::Fail;
 
@@ -78,7 +77,7 @@ fn certificates_and_their_first_faults(rt: HostRuntime) -> Result<(), Fail> {
 
 fn sections(alloc: Global, file: &str) -> Result<Vec<u8>, NoMemory> {
     match parse_cert(alloc, file.as_bytes()) {
-        Ok(cert) => placed(alloc, "sections ", cert.sections.items().len() as u64),
+        Ok(cert) => with_number(alloc, "sections ", cert.sections.items().len() as u64),
         Err(why) => fault(alloc, why),
     }
 }
@@ -161,7 +160,7 @@ fn counted(alloc: Global, file: &str) -> Result<Vec<u8>, NoMemory> {
         Ok(proof) => proof,
         Err(why) => return fault(alloc, why),
     };
-    let mut out = placed(alloc, "", u64::from(clauses.variables()))?;
+    let mut out = with_number(alloc, "", u64::from(clauses.variables()))?;
     push_bytes(&mut out, b" variables, ")?;
     push_number(&mut out, clauses.len())?;
     push_bytes(&mut out, b" clauses, ")?;
@@ -172,14 +171,8 @@ fn counted(alloc: Global, file: &str) -> Result<Vec<u8>, NoMemory> {
 
 fn fault(alloc: Global, fault: CertFault) -> Result<Vec<u8>, NoMemory> {
     match fault {
-        CertFault::Unexpected(line) => placed(alloc, "unexpected ", line),
-        CertFault::Number(line) => placed(alloc, "number ", line),
+        CertFault::Unexpected(line) => with_number(alloc, "unexpected ", line),
+        CertFault::Number(line) => with_number(alloc, "number ", line),
         CertFault::NoMemory => Err(NoMemory),
     }
-}
-
-fn placed(alloc: Global, word: &str, number: u64) -> Result<Vec<u8>, NoMemory> {
-    let mut out = spelled(alloc, word)?;
-    push_number(&mut out, number)?;
-    Ok(out)
 }

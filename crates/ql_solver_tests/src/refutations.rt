@@ -1,8 +1,8 @@
-use crate::texts::{clauses_of, literal, spelled};
-use ql_base::{NoMemory, push_number};
+use crate::texts::{clauses_of, literal};
+use ql_base::NoMemory;
 use ql_cnf::{Clause, Clauses};
 use ql_refute::{Hint, Hints, Line, Lines, Refutation, Verdict, check};
-use ql_tables::check_table;
+use ql_tables::{check_table, spelled, with_number};
 use std::alloc::Global;
 use std::test::Fail;
 
@@ -52,17 +52,11 @@ fn verdict_text(alloc: Global, verdict: Verdict) -> Result<Vec<u8>, NoMemory> {
     match verdict {
         Verdict::Accepted => spelled(alloc, "Accepted"),
         Verdict::NoEmpty => spelled(alloc, "NoEmpty"),
-        Verdict::NoConflict(line) => placed(alloc, "NoConflict ", line),
-        Verdict::NotUnit(line) => placed(alloc, "NotUnit ", line),
-        Verdict::BadHint(line) => placed(alloc, "BadHint ", line),
-        Verdict::BadVariable(line) => placed(alloc, "BadVariable ", line),
+        Verdict::NoConflict(line) => with_number(alloc, "NoConflict ", line),
+        Verdict::NotUnit(line) => with_number(alloc, "NotUnit ", line),
+        Verdict::BadHint(line) => with_number(alloc, "BadHint ", line),
+        Verdict::BadVariable(line) => with_number(alloc, "BadVariable ", line),
     }
-}
-
-fn placed(alloc: Global, word: &str, line: u64) -> Result<Vec<u8>, NoMemory> {
-    let mut out = spelled(alloc, word)?;
-    push_number(&mut out, line)?;
-    Ok(out)
 }
 
 fn refutation(alloc: Global, row: &str) -> Result<Refutation, NoMemory> {

@@ -1,11 +1,11 @@
 ghost use Rattle.ql_sat.specs.Answer.{IsRight};
 
-use crate::texts::{clauses_of, spelled};
+use crate::texts::clauses_of;
 use ql_base::NoMemory;
 use ql_cnf::{Clauses, satisfies};
 use ql_refute::{Verdict, check};
 use ql_sat::{Decided, decide};
-use ql_tables::check_table;
+use ql_tables::{check_table, spelled};
 use std::alloc::Global;
 use std::test::Fail;
 

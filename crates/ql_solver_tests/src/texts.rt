@@ -47,10 +47,6 @@ pub(crate) fn add(clauses: &mut Clauses, lits: &[Lit]) -> Result<bool, NoMemory>
     clauses.add(lits)
 }
 
-pub(crate) fn spelled(alloc: Global, text: &str) -> Result<Vec<u8>, NoMemory> {
-    Ok(Vec::from_slice(alloc, text.as_bytes())?)
-}
-
 pub(crate) fn push_literals(out: &mut Vec<u8>, lits: &[Lit]) -> Result<(), NoMemory> {
     for lit in lits {
         push_bytes(out, if lit.positive { b" " } else { b" -" })?;

@@ -1,8 +1,8 @@
-use crate::texts::{built, once_and_again, parse_fault, spelled};
+use crate::texts::{built, once_and_again, parse_fault};
 use ql_base::NoMemory;
 use ql_lang::print_contract;
 use ql_parse::parse_contract;
-use ql_tables::check_table;
+use ql_tables::{check_table, spelled};
 use std::alloc::Global;
 use std::test::Fail;
 

@@ -1,8 +1,8 @@
-use crate::texts::{built, once_and_again, parse_fault, spelled};
+use crate::texts::{built, once_and_again, parse_fault};
 use ql_base::{NoMemory, push_bytes};
 use ql_lang::print_program;
 use ql_parse::parse_program;
-use ql_tables::{BANK, REGISTER, SHOP, check_table, field, number};
+use ql_tables::{BANK, REGISTER, SHOP, check_table, field, number, spelled};
 use std::alloc::Global;
 use std::test::Fail;
 

@@ -1,6 +1,7 @@
-use ql_base::{NoMemory, push_bytes, push_number};
+use ql_base::{NoMemory, push_bytes};
 use ql_lex::LexFault;
 use ql_parse::ParseFault;
+use ql_tables::{spelled, with_number};
 use std::alloc::Global;
 
 /// The text of a row: itself, or for `3 times [part] in front~back` three parts between front and back.
@@ -16,10 +17,6 @@ pub(crate) fn built(alloc: Global, row: &str) -> Result<Vec<u8>, NoMemory> {
     }
     push_bytes(&mut text, back.as_bytes())?;
     Ok(text)
-}
-
-pub(crate) fn spelled(alloc: Global, text: &str) -> Result<Vec<u8>, NoMemory> {
-    Ok(Vec::from_slice(alloc, text.as_bytes())?)
 }
 
 /// A printed text, where printing what is read of it yields the same text again.
@@ -39,24 +36,18 @@ pub(crate) fn once_and_again(
 pub(crate) fn parse_fault(alloc: Global, fault: ParseFault) -> Result<Vec<u8>, NoMemory> {
     match fault {
         ParseFault::Lex(fault) => lex_fault(alloc, fault),
-        ParseFault::Unexpected(at) => placed(alloc, "unexpected ", at),
-        ParseFault::Deep(at) => placed(alloc, "deep ", at),
-        ParseFault::Wide(at) => placed(alloc, "wide ", at),
+        ParseFault::Unexpected(at) => with_number(alloc, "unexpected ", u64::from(at)),
+        ParseFault::Deep(at) => with_number(alloc, "deep ", u64::from(at)),
+        ParseFault::Wide(at) => with_number(alloc, "wide ", u64::from(at)),
         ParseFault::NoMemory => Err(NoMemory),
     }
 }
 
 pub(crate) fn lex_fault(alloc: Global, fault: LexFault) -> Result<Vec<u8>, NoMemory> {
     match fault {
-        LexFault::BadChar(at) => placed(alloc, "char ", at),
-        LexFault::LongWord(at) => placed(alloc, "word ", at),
-        LexFault::BadNumber(at) => placed(alloc, "number ", at),
+        LexFault::BadChar(at) => with_number(alloc, "char ", u64::from(at)),
+        LexFault::LongWord(at) => with_number(alloc, "word ", u64::from(at)),
+        LexFault::BadNumber(at) => with_number(alloc, "number ", u64::from(at)),
         LexFault::NoMemory => Err(NoMemory),
     }
-}
-
-fn placed(alloc: Global, rule: &str, at: u32) -> Result<Vec<u8>, NoMemory> {
-    let mut out = spelled(alloc, rule)?;
-    push_number(&mut out, at)?;
-    Ok(out)
 }

@@ -1,7 +1,7 @@
-use crate::texts::{built, lex_fault, spelled};
+use crate::texts::{built, lex_fault};
 use ql_base::{NoMemory, push_bytes, push_number};
 use ql_lex::{Token, TokenKind, tokens};
-use ql_tables::check_table;
+use ql_tables::{check_table, spelled};
 use std::alloc::Global;
 use std::test::Fail;
 

@@ -6,7 +6,7 @@ use ql_plain_holder::PlainHolder;
 use ql_replica::Replica;
 use ql_runs::run_schedule;
 use ql_schedule::parse_schedule;
-use ql_tables::check_table;
+use ql_tables::{check_table, spelled};
 use ql_test_programs::declared;
 use ql_typing::Typed;
 use std::alloc::Global;
@@ -212,8 +212,4 @@ fn schedule_file(alloc: Global, heading: &str, events: &str) -> Result<Vec<u8>, 
         push_bytes(&mut file, b"\n")?;
     }
     Ok(file)
-}
-
-fn spelled(alloc: Global, text: &str) -> Result<Vec<u8>, NoMemory> {
-    Ok(Vec::from_slice(alloc, text.as_bytes())?)
 }

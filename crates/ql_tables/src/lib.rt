@@ -3,10 +3,12 @@
 // It has no contract of its own: only test crates depend on it.
 #![tactic(auto)]
 
+mod answers;
 mod fields;
 mod sources;
 mod table;
 
+pub use answers::{spelled, with_number};
 pub use fields::{field, id_set_of, number};
 pub use sources::{BANK, REGISTER, SHOP};
 pub use table::check_table;

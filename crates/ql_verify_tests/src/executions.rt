@@ -1,8 +1,8 @@
-use crate::texts::{push_places, spelled};
+use crate::texts::push_places;
 use ql_base::{NoMemory, push_bytes, push_number};
 use ql_execution_files::parse_execution;
 use ql_formula::Places;
-use ql_tables::check_table;
+use ql_tables::{check_table, spelled};
 use ql_test_programs::declared;
 use ql_verify::{Breach, VerifyWhy, verify};
 use std::alloc::Global;

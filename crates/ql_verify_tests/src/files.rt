@@ -1,7 +1,7 @@
 use ql_base::{NoMemory, push_bytes, push_number};
 use ql_exec::{Effect, Member, Payload};
 use ql_execution_files::{ReportFault, parse_execution};
-use ql_tables::check_table;
+use ql_tables::{check_table, with_number};
 use ql_test_programs::declared;
 use ql_value::{Values, print_value};
 use std::alloc::Global;
@@ -187,20 +187,14 @@ fn push_seen(out: &mut Vec<u8>, seen: &[u32]) -> Result<(), NoMemory> {
 
 fn fault(alloc: Global, fault: ReportFault) -> Result<Vec<u8>, NoMemory> {
     match fault {
-        ReportFault::Unexpected(line) => placed(alloc, "Unexpected ", line),
-        ReportFault::Unknown(line) => placed(alloc, "Unknown ", line),
-        ReportFault::Mixed(line) => placed(alloc, "Mixed ", line),
-        ReportFault::Stamp(line) => placed(alloc, "Stamp ", line),
-        ReportFault::NotForward(line) => placed(alloc, "NotForward ", line),
-        ReportFault::OtherObject(line) => placed(alloc, "OtherObject ", line),
-        ReportFault::SplitTxn(line) => placed(alloc, "SplitTxn ", line),
-        ReportFault::TooMany(line) => placed(alloc, "TooMany ", line),
+        ReportFault::Unexpected(line) => with_number(alloc, "Unexpected ", line),
+        ReportFault::Unknown(line) => with_number(alloc, "Unknown ", line),
+        ReportFault::Mixed(line) => with_number(alloc, "Mixed ", line),
+        ReportFault::Stamp(line) => with_number(alloc, "Stamp ", line),
+        ReportFault::NotForward(line) => with_number(alloc, "NotForward ", line),
+        ReportFault::OtherObject(line) => with_number(alloc, "OtherObject ", line),
+        ReportFault::SplitTxn(line) => with_number(alloc, "SplitTxn ", line),
+        ReportFault::TooMany(line) => with_number(alloc, "TooMany ", line),
         ReportFault::NoMemory => Err(NoMemory),
     }
-}
-
-fn placed(alloc: Global, rule: &str, line: u64) -> Result<Vec<u8>, NoMemory> {
-    let mut out = Vec::from_slice(alloc, rule.as_bytes())?;
-    push_number(&mut out, line)?;
-    Ok(out)
 }

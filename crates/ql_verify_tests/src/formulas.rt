@@ -1,13 +1,13 @@
 ghost use Rattle.std.specs.Prelude.{◌≤◌, IfSome, length};
 
-use crate::texts::{push_places, spelled};
+use crate::texts::push_places;
 use ql_base::{EffId, Names, NoMemory, RunId};
 use ql_exec::Execution;
 use ql_execution_files::parse_execution;
 use ql_formula::{Places, Relations, holds_at, holds_txn};
 use ql_lang::{Formula, Rel, RelName};
 use ql_parse::{few_operations, parse_contract};
-use ql_tables::{check_table, field, number};
+use ql_tables::{check_table, field, number, spelled};
 use ql_test_programs::declared;
 use ql_typing::resolve;
 use std::alloc::Global;

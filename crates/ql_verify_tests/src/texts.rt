@@ -2,10 +2,6 @@ use ql_base::{NoMemory, push_bytes, push_number};
 use ql_formula::Places;
 use std::alloc::Global;
 
-pub(crate) fn spelled(alloc: Global, text: &str) -> Result<Vec<u8>, NoMemory> {
-    Ok(Vec::from_slice(alloc, text.as_bytes())?)
-}
-
 pub(crate) fn push_places(out: &mut Vec<u8>, places: &Places) -> Result<(), NoMemory> {
     for place in places.items() {
         push_bytes(out, b" ")?;
