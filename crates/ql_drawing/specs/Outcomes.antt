@@ -11,8 +11,8 @@ use Rattle.ql_svg.specs.declared.picture.Picture.{Picture}
 use Rattle.ql_drawing.specs.Words.{Asked, asked}
 use Rattle.ql_drawing.specs.declared.help.TheConstants.{HELP}
 use Rattle.ql_drawing.specs.declared.sheet.TheConstants.{SHEET}
-use Rattle.ql_drawing.specs.declared.drawing.Why.{Why}
-use Rattle.ql_drawing.specs.declared.drawing.Why.TheVariants as why
+use Rattle.ql_drawing.specs.declared.drawing.Fault.{Fault}
+use Rattle.ql_drawing.specs.declared.drawing.Fault.TheVariants as fault
 use Rattle.ql_reply.specs.Lines.{fault_line}
 use Rattle.ql_reply.specs.declared.status.Status.{Status}
 use Rattle.ql_reply.specs.declared.status.Status.TheVariants.{Done, No, Bad, ReadFault, WriteFault, Usage, TooLarge}
@@ -32,16 +32,16 @@ rule_text TooMany = codes "TooMany"
 rule_text Range = codes "Range"
 
 -- the line that says why something can't be drawn
-abbrev pub IsWhyText : Why → List ℕ → Type 0
-IsWhyText (why.Run line rule) text = text ≡ fault_line (codes "execution") line (rule_text rule)
-IsWhyText (why.Schedule line rule) text = text ≡ fault_line (codes "schedule") line (rule_text rule)
-IsWhyText why.Strange text = text ≡ codes "bad schedule: it is another run's\n"
-IsWhyText why.NoMemory text = ⊥
+abbrev pub IsFaultText : Fault → List ℕ → Type 0
+IsFaultText (fault.Run line rule) text = text ≡ fault_line (codes "execution") line (rule_text rule)
+IsFaultText (fault.Schedule line rule) text = text ≡ fault_line (codes "schedule") line (rule_text rule)
+IsFaultText fault.OtherRun text = text ≡ codes "bad schedule: it is another run's\n"
+IsFaultText fault.NoMemory text = ⊥
 
 -- what is written once the files are read
 abbrev pub IsAnswer : Status → List ℕ → Type 0
 IsAnswer Done text = IsDrawn text
-IsAnswer Bad text = (w : Why) × IsWhyText w text
+IsAnswer Bad text = (fault : Fault) × IsFaultText fault text
 IsAnswer _ text = ⊥
 
 -- this is the name of a file of the request
@@ -64,7 +64,7 @@ IsOver held a text =
 abbrev pub Reports : (List ℕ → Option (List ℕ)) → (List ℕ → ℕ) → (List ℕ → ℕ) → Asked → Status → List ℕ → Type 0
 Reports held before after a Done text = IsDrawn text
 Reports held before after a No text = ⊥
-Reports held before after a Bad text = (w : Why) × IsWhyText w text
+Reports held before after a Bad text = (fault : Fault) × IsFaultText fault text
 Reports held before after a ReadFault text = Fails before after a text
 Reports held before after a TooLarge text = IsOver held a text
 Reports held before after a WriteFault text = ⊥

@@ -1,5 +1,5 @@
 ghost use Rattle.std.specs.Prelude.{◌≡◌, IfOk};
-ghost use Rattle.ql_drawing.specs.Outcomes.{IsDrawn, IsWhyText, rule_text};
+ghost use Rattle.ql_drawing.specs.Outcomes.{IsDrawn, IsFaultText, rule_text};
 
 use crate::sheet::SHEET;
 use ql_base::{NoMemory, push_bytes};
@@ -22,23 +22,23 @@ pub struct Drawing<'a> {
 
 /// Why something can't be drawn.
 #[derive(Clone, Copy)]
-pub enum Why {
+pub enum Fault {
     /// The first faulty line of the run's text, or of the schedule.
     Run { line: u64, rule: DrawnRule },
     Schedule { line: u64, rule: DrawnRule },
     /// The replies aren't those to the events of the schedule.
-    Strange,
+    OtherRun,
     NoMemory,
 }
 
-impl From<NoMemory> for Why {
-    fn from(_error: NoMemory) -> Why {
-        Why::NoMemory
+impl From<NoMemory> for Fault {
+    fn from(_error: NoMemory) -> Fault {
+        Fault::NoMemory
     }
 }
 
 /// The picture in SVG.
-pub fn drawing_text(alloc: Global, what: Drawing) -> Result<Vec<u8>, Why>
+pub fn drawing_text(alloc: Global, what: Drawing) -> Result<Vec<u8>, Fault>
     ensures { IfOk result (λ text. IsDrawn text.items) }
 {
     let run = run_of(alloc, what.run)?;
@@ -47,7 +47,7 @@ pub fn drawing_text(alloc: Global, what: Drawing) -> Result<Vec<u8>, Why>
         None => None,
     };
     let Some(history) = history_of(alloc, &run, plan.as_ref())? else {
-        return Err(Why::Strange);
+        return Err(Fault::OtherRun);
     };
     let words = breach_words(alloc, &run, what.breach)?;
     let text = drawn(alloc, &run, &history, &words, what.all)?;
@@ -90,31 +90,31 @@ fn breach_words(alloc: Global, run: &Run, breach: &[u8]) -> Result<Vec<u8>, NoMe
     Ok(words)
 }
 
-fn run_of(alloc: Global, bytes: &[u8]) -> Result<Run, Why> {
+fn run_of(alloc: Global, bytes: &[u8]) -> Result<Run, Fault> {
     match read_run(alloc, bytes) {
         Ok(run) => Ok(run),
-        Err(DrawnFault::Bad { line, rule }) => Err(Why::Run { line, rule }),
-        Err(DrawnFault::NoMemory) => Err(Why::NoMemory),
+        Err(DrawnFault::Bad { line, rule }) => Err(Fault::Run { line, rule }),
+        Err(DrawnFault::NoMemory) => Err(Fault::NoMemory),
     }
 }
 
-fn plan_of(alloc: Global, bytes: &[u8]) -> Result<Plan, Why> {
+fn plan_of(alloc: Global, bytes: &[u8]) -> Result<Plan, Fault> {
     match read_plan(alloc, bytes) {
         Ok(plan) => Ok(plan),
-        Err(DrawnFault::Bad { line, rule }) => Err(Why::Schedule { line, rule }),
-        Err(DrawnFault::NoMemory) => Err(Why::NoMemory),
+        Err(DrawnFault::Bad { line, rule }) => Err(Fault::Schedule { line, rule }),
+        Err(DrawnFault::NoMemory) => Err(Fault::NoMemory),
     }
 }
 
 /// The line that says why something can't be drawn. Fails where memory has run out.
-pub(crate) fn why_text(alloc: Global, why: Why) -> Result<Vec<u8>, NoMemory>
-    ensures { IfOk result (λ text. IsWhyText why text.items) }
+pub(crate) fn fault_text(alloc: Global, fault: Fault) -> Result<Vec<u8>, NoMemory>
+    ensures { IfOk result (λ text. IsFaultText fault text.items) }
 {
-    match why {
-        Why::Run { line, rule } => bad_line(alloc, "execution", line, rule_text(rule)),
-        Why::Schedule { line, rule } => bad_line(alloc, "schedule", line, rule_text(rule)),
-        Why::Strange => Ok(Vec::from_slice(alloc, b"bad schedule: it is another run's\n")?),
-        Why::NoMemory => Err(NoMemory),
+    match fault {
+        Fault::Run { line, rule } => bad_line(alloc, "execution", line, rule_text(rule)),
+        Fault::Schedule { line, rule } => bad_line(alloc, "schedule", line, rule_text(rule)),
+        Fault::OtherRun => Ok(Vec::from_slice(alloc, b"bad schedule: it is another run's\n")?),
+        Fault::NoMemory => Err(NoMemory),
     }
 }
 

@@ -10,7 +10,7 @@ mod program;
 mod sheet;
 mod words;
 
-pub use drawing::Why;
+pub use drawing::Fault;
 pub use help::HELP;
 pub use program::draw;
 pub use ql_reply::Status;

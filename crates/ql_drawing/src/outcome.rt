@@ -3,7 +3,7 @@ ghost use Rattle.ql_drawing.specs.Outcomes.{IsAnswer, Says, Reports};
 ghost use Rattle.ql_drawing.specs.Words.{asked_of};
 ghost use Rattle.ql_reply.specs.Arguments.{word_texts};
 
-use crate::drawing::{Drawing, drawing_text, why_text};
+use crate::drawing::{Drawing, drawing_text, fault_text};
 use crate::help::HELP;
 use crate::words::{Request, parse_words};
 use ql_base::{MAX_EXECUTION_BYTES, MAX_SCHEDULE_BYTES, NoMemory, push_bytes};
@@ -110,7 +110,7 @@ fn answer(
     };
     match drawing_text(alloc, what) {
         Ok(text) => Ok((Status::Done, text)),
-        Err(why) => Ok((Status::Bad, why_text(alloc, why)?)),
+        Err(fault) => Ok((Status::Bad, fault_text(alloc, fault)?)),
     }
 }
 

@@ -44,12 +44,12 @@ pub(crate) fn push_facts(
 fn is_plain(facts: &[Fact], fact: Fact) -> bool {
     match (fact.claim, fact.holds) {
         (Claim::Related(RelName::SameObj, a, b), true)
-        | (Claim::Related(RelName::Eq, a, b), false) => facts.iter().any(|f| reports_of(*f, a, b)),
+        | (Claim::Related(RelName::Eq, a, b), false) => facts.iter().any(|f| is_about(*f, a, b)),
         _ => false,
     }
 }
 
-fn reports_of(fact: Fact, a: EffId, b: EffId) -> bool {
+fn is_about(fact: Fact, a: EffId, b: EffId) -> bool {
     match fact.claim {
         Claim::Related(RelName::SameObj | RelName::Eq, _, _) => false,
         Claim::Related(_, first, second) => {

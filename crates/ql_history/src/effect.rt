@@ -126,7 +126,7 @@ pub(crate) fn effect_of(
     let Some(seen) = ascending_ids(alloc, spelled.seen)? else {
         return Ok(None);
     };
-    let call = joined(alloc, spelled.op, spelled.args)?;
+    let call = with_arguments(alloc, spelled.op, spelled.args)?;
     let answer = Vec::from_slice(alloc, spelled.answer)?;
     Ok(Some(Effect {
         object,
@@ -148,7 +148,7 @@ fn named(word: &[u8]) -> Option<Word> {
 }
 
 // A word, and a second one after it if there is one.
-fn joined(alloc: Global, word: &[u8], other: &[u8]) -> Result<Vec<u8>, NoMemory> {
+fn with_arguments(alloc: Global, word: &[u8], other: &[u8]) -> Result<Vec<u8>, NoMemory> {
     let mut text = Vec::from_slice(alloc, word)?;
     if !other.is_empty() {
         push_bytes(&mut text, b" ")?;

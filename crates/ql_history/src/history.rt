@@ -1,4 +1,4 @@
-use crate::join::Joining;
+use crate::matching::Matching;
 use crate::messages::{Passage, Span, Spot};
 use crate::plan::Plan;
 use crate::run::Run;
@@ -25,7 +25,7 @@ pub enum Happening {
     /// Something happened to a message.
     Noted,
     /// The replicas were partitioned, or the partition was healed.
-    Parted,
+    Partitioned,
 }
 
 /// What kept a call from being answered.
@@ -68,27 +68,27 @@ pub fn history_of(
     plan: Option<&Plan>,
 ) -> Result<Option<History>, NoMemory> {
     match plan {
-        Some(plan) => joined(alloc, run, plan),
+        Some(plan) => matched(alloc, run, plan),
         None => Ok(Some(bare(alloc, run)?)),
     }
 }
 
 // The events of a schedule with their replies.
-fn joined(alloc: Global, run: &Run, plan: &Plan) -> Result<Option<History>, NoMemory> {
+fn matched(alloc: Global, run: &Run, plan: &Plan) -> Result<Option<History>, NoMemory> {
     if run.replies.len() != plan.events.len() {
         return Ok(None);
     }
-    let mut joining = Joining::new(alloc, plan.replicas);
+    let mut matching = Matching::new(alloc, plan.replicas);
     for (step, reply) in plan.events.iter().zip(run.replies.iter()) {
-        if joining.is_full() {
-            return Ok(Some(joining.into_history()));
+        if matching.is_full() {
+            return Ok(Some(matching.into_history()));
         }
-        if !joining.join(alloc, run, step, reply)? {
+        if !matching.take(alloc, run, step, reply)? {
             return Ok(None);
         }
     }
-    if joining.made() as usize == run.effects.len() {
-        Ok(Some(joining.into_history()))
+    if matching.made() as usize == run.effects.len() {
+        Ok(Some(matching.into_history()))
     } else {
         Ok(None)
     }

@@ -7,7 +7,7 @@ mod begun;
 mod effect;
 mod fault;
 mod history;
-mod join;
+mod matching;
 mod messages;
 mod open;
 mod part;

@@ -15,7 +15,7 @@ pub struct Plan {
 
 // The state of reading a schedule.
 #[derive(Clone, Copy)]
-struct Place {
+struct State {
     stage: Stage,
     /// Whether replicas may join.
     has_joins: bool,
@@ -38,47 +38,47 @@ pub fn read_plan(alloc: Global, bytes: &[u8]) -> Result<Plan, DrawnFault> {
         replicas: 1,
         events: Vec::new(alloc),
     };
-    let mut place = Place {
+    let mut state = State {
         stage: Stage::Title,
         has_joins: false,
         replicas: 1,
     };
     let mut lines = Lines::of(bytes);
     while let Some(line) = lines.next_line() {
-        place = match take(alloc, &mut plan, place, line.text) {
+        state = match take(alloc, &mut plan, state, line.text) {
             Ok(more) => more,
             Err(fault) => return Err(fault.at(line.number)),
         };
     }
-    match place.stage {
+    match state.stage {
         Stage::Events => Ok(plan),
         _ => Err(LineFault::Breaks(DrawnRule::Unexpected).at(lines.end())),
     }
 }
 
-fn take(alloc: Global, plan: &mut Plan, place: Place, text: &[u8]) -> Result<Place, LineFault> {
-    match place.stage {
-        Stage::Title => take_title(place, text),
-        Stage::Replicas => take_replicas(plan, place, text),
-        Stage::Objects if is_word(text, b"events") => Ok(place.at(Stage::Events)),
-        Stage::Objects if after_word(text, b"object").is_some() => Ok(place),
-        Stage::Events => take_event(alloc, plan, place, text),
+fn take(alloc: Global, plan: &mut Plan, state: State, text: &[u8]) -> Result<State, LineFault> {
+    match state.stage {
+        Stage::Title => take_title(state, text),
+        Stage::Replicas => take_replicas(plan, state, text),
+        Stage::Objects if is_word(text, b"events") => Ok(state.at(Stage::Events)),
+        Stage::Objects if after_word(text, b"object").is_some() => Ok(state),
+        Stage::Events => take_event(alloc, plan, state, text),
         _ => Err(LineFault::Breaks(DrawnRule::Unexpected)),
     }
 }
 
-impl Place {
-    fn at(self, stage: Stage) -> Place {
-        Place { stage, ..self }
+impl State {
+    fn at(self, stage: Stage) -> State {
+        State { stage, ..self }
     }
 }
 
-fn take_title(place: Place, text: &[u8]) -> Result<Place, LineFault> {
+fn take_title(state: State, text: &[u8]) -> Result<State, LineFault> {
     match version(text) {
-        Some(version) => Ok(Place {
+        Some(version) => Ok(State {
             stage: Stage::Replicas,
             has_joins: version == 2,
-            ..place
+            ..state
         }),
         None => Err(LineFault::Breaks(DrawnRule::Unexpected)),
     }
@@ -96,7 +96,7 @@ fn version(text: &[u8]) -> Option<u32> {
     }
 }
 
-fn take_replicas(plan: &mut Plan, place: Place, text: &[u8]) -> Result<Place, LineFault> {
+fn take_replicas(plan: &mut Plan, state: State, text: &[u8]) -> Result<State, LineFault> {
     let Some(number) = replicas(text) else {
         return Err(LineFault::Breaks(DrawnRule::Unexpected));
     };
@@ -104,10 +104,10 @@ fn take_replicas(plan: &mut Plan, place: Place, text: &[u8]) -> Result<Place, Li
         return Err(LineFault::Breaks(DrawnRule::Range));
     }
     plan.replicas = number;
-    Ok(Place {
+    Ok(State {
         stage: Stage::Objects,
         replicas: number,
-        ..place
+        ..state
     })
 }
 
@@ -123,31 +123,31 @@ fn replicas(text: &[u8]) -> Option<u32> {
 fn take_event(
     alloc: Global,
     plan: &mut Plan,
-    place: Place,
+    state: State,
     text: &[u8],
-) -> Result<Place, LineFault> {
+) -> Result<State, LineFault> {
     if plan.events.len() >= MAX_EVENTS {
         return Err(LineFault::Breaks(DrawnRule::TooMany));
     }
-    let Some(step) = step_of(alloc, text, place.replicas)? else {
+    let Some(step) = step_of(alloc, text, state.replicas)? else {
         return Err(LineFault::Breaks(DrawnRule::Unexpected));
     };
-    let more = state_after(place, &step)?;
+    let more = state_after(state, &step)?;
     plan.events.push(step)?;
     Ok(more)
 }
 
 // The state after an event.
-fn state_after(place: Place, step: &Step) -> Result<Place, LineFault> {
+fn state_after(state: State, step: &Step) -> Result<State, LineFault> {
     match step {
-        Step::Join(_) if !place.has_joins => Err(LineFault::Breaks(DrawnRule::Unexpected)),
-        Step::Join(_) if place.replicas >= MAX_REPLICAS => Err(LineFault::Breaks(
+        Step::Join(_) if !state.has_joins => Err(LineFault::Breaks(DrawnRule::Unexpected)),
+        Step::Join(_) if state.replicas >= MAX_REPLICAS => Err(LineFault::Breaks(
             DrawnRule::TooMany,
         )),
-        Step::Join(_) => Ok(Place {
-            replicas: place.replicas + 1,
-            ..place
+        Step::Join(_) => Ok(State {
+            replicas: state.replicas + 1,
+            ..state
         }),
-        _ => Ok(place),
+        _ => Ok(state),
     }
 }

@@ -101,7 +101,7 @@ fn empty(alloc: Global) -> Run {
 fn take(alloc: Global, run: &mut Run, stage: Stage, line: Line) -> Result<Stage, LineFault> {
     match stage {
         Stage::Effects | Stage::Ended => take_effect(alloc, run, line.text),
-        Stage::Judging => take_place(alloc, run, line.text),
+        Stage::Judging => take_at(alloc, run, line.text),
         Stage::Replying if !is_word(line.text, b"execution") => take_reply(alloc, run, line.text),
         Stage::Ahead | Stage::Replying => take_ahead(alloc, run, line.text),
     }
@@ -156,7 +156,7 @@ fn push_level(alloc: Global, run: &mut Run, is_txn: bool, text: &[u8]) -> Result
 }
 
 // The line after a contract, which names the effect at which it is judged.
-fn take_place(alloc: Global, run: &mut Run, text: &[u8]) -> Result<Stage, LineFault> {
+fn take_at(alloc: Global, run: &mut Run, text: &[u8]) -> Result<Stage, LineFault> {
     match after_word(text, b"at") {
         Some(after) if after_number(after, u32::MAX).is_some() => {
             run.why = Vec::from_slice(alloc, after_spaces(text))?;

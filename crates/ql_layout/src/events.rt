@@ -73,7 +73,7 @@ fn draw_event(alloc: Global, pen: &mut Pen, column: &Column, at: Point) -> Resul
                 &column.above,
             )
         }
-        Happening::Parted => pen.label(alloc, Kind::Event, point(at.x, 26), &column.below),
+        Happening::Partitioned => pen.label(alloc, Kind::Event, point(at.x, 26), &column.below),
     }
 }
 

@@ -12,15 +12,19 @@ use std::{fs, io};
 
 /// Prints what is said of each schedule.
 pub(crate) fn measure(rt: &HostRuntime, paths: &[String]) -> io::Result<Status> {
-    let mut typed = None;
-    for path in paths.iter() {
+    let Some((source, schedules)) = paths.split_first() else {
+        return Ok(Status::Done);
+    };
+    let text = fs::read(rt, source)?;
+    let Some(typed) = typed_of(rt.alloc(), text.as_slice()) else {
+        println!(rt; "{source}: no source")?;
+        return Ok(Status::Done);
+    };
+    for path in schedules.iter() {
         let text = fs::read(rt, path)?;
-        match &typed {
-            None => typed = typed_of(rt.alloc(), text.as_slice()),
-            Some(typed) => match said(rt.alloc(), typed, text.as_slice()) {
-                Ok(said) => rt.stdout().write_all(said.as_slice())?,
-                Err(NoMemory) => println!(rt; "{path}: no memory")?,
-            },
+        match printed(rt.alloc(), &typed, text.as_slice()) {
+            Ok(printed) => rt.stdout().write_all(printed.as_slice())?,
+            Err(NoMemory) => println!(rt; "{path}: no memory")?,
         }
     }
     Ok(Status::Done)
@@ -42,7 +46,7 @@ fn typed_of(alloc: Global, text: &[u8]) -> Option<Typed> {
 }
 
 // What is printed for a text: the schedule in its one spelling, or that it isn't a schedule.
-fn said(alloc: Global, typed: &Typed, text: &[u8]) -> Result<Vec<u8>, NoMemory> {
+fn printed(alloc: Global, typed: &Typed, text: &[u8]) -> Result<Vec<u8>, NoMemory> {
     if text.len() > MOST_BYTES {
         return Ok(Vec::from_slice(alloc, b"too long\n")?);
     }

@@ -13,15 +13,15 @@ use std::alloc::Global;
 
 /// A schedule whose events are being matched with their replies, one after another.
 #[derive(Drop)]
-pub(crate) struct Joining {
+pub(crate) struct Matching {
     history: History,
     messages: Messages,
     open: Open,
 }
 
-impl Joining {
-    pub(crate) fn new(alloc: Global, replicas: u32) -> Joining {
-        Joining {
+impl Matching {
+    pub(crate) fn new(alloc: Global, replicas: u32) -> Matching {
+        Matching {
             history: History::new(alloc, replicas),
             messages: Messages::new(alloc),
             open: Open::new(alloc),
@@ -58,7 +58,7 @@ impl Joining {
     }
 
     /// Adds the next event with its reply; false where the reply doesn't fit the event.
-    pub(crate) fn join(
+    pub(crate) fn take(
         &mut self,
         alloc: Global,
         run: &Run,
@@ -147,7 +147,7 @@ impl Joining {
         reply: &Reply,
     ) -> Result<bool, NoMemory> {
         let spot = self.spot(caller.replica, Some(caller.session));
-        let text = joined(alloc, b"begin ", name)?;
+        let text = with_name(alloc, b"begin ", name)?;
         if reply.word != ReplyWord::Begun {
             return self.stop(alloc, spot, &text, reply);
         }
@@ -306,7 +306,7 @@ impl Joining {
 
     fn part(&mut self, alloc: Global, reply: &Reply) -> Result<bool, NoMemory> {
         let spot = self.spot(0, None);
-        self.push(alloc, spot, Happening::Parted, b"", &reply.text)?;
+        self.push(alloc, spot, Happening::Partitioned, b"", &reply.text)?;
         Ok(true)
     }
 
@@ -350,7 +350,7 @@ fn cause_of(reply: &Reply) -> Option<Cause> {
     }
 }
 
-fn joined(alloc: Global, before: &[u8], name: &[u8]) -> Result<Vec<u8>, NoMemory> {
+fn with_name(alloc: Global, before: &[u8], name: &[u8]) -> Result<Vec<u8>, NoMemory> {
     let mut text = Vec::from_slice(alloc, before)?;
     push_bytes(&mut text, name)?;
     Ok(text)
