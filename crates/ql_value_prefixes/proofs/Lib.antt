@@ -1,0 +1,4 @@
+mod Before
+mod Scalars
+mod Items
+mod Collections

@@ -1,0 +1,44 @@
+use Rattle.std.specs.Prelude.{ℕ, ◌≡◌, ◌+◌, ◌==◌, ◌||◌, Bool, false, List, [], ◌∷◌, ◌++◌, All, take, drop, if◌then◌else◌}
+use Rattle.std.specs.List.{prefix_len}
+use Rattle.ql_base.specs.Bytes.{begins, is_digit, is_lower, is_text_byte}
+use Rattle.ql_value.specs.declared.value.Value.{Value}
+use Rattle.ql_value.specs.declared.value.Value.TheVariants.{Set, Map}
+use Rattle.ql_value.specs.Collections.{IsMap, IsSet}
+use Rattle.ql_value.specs.Reading.{is_byte}
+use Rattle.ql_value.specs.ValueGrammar.{IsEntry, IsScalar, IsValue, ReadsValue}
+
+-- the items but the last
+abbrev pub but_last : {X : Type 0} → List X → List X
+but_last [] = []
+but_last (x ∷ []) = []
+but_last (x ∷ y ∷ more) = x ∷ but_last (y ∷ more)
+
+-- a value within the limits, but that the last item of a set or a map may be one too many and needn't ascend
+abbrev pub IsValueButLast : Value → Type 0
+IsValueButLast (Set s) = IsSet (but_last s) × All IsScalar s
+IsValueButLast (Map m) = IsMap (but_last m) × All IsEntry m
+IsValueButLast other = IsValue other
+
+-- some text of the grammar, of a value that fits, begins with these bytes
+abbrev pub BeginsAs : (Value → Type 0) → List ℕ → Type 0
+BeginsAs Fits bytes = (more : List ℕ) × (v : Value) × Fits v × ReadsValue v (bytes ++ more) []
+
+-- some text of a value within the limits begins with these bytes
+abbrev pub BeginsValue : List ℕ → Type 0
+BeginsValue = BeginsAs IsValue
+
+-- what a number, a truth value or a text may start with: a digit, `-`, `"`, `t` or `f`
+unfoldable pub starts_item : ℕ → Bool
+starts_item b = is_digit b || (b == 45) || (b == 34) || (b == 116) || (b == 102)
+
+-- the length of the item at the start of a text: a quote, the bytes behind it that a text may contain, and one more, which
+-- is the closing quote if there is one; or a word's letters; or a sign or a digit, and the digits behind it
+unfoldable pub item_length : List ℕ → ℕ
+item_length text =
+    if begins (is_byte 34) text then 2 + prefix_len is_text_byte (drop 1 text)
+    else if begins is_lower text then prefix_len is_lower text
+    else 1 + prefix_len is_digit (drop 1 text)
+
+-- no value's text begins with the bytes up to the end of the item at this offset and any byte but a digit
+abbrev pub EndsValues : List ℕ → ℕ → Type 0
+EndsValues text at = (c : ℕ) → is_digit c ≡ false → BeginsValue (take (at + item_length (drop at text)) text ++ c ∷ []) → ⊥
