@@ -24,7 +24,7 @@ use Rattle.ql_value_prefixes.proofs.Scalars.{ScalarStart, WordStart, no_byte, sc
 
 -- ---- sets
 
-abbrev SetButLast : List Scalar → Type 0
+abbrev pub SetButLast : List Scalar → Type 0
 SetButLast s = IsSet (but_last s) × All IsScalar s
 
 abbrev pub SetStart : List Scalar → List ℕ → Type 0
@@ -36,7 +36,7 @@ SetSoFar room s = SoFar scalar_cmp IsScalar room s
 set_last : (room : ℕ) (s : List Scalar) (e : Scalar) → SetSoFar room s → IsScalar e → SetButLast (s ++ e ∷ [])
 set_last room s e so fits = (subst IsSet (sym (but_last_is s e)) (record { few = omega (arith, so.few); ascends = so.ascends }), all_on IsScalar s e so.each fits)
 
-last_element : (room : ℕ) (s : List Scalar) → SetSoFar room s → (pre : List ℕ) → ScalarStart pre → SetStart s pre
+pub last_element : (room : ℕ) (s : List Scalar) → SetSoFar room s → (pre : List ℕ) → ScalarStart pre → SetStart s pre
 last_element room s so pre start =
     one_item (λ e a b. ReadsScalar e a b) SetButLast s pre (start.more ++ 125 ∷ []) start.scalar (sym (append_assoc pre start.more (125 ∷ [])) ∙ ap (λ t. t ++ 125 ∷ []) start.spelled) (set_last room s start.scalar so start.fits)
 
@@ -57,7 +57,7 @@ elements_before (suc room) s text left so h =
 
 -- ---- maps
 
-abbrev MapButLast : List (Scalar × Scalar) → Type 0
+abbrev pub MapButLast : List (Scalar × Scalar) → Type 0
 MapButLast m = IsMap (but_last m) × All IsEntry m
 
 abbrev pub MapStart : List (Scalar × Scalar) → List ℕ → Type 0
@@ -69,7 +69,7 @@ MapSoFar room m = SoFar key_cmp IsEntry room m
 map_last : (room : ℕ) (m : List (Scalar × Scalar)) (e : Scalar × Scalar) → MapSoFar room m → IsEntry e → MapButLast (m ++ e ∷ [])
 map_last room m e so fits = (subst IsMap (sym (but_last_is m e)) (record { few = omega (arith, so.few); ascends = so.ascends }), all_on IsEntry m e so.each fits)
 
-last_key : (room : ℕ) (m : List (Scalar × Scalar)) → MapSoFar room m → (pre : List ℕ) → ScalarStart pre → MapStart m pre
+pub last_key : (room : ℕ) (m : List (Scalar × Scalar)) → MapSoFar room m → (pre : List ℕ) → ScalarStart pre → MapStart m pre
 last_key room m so pre start =
     one_item (λ e a b. ReadsEntry e a b) MapButLast m pre (start.more ++ codes ":true}") (start.scalar, Truth true)
     (record { gap = 0; spelled = sym (append_assoc pre start.more (codes ":true}")) ∙ ap (λ t. t ++ codes ":true}") start.spelled })
@@ -86,7 +86,7 @@ pub record EntryValueStart (pre : List ℕ) : Type 0 where
 no_colon : EntryValueStart []
 no_colon = record { more = codes ":true"; gap = 0; scalar = Truth true; fits = tt; spelled = refl }
 
-past_colon : (gap : ℕ) (pre : List ℕ) → ScalarStart pre → EntryValueStart ((58 ∷ spaces gap) ++ pre)
+pub past_colon : (gap : ℕ) (pre : List ℕ) → ScalarStart pre → EntryValueStart ((58 ∷ spaces gap) ++ pre)
 past_colon gap pre start = record {
   more = start.more;
   gap = gap;
@@ -102,7 +102,7 @@ entry_value_before text left h =
     (λ c i. behind ScalarStart EntryValueStart (58 ∷ spaces gap) (after_spaces (drop 1 text)) text left (begins_with 58 text c ∙ ap (λ t. 58 ∷ t) (spaces_split (drop 1 text))) (past_colon gap) (scalar_before (after_spaces (drop 1 text)) left i))
     (λ c i. let len : length text ≡ left = cc in at_start EntryValueStart text left len no_colon)
 
-last_entry : (room : ℕ) (m : List (Scalar × Scalar)) (k : Scalar) → MapSoFar room m → IsScalar k → (pre : List ℕ) → EntryValueStart pre → MapStart m (scalar_text k ++ pre)
+pub last_entry : (room : ℕ) (m : List (Scalar × Scalar)) (k : Scalar) → MapSoFar room m → IsScalar k → (pre : List ℕ) → EntryValueStart pre → MapStart m (scalar_text k ++ pre)
 last_entry room m k so fits pre start =
     let close : List ℕ = 125 ∷ [] in
     let spelled : (scalar_text k ++ pre) ++ (start.more ++ close) ≡ scalar_text k ++ 58 ∷ (spaces start.gap ++ (scalar_text start.scalar ++ close)) =
@@ -162,17 +162,17 @@ entries_before (suc room) m text left so h =
 
 -- ---- values
 
-abbrev ValueStart : List ℕ → Type 0
+abbrev pub ValueStart : List ℕ → Type 0
 ValueStart = BeginsAs IsValueButLast
 
 -- a brace and these bytes begin a value's text
-abbrev InnerStart : List ℕ → Type 0
+abbrev pub InnerStart : List ℕ → Type 0
 InnerStart pre = ValueStart (123 ∷ pre)
 
-set_start : (pre : List ℕ) → SetStart [] pre → InnerStart pre
+pub set_start : (pre : List ℕ) → SetStart [] pre → InnerStart pre
 set_start pre s = (s.more, Set (s.item ∷ s.others), s.fits, record { start = pre ++ s.more; behind = s.follow; brace = refl; first = s.first; more = s.next })
 
-map_start : (pre : List ℕ) → MapStart [] pre → InnerStart pre
+pub map_start : (pre : List ℕ) → MapStart [] pre → InnerStart pre
 map_start pre s = (s.more, Map (s.item ∷ s.others), s.fits, record { start = pre ++ s.more; behind = s.follow; brace = refl; first = s.first; more = s.next })
 
 empty_map : (pre : List ℕ) → WordStart (codes ":}") pre → InnerStart pre
@@ -205,7 +205,7 @@ scalar_value (Int z) text fits is = (fits, is ∙ sym (append-nil (scalar_text (
 scalar_value (Truth b) text fits is = (tt, is ∙ sym (append-nil (scalar_text (Truth b))))
 scalar_value (Text t) text fits is = (fits, is ∙ sym (append-nil (scalar_text (Text t))))
 
-scalar_start : (pre : List ℕ) → ScalarStart pre → ValueStart pre
+pub scalar_start : (pre : List ℕ) → ScalarStart pre → ValueStart pre
 scalar_start pre s = let v = scalar_value s.scalar (pre ++ s.more) s.fits s.spelled in (s.more, value_of_scalar s.scalar, v.0, v.1)
 
 -- the bytes before a fault begin a value's text

@@ -74,7 +74,7 @@ pub record ItemsStart {X : Type 0} (Item : X → List ℕ → List ℕ → Type 
 pub one_item : {X : Type 0} (Item : X → List ℕ → List ℕ → Type 0) (Fits : List X → Type 0) (before : List X) (pre more : List ℕ) (e : X) → Item e (pre ++ more) (125 ∷ []) → Fits (before ++ e ∷ []) → ItemsStart Item Fits before pre
 one_item Item Fits before pre more e first fits = record { more = more; item = e; others = []; follow = 125 ∷ []; first = first; next = refl; fits = fits }
 
-one_more : {X : Type 0} (Item : X → List ℕ → List ℕ → Type 0) (Fits : List X → Type 0) (before : List X) (e : X) (bytes : List ℕ) (gap : ℕ) → ((follow : List ℕ) → Item e (bytes ++ follow) follow)
+pub one_more : {X : Type 0} (Item : X → List ℕ → List ℕ → Type 0) (Fits : List X → Type 0) (before : List X) (e : X) (bytes : List ℕ) (gap : ℕ) → ((follow : List ℕ) → Item e (bytes ++ follow) follow)
     → (pre : List ℕ) → ItemsStart Item Fits (before ++ e ∷ []) pre → ItemsStart Item Fits before ((bytes ++ 44 ∷ spaces gap) ++ pre)
 one_more Item Fits before e bytes gap any pre s =
     let rest : List ℕ = 44 ∷ (spaces gap ++ (pre ++ s.more)) in

@@ -2,3 +2,6 @@ mod Before
 mod Scalars
 mod Items
 mod Collections
+mod Splits
+mod Kept
+mod Stays
