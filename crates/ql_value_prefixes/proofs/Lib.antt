@@ -5,3 +5,4 @@ mod Collections
 mod Splits
 mod Kept
 mod Stays
+mod Steady
