@@ -6,3 +6,4 @@ mod Splits
 mod Kept
 mod Stays
 mod Steady
+mod SteadyValues

@@ -28,7 +28,7 @@ after_shorter : (text : List ℕ) → length (after_spaces (drop 1 text)) ≤ le
 after_shorter text = omega (arith, length-drop (prefix_len (is_byte 32) (drop 1 text)) (drop 1 text), length-drop 1 text)
 
 -- a fault behind an item is no further left than the item's end
-behind_inside : (whole : Value) (more : List ℕ → Read Value) (rest : List ℕ) (left : ℕ) → behind_item whole more rest ≡ Err left → ((t : List ℕ) → more t ≡ Err left → left ≤ length t) → left ≤ length rest
+pub behind_inside : (whole : Value) (more : List ℕ → Read Value) (rest : List ℕ) (left : ℕ) → behind_item whole more rest ≡ Err left → ((t : List ℕ) → more t ≡ Err left → left ≤ length t) → left ≤ length rest
 behind_inside whole more rest left h inside =
     chosen {A = Read Value} (left ≤ length rest) (begins (is_byte 125) rest) (Ok (whole, drop 1 rest)) _ (Err left) h
     (λ t i. cc)
@@ -36,13 +36,13 @@ behind_inside whole more rest left h inside =
     (λ u j. let few = inside (after_spaces (drop 1 rest)) j in omega (arith, few, after_shorter rest))
     (λ u j. let len : length rest ≡ left = cc in omega (arith, len)))
 
-elements_inside : (room : ℕ) (s : List Scalar) (text : List ℕ) (left : ℕ) → SetSoFar room s → elements_at room s text ≡ Err left → left ≤ length text
+pub elements_inside : (room : ℕ) (s : List Scalar) (text : List ℕ) (left : ℕ) → SetSoFar room s → elements_at room s text ≡ Err left → left ≤ length text
 elements_inside room s text left so h = is_inside (SetStart s) text left (elements_before room s text left so h)
 
-entries_inside : (room : ℕ) (m : List (Scalar × Scalar)) (text : List ℕ) (left : ℕ) → MapSoFar room m → entries_at room m text ≡ Err left → left ≤ length text
+pub entries_inside : (room : ℕ) (m : List (Scalar × Scalar)) (text : List ℕ) (left : ℕ) → MapSoFar room m → entries_at room m text ≡ Err left → left ≤ length text
 entries_inside room m text left so h = is_inside (MapStart m) text left (entries_before room m text left so h)
 
-entry_value_inside : (text : List ℕ) (left : ℕ) → entry_value_at text ≡ Err left → left ≤ length text
+pub entry_value_inside : (text : List ℕ) (left : ℕ) → entry_value_at text ≡ Err left → left ≤ length text
 entry_value_inside text left h = is_inside EntryValueStart text left (entry_value_before text left h)
 
 value_stops : (text rest : List ℕ) (v : Scalar) → entry_value_at text ≡ Ok (v, rest) → Stops v rest
@@ -99,7 +99,7 @@ module _ (b : ℕ) (bs cs : List ℕ) where
       let len : length rest ≡ length post = cc in rw (brace, comma) (ap Err (at_first b bs cs pre len))))
 
   -- a scalar that ends before the fault is read again
-  read_on : (e : Scalar) (pre m rest : List ℕ) → scalar_at (pre ++ post) ≡ Ok (e, rest) → pre ≡ scalar_text e ++ m → rest ≡ m ++ post → scalar_at (pre ++ ext) ≡ Ok (e, m ++ ext)
+  pub read_on : (e : Scalar) (pre m rest : List ℕ) → scalar_at (pre ++ post) ≡ Ok (e, rest) → pre ≡ scalar_text e ++ m → rest ≡ m ++ post → scalar_at (pre ++ ext) ≡ Ok (e, m ++ ext)
   read_on e pre m rest read left right =
       let stop : Stops e (m ++ ext) = stops_same b bs cs e m (subst (λ t. Stops e t) right (scalar_stops (pre ++ post) rest e read)) in
       ap (λ t. scalar_at (t ++ ext)) left ∙ ap scalar_at (append_assoc (scalar_text e) m ext) ∙ again e (m ++ ext) (scalar_fits (pre ++ post) rest e read) stop
@@ -114,7 +114,7 @@ module _ (b : ℕ) (bs cs : List ℕ) where
   true_at : (pre : List ℕ) → length (pre ++ post) ≡ length post → ScalarStart (pre ++ codes "true")
   true_at pre len = subst (λ t. ScalarStart (t ++ codes "true")) (sym (none_before pre post len)) true_start
 
-  elements_stays : (room : ℕ) (s : List Scalar) (pre : List ℕ) → SetSoFar room s → Items (SetStart s) pre → elements_at room s (pre ++ post) ≡ Err (length post) → elements_at room s (pre ++ ext) ≡ Err (length ext)
+  pub elements_stays : (room : ℕ) (s : List Scalar) (pre : List ℕ) → SetSoFar room s → Items (SetStart s) pre → elements_at room s (pre ++ post) ≡ Err (length post) → elements_at room s (pre ++ ext) ≡ Err (length ext)
   unfolding elements_at
   elements_stays zero s pre so items h = let len : length (pre ++ post) ≡ length post = cc in ap Err (at_first b bs cs pre len)
   elements_stays (suc room) s pre so items h =
@@ -165,7 +165,7 @@ module _ (b : ℕ) (bs cs : List ℕ) where
     value_on fits stop =
         ap scalar_at (after_again gap (scalar_text v ++ (m ++ ext)) (scalar_first v (m ++ ext) 32 fits refl refl refl refl refl)) ∙ again v (m ++ ext) fits stop
 
-  entries_stays : (room : ℕ) (m : List (Scalar × Scalar)) (pre : List ℕ) → MapSoFar room m → Items (MapStart m) pre → entries_at room m (pre ++ post) ≡ Err (length post) → entries_at room m (pre ++ ext) ≡ Err (length ext)
+  pub entries_stays : (room : ℕ) (m : List (Scalar × Scalar)) (pre : List ℕ) → MapSoFar room m → Items (MapStart m) pre → entries_at room m (pre ++ post) ≡ Err (length post) → entries_at room m (pre ++ ext) ≡ Err (length ext)
   unfolding entries_at
   entries_stays zero m pre so items h = let len : length (pre ++ post) ≡ length post = cc in ap Err (at_first b bs cs pre len)
   entries_stays (suc room) m pre so items h =
