@@ -7,3 +7,4 @@ mod Kept
 mod Stays
 mod Steady
 mod SteadyValues
+mod ItemLengths

@@ -1,6 +1,6 @@
-use Rattle.std.specs.Prelude.{ℕ, ◌≡◌, ◌+◌, ◌==◌, ◌||◌, Bool, false, List, [], ◌∷◌, ◌++◌, All, take, drop, if◌then◌else◌}
+use Rattle.std.specs.Prelude.{ℕ, ◌≡◌, ◌+◌, ◌==◌, ◌||◌, Bool, true, List, [], ◌∷◌, ◌++◌, All, take, drop, min, codes, if◌then◌else◌}
 use Rattle.std.specs.List.{prefix_len}
-use Rattle.ql_base.specs.Bytes.{begins, is_digit, is_lower, is_text_byte}
+use Rattle.ql_base.specs.Bytes.{StopsBefore, begins, is_digit, is_lower, is_text_byte}
 use Rattle.ql_value.specs.declared.value.Value.{Value}
 use Rattle.ql_value.specs.declared.value.Value.TheVariants.{Set, Map}
 use Rattle.ql_value.specs.Collections.{IsMap, IsSet}
@@ -31,14 +31,22 @@ BeginsValue = BeginsAs IsValue
 unfoldable pub starts_item : ℕ → Bool
 starts_item b = is_digit b || (b == 45) || (b == 34) || (b == 116) || (b == 102)
 
--- the length of the item at the start of a text: a quote, the bytes behind it that a text may contain, and one more, which
--- is the closing quote if there is one; or a word's letters; or a sign or a digit, and the digits behind it
+-- an item may start at this offset: `true` might be one here, and the byte is one that an item may start with
+abbrev pub MayStartItem : List ℕ → ℕ → Type 0
+MayStartItem text at = BeginsAs IsValueButLast (take at text ++ codes "true") × (begins starts_item (drop at text) ≡ true)
+
+-- the length of the item at the start of a text: of a text between quotes with both of them, or its quote and 65 bytes if it
+-- is longer; of a word's letters; or of a sign or a digit and the digits behind it
 unfoldable pub item_length : List ℕ → ℕ
 item_length text =
-    if begins (is_byte 34) text then 2 + prefix_len is_text_byte (drop 1 text)
+    if begins (is_byte 34) text then min 66 (2 + prefix_len is_text_byte (drop 1 text))
     else if begins is_lower text then prefix_len is_lower text
     else 1 + prefix_len is_digit (drop 1 text)
 
--- no value's text begins with the bytes up to the end of the item at this offset and any byte but a digit
+-- no text of a value within the limits begins with these bytes, unless a digit follows them
+abbrev pub BeginsNone : List ℕ → Type 0
+BeginsNone bytes = (v : Value) (more : List ℕ) → IsValue v → StopsBefore is_digit more → ReadsValue v (bytes ++ more) [] → ⊥
+
+-- no such text begins with the bytes up to the end of the item at this offset, unless a digit follows them
 abbrev pub EndsValues : List ℕ → ℕ → Type 0
-EndsValues text at = (c : ℕ) → is_digit c ≡ false → BeginsValue (take (at + item_length (drop at text)) text ++ c ∷ []) → ⊥
+EndsValues text at = BeginsNone (take (at + item_length (drop at text)) text)
