@@ -8,3 +8,5 @@ mod Stays
 mod Steady
 mod SteadyValues
 mod ItemLengths
+mod Alike
+mod NoValue

@@ -1,4 +1,5 @@
 use Rattle.ql_value_prefixes.proofs.Collections.{begin, inside}
+use Rattle.ql_value_prefixes.proofs.NoValue.{no_byte, no_item}
 use Rattle.ql_value_prefixes.proofs.values.values_begin_before_faults.Goals as goal
 
 pub returns-clause-inside : goal.returns-clause-inside
@@ -6,3 +7,9 @@ returns-clause-inside c = inside
 
 pub returns-clause-begins : goal.returns-clause-begins
 returns-clause-begins c = begin
+
+pub returns-clause-byte : goal.returns-clause-byte
+returns-clause-byte c = no_byte
+
+pub returns-clause-item : goal.returns-clause-item
+returns-clause-item c = no_item
