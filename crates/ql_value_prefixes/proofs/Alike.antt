@@ -1,10 +1,10 @@
 -- texts that are the same as items: both begin with a byte that no item starts with, or one is cut behind its item
-use Rattle.std.proofs.Common.{◌≡◌, ◌≤◌, ◌<◌, ◌+◌, ℕ, suc, pos, neg_ℤ, min, Bool, true, false, Option, Some, None, Result, Ok, Err, List, [], ◌∷◌, ◌++◌, length, take, drop, arith, refl, sym, ap, ◌∙◌, nat_lt, cond, eqb, codes, append_assoc, length-append, length-drop, length-take, subst}
-use Rattle.std.specs.List.{AllPass, prefix_len}
+use Rattle.std.proofs.Common.{◌≡◌, ◌<◌, ℕ, suc, pos, neg_ℤ, Bool, true, false, Option, Some, None, Ok, Err, List, [], ◌∷◌, ◌++◌, length, take, drop, arith, refl, sym, ap, ◌∙◌, nat_lt, cond, eqb, codes, append_assoc, length-drop, length-take}
+use Rattle.std.specs.List.{prefix_len}
 use Rattle.std.specs.Option.{option_map_or}
 use Rattle.std.proofs.lemmas.Bool.Decides.{nat_tests}
 use Rattle.std.proofs.lemmas.List.Sums.{prefix_len-le-length}
-use Rattle.ql_base.specs.Bytes.{begins, is_digit, is_lower, is_text_byte}
+use Rattle.ql_base.specs.Bytes.{begins, is_digit, is_text_byte}
 use Rattle.ql_base.proofs.Fronts.{front_next}
 use Rattle.ql_value.specs.declared.scalar.Scalar.{Scalar}
 use Rattle.ql_value.specs.declared.scalar.Scalar.TheVariants.{Int, Bool as Truth, Text}

@@ -1,5 +1,5 @@
 -- what is known of the bytes before a fault
-use Rattle.std.proofs.Common.{◌≡◌, ◌≤◌, ◌-◌, ◌+◌, ℕ, List, [], ◌∷◌, ◌++◌, length, take, arith, refl, sym, ap, ◌∙◌, append_assoc, length-append, subst}
+use Rattle.std.proofs.Common.{◌≡◌, ◌≤◌, ◌-◌, ℕ, List, [], ◌++◌, length, take, arith, refl, sym, ap, ◌∙◌, append_assoc, length-append, subst}
 use Rattle.std.proofs.Math.Seq.{take-append_seam}
 
 -- so many bytes are left behind a beginning of the text, of which this holds

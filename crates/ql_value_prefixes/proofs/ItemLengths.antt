@@ -1,5 +1,5 @@
 -- what an item's length says of a scalar
-use Rattle.std.proofs.Common.{◌≡◌, ◌≤◌, ◌<◌, ◌+◌, ◌-◌, ◌^◌, ℕ, zero, suc, pos, negsuc, min, Bool, true, false, List, [], ◌∷◌, ◌++◌, length, take, drop, arith, refl, sym, ap, ◌∙◌, nat_le, ◌&&◌, eqb, codes, decimal, one-add, append_assoc, append-nil, length-append, length-take}
+use Rattle.std.proofs.Common.{◌≡◌, ◌≤◌, ◌<◌, ◌+◌, ◌^◌, ℕ, suc, pos, negsuc, min, Bool, true, false, List, [], ◌∷◌, ◌++◌, length, take, arith, refl, sym, ap, ◌∙◌, nat_le, eqb, codes, decimal, one-add, append_assoc, append-nil, length-append, length-take}
 use Rattle.std.specs.Int.{IsInRange}
 use Rattle.std.specs.List.{AllPass, prefix_len}
 use Rattle.std.proofs.Math.Seq.{take-append_seam}

@@ -1,5 +1,5 @@
 -- the bytes before a fault are the beginning of the items of a set or a map
-use Rattle.std.proofs.Common.{◌≡◌, ◌≤◌, ◌+◌, ℕ, suc, Bool, true, false, Result, Ok, Err, List, [], ◌∷◌, ◌++◌, length, drop, All, arith, refl, sym, ap, ◌∙◌, append_assoc, length-append, subst}
+use Rattle.std.proofs.Common.{◌≡◌, ◌≤◌, ◌+◌, ℕ, suc, true, Ok, Err, List, [], ◌∷◌, ◌++◌, length, drop, All, arith, refl, sym, ap, ◌∙◌, append_assoc, length-append, subst}
 use Rattle.std.specs.Cmp.{IsTotalOrder}
 use Rattle.std.specs.List.{prefix_len}
 use Rattle.std.specs.Ordering.{is_lt}

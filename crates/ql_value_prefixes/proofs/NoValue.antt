@@ -1,13 +1,12 @@
 -- no text of a value within the limits begins with the bytes before a fault and what stands there
-use Rattle.std.proofs.Common.{◌≡◌, ◌≤◌, ◌<◌, ◌+◌, ◌-◌, ℕ, zero, suc, Bool, true, false, Result, Ok, Err, List, [], ◌∷◌, ◌++◌, length, take, drop, arith, refl, sym, ap, ◌∙◌, codes, append_assoc, length-append, subst}
+use Rattle.std.proofs.Common.{◌≡◌, ◌<◌, ◌+◌, ◌-◌, ℕ, zero, suc, Bool, true, false, Ok, Err, List, [], ◌∷◌, ◌++◌, length, take, drop, arith, refl, sym, ap, ◌∙◌, codes, append_assoc, length-append, subst}
 use Rattle.std.proofs.Math.Seq.{drop-append_seam, take-append-add, take-append_seam}
-use Rattle.ql_base.specs.Bytes.{begins, is_digit}
+use Rattle.ql_base.specs.Bytes.{begins}
 use Rattle.ql_value.specs.declared.value.Value.{Value}
 use Rattle.ql_value.specs.Reading.{Read, value_at}
 use Rattle.ql_value.specs.ValueGrammar.{IsValue, ReadsValue}
 use Rattle.ql_value.proofs.ValueLaws.{value_again}
-use Rattle.ql_value_prefixes.specs.ValuePrefixes.{BeginsAs, BeginsNone, BeginsValue, EndsValues, IsValueButLast, MayStartItem, item_length, starts_item}
-use Rattle.ql_value_prefixes.proofs.Before.{Before}
+use Rattle.ql_value_prefixes.specs.ValuePrefixes.{BeginsAs, BeginsValue, EndsValues, IsValueButLast, MayStartItem, item_length, starts_item}
 use Rattle.ql_value_prefixes.proofs.Collections.{ValueStart, value_before}
 use Rattle.ql_value_prefixes.proofs.Alike.{byte_same, item_same}
 use Rattle.ql_value_prefixes.proofs.ItemLengths.{item_some}
@@ -47,9 +46,9 @@ item_by text pre (b ∷ bs) left is len h some = λ v more fits stop reads.
     let same : b ∷ cs ≡ take n (b ∷ bs) ++ more = ap (λ t. t ++ more) (sym (take_first n b bs (item_some b bs))) in
     let kept = value_stays b bs cs pre (λ start. item_same b bs cs more stop same) (fault_is text pre (b ∷ bs) left is len h) in
     let bytes : take (length text - left + item_length (drop (length text - left) text)) text ≡ pre ++ take n (b ∷ bs) =
-      ap (λ t. take (length text - left + item_length t) text) (back text pre (b ∷ bs) left is len) ∙ further text pre (b ∷ bs) left is len n in
+    ap (λ t. take (length text - left + item_length t) text) (back text pre (b ∷ bs) left is len) ∙ further text pre (b ∷ bs) left is len n in
     let whole : take (length text - left + item_length (drop (length text - left) text)) text ++ more ≡ pre ++ b ∷ cs =
-      ap (λ t. t ++ more) bytes ∙ append_assoc pre (take n (b ∷ bs)) more ∙ ap (λ t. pre ++ t) (sym same) in
+    ap (λ t. t ++ more) bytes ∙ append_assoc pre (take n (b ∷ bs)) more ∙ ap (λ t. pre ++ t) (sym same) in
     no_value (pre ++ b ∷ cs) (length (b ∷ cs)) v kept fits (subst (λ t. ReadsValue v t []) whole reads)
 
 pub no_item : (text : List ℕ) (left : ℕ) → value_at text ≡ Err left → 0 < left → EndsValues text (length text - left)

@@ -1,16 +1,15 @@
 -- a fault in a value stays where it is if another text follows whose first byte is the same, and which is the same item where
 -- an item may start
-use Rattle.std.proofs.Common.{◌≡◌, ◌≤◌, ◌<◌, ℕ, zero, suc, Bool, true, false, Result, Ok, Err, List, [], ◌∷◌, ◌++◌, length, drop, arith, refl, sym, ap, ◌∙◌, cond, codes, append_assoc, length-append, length-drop, subst}
+use Rattle.std.proofs.Common.{◌≡◌, ◌≤◌, ℕ, zero, suc, true, false, Ok, Err, List, [], ◌∷◌, ◌++◌, length, drop, arith, refl, sym, ap, ◌∙◌, cond, codes, append_assoc, length-drop, subst}
 use Rattle.std.specs.List.{prefix_len}
 use Rattle.ql_base.specs.Bytes.{begins, is_digit}
 use Rattle.ql_value.specs.declared.scalar.Scalar.{Scalar}
 use Rattle.ql_value.specs.declared.scalar.Scalar.TheVariants.{Int, Bool as Truth, Text}
 use Rattle.ql_value.specs.declared.value.Value.{Value}
-use Rattle.ql_value.specs.declared.value.Value.TheVariants.{Unit as Nothing, Set, Map}
-use Rattle.ql_value.specs.Contents.{value_of_scalar}
+use Rattle.ql_value.specs.declared.value.Value.TheVariants.{Set, Map}
 use Rattle.ql_value.specs.Order.{key_cmp, scalar_cmp}
 use Rattle.ql_value.specs.Spelling.{scalar_text}
-use Rattle.ql_value.specs.Reading.{Read, after_spaces, behind_item, collection_at, elements_at, entries_at, entry_value_at, follows, is_byte, on_read, scalar_at, value_at, word_at}
+use Rattle.ql_value.specs.Reading.{Read, after_spaces, behind_item, elements_at, entries_at, entry_value_at, follows, is_byte, on_read, scalar_at}
 use Rattle.ql_value.specs.ValueGrammar.{IsEntry, IsScalar, ReadsEntry, ReadsScalar, spaces}
 use Rattle.ql_value.proofs.ScalarGrammar.{begins_with, chosen, scalar_first, scalar_takes}
 use Rattle.ql_value.proofs.ScalarOrder.{keys_total, scalars_total}
@@ -18,11 +17,11 @@ use Rattle.ql_value.proofs.ValueLaws.{spaces_split}
 use Rattle.ql_value.proofs.ValueLimits.{scalar_fits}
 use Rattle.ql_value_prefixes.proofs.Before.{is_inside}
 use Rattle.ql_value_prefixes.proofs.Items.{fault_after, grows, one_more}
-use Rattle.ql_value_prefixes.proofs.Collections.{EntryValueStart, InnerStart, MapButLast, MapSoFar, MapStart, SetButLast, SetSoFar, SetStart, ValueStart, collection_before, elements_before, entries_before, entry_bytes, entry_follows, entry_split, entry_value_before, last_element, last_entry, last_key, map_start, no_elements, no_entries, past_colon, scalar_start, set_start, value_behind}
+use Rattle.ql_value_prefixes.proofs.Collections.{EntryValueStart, MapButLast, MapSoFar, MapStart, SetButLast, SetSoFar, SetStart, elements_before, entries_before, entry_bytes, entry_follows, entry_split, entry_value_before, last_element, last_entry, last_key, past_colon, value_behind}
 use Rattle.ql_value_prefixes.proofs.Kept.{Stops, again, scalar_stops}
 use Rattle.ql_value_prefixes.proofs.Scalars.{ScalarStart, scalar_before}
 use Rattle.ql_value_prefixes.proofs.Splits.{after_again, no_space_after, none_before, split}
-use Rattle.ql_value_prefixes.proofs.Stays.{SameItems, at_first, first_same, scalar_stays, stops_same, true_start, word_at_stays}
+use Rattle.ql_value_prefixes.proofs.Stays.{SameItems, at_first, first_same, scalar_stays, stops_same, true_start}
 
 after_shorter : (text : List ℕ) → length (after_spaces (drop 1 text)) ≤ length text
 after_shorter text = omega (arith, length-drop (prefix_len (is_byte 32) (drop 1 text)) (drop 1 text), length-drop 1 text)
@@ -129,8 +128,8 @@ module _ (b : ℕ) (bs cs : List ℕ) where
       let sp = split pre post (scalar_text e) rest (scalar_takes text rest e read) (behind_inside (Set (s ++ e ∷ [])) more rest (length post) j inside) in
       let next = one_more (λ x a c. ReadsScalar x a c) SetButLast s e (scalar_text e) in
       let kept = behind_stays (Set (s ++ e ∷ [])) more sp.mid (subst (λ r. behind_item (Set (s ++ e ∷ [])) more r ≡ Err (length post)) sp.right j) inside
-        (λ gap mid is k. elements_stays room (s ++ e ∷ []) mid grown
-          (λ start. items (subst (SetStart s) (rejoined (scalar_text e) (44 ∷ spaces gap) mid pre sp.mid (codes "true") sp.left is) (next gap (λ follow. refl) (mid ++ codes "true") start))) k) in
+      (λ gap mid is k. elements_stays room (s ++ e ∷ []) mid grown
+      (λ start. items (subst (SetStart s) (rejoined (scalar_text e) (44 ∷ spaces gap) mid pre sp.mid (codes "true") sp.left is) (next gap (λ follow. refl) (mid ++ codes "true") start))) k) in
       rw (read_on e pre sp.mid rest read sp.left sp.right, f) kept)
       (λ f j. let len : length text ≡ length post = cc in
       let r = read_first (items (last_element (suc room) s so (pre ++ codes "true") (true_at pre len))) e pre rest read len in
@@ -189,9 +188,9 @@ module _ (b : ℕ) (bs cs : List ℕ) where
       let stop : Stops v (sp.mid ++ ext) = stops_same b bs cs v sp.mid (subst (λ t. Stops v t) sp.right (value_stops mid rest v read)) in
       let next = one_more (λ x a c. ReadsEntry x a c) MapButLast m (k, v) (entry_bytes k value.gap v) in
       let kept = behind_stays (Map (m ++ (k, v) ∷ [])) more sp.mid (subst (λ r. behind_item (Map (m ++ (k, v) ∷ [])) more r ≡ Err (length post)) sp.right l) inside
-        (λ gap after is' n. entries_stays room (m ++ (k, v) ∷ []) after grown
-          (λ start. items (subst (MapStart m) (rejoined (entry_bytes k value.gap v) (44 ∷ spaces gap) after pre sp.mid (codes "true") sp.left is')
-            (next gap (λ follow. record { gap = value.gap; spelled = entry_split k v value.gap follow }) (after ++ codes "true") start))) n) in
+      (λ gap after is' n. entries_stays room (m ++ (k, v) ∷ []) after grown
+      (λ start. items (subst (MapStart m) (rejoined (entry_bytes k value.gap v) (44 ∷ spaces gap) after pre sp.mid (codes "true") sp.left is')
+      (next gap (λ follow. record { gap = value.gap; spelled = entry_split k v value.gap follow }) (after ++ codes "true") start))) n) in
       rw (key_on k v value.gap pre sp.mid sp.left k_fits, f, value_on k v value.gap pre sp.mid sp.left value.fits stop) kept))
       (λ f j. let len : length text ≡ length post = cc in
       let r = read_first (items (last_key (suc room) m so (pre ++ codes "true") (true_at pre len))) k pre mid key len in

@@ -1,5 +1,5 @@
 -- the same of collections and values
-use Rattle.std.proofs.Common.{◌≡◌, ◌≤◌, ℕ, suc, Bool, true, false, Result, Ok, Err, List, [], ◌∷◌, ◌++◌, length, drop, arith, refl, sym, ap, ◌∙◌, cond, codes, length-append, subst}
+use Rattle.std.proofs.Common.{◌≡◌, ◌≤◌, ℕ, suc, true, false, Ok, Err, List, [], ◌∷◌, ◌++◌, length, drop, arith, refl, sym, ap, ◌∙◌, cond, codes, length-append, subst}
 use Rattle.ql_base.specs.Bytes.{begins}
 use Rattle.ql_value.specs.declared.scalar.Scalar.{Scalar}
 use Rattle.ql_value.specs.declared.value.Value.{Value}
