@@ -1,11 +1,15 @@
-use Rattle.std.specs.Prelude.{ℕ, ◌≡◌, ◌+◌, ◌==◌, ◌||◌, Bool, true, List, [], ◌∷◌, ◌++◌, All, take, drop, min, codes, if◌then◌else◌}
+use Rattle.std.specs.Prelude.{ℕ, ◌≡◌, ◌+◌, ◌-◌, ◌==◌, ◌||◌, Bool, true, List, [], ◌∷◌, ◌++◌, All, take, drop, min, codes, Err, length, if◌then◌else◌}
 use Rattle.std.specs.List.{prefix_len}
 use Rattle.ql_base.specs.Bytes.{StopsBefore, begins, is_digit, is_lower, is_text_byte}
 use Rattle.ql_value.specs.declared.value.Value.{Value}
 use Rattle.ql_value.specs.declared.value.Value.TheVariants.{Set, Map}
 use Rattle.ql_value.specs.Collections.{IsMap, IsSet}
-use Rattle.ql_value.specs.Reading.{is_byte}
+use Rattle.ql_value.specs.Reading.{is_byte, value_at}
 use Rattle.ql_value.specs.ValueGrammar.{IsEntry, IsScalar, IsValue, ReadsValue}
+
+-- the reader of values has a fault at this offset of a text
+abbrev pub IsFaultAt : List ℕ → ℕ → Type 0
+IsFaultAt text at = value_at text ≡ Err (length text - at)
 
 -- the items but the last
 abbrev pub but_last : {X : Type 0} → List X → List X
@@ -35,8 +39,8 @@ starts_item b = is_digit b || (b == 45) || (b == 34) || (b == 116) || (b == 102)
 abbrev pub MayStartItem : List ℕ → ℕ → Type 0
 MayStartItem text at = BeginsAs IsValueButLast (take at text ++ codes "true") × (begins starts_item (drop at text) ≡ true)
 
--- the length of the item at the start of a text: of a text between quotes with both of them, or its quote and 65 bytes if it
--- is longer; of a word's letters; or of a sign or a digit and the digits behind it
+-- the length of the item at the start of a text: of a text with both its quotes, or one and 65 bytes if it is longer; of
+-- the letters of a word; or of a sign or a digit and the digits behind it
 unfoldable pub item_length : List ℕ → ℕ
 item_length text =
     if begins (is_byte 34) text then min 66 (2 + prefix_len is_text_byte (drop 1 text))

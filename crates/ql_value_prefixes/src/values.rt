@@ -1,16 +1,21 @@
-ghost use Rattle.std.specs.Prelude.{◌≡◌, ◌≤◌, ◌<◌, ◌-◌, ◌+◌, List, Err, length, take, ℕ};
-ghost use Rattle.ql_value.specs.Reading.{value_at};
-ghost use Rattle.ql_value_prefixes.specs.ValuePrefixes.{BeginsAs, BeginsValue, EndsValues, IsValueButLast, MayStartItem};
+ghost use Rattle.std.specs.Prelude.{◌≡◌, ◌≤◌, ◌<◌, ◌-◌, ◌+◌, List, Err, length, take, drop, ℕ};
+ghost use Rattle.ql_value.specs.declared.fault.ValueFault.TheVariants.{Unexpected};
+ghost use Rattle.ql_value.specs.Reading.{IsRead, value_at};
+ghost use Rattle.ql_value_prefixes.specs.ValuePrefixes.{BeginsAs, BeginsValue, EndsValues, IsFaultAt, IsValueButLast, MayStartItem};
 
-/// The bytes before a fault are the beginning of a value's text, and no value's text begins with what stands there too.
+/// The bytes before a fault are the beginning of a value's text, and no value's text begins with what is there too.
 ///
-/// A fault's offset is in the text or at its end (`inside`). Some text of the grammar begins with the bytes before it: its
-/// numbers and texts are within the limits, and so is its set or map but for the last item (`begins`). Where no item may
-/// start, no value's text begins with the bytes up to and with the one at the fault (`byte`). Wherever the fault is, none
-/// begins with the bytes up to the end of the item there, unless a digit follows them (`item`).
+/// A fault has an offset in the text or at its end (`inside`); one that is reported while reading from an offset on has
+/// that offset in the text from there (`reported`). Some text of the grammar begins with the bytes before it: its numbers
+/// and texts are within the limits, and so is its set or map but for the last item (`begins`). Unless an item may start
+/// there, no value's text begins with the bytes up to and with the one at the fault (`byte`). In any case none begins with
+/// the bytes up to the end of the item there, unless a digit follows them (`item`).
 pub fn values_begin_before_faults()
     ensures inside { (text : List ℕ) (left : ℕ) → value_at text ≡ Err left
         → left ≤ length text }
+    ensures reported { (bytes : List ℕ) (start place : ℕ) → start ≤ length bytes
+        → IsRead value_at bytes start (Err (Unexpected place))
+        → (start ≤ place) × IsFaultAt (drop start bytes) (place - start) }
     ensures begins { (text : List ℕ) (left : ℕ) → value_at text ≡ Err left
         → BeginsAs IsValueButLast (take (length text - left) text) }
     ensures byte { (text : List ℕ) (left : ℕ) → value_at text ≡ Err left → 0 < left
