@@ -1,24 +1,23 @@
 -- the bytes before a fault in a value are the beginning of a value's text
-use Rattle.std.proofs.Common.{◌≡◌, ◌≤◌, ◌-◌, ℕ, zero, suc, true, Ok, Err, List, [], ◌∷◌, ◌++◌, length, take, drop, All, arith, refl, sym, ap, ◌∙◌, append_assoc, append-nil, cond, codes, length-drop, subst}
+use Rattle.std.proofs.Common.{◌≡◌, ◌≤◌, ◌-◌, ℕ, zero, suc, true, Ok, Err, List, [], ◌∷◌, ◌++◌, length, take, drop, All, arith, refl, sym, ap, ◌∙◌, append_assoc, append-nil, cond, codes, subst}
 use Rattle.std.specs.List.{prefix_len}
 use Rattle.std.proofs.lemmas.List.Elements.{All-nil}
 use Rattle.ql_base.specs.Bytes.{begins}
 use Rattle.ql_value.specs.declared.scalar.Scalar.{Scalar}
 use Rattle.ql_value.specs.declared.scalar.Scalar.TheVariants.{Int, Bool as Truth, Text}
-use Rattle.ql_value.specs.declared.fault.ValueFault.TheVariants.{Unexpected}
 use Rattle.ql_value.specs.declared.value.Value.{Value}
 use Rattle.ql_value.specs.declared.value.Value.TheVariants.{Unit as Nothing, Set, Map}
 use Rattle.ql_value.specs.Collections.{IsMap, IsSet}
 use Rattle.ql_value.specs.Contents.{value_of_scalar}
 use Rattle.ql_value.specs.Order.{key_cmp, scalar_cmp}
 use Rattle.ql_value.specs.Spelling.{scalar_text}
-use Rattle.ql_value.specs.Reading.{IsRead, Read, after_spaces, behind_item, collection_at, elements_at, entries_at, entry_value_at, follows, is_byte, on_read, scalar_at, value_at, word_at}
+use Rattle.ql_value.specs.Reading.{Read, after_spaces, behind_item, collection_at, elements_at, entries_at, entry_value_at, follows, is_byte, on_read, scalar_at, value_at, word_at}
 use Rattle.ql_value.specs.ValueGrammar.{IsEntry, IsScalar, ReadsEntry, ReadsScalar, ReadsValue, spaces}
 use Rattle.ql_value.proofs.ScalarGrammar.{begins_with, chosen, scalar_takes}
 use Rattle.ql_value.proofs.ScalarOrder.{keys_total, scalars_total}
 use Rattle.ql_value.proofs.ValueLaws.{spaces_split}
 use Rattle.ql_value.proofs.ValueLimits.{scalar_fits}
-use Rattle.ql_value_prefixes.specs.ValuePrefixes.{BeginsAs, IsFaultAt, IsValueButLast, but_last}
+use Rattle.ql_value_prefixes.specs.ValuePrefixes.{BeginsAs, IsValueButLast, but_last}
 use Rattle.ql_value_prefixes.proofs.Before.{Before, at_start, behind, holds_before, is_inside, weaker}
 use Rattle.ql_value_prefixes.proofs.Items.{ItemsStart, SoFar, StartsWith, all_on, but_last_is, fault_after, grows, item_step, one_item}
 use Rattle.ql_value_prefixes.proofs.Scalars.{ScalarStart, WordStart, no_byte, scalar_before, word_before, word_fault}
@@ -226,12 +225,3 @@ inside text left h = is_inside ValueStart text left (value_before text left h)
 
 pub begin : (text : List ℕ) (left : ℕ) → value_at text ≡ Err left → BeginsAs IsValueButLast (take (length text - left) text)
 begin text left h = holds_before ValueStart text left (value_before text left h)
-
--- an offset of some bytes, as an offset of the text from `start` on
-pub reported : (bytes : List ℕ) (start place : ℕ) → start ≤ length bytes → IsRead value_at bytes start (Err (Unexpected place)) → (start ≤ place) × IsFaultAt (drop start bytes) (place - start)
-reported bytes start place few h =
-    let within = inside (drop start bytes) (length bytes - place) h.1 in
-    let rest = length-drop start bytes in
-    let behind_start : start ≤ place = omega (arith, within, rest, few, h.0) in
-    let same : length bytes - place ≡ length (drop start bytes) - (place - start) = omega (arith, rest, few, h.0, behind_start) in
-    (behind_start, h.1 ∙ ap Err same)

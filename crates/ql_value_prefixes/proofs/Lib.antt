@@ -10,3 +10,4 @@ mod SteadyValues
 mod ItemLengths
 mod Alike
 mod NoValue
+mod Offsets

@@ -1,4 +1,4 @@
-use Rattle.std.specs.Prelude.{ℕ, ◌≡◌, ◌+◌, ◌-◌, ◌==◌, ◌||◌, Bool, true, List, [], ◌∷◌, ◌++◌, All, take, drop, min, codes, Err, length, if◌then◌else◌}
+use Rattle.std.specs.Prelude.{ℕ, ◌≡◌, ◌≤◌, ◌+◌, ◌-◌, ◌==◌, ◌||◌, Bool, true, List, [], ◌∷◌, ◌++◌, All, take, drop, min, codes, Err, length, if◌then◌else◌}
 use Rattle.std.specs.List.{prefix_len}
 use Rattle.ql_base.specs.Bytes.{StopsBefore, begins, is_digit, is_lower, is_text_byte}
 use Rattle.ql_value.specs.declared.value.Value.{Value}
@@ -7,9 +7,9 @@ use Rattle.ql_value.specs.Collections.{IsMap, IsSet}
 use Rattle.ql_value.specs.Reading.{is_byte, value_at}
 use Rattle.ql_value.specs.ValueGrammar.{IsEntry, IsScalar, IsValue, ReadsValue}
 
--- the reader of values has a fault at this offset of a text
+-- the first fault of a text that is read as a value is at this offset
 abbrev pub IsFaultAt : List ℕ → ℕ → Type 0
-IsFaultAt text at = value_at text ≡ Err (length text - at)
+IsFaultAt text at = (at ≤ length text) × (value_at text ≡ Err (length text - at))
 
 -- the items but the last
 abbrev pub but_last : {X : Type 0} → List X → List X

@@ -5,22 +5,21 @@ ghost use Rattle.ql_value_prefixes.specs.ValuePrefixes.{BeginsAs, BeginsValue, E
 
 /// The bytes before a fault are the beginning of a value's text, and no value's text begins with what is there too.
 ///
-/// A fault has an offset in the text or at its end (`inside`); one that is reported while reading from an offset on has
-/// that offset in the text from there (`reported`). Some text of the grammar begins with the bytes before it: its numbers
-/// and texts are within the limits, and so is its set or map but for the last item (`begins`). Unless an item may start
-/// there, no value's text begins with the bytes up to and with the one at the fault (`byte`). In any case none begins with
-/// the bytes up to the end of the item there, unless a digit follows them (`item`).
+/// Each fault is at an offset in the text or at its end (`inside`); one that is reported while reading from an offset on is
+/// a fault of the text from there (`reported`). Some text of the grammar begins with the bytes before it: its numbers and
+/// texts are within the limits, and so is its set or map but for the last item (`begins`). Unless an item may start there,
+/// no value's text begins with the bytes up to and with the one at the fault (`byte`). In any case none begins with the
+/// bytes up to the end of the item there, unless a digit follows them (`item`).
 pub fn values_begin_before_faults()
     ensures inside { (text : List ℕ) (left : ℕ) → value_at text ≡ Err left
-        → left ≤ length text }
+        → IsFaultAt text (length text - left) }
     ensures reported { (bytes : List ℕ) (start place : ℕ) → start ≤ length bytes
         → IsRead value_at bytes start (Err (Unexpected place))
         → (start ≤ place) × IsFaultAt (drop start bytes) (place - start) }
-    ensures begins { (text : List ℕ) (left : ℕ) → value_at text ≡ Err left
-        → BeginsAs IsValueButLast (take (length text - left) text) }
-    ensures byte { (text : List ℕ) (left : ℕ) → value_at text ≡ Err left → 0 < left
-        → (MayStartItem text (length text - left) → ⊥)
-        → BeginsValue (take (length text - left + 1) text) → ⊥ }
-    ensures item { (text : List ℕ) (left : ℕ) → value_at text ≡ Err left → 0 < left
-        → EndsValues text (length text - left) }
+    ensures begins { (text : List ℕ) (at : ℕ) → IsFaultAt text at
+        → BeginsAs IsValueButLast (take at text) }
+    ensures byte { (text : List ℕ) (at : ℕ) → IsFaultAt text at → at < length text
+        → (MayStartItem text at → ⊥) → BeginsValue (take (at + 1) text) → ⊥ }
+    ensures item { (text : List ℕ) (at : ℕ) → IsFaultAt text at → at < length text
+        → EndsValues text at }
 {}
