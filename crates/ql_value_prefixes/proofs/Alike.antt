@@ -12,8 +12,8 @@ use Rattle.ql_value.specs.Spelling.{scalar_text}
 use Rattle.ql_value.specs.Reading.{Read, is_byte, negative_at, number_up_to, plain_at, quoted_at, scalar_at, word_at}
 use Rattle.ql_value.proofs.ScalarGrammar.{chosen, scalar_takes}
 use Rattle.ql_value.proofs.ValueLimits.{scalar_fits}
-use Rattle.ql_value_prefixes.specs.ValuePrefixes.{item_length, starts_item}
-use Rattle.ql_value_prefixes.proofs.ItemLengths.{digit_only, digits_kept, front_least, item_taken, number_length, part_passes, quote_length, sign_letter}
+use Rattle.ql_value_prefixes.specs.ValuePrefixes.{item_length, starts_item, starts_number}
+use Rattle.ql_value_prefixes.proofs.ItemLengths.{digit_only, digit_starts, digits_kept, front_least, item_taken, number_length, part_passes, quote_length, sign_letter, sign_starts, stops_number}
 use Rattle.ql_value_prefixes.proofs.Kept.{again, scalar_stops}
 use Rattle.ql_value_prefixes.proofs.Stays.{SameItems, word_at_stays}
 
@@ -69,7 +69,7 @@ negative_same text back text' back' k left (Some n) h =
     (λ t i. rw t refl)
     (λ f i. cc)
 
-module _ (b : ℕ) (bs cs more : List ℕ) (stop : begins is_digit more ≡ false) (is : b ∷ cs ≡ take (item_length (b ∷ bs)) (b ∷ bs) ++ more) where
+module _ (b : ℕ) (bs cs more : List ℕ) (stop : starts_number b ≡ true → begins is_digit more ≡ false) (is : b ∷ cs ≡ take (item_length (b ∷ bs)) (b ∷ bs) ++ more) where
   abbrev post : List ℕ
   post = b ∷ bs
 
@@ -84,7 +84,7 @@ module _ (b : ℕ) (bs cs more : List ℕ) (stop : begins is_digit more ≡ fals
   plain_fault d h =
       let only = digit_only b d in
       let run : item_length post ≡ prefix_len is_digit post = number_length b bs only.0 only.1 ∙ sym (front_next is_digit b bs d) in
-      let kept = digits_kept post ext more stop (is ∙ ap (λ k. take k post ++ more) run) in
+      let kept = digits_kept post ext more (stop (digit_starts b d)) (is ∙ ap (λ k. take k post ++ more) run) in
       let none = plain_none post (length post) h in
       rw (kept.0, kept.1, none) refl
 
@@ -94,7 +94,7 @@ module _ (b : ℕ) (bs cs more : List ℕ) (stop : begins is_digit more ≡ fals
       let k = prefix_len is_digit bs in
       let same : b ≡ 45 = grind (arith, nat_tests) in
       let len : item_length post ≡ suc k = number_length b bs (rw same refl) (rw same sign_letter) in
-      let kept = digits_kept bs cs more stop (tail_is k len) in
+      let kept = digits_kept bs cs more (stop (sign_starts b same)) (tail_is k len) in
       chosen {A = Read Scalar} (negative_at ext cs ≡ Err (length ext)) (eqb k 0) (Err (length bs)) _ (Err (length post)) h
       (λ t i. let short : length bs ≡ suc (length bs) = cc in absurd (omega (arith, short)))
       (λ f i. rw (kept.0, f, kept.1) (negative_same post bs ext cs k (length post) (number_up_to 9223372036854775808 (take k bs)) i))
@@ -136,7 +136,7 @@ module _ (b : ℕ) (bs cs more : List ℕ) (stop : begins is_digit more ≡ fals
   scalar_read e rest h =
       let fits = scalar_fits post rest e h in
       let spelled : post ≡ scalar_text e ++ rest = scalar_takes post rest e h in
-      let taken = item_taken e rest more fits (scalar_stops post rest e h) stop in
+      let taken = item_taken e rest more fits (scalar_stops post rest e h) (stops_number e rest bs more b fits spelled stop) in
       let front : take (item_length post) post ≡ scalar_text e ++ taken.over = ap (λ t. take (item_length t) t) spelled ∙ taken.is in
       let whole : ext ≡ scalar_text e ++ (taken.over ++ more) = is ∙ ap (λ t. t ++ more) front ∙ append_assoc (scalar_text e) taken.over more in
       (taken.over ++ more, ap scalar_at whole ∙ again e (taken.over ++ more) fits taken.stops)

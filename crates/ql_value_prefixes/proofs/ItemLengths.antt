@@ -15,7 +15,7 @@ use Rattle.ql_value.specs.declared.scalar.Scalar.{Scalar}
 use Rattle.ql_value.specs.declared.scalar.Scalar.TheVariants.{Int, Bool as Truth, Text}
 use Rattle.ql_value.specs.Spelling.{quoted, scalar_text}
 use Rattle.ql_value.specs.ValueGrammar.{IsScalar}
-use Rattle.ql_value_prefixes.specs.ValuePrefixes.{item_length}
+use Rattle.ql_value_prefixes.specs.ValuePrefixes.{item_length, starts_number}
 use Rattle.ql_value_prefixes.proofs.Kept.{Stops}
 
 -- ---- the item's length by its first byte
@@ -127,7 +127,29 @@ false_taken rest =
     let count : 1 + (1 + (1 + (1 + (1 + m)))) ≡ suc (suc (suc (suc (suc m)))) = omega arith in
     ap (λ n. take n (codes "false" ++ rest)) count
 
-pub item_taken : (e : Scalar) (rest more : List ℕ) → IsScalar e → Stops e rest → begins is_digit more ≡ false → ItemTaken e rest more
+-- a number's first byte
+digits_first : (w rest bs : List ℕ) (b : ℕ) → AllPass is_digit w → 0 < length w → b ∷ bs ≡ w ++ rest → is_digit b ≡ true
+digits_first [] rest bs b all some is = absurd (omega arith)
+digits_first (d ∷ ds) rest bs b all some is = let same : b ≡ d = cc in rw same (passes_head is_digit d ds all)
+
+pub digit_starts : (b : ℕ) → is_digit b ≡ true → starts_number b ≡ true
+unfolding starts_number
+digit_starts b d = rw d refl
+
+pub sign_starts : (b : ℕ) → b ≡ 45 → starts_number b ≡ true
+unfolding starts_number is_digit
+sign_starts b same = rw same refl
+
+-- no digit follows a number, if none follows what starts as one
+pub stops_number : (e : Scalar) (rest bs more : List ℕ) (b : ℕ) → IsScalar e → b ∷ bs ≡ scalar_text e ++ rest → (starts_number b ≡ true → begins is_digit more ≡ false) → Stops e more
+stops_number (Int (pos n)) rest bs more b fits is stop =
+    let small : n < 2 ^ 64 = omega (arith, fits.sfits) in
+    stop (digit_starts b (digits_first (decimal n) rest bs b (decimal_digits n small) (decimal_nonempty n small) is))
+stops_number (Int (negsuc n)) rest bs more b fits is stop = let same : b ≡ 45 = cc in stop (sign_starts b same)
+stops_number (Truth t) rest bs more b fits is stop = tt
+stops_number (Text t) rest bs more b fits is stop = tt
+
+pub item_taken : (e : Scalar) (rest more : List ℕ) → IsScalar e → Stops e rest → Stops e more → ItemTaken e rest more
 item_taken (Int (pos n)) rest more fits stop none =
     let small : n < 2 ^ 64 = omega (arith, fits.sfits) in
     record { over = []; is = digits_taken (decimal n) rest (decimal_digits n small) (decimal_nonempty n small) stop ∙ sym (append-nil (decimal n)); stops = none }

@@ -6,7 +6,7 @@ use Rattle.ql_value.specs.declared.value.Value.{Value}
 use Rattle.ql_value.specs.Reading.{Read, value_at}
 use Rattle.ql_value.specs.ValueGrammar.{IsValue, ReadsValue}
 use Rattle.ql_value.proofs.ValueLaws.{value_again}
-use Rattle.ql_value_prefixes.specs.ValuePrefixes.{BeginsAs, BeginsValue, EndsValues, IsValueButLast, MayStartItem, item_length, starts_item}
+use Rattle.ql_value_prefixes.specs.ValuePrefixes.{BeginsAs, BeginsValue, EndsValues, IsValueButLast, MayStartItem, item_length, starts_item, starts_number}
 use Rattle.ql_value_prefixes.proofs.Collections.{ValueStart, value_before}
 use Rattle.ql_value_prefixes.proofs.Alike.{byte_same, item_same}
 use Rattle.ql_value_prefixes.proofs.ItemLengths.{item_some}
@@ -44,7 +44,7 @@ item_by text pre (b ∷ bs) left is len h some = λ v more fits stop reads.
     let n = item_length (b ∷ bs) in
     let cs : List ℕ = take (n - 1) bs ++ more in
     let same : b ∷ cs ≡ take n (b ∷ bs) ++ more = ap (λ t. t ++ more) (sym (take_first n b bs (item_some b bs))) in
-    let kept = value_stays b bs cs pre (λ start. item_same b bs cs more stop same) (fault_is text pre (b ∷ bs) left is len h) in
+    let kept = value_stays b bs cs pre (λ start. item_same b bs cs more (λ t. stop (ap (begins starts_number) (back text pre (b ∷ bs) left is len) ∙ t)) same) (fault_is text pre (b ∷ bs) left is len h) in
     let bytes : take (length text - left + item_length (drop (length text - left) text)) text ≡ pre ++ take n (b ∷ bs) =
     ap (λ t. take (length text - left + item_length t) text) (back text pre (b ∷ bs) left is len) ∙ further text pre (b ∷ bs) left is len n in
     let whole : take (length text - left + item_length (drop (length text - left) text)) text ++ more ≡ pre ++ b ∷ cs =

@@ -31,7 +31,11 @@ BeginsAs Fits bytes = (more : List ℕ) × (v : Value) × Fits v × ReadsValue v
 abbrev pub BeginsValue : List ℕ → Type 0
 BeginsValue = BeginsAs IsValue
 
--- what a number, a truth value or a text may start with: a digit, `-`, `"`, `t` or `f`
+-- what a number may start with: a digit or `-`
+unfoldable pub starts_number : ℕ → Bool
+starts_number b = is_digit b || (b == 45)
+
+-- what an item may start with: a number, or `"`, `t` or `f`
 unfoldable pub starts_item : ℕ → Bool
 starts_item b = is_digit b || (b == 45) || (b == 34) || (b == 116) || (b == 102)
 
@@ -47,10 +51,9 @@ item_length text =
     else if begins is_lower text then prefix_len is_lower text
     else 1 + prefix_len is_digit (drop 1 text)
 
--- no text of a value within the limits begins with these bytes, unless a digit follows them
-abbrev pub BeginsNone : List ℕ → Type 0
-BeginsNone bytes = (v : Value) (more : List ℕ) → IsValue v → StopsBefore is_digit more → ReadsValue v (bytes ++ more) [] → ⊥
-
--- no such text begins with the bytes up to the end of the item at this offset, unless a digit follows them
+-- no text of a value within the limits begins with the bytes up to the end of the item at this offset, unless the item is
+-- a number and a digit follows it
 abbrev pub EndsValues : List ℕ → ℕ → Type 0
-EndsValues text at = BeginsNone (take (at + item_length (drop at text)) text)
+EndsValues text at =
+    (v : Value) (more : List ℕ) → IsValue v → (begins starts_number (drop at text) ≡ true → StopsBefore is_digit more)
+    → ReadsValue v (take (at + item_length (drop at text)) text ++ more) [] → ⊥

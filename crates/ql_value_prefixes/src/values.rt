@@ -9,7 +9,7 @@ ghost use Rattle.ql_value_prefixes.specs.ValuePrefixes.{BeginsAs, BeginsValue, E
 /// a fault of the text from there (`reported`). Some text of the grammar begins with the bytes before it: its numbers and
 /// texts are within the limits, and so is its set or map but for the last item (`begins`). Unless an item may start there,
 /// no value's text begins with the bytes up to and with the one at the fault (`byte`). In any case none begins with the
-/// bytes up to the end of the item there, unless a digit follows them (`item`).
+/// bytes up to the end of the item there, unless it is a number and a digit follows it (`item`).
 pub fn values_begin_before_faults()
     ensures inside { (text : List ℕ) (left : ℕ) → value_at text ≡ Err left
         → IsFaultAt text (length text - left) }
