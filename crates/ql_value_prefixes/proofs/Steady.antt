@@ -1,5 +1,5 @@
--- a fault in a value stays where it is if another text follows whose first byte is the same, and which is the same item where
--- an item may start
+-- a fault in the items of a set or a map stays where it is if another text follows that begins with the same byte, and with
+-- the same item where an item may start
 use Rattle.std.proofs.Common.{◌≡◌, ◌≤◌, ℕ, zero, suc, true, false, Ok, Err, List, [], ◌∷◌, ◌++◌, length, drop, arith, refl, sym, ap, ◌∙◌, cond, codes, append_assoc, length-drop, subst}
 use Rattle.std.specs.List.{prefix_len}
 use Rattle.ql_base.specs.Bytes.{begins, is_digit}

@@ -1,4 +1,4 @@
--- the same of collections and values
+-- a fault in a set or a map, or in a value, stays where it is if such another text follows
 use Rattle.std.proofs.Common.{◌≡◌, ◌≤◌, ℕ, suc, true, false, Ok, Err, List, [], ◌∷◌, ◌++◌, length, drop, arith, refl, sym, ap, ◌∙◌, cond, codes, length-append, subst}
 use Rattle.ql_base.specs.Bytes.{begins}
 use Rattle.ql_value.specs.declared.scalar.Scalar.{Scalar}
