@@ -1,0 +1,13 @@
+mod Before
+mod Scalars
+mod Items
+mod Collections
+mod Splits
+mod Kept
+mod Stays
+mod Steady
+mod SteadyValues
+mod ItemLengths
+mod Alike
+mod NoValue
+mod Offsets
