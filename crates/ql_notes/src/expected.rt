@@ -8,7 +8,6 @@ use crate::guesses::Guess;
 use crate::wanted::{push_quoted, push_separator};
 use crate::words::{has_word, is, sentence_of, words_of};
 use ql_base::{NoMemory, push_bytes};
-use ql_lex::LexFault;
 use ql_parse::{ParseFault, parse_program};
 use std::alloc::Global;
 
@@ -47,7 +46,7 @@ fn is_allowed(alloc: Global, before: &[u8], terminal: &[u8]) -> Result<bool, NoM
     push_bytes(&mut text, terminal)?;
     match parse_program(alloc, &text) {
         Ok(_) => Ok(true),
-        Err(ParseFault::NoMemory | ParseFault::Lex(LexFault::NoMemory)) => Err(NoMemory),
+        Err(ParseFault::NoMemory) => Err(NoMemory),
         Err(ParseFault::Lex(_)) => Ok(false),
         Err(ParseFault::Unexpected(at) | ParseFault::Deep(at) | ParseFault::Wide(at)) => Ok(
             at as usize > before.len() + 1,

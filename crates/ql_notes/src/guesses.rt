@@ -6,7 +6,6 @@ use crate::likeness::likest;
 use crate::syntax::Break;
 use crate::words::{has_word, is, sentence_of};
 use ql_base::{NoMemory, is_blank};
-use ql_lex::LexFault;
 use ql_parse::{ParseFault, parse_program};
 use std::alloc::Global;
 
@@ -150,7 +149,7 @@ fn unread(alloc: Global, found: Break, first: &[u8], second: &[u8]) -> Result<us
     }
     match parse_program(alloc, &text) {
         Ok(_) => Ok(0),
-        Err(ParseFault::NoMemory | ParseFault::Lex(LexFault::NoMemory)) => Err(NoMemory),
+        Err(ParseFault::NoMemory) => Err(NoMemory),
         Err(ParseFault::Lex(_)) => Ok(text.len()),
         Err(ParseFault::Unexpected(at) | ParseFault::Deep(at) | ParseFault::Wide(at)) => Ok(
             text.len().saturating_sub(at as usize).saturating_add(1),
