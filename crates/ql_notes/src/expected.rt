@@ -38,6 +38,7 @@ pub(crate) fn expected(alloc: Global, before: &[u8]) -> Result<Vec<&'static [u8]
 fn is_allowed(alloc: Global, before: &[u8], terminal: &[u8]) -> Result<bool, NoMemory>
     requires { length before.now ≤ 1048576 }
 {
+    // No terminal is as long, so the text is never too long to be read.
     if terminal.len() > 32 {
         return Ok(false);
     }

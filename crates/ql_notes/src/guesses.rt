@@ -144,6 +144,7 @@ impl Best {
 fn unread(alloc: Global, found: Break, first: &[u8], second: &[u8]) -> Result<usize, NoMemory> {
     let mut text = Vec::from_slice(alloc, found.before)?;
     push_filled(&mut text, b" % % %", &[first, second, found.rest])?;
+    // Words are short, so no text is as long.
     if text.len() > 4 * BYTES {
         return Ok(text.len());
     }
