@@ -2,41 +2,34 @@
 
 use crate::columns::FaultyLine;
 use crate::declared::{parameters, place_in, type_at, word_after};
-use crate::fields::field_text;
+use crate::fields::{CALL_ARGUMENT, CALL_OBJECT, CALL_OPERATION, field_text};
 use crate::filled::{push_counted, push_filled};
 use crate::pieces::{piece, piece_before};
 use crate::words::{has_word, is, sentence_of};
 use ql_base::{NoMemory, push_bytes};
 
-// The fields of a call: its object, its operation, and its first argument.
-const OBJECT: usize = 4;
-
-const OPERATION: usize = 5;
-
-const FIRST: usize = 6;
-
 /// The index of the field where a call's operation or its arguments don't fit.
 pub(crate) fn misfit(line: FaultyLine) -> usize {
     let Some(op) = own_operation(line) else {
-        return OPERATION;
+        return CALL_OPERATION;
     };
     let (taken, given) = (
         count(line.source, op),
-        line.fields.len().saturating_sub(FIRST),
+        line.fields.len().saturating_sub(CALL_ARGUMENT),
     );
     for k in 0..taken.min(given) {
-        let argument = FIRST.saturating_add(k);
+        let argument = CALL_ARGUMENT.saturating_add(k);
         if kind_of(field_text(line.fields, argument)) != base(line.source, op, k) {
             return argument;
         }
     }
-    FIRST.saturating_add(taken.min(given))
+    CALL_ARGUMENT.saturating_add(taken.min(given))
 }
 
 // The token that declares the operation of a call, if that is one of the object's type.
 fn own_operation(line: FaultyLine) -> Option<usize> {
-    let op = place_in(line.source, b"op", field_text(line.fields, OPERATION))?;
-    let declared = word_after(line.above, b"object", field_text(line.fields, OBJECT));
+    let op = place_in(line.source, b"op", field_text(line.fields, CALL_OPERATION))?;
+    let declared = word_after(line.above, b"object", field_text(line.fields, CALL_OBJECT));
     if type_at(line.source, op) == declared {
         Some(op)
     } else {
@@ -77,13 +70,13 @@ pub(crate) fn push_misfit(said: &mut Vec<u8>, line: FaultyLine, k: usize) -> Res
     };
     let (taken, given) = (
         count(line.source, op),
-        line.fields.len().saturating_sub(FIRST),
+        line.fields.len().saturating_sub(CALL_ARGUMENT),
     );
-    let name = field_text(line.fields, OPERATION);
+    let name = field_text(line.fields, CALL_OPERATION);
     if taken != given {
         return push_counts(said, name, taken, given);
     }
-    let number = k.saturating_sub(FIRST);
+    let number = k.saturating_sub(CALL_ARGUMENT);
     let found = with_article(kind_of(field_text(line.fields, k)));
     let expected = with_article(base(line.source, op, number));
     push_filled(said, b"found %, expected %: ", &[found, expected])?;
@@ -122,8 +115,8 @@ pub(crate) fn push_counts(
 
 fn push_other_type(said: &mut Vec<u8>, line: FaultyLine) -> Result<(), NoMemory> {
     let (object, operation) = (
-        field_text(line.fields, OBJECT),
-        field_text(line.fields, OPERATION),
+        field_text(line.fields, CALL_OBJECT),
+        field_text(line.fields, CALL_OPERATION),
     );
     let own = word_after(line.above, b"object", object);
     match place_in(line.source, b"op", operation) {
@@ -142,7 +135,7 @@ fn push_other_type(said: &mut Vec<u8>, line: FaultyLine) -> Result<(), NoMemory>
 
 /// Appends what the operation of a call takes.
 pub(crate) fn push_operation(note: &mut Vec<u8>, line: FaultyLine) -> Result<(), NoMemory> {
-    let name = field_text(line.fields, OPERATION);
+    let name = field_text(line.fields, CALL_OPERATION);
     let Some(op) = place_in(line.source, b"op", name) else {
         return Ok(());
     };

@@ -1,11 +1,13 @@
 // What is wrong with a line that has its form.
 
-use crate::above::first_word;
+use crate::above::{first_word, is_line_start};
 use crate::arguments::push_misfit;
 use crate::columns::FaultyLine;
 use crate::declared::word_of;
 use crate::effects::{push_mixed, push_not_earlier, push_other_object, push_split};
-use crate::fields::{Field, field_text};
+use crate::fields::{
+    BEGIN_OBJECT, BEGIN_TRANSACTION, CALL_OPERATION, EFFECT_OPERATION, Field, field_text,
+};
 use crate::filled::push_filled;
 use crate::first::push_first_at;
 use crate::ranges::push_range;
@@ -55,16 +57,16 @@ fn push_unknown_name(said: &mut Vec<u8>, line: FaultyLine, k: usize) -> Result<(
 fn unknown_sentence(line: FaultyLine, k: usize) -> &'static [u8] {
     let first = field_text(line.fields, 0);
     if is(line.part, b"execution") {
-        if k == 3 {
+        if k == EFFECT_OPERATION {
             b"`%` isn't an operation of the source"
         } else {
             b"`%` doesn't name a transaction of the source"
         }
     } else if is(first, b"object") {
         b"`%` isn't a type of the source"
-    } else if k == 4 && is(first, b"begin") {
+    } else if k == BEGIN_TRANSACTION && is(first, b"begin") {
         b"`%` isn't a transaction of the source"
-    } else if k == 5 && is(first, b"call") {
+    } else if k == CALL_OPERATION && is(first, b"call") {
         b"`%` isn't an operation of the source"
     } else {
         b"no line `object` declares `%`"
@@ -114,7 +116,7 @@ fn first_offset(line: FaultyLine, k: usize) -> Option<usize> {
 // The offset of a name in a field before an index, among those that a line `begin` lists.
 fn offset_of_earlier(fields: &[Field], k: usize, name: &[u8]) -> Option<usize> {
     for (j, field) in fields.iter().enumerate() {
-        if 4 < j && j < k && field.text == name {
+        if BEGIN_OBJECT <= j && j < k && field.text == name {
             return Some(field.from);
         }
     }
@@ -124,7 +126,7 @@ fn offset_of_earlier(fields: &[Field], k: usize, name: &[u8]) -> Option<usize> {
 // The offset of a name in the first line that declares an object of this name.
 fn offset_of_object(above: &[u8], name: &[u8]) -> Option<usize> {
     for k in 0..above.len() {
-        if k == 0 || above[k - 1] == b'\n' {
+        if is_line_start(above, k) {
             let line = line_of(&above[k..]);
             if is(first_word(line), b"object") && word_of(line, 1) == name {
                 return Some(k.saturating_add(offset_of_second(line)));

@@ -1,7 +1,7 @@
 // A wrong kind as a sentence: what was found, what was expected, and what requires it.
 
 use crate::arguments::push_counts;
-use crate::clashes::{Clash, Operator, Wish};
+use crate::clashes::{Clash, Operator, Requirement};
 use crate::filled::push_filled;
 use crate::kinds::spelling;
 use crate::pieces::{last_of, piece, piece_after_last};
@@ -38,7 +38,7 @@ pub(crate) fn push_clash(
     k: usize,
     clash: Clash,
 ) -> Result<(), NoMemory> {
-    if let Wish::Count(function, count) = clash.wish {
+    if let Requirement::Count(function, count) = clash.requirement {
         return push_count(note, function, count);
     }
     match clash.found {
@@ -49,19 +49,19 @@ pub(crate) fn push_clash(
         )?,
         None => push_bytes(note, b"found `empty`, expected ")?,
     }
-    push_expected_kind(note, clash.wish)?;
+    push_expected_kind(note, clash.requirement)?;
     push_bytes(note, b": ")?;
-    push_wish(note, owner(tokens, k, clash.wish), clash.wish)
+    push_requirement(note, owner(tokens, k, clash.requirement), clash.requirement)
 }
 
 // The name of what requires a kind at a token: an operation, a field or an emitted value.
-fn owner<'a>(tokens: &[&'a [u8]], k: usize, wish: Wish) -> &'a [u8] {
-    match wish {
-        Wish::Answer(_) => piece_after_last(tokens, k, b"op"),
-        Wish::Initial(_) => piece_after_last(tokens, k, b"state"),
-        Wish::Assigned(_) => piece_after_last(tokens, k, b"{ ;"),
+fn owner<'a>(tokens: &[&'a [u8]], k: usize, requirement: Requirement) -> &'a [u8] {
+    match requirement {
+        Requirement::Answer(_) => piece_after_last(tokens, k, b"op"),
+        Requirement::Initial(_) => piece_after_last(tokens, k, b"state"),
+        Requirement::Assigned(_) => piece_after_last(tokens, k, b"{ ;"),
         // NAME : BASE =
-        Wish::Emitted(_) => {
+        Requirement::Emitted(_) => {
             let sign = last_of(tokens, k, b"=").unwrap_or(k);
             piece(tokens, sign.saturating_sub(3))
         }
@@ -84,12 +84,12 @@ fn article(kind: Kind) -> &'static [u8] {
     }
 }
 
-fn push_expected_kind(note: &mut Vec<u8>, wish: Wish) -> Result<(), NoMemory> {
-    match wish {
-        Wish::Comparable(_) => push_bytes(note, b"an int, a bool or a text"),
-        Wish::First(function) => push_bytes(note, sentence_of(FIRST, name_of(function))),
+fn push_expected_kind(note: &mut Vec<u8>, requirement: Requirement) -> Result<(), NoMemory> {
+    match requirement {
+        Requirement::Comparable(_) => push_bytes(note, b"an int, a bool or a text"),
+        Requirement::First(function) => push_bytes(note, sentence_of(FIRST, name_of(function))),
         _ => {
-            match wish.kind() {
+            match requirement.kind() {
                 Some(kind) => push_kind(note, kind),
                 None => push_bytes(note, b"another kind"),
             }
@@ -98,34 +98,39 @@ fn push_expected_kind(note: &mut Vec<u8>, wish: Wish) -> Result<(), NoMemory> {
 }
 
 // Appends what requires the kind.
-fn push_wish(note: &mut Vec<u8>, owner: &[u8], wish: Wish) -> Result<(), NoMemory> {
-    match wish {
-        Wish::Answer(kind) => push_named(note, b"the answer of `%` is ", owner, kind),
-        Wish::Initial(kind) => push_initial(note, owner, kind),
-        Wish::Assigned(kind) => push_named(note, b"the field `%` is ", owner, kind),
-        Wish::Emitted(kind) => push_named(note, b"the emitted value `%` is ", owner, kind),
-        Wish::When => push_bytes(note, b"`when` takes a bool"),
-        Wish::Condition => push_bytes(note, b"the condition of `if` is a bool"),
-        Wish::Branch(_) => push_bytes(note, b"`then` and `else` must have the same kind"),
-        Wish::Operand(operator, kind) => push_named(
+fn push_requirement(
+    note: &mut Vec<u8>,
+    owner: &[u8],
+    requirement: Requirement,
+) -> Result<(), NoMemory> {
+    match requirement {
+        Requirement::Answer(kind) => push_named(note, b"the answer of `%` is ", owner, kind),
+        Requirement::Initial(kind) => push_initial(note, owner, kind),
+        Requirement::Assigned(kind) => push_named(note, b"the field `%` is ", owner, kind),
+        Requirement::Emitted(kind) => push_named(note, b"the emitted value `%` is ", owner, kind),
+        Requirement::When => push_bytes(note, b"`when` takes a bool"),
+        Requirement::Condition => push_bytes(note, b"the condition of `if` is a bool"),
+        Requirement::Branch(_) => push_bytes(note, b"`then` and `else` must have the same kind"),
+        Requirement::Operand(operator, kind) => push_named(
             note,
             b"`%` takes ",
             spelling_of(operator),
             kind,
         ),
-        Wish::Comparable(operator) => push_filled(
+        Requirement::Comparable(operator) => push_filled(
             note,
             b"`%` compares only values of these kinds",
             &[spelling_of(operator)],
         ),
-        Wish::SameAsLeft(operator, _) => push_filled(
+        Requirement::SameAsLeft(operator, _) => push_filled(
             note,
             b"both sides of `%` must have the same kind",
             &[spelling_of(operator)],
         ),
-        Wish::First(function) | Wish::Argument(function, _, _) | Wish::Count(function, _) =>
-            push_taken(note, name_of(function)),
-        Wish::Any => Ok(()),
+        Requirement::First(function)
+        | Requirement::Argument(function, _, _)
+        | Requirement::Count(function, _) => push_taken(note, name_of(function)),
+        Requirement::Any => Ok(()),
     }
 }
 
@@ -209,7 +214,7 @@ pub(crate) fn push_redeclared(
     push_filled(
         note,
         b"  did you mean `%: ",
-        &[owner(tokens, k, clash.wish)],
+        &[owner(tokens, k, clash.requirement)],
     )?;
     push_filled(note, b"%`?\n", &[spelling(kind)])
 }

@@ -17,7 +17,7 @@ pub(crate) enum Operator {
 
 /// What requires a kind of an expression, and which one.
 #[derive(Clone, Copy)]
-pub(crate) enum Wish {
+pub(crate) enum Requirement {
     /// An operation, of its answer.
     Answer(Kind),
     /// A field, of its initial value.
@@ -53,33 +53,36 @@ pub(crate) enum Wish {
 #[derive(Clone, Copy)]
 pub(crate) struct Clash {
     pub(crate) found: Option<Kind>,
-    pub(crate) wish: Wish,
+    pub(crate) requirement: Requirement,
     /// Whether the expression is a name.
     pub(crate) is_name: bool,
 }
 
-impl Wish {
+impl Requirement {
     /// The required kind, if there is exactly one.
     pub(crate) fn kind(self) -> Option<Kind> {
         match self {
-            Wish::Answer(kind)
-            | Wish::Initial(kind)
-            | Wish::Assigned(kind)
-            | Wish::Emitted(kind)
-            | Wish::Branch(kind)
-            | Wish::Operand(_, kind)
-            | Wish::SameAsLeft(_, kind)
-            | Wish::Argument(_, _, kind) => Some(kind),
-            Wish::When | Wish::Condition => Some(Kind::Bool),
-            Wish::Comparable(_) | Wish::First(_) | Wish::Count(_, _) | Wish::Any => None,
+            Requirement::Answer(kind)
+            | Requirement::Initial(kind)
+            | Requirement::Assigned(kind)
+            | Requirement::Emitted(kind)
+            | Requirement::Branch(kind)
+            | Requirement::Operand(_, kind)
+            | Requirement::SameAsLeft(_, kind)
+            | Requirement::Argument(_, _, kind) => Some(kind),
+            Requirement::When | Requirement::Condition => Some(Kind::Bool),
+            Requirement::Comparable(_)
+            | Requirement::First(_)
+            | Requirement::Count(_, _)
+            | Requirement::Any => None,
         }
     }
 
     fn is_met(self, kind: Kind) -> bool {
         match self {
-            Wish::Comparable(_) => is_basic(kind),
-            Wish::First(function) => function.signature(kind).is_some(),
-            Wish::Count(_, _) => false,
+            Requirement::Comparable(_) => is_basic(kind),
+            Requirement::First(function) => function.signature(kind).is_some(),
+            Requirement::Count(_, _) => false,
             _ => {
                 match self.kind() {
                     Some(wanted) => wanted == kind,
@@ -99,23 +102,23 @@ struct Search<'a> {
 
 // The clash in an expression of which a kind is required.
 #[cycle(clash)]
-fn clash_of(search: Search, e: &Expr, wish: Wish) -> Option<Clash> {
+fn clash_of(search: Search, e: &Expr, requirement: Requirement) -> Option<Clash> {
     let inner = clash_inside(search, e.at, &e.node);
     if inner.is_some() || e.at != search.at {
         return inner;
     }
-    own_clash(search, &e.node, wish)
+    own_clash(search, &e.node, requirement)
 }
 
 // The clash of a whole expression that begins at the offset.
-fn own_clash(search: Search, node: &ExprNode, wish: Wish) -> Option<Clash> {
+fn own_clash(search: Search, node: &ExprNode, requirement: Requirement) -> Option<Clash> {
     let found = kind_of(search.scope, node)?;
-    if wish.is_met(found) {
+    if requirement.is_met(found) {
         return None;
     }
     Some(Clash {
         found: Some(found),
-        wish,
+        requirement,
         is_name: matches!(node, ExprNode::Var(_)),
     })
 }
@@ -134,27 +137,27 @@ fn clash_inside(search: Search, at: u32, node: &ExprNode) -> Option<Clash> {
         }
         ExprNode::If(test, left, right) => {
             let branch = kind_of(search.scope, &left.node);
-            clash_of(search, test, Wish::Condition)
-                .or(clash_of(search, left, Wish::Any))
-                .or(clash_of(search, right, branch_wish(branch)))
+            clash_of(search, test, Requirement::Condition)
+                .or(clash_of(search, left, Requirement::Any))
+                .or(clash_of(search, right, branch_requirement(branch)))
         }
         ExprNode::Binary(op, left, right) => {
             let kind = kind_of(search.scope, &left.node);
-            clash_of(search, left, left_wish(*op)).or(clash_of(
+            clash_of(search, left, left_requirement(*op)).or(clash_of(
                 search,
                 right,
-                right_wish(*op, kind),
+                right_requirement(*op, kind),
             ))
         }
         ExprNode::Not(operand) => clash_of(
             search,
             operand,
-            Wish::Operand(Operator::Not, Kind::Bool),
+            Requirement::Operand(Operator::Not, Kind::Bool),
         ),
         ExprNode::Neg(operand) => clash_of(
             search,
             operand,
-            Wish::Operand(Operator::Minus, Kind::Int),
+            Requirement::Operand(Operator::Minus, Kind::Int),
         ),
         _ => None,
     }
@@ -165,11 +168,11 @@ fn clash_inside(search: Search, at: u32, node: &ExprNode) -> Option<Clash> {
 fn clash_in_arguments(search: Search, function: Function, arguments: &[Expr]) -> Option<Clash> {
     let (first, others) = arguments.split_first()?;
     let kind = kind_of(search.scope, &first.node);
-    let mut clash = clash_of(search, first, Wish::First(function));
+    let mut clash = clash_of(search, first, Requirement::First(function));
     let mut number = 1usize;
     for argument in others {
-        let wish = argument_wish(function, kind, number);
-        clash = clash.or(clash_of(search, argument, wish));
+        let requirement = argument_requirement(function, kind, number);
+        clash = clash.or(clash_of(search, argument, requirement));
         number = number.saturating_add(1);
     }
     clash
@@ -178,43 +181,42 @@ fn clash_in_arguments(search: Search, function: Function, arguments: &[Expr]) ->
 fn count_clash(function: Function, count: usize) -> Clash {
     Clash {
         found: None,
-        wish: Wish::Count(function, count),
+        requirement: Requirement::Count(function, count),
         is_name: false,
     }
 }
 
-fn branch_wish(left: Option<Kind>) -> Wish {
+fn branch_requirement(left: Option<Kind>) -> Requirement {
     match left {
-        Some(kind) => Wish::Branch(kind),
-        None => Wish::Any,
+        Some(kind) => Requirement::Branch(kind),
+        None => Requirement::Any,
     }
 }
 
-fn argument_wish(function: Function, first: Option<Kind>, number: usize) -> Wish {
+fn argument_requirement(function: Function, first: Option<Kind>, number: usize) -> Requirement {
     match first.and_then(|first| argument_kind(function, first, number)) {
-        Some(kind) => Wish::Argument(function, number, kind),
-        None => Wish::Any,
+        Some(kind) => Requirement::Argument(function, number, kind),
+        None => Requirement::Any,
     }
 }
 
 // What an operator requires of its left operand.
-fn left_wish(op: BinOp) -> Wish {
+fn left_requirement(op: BinOp) -> Requirement {
     let operator = Operator::Two(op);
     match op {
-        BinOp::Eq | BinOp::Ne => Wish::Comparable(operator),
-        BinOp::Or | BinOp::And => Wish::Operand(operator, Kind::Bool),
-        _ => Wish::Operand(operator, Kind::Int),
+        BinOp::Eq | BinOp::Ne => Requirement::Comparable(operator),
+        BinOp::Or | BinOp::And => Requirement::Operand(operator, Kind::Bool),
+        _ => Requirement::Operand(operator, Kind::Int),
     }
 }
 
 // What an operator requires of its right operand, by the kind of the left one.
-fn right_wish(op: BinOp, left: Option<Kind>) -> Wish {
-    match (left_wish(op), left) {
-        (Wish::Comparable(operator), Some(kind)) if is_basic(kind) => Wish::SameAsLeft(
-            operator, kind,
-        ),
-        (Wish::Comparable(_), _) => Wish::Any,
-        (wish, _) => wish,
+fn right_requirement(op: BinOp, left: Option<Kind>) -> Requirement {
+    match (left_requirement(op), left) {
+        (Requirement::Comparable(operator), Some(kind)) if is_basic(kind) =>
+            Requirement::SameAsLeft(operator, kind),
+        (Requirement::Comparable(_), _) => Requirement::Any,
+        (requirement, _) => requirement,
     }
 }
 
@@ -257,7 +259,7 @@ fn known(word: Word, kind: Kind) -> Known {
 fn initial_clash(field: &Field) -> Clash {
     Clash {
         found: kind_of_init(&field.init),
-        wish: Wish::Initial(field.kind),
+        requirement: Requirement::Initial(field.kind),
         is_name: false,
     }
 }
@@ -273,7 +275,7 @@ fn clash_in_operation(
         scope.push(known(param.name.word, kind_of_base(param.base)))?;
     }
     let search = Search { scope: &scope, at };
-    let clash = clash_of(search, &op.answer, Wish::Answer(op.kind));
+    let clash = clash_of(search, &op.answer, Requirement::Answer(op.kind));
     match &op.effect {
         Some(effect) if clash.is_none() => clash_in_effect(alloc, fields, search, effect),
         _ => Ok(clash),
@@ -289,13 +291,13 @@ fn clash_in_effect(
     let mut scope = Vec::from_slice(alloc, fields)?;
     for bind in effect.binds.items() {
         let kind = kind_of_base(bind.base);
-        let clash = clash_of(search, &bind.value, Wish::Emitted(kind));
+        let clash = clash_of(search, &bind.value, Requirement::Emitted(kind));
         if clash.is_some() {
             return Ok(clash);
         }
         scope.push(known(bind.name.word, kind))?;
     }
-    let clash = clash_of(search, &effect.test, Wish::When);
+    let clash = clash_of(search, &effect.test, Requirement::When);
     let applied = Search {
         scope: &scope,
         at: search.at,
@@ -306,11 +308,11 @@ fn clash_in_effect(
 fn clash_in_statements(search: Search, effect: &EmitDecl) -> Option<Clash> {
     for statement in effect.stmts.items() {
         let target = statement.target.word;
-        let wish = match kind_named(search.scope, &target) {
-            Some(kind) => Wish::Assigned(kind),
-            None => Wish::Any,
+        let requirement = match kind_named(search.scope, &target) {
+            Some(kind) => Requirement::Assigned(kind),
+            None => Requirement::Any,
         };
-        let clash = clash_of(search, &statement.value, wish);
+        let clash = clash_of(search, &statement.value, requirement);
         if clash.is_some() {
             return clash;
         }

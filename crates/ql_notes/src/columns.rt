@@ -1,13 +1,19 @@
 // Which field of a line breaks a rule.
 
-use crate::above::first_word;
+use crate::above::{first_word, is_line_start};
 use crate::arguments::misfit;
-use crate::declared::{line_with, place_in, word_after, word_of};
-use crate::fields::{Field, field_text};
+use crate::declared::{line_with, named, place_in, word_of};
+use crate::fields::{
+    BEGIN_OBJECT, BEGIN_TRANSACTION, CALL_ARGUMENT, CALL_OBJECT, CALL_OPERATION, EFFECT_ID,
+    EFFECT_OBJECT, EFFECT_OPERATION, EFFECT_SEEN, EFFECT_STAMP, EFFECT_TXN, Field, SEEN_IN_HOLDS,
+    field_text,
+};
+use crate::pieces::place_between;
 use crate::ranges::is_too_great;
 use crate::words::{has_word, is};
-use ql_base::number_of;
+use ql_base::{NoMemory, number_of};
 use ql_excerpt::line_of;
+use std::alloc::Global;
 
 /// A faulty line: the kind of its file, the rule, its fields, the text above it, and the tokens of the source that
 /// the file belongs to.
@@ -22,54 +28,38 @@ pub(crate) struct FaultyLine<'a> {
     pub(crate) replicas: u64,
 }
 
-// The fields of an effect in an execution.
-const OBJECT: usize = 2;
-
-const OPERATION: usize = 3;
-
-const TXN: usize = 12;
-
-const STAMP: usize = 14;
-
-const SEEN: usize = 16;
-
-// The field of the first effect that is seen in a `holds` file.
-const SEEN_IN_HOLDS: usize = 7;
-
 /// The index of the field that breaks the rule.
-pub(crate) fn column(line: FaultyLine) -> usize {
+pub(crate) fn column(alloc: Global, line: FaultyLine) -> Result<usize, NoMemory> {
     let first = if is(line.part, b"holds") {
         SEEN_IN_HOLDS
     } else {
-        SEEN
+        EFFECT_SEEN
     };
     if is(line.rule, b"NotForward") {
-        return not_earlier(line, first);
+        Ok(not_earlier(line, first))
+    } else if is(line.rule, b"OtherObject") {
+        Ok(on_other_object(line, first))
+    } else if is(line.part, b"schedule") {
+        in_schedule(alloc, line)
+    } else if is(line.part, b"execution") {
+        Ok(in_execution(line))
+    } else {
+        Ok(if is(line.rule, b"Range") { 1 } else { 0 })
     }
-    if is(line.rule, b"OtherObject") {
-        return on_other_object(line, first);
-    }
-    if is(line.part, b"schedule") {
-        return in_schedule(line);
-    }
-    if is(line.part, b"execution") {
-        return in_execution(line);
-    }
-    if is(line.rule, b"Range") { 1 } else { 0 }
 }
 
 fn in_execution(line: FaultyLine) -> usize {
     if is(line.rule, b"Stamp") {
-        STAMP
+        EFFECT_STAMP
     } else if is(line.rule, b"SplitTxn") {
-        TXN
+        EFFECT_TXN
     } else if is(line.rule, b"Mixed") {
-        OPERATION
+        EFFECT_OPERATION
     } else if is(line.rule, b"Unknown") {
-        if is_declared(line, b"op", OPERATION) {
-            TXN
+        if is_declared(line, b"op", EFFECT_OPERATION) {
+            EFFECT_TXN
         } else {
-            OPERATION
+            EFFECT_OPERATION
         }
     } else {
         0
@@ -82,7 +72,7 @@ fn is_declared(line: FaultyLine, keyword: &[u8], k: usize) -> bool {
 
 // The first effect that is seen and isn't earlier.
 fn not_earlier(line: FaultyLine, first: usize) -> usize {
-    let own = number_in(field_text(line.fields, 1));
+    let own = number_in(field_text(line.fields, EFFECT_ID));
     for (k, id) in line.fields.iter().enumerate() {
         if first <= k && number_in(id.text) >= own {
             return k;
@@ -93,64 +83,70 @@ fn not_earlier(line: FaultyLine, first: usize) -> usize {
 
 // The first effect that is seen and is on another object.
 fn on_other_object(line: FaultyLine, first: usize) -> usize {
-    let object = field_text(line.fields, OBJECT);
+    let object = field_text(line.fields, EFFECT_OBJECT);
     for k in 0..line.above.len() {
-        if k == 0 || line.above[k - 1] == b'\n' {
+        if is_line_start(line.above, k) {
             let text = line_of(&line.above[k..]);
-            if is(first_word(text), b"effect") && word_of(text, 2) != object {
-                let seen = place_of_id(line, first, word_of(text, 1));
-                if seen > 0 {
-                    return seen;
-                }
+            if is(first_word(text), b"effect")
+                && word_of(text, EFFECT_OBJECT) != object
+                && let Some(seen) = field_of(line, first, word_of(text, EFFECT_ID))
+            {
+                return seen;
             }
         }
     }
     0
 }
 
-// The index of the field with an effect that is seen, 0 where it isn't.
-fn place_of_id(line: FaultyLine, first: usize, id: &[u8]) -> usize {
+// The index of the field with an effect, if it is among those that are seen.
+fn field_of(line: FaultyLine, first: usize, id: &[u8]) -> Option<usize> {
     for (k, field) in line.fields.iter().enumerate() {
         if first <= k && field.text == id {
-            return k;
+            return Some(k);
         }
     }
-    0
+    None
 }
 
 fn number_in(text: &[u8]) -> u64 {
     number_of(text, u32::MAX as u64).unwrap_or(0)
 }
 
-fn in_schedule(line: FaultyLine) -> usize {
+fn in_schedule(alloc: Global, line: FaultyLine) -> Result<usize, NoMemory> {
     let first = field_text(line.fields, 0);
     if is(line.rule, b"Unknown") {
-        unknown(line, first)
+        unknown(alloc, line, first)
     } else if is(line.rule, b"Kind") {
-        misfit(line)
+        Ok(misfit(line))
     } else if is(line.rule, b"Range") {
-        out_of_range(line, first)
+        Ok(out_of_range(line, first))
     } else if is(line.rule, b"Twice") {
-        twice(line, first)
+        Ok(twice(line, first))
     } else {
-        0
+        Ok(0)
     }
 }
 
-fn unknown(line: FaultyLine, first: &[u8]) -> usize {
+// The name that isn't declared. In a call it is the operation if the object is declared.
+fn unknown(alloc: Global, line: FaultyLine, first: &[u8]) -> Result<usize, NoMemory> {
     if is(first, b"object") {
-        return 2;
+        return Ok(2);
     }
-    if is(first, b"begin") && !is_declared(line, b"transaction", 4) {
-        return 4;
-    }
-    let from = if is(first, b"begin") { 5 } else { 4 };
-    for (k, object) in line.fields.iter().enumerate() {
-        if from <= k && word_after(line.above, b"object", object.text).is_empty() {
-            return k;
+    let (from, to) = if is(first, b"begin") {
+        if !is_declared(line, b"transaction", BEGIN_TRANSACTION) {
+            return Ok(BEGIN_TRANSACTION);
+        }
+        (BEGIN_OBJECT, line.fields.len())
+    } else {
+        (CALL_OBJECT, CALL_OPERATION)
+    };
+    let objects = named(alloc, line.above, b"object", 1)?;
+    for k in from..to {
+        if place_between(&objects, 0, objects.len(), field_text(line.fields, k)).is_none() {
+            return Ok(k);
         }
     }
-    5
+    Ok(CALL_OPERATION)
 }
 
 // The number that is out of range.
@@ -183,11 +179,11 @@ fn out_of_range(line: FaultyLine, first: &[u8]) -> usize {
 // The first argument that doesn't fit in 64 bits.
 fn great_argument(line: FaultyLine) -> usize {
     for (k, argument) in line.fields.iter().enumerate() {
-        if k > 5 && is_too_great(argument.text) {
+        if CALL_ARGUMENT <= k && is_too_great(argument.text) {
             return k;
         }
     }
-    6
+    CALL_ARGUMENT
 }
 
 fn is_replica(line: FaultyLine, k: usize) -> bool {
@@ -214,7 +210,7 @@ fn twice(line: FaultyLine, first: &[u8]) -> usize {
     }
     for (k, object) in line.fields.iter().enumerate() {
         for (j, earlier) in line.fields.iter().enumerate() {
-            if 5 <= j && j < k && earlier.text == object.text {
+            if BEGIN_OBJECT <= j && j < k && earlier.text == object.text {
                 return k;
             }
         }

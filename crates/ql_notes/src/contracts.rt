@@ -158,16 +158,29 @@ fn push_contract_misuse(
         &said,
     )?;
     if is(fault.rule, b"Unknown") {
-        return push_instead(alloc, note, &found, k);
+        push_instead(alloc, note, &found, k)
+    } else if is(fault.rule, b"Twice") {
+        push_first_in_contract(note, contract, tokens, first_of(&found, k))
+    } else {
+        Ok(())
     }
-    match first_of(&found, k) {
-        Some(first) if is(fault.rule, b"Twice") => push_first_at(
-            note,
-            contract.file,
-            contract.from.saturating_add(offset_in(tokens, first)),
-        ),
-        _ => Ok(()),
-    }
+}
+
+// Where a name occurs first, by the index of its token inside a source, if it occurs before.
+fn push_first_in_contract(
+    note: &mut Vec<u8>,
+    contract: Placed,
+    tokens: &[Token],
+    first: Option<usize>,
+) -> Result<(), NoMemory> {
+    let Some(k) = first else {
+        return Ok(());
+    };
+    push_first_at(
+        note,
+        contract.file,
+        contract.from.saturating_add(offset_in(tokens, k)),
+    )
 }
 
 // The rule as the answer reports it: a contract that doesn't have its form is `Unexpected`.

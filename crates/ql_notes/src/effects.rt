@@ -2,25 +2,16 @@
 
 use crate::columns::FaultyLine;
 use crate::declared::{line_with, place_in, type_at, word_of};
-use crate::fields::field_text;
+use crate::fields::{
+    EFFECT_ID, EFFECT_OBJECT, EFFECT_OPERATION, EFFECT_SESSION, EFFECT_TXN, field_text,
+};
 use crate::filled::{push_counted, push_filled};
 use crate::stamp::{EffectLine, effect_at};
 use ql_base::{NoMemory, number_of};
 
-// The fields of an effect in an execution.
-const ID: usize = 1;
-
-const OBJECT: usize = 2;
-
-const OPERATION: usize = 3;
-
-const SESSION: usize = 10;
-
-const TXN: usize = 12;
-
 /// Appends that an effect sees the one in a field, which isn't earlier.
 pub(crate) fn push_not_earlier(said: &mut Vec<u8>, line: FaultyLine) -> Result<(), NoMemory> {
-    let own = field_text(line.fields, ID);
+    let own = field_text(line.fields, EFFECT_ID);
     match number_of(own, u32::MAX as u64) {
         Some(number) if number > 1 => push_counted(
             said,
@@ -39,24 +30,28 @@ pub(crate) fn push_other_object(
     k: usize,
 ) -> Result<(), NoMemory> {
     let seen = field_text(line.fields, k);
-    let other = word_of(effect_line(line.above, ID, seen), OBJECT);
+    let other = word_of(effect_line(line.above, EFFECT_ID, seen), EFFECT_OBJECT);
     push_filled(
         said,
         b"effect % is on `%`, but effect %, which sees it, is on `%`",
         &[
             seen,
             other,
-            field_text(line.fields, ID),
-            field_text(line.fields, OBJECT),
+            field_text(line.fields, EFFECT_ID),
+            field_text(line.fields, EFFECT_OBJECT),
         ],
     )
 }
 
 /// Appends the type of an effect's operation, and that of the operation of the first effect on its object.
 pub(crate) fn push_mixed(said: &mut Vec<u8>, line: FaultyLine) -> Result<(), NoMemory> {
-    let operation = field_text(line.fields, OPERATION);
-    let first = effect_line(line.above, OBJECT, field_text(line.fields, OBJECT));
-    let other = word_of(first, OPERATION);
+    let operation = field_text(line.fields, EFFECT_OPERATION);
+    let first = effect_line(
+        line.above,
+        EFFECT_OBJECT,
+        field_text(line.fields, EFFECT_OBJECT),
+    );
+    let other = word_of(first, EFFECT_OPERATION);
     push_filled(
         said,
         b"an object has one type: `%` belongs to `%`, but `%` at effect % belongs to `%`",
@@ -64,7 +59,7 @@ pub(crate) fn push_mixed(said: &mut Vec<u8>, line: FaultyLine) -> Result<(), NoM
             operation,
             type_of(line.source, operation),
             other,
-            word_of(first, ID),
+            word_of(first, EFFECT_ID),
             type_of(line.source, other),
         ],
     )
@@ -85,8 +80,8 @@ fn effect_line<'a>(text: &'a [u8], number: usize, word: &[u8]) -> &'a [u8] {
 /// Appends why an effect can't belong to its transaction.
 pub(crate) fn push_split(said: &mut Vec<u8>, line: FaultyLine) -> Result<(), NoMemory> {
     let (txn, session) = (
-        field_text(line.fields, TXN),
-        field_text(line.fields, SESSION),
+        field_text(line.fields, EFFECT_TXN),
+        field_text(line.fields, EFFECT_SESSION),
     );
     let mut since = b"".as_slice();
     for k in 0..line.above.len() {

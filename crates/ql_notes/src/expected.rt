@@ -8,7 +8,6 @@ use crate::guesses::Guess;
 use crate::wanted::{push_quoted, push_separator};
 use crate::words::{has_word, is, sentence_of, words_of};
 use ql_base::{NoMemory, push_bytes};
-use ql_lex::LexFault;
 use ql_parse::{ParseFault, parse_program};
 use std::alloc::Global;
 
@@ -39,6 +38,7 @@ pub(crate) fn expected(alloc: Global, before: &[u8]) -> Result<Vec<&'static [u8]
 fn is_allowed(alloc: Global, before: &[u8], terminal: &[u8]) -> Result<bool, NoMemory>
     requires { length before.now ≤ 1048576 }
 {
+    // No terminal is as long, so the text is never too long to be read.
     if terminal.len() > 32 {
         return Ok(false);
     }
@@ -47,7 +47,7 @@ fn is_allowed(alloc: Global, before: &[u8], terminal: &[u8]) -> Result<bool, NoM
     push_bytes(&mut text, terminal)?;
     match parse_program(alloc, &text) {
         Ok(_) => Ok(true),
-        Err(ParseFault::NoMemory | ParseFault::Lex(LexFault::NoMemory)) => Err(NoMemory),
+        Err(ParseFault::NoMemory) => Err(NoMemory),
         Err(ParseFault::Lex(_)) => Ok(false),
         Err(ParseFault::Unexpected(at) | ParseFault::Deep(at) | ParseFault::Wide(at)) => Ok(
             at as usize > before.len() + 1,

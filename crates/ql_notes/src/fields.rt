@@ -6,6 +6,37 @@ use ql_base::NoMemory;
 use ql_excerpt::line_of;
 use std::alloc::Global;
 
+/// The fields of an effect in an execution: its number, object, operation, session, transaction and stamp, and the
+/// first effect that it sees.
+pub(crate) const EFFECT_ID: usize = 1;
+
+pub(crate) const EFFECT_OBJECT: usize = 2;
+
+pub(crate) const EFFECT_OPERATION: usize = 3;
+
+pub(crate) const EFFECT_SESSION: usize = 10;
+
+pub(crate) const EFFECT_TXN: usize = 12;
+
+pub(crate) const EFFECT_STAMP: usize = 14;
+
+pub(crate) const EFFECT_SEEN: usize = 16;
+
+/// The field of the first effect that is seen in a `holds` file.
+pub(crate) const SEEN_IN_HOLDS: usize = 7;
+
+/// The fields of a call in a schedule: its object, its operation, and its first argument.
+pub(crate) const CALL_OBJECT: usize = 4;
+
+pub(crate) const CALL_OPERATION: usize = 5;
+
+pub(crate) const CALL_ARGUMENT: usize = 6;
+
+/// The fields of a begun transaction in a schedule: its name, and the first object that it lists.
+pub(crate) const BEGIN_TRANSACTION: usize = 4;
+
+pub(crate) const BEGIN_OBJECT: usize = 5;
+
 /// A field of a line, and its offset in the file.
 #[derive(Clone, Copy)]
 pub(crate) struct Field<'a> {

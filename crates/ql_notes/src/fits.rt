@@ -99,25 +99,26 @@ fn is_bracketed(field: &[u8]) -> bool {
     field.starts_with(b"(") && field.ends_with(b")") && !has_stray_space(field)
 }
 
+// Whether there is a space outside quotes that follows neither a comma nor a colon.
 fn has_stray_space(field: &[u8]) -> bool {
     let mut is_quoted = false;
     for k in 1..field.len() {
         if field[k] == b'"' {
             is_quoted = !is_quoted;
         }
-        if field[k] == b' ' && !is_quoted && !has_word(b", : \" ", &field[k - 1..k]) {
+        if field[k] == b' ' && !is_quoted && !matches!(field[k - 1], b',' | b':') {
             return true;
         }
     }
     false
 }
 
-// Whether a field begins as a value does, and ends as one if it is a text.
+// Whether a field begins as a value does, and ends as one if it is a text, a set or a map.
 fn is_value(field: &[u8]) -> bool {
     match field.first() {
         Some(b'"') => field.len() > 1 && field.ends_with(b"\""),
-        Some(byte) => has_word(b"unit true false", field)
-            || matches!(*byte, b'{' | b'-' | b'0'..=b'9'),
+        Some(b'{') => field.ends_with(b"}") && !has_stray_space(field),
+        Some(byte) => has_word(b"unit true false", field) || matches!(*byte, b'-' | b'0'..=b'9'),
         None => false,
     }
 }

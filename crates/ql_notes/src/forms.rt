@@ -3,7 +3,7 @@
 // A form is a row of words, as in docs/FILES.md: capitals stand for what is to be filled in, and two dots after them
 // for any number of it.
 
-use crate::above::Above;
+use crate::above::{Above, is_line_start};
 use crate::fields::{Field, field_text};
 use crate::fits::fits;
 use crate::words::{is, word};
@@ -105,7 +105,7 @@ pub(crate) struct Misfit {
 pub(crate) fn find_misfit(forms: &'static str, fields: &[Field], next: u64) -> Misfit {
     let text = forms.as_bytes();
     for k in 0..text.len() {
-        if k == 0 || text[k - 1] == b'\n' {
+        if is_line_start(text, k) {
             let form = line_of(&text[k..]);
             if fits(word(form).0, field_text(fields, 0), next) {
                 return misfit_of(form, fields, next);

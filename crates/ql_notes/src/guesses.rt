@@ -6,7 +6,6 @@ use crate::likeness::likest;
 use crate::syntax::Break;
 use crate::words::{has_word, is, sentence_of};
 use ql_base::{NoMemory, is_blank};
-use ql_lex::LexFault;
 use ql_parse::{ParseFault, parse_program};
 use std::alloc::Global;
 
@@ -145,12 +144,13 @@ impl Best {
 fn unread(alloc: Global, found: Break, first: &[u8], second: &[u8]) -> Result<usize, NoMemory> {
     let mut text = Vec::from_slice(alloc, found.before)?;
     push_filled(&mut text, b" % % %", &[first, second, found.rest])?;
+    // Words are short, so no text is as long.
     if text.len() > 4 * BYTES {
         return Ok(text.len());
     }
     match parse_program(alloc, &text) {
         Ok(_) => Ok(0),
-        Err(ParseFault::NoMemory | ParseFault::Lex(LexFault::NoMemory)) => Err(NoMemory),
+        Err(ParseFault::NoMemory) => Err(NoMemory),
         Err(ParseFault::Lex(_)) => Ok(text.len()),
         Err(ParseFault::Unexpected(at) | ParseFault::Deep(at) | ParseFault::Wide(at)) => Ok(
             text.len().saturating_sub(at as usize).saturating_add(1),

@@ -4,7 +4,7 @@ use crate::above::Above;
 use crate::arguments::push_operation;
 use crate::columns::FaultyLine;
 use crate::declared::{declared, named, place_in, word_after};
-use crate::fields::field_text;
+use crate::fields::{BEGIN_TRANSACTION, CALL_OBJECT, CALL_OPERATION, EFFECT_OPERATION, field_text};
 use crate::filled::push_counted;
 use crate::names::push_known;
 use crate::pieces::{next_of, pieces_after};
@@ -69,14 +69,18 @@ fn candidates<'a>(
         return declared(
             alloc,
             line.source,
-            if k == 3 { b"op" } else { b"transaction" },
+            if k == EFFECT_OPERATION {
+                b"op"
+            } else {
+                b"transaction"
+            },
         );
     }
     if is(first, b"object") {
         declared(alloc, line.source, b"type")
-    } else if is(first, b"begin") && k == 4 {
+    } else if is(first, b"begin") && k == BEGIN_TRANSACTION {
         declared(alloc, line.source, b"transaction")
-    } else if is(first, b"call") && k == 5 {
+    } else if is(first, b"call") && k == CALL_OPERATION {
         operations_of(alloc, line)
     } else {
         named(alloc, line.above, b"object", 1)
@@ -85,7 +89,7 @@ fn candidates<'a>(
 
 // The operations of the type of a call's object.
 fn operations_of<'a>(alloc: Global, line: FaultyLine<'a>) -> Result<Vec<&'a [u8]>, NoMemory> {
-    let name = word_after(line.above, b"object", field_text(line.fields, 4));
+    let name = word_after(line.above, b"object", field_text(line.fields, CALL_OBJECT));
     let start = place_in(line.source, b"type", name).unwrap_or(line.source.len());
     let end = next_of(line.source, start.saturating_add(1), b"type").unwrap_or(line.source.len());
     pieces_after(alloc, line.source, start, end, b"op")

@@ -4,15 +4,15 @@ ghost use Rattle.std.specs.Prelude.{◌≤◌};
 use crate::notes::Printed;
 use ql_ports::{Failed, Sink};
 
-// How many bytes are kept.
-const KEPT: usize = 128;
+// How many bytes are kept: enough for `read fault` and a file's name, which has at most 255.
+const KEPT: usize = 272;
 
 // The first bytes of a text.
 #[derive(Drop)]
 struct Beginning {
-    bytes: [u8; 128],
+    bytes: [u8; 272],
     count: usize,
-    ghost within: { count ≤ 128 },
+    ghost within: { count ≤ 272 },
 }
 
 impl Beginning {
@@ -24,7 +24,7 @@ impl Beginning {
     }
 
     fn keep(&mut self, bytes: &[u8]) {
-        for byte in bytes {
+        for byte in bytes.iter().take(KEPT - self.count) {
             self.keep_byte(*byte);
         }
     }
@@ -50,13 +50,18 @@ struct LastLine {
 
 impl LastLine {
     fn keep(&mut self, bytes: &[u8]) {
-        for byte in bytes {
-            if self.is_ended {
-                self.beginning.count = 0;
-            }
-            self.beginning.keep_byte(*byte);
-            self.is_ended = *byte == b'\n';
+        let Some((last, before)) = bytes.split_last() else {
+            return;
+        };
+        let from = match before.iter().rposition(|byte| *byte == b'\n') {
+            Some(at) => at + 1,
+            None => 0,
+        };
+        if from > 0 || self.is_ended {
+            self.beginning.count = 0;
         }
+        self.beginning.keep(&bytes[from..]);
+        self.is_ended = *last == b'\n';
     }
 }
 
@@ -80,7 +85,7 @@ impl<K: Sink + Drop> KeptSink<K> {
         }
     }
 
-    /// How the bytes that were taken begin, and how their last line does: at most 128 bytes of each.
+    /// How the bytes that were taken begin, and how their last line does: at most 272 bytes of each.
     pub fn printed(&self) -> Printed {
         Printed {
             first: self.beginning.kept(),

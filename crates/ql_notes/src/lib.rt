@@ -4,6 +4,7 @@
 #![tactic(auto)]
 
 mod above;
+mod absent_operations;
 mod answer;
 mod arguments;
 mod breaches;
@@ -41,7 +42,6 @@ mod stamp;
 mod syntax;
 mod system;
 mod typing;
-mod unmet;
 mod verdicts;
 mod wanted;
 mod words;

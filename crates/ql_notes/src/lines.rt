@@ -47,7 +47,7 @@ pub(crate) fn push_line_fault<'x>(
         source,
         replicas: replicas(above_text).saturating_add(above.joins),
     };
-    let k = column(line);
+    let k = column(alloc, line)?;
     let mut said = Vec::new(alloc);
     push_breach(&mut said, line, k, file.text)?;
     push_fault(note, file, spot(&fields, k, start), fault.rule, &said)?;

@@ -1,26 +1,26 @@
 // The note on an answer.
 ghost use Rattle.std.specs.Prelude.{◌≡◌, ◌≤◌, IfOk, length};
 
+use crate::absent_operations::push_absent_operations;
 use crate::answer::{Fault, fault_of};
 use crate::help::{HELP, push_command};
 use crate::lines::push_line_fault;
 use crate::pieces::{pieces, tokens_of};
 use crate::refusals::{Refusal, Source, push_refusal, refusal_in};
 use crate::sources::push_source_fault;
-use crate::unmet::push_unmet;
 use crate::verdicts::push_verdict;
 use crate::words::{has_word, is};
-use ql_base::NoMemory;
+use ql_base::{MAX_EXECUTION_BYTES, MAX_SOURCE_BYTES, NoMemory};
 use ql_excerpt::File;
 use ql_ports::{ReadError, Shelf, read_whole};
 use ql_reply::Status;
 use std::alloc::Global;
 
 /// The most bytes of a source.
-pub(crate) const SOURCE_BYTES: usize = 1_048_576;
+pub(crate) const SOURCE_BYTES: usize = MAX_SOURCE_BYTES as usize;
 
 // The most bytes of other files.
-const FILE_BYTES: usize = 67_108_864;
+const FILE_BYTES: usize = MAX_EXECUTION_BYTES as usize;
 
 /// The beginning of an answer, and its last line.
 #[derive(Clone, Copy)]
@@ -187,7 +187,7 @@ fn push_holding<S: Shelf>(
     match file_of(words, 0) {
         Some(name) if is(command(words), b"holds") => {
             let text = text_of(alloc, shelf, name, FILE_BYTES)?;
-            push_unmet(alloc, note, file(name, &text))
+            push_absent_operations(alloc, note, file(name, &text))
         }
         _ => Ok(()),
     }

@@ -37,12 +37,14 @@ pub(crate) fn refusal_in(line: &[u8]) -> Option<Refusal> {
             line: word(rest).0,
         });
     }
+    // An operation may have this name too, so the last occurrence counts.
+    let mut refusal = None;
     for k in 0..line.len() {
         if let Some(rest) = line[k..].strip_prefix(b"refused ") {
-            return Some(refusal_of(&line[..k], rest));
+            refusal = Some(refusal_of(&line[..k], rest));
         }
     }
-    None
+    refusal
 }
 
 fn refusal_of<'a>(section: &'a [u8], rest: &'a [u8]) -> Refusal<'a> {

@@ -20,11 +20,11 @@ static FRESH: [&str; 10] = [
 /// Replaces a fault at a piece by something right. Faults without a repair stay.
 pub(crate) fn repair(pieces: &mut [&[u8]], k: usize, fault: TypeFault) {
     match fault {
-        TypeFault::Unknown(_) => unknown(pieces, k),
-        TypeFault::Twice(_) => twice(pieces, k),
-        TypeFault::Kind(_) => expression(pieces, k),
+        TypeFault::Unknown(_) => repair_unknown(pieces, k),
+        TypeFault::Twice(_) => repair_twice(pieces, k),
+        TypeFault::Kind(_) => replace_expression(pieces, k),
         TypeFault::TxnClosure(_) => put(pieces, k, b"vis"),
-        TypeFault::Variables(_) | TypeFault::TxnAtom(_) => contract(pieces, k),
+        TypeFault::Variables(_) | TypeFault::TxnAtom(_) => replace_contract(pieces, k),
         TypeFault::TooMany(_) | TypeFault::NoMemory => {}
     }
 }
@@ -35,20 +35,20 @@ pub(crate) fn part_of<'a>(pieces: &[&'a [u8]], k: usize) -> (&'a [u8], usize) {
     (piece(pieces, start), start)
 }
 
-fn unknown(pieces: &mut [&[u8]], k: usize) {
+fn repair_unknown(pieces: &mut [&[u8]], k: usize) {
     let (part, start) = part_of(pieces, k);
     if is(part, b"uses") {
         drop_used(pieces, k);
     } else if !is(part, b"contract") {
-        expression(pieces, k);
+        replace_expression(pieces, k);
     } else if is_chosen(pieces, k) {
         drop_chosen(pieces, k);
     } else {
-        effect(pieces, start, k);
+        replace_effect(pieces, start, k);
     }
 }
 
-fn twice(pieces: &mut [&[u8]], k: usize) {
+fn repair_twice(pieces: &mut [&[u8]], k: usize) {
     let (part, _) = part_of(pieces, k);
     if is(part, b"uses") {
         drop_used(pieces, k);
@@ -106,9 +106,9 @@ fn rename(pieces: &mut [&[u8]], k: usize) {
 }
 
 // Replaces an unknown effect by a known one, wherever the contract that begins at an index names it.
-fn effect(pieces: &mut [&[u8]], start: usize, k: usize) {
+fn replace_effect(pieces: &mut [&[u8]], start: usize, k: usize) {
     let Some(name) = known_effect(pieces, start) else {
-        return contract(pieces, k);
+        return replace_contract(pieces, k);
     };
     let (wrong, end) = (piece(pieces, k), end_of(pieces, k));
     for j in k..end {
@@ -133,7 +133,7 @@ fn known_effect<'a>(pieces: &[&'a [u8]], start: usize) -> Option<&'a [u8]> {
 }
 
 // Replaces the contract around a piece by `true`.
-fn contract(pieces: &mut [&[u8]], k: usize) {
+fn replace_contract(pieces: &mut [&[u8]], k: usize) {
     let (_, start) = part_of(pieces, k);
     replace(pieces, start.saturating_add(1), end_of(pieces, k), b"true");
 }
@@ -150,24 +150,24 @@ fn replace<'a>(pieces: &mut [&'a [u8]], from: usize, to: usize, word: &'a [u8]) 
 }
 
 // Replaces the expression around a piece by one of its kind.
-fn expression(pieces: &mut [&[u8]], k: usize) {
+fn replace_expression(pieces: &mut [&[u8]], k: usize) {
     let (part, start) = part_of(pieces, k);
     let from = start.saturating_add(1);
     if is(part, b"answer") {
-        answer(pieces, from, k);
+        replace_answer(pieces, from, k);
     } else if is(part, b"when") {
         replace(pieces, from, end_of(pieces, k), b"true");
     } else if is(part, b"emit") {
-        bound(pieces, k);
+        replace_emitted(pieces, k);
     } else if is(part, b"state") {
-        initial(pieces, start, k);
+        replace_initial(pieces, start, k);
     } else if is(part, b"apply") {
-        statement(pieces, k);
+        drop_statement(pieces, k);
     }
 }
 
 // Replaces an answer and its kind by `unit`.
-fn answer(pieces: &mut [&[u8]], from: usize, k: usize) {
+fn replace_answer(pieces: &mut [&[u8]], from: usize, k: usize) {
     replace(pieces, from, end_of(pieces, k), b"unit");
     let op = last_of(pieces, from, b"op").unwrap_or(from);
     let bracket = next_of(pieces, op, b")").unwrap_or(op);
@@ -176,7 +176,7 @@ fn answer(pieces: &mut [&[u8]], from: usize, k: usize) {
 }
 
 // Replaces an emitted value by one of its kind.
-fn bound(pieces: &mut [&[u8]], k: usize) {
+fn replace_emitted(pieces: &mut [&[u8]], k: usize) {
     let sign = last_of(pieces, k, b"=").unwrap_or(k);
     let value = value_of(piece(pieces, before(pieces, sign)));
     let from = sign.saturating_add(1);
@@ -205,7 +205,7 @@ fn end_of_bound(pieces: &[&[u8]], from: usize) -> usize {
 }
 
 // Replaces the initial value of a field by one of its kind.
-fn initial(pieces: &mut [&[u8]], start: usize, k: usize) {
+fn replace_initial(pieces: &mut [&[u8]], start: usize, k: usize) {
     let colon = next_of(pieces, start, b":").unwrap_or(k);
     let sign = next_of(pieces, start, b"=").unwrap_or(k);
     let value = value_of(piece_after(pieces, colon));
@@ -232,7 +232,7 @@ fn value_of(kind: &[u8]) -> &'static [u8] {
 }
 
 // Drops a statement.
-fn statement(pieces: &mut [&[u8]], k: usize) {
+fn drop_statement(pieces: &mut [&[u8]], k: usize) {
     let from = last_of(pieces, k, b"{ ;").unwrap_or(k).saturating_add(1);
     let to = end_of(pieces, k).saturating_add(1);
     clear(pieces, from, to);

@@ -1,8 +1,9 @@
 // The stamp that an effect in an execution's file should have.
 ghost use Rattle.std.specs.Prelude.{◌≤◌, length};
 
-use crate::above::is_line_start;
-use crate::words::{has_word, is, word};
+use crate::above::{first_word, is_line_start, without_return};
+use crate::declared::word_of;
+use crate::words::{has_word, is};
 use ql_base::number_of;
 use ql_excerpt::{Place, line_of};
 
@@ -48,21 +49,17 @@ pub(crate) fn effect_at(text: &[u8], k: usize) -> Option<EffectLine>
 
 // effect ID .. session S txn T stamp N vis ID..
 fn effect_of(line: &[u8]) -> Option<EffectLine> {
-    let (effect, rest) = word(line);
-    let (id, _) = word(rest);
-    if !is(effect, b"effect") {
+    let line = without_return(line);
+    if !is(first_word(line), b"effect") {
         return None;
     }
-    let (session, rest) = word(after_last(line, b" session ")?);
-    let (txn, rest) = word(word(rest).1);
-    let (stamp, rest) = word(word(rest).1);
-    let (_, seen) = word(rest);
+    let rest = after_last(line, b" session ")?;
     Some(EffectLine {
-        id,
-        session,
-        txn,
-        stamp: number_of(stamp, u32::MAX as u64)?,
-        seen,
+        id: word_of(line, 1),
+        session: word_of(rest, 0),
+        txn: word_of(rest, 2),
+        stamp: number_of(word_of(rest, 4), u32::MAX as u64)?,
+        seen: after_last(rest, b" vis")?,
     })
 }
 

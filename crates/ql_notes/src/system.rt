@@ -1,12 +1,12 @@
-// What notes need from the system: whether they are wanted, where they are written, and why a file can't be opened.
+// What notes need from the system: whether they are wanted, where they are written, and why a file can't be read.
 
 use crate::notes::{Printed, note};
 use ql_ports::Shelf;
 use ql_reply::Status;
 use std::env::Env;
 use std::fs::Files;
-use std::io::{Eprint, IsTerminal, Write};
-use std::{env, fs};
+use std::io::{Eprint, IsTerminal, Read, Write};
+use std::{env, fs, io};
 
 /// Writes the note on an answer to standard error, if notes are wanted; for a file that can't be read, also the system's
 /// reason. Out of memory, or if standard error fails, no note is written.
@@ -24,7 +24,7 @@ pub fn write_notes<S: Shelf>(
         let _ = rt.stderr().write_all(&text);
     }
     if status == Status::ReadFault {
-        write_reason(&rt, words);
+        write_reason(&rt, words, printed.first);
     }
 }
 
@@ -37,15 +37,28 @@ fn wants_notes<R: Env + AllocGlobal>(rt: &R, is_terminal: bool) -> bool {
     }
 }
 
-// Writes the system's reason to standard error why a file can't be opened, for the first such argument.
-fn write_reason<R: Files + Eprint>(rt: &R, words: &Vec<String>) {
+// Writes the system's reason to standard error why the file that an answer names can't be read.
+fn write_reason<R: Files + Eprint>(rt: &R, words: &Vec<String>, answer: &[u8]) {
     for word in words.iter().skip(1) {
-        if word.as_bytes().first() == Some(&b'-') {
-            continue;
-        }
-        if let Err(error) = fs::open(rt, word.as_str()) {
-            let _ = eprintln!(rt; "{}: {}", word.as_str(), error);
+        if is_unread(answer, word.as_bytes()) {
+            if let Err(error) = read_first(rt, word.as_str()) {
+                let _ = eprintln!(rt; "{}: {}", word.as_str(), error);
+            }
             return;
         }
     }
+}
+
+// Whether an answer says that the file with a name can't be read.
+fn is_unread(answer: &[u8], name: &[u8]) -> bool {
+    match answer.strip_prefix(b"read fault ") {
+        Some(rest) => rest.strip_suffix(b"\n") == Some(name),
+        None => false,
+    }
+}
+
+// Opens a file and reads its first byte: a folder can be opened, but not read.
+fn read_first<R: Files>(rt: &R, name: &str) -> io::Result<usize> {
+    let mut file = fs::open(rt, name)?;
+    file.read(&mut [0])
 }

@@ -1,6 +1,6 @@
 // The faults of typing of a source, in order.
 
-use crate::clashes::{Clash, Wish, clash_at};
+use crate::clashes::{Clash, Requirement, clash_at};
 use crate::first::end_of_scope;
 use crate::kinds::spelling;
 use crate::pieces::{joined, last_of, next_of, piece, piece_at};
@@ -8,7 +8,6 @@ use crate::repair::{redeclare, repair};
 use crate::words::is;
 use ql_base::NoMemory;
 use ql_lang::{Kind, Program};
-use ql_lex::LexFault;
 use ql_parse::{ParseFault, parse_program};
 use ql_typing::{TypeFault, typecheck};
 use std::alloc::Global;
@@ -46,7 +45,7 @@ pub(crate) fn misuses(alloc: Global, tokens: &[&[u8]]) -> Result<Vec<Misuse>, No
             return Ok(found);
         }
         next = first.token.saturating_add(1);
-        let misuse = mend(alloc, &mut pieces, first)?;
+        let misuse = repair_or_redeclare(alloc, &mut pieces, first)?;
         if !follows(tokens, &found, misuse) {
             found.push(misuse)?;
         }
@@ -56,7 +55,11 @@ pub(crate) fn misuses(alloc: Global, tokens: &[&[u8]]) -> Result<Vec<Misuse>, No
 
 // Repairs a fault. Where a value doesn't have its declared kind, the declaration is repaired if the next fault comes
 // later then.
-fn mend(alloc: Global, pieces: &mut [&[u8]], misuse: Misuse) -> Result<Misuse, NoMemory> {
+fn repair_or_redeclare(
+    alloc: Global,
+    pieces: &mut [&[u8]],
+    misuse: Misuse,
+) -> Result<Misuse, NoMemory> {
     let Some(kind) = kind_of_value(misuse) else {
         repair(pieces, misuse.token, misuse.fault);
         return Ok(misuse);
@@ -81,16 +84,16 @@ fn mend(alloc: Global, pieces: &mut [&[u8]], misuse: Misuse) -> Result<Misuse, N
 // The kind of a value that doesn't have its declared kind.
 fn kind_of_value(misuse: Misuse) -> Option<Kind> {
     let clash = misuse.clash?;
-    match clash.wish {
-        Wish::Initial(_) | Wish::Emitted(_) => clash.found,
+    match clash.requirement {
+        Requirement::Initial(_) | Requirement::Emitted(_) => clash.found,
         _ => None,
     }
 }
 
 // The index of the token of the first fault of typing, past all tokens where there is none.
 fn token_of_first(alloc: Global, pieces: &[&[u8]]) -> Result<usize, NoMemory> {
-    match first_misuse(alloc, pieces)? {
-        Some(misuse) => Ok(misuse.token),
+    match fault_of_typing(alloc, &joined(alloc, pieces)?)? {
+        Some(fault) => Ok(piece_at(pieces, offset_of(fault))),
         None => Ok(usize::MAX),
     }
 }
@@ -98,18 +101,26 @@ fn token_of_first(alloc: Global, pieces: &[&[u8]]) -> Result<usize, NoMemory> {
 // The first fault of typing of pieces, none where they aren't a source or are too long.
 fn first_misuse(alloc: Global, pieces: &[&[u8]]) -> Result<Option<Misuse>, NoMemory> {
     let text = joined(alloc, pieces)?;
-    let Some(program) = program_of(alloc, &text)? else {
-        return Ok(None);
-    };
-    match typecheck(alloc, program) {
-        Ok(_) => Ok(None),
-        Err(TypeFault::NoMemory) => Err(NoMemory),
-        Err(fault) => Ok(Some(Misuse {
+    match fault_of_typing(alloc, &text)? {
+        Some(fault) => Ok(Some(Misuse {
             token: piece_at(pieces, offset_of(fault)),
             fault,
             clash: clash_of(alloc, &text, fault)?,
             is_declared_wrong: false,
         })),
+        None => Ok(None),
+    }
+}
+
+// The first fault of typing of a text, none where it isn't a source or is too long.
+fn fault_of_typing(alloc: Global, text: &[u8]) -> Result<Option<TypeFault>, NoMemory> {
+    let Some(program) = program_of(alloc, text)? else {
+        return Ok(None);
+    };
+    match typecheck(alloc, program) {
+        Ok(_) => Ok(None),
+        Err(TypeFault::NoMemory) => Err(NoMemory),
+        Err(fault) => Ok(Some(fault)),
     }
 }
 
@@ -120,7 +131,7 @@ fn program_of(alloc: Global, text: &[u8]) -> Result<Option<Program>, NoMemory> {
     }
     match parse_program(alloc, text) {
         Ok(program) => Ok(Some(program)),
-        Err(ParseFault::NoMemory | ParseFault::Lex(LexFault::NoMemory)) => Err(NoMemory),
+        Err(ParseFault::NoMemory) => Err(NoMemory),
         Err(_) => Ok(None),
     }
 }
@@ -197,7 +208,7 @@ fn is_one_clash(tokens: &[&[u8]], earlier: Misuse, misuse: Misuse) -> bool {
     let is_name = one.is_name && other.is_name;
     if !is_name
         || !is_same(tokens, earlier.token, misuse.token)
-        || one.wish.kind() != other.wish.kind()
+        || one.requirement.kind() != other.requirement.kind()
     {
         return false;
     }

@@ -1,10 +1,11 @@
-// Words of a text, separated by blanks.
+// Words of a text, separated by spaces and line feeds.
 
+use crate::above::is_line_start;
 use ql_base::NoMemory;
 use ql_excerpt::line_of;
 use std::alloc::Global;
 
-/// The bytes before the first blank, and those after it.
+/// The bytes before the first space or line feed, and those after it.
 pub(crate) fn word(text: &[u8]) -> (&[u8], &[u8]) {
     for k in 0..text.len() {
         if text[k] == b' ' || text[k] == b'\n' {
@@ -50,7 +51,7 @@ pub(crate) fn push_words<'a>(words: &mut Vec<&'a [u8]>, text: &'a [u8]) -> Resul
 pub(crate) fn sentence_of(rules: &'static str, rule: &[u8]) -> &'static [u8] {
     let text = rules.as_bytes();
     for k in 0..text.len() {
-        if k == 0 || text[k - 1] == b'\n' {
+        if is_line_start(text, k) {
             let (name, sentence) = word(&text[k..]);
             if name == rule {
                 return line_of(sentence);

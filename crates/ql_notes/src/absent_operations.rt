@@ -11,7 +11,11 @@ use ql_excerpt::{File, Spot, push_fault};
 use std::alloc::Global;
 
 /// Appends a note for each operation that the contract names though no effect has it.
-pub(crate) fn push_unmet(alloc: Global, note: &mut Vec<u8>, file: File) -> Result<(), NoMemory> {
+pub(crate) fn push_absent_operations(
+    alloc: Global,
+    note: &mut Vec<u8>,
+    file: File,
+) -> Result<(), NoMemory> {
     let Some(from) = contract_start(file.text) else {
         return Ok(());
     };
