@@ -1,5 +1,5 @@
 -- Effects that are read one after another are an execution, and the question of their tree.
-use Rattle.std.proofs.Common.{◌≡◌, ℕ, zero, suc, Bool, true, false, nat_le, is_none, if◌then◌else◌, List, [], ◌∷◌, ◌++◌, map, length, Option, None, Some, arith, refl, sym, ap, subst, ◌∙◌, append_assoc}
+use Rattle.std.proofs.Common.{◌≡◌, ℕ, zero, suc, Bool, true, false, nat_le, is_none, if◌then◌else◌, List, [], ◌∷◌, ◌++◌, map, length, None, Some, arith, refl, sym, ap, subst, ◌∙◌, append_assoc}
 use Rattle.std.specs.List.{AllByRecursion, list_any}
 use Rattle.ql_base.specs.declared.limits.TheConstants.{MAX_EFFECTS}
 use Rattle.ql_lang.specs.Trees.{Sentence}

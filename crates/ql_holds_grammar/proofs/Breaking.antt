@@ -1,22 +1,20 @@
 -- A line that a reader refuses breaks the rule, by the grammar, after lines that begin a file; and the other way.
-use Rattle.std.proofs.Common.{◌≡◌, ◌⊎◌, inl, inr, ℕ, suc, ◌+◌, List, [], ◌∷◌, ◌++◌, map, length, codes, Option, None, Some, Result, Ok, Err, arith, refl, sym, ap, subst, ◌∙◌, append-nil, append_assoc, length-append}
+use Rattle.std.proofs.Common.{◌≡◌, inl, inr, ℕ, suc, ◌+◌, List, [], ◌∷◌, ◌++◌, map, length, codes, Option, None, Some, Result, Ok, Err, arith, refl, sym, ap, subst, ◌∙◌, append-nil, append_assoc, length-append}
 use Rattle.std.specs.List.{AllByRecursion}
-use Rattle.std.proofs.lemmas.List.{length-map, map-append}
+use Rattle.std.proofs.lemmas.List.{map-append}
 use Rattle.ql_lang.specs.Trees.{Sentence}
 use Rattle.ql_lines.proofs.Conses.{heads, tails}
 use Rattle.ql_lines.specs.Fields.{fields_of, Fields}
 use Rattle.ql_lines.specs.Lines.{Numbered}
 use Rattle.ql_holds_files.specs.declared.effect_line.EffectLine.{EffectLine}
-use Rattle.ql_holds_files.specs.declared.effects.NamedEffects.{NamedEffects}
 use Rattle.ql_holds_files.specs.declared.reading.Current.{Current}
 use Rattle.ql_holds_files.specs.declared.reading.Stage.{Stage}
-use Rattle.ql_holds_files.specs.declared.reading.Stage.TheVariants.{Unbegun, WithContract, WithEffects, Ended}
+use Rattle.ql_holds_files.specs.declared.reading.Stage.TheVariants.{WithContract, WithEffects, Ended}
 use Rattle.ql_holds_files.specs.declared.rules.HoldsRule.{HoldsRule}
 use Rattle.ql_holds_files.specs.declared.rules.HoldsRule.TheVariants.{Unexpected}
 use Rattle.ql_holds_files.specs.ContractLine.{IsContractLine, lowest_rule, sentence_faults}
-use Rattle.ql_holds_files.specs.EffectLine.{Fits, IsHoldsEffectLine, at_fields, effect_rule, holds_effect_fields, holds_end_fields, with_named_effect}
+use Rattle.ql_holds_files.specs.EffectLine.{Fits, IsHoldsEffectLine, effect_rule, holds_effect_fields, holds_end_fields, with_named_effect}
 use Rattle.ql_holds_files.specs.HoldsFile.{ExtendsHolds, ExtendsHoldsAs, IsCurrentLine, IsMore, after_contract, after_more, named_formula_of, no_effects}
-use Rattle.ql_holds_files.specs.NamedFormulas.{NamedFormula}
 use Rattle.ql_holds_files.specs.Rules.{unless_broken}
 use Rattle.ql_holds_grammar.specs.FirstFaults.Breaks.{unexpected, contract, effect}
 use Rattle.ql_holds_grammar.specs.FirstFaults.{BeginsFile, Breaks}
@@ -28,7 +26,7 @@ use Rattle.ql_holds_grammar.proofs.Trees.{Lines, contract_of, file_of, lines_of}
 use Rattle.ql_holds_grammar.proofs.Named.{count_from_none, named_after, same_rule}
 use Rattle.ql_holds_grammar.proofs.Reached.{Reached}
 use Rattle.ql_holds_grammar.proofs.Spelled.{lines_append, next, no_end, one_effect, parted}
-use Rattle.ql_holds_grammar.proofs.Walk.{Spells, fields_in}
+use Rattle.ql_holds_grammar.proofs.Walk.{fields_in}
 
 -- ---- what is broken
 

@@ -1,6 +1,5 @@
 -- With a line that breaks a rule no file begins that keeps the rules.
-use Rattle.std.proofs.Common.{◌≡◌, inl, inr, ℕ, List, [], ◌∷◌, ◌++◌, map, length, codes, Option, None, Some, arith, refl, sym, ap, subst, ◌∙◌, append_assoc, length-append}
-use Rattle.std.specs.List.{AllByRecursion}
+use Rattle.std.proofs.Common.{◌≡◌, inl, inr, ℕ, List, [], ◌∷◌, ◌++◌, map, length, codes, Option, None, Some, arith, sym, ap, ◌∙◌, append_assoc, length-append}
 use Rattle.std.proofs.lemmas.List.{append_cancel_right, map-append}
 use Rattle.ql_lines.specs.Fields.{fields_of}
 use Rattle.ql_holds_files.specs.declared.effect_line.EffectLine.{EffectLine}

@@ -1,11 +1,11 @@
 -- What the lines of a file, one after another, lead to.
-use Rattle.std.proofs.Common.{◌≡◌, inl, inr, ℕ, List, [], ◌∷◌, None, Ok, refl, sym, subst}
+use Rattle.std.proofs.Common.{◌≡◌, inl, inr, ℕ, List, [], ◌∷◌, None, refl, sym, subst}
 use Rattle.ql_lang.specs.Trees.{Sentence}
 use Rattle.ql_lines.specs.Fields.{fields_of}
 use Rattle.ql_lines.specs.Lines.{Numbered}
 use Rattle.ql_line_files.specs.Outcomes.{Leads}
 use Rattle.ql_holds_files.specs.declared.reading.Stage.{Stage}
-use Rattle.ql_holds_files.specs.declared.reading.Stage.TheVariants.{Unbegun, WithContract, WithEffects, Ended}
+use Rattle.ql_holds_files.specs.declared.reading.Stage.TheVariants.{Unbegun, WithContract, WithEffects}
 use Rattle.ql_holds_files.specs.ContractLine.{IsContractLine, lowest_rule, sentence_faults}
 use Rattle.ql_holds_files.specs.HoldsFile.{IsCurrentLine, named_formula_of, no_effects}
 use Rattle.ql_holds_files.specs.Limits.{given_is, made_is, not_given}

@@ -1,5 +1,5 @@
 -- The lines of a file are those of one tree, and a file asks the question of its tree.
-use Rattle.std.proofs.Common.{◌≡◌, inl, inr, ◌≤◌, ℕ, suc, Bool, true, false, ◌&&◌, nat_le, if◌then◌else◌, List, [], ◌∷◌, ◌++◌, map, length, get_or, Option, None, Some, Result, Ok, Err, arith, refl, sym, ap, subst, ◌∙◌}
+use Rattle.std.proofs.Common.{◌≡◌, inl, inr, ◌≤◌, ℕ, Bool, true, false, nat_le, if◌then◌else◌, List, [], ◌∷◌, ◌++◌, map, length, get_or, Result, Ok, Err, arith, refl, sym, ap, subst, ◌∙◌}
 use Rattle.std.specs.List.{AllByRecursion}
 use Rattle.std.proofs.lemmas.Bool.{and_from, and_parts}
 use Rattle.std.proofs.lemmas.Bool.Decides.{nat_tests}
@@ -9,7 +9,6 @@ use Rattle.ql_lines.proofs.Conses.{heads, tails}
 use Rattle.ql_lines.specs.Fields.{fields_of, Fields}
 use Rattle.ql_lines.specs.Lines.{Ahead, Numbered}
 use Rattle.ql_line_files.specs.declared.fault.Broken.{Broken}
-use Rattle.ql_line_files.specs.Outcomes.{Says}
 use Rattle.ql_parse.specs.Parsing.{IsContractText}
 use Rattle.ql_holds_files.specs.declared.effect_line.EffectLine.{EffectLine}
 use Rattle.ql_holds_files.specs.declared.reading.Stage.{Stage}
@@ -29,7 +28,6 @@ use Rattle.ql_holds_grammar.proofs.Keeping.{allowed, kept, no_faults, no_rule}
 use Rattle.ql_holds_grammar.proofs.Named.{count_from_none, named_after}
 use Rattle.ql_holds_grammar.proofs.Reached.{HasContract, Reached, leads, reached}
 use Rattle.ql_holds_grammar.proofs.Spelled.{same_effects}
-use Rattle.ql_holds_grammar.proofs.Walk.{LeadsTo, fields_in}
 
 -- ---- the lines of a file one by one
 

@@ -1,5 +1,5 @@
 -- From line to line: the lines of effects that are read, and where they lead.
-use Rattle.std.proofs.Common.{◌≡◌, ◌⊎◌, inl, inr, ◌+◌, ℕ, suc, List, [], ◌∷◌, ◌++◌, map, length, Option, None, Some, Result, Ok, Err, arith, refl, sym, ap, subst, ◌∙◌}
+use Rattle.std.proofs.Common.{◌≡◌, ◌⊎◌, inl, inr, suc, List, [], ◌∷◌, ◌++◌, map, length, Option, None, Some, Result, Ok, arith, refl, sym, ap, subst, ◌∙◌}
 use Rattle.std.specs.List.{AllByRecursion}
 use Rattle.ql_lines.proofs.Conses.{both, heads, tails}
 use Rattle.ql_lines.specs.Fields.{fields_of, Fields}
@@ -9,9 +9,8 @@ use Rattle.ql_holds_files.specs.declared.effect_line.EffectLine.{EffectLine}
 use Rattle.ql_holds_files.specs.declared.effects.NamedEffects.{NamedEffects}
 use Rattle.ql_holds_files.specs.declared.reading.Current.{Current}
 use Rattle.ql_holds_files.specs.declared.reading.Stage.{Stage}
-use Rattle.ql_holds_files.specs.declared.reading.Stage.TheVariants.{Unbegun, WithContract, WithEffects, Ended}
+use Rattle.ql_holds_files.specs.declared.reading.Stage.TheVariants.{WithEffects, Ended}
 use Rattle.ql_holds_files.specs.declared.rules.HoldsRule.{HoldsRule}
-use Rattle.ql_holds_files.specs.declared.rules.HoldsRule.TheVariants.{Unexpected}
 use Rattle.ql_holds_files.specs.EffectLine.{Fits, IsHoldsEffectLine, effect_rule, holds_effect_fields, holds_end_fields, with_named_effect}
 use Rattle.ql_holds_files.specs.HoldsFile.{ExtendsHolds, closed}
 use Rattle.ql_holds_files.specs.Limits.{given_is, made_is, not_given}

@@ -1,11 +1,9 @@
 -- A file of the grammar: its contract is `true`, and it has no effects.
-use Rattle.std.proofs.Common.{◌≡◌, ℕ, List, [], ◌∷◌, codes, Ok, true, arith, refl}
-use Rattle.std.specs.List.{AllPass}
+use Rattle.std.proofs.Common.{◌≡◌, List, [], ◌∷◌, codes, Ok, true, arith, refl}
 use Rattle.std.proofs.lemmas.List.Sums.{AllPass-from_list_all}
 use Rattle.ql_base.specs.Bytes.{is_blank, is_lower, is_name_byte}
 use Rattle.ql_base.specs.Names.{IsWord, is_keyword, keywords}
 use Rattle.ql_lang.specs.Trees.{Sentence, Truth}
-use Rattle.ql_lines.specs.Fields.{FirstField}
 use Rattle.ql_lex.specs.Starts.StartsWith.{blank, keyword}
 use Rattle.ql_lex.specs.Tokens.{Lexes}
 use Rattle.ql_lex.specs.Tokens.Lexes.{ends, gap, token}
@@ -18,7 +16,7 @@ use Rattle.ql_grammar.specs.ContractGrammar.ReadsProp.{atom, both, either, truth
 use Rattle.ql_grammar.specs.Limits.{counted, counted_all, with_nodes}
 use Rattle.ql_grammar.specs.Terminals.{keyword as keyword_terminal, expression_word, logic_word}
 use Rattle.ql_grammar.specs.Texts.{IsWithin}
-use Rattle.ql_grammar.specs.Tokens.{Marked, lexeme_of, marked, terminal_of}
+use Rattle.ql_grammar.specs.Tokens.{Marked, marked, terminal_of}
 use Rattle.ql_parse.specs.Parsing.{IsContractText}
 use Rattle.ql_typing.specs.Faults.{each, names_met, repeats}
 use Rattle.ql_typing.specs.ContractFaults.{contract_faults, prop_faults}
