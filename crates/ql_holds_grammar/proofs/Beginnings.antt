@@ -71,7 +71,7 @@ begins (l ∷ m ∷ ls) s (c, has, id, is, inr read) = (
   [],
   tree_of c id read.effects,
   file_of l.text m.text (texts_of ls ++ []) (tree_of c id read.effects) has.line
-  (record { current = is; spelled = ap (map fields_of) (append-nil (texts_of ls)) ∙ read.lines; effects = read.fits }),
+      (record { current = is; spelled = ap (map fields_of) (append-nil (texts_of ls)) ∙ read.lines; effects = read.fits }),
   record { contract = no_faults c has.kept; effects = kept c read.effects [] read.allowed },
 )
 

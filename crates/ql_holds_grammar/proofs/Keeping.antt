@@ -44,7 +44,7 @@ module _ (c : Sentence) where
   allowed (e ∷ es) start keep = (
     same_rule c start e ∙ ap (λ before. rule_broken before e) (sym (append-nil start)) ∙ keep [] e es refl,
     subst (λ named. AreAllowed named es) (named_more (no_effects c) start e)
-    (allowed es (start ++ e ∷ []) (λ before f after are. ap (λ b. rule_broken b f) (append_assoc start (e ∷ []) before) ∙ keep (e ∷ before) f after (ap (λ r. e ∷ r) are))),
+        (allowed es (start ++ e ∷ []) (λ before f after are. ap (λ b. rule_broken b f) (append_assoc start (e ∷ []) before) ∙ keep (e ∷ before) f after (ap (λ r. e ∷ r) are))),
   )
 
   pub kept : (es start : List EffectLine) → AreAllowed (named_after (no_effects c) start) es → KeepAfter start es
