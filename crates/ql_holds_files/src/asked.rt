@@ -10,7 +10,7 @@ use std::marker::Model;
 
 /// A contract with its names resolved, and the names of its variables.
 #[derive(Drop)]
-pub(crate) struct ReadContract {
+pub struct ReadContract {
     formula: Formula,
     names: Words,
 }
@@ -45,7 +45,7 @@ impl ReadContract {
 
 /// The question of a holds file, with the contract as it was read.
 #[derive(Drop)]
-pub(crate) struct Asked {
+pub struct Asked {
     pub contract: ReadContract,
     pub cur: EffId,
     pub execution: Execution,

@@ -10,7 +10,7 @@ use std::alloc::Global;
 
 /// The line of an effect, without its number.
 #[derive(Drop)]
-pub(crate) struct EffectLine {
+pub struct EffectLine {
     pub object: Word,
     pub op: Word,
     pub session: u32,

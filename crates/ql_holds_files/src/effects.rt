@@ -18,7 +18,7 @@ use std::alloc::Global;
 /// Effects, and the names of their objects and operations, numbered by first occurrence. The
 /// operations of the contract come before those of the effects.
 #[derive(Drop)]
-pub(crate) struct NamedEffects {
+pub struct NamedEffects {
     pub objects: Names,
     pub ops: Names,
     pub effects: Execution,

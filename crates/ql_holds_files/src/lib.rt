@@ -16,8 +16,12 @@ mod parse;
 mod reading;
 mod rules;
 
+pub use asked::{Asked, ReadContract};
+pub use effect_line::EffectLine;
+pub use effects::NamedEffects;
 pub use holding::{Holding, Words};
 pub use holds_fault::HoldsFault;
 pub use law::one_holding;
 pub use parse::parse_holds;
+pub use reading::{Current, Stage};
 pub use rules::HoldsRule;

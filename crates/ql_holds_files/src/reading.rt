@@ -26,7 +26,7 @@ use std::alloc::Global;
 
 /// The id of the current effect, and the number of the line that has it.
 #[derive(Clone, Copy)]
-pub(crate) struct Current {
+pub struct Current {
     pub line: u64,
     pub id: u32,
 }
@@ -34,7 +34,7 @@ pub(crate) struct Current {
 /// The stage of the reader, with what it has read: nothing; the contract; the current effect and
 /// some effects; the whole file.
 #[derive(Drop)]
-pub(crate) enum Stage {
+pub enum Stage {
     Unbegun,
     WithContract(ReadContract, NamedEffects),
     WithEffects(ReadContract, Current, NamedEffects),

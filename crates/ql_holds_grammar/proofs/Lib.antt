@@ -1,0 +1,13 @@
+mod Names
+mod Named
+mod Spelled
+mod Walk
+mod Reached
+mod Asking
+mod Keeping
+mod Trees
+mod Witness
+mod Beginnings
+mod Breaking
+mod FaultLaws
+mod Firsts

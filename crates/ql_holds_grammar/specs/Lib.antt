@@ -1,0 +1,4 @@
+pub mod Grammar
+pub mod TreeRules
+pub mod Questions
+pub mod FirstFaults
