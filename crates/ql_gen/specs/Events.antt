@@ -88,7 +88,7 @@ network_of j x =
 abbrev pub after_network : ℕ → ℕ
 after_network x = if nat_lt (draw 4 x) 2 then next x else next (next x)
 
--- -- events, each of one of twelve kinds
+-- ---- events, each of one of twelve kinds
 
 module _ (p : Program) where
   abbrev pub event_of_kind : ℕ → ℕ → ℕ → Event

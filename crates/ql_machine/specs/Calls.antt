@@ -62,7 +62,7 @@ pub record MayAnswer (rules : Rules) (s : Machine) (c : Call) (seen : List ℕ) 
   pub in_range : c.replica.0 < replicas s
   pub view : AreThose (InView rules s c) seen
 
--- -- the state after a call is answered
+-- ---- the state after a call is answered
 
 -- outside a transaction and below strong: its replica receives the effect, and sends it to each other one
 abbrev pub after_plain : Rules → Machine → Call → List ℕ → Machine

@@ -6,7 +6,7 @@ ghost use Rattle.ql_machine.specs.Rules.{Rules};
 ghost use Rattle.ql_machine.specs.Steps.{IsStep};
 
 /// The law that a step is determined: after a state and an event there is one state at most, and one
-/// reply. So the rules are as exact as a function.
+/// reply. That there is one isn't said.
 pub fn steps_are_determined()
     ensures { (rules : Rules) (s : Machine) (event : Event) (after : Machine) (r : Reply)
         → IsStep rules s event after r

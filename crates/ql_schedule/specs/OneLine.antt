@@ -232,7 +232,7 @@ one_declaration parts (Object n k) Events h g = absurd (omega (arith, ap length 
 one_declaration parts Events (Object m l) h g = absurd (omega (arith, ap length (sym g.2 ∙ h)))
 one_declaration parts Events Events h g = refl
 
--- -- a line that spells one thing has one result, and always has one
+-- ---- a line that spells one thing has one result, and always has one
 
 some_of : SchedRule → Option SchedRule → SchedRule
 some_of r (Some q) = q
