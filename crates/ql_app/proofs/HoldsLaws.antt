@@ -1,5 +1,5 @@
 -- what is said of holds files
-use Rattle.std.proofs.Common.{◌≡◌, List, ℕ, Result, Ok, Err, codes, arith, ap, refl, sym, subst, ◌∙◌}
+use Rattle.std.proofs.Common.{◌≡◌, ◌↔◌, List, ℕ, Result, Ok, Err, codes, arith, ap, refl, sym, subst, ◌∙◌}
 use Rattle.std.specs.Prelude.{IfOk}
 use Rattle.std.specs.Global.{Vec}
 use Rattle.ql_base.specs.declared.no_memory.NoMemory.{NoMemory as NoMemoryLeft}
@@ -12,14 +12,43 @@ use Rattle.ql_holds_files.specs.declared.rules.HoldsRule.TheVariants.{Unexpected
 use Rattle.ql_holds_files.specs.HoldsFile.{Asked, HoldsOutcome}
 use Rattle.ql_holds_files.specs.Holdings.{IsRefusal}
 use Rattle.ql_holds_files.specs.Rules.{rule_at}
+use Rattle.ql_holds_grammar.specs.FirstFaults.{FirstHoldsFault}
+use Rattle.ql_holds_grammar.specs.Grammar.{HoldsTree, IsHoldsFile, texts_of}
+use Rattle.ql_holds_grammar.specs.Questions.{IsQuestionOf}
+use Rattle.ql_holds_grammar.specs.TreeRules.{HasCurrent, KeepsRules}
 use Rattle.ql_reply.specs.Lines.{fault_line}
 use Rattle.ql_reply.specs.declared.status.Status.{Status}
 use Rattle.ql_reply.specs.declared.status.Status.TheVariants.{Done, No, Bad, ReadFault, WriteFault, Usage, TooLarge}
 use Rattle.ql_app.specs.HoldsFaults.{IsReportedAs, holds_fault_text}
-use Rattle.ql_app.specs.HoldsFile.{HoldsSays, HoldsReports, rule_word, work}
+use Rattle.ql_app.specs.HoldsFile.{Asks, HasQuestion, HoldsSays, HoldsReports, IsAnswerableHolds, rule_word, work}
 
+-- ---- what is read of a file, and its grammar
+
+-- a file has one outcome
 abbrev OneOutcome : Type 0
 OneOutcome = (file : Ahead) (x y : Result Asked (Broken HoldsRule)) → HoldsOutcome file x → HoldsOutcome file y → x ≡ y
+
+-- what a file asks is the question of its tree
+abbrev AreSpelled : Type 0
+AreSpelled = (file : Ahead) (asked : Asked) → HoldsOutcome file (Ok asked) → (t : HoldsTree) × IsHoldsFile (texts_of file.lines) t × KeepsRules t × HasCurrent t × IsQuestionOf t asked
+
+-- a file with the lines of a tree asks its question
+abbrev AreRead : Type 0
+AreRead = (file : Ahead) (t : HoldsTree) → IsHoldsFile (texts_of file.lines) t → KeepsRules t → HasCurrent t → (asked : Asked) × IsQuestionOf t asked × HoldsOutcome file (Ok asked)
+
+-- a tree has one question
+abbrev OneQuestion : Type 0
+OneQuestion = (t : HoldsTree) (a b : Asked) → IsQuestionOf t a → IsQuestionOf t b → a ≡ b
+
+-- the first fault is the grammar's
+abbrev FaultsAreOfGrammar : Type 0
+FaultsAreOfGrammar = (file : Ahead) (f : Broken HoldsRule) → HoldsOutcome file (Err f) ↔ FirstHoldsFault file f
+
+-- a file asks in one outcome what it asks by the grammar
+asks_so : AreRead → OneQuestion → (bytes : List ℕ) (asked : Asked) → Asks bytes asked → HoldsOutcome (ahead_from 1 bytes) (Ok asked)
+asks_so are_read question bytes asked (t, file, keeps, there, is) =
+    let read = are_read (ahead_from 1 bytes) t file keeps there in
+    subst (λ a. HoldsOutcome (ahead_from 1 bytes) (Ok a)) (question t read.0 asked read.1 is) read.2
 
 -- ---- a bad file
 
@@ -58,10 +87,12 @@ apart : OneOutcome → (file : Ahead) (p : Asked) (broken : Broken HoldsRule) �
 apart one file p broken h k = let same : ◌≡◌ {A = Result Asked (Broken HoldsRule)} (Ok p) (Err broken) = one file (Ok p) (Err broken) h k in absurd cc
 
 -- a file with a first fault is bad
-pub is_bad : OneOutcome → (bytes : List ℕ) (f : HoldsFault) (text : List ℕ) → IsRefusal (ahead_from 1 bytes) f → IsReportedAs f text → HoldsSays bytes Bad text
-is_bad one bytes f text h said =
+pub is_bad : OneOutcome → AreRead → OneQuestion → FaultsAreOfGrammar → (bytes : List ℕ) (f : HoldsFault) (text : List ℕ)
+    → IsRefusal (ahead_from 1 bytes) f → IsReportedAs f text → HoldsSays bytes Bad text
+is_bad one are_read question faults bytes f text h said =
     let first = first_fault (ahead_from 1 bytes) text f h said in
-    ((λ file. apart one (ahead_from 1 bytes) file.0 first.0 file.1 first.1), first.0, first.1, first.2)
+    ((λ (file : HasQuestion bytes). apart one (ahead_from 1 bytes) file.0 first.0 (asks_so are_read question bytes file.0 file.1) first.1)
+    , first.0, (faults (ahead_from 1 bytes) first.0).0 first.1, first.2)
 
 -- ---- what is asked
 
@@ -69,21 +100,27 @@ one_asked : OneOutcome → (file : Ahead) (p q : Asked) → HoldsOutcome file (O
 one_asked one file p q h k = let same : ◌≡◌ {A = Result Asked (Broken HoldsRule)} (Ok p) (Ok q) = one file (Ok p) (Ok q) h k in cc
 
 -- what is said where this is asked is said of a file that asks it
-is_reported : OneOutcome → (bytes : List ℕ) (asked : Asked) (status : Status) (text : List ℕ) → HoldsOutcome (ahead_from 1 bytes) (Ok asked) → HoldsReports asked status text → HoldsSays bytes status text
-is_reported one bytes asked Done text asks said = (asked, asks, said)
-is_reported one bytes asked No text asks said = (asked, asks, said)
-is_reported one bytes asked TooLarge text asks said =
-    ((λ file. let same = ap work (one_asked one (ahead_from 1 bytes) file.0 asked file.1 asks) in let more = said.0 in let less = file.2 in omega (arith, same, more, less)), asked, asks, said)
-is_reported one bytes asked Bad text asks said = absurd said
-is_reported one bytes asked ReadFault text asks said = absurd said
-is_reported one bytes asked WriteFault text asks said = absurd said
-is_reported one bytes asked Usage text asks said = absurd said
+is_reported : OneOutcome → AreRead → OneQuestion → (bytes : List ℕ) (asked : Asked) (status : Status) (text : List ℕ)
+    → Asks bytes asked → HoldsReports asked status text → HoldsSays bytes status text
+is_reported one are_read question bytes asked Done text asks said = (asked, asks, said)
+is_reported one are_read question bytes asked No text asks said = (asked, asks, said)
+is_reported one are_read question bytes asked TooLarge text asks said =
+    ((λ (file : IsAnswerableHolds bytes).
+        let same = ap work (one_asked one (ahead_from 1 bytes) file.0 asked (asks_so are_read question bytes file.0 file.1) (asks_so are_read question bytes asked asks)) in
+        let more = said.0 in let less = file.2 in omega (arith, same, more, less))
+    , asked, asks, said)
+is_reported one are_read question bytes asked Bad text asks said = absurd said
+is_reported one are_read question bytes asked ReadFault text asks said = absurd said
+is_reported one are_read question bytes asked WriteFault text asks said = absurd said
+is_reported one are_read question bytes asked Usage text asks said = absurd said
 
 -- and so of the answer
-pub answer_reported : OneOutcome → (bytes : List ℕ) (asked : Asked) (answer : Result (Status × Vec ℕ) NoMemoryLeft) → HoldsOutcome (ahead_from 1 bytes) (Ok asked)
+pub answer_reported : OneOutcome → AreSpelled → AreRead → OneQuestion → (bytes : List ℕ) (asked : Asked) (answer : Result (Status × Vec ℕ) NoMemoryLeft)
+    → HoldsOutcome (ahead_from 1 bytes) (Ok asked)
     → IfOk answer (λ a. HoldsReports asked a.0 a.1.items) → IfOk answer (λ a. HoldsSays bytes a.0 a.1.items)
-answer_reported one bytes asked (Ok a) asks said = is_reported one bytes asked a.0 a.1.items asks said
-answer_reported one bytes asked (Err e) asks said = tt
+answer_reported one are_spelled are_read question bytes asked (Ok a) asks said =
+    is_reported one are_read question bytes asked a.0 a.1.items (are_spelled (ahead_from 1 bytes) asked asks) said
+answer_reported one are_spelled are_read question bytes asked (Err e) asks said = tt
 
 -- a line that reports a fault, by another name of it
 pub reported_so : (line : Result (Vec ℕ) NoMemoryLeft) (f fault : HoldsFault) → fault ≡ f → IfOk line (λ l. IsReportedAs f l.items) → IfOk line (λ l. IsReportedAs fault l.items)

@@ -1,30 +1,34 @@
--- What is said of the files of `holds`. Their grammar and their first faults are those of ql_holds_files, and truth is that
--- of ql_formula.
-use Rattle.std.specs.Prelude.{◌≡◌, ℕ, Ok, Err, ◌<◌, ◌≤◌, ◌^◌, List, [], ◌∷◌, ◌++◌, length, codes, decimal}
+-- What is said of the files of `holds`. Their grammar, their questions and their first faults are those of ql_holds_grammar,
+-- and truth is that of ql_formula.
+use Rattle.std.specs.Prelude.{◌≡◌, ℕ, ◌<◌, ◌≤◌, ◌^◌, List, [], ◌∷◌, ◌++◌, length, codes, decimal}
 use Rattle.ql_base.specs.declared.limits.TheConstants.{MAX_WORK}
 use Rattle.ql_lines.specs.Lines.{ahead_from}
 use Rattle.ql_formula.specs.Truth.{Holds, IsFirstFalse, none_inside}
 use Rattle.ql_line_files.specs.declared.fault.Broken.{Broken}
 use Rattle.ql_holds_files.specs.declared.rules.HoldsRule.{HoldsRule}
 use Rattle.ql_holds_files.specs.declared.rules.HoldsRule.TheVariants.{Unexpected, Unknown, Twice, TxnAtom, Variables, Range, NotForward, OtherObject, TooMany}
-use Rattle.ql_holds_files.specs.HoldsFile.{Asked, HoldsOutcome}
+use Rattle.ql_holds_files.specs.HoldsFile.{Asked}
+use Rattle.ql_holds_grammar.specs.FirstFaults.{FirstHoldsFault}
+use Rattle.ql_holds_grammar.specs.Grammar.{HoldsTree, IsHoldsFile, texts_of}
+use Rattle.ql_holds_grammar.specs.Questions.{IsQuestionOf}
+use Rattle.ql_holds_grammar.specs.TreeRules.{HasCurrent, KeepsRules}
 use Rattle.ql_reply.specs.Lines.{fault_line}
 use Rattle.ql_reply.specs.declared.status.Status.{Status}
 use Rattle.ql_reply.specs.declared.status.Status.TheVariants.{Done, No, Bad, ReadFault, WriteFault, Usage, TooLarge}
 
--- the bytes ask this
+-- the file's lines are those of a tree that keeps the rules, and this is the tree's question
 abbrev pub Asks : List ℕ → Asked → Type 0
-Asks bytes asked = HoldsOutcome (ahead_from 1 bytes) (Ok asked)
+Asks bytes asked = (t : HoldsTree) × IsHoldsFile (texts_of (ahead_from 1 bytes).lines) t × KeepsRules t × HasCurrent t × IsQuestionOf t asked
 
--- the file is in the grammar
-abbrev pub IsHoldsFile : List ℕ → Type 0
-IsHoldsFile bytes = (asked : Asked) × Asks bytes asked
+-- the file asks something
+abbrev pub HasQuestion : List ℕ → Type 0
+HasQuestion bytes = (asked : Asked) × Asks bytes asked
 
 -- how many choices of effects there are for all variables
 abbrev pub work : Asked → ℕ
 work asked = length asked.execution ^ length asked.contract.formula.vars
 
--- the file is in the grammar, and doesn't ask for too much work
+-- the file asks something, and that isn't too much work
 abbrev pub IsAnswerableHolds : List ℕ → Type 0
 IsAnswerableHolds bytes = (asked : Asked) × Asks bytes asked × (work asked ≤ MAX_WORK)
 
@@ -61,7 +65,7 @@ HoldsReports asked Usage text = ⊥
 -- what is said of a file
 abbrev pub HoldsSays : List ℕ → Status → List ℕ → Type 0
 HoldsSays bytes Bad text =
-    (IsHoldsFile bytes → ⊥) × (broken : Broken HoldsRule) × HoldsOutcome (ahead_from 1 bytes) (Err broken)
+    (HasQuestion bytes → ⊥) × (broken : Broken HoldsRule) × FirstHoldsFault (ahead_from 1 bytes) broken
     × (text ≡ fault_line (codes "holds") broken.line (rule_word broken.rule))
 HoldsSays bytes Done text = (asked : Asked) × Asks bytes asked × HoldsReports asked Done text
 HoldsSays bytes No text = (asked : Asked) × Asks bytes asked × HoldsReports asked No text

@@ -16,6 +16,8 @@ pub fn holds(alloc: Global, bytes: &[u8]) -> Result<(Status, Vec<u8>), NoMemory>
     ensures { IfOk result (λ answer. HoldsSays bytes.now answer.0 answer.1.items) }
 {
     ql_holds_files::one_holding();
+    ql_holds_grammar::holds_files_are_read();
+    ql_holds_grammar::first_faults_are_of_the_grammar();
     match parse_holds(alloc, bytes) {
         Ok(holding) => truth_of(alloc, &holding),
         Err(fault) => Ok((Status::Bad, bad_holds(alloc, fault)?)),

@@ -16,8 +16,8 @@ use Rattle.ql_holds_files.specs.ContractLine.{IsContractLine, lowest_rule, sente
 use Rattle.ql_holds_files.specs.EffectLine.{Fits, IsHoldsEffectLine, effect_rule, holds_effect_fields, holds_end_fields, with_named_effect}
 use Rattle.ql_holds_files.specs.HoldsFile.{ExtendsHolds, ExtendsHoldsAs, IsCurrentLine, IsMore, after_contract, after_more, named_formula_of, no_effects}
 use Rattle.ql_holds_files.specs.Rules.{unless_broken}
-use Rattle.ql_holds_grammar.specs.FirstFaults.Breaks.{unexpected, contract, effect}
-use Rattle.ql_holds_grammar.specs.FirstFaults.{BeginsFile, Breaks}
+use Rattle.ql_holds_grammar.specs.FirstFaults.BreaksHoldsRule.{unexpected, contract, effect}
+use Rattle.ql_holds_grammar.specs.FirstFaults.{BeginsHoldsFile, BreaksHoldsRule}
 use Rattle.ql_holds_grammar.specs.Grammar.{HoldsTree, IsHoldsFile, effect_lines, texts_of}
 use Rattle.ql_holds_grammar.specs.TreeRules.{rule_broken}
 use Rattle.ql_holds_grammar.proofs.Asking.{tree_of}
@@ -40,8 +40,8 @@ refuses broken made rule is = ap (λ (b : Option HoldsRule). unless_broken b mad
 not_made : (made : Stage) (rule : HoldsRule) → ◌≡◌ {A = Result Stage HoldsRule} (Err rule) (Ok made) → ⊥
 not_made made rule e = cc
 
-as_unexpected : (lines : List (List ℕ)) (rule : HoldsRule) → ◌≡◌ {A = Result Stage HoldsRule} (Err rule) (Err Unexpected) → (BeginsFile lines → ⊥) → Breaks lines rule
-as_unexpected lines rule e none = let same : rule ≡ Unexpected = cc in subst (Breaks lines) (sym same) (unexpected none)
+as_unexpected : (lines : List (List ℕ)) (rule : HoldsRule) → ◌≡◌ {A = Result Stage HoldsRule} (Err rule) (Err Unexpected) → (BeginsHoldsFile lines → ⊥) → BreaksHoldsRule lines rule
+as_unexpected lines rule e none = let same : rule ≡ Unexpected = cc in subst (BreaksHoldsRule lines) (sym same) (unexpected none)
 
 -- ---- lists of lines
 
@@ -99,12 +99,12 @@ last_effect n (e ∷ es) (v ∷ us) u f p q same =
 
 -- ---- the first line
 
-first_breaks : (l : Numbered) (rule : HoldsRule) → ExtendsHoldsAs (IsContractLine l.text) after_contract (Err rule) → Breaks (l.text ∷ []) rule
+first_breaks : (l : Numbered) (rule : HoldsRule) → ExtendsHoldsAs (IsContractLine l.text) after_contract (Err rule) → BreaksHoldsRule (l.text ∷ []) rule
 first_breaks l rule (inl (c, is, e)) =
     contract rest_texts (tree_of c 0 []) rule refl (file_without l.text c is) (refused (lowest_rule (sentence_faults c)) (WithContract (named_formula_of c) (no_effects c)) rule e)
 first_breaks l rule (inr (none, e)) = as_unexpected (l.text ∷ []) rule e (λ b. none b.1.contract (contract_of l.text b.0 b.1 b.2))
 
-first_refused : (l : Numbered) (rule : HoldsRule) → Breaks (l.text ∷ []) rule → ExtendsHoldsAs (IsContractLine l.text) after_contract (Err rule)
+first_refused : (l : Numbered) (rule : HoldsRule) → BreaksHoldsRule (l.text ∷ []) rule → ExtendsHoldsAs (IsContractLine l.text) after_contract (Err rule)
 first_refused l rule (unexpected none) = inr ((λ c is. none (rest_texts, tree_of c 0 [], file_without l.text c is)), refl)
 first_refused l rule (contract more t r one h broken) =
     inl (t.contract, contract_of l.text more t h, refuses (lowest_rule (sentence_faults t.contract)) (WithContract (named_formula_of t.contract) (no_effects t.contract)) r broken)
@@ -114,12 +114,12 @@ first_refused l rule (effect t before e r h are broken) =
 
 -- ---- the second line
 
-second_breaks : (k l : Numbered) (made : ℕ → Stage) (rule : HoldsRule) → ExtendsHoldsAs (IsCurrentLine (fields_of l.text)) (λ id. Ok (made id)) (Err rule) → Breaks (k.text ∷ l.text ∷ []) rule
+second_breaks : (k l : Numbered) (made : ℕ → Stage) (rule : HoldsRule) → ExtendsHoldsAs (IsCurrentLine (fields_of l.text)) (λ id. Ok (made id)) (Err rule) → BreaksHoldsRule (k.text ∷ l.text ∷ []) rule
 second_breaks k l made rule (inl (id, is, e)) = absurd (not_made (made id) rule e)
 second_breaks k l made rule (inr (none, e)) =
     as_unexpected (k.text ∷ l.text ∷ []) rule e (λ b. let lines : Lines l.text b.0 b.1 = lines_of k.text l.text b.0 b.1 b.2 in none b.1.current lines.current)
 
-second_refused : (k l : Numbered) (c : Sentence) (made : ℕ → Stage) (rule : HoldsRule) → IsContractLine k.text c → Breaks (k.text ∷ l.text ∷ []) rule
+second_refused : (k l : Numbered) (c : Sentence) (made : ℕ → Stage) (rule : HoldsRule) → IsContractLine k.text c → BreaksHoldsRule (k.text ∷ l.text ∷ []) rule
     → ExtendsHoldsAs (IsCurrentLine (fields_of l.text)) (λ id. Ok (made id)) (Err rule)
 second_refused k l c made rule line (unexpected none) =
     inr ((λ id is. none (end_text, tree_of c id [], file_ended k.text l.text [] c id [] line is tt refl)), refl)
@@ -166,7 +166,7 @@ module _ (k m : Numbered) (ls : List Numbered) (l : Numbered) (c : Sentence) (id
 
   pub more_breaks : (current : Current) (rule : HoldsRule)
       → ExtendsHoldsAs (IsMore (suc (length (named_after (no_effects c) es).effects)) (fields_of l.text)) (after_more (named_formula_of c) current (named_after (no_effects c) es)) (Err rule)
-      → Breaks all rule
+      → BreaksHoldsRule all rule
   more_breaks current rule (inl (None, is, e)) = absurd (not_made (Ended (named_formula_of c) current (named_after (no_effects c) es)) rule e)
   more_breaks current rule (inl (Some line, is, e)) =
       let named = named_after (no_effects c) es in
@@ -174,7 +174,7 @@ module _ (k m : Numbered) (ls : List Numbered) (l : Numbered) (c : Sentence) (id
       (sym (same_rule c es line) ∙ refused (effect_rule named line) (WithEffects (named_formula_of c) current (with_named_effect named line)) rule e)
   more_breaks current rule (inr (none, e)) = as_unexpected all rule e (λ b. let found = is_more b.0 b.1 b.2 in none found.0 found.1)
 
-  pub more_refused : (current : Current) (rule : HoldsRule) → Breaks all rule
+  pub more_refused : (current : Current) (rule : HoldsRule) → BreaksHoldsRule all rule
       → ExtendsHoldsAs (IsMore (suc (length (named_after (no_effects c) es).effects)) (fields_of l.text)) (after_more (named_formula_of c) current (named_after (no_effects c) es)) (Err rule)
   more_refused current rule (unexpected none) = inr (never, refl)
     where
@@ -200,17 +200,17 @@ module _ (k m : Numbered) (ls : List Numbered) (l : Numbered) (es : List EffectL
       let after : Lines m.text (texts_of (ls ++ l ∷ []) ++ more) t = lines_of k.text m.text (texts_of (ls ++ l ∷ []) ++ more) t h in
       past_end (fields_in ls) (fields_of l.text) (map fields_of more) es t.effects h.effects lines (sym (spelled_then ls l more) ∙ after.spelled)
 
-  pub ended_breaks : (rule : HoldsRule) → ◌≡◌ {A = Result Stage HoldsRule} (Err rule) (Err Unexpected) → Breaks (k.text ∷ m.text ∷ texts_of (ls ++ l ∷ [])) rule
+  pub ended_breaks : (rule : HoldsRule) → ◌≡◌ {A = Result Stage HoldsRule} (Err rule) (Err Unexpected) → BreaksHoldsRule (k.text ∷ m.text ∷ texts_of (ls ++ l ∷ [])) rule
   ended_breaks rule e = as_unexpected (k.text ∷ m.text ∷ texts_of (ls ++ l ∷ [])) rule e (λ b. none_after b.0 b.1 b.2)
 
-  pub ended_refused : (rule : HoldsRule) → Breaks (k.text ∷ m.text ∷ texts_of (ls ++ l ∷ [])) rule → ◌≡◌ {A = Result Stage HoldsRule} (Err rule) (Err Unexpected)
+  pub ended_refused : (rule : HoldsRule) → BreaksHoldsRule (k.text ∷ m.text ∷ texts_of (ls ++ l ∷ [])) rule → ◌≡◌ {A = Result Stage HoldsRule} (Err rule) (Err Unexpected)
   ended_refused rule (unexpected none) = refl
   ended_refused rule (contract more t r one h broken) = absurd (omega (arith, one))
   ended_refused rule (effect t before e r h are broken) = absurd (none_after end_text t h)
 
 -- ---- any line
 
-pub breaks : (before : List Numbered) (l : Numbered) (s : Stage) (rule : HoldsRule) → Reached before s → ExtendsHolds s l (Err rule) → Breaks (texts_of (before ++ l ∷ [])) rule
+pub breaks : (before : List Numbered) (l : Numbered) (s : Stage) (rule : HoldsRule) → Reached before s → ExtendsHolds s l (Err rule) → BreaksHoldsRule (texts_of (before ++ l ∷ [])) rule
 breaks [] l s rule to g = first_breaks l rule (subst (λ r. ExtendsHolds r l (Err rule)) to g)
 breaks (k ∷ []) l s rule (c, has, to) g =
     second_breaks k l (λ id. WithEffects (named_formula_of c) (record { line = l.number; id = id }) (no_effects c)) rule (subst (λ r. ExtendsHolds r l (Err rule)) to g)
@@ -219,7 +219,7 @@ breaks (k ∷ m ∷ ls) l s rule (c, has, id, is, inl read) g =
     (subst (λ r. ExtendsHolds r l (Err rule)) read.to g)
 breaks (k ∷ m ∷ ls) l s rule (c, has, id, is, inr read) g = ended_breaks k m ls l read.effects read.lines rule (subst (λ r. ExtendsHolds r l (Err rule)) read.to g)
 
-pub refused_there : (before : List Numbered) (l : Numbered) (s : Stage) (rule : HoldsRule) → Reached before s → Breaks (texts_of (before ++ l ∷ [])) rule → ExtendsHolds s l (Err rule)
+pub refused_there : (before : List Numbered) (l : Numbered) (s : Stage) (rule : HoldsRule) → Reached before s → BreaksHoldsRule (texts_of (before ++ l ∷ [])) rule → ExtendsHolds s l (Err rule)
 refused_there [] l s rule to b = subst (λ r. ExtendsHolds r l (Err rule)) (sym to) (first_refused l rule b)
 refused_there (k ∷ []) l s rule (c, has, to) b =
     subst (λ r. ExtendsHolds r l (Err rule)) (sym to)

@@ -7,8 +7,8 @@ use Rattle.ql_holds_files.specs.declared.rules.HoldsRule.{HoldsRule}
 use Rattle.ql_holds_files.specs.ContractLine.{lowest_rule, sentence_faults}
 use Rattle.ql_holds_files.specs.EffectLine.{holds_end_fields}
 use Rattle.ql_holds_files.specs.Uniqueness.{OneContract}
-use Rattle.ql_holds_grammar.specs.FirstFaults.Breaks.{unexpected, contract, effect}
-use Rattle.ql_holds_grammar.specs.FirstFaults.{BeginsKeeping, Breaks}
+use Rattle.ql_holds_grammar.specs.FirstFaults.BreaksHoldsRule.{unexpected, contract, effect}
+use Rattle.ql_holds_grammar.specs.FirstFaults.{BeginsKeeping, BreaksHoldsRule}
 use Rattle.ql_holds_grammar.specs.Grammar.{HoldsTree, IsHoldsFile, effect_lines}
 use Rattle.ql_holds_grammar.specs.TreeRules.{KeepsRules, rule_broken}
 use Rattle.ql_holds_grammar.proofs.Breaking.{no_whole}
@@ -41,7 +41,7 @@ no_effects_before_end x t before e h are =
     let lines : Lines (codes "end") [] t = lines_of x (codes "end") [] t h in
     omega (arith, ap length lines.spelled, length-append (effect_lines 1 t.effects) (holds_end_fields ∷ []))
 
-pub none_begins : OneContract → (lines : List (List ℕ)) (rule : HoldsRule) → Breaks lines rule → BeginsKeeping lines → ⊥
+pub none_begins : OneContract → (lines : List (List ℕ)) (rule : HoldsRule) → BreaksHoldsRule lines rule → BeginsKeeping lines → ⊥
 none_begins one lines rule (unexpected none) (more, t, h, keeps) = none (more, t, h)
 none_begins one [] rule (contract more' t' r single h' broken) (more, t, h, keeps) = absurd (omega (arith, single))
 none_begins one (x ∷ ys) rule (contract more' t' r single h' broken) (more, t, h, keeps) =

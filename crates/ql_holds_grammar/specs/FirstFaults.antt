@@ -10,8 +10,8 @@ use Rattle.ql_holds_grammar.specs.Grammar.{HoldsTree, IsHoldsFile, texts_of}
 use Rattle.ql_holds_grammar.specs.TreeRules.{HasCurrent, KeepsRules, rule_broken}
 
 -- some file of the grammar begins with these lines
-abbrev pub BeginsFile : List (List ℕ) → Type 0
-BeginsFile lines = (more : List (List ℕ)) × (t : HoldsTree) × IsHoldsFile (lines ++ more) t
+abbrev pub BeginsHoldsFile : List (List ℕ) → Type 0
+BeginsHoldsFile lines = (more : List (List ℕ)) × (t : HoldsTree) × IsHoldsFile (lines ++ more) t
 
 -- some file begins with these lines of which neither the contract nor an effect breaks a rule
 abbrev pub BeginsKeeping : List (List ℕ) → Type 0
@@ -19,16 +19,16 @@ BeginsKeeping lines = (more : List (List ℕ)) × (t : HoldsTree) × IsHoldsFile
 
 -- The rule that the last of these lines breaks: no file of the grammar begins with them, or else it is the lowest rule of
 -- the contract, or of the last effect.
-pub data Breaks (lines : List (List ℕ)) : HoldsRule → Type 0 where
-  unexpected : (BeginsFile lines → ⊥) → Breaks lines Unexpected
-  contract : (more : List (List ℕ)) (t : HoldsTree) (rule : HoldsRule) → length lines ≡ 1 → IsHoldsFile (lines ++ more) t → lowest_rule (sentence_faults t.contract) ≡ Some rule → Breaks lines rule
-  effect : (t : HoldsTree) (before : List EffectLine) (e : EffectLine) (rule : HoldsRule) → IsHoldsFile (lines ++ codes "end" ∷ []) t → t.effects ≡ before ++ e ∷ [] → rule_broken before e ≡ Some rule → Breaks lines rule
+pub data BreaksHoldsRule (lines : List (List ℕ)) : HoldsRule → Type 0 where
+  unexpected : (BeginsHoldsFile lines → ⊥) → BreaksHoldsRule lines Unexpected
+  contract : (more : List (List ℕ)) (t : HoldsTree) (rule : HoldsRule) → length lines ≡ 1 → IsHoldsFile (lines ++ more) t → lowest_rule (sentence_faults t.contract) ≡ Some rule → BreaksHoldsRule lines rule
+  effect : (t : HoldsTree) (before : List EffectLine) (e : EffectLine) (rule : HoldsRule) → IsHoldsFile (lines ++ codes "end" ∷ []) t → t.effects ≡ before ++ e ∷ [] → rule_broken before e ≡ Some rule → BreaksHoldsRule lines rule
 
 -- The first fault: the first line that breaks a rule; or the file's end, where lines are lacking; or, where nothing else is
 -- wrong, the line of the current effect, where there is no such effect.
 pub data FirstHoldsFault (file : Ahead) : Broken HoldsRule → Type 0 where
   at_line : (before : List Numbered) (l : Numbered) (rest : List Numbered) (rule : HoldsRule) → file.lines ≡ before ++ l ∷ rest → BeginsKeeping (texts_of before)
-      → Breaks (texts_of (before ++ l ∷ [])) rule → FirstHoldsFault file (record { line = l.number; rule = rule })
+      → BreaksHoldsRule (texts_of (before ++ l ∷ [])) rule → FirstHoldsFault file (record { line = l.number; rule = rule })
   at_end : BeginsKeeping (texts_of file.lines) → ((t : HoldsTree) → IsHoldsFile (texts_of file.lines) t → ⊥) → FirstHoldsFault file (record { line = file.end; rule = Unexpected })
   no_current : (first second : Numbered) (rest : List Numbered) (t : HoldsTree) → file.lines ≡ first ∷ second ∷ rest → IsHoldsFile (texts_of file.lines) t → KeepsRules t
       → (HasCurrent t → ⊥) → FirstHoldsFault file (record { line = second.number; rule = Range })

@@ -3,7 +3,7 @@ ghost use Rattle.ql_line_files.specs.declared.fault.Broken.{Broken};
 ghost use Rattle.ql_lines.specs.Lines.{Ahead};
 ghost use Rattle.ql_holds_files.specs.HoldsFile.{HoldsOutcome};
 ghost use Rattle.ql_holds_files.specs.declared.rules.HoldsRule.{HoldsRule};
-ghost use Rattle.ql_holds_grammar.specs.FirstFaults.{BeginsKeeping, Breaks, FirstHoldsFault};
+ghost use Rattle.ql_holds_grammar.specs.FirstFaults.{BeginsKeeping, BreaksHoldsRule, FirstHoldsFault};
 
 /// The first fault of a file is that of the grammar.
 ///
@@ -12,7 +12,7 @@ ghost use Rattle.ql_holds_grammar.specs.FirstFaults.{BeginsKeeping, Breaks, Firs
 pub fn first_faults_are_of_the_grammar()
     ensures fault { (file : Ahead) (f : Broken HoldsRule) → HoldsOutcome file (Err f)
         ↔ FirstHoldsFault file f }
-    ensures none { (lines : List (List ℕ)) (rule : HoldsRule) → Breaks lines rule
+    ensures none { (lines : List (List ℕ)) (rule : HoldsRule) → BreaksHoldsRule lines rule
         → BeginsKeeping lines → ⊥ }
 {
     ql_parse::one_answer();
