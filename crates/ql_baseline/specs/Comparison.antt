@@ -4,6 +4,7 @@ use Rattle.std.specs.List.{concat}
 use Rattle.std.specs.Str.{bytes_eq}
 use Rattle.ql_classify.specs.declared.finding.Finding.{Finding}
 use Rattle.ql_classify.specs.declared.finding.Finding.TheVariants.{Least, NoLevel}
+use Rattle.ql_reply.specs.Lines.{fault_line}
 use Rattle.ql_reply.specs.declared.status.Status.{Status}
 use Rattle.ql_reply.specs.declared.status.Status.TheVariants.{Done, No, Bad}
 use Rattle.ql_commands.specs.Sources.{BadSourceSays, IsSource, IsSourceOf}
@@ -102,7 +103,7 @@ IsComparison p stored _ text = ⊥
 
 -- bad baseline at LINE: Unexpected
 abbrev pub bad_text : Broken BaselineRule → List ℕ
-bad_text fault = codes "bad baseline at " ++ decimal fault.line ++ codes ": Unexpected\n"
+bad_text fault = fault_line (codes "baseline") fault.line (codes "Unexpected")
 
 abbrev pub IsCompared : List ℕ → List ℕ → Status → List ℕ → Type 0
 IsCompared source baseline status text = (p : Program) × IsSourceOf source p × (stored : List Stored) × IsBaseline baseline (Ok stored) × IsComparison p stored status text

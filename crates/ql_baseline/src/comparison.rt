@@ -3,17 +3,17 @@ ghost use Rattle.std.specs.List.{concat};
 ghost use Rattle.ql_classify.specs.Finding.{IsFinding};
 ghost use Rattle.ql_explanation.specs.Explanation.{AreFindings};
 ghost use Rattle.ql_ground.specs.SmallBodies.{HasSmallBodies};
-ghost use Rattle.ql_baseline.specs.Comparison.{BaselineSays, IsComparison, bad_text, rise_of};
+ghost use Rattle.ql_baseline.specs.Comparison.{BaselineSays, IsComparison, rise_of};
 
 use crate::format::Format;
 use crate::rises::push_rise_at;
-use crate::stored::{BaselineRule, Stored};
-use ql_base::{NoMemory, push_bytes, push_number};
+use crate::stored::Stored;
+use ql_base::NoMemory;
 use ql_classify::Finding;
 use ql_commands::{bad_source, read_source};
 use ql_explanation::{finding_at, findings, goal_of};
-use ql_line_files::{Broken, FileFault, read_file};
-use ql_reply::Status;
+use ql_line_files::{FileFault, read_file};
+use ql_reply::{Status, bad_line};
 use ql_typing::Typed;
 use std::alloc::Global;
 
@@ -29,18 +29,12 @@ pub fn compare(alloc: Global, source: &[u8], baseline: &[u8]) -> Result<(Status,
     };
     match read_file(&Format { alloc }, baseline) {
         Ok(stored) => against(alloc, &typed, stored.items()),
-        Err(FileFault::Broken(fault)) => Ok((Status::Bad, bad_baseline(alloc, fault)?)),
+        Err(FileFault::Broken(fault)) => {
+            let text = bad_line(alloc, "baseline", fault.line, "Unexpected")?;
+            Ok((Status::Bad, text))
+        }
         Err(FileFault::NoMemory) => Err(NoMemory),
     }
-}
-
-fn bad_baseline(alloc: Global, fault: Broken<BaselineRule>) -> Result<Vec<u8>, NoMemory>
-    ensures { IfOk result (λ text. text.items ≡ bad_text fault) }
-{
-    let mut text = Vec::from_slice(alloc, b"bad baseline at ")?;
-    push_number(&mut text, fault.line)?;
-    push_bytes(&mut text, b": Unexpected\n")?;
-    Ok(text)
 }
 
 // What became of the levels since this answer was stored.

@@ -12,8 +12,8 @@ use Rattle.ql_reply.specs.Read.{IsRead}
 use Rattle.ql_reply.specs.Unread.{IsUnread}
 use Rattle.ql_reply.proofs.Replies.{answer_unread, no_usage, rose_before}
 use Rattle.ql_explain.specs.Words.{Call, Explained, Compared}
-use Rattle.ql_explain.specs.declared.asked.Form.{Form}
-use Rattle.ql_explain.specs.declared.asked.Form.TheVariants.{Text, Json}
+use Rattle.ql_explain.specs.declared.request.Form.{Form}
+use Rattle.ql_explain.specs.declared.request.Form.TheVariants.{Text, Json}
 use Rattle.ql_reply.specs.declared.status.Status.{Status}
 use Rattle.ql_reply.specs.declared.status.Status.TheVariants.{Done, No, Bad, ReadFault, WriteFault, Usage, TooLarge}
 

@@ -5,8 +5,8 @@ use Rattle.ql_explain_json.specs.JsonExplanations.{ExplainJsonSays}
 use Rattle.ql_explanation.specs.Explanation.{ExplainSays}
 use Rattle.ql_ports.specs.Faults.{Rose}
 use Rattle.ql_explain.specs.Words.{Call, Explained, Compared, asked}
-use Rattle.ql_explain.specs.declared.asked.Form.{Form}
-use Rattle.ql_explain.specs.declared.asked.Form.TheVariants.{Text, Json}
+use Rattle.ql_explain.specs.declared.request.Form.{Form}
+use Rattle.ql_explain.specs.declared.request.Form.TheVariants.{Text, Json}
 use Rattle.ql_explain.specs.declared.help.TheConstants.{HELP}
 use Rattle.ql_reply.specs.Read.{IsRead}
 use Rattle.ql_reply.specs.declared.status.Status.{Status}

@@ -3,10 +3,10 @@ use Rattle.std.specs.Prelude.{ℕ, if◌then◌else◌, List, [], ◌∷◌, Opt
 use Rattle.std.specs.Option.{option_map}
 use Rattle.std.specs.Str.{bytes_eq}
 use Rattle.ql_reply.specs.Arguments.{is_file_name}
-use Rattle.ql_explain.specs.declared.asked.Asked.{Asked}
-use Rattle.ql_explain.specs.declared.asked.Asked.TheVariants as request
-use Rattle.ql_explain.specs.declared.asked.Form.{Form}
-use Rattle.ql_explain.specs.declared.asked.Form.TheVariants.{Text, Json}
+use Rattle.ql_explain.specs.declared.request.Request.{Request}
+use Rattle.ql_explain.specs.declared.request.Request.TheVariants as request
+use Rattle.ql_explain.specs.declared.request.Form.{Form}
+use Rattle.ql_explain.specs.declared.request.Form.TheVariants.{Text, Json}
 
 -- what is found of the source of a name, in a form; or which of its levels are higher than in the stored answer of a name
 pub data Call : Type 0 where
@@ -41,6 +41,6 @@ asked (word ∷ words) =
     if bytes_eq word (codes "--json") then json_of words else (if bytes_eq word (codes "--baseline") then against_of words else plain_of word words)
 
 -- a request as data
-abbrev pub call_of : Asked → Call
+abbrev pub call_of : Request → Call
 call_of (request.Explained form name) = Explained form name.now
 call_of (request.Compared pair) = Compared pair.baseline.now pair.source.now

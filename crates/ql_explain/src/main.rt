@@ -3,10 +3,10 @@
 // The one contract: for all arguments and all files one text is written that the outcome allows.
 #![tactic(auto)]
 
-mod asked;
 mod help;
 mod outcome;
 mod program;
+mod request;
 
 use crate::program::explain_words;
 use ql_notes::{KeptSink, write_notes};

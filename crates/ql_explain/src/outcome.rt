@@ -3,7 +3,7 @@ ghost use Rattle.ql_explain.specs.Outcomes.{Says, SaysIn, Reports, most_bytes};
 ghost use Rattle.ql_explain.specs.Words.{Compared, Explained};
 ghost use Rattle.ql_reply.specs.Arguments.{word_texts};
 
-use crate::asked::{Asked, Form, Pair, parse_words};
+use crate::request::{Request, Form, Pair, parse_words};
 use crate::help::HELP;
 use ql_base::{MAX_SOURCE_BYTES, NoMemory};
 use ql_baseline::compare;
@@ -31,8 +31,8 @@ pub(crate) fn outcome<S: Shelf>(
 {
     match parse_words(words) {
         None => Ok((Status::Usage, Vec::from_slice(alloc, HELP.as_bytes())?)),
-        Some(Asked::Explained(form, name)) => of_source(alloc, form, name, shelf),
-        Some(Asked::Compared(pair)) => of_pair(alloc, pair, shelf),
+        Some(Request::Explained(form, name)) => of_source(alloc, form, name, shelf),
+        Some(Request::Compared(pair)) => of_pair(alloc, pair, shelf),
     }
 }
 

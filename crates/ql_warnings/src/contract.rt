@@ -1,5 +1,5 @@
 // Warnings of a target's contract.
-ghost use Rattle.std.specs.Prelude.{◌≡◌, ◌≢◌, ◌<◌, ◌++◌, ◌^◌, ℕ, IfOk, List, OnOk, false, length, true};
+ghost use Rattle.std.specs.Prelude.{◌≡◌, ◌≢◌, ◌<◌, ◌^◌, ℕ, IfOk, List, false, length, true};
 ghost use Rattle.std.specs.List.{All};
 ghost use Rattle.ql_lang.specs.Formulas.{Always, resolved_of, statement_of};
 ghost use Rattle.ql_ground.specs.OfPrograms.{IsGoalOf};
@@ -12,7 +12,7 @@ use crate::named::named;
 use crate::next::next_name;
 use crate::premises::premises;
 use crate::unbracketed::{Extent, unbracketed};
-use crate::warning::Warning;
+use crate::warning::{Warning, push_all};
 use ql_base::NoMemory;
 use ql_ground::Goal;
 use ql_lang::{Body, Formula, Var};
@@ -33,13 +33,6 @@ pub fn warnings(alloc: Global, source: &[u8], t: &Typed, g: Goal) -> Result<Vec<
     let of_contract = of_contract(alloc, source, t, g)?;
     push_all(&mut found, &of_contract)?;
     Ok(found)
-}
-
-fn push_all(found: &mut Vec<Warning>, more: &[Warning]) -> Result<(), NoMemory>
-    ensures { OnOk result (found.new.items ≡ found.old.items ++ more.now) }
-{
-    found.extend_from_slice(more)?;
-    Ok(())
 }
 
 // The variables of a target's contract, and the offset of its name.

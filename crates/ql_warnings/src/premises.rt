@@ -1,5 +1,5 @@
 // Premises: what is on the left of `=>`.
-ghost use Rattle.std.specs.Prelude.{◌≡◌, ◌≢◌, ◌<◌, ◌^◌, ◌++◌, ℕ, IfOk, List, OnOk, Some, length, slice_get, true};
+ghost use Rattle.std.specs.Prelude.{◌≡◌, ◌≢◌, ◌<◌, ◌^◌, ℕ, IfOk, List, OnOk, Some, length, slice_get, true};
 ghost use Rattle.std.specs.List.{All};
 ghost use Rattle.ql_lang.specs.Formulas.{Statement, statement_of};
 ghost use Rattle.ql_warnings.specs.Known.{Gives, IsPartOf};
@@ -15,7 +15,7 @@ use crate::always::with_parts;
 use crate::clash::{Scene, first_clash, known_at};
 use crate::known::{Known, gives};
 use crate::place::place_in;
-use crate::warning::Warning;
+use crate::warning::{Warning, push_all};
 use ql_base::NoMemory;
 use ql_lang::Body;
 use std::alloc::Global;
@@ -61,13 +61,6 @@ fn push_premises(
         }
         _ => Ok(()),
     }
-}
-
-fn push_all(out: &mut Vec<Warning>, found: &[Warning]) -> Result<(), NoMemory>
-    ensures { OnOk result (out.new.items ≡ out.old.items ++ found.now) }
-{
-    out.extend_from_slice(found)?;
-    Ok(())
 }
 
 // The warnings of one premise.

@@ -1,4 +1,6 @@
-use ql_base::{EffId, OpId};
+ghost use Rattle.std.specs.Prelude.{◌≡◌, ◌++◌, OnOk};
+
+use ql_base::{EffId, NoMemory, OpId};
 
 /// A position in a source: its offset in bytes from 0, and its line and column from 1, the column in bytes.
 #[derive(Clone, Copy, PartialEq, Eq)]
@@ -23,4 +25,12 @@ pub enum Warning {
     Unneeded(Place),
     /// The countermodel that is shown breaks the contract of another operation, which has a level, at this effect.
     RuledOut { op: OpId, at: EffId },
+}
+
+// Warnings after those that were found.
+pub(crate) fn push_all(found: &mut Vec<Warning>, more: &[Warning]) -> Result<(), NoMemory>
+    ensures { OnOk result (found.new.items ≡ found.old.items ++ more.now) }
+{
+    found.extend_from_slice(more)?;
+    Ok(())
 }

@@ -22,7 +22,7 @@ pub(crate) struct Pair<'a> {
 
 /// A request.
 #[derive(Clone, Copy)]
-pub(crate) enum Asked<'a> {
+pub(crate) enum Request<'a> {
     /// What is found of the source of a name.
     Explained(Form, &'a str),
     /// Which levels are higher than in a stored answer.
@@ -30,7 +30,7 @@ pub(crate) enum Asked<'a> {
 }
 
 /// The request that the arguments make, if they make one.
-pub(crate) fn parse_words(words: &Vec<String>) -> Option<Asked>
+pub(crate) fn parse_words(words: &Vec<String>) -> Option<Request>
     ensures { option_map call_of result ≡ asked (word_texts words.now) }
 {
     match words.split_first() {
@@ -47,26 +47,26 @@ pub(crate) fn parse_words(words: &Vec<String>) -> Option<Asked>
     }
 }
 
-fn json(words: &[String]) -> Option<Asked>
+fn json(words: &[String]) -> Option<Request>
     ensures { option_map call_of result ≡ json_of (map string_bytes words.now) }
 {
     match one_name(words) {
         None => None,
-        Some(name) => Some(Asked::Explained(Form::Json, name)),
+        Some(name) => Some(Request::Explained(Form::Json, name)),
     }
 }
 
-fn plain<'a>(word: &'a str, rest: &[String]) -> Option<Asked<'a>>
+fn plain<'a>(word: &'a str, rest: &[String]) -> Option<Request<'a>>
     ensures { option_map call_of result ≡ plain_of word.now (map string_bytes rest.now) }
 {
     match only_name(word, rest) {
         None => None,
-        Some(name) => Some(Asked::Explained(Form::Text, name)),
+        Some(name) => Some(Request::Explained(Form::Text, name)),
     }
 }
 
 // What a name after `--baseline` and another one ask for.
-fn against(words: &[String]) -> Option<Asked>
+fn against(words: &[String]) -> Option<Request>
     ensures { option_map call_of result ≡ against_of (map string_bytes words.now) }
 {
     match words.split_first() {
@@ -81,14 +81,14 @@ fn against(words: &[String]) -> Option<Asked>
     }
 }
 
-fn compared<'a>(baseline: &'a str, source: Option<&'a str>) -> Option<Asked<'a>>
+fn compared<'a>(baseline: &'a str, source: Option<&'a str>) -> Option<Request<'a>>
     ensures { option_map call_of result
         ≡ option_map (λ name. Compared baseline.now name)
         (option_map (λ name. name.now) source.entry) }
 {
     match source {
         None => None,
-        Some(source) => Some(Asked::Compared(Pair { baseline, source })),
+        Some(source) => Some(Request::Compared(Pair { baseline, source })),
     }
 }
 
