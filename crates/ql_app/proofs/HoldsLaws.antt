@@ -1,7 +1,8 @@
 -- what is said of holds files
-use Rattle.std.proofs.Common.{◌≡◌, ◌↔◌, List, ℕ, Result, Ok, Err, codes, arith, ap, refl, sym, subst, ◌∙◌}
+use Rattle.std.proofs.Common.{◌≡◌, ◌↔◌, ◌<◌, List, ℕ, Result, Ok, Err, codes, arith, ap, refl, sym, subst, ◌∙◌}
 use Rattle.std.specs.Prelude.{IfOk}
 use Rattle.std.specs.Global.{Vec}
+use Rattle.ql_base.specs.declared.limits.TheConstants.{MAX_WORK}
 use Rattle.ql_base.specs.declared.no_memory.NoMemory.{NoMemory as NoMemoryLeft}
 use Rattle.ql_lines.specs.Lines.{Ahead, ahead_from}
 use Rattle.ql_line_files.specs.declared.fault.Broken.{Broken}
@@ -86,29 +87,34 @@ module _ (file : Ahead) (text : List ℕ) where
 apart : OneOutcome → (file : Ahead) (p : Asked) (broken : Broken HoldsRule) → HoldsOutcome file (Ok p) → HoldsOutcome file (Err broken) → ⊥
 apart one file p broken h k = let same : ◌≡◌ {A = Result Asked (Broken HoldsRule)} (Ok p) (Err broken) = one file (Ok p) (Err broken) h k in absurd cc
 
+-- a file with a first fault asks nothing
+no_question : OneOutcome → AreRead → OneQuestion → (bytes : List ℕ) (broken : Broken HoldsRule) → HoldsOutcome (ahead_from 1 bytes) (Err broken) → HasQuestion bytes → ⊥
+no_question one are_read question bytes broken fault (asked, asks) = apart one (ahead_from 1 bytes) asked broken (asks_so are_read question bytes asked asks) fault
+
 -- a file with a first fault is bad
 pub is_bad : OneOutcome → AreRead → OneQuestion → FaultsAreOfGrammar → (bytes : List ℕ) (f : HoldsFault) (text : List ℕ)
     → IsRefusal (ahead_from 1 bytes) f → IsReportedAs f text → HoldsSays bytes Bad text
 is_bad one are_read question faults bytes f text h said =
     let first = first_fault (ahead_from 1 bytes) text f h said in
-    ((λ (file : HasQuestion bytes). apart one (ahead_from 1 bytes) file.0 first.0 (asks_so are_read question bytes file.0 file.1) first.1)
-    , first.0, (faults (ahead_from 1 bytes) first.0).0 first.1, first.2)
+    (no_question one are_read question bytes first.0 first.1, first.0, (faults (ahead_from 1 bytes) first.0).0 first.1, first.2)
 
 -- ---- what is asked
 
 one_asked : OneOutcome → (file : Ahead) (p q : Asked) → HoldsOutcome file (Ok p) → HoldsOutcome file (Ok q) → p ≡ q
 one_asked one file p q h k = let same : ◌≡◌ {A = Result Asked (Broken HoldsRule)} (Ok p) (Ok q) = one file (Ok p) (Ok q) h k in cc
 
+-- where a question is too much work, the file asks none that isn't
+too_much : OneOutcome → AreRead → OneQuestion → (bytes : List ℕ) (asked : Asked) → Asks bytes asked → MAX_WORK < work asked → IsAnswerableHolds bytes → ⊥
+too_much one are_read question bytes asked asks more (other, theirs, less) =
+    let same = ap work (one_asked one (ahead_from 1 bytes) other asked (asks_so are_read question bytes other theirs) (asks_so are_read question bytes asked asks)) in
+    omega (arith, same, more, less)
+
 -- what is said where this is asked is said of a file that asks it
 is_reported : OneOutcome → AreRead → OneQuestion → (bytes : List ℕ) (asked : Asked) (status : Status) (text : List ℕ)
     → Asks bytes asked → HoldsReports asked status text → HoldsSays bytes status text
 is_reported one are_read question bytes asked Done text asks said = (asked, asks, said)
 is_reported one are_read question bytes asked No text asks said = (asked, asks, said)
-is_reported one are_read question bytes asked TooLarge text asks said =
-    ((λ (file : IsAnswerableHolds bytes).
-        let same = ap work (one_asked one (ahead_from 1 bytes) file.0 asked (asks_so are_read question bytes file.0 file.1) (asks_so are_read question bytes asked asks)) in
-        let more = said.0 in let less = file.2 in omega (arith, same, more, less))
-    , asked, asks, said)
+is_reported one are_read question bytes asked TooLarge text asks said = (too_much one are_read question bytes asked asks said.0, asked, asks, said)
 is_reported one are_read question bytes asked Bad text asks said = absurd said
 is_reported one are_read question bytes asked ReadFault text asks said = absurd said
 is_reported one are_read question bytes asked WriteFault text asks said = absurd said

@@ -12,8 +12,8 @@ const ROOM: usize = 65_536;
 const NAMES: [&str; 2] = ["source", "other"];
 
 /// The exit status and the text that the program answers to `COMMAND: FILE` or `COMMAND: FILE ~ FILE`, where a FILE is
-/// the text of a file or the name of a source. `3 times [effect #..] in front@back` stands for three parts between
-/// front and back, with their numbers for `#`.
+/// the text of a file or the name of a source. `3 times [effect #..] in start@end` stands for three parts between
+/// start and end, with their numbers for `#`.
 pub(crate) fn asked(alloc: Global, row: &str) -> Result<Vec<u8>, NoMemory> {
     let row = built(alloc, row)?;
     let (command, files) = row.as_str().split_once(": ").unwrap_or(("", ""));
@@ -32,16 +32,16 @@ fn built(alloc: Global, row: &str) -> Result<String, NoMemory> {
         return Ok(String::from_str(alloc, row)?);
     };
     let (part, frame) = rest.split_once("] in ").unwrap_or((rest, ""));
-    let (front, back) = frame.split_once('@').unwrap_or((frame, ""));
+    let (start, end) = frame.split_once('@').unwrap_or((frame, ""));
     let (first, rest) = part.split_once('#').unwrap_or((part, ""));
     let (second, third) = rest.split_once('#').unwrap_or((rest, ""));
-    let mut text = String::from_str(alloc, front)?;
+    let mut text = String::from_str(alloc, start)?;
     for index in 0..count.parse::<u32>().unwrap_or(0) {
         let number = index + 1;
         let line = format!(in alloc; "{first}{number}{second}{number}{third}")?;
         text.push_str(line.as_str())?;
     }
-    text.push_str(back)?;
+    text.push_str(end)?;
     Ok(text)
 }
 

@@ -52,11 +52,11 @@ prove: type t { op touch(): unit { contract true; answer unit; } }␊transaction
 
 #[test]
 fn reports_where_no_level_is_enough(rt: HostRuntime) -> Result<(), Fail> {
-    check_table(rt.alloc(), NO_LEVEL, front_of_asked)
+    check_table(rt.alloc(), NO_LEVEL, up_to_first_atom)
 }
 
 // What is printed up to the first atom.
-fn front_of_asked(alloc: Global, row: &str) -> Result<Vec<u8>, NoMemory> {
+fn up_to_first_atom(alloc: Global, row: &str) -> Result<Vec<u8>, NoMemory> {
     let mut text = asked(alloc, row)?;
     let atoms = text.iter().take_while(|byte| **byte != b')').count();
     text.truncate(atoms.saturating_add(2));

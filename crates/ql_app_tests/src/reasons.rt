@@ -55,9 +55,9 @@ fn push_verified(
     let execution = format!(in alloc; "execution\n{effects}end\n")?;
     let said = reported(alloc, "verify", &[source, execution.as_bytes()])?;
     let said = String::from_utf8_lossy(alloc, &said)?;
-    let (front, _) = said
+    let (breach, _) = said
         .as_str()
         .split_once(" at ")
         .unwrap_or((said.as_str(), ""));
-    push_bytes(out, front.as_bytes())
+    push_bytes(out, breach.as_bytes())
 }

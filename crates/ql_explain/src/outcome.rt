@@ -3,8 +3,8 @@ ghost use Rattle.ql_explain.specs.Outcomes.{Says, SaysIn, Reports, most_bytes};
 ghost use Rattle.ql_explain.specs.Words.{Compared, Explained};
 ghost use Rattle.ql_reply.specs.Arguments.{word_texts};
 
-use crate::request::{Request, Form, Pair, parse_words};
 use crate::help::HELP;
+use crate::request::{Form, Pair, Request, parse_words};
 use ql_base::{MAX_SOURCE_BYTES, NoMemory};
 use ql_baseline::compare;
 use ql_explain_json::explain_json;

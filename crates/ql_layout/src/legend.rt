@@ -3,21 +3,25 @@ use crate::dots::COLOURS;
 use crate::pen::{Pen, point};
 use crate::picture::Scene;
 use ql_base::{NoMemory, push_bytes, push_number};
-use ql_svg::{Kind, Style};
+use ql_svg::{Kind, Point, Style};
 use std::alloc::Global;
+
+// The most objects that are named.
+const MOST_NAMED: u32 = 64;
 
 // The most bytes of a caption that count for its width.
 const MOST_WORDS: usize = 2000;
 
-/// Draws the objects with their colours, in a line at a height. Returns where the line ends.
+/// Draws the objects with their colours, of many the first ones, in a line at a height. Returns where the line ends.
 pub(crate) fn draw_objects(
     alloc: Global,
     pen: &mut Pen,
     scene: Scene,
     y: u32,
 ) -> Result<u32, NoMemory> {
+    let count = scene.run.objects.len();
     let mut x = LEFT;
-    for number in 0..scene.run.objects.len().min(64) {
+    for number in 0..count.min(MOST_NAMED) {
         let name = scene.run.object_name(number);
         let style = Style {
             kind: Kind::Swatch,
@@ -27,7 +31,19 @@ pub(crate) fn draw_objects(
         pen.label(alloc, Kind::Object, point(x.saturating_add(16), y), name)?;
         x = x.saturating_add(text_width(name)).saturating_add(36);
     }
+    if count > MOST_NAMED {
+        return draw_others(alloc, pen, count - MOST_NAMED, point(x, y));
+    }
     Ok(x)
+}
+
+// Says how many objects aren't named. Returns where the text ends.
+fn draw_others(alloc: Global, pen: &mut Pen, count: u32, at: Point) -> Result<u32, NoMemory> {
+    let mut text = Vec::from_slice(alloc, b"and ")?;
+    push_number(&mut text, count)?;
+    push_bytes(&mut text, b" more")?;
+    pen.label(alloc, Kind::Object, at, &text)?;
+    Ok(at.x.saturating_add(text_width(&text)))
 }
 
 /// Says how many effects are drawn, unless all are. Returns where the line ends.

@@ -97,7 +97,7 @@ fn shown(alloc: Global, text: &[u8]) -> Result<Vec<u8>, NoMemory> {
         return Ok(Vec::from_slice(alloc, text)?);
     }
     let count = KEPT.min(text.len());
-    let mut front = Vec::from_slice(alloc, &text[..count])?;
-    push_bytes(&mut front, b"..")?;
-    Ok(front)
+    let mut prefix = Vec::from_slice(alloc, &text[..count])?;
+    push_bytes(&mut prefix, b"..")?;
+    Ok(prefix)
 }

@@ -10,12 +10,12 @@ pub(crate) fn built(alloc: Global, row: &str) -> Result<Vec<u8>, NoMemory> {
         return spelled(alloc, row);
     };
     let (part, frame) = rest.split_once("] in ").unwrap_or((rest, ""));
-    let (front, back) = frame.split_once('~').unwrap_or((frame, ""));
-    let mut text = spelled(alloc, front)?;
+    let (start, end) = frame.split_once('~').unwrap_or((frame, ""));
+    let mut text = spelled(alloc, start)?;
     for _ in 0..count.parse::<u32>().unwrap_or(0) {
         push_bytes(&mut text, part.as_bytes())?;
     }
-    push_bytes(&mut text, back.as_bytes())?;
+    push_bytes(&mut text, end.as_bytes())?;
     Ok(text)
 }
 
