@@ -1,0 +1,9 @@
+mod Names
+mod EffectLists
+mod Opening
+mod Lawful
+mod Saying
+mod Reached
+mod Trees
+mod Breaking
+mod FaultLaws
