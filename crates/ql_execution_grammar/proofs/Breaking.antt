@@ -20,7 +20,8 @@ use Rattle.ql_execution_grammar.proofs.EffectLists.{ascending, last_line, next, 
 use Rattle.ql_execution_grammar.proofs.Trees.{file_of}
 use Rattle.ql_execution_grammar.proofs.Opening.{AreBeforeFirst, Opened, Spelled, Whole, after_skipped, cut, holds_after, opened_alone, opened_as, opened_more, opened_of, text_of}
 use Rattle.ql_execution_grammar.proofs.Reached.{HasRead, Reached, all_skipped, next_number, opened_last, with_effect, with_last}
-use Rattle.ql_execution_grammar.proofs.Saying.{ReadAfter, one_read, read_parts, said, said_back}
+use Rattle.ql_execution_grammar.proofs.InTurn.{ReadAfter, one_read, read_parts}
+use Rattle.ql_execution_grammar.proofs.Saying.{said, said_back}
 
 -- ---- texts that end
 
@@ -33,11 +34,11 @@ first_is = refl
 end_is : fields_of (codes "end") ≡ end_fields
 end_is = refl
 
-closed : (lines : List (List ℕ)) (es : List EffectLine) → Opened (Spelled es) lines → IsExecutionText (lines ++ end_text) es
-closed lines es o = text_of (lines ++ end_text) es (opened_more (Spelled es) (Whole es) lines end_text (λ rest are. with_end 1 rest (codes "end") es are end_is) o)
+ended : (lines : List (List ℕ)) (es : List EffectLine) → Opened (Spelled es) lines → IsExecutionText (lines ++ end_text) es
+ended lines es o = text_of (lines ++ end_text) es (opened_more (Spelled es) (Whole es) lines end_text (λ rest are. with_end 1 rest (codes "end") es are end_is) o)
 
-opens : (lines : List (List ℕ)) (es : List EffectLine) → IsExecutionText (lines ++ end_text) es → Opened (Spelled es) lines
-opens lines es h = elim (cut (Whole es) lines end_text (opened_of (lines ++ end_text) es h)) [
+opened_without_end : (lines : List (List ℕ)) (es : List EffectLine) → IsExecutionText (lines ++ end_text) es → Opened (Spelled es) lines
+opened_without_end lines es h = elim (cut (Whole es) lines end_text (opened_of (lines ++ end_text) es h)) [
   | inl all ↦ absurd (opened_alone (Whole es) (codes "end") (after_skipped (Whole es) lines end_text all (opened_of (lines ++ end_text) es h)))
   | inr o ↦ opened_as (λ after. Whole es (after ++ end_text)) (Spelled es) lines o (without_end 1 o.rest (codes "end") es o.holds end_is)
 ]
@@ -57,7 +58,7 @@ module _ (p : Program) where
 
   pub begins : (lines : List (List ℕ)) (s : ExecutionReading) → Reached p lines s → BeginsExecutionFile p lines
   begins lines Unbegun all = (codes "execution" ∷ end_text, [], [], text_without lines (codes "execution") all first_is, nothing_said)
-  begins lines (WithEffects read) has = let says = says_read lines read has in (end_text, has.effects, read.effects, closed lines has.effects has.opened, says.1)
+  begins lines (WithEffects read) has = let says = says_read lines read has in (end_text, has.effects, read.effects, ended lines has.effects has.opened, says.1)
   begins lines (Ended read) has =
       let whole = file_of p lines read has in
       ([], whole.0, read.effects, subst (λ ks. IsExecutionText ks whole.0) (sym (append-nil lines)) whole.1, whole.2)
@@ -102,7 +103,7 @@ module _ (p : Program) where
   breaks lines (WithEffects read) l rule has (inl b) = subst (BreaksExecutionRule p (lines ++ l ∷ [])) (sym b.is) (unexpected (none_goes_on lines read l rule has b))
   breaks lines (WithEffects read) l rule has (inr b) =
       let says = says_read lines read has in
-      effect has.effects b.effect read.effects rule (closed (lines ++ l ∷ []) (has.effects ++ b.effect ∷ []) (with_effect p lines read has l b.effect b.is)) says.1
+      effect has.effects b.effect read.effects rule (ended (lines ++ l ∷ []) (has.effects ++ b.effect ∷ []) (with_effect p lines read has l b.effect b.is)) says.1
       (ap (λ (r : EffectsRead). after_effect p r b.effect) (sym says.0) ∙ b.unlawful)
   breaks lines (Ended read) l rule has b = subst (BreaksExecutionRule p (lines ++ l ∷ [])) (sym b) (unexpected (none_after lines read l has))
 
@@ -115,21 +116,21 @@ module _ (p : Program) where
 
   no_effect_yet : (lines : List (List ℕ)) (l : List ℕ) (others : List EffectLine) (e : EffectLine) → AreBeforeFirst lines → IsExecutionText ((lines ++ l ∷ []) ++ end_text) (others ++ e ∷ []) → ⊥
   no_effect_yet lines l others e all h =
-      let o = after_skipped (Spelled (others ++ e ∷ [])) lines (l ∷ []) all (opens (lines ++ l ∷ []) (others ++ e ∷ []) h) in
+      let o = after_skipped (Spelled (others ++ e ∷ [])) lines (l ∷ []) all (opened_without_end (lines ++ l ∷ []) (others ++ e ∷ []) h) in
       none_left 1 others e (opened_alone (Spelled (others ++ e ∷ [])) l o)
 
   module _ (lines : List (List ℕ)) (read : EffectsRead) (l : List ℕ) (has : HasRead p Spelled lines read) where
     no_line : (BeginsExecutionText (lines ++ l ∷ []) → ⊥) → IsNoLine read l Unexpected
     no_line none = record {
       is = refl;
-      no_effect = λ e at. none (end_text, has.effects ++ e ∷ [], closed (lines ++ l ∷ []) (has.effects ++ e ∷ []) (with_effect p lines read has l e at));
+      no_effect = λ e at. none (end_text, has.effects ++ e ∷ [], ended (lines ++ l ∷ []) (has.effects ++ e ∷ []) (with_effect p lines read has l e at));
       no_end = λ end. none ([], has.effects, subst (λ ks. IsExecutionText ks has.effects) (sym (append-nil (lines ++ l ∷ []))) (text_of (lines ++ l ∷ []) has.effects (with_last p lines read has l end)));
     }
 
     refused_effect : (others : List EffectLine) (e : EffectLine) (x : List Effect) (rule : ReportRule) → IsExecutionText ((lines ++ l ∷ []) ++ end_text) (others ++ e ∷ []) → SaysExecution p others x
         → after_effect p (read_as others x) e ≡ Err rule → Breaks p (WithEffects read) l rule
     refused_effect others e x rule h says refused =
-        let lines_are = holds_after (Spelled has.effects) (Spelled (others ++ e ∷ [])) lines (l ∷ []) has.opened (opens (lines ++ l ∷ []) (others ++ e ∷ []) h) in
+        let lines_are = holds_after (Spelled has.effects) (Spelled (others ++ e ∷ [])) lines (l ∷ []) has.opened (opened_without_end (lines ++ l ∷ []) (others ++ e ∷ []) h) in
         let last = last_line 1 has.opened.rest l has.effects others e has.opened.holds lines_are in
         let here : ReadAfter p nothing_read others read = subst (λ us. ReadAfter p nothing_read us read) last.0 has.in_turn in
         let same : read ≡ read_as others x = one_read p others nothing_read read (read_as others x) here (said_back p others x says) in
@@ -166,7 +167,7 @@ module _ (p : Program) where
   none_begins lines rule (unexpected none) (more, us, x, h, says) = none (more, us, h)
   none_begins lines rule (effect others e y r text before refused) (more, us, x, h, says) =
       let ws = others ++ e ∷ [] in
-      let o = opens lines ws text in
+      let o = opened_without_end lines ws text in
       let after = holds_after (Spelled ws) (Whole us) lines more o (opened_of (lines ++ more) us h) in
       elim (parted 1 o.rest more us after) [
         | inl q ↦

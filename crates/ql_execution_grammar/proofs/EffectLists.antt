@@ -30,18 +30,18 @@ with_end n [] l (e ∷ es) are is = absurd are
 with_end n (k ∷ ls) l [] are is = absurd are
 with_end n (k ∷ ls) l (e ∷ es) are is = (are.0, with_end (suc n) ls l es are.1 is)
 
-pub record EndSo (n : ℕ) (ls : List (List ℕ)) (es : List EffectLine) : Type 0 where
+pub record Ending (n : ℕ) (ls : List (List ℕ)) (es : List EffectLine) : Type 0 where
   pub others : List (List ℕ)
   pub last : List ℕ
   pub are : ls ≡ others ++ last ∷ []
   pub spelled : AreEffectLines n others es
   pub ends : fields_of last ≡ end_fields
 
-pub end_so : (n : ℕ) (ls : List (List ℕ)) (es : List EffectLine) → AreEffectsThenEnd n ls es → EndSo n ls es
-end_so n [] es h = absurd h
-end_so n (l ∷ ls) [] h = record { others = []; last = l; are = ap (λ ks. l ∷ ks) h.1; spelled = tt; ends = h.0 }
-end_so n (l ∷ ls) (e ∷ es) h =
-    let rest = end_so (suc n) ls es h.1 in
+pub ending : (n : ℕ) (ls : List (List ℕ)) (es : List EffectLine) → AreEffectsThenEnd n ls es → Ending n ls es
+ending n [] es h = absurd h
+ending n (l ∷ ls) [] h = record { others = []; last = l; are = ap (λ ks. l ∷ ks) h.1; spelled = tt; ends = h.0 }
+ending n (l ∷ ls) (e ∷ es) h =
+    let rest = ending (suc n) ls es h.1 in
     record { others = l ∷ rest.others; last = rest.last; are = ap (λ ks. l ∷ ks) rest.are; spelled = (h.0, rest.spelled); ends = rest.ends }
 
 -- lines without their end

@@ -64,9 +64,6 @@ module _ (p : Program) (read : EffectsRead) (e : EffectLine) where
   abbrev by_names : Option (OpId × Member) → Answer
   by_names known = option_map_or (λ k. by_type k (is_mixed p read.effects (object_of read e) k.0)) known (broken Unknown)
 
-  answer_is : after_effect p read e ≡ by_names (known_of p e)
-  answer_is = refl
-
   module _ (more : EffectsRead) where
     module _ (known : OpId × Member) (found : known_of p e ≡ Some known) (unmixed : is_mixed p read.effects (object_of read e) known.0 ≡ false) (faultless : fault_of read.effects (draft_of read e known) ≡ None) where
       room_case : (full : Bool) → nat_le most_effects (length read.effects) ≡ full → has_stamp known ≡ true → by_room known full ≡ as_read more → IsAllowed p read e more

@@ -1,7 +1,10 @@
 mod Names
+mod Each
+mod OneType
 mod EffectLists
 mod Opening
 mod Lawful
+mod InTurn
 mod Saying
 mod Reached
 mod Trees

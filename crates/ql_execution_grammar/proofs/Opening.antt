@@ -6,7 +6,7 @@ use Rattle.ql_lines.specs.Fields.{fields_of}
 use Rattle.ql_effect_lines.specs.declared.effect_line.EffectLine.{EffectLine}
 use Rattle.ql_execution_files.specs.ExecutionFile.{first_fields}
 use Rattle.ql_execution_grammar.specs.Grammar.{AreEffectLines, IsBeforeFirst, IsExecutionText}
-use Rattle.ql_execution_grammar.proofs.EffectLists.{AreEffectsThenEnd, EndSo, end_so, with_end}
+use Rattle.ql_execution_grammar.proofs.EffectLists.{AreEffectsThenEnd, Ending, ending, with_end}
 
 abbrev pub AreBeforeFirst : List (List ℕ) → Type 0
 AreBeforeFirst ls = AllByRecursion IsBeforeFirst ls
@@ -149,7 +149,7 @@ opened_of lines es h = record {
 
 pub text_of : (lines : List (List ℕ)) (es : List EffectLine) → Opened (Whole es) lines → IsExecutionText lines es
 text_of lines es o =
-    let rest : EndSo 1 o.rest es = end_so 1 o.rest es o.holds in
+    let rest : Ending 1 o.rest es = ending 1 o.rest es o.holds in
     record {
       before = o.before;
       first = o.first;

@@ -14,7 +14,8 @@ use Rattle.ql_execution_files.specs.ExecutionFile.{ClosesExecution, Takes, end_f
 use Rattle.ql_execution_grammar.specs.Grammar.{AreEffectLines, IsBeforeFirst, texts_in}
 use Rattle.ql_execution_grammar.proofs.EffectLists.{AreEffectsThenEnd, line_more, with_end}
 use Rattle.ql_execution_grammar.proofs.Opening.{AreBeforeFirst, Opened, Spelled, Whole, opened_later, opened_more, opened_now}
-use Rattle.ql_execution_grammar.proofs.Saying.{ReadAfter, count, one_counted, read_more}
+use Rattle.ql_execution_grammar.proofs.InTurn.{ReadAfter, read_more}
+use Rattle.ql_execution_grammar.proofs.Saying.{count, one_counted}
 
 -- the lines of effects that break no rule one after another
 pub record HasRead (p : Program) (After : List EffectLine → List (List ℕ) → Type 0) (lines : List (List ℕ)) (read : EffectsRead) : Type 0 where

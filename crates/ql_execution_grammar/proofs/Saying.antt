@@ -1,14 +1,11 @@
 -- Effects that break no rule one after another are those that say an execution.
-use Rattle.std.proofs.Common.{◌≡◌, ◌<◌, ◌≤◌, ℕ, zero, suc, Bool, true, false, List, [], ◌∷◌, ◌++◌, map, length, Option, None, Some, Result, Ok, arith, refl, sym, ap, subst, ◌∙◌, append-nil, append_assoc, length-append}
-use Rattle.std.specs.Prelude.{nat_eq, not, option_map, cond}
-use Rattle.std.specs.List.{AllByRecursion, AllZip, find, fold}
-use Rattle.std.specs.Option.{option_map_or}
-use Rattle.std.proofs.lemmas.Bool.{eq-eqb, eqb-true, false≢true, not-false}
+use Rattle.std.proofs.Common.{◌≡◌, ◌<◌, ◌≤◌, ℕ, zero, suc, false, List, [], ◌∷◌, ◌++◌, map, length, Option, None, Some, Ok, arith, refl, sym, ap, subst, ◌∙◌, append-nil, append_assoc, length-append}
+use Rattle.std.specs.Prelude.{option_map}
+use Rattle.std.specs.List.{AllZip, fold}
 use Rattle.std.proofs.lemmas.Bool.Decides.{nat_tests}
 use Rattle.std.proofs.lemmas.Option.{same_Some}
 use Rattle.ql_base.specs.IdLists.{IsAscending}
 use Rattle.ql_base.specs.Numbering.{with_name}
-use Rattle.ql_base.specs.declared.ids.ObjId.{ObjId}
 use Rattle.ql_base.specs.declared.ids.OpId.{OpId}
 use Rattle.ql_lang.specs.declared.program.Program.{Program}
 use Rattle.ql_lines.proofs.Conses.{both}
@@ -20,82 +17,20 @@ use Rattle.ql_exec.specs.Execution.{IsExecution, effect_of, stamp_of, with_stamp
 use Rattle.ql_exec.proofs.Finding.{effect_at-last, sametxn_parts, so_parts}
 use Rattle.ql_exec.proofs.Law.{IsExecution-front, fault_of-None}
 use Rattle.ql_effect_lines.specs.declared.effect_line.EffectLine.{EffectLine}
-use Rattle.ql_effect_lines.specs.declared.rules.ReportRule.{ReportRule}
 use Rattle.ql_effect_lines.specs.declared.effects_read.EffectsRead.{EffectsRead}
-use Rattle.ql_effect_lines.specs.Effects.{after_effect, draft_of_line, first_on, is_mixed, known_of, most_effects, object_number, type_number_of}
+use Rattle.ql_effect_lines.specs.Effects.{after_effect, draft_of_line, is_mixed, known_of, most_effects, object_number}
 use Rattle.ql_execution_files.specs.ExecutionFile.{nothing_read}
 use Rattle.ql_execution_grammar.specs.Readings.{AreOfOneType, SaysExecution, effect_said, objects_in, read_as}
 use Rattle.ql_execution_grammar.proofs.EffectLists.{AscendInEach}
 use Rattle.ql_execution_grammar.proofs.Lawful.{IsAllowed, allowed, answered, draft_of}
 use Rattle.ql_execution_grammar.proofs.Names.{number_kept}
-
--- ---- lists
-
-module _ {X : Type 0} where
-  all_more : (P : X → Type 0) (xs ys : List X) → AllByRecursion P xs → AllByRecursion P ys → AllByRecursion P (xs ++ ys)
-  all_more P [] ys p q = q
-  all_more P (x ∷ xs) ys p q = (p.0, all_more P xs ys p.1 q)
-
-  all_first : (P : X → Type 0) (xs ys : List X) → AllByRecursion P (xs ++ ys) → AllByRecursion P xs
-  all_first P [] ys p = tt
-  all_first P (x ∷ xs) ys p = (p.0, all_first P xs ys p.1)
-
-  one_there : (P : X → Type 0) (xs : List X) (y : X) (ys : List X) → AllByRecursion P (xs ++ y ∷ ys) → P y
-  one_there P [] y ys p = p.0
-  one_there P (x ∷ xs) y ys p = one_there P xs y ys p.1
-
-  all_as : (P Q : X → Type 0) → ((x : X) → P x → Q x) → (xs : List X) → AllByRecursion P xs → AllByRecursion Q xs
-  all_as P Q on [] p = tt
-  all_as P Q on (x ∷ xs) p = (on x p.0, all_as P Q on xs p.1)
-
-  found_one : (test : X → Bool) (P : X → Type 0) (xs : List X) (x : X) → find test xs ≡ Some x → AllByRecursion P xs → (test x ≡ true) × P x
-  found_one test P [] x is all = absurd cc
-  found_one test P (y ∷ ys) x is all =
-      let Q : Bool → Type 0 = λ t. test y ≡ t → cond t (Some y) (find test ys) ≡ Some x → (test x ≡ true) × P x in
-      elim (test y) as Q [
-        | true ↦ λ passes h. subst (λ z. (test z ≡ true) × P z) (same_Some y x h) (passes, all.0)
-        | false ↦ λ other h. found_one test P ys x h all.1
-      ] refl is
-
-  found_none : (test : X → Bool) (xs : List X) → find test xs ≡ None → AllByRecursion (λ x. test x ≡ false) xs
-  found_none test [] is = tt
-  found_none test (y ∷ ys) is =
-      let Q : Bool → Type 0 = λ t. test y ≡ t → cond t (Some y) (find test ys) ≡ None → AllByRecursion (λ x. test x ≡ false) (y ∷ ys) in
-      elim (test y) as Q [
-        | true ↦ λ passes h. absurd (let never : Some y ≡ None = h in cc)
-        | false ↦ λ other h. (other, found_none test ys h)
-      ] refl is
-
--- ---- effects one after another
-
-abbrev pub ReadAfter : Program → EffectsRead → List EffectLine → EffectsRead → Type 0
-ReadAfter p read [] more = read ≡ more
-ReadAfter p read (e ∷ es) more = (next : EffectsRead) × (after_effect p read e ≡ Ok next) × ReadAfter p next es more
+use Rattle.ql_execution_grammar.proofs.InTurn.{ReadAfter}
+use Rattle.ql_execution_grammar.proofs.OneType.{one_type_more, unmixed_there}
 
 abbrev names_in : List EffectLine → List (List ℕ)
 names_in es = map (λ (e : EffectLine). e.object) es
 
--- effects on one object have one type
-abbrev Agree : Program → Effect → Effect → Type 0
-Agree p e f = e.object ≡ f.object → type_number_of p e.op ≡ type_number_of p f.op
-
 module _ (p : Program) where
-  pub read_more : (es : List EffectLine) (e : EffectLine) (read middle more : EffectsRead) → ReadAfter p read es middle → after_effect p middle e ≡ Ok more → ReadAfter p read (es ++ e ∷ []) more
-  read_more [] e read middle more h ok = (more, subst (λ (r : EffectsRead). after_effect p r e ≡ Ok more) (sym h) ok, refl)
-  read_more (f ∷ es) e read middle more h ok = (h.0, h.1, read_more es e h.0 middle more h.2 ok)
-
-  pub read_parts : (es us : List EffectLine) (read more : EffectsRead) → ReadAfter p read (es ++ us) more → (middle : EffectsRead) × ReadAfter p read es middle × ReadAfter p middle us more
-  read_parts [] us read more h = (read, refl, h)
-  read_parts (e ∷ es) us read more h = let rest = read_parts es us h.0 more h.2 in (rest.0, (h.0, h.1, rest.1), rest.2)
-
-  -- effects are read in one way
-  pub one_read : (es : List EffectLine) (read a b : EffectsRead) → ReadAfter p read es a → ReadAfter p read es b → a ≡ b
-  one_read [] read a b h k = sym h ∙ k
-  one_read (e ∷ es) read a b (next, ok, rest) (other, as_well, others) =
-      let answers : ◌≡◌ {A = Result EffectsRead ReportRule} (Ok other) (Ok next) = sym as_well ∙ ok in
-      let same : other ≡ next = cc in
-      one_read es next a b rest (subst (λ (r : EffectsRead). ReadAfter p r es b) same others)
-
   -- ---- what the effects are that were read
 
   abbrev effect_after : EffectsRead → EffectLine → OpId × Member → Effect
@@ -143,47 +78,6 @@ module _ (p : Program) where
         said = (said_is read more e es next law objects, later.said);
       }
 
-  -- ---- one type for an object
-
-  same_object : (a b : ObjId) → nat_eq a.0 b.0 ≡ true → a ≡ b
-  same_object a b same = ap (λ (n : ℕ). let o : ObjId = record { 0 = n } in o) (eqb-true a.0 b.0 same)
-
-  module _ (x : List Effect) (d : Effect) where
-    abbrev is_on : Effect → Bool
-    is_on e = nat_eq e.object.0 d.object.0
-
-    abbrev differs : Option Effect → Bool
-    differs first = option_map_or (λ f. not (nat_eq (type_number_of p f.op) (type_number_of p d.op))) first false
-
-    agree_last : AreOfOneType p x → (first : Option Effect) → first_on x d.object ≡ first → differs first ≡ false → AllByRecursion (λ e. Agree p e d) x
-    agree_last all None is same =
-        all_as (λ e. is_on e ≡ false) (λ e. Agree p e d) (λ e other on. absurd (false≢true (sym other ∙ eq-eqb e.object.0 d.object.0 (ap (λ (o : ObjId). o.0) on)))) x (found_none is_on x is)
-    agree_last all (Some f) is same =
-        let type : type_number_of p f.op ≡ type_number_of p d.op = eqb-true (type_number_of p f.op) (type_number_of p d.op) (not-false _ same) in
-        all_as (λ e. AllByRecursion (Agree p e) x) (λ e. Agree p e d) (λ e agree on.
-        let one = found_one is_on (Agree p e) x f is agree in
-        one.1 (on ∙ sym (same_object f.object d.object one.0)) ∙ type) x all
-
-    pub one_type_more : AreOfOneType p x → is_mixed p x d.object d.op ≡ false → AreOfOneType p (x ++ d ∷ [])
-    one_type_more all unmixed =
-        let last = agree_last all (first_on x d.object) refl unmixed in
-        let back : AllByRecursion (Agree p d) x = all_as (λ e. Agree p e d) (Agree p d) (λ e agree on. sym (agree (sym on))) x last in
-        all_more (λ e. AllByRecursion (Agree p e) (x ++ d ∷ [])) x (d ∷ []) (each x all last) (all_more (Agree p d) x (d ∷ []) back (λ on. refl, tt), tt)
-      where
-        each : (ys : List Effect) → AllByRecursion (λ e. AllByRecursion (Agree p e) x) ys → AllByRecursion (λ e. Agree p e d) ys → AllByRecursion (λ e. AllByRecursion (Agree p e) (x ++ d ∷ [])) ys
-        each [] all last = tt
-        each (y ∷ ys) all last = (all_more (Agree p y) x (d ∷ []) all.0 (last.0, tt), each ys all.1 last.1)
-
-    agree_first : (ds : List Effect) → AreOfOneType p (x ++ d ∷ ds) → (first : Option Effect) → first_on x d.object ≡ first → differs first ≡ false
-    agree_first ds all None is = refl
-    agree_first ds all (Some f) is =
-        let last : AllByRecursion (λ e. Agree p e d) x = all_as (λ e. AllByRecursion (Agree p e) (x ++ d ∷ ds)) (λ e. Agree p e d) (λ e agree. one_there (Agree p e) x d ds agree) x (all_first (λ e. AllByRecursion (Agree p e) (x ++ d ∷ ds)) x (d ∷ ds) all) in
-        let one = found_one is_on (λ e. Agree p e d) x f is last in
-        ap not (eq-eqb (type_number_of p f.op) (type_number_of p d.op) (one.1 (same_object f.object d.object one.0)))
-
-    pub unmixed_there : (ds : List Effect) → AreOfOneType p (x ++ d ∷ ds) → is_mixed p x d.object d.op ≡ false
-    unmixed_there ds all = agree_first ds all (first_on x d.object) refl
-
   -- ---- effects that were read are an execution
 
   record Keeps (x : List Effect) : Type 0 where
@@ -199,7 +93,7 @@ module _ (p : Program) where
       let same : next.effects ≡ read.effects ++ effect ∷ [] = ap (λ (r : EffectsRead). r.effects) law.to in
       subst Keeps (sym same) (record {
         execution = step.0 law.faultless;
-        one_type = one_type_more read.effects effect keeps.one_type law.unmixed;
+        one_type = one_type_more p read.effects effect keeps.one_type law.unmixed;
         few = let room : length read.effects < most_effects = grind (arith, nat_tests, law.room) in omega (arith, room, length-append read.effects (effect ∷ []));
       })
 
@@ -272,7 +166,7 @@ module _ (p : Program) where
       record {
         known = k.0;
         found = k.1;
-        unmixed = subst (λ (f : Effect). is_mixed p read.effects f.object f.op ≡ false) (sym with_number) (unmixed_there read.effects d ds keeps.one_type);
+        unmixed = subst (λ (f : Effect). is_mixed p read.effects f.object f.op ≡ false) (sym with_number) (unmixed_there p read.effects d ds keeps.one_type);
         faultless = (fault_of-None read.effects draft (IsExecution-front read.effects (d ∷ ds) keeps.execution) ascends).1 pushed;
         stamp = own_stamp;
         room = let less : length read.effects < most_effects = omega (arith, few, length-append read.effects (d ∷ ds)) in grind (arith, nat_tests, less);

@@ -10,7 +10,7 @@ use Rattle.ql_execution_files.specs.declared.format.ExecutionReading.TheVariants
 use Rattle.ql_execution_files.specs.ExecutionFile.{ClosesExecution, IsExecutionFile}
 use Rattle.ql_execution_grammar.specs.Grammar.{IsExecutionText, texts_in}
 use Rattle.ql_execution_grammar.specs.Readings.{SaysExecution, read_as}
-use Rattle.ql_execution_grammar.proofs.EffectLists.{AscendInEach, EndSo, ascending, end_so, one_whole}
+use Rattle.ql_execution_grammar.proofs.EffectLists.{AscendInEach, Ending, ascending, ending, one_whole}
 use Rattle.ql_execution_grammar.proofs.Opening.{Whole, holds_too, opened_of, text_of}
 use Rattle.ql_execution_grammar.proofs.Reached.{HasRead, Reached, leads, reached}
 use Rattle.ql_execution_grammar.proofs.Saying.{said, said_back}
@@ -21,7 +21,7 @@ one_tree lines es us h k =
     one_whole 1 o.rest es us o.holds (holds_too (Whole es) (Whole us) lines o (opened_of lines us k))
 
 pub ascend_whole : (ls : List (List ℕ)) (es : List EffectLine) → Whole es ls → AscendInEach es
-ascend_whole ls es h = let rest : EndSo 1 ls es = end_so 1 ls es h in ascending 1 rest.others es rest.spelled
+ascend_whole ls es h = let rest : Ending 1 ls es = ending 1 ls es h in ascending 1 rest.others es rest.spelled
 
 module _ (p : Program) where
   -- effects that were read up to the end
@@ -30,16 +30,16 @@ module _ (p : Program) where
       let says = said p has.effects read (ascend_whole has.opened.rest has.effects has.opened.holds) has.in_turn in
       (has.effects, text_of lines has.effects has.opened, says.1)
 
-  closed_so : (lines : List (List ℕ)) (s : ExecutionReading) (end : ℕ) (x : List Effect) → Reached p lines s → ClosesExecution s end (Ok x) → (es : List EffectLine) × IsExecutionText lines es × SaysExecution p es x
-  closed_so lines Unbegun end x has c = absurd cc
-  closed_so lines (WithEffects read) end x has c = absurd cc
-  closed_so lines (Ended read) end x has c =
+  said_at_end : (lines : List (List ℕ)) (s : ExecutionReading) (end : ℕ) (x : List Effect) → Reached p lines s → ClosesExecution s end (Ok x) → (es : List EffectLine) × IsExecutionText lines es × SaysExecution p es x
+  said_at_end lines Unbegun end x has c = absurd cc
+  said_at_end lines (WithEffects read) end x has c = absurd cc
+  said_at_end lines (Ended read) end x has c =
       let same : read.effects ≡ x = cc in
       let whole = file_of lines read has in
       (whole.0, whole.1, subst (SaysExecution p whole.0) same whole.2)
 
   pub spelled : (file : Ahead) (x : List Effect) → IsExecutionFile p file x → (es : List EffectLine) × IsExecutionText (texts_in file.lines) es × SaysExecution p es x
-  spelled file x h = closed_so (texts_in file.lines) h.state file.end x (reached p file.lines h.state h.leads) h.ends
+  spelled file x h = said_at_end (texts_in file.lines) h.state file.end x (reached p file.lines h.state h.leads) h.ends
 
   -- where the lines of effects that say an execution lead
   pub has_whole : (lines : List (List ℕ)) (es : List EffectLine) (x : List Effect) → IsExecutionText lines es → SaysExecution p es x → HasRead p Whole lines (read_as es x)
