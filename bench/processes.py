@@ -3,7 +3,14 @@ import os
 import resource
 import shutil
 import subprocess
+import sys
 import tempfile
+
+
+def require(program):
+    """Ends with a message where a program isn't built."""
+    if not os.access(program, os.X_OK):
+        sys.exit(f"{program} isn't built: bench/README.md says how")
 
 
 def spent(words, seconds=None):

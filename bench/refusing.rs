@@ -1,6 +1,6 @@
 //! A library that is loaded before the C library and refuses requests for memory. The environment says which: REFUSED
 //! is the number of the first one, from 1, and REFUSED_LAST that of the last. With the first it writes a byte to the
-//! file descriptor under REFUSED_TOLD.
+//! file descriptor under REFUSED_NOTICE.
 #![no_std]
 use core::ffi::{CStr, c_char, c_int, c_void};
 use core::ptr::null_mut;
@@ -30,7 +30,7 @@ fn is_refused() -> bool {
     let request = 1 + REQUESTS.fetch_add(1, Relaxed);
     let first = number(c"REFUSED");
     if request == first {
-        unsafe { write(number(c"REFUSED_TOLD") as c_int, c"!".as_ptr().cast(), 1) };
+        unsafe { write(number(c"REFUSED_NOTICE") as c_int, c"!".as_ptr().cast(), 1) };
     }
     (first..=number(c"REFUSED_LAST")).contains(&request)
 }
