@@ -5,6 +5,7 @@ use Rattle.ql_line_files.specs.declared.fault.Broken.{Broken}
 use Rattle.ql_lines.specs.Lines.{Numbered, ahead_from}
 use Rattle.ql_baseline.specs.Lines.{IsStored, is_passed}
 use Rattle.ql_baseline.specs.declared.stored.BaselineRule.{BaselineRule}
+use Rattle.ql_baseline.specs.declared.stored.BaselineRule.TheVariants.{Unexpected}
 use Rattle.ql_baseline.specs.declared.stored.Stored.{Stored}
 
 -- what a line makes of what the lines before it say: the same, if it says nothing about levels; else the same with a target, or
@@ -17,8 +18,10 @@ GivesLine before text (Err rule) = (is_passed text ≡ false) × ((s : Stored) �
 abbrev pub gives : List Stored → Numbered → Result (List Stored) BaselineRule → Type 0
 gives before l x = GivesLine before l.text x
 
+-- a file's end: one that says nothing is at fault there
 abbrev pub closes : List Stored → ℕ → Result (List Stored) (Broken BaselineRule) → Type 0
-closes before end x = x ≡ Ok before
+closes [] end x = x ≡ Err (record { line = end; rule = Unexpected })
+closes (s ∷ stored) end x = x ≡ Ok (s ∷ stored)
 
 -- what the file says, or its first fault
 abbrev pub IsBaseline : List ℕ → Result (List Stored) (Broken BaselineRule) → Type 0

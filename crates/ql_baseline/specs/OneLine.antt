@@ -1,4 +1,4 @@
--- A line of a stored answer makes one thing.
+-- A line of a stored answer makes one thing, and so does a file's end.
 use Rattle.std.proofs.Common.{◌≡◌, inl, inr, ℕ, Bool, true, false, List, [], ◌∷◌, ◌++◌, length, get_or, None, Some, Result, Ok, Err, refl, sym, ap, ap₂, ◌∙◌, arith}
 use Rattle.std.proofs.lemmas.Bool.{false≢true}
 use Rattle.ql_levels.specs.declared.level.Level.{Level}
@@ -8,7 +8,7 @@ use Rattle.ql_levels.specs.declared.level.TxnLevel.TheVariants.{Rc, Mav, Rr}
 use Rattle.ql_levels.specs.Words.{txn_word_of, word_of}
 use Rattle.ql_lines.specs.Fields.{Fields}
 use Rattle.ql_line_files.specs.declared.fault.Broken.{Broken}
-use Rattle.ql_baseline.specs.Files.{GivesLine}
+use Rattle.ql_baseline.specs.Files.{GivesLine, closes}
 use Rattle.ql_baseline.specs.Lines.{is_passed, stored_fields}
 use Rattle.ql_baseline.specs.declared.stored.BaselineRule.{BaselineRule}
 use Rattle.ql_baseline.specs.declared.stored.BaselineRule.TheVariants.{Unexpected}
@@ -83,8 +83,10 @@ module _ (before : List Stored) (text : List ℕ) where
   pub gives_some : ((x : Result (List Stored) BaselineRule) → GivesLine before text x → ⊥) → ⊥
   gives_some none = by_cases (is_passed text) refl none
 
-pub closes_one : (before : List Stored) (x y : Result (List Stored) (Broken BaselineRule)) → x ≡ Ok before → y ≡ Ok before → x ≡ y
-closes_one before x y p q = p ∙ sym q
+pub closes_one : (before : List Stored) (end : ℕ) (x y : Result (List Stored) (Broken BaselineRule)) → closes before end x → closes before end y → x ≡ y
+closes_one [] end x y p q = p ∙ sym q
+closes_one (s ∷ stored) end x y p q = p ∙ sym q
 
-pub closes_some : (before : List Stored) → ((x : Result (List Stored) (Broken BaselineRule)) → x ≡ Ok before → ⊥) → ⊥
-closes_some before none = none (Ok before) refl
+pub closes_some : (before : List Stored) (end : ℕ) → ((x : Result (List Stored) (Broken BaselineRule)) → closes before end x → ⊥) → ⊥
+closes_some [] end none = none _ refl
+closes_some (s ∷ stored) end none = none _ refl

@@ -1,10 +1,10 @@
-ghost use Rattle.std.specs.Prelude.{◌≡◌, [], Ok};
-ghost use Rattle.ql_baseline.specs.Files.{GivesLine};
+ghost use Rattle.std.specs.Prelude.{[]};
+ghost use Rattle.ql_baseline.specs.Files.{GivesLine, closes};
 ghost use Rattle.ql_baseline.specs.OneLine.{closes_one, closes_some, gives_one, gives_some};
 
 use crate::lines::{is_passed, stored_of};
 use crate::stored::{BaselineRule, StoredList};
-use ql_line_files::{FileFault, LineFault, LineFormat};
+use ql_line_files::{Broken, FileFault, LineFault, LineFormat};
 use std::alloc::Global;
 
 /// The format of stored answers.
@@ -28,7 +28,7 @@ impl LineFormat for Format {
 
     ghost gives = { λ f stored l x. GivesLine stored l.text x };
 
-    ghost closes = { λ f stored end x. x ≡ Ok stored };
+    ghost closes = { λ f stored end x. closes stored end x };
 
     fn start(&self) -> StoredList {
         StoredList::new(self.alloc)
@@ -51,7 +51,13 @@ impl LineFormat for Format {
         Ok(list)
     }
 
-    fn finish(&self, state: StoredList, _end: u64) -> Result<StoredList, FileFault<BaselineRule>> {
+    fn finish(&self, state: StoredList, end: u64) -> Result<StoredList, FileFault<BaselineRule>> {
+        if state.items().is_empty() {
+            return Err(FileFault::Broken(Broken {
+                line: end,
+                rule: BaselineRule::Unexpected,
+            }));
+        }
         Ok(state)
     }
 
@@ -63,7 +69,7 @@ impl LineFormat for Format {
 
     ghost gives_some = { λ f s l none. gives_some s l.text none };
 
-    ghost closes_one = { λ f s end x y p q. closes_one s x y p q };
+    ghost closes_one = { λ f s end x y p q. closes_one s end x y p q };
 
-    ghost closes_some = { λ f s end none. closes_some s none };
+    ghost closes_some = { λ f s end none. closes_some s end none };
 }

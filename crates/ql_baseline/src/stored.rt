@@ -13,7 +13,7 @@ pub enum Stored {
 /// The rule that a line of a stored answer may break.
 #[derive(Clone, Copy)]
 pub enum BaselineRule {
-    /// Neither `classify` nor `explain` prints such a line.
+    /// Neither `classify` nor `explain` prints such a line; or the file ends without a target.
     Unexpected,
 }
 

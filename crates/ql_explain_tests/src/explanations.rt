@@ -29,7 +29,7 @@ fn explained(alloc: Global, source: &str) -> Result<Vec<u8>, NoMemory> {
 
 // Stored answers, with the levels of the bank that are higher now.
 const STORED: &str = "
- -> 0: 
+ -> 2: bad baseline at 1: Unexpected␊
 op deposit causal␊op withdraw causal␊␊none op getbalance␊txn audit rc␊txn trail mav␊ -> 1: op withdraw was causal, is strong␊txn audit was rc, is rr␊
 op deposit eventual␊op withdraw␊ -> 2: bad baseline at 2: Unexpected␊
 ";

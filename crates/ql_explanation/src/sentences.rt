@@ -40,9 +40,11 @@ pub(crate) fn push_facts(
     Ok(())
 }
 
-// Whether a fact says no more than that two effects are on one object, or are two, and another one speaks of both.
+// Whether a fact says that an effect is itself; or no more than that two effects are on one object, or are two, and
+// another fact is about both.
 fn is_plain(facts: &[Fact], fact: Fact) -> bool {
     match (fact.claim, fact.holds) {
+        (Claim::Related(RelName::Eq, _, _), true) => true,
         (Claim::Related(RelName::SameObj, a, b), true)
         | (Claim::Related(RelName::Eq, a, b), false) => facts.iter().any(|f| is_about(*f, a, b)),
         _ => false,
@@ -66,7 +68,15 @@ fn push_fact(text: &mut Vec<u8>, t: &Typed, c: &Counter, fact: Fact) -> Result<(
         Claim::Related(name, first, second) => {
             push_phrase(text, t, c, phrase_of(name, fact.holds, first, second))?;
             if is_later_unseen(name, fact.holds, first, second) {
-                push_bytes(text, b", which is made later,")?;
+                push_bytes(text, b", which is made later")?;
+                push_bytes(
+                    text,
+                    if are_on_one(c, first, second) {
+                        b","
+                    } else {
+                        b""
+                    },
+                )?;
             }
             push_object(text, t, c, name, first, second)
         }
@@ -134,7 +144,8 @@ fn push_phrase(text: &mut Vec<u8>, t: &Typed, c: &Counter, phrase: Phrase) -> Re
     push_bytes(text, phrase.end.as_bytes())
 }
 
-// That two effects that are related otherwise are on one object, by the name of its type.
+// The end of a sentence on two effects that are related otherwise than by their objects: by the name of a type that they
+// are on one object of it, or that they aren't.
 #[tactic(auto, using(crate::proofs::Named::op_named_at))]
 fn push_object(
     text: &mut Vec<u8>,
@@ -146,13 +157,39 @@ fn push_object(
 ) -> Result<(), NoMemory>
     requires { AreNamed t.now.program 7 c.now.execution }
 {
-    match (name, effect(c, first), effect(c, second)) {
-        (RelName::SameObj | RelName::Eq, _, _) => Ok(()),
-        (_, Some(one), Some(other)) if one.object == other.object && first != second => {
-            push_bytes(text, b" on the same ")?;
+    match (name, effect(c, first)) {
+        (RelName::SameObj | RelName::Eq, _) => Ok(()),
+        _ if first == second => Ok(()),
+        (_, Some(one)) if are_on_one(c, first, second) => {
+            push_bytes(text, on_one_object(name).as_bytes())?;
             push_type(text, t, one)
         }
-        _ => Ok(()),
+        _ => push_bytes(text, on_two_objects(name).as_bytes()),
+    }
+}
+
+fn are_on_one(c: &Counter, first: EffId, second: EffId) -> bool {
+    match (effect(c, first), effect(c, second)) {
+        (Some(one), Some(other)) => one.object == other.object,
+        _ => false,
+    }
+}
+
+// Before the name of the object's type.
+fn on_one_object(name: RelName) -> &'static str {
+    if name == RelName::Hbo {
+        " within the same "
+    } else {
+        " on the same "
+    }
+}
+
+fn on_two_objects(name: RelName) -> &'static str {
+    match name {
+        RelName::Vis => ", on another object",
+        RelName::Soo => " and on the same object",
+        RelName::Hbo => " within one object",
+        _ => "",
     }
 }
 

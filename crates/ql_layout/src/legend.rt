@@ -46,23 +46,39 @@ fn draw_others(alloc: Global, pen: &mut Pen, count: u32, at: Point) -> Result<u3
     Ok(at.x.saturating_add(text_width(&text)))
 }
 
-/// Says how many effects are drawn, unless all are. Returns where the line ends.
+/// Says how many effects or events are drawn, unless all are. Returns where the line ends.
 pub(crate) fn draw_note(
     alloc: Global,
     pen: &mut Pen,
     scene: Scene,
     y: u32,
 ) -> Result<u32, NoMemory> {
-    let drawn = scene.history.seats.len();
-    let all = scene.run.effects.len();
-    if drawn == all {
-        return Ok(0);
+    let effects = (scene.history.seats.len(), scene.run.effects.len());
+    if effects.0 != effects.1 {
+        return draw_first(alloc, pen, effects, "effects", y);
     }
+    let events = (scene.history.columns.len(), scene.run.replies.len());
+    if scene.history.replicas > 0 && events.0 != events.1 {
+        return draw_first(alloc, pen, events, "events", y);
+    }
+    Ok(0)
+}
+
+// Says how many of all that a run has are drawn. Returns where the line ends.
+fn draw_first(
+    alloc: Global,
+    pen: &mut Pen,
+    counts: (usize, usize),
+    what: &str,
+    y: u32,
+) -> Result<u32, NoMemory> {
+    let (drawn, all) = counts;
     let mut text = Vec::from_slice(alloc, b"the first ")?;
     push_number(&mut text, drawn)?;
     push_bytes(&mut text, b" of ")?;
     push_number(&mut text, all)?;
-    push_bytes(&mut text, b" effects")?;
+    push_bytes(&mut text, b" ")?;
+    push_bytes(&mut text, what.as_bytes())?;
     pen.note(alloc, point(LEFT, y), &text)?;
     Ok(LEFT.saturating_add(text_width(&text)))
 }

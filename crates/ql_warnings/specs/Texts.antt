@@ -16,7 +16,7 @@ abbrev pub placed : Place → List ℕ → List ℕ
 placed place said = codes "The part at " ++ decimal place.line ++ codes ":" ++ decimal place.column ++ codes " " ++ said
 
 abbrev pub unbracketed : List ℕ
-unbracketed = codes "joins two statements with `=>` without brackets, so the second one is a part of the first: write (a => b) /\\ (c => d)."
+unbracketed = codes "joins two statements with `=>` without brackets, so the second one is a part of the first: put brackets around each, as in (a => b) /\\ (c => d)."
 
 abbrev pub asks_nothing : List ℕ
 asks_nothing = codes "The contract asks for nothing: it holds in every execution, whatever the level."

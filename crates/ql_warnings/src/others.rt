@@ -13,7 +13,7 @@ ghost use Rattle.ql_typing.specs.Operations.{all_ops};
 ghost use Rattle.ql_warnings.specs.Warnings.{AreFindings, BreaksOther, HasLevel, IsOther, IsRuledOut};
 
 use crate::warning::Warning;
-use ql_base::{EffId, NoMemory, OpId};
+use ql_base::{EffId, MAX_WORK, NoMemory, OpId};
 use ql_classify::Finding;
 use ql_counter::Counter;
 use ql_formula::{Relations, holds_at};
@@ -94,7 +94,18 @@ fn breaks(
     if !has_level(findings, op) {
         return false;
     }
-    is_false(t.op_formula(op), c, relations, at)
+    let contract = t.op_formula(op);
+    is_cheap(contract, c) && is_false(contract, c, relations, at)
+}
+
+// Whether a contract can be tried at all effects of an execution within the work that `verify` does.
+fn is_cheap(f: &Formula, c: &Counter) -> bool {
+    let effects = u128::from(c.execution.len());
+    let mut work = effects;
+    for _variable in f.vars.items() {
+        work = work.saturating_mul(effects);
+    }
+    work <= MAX_WORK
 }
 
 fn is_false(f: &Formula, c: &Counter, relations: &Relations, at: EffId) -> bool

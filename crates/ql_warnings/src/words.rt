@@ -36,7 +36,7 @@ pub fn warning_text(alloc: Global, t: &Typed, warning: Warning) -> Result<Vec<u8
 }
 
 const UNBRACKETED: &[u8] =
-    b"joins two statements with `=>` without brackets, so the second one is a part of the first: write (a => b) /\\ (c => d).";
+    b"joins two statements with `=>` without brackets, so the second one is a part of the first: put brackets around each, as in (a => b) /\\ (c => d).";
 
 const ASKS_NOTHING: &[u8] =
     b"The contract asks for nothing: it holds in every execution, whatever the level.";

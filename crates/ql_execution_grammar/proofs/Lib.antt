@@ -1,0 +1,12 @@
+mod Names
+mod Each
+mod OneType
+mod EffectLists
+mod Opening
+mod Lawful
+mod InTurn
+mod Saying
+mod Reached
+mod Trees
+mod Breaking
+mod FaultLaws

@@ -1,0 +1,9 @@
+use Rattle.ql_execution_grammar.proofs.Breaking.{none_begins}
+use Rattle.ql_execution_grammar.proofs.FaultLaws.{fault_outcome, first_fault}
+use Rattle.ql_execution_grammar.proofs.faults.first_execution_faults_are_of_the_grammar.Goals as goal
+
+pub returns-clause-fault : goal.returns-clause-fault
+returns-clause-fault c = λ p file f. (first_fault p file f, fault_outcome p file f)
+
+pub returns-clause-none : goal.returns-clause-none
+returns-clause-none c = none_begins
