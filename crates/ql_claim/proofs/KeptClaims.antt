@@ -18,17 +18,15 @@ use Rattle.ql_commands.specs.Sources.{IsSourceOf}
 use Rattle.ql_typing.proofs.SameSource.{same-op-kinds}
 use Rattle.ql_exec.specs.declared.effect.Effect.{Effect}
 use Rattle.ql_exec.specs.Execution.{IsExecution}
-use Rattle.ql_execution_files.specs.ExecutionFile.{FirstExecutionFault, IsExecutionFile}
-use Rattle.ql_execution_files.specs.declared.report_fault.ReportFault.{ReportFault}
 use Rattle.ql_implication.specs.Executions.{FitsProgram}
-use Rattle.ql_judging.specs.Verify.{VerifySays, VerifyReports}
+use Rattle.ql_judging.specs.Verify.{ReportsExecution, VerifySays, VerifyReports}
 use Rattle.ql_judging.proofs.Begun.{under}
+use Rattle.ql_judging.proofs.OneExecution.{never-both, one-execution}
 use Rattle.ql_judging.proofs.SamePrograms.{same-execution, same-op-contracts, same-op-name, same-txn-contracts, same-txn-name, same-work}
 use Rattle.ql_lang.specs.Formulas.{Resolved}
 use Rattle.ql_lang.specs.declared.program.Program.{Program}
 use Rattle.ql_lang.specs.Programs.{Source, source_of}
 use Rattle.ql_levels.specs.Words.{word_of, txn_word_of}
-use Rattle.ql_lines.specs.Lines.{Ahead, ahead_from}
 use Rattle.ql_parse.specs.Parsing.{IsProgramText}
 use Rattle.ql_typing.specs.Operations.{all_ops, op_contract, op_contracts, op_kinds, op_words, txn_contract, txn_contracts}
 use Rattle.ql_verify.specs.Verdicts.{AllOpsHold, AllTxnsHold, IsVerdict}
@@ -88,12 +86,10 @@ module _ (source text : List ℕ) (printed : IsPrinted source text) (p q : Progr
 -- ---- the answer
 
 module _ (tree : (bytes : List ℕ) (s t : Source) → IsProgramText bytes s → IsProgramText bytes t → s ≡ t)
-    (one : (p : Program) (file : Ahead) (x y : List Effect) → IsExecutionFile p file x → IsExecutionFile p file y → x ≡ y)
-    (apart : (p : Program) (file : Ahead) (x : List Effect) (f : ReportFault) → IsExecutionFile p file x → FirstExecutionFault p file f → ⊥)
-    (well : (p : Program) (file : Ahead) (x : List Effect) → IsExecutionFile p file x → IsExecution x)
-    (fit : (p : Program) (file : Ahead) (x : List Effect) → IsExecutionFile p file x → FitsProgram (op_kinds p.types) x)
+    (well : (p : Program) (file : List ℕ) (x : List Effect) → ReportsExecution p file x → IsExecution x)
+    (fit : (p : Program) (file : List ℕ) (x : List Effect) → ReportsExecution p file x → FitsProgram (op_kinds p.types) x)
     (source text file : List ℕ) (printed : IsPrinted source text) (p : Program) (reads : IsProgramText source (source_of p))
-    (x : List Effect) (reports : IsExecutionFile p (ahead_from 1 file) x) (kept : KeepsLevels p text x) where
+    (x : List Effect) (reports : ReportsExecution p file x) (kept : KeepsLevels p text x) where
   abbrev its-program : Program
   its-program = printed.sound.program
 
@@ -104,20 +100,20 @@ module _ (tree : (bytes : List ℕ) (s t : Source) → IsProgramText bytes s →
   between q q_reads = tree source (source_of p) (source_of q) reads q_reads
 
   -- the execution that another program's reading reports is this one
-  same-as : (q : Program) (is : IsSourceOf source q) (y : List Effect) → IsExecutionFile q (ahead_from 1 file) y → x ≡ y
-  same-as q is y read = one q (ahead_from 1 file) x y (same-execution p q (between q is.0) (ahead_from 1 file) x reports) read
+  same-as : (q : Program) (is : IsSourceOf source q) (y : List Effect) → ReportsExecution q file y → x ≡ y
+  same-as q is y read = one-execution q file x y (same-execution p q (between q is.0) file x reports) read
 
   never-fails : (said : List ℕ) → VerifyReports source file No said → ⊥
   never-fails said tells =
       let q = tells.0 in
       let says = tells.4 in
       let same = same-as q tells.1 tells.2 tells.3 in
-      no-breach source text printed p q (to-own p reads) (to-own q tells.1.0) x (well p (ahead_from 1 file) x reports) (fit p (ahead_from 1 file) x reports) kept
+      no-breach source text printed p q (to-own p reads) (to-own q tells.1.0) x (well p file x reports) (fit p file x reports) kept
       says.1 (subst (λ (z : List Effect). IsVerdict q z (Some says.1)) (sym same) says.2)
 
   never-bad : (said : List ℕ) → VerifySays source file Bad said → ⊥
   never-bad said (inl bad) = bad.0 (its-program, (printed.sound.reads, printed.typed))
-  never-bad said (inr bad) = apart bad.1 (ahead_from 1 file) x bad.3 (same-execution p bad.1 (between bad.1 bad.2.0) (ahead_from 1 file) x reports) bad.4
+  never-bad said (inr bad) = never-both bad.1 file x bad.3 (same-execution p bad.1 (between bad.1 bad.2.0) file x reports) bad.4
 
   much-work : (said : List ℕ) → VerifySays source file TooLarge said → 20000000 < work_of p x
   much-work said says =
@@ -182,10 +178,8 @@ module _ (tree : (bytes : List ℕ) (s t : Source) → IsProgramText bytes s →
 -- ---- both calls
 
 module _ (tree : (bytes : List ℕ) (s t : Source) → IsProgramText bytes s → IsProgramText bytes t → s ≡ t)
-    (one : (p : Program) (file : Ahead) (x y : List Effect) → IsExecutionFile p file x → IsExecutionFile p file y → x ≡ y)
-    (apart : (p : Program) (file : Ahead) (x : List Effect) (f : ReportFault) → IsExecutionFile p file x → FirstExecutionFault p file f → ⊥)
-    (well : (p : Program) (file : Ahead) (x : List Effect) → IsExecutionFile p file x → IsExecution x)
-    (fit : (p : Program) (file : Ahead) (x : List Effect) → IsExecutionFile p file x → FitsProgram (op_kinds p.types) x)
+    (well : (p : Program) (file : List ℕ) (x : List Effect) → ReportsExecution p file x → IsExecution x)
+    (fit : (p : Program) (file : List ℕ) (x : List Effect) → ReportsExecution p file x → FitsProgram (op_kinds p.types) x)
     (limits : Limits) (words : List (List ℕ)) (held : List ℕ → Option (List ℕ)) (before after : List ℕ → ℕ) (was is : Option (List ℕ)) (faults sums : ℕ)
     (wrote : Wrote (Says limits words held before after) was is faults sums Done)
     (next : List (List ℕ)) (next_held : List ℕ → Option (List ℕ)) (turn : AreKeptInTurn words held was is next next_held) where
@@ -202,6 +196,6 @@ module _ (tree : (bytes : List ℕ) (s t : Source) → IsProgramText bytes s →
       → Wrote (Says limits next next_held next_before next_after) next_was next_is next_faults next_sums status
       → IsUpheld turn.program turn.execution status
   kept-upheld next_before next_after next_was next_is next_faults next_sums status within nothing ended =
-      upheld tree one apart well fit turn.source turn.levels turn.file printed.1 turn.program turn.reads turn.execution turn.reports turn.kept
+      upheld tree well fit turn.source turn.levels turn.file printed.1 turn.program turn.reads turn.execution turn.reports turn.kept
       limits next next_held next_before next_after next_was next_is next_faults next_sums
       turn.again turn.other turn.verifies turn.again_named turn.other_named turn.again_held turn.file_held printed.0 within nothing status ended

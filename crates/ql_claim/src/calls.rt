@@ -9,7 +9,6 @@ ghost use Rattle.ql_claim.specs.Soundness.{Soundness};
 use crate::law::{headline, reported_executions_fit, soundness};
 use ql_app::{Status, quelea};
 use ql_base::NoMemory;
-use ql_execution_files::one_execution;
 use ql_parse::one_program_answer;
 use ql_ports::{Shelf, Sink};
 use std::alloc::Global;
@@ -75,7 +74,6 @@ pub fn classify_and_verify<S: Shelf, K: Sink, T: Shelf, L: Sink>(
         (L.faults next_sink.old) (L.faults next_sink.new)
         → IfOk result (λ ended. ended.0 ≡ Done → IsUpheld turn.program turn.execution ended.1) }
 {
-    one_execution();
     one_program_answer();
     reported_executions_fit();
     let classified = quelea(alloc, words, shelf, sink)?;

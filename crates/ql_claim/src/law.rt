@@ -6,13 +6,12 @@ ghost use Rattle.ql_app.specs.Outcome.{Says};
 ghost use Rattle.ql_reply.specs.Wrote.{Wrote};
 ghost use Rattle.ql_exec.specs.declared.effect.Effect.{Effect};
 ghost use Rattle.ql_exec.specs.Execution.{IsExecution};
-ghost use Rattle.ql_execution_files.specs.ExecutionFile.{IsExecutionFile};
+ghost use Rattle.ql_judging.specs.Verify.{ReportsExecution};
 ghost use Rattle.ql_implication.specs.Executions.{FitsProgram};
 ghost use Rattle.ql_classify.specs.Least.{AreLeast};
 ghost use Rattle.ql_lang.specs.declared.program.Program.{Program};
 ghost use Rattle.ql_lang.specs.Programs.{source_of};
 ghost use Rattle.ql_levels.specs.Lists.{LevelLists};
-ghost use Rattle.ql_lines.specs.Lines.{Ahead};
 ghost use Rattle.ql_typing.specs.Operations.{op_kinds};
 ghost use Rattle.ql_claim.specs.Headline.{Headline};
 ghost use Rattle.ql_claim.specs.Soundness.{Soundness};
@@ -58,8 +57,8 @@ pub fn least_levels_are_one()
 /// An execution that a file reports of a program is one: it is well-formed, its effects are of the program's operations, and
 /// those on one object are of one type.
 pub fn reported_executions_fit()
-    ensures lawful { (p : Program) (file : Ahead) (x : List Effect) → IsExecutionFile p file x
+    ensures lawful { (p : Program) (file : List ℕ) (x : List Effect) → ReportsExecution p file x
         → IsExecution x }
-    ensures fits { (p : Program) (file : Ahead) (x : List Effect) → IsExecutionFile p file x
+    ensures fits { (p : Program) (file : List ℕ) (x : List Effect) → ReportsExecution p file x
         → FitsProgram (op_kinds p.types) x }
 {}

@@ -1,12 +1,12 @@
-mod Names
-mod Each
-mod OneType
-mod EffectLists
-mod Opening
-mod Lawful
-mod InTurn
-mod Saying
-mod Reached
-mod Trees
-mod Breaking
-mod FaultLaws
+pub mod Names
+pub mod Each
+pub mod OneType
+pub mod EffectLists
+pub mod Opening
+pub mod Lawful
+pub mod InTurn
+pub mod Saying
+pub mod Reached
+pub mod Trees
+pub mod Breaking
+pub mod FaultLaws

@@ -1,3 +1,4 @@
 pub mod Begun
 pub mod SamePrograms
+pub mod OneExecution
 pub mod Saying

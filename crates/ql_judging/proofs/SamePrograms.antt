@@ -1,29 +1,26 @@
 -- Programs that are read as one source have the same names and contracts, the same work, and the same executions.
-use Rattle.std.proofs.Common.{◌≡◌, inl, inr, ℕ, zero, suc, List, [], ◌∷◌, map, slice_get, Option, None, Some, Err, refl, sym, ap, ◌∙◌}
-use Rattle.std.specs.Prelude.{unwrap_or}
+use Rattle.std.proofs.Common.{◌≡◌, ℕ, zero, suc, List, [], ◌∷◌, map, slice_get, Option, None, Some, refl, sym, ap, subst, ◌∙◌}
+use Rattle.std.specs.Prelude.{option_map, unwrap_or}
+use Rattle.std.specs.List.{AllByRecursion, AllZip}
 use Rattle.std.specs.Option.{option_map_or}
 use Rattle.ql_base.specs.declared.ids.OpId.{OpId}
 use Rattle.ql_typing.proofs.SameSource.{map_alike, same-op-kinds, same-op-place, same-op-words, same-ops, same-txn-place, same-txn-words, same-txns}
 use Rattle.ql_exec.specs.declared.effect.Effect.{Effect}
 use Rattle.ql_exec.specs.declared.effect.Member.{Member}
-use Rattle.ql_effect_lines.specs.Effects.{after_effect, after_known, known_of, member_of_line}
-use Rattle.ql_execution_files.specs.ExecutionFile.{ClosesExecution, IsExecutionFile, Takes, gives}
-use Rattle.ql_execution_files.specs.declared.format.ExecutionReading.{ExecutionReading}
-use Rattle.ql_execution_files.specs.declared.format.ExecutionReading.TheVariants.{Ended, Unbegun, WithEffects}
-use Rattle.ql_line_files.specs.Outcomes.{Leads}
+use Rattle.ql_exec.specs.Execution.{with_stamp}
+use Rattle.ql_effect_lines.specs.Effects.{draft_of_line, known_of, member_of_line}
 use Rattle.ql_effect_lines.specs.declared.effect_line.EffectLine.{EffectLine}
-use Rattle.ql_effect_lines.specs.declared.rules.ReportRule.TheVariants.{Unknown}
 use Rattle.ql_effect_lines.specs.declared.setting.Begun.{Begun}
-use Rattle.ql_effect_lines.specs.declared.effects_read.EffectsRead.{EffectsRead}
+use Rattle.ql_execution_grammar.specs.Readings.{effect_said, objects_in}
 use Rattle.ql_lang.specs.declared.operation.OpDecl.{OpDecl}
 use Rattle.ql_lang.specs.declared.program.Program.{Program}
 use Rattle.ql_lang.specs.declared.program.TxnDecl.{TxnDecl}
 use Rattle.ql_lang.specs.Programs.{Operation, Transaction, operation_of, source_of, transaction_of}
-use Rattle.ql_lines.specs.Lines.{Ahead, Numbered}
 use Rattle.ql_typing.specs.Operations.{all_ops, op_contract, op_contracts, op_words, txn_contract, txn_contracts}
-use Rattle.ql_typing.specs.Resolved.{resolved_in}
+use Rattle.ql_typing.specs.Resolved.{number_in, resolved_in}
 use Rattle.ql_typing.specs.Names.{op_name, txn_name}
 use Rattle.ql_verify.specs.Work.{work_of}
+use Rattle.ql_judging.specs.Verify.{ReportsExecution}
 
 -- an item's text, from the texts of all
 text-at : {A : Type 0} (text : A → List ℕ) (xs : List A) (k : ℕ) → option_map_or text (slice_get xs k) [] ≡ unwrap_or (slice_get (map text xs) k) []
@@ -66,29 +63,25 @@ module _ (p q : Program) (e : source_of p ≡ source_of q) where
   same-known : (l : EffectLine) → known_of p l ≡ known_of q l
   same-known l = rw (same-op-place p q e l.op, same-member l.setting.txn) refl
 
-  same-after : (read : EffectsRead) (l : EffectLine) → after_effect p read l ≡ after_effect q read l
-  same-after read l = rw (same-known l) (by (known_of q l))
-    where
-      by : (known : Option (OpId × Member)) → option_map_or (λ k. after_known p read l k.0 k.1) known (Err Unknown) ≡ option_map_or (λ k. after_known q read l k.0 k.1) known (Err Unknown)
-      by None = refl
-      by (Some k) = rw (same-op-kinds p q e) refl
+  same-said : (objects : List (List ℕ)) (es : List EffectLine) (x : List Effect) → AllZip (λ e f. effect_said p objects e ≡ Some f) es x → AllZip (λ e f. effect_said q objects e ≡ Some f) es x
+  same-said objects [] [] all = tt
+  same-said objects [] (f ∷ x) all = absurd all
+  same-said objects (l ∷ es) [] all = absurd all
+  same-said objects (l ∷ es) (f ∷ x) all = (
+    ap (option_map (λ (known : OpId × Member). with_stamp (draft_of_line l (record { 0 = number_in objects l.object }) known.0 known.1) l.setting.stamp)) (sym (same-known l)) ∙ all.0,
+    same-said objects es x all.1,
+  )
 
-  takes : (before : ExecutionReading) (l : Numbered) (after : ExecutionReading) → Takes p before l.text after → Takes q before l.text after
-  takes Unbegun l after h = h
-  takes (WithEffects read) l after (inl effect) = inl (record {
-    effect = effect.effect;
-    more = effect.more;
-    is = effect.is;
-    lawful = sym (same-after read effect.effect) ∙ effect.lawful;
-    to = effect.to;
-  })
-  takes (WithEffects read) l after (inr end) = inr end
-  takes (Ended read) l after h = absurd h
-
-  leads : (ls : List Numbered) (before after : ExecutionReading) → Leads (gives p) ClosesExecution before ls after → Leads (gives q) ClosesExecution before ls after
-  unfolding Leads
-  leads [] before after h = h
-  leads (l ∷ ls) before after h = (h.0, takes before l h.0 h.1, leads ls h.0 after h.2)
-
-  pub same-execution : (file : Ahead) (x : List Effect) → IsExecutionFile p file x → IsExecutionFile q file x
-  same-execution file x is = record { state = is.state; leads = leads file.lines Unbegun is.state is.leads; ends = is.ends }
+  pub same-execution : (bytes : List ℕ) (x : List Effect) → ReportsExecution p bytes x → ReportsExecution q bytes x
+  same-execution bytes x (effects, are, says) = (
+    effects,
+    are,
+    record {
+      said = same-said (objects_in effects) effects x says.said;
+      execution = says.execution;
+      one_type =
+          subst (λ (kinds : List ℕ). AllByRecursion (λ e. AllByRecursion (λ f. e.object ≡ f.object → unwrap_or (slice_get kinds e.op.0) 0 ≡ unwrap_or (slice_get kinds f.op.0) 0) x) x)
+          (same-op-kinds p q e) says.one_type;
+      few = says.few;
+    },
+  )

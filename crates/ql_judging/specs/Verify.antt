@@ -2,11 +2,14 @@
 use Rattle.std.specs.Prelude.{◌≡◌, ◌⊎◌, ◌<◌, ◌≤◌, ℕ, List, [], ◌∷◌, ◌++◌, map, Option, None, Some, codes, decimal}
 use Rattle.ql_base.specs.declared.ids.EffId.{EffId}
 use Rattle.ql_commands.specs.Sources.{IsSourceOf, BadSourceSays}
+use Rattle.ql_effect_lines.specs.declared.effect_line.EffectLine.{EffectLine}
 use Rattle.ql_exec.specs.declared.effect.Effect.{Effect}
 use Rattle.ql_exec.specs.Effects.{effect_at}
-use Rattle.ql_execution_files.specs.ExecutionFile.{FirstExecutionFault, IsExecutionFile}
 use Rattle.ql_execution_files.specs.declared.report_fault.ReportFault.{ReportFault}
 use Rattle.ql_execution_files.specs.declared.report_fault.ReportFault.TheVariants.{Unexpected, Unknown, Mixed, Stamp, NotForward, OtherObject, SplitTxn, TooMany, NoMemory}
+use Rattle.ql_execution_grammar.specs.FirstFaults.{FirstTextFault}
+use Rattle.ql_execution_grammar.specs.Grammar.{IsExecutionText, texts_in}
+use Rattle.ql_execution_grammar.specs.Readings.{SaysExecution}
 use Rattle.ql_lang.specs.declared.contract.Var.{Var}
 use Rattle.ql_lang.specs.declared.program.Program.{Program}
 use Rattle.ql_lines.specs.Lines.{ahead_from}
@@ -23,9 +26,9 @@ use Rattle.ql_judging.specs.Members.{IsBegunOf}
 
 -- ---- the execution's text
 
--- the file reports this execution of the program
+-- the file's lines are those of effects that say this execution of the program
 abbrev pub ReportsExecution : Program → List ℕ → List Effect → Type 0
-ReportsExecution p bytes x = IsExecutionFile p (ahead_from 1 bytes) x
+ReportsExecution p bytes x = (effects : List EffectLine) × IsExecutionText (texts_in (ahead_from 1 bytes).lines) effects × SaysExecution p effects x
 
 -- the line that reports its first fault, and none where memory ran out
 abbrev pub execution_fault_text : ReportFault → Option (List ℕ)
@@ -80,7 +83,7 @@ AreJudgeable source execution = (p : Program) × IsSourceOf source p × (x : Lis
 abbrev pub BadExecutionSays : List ℕ → List ℕ → List ℕ → Type 0
 BadExecutionSays source execution text =
     (AreJudgeable source execution → ⊥) × (p : Program) × IsSourceOf source p
-    × (f : ReportFault) × FirstExecutionFault p (ahead_from 1 execution) f × (execution_fault_text f ≡ Some text)
+    × (f : ReportFault) × FirstTextFault p (ahead_from 1 execution) f × (execution_fault_text f ≡ Some text)
 
 abbrev pub VerifyReports : List ℕ → List ℕ → Status → List ℕ → Type 0
 VerifyReports source execution status text = (p : Program) × IsSourceOf source p × (x : List Effect) × ReportsExecution p execution x × ExecutionSays p x status text

@@ -7,7 +7,7 @@ use crate::execution_fault::bad_execution;
 use ql_base::{NoMemory, push_bytes, push_number};
 use ql_commands::{bad_source, read_source};
 use ql_exec::Execution;
-use ql_execution_files::{one_execution, parse_execution};
+use ql_execution_files::parse_execution;
 use ql_parse::one_program_answer;
 use ql_reply::Status;
 use ql_typing::Typed;
@@ -19,7 +19,6 @@ pub fn verify(alloc: Global, source: &[u8], execution: &[u8]) -> Result<(Status,
     requires { length source.now < 2 ^ 32 }
     ensures { IfOk result (λ answer. VerifySays source.now execution.now answer.0 answer.1.items) }
 {
-    one_execution();
     one_program_answer();
     let typed = match read_source(alloc, source) {
         Ok(typed) => typed,

@@ -3,16 +3,16 @@ use Rattle.std.proofs.Common.{◌≡◌, ◌⊎◌, inl, inr, ℕ, List, map, So
 use Rattle.std.proofs.lemmas.Bool.{both_ways}
 use Rattle.ql_commands.specs.Sources.{IsSourceOf}
 use Rattle.ql_exec.specs.declared.effect.Effect.{Effect}
-use Rattle.ql_execution_files.specs.ExecutionFile.{FirstExecutionFault, IsExecutionFile}
-use Rattle.ql_execution_files.specs.declared.report_fault.ReportFault.{ReportFault}
-use Rattle.ql_judging.specs.Verify.{VerifySays, VerifyReports}
+use Rattle.ql_execution_files.specs.ExecutionFile.{IsExecutionFile}
+use Rattle.ql_execution_grammar.proofs.Trees.{spelled}
+use Rattle.ql_judging.specs.Verify.{ReportsExecution, VerifySays, VerifyReports}
 use Rattle.ql_reply.specs.declared.status.Status.{Status}
 use Rattle.ql_reply.specs.declared.status.Status.TheVariants.{Done, No, Bad, ReadFault, WriteFault, Usage, TooLarge}
 use Rattle.ql_lang.specs.Formulas.{Resolved}
 use Rattle.ql_lang.specs.declared.program.Program.{Program}
 use Rattle.ql_lang.specs.Programs.{Source, source_of}
 use Rattle.ql_levels.specs.Lists.{LevelLists}
-use Rattle.ql_lines.specs.Lines.{Ahead, ahead_from}
+use Rattle.ql_lines.specs.Lines.{ahead_from}
 use Rattle.ql_machine.specs.declared.reply.Reply.{Reply}
 use Rattle.ql_parse.specs.Parsing.{IsProgramText}
 use Rattle.ql_printed_runs.specs.Printable.{IsPrintable}
@@ -23,6 +23,7 @@ use Rattle.ql_running.specs.Runs.{ReportsRun}
 use Rattle.ql_verify.specs.Verdicts.{IsVerdict}
 use Rattle.ql_verify.specs.declared.breach.Breach.{Breach}
 use Rattle.ql_verify.specs.declared.breach.Breach.TheVariants.{AtOp, AtTxn}
+use Rattle.ql_judging.proofs.OneExecution.{never-both, one-execution}
 use Rattle.ql_judging.proofs.SamePrograms.{same-execution, same-op-contracts, same-txn-contracts}
 use Rattle.ql_verified_runs.proofs.Verdicts.{sound-verdict}
 
@@ -49,19 +50,17 @@ verdict-of p q y same holds = (
 )
 
 module _ (tree : (bytes : List ℕ) (s t : Source) → IsProgramText bytes s → IsProgramText bytes t → s ≡ t)
-    (one : (p : Program) (file : Ahead) (x y : List Effect) → IsExecutionFile p file x → IsExecutionFile p file y → x ≡ y)
-    (apart : (p : Program) (file : Ahead) (x : List Effect) (f : ReportFault) → IsExecutionFile p file x → FirstExecutionFault p file f → ⊥)
-    (source text : List ℕ) (p : Program) (is : IsSourceOf source p) (y : List Effect) (read : IsExecutionFile p (ahead_from 1 text) y) (holds : IsVerdict p y None) where
+    (source text : List ℕ) (p : Program) (is : IsSourceOf source p) (y : List Effect) (reports : ReportsExecution p text y) (holds : IsVerdict p y None) where
   same-as : (q : Program) → IsSourceOf source q → source_of p ≡ source_of q
   same-as q is_q = tree source (source_of p) (source_of q) is.0 is_q.0
 
   never-fails : (said : List ℕ) → VerifyReports source text No said → ⊥
-  never-fails said reports =
-      let q = reports.0 in
-      let same = same-as q reports.1 in
-      let x = reports.2 in
-      let here : y ≡ x = one q (ahead_from 1 text) y x (same-execution p q same (ahead_from 1 text) y read) reports.3 in
-      let says = reports.4 in
+  never-fails said judged =
+      let q = judged.0 in
+      let same = same-as q judged.1 in
+      let x = judged.2 in
+      let here : y ≡ x = one-execution q text y x (same-execution p q same text y reports) judged.3 in
+      let says = judged.4 in
       no-breach q x (subst (λ (z : List Effect). IsVerdict q z None) here (verdict-of p q y same holds)) says.1 says.2
 
   judged-so : (said : List ℕ) (j : Status) → VerifySays source text j said → (j ≡ Done) ⊎ (j ≡ TooLarge)
@@ -73,19 +72,17 @@ module _ (tree : (bytes : List ℕ) (s t : Source) → IsProgramText bytes s →
   judged-so said Usage says = absurd says
   judged-so said Bad (inl bad) = absurd (bad.0 (p, is))
   judged-so said Bad (inr bad) =
-      absurd (apart bad.1 (ahead_from 1 text) y bad.3 (same-execution p bad.1 (same-as bad.1 bad.2) (ahead_from 1 text) y read) bad.4)
+      absurd (never-both bad.1 text y bad.3 (same-execution p bad.1 (same-as bad.1 bad.2) text y reports) bad.4)
 
 pub run-judged : ((bytes : List ℕ) (s t : Source) → IsProgramText bytes s → IsProgramText bytes t → s ≡ t)
-    → ((p : Program) (file : Ahead) (x y : List Effect) → IsExecutionFile p file x → IsExecutionFile p file y → x ≡ y)
-    → ((p : Program) (file : Ahead) (x : List Effect) (f : ReportFault) → IsExecutionFile p file x → FirstExecutionFault p file f → ⊥)
     → ((p : Program) (objects : List (List ℕ)) (levels : LevelLists) (replies : List Reply) (x : List Effect) → IsPrintable p objects x
     → (y : List Effect) × IsRenumbered x y × IsExecutionFile p (ahead_from 1 (run_text p objects levels replies x)) y)
     → (source schedule text said : List ℕ) (j : Status) (reports : ReportsRun IsRunText source schedule text) → IsPrintable reports.program reports.schedule.objects reports.prints.last.effects
     → VerifySays source text j said → (j ≡ Done) ⊎ (j ≡ TooLarge)
-run-judged tree one apart again source schedule text said j reports printable says =
+run-judged tree again source schedule text said j reports printable says =
     let p = reports.program in
     let run = reports.prints in
     let x = run.last.effects in
     let read = again p reports.schedule.objects reports.levels run.replies x printable in
     let file = subst (λ (t : List ℕ). IsExecutionFile p (ahead_from 1 t) read.0) (sym run.printed.written) read.2 in
-    judged-so tree one apart source text p reports.is_source read.0 file (sound-verdict p x read.0 printable.execution run.sound read.1) said j says
+    judged-so tree source text p reports.is_source read.0 (spelled p (ahead_from 1 text) read.0 file) (sound-verdict p x read.0 printable.execution run.sound read.1) said j says

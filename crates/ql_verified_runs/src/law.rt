@@ -13,7 +13,6 @@ ghost use Rattle.ql_running.specs.Forms.{IsRunText};
 ghost use Rattle.ql_running.specs.Runs.{ReportsRun};
 ghost use Rattle.ql_verified_runs.specs.Agreement.{Agree};
 
-use ql_execution_files::one_execution;
 use ql_machine_laws::replicas_agree;
 use ql_parse::one_program_answer;
 use ql_printed_runs::printed_runs_are_read_again;
@@ -43,7 +42,6 @@ pub fn printed_runs_hold()
 {
     runs_can_be_printed();
     one_program_answer();
-    one_execution();
     printed_runs_are_read_again();
 }
 

@@ -19,8 +19,7 @@ returns g c =
     let sums = g.K.Sink.faults c.quelea.new.sink in
     record {
       upheld = λ turn nothing done.
-          (kept-upheld c.one_program_answer.ensures.tree c.one_execution.ensures.one c.one_execution.ensures.apart
-          c.reported_executions_fit.ensures.lawful c.reported_executions_fit.ensures.fits
+          (kept-upheld c.one_program_answer.ensures.tree c.reported_executions_fit.ensures.lawful c.reported_executions_fit.ensures.fits
           limits words held before after was is faults sums
           (subst (Wrote (Says limits words held before after) was is faults sums) done c.in_ok-classified.ensures.wrote)
           (word_texts c.args.next.now) (g.T.Shelf.held c.args.next_shelf.now) turn
