@@ -13,6 +13,6 @@ returns-in_ok-push_premises-in-And t c = rw (c.in-And.is, ← c.deref.ensures, �
 pub returns-in_ok-push_all-in-Implies : goal.returns-in_ok-push_all-in-Implies
 returns-in_ok-push_all-in-Implies t c = rw (c.in-Implies.is, ← c.deref-in-Implies.ensures, ← c.deref-in-Implies-3.ensures)
     (first_ok c.args.source.now c.args.scene.program.now.program c.args.scene.goal c.args.scene.vars.now (statement_of c.deref-in-Implies.result.now) (statement_of c.deref-in-Implies-3.result.now)
-    c.args.out.now.items c.deref-in-Implies-2.result.now c.push_all.new.out.items c.push_premises-in-Implies.new.out.items c.push_premises-in-Implies.result
+    c.args.out.now.items c.deref-in-Implies-2.result.now c.push_all.new.found.items c.push_premises-in-Implies.new.out.items c.push_premises-in-Implies.result
     (subst (All (IsOfPremise c.args.source.now c.args.scene.program.now.program c.args.scene.goal c.args.scene.vars.now (statement_of c.deref-in-Implies.result.now))) (sym c.deref-in-Implies-2.ensures.value) c.in_ok-found-in-Implies.ensures)
     c.in_ok-push_all-in-Implies.ensures c.push_premises-in-Implies.ensures)
