@@ -9,32 +9,43 @@ use crate::words::{has_word, is, sentence_of};
 use ql_base::{NoMemory, push_bytes};
 
 /// The index of the field where a call's operation or its arguments don't fit.
-pub(crate) fn misfit(line: FaultyLine) -> usize {
-    let Some(op) = own_operation(line) else {
-        return CALL_OPERATION;
-    };
-    let (taken, given) = (
-        count(line.source, op),
-        line.fields.len().saturating_sub(CALL_ARGUMENT),
-    );
-    for k in 0..taken.min(given) {
+pub(crate) fn misfit(line: &FaultyLine) -> usize {
+    match own_operation(line) {
+        Some(op) => misfit_argument(line, op),
+        None => CALL_OPERATION,
+    }
+}
+
+// The field of the first argument whose kind doesn't fit, or else of the first that is missing or too many.
+fn misfit_argument(line: &FaultyLine, op: usize) -> usize {
+    let fitting = count(line.source, op).min(given(line));
+    for k in 0..fitting {
         let argument = CALL_ARGUMENT.saturating_add(k);
         if kind_of(field_text(line.fields, argument)) != base(line.source, op, k) {
             return argument;
         }
     }
-    CALL_ARGUMENT.saturating_add(taken.min(given))
+    CALL_ARGUMENT.saturating_add(fitting)
+}
+
+// How many arguments a call has.
+fn given(line: &FaultyLine) -> usize {
+    line.fields.len().saturating_sub(CALL_ARGUMENT)
 }
 
 // The token that declares the operation of a call, if that is one of the object's type.
-fn own_operation(line: FaultyLine) -> Option<usize> {
+fn own_operation(line: &FaultyLine) -> Option<usize> {
     let op = place_in(line.source, b"op", field_text(line.fields, CALL_OPERATION))?;
-    let declared = word_after(line.above, b"object", field_text(line.fields, CALL_OBJECT));
-    if type_at(line.source, op) == declared {
+    if type_at(line.source, op) == type_of_object(line) {
         Some(op)
     } else {
         None
     }
+}
+
+// The type of a call's object.
+fn type_of_object<'a>(line: &FaultyLine<'a>) -> &'a [u8] {
+    word_after(line.above, b"object", field_text(line.fields, CALL_OBJECT))
 }
 
 // How many parameters an operation has: each takes four tokens, a name, a colon, a kind, and a comma or a bracket.
@@ -64,18 +75,25 @@ fn kind_of(argument: &[u8]) -> &'static [u8] {
 }
 
 /// Appends why a call doesn't fit at a field.
-pub(crate) fn push_misfit(said: &mut Vec<u8>, line: FaultyLine, k: usize) -> Result<(), NoMemory> {
+pub(crate) fn push_misfit(said: &mut Vec<u8>, line: &FaultyLine, k: usize) -> Result<(), NoMemory> {
     let Some(op) = own_operation(line) else {
         return push_other_type(said, line);
     };
-    let (taken, given) = (
-        count(line.source, op),
-        line.fields.len().saturating_sub(CALL_ARGUMENT),
-    );
-    let name = field_text(line.fields, CALL_OPERATION);
-    if taken != given {
-        return push_counts(said, name, taken, given);
+    let (taken, given) = (count(line.source, op), given(line));
+    if taken == given {
+        push_other_kind(said, line, k, op)
+    } else {
+        push_counts(said, field_text(line.fields, CALL_OPERATION), taken, given)
     }
+}
+
+// Appends which kind an argument of a call has, and which one its operation takes.
+fn push_other_kind(
+    said: &mut Vec<u8>,
+    line: &FaultyLine,
+    k: usize,
+    op: usize,
+) -> Result<(), NoMemory> {
     let number = k.saturating_sub(CALL_ARGUMENT);
     let found = with_article(kind_of(field_text(line.fields, k)));
     let expected = with_article(base(line.source, op, number));
@@ -83,7 +101,7 @@ pub(crate) fn push_misfit(said: &mut Vec<u8>, line: FaultyLine, k: usize) -> Res
     push_counted(
         said,
         b"this is argument # of `%`",
-        &[name],
+        &[field_text(line.fields, CALL_OPERATION)],
         &[number.saturating_add(1) as u64],
     )
 }
@@ -113,12 +131,10 @@ pub(crate) fn push_counts(
     push_counted(said, sentence, &[operation], &[taken as u64, given as u64])
 }
 
-fn push_other_type(said: &mut Vec<u8>, line: FaultyLine) -> Result<(), NoMemory> {
-    let (object, operation) = (
-        field_text(line.fields, CALL_OBJECT),
-        field_text(line.fields, CALL_OPERATION),
-    );
-    let own = word_after(line.above, b"object", object);
+fn push_other_type(said: &mut Vec<u8>, line: &FaultyLine) -> Result<(), NoMemory> {
+    let object = field_text(line.fields, CALL_OBJECT);
+    let operation = field_text(line.fields, CALL_OPERATION);
+    let own = type_of_object(line);
     match place_in(line.source, b"op", operation) {
         Some(op) => push_filled(
             said,
@@ -134,7 +150,7 @@ fn push_other_type(said: &mut Vec<u8>, line: FaultyLine) -> Result<(), NoMemory>
 }
 
 /// Appends what the operation of a call takes.
-pub(crate) fn push_operation(note: &mut Vec<u8>, line: FaultyLine) -> Result<(), NoMemory> {
+pub(crate) fn push_operation(note: &mut Vec<u8>, line: &FaultyLine) -> Result<(), NoMemory> {
     let name = field_text(line.fields, CALL_OPERATION);
     let Some(op) = place_in(line.source, b"op", name) else {
         return Ok(());

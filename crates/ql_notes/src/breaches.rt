@@ -19,7 +19,7 @@ use ql_excerpt::{File, line_of};
 /// Appends what is wrong with a field of a line, of a file with this text.
 pub(crate) fn push_breach(
     said: &mut Vec<u8>,
-    line: FaultyLine,
+    line: &FaultyLine,
     k: usize,
     text: &[u8],
 ) -> Result<(), NoMemory> {
@@ -46,7 +46,7 @@ pub(crate) fn push_breach(
 }
 
 // What is unknown, and where it would be declared.
-fn push_unknown_name(said: &mut Vec<u8>, line: FaultyLine, k: usize) -> Result<(), NoMemory> {
+fn push_unknown_name(said: &mut Vec<u8>, line: &FaultyLine, k: usize) -> Result<(), NoMemory> {
     push_filled(
         said,
         unknown_sentence(line, k),
@@ -54,7 +54,7 @@ fn push_unknown_name(said: &mut Vec<u8>, line: FaultyLine, k: usize) -> Result<(
     )
 }
 
-fn unknown_sentence(line: FaultyLine, k: usize) -> &'static [u8] {
+fn unknown_sentence(line: &FaultyLine, k: usize) -> &'static [u8] {
     let first = field_text(line.fields, 0);
     if is(line.part, b"execution") {
         if k == EFFECT_OPERATION {
@@ -74,7 +74,7 @@ fn unknown_sentence(line: FaultyLine, k: usize) -> &'static [u8] {
 }
 
 // Which limit of a schedule a line exceeds.
-fn size_sentence(line: FaultyLine) -> &'static [u8] {
+fn size_sentence(line: &FaultyLine) -> &'static [u8] {
     let first = field_text(line.fields, 0);
     if is(first, b"object") {
         b"a schedule has at most 1024 objects, and this is one too many"
@@ -91,7 +91,7 @@ fn size_sentence(line: FaultyLine) -> &'static [u8] {
 pub(crate) fn push_first_line(
     note: &mut Vec<u8>,
     file: File,
-    line: FaultyLine,
+    line: &FaultyLine,
     k: usize,
 ) -> Result<(), NoMemory> {
     if !is(line.rule, b"Twice") {
@@ -104,7 +104,7 @@ pub(crate) fn push_first_line(
 }
 
 // The offset where the name in a field occurs first: as an object above, or earlier in the line.
-fn first_offset(line: FaultyLine, k: usize) -> Option<usize> {
+fn first_offset(line: &FaultyLine, k: usize) -> Option<usize> {
     let name = field_text(line.fields, k);
     if is(field_text(line.fields, 0), b"object") {
         offset_of_object(line.above, name)

@@ -10,7 +10,7 @@ use crate::stamp::{EffectLine, effect_at};
 use ql_base::{NoMemory, number_of};
 
 /// Appends that an effect sees the one in a field, which isn't earlier.
-pub(crate) fn push_not_earlier(said: &mut Vec<u8>, line: FaultyLine) -> Result<(), NoMemory> {
+pub(crate) fn push_not_earlier(said: &mut Vec<u8>, line: &FaultyLine) -> Result<(), NoMemory> {
     let own = field_text(line.fields, EFFECT_ID);
     match number_of(own, u32::MAX as u64) {
         Some(number) if number > 1 => push_counted(
@@ -26,7 +26,7 @@ pub(crate) fn push_not_earlier(said: &mut Vec<u8>, line: FaultyLine) -> Result<(
 /// Appends the object of an effect, and that of the effect in a field, which it sees.
 pub(crate) fn push_other_object(
     said: &mut Vec<u8>,
-    line: FaultyLine,
+    line: &FaultyLine,
     k: usize,
 ) -> Result<(), NoMemory> {
     let seen = field_text(line.fields, k);
@@ -44,7 +44,7 @@ pub(crate) fn push_other_object(
 }
 
 /// Appends the type of an effect's operation, and that of the operation of the first effect on its object.
-pub(crate) fn push_mixed(said: &mut Vec<u8>, line: FaultyLine) -> Result<(), NoMemory> {
+pub(crate) fn push_mixed(said: &mut Vec<u8>, line: &FaultyLine) -> Result<(), NoMemory> {
     let operation = field_text(line.fields, EFFECT_OPERATION);
     let first = effect_line(
         line.above,
@@ -78,35 +78,50 @@ fn effect_line<'a>(text: &'a [u8], number: usize, word: &[u8]) -> &'a [u8] {
 }
 
 /// Appends why an effect can't belong to its transaction.
-pub(crate) fn push_split(said: &mut Vec<u8>, line: FaultyLine) -> Result<(), NoMemory> {
-    let (txn, session) = (
-        field_text(line.fields, EFFECT_TXN),
-        field_text(line.fields, EFFECT_SESSION),
-    );
-    let mut since = b"".as_slice();
-    for k in 0..line.above.len() {
-        let Some(other) = effect_at(line.above, k) else {
-            continue;
-        };
-        let is_one = number_in(other.txn) == number_in(txn);
-        if is_one && (other.session != session || other.txn != txn) {
-            return push_elsewhere(said, other, txn, session);
-        }
-        if other.session == session && !is_one {
-            since = other.id;
+pub(crate) fn push_split(said: &mut Vec<u8>, line: &FaultyLine) -> Result<(), NoMemory> {
+    let txn = field_text(line.fields, EFFECT_TXN);
+    let session = field_text(line.fields, EFFECT_SESSION);
+    match effect_elsewhere(line.above, txn, session) {
+        Some(other) => push_elsewhere(said, &other, txn, session),
+        None => push_filled(
+            said,
+            b"a transaction's effects follow one another in its session, but effect % of this session comes between them",
+            &[last_of_others(line.above, txn, session)],
+        ),
+    }
+}
+
+// The first effect of a transaction that is in another session, or has another name of the transaction.
+fn effect_elsewhere<'a>(text: &'a [u8], txn: &[u8], session: &[u8]) -> Option<EffectLine<'a>> {
+    for k in 0..text.len() {
+        if let Some(other) = effect_at(text, k)
+            && number_in(other.txn) == number_in(txn)
+            && (other.session != session || other.txn != txn)
+        {
+            return Some(other);
         }
     }
-    push_filled(
-        said,
-        b"a transaction's effects follow one another in its session, but effect % of this session comes between them",
-        &[since],
-    )
+    None
+}
+
+// The number of the last effect of a session that isn't one of a transaction; empty where there is none.
+fn last_of_others<'a>(text: &'a [u8], txn: &[u8], session: &[u8]) -> &'a [u8] {
+    let mut last = b"".as_slice();
+    for k in 0..text.len() {
+        if let Some(other) = effect_at(text, k)
+            && number_in(other.txn) != number_in(txn)
+            && other.session == session
+        {
+            last = other.id;
+        }
+    }
+    last
 }
 
 // Appends that another effect of a transaction is in another session, or has another name of the transaction.
 fn push_elsewhere(
     said: &mut Vec<u8>,
-    other: EffectLine,
+    other: &EffectLine,
     txn: &[u8],
     session: &[u8],
 ) -> Result<(), NoMemory> {

@@ -1,8 +1,8 @@
 // The help text of the commands.
 
 use crate::filled::push_filled;
-use crate::likeness::likest;
-use crate::words::{has_word, words_of};
+use crate::likeness::likest_in;
+use crate::words::has_word;
 use ql_base::NoMemory;
 use std::alloc::Global;
 
@@ -40,20 +40,12 @@ error even without a terminal; QUELEA_NOTES=0 never prints them.
 const COMMANDS: &[u8] =
     b"classify explain prove check verify holds run slim restart gen soak proof draw";
 
-/// Appends the command that was perhaps meant, if the first argument isn't a command.
-pub(crate) fn push_command(
-    alloc: Global,
-    note: &mut Vec<u8>,
-    words: &Vec<String>,
-) -> Result<(), NoMemory> {
-    let Some(first) = words.first() else {
-        return Ok(());
-    };
-    let word = first.as_bytes();
+/// Appends the command that was perhaps meant by a word that isn't one.
+pub(crate) fn push_command(alloc: Global, note: &mut Vec<u8>, word: &[u8]) -> Result<(), NoMemory> {
     if has_word(COMMANDS, word) {
         return Ok(());
     }
-    match likest(word, &words_of(alloc, COMMANDS)?) {
+    match likest_in(alloc, word, COMMANDS)? {
         Some(meant) => {
             push_filled(note, b"`%` isn't a command: did you mean ", &[word])?;
             push_filled(note, b"`%`?\n\n", &[meant])

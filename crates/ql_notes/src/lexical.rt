@@ -3,20 +3,30 @@
 use crate::filled::{push_counted, push_filled};
 use crate::words::{has_word, is};
 use ql_base::{NoMemory, digit_bytes, is_word_byte, push_bytes};
-use ql_excerpt::Spot;
+use ql_excerpt::{File, Spot, push_fault};
+use std::alloc::Global;
 
 /// Whether a rule is about tokens.
 pub(crate) fn is_lexical(rule: &[u8]) -> bool {
     has_word(b"BadChar LongWord BadNumber", rule)
 }
 
-/// Appends why the bytes at an offset aren't a token, and returns the bytes to mark.
-pub(crate) fn push_lexical(
-    said: &mut Vec<u8>,
-    text: &[u8],
-    rule: &[u8],
+/// Appends a note on the bytes at an offset of a file, which aren't a token by a rule. `reported` is the rule in the answer.
+pub(crate) fn push_lexical_fault(
+    alloc: Global,
+    note: &mut Vec<u8>,
+    file: File,
     at: usize,
-) -> Result<Spot, NoMemory> {
+    rule: &[u8],
+    reported: &[u8],
+) -> Result<(), NoMemory> {
+    let mut said = Vec::new(alloc);
+    let spot = push_lexical(&mut said, file.text, rule, at)?;
+    push_fault(note, file, spot, reported, &said)
+}
+
+// Appends why the bytes at an offset aren't a token, and returns the bytes to mark.
+fn push_lexical(said: &mut Vec<u8>, text: &[u8], rule: &[u8], at: usize) -> Result<Spot, NoMemory> {
     let rest = rest_of(text, at);
     if is(rule, b"BadChar") {
         return push_bad_byte(said, text, at);

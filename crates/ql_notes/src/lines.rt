@@ -25,42 +25,76 @@ pub(crate) fn push_line_fault<'x>(
     source: &'x [&'x [u8]],
 ) -> Result<(), NoMemory> {
     let start = start_of(file.text, fault.at);
-    let above_text = &file.text[..start];
+    let text_above = &file.text[..start];
     let fields = fields(alloc, file.text, start)?;
     let above = lines_above(file.text, start, is(fault.part, b"execution"));
     if is(field_text(&fields, 0), b"contract") && above.lines == 0 && is(fault.part, b"holds") {
         return push_contract_fault(alloc, note, file, fault, end_of(&fields, 0, start));
     }
-    if is(fault.rule, b"Unexpected") {
-        let line = Line {
-            start,
-            fields: &fields,
-            above,
-        };
-        return push_form_fault(alloc, note, file, fault, line);
-    }
-    let line = FaultyLine {
-        part: fault.part,
-        rule: fault.rule,
+    let line = Line {
+        start,
         fields: &fields,
-        above: above_text,
-        source,
-        replicas: replicas(above_text).saturating_add(above.joins),
+        text_above,
+        above,
     };
-    let k = column(alloc, line)?;
-    let mut said = Vec::new(alloc);
-    push_breach(&mut said, line, k, file.text)?;
-    push_fault(note, file, spot(&fields, k, start), fault.rule, &said)?;
-    push_first_line(note, file, line, k)?;
-    push_help(alloc, note, line, k, above, file.text)
+    if is(fault.rule, b"Unexpected") {
+        push_form_fault(alloc, note, file, fault, &line)
+    } else {
+        push_rule_fault(alloc, note, file, fault, &line, source)
+    }
 }
 
-// The offset of a line, its fields, and what precedes it.
+// The offset of a line, its fields, and the text and the lines above it.
 #[derive(Clone, Copy)]
 struct Line<'a> {
     start: usize,
     fields: &'a [Field<'a>],
+    text_above: &'a [u8],
     above: Above,
+}
+
+// Appends a note on a line that has its form, but breaks another rule.
+fn push_rule_fault<'x>(
+    alloc: Global,
+    note: &mut Vec<u8>,
+    file: File<'x>,
+    fault: Fault<'x>,
+    line: &Line<'x>,
+    source: &'x [&'x [u8]],
+) -> Result<(), NoMemory> {
+    let faulty = FaultyLine {
+        part: fault.part,
+        rule: fault.rule,
+        fields: line.fields,
+        above: line.text_above,
+        source,
+        replicas: replicas(line.text_above).saturating_add(line.above.joins),
+    };
+    let k = column(&faulty);
+    push_breach_at(
+        alloc,
+        note,
+        file,
+        &faulty,
+        k,
+        spot(line.fields, k, line.start),
+    )?;
+    push_first_line(note, file, &faulty, k)?;
+    push_help(alloc, note, &faulty, k, line.above, file.text)
+}
+
+// Appends what is wrong with the field of a line at an index, and where.
+fn push_breach_at(
+    alloc: Global,
+    note: &mut Vec<u8>,
+    file: File,
+    line: &FaultyLine,
+    k: usize,
+    spot: Spot,
+) -> Result<(), NoMemory> {
+    let mut said = Vec::new(alloc);
+    push_breach(&mut said, line, k, file.text)?;
+    push_fault(note, file, spot, line.rule, &said)
 }
 
 // Appends a note on a line that doesn't have its form.
@@ -69,23 +103,29 @@ fn push_form_fault(
     note: &mut Vec<u8>,
     file: File,
     fault: Fault,
-    line: Line,
+    line: &Line,
 ) -> Result<(), NoMemory> {
     let next = line.above.effects.saturating_add(1);
     let found = find_misfit(forms(fault.part, line.above), line.fields, next);
-    let is_end = line.start == file.text.len();
-    let said = if !is_end {
-        sentence(fault.part, fault.rule)
-    } else if is(last_form(found.form), b"end") {
-        b"the file ends here, but the line `end` is missing".as_slice()
-    } else if is(found.form, b"execution") {
-        b"the file ends here, but the line `execution` is missing before the first effect".as_slice()
+    let said = if line.start == file.text.len() {
+        end_sentence(found.form)
     } else {
-        b"the file ends here".as_slice()
+        sentence(fault.part, fault.rule)
     };
     let spot = spot(line.fields, found.field, line.start);
     push_fault(note, file, spot, fault.rule, said)?;
     push_wanted(alloc, note, line.fields, found, next)
+}
+
+// That a file ends where a line should have one of some forms.
+fn end_sentence(forms: &[u8]) -> &'static [u8] {
+    if is(last_form(forms), b"end") {
+        b"the file ends here, but the line `end` is missing"
+    } else if is(forms, b"execution") {
+        b"the file ends here, but the line `execution` is missing before the first effect"
+    } else {
+        b"the file ends here"
+    }
 }
 
 // The last of the forms that a line may have.

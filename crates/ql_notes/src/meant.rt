@@ -2,7 +2,7 @@
 
 use crate::declared::{declared, place_in};
 use crate::filled::push_filled;
-use crate::likeness::{likest, push_meant};
+use crate::likeness::{likest_in, push_meant};
 use crate::names::{push_known, push_listed};
 use crate::pieces::{
     last_of, next_of, piece, piece_after, piece_before, pieces_after, place_between,
@@ -88,10 +88,24 @@ pub(crate) fn push_instead(
     let word = piece(tokens, k);
     match meant_at(tokens, k) {
         Meant::Variable if place_in(tokens, b"op", word).is_some() => push_effects_of(note, word),
-        Meant::Current => push_listed(note, &variables(alloc, tokens, k)?),
-        Meant::Parameter => push_listed(note, &values(alloc, tokens, k)?),
         Meant::Value => push_value(alloc, note, tokens, k),
-        meant => push_known(note, word, &known_names(alloc, tokens, k, meant)?),
+        meant => push_names(alloc, note, tokens, k, meant),
+    }
+}
+
+// Appends the name that was perhaps meant by an unknown one, or else the names that are known. Instead of `cur` and of a
+// parameter no name is likelier than another.
+fn push_names(
+    alloc: Global,
+    note: &mut Vec<u8>,
+    tokens: &[&[u8]],
+    k: usize,
+    meant: Meant,
+) -> Result<(), NoMemory> {
+    let names = known_names(alloc, tokens, k, meant)?;
+    match meant {
+        Meant::Current | Meant::Parameter => push_listed(note, &names),
+        _ => push_known(note, piece(tokens, k), &names),
     }
 }
 
@@ -106,7 +120,8 @@ fn known_names<'a>(
         Meant::Operation => declared(alloc, tokens, b"op"),
         Meant::Function => words_of(alloc, FUNCTIONS),
         Meant::Target => fields(alloc, tokens, k),
-        _ => variables(alloc, tokens, k),
+        Meant::Parameter | Meant::Value => values(alloc, tokens, k),
+        Meant::Current | Meant::Variable => variables(alloc, tokens, k),
     }
 }
 
@@ -117,12 +132,11 @@ fn push_value(
     tokens: &[&[u8]],
     k: usize,
 ) -> Result<(), NoMemory> {
-    let word = piece(tokens, k);
-    let literal = likest(word, &words_of(alloc, LITERALS)?);
+    let literal = likest_in(alloc, piece(tokens, k), LITERALS)?;
     if literal.is_some() {
         return push_meant(note, literal);
     }
-    push_known(note, word, &values(alloc, tokens, k)?)?;
+    push_names(alloc, note, tokens, k, Meant::Value)?;
     push_unused(note, tokens, k)
 }
 

@@ -5,12 +5,12 @@ use crate::absent_operations::push_absent_operations;
 use crate::answer::{Fault, fault_of};
 use crate::help::{HELP, push_command};
 use crate::lines::push_line_fault;
-use crate::pieces::{pieces, tokens_of};
+use crate::pieces::pieces_of;
 use crate::refusals::{Refusal, Source, push_refusal, refusal_in};
 use crate::sources::push_source_fault;
 use crate::verdicts::push_verdict;
 use crate::words::{has_word, is};
-use ql_base::{MAX_EXECUTION_BYTES, MAX_SOURCE_BYTES, NoMemory};
+use ql_base::{MAX_EXECUTION_BYTES, MAX_SOURCE_BYTES, NoMemory, push_bytes};
 use ql_excerpt::File;
 use ql_ports::{ReadError, Shelf, read_whole};
 use ql_reply::Status;
@@ -39,20 +39,37 @@ pub fn note<S: Shelf>(
     shelf: &mut S,
 ) -> Result<Vec<u8>, NoMemory> {
     let mut note = Vec::new(alloc);
-    if status == Status::Usage {
-        push_command(alloc, &mut note, words)?;
-        note.extend_from_slice(HELP.as_bytes())?;
-    } else if let Some(fault) = fault_of(printed.first) {
-        push_bad_file(alloc, &mut note, words, fault, shelf)?;
-    } else if let Some(refusal) = refusal_of(words, status, printed) {
-        push_refused(alloc, &mut note, words, refusal, shelf)?;
-    } else if status != Status::No || !is(command(words), b"explain") {
-        push_verdict(&mut note, status, printed)?;
-        if status == Status::Done && is(printed.first, b"holds\n") {
-            push_holding(alloc, &mut note, words, shelf)?;
-        }
-    }
+    push_note(alloc, &mut note, words, status, printed, shelf)?;
     Ok(note)
+}
+
+fn push_note<S: Shelf>(
+    alloc: Global,
+    note: &mut Vec<u8>,
+    words: &Vec<String>,
+    status: Status,
+    printed: Printed,
+    shelf: &mut S,
+) -> Result<(), NoMemory> {
+    if status == Status::Usage {
+        push_usage(alloc, note, command(words))
+    } else if let Some(fault) = fault_of(printed.first) {
+        push_bad_file(alloc, note, words, fault, shelf)
+    } else if let Some(refusal) = refusal_of(words, status, printed) {
+        push_refused(alloc, note, words, refusal, shelf)
+    } else if status == Status::Done && is(printed.first, b"holds\n") {
+        push_holding(alloc, note, words, shelf)
+    } else if status != Status::No || !is(command(words), b"explain") {
+        push_verdict(note, status, printed)
+    } else {
+        Ok(())
+    }
+}
+
+// Appends the help text, and before it the command that was perhaps meant.
+fn push_usage(alloc: Global, note: &mut Vec<u8>, command: &[u8]) -> Result<(), NoMemory> {
+    push_command(alloc, note, command)?;
+    push_bytes(note, HELP.as_bytes())
 }
 
 // The command's name.
@@ -110,20 +127,31 @@ fn push_finding<S: Shelf>(
     finding: Finding,
     shelf: &mut S,
 ) -> Result<(), NoMemory> {
-    let text = text_of(alloc, shelf, source, SOURCE_BYTES)?;
-    let found = tokens_of(alloc, &text)?;
-    let tokens = pieces(alloc, &text, &found)?;
-    let other = text_of(alloc, shelf, name, FILE_BYTES)?;
-    let file = file(name, &other);
+    let source_text = text_of(alloc, shelf, source, SOURCE_BYTES)?;
+    let text = text_of(alloc, shelf, name, FILE_BYTES)?;
+    let file = file(name, &text);
+    push_found(alloc, note, source, &source_text, file, finding)
+}
+
+// Appends a note on a file that goes with the source that has a name and a text.
+fn push_found(
+    alloc: Global,
+    note: &mut Vec<u8>,
+    name: &str,
+    text: &[u8],
+    file: File,
+    finding: Finding,
+) -> Result<(), NoMemory>
+    requires { length text.now ≤ 1048576 }
+{
+    let tokens = pieces_of(alloc, text)?;
+    let source = Source {
+        name: name.as_bytes(),
+        tokens: &tokens,
+    };
     match finding {
         Finding::Fault(fault) => push_line_fault(alloc, note, file, fault, &tokens),
-        Finding::Refusal(refusal) => {
-            let source = Source {
-                name: source.as_bytes(),
-                tokens: &tokens,
-            };
-            push_refusal(alloc, note, file, source, refusal)
-        }
+        Finding::Refusal(refusal) => push_refusal(alloc, note, file, source, refusal),
     }
 }
 

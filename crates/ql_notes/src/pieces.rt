@@ -30,6 +30,14 @@ pub(crate) fn pieces<'a>(
     Ok(pieces)
 }
 
+/// The bytes of the tokens of a text, in order.
+pub(crate) fn pieces_of<'a>(alloc: Global, text: &'a [u8]) -> Result<Vec<&'a [u8]>, NoMemory>
+    requires { length text.now ≤ 1048576 }
+{
+    let found = tokens_of(alloc, text)?;
+    pieces(alloc, text, &found)
+}
+
 /// The bytes of a token.
 pub(crate) fn part(text: &[u8], token: Token) -> &[u8] {
     let (from, to) = (token.from as usize, token.to as usize);
@@ -64,6 +72,31 @@ pub(crate) fn piece_after_last<'a>(pieces: &[&'a [u8]], k: usize, words: &[u8]) 
         Some(j) => piece_after(pieces, j),
         None => b"",
     }
+}
+
+/// How often a word occurs.
+pub(crate) fn count_of(pieces: &[&[u8]], word: &[u8]) -> usize {
+    let mut count = 0usize;
+    for piece in pieces {
+        if *piece == word {
+            count = count.saturating_add(1);
+        }
+    }
+    count
+}
+
+/// The piece after the occurrence of a word at an index, empty where there is none.
+pub(crate) fn piece_after_nth<'a>(pieces: &[&'a [u8]], word: &[u8], number: usize) -> &'a [u8] {
+    let mut count = 0usize;
+    for (j, piece) in pieces.iter().enumerate() {
+        if *piece == word {
+            if count == number {
+                return piece_after(pieces, j);
+            }
+            count = count.saturating_add(1);
+        }
+    }
+    b""
 }
 
 /// The pieces that follow some words, which are from an index on and before another one.

@@ -10,7 +10,7 @@ use ql_base::{NoMemory, number_of, push_bytes};
 /// Appends the range of the number in a field, in a file with this text.
 pub(crate) fn push_range(
     said: &mut Vec<u8>,
-    line: FaultyLine,
+    line: &FaultyLine,
     k: usize,
     text: &[u8],
 ) -> Result<(), NoMemory> {
@@ -55,7 +55,7 @@ fn push_replicas(said: &mut Vec<u8>, count: u64) -> Result<(), NoMemory> {
     push_counted(said, b"the replicas here are 0 to #", &[], &[count - 1])
 }
 
-fn push_groups(said: &mut Vec<u8>, line: FaultyLine) -> Result<(), NoMemory> {
+fn push_groups(said: &mut Vec<u8>, line: &FaultyLine) -> Result<(), NoMemory> {
     let count = line.fields.len().saturating_sub(1) as u64;
     if count == line.replicas {
         return push_bytes(said, b"a group is a number from 0 to 15");

@@ -2,9 +2,9 @@
 ghost use Rattle.std.specs.Prelude.{◌≤◌, length};
 
 use crate::above::{first_word, is_line_start, without_return};
-use crate::declared::{declared, word_of};
+use crate::declared::word_of;
 use crate::filled::{push_counted, push_filled};
-use crate::pieces::piece;
+use crate::pieces::{count_of, piece_after_nth};
 use crate::words::{has_word, is, sentence_of, word};
 use ql_base::{NoMemory, number_of, push_bytes};
 use ql_excerpt::{File, Spot, line_of, push_fault};
@@ -81,16 +81,26 @@ pub(crate) fn push_refusal(
     refusal: Refusal,
 ) -> Result<(), NoMemory> {
     let mut said = Vec::new(alloc);
-    let spot = if is(refusal.rule, b"order") {
-        let number = number_of(refusal.line, u32::MAX as u64).unwrap_or(1);
-        push_order(alloc, &mut said, source, number)?;
-        section_spot(file.text, number)
-    } else {
-        push_cause(&mut said, refusal)?;
-        spot_of(file.text, refusal)
-    };
+    let spot = push_reason(&mut said, file.text, source, refusal)?;
     push_fault(note, file, spot, refusal.rule, &said)?;
     push_remedies(note, source, refusal)
+}
+
+// Appends why a certificate or a proof is refused, and returns the bytes to mark.
+fn push_reason(
+    said: &mut Vec<u8>,
+    text: &[u8],
+    source: Source,
+    refusal: Refusal,
+) -> Result<Spot, NoMemory> {
+    if is(refusal.rule, b"order") {
+        let number = number_of(refusal.line, u32::MAX as u64).unwrap_or(1);
+        push_order(said, source.tokens, number)?;
+        Ok(section_spot(text, number))
+    } else {
+        push_cause(said, refusal)?;
+        Ok(spot_of(text, refusal))
+    }
 }
 
 // What can be done about a refused certificate; a proof has neither sections nor an order.
@@ -106,36 +116,33 @@ fn push_remedies(note: &mut Vec<u8>, source: Source, refusal: Refusal) -> Result
 
 // The refused line, and why it is refused.
 fn push_cause(said: &mut Vec<u8>, refusal: Refusal) -> Result<(), NoMemory> {
-    let Refusal {
-        rule,
-        section,
-        line,
-    } = refusal;
-    match (section.is_empty(), line.is_empty()) {
-        (false, false) => push_filled(said, b"section `%`, line %: ", &[section, line])?,
-        (false, true) => push_filled(said, b"section `%`: ", &[section])?,
-        (true, false) => push_filled(said, b"line %: ", &[line])?,
-        (true, true) => {}
-    }
-    push_bytes(said, sentence_of(REFUSALS, rule))
+    push_refused_place(said, refusal)?;
+    push_bytes(said, sentence_of(REFUSALS, refusal.rule))
 }
 
-// Appends what the source has as the section with a number, from 1.
-fn push_order(
-    alloc: Global,
-    said: &mut Vec<u8>,
-    source: Source,
-    number: u64,
-) -> Result<(), NoMemory> {
-    let ops = declared(alloc, source.tokens, b"op")?;
+fn push_refused_place(said: &mut Vec<u8>, refusal: Refusal) -> Result<(), NoMemory> {
+    let (section, line) = (refusal.section, refusal.line);
+    match (section.is_empty(), line.is_empty()) {
+        (false, false) => push_filled(said, b"section `%`, line %: ", &[section, line]),
+        (false, true) => push_filled(said, b"section `%`: ", &[section]),
+        (true, false) => push_filled(said, b"line %: ", &[line]),
+        (true, true) => Ok(()),
+    }
+}
+
+// Appends what a source has as the section with a number, from 1: its operations, and then its transactions.
+fn push_order(said: &mut Vec<u8>, source: &[&[u8]], number: u64) -> Result<(), NoMemory> {
     let k = number.saturating_sub(1) as usize;
-    let (sort, name) = match ops.get(k) {
-        Some(name) => (b"op".as_slice(), *name),
-        None => {
-            let txns = declared(alloc, source.tokens, b"transaction")?;
-            (b"txn".as_slice(), piece(&txns, k.saturating_sub(ops.len())))
-        }
-    };
+    let ops = count_of(source, b"op");
+    if k < ops {
+        push_section(said, number, b"op", piece_after_nth(source, b"op", k))
+    } else {
+        let name = piece_after_nth(source, b"transaction", k.saturating_sub(ops));
+        push_section(said, number, b"txn", name)
+    }
+}
+
+fn push_section(said: &mut Vec<u8>, number: u64, sort: &[u8], name: &[u8]) -> Result<(), NoMemory> {
     let sentence: &[u8] = if name.is_empty() {
         b"sections follow the order of the source, and section # is one too many"
     } else {

@@ -5,7 +5,7 @@ use crate::answer::Fault;
 use crate::clash_words::{push_clash, push_redeclared};
 use crate::filled::push_filled;
 use crate::first::{push_declaration, push_first};
-use crate::lexical::{is_lexical, push_lexical};
+use crate::lexical::{is_lexical, push_lexical_fault};
 use crate::meant::{push_instead, push_unknown};
 use crate::pieces::{part, piece, pieces, tokens_of, word_at};
 use crate::rules::sentence;
@@ -30,20 +30,37 @@ pub(crate) fn push_source_fault(
 {
     let at = place_of(file.text, fault.at as usize).at;
     if is_lexical(fault.rule) {
-        let mut said = Vec::new(alloc);
-        let spot = push_lexical(&mut said, file.text, fault.rule, at)?;
-        return push_fault(note, file, spot, fault.rule, &said);
+        return push_lexical_fault(alloc, note, file, at, fault.rule, fault.rule);
     }
     let tokens = tokens_of(alloc, file.text)?;
-    let found = pieces(alloc, file.text, &tokens)?;
-    let misuses = misuses(alloc, &found)?;
-    if misuses.is_empty() {
-        return push_parse_fault(alloc, note, file, fault.rule, at, &tokens);
+    let pieces = pieces(alloc, file.text, &tokens)?;
+    let parsed = Tokens {
+        file,
+        tokens: &tokens,
+        pieces: &pieces,
+    };
+    if push_misuses(alloc, note, &parsed)? {
+        Ok(())
+    } else {
+        push_parse_fault(alloc, note, file, fault.rule, at, &tokens)
     }
+}
+
+// A source, its tokens, and their bytes.
+#[derive(Clone, Copy)]
+struct Tokens<'a> {
+    file: File<'a>,
+    tokens: &'a [Token],
+    pieces: &'a [&'a [u8]],
+}
+
+// Appends the faults of typing, and returns whether there are any.
+fn push_misuses(alloc: Global, note: &mut Vec<u8>, source: &Tokens) -> Result<bool, NoMemory> {
+    let misuses = misuses(alloc, source.pieces)?;
     for misuse in misuses.iter() {
-        push_misuse(alloc, note, file, &tokens, &found, *misuse)?;
+        push_misuse(alloc, note, source, misuse)?;
     }
-    Ok(())
+    Ok(!misuses.is_empty())
 }
 
 // Appends a note where a source doesn't follow the grammar.
@@ -93,31 +110,55 @@ pub(crate) fn after_word<'a>(text: &'a [u8], word: &[u8]) -> &'a [u8] {
 fn push_misuse(
     alloc: Global,
     note: &mut Vec<u8>,
-    file: File,
-    tokens: &[Token],
-    found: &[&[u8]],
-    misuse: Misuse,
+    source: &Tokens,
+    misuse: &Misuse,
 ) -> Result<(), NoMemory> {
-    let k = misuse.token;
-    let Some(token) = tokens.get(k) else {
+    let Some(token) = source.tokens.get(misuse.token) else {
         return Ok(());
     };
     let spot = Spot {
         from: token.from as usize,
-        bytes: part(file.text, *token).len(),
+        bytes: part(source.file.text, *token).len(),
     };
+    push_misuse_line(alloc, note, source, misuse, spot)?;
+    push_remedy(alloc, note, source, misuse)
+}
+
+// Appends what is wrong, and where.
+fn push_misuse_line(
+    alloc: Global,
+    note: &mut Vec<u8>,
+    source: &Tokens,
+    misuse: &Misuse,
+    spot: Spot,
+) -> Result<(), NoMemory> {
     let mut said = Vec::new(alloc);
-    push_sentence(&mut said, found, misuse)?;
-    push_fault(note, file, spot, rule_of(misuse.fault), &said)?;
+    push_sentence(&mut said, source.pieces, misuse)?;
+    push_fault(note, source.file, spot, rule_of(misuse.fault), &said)
+}
+
+// Appends what was perhaps meant at a token, or what it contradicts.
+fn push_remedy(
+    alloc: Global,
+    note: &mut Vec<u8>,
+    source: &Tokens,
+    misuse: &Misuse,
+) -> Result<(), NoMemory> {
+    let Tokens {
+        file,
+        tokens,
+        pieces,
+    } = *source;
+    let k = misuse.token;
     match (misuse.fault, misuse.clash) {
-        (TypeFault::Unknown(_), _) => push_instead(alloc, note, found, k),
-        (TypeFault::Twice(_), _) => push_first(note, file, tokens, found, k),
+        (TypeFault::Unknown(_), _) => push_instead(alloc, note, pieces, k),
+        (TypeFault::Twice(_), _) => push_first(note, file, tokens, pieces, k),
         (TypeFault::Kind(_), Some(clash)) => {
             if clash.is_name {
-                push_declaration(note, file, tokens, found, k)?;
+                push_declaration(note, file, tokens, pieces, k)?;
             }
             if misuse.is_declared_wrong {
-                push_redeclared(note, found, k, clash)?;
+                push_redeclared(note, pieces, k, clash)?;
             }
             Ok(())
         }
@@ -126,7 +167,7 @@ fn push_misuse(
 }
 
 // Appends what is wrong at a token.
-fn push_sentence(said: &mut Vec<u8>, found: &[&[u8]], misuse: Misuse) -> Result<(), NoMemory> {
+fn push_sentence(said: &mut Vec<u8>, found: &[&[u8]], misuse: &Misuse) -> Result<(), NoMemory> {
     let k = misuse.token;
     match (misuse.fault, misuse.clash) {
         (TypeFault::Unknown(_), _) => push_unknown(said, found, k),

@@ -22,15 +22,25 @@ pub(crate) fn push_wanted(
     if found.is_empty() && word(misfit.form).0.ends_with(b"..") {
         return push_descent(note, fields);
     }
-    let firsts = first_words(alloc, misfit.form)?;
     push_found(note, fields, found)?;
+    push_alternatives(alloc, note, misfit, next)?;
+    let words = own_words(alloc, misfit.form)?;
+    push_meant(note, likest(found, &words))
+}
+
+// Appends what may come where a line deviates from its form.
+fn push_alternatives(
+    alloc: Global,
+    note: &mut Vec<u8>,
+    misfit: Misfit,
+    next: u64,
+) -> Result<(), NoMemory> {
     if misfit.is_choice {
-        push_first_words(note, &firsts, next)?;
+        push_first_words(alloc, note, misfit.form, next)?;
     } else {
         push_next_words(note, misfit.form, next)?;
     }
-    push_bytes(note, b"\n")?;
-    push_meant(note, likest(found, &own_words(alloc, &firsts)?))
+    push_bytes(note, b"\n")
 }
 
 // The first word of each line of a form.
@@ -81,7 +91,13 @@ pub(crate) fn push_quoted(note: &mut Vec<u8>, word: &[u8]) -> Result<(), NoMemor
 }
 
 // Appends the first words of the forms that a line may have.
-fn push_first_words(note: &mut Vec<u8>, firsts: &[&[u8]], next: u64) -> Result<(), NoMemory> {
+fn push_first_words(
+    alloc: Global,
+    note: &mut Vec<u8>,
+    forms: &'static [u8],
+    next: u64,
+) -> Result<(), NoMemory> {
+    let firsts = first_words(alloc, forms)?;
     for (k, first) in firsts.iter().enumerate() {
         push_separator(note, k, firsts.len())?;
         push_word(note, first, next)?;
@@ -103,17 +119,21 @@ pub(crate) fn push_separator(note: &mut Vec<u8>, k: usize, count: usize) -> Resu
 // Appends what comes next in a form: its next word, and the one after it if the first stands for itself.
 fn push_next_words(note: &mut Vec<u8>, form: &[u8], next: u64) -> Result<(), NoMemory> {
     let (first, rest) = word(form);
-    push_word(note, first, next)?;
     let second = word(rest).0;
+    push_word(note, first, next)?;
     if first.ends_with(b"..") && !second.is_empty() {
-        push_bytes(note, b" or ")?;
-        return push_word(note, second, next);
+        push_also(note, b" or ", second, next)
+    } else if stands_for_itself(first) && !stands_for_itself(second) {
+        push_also(note, b" and ", second, next)
+    } else {
+        Ok(())
     }
-    if stands_for_itself(first) && !stands_for_itself(second) {
-        push_bytes(note, b" and ")?;
-        return push_word(note, second, next);
-    }
-    Ok(())
+}
+
+// Appends a conjunction and a word of a form.
+fn push_also(note: &mut Vec<u8>, and: &[u8], wanted: &[u8], next: u64) -> Result<(), NoMemory> {
+    push_bytes(note, and)?;
+    push_word(note, wanted, next)
 }
 
 fn push_word(note: &mut Vec<u8>, wanted: &[u8], next: u64) -> Result<(), NoMemory> {
@@ -129,15 +149,21 @@ fn push_word(note: &mut Vec<u8>, wanted: &[u8], next: u64) -> Result<(), NoMemor
 }
 
 // The words that may come next in a form: those that stand for themselves, and those that are listed.
-fn own_words(alloc: Global, firsts: &[&'static [u8]]) -> Result<Vec<&'static [u8]>, NoMemory> {
+fn own_words(alloc: Global, form: &'static [u8]) -> Result<Vec<&'static [u8]>, NoMemory> {
     let mut words = Vec::new(alloc);
-    for first in firsts {
-        let own = if stands_for_itself(first) {
-            *first
-        } else {
-            listed_words(first)
-        };
-        push_words(&mut words, own)?;
+    for k in 0..form.len() {
+        if is_line_start(form, k) {
+            push_words(&mut words, own_words_of(word(&form[k..]).0))?;
+        }
     }
     Ok(words)
+}
+
+// A word of a form that stands for itself, or those that it lists.
+fn own_words_of(wanted: &'static [u8]) -> &'static [u8] {
+    if stands_for_itself(wanted) {
+        wanted
+    } else {
+        listed_words(wanted)
+    }
 }

@@ -15,6 +15,15 @@ pub(crate) fn word(text: &[u8]) -> (&[u8], &[u8]) {
     (text, &text[text.len()..])
 }
 
+/// The word at an index; empty where there are fewer.
+pub(crate) fn nth_word(text: &[u8], number: usize) -> &[u8] {
+    let mut rest = text;
+    for _ in 0..number {
+        rest = word(rest).1;
+    }
+    word(rest).0
+}
+
 /// Whether a word is another one.
 pub(crate) fn is(word: &[u8], other: &[u8]) -> bool {
     word == other
