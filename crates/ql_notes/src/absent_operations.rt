@@ -5,6 +5,7 @@ use crate::contracts::contract_at;
 use crate::declared::named;
 use crate::likeness::{likest, push_meant};
 use crate::pieces::{next_of, piece, piece_before, pieces, place_between, tokens_of};
+use crate::text::Text;
 use crate::words::has_word;
 use ql_base::NoMemory;
 use ql_excerpt::{File, Spot, push_fault};
@@ -13,7 +14,7 @@ use std::alloc::Global;
 /// Appends a note for each operation that the contract names though no effect has it.
 pub(crate) fn push_absent_operations(
     alloc: Global,
-    note: &mut Vec<u8>,
+    note: &mut Text,
     file: File,
 ) -> Result<(), NoMemory> {
     let Some(from) = contract_start(file.text) else {
@@ -32,14 +33,13 @@ pub(crate) fn push_absent_operations(
                 from: from.saturating_add(token.from as usize),
                 bytes: name.len(),
             };
-            push_fault(
-                note,
+            note.push_fault(
                 file,
                 spot,
                 b"note",
                 b"there is no effect of this operation, so the contract says nothing about it",
-            )?;
-            push_meant(note, likest(name, &ops))?;
+            );
+            push_meant(note, likest(name, &ops));
         }
     }
     Ok(())

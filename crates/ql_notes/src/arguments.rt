@@ -3,10 +3,9 @@
 use crate::columns::FaultyLine;
 use crate::declared::{parameters, place_in, type_at, word_after};
 use crate::fields::{CALL_ARGUMENT, CALL_OBJECT, CALL_OPERATION, field_text};
-use crate::filled::{push_counted, push_filled};
 use crate::pieces::{piece, piece_before};
+use crate::text::Text;
 use crate::words::{has_word, is, sentence_of};
-use ql_base::{NoMemory, push_bytes};
 
 /// The index of the field where a call's operation or its arguments don't fit.
 pub(crate) fn misfit(line: &FaultyLine) -> usize {
@@ -75,7 +74,7 @@ fn kind_of(argument: &[u8]) -> &'static [u8] {
 }
 
 /// Appends why a call doesn't fit at a field.
-pub(crate) fn push_misfit(said: &mut Vec<u8>, line: &FaultyLine, k: usize) -> Result<(), NoMemory> {
+pub(crate) fn push_misfit(said: &mut Text, line: &FaultyLine, k: usize) {
     let Some(op) = own_operation(line) else {
         return push_other_type(said, line);
     };
@@ -88,22 +87,16 @@ pub(crate) fn push_misfit(said: &mut Vec<u8>, line: &FaultyLine, k: usize) -> Re
 }
 
 // Appends which kind an argument of a call has, and which one its operation takes.
-fn push_other_kind(
-    said: &mut Vec<u8>,
-    line: &FaultyLine,
-    k: usize,
-    op: usize,
-) -> Result<(), NoMemory> {
+fn push_other_kind(said: &mut Text, line: &FaultyLine, k: usize, op: usize) {
     let number = k.saturating_sub(CALL_ARGUMENT);
     let found = with_article(kind_of(field_text(line.fields, k)));
     let expected = with_article(base(line.source, op, number));
-    push_filled(said, b"found %, expected %: ", &[found, expected])?;
-    push_counted(
-        said,
+    said.push_filled(b"found %, expected %: ", &[found, expected]);
+    said.push_counted(
         b"this is argument # of `%`",
         &[field_text(line.fields, CALL_OPERATION)],
         &[number.saturating_add(1) as u64],
-    )
+    );
 }
 
 const ARTICLES: &str = "int an int
@@ -115,12 +108,7 @@ fn with_article(kind: &[u8]) -> &'static [u8] {
 }
 
 /// Appends how many arguments an operation or a function takes, and how many there are.
-pub(crate) fn push_counts(
-    said: &mut Vec<u8>,
-    operation: &[u8],
-    taken: usize,
-    given: usize,
-) -> Result<(), NoMemory> {
+pub(crate) fn push_counts(said: &mut Text, operation: &[u8], taken: usize, given: usize) {
     let sentence: &[u8] = if taken == 1 {
         b"`%` takes # argument, but # were given"
     } else if given == 1 {
@@ -128,21 +116,19 @@ pub(crate) fn push_counts(
     } else {
         b"`%` takes # arguments, but # were given"
     };
-    push_counted(said, sentence, &[operation], &[taken as u64, given as u64])
+    said.push_counted(sentence, &[operation], &[taken as u64, given as u64]);
 }
 
-fn push_other_type(said: &mut Vec<u8>, line: &FaultyLine) -> Result<(), NoMemory> {
+fn push_other_type(said: &mut Text, line: &FaultyLine) {
     let object = field_text(line.fields, CALL_OBJECT);
     let operation = field_text(line.fields, CALL_OPERATION);
     let own = type_of_object(line);
     match place_in(line.source, b"op", operation) {
-        Some(op) => push_filled(
-            said,
+        Some(op) => said.push_filled(
             b"`%` has type `%`, but `%` is an operation of `%`",
             &[object, own, operation, type_at(line.source, op)],
         ),
-        None => push_filled(
-            said,
+        None => said.push_filled(
             b"`%` has type `%`, but no type has an operation `%`",
             &[object, own, operation],
         ),
@@ -150,28 +136,26 @@ fn push_other_type(said: &mut Vec<u8>, line: &FaultyLine) -> Result<(), NoMemory
 }
 
 /// Appends what the operation of a call takes.
-pub(crate) fn push_operation(note: &mut Vec<u8>, line: &FaultyLine) -> Result<(), NoMemory> {
+pub(crate) fn push_operation(note: &mut Text, line: &FaultyLine) {
     let name = field_text(line.fields, CALL_OPERATION);
     let Some(op) = place_in(line.source, b"op", name) else {
-        return Ok(());
+        return;
     };
-    push_filled(
-        note,
+    note.push_filled(
         b"  `%` is an operation of `%` and takes `",
         &[name, type_at(line.source, op)],
-    )?;
-    push_parameters(note, line.source, op)?;
-    push_bytes(note, b")`\n")
+    );
+    push_parameters(note, line.source, op);
+    note.push(b")`\n");
 }
 
 // Appends the parameters of an operation after their bracket, laid out as in a source.
-fn push_parameters(note: &mut Vec<u8>, source: &[&[u8]], op: usize) -> Result<(), NoMemory> {
+fn push_parameters(note: &mut Text, source: &[&[u8]], op: usize) {
     let (from, to) = parameters(source, op);
     for k in from..to {
         let token = piece(source, k);
         let is_close = k == from || has_word(b", :", token) || is(piece_before(source, k), b"(");
         let space: &[u8] = if is_close { b"" } else { b" " };
-        push_filled(note, b"%%", &[space, token])?;
+        note.push_filled(b"%%", &[space, token]);
     }
-    Ok(())
 }

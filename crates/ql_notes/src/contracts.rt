@@ -10,6 +10,7 @@ use crate::pieces::{pieces_of, tokens_of, word_at};
 use crate::rules::sentence;
 use crate::sources::{after_word, form_sentence};
 use crate::syntax::{Break, push_syntax};
+use crate::text::Text;
 use crate::typing::{offset_of, rule_of};
 use crate::words::is;
 use ql_base::{Names, NoMemory};
@@ -54,6 +55,14 @@ impl Placed<'_> {
     fn word_at(&self, at: usize) -> &[u8] {
         word_at(self.text, self.tokens, at)
     }
+
+    // The bytes of the file with the token at an offset.
+    fn spot(&self, at: usize) -> Spot {
+        Spot {
+            from: self.from.saturating_add(at),
+            bytes: self.word_at(at).len(),
+        }
+    }
 }
 
 // The first fault of a contract: its offset in the contract, and the rule that it breaks in a source.
@@ -66,7 +75,7 @@ struct ContractFault {
 /// Appends a note on a fault in the contract at an offset.
 pub(crate) fn push_contract_fault(
     alloc: Global,
-    note: &mut Vec<u8>,
+    note: &mut Text,
     file: File,
     fault: Fault,
     from: usize,
@@ -75,7 +84,8 @@ pub(crate) fn push_contract_fault(
     let found = fault_in(alloc, text)?;
     if is_lexical(found.rule) {
         let at = from.saturating_add(found.at);
-        return push_lexical_fault(alloc, note, file, at, found.rule, fault.rule);
+        push_lexical_fault(note, file, at, found.rule, fault.rule);
+        return Ok(());
     }
     let tokens = tokens_of(alloc, text)?;
     let contract = Placed {
@@ -94,13 +104,18 @@ pub(crate) fn push_contract_fault(
 // What was expected in a contract, whose grammar is a part of that of sources.
 fn push_contract_syntax(
     alloc: Global,
-    note: &mut Vec<u8>,
+    note: &mut Text,
     contract: &Placed,
     at: usize,
 ) -> Result<(), NoMemory> {
     let word = contract.word_at(at);
     let rule = b"Unexpected".as_slice();
-    push_contract_place(note, contract, at, rule, form_sentence(rule, word))?;
+    note.push_fault(
+        contract.file,
+        contract.spot(at),
+        rule,
+        form_sentence(rule, word),
+    );
     if at > contract.text.len() {
         return Ok(());
     }
@@ -115,24 +130,10 @@ fn push_contract_syntax(
     push_syntax(alloc, note, found)
 }
 
-fn push_contract_place(
-    note: &mut Vec<u8>,
-    contract: &Placed,
-    at: usize,
-    rule: &[u8],
-    said: &[u8],
-) -> Result<(), NoMemory> {
-    let spot = Spot {
-        from: contract.from.saturating_add(at),
-        bytes: contract.word_at(at).len(),
-    };
-    push_fault(note, contract.file, spot, rule, said)
-}
-
 // A fault of the names in a contract, by the contract's tokens inside a source.
 fn push_contract_misuse(
     alloc: Global,
-    note: &mut Vec<u8>,
+    note: &mut Text,
     contract: &Placed,
     fault: ContractFault,
 ) -> Result<(), NoMemory> {
@@ -148,57 +149,51 @@ fn push_contract_misuse(
 // The same by the pieces of the source, and the index of the faulty one.
 fn push_misuse_at(
     alloc: Global,
-    note: &mut Vec<u8>,
+    note: &mut Text,
     contract: &Placed,
     fault: ContractFault,
     pieces: &[&[u8]],
     k: usize,
 ) -> Result<(), NoMemory> {
     if is(fault.rule, b"Unknown") {
-        push_unknown_in_contract(alloc, note, contract, fault, pieces, k)?;
+        push_unknown_in_contract(note, contract, fault, pieces, k);
         return push_instead(alloc, note, pieces, k);
     }
-    push_contract_place(
-        note,
-        contract,
-        fault.at,
+    note.push_fault(
+        contract.file,
+        contract.spot(fault.at),
         shown_rule(fault.rule),
         sentence(b"source", fault.rule),
-    )?;
+    );
     if is(fault.rule, b"Twice") {
-        push_first_in_contract(note, contract, first_of(pieces, k))
-    } else {
-        Ok(())
+        push_first_in_contract(note, contract, first_of(pieces, k));
     }
+    Ok(())
 }
 
 fn push_unknown_in_contract(
-    alloc: Global,
-    note: &mut Vec<u8>,
+    note: &mut Text,
     contract: &Placed,
     fault: ContractFault,
     pieces: &[&[u8]],
     k: usize,
-) -> Result<(), NoMemory> {
-    let mut said = Vec::new(alloc);
-    push_unknown(&mut said, pieces, k)?;
-    push_contract_place(note, contract, fault.at, fault.rule, &said)
+) {
+    let spot = contract.spot(fault.at);
+    note.begin_fault(contract.file, spot, fault.rule);
+    push_unknown(note, pieces, k);
+    note.end_fault(contract.file, spot);
 }
 
 // Where a name occurs first, by the index of its token inside a source, if it occurs before.
-fn push_first_in_contract(
-    note: &mut Vec<u8>,
-    contract: &Placed,
-    first: Option<usize>,
-) -> Result<(), NoMemory> {
+fn push_first_in_contract(note: &mut Text, contract: &Placed, first: Option<usize>) {
     let Some(k) = first else {
-        return Ok(());
+        return;
     };
     push_first_at(
         note,
         contract.file,
         contract.from.saturating_add(offset_in(contract.tokens, k)),
-    )
+    );
 }
 
 // The rule as the answer reports it: a contract that doesn't have its form is `Unexpected`.

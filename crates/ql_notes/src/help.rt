@@ -1,7 +1,7 @@
 // The help text of the commands.
 
-use crate::filled::push_filled;
 use crate::likeness::likest_in;
+use crate::text::Text;
 use crate::words::has_word;
 use ql_base::NoMemory;
 use std::alloc::Global;
@@ -41,15 +41,13 @@ const COMMANDS: &[u8] =
     b"classify explain prove check verify holds run slim restart gen soak proof draw";
 
 /// Appends the command that was perhaps meant by a word that isn't one.
-pub(crate) fn push_command(alloc: Global, note: &mut Vec<u8>, word: &[u8]) -> Result<(), NoMemory> {
+pub(crate) fn push_command(alloc: Global, note: &mut Text, word: &[u8]) -> Result<(), NoMemory> {
     if has_word(COMMANDS, word) {
         return Ok(());
     }
-    match likest_in(alloc, word, COMMANDS)? {
-        Some(meant) => {
-            push_filled(note, b"`%` isn't a command: did you mean ", &[word])?;
-            push_filled(note, b"`%`?\n\n", &[meant])
-        }
-        None => Ok(()),
+    if let Some(meant) = likest_in(alloc, word, COMMANDS)? {
+        note.push_filled(b"`%` isn't a command: did you mean ", &[word]);
+        note.push_filled(b"`%`?\n\n", &[meant]);
     }
+    Ok(())
 }

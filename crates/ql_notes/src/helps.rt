@@ -5,10 +5,10 @@ use crate::arguments::push_operation;
 use crate::columns::FaultyLine;
 use crate::declared::{declared, named, place_in, word_after};
 use crate::fields::{BEGIN_TRANSACTION, CALL_OBJECT, CALL_OPERATION, EFFECT_OPERATION, field_text};
-use crate::filled::push_counted;
 use crate::names::push_known;
 use crate::pieces::{next_of, pieces_after};
 use crate::stamp::right_stamp;
+use crate::text::Text;
 use crate::words::is;
 use ql_base::NoMemory;
 use ql_excerpt::place_of;
@@ -18,44 +18,34 @@ use std::alloc::Global;
 /// or what the operation takes.
 pub(crate) fn push_help(
     alloc: Global,
-    note: &mut Vec<u8>,
+    note: &mut Text,
     line: &FaultyLine,
     k: usize,
     above: Above,
     text: &[u8],
 ) -> Result<(), NoMemory> {
     if is(line.rule, b"Stamp") {
-        push_stamp(note, text, line.above.len())
+        push_stamp(note, text, line.above.len());
     } else if is(line.rule, b"Number") {
-        push_next_number(note, above)
-    } else if is(line.rule, b"Unknown") && !is(line.part, b"holds") {
-        push_candidates(alloc, note, line, k)
+        push_next_number(note, above);
     } else if is(line.rule, b"Kind") {
-        push_operation(note, line)
-    } else {
-        Ok(())
+        push_operation(note, line);
+    } else if is(line.rule, b"Unknown") && !is(line.part, b"holds") {
+        let names = candidates(alloc, line, k)?;
+        push_known(note, name_in(field_text(line.fields, k)), &names);
     }
+    Ok(())
 }
 
-fn push_next_number(note: &mut Vec<u8>, above: Above) -> Result<(), NoMemory> {
+fn push_next_number(note: &mut Text, above: Above) {
     let next = above.numbered.saturating_add(1);
-    push_counted(note, b"  the next number is #\n", &[], &[next])
+    note.push_counted(b"  the next number is #\n", &[], &[next]);
 }
 
-fn push_candidates(
-    alloc: Global,
-    note: &mut Vec<u8>,
-    line: &FaultyLine,
-    k: usize,
-) -> Result<(), NoMemory> {
-    let names = candidates(alloc, line, k)?;
-    push_known(note, name_in(field_text(line.fields, k)), &names)
-}
-
-fn push_stamp(note: &mut Vec<u8>, text: &[u8], start: usize) -> Result<(), NoMemory> {
+fn push_stamp(note: &mut Text, text: &[u8], start: usize) {
     match right_stamp(text, place_of(text, start)) {
-        Some(stamp) => push_counted(note, b"  the right stamp is #\n", &[], &[stamp]),
-        None => Ok(()),
+        Some(stamp) => note.push_counted(b"  the right stamp is #\n", &[], &[stamp]),
+        None => {}
     }
 }
 

@@ -10,16 +10,17 @@ use crate::fields::{Field, field_text, fields};
 use crate::forms::{find_misfit, forms};
 use crate::helps::push_help;
 use crate::rules::sentence;
+use crate::text::Text;
 use crate::wanted::push_wanted;
 use crate::words::is;
 use ql_base::NoMemory;
-use ql_excerpt::{File, Spot, place_of_line, push_fault};
+use ql_excerpt::{File, Spot, place_of_line};
 use std::alloc::Global;
 
 /// Appends a note on a fault in a line file. `source` has the tokens of the source that the file belongs to.
 pub(crate) fn push_line_fault<'x>(
     alloc: Global,
-    note: &mut Vec<u8>,
+    note: &mut Text,
     file: File<'x>,
     fault: Fault<'x>,
     source: &'x [&'x [u8]],
@@ -28,20 +29,24 @@ pub(crate) fn push_line_fault<'x>(
     let text_above = &file.text[..start];
     let fields = fields(alloc, file.text, start)?;
     let above = lines_above(file.text, start, is(fault.part, b"execution"));
-    if is(field_text(&fields, 0), b"contract") && above.lines == 0 && is(fault.part, b"holds") {
-        return push_contract_fault(alloc, note, file, fault, end_of(&fields, 0, start));
-    }
     let line = Line {
         start,
         fields: &fields,
         text_above,
         above,
     };
-    if is(fault.rule, b"Unexpected") {
+    if is(fault.part, b"holds") && is_contract(&line) {
+        push_contract_fault(alloc, note, file, fault, end_of(&fields, 0, start))
+    } else if is(fault.rule, b"Unexpected") {
         push_form_fault(alloc, note, file, fault, &line)
     } else {
         push_rule_fault(alloc, note, file, fault, &line, source)
     }
+}
+
+// Whether a line is the first one, and begins as a contract does.
+fn is_contract(line: &Line) -> bool {
+    line.above.lines == 0 && is(field_text(line.fields, 0), b"contract")
 }
 
 // The offset of a line, its fields, and the text and the lines above it.
@@ -56,7 +61,7 @@ struct Line<'a> {
 // Appends a note on a line that has its form, but breaks another rule.
 fn push_rule_fault<'x>(
     alloc: Global,
-    note: &mut Vec<u8>,
+    note: &mut Text,
     file: File<'x>,
     fault: Fault<'x>,
     line: &Line<'x>,
@@ -71,36 +76,18 @@ fn push_rule_fault<'x>(
         replicas: replicas(line.text_above).saturating_add(line.above.joins),
     };
     let k = column(&faulty);
-    push_breach_at(
-        alloc,
-        note,
-        file,
-        &faulty,
-        k,
-        spot(line.fields, k, line.start),
-    )?;
-    push_first_line(note, file, &faulty, k)?;
+    let spot = spot(line.fields, k, line.start);
+    note.begin_fault(file, spot, fault.rule);
+    push_breach(note, &faulty, k, file.text);
+    note.end_fault(file, spot);
+    push_first_line(note, file, &faulty, k);
     push_help(alloc, note, &faulty, k, line.above, file.text)
-}
-
-// Appends what is wrong with the field of a line at an index, and where.
-fn push_breach_at(
-    alloc: Global,
-    note: &mut Vec<u8>,
-    file: File,
-    line: &FaultyLine,
-    k: usize,
-    spot: Spot,
-) -> Result<(), NoMemory> {
-    let mut said = Vec::new(alloc);
-    push_breach(&mut said, line, k, file.text)?;
-    push_fault(note, file, spot, line.rule, &said)
 }
 
 // Appends a note on a line that doesn't have its form.
 fn push_form_fault(
     alloc: Global,
-    note: &mut Vec<u8>,
+    note: &mut Text,
     file: File,
     fault: Fault,
     line: &Line,
@@ -113,7 +100,7 @@ fn push_form_fault(
         sentence(fault.part, fault.rule)
     };
     let spot = spot(line.fields, found.field, line.start);
-    push_fault(note, file, spot, fault.rule, said)?;
+    note.push_fault(file, spot, fault.rule, said);
     push_wanted(alloc, note, line.fields, found, next)
 }
 

@@ -8,9 +8,10 @@ use crate::lines::push_line_fault;
 use crate::pieces::pieces_of;
 use crate::refusals::{Refusal, Source, push_refusal, refusal_in};
 use crate::sources::push_source_fault;
+use crate::text::Text;
 use crate::verdicts::push_verdict;
 use crate::words::{has_word, is};
-use ql_base::{MAX_EXECUTION_BYTES, MAX_SOURCE_BYTES, NoMemory, push_bytes};
+use ql_base::{MAX_EXECUTION_BYTES, MAX_SOURCE_BYTES, NoMemory};
 use ql_excerpt::File;
 use ql_ports::{ReadError, Shelf, read_whole};
 use ql_reply::Status;
@@ -38,14 +39,14 @@ pub fn note<S: Shelf>(
     printed: Printed,
     shelf: &mut S,
 ) -> Result<Vec<u8>, NoMemory> {
-    let mut note = Vec::new(alloc);
+    let mut note = Text::new(alloc);
     push_note(alloc, &mut note, words, status, printed, shelf)?;
-    Ok(note)
+    note.whole()
 }
 
 fn push_note<S: Shelf>(
     alloc: Global,
-    note: &mut Vec<u8>,
+    note: &mut Text,
     words: &Vec<String>,
     status: Status,
     printed: Printed,
@@ -60,16 +61,18 @@ fn push_note<S: Shelf>(
     } else if status == Status::Done && is(printed.first, b"holds\n") {
         push_holding(alloc, note, words, shelf)
     } else if status != Status::No || !is(command(words), b"explain") {
-        push_verdict(note, status, printed)
+        push_verdict(note, status, printed);
+        Ok(())
     } else {
         Ok(())
     }
 }
 
 // Appends the help text, and before it the command that was perhaps meant.
-fn push_usage(alloc: Global, note: &mut Vec<u8>, command: &[u8]) -> Result<(), NoMemory> {
+fn push_usage(alloc: Global, note: &mut Text, command: &[u8]) -> Result<(), NoMemory> {
     push_command(alloc, note, command)?;
-    push_bytes(note, HELP.as_bytes())
+    note.push(HELP.as_bytes());
+    Ok(())
 }
 
 // The command's name.
@@ -96,7 +99,7 @@ fn refusal_of<'a>(
 // Appends a note on a faulty file.
 fn push_bad_file<S: Shelf>(
     alloc: Global,
-    note: &mut Vec<u8>,
+    note: &mut Text,
     words: &Vec<String>,
     fault: Fault,
     shelf: &mut S,
@@ -121,7 +124,7 @@ enum Finding<'a> {
 // Appends a note on a file that goes with a source.
 fn push_finding<S: Shelf>(
     alloc: Global,
-    note: &mut Vec<u8>,
+    note: &mut Text,
     source: &str,
     name: &str,
     finding: Finding,
@@ -136,7 +139,7 @@ fn push_finding<S: Shelf>(
 // Appends a note on a file that goes with the source that has a name and a text.
 fn push_found(
     alloc: Global,
-    note: &mut Vec<u8>,
+    note: &mut Text,
     name: &str,
     text: &[u8],
     file: File,
@@ -150,9 +153,10 @@ fn push_found(
         tokens: &tokens,
     };
     match finding {
-        Finding::Fault(fault) => push_line_fault(alloc, note, file, fault, &tokens),
-        Finding::Refusal(refusal) => push_refusal(alloc, note, file, source, refusal),
+        Finding::Fault(fault) => push_line_fault(alloc, note, file, fault, &tokens)?,
+        Finding::Refusal(refusal) => push_refusal(note, file, source, refusal),
     }
+    Ok(())
 }
 
 fn file<'a>(name: &'a str, text: &'a [u8]) -> File<'a>
@@ -167,7 +171,7 @@ fn file<'a>(name: &'a str, text: &'a [u8]) -> File<'a>
 // Appends a note on a faulty source.
 fn push_bad_source<S: Shelf>(
     alloc: Global,
-    note: &mut Vec<u8>,
+    note: &mut Text,
     words: &Vec<String>,
     fault: Fault,
     shelf: &mut S,
@@ -193,7 +197,7 @@ fn name_of_part<'a>(words: &'a Vec<String>, part: &[u8]) -> Option<&'a str> {
 // Appends a note on a refused certificate or proof.
 fn push_refused<S: Shelf>(
     alloc: Global,
-    note: &mut Vec<u8>,
+    note: &mut Text,
     words: &Vec<String>,
     refusal: Refusal,
     shelf: &mut S,
@@ -208,7 +212,7 @@ fn push_refused<S: Shelf>(
 // Appends a note on a contract that holds.
 fn push_holding<S: Shelf>(
     alloc: Global,
-    note: &mut Vec<u8>,
+    note: &mut Text,
     words: &Vec<String>,
     shelf: &mut S,
 ) -> Result<(), NoMemory> {

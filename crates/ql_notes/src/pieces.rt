@@ -1,8 +1,9 @@
 // The tokens of a source as words that can be replaced.
 ghost use Rattle.std.specs.Prelude.{◌≤◌, length};
 
+use crate::text::Text;
 use crate::words::has_word;
-use ql_base::{NoMemory, push_bytes};
+use ql_base::NoMemory;
 use ql_lex::{LexFault, Token, tokens};
 use std::alloc::Global;
 
@@ -189,12 +190,12 @@ pub(crate) fn after(pieces: &[&[u8]], k: usize) -> usize {
 
 /// The text of pieces, each on a line of its own.
 pub(crate) fn joined(alloc: Global, pieces: &[&[u8]]) -> Result<Vec<u8>, NoMemory> {
-    let mut text = Vec::new(alloc);
+    let mut text = Text::new(alloc);
     for piece in pieces {
-        push_bytes(&mut text, piece)?;
-        push_bytes(&mut text, b"\n")?;
+        text.push(piece);
+        text.push(b"\n");
     }
-    Ok(text)
+    text.whole()
 }
 
 /// The index of the piece at an offset of their joined text.

@@ -3,7 +3,6 @@ ghost use Rattle.std.specs.Prelude.{◌≤◌, length};
 
 use crate::answer::Fault;
 use crate::clash_words::{push_clash, push_redeclared};
-use crate::filled::push_filled;
 use crate::first::{push_declaration, push_first};
 use crate::lexical::{is_lexical, push_lexical_fault};
 use crate::meant::{push_instead, push_unknown};
@@ -11,9 +10,10 @@ use crate::pieces::{part, piece, pieces, tokens_of, word_at};
 use crate::rules::sentence;
 use crate::sizes::size_sentence;
 use crate::syntax::{Break, push_syntax};
+use crate::text::Text;
 use crate::typing::{Misuse, misuses, rule_of};
 use crate::words::is;
-use ql_base::{NoMemory, push_bytes};
+use ql_base::NoMemory;
 use ql_excerpt::{File, Spot, place_of, push_fault};
 use ql_lex::Token;
 use ql_typing::TypeFault;
@@ -22,7 +22,7 @@ use std::alloc::Global;
 /// Appends a note on a source's fault, and on further faults of typing, up to ten.
 pub(crate) fn push_source_fault(
     alloc: Global,
-    note: &mut Vec<u8>,
+    note: &mut Text,
     file: File,
     fault: Fault,
 ) -> Result<(), NoMemory>
@@ -30,7 +30,8 @@ pub(crate) fn push_source_fault(
 {
     let at = place_of(file.text, fault.at as usize).at;
     if is_lexical(fault.rule) {
-        return push_lexical_fault(alloc, note, file, at, fault.rule, fault.rule);
+        push_lexical_fault(note, file, at, fault.rule, fault.rule);
+        return Ok(());
     }
     let tokens = tokens_of(alloc, file.text)?;
     let pieces = pieces(alloc, file.text, &tokens)?;
@@ -55,7 +56,7 @@ struct Tokens<'a> {
 }
 
 // Appends the faults of typing, and returns whether there are any.
-fn push_misuses(alloc: Global, note: &mut Vec<u8>, source: &Tokens) -> Result<bool, NoMemory> {
+fn push_misuses(alloc: Global, note: &mut Text, source: &Tokens) -> Result<bool, NoMemory> {
     let misuses = misuses(alloc, source.pieces)?;
     for misuse in misuses.iter() {
         push_misuse(alloc, note, source, misuse)?;
@@ -66,7 +67,7 @@ fn push_misuses(alloc: Global, note: &mut Vec<u8>, source: &Tokens) -> Result<bo
 // Appends a note where a source doesn't follow the grammar.
 fn push_parse_fault(
     alloc: Global,
-    note: &mut Vec<u8>,
+    note: &mut Text,
     file: File,
     rule: &[u8],
     at: usize,
@@ -79,7 +80,7 @@ fn push_parse_fault(
         from: at,
         bytes: word.len(),
     };
-    push_fault(note, file, spot, rule, form_sentence(rule, word))?;
+    note.push_fault(file, spot, rule, form_sentence(rule, word));
     if !is(rule, b"Unexpected") {
         return Ok(());
     }
@@ -109,7 +110,7 @@ pub(crate) fn after_word<'a>(text: &'a [u8], word: &[u8]) -> &'a [u8] {
 // Appends a fault of typing.
 fn push_misuse(
     alloc: Global,
-    note: &mut Vec<u8>,
+    note: &mut Text,
     source: &Tokens,
     misuse: &Misuse,
 ) -> Result<(), NoMemory> {
@@ -120,69 +121,67 @@ fn push_misuse(
         from: token.from as usize,
         bytes: part(source.file.text, *token).len(),
     };
-    push_misuse_line(alloc, note, source, misuse, spot)?;
+    push_misuse_line(note, source, misuse, spot);
     push_remedy(alloc, note, source, misuse)
 }
 
 // Appends what is wrong, and where.
-fn push_misuse_line(
-    alloc: Global,
-    note: &mut Vec<u8>,
-    source: &Tokens,
-    misuse: &Misuse,
-    spot: Spot,
-) -> Result<(), NoMemory> {
-    let mut said = Vec::new(alloc);
-    push_sentence(&mut said, source.pieces, misuse)?;
-    push_fault(note, source.file, spot, rule_of(misuse.fault), &said)
+fn push_misuse_line(note: &mut Text, source: &Tokens, misuse: &Misuse, spot: Spot) {
+    note.begin_fault(source.file, spot, rule_of(misuse.fault));
+    push_sentence(note, source.pieces, misuse);
+    note.end_fault(source.file, spot);
 }
 
 // Appends what was perhaps meant at a token, or what it contradicts.
 fn push_remedy(
     alloc: Global,
-    note: &mut Vec<u8>,
+    note: &mut Text,
     source: &Tokens,
     misuse: &Misuse,
 ) -> Result<(), NoMemory> {
-    let Tokens {
-        file,
-        tokens,
-        pieces,
-    } = *source;
-    let k = misuse.token;
-    match (misuse.fault, misuse.clash) {
-        (TypeFault::Unknown(_), _) => push_instead(alloc, note, pieces, k),
-        (TypeFault::Twice(_), _) => push_first(note, file, tokens, pieces, k),
-        (TypeFault::Kind(_), Some(clash)) => {
-            if clash.is_name {
-                push_declaration(note, file, tokens, pieces, k)?;
-            }
-            if misuse.is_declared_wrong {
-                push_redeclared(note, pieces, k, clash)?;
-            }
-            Ok(())
-        }
-        _ => Ok(()),
+    match misuse.fault {
+        TypeFault::Unknown(_) => push_instead(alloc, note, source.pieces, misuse.token)?,
+        TypeFault::Twice(_) => push_first(
+            note,
+            source.file,
+            source.tokens,
+            source.pieces,
+            misuse.token,
+        ),
+        _ => push_origin(note, source, misuse),
+    }
+    Ok(())
+}
+
+// Appends where the kind of a name comes from, and which one was perhaps meant.
+fn push_origin(note: &mut Text, source: &Tokens, misuse: &Misuse) {
+    let Some(clash) = misuse.clash else {
+        return;
+    };
+    let (pieces, k) = (source.pieces, misuse.token);
+    if clash.is_name {
+        push_declaration(note, source.file, source.tokens, pieces, k);
+    }
+    if misuse.is_declared_wrong {
+        push_redeclared(note, pieces, k, clash);
     }
 }
 
 // Appends what is wrong at a token.
-fn push_sentence(said: &mut Vec<u8>, found: &[&[u8]], misuse: &Misuse) -> Result<(), NoMemory> {
+fn push_sentence(said: &mut Text, found: &[&[u8]], misuse: &Misuse) {
     let k = misuse.token;
     match (misuse.fault, misuse.clash) {
         (TypeFault::Unknown(_), _) => push_unknown(said, found, k),
         (TypeFault::Kind(_), Some(clash)) => push_clash(said, found, k, clash),
-        (TypeFault::Twice(_), _) => push_filled(
-            said,
+        (TypeFault::Twice(_), _) => said.push_filled(
             b"`%` is already declared or listed",
             &[piece(found, k)],
         ),
-        (TypeFault::TooMany(_), _) => push_bytes(said, size_sentence(found, k)),
-        (TypeFault::TxnClosure(_), _) => push_filled(
-            said,
+        (TypeFault::TooMany(_), _) => said.push(size_sentence(found, k)),
+        (TypeFault::TxnClosure(_), _) => said.push_filled(
             b"a transaction's contract can't use `%`: it may use `vis`, `so`, `soo`, `sameobj` and `txn`",
             &[piece(found, k)],
         ),
-        (fault, _) => push_bytes(said, sentence(b"source", rule_of(fault))),
+        (fault, _) => said.push(sentence(b"source", rule_of(fault))),
     }
 }
