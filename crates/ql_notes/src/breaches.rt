@@ -31,7 +31,7 @@ pub(crate) fn push_breach(said: &mut Text, line: &FaultyLine, k: usize, text: &[
     } else if is(rule, b"Kind") {
         push_misfit(said, line, k)
     } else if is(rule, b"Unknown") {
-        push_unknown_name(said, line, k)
+        said.push_filled(unknown_sentence(line, k), &[field_text(line.fields, k)])
     } else if is(rule, b"TooMany") && is(line.part, b"schedule") {
         said.push(size_sentence(line))
     } else {
@@ -40,10 +40,6 @@ pub(crate) fn push_breach(said: &mut Text, line: &FaultyLine, k: usize, text: &[
 }
 
 // What is unknown, and where it would be declared.
-fn push_unknown_name(said: &mut Text, line: &FaultyLine, k: usize) {
-    said.push_filled(unknown_sentence(line, k), &[field_text(line.fields, k)]);
-}
-
 fn unknown_sentence(line: &FaultyLine, k: usize) -> &'static [u8] {
     let first = field_text(line.fields, 0);
     if is(line.part, b"execution") {

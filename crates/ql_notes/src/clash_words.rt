@@ -35,7 +35,10 @@ pub(crate) fn push_clash(note: &mut Text, tokens: &[&[u8]], k: usize, clash: Cla
     if let Requirement::Count(function, count) = clash.requirement {
         return push_count(note, function, count);
     }
-    push_found_kind(note, clash.found);
+    match clash.found {
+        Some(kind) => note.push_filled(b"found %%, expected ", &[article(kind), spelling(kind)]),
+        None => note.push(b"found `empty`, expected "),
+    }
     push_expected_kind(note, clash.requirement);
     note.push(b": ");
     note.push_filled(
@@ -43,13 +46,6 @@ pub(crate) fn push_clash(note: &mut Text, tokens: &[&[u8]], k: usize, clash: Cla
         &[owner(tokens, k, clash.requirement)],
     );
     push_required(note, clash.requirement);
-}
-
-fn push_found_kind(note: &mut Text, found: Option<Kind>) {
-    match found {
-        Some(kind) => note.push_filled(b"found %%, expected ", &[article(kind), spelling(kind)]),
-        None => note.push(b"found `empty`, expected "),
-    }
 }
 
 // The name of what requires a kind at a token: an operation, a field, an emitted value, an operator or a function.

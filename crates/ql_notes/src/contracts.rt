@@ -155,33 +155,20 @@ fn push_misuse_at(
     pieces: &[&[u8]],
     k: usize,
 ) -> Result<(), NoMemory> {
+    let spot = contract.spot(fault.at);
+    note.begin_fault(contract.file, spot, shown_rule(fault.rule));
     if is(fault.rule, b"Unknown") {
-        push_unknown_in_contract(note, contract, fault, pieces, k);
-        return push_instead(alloc, note, pieces, k);
+        push_unknown(note, pieces, k);
+    } else {
+        note.push(sentence(b"source", fault.rule));
     }
-    note.push_fault(
-        contract.file,
-        contract.spot(fault.at),
-        shown_rule(fault.rule),
-        sentence(b"source", fault.rule),
-    );
-    if is(fault.rule, b"Twice") {
+    note.end_fault(contract.file, spot);
+    if is(fault.rule, b"Unknown") {
+        push_instead(alloc, note, pieces, k)?;
+    } else if is(fault.rule, b"Twice") {
         push_first_in_contract(note, contract, first_of(pieces, k));
     }
     Ok(())
-}
-
-fn push_unknown_in_contract(
-    note: &mut Text,
-    contract: &Placed,
-    fault: ContractFault,
-    pieces: &[&[u8]],
-    k: usize,
-) {
-    let spot = contract.spot(fault.at);
-    note.begin_fault(contract.file, spot, fault.rule);
-    push_unknown(note, pieces, k);
-    note.end_fault(contract.file, spot);
 }
 
 // Where a name occurs first, by the index of its token inside a source, if it occurs before.

@@ -5,11 +5,12 @@
 ghost use Rattle.std.specs.Prelude.{◌≤◌, length};
 
 use crate::guesses::Guess;
+use crate::notes::SOURCE_BYTES;
 use crate::readable::readable_bytes;
 use crate::text::Text;
 use crate::wanted::{push_quoted, push_separator};
-use crate::words::{has_word, is, sentence_of, words_of};
-use ql_base::{NoMemory, push_bytes};
+use crate::words::{has_word, is, is_word_start, sentence_of, word};
+use ql_base::NoMemory;
 use std::alloc::Global;
 
 // A spelling of each terminal.
@@ -25,22 +26,13 @@ const MOST: usize = 12;
 pub(crate) fn expected(alloc: Global, before: &[u8]) -> Result<Vec<&'static [u8]>, NoMemory>
     requires { length before.now ≤ 1048576 }
 {
-    let terminals = words_of(alloc, TERMINALS)?;
-    allowed(alloc, before, &terminals)
-}
-
-// Those of some terminals that the grammar allows after these bytes.
-fn allowed(
-    alloc: Global,
-    before: &[u8],
-    terminals: &[&'static [u8]],
-) -> Result<Vec<&'static [u8]>, NoMemory>
-    requires { length before.now ≤ 1048576 }
-{
     let mut found = Vec::new(alloc);
-    for terminal in terminals {
-        if is_allowed(alloc, before, terminal)? {
-            found.push(*terminal)?;
+    for k in 0..TERMINALS.len() {
+        if is_word_start(TERMINALS, k) {
+            let terminal = word(&TERMINALS[k..]).0;
+            if is_allowed(alloc, before, terminal)? {
+                found.push(terminal)?;
+            }
         }
     }
     Ok(found)
@@ -50,13 +42,15 @@ fn allowed(
 fn is_allowed(alloc: Global, before: &[u8], terminal: &[u8]) -> Result<bool, NoMemory>
     requires { length before.now ≤ 1048576 }
 {
-    // No terminal is as long, so the text is never too long to be read.
-    if terminal.len() > 32 {
+    let mut text = Text::new(alloc);
+    text.push(before);
+    text.push(b"\n");
+    text.push(terminal);
+    let text = text.whole()?;
+    // Terminals are short, so no text is as long.
+    if text.len() > 2 * SOURCE_BYTES {
         return Ok(false);
     }
-    let mut text = Vec::from_slice(alloc, before)?;
-    push_bytes(&mut text, b"\n")?;
-    push_bytes(&mut text, terminal)?;
     Ok(readable_bytes(alloc, &text)? > before.len() + 1)
 }
 

@@ -3,8 +3,6 @@
 use crate::likeness::likest_in;
 use crate::text::Text;
 use crate::words::has_word;
-use ql_base::NoMemory;
-use std::alloc::Global;
 
 /// The help text of the commands.
 pub const HELP: &str = "usage: ./quelea COMMAND ..
@@ -41,13 +39,12 @@ const COMMANDS: &[u8] =
     b"classify explain prove check verify holds run slim restart gen soak proof draw";
 
 /// Appends the command that was perhaps meant by a word that isn't one.
-pub(crate) fn push_command(alloc: Global, note: &mut Text, word: &[u8]) -> Result<(), NoMemory> {
+pub(crate) fn push_command(note: &mut Text, word: &[u8]) {
     if has_word(COMMANDS, word) {
-        return Ok(());
+        return;
     }
-    if let Some(meant) = likest_in(alloc, word, COMMANDS)? {
+    if let Some(meant) = likest_in(word, COMMANDS) {
         note.push_filled(b"`%` isn't a command: did you mean ", &[word]);
         note.push_filled(b"`%`?\n\n", &[meant]);
     }
-    Ok(())
 }

@@ -27,7 +27,8 @@ pub(crate) fn push_help(
     if is(line.rule, b"Stamp") {
         push_stamp(note, text, line.above.len());
     } else if is(line.rule, b"Number") {
-        push_next_number(note, above);
+        let next = above.numbered.saturating_add(1);
+        note.push_counted(b"  the next number is #\n", &[], &[next]);
     } else if is(line.rule, b"Kind") {
         push_operation(note, line);
     } else if is(line.rule, b"Unknown") && !is(line.part, b"holds") {
@@ -35,11 +36,6 @@ pub(crate) fn push_help(
         push_known(note, name_in(field_text(line.fields, k)), &names);
     }
     Ok(())
-}
-
-fn push_next_number(note: &mut Text, above: Above) {
-    let next = above.numbered.saturating_add(1);
-    note.push_counted(b"  the next number is #\n", &[], &[next]);
 }
 
 fn push_stamp(note: &mut Text, text: &[u8], start: usize) {

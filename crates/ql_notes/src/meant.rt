@@ -83,7 +83,10 @@ pub(crate) fn push_instead(
 ) -> Result<(), NoMemory> {
     let word = piece(tokens, k);
     match meant_at(tokens, k) {
-        Meant::Variable if place_in(tokens, b"op", word).is_some() => push_effects_of(note, word),
+        Meant::Variable if place_in(tokens, b"op", word).is_some() => note.push_filled(
+            b"  it is an operation: `forall x: %.` quantifies its effects\n",
+            &[word],
+        ),
         Meant::Value => push_value(alloc, note, tokens, k)?,
         meant => push_names(alloc, note, tokens, k, meant)?,
     }
@@ -125,7 +128,7 @@ fn known_names<'a>(
 
 // Appends the literal or the name that was perhaps meant by an unknown value, or else what could be mended.
 fn push_value(alloc: Global, note: &mut Text, tokens: &[&[u8]], k: usize) -> Result<(), NoMemory> {
-    let literal = likest_in(alloc, piece(tokens, k), LITERALS)?;
+    let literal = likest_in(piece(tokens, k), LITERALS);
     if literal.is_some() {
         push_meant(note, literal);
     } else {
@@ -152,14 +155,6 @@ fn push_unused(note: &mut Text, tokens: &[&[u8]], k: usize) {
 fn is_used(tokens: &[&[u8]], to: usize, name: &[u8]) -> bool {
     let end = next_of(tokens, to, b"op type transaction").unwrap_or(tokens.len());
     place_between(tokens, to.saturating_add(1), end, name).is_some()
-}
-
-// Appends how to quantify the effects of an operation whose name is used as an effect.
-fn push_effects_of(note: &mut Text, operation: &[u8]) {
-    note.push_filled(
-        b"  it is an operation: `forall x: %.` quantifies its effects\n",
-        &[operation],
-    );
 }
 
 // The variables of the contract around a token, and in an operation the current effect.

@@ -53,7 +53,9 @@ fn push_note<S: Shelf>(
     shelf: &mut S,
 ) -> Result<(), NoMemory> {
     if status == Status::Usage {
-        push_usage(alloc, note, command(words))
+        push_command(note, command(words));
+        note.push(HELP.as_bytes());
+        Ok(())
     } else if let Some(fault) = fault_of(printed.first) {
         push_bad_file(alloc, note, words, fault, shelf)
     } else if let Some(refusal) = refusal_of(words, status, printed) {
@@ -66,13 +68,6 @@ fn push_note<S: Shelf>(
     } else {
         Ok(())
     }
-}
-
-// Appends the help text, and before it the command that was perhaps meant.
-fn push_usage(alloc: Global, note: &mut Text, command: &[u8]) -> Result<(), NoMemory> {
-    push_command(alloc, note, command)?;
-    note.push(HELP.as_bytes());
-    Ok(())
 }
 
 // The command's name.

@@ -96,20 +96,21 @@ fn push_order_fault(note: &mut Text, file: File, source: Source, refusal: Refusa
 // What can be done about a refused certificate; a proof has neither sections nor an order.
 fn push_remedies(note: &mut Text, source: Source, refusal: Refusal) {
     if may_be_too_low(refusal) {
-        push_levels(note, source);
+        note.push_filled(
+            b"  the level may be too low: `./quelea classify %` prints the least levels that are enough\n",
+            &[source.name],
+        );
     }
     if is(refusal.rule, b"order") || !refusal.section.is_empty() {
-        push_anew(note, source);
+        note.push_filled(
+            b"  the certificate or the source may have been changed: `./quelea prove %` prints a new certificate\n",
+            &[source.name],
+        );
     }
 }
 
 // The refused line, and why it is refused.
 fn push_cause(said: &mut Text, refusal: Refusal) {
-    push_refused_place(said, refusal);
-    said.push(sentence_of(REFUSALS, refusal.rule));
-}
-
-fn push_refused_place(said: &mut Text, refusal: Refusal) {
     let (section, line) = (refusal.section, refusal.line);
     match (section.is_empty(), line.is_empty()) {
         (false, false) => said.push_filled(b"section `%`, line %: ", &[section, line]),
@@ -117,6 +118,7 @@ fn push_refused_place(said: &mut Text, refusal: Refusal) {
         (true, false) => said.push_filled(b"line %: ", &[line]),
         (true, true) => {}
     }
+    said.push(sentence_of(REFUSALS, refusal.rule));
 }
 
 // Appends what a source has as the section with a number, from 1: its operations, and then its transactions.
@@ -146,20 +148,6 @@ fn may_be_too_low(refusal: Refusal) -> bool {
         && !refusal.section.is_empty()
         && !refusal.section.ends_with(b" strong")
         && !refusal.section.ends_with(b" rr")
-}
-
-fn push_levels(note: &mut Text, source: Source) {
-    note.push_filled(
-        b"  the level may be too low: `./quelea classify %` prints the least levels that are enough\n",
-        &[source.name],
-    );
-}
-
-fn push_anew(note: &mut Text, source: Source) {
-    note.push_filled(
-        b"  the certificate or the source may have been changed: `./quelea prove %` prints a new certificate\n",
-        &[source.name],
-    );
 }
 
 // The first line of the section with a number, or the line `end`.

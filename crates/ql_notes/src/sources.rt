@@ -121,15 +121,10 @@ fn push_misuse(
         from: token.from as usize,
         bytes: part(source.file.text, *token).len(),
     };
-    push_misuse_line(note, source, misuse, spot);
-    push_remedy(alloc, note, source, misuse)
-}
-
-// Appends what is wrong, and where.
-fn push_misuse_line(note: &mut Text, source: &Tokens, misuse: &Misuse, spot: Spot) {
     note.begin_fault(source.file, spot, rule_of(misuse.fault));
     push_sentence(note, source.pieces, misuse);
     note.end_fault(source.file, spot);
+    push_remedy(alloc, note, source, misuse)
 }
 
 // Appends what was perhaps meant at a token, or what it contradicts.

@@ -167,7 +167,7 @@ fn clash_of(alloc: Global, text: &[u8], fault: TypeFault) -> Result<Option<Clash
         return Ok(None);
     };
     match program_of(alloc, text)? {
-        Some(program) => clash_at(alloc, &program, at),
+        Some(program) => Ok(clash_at(&program, at)),
         None => Ok(None),
     }
 }
