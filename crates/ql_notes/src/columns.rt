@@ -174,8 +174,8 @@ fn out_of_range(line: &FaultyLine, first: &[u8]) -> usize {
     }
 }
 
-// The field of the number after an event's name if it is greater than `most`, else that of the replica after it if there is
-// no such replica, and else another one.
+// The field of the number after an event's name if that is greater than `most`, or else the field of the replica after
+// it if there is no such replica, or else another one.
 fn number_or_replica(line: &FaultyLine, most: u64, other: usize) -> usize {
     if number_of(field_text(line.fields, 1), most).is_none() {
         1

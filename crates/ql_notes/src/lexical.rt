@@ -10,7 +10,8 @@ pub(crate) fn is_lexical(rule: &[u8]) -> bool {
     has_word(b"BadChar LongWord BadNumber", rule)
 }
 
-/// Appends a note on the bytes at an offset of a file, which aren't a token by a rule. The answer may report another one.
+/// Appends a note on the bytes at an offset of a file, which aren't a token by a rule. The answer may report
+/// another one.
 pub(crate) fn push_lexical_fault(
     note: &mut Text,
     file: File,
