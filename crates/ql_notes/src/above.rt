@@ -54,25 +54,19 @@ const NOTHING: Above = Above {
 impl Above {
     // Counts one more line, by its first word.
     fn and(self, first: &[u8]) -> Above {
-        let mut more = self;
-        more.lines = more.lines.saturating_add(1);
-        if is_numbered(first) {
-            more.numbered = more.numbered.saturating_add(1);
-            return more;
+        Above {
+            lines: self.lines.saturating_add(1),
+            effects: self.effects.saturating_add(is(first, b"effect") as u64),
+            numbered: if is_numbered(first) {
+                self.numbered.saturating_add(1)
+            } else {
+                0
+            },
+            joins: self.joins.saturating_add(is(first, b"join") as u64),
+            is_begun: self.is_begun || is(first, b"execution"),
+            has_events: self.has_events || is(first, b"events"),
+            is_ended: self.is_ended || is(first, b"end"),
         }
-        more.numbered = 0;
-        if is(first, b"effect") {
-            more.effects = more.effects.saturating_add(1);
-        } else if is(first, b"join") {
-            more.joins = more.joins.saturating_add(1);
-        } else if is(first, b"execution") {
-            more.is_begun = true;
-        } else if is(first, b"events") {
-            more.has_events = true;
-        } else if is(first, b"end") {
-            more.is_ended = true;
-        }
-        more
     }
 }
 

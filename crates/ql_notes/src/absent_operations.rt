@@ -4,45 +4,62 @@ ghost use Rattle.std.specs.Prelude.{◌≤◌, length};
 use crate::contracts::contract_at;
 use crate::declared::named;
 use crate::likeness::{likest, push_meant};
-use crate::pieces::{next_of, piece, piece_before, pieces, place_between, tokens_of};
-use crate::words::has_word;
+use crate::pieces::{part, place_between, tokens_of};
+use crate::text::Text;
+use crate::words::{has_word, is};
 use ql_base::NoMemory;
-use ql_excerpt::{File, Spot, push_fault};
+use ql_excerpt::{File, Spot};
+use ql_lex::Token;
 use std::alloc::Global;
 
 /// Appends a note for each operation that the contract names though no effect has it.
 pub(crate) fn push_absent_operations(
     alloc: Global,
-    note: &mut Vec<u8>,
+    note: &mut Text,
     file: File,
 ) -> Result<(), NoMemory> {
     let Some(from) = contract_start(file.text) else {
         return Ok(());
     };
-    let contract = contract_at(file.text, from);
-    let found = tokens_of(alloc, contract)?;
-    let pieces = pieces(alloc, contract, &found)?;
     let ops = named(alloc, file.text, b"effect", 3)?;
-    let end = next_of(&pieces, 0, b".").unwrap_or(0);
-    for (k, token) in found.iter().enumerate() {
-        let name = piece(&pieces, k);
-        let is_chosen = k > 0 && k < end && has_word(b": |", piece_before(&pieces, k));
-        if is_chosen && place_between(&ops, 0, ops.len(), name).is_none() {
+    let tokens = tokens_of(alloc, contract_at(file.text, from))?;
+    push_absent(note, file, from, &tokens, &ops);
+    Ok(())
+}
+
+// The same for the tokens of the contract at an offset, and the operations of the effects.
+fn push_absent(note: &mut Text, file: File, from: usize, tokens: &[Token], ops: &[&[u8]]) {
+    let contract = contract_at(file.text, from);
+    let end = end_of_variables(contract, tokens);
+    let mut before = b"".as_slice();
+    for (k, token) in tokens.iter().enumerate() {
+        let name = part(contract, *token);
+        let is_chosen = k < end && has_word(b": |", before);
+        if is_chosen && place_between(ops, 0, ops.len(), name).is_none() {
             let spot = Spot {
                 from: from.saturating_add(token.from as usize),
                 bytes: name.len(),
             };
-            push_fault(
-                note,
+            note.push_fault(
                 file,
                 spot,
                 b"note",
                 b"there is no effect of this operation, so the contract says nothing about it",
-            )?;
-            push_meant(note, likest(name, &ops))?;
+            );
+            push_meant(note, likest(name, ops));
+        }
+        before = name;
+    }
+}
+
+// The token that ends the variables of a contract; 0 where it has none.
+fn end_of_variables(contract: &[u8], tokens: &[Token]) -> usize {
+    for (k, token) in tokens.iter().enumerate() {
+        if is(part(contract, *token), b".") {
+            return k;
         }
     }
-    Ok(())
+    0
 }
 
 // The offset of the contract, after the word `contract` of the first line that begins with it.

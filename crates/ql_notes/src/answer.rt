@@ -1,5 +1,5 @@
 // The fault that an answer reports: bad PART at AT: RULE
-use crate::words::{is, word};
+use crate::words::{is, nth_word};
 use ql_base::number_of;
 
 /// A fault that an answer reports.
@@ -13,18 +13,13 @@ pub(crate) struct Fault<'a> {
 
 /// The fault that an answer reports, if it reports one.
 pub(crate) fn fault_of(answer: &[u8]) -> Option<Fault> {
-    let (bad, rest) = word(answer);
-    let (part, rest) = word(rest);
-    let (at, rest) = word(rest);
-    let (number, rest) = word(rest);
-    if !is(bad, b"bad") || !is(at, b"at") {
+    if !is(nth_word(answer, 0), b"bad") || !is(nth_word(answer, 2), b"at") {
         return None;
     }
-    let digits = number.split_last()?.1;
-    let (rule, _) = word(rest);
+    let digits = nth_word(answer, 3).split_last()?.1;
     Some(Fault {
-        part,
+        part: nth_word(answer, 1),
         at: number_of(digits, u32::MAX as u64)?,
-        rule,
+        rule: nth_word(answer, 4),
     })
 }

@@ -8,21 +8,15 @@ use crate::effects::{push_mixed, push_not_earlier, push_other_object, push_split
 use crate::fields::{
     BEGIN_OBJECT, BEGIN_TRANSACTION, CALL_OPERATION, EFFECT_OPERATION, Field, field_text,
 };
-use crate::filled::push_filled;
 use crate::first::push_first_at;
 use crate::ranges::push_range;
 use crate::rules::sentence;
+use crate::text::Text;
 use crate::words::is;
-use ql_base::{NoMemory, push_bytes};
 use ql_excerpt::{File, line_of};
 
 /// Appends what is wrong with a field of a line, of a file with this text.
-pub(crate) fn push_breach(
-    said: &mut Vec<u8>,
-    line: FaultyLine,
-    k: usize,
-    text: &[u8],
-) -> Result<(), NoMemory> {
+pub(crate) fn push_breach(said: &mut Text, line: &FaultyLine, k: usize, text: &[u8]) {
     let rule = line.rule;
     if is(rule, b"NotForward") {
         push_not_earlier(said, line)
@@ -37,24 +31,16 @@ pub(crate) fn push_breach(
     } else if is(rule, b"Kind") {
         push_misfit(said, line, k)
     } else if is(rule, b"Unknown") {
-        push_unknown_name(said, line, k)
+        said.push_filled(unknown_sentence(line, k), &[field_text(line.fields, k)])
     } else if is(rule, b"TooMany") && is(line.part, b"schedule") {
-        push_bytes(said, size_sentence(line))
+        said.push(size_sentence(line))
     } else {
-        push_bytes(said, sentence(line.part, rule))
+        said.push(sentence(line.part, rule))
     }
 }
 
 // What is unknown, and where it would be declared.
-fn push_unknown_name(said: &mut Vec<u8>, line: FaultyLine, k: usize) -> Result<(), NoMemory> {
-    push_filled(
-        said,
-        unknown_sentence(line, k),
-        &[field_text(line.fields, k)],
-    )
-}
-
-fn unknown_sentence(line: FaultyLine, k: usize) -> &'static [u8] {
+fn unknown_sentence(line: &FaultyLine, k: usize) -> &'static [u8] {
     let first = field_text(line.fields, 0);
     if is(line.part, b"execution") {
         if k == EFFECT_OPERATION {
@@ -74,7 +60,7 @@ fn unknown_sentence(line: FaultyLine, k: usize) -> &'static [u8] {
 }
 
 // Which limit of a schedule a line exceeds.
-fn size_sentence(line: FaultyLine) -> &'static [u8] {
+fn size_sentence(line: &FaultyLine) -> &'static [u8] {
     let first = field_text(line.fields, 0);
     if is(first, b"object") {
         b"a schedule has at most 1024 objects, and this is one too many"
@@ -88,23 +74,18 @@ fn size_sentence(line: FaultyLine) -> &'static [u8] {
 }
 
 /// Appends the position where the name in a field occurs first, if it is declared or listed again.
-pub(crate) fn push_first_line(
-    note: &mut Vec<u8>,
-    file: File,
-    line: FaultyLine,
-    k: usize,
-) -> Result<(), NoMemory> {
+pub(crate) fn push_first_line(note: &mut Text, file: File, line: &FaultyLine, k: usize) {
     if !is(line.rule, b"Twice") {
-        return Ok(());
+        return;
     }
     let Some(at) = first_offset(line, k) else {
-        return Ok(());
+        return;
     };
-    push_first_at(note, file, at)
+    push_first_at(note, file, at);
 }
 
 // The offset where the name in a field occurs first: as an object above, or earlier in the line.
-fn first_offset(line: FaultyLine, k: usize) -> Option<usize> {
+fn first_offset(line: &FaultyLine, k: usize) -> Option<usize> {
     let name = field_text(line.fields, k);
     if is(field_text(line.fields, 0), b"object") {
         offset_of_object(line.above, name)

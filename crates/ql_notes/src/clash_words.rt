@@ -2,11 +2,10 @@
 
 use crate::arguments::push_counts;
 use crate::clashes::{Clash, Operator, Requirement};
-use crate::filled::push_filled;
 use crate::kinds::spelling;
 use crate::pieces::{last_of, piece, piece_after_last};
+use crate::text::Text;
 use crate::words::sentence_of;
-use ql_base::{NoMemory, push_bytes};
 use ql_lang::{BinOp, Kind};
 use ql_typing::Function;
 
@@ -32,29 +31,24 @@ get a map, then a key, then the value to use if the key is missing
 sum a map with int values";
 
 /// Appends the found and the expected kind at a token, and what requires the expected one.
-pub(crate) fn push_clash(
-    note: &mut Vec<u8>,
-    tokens: &[&[u8]],
-    k: usize,
-    clash: Clash,
-) -> Result<(), NoMemory> {
+pub(crate) fn push_clash(note: &mut Text, tokens: &[&[u8]], k: usize, clash: Clash) {
     if let Requirement::Count(function, count) = clash.requirement {
         return push_count(note, function, count);
     }
     match clash.found {
-        Some(kind) => push_filled(
-            note,
-            b"found %%, expected ",
-            &[article(kind), spelling(kind)],
-        )?,
-        None => push_bytes(note, b"found `empty`, expected ")?,
+        Some(kind) => note.push_filled(b"found %%, expected ", &[article(kind), spelling(kind)]),
+        None => note.push(b"found `empty`, expected "),
     }
-    push_expected_kind(note, clash.requirement)?;
-    push_bytes(note, b": ")?;
-    push_requirement(note, owner(tokens, k, clash.requirement), clash.requirement)
+    push_expected_kind(note, clash.requirement);
+    note.push(b": ");
+    note.push_filled(
+        requirement_sentence(clash.requirement),
+        &[owner(tokens, k, clash.requirement)],
+    );
+    push_required(note, clash.requirement);
 }
 
-// The name of what requires a kind at a token: an operation, a field or an emitted value.
+// The name of what requires a kind at a token: an operation, a field, an emitted value, an operator or a function.
 fn owner<'a>(tokens: &[&'a [u8]], k: usize, requirement: Requirement) -> &'a [u8] {
     match requirement {
         Requirement::Answer(_) => piece_after_last(tokens, k, b"op"),
@@ -65,15 +59,21 @@ fn owner<'a>(tokens: &[&'a [u8]], k: usize, requirement: Requirement) -> &'a [u8
             let sign = last_of(tokens, k, b"=").unwrap_or(k);
             piece(tokens, sign.saturating_sub(3))
         }
+        Requirement::Operand(operator, _)
+        | Requirement::Comparable(operator)
+        | Requirement::SameAsLeft(operator, _) => spelling_of(operator),
+        Requirement::First(function)
+        | Requirement::Argument(function, _, _)
+        | Requirement::Count(function, _) => name_of(function),
         _ => b"",
     }
 }
 
 // `has` takes 2 arguments, but 3 were given
-fn push_count(note: &mut Vec<u8>, function: Function, count: usize) -> Result<(), NoMemory> {
+fn push_count(note: &mut Text, function: Function, count: usize) {
     let name = name_of(function);
-    push_counts(note, name, function.arity(), count)?;
-    push_filled(note, b": it takes %", &[sentence_of(TAKEN, name)])
+    push_counts(note, name, function.arity(), count);
+    note.push_filled(b": it takes %", &[sentence_of(TAKEN, name)]);
 }
 
 fn article(kind: Kind) -> &'static [u8] {
@@ -84,83 +84,64 @@ fn article(kind: Kind) -> &'static [u8] {
     }
 }
 
-fn push_expected_kind(note: &mut Vec<u8>, requirement: Requirement) -> Result<(), NoMemory> {
+fn push_expected_kind(note: &mut Text, requirement: Requirement) {
     match requirement {
-        Requirement::Comparable(_) => push_bytes(note, b"an int, a bool or a text"),
-        Requirement::First(function) => push_bytes(note, sentence_of(FIRST, name_of(function))),
+        Requirement::Comparable(_) => note.push(b"an int, a bool or a text"),
+        Requirement::First(function) => note.push(sentence_of(FIRST, name_of(function))),
         _ => {
             match requirement.kind() {
                 Some(kind) => push_kind(note, kind),
-                None => push_bytes(note, b"another kind"),
+                None => note.push(b"another kind"),
             }
         }
     }
 }
 
-// Appends what requires the kind.
-fn push_requirement(
-    note: &mut Vec<u8>,
-    owner: &[u8],
-    requirement: Requirement,
-) -> Result<(), NoMemory> {
+// What requires the kind, up to the kind itself.
+fn requirement_sentence(requirement: Requirement) -> &'static [u8] {
     match requirement {
-        Requirement::Answer(kind) => push_named(note, b"the answer of `%` is ", owner, kind),
-        Requirement::Initial(kind) => push_initial(note, owner, kind),
-        Requirement::Assigned(kind) => push_named(note, b"the field `%` is ", owner, kind),
-        Requirement::Emitted(kind) => push_named(note, b"the emitted value `%` is ", owner, kind),
-        Requirement::When => push_bytes(note, b"`when` takes a bool"),
-        Requirement::Condition => push_bytes(note, b"the condition of `if` is a bool"),
-        Requirement::Branch(_) => push_bytes(note, b"`then` and `else` must have the same kind"),
-        Requirement::Operand(operator, kind) => push_named(
-            note,
-            b"`%` takes ",
-            spelling_of(operator),
-            kind,
-        ),
-        Requirement::Comparable(operator) => push_filled(
-            note,
-            b"`%` compares only values of these kinds",
-            &[spelling_of(operator)],
-        ),
-        Requirement::SameAsLeft(operator, _) => push_filled(
-            note,
-            b"both sides of `%` must have the same kind",
-            &[spelling_of(operator)],
-        ),
+        Requirement::Answer(_) => b"the answer of `%` is ",
+        Requirement::Initial(_) | Requirement::Assigned(_) => b"the field `%` is ",
+        Requirement::Emitted(_) => b"the emitted value `%` is ",
+        Requirement::When => b"`when` takes a bool",
+        Requirement::Condition => b"the condition of `if` is a bool",
+        Requirement::Branch(_) => b"`then` and `else` must have the same kind",
+        Requirement::Comparable(_) => b"`%` compares only values of these kinds",
+        Requirement::SameAsLeft(_, _) => b"both sides of `%` must have the same kind",
+        Requirement::Operand(_, _)
+        | Requirement::First(_)
+        | Requirement::Argument(_, _, _)
+        | Requirement::Count(_, _) => b"`%` takes ",
+        Requirement::Any => b"",
+    }
+}
+
+// Appends the required kind, or what a function takes, after the sentence.
+fn push_required(note: &mut Text, requirement: Requirement) {
+    match requirement {
+        Requirement::Initial(kind) => push_initial(note, kind),
+        Requirement::Answer(kind)
+        | Requirement::Assigned(kind)
+        | Requirement::Emitted(kind)
+        | Requirement::Operand(_, kind) => push_kind(note, kind),
         Requirement::First(function)
         | Requirement::Argument(function, _, _)
-        | Requirement::Count(function, _) => push_taken(note, name_of(function)),
-        Requirement::Any => Ok(()),
+        | Requirement::Count(function, _) => note.push(sentence_of(TAKEN, name_of(function))),
+        _ => {}
     }
 }
 
-fn push_initial(note: &mut Vec<u8>, field: &[u8], kind: Kind) -> Result<(), NoMemory> {
-    push_named(note, b"the field `%` is ", field, kind)?;
+fn push_initial(note: &mut Text, kind: Kind) {
+    push_kind(note, kind);
     match kind {
-        Kind::Set(_) | Kind::Map(_, _) => push_bytes(note, b", which begins as `empty`"),
-        _ => Ok(()),
+        Kind::Set(_) | Kind::Map(_, _) => note.push(b", which begins as `empty`"),
+        _ => {}
     }
-}
-
-// A sentence with a name, and then a kind.
-fn push_named(
-    note: &mut Vec<u8>,
-    sentence: &[u8],
-    name: &[u8],
-    kind: Kind,
-) -> Result<(), NoMemory> {
-    push_filled(note, sentence, &[name])?;
-    push_kind(note, kind)
 }
 
 // A kind with its article.
-fn push_kind(note: &mut Vec<u8>, kind: Kind) -> Result<(), NoMemory> {
-    push_filled(note, b"%%", &[article(kind), spelling(kind)])
-}
-
-fn push_taken(note: &mut Vec<u8>, function: &[u8]) -> Result<(), NoMemory> {
-    push_filled(note, b"`%` takes ", &[function])?;
-    push_bytes(note, sentence_of(TAKEN, function))
+fn push_kind(note: &mut Text, kind: Kind) {
+    note.push_filled(b"%%", &[article(kind), spelling(kind)]);
 }
 
 fn spelling_of(operator: Operator) -> &'static [u8] {
@@ -202,19 +183,13 @@ fn name_of(function: Function) -> &'static [u8] {
 }
 
 /// Appends the kind that was perhaps meant in the declaration of a value that begins at a token.
-pub(crate) fn push_redeclared(
-    note: &mut Vec<u8>,
-    tokens: &[&[u8]],
-    k: usize,
-    clash: Clash,
-) -> Result<(), NoMemory> {
+pub(crate) fn push_redeclared(note: &mut Text, tokens: &[&[u8]], k: usize, clash: Clash) {
     let Some(kind) = clash.found else {
-        return Ok(());
+        return;
     };
-    push_filled(
-        note,
+    note.push_filled(
         b"  did you mean `%: ",
         &[owner(tokens, k, clash.requirement)],
-    )?;
-    push_filled(note, b"%`?\n", &[spelling(kind)])
+    );
+    note.push_filled(b"%`?\n", &[spelling(kind)]);
 }

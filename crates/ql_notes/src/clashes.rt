@@ -1,11 +1,9 @@
 // Which expression doesn't have the required kind, found by the offset of its first token: the kind that it has, the
 // required one, and what requires it.
 
-use crate::kinds::{argument_kind, kind_named, kind_of, kind_of_init};
-use ql_base::{NoMemory, Word};
+use crate::kinds::{Others, Scope, argument_kind, kind_named, kind_of, kind_of_init};
 use ql_lang::{BinOp, EmitDecl, Expr, ExprNode, Field, Kind, OpDecl, Program, TypeDecl};
-use ql_typing::{Function, Known, find_function, is_basic, kind_of_base};
-use std::alloc::Global;
+use ql_typing::{Function, find_function, is_basic, kind_of_base};
 
 /// A unary or binary operator.
 #[derive(Clone, Copy)]
@@ -96,7 +94,7 @@ impl Requirement {
 // What is searched for a clash: the names in scope, and the offset of the expression.
 #[derive(Clone, Copy)]
 struct Search<'a> {
-    scope: &'a [Known],
+    scope: &'a Scope<'a>,
     at: u32,
 }
 
@@ -221,39 +219,30 @@ fn right_requirement(op: BinOp, left: Option<Kind>) -> Requirement {
 }
 
 /// The clash at an offset of a source.
-pub(crate) fn clash_at(
-    alloc: Global,
-    program: &Program,
-    at: u32,
-) -> Result<Option<Clash>, NoMemory> {
+pub(crate) fn clash_at(program: &Program, at: u32) -> Option<Clash> {
     for declared in program.types.items() {
-        let clash = clash_in_type(alloc, declared, at)?;
+        let clash = clash_in_type(declared, at);
         if clash.is_some() {
-            return Ok(clash);
+            return clash;
         }
     }
-    Ok(None)
+    None
 }
 
-fn clash_in_type(alloc: Global, declared: &TypeDecl, at: u32) -> Result<Option<Clash>, NoMemory> {
-    let mut fields = Vec::new(alloc);
-    for field in declared.fields.items() {
+fn clash_in_type(declared: &TypeDecl, at: u32) -> Option<Clash> {
+    let fields = declared.fields.items();
+    for field in fields {
         if field.init.at == at {
-            return Ok(Some(initial_clash(field)));
+            return Some(initial_clash(field));
         }
-        fields.push(known(field.name.word, field.kind))?;
     }
     for op in declared.ops.items() {
-        let clash = clash_in_operation(alloc, &fields, op, at)?;
+        let clash = clash_in_operation(fields, op, at);
         if clash.is_some() {
-            return Ok(clash);
+            return clash;
         }
     }
-    Ok(None)
-}
-
-fn known(word: Word, kind: Kind) -> Known {
-    Known { word, kind }
+    None
 }
 
 fn initial_clash(field: &Field) -> Clash {
@@ -264,45 +253,36 @@ fn initial_clash(field: &Field) -> Clash {
     }
 }
 
-fn clash_in_operation(
-    alloc: Global,
-    fields: &[Known],
-    op: &OpDecl,
-    at: u32,
-) -> Result<Option<Clash>, NoMemory> {
-    let mut scope = Vec::from_slice(alloc, fields)?;
-    for param in op.params.items() {
-        scope.push(known(param.name.word, kind_of_base(param.base)))?;
-    }
+fn clash_in_operation(fields: &[Field], op: &OpDecl, at: u32) -> Option<Clash> {
+    let scope = Scope {
+        fields,
+        others: Others::Parameters(op.params.items()),
+    };
     let search = Search { scope: &scope, at };
     let clash = clash_of(search, &op.answer, Requirement::Answer(op.kind));
     match &op.effect {
-        Some(effect) if clash.is_none() => clash_in_effect(alloc, fields, search, effect),
-        _ => Ok(clash),
+        Some(effect) if clash.is_none() => clash_in_effect(search, effect),
+        _ => clash,
     }
 }
 
-fn clash_in_effect(
-    alloc: Global,
-    fields: &[Known],
-    search: Search,
-    effect: &EmitDecl,
-) -> Result<Option<Clash>, NoMemory> {
-    let mut scope = Vec::from_slice(alloc, fields)?;
+fn clash_in_effect(search: Search, effect: &EmitDecl) -> Option<Clash> {
     for bind in effect.binds.items() {
         let kind = kind_of_base(bind.base);
         let clash = clash_of(search, &bind.value, Requirement::Emitted(kind));
         if clash.is_some() {
-            return Ok(clash);
+            return clash;
         }
-        scope.push(known(bind.name.word, kind))?;
     }
-    let clash = clash_of(search, &effect.test, Requirement::When);
+    let scope = Scope {
+        fields: search.scope.fields,
+        others: Others::Emitted(effect.binds.items()),
+    };
     let applied = Search {
         scope: &scope,
         at: search.at,
     };
-    Ok(clash.or(clash_in_statements(applied, effect)))
+    clash_of(search, &effect.test, Requirement::When).or(clash_in_statements(applied, effect))
 }
 
 fn clash_in_statements(search: Search, effect: &EmitDecl) -> Option<Clash> {

@@ -2,18 +2,16 @@
 
 use crate::above::{first_word, is_line_start};
 use crate::arguments::misfit;
-use crate::declared::{line_with, named, place_in, word_of};
+use crate::declared::{line_with, place_in, word_of};
 use crate::fields::{
     BEGIN_OBJECT, BEGIN_TRANSACTION, CALL_ARGUMENT, CALL_OBJECT, CALL_OPERATION, EFFECT_ID,
     EFFECT_OBJECT, EFFECT_OPERATION, EFFECT_SEEN, EFFECT_STAMP, EFFECT_TXN, Field, SEEN_IN_HOLDS,
     field_text,
 };
-use crate::pieces::place_between;
 use crate::ranges::is_too_great;
 use crate::words::{has_word, is};
-use ql_base::{NoMemory, number_of};
+use ql_base::number_of;
 use ql_excerpt::line_of;
-use std::alloc::Global;
 
 /// A faulty line: the kind of its file, the rule, its fields, the text above it, and the tokens of the source that
 /// the file belongs to.
@@ -29,49 +27,53 @@ pub(crate) struct FaultyLine<'a> {
 }
 
 /// The index of the field that breaks the rule.
-pub(crate) fn column(alloc: Global, line: FaultyLine) -> Result<usize, NoMemory> {
-    let first = if is(line.part, b"holds") {
-        SEEN_IN_HOLDS
-    } else {
-        EFFECT_SEEN
-    };
+pub(crate) fn column(line: &FaultyLine) -> usize {
     if is(line.rule, b"NotForward") {
-        Ok(not_earlier(line, first))
+        not_earlier(line, first_seen(line))
     } else if is(line.rule, b"OtherObject") {
-        Ok(on_other_object(line, first))
+        on_other_object(line, first_seen(line))
     } else if is(line.part, b"schedule") {
-        in_schedule(alloc, line)
+        in_schedule(line)
     } else if is(line.part, b"execution") {
-        Ok(in_execution(line))
+        in_execution(line)
+    } else if is(line.rule, b"Range") {
+        1
     } else {
-        Ok(if is(line.rule, b"Range") { 1 } else { 0 })
+        0
     }
 }
 
-fn in_execution(line: FaultyLine) -> usize {
+// The field of the first effect that an effect sees.
+fn first_seen(line: &FaultyLine) -> usize {
+    if is(line.part, b"holds") {
+        SEEN_IN_HOLDS
+    } else {
+        EFFECT_SEEN
+    }
+}
+
+fn in_execution(line: &FaultyLine) -> usize {
     if is(line.rule, b"Stamp") {
         EFFECT_STAMP
     } else if is(line.rule, b"SplitTxn") {
         EFFECT_TXN
     } else if is(line.rule, b"Mixed") {
         EFFECT_OPERATION
-    } else if is(line.rule, b"Unknown") {
-        if is_declared(line, b"op", EFFECT_OPERATION) {
-            EFFECT_TXN
-        } else {
-            EFFECT_OPERATION
-        }
-    } else {
+    } else if !is(line.rule, b"Unknown") {
         0
+    } else if is_declared(line, b"op", EFFECT_OPERATION) {
+        EFFECT_TXN
+    } else {
+        EFFECT_OPERATION
     }
 }
 
-fn is_declared(line: FaultyLine, keyword: &[u8], k: usize) -> bool {
+fn is_declared(line: &FaultyLine, keyword: &[u8], k: usize) -> bool {
     place_in(line.source, keyword, field_text(line.fields, k)).is_some()
 }
 
 // The first effect that is seen and isn't earlier.
-fn not_earlier(line: FaultyLine, first: usize) -> usize {
+fn not_earlier(line: &FaultyLine, first: usize) -> usize {
     let own = number_in(field_text(line.fields, EFFECT_ID));
     for (k, id) in line.fields.iter().enumerate() {
         if first <= k && number_in(id.text) >= own {
@@ -82,7 +84,7 @@ fn not_earlier(line: FaultyLine, first: usize) -> usize {
 }
 
 // The first effect that is seen and is on another object.
-fn on_other_object(line: FaultyLine, first: usize) -> usize {
+fn on_other_object(line: &FaultyLine, first: usize) -> usize {
     let object = field_text(line.fields, EFFECT_OBJECT);
     for k in 0..line.above.len() {
         if is_line_start(line.above, k) {
@@ -99,7 +101,7 @@ fn on_other_object(line: FaultyLine, first: usize) -> usize {
 }
 
 // The index of the field with an effect, if it is among those that are seen.
-fn field_of(line: FaultyLine, first: usize, id: &[u8]) -> Option<usize> {
+fn field_of(line: &FaultyLine, first: usize, id: &[u8]) -> Option<usize> {
     for (k, field) in line.fields.iter().enumerate() {
         if first <= k && field.text == id {
             return Some(k);
@@ -112,61 +114,57 @@ fn number_in(text: &[u8]) -> u64 {
     number_of(text, u32::MAX as u64).unwrap_or(0)
 }
 
-fn in_schedule(alloc: Global, line: FaultyLine) -> Result<usize, NoMemory> {
+fn in_schedule(line: &FaultyLine) -> usize {
     let first = field_text(line.fields, 0);
     if is(line.rule, b"Unknown") {
-        unknown(alloc, line, first)
+        unknown(line, first)
     } else if is(line.rule, b"Kind") {
-        Ok(misfit(line))
+        misfit(line)
     } else if is(line.rule, b"Range") {
-        Ok(out_of_range(line, first))
+        out_of_range(line, first)
     } else if is(line.rule, b"Twice") {
-        Ok(twice(line, first))
+        twice(line, first)
     } else {
-        Ok(0)
+        0
     }
 }
 
 // The name that isn't declared. In a call it is the operation if the object is declared.
-fn unknown(alloc: Global, line: FaultyLine, first: &[u8]) -> Result<usize, NoMemory> {
+fn unknown(line: &FaultyLine, first: &[u8]) -> usize {
     if is(first, b"object") {
-        return Ok(2);
-    }
-    let (from, to) = if is(first, b"begin") {
-        if !is_declared(line, b"transaction", BEGIN_TRANSACTION) {
-            return Ok(BEGIN_TRANSACTION);
-        }
-        (BEGIN_OBJECT, line.fields.len())
+        2
+    } else if is(first, b"begin") {
+        unknown_in_begin(line)
+    } else if is_object(line, CALL_OBJECT) {
+        CALL_OPERATION
     } else {
-        (CALL_OBJECT, CALL_OPERATION)
-    };
-    let objects = named(alloc, line.above, b"object", 1)?;
-    for k in from..to {
-        if place_between(&objects, 0, objects.len(), field_text(line.fields, k)).is_none() {
-            return Ok(k);
+        CALL_OBJECT
+    }
+}
+
+fn unknown_in_begin(line: &FaultyLine) -> usize {
+    if !is_declared(line, b"transaction", BEGIN_TRANSACTION) {
+        return BEGIN_TRANSACTION;
+    }
+    for k in BEGIN_OBJECT..line.fields.len() {
+        if !is_object(line, k) {
+            return k;
         }
     }
-    Ok(CALL_OPERATION)
+    BEGIN_OBJECT
+}
+
+// Whether a line above declares the object that a field names.
+fn is_object(line: &FaultyLine, k: usize) -> bool {
+    !line_with(line.above, b"object", 1, field_text(line.fields, k)).is_empty()
 }
 
 // The number that is out of range.
-fn out_of_range(line: FaultyLine, first: &[u8]) -> usize {
+fn out_of_range(line: &FaultyLine, first: &[u8]) -> usize {
     if has_word(b"call begin commit", first) {
-        if number_of(field_text(line.fields, 1), 255).is_none() {
-            1
-        } else if is_replica(line, 3) {
-            great_argument(line)
-        } else {
-            3
-        }
+        number_or_replica(line, 255, great_argument(line))
     } else if is(first, b"resend") {
-        if number_of(field_text(line.fields, 1), u32::MAX as u64).is_none() {
-            1
-        } else if is_replica(line, 3) {
-            5
-        } else {
-            3
-        }
+        number_or_replica(line, u32::MAX as u64, 5)
     } else if is(first, b"join") {
         2
     } else if is(first, b"partition") {
@@ -176,8 +174,20 @@ fn out_of_range(line: FaultyLine, first: &[u8]) -> usize {
     }
 }
 
+// The field of the number after an event's name if that is greater than `most`, or else the field of the replica after
+// it if there is no such replica, or else another one.
+fn number_or_replica(line: &FaultyLine, most: u64, other: usize) -> usize {
+    if number_of(field_text(line.fields, 1), most).is_none() {
+        1
+    } else if is_replica(line, 3) {
+        other
+    } else {
+        3
+    }
+}
+
 // The first argument that doesn't fit in 64 bits.
-fn great_argument(line: FaultyLine) -> usize {
+fn great_argument(line: &FaultyLine) -> usize {
     for (k, argument) in line.fields.iter().enumerate() {
         if CALL_ARGUMENT <= k && is_too_great(argument.text) {
             return k;
@@ -186,7 +196,7 @@ fn great_argument(line: FaultyLine) -> usize {
     CALL_ARGUMENT
 }
 
-fn is_replica(line: FaultyLine, k: usize) -> bool {
+fn is_replica(line: &FaultyLine, k: usize) -> bool {
     match number_of(field_text(line.fields, k), u32::MAX as u64) {
         Some(replica) => replica < line.replicas,
         None => false,
@@ -194,7 +204,7 @@ fn is_replica(line: FaultyLine, k: usize) -> bool {
 }
 
 // The first group above 15, or the first surplus one, or the line's end where one is missing.
-fn group(line: FaultyLine) -> usize {
+fn group(line: &FaultyLine) -> usize {
     for (k, number) in line.fields.iter().enumerate() {
         if k > line.replicas as usize || (k > 0 && number_of(number.text, 15).is_none()) {
             return k;
@@ -204,7 +214,7 @@ fn group(line: FaultyLine) -> usize {
 }
 
 // The name that occurs twice.
-fn twice(line: FaultyLine, first: &[u8]) -> usize {
+fn twice(line: &FaultyLine, first: &[u8]) -> usize {
     if is(first, b"object") {
         return 1;
     }

@@ -3,16 +3,17 @@ ghost use Rattle.std.specs.Prelude.{◌<◌, ◌≤◌, ◌^◌, length};
 
 use crate::answer::Fault;
 use crate::first::{first_of, push_first_at};
-use crate::lexical::{is_lexical, push_lexical};
+use crate::lexical::{is_lexical, push_lexical_fault};
 use crate::meant::{push_instead, push_unknown};
 use crate::notes::SOURCE_BYTES;
-use crate::pieces::{pieces, tokens_of, word_at};
+use crate::pieces::{pieces_of, tokens_of, word_at};
 use crate::rules::sentence;
 use crate::sources::{after_word, form_sentence};
 use crate::syntax::{Break, push_syntax};
+use crate::text::Text;
 use crate::typing::{offset_of, rule_of};
 use crate::words::is;
-use ql_base::{Names, NoMemory, push_bytes};
+use ql_base::{Names, NoMemory};
 use ql_excerpt::{File, Spot, line_of, push_fault};
 use ql_lex::{LexFault, Token};
 use ql_parse::{ParseFault, few_operations, parse_contract};
@@ -41,12 +42,27 @@ pub(crate) fn contract_at(text: &[u8], from: usize) -> &[u8]
     if line.len() > BYTES { b"" } else { line }
 }
 
-// A contract of a file, and the offset at which it begins.
+// A contract of a file, the offset at which it begins, and its tokens.
 #[derive(Clone, Copy)]
 struct Placed<'a> {
     file: File<'a>,
     text: &'a [u8],
     from: usize,
+    tokens: &'a [Token],
+}
+
+impl Placed<'_> {
+    fn word_at(&self, at: usize) -> &[u8] {
+        word_at(self.text, self.tokens, at)
+    }
+
+    // The bytes of the file with the token at an offset.
+    fn spot(&self, at: usize) -> Spot {
+        Spot {
+            from: self.from.saturating_add(at),
+            bytes: self.word_at(at).len(),
+        }
+    }
 }
 
 // The first fault of a contract: its offset in the contract, and the rule that it breaks in a source.
@@ -59,49 +75,52 @@ struct ContractFault {
 /// Appends a note on a fault in the contract at an offset.
 pub(crate) fn push_contract_fault(
     alloc: Global,
-    note: &mut Vec<u8>,
+    note: &mut Text,
     file: File,
     fault: Fault,
     from: usize,
 ) -> Result<(), NoMemory> {
     let text = contract_at(file.text, from);
-    let contract = Placed { file, text, from };
     let found = fault_in(alloc, text)?;
-    let mut said = Vec::new(alloc);
     if is_lexical(found.rule) {
-        let spot = push_lexical(
-            &mut said,
-            file.text,
-            found.rule,
-            from.saturating_add(found.at),
-        )?;
-        return push_fault(note, file, spot, fault.rule, &said);
+        let at = from.saturating_add(found.at);
+        push_lexical_fault(note, file, at, found.rule, fault.rule);
+        return Ok(());
     }
     let tokens = tokens_of(alloc, text)?;
+    let contract = Placed {
+        file,
+        text,
+        from,
+        tokens: &tokens,
+    };
     if is(found.rule, b"Unexpected") {
-        return push_contract_syntax(alloc, note, contract, found.at, &tokens);
+        push_contract_syntax(alloc, note, &contract, found.at)
+    } else {
+        push_contract_misuse(alloc, note, &contract, found)
     }
-    push_contract_misuse(alloc, note, contract, found, &tokens)
 }
 
 // What was expected in a contract, whose grammar is a part of that of sources.
 fn push_contract_syntax(
     alloc: Global,
-    note: &mut Vec<u8>,
-    contract: Placed,
+    note: &mut Text,
+    contract: &Placed,
     at: usize,
-    tokens: &[Token],
 ) -> Result<(), NoMemory> {
-    let word = word_at(contract.text, tokens, at);
+    let word = contract.word_at(at);
     let rule = b"Unexpected".as_slice();
-    push_contract_place(note, contract, at, word, rule, form_sentence(rule, word))?;
+    note.push_fault(
+        contract.file,
+        contract.spot(at),
+        rule,
+        form_sentence(rule, word),
+    );
     if at > contract.text.len() {
         return Ok(());
     }
-    let mut before = Vec::from_slice(alloc, BEFORE)?;
-    push_bytes(&mut before, &contract.text[..at])?;
-    let mut rest = Vec::from_slice(alloc, after_word(&contract.text[at..], word))?;
-    push_bytes(&mut rest, AFTER)?;
+    let before = [BEFORE, &contract.text[..at]].concat(alloc)?;
+    let rest = [after_word(&contract.text[at..], word), AFTER].concat(alloc)?;
     let found = Break {
         before: &before,
         word,
@@ -111,76 +130,57 @@ fn push_contract_syntax(
     push_syntax(alloc, note, found)
 }
 
-fn push_contract_place(
-    note: &mut Vec<u8>,
-    contract: Placed,
-    at: usize,
-    word: &[u8],
-    rule: &[u8],
-    said: &[u8],
-) -> Result<(), NoMemory> {
-    let spot = Spot {
-        from: contract.from.saturating_add(at),
-        bytes: word.len(),
-    };
-    push_fault(note, contract.file, spot, rule, said)
-}
-
 // A fault of the names in a contract, by the contract's tokens inside a source.
 fn push_contract_misuse(
     alloc: Global,
-    note: &mut Vec<u8>,
-    contract: Placed,
+    note: &mut Text,
+    contract: &Placed,
     fault: ContractFault,
-    tokens: &[Token],
 ) -> Result<(), NoMemory> {
-    let mut whole = Vec::from_slice(alloc, BEFORE)?;
-    push_bytes(&mut whole, contract.text)?;
+    let whole = [BEFORE, contract.text].concat(alloc)?;
     if whole.len() > SOURCE_BYTES {
         return Ok(());
     }
-    let all = tokens_of(alloc, &whole)?;
-    let found = pieces(alloc, &whole, &all)?;
-    let k = number_at(tokens, fault.at).saturating_add(TOKENS_BEFORE);
-    let word = word_at(contract.text, tokens, fault.at);
-    let mut said = Vec::new(alloc);
+    let pieces = pieces_of(alloc, &whole)?;
+    let k = number_at(contract.tokens, fault.at).saturating_add(TOKENS_BEFORE);
+    push_misuse_at(alloc, note, contract, fault, &pieces, k)
+}
+
+// The same by the pieces of the source, and the index of the faulty one.
+fn push_misuse_at(
+    alloc: Global,
+    note: &mut Text,
+    contract: &Placed,
+    fault: ContractFault,
+    pieces: &[&[u8]],
+    k: usize,
+) -> Result<(), NoMemory> {
+    let spot = contract.spot(fault.at);
+    note.begin_fault(contract.file, spot, shown_rule(fault.rule));
     if is(fault.rule, b"Unknown") {
-        push_unknown(&mut said, &found, k)?;
+        push_unknown(note, pieces, k);
     } else {
-        push_bytes(&mut said, sentence(b"source", fault.rule))?;
+        note.push(sentence(b"source", fault.rule));
     }
-    push_contract_place(
-        note,
-        contract,
-        fault.at,
-        word,
-        shown_rule(fault.rule),
-        &said,
-    )?;
+    note.end_fault(contract.file, spot);
     if is(fault.rule, b"Unknown") {
-        push_instead(alloc, note, &found, k)
+        push_instead(alloc, note, pieces, k)?;
     } else if is(fault.rule, b"Twice") {
-        push_first_in_contract(note, contract, tokens, first_of(&found, k))
-    } else {
-        Ok(())
+        push_first_in_contract(note, contract, first_of(pieces, k));
     }
+    Ok(())
 }
 
 // Where a name occurs first, by the index of its token inside a source, if it occurs before.
-fn push_first_in_contract(
-    note: &mut Vec<u8>,
-    contract: Placed,
-    tokens: &[Token],
-    first: Option<usize>,
-) -> Result<(), NoMemory> {
+fn push_first_in_contract(note: &mut Text, contract: &Placed, first: Option<usize>) {
     let Some(k) = first else {
-        return Ok(());
+        return;
     };
     push_first_at(
         note,
         contract.file,
-        contract.from.saturating_add(offset_in(tokens, k)),
-    )
+        contract.from.saturating_add(offset_in(contract.tokens, k)),
+    );
 }
 
 // The rule as the answer reports it: a contract that doesn't have its form is `Unexpected`.
@@ -215,15 +215,20 @@ fn fault_in(alloc: Global, contract: &[u8]) -> Result<ContractFault, NoMemory>
     requires { length contract.now < 2 ^ 32 }
 {
     few_operations();
-    let tree = match parse_contract(alloc, contract) {
-        Ok(tree) => tree,
-        Err(fault) => return parse_fault(fault),
-    };
-    let mut ops = Names::new(alloc);
-    match resolve(alloc, &tree, &mut ops, false) {
-        Ok(_) => Ok(contract_fault(0, b"")),
-        Err(TypeFault::NoMemory) => Err(NoMemory),
-        Err(fault) => Ok(contract_fault(offset_of(fault), rule_of(fault))),
+    match parse_contract(alloc, contract) {
+        Ok(tree) => {
+            let mut ops = Names::new(alloc);
+            name_fault(resolve(alloc, &tree, &mut ops, false).err())
+        }
+        Err(fault) => parse_fault(fault),
+    }
+}
+
+fn name_fault(fault: Option<TypeFault>) -> Result<ContractFault, NoMemory> {
+    match fault {
+        None => Ok(contract_fault(0, b"")),
+        Some(TypeFault::NoMemory) => Err(NoMemory),
+        Some(fault) => Ok(contract_fault(offset_of(fault), rule_of(fault))),
     }
 }
 

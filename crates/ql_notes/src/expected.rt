@@ -5,10 +5,12 @@
 ghost use Rattle.std.specs.Prelude.{◌≤◌, length};
 
 use crate::guesses::Guess;
+use crate::notes::SOURCE_BYTES;
+use crate::readable::readable_bytes;
+use crate::text::Text;
 use crate::wanted::{push_quoted, push_separator};
-use crate::words::{has_word, is, sentence_of, words_of};
-use ql_base::{NoMemory, push_bytes};
-use ql_parse::{ParseFault, parse_program};
+use crate::words::{has_word, is, is_word_start, sentence_of, word};
+use ql_base::NoMemory;
 use std::alloc::Global;
 
 // A spelling of each terminal.
@@ -25,10 +27,12 @@ pub(crate) fn expected(alloc: Global, before: &[u8]) -> Result<Vec<&'static [u8]
     requires { length before.now ≤ 1048576 }
 {
     let mut found = Vec::new(alloc);
-    let terminals = words_of(alloc, TERMINALS)?;
-    for terminal in terminals.iter() {
-        if is_allowed(alloc, before, terminal)? {
-            found.push(*terminal)?;
+    for k in 0..TERMINALS.len() {
+        if is_word_start(TERMINALS, k) {
+            let terminal = word(&TERMINALS[k..]).0;
+            if is_allowed(alloc, before, terminal)? {
+                found.push(terminal)?;
+            }
         }
     }
     Ok(found)
@@ -38,41 +42,41 @@ pub(crate) fn expected(alloc: Global, before: &[u8]) -> Result<Vec<&'static [u8]
 fn is_allowed(alloc: Global, before: &[u8], terminal: &[u8]) -> Result<bool, NoMemory>
     requires { length before.now ≤ 1048576 }
 {
-    // No terminal is as long, so the text is never too long to be read.
-    if terminal.len() > 32 {
+    let mut text = Text::new(alloc);
+    text.push(before);
+    text.push(b"\n");
+    text.push(terminal);
+    let text = text.whole()?;
+    // Terminals are short, so no text is as long.
+    if text.len() > 2 * SOURCE_BYTES {
         return Ok(false);
     }
-    let mut text = Vec::from_slice(alloc, before)?;
-    push_bytes(&mut text, b"\n")?;
-    push_bytes(&mut text, terminal)?;
-    match parse_program(alloc, &text) {
-        Ok(_) => Ok(true),
-        Err(ParseFault::NoMemory) => Err(NoMemory),
-        Err(ParseFault::Lex(_)) => Ok(false),
-        Err(ParseFault::Unexpected(at) | ParseFault::Deep(at) | ParseFault::Wide(at)) => Ok(
-            at as usize > before.len() + 1,
-        ),
-    }
+    Ok(readable_bytes(alloc, &text)? > before.len() + 1)
 }
 
 /// Appends some of what was expected: first what was perhaps meant, then what ends or separates something. In a line
 /// its end stands for a semicolon.
 pub(crate) fn push_expected(
     alloc: Global,
-    note: &mut Vec<u8>,
+    note: &mut Text,
     terminals: &[&'static [u8]],
     guess: Guess,
     is_line: bool,
 ) -> Result<(), NoMemory> {
     let ordered = ordered(alloc, terminals, guess)?;
-    for k in 0..ordered.len() {
-        if k == MOST {
-            return push_bytes(note, b" and more");
-        }
-        push_separator(note, k, ordered.len())?;
-        push_terminal(note, ordered[k], is_line)?;
-    }
+    push_terminals(note, &ordered, is_line);
+    note.push(b"\n");
     Ok(())
+}
+
+fn push_terminals(note: &mut Text, terminals: &[&[u8]], is_line: bool) {
+    for (k, terminal) in terminals.iter().enumerate() {
+        if k == MOST {
+            return note.push(b" and more");
+        }
+        push_separator(note, k, terminals.len());
+        push_terminal(note, terminal, is_line);
+    }
 }
 
 // Terminals by how likely it is that they were meant.
@@ -111,7 +115,7 @@ const MEANINGS: &str = "x a name
 1 a number
 \"\" a text";
 
-fn push_terminal(note: &mut Vec<u8>, terminal: &[u8], is_line: bool) -> Result<(), NoMemory> {
+fn push_terminal(note: &mut Text, terminal: &[u8], is_line: bool) {
     let meaning: &[u8] = if is_line && is(terminal, b";") {
         b"the end of the line"
     } else {
@@ -120,6 +124,6 @@ fn push_terminal(note: &mut Vec<u8>, terminal: &[u8], is_line: bool) -> Result<(
     if meaning.is_empty() {
         push_quoted(note, terminal)
     } else {
-        push_bytes(note, meaning)
+        note.push(meaning)
     }
 }

@@ -48,8 +48,17 @@ pub(crate) struct Field<'a> {
 pub(crate) fn fields(alloc: Global, text: &[u8], start: usize) -> Result<Vec<Field>, NoMemory>
     requires { start ≤ length text.now }
 {
-    let line = without_return(line_of(&text[start..]));
     let mut fields = Vec::new(alloc);
+    push_fields(&mut fields, without_return(line_of(&text[start..])), start)?;
+    Ok(fields)
+}
+
+// Appends the fields of a line that begins at an offset.
+fn push_fields<'a>(
+    fields: &mut Vec<Field<'a>>,
+    line: &'a [u8],
+    start: usize,
+) -> Result<(), NoMemory> {
     let mut nesting = Nesting {
         is_quoted: false,
         depth: 0,
@@ -57,24 +66,28 @@ pub(crate) fn fields(alloc: Global, text: &[u8], start: usize) -> Result<Vec<Fie
     let mut from = 0;
     for k in 0..line.len() {
         if line[k] == b' ' && nesting.is_outside() {
-            if from < k {
-                fields.push(field_at(&line[from..k], start, from))?;
-            }
+            push_field(fields, &line[..k], start, from)?;
             from = k + 1;
         }
         nesting = nesting.after(line[k]);
     }
-    if from < line.len() {
-        fields.push(field_at(&line[from..], start, from))?;
-    }
-    Ok(fields)
+    push_field(fields, line, start, from)
 }
 
-fn field_at(text: &[u8], start: usize, from: usize) -> Field {
-    Field {
-        text,
-        from: start.saturating_add(from),
+// Appends the field from an index to the end of the first bytes of a line, unless it is empty.
+fn push_field<'a>(
+    fields: &mut Vec<Field<'a>>,
+    line: &'a [u8],
+    start: usize,
+    from: usize,
+) -> Result<(), NoMemory> {
+    if from < line.len() {
+        fields.push(Field {
+            text: &line[from..],
+            from: start.saturating_add(from),
+        })?;
     }
+    Ok(())
 }
 
 /// The bytes of a field, empty where it isn't there.

@@ -1,66 +1,59 @@
 // Where a name that a source declares or lists again occurs first, and where the name of a value is declared.
 
-use crate::filled::push_filled;
 use crate::meant::{bound_between, is_bound};
 use crate::pieces::{last_of, next_of, piece, piece_before, place_between};
 use crate::repair::{is_chosen, part_of};
+use crate::text::Text;
 use crate::words::{has_word, is};
-use ql_base::{NoMemory, push_bytes};
-use ql_excerpt::{File, place_of, push_position};
+use ql_excerpt::{File, push_position};
 use ql_lex::Token;
 
 /// Appends the position where the name at a token occurs first.
 pub(crate) fn push_first(
-    note: &mut Vec<u8>,
+    note: &mut Text,
     file: File,
     tokens: &[Token],
     pieces: &[&[u8]],
     k: usize,
-) -> Result<(), NoMemory> {
+) {
     let Some(first) = first_of(pieces, k) else {
-        return Ok(());
+        return;
     };
-    push_declared(note, file, tokens, first, b"  first declared at ")
+    push_declared(note, file, tokens, first, b"  first declared at ");
 }
 
 /// Appends the position where the name of a value that an expression uses is declared.
 pub(crate) fn push_declaration(
-    note: &mut Vec<u8>,
+    note: &mut Text,
     file: File,
     tokens: &[Token],
     pieces: &[&[u8]],
     k: usize,
-) -> Result<(), NoMemory> {
+) {
     let Some(first) = value_before(pieces, k) else {
-        return Ok(());
+        return;
     };
-    push_filled(note, b"  `%`", &[piece(pieces, k)])?;
-    push_declared(note, file, tokens, first, b" is declared at ")
+    note.push_filled(b"  `%`", &[piece(pieces, k)]);
+    push_declared(note, file, tokens, first, b" is declared at ");
 }
 
-fn push_declared(
-    note: &mut Vec<u8>,
-    file: File,
-    tokens: &[Token],
-    k: usize,
-    what: &[u8],
-) -> Result<(), NoMemory> {
+fn push_declared(note: &mut Text, file: File, tokens: &[Token], k: usize, what: &[u8]) {
     let Some(token) = tokens.get(k) else {
-        return Ok(());
+        return;
     };
-    push_bytes(note, what)?;
-    push_place(note, file, token.from as usize)
+    note.push(what);
+    push_place(note, file, token.from as usize);
 }
 
 /// Appends the position of the offset at which a name occurs first.
-pub(crate) fn push_first_at(note: &mut Vec<u8>, file: File, at: usize) -> Result<(), NoMemory> {
-    push_bytes(note, b"  first declared at ")?;
-    push_place(note, file, at)
+pub(crate) fn push_first_at(note: &mut Text, file: File, at: usize) {
+    note.push(b"  first declared at ");
+    push_place(note, file, at);
 }
 
-fn push_place(note: &mut Vec<u8>, file: File, at: usize) -> Result<(), NoMemory> {
-    push_position(note, file.name, place_of(file.text, at))?;
-    push_bytes(note, b"\n")
+fn push_place(note: &mut Text, file: File, at: usize) {
+    note.push_position(file, at);
+    note.push(b"\n");
 }
 
 /// The first token with the name at a token, in the same list or among the declarations of the same sort.

@@ -1,12 +1,12 @@
 // What was perhaps meant where a text doesn't follow the grammar: each repair is tried, and the one with which most of
 // the text can be read is the likeliest.
 
-use crate::filled::push_filled;
 use crate::likeness::likest;
+use crate::readable::readable_bytes;
 use crate::syntax::Break;
+use crate::text::Text;
 use crate::words::{has_word, is, sentence_of};
 use ql_base::{NoMemory, is_blank};
-use ql_parse::{ParseFault, parse_program};
 use std::alloc::Global;
 
 // The most bytes of a text for which repairs are tried.
@@ -127,11 +127,12 @@ impl Best {
 
     // Takes a repair if it leaves fewer bytes unread.
     fn try_repair(&mut self, alloc: Global, found: Break, guess: Guess) -> Result<(), NoMemory> {
-        let left = match guess {
-            Guess::Instead(word) => unread(alloc, found, word, b"")?,
-            Guess::Missing(word) => unread(alloc, found, word, found.word)?,
-            _ => unread(alloc, found, b"", b"")?,
+        let (first, second) = match guess {
+            Guess::Instead(word) => (word, b"".as_slice()),
+            Guess::Missing(word) => (word, found.word),
+            _ => (b"".as_slice(), b"".as_slice()),
         };
+        let left = unread(alloc, found, first, second)?;
         if left < self.left {
             self.guess = guess;
             self.left = left;
@@ -142,18 +143,12 @@ impl Best {
 
 // How many bytes are left after the first fault, where two words replace the one that is there.
 fn unread(alloc: Global, found: Break, first: &[u8], second: &[u8]) -> Result<usize, NoMemory> {
-    let mut text = Vec::from_slice(alloc, found.before)?;
-    push_filled(&mut text, b" % % %", &[first, second, found.rest])?;
+    let mut text = Text::new(alloc);
+    text.push_filled(b"% % % %", &[found.before, first, second, found.rest]);
+    let text = text.whole()?;
     // Words are short, so no text is as long.
     if text.len() > 4 * BYTES {
         return Ok(text.len());
     }
-    match parse_program(alloc, &text) {
-        Ok(_) => Ok(0),
-        Err(ParseFault::NoMemory) => Err(NoMemory),
-        Err(ParseFault::Lex(_)) => Ok(text.len()),
-        Err(ParseFault::Unexpected(at) | ParseFault::Deep(at) | ParseFault::Wide(at)) => Ok(
-            text.len().saturating_sub(at as usize).saturating_add(1),
-        ),
-    }
+    Ok((text.len() + 1).saturating_sub(readable_bytes(alloc, &text)?))
 }

@@ -1,10 +1,8 @@
 // The help text of the commands.
 
-use crate::filled::push_filled;
-use crate::likeness::likest;
-use crate::words::{has_word, words_of};
-use ql_base::NoMemory;
-use std::alloc::Global;
+use crate::likeness::likest_in;
+use crate::text::Text;
+use crate::words::has_word;
 
 /// The help text of the commands.
 pub const HELP: &str = "usage: ./quelea COMMAND ..
@@ -40,24 +38,13 @@ error even without a terminal; QUELEA_NOTES=0 never prints them.
 const COMMANDS: &[u8] =
     b"classify explain prove check verify holds run slim restart gen soak proof draw";
 
-/// Appends the command that was perhaps meant, if the first argument isn't a command.
-pub(crate) fn push_command(
-    alloc: Global,
-    note: &mut Vec<u8>,
-    words: &Vec<String>,
-) -> Result<(), NoMemory> {
-    let Some(first) = words.first() else {
-        return Ok(());
-    };
-    let word = first.as_bytes();
+/// Appends the command that was perhaps meant by a word that isn't one.
+pub(crate) fn push_command(note: &mut Text, word: &[u8]) {
     if has_word(COMMANDS, word) {
-        return Ok(());
+        return;
     }
-    match likest(word, &words_of(alloc, COMMANDS)?) {
-        Some(meant) => {
-            push_filled(note, b"`%` isn't a command: did you mean ", &[word])?;
-            push_filled(note, b"`%`?\n\n", &[meant])
-        }
-        None => Ok(()),
+    if let Some(meant) = likest_in(word, COMMANDS) {
+        note.push_filled(b"`%` isn't a command: did you mean ", &[word]);
+        note.push_filled(b"`%`?\n\n", &[meant]);
     }
 }

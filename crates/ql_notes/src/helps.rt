@@ -5,10 +5,10 @@ use crate::arguments::push_operation;
 use crate::columns::FaultyLine;
 use crate::declared::{declared, named, place_in, word_after};
 use crate::fields::{BEGIN_TRANSACTION, CALL_OBJECT, CALL_OPERATION, EFFECT_OPERATION, field_text};
-use crate::filled::push_counted;
 use crate::names::push_known;
 use crate::pieces::{next_of, pieces_after};
 use crate::stamp::right_stamp;
+use crate::text::Text;
 use crate::words::is;
 use ql_base::NoMemory;
 use ql_excerpt::place_of;
@@ -18,33 +18,30 @@ use std::alloc::Global;
 /// or what the operation takes.
 pub(crate) fn push_help(
     alloc: Global,
-    note: &mut Vec<u8>,
-    line: FaultyLine,
+    note: &mut Text,
+    line: &FaultyLine,
     k: usize,
     above: Above,
     text: &[u8],
 ) -> Result<(), NoMemory> {
     if is(line.rule, b"Stamp") {
-        return push_stamp(note, text, line.above.len());
-    }
-    if is(line.rule, b"Number") {
+        push_stamp(note, text, line.above.len());
+    } else if is(line.rule, b"Number") {
         let next = above.numbered.saturating_add(1);
-        return push_counted(note, b"  the next number is #\n", &[], &[next]);
-    }
-    if is(line.rule, b"Unknown") && !is(line.part, b"holds") {
+        note.push_counted(b"  the next number is #\n", &[], &[next]);
+    } else if is(line.rule, b"Kind") {
+        push_operation(note, line);
+    } else if is(line.rule, b"Unknown") && !is(line.part, b"holds") {
         let names = candidates(alloc, line, k)?;
-        return push_known(note, name_in(field_text(line.fields, k)), &names);
-    }
-    if is(line.rule, b"Kind") {
-        return push_operation(note, line);
+        push_known(note, name_in(field_text(line.fields, k)), &names);
     }
     Ok(())
 }
 
-fn push_stamp(note: &mut Vec<u8>, text: &[u8], start: usize) -> Result<(), NoMemory> {
+fn push_stamp(note: &mut Text, text: &[u8], start: usize) {
     match right_stamp(text, place_of(text, start)) {
-        Some(stamp) => push_counted(note, b"  the right stamp is #\n", &[], &[stamp]),
-        None => Ok(()),
+        Some(stamp) => note.push_counted(b"  the right stamp is #\n", &[], &[stamp]),
+        None => {}
     }
 }
 
@@ -61,22 +58,13 @@ fn name_in(field: &[u8]) -> &[u8] {
 // The names that are allowed in the field at an index: those of the source, or the objects.
 fn candidates<'a>(
     alloc: Global,
-    line: FaultyLine<'a>,
+    line: &FaultyLine<'a>,
     k: usize,
 ) -> Result<Vec<&'a [u8]>, NoMemory> {
     let first = field_text(line.fields, 0);
     if is(line.part, b"execution") {
-        return declared(
-            alloc,
-            line.source,
-            if k == EFFECT_OPERATION {
-                b"op"
-            } else {
-                b"transaction"
-            },
-        );
-    }
-    if is(first, b"object") {
+        declared(alloc, line.source, sort_in_effect(k))
+    } else if is(first, b"object") {
         declared(alloc, line.source, b"type")
     } else if is(first, b"begin") && k == BEGIN_TRANSACTION {
         declared(alloc, line.source, b"transaction")
@@ -87,8 +75,17 @@ fn candidates<'a>(
     }
 }
 
+// The keyword of what the field of an effect at an index names.
+fn sort_in_effect(k: usize) -> &'static [u8] {
+    if k == EFFECT_OPERATION {
+        b"op"
+    } else {
+        b"transaction"
+    }
+}
+
 // The operations of the type of a call's object.
-fn operations_of<'a>(alloc: Global, line: FaultyLine<'a>) -> Result<Vec<&'a [u8]>, NoMemory> {
+fn operations_of<'a>(alloc: Global, line: &FaultyLine<'a>) -> Result<Vec<&'a [u8]>, NoMemory> {
     let name = word_after(line.above, b"object", field_text(line.fields, CALL_OBJECT));
     let start = place_in(line.source, b"type", name).unwrap_or(line.source.len());
     let end = next_of(line.source, start.saturating_add(1), b"type").unwrap_or(line.source.len());

@@ -1,14 +1,49 @@
 // The kinds of expressions, as far as they can be determined.
 
 use ql_base::Word;
-use ql_lang::{Base, Expr, ExprNode, Init, InitNode, Kind};
-use ql_typing::{Function, Known, find_function, operator_gives};
+use ql_lang::{Base, Bind, Expr, ExprNode, Field, Init, InitNode, Kind, Param};
+use ql_typing::{Function, find_function, kind_of_base, operator_gives};
+
+/// The names that an expression may use.
+#[derive(Clone, Copy)]
+pub(crate) struct Scope<'a> {
+    pub(crate) fields: &'a [Field],
+    pub(crate) others: Others<'a>,
+}
+
+/// The names other than fields: parameters, or in a statement emitted values.
+#[derive(Clone, Copy)]
+pub(crate) enum Others<'a> {
+    Parameters(&'a [Param]),
+    Emitted(&'a [Bind]),
+}
 
 /// The kind of a name in scope. If a name occurs twice, the first kind counts.
-pub(crate) fn kind_named(scope: &[Known], word: &Word) -> Option<Kind> {
-    for known in scope {
-        if known.word.bytes() == word.bytes() {
-            return Some(known.kind);
+pub(crate) fn kind_named(scope: &Scope, word: &Word) -> Option<Kind> {
+    for field in scope.fields {
+        if field.name.word.bytes() == word.bytes() {
+            return Some(field.kind);
+        }
+    }
+    match scope.others {
+        Others::Parameters(params) => kind_of_parameter(params, word),
+        Others::Emitted(binds) => kind_of_emitted(binds, word),
+    }
+}
+
+fn kind_of_parameter(params: &[Param], word: &Word) -> Option<Kind> {
+    for param in params {
+        if param.name.word.bytes() == word.bytes() {
+            return Some(kind_of_base(param.base));
+        }
+    }
+    None
+}
+
+fn kind_of_emitted(binds: &[Bind], word: &Word) -> Option<Kind> {
+    for bind in binds {
+        if bind.name.word.bytes() == word.bytes() {
+            return Some(kind_of_base(bind.base));
         }
     }
     None
@@ -16,7 +51,7 @@ pub(crate) fn kind_named(scope: &[Known], word: &Word) -> Option<Kind> {
 
 /// The kind of an expression, provided that its parts have the required kinds.
 #[cycle(kind)]
-pub(crate) fn kind_of(scope: &[Known], node: &ExprNode) -> Option<Kind> {
+pub(crate) fn kind_of(scope: &Scope, node: &ExprNode) -> Option<Kind> {
     match node {
         ExprNode::Int(_) | ExprNode::Neg(_) => Some(Kind::Int),
         ExprNode::Text(_) => Some(Kind::Text),
@@ -33,7 +68,7 @@ pub(crate) fn kind_of(scope: &[Known], node: &ExprNode) -> Option<Kind> {
 }
 
 #[cycle(kind)]
-fn result_of_call(scope: &[Known], function: Function, arguments: &[Expr]) -> Option<Kind> {
+fn result_of_call(scope: &Scope, function: Function, arguments: &[Expr]) -> Option<Kind> {
     match function {
         Function::Has => Some(Kind::Bool),
         Function::Size | Function::Sum => Some(Kind::Int),

@@ -1,69 +1,106 @@
 // Why bytes aren't a token.
 
-use crate::filled::{push_counted, push_filled};
+use crate::text::Text;
 use crate::words::{has_word, is};
-use ql_base::{NoMemory, digit_bytes, is_word_byte, push_bytes};
-use ql_excerpt::Spot;
+use ql_base::{digit_bytes, is_word_byte};
+use ql_excerpt::{File, Spot};
 
 /// Whether a rule is about tokens.
 pub(crate) fn is_lexical(rule: &[u8]) -> bool {
     has_word(b"BadChar LongWord BadNumber", rule)
 }
 
-/// Appends why the bytes at an offset aren't a token, and returns the bytes to mark.
-pub(crate) fn push_lexical(
-    said: &mut Vec<u8>,
-    text: &[u8],
-    rule: &[u8],
+/// Appends a note on the bytes at an offset of a file, which aren't a token by a rule. The answer may report
+/// another one.
+pub(crate) fn push_lexical_fault(
+    note: &mut Text,
+    file: File,
     at: usize,
-) -> Result<Spot, NoMemory> {
+    rule: &[u8],
+    reported: &[u8],
+) {
+    let spot = spot_of(file.text, at, rule);
+    note.begin_fault(file, spot, reported);
+    push_lexical(note, file.text, at, rule);
+    note.end_fault(file, spot);
+}
+
+// The bytes from an offset on that aren't a token by a rule.
+fn spot_of(text: &[u8], at: usize, rule: &[u8]) -> Spot {
     let rest = rest_of(text, at);
     if is(rule, b"BadChar") {
-        return push_bad_byte(said, text, at);
-    }
-    let bytes = if is(rule, b"LongWord") {
-        push_long(said, rest)?
+        spot_of_byte(text, at)
+    } else if rest.starts_with(b"\"") && is(rule, b"LongWord") {
+        Spot {
+            from: at,
+            bytes: text_bytes(rest).saturating_add(2),
+        }
     } else {
-        push_bytes(said, bad_number(rest))?;
-        word_bytes(rest)
-    };
-    Ok(Spot { from: at, bytes })
+        Spot {
+            from: at,
+            bytes: word_bytes(rest),
+        }
+    }
+}
+
+// A wrong byte, or the text that it ends.
+fn spot_of_byte(text: &[u8], at: usize) -> Spot {
+    match open_quote(text, at) {
+        Some(quote) if is_line_end(byte_at(text, at)) => Spot {
+            from: quote,
+            bytes: at.saturating_sub(quote),
+        },
+        _ => Spot { from: at, bytes: 1 },
+    }
+}
+
+fn is_line_end(byte: u8) -> bool {
+    byte == b'\n' || byte == b'\r'
+}
+
+// Appends why the bytes at an offset aren't a token.
+fn push_lexical(note: &mut Text, text: &[u8], at: usize, rule: &[u8]) {
+    let rest = rest_of(text, at);
+    if is(rule, b"BadChar") {
+        push_bad_byte(note, byte_at(text, at), open_quote(text, at).is_some());
+    } else if is(rule, b"LongWord") {
+        push_long(note, rest);
+    } else {
+        note.push(bad_number(rest));
+    }
 }
 
 fn rest_of(text: &[u8], at: usize) -> &[u8] {
     if at < text.len() { &text[at..] } else { b"" }
 }
 
-// Appends why a byte is wrong, and returns the bytes to mark.
-fn push_bad_byte(said: &mut Vec<u8>, text: &[u8], at: usize) -> Result<Spot, NoMemory> {
-    let byte = rest_of(text, at).first().copied().unwrap_or(b'\n');
-    let one = Spot { from: at, bytes: 1 };
-    let Some(quote) = open_quote(text, at) else {
-        push_byte(said, b"no token begins with ", byte, advice(byte))?;
-        return Ok(one);
-    };
-    if byte == b'\n' || byte == b'\r' {
-        push_bytes(said, b"this text has no closing `\"` on the same line")?;
-        return Ok(Spot {
-            from: quote,
-            bytes: at.saturating_sub(quote),
-        });
+// The byte at an offset; a line feed after the last one.
+fn byte_at(text: &[u8], at: usize) -> u8 {
+    rest_of(text, at).first().copied().unwrap_or(b'\n')
+}
+
+// Appends why a byte is wrong.
+fn push_bad_byte(note: &mut Text, byte: u8, is_text: bool) {
+    if !is_text {
+        push_byte(note, b"no token begins with ", byte, advice(byte));
+    } else if is_line_end(byte) {
+        note.push(b"this text has no closing `\"` on the same line");
+    } else {
+        push_byte(
+            note,
+            b"",
+            byte,
+            b" isn't allowed in a text, which may have bytes from space to `~` except `\"` and `\\`",
+        );
     }
-    push_byte(
-        said,
-        b"",
-        byte,
-        b" isn't allowed in a text, which may have bytes from space to `~` except `\"` and `\\`",
-    )?;
-    Ok(one)
 }
 
 // Appends a printable byte in quotes, or any other byte as a number, between some words.
-fn push_byte(said: &mut Vec<u8>, before: &[u8], byte: u8, after: &[u8]) -> Result<(), NoMemory> {
+fn push_byte(said: &mut Text, before: &[u8], byte: u8, after: &[u8]) {
     if 33 <= byte && byte <= 126 {
-        push_filled(said, b"%`%`%", &[before, &[byte], after])
+        said.push_filled(b"%`%`%", &[before, &[byte], after])
     } else {
-        push_counted(said, b"%the byte #%", &[before, after], &[byte as u64])
+        said.push_counted(b"%the byte #%", &[before, after], &[byte as u64])
     }
 }
 
@@ -101,23 +138,21 @@ fn open_quote(text: &[u8], at: usize) -> Option<usize> {
     quote
 }
 
-// Appends how long a name or a text is. Returns the bytes to mark, with the quotes of a text.
-fn push_long(said: &mut Vec<u8>, rest: &[u8]) -> Result<usize, NoMemory> {
-    let is_text = rest.starts_with(b"\"");
-    let (sentence, bytes): (&[u8], usize) = if is_text {
-        (
+// Appends how long a name or a text is.
+fn push_long(note: &mut Text, rest: &[u8]) {
+    if rest.starts_with(b"\"") {
+        note.push_counted(
             b"this text is # bytes long, but at most 64 are allowed",
-            text_bytes(rest),
-        )
+            &[],
+            &[text_bytes(rest) as u64],
+        );
     } else {
-        (
+        note.push_counted(
             b"this name is # bytes long, but at most 32 are allowed",
-            word_bytes(rest),
-        )
-    };
-    push_counted(said, sentence, &[], &[bytes as u64])?;
-    let quotes = if is_text { 2 } else { 0 };
-    Ok(bytes.saturating_add(quotes))
+            &[],
+            &[word_bytes(rest) as u64],
+        );
+    }
 }
 
 // How many bytes there are between the quotes of a text.

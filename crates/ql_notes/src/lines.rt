@@ -10,82 +10,109 @@ use crate::fields::{Field, field_text, fields};
 use crate::forms::{find_misfit, forms};
 use crate::helps::push_help;
 use crate::rules::sentence;
+use crate::text::Text;
 use crate::wanted::push_wanted;
 use crate::words::is;
 use ql_base::NoMemory;
-use ql_excerpt::{File, Spot, place_of_line, push_fault};
+use ql_excerpt::{File, Spot, place_of_line};
 use std::alloc::Global;
 
 /// Appends a note on a fault in a line file. `source` has the tokens of the source that the file belongs to.
 pub(crate) fn push_line_fault<'x>(
     alloc: Global,
-    note: &mut Vec<u8>,
+    note: &mut Text,
     file: File<'x>,
     fault: Fault<'x>,
     source: &'x [&'x [u8]],
 ) -> Result<(), NoMemory> {
     let start = start_of(file.text, fault.at);
-    let above_text = &file.text[..start];
+    let text_above = &file.text[..start];
     let fields = fields(alloc, file.text, start)?;
     let above = lines_above(file.text, start, is(fault.part, b"execution"));
-    if is(field_text(&fields, 0), b"contract") && above.lines == 0 && is(fault.part, b"holds") {
-        return push_contract_fault(alloc, note, file, fault, end_of(&fields, 0, start));
-    }
-    if is(fault.rule, b"Unexpected") {
-        let line = Line {
-            start,
-            fields: &fields,
-            above,
-        };
-        return push_form_fault(alloc, note, file, fault, line);
-    }
-    let line = FaultyLine {
-        part: fault.part,
-        rule: fault.rule,
+    let line = Line {
+        start,
         fields: &fields,
-        above: above_text,
-        source,
-        replicas: replicas(above_text).saturating_add(above.joins),
+        text_above,
+        above,
     };
-    let k = column(alloc, line)?;
-    let mut said = Vec::new(alloc);
-    push_breach(&mut said, line, k, file.text)?;
-    push_fault(note, file, spot(&fields, k, start), fault.rule, &said)?;
-    push_first_line(note, file, line, k)?;
-    push_help(alloc, note, line, k, above, file.text)
+    if is(fault.part, b"holds") && is_contract(&line) {
+        push_contract_fault(alloc, note, file, fault, end_of(&fields, 0, start))
+    } else if is(fault.rule, b"Unexpected") {
+        push_form_fault(alloc, note, file, fault, &line)
+    } else {
+        push_rule_fault(alloc, note, file, fault, &line, source)
+    }
 }
 
-// The offset of a line, its fields, and what precedes it.
+// Whether a line is the first one, and begins as a contract does.
+fn is_contract(line: &Line) -> bool {
+    line.above.lines == 0 && is(field_text(line.fields, 0), b"contract")
+}
+
+// The offset of a line, its fields, and the text and the lines above it.
 #[derive(Clone, Copy)]
 struct Line<'a> {
     start: usize,
     fields: &'a [Field<'a>],
+    text_above: &'a [u8],
     above: Above,
+}
+
+// Appends a note on a line that has its form, but breaks another rule.
+fn push_rule_fault<'x>(
+    alloc: Global,
+    note: &mut Text,
+    file: File<'x>,
+    fault: Fault<'x>,
+    line: &Line<'x>,
+    source: &'x [&'x [u8]],
+) -> Result<(), NoMemory> {
+    let faulty = FaultyLine {
+        part: fault.part,
+        rule: fault.rule,
+        fields: line.fields,
+        above: line.text_above,
+        source,
+        replicas: replicas(line.text_above).saturating_add(line.above.joins),
+    };
+    let k = column(&faulty);
+    let spot = spot(line.fields, k, line.start);
+    note.begin_fault(file, spot, fault.rule);
+    push_breach(note, &faulty, k, file.text);
+    note.end_fault(file, spot);
+    push_first_line(note, file, &faulty, k);
+    push_help(alloc, note, &faulty, k, line.above, file.text)
 }
 
 // Appends a note on a line that doesn't have its form.
 fn push_form_fault(
     alloc: Global,
-    note: &mut Vec<u8>,
+    note: &mut Text,
     file: File,
     fault: Fault,
-    line: Line,
+    line: &Line,
 ) -> Result<(), NoMemory> {
     let next = line.above.effects.saturating_add(1);
     let found = find_misfit(forms(fault.part, line.above), line.fields, next);
-    let is_end = line.start == file.text.len();
-    let said = if !is_end {
-        sentence(fault.part, fault.rule)
-    } else if is(last_form(found.form), b"end") {
-        b"the file ends here, but the line `end` is missing".as_slice()
-    } else if is(found.form, b"execution") {
-        b"the file ends here, but the line `execution` is missing before the first effect".as_slice()
+    let said = if line.start == file.text.len() {
+        end_sentence(found.form)
     } else {
-        b"the file ends here".as_slice()
+        sentence(fault.part, fault.rule)
     };
     let spot = spot(line.fields, found.field, line.start);
-    push_fault(note, file, spot, fault.rule, said)?;
+    note.push_fault(file, spot, fault.rule, said);
     push_wanted(alloc, note, line.fields, found, next)
+}
+
+// That a file ends where a line should have one of some forms.
+fn end_sentence(forms: &[u8]) -> &'static [u8] {
+    if is(last_form(forms), b"end") {
+        b"the file ends here, but the line `end` is missing"
+    } else if is(forms, b"execution") {
+        b"the file ends here, but the line `execution` is missing before the first effect"
+    } else {
+        b"the file ends here"
+    }
 }
 
 // The last of the forms that a line may have.

@@ -1,13 +1,13 @@
 // What the note says of an unknown name in a source: what was required there, and the names that are known.
 
 use crate::declared::{declared, place_in};
-use crate::filled::push_filled;
-use crate::likeness::{likest, push_meant};
+use crate::likeness::{likest_in, push_meant};
 use crate::names::{push_known, push_listed};
 use crate::pieces::{
     last_of, next_of, piece, piece_after, piece_before, pieces_after, place_between,
 };
 use crate::repair::{is_chosen, part_of};
+use crate::text::Text;
 use crate::words::{has_word, is, words_of};
 use ql_base::NoMemory;
 use std::alloc::Global;
@@ -56,12 +56,8 @@ fn meant_at(tokens: &[&[u8]], k: usize) -> Meant {
 }
 
 /// Appends what is unknown.
-pub(crate) fn push_unknown(note: &mut Vec<u8>, tokens: &[&[u8]], k: usize) -> Result<(), NoMemory> {
-    push_filled(
-        note,
-        what_is_wrong(meant_at(tokens, k)),
-        &[piece(tokens, k)],
-    )
+pub(crate) fn push_unknown(note: &mut Text, tokens: &[&[u8]], k: usize) {
+    note.push_filled(what_is_wrong(meant_at(tokens, k)), &[piece(tokens, k)]);
 }
 
 fn what_is_wrong(meant: Meant) -> &'static [u8] {
@@ -81,18 +77,37 @@ fn what_is_wrong(meant: Meant) -> &'static [u8] {
 /// Appends what was perhaps meant by an unknown name, or else the names that are known.
 pub(crate) fn push_instead(
     alloc: Global,
-    note: &mut Vec<u8>,
+    note: &mut Text,
     tokens: &[&[u8]],
     k: usize,
 ) -> Result<(), NoMemory> {
     let word = piece(tokens, k);
     match meant_at(tokens, k) {
-        Meant::Variable if place_in(tokens, b"op", word).is_some() => push_effects_of(note, word),
-        Meant::Current => push_listed(note, &variables(alloc, tokens, k)?),
-        Meant::Parameter => push_listed(note, &values(alloc, tokens, k)?),
-        Meant::Value => push_value(alloc, note, tokens, k),
-        meant => push_known(note, word, &known_names(alloc, tokens, k, meant)?),
+        Meant::Variable if place_in(tokens, b"op", word).is_some() => note.push_filled(
+            b"  it is an operation: `forall x: %.` quantifies its effects\n",
+            &[word],
+        ),
+        Meant::Value => push_value(alloc, note, tokens, k)?,
+        meant => push_names(alloc, note, tokens, k, meant)?,
     }
+    Ok(())
+}
+
+// Appends the name that was perhaps meant by an unknown one, or else the names that are known. Instead of `cur` and of a
+// parameter no name is likelier than another.
+fn push_names(
+    alloc: Global,
+    note: &mut Text,
+    tokens: &[&[u8]],
+    k: usize,
+    meant: Meant,
+) -> Result<(), NoMemory> {
+    let names = known_names(alloc, tokens, k, meant)?;
+    match meant {
+        Meant::Current | Meant::Parameter => push_listed(note, &names),
+        _ => push_known(note, piece(tokens, k), &names),
+    }
+    Ok(())
 }
 
 // The names of which one was perhaps meant.
@@ -106,54 +121,40 @@ fn known_names<'a>(
         Meant::Operation => declared(alloc, tokens, b"op"),
         Meant::Function => words_of(alloc, FUNCTIONS),
         Meant::Target => fields(alloc, tokens, k),
-        _ => variables(alloc, tokens, k),
+        Meant::Parameter | Meant::Value => values(alloc, tokens, k),
+        Meant::Current | Meant::Variable => variables(alloc, tokens, k),
     }
 }
 
 // Appends the literal or the name that was perhaps meant by an unknown value, or else what could be mended.
-fn push_value(
-    alloc: Global,
-    note: &mut Vec<u8>,
-    tokens: &[&[u8]],
-    k: usize,
-) -> Result<(), NoMemory> {
-    let word = piece(tokens, k);
-    let literal = likest(word, &words_of(alloc, LITERALS)?);
+fn push_value(alloc: Global, note: &mut Text, tokens: &[&[u8]], k: usize) -> Result<(), NoMemory> {
+    let literal = likest_in(piece(tokens, k), LITERALS);
     if literal.is_some() {
-        return push_meant(note, literal);
+        push_meant(note, literal);
+    } else {
+        push_names(alloc, note, tokens, k, Meant::Value)?;
+        push_unused(note, tokens, k);
     }
-    push_known(note, word, &values(alloc, tokens, k)?)?;
-    push_unused(note, tokens, k)
+    Ok(())
 }
 
 // A parameter that its operation never uses may be the unknown name, misspelt where it is declared.
-fn push_unused(note: &mut Vec<u8>, tokens: &[&[u8]], k: usize) -> Result<(), NoMemory> {
+fn push_unused(note: &mut Text, tokens: &[&[u8]], k: usize) {
     let (from, to) = parameters_before(tokens, k);
     for (j, token) in tokens.iter().enumerate() {
         if from < j && j < to && is_bound(tokens, j) && !is_used(tokens, to, token) {
-            push_filled(
-                note,
+            note.push_filled(
                 b"  the parameter `%` is never used: perhaps it should be `%`\n",
                 &[*token, piece(tokens, k)],
-            )?;
+            );
         }
     }
-    Ok(())
 }
 
 // Whether a name occurs in an operation after its parameters.
 fn is_used(tokens: &[&[u8]], to: usize, name: &[u8]) -> bool {
     let end = next_of(tokens, to, b"op type transaction").unwrap_or(tokens.len());
     place_between(tokens, to.saturating_add(1), end, name).is_some()
-}
-
-// Appends how to quantify the effects of an operation whose name is used as an effect.
-fn push_effects_of(note: &mut Vec<u8>, operation: &[u8]) -> Result<(), NoMemory> {
-    push_filled(
-        note,
-        b"  it is an operation: `forall x: %.` quantifies its effects\n",
-        &[operation],
-    )
 }
 
 // The variables of the contract around a token, and in an operation the current effect.

@@ -5,9 +5,10 @@ use crate::absent_operations::push_absent_operations;
 use crate::answer::{Fault, fault_of};
 use crate::help::{HELP, push_command};
 use crate::lines::push_line_fault;
-use crate::pieces::{pieces, tokens_of};
+use crate::pieces::pieces_of;
 use crate::refusals::{Refusal, Source, push_refusal, refusal_in};
 use crate::sources::push_source_fault;
+use crate::text::Text;
 use crate::verdicts::push_verdict;
 use crate::words::{has_word, is};
 use ql_base::{MAX_EXECUTION_BYTES, MAX_SOURCE_BYTES, NoMemory};
@@ -38,21 +39,35 @@ pub fn note<S: Shelf>(
     printed: Printed,
     shelf: &mut S,
 ) -> Result<Vec<u8>, NoMemory> {
-    let mut note = Vec::new(alloc);
+    let mut note = Text::new(alloc);
+    push_note(alloc, &mut note, words, status, printed, shelf)?;
+    note.whole()
+}
+
+fn push_note<S: Shelf>(
+    alloc: Global,
+    note: &mut Text,
+    words: &Vec<String>,
+    status: Status,
+    printed: Printed,
+    shelf: &mut S,
+) -> Result<(), NoMemory> {
     if status == Status::Usage {
-        push_command(alloc, &mut note, words)?;
-        note.extend_from_slice(HELP.as_bytes())?;
+        push_command(note, command(words));
+        note.push(HELP.as_bytes());
+        Ok(())
     } else if let Some(fault) = fault_of(printed.first) {
-        push_bad_file(alloc, &mut note, words, fault, shelf)?;
+        push_bad_file(alloc, note, words, fault, shelf)
     } else if let Some(refusal) = refusal_of(words, status, printed) {
-        push_refused(alloc, &mut note, words, refusal, shelf)?;
+        push_refused(alloc, note, words, refusal, shelf)
+    } else if status == Status::Done && is(printed.first, b"holds\n") {
+        push_holding(alloc, note, words, shelf)
     } else if status != Status::No || !is(command(words), b"explain") {
-        push_verdict(&mut note, status, printed)?;
-        if status == Status::Done && is(printed.first, b"holds\n") {
-            push_holding(alloc, &mut note, words, shelf)?;
-        }
+        push_verdict(note, status, printed);
+        Ok(())
+    } else {
+        Ok(())
     }
-    Ok(note)
 }
 
 // The command's name.
@@ -79,7 +94,7 @@ fn refusal_of<'a>(
 // Appends a note on a faulty file.
 fn push_bad_file<S: Shelf>(
     alloc: Global,
-    note: &mut Vec<u8>,
+    note: &mut Text,
     words: &Vec<String>,
     fault: Fault,
     shelf: &mut S,
@@ -104,27 +119,39 @@ enum Finding<'a> {
 // Appends a note on a file that goes with a source.
 fn push_finding<S: Shelf>(
     alloc: Global,
-    note: &mut Vec<u8>,
+    note: &mut Text,
     source: &str,
     name: &str,
     finding: Finding,
     shelf: &mut S,
 ) -> Result<(), NoMemory> {
-    let text = text_of(alloc, shelf, source, SOURCE_BYTES)?;
-    let found = tokens_of(alloc, &text)?;
-    let tokens = pieces(alloc, &text, &found)?;
-    let other = text_of(alloc, shelf, name, FILE_BYTES)?;
-    let file = file(name, &other);
+    let source_text = text_of(alloc, shelf, source, SOURCE_BYTES)?;
+    let text = text_of(alloc, shelf, name, FILE_BYTES)?;
+    let file = file(name, &text);
+    push_found(alloc, note, source, &source_text, file, finding)
+}
+
+// Appends a note on a file that goes with the source that has a name and a text.
+fn push_found(
+    alloc: Global,
+    note: &mut Text,
+    name: &str,
+    text: &[u8],
+    file: File,
+    finding: Finding,
+) -> Result<(), NoMemory>
+    requires { length text.now ≤ 1048576 }
+{
+    let tokens = pieces_of(alloc, text)?;
+    let source = Source {
+        name: name.as_bytes(),
+        tokens: &tokens,
+    };
     match finding {
-        Finding::Fault(fault) => push_line_fault(alloc, note, file, fault, &tokens),
-        Finding::Refusal(refusal) => {
-            let source = Source {
-                name: source.as_bytes(),
-                tokens: &tokens,
-            };
-            push_refusal(alloc, note, file, source, refusal)
-        }
+        Finding::Fault(fault) => push_line_fault(alloc, note, file, fault, &tokens)?,
+        Finding::Refusal(refusal) => push_refusal(note, file, source, refusal),
     }
+    Ok(())
 }
 
 fn file<'a>(name: &'a str, text: &'a [u8]) -> File<'a>
@@ -139,7 +166,7 @@ fn file<'a>(name: &'a str, text: &'a [u8]) -> File<'a>
 // Appends a note on a faulty source.
 fn push_bad_source<S: Shelf>(
     alloc: Global,
-    note: &mut Vec<u8>,
+    note: &mut Text,
     words: &Vec<String>,
     fault: Fault,
     shelf: &mut S,
@@ -165,7 +192,7 @@ fn name_of_part<'a>(words: &'a Vec<String>, part: &[u8]) -> Option<&'a str> {
 // Appends a note on a refused certificate or proof.
 fn push_refused<S: Shelf>(
     alloc: Global,
-    note: &mut Vec<u8>,
+    note: &mut Text,
     words: &Vec<String>,
     refusal: Refusal,
     shelf: &mut S,
@@ -180,7 +207,7 @@ fn push_refused<S: Shelf>(
 // Appends a note on a contract that holds.
 fn push_holding<S: Shelf>(
     alloc: Global,
-    note: &mut Vec<u8>,
+    note: &mut Text,
     words: &Vec<String>,
     shelf: &mut S,
 ) -> Result<(), NoMemory> {

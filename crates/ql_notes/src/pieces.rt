@@ -1,8 +1,9 @@
 // The tokens of a source as words that can be replaced.
 ghost use Rattle.std.specs.Prelude.{◌≤◌, length};
 
+use crate::text::Text;
 use crate::words::has_word;
-use ql_base::{NoMemory, push_bytes};
+use ql_base::NoMemory;
 use ql_lex::{LexFault, Token, tokens};
 use std::alloc::Global;
 
@@ -28,6 +29,14 @@ pub(crate) fn pieces<'a>(
         pieces.push(part(text, *token))?;
     }
     Ok(pieces)
+}
+
+/// The bytes of the tokens of a text, in order.
+pub(crate) fn pieces_of<'a>(alloc: Global, text: &'a [u8]) -> Result<Vec<&'a [u8]>, NoMemory>
+    requires { length text.now ≤ 1048576 }
+{
+    let found = tokens_of(alloc, text)?;
+    pieces(alloc, text, &found)
 }
 
 /// The bytes of a token.
@@ -64,6 +73,31 @@ pub(crate) fn piece_after_last<'a>(pieces: &[&'a [u8]], k: usize, words: &[u8]) 
         Some(j) => piece_after(pieces, j),
         None => b"",
     }
+}
+
+/// How often a word occurs.
+pub(crate) fn count_of(pieces: &[&[u8]], word: &[u8]) -> usize {
+    let mut count = 0usize;
+    for piece in pieces {
+        if *piece == word {
+            count = count.saturating_add(1);
+        }
+    }
+    count
+}
+
+/// The piece after the occurrence of a word at an index, empty where there is none.
+pub(crate) fn piece_after_nth<'a>(pieces: &[&'a [u8]], word: &[u8], number: usize) -> &'a [u8] {
+    let mut count = 0usize;
+    for (j, piece) in pieces.iter().enumerate() {
+        if *piece == word {
+            if count == number {
+                return piece_after(pieces, j);
+            }
+            count = count.saturating_add(1);
+        }
+    }
+    b""
 }
 
 /// The pieces that follow some words, which are from an index on and before another one.
@@ -156,12 +190,12 @@ pub(crate) fn after(pieces: &[&[u8]], k: usize) -> usize {
 
 /// The text of pieces, each on a line of its own.
 pub(crate) fn joined(alloc: Global, pieces: &[&[u8]]) -> Result<Vec<u8>, NoMemory> {
-    let mut text = Vec::new(alloc);
+    let mut text = Text::new(alloc);
     for piece in pieces {
-        push_bytes(&mut text, piece)?;
-        push_bytes(&mut text, b"\n")?;
+        text.push(piece);
+        text.push(b"\n");
     }
-    Ok(text)
+    text.whole()
 }
 
 /// The index of the piece at an offset of their joined text.

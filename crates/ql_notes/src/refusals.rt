@@ -2,13 +2,12 @@
 ghost use Rattle.std.specs.Prelude.{◌≤◌, length};
 
 use crate::above::{first_word, is_line_start, without_return};
-use crate::declared::{declared, word_of};
-use crate::filled::{push_counted, push_filled};
-use crate::pieces::piece;
+use crate::declared::word_of;
+use crate::pieces::{count_of, piece_after_nth};
+use crate::text::Text;
 use crate::words::{has_word, is, sentence_of, word};
-use ql_base::{NoMemory, number_of, push_bytes};
-use ql_excerpt::{File, Spot, line_of, push_fault};
-use std::alloc::Global;
+use ql_base::number_of;
+use ql_excerpt::{File, Spot, line_of};
 
 // Sentences by the rule for which a section is refused.
 const REFUSALS: &str = "BadVariable this line uses a variable that isn't in the clauses
@@ -73,75 +72,74 @@ pub(crate) struct Source<'a> {
 }
 
 /// Appends a note on a refused certificate or proof.
-pub(crate) fn push_refusal(
-    alloc: Global,
-    note: &mut Vec<u8>,
-    file: File,
-    source: Source,
-    refusal: Refusal,
-) -> Result<(), NoMemory> {
-    let mut said = Vec::new(alloc);
-    let spot = if is(refusal.rule, b"order") {
-        let number = number_of(refusal.line, u32::MAX as u64).unwrap_or(1);
-        push_order(alloc, &mut said, source, number)?;
-        section_spot(file.text, number)
+pub(crate) fn push_refusal(note: &mut Text, file: File, source: Source, refusal: Refusal) {
+    if is(refusal.rule, b"order") {
+        push_order_fault(note, file, source, refusal);
     } else {
-        push_cause(&mut said, refusal)?;
-        spot_of(file.text, refusal)
-    };
-    push_fault(note, file, spot, refusal.rule, &said)?;
-    push_remedies(note, source, refusal)
+        let spot = spot_of(file.text, refusal);
+        note.begin_fault(file, spot, refusal.rule);
+        push_cause(note, refusal);
+        note.end_fault(file, spot);
+    }
+    push_remedies(note, source, refusal);
+}
+
+// Appends a note on a section that isn't where the order of the source has it.
+fn push_order_fault(note: &mut Text, file: File, source: Source, refusal: Refusal) {
+    let number = number_of(refusal.line, u32::MAX as u64).unwrap_or(1);
+    let spot = section_spot(file.text, number);
+    note.begin_fault(file, spot, refusal.rule);
+    push_order(note, source.tokens, number);
+    note.end_fault(file, spot);
 }
 
 // What can be done about a refused certificate; a proof has neither sections nor an order.
-fn push_remedies(note: &mut Vec<u8>, source: Source, refusal: Refusal) -> Result<(), NoMemory> {
+fn push_remedies(note: &mut Text, source: Source, refusal: Refusal) {
     if may_be_too_low(refusal) {
-        push_levels(note, source)?;
+        note.push_filled(
+            b"  the level may be too low: `./quelea classify %` prints the least levels that are enough\n",
+            &[source.name],
+        );
     }
     if is(refusal.rule, b"order") || !refusal.section.is_empty() {
-        push_anew(note, source)?;
+        note.push_filled(
+            b"  the certificate or the source may have been changed: `./quelea prove %` prints a new certificate\n",
+            &[source.name],
+        );
     }
-    Ok(())
 }
 
 // The refused line, and why it is refused.
-fn push_cause(said: &mut Vec<u8>, refusal: Refusal) -> Result<(), NoMemory> {
-    let Refusal {
-        rule,
-        section,
-        line,
-    } = refusal;
+fn push_cause(said: &mut Text, refusal: Refusal) {
+    let (section, line) = (refusal.section, refusal.line);
     match (section.is_empty(), line.is_empty()) {
-        (false, false) => push_filled(said, b"section `%`, line %: ", &[section, line])?,
-        (false, true) => push_filled(said, b"section `%`: ", &[section])?,
-        (true, false) => push_filled(said, b"line %: ", &[line])?,
+        (false, false) => said.push_filled(b"section `%`, line %: ", &[section, line]),
+        (false, true) => said.push_filled(b"section `%`: ", &[section]),
+        (true, false) => said.push_filled(b"line %: ", &[line]),
         (true, true) => {}
     }
-    push_bytes(said, sentence_of(REFUSALS, rule))
+    said.push(sentence_of(REFUSALS, refusal.rule));
 }
 
-// Appends what the source has as the section with a number, from 1.
-fn push_order(
-    alloc: Global,
-    said: &mut Vec<u8>,
-    source: Source,
-    number: u64,
-) -> Result<(), NoMemory> {
-    let ops = declared(alloc, source.tokens, b"op")?;
+// Appends what a source has as the section with a number, from 1: its operations, and then its transactions.
+fn push_order(said: &mut Text, source: &[&[u8]], number: u64) {
     let k = number.saturating_sub(1) as usize;
-    let (sort, name) = match ops.get(k) {
-        Some(name) => (b"op".as_slice(), *name),
-        None => {
-            let txns = declared(alloc, source.tokens, b"transaction")?;
-            (b"txn".as_slice(), piece(&txns, k.saturating_sub(ops.len())))
-        }
-    };
+    let ops = count_of(source, b"op");
+    if k < ops {
+        push_section(said, number, b"op", piece_after_nth(source, b"op", k))
+    } else {
+        let name = piece_after_nth(source, b"transaction", k.saturating_sub(ops));
+        push_section(said, number, b"txn", name)
+    }
+}
+
+fn push_section(said: &mut Text, number: u64, sort: &[u8], name: &[u8]) {
     let sentence: &[u8] = if name.is_empty() {
         b"sections follow the order of the source, and section # is one too many"
     } else {
         b"sections follow the order of the source, so section # must be that of `% %`"
     };
-    push_counted(said, sentence, &[sort, name], &[number])
+    said.push_counted(sentence, &[sort, name], &[number]);
 }
 
 // Whether a higher level could help: the hints lead nowhere, and the level isn't the highest.
@@ -150,22 +148,6 @@ fn may_be_too_low(refusal: Refusal) -> bool {
         && !refusal.section.is_empty()
         && !refusal.section.ends_with(b" strong")
         && !refusal.section.ends_with(b" rr")
-}
-
-fn push_levels(note: &mut Vec<u8>, source: Source) -> Result<(), NoMemory> {
-    push_filled(
-        note,
-        b"  the level may be too low: `./quelea classify %` prints the least levels that are enough\n",
-        &[source.name],
-    )
-}
-
-fn push_anew(note: &mut Vec<u8>, source: Source) -> Result<(), NoMemory> {
-    push_filled(
-        note,
-        b"  the certificate or the source may have been changed: `./quelea prove %` prints a new certificate\n",
-        &[source.name],
-    )
 }
 
 // The first line of the section with a number, or the line `end`.

@@ -31,10 +31,13 @@ pub fn write_notes<S: Shelf>(
 // Whether notes are wanted: always if QUELEA_NOTES is 1, never if it is 0, and otherwise on a terminal.
 fn wants_notes<R: Env + AllocGlobal>(rt: &R, is_terminal: bool) -> bool {
     match env::var(rt, "QUELEA_NOTES") {
-        Ok(value) if value.as_str() == "1" => true,
-        Ok(value) if value.as_str() == "0" => false,
-        _ => is_terminal,
+        Ok(value) => is_wanted(value.as_str(), is_terminal),
+        Err(_) => is_terminal,
     }
+}
+
+fn is_wanted(value: &str, is_terminal: bool) -> bool {
+    value == "1" || (is_terminal && value != "0")
 }
 
 // Writes the system's reason to standard error why the file that an answer names can't be read.

@@ -36,21 +36,32 @@ pub(crate) struct Misuse {
 pub(crate) fn misuses(alloc: Global, tokens: &[&[u8]]) -> Result<Vec<Misuse>, NoMemory> {
     let mut pieces = Vec::from_slice(alloc, tokens)?;
     let mut found = Vec::new(alloc);
+    push_misuses(alloc, &mut found, &mut pieces, tokens)?;
+    Ok(found)
+}
+
+// Appends the faults of typing of a source, whose pieces are those tokens in the beginning.
+fn push_misuses(
+    alloc: Global,
+    found: &mut Vec<Misuse>,
+    pieces: &mut [&[u8]],
+    tokens: &[&[u8]],
+) -> Result<(), NoMemory> {
     let mut next = 0;
     for _ in 0..ROUNDS {
-        let Some(first) = first_misuse(alloc, &pieces)? else {
-            return Ok(found);
+        let Some(first) = first_misuse(alloc, pieces)? else {
+            return Ok(());
         };
         if first.token < next || found.len() == MOST {
-            return Ok(found);
+            return Ok(());
         }
         next = first.token.saturating_add(1);
-        let misuse = repair_or_redeclare(alloc, &mut pieces, first)?;
-        if !follows(tokens, &found, misuse) {
+        let misuse = repair_or_redeclare(alloc, pieces, first)?;
+        if !follows(tokens, found, misuse) {
             found.push(misuse)?;
         }
     }
-    Ok(found)
+    Ok(())
 }
 
 // Repairs a fault. Where a value doesn't have its declared kind, the declaration is repaired if the next fault comes
@@ -64,14 +75,10 @@ fn repair_or_redeclare(
         repair(pieces, misuse.token, misuse.fault);
         return Ok(misuse);
     };
-    let kind = spelling(kind);
-    let mut redeclared = Vec::from_slice(alloc, pieces)?;
-    redeclare(&mut redeclared, misuse.token, kind);
-    let mut repaired = Vec::from_slice(alloc, pieces)?;
-    repair(&mut repaired, misuse.token, misuse.fault);
-    let is_declared_wrong = token_of_first(alloc, &repaired)? < token_of_first(alloc, &redeclared)?;
+    let is_declared_wrong = next_if_repaired(alloc, pieces, misuse)?
+        < next_if_redeclared(alloc, pieces, misuse.token, kind)?;
     if is_declared_wrong {
-        redeclare(pieces, misuse.token, kind);
+        redeclare(pieces, misuse.token, spelling(kind));
     } else {
         repair(pieces, misuse.token, misuse.fault);
     }
@@ -79,6 +86,25 @@ fn repair_or_redeclare(
         is_declared_wrong,
         ..misuse
     })
+}
+
+// The token of the next fault where a fault is repaired.
+fn next_if_repaired(alloc: Global, pieces: &[&[u8]], misuse: Misuse) -> Result<usize, NoMemory> {
+    let mut repaired = Vec::from_slice(alloc, pieces)?;
+    repair(&mut repaired, misuse.token, misuse.fault);
+    token_of_first(alloc, &repaired)
+}
+
+// The token of the next fault where the declaration of the value at a token gets another kind.
+fn next_if_redeclared(
+    alloc: Global,
+    pieces: &[&[u8]],
+    token: usize,
+    kind: Kind,
+) -> Result<usize, NoMemory> {
+    let mut redeclared = Vec::from_slice(alloc, pieces)?;
+    redeclare(&mut redeclared, token, spelling(kind));
+    token_of_first(alloc, &redeclared)
 }
 
 // The kind of a value that doesn't have its declared kind.
@@ -117,10 +143,9 @@ fn fault_of_typing(alloc: Global, text: &[u8]) -> Result<Option<TypeFault>, NoMe
     let Some(program) = program_of(alloc, text)? else {
         return Ok(None);
     };
-    match typecheck(alloc, program) {
-        Ok(_) => Ok(None),
-        Err(TypeFault::NoMemory) => Err(NoMemory),
-        Err(fault) => Ok(Some(fault)),
+    match typecheck(alloc, program).err() {
+        Some(TypeFault::NoMemory) => Err(NoMemory),
+        fault => Ok(fault),
     }
 }
 
@@ -142,7 +167,7 @@ fn clash_of(alloc: Global, text: &[u8], fault: TypeFault) -> Result<Option<Clash
         return Ok(None);
     };
     match program_of(alloc, text)? {
-        Some(program) => clash_at(alloc, &program, at),
+        Some(program) => Ok(clash_at(&program, at)),
         None => Ok(None),
     }
 }

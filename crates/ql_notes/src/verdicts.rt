@@ -1,9 +1,8 @@
 // What an answer that isn't yes means, as a sentence.
 
-use crate::filled::push_filled;
 use crate::notes::Printed;
+use crate::text::Text;
 use crate::words::{sentence_of, word};
-use ql_base::NoMemory;
 use ql_reply::Status;
 
 // Sentences by the first word of an answer.
@@ -18,22 +17,18 @@ const LIMITS: &str =
 much every choice of effects is tried, and the work may be at most 20000000: fewer effects or variables need less";
 
 /// Appends a sentence on an answer that isn't yes, where one helps.
-pub(crate) fn push_verdict(
-    note: &mut Vec<u8>,
-    status: Status,
-    printed: Printed,
-) -> Result<(), NoMemory> {
+pub(crate) fn push_verdict(note: &mut Text, status: Status, printed: Printed) {
     let (first, rest) = word(printed.first);
     match status {
         Status::No => push_sentence(note, sentence_of(ANSWERS, first)),
         Status::TooLarge => push_sentence(note, sentence_of(LIMITS, word(rest).0)),
-        _ => Ok(()),
+        _ => {}
     }
 }
 
-fn push_sentence(note: &mut Vec<u8>, sentence: &[u8]) -> Result<(), NoMemory> {
+fn push_sentence(note: &mut Text, sentence: &[u8]) {
     if sentence.is_empty() {
-        return Ok(());
+        return;
     }
-    push_filled(note, b"note: %\n", &[sentence])
+    note.push_filled(b"note: %\n", &[sentence]);
 }

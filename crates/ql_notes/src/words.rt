@@ -15,15 +15,29 @@ pub(crate) fn word(text: &[u8]) -> (&[u8], &[u8]) {
     (text, &text[text.len()..])
 }
 
+/// The word at an index; empty where there are fewer.
+pub(crate) fn nth_word(text: &[u8], number: usize) -> &[u8] {
+    let mut rest = text;
+    for _ in 0..number {
+        rest = word(rest).1;
+    }
+    word(rest).0
+}
+
 /// Whether a word is another one.
 pub(crate) fn is(word: &[u8], other: &[u8]) -> bool {
     word == other
 }
 
+/// Whether a word of a text begins at an offset.
+pub(crate) fn is_word_start(text: &[u8], k: usize) -> bool {
+    k == 0 || (k <= text.len() && text[k - 1] == b' ')
+}
+
 /// Whether a word is one of those of a text.
 pub(crate) fn has_word(text: &[u8], wanted: &[u8]) -> bool {
     for k in 0..text.len() {
-        if (k == 0 || text[k - 1] == b' ') && word(&text[k..]).0 == wanted {
+        if is_word_start(text, k) && word(&text[k..]).0 == wanted {
             return true;
         }
     }
@@ -40,7 +54,7 @@ pub(crate) fn words_of<'a>(alloc: Global, text: &'a [u8]) -> Result<Vec<&'a [u8]
 /// Appends the words of a text.
 pub(crate) fn push_words<'a>(words: &mut Vec<&'a [u8]>, text: &'a [u8]) -> Result<(), NoMemory> {
     for k in 0..text.len() {
-        if k == 0 || text[k - 1] == b' ' {
+        if is_word_start(text, k) {
             words.push(word(&text[k..]).0)?;
         }
     }
