@@ -1,5 +1,6 @@
 ghost use Rattle.std.specs.Prelude.{◌≡◌, ◌<◌, ◌^◌, ◌++◌, ℕ, IfOk, OnOk, codes, length};
 ghost use Rattle.ql_classify.specs.Finding.{IsFinding};
+ghost use Rattle.ql_warnings.specs.Brackets.{AreTokensOf};
 ghost use Rattle.ql_why.specs.Why.{Appended};
 ghost use Rattle.ql_explanation.specs.Explanation.{AreFindings, AreSections, ExplainSays, IsSection};
 
@@ -10,9 +11,10 @@ use crate::uses::uses_of;
 use ql_base::{NoMemory, push_bytes};
 use ql_classify::Finding;
 use ql_commands::{bad_source, read_source};
+use ql_lex::Token;
 use ql_reply::Status;
 use ql_typing::Typed;
-use ql_warnings::warnings;
+use ql_warnings::{tokens_of, warnings};
 use std::alloc::Global;
 
 /// What is found of each target of a source, with a countermodel unless the lowest level is enough. The answer is yes where
@@ -26,7 +28,8 @@ pub fn explain(alloc: Global, source: &[u8]) -> Result<(Status, Vec<u8>), NoMemo
         Err(fault) => return Ok((Status::Bad, bad_source(alloc, fault)?)),
     };
     let findings = findings(alloc, &typed)?;
-    let text = sections_of(alloc, source, &typed, &findings)?;
+    let tokens = tokens_of(alloc, source)?;
+    let text = sections_of(alloc, source, &typed, &findings, &tokens)?;
     Ok((answer_of(&typed, &findings), text))
 }
 
@@ -36,8 +39,10 @@ fn sections_of(
     source: &[u8],
     t: &Typed,
     findings: &[Finding],
+    tokens: &[Token],
 ) -> Result<Vec<u8>, NoMemory>
     requires source { length source.now < 2 ^ 32 }
+    requires tokens { AreTokensOf source.now tokens.now }
     requires findings { AreFindings t.now.program findings.now }
     ensures { IfOk result
         (λ text. AreSections source.now t.now.program findings.now text.items) }
@@ -46,7 +51,7 @@ fn sections_of(
     for k in 0..findings.len() {
         let finding = finding_at(findings, k);
         push_gap(&mut text, k)?;
-        push_section(alloc, &mut text, source, t, findings, finding)?;
+        push_section(alloc, &mut text, source, t, findings, finding, tokens)?;
     }
     Ok(text)
 }
@@ -70,8 +75,10 @@ fn push_section(
     t: &Typed,
     findings: &[Finding],
     finding: &Finding,
+    tokens: &[Token],
 ) -> Result<(), NoMemory>
     requires source { length source.now < 2 ^ 32 }
+    requires tokens { AreTokensOf source.now tokens.now }
     requires findings { AreFindings t.now.program findings.now }
     requires finding { (target : ℕ) × IsFinding t.now.program target finding.now }
     ensures { OnOk result
@@ -79,7 +86,7 @@ fn push_section(
 {
     let goal = goal_of(finding);
     let uses = uses_of(alloc, t, findings, goal)?;
-    let warned = warnings(alloc, source, t, goal)?;
+    let warned = warnings(alloc, source, tokens, t, goal)?;
     let remarks = Remarks {
         uses: &uses,
         warned: &warned,

@@ -5,10 +5,10 @@ use Rattle.std.proofs.lemmas.List.Elements.{All-push, Contains-append_left, Cont
 use Rattle.std.proofs.lemmas.Option.{same_Some, slice_get_within}
 use Rattle.std.specs.List.{All, Contains, prefix_len}
 use Rattle.std.specs.Option.{MatchOption}
-use Rattle.ql_lex.specs.Tokens.{Lexes}
+use Rattle.ql_lex.specs.Tokens.{AreSpans, Lexes}
 use Rattle.ql_lex.specs.declared.token.LexFault.{LexFault}
 use Rattle.ql_lex.specs.declared.token.Token.{Token}
-use Rattle.ql_warnings.specs.Brackets.{IsJoinedTo, joined, sign_of, word_of}
+use Rattle.ql_warnings.specs.Brackets.{AreTokensOf, IsJoinedTo, joined, sign_of, word_of}
 use Rattle.ql_warnings.specs.Kept.{AreBracketWarnings, AreJoined, IsBracketWarning}
 use Rattle.ql_warnings.specs.Places.{IsPlaceOf, ends_line, in_line}
 use Rattle.ql_warnings.specs.declared.unbracketed.Sign.TheVariants.{Arrow}
@@ -89,6 +89,14 @@ pub place_exact : (source : List ℕ) (at end : ℕ) (r : Option Place) → at <
 place_exact source at end None less past = inr past
 place_exact source at end (Some place) less is = (is.0, is.1, less)
 
+-- ---- the tokens
+
+pub lexed_at : (source : List ℕ) (tokens : List Token) (k : ℕ) → AreTokensOf source tokens → k < length tokens → Lexes 0 source (Ok tokens) × AreSpans 0 (length source) tokens
+lexed_at source tokens k (inl lexed) less = lexed
+lexed_at source tokens k (inr none) less =
+    let nowhere : k < 0 = subst (λ (ts : List Token). k < length ts) none.0 less in
+    absurd (omega arith)
+
 -- ---- the whole
 
 module _ (one : (text : List ℕ) (r s : Result (List Token) LexFault) → Lexes 0 text r → Lexes 0 text s → r ≡ s) (source : List ℕ) (start end : ℕ) where
@@ -100,4 +108,11 @@ module _ (one : (text : List ℕ) (r s : Result (List Token) LexFault) → Lexes
         let tokens_same : joins.0 ≡ tokens = cc in
         let here : IsJoinedTo source start tokens joins.2 place.at = subst (λ (ts : List Token). IsJoinedTo source start ts joins.2 place.at) tokens_same joins.3 in
         are.complete joins.2 place (omega (arith, slice_get_within tokens joins.2 here.arrow here.there)) placed here less;
+  }
+
+  pub all_bracketed : (tokens : List Token) (k : ℕ) (ws : List Warning) → AreTokensOf source tokens → length tokens ≤ k → AreJoined source start end tokens k ws → AreBracketWarnings source start end ws
+  all_bracketed tokens k ws (inl lexed) past are = all_joined tokens k ws lexed.0 past are
+  all_bracketed tokens k ws (inr none) past are = record {
+    sound = are.sound;
+    complete = λ place placed joins less. absurd (none.1 joins.0 joins.1);
   }

@@ -18,5 +18,6 @@ mod words;
 
 pub use contract::{formula_of, warnings};
 pub use others::counter_warnings;
+pub use unbracketed::tokens_of;
 pub use warning::{Place, Warning};
 pub use words::{warning_text, warning_word};

@@ -1,8 +1,14 @@
 use Rattle.std.proofs.Common.{arith}
-use Rattle.ql_warnings.proofs.Joining.{all_joined}
+use Rattle.ql_warnings.proofs.Joining.{all_bracketed, lexed_at}
 use Rattle.ql_warnings.proofs.unbracketed.unbracketed.Goals as goal
+
+pub push_joined-requires-clause-lexed : goal.push_joined-requires-clause-lexed
+push_joined-requires-clause-lexed c = (lexed_at c.args.source.now c.args.tokens.now c.loop-k.k c.requires.tokens (omega arith)).0
+
+pub push_joined-requires-clause-spans : goal.push_joined-requires-clause-spans
+push_joined-requires-clause-spans c = (lexed_at c.args.source.now c.args.tokens.now c.loop-k.k c.requires.tokens (omega arith)).1
 
 pub returns : goal.returns
 returns c =
-    all_joined c.one_answer.ensures.one c.args.source.now c.args.extent.start c.args.extent.end c.in-Ok.tokens.items c.loop-k.k c.loop-k.found.items
-    c.in-Ok.ensures.exact (omega arith) c.loop-k.invariant
+    all_bracketed c.one_answer.ensures.one c.args.source.now c.args.extent.start c.args.extent.end c.args.tokens.now c.loop-k.k c.loop-k.found.items
+    c.requires.tokens (omega arith) c.loop-k.invariant
