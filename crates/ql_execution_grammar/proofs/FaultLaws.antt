@@ -1,4 +1,4 @@
--- The first fault of a file is that of the grammar.
+-- The first fault of a file is that of the grammar, and a file has an execution or such a fault.
 use Rattle.std.proofs.Common.{◌≡◌, ℕ, List, [], ◌∷◌, ◌++◌, Result, Err, refl, sym, subst}
 use Rattle.std.proofs.lemmas.List.{map-append}
 use Rattle.ql_lang.specs.declared.program.Program.{Program}
@@ -14,12 +14,14 @@ use Rattle.ql_execution_files.specs.declared.format.ExecutionReading.{ExecutionR
 use Rattle.ql_execution_files.specs.declared.format.ExecutionReading.TheVariants.{Unbegun, WithEffects, Ended}
 use Rattle.ql_execution_files.specs.declared.report_fault.ReportFault.{ReportFault}
 use Rattle.ql_execution_files.specs.ExecutionFile.{ClosesExecution, FirstExecutionFault, fault_at, gives}
+use Rattle.ql_execution_files.proofs.Files as files
 use Rattle.ql_execution_grammar.specs.FirstFaults.FirstTextFault.{at_line as line_fault, at_end as end_of_file}
 use Rattle.ql_execution_grammar.specs.FirstFaults.{BreaksExecutionRule, FirstTextFault}
 use Rattle.ql_execution_grammar.specs.Grammar.{IsExecutionText}
+use Rattle.ql_execution_grammar.specs.Readings.{SaysExecution}
 use Rattle.ql_execution_grammar.proofs.Breaking.{begins, breaks, led, refused_there}
 use Rattle.ql_execution_grammar.proofs.EffectLists.{no_whole}
-use Rattle.ql_execution_grammar.proofs.Trees.{file_of}
+use Rattle.ql_execution_grammar.proofs.Trees.{file_of, spelled}
 use Rattle.ql_execution_grammar.proofs.Opening.{Spelled, Whole, holds_too, not_opened, opened_of}
 use Rattle.ql_execution_grammar.proofs.Reached.{Reached, leads, reached}
 
@@ -70,3 +72,9 @@ module _ (p : Program) (file : Ahead) where
   fault_outcome f (end_of_file begun none) =
       let at = led p texts begun in
       record { broken = early; first = at_end at.0 early (leads p file.lines at.0 at.1) (ends_early at.0 at.1 none); is = refl }
+
+  -- ---- never none
+
+  pub some : ((es : List EffectLine) (x : List Effect) → IsExecutionText texts es → SaysExecution p es x → ⊥) → ((f : ReportFault) → FirstTextFault p file f → ⊥) → ⊥
+  some no_execution no_fault =
+      files.some p file (λ x h. let whole = spelled p file x h in no_execution whole.0 x whole.1 whole.2) (λ f h. no_fault f (first_fault f h))
