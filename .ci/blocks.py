@@ -4,6 +4,7 @@ import pathlib
 import re
 import subprocess
 import sys
+import tempfile
 
 TOP = pathlib.Path(__file__).resolve().parent.parent
 REFERENCE = TOP.parent / "shared/reference"
@@ -101,6 +102,12 @@ class Count:
         self.faults += 1
         print(f"{self.check}: {name}: {text}")
 
+    def summary(self, blocks, more=""):
+        return (
+            f"{self.check}: {self.sources} sources, {self.blocks} {blocks}, of which {self.elsewhere} fail elsewhere first and "
+            f"{self.large} are too much for verify; {more}{self.faults} faults"
+        )
+
 
 def verified(program, source, name, text, count, folder):
     """Passes the blocks of a text to `verify`, each with the source in which all other contracts are `true`."""
@@ -136,14 +143,17 @@ def random_sources():
             yield f"random {index}", case.files["s"]
 
 
-def go_through(judge, programs, count, folder):
-    """Judges the examples, and then random sources until this many more are counted. A judge takes a source's file and title."""
-    for source in examples():
-        judge(source, source.name)
-    most = count.sources + programs
-    for title, text in random_sources():
-        source = folder / "source"
-        source.write_bytes(text)
-        judge(source, title)
-        if count.sources + count.faults >= most:
-            break
+def go_through(judge, programs, count):
+    """Judges the examples, and then random sources until this many more are counted. A judge takes a source's file and title,
+    and a folder for files of its own."""
+    with tempfile.TemporaryDirectory() as name:
+        folder = pathlib.Path(name)
+        for source in examples():
+            judge(source, source.name, folder)
+        most = count.sources + programs
+        for title, text in random_sources():
+            source = folder / "source"
+            source.write_bytes(text)
+            judge(source, title, folder)
+            if count.sources + count.faults >= most:
+                break

@@ -10,8 +10,8 @@ use ql_reply::bad_line;
 use ql_svg::svg_text;
 use std::alloc::Global;
 
-/// What to draw: the bytes of a run's text and of its schedule, the description of a breach, and whether there are
-/// arrows from all effects that are seen.
+/// What to draw: the bytes of a run's text and of its schedule, the description of a breach, and whether the arrows that a
+/// third effect implies are drawn, too.
 #[derive(Clone, Copy)]
 pub struct Drawing<'a> {
     pub run: &'a [u8],
@@ -75,7 +75,7 @@ fn drawn(
     svg_text(alloc, SHEET.as_bytes(), &picture)
 }
 
-// The description of a breach: the given one, after the effect that a `holds` file names itself; else that in the
+// The description of a breach: the given one, after the effect that a `holds` file names; without a given one, that of the
 // run's text.
 fn breach_words(alloc: Global, run: &Run, breach: &[u8]) -> Result<Vec<u8>, NoMemory> {
     if breach.is_empty() {

@@ -9,7 +9,7 @@ use ql_reply::is_file_name;
 /// What the arguments ask to be drawn.
 #[derive(Clone, Copy)]
 pub struct Request<'a> {
-    /// Whether there are arrows from all effects that are seen.
+    /// Whether the arrows that a third effect implies are drawn, too.
     pub all: bool,
     pub file: &'a str,
     pub schedule: Option<&'a str>,
@@ -64,7 +64,7 @@ fn parse_rest<'a>(all: bool, file: &'a str, words: &'a [String]) -> Option<Reque
     }
 }
 
-// A request with the description of a breach; none where that is none.
+// The request, if the arguments that describe a breach are in order.
 fn request_of<'a>(
     all: bool,
     file: &'a str,
@@ -86,7 +86,7 @@ fn request_of<'a>(
     }
 }
 
-// The arguments after `--breach`, empty where there are no arguments; none where another one comes first.
+// The arguments after `--breach`, or no arguments where none are left; nothing where another one comes first.
 fn parse_breach(words: &[String]) -> Option<&[String]>
     ensures { option_map (λ rest. map string_bytes rest.now) result
         ≡ breach_of (map string_bytes words.now) }

@@ -1,4 +1,4 @@
-/// What is printed if the arguments are no request.
+/// What is printed where the arguments make no request.
 pub(crate) const HELP: &str = "usage: ./quelea explain [--json] SOURCE
        ./quelea explain --baseline FILE SOURCE
 

@@ -1,5 +1,5 @@
-// The program `explain`: the command line, the system's files and standard output, given to its top call. On standard output it
-// prints nothing itself, and its exit status is the top call's. Notes on the answer go to standard error, after it.
+// The program `explain`: passes the command line, the system's files and standard output to its top call. It prints nothing
+// on standard output itself, and its exit status is the top call's. Notes on the answer go to standard error, after it.
 // The one contract: for all arguments and all files one text is written that the outcome allows.
 #![tactic(auto)]
 
@@ -35,7 +35,7 @@ fn run(rt: HostRuntime, words: &Vec<String>) -> u8 {
     exit_number(ended)
 }
 
-// The arguments as `./quelea` got them.
+// The arguments as `./quelea` has them, with the command first.
 fn with_command<R: AllocGlobal>(rt: &R, words: &Vec<String>) -> io::Result<Vec<String>> {
     let mut all = Vec::new(rt.alloc());
     all.push(String::from_str(rt.alloc(), "explain")?)?;

@@ -13,7 +13,7 @@ use ql_ports::{Shelf, read_whole};
 use ql_reply::{Status, unread};
 use std::alloc::Global;
 
-// Sources and stored answers have one limit.
+// The greatest length of a source and of a stored answer, in bytes.
 const FILE_BYTES: usize = MAX_SOURCE_BYTES as usize;
 
 /// The status and the text for these arguments. The named files are each read once, to the end, in the order of the
@@ -71,7 +71,7 @@ fn of_pair<S: Shelf>(
     }
 }
 
-// The same where the stored answer was read.
+// The outcome once the stored answer is read.
 fn with_baseline<S: Shelf>(
     alloc: Global,
     pair: Pair,
@@ -92,7 +92,7 @@ fn with_baseline<S: Shelf>(
     }
 }
 
-// What is found of a source that was read.
+// The outcome once the source is read.
 fn answer(alloc: Global, form: Form, source: &[u8]) -> Result<(Status, Vec<u8>), NoMemory>
     requires { length source.now < 2 ^ 32 }
     ensures { IfOk result (λ answer. SaysIn form source.now answer.0 answer.1.items) }

@@ -13,19 +13,19 @@ pub(crate) enum Form {
     Json,
 }
 
-/// The names of a stored answer and of a source.
+/// The names of the files of a stored answer and of a source.
 #[derive(Clone, Copy)]
 pub(crate) struct Pair<'a> {
     pub(crate) baseline: &'a str,
     pub(crate) source: &'a str,
 }
 
-/// A request.
+/// What the arguments ask for.
 #[derive(Clone, Copy)]
 pub(crate) enum Request<'a> {
-    /// What is found of the source of a name.
+    /// What is found of the source in a file.
     Explained(Form, &'a str),
-    /// Which levels are higher than in a stored answer.
+    /// Which levels of a source are higher than in a stored answer.
     Compared(Pair<'a>),
 }
 
@@ -65,7 +65,7 @@ fn plain<'a>(word: &'a str, rest: &[String]) -> Option<Request<'a>>
     }
 }
 
-// What a name after `--baseline` and another one ask for.
+// The request that the arguments after `--baseline` make: the names of a stored answer and of a source.
 fn against(words: &[String]) -> Option<Request>
     ensures { option_map call_of result ≡ against_of (map string_bytes words.now) }
 {

@@ -108,7 +108,7 @@ fn counter_value(
     Ok(Json::Object(members))
 }
 
-// Of what the contract is false, and the execution.
+// The effect or transaction of which the contract is false, and the execution.
 fn put_execution(
     alloc: Global,
     members: &mut Map<String, Json>,
@@ -131,7 +131,7 @@ fn put_execution(
     Ok(())
 }
 
-// Why it is false, the level that holds, and the effects of the contract's variables.
+// Why the contract is false, the level that isn't enough, and the effects of the contract's variables.
 fn put_breach(
     alloc: Global,
     members: &mut Map<String, Json>,

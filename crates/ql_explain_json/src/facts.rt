@@ -68,7 +68,7 @@ fn relation_word(name: RelName) -> &'static str
     }
 }
 
-// The effects of which something is claimed.
+// The effects that a claim is about.
 fn effects_of(alloc: Global, claim: Claim) -> Result<Json, NoMemory>
     ensures { IfOk result (λ json. view json ≡ listed (map id_data (claim_effects claim))) }
 {

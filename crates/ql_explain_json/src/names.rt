@@ -1,4 +1,4 @@
-// What a target is, and its name.
+// The kind and the name of a target.
 ghost use Rattle.std.specs.Prelude.{◌≡◌};
 ghost use Rattle.ql_ground.specs.OfPrograms.{IsGoalOf};
 ghost use Rattle.ql_explain_json.specs.JsonExplanations.{kind_text, name_text};
@@ -6,7 +6,7 @@ ghost use Rattle.ql_explain_json.specs.JsonExplanations.{kind_text, name_text};
 use ql_ground::Goal;
 use ql_typing::Typed;
 
-/// What a target is.
+/// Whether a target is an operation or a transaction.
 pub(crate) fn kind_of(g: Goal) -> &'static str
     ensures { result.now ≡ kind_text g }
 {

@@ -1,4 +1,4 @@
-// Whether all is right with a program.
+// The answer about a program as a whole.
 ghost use Rattle.std.specs.Prelude.{◌≡◌, ◌<◌, ℕ, MatchBool, Some, length, slice_get};
 ghost use Rattle.ql_base.specs.declared.ids.OpId.{OpId};
 ghost use Rattle.ql_classify.specs.declared.finding.Finding.{Finding};

@@ -15,8 +15,8 @@ use ql_typing::Typed;
 use ql_warnings::warnings;
 use std::alloc::Global;
 
-/// What is found of each target of a source, with a countermodel where it has a lower level or none is enough. The answer is
-/// yes where each has a level and no transaction uses a strong operation.
+/// What is found of each target of a source, with a countermodel unless the lowest level is enough. The answer is yes where
+/// each has a level and no transaction uses a strong operation.
 pub fn explain(alloc: Global, source: &[u8]) -> Result<(Status, Vec<u8>), NoMemory>
     requires { length source.now < 2 ^ 32 }
     ensures { IfOk result (λ answer. ExplainSays source.now answer.0 answer.1.items) }

@@ -1,8 +1,8 @@
 // Why each target of a source has its level, or none: text for people, from the source's bytes.
 // The one contract: each level is the target's least one, and each execution is a countermodel of the target at the next
-// lower level, or at the highest where none is enough; each strong operation that a transaction uses is there; the text is
-// stated, but for the words about a countermodel; and the answer is yes exactly where each target has a level and no
-// transaction uses one.
+// lower level, or at the highest where none is enough; each strong operation that a transaction uses is listed; the text is
+// stated, except for the words about a countermodel; and the answer is yes exactly where each target has a level and no
+// transaction uses such an operation.
 #![tactic(auto)]
 
 mod answer;

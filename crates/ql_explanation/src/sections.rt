@@ -33,8 +33,7 @@ use ql_warnings::{Warning, counter_warnings, warning_text};
 use ql_why::{push_counter, push_target_line};
 use std::alloc::Global;
 
-/// The section of a target of which this is found, with the strong operations that it uses and what there is to warn of in
-/// its contract.
+/// The section of a target, from what is found of it, the strong operations that it uses and the warnings of its contract.
 pub(crate) fn section(
     alloc: Global,
     t: &Typed,
@@ -106,7 +105,7 @@ fn push_warned(
     push_warned(alloc, out, t, others)
 }
 
-/// The target at the level that its line reports, or at the highest.
+/// The target at its least level, or at the highest where none is enough.
 pub fn goal_of(finding: &Finding) -> Goal
     ensures { result ≡ goal_of finding.now }
 {
@@ -204,7 +203,7 @@ fn reason(
     }
 }
 
-/// The goal that isn't met: the next lower one, or the highest.
+/// The goal that isn't met: the target at the next lower level, or at the highest where none is enough.
 pub fn unmet_of(finding: &Finding) -> Option<&Unmet>
     ensures { option_copied result ≡ unmet_of finding.now }
 {

@@ -40,8 +40,8 @@ pub(crate) fn push_facts(
     Ok(())
 }
 
-// Whether a fact says that an effect is itself; or no more than that two effects are on one object, or are two, and
-// another fact is about both.
+// Whether a fact goes without saying: an effect is itself; or two effects are on one object, or different, where another
+// fact relates them.
 fn is_plain(facts: &[Fact], fact: Fact) -> bool {
     match (fact.claim, fact.holds) {
         (Claim::Related(RelName::Eq, _, _), true) => true,
@@ -144,8 +144,8 @@ fn push_phrase(text: &mut Vec<u8>, t: &Typed, c: &Counter, phrase: Phrase) -> Re
     push_bytes(text, phrase.end.as_bytes())
 }
 
-// The end of a sentence on two effects that are related otherwise than by their objects: by the name of a type that they
-// are on one object of it, or that they aren't.
+// Ends a sentence on two effects with whether they are on one object, which is named by its type. A sentence that compares
+// them has no such end, nor one on an effect and itself.
 #[tactic(auto, using(crate::proofs::Named::op_named_at))]
 fn push_object(
     text: &mut Vec<u8>,
@@ -175,7 +175,7 @@ fn are_on_one(c: &Counter, first: EffId, second: EffId) -> bool {
     }
 }
 
-// Before the name of the object's type.
+// What stands before the name of the object's type.
 fn on_one_object(name: RelName) -> &'static str {
     if name == RelName::Hbo {
         " within the same "
@@ -199,12 +199,12 @@ fn push_type(text: &mut Vec<u8>, t: &Typed, effect: &Effect) -> Result<(), NoMem
     push_bytes(text, t.type_decl(t.kind_of(effect.op)).name.word.bytes())
 }
 
-// Whether an effect doesn't see one that is made after it, which none does.
+// Whether the fact is that an effect doesn't see a later one. None ever does.
 fn is_later_unseen(name: RelName, holds: bool, first: EffId, second: EffId) -> bool {
     name == RelName::Vis && !holds && first.0 > second.0
 }
 
-// As `withdraw at 2`.
+// An effect by its operation and its number, as `withdraw at 2`.
 #[tactic(auto, using(crate::proofs::Named::op_named_at))]
 fn push_name(text: &mut Vec<u8>, t: &Typed, c: &Counter, id: EffId) -> Result<(), NoMemory>
     requires { AreNamed t.now.program 7 c.now.execution }

@@ -21,8 +21,8 @@ const HEADS: [&str; 7] = [
     "sees",
 ];
 
-/// The effects of a countermodel, a row for each. In the second column stand the variables of the contract whose effect it
-/// is, and `cur`.
+/// The effects of a countermodel, a row for each. The second column has the variables of the contract that stand for the
+/// effect, and `cur`.
 pub(crate) fn table(
     alloc: Global,
     t: &Typed,
@@ -72,7 +72,7 @@ fn number(alloc: Global, before: &[u8], number: u32) -> Result<Vec<u8>, NoMemory
     Ok(cell)
 }
 
-// What the contract calls an effect.
+// The variables that stand for an effect.
 fn names(alloc: Global, vars: &[Var], c: &Counter, id: EffId) -> Result<Vec<u8>, NoMemory> {
     let mut cell = Vec::new(alloc);
     for (var, place) in vars.iter().zip(c.places.items()) {
@@ -113,7 +113,7 @@ fn seen(alloc: Global, ids: &[u32]) -> Result<Vec<u8>, NoMemory> {
     or_none(cell)
 }
 
-// Appends an item to a row of them.
+// Appends an item to a cell, after a comma where it isn't the first.
 fn push_item(cell: &mut Vec<u8>, item: &[u8]) -> Result<(), NoMemory> {
     if !cell.is_empty() {
         push_bytes(cell, b", ")?;
@@ -121,7 +121,7 @@ fn push_item(cell: &mut Vec<u8>, item: &[u8]) -> Result<(), NoMemory> {
     push_bytes(cell, item)
 }
 
-// A sign where a cell would be empty.
+// A dash in place of an empty cell.
 fn or_none(mut cell: Vec<u8>) -> Result<Vec<u8>, NoMemory> {
     if cell.is_empty() {
         push_bytes(&mut cell, b"-")?;

@@ -12,7 +12,7 @@ use ql_levels::Level;
 use ql_typing::Typed;
 use std::alloc::Global;
 
-/// The operations whose least level is strong that a target uses, in their order.
+/// The operations that a target uses and whose least level is strong, in the order of the source.
 pub fn uses_of(
     alloc: Global,
     t: &Typed,

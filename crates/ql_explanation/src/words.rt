@@ -81,7 +81,7 @@ fn name_of(t: &Typed, g: Goal) -> Name
     }
 }
 
-/// Why a target can't use strong operations, and what one can do.
+/// Why a transaction can't use strong operations, and what to do instead.
 pub(crate) fn push_ways_out(out: &mut Vec<u8>, t: &Typed, uses: &[OpId]) -> Result<(), NoMemory>
     requires { All (λ o. o.0 < length (all_ops t.now.program.types)) uses.now }
     ensures { OnOk result (out.new.items ≡ out.old.items ++ ways_out_text t.now.program uses.now) }

@@ -1,9 +1,11 @@
-ghost use Rattle.std.specs.Prelude.{◌≡◌, ◌++◌, IfOk, OnOk, decimal};
+ghost use Rattle.std.specs.Prelude.{[], ◌≡◌, ◌++◌, IfOk, OnOk, decimal};
 ghost use Rattle.std.specs.List.{flat_map};
+ghost use Rattle.ql_svg.specs.Elements.{element_text};
 ghost use Rattle.ql_svg.specs.Svg.{dot_text, ends, shape_text, sides, sides_text, sized, svg_name, svg_text, view_text};
 
 use crate::attribute::Attribute;
 use crate::element::{Head, Tag, push_element};
+use crate::kind::Style;
 use crate::picture::Picture;
 use crate::shape::{Dot, Point, Shape};
 use ql_base::{NoMemory, push_bytes, push_number};
@@ -91,18 +93,9 @@ fn push_shape(out: &mut Vec<u8>, shape: &Shape) -> Result<(), NoMemory>
             style,
             corner,
             size,
-        } => {
-            let tag = Tag::Rect;
-            push_element(
-                out,
-                Head { tag, style: *style },
-                &sides(*corner, *size),
-                b"",
-            )
-        }
+        } => push_figure(out, Tag::Rect, *style, &sides(*corner, *size)),
         Shape::Line { style, from, to } => {
-            let tag = Tag::Line;
-            push_element(out, Head { tag, style: *style }, &ends(*from, *to), b"")
+            push_figure(out, Tag::Line, *style, &ends(*from, *to))
         }
         Shape::Curve {
             style,
@@ -111,25 +104,34 @@ fn push_shape(out: &mut Vec<u8>, shape: &Shape) -> Result<(), NoMemory>
             second,
             to,
         } => {
-            let tag = Tag::Path;
             let d = Attribute::D {
                 from: *from,
                 first: *first,
                 second: *second,
                 to: *to,
             };
-            push_element(out, Head { tag, style: *style }, &[d], b"")
+            push_figure(out, Tag::Path, *style, &[d])
         }
         Shape::Label { style, at, text } => {
-            let tag = Tag::Text;
-            push_element(
-                out,
-                Head { tag, style: *style },
-                &[Attribute::X(at.x), Attribute::Y(at.y)],
-                text,
-            )
+            let head = Head {
+                tag: Tag::Text,
+                style: *style,
+            };
+            push_element(out, head, &[Attribute::X(at.x), Attribute::Y(at.y)], text)
         }
     }
+}
+
+// An element without a text.
+fn push_figure(
+    out: &mut Vec<u8>,
+    tag: Tag,
+    style: Style,
+    attributes: &[Attribute],
+) -> Result<(), NoMemory>
+    ensures { OnOk result (out.new.items ≡ out.old.items ++ element_text tag style attributes.now []) }
+{
+    push_element(out, Head { tag, style }, attributes, b"")
 }
 
 fn sides(corner: Point, size: Point) -> [Attribute; 4]

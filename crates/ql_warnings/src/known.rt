@@ -1,4 +1,4 @@
-// What a statement says of two effects with a named relation.
+// The named relations that a statement states, and which of them imply others.
 ghost use Rattle.std.specs.Prelude.{◌≡◌, OnOk, true};
 ghost use Rattle.ql_lang.specs.Formulas.{statement_of};
 ghost use Rattle.ql_warnings.specs.Names.{is_on_object, is_order, is_symmetric, is_within};

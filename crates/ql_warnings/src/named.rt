@@ -24,7 +24,7 @@ pub(crate) fn named(alloc: Global, t: &Typed, vars: &[Var]) -> Result<Vec<Warnin
     Ok(found)
 }
 
-// Appends the warning of one variable, if there is one.
+// Appends the warning about a variable, if there is one.
 fn push_named(found: &mut Vec<Warning>, t: &Typed, vars: &[Var], k: usize) -> Result<(), NoMemory>
     requires { k < length vars.now }
     ensures { OnOk result

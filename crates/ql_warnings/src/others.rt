@@ -98,7 +98,7 @@ fn breaks(
     is_cheap(contract, c) && is_false(contract, c, relations, at)
 }
 
-// Whether a contract can be tried at all effects of an execution within the work that `verify` does.
+// Whether trying a contract at all effects of an execution is within the bound of the work that `verify` does.
 fn is_cheap(f: &Formula, c: &Counter) -> bool {
     let effects = u128::from(c.execution.len());
     let mut work = effects;

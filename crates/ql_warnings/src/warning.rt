@@ -27,7 +27,7 @@ pub enum Warning {
     RuledOut { op: OpId, at: EffId },
 }
 
-// Warnings after those that were found.
+// Appends warnings to those found before.
 pub(crate) fn push_all(found: &mut Vec<Warning>, more: &[Warning]) -> Result<(), NoMemory>
     ensures { OnOk result (found.new.items ≡ found.old.items ++ more.now) }
 {
