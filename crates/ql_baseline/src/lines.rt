@@ -39,8 +39,8 @@ fn op_line(text: &[u8]) -> Option<(Word, Level)>
         (λ x. IsName x.0 × (fields_of text.now ≡ codes "op" ∷ x.0 ∷ word_of x.1 ∷ [])) }
 {
     let rest = after_word(text, b"op")?;
-    let (name, behind) = after_name(rest)?;
-    let level = level_of(last_word(behind)?)?;
+    let (name, remaining) = after_name(rest)?;
+    let level = level_of(last_word(remaining)?)?;
     Some((Word::of(name), level))
 }
 
@@ -51,8 +51,8 @@ fn txn_line(text: &[u8]) -> Option<(Word, TxnLevel)>
         (λ x. IsName x.0 × (fields_of text.now ≡ codes "txn" ∷ x.0 ∷ txn_word_of x.1 ∷ [])) }
 {
     let rest = after_word(text, b"txn")?;
-    let (name, behind) = after_name(rest)?;
-    let level = txn_of(last_word(behind)?)?;
+    let (name, remaining) = after_name(rest)?;
+    let level = txn_of(last_word(remaining)?)?;
     Some((Word::of(name), level))
 }
 
@@ -65,8 +65,8 @@ fn none_line(text: &[u8], kind: &[u8]) -> Option<Word>
 {
     let rest = after_word(text, b"none")?;
     let target = after_word(rest, kind)?;
-    let (name, behind) = after_name(target)?;
-    match first_field(behind) {
+    let (name, remaining) = after_name(target)?;
+    match first_field(remaining) {
         Some(_) => None,
         None => Some(Word::of(name)),
     }
@@ -77,8 +77,8 @@ fn last_word(text: &[u8]) -> Option<&[u8]>
     ensures { MatchOption result ((word : List ℕ) → fields_of text.now ≡ word ∷ [] → ⊥)
         (λ word. fields_of text.now ≡ word.now ∷ []) }
 {
-    let (word, behind) = first_field(text)?;
-    match first_field(behind) {
+    let (word, remaining) = first_field(text)?;
+    match first_field(remaining) {
         Some(_) => None,
         None => Some(word),
     }

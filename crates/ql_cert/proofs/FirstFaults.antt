@@ -198,6 +198,25 @@ module _ {State Said : Type 0} {first : State} {Takes : State → Fields → Sta
       let same : Some x ≡ Some y = sym p.2 ∙ ap said (one_walk Takes r.one fs first p.0 q.0 p.1 q.1) ∙ q.2 in
       cc
 
+-- ---- a file of the grammar, or a first fault: not neither
+
+module _ (IsFile : List Fields → Type 0) (file : Ahead) (none : IsFile (fields_in file.lines) → ⊥) (no_fault : (f : CertFault) → FirstFileFault IsFile file f → ⊥) where
+  begins_nowhere : (before rest : List Numbered) → file.lines ≡ before ++ rest → BeginsFile IsFile (fields_in before) → ⊥
+  begins_nowhere before [] are begins =
+      let all : before ≡ file.lines = sym (are ∙ append-nil before) in
+      no_fault (fault.Unexpected file.end) (ended (subst (λ (ls : List Numbered). BeginsFile IsFile (fields_in ls)) all begins) none)
+  begins_nowhere before (l ∷ rest) are begins =
+      let goes_on : (MayFollow IsFile (fields_in before) (fields_of l.text) → ⊥) → ⊥ =
+      λ stops. no_fault (fault.Unexpected l.number) (unexpected before l rest are begins stops (λ m. no_fault (fault.Number l.number) (number before l rest are begins stops m))) in
+      goes_on (λ follows. begins_nowhere (before ++ l ∷ []) rest (are ∙ sym (append_assoc before (l ∷ []) rest))
+      (subst (BeginsFile IsFile) (sym (map-append (λ (n : Numbered). fields_of n.text) before (l ∷ []))) follows))
+
+module _ {State Said : Type 0} {first : State} {Takes : State → Fields → State → Type 0} {said : State → Option Said} {IsFile : List Fields → Type 0}
+    {IsFileOf : Said → List Fields → Type 0} {lines : State → List Fields} {IsState : State → Type 0} (r : IsReader first Takes said IsFile IsFileOf lines IsState) where
+  pub not_neither : (file : Ahead) → (IsFile (fields_in file.lines) → ⊥) → ((f : CertFault) → FirstFileFault IsFile file f → ⊥) → ⊥
+  not_neither file none no_fault =
+      begins_nowhere IsFile file none no_fault [] file.lines refl (subst (BeginsFile IsFile) r.starts.0 (r.begins first r.starts.1))
+
 -- each prefix of lines that begin a file may go on with its next line
 goes_on : (IsFile : List Fields → Type 0) (before : List Numbered) (l : Numbered) (rest : List Numbered) → IsFile (fields_in (before ++ l ∷ rest)) → MayFollow IsFile (fields_in before) (fields_of l.text)
 goes_on IsFile before l rest is =

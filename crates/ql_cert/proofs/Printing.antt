@@ -5,8 +5,8 @@ use Rattle.std.specs.Global.{Vec}
 use Rattle.ql_base.specs.declared.no_memory.NoMemory.{NoMemory}
 use Rattle.std.proofs.lemmas.List.{append-nil, get_or_default, length-take-le, map-append}
 use Rattle.std.proofs.Math.Seq.{take-suc}
-use Rattle.ql_lines.specs.Texts.{behind, file_text, joined}
-use Rattle.ql_lines.proofs.TextLaws.{behind-append, file_text-append, joined_behind}
+use Rattle.ql_lines.specs.Texts.{spaced_fields, file_text, joined}
+use Rattle.ql_lines.proofs.TextLaws.{spaced_fields-append, file_text-append, joined_spaced}
 use Rattle.ql_lines.specs.Fields.{Fields}
 use Rattle.ql_refute.specs.declared.refutation.Line.{Line}
 use Rattle.ql_cert.specs.declared.cert.Section.{Section}
@@ -15,23 +15,23 @@ use Rattle.ql_cert.specs.CertFile.{cert_lines, end_line, section_lines, sections
 use Rattle.ql_cert.proofs.States.{numbered_more}
 use Rattle.ql_cert.proofs.Walks.{sections_more}
 
-pub one_behind : {X : Type 0} (field : X → List ℕ) (xs : List X) (x : X) → behind (map field (xs ++ x ∷ [])) ≡ behind (map field xs) ++ 32 ∷ field x
-unfolding behind
+pub one_behind : {X : Type 0} (field : X → List ℕ) (xs : List X) (x : X) → spaced_fields (map field (xs ++ x ∷ [])) ≡ spaced_fields (map field xs) ++ 32 ∷ field x
+unfolding spaced_fields
 one_behind field xs x =
-    ap behind (map-append field xs (x ∷ [])) ∙ behind-append (map field xs) (field x ∷ []) ∙ ap (λ r. behind (map field xs) ++ 32 ∷ r) (append-nil (field x))
+    ap spaced_fields (map-append field xs (x ∷ [])) ∙ spaced_fields-append (map field xs) (field x ∷ []) ∙ ap (λ r. spaced_fields (map field xs) ++ 32 ∷ r) (append-nil (field x))
 
 -- one item more of a list's prefix
 pub one_more_behind : {X : Type 0} (field : X → List ℕ) (xs : List X) (i : ℕ) (x : X) (out : List ℕ) → i < length xs → x ≡ get_or xs i x
-    → ((out ++ behind (map field (take i xs))) ++ 32 ∷ []) ++ field x ≡ out ++ behind (map field (take (i + 1) xs))
+    → ((out ++ spaced_fields (map field (take i xs))) ++ 32 ∷ []) ++ field x ≡ out ++ spaced_fields (map field (take (i + 1) xs))
 one_more_behind field xs i x out lt is =
     let front = take i xs in
     let more : take (i + 1) xs ≡ front ++ x ∷ [] = ap (λ n. take n xs) (add-one i) ∙ take-suc xs i x lt ∙ ap (λ y. front ++ y ∷ []) (sym is) in
-    append_assoc (out ++ behind (map field front)) (32 ∷ []) (field x) ∙ append_assoc out (behind (map field front)) (32 ∷ field x)
-    ∙ ap (λ r. out ++ r) (sym (one_behind field front x) ∙ ap (λ ys. behind (map field ys)) (sym more))
+    append_assoc (out ++ spaced_fields (map field front)) (32 ∷ []) (field x) ∙ append_assoc out (spaced_fields (map field front)) (32 ∷ field x)
+    ∙ ap (λ r. out ++ r) (sym (one_behind field front x) ∙ ap (λ ys. spaced_fields (map field ys)) (sym more))
 
 -- the same of an item given by its index
 pub one_more_at : {X : Type 0} (field : X → List ℕ) (xs : List X) (i : ℕ) (d : X) (out : List ℕ) → i < length xs
-    → ((out ++ behind (map field (take i xs))) ++ 32 ∷ []) ++ field (get_or xs i d) ≡ out ++ behind (map field (take (i + 1) xs))
+    → ((out ++ spaced_fields (map field (take i xs))) ++ 32 ∷ []) ++ field (get_or xs i d) ≡ out ++ spaced_fields (map field (take (i + 1) xs))
 one_more_at field xs i d out lt = one_more_behind field xs i (get_or xs i d) out lt (get_or_default xs i d (get_or xs i d) lt)
 
 one_line : (l : Line) (n : ℕ) → file_text (line_fields n l ∷ []) ≡ joined (line_fields n l) ++ 10 ∷ []
@@ -51,12 +51,12 @@ one_more_line ls i n l out lt is number =
 
 -- a line, piece by piece
 pub line_pieces : (out : List ℕ) (n : ℕ) (l : Line)
-    → ((((out ++ decimal n) ++ behind (clause_fields l.clause)) ++ 32 ∷ colon) ++ behind (map hint_field l.hints)) ++ 10 ∷ [] ≡ out ++ (joined (line_fields n l) ++ 10 ∷ [])
-unfolding behind
+    → ((((out ++ decimal n) ++ spaced_fields (clause_fields l.clause)) ++ 32 ∷ colon) ++ spaced_fields (map hint_field l.hints)) ++ 10 ∷ [] ≡ out ++ (joined (line_fields n l) ++ 10 ∷ [])
+unfolding spaced_fields
 line_pieces out n l =
-    let lits = behind (clause_fields l.clause) in
-    let hints = behind (map hint_field l.hints) in
-    let body : behind (body_fields l) ≡ lits ++ (32 ∷ colon ++ hints) = behind-append (clause_fields l.clause) (colon ∷ map hint_field l.hints) in
+    let lits = spaced_fields (clause_fields l.clause) in
+    let hints = spaced_fields (map hint_field l.hints) in
+    let body : spaced_fields (body_fields l) ≡ lits ++ (32 ∷ colon ++ hints) = spaced_fields-append (clause_fields l.clause) (colon ∷ map hint_field l.hints) in
     append_assoc (((out ++ decimal n) ++ lits) ++ 32 ∷ colon) hints (10 ∷ [])
     ∙ append_assoc ((out ++ decimal n) ++ lits) (32 ∷ colon) (hints ++ 10 ∷ [])
     ∙ append_assoc (out ++ decimal n) lits (32 ∷ colon ++ (hints ++ 10 ∷ []))
@@ -64,7 +64,7 @@ line_pieces out n l =
     ∙ ap (λ r. out ++ (decimal n ++ r)) (sym (append_assoc lits (32 ∷ colon ++ hints) (10 ∷ [])))
     ∙ ap (λ r. out ++ r) (sym (append_assoc (decimal n) (lits ++ (32 ∷ colon ++ hints)) (10 ∷ [])))
     ∙ ap (λ r. out ++ ((decimal n ++ r) ++ 10 ∷ [])) (sym body)
-    ∙ ap (λ r. out ++ (r ++ 10 ∷ [])) (sym (joined_behind (decimal n) (body_fields l)))
+    ∙ ap (λ r. out ++ (r ++ 10 ∷ [])) (sym (joined_spaced (decimal n) (body_fields l)))
 
 -- a heading and the lines after it
 pub section_pieces : (out kind name level rest : List ℕ) (lines : List Fields)
@@ -88,8 +88,8 @@ pub titled_end : (ss : List Section) (text now : List ℕ) → text ≡ file_tex
 titled_end ss text now before made = made ∙ ap (λ t. t ++ file_text (end_line ∷ [])) before ∙ sym (file_text-append (title ∷ sections_lines ss) (end_line ∷ []))
 
 -- nothing is printed of no item
-pub nothing_behind : (out : List ℕ) → out ≡ out ++ behind []
-unfolding behind
+pub nothing_behind : (out : List ℕ) → out ≡ out ++ spaced_fields []
+unfolding spaced_fields
 nothing_behind out = sym (append-nil out)
 
 pub no_numbered : (out : List ℕ) → out ≡ out ++ file_text (numbered_lines 1 [])

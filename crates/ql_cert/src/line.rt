@@ -40,15 +40,15 @@ pub(crate) fn clause_before_colon(
 {
     let mut literals = Vec::new(alloc);
     let mut rest = text;
-    while let Some((field, behind)) = first_field(rest) {
+    while let Some((field, remaining)) = first_field(rest) {
         if is_colon(field) {
-            return Ok(Some((Clause::of(literals), behind)));
+            return Ok(Some((Clause::of(literals), remaining)));
         }
         let Some(next) = next_literal(field, literals.as_slice()) else {
             return Ok(None);
         };
         literals.push(next)?;
-        rest = behind;
+        rest = remaining;
     }
     Ok(None)
 }
@@ -88,12 +88,12 @@ pub(crate) fn literals(alloc: Global, text: &[u8]) -> Result<Option<Vec<Lit>>, N
 {
     let mut literals = Vec::new(alloc);
     let mut rest = text;
-    while let Some((field, behind)) = first_field(rest) {
+    while let Some((field, remaining)) = first_field(rest) {
         let Some(next) = next_literal(field, literals.as_slice()) else {
             return Ok(None);
         };
         literals.push(next)?;
-        rest = behind;
+        rest = remaining;
     }
     Ok(Some(literals))
 }
@@ -106,12 +106,12 @@ fn hints(alloc: Global, text: &[u8]) -> Result<Option<Vec<Hint>>, NoMemory>
 {
     let mut hints = Vec::new(alloc);
     let mut rest = text;
-    while let Some((field, behind)) = first_field(rest) {
+    while let Some((field, remaining)) = first_field(rest) {
         let Some(next) = hint(field) else {
             return Ok(None);
         };
         hints.push(next)?;
-        rest = behind;
+        rest = remaining;
     }
     Ok(Some(hints))
 }

@@ -1,7 +1,7 @@
 ghost use Rattle.std.specs.Prelude.{◌≡◌, ◌++◌, ◌∷◌, [], IfOk, List, OnOk, map};
 ghost use Rattle.std.specs.List.{AllByRecursion};
 ghost use Rattle.ql_lines.specs.Lines.{ahead_from};
-ghost use Rattle.ql_lines.specs.Texts.{behind, file_text, joined};
+ghost use Rattle.ql_lines.specs.Texts.{spaced_fields, file_text, joined};
 ghost use Rattle.ql_cert.specs.CertFile.{IsCertOf, IsSection, cert_lines, end_line, kind_word, level_word, section_lines, sections_lines, title};
 ghost use Rattle.ql_cert.specs.Faults.{fields_in};
 ghost use Rattle.ql_cert.specs.Spelling.{hint_field, line_fields, lit_field, numbered_lines};
@@ -134,7 +134,7 @@ fn push_line(out: &mut Vec<u8>, number: u64, line: &Line) -> Result<(), NoMemory
 }
 
 fn push_literals(out: &mut Vec<u8>, literals: &[Lit]) -> Result<(), NoMemory>
-    ensures { OnOk result (out.new.items ≡ out.old.items ++ behind (map lit_field literals.now)) }
+    ensures { OnOk result (out.new.items ≡ out.old.items ++ spaced_fields (map lit_field literals.now)) }
 {
     for literal in literals {
         push_bytes(out, b" ")?;
@@ -154,7 +154,7 @@ fn push_literal(out: &mut Vec<u8>, literal: Lit) -> Result<(), NoMemory>
 }
 
 fn push_hints(out: &mut Vec<u8>, hints: &[Hint]) -> Result<(), NoMemory>
-    ensures { OnOk result (out.new.items ≡ out.old.items ++ behind (map hint_field hints.now)) }
+    ensures { OnOk result (out.new.items ≡ out.old.items ++ spaced_fields (map hint_field hints.now)) }
 {
     for hint in hints {
         push_bytes(out, b" ")?;

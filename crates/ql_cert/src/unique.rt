@@ -9,7 +9,7 @@ ghost use Rattle.ql_cert.specs.ProofFile.{IsProofFile, IsProofOf};
 ghost use Rattle.ql_cert.specs.declared.cert.Section.{Section};
 ghost use Rattle.ql_cert.specs.declared.fault.CertFault.{CertFault};
 
-/// The lines of a file spell at most one certificate, and have at most one first fault, and not both.
+/// The lines of a file spell one certificate or have one first fault, never both, and never neither.
 pub fn one_certificate()
     ensures reading { (lines : List Fields) (r s : List Section) → IsCertOf r lines
         → IsCertOf s lines → r ≡ s }
@@ -17,6 +17,8 @@ pub fn one_certificate()
         → FirstFileFault IsCertFile file g → f ≡ g }
     ensures apart { (file : Ahead) (f : CertFault) → FirstFileFault IsCertFile file f
         → IsCertFile (fields_in file.lines) → ⊥ }
+    ensures some { (file : Ahead) → (IsCertFile (fields_in file.lines) → ⊥)
+        → ((f : CertFault) → FirstFileFault IsCertFile file f → ⊥) → ⊥ }
 {}
 
 /// The same of proofs.
@@ -27,4 +29,6 @@ pub fn one_proof()
         → FirstFileFault IsProofFile file g → f ≡ g }
     ensures apart { (file : Ahead) (f : CertFault) → FirstFileFault IsProofFile file f
         → IsProofFile (fields_in file.lines) → ⊥ }
+    ensures some { (file : Ahead) → (IsProofFile (fields_in file.lines) → ⊥)
+        → ((f : CertFault) → FirstFileFault IsProofFile file f → ⊥) → ⊥ }
 {}

@@ -24,7 +24,7 @@ use Rattle.ql_commands.proofs.FoundNames.{found, op-found, txn-found}
 use Rattle.ql_implication.specs.OfPrograms.{GivesContract}
 use Rattle.ql_implication.specs.Executions.{IsImplied, IsImpliedTxn}
 use Rattle.ql_classify.specs.Least.{AreEnough}
-use Rattle.ql_implied.specs.Commands.{AcceptsFront, EachGives, EndsWith, ReportsAccepted, accepted_lines}
+use Rattle.ql_implied.specs.Commands.{AcceptsPrefix, EachGives, EndsWith, ReportsAccepted, accepted_lines}
 use Rattle.ql_lang.specs.Formulas.{Resolved}
 use Rattle.ql_lang.specs.declared.operation.OpDecl.{OpDecl}
 use Rattle.ql_lang.specs.declared.program.Program.{Program}
@@ -380,9 +380,9 @@ module _ (source : List ℕ) (p : Program) (is : IsSourceOf source p) where
   its-end next (s ∷ ss) Usage end expected ends = absurd ends
   its-end next (s ∷ ss) TooLarge end expected ends = absurd ends
 
-  pub accepted-sound : (ss : List Section) (a : Status) (text : List ℕ) → AreExpected p ss → AcceptsFront p 0 ss a text → IsSoundAnswer (codes " accepted") source text
+  pub accepted-sound : (ss : List Section) (a : Status) (text : List ℕ) → AreExpected p ss → AcceptsPrefix p 0 ss a text → IsSoundAnswer (codes " accepted") source text
   accepted-sound ss a text expected accepts =
-      let front = accepted 0 accepts.front accepts.others (subst (λ (ts : List Section). AreExpectedFrom p 0 ts) accepts.sections (expected_from p ss expected)) accepts.each in
+      let front = accepted 0 accepts.prefix accepts.others (subst (λ (ts : List Section). AreExpectedFrom p 0 ts) accepts.sections (expected_from p ss expected)) accepts.each in
       let end = its-end front.next accepts.others a accepts.end front.expected accepts.ends in
       let are : text ≡ ended (front.its ++ end.its) =
       accepts.lines ∙ ap (λ (w : List ℕ). w ++ accepts.end) front.are ∙ ap (λ (w : List ℕ). ended front.its ++ w) end.are ∙ sym (ended-append front.its end.its) in

@@ -54,9 +54,9 @@ fn parse_rest<'a>(all: bool, file: &'a str, words: &'a [String]) -> Option<Reque
 {
     match words.split_first() {
         None => request_of(all, file, None, Some(words)),
-        Some((name, behind)) => {
+        Some((name, remaining)) => {
             if is_file_name(name.as_str()) {
-                request_of(all, file, Some(name.as_str()), parse_breach(behind))
+                request_of(all, file, Some(name.as_str()), parse_breach(remaining))
             } else {
                 request_of(all, file, None, parse_breach(words))
             }

@@ -25,9 +25,9 @@ one_answer v w text r q f g = one_field ValueAt value_starts one_value v w text 
 
 pub one_call : (vs ws : List Value) (v w : Value) (text r q : List ℕ) → CallAt vs v text r → CallAt ws w text q → (vs ≡ ws) × (v ≡ w) × (r ≡ q)
 one_call vs ws v w text r q f g =
-    let args = one_values vs ws text f.behind_args g.behind_args f.called_with g.called_with in
-    let mark = one_first g.behind_args (codes "=") (codes "=") f.behind_mark g.behind_mark (subst (λ (t : List ℕ). FirstField t (codes "=") f.behind_mark) args.1 f.mark) g.mark in
-    let answer = one_answer v w g.behind_mark r q (subst (λ (t : List ℕ). FieldAt ValueAt v t r) mark.1 f.answered) g.answered in
+    let args = one_values vs ws text f.past_args g.past_args f.called_with g.called_with in
+    let mark = one_first g.past_args (codes "=") (codes "=") f.past_mark g.past_mark (subst (λ (t : List ℕ). FirstField t (codes "=") f.past_mark) args.1 f.mark) g.mark in
+    let answer = one_answer v w g.past_mark r q (subst (λ (t : List ℕ). FieldAt ValueAt v t r) mark.1 f.answered) g.answered in
     (args.0, answer.0, answer.1)
 
 -- ---- the payload
@@ -46,8 +46,8 @@ one_payload (Emitted vs) (Emitted ws) text r q f g = let same = one_values vs ws
 
 pub one_emit : (p s : Payload) (text r q : List ℕ) → EmitAt p text r → EmitAt s text q → (p ≡ s) × (r ≡ q)
 one_emit p s text r q f g =
-    let word = one_first text (codes "emit") (codes "emit") f.behind_word g.behind_word f.word g.word in
-    one_payload p s g.behind_word r q (subst (λ (t : List ℕ). PayloadAt p t r) word.1 f.carried) g.carried
+    let word = one_first text (codes "emit") (codes "emit") f.past_word g.past_word f.word g.word in
+    one_payload p s g.past_word r q (subst (λ (t : List ℕ). PayloadAt p t r) word.1 f.carried) g.carried
 
 -- ---- the setting
 
@@ -73,32 +73,32 @@ name_fields id object op = codes "effect" ∷ decimal id ∷ object ∷ op ∷ [
 module _ (text : List ℕ) (id : ℕ) (e : EffectLine) (p : IsEffectLine text id e) where
   -- where a line goes on with its call, its payload and its setting
   module _ (object op rest : List ℕ) (names : FieldsAt (name_fields id object op) text rest) where
-    pub call_behind : CallAt e.args e.answer rest p.behind_answer
+    pub call_behind : CallAt e.args e.answer rest p.past_answer
     call_behind =
-        let row = one_row (name_fields id object op) (name_fields id e.object e.op) text rest p.behind_op refl names p.names in
-        subst (λ (t : List ℕ). CallAt e.args e.answer t p.behind_answer) (sym row.1) p.call
+        let row = one_row (name_fields id object op) (name_fields id e.object e.op) text rest p.past_op refl names p.names in
+        subst (λ (t : List ℕ). CallAt e.args e.answer t p.past_answer) (sym row.1) p.call
 
-    module _ (args : List Value) (answer : Value) (behind : List ℕ) (call : CallAt args answer rest behind) where
-      pub emit_behind : EmitAt e.payload behind p.behind_payload
+    module _ (args : List Value) (answer : Value) (remaining : List ℕ) (call : CallAt args answer rest remaining) where
+      pub emit_behind : EmitAt e.payload remaining p.past_payload
       emit_behind =
-          let same = one_call args e.args answer e.answer rest behind p.behind_answer call call_behind in
-          subst (λ (t : List ℕ). EmitAt e.payload t p.behind_payload) (sym same.2) p.emit
+          let same = one_call args e.args answer e.answer rest remaining p.past_answer call call_behind in
+          subst (λ (t : List ℕ). EmitAt e.payload t p.past_payload) (sym same.2) p.emit
 
-      pub setting_behind : (payload : Payload) (last : List ℕ) → EmitAt payload behind last → IsSetting last e.setting
+      pub setting_behind : (payload : Payload) (last : List ℕ) → EmitAt payload remaining last → IsSetting last e.setting
       setting_behind payload last emit =
-          let same = one_emit payload e.payload behind last p.behind_payload emit emit_behind in
+          let same = one_emit payload e.payload remaining last p.past_payload emit emit_behind in
           subst (λ (t : List ℕ). IsSetting t e.setting) (sym same.1) p.setting
 
 -- a line describes one effect
 pub one_effect : (text : List ℕ) (id : ℕ) (e f : EffectLine) → IsEffectLine text id e → IsEffectLine text id f → e ≡ f
 one_effect text id e f p q =
-    let row = one_row (name_fields id e.object e.op) (name_fields id f.object f.op) text p.behind_op q.behind_op refl p.names q.names in
-    let call_there = call_behind text id f q e.object e.op p.behind_op p.names in
-    let call = one_call e.args f.args e.answer f.answer p.behind_op p.behind_answer q.behind_answer p.call call_there in
-    let emit_there = emit_behind text id f q e.object e.op p.behind_op p.names e.args e.answer p.behind_answer p.call in
-    let payload = one_emit e.payload f.payload p.behind_answer p.behind_payload q.behind_payload p.emit emit_there in
-    let setting_there = setting_behind text id f q e.object e.op p.behind_op p.names e.args e.answer p.behind_answer p.call e.payload p.behind_payload p.emit in
-    let setting = one_setting p.behind_payload e.setting f.setting p.setting setting_there in
+    let row = one_row (name_fields id e.object e.op) (name_fields id f.object f.op) text p.past_op q.past_op refl p.names q.names in
+    let call_there = call_behind text id f q e.object e.op p.past_op p.names in
+    let call = one_call e.args f.args e.answer f.answer p.past_op p.past_answer q.past_answer p.call call_there in
+    let emit_there = emit_behind text id f q e.object e.op p.past_op p.names e.args e.answer p.past_answer p.call in
+    let payload = one_emit e.payload f.payload p.past_answer p.past_payload q.past_payload p.emit emit_there in
+    let setting_there = setting_behind text id f q e.object e.op p.past_op p.names e.args e.answer p.past_answer p.call e.payload p.past_payload p.emit in
+    let setting = one_setting p.past_payload e.setting f.setting p.setting setting_there in
     let object : e.object ≡ f.object = ap (λ (fs : Fields). get_or fs 2 []) row.0 in
     let op : e.op ≡ f.op = ap (λ (fs : Fields). get_or fs 3 []) row.0 in
     ap (λ a. record { object = a; op = e.op; args = e.args; answer = e.answer; payload = e.payload; setting = e.setting }) object
@@ -109,4 +109,4 @@ one_effect text id e f p q =
     ∙ ap (λ a. record { object = f.object; op = f.op; args = f.args; answer = f.answer; payload = f.payload; setting = a }) setting
 
 pub no_effect_ends : (text : List ℕ) (id : ℕ) (e : EffectLine) → IsEffectLine text id e → (f : List ℕ) → fields_of text ≡ f ∷ [] → ⊥
-no_effect_ends text id e p f end = omega (arith, ap length (sym (fields_at (name_fields id e.object e.op) text p.behind_op p.names) ∙ end))
+no_effect_ends text id e p f end = omega (arith, ap length (sym (fields_at (name_fields id e.object e.op) text p.past_op p.names) ∙ end))

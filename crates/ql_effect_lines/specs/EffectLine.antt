@@ -43,11 +43,11 @@ pub record IsSetting (text : List ℕ) (s : Setting) : Type 0 where
 
 -- (7) = unit
 pub record CallAt (args : List Value) (answer : Value) (text rest : List ℕ) : Type 0 where
-  pub behind_args : List ℕ
-  pub behind_mark : List ℕ
-  pub called_with : FieldAt ValuesAt args text behind_args
-  pub mark : FirstField behind_args (codes "=") behind_mark
-  pub answered : FieldAt ValueAt answer behind_mark rest
+  pub past_args : List ℕ
+  pub past_mark : List ℕ
+  pub called_with : FieldAt ValuesAt args text past_args
+  pub mark : FirstField past_args (codes "=") past_mark
+  pub answered : FieldAt ValueAt answer past_mark rest
 
 abbrev pub PayloadAt : Payload → List ℕ → List ℕ → Type 0
 PayloadAt Nothing text rest = FirstField text (codes "-") rest
@@ -55,18 +55,18 @@ PayloadAt (Emitted vs) text rest = FieldAt ValuesAt vs text rest
 
 -- emit (7)
 pub record EmitAt (payload : Payload) (text rest : List ℕ) : Type 0 where
-  pub behind_word : List ℕ
-  pub word : FirstField text (codes "emit") behind_word
-  pub carried : PayloadAt payload behind_word rest
+  pub past_word : List ℕ
+  pub word : FirstField text (codes "emit") past_word
+  pub carried : PayloadAt payload past_word rest
 
 -- the text is the line of this effect, with this number
 pub record IsEffectLine (text : List ℕ) (id : ℕ) (e : EffectLine) : Type 0 where
   pub object : IsName e.object
   pub op : IsName e.op
-  pub behind_op : List ℕ
-  pub behind_answer : List ℕ
-  pub behind_payload : List ℕ
-  pub names : FieldsAt (codes "effect" ∷ decimal id ∷ e.object ∷ e.op ∷ []) text behind_op
-  pub call : CallAt e.args e.answer behind_op behind_answer
-  pub emit : EmitAt e.payload behind_answer behind_payload
-  pub setting : IsSetting behind_payload e.setting
+  pub past_op : List ℕ
+  pub past_answer : List ℕ
+  pub past_payload : List ℕ
+  pub names : FieldsAt (codes "effect" ∷ decimal id ∷ e.object ∷ e.op ∷ []) text past_op
+  pub call : CallAt e.args e.answer past_op past_answer
+  pub emit : EmitAt e.payload past_answer past_payload
+  pub setting : IsSetting past_payload e.setting

@@ -9,7 +9,7 @@ use Rattle.ql_value.specs.ValueGrammar.{IsValue, ReadsMore, ReadsValue}
 -- fields, each after any number of spaces
 abbrev pub FieldsAt : Fields → List ℕ → List ℕ → Type 0
 FieldsAt [] text rest = text ≡ rest
-FieldsAt (f ∷ fs) text rest = (behind : List ℕ) × FirstField text f behind × FieldsAt fs behind rest
+FieldsAt (f ∷ fs) text rest = (remaining : List ℕ) × FirstField text f remaining × FieldsAt fs remaining rest
 
 -- a value within the limits, as the grammar of values spells it, and no digit directly after it
 pub record ValueAt (v : Value) (text rest : List ℕ) : Type 0 where
@@ -20,7 +20,7 @@ pub record ValueAt (v : Value) (text rest : List ℕ) : Type 0 where
 -- values, and the bracket after them: there are a comma and any number of spaces between two
 abbrev pub ItemsAt : List Value → List ℕ → List ℕ → Type 0
 ItemsAt [] text rest = ⊥
-ItemsAt (v ∷ vs) text rest = (behind : List ℕ) × ValueAt v text behind × ReadsMore ValueAt vs behind (41 ∷ rest)
+ItemsAt (v ∷ vs) text rest = (remaining : List ℕ) × ValueAt v text remaining × ReadsMore ValueAt vs remaining (41 ∷ rest)
 
 -- values in round brackets
 abbrev pub ValuesAt : List Value → List ℕ → List ℕ → Type 0

@@ -63,19 +63,19 @@ fn names(text: &[u8], id: u32) -> Option<(&[u8], &[u8], &[u8])>
 {
     let rest = after_id(text, id)?;
     let (object, rest) = after_name(rest)?;
-    let (op, behind) = after_name(rest)?;
-    Some((object, op, behind))
+    let (op, remaining) = after_name(rest)?;
+    Some((object, op, remaining))
 }
 
 // What follows the word `effect` and this id.
 fn after_id(text: &[u8], id: u32) -> Option<&[u8]>
     ensures { MatchOption result
         ((rest : Fields) → fields_of text.now ≡ codes "effect" ∷ decimal id ∷ rest → ⊥)
-        (λ behind. FieldsAt (codes "effect" ∷ decimal id ∷ []) text.now behind.now) }
+        (λ remaining. FieldsAt (codes "effect" ∷ decimal id ∷ []) text.now remaining.now) }
 {
     let numbered = after_word(text, b"effect")?;
-    let (number, behind) = after_number(numbered, u32::MAX)?;
-    if number == id { Some(behind) } else { None }
+    let (number, remaining) = after_number(numbered, u32::MAX)?;
+    if number == id { Some(remaining) } else { None }
 }
 
 // The arguments and the answer of a call.
@@ -93,7 +93,7 @@ fn call(alloc: Global, text: &[u8]) -> Result<Option<(Values, Value, &[u8])>, No
         return Ok(None);
     };
     match value_field(alloc, after_mark)? {
-        Some((answer, behind)) => Ok(Some((args, answer, behind))),
+        Some((answer, remaining)) => Ok(Some((args, answer, remaining))),
         None => Ok(None),
     }
 }
@@ -118,11 +118,11 @@ fn payload(alloc: Global, text: &[u8]) -> Result<Option<(Payload, &[u8])>, NoMem
         ((payload : Payload) (rest : List ℕ) → PayloadAt payload text.now rest → ⊥)
         (λ x. PayloadAt x.0 text.now x.1.now)) }
 {
-    if let Some(behind) = after_word(text, b"-") {
-        return Ok(Some((Payload::Nothing, behind)));
+    if let Some(remaining) = after_word(text, b"-") {
+        return Ok(Some((Payload::Nothing, remaining)));
     }
     match values_field(alloc, text)? {
-        Some((values, behind)) => Ok(Some((Payload::Emitted(values), behind))),
+        Some((values, remaining)) => Ok(Some((Payload::Emitted(values), remaining))),
         None => Ok(None),
     }
 }

@@ -67,12 +67,12 @@ fn items(alloc: Global, text: &[u8]) -> Result<Option<(Values, &[u8])>, NoMemory
 {
     let mut items = Vec::new(alloc);
     let mut rest = text;
-    while let Some((item, behind)) = value(alloc, rest)? {
+    while let Some((item, remaining)) = value(alloc, rest)? {
         items.push(item)?;
-        if let Some(end) = after_byte(behind, b')') {
+        if let Some(end) = after_byte(remaining, b')') {
             return Ok(Some((Values::of(items), end)));
         }
-        let Some(next) = after_byte(behind, b',') else {
+        let Some(next) = after_byte(remaining, b',') else {
             return Ok(None);
         };
         rest = after_spaces(next);

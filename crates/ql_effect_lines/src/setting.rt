@@ -58,8 +58,8 @@ fn session(text: &[u8]) -> Option<(u32, &[u8])>
         ≡ codes "session" ∷ decimal x.0 ∷ fields_of x.1.now)) }
 {
     let numbered = after_word(text, b"session")?;
-    let (session, behind) = after_number(numbered, 255)?;
-    Some((session, behind))
+    let (session, remaining) = after_number(numbered, 255)?;
+    Some((session, remaining))
 }
 
 // The transaction after the word `txn`.
@@ -70,9 +70,9 @@ fn txn(text: &[u8]) -> Option<(Option<Begun>, &[u8])>
         (λ x. FitsTxn x.0 × (fields_of text.now ≡ codes "txn" ∷ txn_text x.0 ∷ fields_of x.1.now)) }
 {
     let after_txn = after_word(text, b"txn")?;
-    let (field, behind) = first_field(after_txn)?;
+    let (field, remaining) = first_field(after_txn)?;
     let txn = txn_of(field)?;
-    Some((txn, behind))
+    Some((txn, remaining))
 }
 
 // The transaction that a field says.
@@ -129,6 +129,6 @@ fn stamp(text: &[u8]) -> Option<(u32, &[u8])>
 {
     let numbered = after_word(text, b"stamp")?;
     let (stamp, rest) = after_number(numbered, u32::MAX)?;
-    let behind = after_word(rest, b"vis")?;
-    Some((stamp, behind))
+    let remaining = after_word(rest, b"vis")?;
+    Some((stamp, remaining))
 }

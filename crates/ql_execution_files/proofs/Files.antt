@@ -1,5 +1,5 @@
--- A file says one execution, which is sound, or has one first fault, and not both.
-use Rattle.std.proofs.Common.{◌≡◌, ◌≤◌, inr, ℕ, suc, List, [], ◌∷◌, Result, Ok, Err, length, ap, subst, sym, ◌∙◌}
+-- A file says one execution, which is sound, or has one first fault, and never both or neither.
+use Rattle.std.proofs.Common.{◌≡◌, ◌≤◌, inr, ℕ, suc, List, [], ◌∷◌, Result, Ok, Err, length, ap, refl, subst, sym, ◌∙◌}
 use Rattle.ql_exec.specs.declared.effect.Effect.{Effect}
 use Rattle.ql_lang.specs.declared.program.Program.{Program}
 use Rattle.ql_line_files.specs.declared.fault.Broken.{Broken}
@@ -18,7 +18,7 @@ use Rattle.ql_execution_files.specs.declared.format.ExecutionReading.{ExecutionR
 use Rattle.ql_execution_files.specs.declared.format.ExecutionReading.TheVariants.{Unbegun, WithEffects, Ended}
 use Rattle.ql_execution_files.specs.declared.report_fault.ReportFault.{ReportFault}
 use Rattle.ql_execution_files.specs.ExecutionFile.{AreSound, ClosesExecution, FirstExecutionFault, ExtendsExecution, IsExecutionFile, fault_at, gives}
-use Rattle.ql_execution_files.specs.OneLine.{closes_one, gives_one, takes_sound}
+use Rattle.ql_execution_files.specs.OneLine.{closes_one, closes_some, gives_one, gives_some, takes_sound}
 
 -- what an effect's line is refused for
 pub broken : (p : Program) (read : EffectsRead) (text : List ℕ) (e : EffectLine) → IsEffectLine text (suc (length read.effects)) e → (fault : LineFault ReportRule)
@@ -55,3 +55,12 @@ module _ (p : Program) where
 
     pub apart : (x : List Effect) (f : ReportFault) → IsExecutionFile p file x → FirstExecutionFault p file f → ⊥
     apart x f h k = let same : ◌≡◌ {A = Result (List Effect) (Broken ReportRule)} (Ok x) (Err k.broken) = one (Ok x) (Err k.broken) h k.first in absurd cc
+
+    -- an outcome is an execution or a first fault
+    both_none : ((x : List Effect) → IsExecutionFile p file x → ⊥) → ((f : ReportFault) → FirstExecutionFault p file f → ⊥) → (x : Result (List Effect) (Broken ReportRule))
+        → Outcome (gives p) ClosesExecution Unbegun file x → ⊥
+    both_none no_execution no_fault (Ok x) h = no_execution x h
+    both_none no_execution no_fault (Err broken) h = no_fault (fault_at broken.rule broken.line) (record { broken = broken; first = h; is = refl })
+
+    pub some : ((x : List Effect) → IsExecutionFile p file x → ⊥) → ((f : ReportFault) → FirstExecutionFault p file f → ⊥) → ⊥
+    some no_execution no_fault = law.some_outcome (gives p) ClosesExecution (λ s l. gives_some p s l.text) closes_some Unbegun file (both_none no_execution no_fault)

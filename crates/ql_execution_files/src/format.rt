@@ -134,7 +134,7 @@ fn is_word(text: &[u8], word: &[u8]) -> bool
     ensures { IsTrue result ↔ (fields_of text.now ≡ word.now ∷ []) }
 {
     match after_word(text, word) {
-        Some(behind) => first_field(behind).is_none(),
+        Some(remaining) => first_field(remaining).is_none(),
         None => false,
     }
 }

@@ -1,5 +1,6 @@
 // Execution files.
-// The one contract: reading a file returns the execution that it says, or its first fault; no file has both.
+// The one contract: reading a file returns the execution that it says, or its first fault; no file
+// has both, and none has neither.
 #![tactic(auto)]
 
 mod format;

@@ -1,8 +1,8 @@
--- The first fault of a file is that of the grammar.
+-- The first fault of a file is that of the grammar, and a file has an execution or such a fault.
 use Rattle.std.proofs.Common.{◌≡◌, ℕ, List, [], ◌∷◌, ◌++◌, Result, Err, refl, sym, subst}
 use Rattle.std.proofs.lemmas.List.{map-append}
 use Rattle.ql_lang.specs.declared.program.Program.{Program}
-use Rattle.ql_lines.specs.Lines.{Ahead, Numbered}
+use Rattle.ql_lines.specs.Lines.{Ahead, Numbered, texts_of}
 use Rattle.ql_line_files.specs.declared.fault.Broken.{Broken}
 use Rattle.ql_line_files.specs.Outcomes.{FirstFault}
 use Rattle.ql_line_files.specs.Outcomes.FirstFault.{at_line, at_end}
@@ -14,21 +14,23 @@ use Rattle.ql_execution_files.specs.declared.format.ExecutionReading.{ExecutionR
 use Rattle.ql_execution_files.specs.declared.format.ExecutionReading.TheVariants.{Unbegun, WithEffects, Ended}
 use Rattle.ql_execution_files.specs.declared.report_fault.ReportFault.{ReportFault}
 use Rattle.ql_execution_files.specs.ExecutionFile.{ClosesExecution, FirstExecutionFault, fault_at, gives}
+use Rattle.ql_execution_files.proofs.Files as files
 use Rattle.ql_execution_grammar.specs.FirstFaults.FirstTextFault.{at_line as line_fault, at_end as end_of_file}
 use Rattle.ql_execution_grammar.specs.FirstFaults.{BreaksExecutionRule, FirstTextFault}
-use Rattle.ql_execution_grammar.specs.Grammar.{IsExecutionText, texts_in}
+use Rattle.ql_execution_grammar.specs.Grammar.{IsExecutionText}
+use Rattle.ql_execution_grammar.specs.Readings.{SaysExecution}
 use Rattle.ql_execution_grammar.proofs.Breaking.{begins, breaks, led, refused_there}
 use Rattle.ql_execution_grammar.proofs.EffectLists.{no_whole}
-use Rattle.ql_execution_grammar.proofs.Trees.{file_of}
+use Rattle.ql_execution_grammar.proofs.Trees.{file_of, spelled}
 use Rattle.ql_execution_grammar.proofs.Opening.{Spelled, Whole, holds_too, not_opened, opened_of}
 use Rattle.ql_execution_grammar.proofs.Reached.{Reached, leads, reached}
 
-texts_more : (ls : List Numbered) (l : Numbered) → texts_in (ls ++ l ∷ []) ≡ texts_in ls ++ l.text ∷ []
+texts_more : (ls : List Numbered) (l : Numbered) → texts_of (ls ++ l ∷ []) ≡ texts_of ls ++ l.text ∷ []
 texts_more ls l = map-append (λ (n : Numbered). n.text) ls (l ∷ [])
 
 module _ (p : Program) (file : Ahead) where
   abbrev texts : List (List ℕ)
-  texts = texts_in file.lines
+  texts = texts_of file.lines
 
   abbrev early : Broken ReportRule
   early = record { line = file.end; rule = Unexpected }
@@ -46,7 +48,7 @@ module _ (p : Program) (file : Ahead) where
   fault_of_file : (broken : Broken ReportRule) → FirstFault (gives p) ClosesExecution Unbegun file broken → FirstTextFault p file (fault_at broken.rule broken.line)
   fault_of_file broken (at_line before l rest s rule are h g) =
       let there = reached p before s h in
-      line_fault before l rest rule are (begins p (texts_in before) s there) (subst (λ ks. BreaksExecutionRule p ks rule) (sym (texts_more before l)) (breaks p (texts_in before) s l.text rule there g))
+      line_fault before l rest rule are (begins p (texts_of before) s there) (subst (λ ks. BreaksExecutionRule p ks rule) (sym (texts_more before l)) (breaks p (texts_of before) s l.text rule there g))
   fault_of_file broken (at_end s fault h c) = end_fault s fault (reached p file.lines s h) c
 
   pub first_fault : (f : ReportFault) → FirstExecutionFault p file f → FirstTextFault p file f
@@ -61,12 +63,18 @@ module _ (p : Program) (file : Ahead) where
 
   pub fault_outcome : (f : ReportFault) → FirstTextFault p file f → FirstExecutionFault p file f
   fault_outcome f (line_fault before l rest rule are begun breaks_it) =
-      let at = led p (texts_in before) begun in
+      let at = led p (texts_of before) begun in
       record {
         broken = record { line = l.number; rule = rule };
-        first = at_line before l rest at.0 rule are (leads p before at.0 at.1) (refused_there p (texts_in before) at.0 l.text rule at.1 (subst (λ ks. BreaksExecutionRule p ks rule) (texts_more before l) breaks_it));
+        first = at_line before l rest at.0 rule are (leads p before at.0 at.1) (refused_there p (texts_of before) at.0 l.text rule at.1 (subst (λ ks. BreaksExecutionRule p ks rule) (texts_more before l) breaks_it));
         is = refl;
       }
   fault_outcome f (end_of_file begun none) =
       let at = led p texts begun in
       record { broken = early; first = at_end at.0 early (leads p file.lines at.0 at.1) (ends_early at.0 at.1 none); is = refl }
+
+  -- ---- never none
+
+  pub some : ((es : List EffectLine) (x : List Effect) → IsExecutionText texts es → SaysExecution p es x → ⊥) → ((f : ReportFault) → FirstTextFault p file f → ⊥) → ⊥
+  some no_execution no_fault =
+      files.some p file (λ x h. let whole = spelled p file x h in no_execution whole.0 x whole.1 whole.2) (λ f h. no_fault f (first_fault f h))

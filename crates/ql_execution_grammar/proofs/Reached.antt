@@ -3,7 +3,7 @@ use Rattle.std.proofs.Common.{◌≡◌, inl, inr, ℕ, suc, ◌+◌, List, [], 
 use Rattle.ql_lang.specs.declared.program.Program.{Program}
 use Rattle.ql_lines.proofs.Conses.{heads, tails}
 use Rattle.ql_lines.specs.Fields.{fields_of}
-use Rattle.ql_lines.specs.Lines.{Numbered}
+use Rattle.ql_lines.specs.Lines.{Numbered, texts_of}
 use Rattle.ql_line_files.specs.Outcomes.{Leads}
 use Rattle.ql_effect_lines.specs.declared.effect_line.EffectLine.{EffectLine}
 use Rattle.ql_effect_lines.specs.declared.effects_read.EffectsRead.{EffectsRead}
@@ -11,7 +11,7 @@ use Rattle.ql_effect_lines.specs.EffectLine.{IsEffectLine}
 use Rattle.ql_execution_files.specs.declared.format.ExecutionReading.{ExecutionReading}
 use Rattle.ql_execution_files.specs.declared.format.ExecutionReading.TheVariants.{Unbegun, WithEffects, Ended}
 use Rattle.ql_execution_files.specs.ExecutionFile.{ClosesExecution, Takes, end_fields, first_fields, gives, nothing_read}
-use Rattle.ql_execution_grammar.specs.Grammar.{AreEffectLines, IsBeforeFirst, texts_in}
+use Rattle.ql_execution_grammar.specs.Grammar.{AreEffectLines, IsBeforeFirst}
 use Rattle.ql_execution_grammar.proofs.EffectLists.{AreEffectsThenEnd, line_more, with_end}
 use Rattle.ql_execution_grammar.proofs.Opening.{AreBeforeFirst, Opened, Spelled, Whole, opened_later, opened_more, opened_now}
 use Rattle.ql_execution_grammar.proofs.InTurn.{ReadAfter, read_more}
@@ -66,18 +66,18 @@ module _ (p : Program) where
   step lines (WithEffects read) l t has (inr h) = subst (Reached p (lines ++ l ∷ [])) (sym h.to) (record { effects = has.effects; opened = with_last lines read has l h.is; in_turn = has.in_turn })
   step lines (Ended read) l t has h = absurd h
 
-  reached_from : (ls : List Numbered) (lines : List (List ℕ)) (s t : ExecutionReading) → Reached p lines s → LeadsTo p s ls t → Reached p (lines ++ texts_in ls) t
+  reached_from : (ls : List Numbered) (lines : List (List ℕ)) (s t : ExecutionReading) → Reached p lines s → LeadsTo p s ls t → Reached p (lines ++ texts_of ls) t
   unfolding Leads
   reached_from [] lines s t has h = subst (λ ks. Reached p ks t) (sym (append-nil lines)) (subst (Reached p lines) h has)
   reached_from (l ∷ ls) lines s t has (next, g, rest) =
-      subst (λ ks. Reached p ks t) (append_assoc lines (l.text ∷ []) (texts_in ls)) (reached_from ls (lines ++ l.text ∷ []) next t (step lines s l.text next has g) rest)
+      subst (λ ks. Reached p ks t) (append_assoc lines (l.text ∷ []) (texts_of ls)) (reached_from ls (lines ++ l.text ∷ []) next t (step lines s l.text next has g) rest)
 
-  pub reached : (ls : List Numbered) (s : ExecutionReading) → LeadsTo p Unbegun ls s → Reached p (texts_in ls) s
+  pub reached : (ls : List Numbered) (s : ExecutionReading) → LeadsTo p Unbegun ls s → Reached p (texts_of ls) s
   reached ls s h = reached_from ls [] Unbegun s tt h
 
   -- ---- and back
 
-  lead_nowhere : (ls : List Numbered) → AreBeforeFirst (texts_in ls) → LeadsTo p Unbegun ls Unbegun
+  lead_nowhere : (ls : List Numbered) → AreBeforeFirst (texts_of ls) → LeadsTo p Unbegun ls Unbegun
   unfolding Leads
   lead_nowhere [] all = refl
   lead_nowhere (l ∷ ls) all = (Unbegun, inr (all.0, refl), lead_nowhere ls all.1)
@@ -85,19 +85,19 @@ module _ (p : Program) where
   no_texts : (before : List (List ℕ)) (first : List ℕ) (rest : List (List ℕ)) → [] ≡ before ++ first ∷ rest → ⊥
   no_texts before first rest are = omega (arith, ap length are, length-append before (first ∷ rest))
 
-  lead_on : (ls : List Numbered) (before : List (List ℕ)) (first : List ℕ) (rest : List (List ℕ)) (s : ExecutionReading) → texts_in ls ≡ before ++ first ∷ rest → AreBeforeFirst before → fields_of first ≡ first_fields
-      → ((more : List Numbered) → texts_in more ≡ rest → LeadsTo p (WithEffects nothing_read) more s) → LeadsTo p Unbegun ls s
+  lead_on : (ls : List Numbered) (before : List (List ℕ)) (first : List ℕ) (rest : List (List ℕ)) (s : ExecutionReading) → texts_of ls ≡ before ++ first ∷ rest → AreBeforeFirst before → fields_of first ≡ first_fields
+      → ((more : List Numbered) → texts_of more ≡ rest → LeadsTo p (WithEffects nothing_read) more s) → LeadsTo p Unbegun ls s
   unfolding Leads
   lead_on [] before first rest s are all is on = absurd (no_texts before first rest are)
   lead_on (l ∷ ls) [] first rest s are all is on =
-      (WithEffects nothing_read, inl (ap fields_of (heads l.text first (texts_in ls) rest are) ∙ is, refl), on ls (tails l.text first (texts_in ls) rest are))
+      (WithEffects nothing_read, inl (ap fields_of (heads l.text first (texts_of ls) rest are) ∙ is, refl), on ls (tails l.text first (texts_of ls) rest are))
   lead_on (l ∷ ls) (b ∷ bs) first rest s are all is on = (
     Unbegun,
-    inr (subst IsBeforeFirst (sym (heads l.text b (texts_in ls) (bs ++ first ∷ rest) are)) all.0, refl),
-    lead_on ls bs first rest s (tails l.text b (texts_in ls) (bs ++ first ∷ rest) are) all.1 is on,
+    inr (subst IsBeforeFirst (sym (heads l.text b (texts_of ls) (bs ++ first ∷ rest) are)) all.0, refl),
+    lead_on ls bs first rest s (tails l.text b (texts_of ls) (bs ++ first ∷ rest) are) all.1 is on,
   )
 
-  lead_effects : (es : List EffectLine) (ls : List Numbered) (read more : EffectsRead) → AreEffectLines (suc (length read.effects)) (texts_in ls) es → ReadAfter p read es more → LeadsTo p (WithEffects read) ls (WithEffects more)
+  lead_effects : (es : List EffectLine) (ls : List Numbered) (read more : EffectsRead) → AreEffectLines (suc (length read.effects)) (texts_of ls) es → ReadAfter p read es more → LeadsTo p (WithEffects read) ls (WithEffects more)
   unfolding Leads
   lead_effects [] [] read more lines h = ap WithEffects h
   lead_effects [] (l ∷ ls) read more lines h = absurd lines
@@ -105,10 +105,10 @@ module _ (p : Program) where
   lead_effects (e ∷ es) (l ∷ ls) read more lines (next, ok, rest) = (
     WithEffects next,
     inl (record { effect = e; more = next; is = lines.0; lawful = ok; to = refl }),
-    lead_effects es ls next more (subst (λ (n : ℕ). AreEffectLines n (texts_in ls) es) (sym (one_counted p read e next ok)) lines.1) rest,
+    lead_effects es ls next more (subst (λ (n : ℕ). AreEffectLines n (texts_of ls) es) (sym (one_counted p read e next ok)) lines.1) rest,
   )
 
-  lead_to_end : (es : List EffectLine) (ls : List Numbered) (read more : EffectsRead) → AreEffectsThenEnd (suc (length read.effects)) (texts_in ls) es → ReadAfter p read es more → LeadsTo p (WithEffects read) ls (Ended more)
+  lead_to_end : (es : List EffectLine) (ls : List Numbered) (read more : EffectsRead) → AreEffectsThenEnd (suc (length read.effects)) (texts_of ls) es → ReadAfter p read es more → LeadsTo p (WithEffects read) ls (Ended more)
   unfolding Leads
   lead_to_end es [] read more lines h = absurd lines
   lead_to_end [] (l ∷ []) read more lines h = (Ended read, inr (record { is = lines.0; to = refl }), ap Ended h)
@@ -116,10 +116,10 @@ module _ (p : Program) where
   lead_to_end (e ∷ es) (l ∷ ls) read more lines (next, ok, rest) = (
     WithEffects next,
     inl (record { effect = e; more = next; is = lines.0; lawful = ok; to = refl }),
-    lead_to_end es ls next more (subst (λ (n : ℕ). AreEffectsThenEnd n (texts_in ls) es) (sym (one_counted p read e next ok)) lines.1) rest,
+    lead_to_end es ls next more (subst (λ (n : ℕ). AreEffectsThenEnd n (texts_of ls) es) (sym (one_counted p read e next ok)) lines.1) rest,
   )
 
-  pub leads : (ls : List Numbered) (s : ExecutionReading) → Reached p (texts_in ls) s → LeadsTo p Unbegun ls s
+  pub leads : (ls : List Numbered) (s : ExecutionReading) → Reached p (texts_of ls) s → LeadsTo p Unbegun ls s
   leads ls Unbegun all = lead_nowhere ls all
   leads ls (WithEffects read) has =
       let o = has.opened in

@@ -1,14 +1,14 @@
 -- A file says the execution of the effects whose lines are the file's.
 use Rattle.std.proofs.Common.{◌≡◌, ℕ, List, Ok, refl, subst}
 use Rattle.ql_lang.specs.declared.program.Program.{Program}
-use Rattle.ql_lines.specs.Lines.{Ahead}
+use Rattle.ql_lines.specs.Lines.{Ahead, texts_of}
 use Rattle.ql_exec.specs.declared.effect.Effect.{Effect}
 use Rattle.ql_effect_lines.specs.declared.effect_line.EffectLine.{EffectLine}
 use Rattle.ql_effect_lines.specs.declared.effects_read.EffectsRead.{EffectsRead}
 use Rattle.ql_execution_files.specs.declared.format.ExecutionReading.{ExecutionReading}
 use Rattle.ql_execution_files.specs.declared.format.ExecutionReading.TheVariants.{Unbegun, WithEffects, Ended}
 use Rattle.ql_execution_files.specs.ExecutionFile.{ClosesExecution, IsExecutionFile}
-use Rattle.ql_execution_grammar.specs.Grammar.{IsExecutionText, texts_in}
+use Rattle.ql_execution_grammar.specs.Grammar.{IsExecutionText}
 use Rattle.ql_execution_grammar.specs.Readings.{SaysExecution, read_as}
 use Rattle.ql_execution_grammar.proofs.EffectLists.{AscendInEach, Ending, ascending, ending, one_whole}
 use Rattle.ql_execution_grammar.proofs.Opening.{Whole, holds_too, opened_of, text_of}
@@ -38,16 +38,16 @@ module _ (p : Program) where
       let whole = file_of lines read has in
       (whole.0, whole.1, subst (SaysExecution p whole.0) same whole.2)
 
-  pub spelled : (file : Ahead) (x : List Effect) → IsExecutionFile p file x → (es : List EffectLine) × IsExecutionText (texts_in file.lines) es × SaysExecution p es x
-  spelled file x h = said_at_end (texts_in file.lines) h.state file.end x (reached p file.lines h.state h.leads) h.ends
+  pub spelled : (file : Ahead) (x : List Effect) → IsExecutionFile p file x → (es : List EffectLine) × IsExecutionText (texts_of file.lines) es × SaysExecution p es x
+  spelled file x h = said_at_end (texts_of file.lines) h.state file.end x (reached p file.lines h.state h.leads) h.ends
 
   -- where the lines of effects that say an execution lead
   pub has_whole : (lines : List (List ℕ)) (es : List EffectLine) (x : List Effect) → IsExecutionText lines es → SaysExecution p es x → HasRead p Whole lines (read_as es x)
   has_whole lines es x h says = record { effects = es; opened = opened_of lines es h; in_turn = said_back p es x says }
 
-  pub read : (file : Ahead) (es : List EffectLine) (x : List Effect) → IsExecutionText (texts_in file.lines) es → SaysExecution p es x → IsExecutionFile p file x
+  pub read : (file : Ahead) (es : List EffectLine) (x : List Effect) → IsExecutionText (texts_of file.lines) es → SaysExecution p es x → IsExecutionFile p file x
   read file es x h says = record {
     state = Ended (read_as es x);
-    leads = leads p file.lines (Ended (read_as es x)) (has_whole (texts_in file.lines) es x h says);
+    leads = leads p file.lines (Ended (read_as es x)) (has_whole (texts_of file.lines) es x h says);
     ends = refl;
   }

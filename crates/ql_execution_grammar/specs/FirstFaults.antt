@@ -1,6 +1,6 @@
 -- The first fault of an execution file, by the grammar.
 use Rattle.std.specs.Prelude.{◌≡◌, ℕ, List, [], ◌∷◌, ◌++◌, codes, Err}
-use Rattle.ql_lines.specs.Lines.{Ahead, Numbered}
+use Rattle.ql_lines.specs.Lines.{Ahead, Numbered, texts_of}
 use Rattle.ql_lang.specs.declared.program.Program.{Program}
 use Rattle.ql_exec.specs.declared.effect.Effect.{Effect}
 use Rattle.ql_effect_lines.specs.declared.effect_line.EffectLine.{EffectLine}
@@ -9,7 +9,7 @@ use Rattle.ql_effect_lines.specs.declared.rules.ReportRule.TheVariants.{Unexpect
 use Rattle.ql_effect_lines.specs.Effects.{after_effect}
 use Rattle.ql_execution_files.specs.declared.report_fault.ReportFault.{ReportFault}
 use Rattle.ql_execution_files.specs.ExecutionFile.{fault_at}
-use Rattle.ql_execution_grammar.specs.Grammar.{IsExecutionText, texts_in}
+use Rattle.ql_execution_grammar.specs.Grammar.{IsExecutionText}
 use Rattle.ql_execution_grammar.specs.Readings.{SaysExecution, read_as}
 
 -- some file of the grammar begins with these lines
@@ -30,7 +30,7 @@ pub data BreaksExecutionRule (p : Program) (lines : List (List ℕ)) : ReportRul
 
 -- The first fault: the first line that breaks a rule; or the file's end, where lines are lacking.
 pub data FirstTextFault (p : Program) (file : Ahead) : ReportFault → Type 0 where
-  at_line : (before : List Numbered) (l : Numbered) (rest : List Numbered) (rule : ReportRule) → file.lines ≡ before ++ l ∷ rest → BeginsExecutionFile p (texts_in before)
-      → BreaksExecutionRule p (texts_in (before ++ l ∷ [])) rule → FirstTextFault p file (fault_at rule l.number)
-  at_end : BeginsExecutionFile p (texts_in file.lines) → ((effects : List EffectLine) → IsExecutionText (texts_in file.lines) effects → ⊥)
+  at_line : (before : List Numbered) (l : Numbered) (rest : List Numbered) (rule : ReportRule) → file.lines ≡ before ++ l ∷ rest → BeginsExecutionFile p (texts_of before)
+      → BreaksExecutionRule p (texts_of (before ++ l ∷ [])) rule → FirstTextFault p file (fault_at rule l.number)
+  at_end : BeginsExecutionFile p (texts_of file.lines) → ((effects : List EffectLine) → IsExecutionText (texts_of file.lines) effects → ⊥)
       → FirstTextFault p file (fault_at Unexpected file.end)

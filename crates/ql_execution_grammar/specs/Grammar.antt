@@ -1,15 +1,10 @@
 -- The grammar of execution files: the lines of a file are those of effects.
-use Rattle.std.specs.Prelude.{◌≡◌, ℕ, suc, List, [], ◌∷◌, ◌++◌, map}
+use Rattle.std.specs.Prelude.{◌≡◌, ℕ, suc, List, [], ◌∷◌, ◌++◌}
 use Rattle.std.specs.List.{AllByRecursion}
 use Rattle.ql_lines.specs.Fields.{fields_of}
-use Rattle.ql_lines.specs.Lines.{Numbered}
 use Rattle.ql_effect_lines.specs.declared.effect_line.EffectLine.{EffectLine}
 use Rattle.ql_effect_lines.specs.EffectLine.{IsEffectLine}
 use Rattle.ql_execution_files.specs.ExecutionFile.{end_fields, first_fields}
-
--- lines without their numbers
-abbrev pub texts_in : List Numbered → List (List ℕ)
-texts_in ls = map (λ (l : Numbered). l.text) ls
 
 -- the lines of effects, where the first has the number n
 abbrev pub AreEffectLines : ℕ → List (List ℕ) → List EffectLine → Type 0

@@ -1,10 +1,10 @@
 ghost use Rattle.std.specs.Prelude.{◌≡◌, List, ℕ};
-ghost use Rattle.ql_lines.specs.Lines.{Ahead};
+ghost use Rattle.ql_lines.specs.Lines.{Ahead, texts_of};
 ghost use Rattle.ql_lang.specs.declared.program.Program.{Program};
 ghost use Rattle.ql_exec.specs.declared.effect.Effect.{Effect};
 ghost use Rattle.ql_effect_lines.specs.declared.effect_line.EffectLine.{EffectLine};
 ghost use Rattle.ql_execution_files.specs.ExecutionFile.{IsExecutionFile};
-ghost use Rattle.ql_execution_grammar.specs.Grammar.{IsExecutionText, texts_in};
+ghost use Rattle.ql_execution_grammar.specs.Grammar.{IsExecutionText};
 ghost use Rattle.ql_execution_grammar.specs.Readings.{SaysExecution};
 
 /// A file says the execution of the effects that its lines spell.
@@ -14,10 +14,10 @@ ghost use Rattle.ql_execution_grammar.specs.Readings.{SaysExecution};
 /// effects (`tree`), and effects say at most one execution (`execution`).
 pub fn execution_files_are_read()
     ensures spelled { (p : Program) (file : Ahead) (x : List Effect) → IsExecutionFile p file x
-        → (effects : List EffectLine) × IsExecutionText (texts_in file.lines) effects
+        → (effects : List EffectLine) × IsExecutionText (texts_of file.lines) effects
         × SaysExecution p effects x }
     ensures read { (p : Program) (file : Ahead) (effects : List EffectLine) (x : List Effect)
-        → IsExecutionText (texts_in file.lines) effects → SaysExecution p effects x
+        → IsExecutionText (texts_of file.lines) effects → SaysExecution p effects x
         → IsExecutionFile p file x }
     ensures tree { (lines : List (List ℕ)) (effects others : List EffectLine)
         → IsExecutionText lines effects → IsExecutionText lines others → effects ≡ others }

@@ -42,12 +42,12 @@ fn lines(alloc: Global, file: &str) -> Result<Vec<u8>, NoMemory> {
 fn push_fields(out: &mut Vec<u8>, text: &[u8]) -> Result<(), NoMemory> {
     let mut rest = text;
     for _ in 0..text.len() {
-        let Some((field, behind)) = first_field(rest) else {
+        let Some((field, remaining)) = first_field(rest) else {
             break;
         };
         push_bytes(out, b" ")?;
         push_bytes(out, field)?;
-        rest = behind;
+        rest = remaining;
     }
     Ok(())
 }
@@ -87,7 +87,7 @@ fn spelled(alloc: Global, ids: &[u32]) -> Result<Vec<u8>, NoMemory> {
 }
 
 // What a text has to begin with, the text, and what comes after that field.
-const FRONTS: &str = "
+const BEGINNINGS: &str = "
 word   vis 1 -> [ 1]
 word visit 1 -> none
 word  -> none
@@ -98,25 +98,25 @@ byte 256 x -> none
 ";
 
 #[test]
-fn what_stands_at_the_front(rt: HostRuntime) -> Result<(), Fail> {
-    check_table(rt.alloc(), FRONTS, behind)
+fn what_a_text_begins_with(rt: HostRuntime) -> Result<(), Fail> {
+    check_table(rt.alloc(), BEGINNINGS, after_field)
 }
 
-fn behind(alloc: Global, row: &str) -> Result<Vec<u8>, NoMemory> {
+fn after_field(alloc: Global, row: &str) -> Result<Vec<u8>, NoMemory> {
     let (what, text) = row.split_once(' ').unwrap_or((row, ""));
-    let Some(behind) = behind_the_first(what, text.as_bytes()) else {
+    let Some(remaining) = after_first(what, text.as_bytes()) else {
         return Ok(Vec::from_slice(alloc, b"none")?);
     };
     let mut out = Vec::from_slice(alloc, b"[")?;
-    push_bytes(&mut out, behind)?;
+    push_bytes(&mut out, remaining)?;
     push_bytes(&mut out, b"]")?;
     Ok(out)
 }
 
-fn behind_the_first<'a>(what: &str, text: &'a [u8]) -> Option<&'a [u8]> {
+fn after_first<'a>(what: &str, text: &'a [u8]) -> Option<&'a [u8]> {
     match what {
         "word" => after_word(text, b"vis"),
-        "name" => after_name(text).map(|(_, behind)| behind),
-        _ => after_number(text, 255).map(|(_, behind)| behind),
+        "name" => after_name(text).map(|(_, remaining)| remaining),
+        _ => after_number(text, 255).map(|(_, remaining)| remaining),
     }
 }

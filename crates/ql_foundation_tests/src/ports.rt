@@ -54,7 +54,7 @@ const WRITTEN: &str = "
 ";
 
 #[test]
-fn writes_all_or_a_front(rt: HostRuntime) -> Result<(), Fail> {
+fn writes_all_or_a_prefix(rt: HostRuntime) -> Result<(), Fail> {
     check_table(rt.alloc(), WRITTEN, written)
 }
 

@@ -52,11 +52,11 @@ pub(crate) fn effect_line(
 fn after_id(text: &[u8], id: u32) -> Option<&[u8]>
     ensures { MatchOption result
         ((rest : Fields) → fields_of text.now ≡ codes "effect" ∷ decimal id ∷ rest → ⊥)
-        (λ behind. fields_of text.now ≡ codes "effect" ∷ decimal id ∷ fields_of behind.now) }
+        (λ remaining. fields_of text.now ≡ codes "effect" ∷ decimal id ∷ fields_of remaining.now) }
 {
     let numbered = after_word(text, b"effect")?;
-    let (number, behind) = after_number(numbered, u32::MAX)?;
-    if number == id { Some(behind) } else { None }
+    let (number, remaining) = after_number(numbered, u32::MAX)?;
+    if number == id { Some(remaining) } else { None }
 }
 
 // Two names, and the rest of the line after them.
@@ -68,8 +68,8 @@ fn two_names(text: &[u8]) -> Option<(&[u8], &[u8], &[u8])>
         × (fields_of text.now ≡ x.0.now ∷ x.1.now ∷ fields_of x.2.now)) }
 {
     let (first, rest) = after_name(text)?;
-    let (second, behind) = after_name(rest)?;
-    Some((first, second, behind))
+    let (second, remaining) = after_name(rest)?;
+    Some((first, second, remaining))
 }
 
 // The session between the words `session` and `vis`, and the rest of the line after these.
@@ -82,8 +82,8 @@ fn session(text: &[u8]) -> Option<(u32, &[u8])>
 {
     let numbered = after_word(text, b"session")?;
     let (session, rest) = after_number(numbered, 255)?;
-    let behind = after_word(rest, b"vis")?;
-    Some((session, behind))
+    let remaining = after_word(rest, b"vis")?;
+    Some((session, remaining))
 }
 
 /// The id of the current effect in a line `at ID`; `None` for any other line.
@@ -92,8 +92,8 @@ pub(crate) fn current(text: &[u8]) -> Option<u32>
         (λ cur. IsId cur × (fields_of text.now ≡ at_fields cur)) }
 {
     let numbered = after_word(text, b"at")?;
-    let (cur, behind) = after_number(numbered, u32::MAX)?;
-    match first_field(behind) {
+    let (cur, remaining) = after_number(numbered, u32::MAX)?;
+    match first_field(remaining) {
         Some(_) => None,
         None => Some(cur),
     }
@@ -104,7 +104,7 @@ pub(crate) fn is_end(text: &[u8]) -> bool
     ensures { IsTrue result ↔ (fields_of text.now ≡ holds_end_fields) }
 {
     match after_word(text, b"end") {
-        Some(behind) => first_field(behind).is_none(),
+        Some(remaining) => first_field(remaining).is_none(),
         None => false,
     }
 }

@@ -5,7 +5,7 @@ use Rattle.std.specs.Fmt.{digits}
 use Rattle.std.proofs.lemmas.List.{map-append}
 use Rattle.ql_lang.specs.Trees.{Sentence}
 use Rattle.ql_lines.specs.Fields.{fields_of, Fields}
-use Rattle.ql_lines.specs.Lines.{Numbered}
+use Rattle.ql_lines.specs.Lines.{Numbered, texts_of}
 use Rattle.ql_holds_files.specs.declared.effect_line.EffectLine.{EffectLine}
 use Rattle.ql_holds_files.specs.declared.reading.Stage.{Stage}
 use Rattle.ql_holds_files.specs.declared.reading.Stage.TheVariants.{Unbegun, WithContract, WithEffects, Ended}
@@ -13,7 +13,7 @@ use Rattle.ql_holds_files.specs.ContractLine.{IsContractLine, sentence_faults}
 use Rattle.ql_holds_files.specs.EffectLine.{Fits, at_fields, holds_end_fields}
 use Rattle.ql_holds_files.specs.HoldsFile.{IsCurrentLine, named_formula_of, no_effects}
 use Rattle.ql_holds_grammar.specs.FirstFaults.{BeginsKeeping}
-use Rattle.ql_holds_grammar.specs.Grammar.{HoldsTree, IsHoldsFile, effect_lines, texts_of}
+use Rattle.ql_holds_grammar.specs.Grammar.{HoldsTree, IsHoldsFile, effect_lines}
 use Rattle.ql_holds_grammar.specs.TreeRules.{KeepsRules}
 use Rattle.ql_holds_grammar.proofs.Asking.{tree_of}
 use Rattle.ql_holds_grammar.proofs.Trees.{Lines, contract_of, file_of, lines_of}

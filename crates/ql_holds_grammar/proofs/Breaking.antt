@@ -5,7 +5,7 @@ use Rattle.std.proofs.lemmas.List.{map-append}
 use Rattle.ql_lang.specs.Trees.{Sentence}
 use Rattle.ql_lines.proofs.Conses.{heads, tails}
 use Rattle.ql_lines.specs.Fields.{fields_of, Fields}
-use Rattle.ql_lines.specs.Lines.{Numbered}
+use Rattle.ql_lines.specs.Lines.{Numbered, texts_of}
 use Rattle.ql_holds_files.specs.declared.effect_line.EffectLine.{EffectLine}
 use Rattle.ql_holds_files.specs.declared.reading.Current.{Current}
 use Rattle.ql_holds_files.specs.declared.reading.Stage.{Stage}
@@ -18,7 +18,7 @@ use Rattle.ql_holds_files.specs.HoldsFile.{ExtendsHolds, ExtendsHoldsAs, IsCurre
 use Rattle.ql_holds_files.specs.Rules.{unless_broken}
 use Rattle.ql_holds_grammar.specs.FirstFaults.BreaksHoldsRule.{unexpected, contract, effect}
 use Rattle.ql_holds_grammar.specs.FirstFaults.{BeginsHoldsFile, BreaksHoldsRule}
-use Rattle.ql_holds_grammar.specs.Grammar.{HoldsTree, IsHoldsFile, effect_lines, texts_of}
+use Rattle.ql_holds_grammar.specs.Grammar.{HoldsTree, IsHoldsFile, effect_lines}
 use Rattle.ql_holds_grammar.specs.TreeRules.{rule_broken}
 use Rattle.ql_holds_grammar.proofs.Asking.{tree_of}
 use Rattle.ql_holds_grammar.proofs.Beginnings.{end_text, file_ended, file_without, rest_texts}

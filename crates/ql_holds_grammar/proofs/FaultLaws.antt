@@ -1,6 +1,6 @@
 -- The first fault of a file is that of the grammar.
 use Rattle.std.proofs.Common.{◌≡◌, inl, inr, ℕ, Bool, true, false, if◌then◌else◌, List, [], ◌∷◌, Result, Ok, Err, refl, sym, ap, subst, ◌∙◌}
-use Rattle.ql_lines.specs.Lines.{Ahead, Numbered}
+use Rattle.ql_lines.specs.Lines.{Ahead, Numbered, texts_of}
 use Rattle.ql_line_files.specs.declared.fault.Broken.{Broken}
 use Rattle.ql_line_files.specs.Outcomes.FirstFault.{at_line, at_end}
 use Rattle.ql_holds_files.specs.declared.reading.Stage.{Stage}
@@ -10,7 +10,7 @@ use Rattle.ql_holds_files.specs.declared.rules.HoldsRule.TheVariants.{Unexpected
 use Rattle.ql_holds_files.specs.HoldsFile.{Asked, HoldsOutcome, closed, is_there, named_formula_of, no_effects}
 use Rattle.ql_holds_grammar.specs.FirstFaults.FirstHoldsFault.{at_line as line_fault, at_end as end_of_file, no_current}
 use Rattle.ql_holds_grammar.specs.FirstFaults.{FirstHoldsFault}
-use Rattle.ql_holds_grammar.specs.Grammar.{HoldsTree, IsHoldsFile, texts_of}
+use Rattle.ql_holds_grammar.specs.Grammar.{HoldsTree, IsHoldsFile}
 use Rattle.ql_holds_grammar.specs.TreeRules.{KeepsRules}
 use Rattle.ql_holds_grammar.proofs.Asking.{asked_after, tree_of}
 use Rattle.ql_holds_grammar.proofs.Beginnings.{begins, led}

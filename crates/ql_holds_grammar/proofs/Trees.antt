@@ -7,7 +7,7 @@ use Rattle.std.proofs.lemmas.Fmt.{decimal_injective}
 use Rattle.ql_lang.specs.Trees.{Sentence}
 use Rattle.ql_lines.proofs.Conses.{heads, tails}
 use Rattle.ql_lines.specs.Fields.{fields_of, Fields}
-use Rattle.ql_lines.specs.Lines.{Ahead, Numbered}
+use Rattle.ql_lines.specs.Lines.{Ahead, Numbered, texts_of}
 use Rattle.ql_line_files.specs.declared.fault.Broken.{Broken}
 use Rattle.ql_parse.specs.Parsing.{IsContractText}
 use Rattle.ql_holds_files.specs.declared.effect_line.EffectLine.{EffectLine}
@@ -20,7 +20,7 @@ use Rattle.ql_holds_files.specs.EffectLine.{Fits, at_fields, holds_end_fields}
 use Rattle.ql_holds_files.specs.HoldsFile.{Asked, HoldsOutcome, IsCurrentLine, closed, is_there, named_formula_of, no_effects}
 use Rattle.ql_holds_files.specs.OneLine.{one_rest}
 use Rattle.ql_holds_files.specs.Uniqueness.{OneContract}
-use Rattle.ql_holds_grammar.specs.Grammar.{HoldsTree, IsHoldsFile, effect_lines, texts_of}
+use Rattle.ql_holds_grammar.specs.Grammar.{HoldsTree, IsHoldsFile, effect_lines}
 use Rattle.ql_holds_grammar.specs.Questions.{IsQuestionOf}
 use Rattle.ql_holds_grammar.specs.TreeRules.{HasCurrent, KeepsRules}
 use Rattle.ql_holds_grammar.proofs.Asking.{asked_after, the_question, tree_of}

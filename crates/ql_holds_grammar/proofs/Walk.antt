@@ -3,7 +3,7 @@ use Rattle.std.proofs.Common.{◌≡◌, ◌⊎◌, inl, inr, suc, List, [], ◌
 use Rattle.std.specs.List.{AllByRecursion}
 use Rattle.ql_lines.proofs.Conses.{both, heads, tails}
 use Rattle.ql_lines.specs.Fields.{fields_of, Fields}
-use Rattle.ql_lines.specs.Lines.{Numbered}
+use Rattle.ql_lines.specs.Lines.{Numbered, texts_of}
 use Rattle.ql_line_files.specs.Outcomes.{Leads}
 use Rattle.ql_holds_files.specs.declared.effect_line.EffectLine.{EffectLine}
 use Rattle.ql_holds_files.specs.declared.effects.NamedEffects.{NamedEffects}
@@ -16,7 +16,7 @@ use Rattle.ql_holds_files.specs.HoldsFile.{ExtendsHolds, closed}
 use Rattle.ql_holds_files.specs.Limits.{given_is, made_is, not_given}
 use Rattle.ql_holds_files.specs.NamedFormulas.{NamedFormula}
 use Rattle.ql_holds_files.specs.Rules.{unless_broken}
-use Rattle.ql_holds_grammar.specs.Grammar.{effect_lines, texts_of}
+use Rattle.ql_holds_grammar.specs.Grammar.{effect_lines}
 use Rattle.ql_holds_grammar.proofs.Named.{AreAllowed, named_after, one_more}
 
 -- lines lead from one stage of reading to another

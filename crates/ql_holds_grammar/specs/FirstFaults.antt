@@ -1,12 +1,12 @@
 -- The first fault of a holds file, by the grammar.
 use Rattle.std.specs.Prelude.{◌≡◌, ℕ, List, [], ◌∷◌, ◌++◌, length, codes, Some}
-use Rattle.ql_lines.specs.Lines.{Ahead, Numbered}
+use Rattle.ql_lines.specs.Lines.{Ahead, Numbered, texts_of}
 use Rattle.ql_line_files.specs.declared.fault.Broken.{Broken}
 use Rattle.ql_holds_files.specs.declared.effect_line.EffectLine.{EffectLine}
 use Rattle.ql_holds_files.specs.declared.rules.HoldsRule.{HoldsRule}
 use Rattle.ql_holds_files.specs.declared.rules.HoldsRule.TheVariants.{Unexpected, Range}
 use Rattle.ql_holds_files.specs.ContractLine.{lowest_rule, sentence_faults}
-use Rattle.ql_holds_grammar.specs.Grammar.{HoldsTree, IsHoldsFile, texts_of}
+use Rattle.ql_holds_grammar.specs.Grammar.{HoldsTree, IsHoldsFile}
 use Rattle.ql_holds_grammar.specs.TreeRules.{HasCurrent, KeepsRules, rule_broken}
 
 -- some file of the grammar begins with these lines

@@ -3,7 +3,6 @@ use Rattle.std.specs.Prelude.{◌≡◌, ℕ, suc, List, [], ◌∷◌, ◌++◌
 use Rattle.std.specs.List.{AllByRecursion}
 use Rattle.ql_lang.specs.Trees.{Sentence}
 use Rattle.ql_lines.specs.Fields.{fields_of, Fields, IsId}
-use Rattle.ql_lines.specs.Lines.{Numbered}
 use Rattle.ql_holds_files.specs.declared.effect_line.EffectLine.{EffectLine}
 use Rattle.ql_holds_files.specs.ContractLine.{IsContractLine}
 use Rattle.ql_holds_files.specs.EffectLine.{Fits, at_fields, holds_effect_fields, holds_end_fields}
@@ -28,7 +27,3 @@ pub record IsHoldsFile (lines : List (List ℕ)) (t : HoldsTree) : Type 0 where
   pub spelled : map fields_of others ≡ at_fields t.current ∷ (effect_lines 1 t.effects ++ holds_end_fields ∷ [])
   pub current : IsId t.current
   pub effects : AllByRecursion Fits t.effects
-
--- lines without their numbers
-abbrev pub texts_of : List Numbered → List (List ℕ)
-texts_of ls = map (λ (l : Numbered). l.text) ls

@@ -1,7 +1,7 @@
 ghost use Rattle.std.specs.Prelude.{◌≡◌, List, ℕ, Ok};
-ghost use Rattle.ql_lines.specs.Lines.{Ahead};
+ghost use Rattle.ql_lines.specs.Lines.{Ahead, texts_of};
 ghost use Rattle.ql_holds_files.specs.HoldsFile.{Asked, HoldsOutcome};
-ghost use Rattle.ql_holds_grammar.specs.Grammar.{HoldsTree, IsHoldsFile, texts_of};
+ghost use Rattle.ql_holds_grammar.specs.Grammar.{HoldsTree, IsHoldsFile};
 ghost use Rattle.ql_holds_grammar.specs.Questions.{IsQuestionOf};
 ghost use Rattle.ql_holds_grammar.specs.TreeRules.{HasCurrent, KeepsRules};
 

@@ -42,17 +42,17 @@ EndsWith (s ∷ ss) No end = (v : Verdict) × (v ≢ Accepted) × (end ≡ secti
 EndsWith _ _ end = ⊥
 
 -- The text has a line for each of the first sections from an index on, whose levels guarantee their contracts, and then an end.
-pub record AcceptsFront (p : Program) (place : ℕ) (ss : List Section) (status : Status) (text : List ℕ) : Type 0 where
-  pub front : List Section
+pub record AcceptsPrefix (p : Program) (place : ℕ) (ss : List Section) (status : Status) (text : List ℕ) : Type 0 where
+  pub prefix : List Section
   pub others : List Section
   pub end : List ℕ
-  pub sections : ss ≡ front ++ others
-  pub lines : text ≡ accepted_lines front ++ end
-  pub each : EachGives p place front
+  pub sections : ss ≡ prefix ++ others
+  pub lines : text ≡ accepted_lines prefix ++ end
+  pub each : EachGives p place prefix
   pub ends : EndsWith others status end
 
 -- The certificate has the sections that are expected of the source's program, and the text is as above: each line that ends in
 -- `accepted` states an implication that is valid in the store's executions.
 abbrev pub ReportsAccepted : List ℕ → List ℕ → Status → List ℕ → Type 0
 ReportsAccepted source cert status text =
-    (p : Program) × IsSourceOf source p × (ss : List Section) × SpellsCert cert ss × AreExpected p ss × AcceptsFront p 0 ss status text
+    (p : Program) × IsSourceOf source p × (ss : List Section) × SpellsCert cert ss × AreExpected p ss × AcceptsPrefix p 0 ss status text

@@ -14,8 +14,8 @@ pub(crate) fn ids_of_record(alloc: Global, bytes: &[u8]) -> Result<Option<IdSet>
     if bytes.len() < 4 {
         return Ok(None);
     }
-    let (front, rest) = bytes.split_at(4);
-    let count = number_of(front) as usize;
+    let (prefix, rest) = bytes.split_at(4);
+    let count = number_of(prefix) as usize;
     if !is_whole(count, rest.len()) {
         return Ok(None);
     }
@@ -40,8 +40,8 @@ fn ids_in(alloc: Global, bytes: &[u8]) -> Result<Option<IdSet>, NoMemory>
     let mut last = 0;
     let mut rest = bytes;
     while rest.len() >= 4 {
-        let (front, after) = rest.split_at(4);
-        let id = number_of(front);
+        let (prefix, after) = rest.split_at(4);
+        let id = number_of(prefix);
         if id <= last {
             return Ok(None);
         }

@@ -8,11 +8,11 @@ use Rattle.ql_exec.specs.Effects.{effect_at}
 use Rattle.ql_execution_files.specs.declared.report_fault.ReportFault.{ReportFault}
 use Rattle.ql_execution_files.specs.declared.report_fault.ReportFault.TheVariants.{Unexpected, Unknown, Mixed, Stamp, NotForward, OtherObject, SplitTxn, TooMany, NoMemory}
 use Rattle.ql_execution_grammar.specs.FirstFaults.{FirstTextFault}
-use Rattle.ql_execution_grammar.specs.Grammar.{IsExecutionText, texts_in}
+use Rattle.ql_execution_grammar.specs.Grammar.{IsExecutionText}
 use Rattle.ql_execution_grammar.specs.Readings.{SaysExecution}
 use Rattle.ql_lang.specs.declared.contract.Var.{Var}
 use Rattle.ql_lang.specs.declared.program.Program.{Program}
-use Rattle.ql_lines.specs.Lines.{ahead_from}
+use Rattle.ql_lines.specs.Lines.{ahead_from, texts_of}
 use Rattle.ql_reply.specs.Lines.{fault_line}
 use Rattle.ql_reply.specs.declared.status.Status.{Status}
 use Rattle.ql_reply.specs.declared.status.Status.TheVariants.{Done, No, Bad, TooLarge}
@@ -28,7 +28,7 @@ use Rattle.ql_judging.specs.Members.{IsBegunOf}
 
 -- the file's lines are those of effects that say this execution of the program
 abbrev pub ReportsExecution : Program → List ℕ → List Effect → Type 0
-ReportsExecution p bytes x = (effects : List EffectLine) × IsExecutionText (texts_in (ahead_from 1 bytes).lines) effects × SaysExecution p effects x
+ReportsExecution p bytes x = (effects : List EffectLine) × IsExecutionText (texts_of (ahead_from 1 bytes).lines) effects × SaysExecution p effects x
 
 -- the line that reports its first fault, and none where memory ran out
 abbrev pub execution_fault_text : ReportFault → Option (List ℕ)

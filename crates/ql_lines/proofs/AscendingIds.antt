@@ -76,20 +76,20 @@ split_ids (x ∷ ids) (y ∷ seen) rest f g e =
 
 module _ (ids : List ℕ) (small : AllByRecursion IsId ids) (fields rest : Fields) (read : fields ≡ map decimal ids ++ rest) where
   -- no ids are spelled where a next one doesn't ascend
-  pub no_descent : (id : ℕ) (behind : Fields) → IsId id → rest ≡ decimal id ∷ behind → (IsAscending (ids ++ id ∷ []) → ⊥)
+  pub no_descent : (id : ℕ) (remaining : Fields) → IsId id → rest ≡ decimal id ∷ remaining → (IsAscending (ids ++ id ∷ []) → ⊥)
       → (seen : List ℕ) → AllByRecursion IsId seen → IsAscending seen → fields ≡ map decimal seen → ⊥
-  no_descent id behind is_id next none seen g up e = by (split_ids ids seen rest small g (sym read ∙ e))
+  no_descent id remaining is_id next none seen g up e = by (split_ids ids seen rest small g (sym read ∙ e))
     where
       by : (more : List ℕ) × (seen ≡ ids ++ more) × (rest ≡ map decimal more) × AllByRecursion IsId more → ⊥
       by ([], s, r, h) = omega (arith, ap length (sym next ∙ r))
       by (m ∷ more, s, r, h) =
-          let same = decimal_injective m id (omega (arith, h.0)) (omega (arith, is_id)) (sym (heads (decimal id) (decimal m) behind (map decimal more) (sym next ∙ r))) in
+          let same = decimal_injective m id (omega (arith, h.0)) (omega (arith, is_id)) (sym (heads (decimal id) (decimal m) remaining (map decimal more) (sym next ∙ r))) in
           none (ascending_front ids id more (subst (λ (n : ℕ). IsAscending (ids ++ n ∷ more)) same (subst IsAscending s up)))
 
   -- nor where a next field is no id
-  pub no_other_field : (field : List ℕ) (behind : Fields) → rest ≡ field ∷ behind → ((n : ℕ) (behind : Fields) → n ≤ 4294967295 → rest ≡ decimal n ∷ behind → ⊥)
+  pub no_other_field : (field : List ℕ) (remaining : Fields) → rest ≡ field ∷ remaining → ((n : ℕ) (remaining : Fields) → n ≤ 4294967295 → rest ≡ decimal n ∷ remaining → ⊥)
       → (seen : List ℕ) → AllByRecursion IsId seen → IsAscending seen → fields ≡ map decimal seen → ⊥
-  no_other_field field behind next none seen g up e = by (split_ids ids seen rest small g (sym read ∙ e))
+  no_other_field field remaining next none seen g up e = by (split_ids ids seen rest small g (sym read ∙ e))
     where
       by : (more : List ℕ) × (seen ≡ ids ++ more) × (rest ≡ map decimal more) × AllByRecursion IsId more → ⊥
       by ([], s, r, h) = omega (arith, ap length (sym next ∙ r))

@@ -1,4 +1,4 @@
--- the first field of a line, and the fields behind it
+-- the first field of a line, and the fields after it
 use Rattle.std.proofs.Common.{◌≡◌, ◌<◌, ◌+◌, ℕ, Bool, true, false, cond, List, [], ◌∷◌, ◌++◌, length, take, drop, replicate, get_or, inl, inr, arith, refl, ap, sym, subst, ◌∙◌, one-add, append_assoc, length-take}
 use Rattle.std.specs.Prelude.{not}
 use Rattle.std.specs.List.{after_first, before_first, filter, position_or_len, prefix_len, slice_split}
@@ -34,7 +34,7 @@ spaces_alone (b ∷ bs) =
       | false ↦ λ e. refl
     ] refl
 
--- a space behind a field is no part of another
+-- a space after a field is no part of another
 behind_field : (xs : List ℕ) → position_or_len is_space xs < length xs →
     fields_of (drop (position_or_len is_space xs) xs) ≡ fields_of (after_first is_space xs)
 behind_field xs lt =

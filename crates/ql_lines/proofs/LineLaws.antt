@@ -1,4 +1,4 @@
--- the first line of a file, and the lines behind it
+-- the first line of a file, and the lines after it
 use Rattle.std.proofs.Common.{◌≡◌, ◌<◌, ◌≤◌, ◌+◌, ℕ, suc, Bool, true, false, List, [], ◌∷◌, length, arith, refl, ap, sym, ◌∙◌}
 use Rattle.std.specs.Prelude.{if◌then◌else◌}
 use Rattle.std.specs.List.{after_first, before_first, onto_first, position_or_len}
@@ -25,21 +25,21 @@ line_and_rest xs lt =
 pub no_line : lines [] ≡ []
 no_line = refl
 
-module _ (n : ℕ) (rest behind text : List ℕ) (first : lines rest ≡ text ∷ lines behind) where
+module _ (n : ℕ) (rest remaining text : List ℕ) (first : lines rest ≡ text ∷ lines remaining) where
   -- the end of the file stays where it is
-  pub same_end : (ahead_from n rest).end ≡ (ahead_from (n + 1) behind).end
+  pub same_end : (ahead_from n rest).end ≡ (ahead_from (n + 1) remaining).end
   same_end = omega (arith, ap length first)
 
   -- a line that is skipped is passed over
-  pub passes_over : is_skipped text ≡ true → ahead_from n rest ≡ ahead_from (n + 1) behind
+  pub passes_over : is_skipped text ≡ true → ahead_from n rest ≡ ahead_from (n + 1) remaining
   unfolding kept_lines
   passes_over skipped =
-      let lines_left : kept_lines n (lines rest) ≡ kept_lines (n + 1) (lines behind) = ap (kept_lines n) first ∙ rw skipped refl in
+      let lines_left : kept_lines n (lines rest) ≡ kept_lines (n + 1) (lines remaining) = ap (kept_lines n) first ∙ rw skipped refl in
       ap (λ ls. record { lines = ls; end = n + length (lines rest) }) lines_left
-      ∙ ap (λ end. record { lines = kept_lines (n + 1) (lines behind); end = end }) same_end
+      ∙ ap (λ end. record { lines = kept_lines (n + 1) (lines remaining); end = end }) same_end
 
   -- a line that isn't skipped is the next one
-  pub is_next : is_skipped text ≡ false → (ahead_from n rest).lines ≡ record { number = n; text = text } ∷ (ahead_from (n + 1) behind).lines
+  pub is_next : is_skipped text ≡ false → (ahead_from n rest).lines ≡ record { number = n; text = text } ∷ (ahead_from (n + 1) remaining).lines
   unfolding kept_lines
   is_next kept = ap (kept_lines n) first ∙ rw kept refl
 

@@ -7,7 +7,7 @@ use Rattle.std.specs.Str.Lines.{lines}
 use Rattle.std.proofs.lemmas.List.{append-nil}
 use Rattle.ql_lines.specs.Fields.{fields_of, is_space, isn't_empty}
 use Rattle.ql_lines.specs.Lines.{Numbered, ahead_from, is_skipped, are_skipped, kept_lines}
-use Rattle.ql_lines.specs.Texts.{IsPlain, IsPlainLine, behind, file_text, is_ender, joined}
+use Rattle.ql_lines.specs.Texts.{IsPlain, IsPlainLine, spaced_fields, file_text, is_ender, joined}
 use Rattle.ql_lines.proofs.Each.{each_weaker}
 use Rattle.ql_lines.proofs.FieldLaws.{field_first, kept}
 use Rattle.ql_lines.proofs.LineEnds.{Stay, StaysIn, joined_stay, line_again}
@@ -53,15 +53,15 @@ file_again n (l ∷ ls) h =
 
 -- ---- piece by piece
 
-pub joined_behind : (f : List ℕ) (fs : List (List ℕ)) → joined (f ∷ fs) ≡ f ++ behind fs
-unfolding behind
-joined_behind f [] = sym (append-nil f)
-joined_behind f (g ∷ fs) = ap (λ r. f ++ 32 ∷ r) (joined_behind g fs)
+pub joined_spaced : (f : List ℕ) (fs : List (List ℕ)) → joined (f ∷ fs) ≡ f ++ spaced_fields fs
+unfolding spaced_fields
+joined_spaced f [] = sym (append-nil f)
+joined_spaced f (g ∷ fs) = ap (λ r. f ++ 32 ∷ r) (joined_spaced g fs)
 
-pub behind-append : (fs gs : List (List ℕ)) → behind (fs ++ gs) ≡ behind fs ++ behind gs
-unfolding behind
-behind-append [] gs = refl
-behind-append (f ∷ fs) gs = ap (λ r. 32 ∷ f ++ r) (behind-append fs gs) ∙ ap (λ r. 32 ∷ r) (sym (append_assoc f (behind fs) (behind gs)))
+pub spaced_fields-append : (fs gs : List (List ℕ)) → spaced_fields (fs ++ gs) ≡ spaced_fields fs ++ spaced_fields gs
+unfolding spaced_fields
+spaced_fields-append [] gs = refl
+spaced_fields-append (f ∷ fs) gs = ap (λ r. 32 ∷ f ++ r) (spaced_fields-append fs gs) ∙ ap (λ r. 32 ∷ r) (sym (append_assoc f (spaced_fields fs) (spaced_fields gs)))
 
 pub file_text-append : (ls ms : List (List (List ℕ))) → file_text (ls ++ ms) ≡ file_text ls ++ file_text ms
 unfolding file_text

@@ -1,6 +1,6 @@
 -- The lines of a line file. A line ends with a line feed or with a carriage return and a line feed, and the end of the
 -- last line may be missing. Blank lines, and comments, whose first byte after spaces is `#`, are skipped, but counted.
-use Rattle.std.specs.Prelude.{ℕ, Bool, true, false, ◌+◌, ◌==◌, List, [], ◌∷◌, length, if◌then◌else◌}
+use Rattle.std.specs.Prelude.{ℕ, Bool, true, false, ◌+◌, ◌==◌, List, [], ◌∷◌, length, map, if◌then◌else◌}
 use Rattle.std.specs.Str.Lines.{lines}
 use Rattle.ql_lines.specs.Fields.{fields_of}
 
@@ -12,6 +12,10 @@ begins_with b (c ∷ cs) = c == b
 pub record Numbered : Type 0 where
   pub number : ℕ
   pub text : List ℕ
+
+-- lines without their numbers
+abbrev pub texts_of : List Numbered → List (List ℕ)
+texts_of ls = map (λ (l : Numbered). l.text) ls
 
 abbrev pub is_line_feed : ℕ → Bool
 is_line_feed b = b == 10

@@ -9,9 +9,9 @@ joined (f ∷ []) = f
 joined (f ∷ g ∷ fs) = f ++ 32 ∷ joined (g ∷ fs)
 
 -- each field after a space
-unfoldable pub behind : List (List ℕ) → List ℕ
-behind [] = []
-behind (f ∷ fs) = 32 ∷ f ++ behind fs
+unfoldable pub spaced_fields : List (List ℕ) → List ℕ
+spaced_fields [] = []
+spaced_fields (f ∷ fs) = 32 ∷ f ++ spaced_fields fs
 
 unfoldable pub file_text : List (List (List ℕ)) → List ℕ
 file_text [] = []

@@ -20,12 +20,12 @@ pub fn ascending_ids(alloc: Global, text: &[u8]) -> Result<Option<IdSet>, NoMemo
 {
     let mut ids = IdSet::new(alloc);
     let mut rest = text;
-    while let Some((id, behind)) = after_number(rest, u32::MAX) {
+    while let Some((id, remaining)) = after_number(rest, u32::MAX) {
         if !is_above(ids.items(), id) {
             return Ok(None);
         }
         ids.insert(id)?;
-        rest = behind;
+        rest = remaining;
     }
     match first_field(rest) {
         Some(_) => Ok(None),

@@ -8,10 +8,10 @@ use ql_base::{is_name, number_of};
 /// What follows the first field, if this field is `word`; otherwise `None`, also if there is no field.
 pub fn after_word<'a>(text: &'a [u8], word: &[u8]) -> Option<&'a [u8]>
     ensures { MatchOption result ((rest : Fields) → fields_of text.now ≡ word.now ∷ rest → ⊥)
-        (λ behind. FirstField text.now word.now behind.now) }
+        (λ remaining. FirstField text.now word.now remaining.now) }
 {
-    let (first, behind) = first_field(text)?;
-    if first == word { Some(behind) } else { None }
+    let (first, remaining) = first_field(text)?;
+    if first == word { Some(remaining) } else { None }
 }
 
 /// The first field, if it is a name, and what follows it.
@@ -20,9 +20,9 @@ pub fn after_name(text: &[u8]) -> Option<(&[u8], &[u8])>
         ((name : List ℕ) (rest : Fields) → IsName name → fields_of text.now ≡ name ∷ rest → ⊥)
         (λ x. IsName x.0.now × FirstField text.now x.0.now x.1.now) }
 {
-    let (first, behind) = first_field(text)?;
+    let (first, remaining) = first_field(text)?;
     if is_name(first) {
-        Some((first, behind))
+        Some((first, remaining))
     } else {
         None
     }
@@ -34,7 +34,7 @@ pub fn after_number(text: &[u8], most: u32) -> Option<(u32, &[u8])>
         ((n : ℕ) (rest : Fields) → n ≤ most → fields_of text.now ≡ decimal n ∷ rest → ⊥)
         (λ x. (x.0 ≤ most) × FirstField text.now (decimal x.0) x.1.now) }
 {
-    let (first, behind) = first_field(text)?;
+    let (first, remaining) = first_field(text)?;
     let number = number_of(first, u64::from(most))?;
-    Some((number as u32, behind))
+    Some((number as u32, remaining))
 }

@@ -70,8 +70,8 @@ impl<'a> Lines<'a> {
     {
         let mut rest = self.rest;
         let mut next = self.next;
-        while let Some((_, behind)) = first_line(rest) {
-            rest = behind;
+        while let Some((_, remaining)) = first_line(rest) {
+            rest = remaining;
             next += 1;
         }
         next

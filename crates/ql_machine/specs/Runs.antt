@@ -22,6 +22,6 @@ abbrev pub replicas_after : ℕ → Event → ℕ
 replicas_after n (event.Join near copy) = suc n
 replicas_after n _ = n
 
-abbrev pub replicas_behind : ℕ → List Event → ℕ
-replicas_behind n [] = n
-replicas_behind n (e ∷ events) = replicas_behind (replicas_after n e) events
+abbrev pub replicas_at_end : ℕ → List Event → ℕ
+replicas_at_end n [] = n
+replicas_at_end n (e ∷ events) = replicas_at_end (replicas_after n e) events

@@ -6,6 +6,6 @@ appended None bytes = None
 appended (Some was) bytes = Some (was ++ bytes)
 
 -- a prefix of the bytes was appended, and no more
-abbrev pub AppendsFront : Option (List ℕ) → Option (List ℕ) → List ℕ → Type 0
-AppendsFront before after bytes =
+abbrev pub AppendsPrefix : Option (List ℕ) → Option (List ℕ) → List ℕ → Type 0
+AppendsPrefix before after bytes =
     (count : ℕ) × (count ≤ length bytes) × (after ≡ appended before (take count bytes))

@@ -1,7 +1,7 @@
 ghost use Rattle.std.specs.Prelude.{◌≡◌, ◌<◌, ◌≤◌, ◌⊎◌, ◌↔◌, ℕ, List, length, IfOk, OnOk, OnErr, IsErrOf, IfSome, IsTrue, IsFalse, vec_len};
 ghost use Rattle.ql_ports.specs.Faults.{Rose};
 ghost use Rattle.ql_ports.specs.Whole.{IsPrefix};
-ghost use Rattle.ql_ports.specs.Written.{appended, AppendsFront};
+ghost use Rattle.ql_ports.specs.Written.{appended, AppendsPrefix};
 ghost use Rattle.ql_ports.specs.declared.whole.ReadError.{ReadError};
 
 use crate::ports::{Failed, Shelf, Sink};
@@ -88,7 +88,7 @@ fn read_piece<S: Shelf>(
 ) -> Result<bool, ReadError>
     requires room { 0 < length piece.old }
     requires in_limit { vec_len bytes.old ≤ limit }
-    requires front { IfSome (S.held shelf.old name.now) (IsPrefix bytes.old.items) }
+    requires prefix { IfSome (S.held shelf.old name.now) (IsPrefix bytes.old.items) }
     ensures grows { IfOk result (λ more. IsTrue more → vec_len bytes.old < vec_len bytes.new) }
     ensures within { IfOk result (λ _. vec_len bytes.new ≤ limit) }
     ensures reads { OnOk result (IfSome (S.held shelf.old name.now) (IsPrefix bytes.new.items)) }
@@ -118,8 +118,8 @@ fn read_piece<S: Shelf>(
 pub fn write_whole<K: Sink>(sink: &mut K, bytes: &[u8]) -> Result<(), Failed>
     ensures whole { OnOk result (K.written sink.new ≡ appended (K.written sink.old) bytes.now) }
     ensures failed { OnErr result (Rose (K.faults sink.old) (K.faults sink.new)) }
-    ensures front { OnErr result
-        (AppendsFront (K.written sink.old) (K.written sink.new) bytes.now) }
+    ensures prefix { OnErr result
+        (AppendsPrefix (K.written sink.old) (K.written sink.new) bytes.now) }
     ensures count_stays { K.faults sink.old ≤ K.faults sink.new }
 {
     let mut done = 0;

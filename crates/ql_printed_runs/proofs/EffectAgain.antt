@@ -6,9 +6,9 @@ use Rattle.ql_base.specs.Names.{IsName}
 use Rattle.ql_lang.specs.declared.program.Program.{Program}
 use Rattle.ql_lines.specs.Fields.{Fields, IsId, is_space}
 use Rattle.ql_lines.specs.Lines.{is_skipped}
-use Rattle.ql_lines.specs.Texts.{behind, joined}
+use Rattle.ql_lines.specs.Texts.{spaced_fields, joined}
 use Rattle.ql_lines.proofs.LineEnds.{Stay, joined_stay, stay_both, stays_of}
-use Rattle.ql_lines.proofs.TextLaws.{joined_behind, not_skipped}
+use Rattle.ql_lines.proofs.TextLaws.{joined_spaced, not_skipped}
 use Rattle.ql_typing.specs.Names.{op_name, txn_name}
 use Rattle.ql_value.specs.declared.value.Value.{Value}
 use Rattle.ql_value.specs.Spelling.{value_text}
@@ -102,7 +102,7 @@ abbrev setting_row : Program → Effect → Fields
 setting_row p e =
     codes "session" ∷ decimal e.session.0 ∷ codes "txn" ∷ member_text p e.member ∷ codes "stamp" ∷ decimal e.stamp ∷ codes "vis" ∷ map decimal e.seen
 
-is_setting : (p : Program) (e : Effect) → NamedMember p e.member → IsWritable e → e.stamp < 2 ^ 32 → AllByRecursion IsId e.seen → IsAscending e.seen → IsSetting (behind (setting_row p e)) (setting_of p e)
+is_setting : (p : Program) (e : Effect) → NamedMember p e.member → IsWritable e → e.stamp < 2 ^ 32 → AllByRecursion IsId e.seen → IsAscending e.seen → IsSetting (spaced_fields (setting_row p e)) (setting_of p e)
 is_setting p e named is stamp ids ascending = record {
   session = is.session;
   txn = member_fits p e.member named is.member;
@@ -114,22 +114,22 @@ is_setting p e named is stamp ids ascending = record {
       ∙ ap (λ t. codes "session" ∷ decimal e.session.0 ∷ codes "txn" ∷ t ∷ codes "stamp" ∷ decimal e.stamp ∷ codes "vis" ∷ map decimal e.seen) (sym (member_is p e.member));
 }
 
-is_call : (args : List Value) (answer : Value) (fs : Fields) → All IsValue args → IsValue answer → CallAt args answer (behind (values_text args ∷ codes "=" ∷ value_text answer ∷ fs)) (behind fs)
+is_call : (args : List Value) (answer : Value) (fs : Fields) → All IsValue args → IsValue answer → CallAt args answer (spaced_fields (values_text args ∷ codes "=" ∷ value_text answer ∷ fs)) (spaced_fields fs)
 is_call args answer fs values value = record {
-  behind_args = behind (codes "=" ∷ value_text answer ∷ fs);
-  behind_mark = behind (value_text answer ∷ fs);
+  past_args = spaced_fields (codes "=" ∷ value_text answer ∷ fs);
+  past_mark = spaced_fields (value_text answer ∷ fs);
   called_with = part_field ValuesAt args (values_text args) (codes "=" ∷ value_text answer ∷ fs) (values_part args (codes "=" ∷ value_text answer ∷ fs) values);
   mark = next_field (codes "=") (value_text answer ∷ fs) equals_word;
   answered = part_field ValueAt answer (value_text answer) fs (value_part answer fs value);
 }
 
-is_payload : (payload : Payload) (fs : Fields) → CarriesValues payload → PayloadAt payload (behind (payload_text payload ∷ fs)) (behind fs)
+is_payload : (payload : Payload) (fs : Fields) → CarriesValues payload → PayloadAt payload (spaced_fields (payload_text payload ∷ fs)) (spaced_fields fs)
 is_payload Nothing fs fits = next_field (codes "-") fs none_word
 is_payload (Emitted vs) fs fits = part_field ValuesAt vs (values_text vs) fs (values_part vs fs fits)
 
-is_emit : (payload : Payload) (fs : Fields) → CarriesValues payload → EmitAt payload (behind (codes "emit" ∷ payload_text payload ∷ fs)) (behind fs)
+is_emit : (payload : Payload) (fs : Fields) → CarriesValues payload → EmitAt payload (spaced_fields (codes "emit" ∷ payload_text payload ∷ fs)) (spaced_fields fs)
 is_emit payload fs fits = record {
-  behind_word = behind (payload_text payload ∷ fs);
+  past_word = spaced_fields (payload_text payload ∷ fs);
   word = next_field (codes "emit") (payload_text payload ∷ fs) emit_word;
   carried = is_payload payload fs fits;
 }
@@ -149,22 +149,22 @@ module _ (p : Program) (objects : List (List ℕ)) (id : ℕ) (e : Effect) (name
 
   pub is_effect_line : e.stamp < 2 ^ 32 → AllByRecursion IsId e.seen → IsAscending e.seen → IsEffectLine (joined (effect_fields p objects id e)) id (line_of p objects e)
   unfolding after_emit after_call after_op
-  is_effect_line stamp ids ascending = subst (λ text. IsEffectLine text id (line_of p objects e)) (sym (joined_behind (codes "effect") (decimal id ∷ object_name objects e.object.0 ∷ op_name p e.op.0 ∷ after_op))) (record {
+  is_effect_line stamp ids ascending = subst (λ text. IsEffectLine text id (line_of p objects e)) (sym (joined_spaced (codes "effect") (decimal id ∷ object_name objects e.object.0 ∷ op_name p e.op.0 ∷ after_op))) (record {
     object = named_object;
     op = named_op;
-    behind_op = behind after_op;
-    behind_answer = behind after_call;
-    behind_payload = behind after_emit;
+    past_op = spaced_fields after_op;
+    past_answer = spaced_fields after_call;
+    past_payload = spaced_fields after_emit;
     names = (
-      behind (decimal id ∷ object_name objects e.object.0 ∷ op_name p e.op.0 ∷ after_op),
+      spaced_fields (decimal id ∷ object_name objects e.object.0 ∷ op_name p e.op.0 ∷ after_op),
       first_field (codes "effect") (decimal id ∷ object_name objects e.object.0 ∷ op_name p e.op.0 ∷ after_op) effect_word,
       (
-        behind (object_name objects e.object.0 ∷ op_name p e.op.0 ∷ after_op),
+        spaced_fields (object_name objects e.object.0 ∷ op_name p e.op.0 ∷ after_op),
         next_field (decimal id) (object_name objects e.object.0 ∷ op_name p e.op.0 ∷ after_op) (number_field id),
         (
-          behind (op_name p e.op.0 ∷ after_op),
+          spaced_fields (op_name p e.op.0 ∷ after_op),
           next_field (object_name objects e.object.0) (op_name p e.op.0 ∷ after_op) (name_field (object_name objects e.object.0) named_object),
-          (behind after_op, next_field (op_name p e.op.0) after_op (name_field (op_name p e.op.0) named_op), refl),
+          (spaced_fields after_op, next_field (op_name p e.op.0) after_op (name_field (op_name p e.op.0) named_op), refl),
         ),
       ),
     );

@@ -7,7 +7,7 @@ use Rattle.std.specs.List.{AllByRecursion, filter, slice_split}
 use Rattle.ql_base.specs.Bytes.{begins, is_digit, is_name_byte, is_text_byte}
 use Rattle.ql_base.specs.Names.{IsName}
 use Rattle.ql_lines.specs.Fields.{Fields, FirstField, fields_of, is_space, isn't_empty}
-use Rattle.ql_lines.specs.Texts.{behind}
+use Rattle.ql_lines.specs.Texts.{spaced_fields}
 use Rattle.ql_lines.proofs.Each.{each_by_index, each_weaker}
 use Rattle.ql_lines.proofs.FieldLaws.{behind_space, kept}
 use Rattle.ql_lines.proofs.LineEnds.{Stay, StaysIn, stay_both, stays_of}
@@ -37,42 +37,42 @@ pub record IsOneField (f : List ℕ) : Type 0 where
 no_space_of : (b : ℕ) → 33 ≤ b → is_space b ≡ false
 no_space_of b low = grind (arith, nat_tests, low)
 
-pub field_before : (f : List ℕ) (fs : Fields) → IsOneField f → fields_of (f ++ behind fs) ≡ f ∷ fields_of (behind fs)
-unfolding behind
+pub field_before : (f : List ℕ) (fs : Fields) → IsOneField f → fields_of (f ++ spaced_fields fs) ≡ f ∷ fields_of (spaced_fields fs)
+unfolding spaced_fields
 field_before f [] h = ap fields_of (append-nil f) ∙ ap (filter isn't_empty) (whole_part is_space f h.no_space) ∙ kept f [] h.some
 field_before f (g ∷ gs) h =
-    ap (filter isn't_empty) (part_before is_space f 32 (g ++ behind gs) h.no_space refl) ∙ kept f (slice_split is_space (g ++ behind gs)) h.some
-    ∙ ap (λ r. f ∷ r) (sym (behind_space 32 (g ++ behind gs) refl))
+    ap (filter isn't_empty) (part_before is_space f 32 (g ++ spaced_fields gs) h.no_space refl) ∙ kept f (slice_split is_space (g ++ spaced_fields gs)) h.some
+    ∙ ap (λ r. f ∷ r) (sym (behind_space 32 (g ++ spaced_fields gs) refl))
 
-field_behind : (f : List ℕ) (fs : Fields) → IsOneField f → fields_of (behind (f ∷ fs)) ≡ f ∷ fields_of (behind fs)
-unfolding behind
-field_behind f fs h = behind_space 32 (f ++ behind fs) refl ∙ field_before f fs h
+field_behind : (f : List ℕ) (fs : Fields) → IsOneField f → fields_of (spaced_fields (f ∷ fs)) ≡ f ∷ fields_of (spaced_fields fs)
+unfolding spaced_fields
+field_behind f fs h = behind_space 32 (f ++ spaced_fields fs) refl ∙ field_before f fs h
 
-no_fields : fields_of (behind []) ≡ []
-unfolding behind
+no_fields : fields_of (spaced_fields []) ≡ []
+unfolding spaced_fields
 no_fields = refl
 
-pub fields_behind : (fs : Fields) → AllByRecursion IsOneField fs → fields_of (behind fs) ≡ fs
+pub fields_behind : (fs : Fields) → AllByRecursion IsOneField fs → fields_of (spaced_fields fs) ≡ fs
 fields_behind [] h = no_fields
 fields_behind (f ∷ fs) h = field_behind f fs h.0 ∙ ap (λ r. f ∷ r) (fields_behind fs h.1)
 
 -- the first field of a line, and one after others
-pub first_field : (f : List ℕ) (fs : Fields) → IsOneField f → FirstField (f ++ behind fs) f (behind fs)
+pub first_field : (f : List ℕ) (fs : Fields) → IsOneField f → FirstField (f ++ spaced_fields fs) f (spaced_fields fs)
 first_field f fs h = record { fields = field_before f fs h; spaces = 0; stands = refl }
 
-pub next_field : (f : List ℕ) (fs : Fields) → IsOneField f → FirstField (behind (f ∷ fs)) f (behind fs)
-unfolding behind
+pub next_field : (f : List ℕ) (fs : Fields) → IsOneField f → FirstField (spaced_fields (f ∷ fs)) f (spaced_fields fs)
+unfolding spaced_fields
 next_field f fs h = record { fields = field_behind f fs h; spaces = 1; stands = refl }
 
-ends_here : (fs : Fields) → ends_field (behind fs) ≡ true
-unfolding behind
+ends_here : (fs : Fields) → ends_field (spaced_fields fs) ≡ true
+unfolding spaced_fields
 ends_here [] = refl
 ends_here (f ∷ fs) = refl
 
 -- a part of any kind as a field after others
-pub part_field : {X : Type 0} (PartAt : X → List ℕ → List ℕ → Type 0) (x : X) (f : List ℕ) (fs : Fields) → PartAt x (f ++ behind fs) (behind fs) → FieldAt PartAt x (behind (f ∷ fs)) (behind fs)
-unfolding behind
-part_field PartAt x f fs part = record { gap = 1; start = f ++ behind fs; spaces = refl; part = part; ended = ends_here fs }
+pub part_field : {X : Type 0} (PartAt : X → List ℕ → List ℕ → Type 0) (x : X) (f : List ℕ) (fs : Fields) → PartAt x (f ++ spaced_fields fs) (spaced_fields fs) → FieldAt PartAt x (spaced_fields (f ∷ fs)) (spaced_fields fs)
+unfolding spaced_fields
+part_field PartAt x f fs part = record { gap = 1; start = f ++ spaced_fields fs; spaces = refl; part = part; ended = ends_here fs }
 
 -- ---- words, numbers and names
 
@@ -112,8 +112,8 @@ txn_field n w is = record {
 
 -- ---- values
 
-behind_digit : (fs : Fields) → begins is_digit (behind fs) ≡ false
-unfolding behind is_digit
+behind_digit : (fs : Fields) → begins is_digit (spaced_fields fs) ≡ false
+unfolding spaced_fields is_digit
 behind_digit [] = refl
 behind_digit (f ∷ fs) = refl
 
@@ -121,8 +121,8 @@ behind_digit (f ∷ fs) = refl
 value_written : (v : Value) (rest : List ℕ) → IsValue v → begins is_digit rest ≡ false → ValueAt v (value_text v ++ rest) rest
 value_written v rest fits stop = stands v (value_text v ++ rest) rest (printed_again v rest fits stop) stop
 
-pub value_part : (v : Value) (fs : Fields) → IsValue v → ValueAt v (value_text v ++ behind fs) (behind fs)
-value_part v fs fits = value_written v (behind fs) fits (behind_digit fs)
+pub value_part : (v : Value) (fs : Fields) → IsValue v → ValueAt v (value_text v ++ spaced_fields fs) (spaced_fields fs)
+value_part v fs fits = value_written v (spaced_fields fs) fits (behind_digit fs)
 
 more_digit : (ts : List (List ℕ)) (rest : List ℕ) → begins is_digit (followed ts ++ 41 ∷ rest) ≡ false
 unfolding is_digit
@@ -151,8 +151,8 @@ values_at (v ∷ vs) rest h =
       (more, value_written v more h.0 (more_digit (map value_text vs) rest), more_values vs rest h.1),
     )
 
-pub values_part : (vs : List Value) (fs : Fields) → All IsValue vs → ValuesAt vs (values_text vs ++ behind fs) (behind fs)
-values_part vs fs h = values_at vs (behind fs) (recursion_from_All IsValue vs h)
+pub values_part : (vs : List Value) (fs : Fields) → All IsValue vs → ValuesAt vs (values_text vs ++ spaced_fields fs) (spaced_fields fs)
+values_part vs fs h = values_at vs (spaced_fields fs) (recursion_from_All IsValue vs h)
 
 -- ---- no value ends a line
 

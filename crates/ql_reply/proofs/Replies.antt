@@ -26,7 +26,7 @@ module _ (May : Status → List ℕ → Type 0) (was is : Option (List ℕ)) (be
   -- where a reply was written that may be, this is what was written
   pub wrote : (status ended : Status) (text : List ℕ) → (May WriteFault text → ⊥) → May status text → IsWritten status text was is before after ended → Wrote May was is before after ended
   wrote status ended text none may (inl (same, all)) = subst (Wrote May was is before after) (sym same) (whole status text none may all)
-  wrote status ended text none may (inr (fault, rose, front)) = subst (Wrote May was is before after) (sym fault) (rose, status, text, may, front)
+  wrote status ended text none may (inr (fault, rose, prefix)) = subst (Wrote May was is before after) (sym fault) (rose, status, text, may, prefix)
 
 -- what was written for a reply of which this is so, was written for one of which anything is so that follows
 pub weaker : (P Q : Status → List ℕ → Type 0) (was is : Option (List ℕ)) (before after : ℕ) (ended : Status)
@@ -35,14 +35,14 @@ weaker P Q was is before after Done all (text, may, same) = (text, all Done text
 weaker P Q was is before after No all (text, may, same) = (text, all No text may, same)
 weaker P Q was is before after Bad all (text, may, same) = (text, all Bad text may, same)
 weaker P Q was is before after ReadFault all (text, may, same) = (text, all ReadFault text may, same)
-weaker P Q was is before after WriteFault all (rose, status, text, may, front) = (rose, status, text, all status text may, front)
+weaker P Q was is before after WriteFault all (rose, status, text, may, prefix) = (rose, status, text, all status text may, prefix)
 weaker P Q was is before after Usage all (text, may, same) = (text, all Usage text may, same)
 weaker P Q was is before after TooLarge all (text, may, same) = (text, all TooLarge text may, same)
 
 -- where the sink didn't fail, the call ended as was asked
 pub ended_so : (status ended : Status) (text : List ℕ) (was is : Option (List ℕ)) (before after : ℕ) → IsWritten status text was is before after ended → (Rose before after → ⊥) → ended ≡ status
 ended_so status ended text was is before after (inl (same, all)) none = same
-ended_so status ended text was is before after (inr (fault, rose, front)) none = absurd (none rose)
+ended_so status ended text was is before after (inr (fault, rose, prefix)) none = absurd (none rose)
 
 -- a count that rose later rose
 pub rose_before : (a b c : ℕ) → a ≤ b → Rose b c → Rose a c

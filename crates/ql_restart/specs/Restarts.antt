@@ -9,8 +9,8 @@ use Rattle.ql_headline.specs.Stores.{rules_of}
 use Rattle.ql_lang.specs.declared.program.Program.{Program}
 use Rattle.ql_levels.specs.Lists.{LevelLists}
 use Rattle.ql_lines.specs.Lines.{ahead_from}
-use Rattle.ql_lines.specs.Texts.{behind}
-use Rattle.ql_machine.specs.Runs.{replicas_behind}
+use Rattle.ql_lines.specs.Texts.{spaced_fields}
+use Rattle.ql_machine.specs.Runs.{replicas_at_end}
 use Rattle.ql_machine.specs.Sets.{AreThose}
 use Rattle.ql_machine.specs.State.{Machine, NeedsNow}
 use Rattle.ql_needs.specs.Closed.{Closed, Has}
@@ -22,7 +22,7 @@ use Rattle.ql_restart.specs.Journaled.{IsJournaled}
 
 -- a line of a word and ids
 abbrev pub id_line : List ℕ → List ℕ → List ℕ
-id_line word ids = word ++ behind (map decimal ids) ++ codes "\n"
+id_line word ids = word ++ spaced_fields (map decimal ids) ++ codes "\n"
 
 -- The text for a replica that received these effects, and whose disk stopped at a call: what its station has when it is
 -- recovered, and what of that is applied. Without its first two calls there is no journal.
@@ -42,7 +42,7 @@ pub record ReportsRestart (source file : List ℕ) (replica cut : ℕ) (text : L
   pub is_source : IsSourceOf source program
   pub is_schedule : IsScheduleFile program (ahead_from 1 file) schedule
   pub are_least : AreLevelsOf program levels
-  pub is_replica : replica < replicas_behind schedule.replicas schedule.events
+  pub is_replica : replica < replicas_at_end schedule.replicas schedule.events
   pub run : Watches (rules_of program levels) schedule.replicas replica schedule.events last arrivals
   pub printed : IsRestartText last arrivals cut text
 
@@ -53,7 +53,7 @@ pub record ReportsNoReplica (source file : List ℕ) (replica : ℕ) (text : Lis
   pub is_source : IsSourceOf source program
   pub is_schedule : IsScheduleFile program (ahead_from 1 file) schedule
   pub accepted : IsAccepted program
-  pub is_none : replicas_behind schedule.replicas schedule.events ≤ replica
+  pub is_none : replicas_at_end schedule.replicas schedule.events ≤ replica
   pub printed : text ≡ codes "no replica " ++ decimal replica ++ codes "\n"
 
 abbrev pub RestartSays : List ℕ → List ℕ → ℕ → ℕ → Status → List ℕ → Type 0

@@ -2,7 +2,7 @@ ghost use Rattle.std.specs.Prelude.{◌≡◌, ◌<◌, ◌^◌, ◌++◌, ℕ, 
 ghost use Rattle.ql_classify.specs.Least.{AreLevelsOf};
 ghost use Rattle.ql_commands.specs.Sources.{IsSourceOf};
 ghost use Rattle.ql_lines.specs.Lines.{ahead_from};
-ghost use Rattle.ql_machine.specs.Runs.{replicas_behind};
+ghost use Rattle.ql_machine.specs.Runs.{replicas_at_end};
 ghost use Rattle.ql_schedule.specs.Files.{IsScheduleFile};
 ghost use Rattle.ql_schedule.specs.Guarantees.{IsSchedule};
 ghost use Rattle.ql_restart.specs.Restarts.{RestartSays, ReportsRestart};
@@ -50,7 +50,7 @@ fn text_of(
 ) -> Result<Vec<u8>, NoMemory>
     requires levels { AreLevelsOf input.typed.program input.levels }
     requires schedule { IsSchedule input.typed.program input.schedule }
-    requires replica { replica.0 < replicas_behind input.schedule.replicas input.schedule.events }
+    requires replica { replica.0 < replicas_at_end input.schedule.replicas input.schedule.events }
     ensures { IfOk result
         (λ text. (source file : List ℕ) → IsSourceOf source input.typed.program
         → IsScheduleFile input.typed.program (ahead_from 1 file) input.schedule

@@ -5,8 +5,8 @@ use Rattle.std.proofs.lemmas.List.{append-nil, length-take-le, map-append, take_
 use Rattle.std.proofs.lemmas.List.Elements.{All-more}
 use Rattle.std.proofs.lemmas.Option.{get_or_from_slice_get, slice_get_within}
 use Rattle.ql_lines.specs.Fields.{Fields}
-use Rattle.ql_lines.specs.Texts.{behind, file_text, joined}
-use Rattle.ql_lines.proofs.TextLaws.{behind-append, file_text-append, joined_behind}
+use Rattle.ql_lines.specs.Texts.{spaced_fields, file_text, joined}
+use Rattle.ql_lines.proofs.TextLaws.{spaced_fields-append, file_text-append, joined_spaced}
 use Rattle.ql_value.specs.Spelling.{followed}
 use Rattle.ql_run_text.specs.NumberedLines.{lines_from}
 
@@ -16,21 +16,21 @@ all_more P xs i x less is all here = All-more P xs i x less all (subst P is here
 
 -- ---- items of a line
 
-one_behind : {X : Type 0} (field : X → List ℕ) (xs : List X) (x : X) → behind (map field (xs ++ x ∷ [])) ≡ behind (map field xs) ++ 32 ∷ field x
-unfolding behind
+one_behind : {X : Type 0} (field : X → List ℕ) (xs : List X) (x : X) → spaced_fields (map field (xs ++ x ∷ [])) ≡ spaced_fields (map field xs) ++ 32 ∷ field x
+unfolding spaced_fields
 one_behind field xs x =
-    ap behind (map-append field xs (x ∷ [])) ∙ behind-append (map field xs) (field x ∷ []) ∙ ap (λ r. behind (map field xs) ++ 32 ∷ r) (append-nil (field x))
+    ap spaced_fields (map-append field xs (x ∷ [])) ∙ spaced_fields-append (map field xs) (field x ∷ []) ∙ ap (λ r. spaced_fields (map field xs) ++ 32 ∷ r) (append-nil (field x))
 
 pub more_behind : {X : Type 0} (field : X → List ℕ) (xs : List X) (i : ℕ) (d : X) (out : List ℕ) → i < length xs
-    → (out ++ behind (map field (take i xs))) ++ 32 ∷ field (get_or xs i d) ≡ out ++ behind (map field (take (i + 1) xs))
+    → (out ++ spaced_fields (map field (take i xs))) ++ 32 ∷ field (get_or xs i d) ≡ out ++ spaced_fields (map field (take (i + 1) xs))
 more_behind field xs i d out lt =
     let front = take i xs in
     let x = get_or xs i d in
-    append_assoc out (behind (map field front)) (32 ∷ field x)
-    ∙ ap (λ r. out ++ r) (sym (one_behind field front x) ∙ ap (λ ys. behind (map field ys)) (sym (take_more xs i d lt)))
+    append_assoc out (spaced_fields (map field front)) (32 ∷ field x)
+    ∙ ap (λ r. out ++ r) (sym (one_behind field front x) ∙ ap (λ ys. spaced_fields (map field ys)) (sym (take_more xs i d lt)))
 
-pub nothing_behind : (out : List ℕ) → out ≡ out ++ behind []
-unfolding behind
+pub nothing_behind : (out : List ℕ) → out ≡ out ++ spaced_fields []
+unfolding spaced_fields
 nothing_behind out = sym (append-nil out)
 
 followed-push : (texts : List (List ℕ)) (b : List ℕ) → followed (texts ++ b ∷ []) ≡ followed texts ++ (codes ", " ++ b)
@@ -82,44 +82,44 @@ on_ok (Err e) f h = tt
 -- ---- lines from their parts
 
 -- fields after others of a line
-pub more_fields : (out w : List ℕ) (fs gs : Fields) → (out ++ joined (w ∷ fs)) ++ behind gs ≡ out ++ joined (w ∷ (fs ++ gs))
+pub more_fields : (out w : List ℕ) (fs gs : Fields) → (out ++ joined (w ∷ fs)) ++ spaced_fields gs ≡ out ++ joined (w ∷ (fs ++ gs))
 more_fields out w fs gs =
-    append_assoc out (joined (w ∷ fs)) (behind gs)
+    append_assoc out (joined (w ∷ fs)) (spaced_fields gs)
     ∙ ap (λ r. out ++ r) (
-    ap (λ r. r ++ behind gs) (joined_behind w fs) ∙ append_assoc w (behind fs) (behind gs) ∙ ap (λ r. w ++ r) (sym (behind-append fs gs)) ∙ sym (joined_behind w (fs ++ gs))
+    ap (λ r. r ++ spaced_fields gs) (joined_spaced w fs) ∙ append_assoc w (spaced_fields fs) (spaced_fields gs) ∙ ap (λ r. w ++ r) (sym (spaced_fields-append fs gs)) ∙ sym (joined_spaced w (fs ++ gs))
     )
 
-pub word_and_fields : (out w : List ℕ) (vs : Fields) → (out ++ w) ++ behind vs ≡ out ++ joined (w ∷ vs)
-word_and_fields out w vs = append_assoc out w (behind vs) ∙ ap (λ r. out ++ r) (sym (joined_behind w vs))
+pub word_and_fields : (out w : List ℕ) (vs : Fields) → (out ++ w) ++ spaced_fields vs ≡ out ++ joined (w ∷ vs)
+word_and_fields out w vs = append_assoc out w (spaced_fields vs) ∙ ap (λ r. out ++ r) (sym (joined_spaced w vs))
 
 pub heading_pieces : (out id name op : List ℕ) → (((((out ++ codes "effect ") ++ id) ++ codes " ") ++ name) ++ codes " ") ++ op ≡ out ++ joined (codes "effect" ∷ id ∷ name ∷ op ∷ [])
 heading_pieces out id name op = simp append_assoc refl
 
-pub call_pieces : (out args answer : List ℕ) → (((out ++ codes " ") ++ args) ++ codes " = ") ++ answer ≡ out ++ behind (args ∷ codes "=" ∷ answer ∷ [])
-unfolding behind
+pub call_pieces : (out args answer : List ℕ) → (((out ++ codes " ") ++ args) ++ codes " = ") ++ answer ≡ out ++ spaced_fields (args ∷ codes "=" ∷ answer ∷ [])
+unfolding spaced_fields
 call_pieces out args answer = ap (λ r. (((out ++ codes " ") ++ args) ++ codes " = ") ++ r) (sym (append-nil answer)) ∙ simp append_assoc refl
 
 pub session_pieces : (out s t n : List ℕ) → ((((out ++ (codes " session " ++ s)) ++ codes " txn ") ++ t) ++ (codes " stamp " ++ n)) ++ codes " vis"
-    ≡ out ++ behind (codes "session" ∷ s ∷ codes "txn" ∷ t ∷ codes "stamp" ∷ n ∷ codes "vis" ∷ [])
-unfolding behind
+    ≡ out ++ spaced_fields (codes "session" ∷ s ∷ codes "txn" ∷ t ∷ codes "stamp" ∷ n ∷ codes "vis" ∷ [])
+unfolding spaced_fields
 session_pieces out s t n = simp append_assoc refl
 
-emit_fields : (payload : List ℕ) → codes " emit " ++ payload ≡ behind (codes "emit" ∷ payload ∷ [])
-unfolding behind
+emit_fields : (payload : List ℕ) → codes " emit " ++ payload ≡ spaced_fields (codes "emit" ∷ payload ∷ [])
+unfolding spaced_fields
 emit_fields payload = ap (λ r. codes " emit " ++ r) (sym (append-nil payload))
 
 -- the line of an effect from its parts
 pub effect_pieces : (out w payload : List ℕ) (heading call session seen : Fields)
-    → (((((((out ++ joined (w ∷ heading)) ++ behind call) ++ codes " emit ") ++ payload) ++ behind session) ++ behind seen) ++ codes "\n")
+    → (((((((out ++ joined (w ∷ heading)) ++ spaced_fields call) ++ codes " emit ") ++ payload) ++ spaced_fields session) ++ spaced_fields seen) ++ codes "\n")
     ≡ out ++ (joined (w ∷ (((heading ++ call) ++ codes "emit" ∷ payload ∷ []) ++ session) ++ seen) ++ 10 ∷ [])
 effect_pieces out w payload heading call session seen =
     ap (λ r. r ++ codes "\n") (
-    ap (λ r. ((((r ++ codes " emit ") ++ payload) ++ behind session) ++ behind seen)) (more_fields out w heading call)
-    ∙ ap (λ r. (r ++ behind session) ++ behind seen) (
+    ap (λ r. ((((r ++ codes " emit ") ++ payload) ++ spaced_fields session) ++ spaced_fields seen)) (more_fields out w heading call)
+    ∙ ap (λ r. (r ++ spaced_fields session) ++ spaced_fields seen) (
     append_assoc (out ++ joined (w ∷ (heading ++ call))) (codes " emit ") payload ∙ ap (λ r. (out ++ joined (w ∷ (heading ++ call))) ++ r) (emit_fields payload)
     ∙ more_fields out w (heading ++ call) (codes "emit" ∷ payload ∷ [])
     )
-    ∙ ap (λ r. r ++ behind seen) (more_fields out w ((heading ++ call) ++ codes "emit" ∷ payload ∷ []) session)
+    ∙ ap (λ r. r ++ spaced_fields seen) (more_fields out w ((heading ++ call) ++ codes "emit" ∷ payload ∷ []) session)
     ∙ more_fields out w (((heading ++ call) ++ codes "emit" ∷ payload ∷ []) ++ session) seen
     )
     ∙ append_assoc out (joined (w ∷ (((heading ++ call) ++ codes "emit" ∷ payload ∷ []) ++ session) ++ seen)) (10 ∷ [])

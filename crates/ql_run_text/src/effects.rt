@@ -1,5 +1,5 @@
 ghost use Rattle.std.specs.Prelude.{◌≡◌, ◌<◌, ◌++◌, ◌∷◌, [], All, IfOk, OnOk, codes, decimal, length};
-ghost use Rattle.ql_lines.specs.Texts.{behind, joined};
+ghost use Rattle.ql_lines.specs.Texts.{spaced_fields, joined};
 ghost use Rattle.ql_typing.specs.Names.{op_name};
 ghost use Rattle.ql_value.specs.Spelling.{value_text};
 ghost use Rattle.ql_value.specs.ValueGrammar.{IsValue};
@@ -96,7 +96,7 @@ fn push_heading(
 fn push_call(out: &mut Vec<u8>, args: &Values, answer: &Value) -> Result<(), NoMemory>
     ensures text { OnOk result
         (out.new.items ≡ out.old.items
-        ++ behind (values_text args.now ∷ codes "=" ∷ value_text answer.now ∷ [])) }
+        ++ spaced_fields (values_text args.now ∷ codes "=" ∷ value_text answer.now ∷ [])) }
     ensures args { OnOk result (All IsValue args.now) }
     ensures answer { OnOk result (IsValue answer.now) }
 {
@@ -110,7 +110,7 @@ fn push_call(out: &mut Vec<u8>, args: &Values, answer: &Value) -> Result<(), NoM
 fn push_session(out: &mut Vec<u8>, t: &Typed, effect: &Effect) -> Result<(), NoMemory>
     requires { IsDeclared t.now.program effect.now.member }
     ensures { OnOk result (out.new.items ≡ out.old.items
-        ++ behind (codes "session" ∷ decimal effect.now.session.0 ∷ codes "txn" ∷ member_text t.now.program effect.now.member
+        ++ spaced_fields (codes "session" ∷ decimal effect.now.session.0 ∷ codes "txn" ∷ member_text t.now.program effect.now.member
         ∷ codes "stamp" ∷ decimal effect.now.stamp ∷ codes "vis" ∷ [])) }
 {
     push_decimal(out, b" session ", effect.session.0)?;

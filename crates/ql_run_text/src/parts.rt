@@ -1,5 +1,5 @@
 ghost use Rattle.std.specs.Prelude.{◌≡◌, ◌++◌, All, OnErr, OnOk, decimal, map};
-ghost use Rattle.ql_lines.specs.Texts.{behind};
+ghost use Rattle.ql_lines.specs.Texts.{spaced_fields};
 ghost use Rattle.ql_value.specs.Spelling.{followed, value_text};
 ghost use Rattle.ql_value.specs.ValueGrammar.{IsValue};
 ghost use Rattle.ql_run_text.specs.EffectTexts.{CarriesValues, payload_text, values_text};
@@ -18,7 +18,7 @@ pub(crate) fn push_decimal(out: &mut Vec<u8>, text: &[u8], number: u32) -> Resul
 
 /// Appends ids, each after a space. If out of memory, the text is unchanged.
 pub fn push_ids(out: &mut Vec<u8>, ids: &[u32]) -> Result<(), NoMemory>
-    ensures ok { OnOk result (out.new.items ≡ out.old.items ++ behind (map decimal ids.now)) }
+    ensures ok { OnOk result (out.new.items ≡ out.old.items ++ spaced_fields (map decimal ids.now)) }
     ensures err { OnErr result (out.new.items ≡ out.old.items) }
 {
     let mut text = Vec::new(*out.allocator());
@@ -28,7 +28,7 @@ pub fn push_ids(out: &mut Vec<u8>, ids: &[u32]) -> Result<(), NoMemory>
 
 /// Appends ids, each after a space. If out of memory, some of them may have been appended.
 pub(crate) fn push_each_id(out: &mut Vec<u8>, ids: &[u32]) -> Result<(), NoMemory>
-    ensures { OnOk result (out.new.items ≡ out.old.items ++ behind (map decimal ids.now)) }
+    ensures { OnOk result (out.new.items ≡ out.old.items ++ spaced_fields (map decimal ids.now)) }
 {
     for id in ids {
         push_decimal(out, b" ", *id)?;

@@ -1,7 +1,7 @@
 ghost use Rattle.std.specs.Prelude.{◌≡◌, All, length, IfOk};
 ghost use Rattle.ql_classify.specs.Least.{AreLevelsOf};
 ghost use Rattle.ql_headline.specs.Stores.{rules_of};
-ghost use Rattle.ql_machine.specs.Runs.{IsRun, replicas_behind};
+ghost use Rattle.ql_machine.specs.Runs.{IsRun, replicas_at_end};
 ghost use Rattle.ql_run_text.specs.EffectTexts.{AreNamed};
 ghost use Rattle.ql_run_text.specs.ReplyTexts.{AreAnswered};
 ghost use Rattle.ql_runs.specs.Keeping.{FitsSchedule};
@@ -33,7 +33,7 @@ pub fn sound_run(
     ensures objects { IfOk result (λ run. run.objects ≡ schedule.objects) }
     ensures replicas { IfOk result
         (λ run. length run.store.machine.received
-        ≡ replicas_behind schedule.replicas schedule.events) }
+        ≡ replicas_at_end schedule.replicas schedule.events) }
     ensures fits { IfOk result
         (λ run. All (FitsSchedule t.now.program (length schedule.objects) schedule.kinds)
         run.store.machine.effects) }

@@ -11,7 +11,7 @@ use Rattle.ql_machine.specs.declared.event.Event.TheVariants.{Call, Begin, Commi
 use Rattle.ql_machine.specs.declared.reply.Reply.{Reply}
 use Rattle.ql_machine.specs.State.{Machine, empty, replicas}
 use Rattle.ql_machine.specs.Rules.{Rules}
-use Rattle.ql_machine.specs.Runs.{IsRun, Leads, replicas_after, replicas_behind, step, stop}
+use Rattle.ql_machine.specs.Runs.{IsRun, Leads, replicas_after, replicas_at_end, step, stop}
 use Rattle.ql_machine.proofs.Counting.{behind-more}
 use Rattle.ql_machine.specs.Steps.{IsStep}
 use Rattle.ql_schedule.specs.Guarantees.{AreFit, FitsEvent, IsSchedule}
@@ -50,7 +50,7 @@ pub record IsGoing (p : Program) (levels : LevelLists) (schedule : Schedule) (le
   pub small : IsSmall (length done) s
   -- how many replicas there are now
   pub count : ℕ
-  pub counted : count ≡ replicas_behind schedule.replicas done
+  pub counted : count ≡ replicas_at_end schedule.replicas done
   pub goes : Goes count levels s
   pub fits : All (FitsSchedule p (length schedule.objects) schedule.kinds) s.effects
   pub answered : All (IsMade (length s.effects)) replies
@@ -149,9 +149,9 @@ module _ (p : Program) (levels : LevelLists) (schedule : Schedule) (each : HasLe
         }
 
   -- all are done
-  pub going-count : (replies : List Reply) (held : LevelLists) (s : Machine) → IsGoing p levels schedule [] replies held s → length s.received ≡ replicas_behind schedule.replicas schedule.events
+  pub going-count : (replies : List Reply) (held : LevelLists) (s : Machine) → IsGoing p levels schedule [] replies held s → length s.received ≡ replicas_at_end schedule.replicas schedule.events
   going-count replies held s going =
-      going.goes.replicas ∙ going.counted ∙ ap (replicas_behind schedule.replicas) (sym (going.parts ∙ append-nil going.done))
+      going.goes.replicas ∙ going.counted ∙ ap (replicas_at_end schedule.replicas) (sym (going.parts ∙ append-nil going.done))
 
   pub going-ends : (replies : List Reply) (held : LevelLists) (s : Machine) → IsGoing p levels schedule [] replies held s
       → (rules : Rules) → AreRulesOf p levels rules → Leads rules (empty schedule.replicas) schedule.events replies s

@@ -1,7 +1,7 @@
 ghost use Rattle.std.specs.Prelude.{◌≡◌, All, IfOk, length};
 ghost use Rattle.ql_eval.specs.Folds.{answered_of};
 ghost use Rattle.ql_machine.specs.Rules.{Rules};
-ghost use Rattle.ql_machine.specs.Runs.{IsRun, replicas_behind};
+ghost use Rattle.ql_machine.specs.Runs.{IsRun, replicas_at_end};
 ghost use Rattle.ql_schedule.specs.Guarantees.{IsSchedule};
 ghost use Rattle.ql_store.specs.Levels.{HasLevelOfEach, promises_of, uses_of};
 ghost use Rattle.ql_runs.specs.Keeping.{FitsSchedule, IsMade};
@@ -46,7 +46,7 @@ pub fn run_schedule<H: Holder>(
     ensures objects { IfOk result (λ run. run.objects ≡ schedule.objects) }
     ensures replicas { IfOk result
         (λ run. length run.store.machine.received
-        ≡ replicas_behind schedule.replicas schedule.events) }
+        ≡ replicas_at_end schedule.replicas schedule.events) }
     ensures fits { IfOk result
         (λ run. All (FitsSchedule typed.now.program (length schedule.objects) schedule.kinds)
         run.store.machine.effects) }

@@ -103,7 +103,7 @@ module _ (p : Program) (s : Schedule) (n : ℕ) (few : n ≤ 16) where
     rest_is = record {
       rest = map value_text args;
       called = record {
-        behind = name_at s.objects object.0 ∷ op_name p op.0 ∷ map value_text args;
+        remaining = name_at s.objects object.0 ∷ op_name p op.0 ∷ map value_text args;
         caller = caller_again session.0 replica.0 _ h.caller.is_session h.caller.is_replica;
         is_object = k.is_object.0;
         is_op = k.is_op;
@@ -116,7 +116,7 @@ module _ (p : Program) (s : Schedule) (n : ℕ) (few : n ≤ 16) where
     rest = _;
     are = refl;
     rest_is = record {
-      behind = txn_name p decl.0 ∷ map (name_at s.objects) ids;
+      remaining = txn_name p decl.0 ∷ map (name_at s.objects) ids;
       caller = caller_again session.0 replica.0 _ h.0.is_session h.0.is_replica;
       is_txn = k.is_txn;
       are = refl;

@@ -14,7 +14,7 @@ use Rattle.ql_lines.specs.Lines.{ahead_from}
 use Rattle.ql_lines.specs.Texts.{file_text}
 use Rattle.ql_machine.specs.declared.event.Event.{Event}
 use Rattle.ql_machine.specs.declared.event.Event.TheVariants as event
-use Rattle.ql_machine.specs.Runs.{replicas_after, replicas_behind}
+use Rattle.ql_machine.specs.Runs.{replicas_after, replicas_at_end}
 use Rattle.ql_typing.specs.Lookups.{type_place}
 use Rattle.ql_typing.specs.Names.{op_name, txn_name, type_name}
 use Rattle.ql_value.specs.declared.scalar.Scalar.{Scalar}
@@ -101,7 +101,7 @@ at s done = record { version = s.version; replicas = s.replicas; objects = s.obj
 
 events_again : (p : Program) (s : Schedule) → length s.kinds ≡ length s.objects → (n : ℕ) → n ≤ 16 → (done es : List Event) → length done + length es ≤ 4000
     → AreFit p (length s.objects) s.kinds n es → AllByRecursion (IsOfVersion s.version) es → AllByRecursion (IsSpelledEvent p s.objects) es
-    → Steps p (Running (at s done) n) (map (event_fields p s.objects) es) (Running (at s (done ++ es)) (replicas_behind n es))
+    → Steps p (Running (at s done) n) (map (event_fields p s.objects) es) (Running (at s (done ++ es)) (replicas_at_end n es))
 unfolding Steps
 events_again p s typed n few done [] room fits version spelled = ap (λ es. Running (at s es) n) (sym (append-nil done))
 events_again p s typed n few done (e ∷ es) room fits version spelled =
@@ -117,17 +117,17 @@ events_again p s typed n few done (e ∷ es) room fits version spelled =
             ap (λ x. Running (at s (done ++ x ∷ [])) more) (sym (made_again p (at s done) e spelled.0))
             ∙ ap (λ m. Running (at s (done ++ event_of p (at s done) line ∷ [])) m) (counted_again p (at s done) n few e);
       },
-      subst (λ xs. Steps p (Running (at s (done ++ e ∷ [])) more) (map (event_fields p s.objects) es) (Running (at s xs) (replicas_behind more es))) (append_assoc done (e ∷ []) es) rest,
+      subst (λ xs. Steps p (Running (at s (done ++ e ∷ [])) more) (map (event_fields p s.objects) es) (Running (at s xs) (replicas_at_end more es))) (append_assoc done (e ∷ []) es) rest,
     )
 
 -- ---- the whole schedule
 
-steps : (p : Program) (s : Schedule) → IsSpelled p s → Steps p Untitled (schedule_lines p s) (Running s (replicas_behind s.replicas s.events))
+steps : (p : Program) (s : Schedule) → IsSpelled p s → Steps p Untitled (schedule_lines p s) (Running s (replicas_at_end s.replicas s.events))
 unfolding Steps
 steps p s is =
     let h = is.lawful in
     let v = s.version in
-    let last = Running s (replicas_behind s.replicas s.events) in
+    let last = Running s (replicas_at_end s.replicas s.events) in
     let objects = objects_again p v s.replicas [] [] s.objects s.kinds h.typed is.objects is.types (omega (arith, h.few_objects)) in
     let events = events_again p s h.typed s.replicas h.few_replicas [] s.events (omega (arith, h.few_events)) h.events h.of_version is.events in (
       Titled v,
@@ -280,9 +280,9 @@ all_lines p s is =
 
 pub printed_is_read : (p : Program) (s : Schedule) → IsSpelled p s → IsScheduleFile p (ahead_from 1 (file_text (schedule_lines p s))) s
 printed_is_read p s is = record {
-  state = Running s (replicas_behind s.replicas s.events);
+  state = Running s (replicas_at_end s.replicas s.events);
   leads =
-      subst (λ ls. Leads (GivesLine p) Closes Untitled ls (Running s (replicas_behind s.replicas s.events))) (sym (file_again 1 (schedule_lines p s) (all_lines p s is)))
-      (as_lines p 1 (schedule_lines p s) Untitled (Running s (replicas_behind s.replicas s.events)) (all_lines p s is) (steps p s is));
+      subst (λ ls. Leads (GivesLine p) Closes Untitled ls (Running s (replicas_at_end s.replicas s.events))) (sym (file_again 1 (schedule_lines p s) (all_lines p s is)))
+      (as_lines p 1 (schedule_lines p s) Untitled (Running s (replicas_at_end s.replicas s.events)) (all_lines p s is) (steps p s is));
   ends = refl;
 }

@@ -16,7 +16,7 @@ pub no_caller : (parts : Fields) → ((field : List ℕ) (n : ℕ) (rest : Field
 no_caller parts none c rest h = none h.session c.session _ h.is_session h.are
 
 pub no_called : (parts : Fields) → ((c : Caller) (rest : Fields) → CallerAt c parts rest → ⊥) → (c : Caller) (object op : List ℕ) (rest : Fields) → IsCalled parts c object op rest → ⊥
-no_called parts none c object op rest h = none c h.behind h.caller
+no_called parts none c object op rest h = none c h.remaining h.caller
 
 pub no_replica : (parts p1 p2 : Fields) (field : List ℕ) → parts ≡ field ∷ p1 → p1 ≡ codes "at" ∷ p2 → ((f : List ℕ) (n : ℕ) (rest : Fields) → IsNumber f n → p2 ≡ f ∷ rest → ⊥)
     → (c : Caller) (rest : Fields) → CallerAt c parts rest → ⊥

@@ -54,7 +54,7 @@ of_begin parts none (Begin c t objects) e h = none c t objects h
 of_begin parts none l e h = absurd (omega (arith, by_word l (codes "begin") e))
 
 pub no_begin : (parts : Fields) → ((c : Caller) (rest : Fields) → CallerAt c parts rest → ⊥) → (l : EventLine) → event_word l ≡ codes "begin" → IsRest parts l → ⊥
-no_begin parts none = of_begin parts (λ c t objects h. none c h.behind h.caller)
+no_begin parts none = of_begin parts (λ c t objects h. none c h.remaining h.caller)
 
 pub no_deliver : (parts : Fields) → ((f : List ℕ) (n : ℕ) → IsNumber f n → parts ≡ f ∷ [] → ⊥) → (l : EventLine) → event_word l ≡ codes "deliver" → IsRest parts l → ⊥
 unfolding no_of_kind word_no

@@ -7,25 +7,25 @@ use Rattle.ql_schedule.specs.Texts.{object_fields, object_lines}
 use Rattle.std.proofs.lemmas.List.{append-nil, get_or_default, map-append}
 use Rattle.std.proofs.Math.Seq.{take-suc}
 use Rattle.ql_lines.specs.Fields.{Fields}
-use Rattle.ql_lines.specs.Texts.{behind, file_text, joined}
-use Rattle.ql_lines.proofs.TextLaws.{behind-append, file_text-append, joined_behind}
+use Rattle.ql_lines.specs.Texts.{spaced_fields, file_text, joined}
+use Rattle.ql_lines.proofs.TextLaws.{spaced_fields-append, file_text-append, joined_spaced}
 
-one_behind : {X : Type 0} (field : X → List ℕ) (xs : List X) (x : X) → behind (map field (xs ++ x ∷ [])) ≡ behind (map field xs) ++ 32 ∷ field x
-unfolding behind
+one_behind : {X : Type 0} (field : X → List ℕ) (xs : List X) (x : X) → spaced_fields (map field (xs ++ x ∷ [])) ≡ spaced_fields (map field xs) ++ 32 ∷ field x
+unfolding spaced_fields
 one_behind field xs x =
-    ap behind (map-append field xs (x ∷ [])) ∙ behind-append (map field xs) (field x ∷ []) ∙ ap (λ r. behind (map field xs) ++ 32 ∷ r) (append-nil (field x))
+    ap spaced_fields (map-append field xs (x ∷ [])) ∙ spaced_fields-append (map field xs) (field x ∷ []) ∙ ap (λ r. spaced_fields (map field xs) ++ 32 ∷ r) (append-nil (field x))
 
 -- one item more of a list's prefix
 pub one_more_behind : {X : Type 0} (field : X → List ℕ) (xs : List X) (i : ℕ) (d : X) (out : List ℕ) → i < length xs
-    → (out ++ behind (map field (take i xs))) ++ 32 ∷ field (get_or xs i d) ≡ out ++ behind (map field (take (i + 1) xs))
+    → (out ++ spaced_fields (map field (take i xs))) ++ 32 ∷ field (get_or xs i d) ≡ out ++ spaced_fields (map field (take (i + 1) xs))
 one_more_behind field xs i d out lt =
     let front = take i xs in
     let x = get_or xs i d in
     let more : take (i + 1) xs ≡ front ++ x ∷ [] = ap (λ n. take n xs) (add-one i) ∙ take-suc xs i d lt in
-    append_assoc out (behind (map field front)) (32 ∷ field x) ∙ ap (λ r. out ++ r) (sym (one_behind field front x) ∙ ap (λ ys. behind (map field ys)) (sym more))
+    append_assoc out (spaced_fields (map field front)) (32 ∷ field x) ∙ ap (λ r. out ++ r) (sym (one_behind field front x) ∙ ap (λ ys. spaced_fields (map field ys)) (sym more))
 
-pub nothing_behind : (out : List ℕ) → out ≡ out ++ behind []
-unfolding behind
+pub nothing_behind : (out : List ℕ) → out ≡ out ++ spaced_fields []
+unfolding spaced_fields
 nothing_behind out = sym (append-nil out)
 
 pub no_lines : (out : List ℕ) → out ≡ out ++ file_text []
@@ -33,15 +33,15 @@ unfolding file_text
 no_lines out = sym (append-nil out)
 
 -- fields after others of a line
-pub more_fields : (out w : List ℕ) (fs gs : Fields) → (out ++ joined (w ∷ fs)) ++ behind gs ≡ out ++ joined (w ∷ (fs ++ gs))
+pub more_fields : (out w : List ℕ) (fs gs : Fields) → (out ++ joined (w ∷ fs)) ++ spaced_fields gs ≡ out ++ joined (w ∷ (fs ++ gs))
 more_fields out w fs gs =
-    append_assoc out (joined (w ∷ fs)) (behind gs)
+    append_assoc out (joined (w ∷ fs)) (spaced_fields gs)
     ∙ ap (λ r. out ++ r) (
-    ap (λ r. r ++ behind gs) (joined_behind w fs) ∙ append_assoc w (behind fs) (behind gs) ∙ ap (λ r. w ++ r) (sym (behind-append fs gs)) ∙ sym (joined_behind w (fs ++ gs))
+    ap (λ r. r ++ spaced_fields gs) (joined_spaced w fs) ∙ append_assoc w (spaced_fields fs) (spaced_fields gs) ∙ ap (λ r. w ++ r) (sym (spaced_fields-append fs gs)) ∙ sym (joined_spaced w (fs ++ gs))
     )
 
 pub one_field : (out w f : List ℕ) (fs : Fields) → (out ++ joined (w ∷ fs)) ++ 32 ∷ f ≡ out ++ joined (w ∷ (fs ++ f ∷ []))
-unfolding behind
+unfolding spaced_fields
 one_field out w f fs = ap (λ r. (out ++ joined (w ∷ fs)) ++ 32 ∷ r) (sym (append-nil f)) ∙ more_fields out w fs (f ∷ [])
 
 -- one line more
@@ -64,32 +64,32 @@ one_more_line line xs i d out lt =
 -- ---- as the loops and the lines of events need it
 
 pub spaced : {X : Type 0} (field : X → List ℕ) (xs : List X) (i : ℕ) (x : X) (out : List ℕ) → i < length xs → x ≡ get_or xs i x
-    → ((out ++ behind (map field (take i xs))) ++ 32 ∷ []) ++ field x ≡ out ++ behind (map field (take (i + 1) xs))
+    → ((out ++ spaced_fields (map field (take i xs))) ++ 32 ∷ []) ++ field x ≡ out ++ spaced_fields (map field (take (i + 1) xs))
 spaced field xs i x out lt is =
-    append_assoc (out ++ behind (map field (take i xs))) (32 ∷ []) (field x)
-    ∙ ap (λ y. (out ++ behind (map field (take i xs))) ++ 32 ∷ field y) is ∙ one_more_behind field xs i x out lt
+    append_assoc (out ++ spaced_fields (map field (take i xs))) (32 ∷ []) (field x)
+    ∙ ap (λ y. (out ++ spaced_fields (map field (take i xs))) ++ 32 ∷ field y) is ∙ one_more_behind field xs i x out lt
 
 -- the same of an item given by its index
 pub spaced_at : {X : Type 0} (field : X → List ℕ) (xs : List X) (i : ℕ) (d : X) (out : List ℕ) → i < length xs
-    → ((out ++ behind (map field (take i xs))) ++ 32 ∷ []) ++ field (get_or xs i d) ≡ out ++ behind (map field (take (i + 1) xs))
+    → ((out ++ spaced_fields (map field (take i xs))) ++ 32 ∷ []) ++ field (get_or xs i d) ≡ out ++ spaced_fields (map field (take (i + 1) xs))
 spaced_at field xs i d out lt = spaced field xs i (get_or xs i d) out lt (get_or_default xs i d (get_or xs i d) lt)
 
 pub event_more : {X : Type 0} (line : X → Fields) (xs : List X) (i : ℕ) (x : X) (out : List ℕ) → i < length xs → x ≡ get_or xs i x
     → ((out ++ file_text (map line (take i xs))) ++ joined (line x)) ++ 10 ∷ [] ≡ out ++ file_text (map line (take (i + 1) xs))
 event_more line xs i x out lt is = ap (λ y. ((out ++ file_text (map line (take i xs))) ++ joined (line y)) ++ 10 ∷ []) is ∙ one_more_line line xs i x out lt
 
-pub call_pieces : (out w name op : List ℕ) (fs vs : Fields) → (((out ++ joined (w ∷ fs)) ++ 32 ∷ name) ++ 32 ∷ op) ++ behind vs ≡ out ++ joined (w ∷ (fs ++ name ∷ op ∷ vs))
+pub call_pieces : (out w name op : List ℕ) (fs vs : Fields) → (((out ++ joined (w ∷ fs)) ++ 32 ∷ name) ++ 32 ∷ op) ++ spaced_fields vs ≡ out ++ joined (w ∷ (fs ++ name ∷ op ∷ vs))
 call_pieces out w name op fs vs =
-    ap (λ r. (r ++ 32 ∷ op) ++ behind vs) (one_field out w name fs) ∙ ap (λ r. r ++ behind vs) (one_field out w op (fs ++ name ∷ []))
+    ap (λ r. (r ++ 32 ∷ op) ++ spaced_fields vs) (one_field out w name fs) ∙ ap (λ r. r ++ spaced_fields vs) (one_field out w op (fs ++ name ∷ []))
     ∙ more_fields out w ((fs ++ name ∷ []) ++ op ∷ []) vs
     ∙ ap (λ gs. out ++ joined (w ∷ gs)) (append_assoc (fs ++ name ∷ []) (op ∷ []) vs ∙ append_assoc fs (name ∷ []) (op ∷ vs))
 
-pub begin_pieces : (out w txn : List ℕ) (fs vs : Fields) → ((out ++ joined (w ∷ fs)) ++ 32 ∷ txn) ++ behind vs ≡ out ++ joined (w ∷ (fs ++ txn ∷ vs))
+pub begin_pieces : (out w txn : List ℕ) (fs vs : Fields) → ((out ++ joined (w ∷ fs)) ++ 32 ∷ txn) ++ spaced_fields vs ≡ out ++ joined (w ∷ (fs ++ txn ∷ vs))
 begin_pieces out w txn fs vs =
-    ap (λ r. r ++ behind vs) (one_field out w txn fs) ∙ more_fields out w (fs ++ txn ∷ []) vs ∙ ap (λ gs. out ++ joined (w ∷ gs)) (append_assoc fs (txn ∷ []) vs)
+    ap (λ r. r ++ spaced_fields vs) (one_field out w txn fs) ∙ more_fields out w (fs ++ txn ∷ []) vs ∙ ap (λ gs. out ++ joined (w ∷ gs)) (append_assoc fs (txn ∷ []) vs)
 
-pub partition_pieces : (out w : List ℕ) (vs : Fields) → (out ++ w) ++ behind vs ≡ out ++ joined (w ∷ vs)
-partition_pieces out w vs = append_assoc out w (behind vs) ∙ ap (λ r. out ++ r) (sym (joined_behind w vs))
+pub partition_pieces : (out w : List ℕ) (vs : Fields) → (out ++ w) ++ spaced_fields vs ≡ out ++ joined (w ∷ vs)
+partition_pieces out w vs = append_assoc out w (spaced_fields vs) ∙ ap (λ r. out ++ r) (sym (joined_spaced w vs))
 
 pub on_ok : {A E B C : Type 0} (r : Result A E) → (B → C) → OnOk r B → OnOk r C
 on_ok (Ok x) f h = f h

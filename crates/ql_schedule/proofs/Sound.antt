@@ -23,7 +23,7 @@ use Rattle.ql_lang.specs.declared.program.TxnDecl.{TxnDecl}
 use Rattle.ql_line_files.specs.Outcomes.{Leads}
 use Rattle.ql_lines.specs.Lines.{Ahead, Numbered}
 use Rattle.ql_machine.specs.declared.event.Event.{Event}
-use Rattle.ql_machine.specs.Runs.{replicas_after, replicas_behind}
+use Rattle.ql_machine.specs.Runs.{replicas_after, replicas_at_end}
 use Rattle.ql_machine.proofs.Counting.{behind-more}
 use Rattle.ql_typing.specs.Functions.{of_base}
 use Rattle.ql_typing.specs.Lookups.{txn_place, type_place}
@@ -223,7 +223,7 @@ counted_so p s n Heal = refl
 counted_so p s n (Join near copy) = refl
 
 -- one event more
-fit_more : (p : Program) (objects : ℕ) (kinds : List TypeId) (n : ℕ) (es : List Event) (e : Event) → AreFit p objects kinds n es → FitsEvent p (replicas_behind n es) objects kinds e → AreFit p objects kinds n (es ++ e ∷ [])
+fit_more : (p : Program) (objects : ℕ) (kinds : List TypeId) (n : ℕ) (es : List Event) (e : Event) → AreFit p objects kinds n es → FitsEvent p (replicas_at_end n es) objects kinds e → AreFit p objects kinds n (es ++ e ∷ [])
 fit_more p objects kinds n [] e h k = (k, tt)
 fit_more p objects kinds n (d ∷ es) e h k = (h.0, fit_more p objects kinds (replicas_after n d) es e h.1 k)
 
@@ -273,7 +273,7 @@ declared_sound p s (Object name kind) is e =
   where
     few_more : (n m : ℕ) → m ≡ n + 1 → nat_le 1024 n ≡ false → m ≤ 1024
     few_more n m e h = grind (arith, nat_tests, e, h)
-declared_sound p s Events is e = (is.0, ap (replicas_behind s.replicas) (sym is.1))
+declared_sound p s Events is e = (is.0, ap (replicas_at_end s.replicas) (sym is.1))
 
 event_sound : (p : Program) (s : Schedule) (n : ℕ) (l : EventLine) → IsSound p (Running s n) → is_of_version s.version l ≡ true → lowest (event_faults p s n l) ≡ None → IsSound p (after_event p s n l)
 event_sound p s n l sound version e =

@@ -20,11 +20,11 @@ pub record CallerAt (c : Caller) (parts rest : Fields) : Type 0 where
 
 -- parts that start with `S at R OBJECT OP`, and the parts after it
 pub record IsCalled (parts : Fields) (c : Caller) (object op : List ℕ) (rest : Fields) : Type 0 where
-  pub behind : Fields
-  pub caller : CallerAt c parts behind
+  pub remaining : Fields
+  pub caller : CallerAt c parts remaining
   pub is_object : IsName object
   pub is_op : IsName op
-  pub are : behind ≡ object ∷ op ∷ rest
+  pub are : remaining ≡ object ∷ op ∷ rest
 
 -- the same, and arguments after it
 pub record IsCallLine (parts : Fields) (c : Caller) (object op : List ℕ) (args : List Argument) : Type 0 where
@@ -34,10 +34,10 @@ pub record IsCallLine (parts : Fields) (c : Caller) (object op : List ℕ) (args
 
 -- `S at R TXN OBJECT..`, with at least one object
 pub record IsBegin (parts : Fields) (c : Caller) (txn : List ℕ) (objects : Fields) : Type 0 where
-  pub behind : Fields
-  pub caller : CallerAt c parts behind
+  pub remaining : Fields
+  pub caller : CallerAt c parts remaining
   pub is_txn : IsName txn
-  pub are : behind ≡ txn ∷ objects
+  pub are : remaining ≡ txn ∷ objects
   pub some : 0 < length objects
   pub names : AllByRecursion IsName objects
 

@@ -12,7 +12,7 @@ use Rattle.ql_eval.specs.Able.{AreArgs}
 use Rattle.ql_lang.specs.declared.program.Program.{Program}
 use Rattle.ql_machine.specs.declared.event.Event.{Event}
 use Rattle.ql_machine.specs.declared.event.Event.TheVariants.{Call, Begin, Commit, Deliver, Repeat, Lose, Resend, Partition, Heal, Join}
-use Rattle.ql_machine.specs.Runs.{replicas_after, replicas_behind}
+use Rattle.ql_machine.specs.Runs.{replicas_after, replicas_at_end}
 use Rattle.ql_typing.specs.Operations.{all_ops, op_kinds}
 use Rattle.ql_value.specs.declared.value.Value.{Value}
 use Rattle.ql_schedule.specs.declared.reading.Reading.{Reading}
@@ -73,4 +73,4 @@ abbrev pub IsSound : Program → Reading → Type 0
 IsSound p Untitled = Unit {0}
 IsSound p (Titled version) = IsVersion version
 IsSound p (Declaring s) = IsSchedule p s × (s.events ≡ [])
-IsSound p (Running s replicas) = IsSchedule p s × (replicas ≡ replicas_behind s.replicas s.events)
+IsSound p (Running s replicas) = IsSchedule p s × (replicas ≡ replicas_at_end s.replicas s.events)

@@ -146,12 +146,12 @@ same_no l m e = sym (no_of_word l) ∙ ap word_no e ∙ no_of_word m
 -- the parts after a call's operation
 pub one_called : (parts : Fields) (c d : Caller) (o p f g : List ℕ) (r q : Fields) → IsCalled parts c o f r → IsCalled parts d p g q → r ≡ q
 one_called parts c d o p f g r q a b =
-    let caller = one_caller c d parts a.behind b.behind a.caller b.caller in
+    let caller = one_caller c d parts a.remaining b.remaining a.caller b.caller in
     ap (λ (fs : Fields). drop 2 fs) (sym a.are ∙ caller.1 ∙ b.are)
 
 one_call : (parts : Fields) (c d : Caller) (o p f g : List ℕ) (xs ys : List Argument) → IsCallLine parts c o f xs → IsCallLine parts d p g ys → Call c o f xs ≡ Call d p g ys
 one_call parts c d o p f g xs ys a b =
-    let caller = one_caller c d parts a.called.behind b.called.behind a.called.caller b.called.caller in
+    let caller = one_caller c d parts a.called.remaining b.called.remaining a.called.caller b.called.caller in
     let e : o ∷ f ∷ a.rest ≡ p ∷ g ∷ b.rest = sym a.called.are ∙ caller.1 ∙ b.called.are in
     let object : o ≡ p = ap (λ (fs : Fields). get_or fs 0 []) e in
     let op : f ≡ g = ap (λ (fs : Fields). get_or fs 1 []) e in
@@ -161,7 +161,7 @@ one_call parts c d o p f g xs ys a b =
 
 one_begin : (parts : Fields) (c d : Caller) (t u : List ℕ) (xs ys : Fields) → IsBegin parts c t xs → IsBegin parts d u ys → Begin c t xs ≡ Begin d u ys
 one_begin parts c d t u xs ys a b =
-    let caller = one_caller c d parts a.behind b.behind a.caller b.caller in
+    let caller = one_caller c d parts a.remaining b.remaining a.caller b.caller in
     let e : t ∷ xs ≡ u ∷ ys = sym a.are ∙ caller.1 ∙ b.are in
     let txn : t ≡ u = ap (λ (fs : Fields). get_or fs 0 []) e in
     let objects : xs ≡ ys = ap (λ (fs : Fields). drop 1 fs) e in

@@ -45,12 +45,12 @@ pub(crate) fn arguments(alloc: Global, text: &[u8]) -> Result<Option<Arguments>,
 {
     let mut arguments = Vec::with_capacity(alloc, MAX_PARAMETERS)?;
     let mut rest = text;
-    while let Some((part, behind)) = first_part(rest) {
+    while let Some((part, remaining)) = first_part(rest) {
         let Some(argument) = read_argument(alloc, part)? else {
             return Ok(None);
         };
         arguments.push(argument)?;
-        rest = behind;
+        rest = remaining;
     }
     Ok(Some(Arguments::of(arguments)))
 }

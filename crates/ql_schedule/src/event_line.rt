@@ -158,8 +158,8 @@ fn called(text: &[u8]) -> Option<(Caller, &[u8], &[u8], &[u8])>
         return None;
     };
     let (object, rest) = after_name(rest)?;
-    let (op, behind) = after_name(rest)?;
-    Some((caller, object, op, behind))
+    let (op, remaining) = after_name(rest)?;
+    Some((caller, object, op, remaining))
 }
 
 #[tactic(auto, using(crate::proofs::NoEvents::no_begin))]
@@ -188,8 +188,8 @@ fn begin(alloc: Global, text: &[u8]) -> Result<Option<EventLine>, NoMemory>
 fn commit(text: &[u8]) -> Option<EventLine>
     ensures { IsKindRead (codes "commit") (parts_of text.now) result }
 {
-    let (caller, behind) = after_caller(text)?;
-    if is_end(behind) {
+    let (caller, remaining) = after_caller(text)?;
+    if is_end(remaining) {
         Some(EventLine::Commit(caller))
     } else {
         None

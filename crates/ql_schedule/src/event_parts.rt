@@ -30,10 +30,10 @@ pub(crate) fn after_caller(text: &[u8]) -> Option<(Caller, &[u8])>
         return None;
     };
     let rest = after_word(rest, b"at")?;
-    let Some((replica, behind)) = after_number(rest) else {
+    let Some((replica, remaining)) = after_number(rest) else {
         return None;
     };
-    Some((Caller { session, replica }, behind))
+    Some((Caller { session, replica }, remaining))
 }
 
 #[tactic(auto, using(crate::proofs::Fronts::no_number_alone))]
@@ -43,10 +43,14 @@ pub(crate) fn one_number(text: &[u8]) -> Option<u64>
         ((field : List ℕ) (n : ℕ) → IsNumber field n → parts_of text.now ≡ field ∷ [] → ⊥)
         (λ n. (field : List ℕ) × IsNumber field n × (parts_of text.now ≡ field ∷ [])) }
 {
-    let Some((number, behind)) = after_number(text) else {
+    let Some((number, remaining)) = after_number(text) else {
         return None;
     };
-    if is_end(behind) { Some(number) } else { None }
+    if is_end(remaining) {
+        Some(number)
+    } else {
+        None
+    }
 }
 
 /// The numbers that the parts of a text spell, if each spells one.
@@ -57,12 +61,12 @@ pub(crate) fn numbers(alloc: Global, text: &[u8]) -> Result<Option<Numbers>, NoM
 {
     let mut numbers = Vec::new(alloc);
     let mut rest = text;
-    while let Some((part, behind)) = first_part(rest) {
+    while let Some((part, remaining)) = first_part(rest) {
         let Some(number) = number(part) else {
             return Ok(None);
         };
         numbers.push(number)?;
-        rest = behind;
+        rest = remaining;
     }
     Ok(Some(Numbers::of(numbers)))
 }
@@ -74,12 +78,12 @@ pub(crate) fn names(alloc: Global, text: &[u8]) -> Result<Option<Words>, NoMemor
 {
     let mut words = Vec::new(alloc);
     let mut rest = text;
-    while let Some((part, behind)) = first_part(rest) {
+    while let Some((part, remaining)) = first_part(rest) {
         if !is_name(part) {
             return Ok(None);
         }
         words.push(Word::of(part))?;
-        rest = behind;
+        rest = remaining;
     }
     Ok(Some(Words::of(words)))
 }

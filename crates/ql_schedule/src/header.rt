@@ -23,7 +23,7 @@ pub(crate) fn read_title(text: &[u8]) -> Option<u32>
         (λ version. IsTitle (parts_of text.now) version) }
 {
     match after_title(text) {
-        Some(behind) => read_version(behind),
+        Some(remaining) => read_version(remaining),
         None => None,
     }
 }
@@ -31,11 +31,11 @@ pub(crate) fn read_title(text: &[u8]) -> Option<u32>
 fn after_title(text: &[u8]) -> Option<&[u8]>
     ensures { MatchOption result
         ((rest : Fields) → parts_of text.now ≡ codes "quelea" ∷ codes "schedule" ∷ rest → ⊥)
-        (λ behind. parts_of text.now ≡ codes "quelea" ∷ codes "schedule" ∷ parts_of behind.now) }
+        (λ remaining. parts_of text.now ≡ codes "quelea" ∷ codes "schedule" ∷ parts_of remaining.now) }
 {
     let rest = after_word(text, b"quelea")?;
-    let behind = after_word(rest, b"schedule")?;
-    Some(behind)
+    let remaining = after_word(rest, b"schedule")?;
+    Some(remaining)
 }
 
 // The version, if a text has nothing else.
@@ -58,7 +58,7 @@ fn is_word(text: &[u8], word: &[u8]) -> bool
     ensures { IsTrue result ↔ (parts_of text.now ≡ word.now ∷ []) }
 {
     match after_word(text, word) {
-        Some(behind) => is_end(behind),
+        Some(remaining) => is_end(remaining),
         None => false,
     }
 }
@@ -98,8 +98,8 @@ fn object(text: &[u8]) -> Option<(&[u8], &[u8])>
 {
     let rest = after_word(text, b"object")?;
     let (name, rest) = after_name(rest)?;
-    let (kind, behind) = after_name(rest)?;
-    if is_end(behind) {
+    let (kind, remaining) = after_name(rest)?;
+    if is_end(remaining) {
         Some((name, kind))
     } else {
         None

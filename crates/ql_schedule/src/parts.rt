@@ -75,10 +75,10 @@ pub(crate) fn is_end(text: &[u8]) -> bool
 /// What follows the first part, if that is this word.
 pub(crate) fn after_word<'a>(text: &'a [u8], word: &[u8]) -> Option<&'a [u8]>
     ensures { MatchOption result ((rest : Fields) → parts_of text.now ≡ word.now ∷ rest → ⊥)
-        (λ behind. parts_of text.now ≡ word.now ∷ parts_of behind.now) }
+        (λ remaining. parts_of text.now ≡ word.now ∷ parts_of remaining.now) }
 {
-    let (first, behind) = first_part(text)?;
-    if first == word { Some(behind) } else { None }
+    let (first, remaining) = first_part(text)?;
+    if first == word { Some(remaining) } else { None }
 }
 
 /// The first part, if it is a name, and what follows it.
@@ -87,9 +87,9 @@ pub(crate) fn after_name(text: &[u8]) -> Option<(&[u8], &[u8])>
         ((name : List ℕ) (rest : Fields) → IsName name → parts_of text.now ≡ name ∷ rest → ⊥)
         (λ x. IsName x.0.now × (parts_of text.now ≡ x.0.now ∷ parts_of x.1.now)) }
 {
-    let (first, behind) = first_part(text)?;
+    let (first, remaining) = first_part(text)?;
     if is_name(first) {
-        Some((first, behind))
+        Some((first, remaining))
     } else {
         None
     }
@@ -104,11 +104,11 @@ pub(crate) fn after_number(text: &[u8]) -> Option<(u64, &[u8])>
         (λ x. (field : List ℕ) × IsNumber field x.0
         × (parts_of text.now ≡ field ∷ parts_of x.1.now)) }
 {
-    let (first, behind) = first_part(text)?;
+    let (first, remaining) = first_part(text)?;
     let Some(number) = number(first) else {
         return None;
     };
-    Some((number, behind))
+    Some((number, remaining))
 }
 
 /// The number that a part spells. Any number that 32 bits can't hold is returned as 2^32.

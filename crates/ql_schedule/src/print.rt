@@ -1,5 +1,5 @@
 ghost use Rattle.std.specs.Prelude.{◌≡◌, ◌<◌, ◌++◌, ◌∷◌, [], IfOk, OnOk, All, Some, decimal, length, map, slice_get};
-ghost use Rattle.ql_lines.specs.Texts.{behind, file_text, joined};
+ghost use Rattle.ql_lines.specs.Texts.{spaced_fields, file_text, joined};
 ghost use Rattle.ql_value.specs.Spelling.{quoted, value_text};
 ghost use Rattle.ql_schedule.specs.Texts.{
   AreNamed,
@@ -161,7 +161,7 @@ fn push_field(out: &mut Vec<u8>, field: &[u8]) -> Result<(), NoMemory>
 }
 
 fn push_values(out: &mut Vec<u8>, values: &[Value]) -> Result<(), NoMemory>
-    ensures { OnOk result (out.new.items ≡ out.old.items ++ behind (map value_text values.now)) }
+    ensures { OnOk result (out.new.items ≡ out.old.items ++ spaced_fields (map value_text values.now)) }
 {
     for value in values {
         push_bytes(out, b" ")?;
@@ -193,7 +193,7 @@ fn push_text(out: &mut Vec<u8>, text: &[u8]) -> Result<(), NoMemory>
 fn push_names(out: &mut Vec<u8>, names: &Names, ids: &[u32]) -> Result<(), NoMemory>
     requires { All (λ k. k < length names.now) ids.now }
     ensures { OnOk result
-        (out.new.items ≡ out.old.items ++ behind (map (name_at names.now) ids.now)) }
+        (out.new.items ≡ out.old.items ++ spaced_fields (map (name_at names.now) ids.now)) }
 {
     for id in ids {
         push_field(out, names.name(*id).bytes())?;
@@ -202,7 +202,7 @@ fn push_names(out: &mut Vec<u8>, names: &Names, ids: &[u32]) -> Result<(), NoMem
 }
 
 fn push_numbers(out: &mut Vec<u8>, numbers: &[u32]) -> Result<(), NoMemory>
-    ensures { OnOk result (out.new.items ≡ out.old.items ++ behind (map decimal numbers.now)) }
+    ensures { OnOk result (out.new.items ≡ out.old.items ++ spaced_fields (map decimal numbers.now)) }
 {
     for number in numbers {
         push_bytes(out, b" ")?;

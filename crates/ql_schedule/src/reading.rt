@@ -139,10 +139,10 @@ fn happen(
     };
     let known = look_up(alloc, t, &so_far, &line)?;
     check(event_faults(t, &so_far, replicas, &line, &known))?;
-    let behind = replicas_with(replicas, &line);
+    let later = replicas_with(replicas, &line);
     let event = event(alloc, t, &so_far, replicas, line, known)?;
     let more = with_event(so_far, event)?;
-    Ok(Reading::Running(more, behind))
+    Ok(Reading::Running(more, later))
 }
 
 // How many replicas there are after a line.

@@ -1,5 +1,5 @@
 ghost use Rattle.std.specs.Prelude.{◌≡◌, ◌++◌, ◌∷◌, ◌+◌, ◌<◌, ◌^◌, ℕ, suc, [], OnOk, length, if◌then◌else◌};
-ghost use Rattle.ql_machine.specs.Runs.{replicas_after, replicas_behind};
+ghost use Rattle.ql_machine.specs.Runs.{replicas_after, replicas_at_end};
 
 use ql_base::{Names, NoMemory, TypeId};
 use ql_machine::Event;
@@ -21,7 +21,7 @@ impl Schedule {
     /// How many replicas there are after all events: those of the start, and one for each join.
     pub fn last_replicas(&self) -> u32
         requires { self.now.replicas + length self.now.events < 2 ^ 32 }
-        ensures { result ≡ replicas_behind self.now.replicas self.now.events }
+        ensures { result ≡ replicas_at_end self.now.replicas self.now.events }
     {
         let mut replicas = self.replicas;
         for event in self.events.items() {

@@ -8,4 +8,4 @@ pub returns-in_default-hint : goal.returns-in_default-hint
 returns-in_default-hint c =
     let read = c.loop-field.hints.items in
     let here = c.loop-field.invariant.0 ∙ ap (λ (r : Fields). map hint_field read ++ r) c.in-Some.ensures.fields in
-    no_hints read c.in-Some.field.now (fields_of c.in-Some.behind.now) (fields_of c.args.text.now) here c.loop-field.invariant.1 c.in_default-hint.ensures
+    no_hints read c.in-Some.field.now (fields_of c.in-Some.remaining.now) (fields_of c.args.text.now) here c.loop-field.invariant.1 c.in_default-hint.ensures

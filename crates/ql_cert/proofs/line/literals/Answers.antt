@@ -10,5 +10,5 @@ pub returns-in_default-next_literal : goal.returns-in_default-next_literal
 returns-in_default-next_literal c =
     let read = c.loop-field.literals.items in
     let here = c.loop-field.invariant.0 ∙ ap (λ (r : Fields). clause_fields read ++ r) c.in-Some.ensures.fields in
-    no_literals read c.in-Some.field.now (fields_of c.in-Some.behind.now) (fields_of c.args.text.now) here c.loop-field.invariant.1
+    no_literals read c.in-Some.field.now (fields_of c.in-Some.remaining.now) (fields_of c.args.text.now) here c.loop-field.invariant.1
     (subst (λ (b : List Lit). IsRead (IsNext b) lit_field c.in-Some.field.now None) c.as_slice.ensures.value c.in_default-next_literal.ensures)

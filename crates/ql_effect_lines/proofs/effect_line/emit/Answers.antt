@@ -11,5 +11,5 @@ returns-in-Some c =
     let after_emit = c.in-Some.after_emit.now in
     read_on c.payload.result ((p : Payload) (rest : List ℕ) → PayloadAt p after_emit rest → ⊥) ((p : Payload) (rest : List ℕ) → EmitAt p text rest → ⊥)
     (λ x. PayloadAt x.0 after_emit x.1.now) (λ x. EmitAt x.0 text x.1.now)
-    (λ none p rest f. none p rest (subst (λ (t : List ℕ). PayloadAt p t rest) (one_first text (codes "emit") (codes "emit") f.behind_word after_emit f.word c.in-Some.ensures).1 f.carried))
-    (λ x h. record { behind_word = after_emit; word = c.in-Some.ensures; carried = h }) c.payload.ensures
+    (λ none p rest f. none p rest (subst (λ (t : List ℕ). PayloadAt p t rest) (one_first text (codes "emit") (codes "emit") f.past_word after_emit f.word c.in-Some.ensures).1 f.carried))
+    (λ x h. record { past_word = after_emit; word = c.in-Some.ensures; carried = h }) c.payload.ensures

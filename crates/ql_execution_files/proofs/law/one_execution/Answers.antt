@@ -1,4 +1,4 @@
-use Rattle.ql_execution_files.proofs.Files.{apart, one_execution, one_fault}
+use Rattle.ql_execution_files.proofs.Files.{apart, one_execution, one_fault, some}
 use Rattle.ql_execution_files.proofs.law.one_execution.Goals as goal
 
 pub returns-clause-one : goal.returns-clause-one
@@ -9,3 +9,6 @@ returns-clause-fault c = one_fault
 
 pub returns-clause-apart : goal.returns-clause-apart
 returns-clause-apart c = apart
+
+pub returns-clause-some : goal.returns-clause-some
+returns-clause-some c = some

@@ -7,7 +7,7 @@ abbrev pub invariant-loop-bytes : goal.invariant-loop-bytes
 invariant-loop-bytes g l = record {
   room : 0 < length l.piece;
   in_limit : vec_len l.bytes ≤ l.limit;
-  front : IfSome (g.S.Shelf.held l.fn.shelf l.fn.name) (IsPrefix l.bytes.items);
+  prefix : IfSome (g.S.Shelf.held l.fn.shelf l.fn.name) (IsPrefix l.bytes.items);
   contents : (other : List ℕ) → g.S.Shelf.held l.shelf other ≡ g.S.Shelf.held l.fn.shelf other;
   files : (other : List ℕ) → g.S.Shelf.lacks l.shelf other ↔ g.S.Shelf.lacks l.fn.shelf other;
   counts : (other : List ℕ) → g.S.Shelf.faults l.fn.shelf other ≤ g.S.Shelf.faults l.shelf other;

@@ -1,7 +1,7 @@
 use Rattle.std.proofs.Common.{arith, ℕ, length-drop}
 use Rattle.std.proofs.lemmas.List.{length-take}
 use Rattle.ql_ports.proofs.whole.write_whole.Goals as goal
-use Rattle.ql_ports.proofs.Fronts.{appended-front}
+use Rattle.ql_ports.proofs.Prefixes.{appended-front}
 
 pub loop-done-preserved : goal.loop-done-preserved
 loop-done-preserved g c = record {

@@ -12,4 +12,4 @@ returns-then-not-is_name c =
     let h = c.loop-part.invariant in
     let words = c.loop-part.words.items in
     let are = h.0 ∙ ap (λ (ps : Fields). words ++ ps) c.in-Some.ensures.first in
-    λ all. false≢true (c.if-not-is_name.ensures.1 (name_there words c.in-Some.part.now (parts_of c.in-Some.behind.now) (subst (AllByRecursion IsName) are all)))
+    λ all. false≢true (c.if-not-is_name.ensures.1 (name_there words c.in-Some.part.now (parts_of c.in-Some.remaining.now) (subst (AllByRecursion IsName) are all)))

@@ -9,7 +9,7 @@ pub returns-in_default-number : goal.returns-in_default-number
 returns-in_default-number c = λ ns all.
     let h = c.loop-part.invariant in
     let are = h.1 ∙ ap (λ (ps : Fields). h.0 ++ ps) c.in-Some.ensures.first in
-    let there = number_there h.0 c.in-Some.part.now (parts_of c.in-Some.behind.now) ns (subst (λ ps. AreNumbers ps ns) are all) in
+    let there = number_there h.0 c.in-Some.part.now (parts_of c.in-Some.remaining.now) ns (subst (λ ps. AreNumbers ps ns) are all) in
     c.in_default-number.ensures there.0 there.1
 
 pub loop-part-preserved : goal.loop-part-preserved
@@ -18,6 +18,6 @@ loop-part-preserved c =
     let part = c.in-Some.part.now in
     let are = h.1 ∙ ap (λ (ps : Fields). h.0 ++ ps) c.in-Some.ensures.first in (
       h.0 ++ part ∷ [],
-      are ∙ sym (append_assoc h.0 (part ∷ []) (parts_of c.in-Some.behind.now)),
+      are ∙ sym (append_assoc h.0 (part ∷ []) (parts_of c.in-Some.remaining.now)),
       subst (AreNumbers (h.0 ++ part ∷ [])) (sym c.in_ok-push.ensures.items) (numbers_more h.0 c.loop-part.numbers.items part c.in-Some-number.number h.2 c.in-Some-number.ensures),
     )

@@ -3,7 +3,7 @@ use Rattle.std.specs.Option.{option_map_or}
 use Rattle.ql_lang.specs.declared.operation.OpDecl.{OpDecl}
 use Rattle.ql_lang.specs.declared.program.TxnDecl.{TxnDecl}
 use Rattle.ql_lines.specs.Fields.{Fields}
-use Rattle.ql_lines.specs.Texts.{behind, joined}
+use Rattle.ql_lines.specs.Texts.{spaced_fields, joined}
 use Rattle.ql_machine.specs.declared.event.Event.{Event}
 use Rattle.ql_typing.specs.Names.{op_name, txn_name}
 use Rattle.ql_value.specs.declared.value.Value.{Value}
@@ -25,9 +25,9 @@ returns-in_ok-push_field-in-Call-2 c =
     let op_named = c.bytes-in-Call.ensures.same ∙ sym (ap (λ (o : Option OpDecl). option_map_or (λ d. d.name.word) o []) c.op.ensures) in
     let first = c.in_ok-push_field-in-Call.ensures ∙ ap (λ f. c.push_caller.new.out.items ++ 32 ∷ f) named ∙ ap (λ r. r ++ 32 ∷ name) c.in_ok-push_caller-in-Call.ensures in
     let second = c.in_ok-push_field-in-Call-2.ensures ∙ ap (λ f. c.push_field.new.out.items ++ 32 ∷ f) op_named ∙ ap (λ r. r ++ 32 ∷ op) first in
-    let whole = ap (λ r. r ++ behind vs) second ∙ call_pieces out (codes "call") name op fs vs in
+    let whole = ap (λ r. r ++ spaced_fields vs) second ∙ call_pieces out (codes "call") name op fs vs in
     let event = ap (λ (e : Event). out ++ joined (event_fields p objects e)) (sym c.in-Call.is) in
-    on_ok c.push_values.result (λ e. e ∙ ap (λ (xs : List Value). c.push_field-in-Call.new.out.items ++ behind (map value_text xs)) c.items.ensures ∙ whole ∙ event) c.push_values.ensures
+    on_ok c.push_values.result (λ e. e ∙ ap (λ (xs : List Value). c.push_field-in-Call.new.out.items ++ spaced_fields (map value_text xs)) c.items.ensures ∙ whole ∙ event) c.push_values.ensures
 
 pub returns-in_ok-push_field-in-Begin : goal.returns-in_ok-push_field-in-Begin
 returns-in_ok-push_field-in-Begin c =
@@ -39,9 +39,9 @@ returns-in_ok-push_field-in-Begin c =
     let txn = txn_name p c.in-Begin.decl.0 in
     let named = c.bytes-in-Begin.ensures.same ∙ sym (ap (λ (o : Option TxnDecl). option_map_or (λ d. d.name.word) o []) c.txn.ensures) in
     let first = c.in_ok-push_field-in-Begin.ensures ∙ ap (λ f. c.push_caller-in-Begin.new.out.items ++ 32 ∷ f) named ∙ ap (λ r. r ++ 32 ∷ txn) c.in_ok-push_caller-in-Begin.ensures in
-    let whole = ap (λ r. r ++ behind vs) first ∙ begin_pieces out (codes "begin") txn fs vs in
+    let whole = ap (λ r. r ++ spaced_fields vs) first ∙ begin_pieces out (codes "begin") txn fs vs in
     let event = ap (λ (e : Event). out ++ joined (event_fields p objects e)) (sym c.in-Begin.is) in
-    on_ok c.push_names.result (λ e. e ∙ ap (λ (xs : List ℕ). c.push_field-in-Begin.new.out.items ++ behind (map (name_at objects) xs)) c.items-in-Begin.ensures.same ∙ whole ∙ event) c.push_names.ensures
+    on_ok c.push_names.result (λ e. e ∙ ap (λ (xs : List ℕ). c.push_field-in-Begin.new.out.items ++ spaced_fields (map (name_at objects) xs)) c.items-in-Begin.ensures.same ∙ whole ∙ event) c.push_names.ensures
 
 pub returns-in_ok-push_bytes-in-Partition : goal.returns-in_ok-push_bytes-in-Partition
 returns-in_ok-push_bytes-in-Partition c =
@@ -49,6 +49,6 @@ returns-in_ok-push_bytes-in-Partition c =
     let objects = c.args.objects.now in
     let out = c.args.out.now.items in
     let vs : Fields = map decimal c.in-Partition.groups in
-    let whole = ap (λ r. r ++ behind vs) c.in_ok-push_bytes-in-Partition.ensures.ok ∙ partition_pieces out (codes "partition") vs in
+    let whole = ap (λ r. r ++ spaced_fields vs) c.in_ok-push_bytes-in-Partition.ensures.ok ∙ partition_pieces out (codes "partition") vs in
     let event = ap (λ (e : Event). out ++ joined (event_fields p objects e)) (sym c.in-Partition.is) in
-    on_ok c.push_numbers.result (λ e. e ∙ ap (λ (xs : List ℕ). c.push_bytes.new.out.items ++ behind (map decimal xs)) c.items-in-Partition.ensures ∙ whole ∙ event) c.push_numbers.ensures
+    on_ok c.push_numbers.result (λ e. e ∙ ap (λ (xs : List ℕ). c.push_bytes.new.out.items ++ spaced_fields (map decimal xs)) c.items-in-Partition.ensures ∙ whole ∙ event) c.push_numbers.ensures

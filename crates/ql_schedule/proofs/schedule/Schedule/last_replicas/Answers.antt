@@ -2,7 +2,7 @@ use Rattle.std.proofs.Common.{◌≡◌, ◌≤◌, ◌<◌, Bool, true, false, 
 use Rattle.std.proofs.lemmas.List.{length-take-le, take_all}
 use Rattle.std.proofs.lemmas.Option.{slice_get_read}
 use Rattle.ql_machine.specs.declared.event.Event.{Event}
-use Rattle.ql_machine.specs.Runs.{replicas_after, replicas_behind}
+use Rattle.ql_machine.specs.Runs.{replicas_after, replicas_at_end}
 use Rattle.ql_schedule.proofs.Joins.{behind-most, count-taken}
 use Rattle.ql_schedule.proofs.schedule.Schedule.last_replicas.Goals as goal
 use Rattle.ql_schedule.proofs.schedule.Schedule.last_replicas.Goals.{then-is_join, else-is_join}
@@ -39,4 +39,4 @@ pub returns : goal.returns
 returns c =
     let events = c.args.self.now.events in
     let all : length events ≤ c.loop-event.event-index = subst (λ (items : List Event). length items ≤ c.loop-event.event-index) c.items-event-items.ensures (omega arith) in
-    c.loop-event.invariant ∙ ap (λ (es : List Event). replicas_behind c.args.self.now.replicas es) (take_all c.loop-event.event-index events all)
+    c.loop-event.invariant ∙ ap (λ (es : List Event). replicas_at_end c.args.self.now.replicas es) (take_all c.loop-event.event-index events all)
