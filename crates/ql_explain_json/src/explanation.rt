@@ -2,7 +2,6 @@ ghost use Rattle.std.specs.Prelude.{◌≡◌, ◌<◌, ◌^◌, IfOk, false, le
 ghost use Rattle.serde_json.specs.View.{items_view, view};
 ghost use Rattle.serde_json.specs.Written.{items_have_float};
 ghost use Rattle.ql_explanation.specs.Explanation.{AreFindings};
-ghost use Rattle.ql_warnings.specs.Brackets.{AreTokensOf};
 ghost use Rattle.ql_explain_json.specs.JsonExplanations.{AreTargets, ExplainJsonSays, explanation_json};
 
 use crate::target::target;
@@ -10,10 +9,9 @@ use ql_base::NoMemory;
 use ql_classify::Finding;
 use ql_commands::{bad_source, read_source};
 use ql_explanation::{answer_of, finding_at, findings};
-use ql_lex::Token;
 use ql_reply::Status;
 use ql_typing::Typed;
-use ql_warnings::tokens_of;
+use ql_warnings::Lexed;
 use serde_json::{Map, Value as Json, put};
 use std::alloc::Global;
 
@@ -28,8 +26,8 @@ pub fn explain_json(alloc: Global, source: &[u8]) -> Result<(Status, Vec<u8>), N
         Err(fault) => return Ok((Status::Bad, bad_source(alloc, fault)?)),
     };
     let findings = findings(alloc, &typed)?;
-    let tokens = tokens_of(alloc, source)?;
-    let targets = targets(alloc, source, &typed, &findings, &tokens)?;
+    let lexed = Lexed::of(alloc, source)?;
+    let targets = targets(alloc, &lexed, &typed, &findings)?;
     let text = line(alloc, targets)?;
     Ok((answer_of(&typed, &findings), text))
 }
@@ -37,20 +35,17 @@ pub fn explain_json(alloc: Global, source: &[u8]) -> Result<(Status, Vec<u8>), N
 // The values of all targets.
 fn targets(
     alloc: Global,
-    source: &[u8],
+    lexed: &Lexed,
     t: &Typed,
     findings: &[Finding],
-    tokens: &[Token],
 ) -> Result<Vec<Json>, NoMemory>
-    requires bytes { length source.now < 2 ^ 32 }
-    requires tokens { AreTokensOf source.now tokens.now }
-    requires findings { AreFindings t.now.program findings.now }
+    requires { AreFindings t.now.program findings.now }
     ensures { IfOk result
-        (λ targets. AreTargets source.now t.now.program findings.now (map view targets.items)) }
+        (λ targets. AreTargets lexed.now t.now.program findings.now (map view targets.items)) }
 {
     let mut list = Vec::new(alloc);
     for k in 0..findings.len() {
-        let target = target(alloc, source, t, findings, finding_at(findings, k), tokens)?;
+        let target = target(alloc, lexed, t, findings, finding_at(findings, k))?;
         list.push(target)?;
     }
     Ok(list)

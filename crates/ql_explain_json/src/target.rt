@@ -1,5 +1,5 @@
 // A target as JSON.
-ghost use Rattle.std.specs.Prelude.{◌≡◌, ◌<◌, ◌^◌, ℕ, IfOk, OnOk, codes, length, map};
+ghost use Rattle.std.specs.Prelude.{◌≡◌, ◌<◌, ℕ, IfOk, OnOk, codes, length, map};
 ghost use Rattle.std.specs.List.{All};
 ghost use Rattle.serde_json.specs.Data.{put as with_member};
 ghost use Rattle.serde_json.specs.View.{members_view, view};
@@ -8,7 +8,6 @@ ghost use Rattle.ql_explanation.specs.Explanation.{AreFindings, goal_of};
 ghost use Rattle.ql_ground.specs.OfPrograms.{IsGoalOf};
 ghost use Rattle.ql_run_json.specs.Values.{listed, text_data};
 ghost use Rattle.ql_typing.specs.Operations.{all_ops};
-ghost use Rattle.ql_warnings.specs.Brackets.{AreTokensOf};
 ghost use Rattle.ql_explain_json.specs.JsonExplanations.{IsReasonData, IsTarget, kind_text, level_data, name_text, target_data, use_data};
 
 use crate::counter::{shown_of, shown_value};
@@ -18,9 +17,9 @@ use ql_base::{NoMemory, OpId};
 use ql_classify::Finding;
 use ql_explanation::{goal_of, uses_of};
 use ql_ground::Goal;
-use ql_lex::Token;
 use ql_run_json::values::text;
 use ql_typing::Typed;
+use ql_warnings::Lexed;
 use ql_why::level_text;
 use serde_json::{Map, Value as Json, put};
 use std::alloc::Global;
@@ -28,21 +27,18 @@ use std::alloc::Global;
 /// What is found of a target of a source.
 pub(crate) fn target(
     alloc: Global,
-    source: &[u8],
+    lexed: &Lexed,
     t: &Typed,
     findings: &[Finding],
     finding: &Finding,
-    tokens: &[Token],
 ) -> Result<Json, NoMemory>
-    requires bytes { length source.now < 2 ^ 32 }
-    requires tokens { AreTokensOf source.now tokens.now }
     requires findings { AreFindings t.now.program findings.now }
     requires finding { (target : ℕ) × IsFinding t.now.program target finding.now }
-    ensures { IfOk result (λ json. IsTarget source.now t.now.program finding.now (view json)) }
+    ensures { IfOk result (λ json. IsTarget lexed.now t.now.program finding.now (view json)) }
 {
     let goal = goal_of(finding);
     let uses = uses_of(alloc, t, findings, goal)?;
-    let warnings = warnings(alloc, source, tokens, t, goal)?;
+    let warnings = warnings(alloc, lexed, t, goal)?;
     let reason = reason(alloc, t, findings, finding)?;
     target_value(alloc, t, finding, goal, &uses, reason, warnings)
 }

@@ -1,35 +1,25 @@
 // Warnings as JSON.
-ghost use Rattle.std.specs.Prelude.{◌≡◌, ◌<◌, ◌^◌, IfOk, length};
+ghost use Rattle.std.specs.Prelude.{◌≡◌, IfOk};
 ghost use Rattle.serde_json.specs.View.{view};
 ghost use Rattle.ql_ground.specs.OfPrograms.{IsGoalOf};
 ghost use Rattle.ql_explain_json.specs.JsonExplanations.{AreWarnings, place_data, place_of, warning_data, warnings_data};
 ghost use Rattle.ql_run_json.specs.Values.{text_data};
-ghost use Rattle.ql_warnings.specs.Brackets.{AreTokensOf};
 ghost use Rattle.ql_warnings.specs.Texts.{warning_text};
 
 use ql_base::NoMemory;
 use ql_ground::Goal;
-use ql_lex::Token;
 use ql_run_json::values::{pair, text};
 use ql_typing::Typed;
-use ql_warnings::{Place, Warning, warning_text, warning_word, warnings as warnings_of};
+use ql_warnings::{Lexed, Place, Warning, warning_text, warning_word, warnings as warnings_of};
 use serde_json::{Map, Value as Json, put};
 use std::alloc::Global;
 
 /// What there is to warn of in a target's contract.
-pub(crate) fn warnings(
-    alloc: Global,
-    source: &[u8],
-    tokens: &[Token],
-    t: &Typed,
-    g: Goal,
-) -> Result<Json, NoMemory>
-    requires bytes { length source.now < 2 ^ 32 }
-    requires tokens { AreTokensOf source.now tokens.now }
-    requires goal { IsGoalOf t.now.program g }
-    ensures { IfOk result (λ json. AreWarnings source.now t.now.program g (view json)) }
+pub(crate) fn warnings(alloc: Global, lexed: &Lexed, t: &Typed, g: Goal) -> Result<Json, NoMemory>
+    requires { IsGoalOf t.now.program g }
+    ensures { IfOk result (λ json. AreWarnings lexed.now t.now.program g (view json)) }
 {
-    let found = warnings_of(alloc, source, tokens, t, g)?;
+    let found = warnings_of(alloc, lexed, t, g)?;
     warnings_value(alloc, t, &found)
 }
 

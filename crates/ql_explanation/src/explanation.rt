@@ -1,6 +1,5 @@
 ghost use Rattle.std.specs.Prelude.{◌≡◌, ◌<◌, ◌^◌, ◌++◌, ℕ, IfOk, OnOk, codes, length};
 ghost use Rattle.ql_classify.specs.Finding.{IsFinding};
-ghost use Rattle.ql_warnings.specs.Brackets.{AreTokensOf};
 ghost use Rattle.ql_why.specs.Why.{Appended};
 ghost use Rattle.ql_explanation.specs.Explanation.{AreFindings, AreSections, ExplainSays, IsSection};
 
@@ -11,10 +10,9 @@ use crate::uses::uses_of;
 use ql_base::{NoMemory, push_bytes};
 use ql_classify::Finding;
 use ql_commands::{bad_source, read_source};
-use ql_lex::Token;
 use ql_reply::Status;
 use ql_typing::Typed;
-use ql_warnings::{tokens_of, warnings};
+use ql_warnings::{Lexed, warnings};
 use std::alloc::Global;
 
 /// What is found of each target of a source, with a countermodel unless the lowest level is enough. The answer is yes where
@@ -28,30 +26,27 @@ pub fn explain(alloc: Global, source: &[u8]) -> Result<(Status, Vec<u8>), NoMemo
         Err(fault) => return Ok((Status::Bad, bad_source(alloc, fault)?)),
     };
     let findings = findings(alloc, &typed)?;
-    let tokens = tokens_of(alloc, source)?;
-    let text = sections_of(alloc, source, &typed, &findings, &tokens)?;
+    let lexed = Lexed::of(alloc, source)?;
+    let text = sections_of(alloc, &lexed, &typed, &findings)?;
     Ok((answer_of(&typed, &findings), text))
 }
 
 // The sections of all targets, with a blank line between them.
 fn sections_of(
     alloc: Global,
-    source: &[u8],
+    lexed: &Lexed,
     t: &Typed,
     findings: &[Finding],
-    tokens: &[Token],
 ) -> Result<Vec<u8>, NoMemory>
-    requires source { length source.now < 2 ^ 32 }
-    requires tokens { AreTokensOf source.now tokens.now }
-    requires findings { AreFindings t.now.program findings.now }
+    requires { AreFindings t.now.program findings.now }
     ensures { IfOk result
-        (λ text. AreSections source.now t.now.program findings.now text.items) }
+        (λ text. AreSections lexed.now t.now.program findings.now text.items) }
 {
     let mut text = Vec::new(alloc);
     for k in 0..findings.len() {
         let finding = finding_at(findings, k);
         push_gap(&mut text, k)?;
-        push_section(alloc, &mut text, source, t, findings, finding, tokens)?;
+        push_section(alloc, &mut text, lexed, t, findings, finding)?;
     }
     Ok(text)
 }
@@ -71,22 +66,19 @@ fn push_gap(text: &mut Vec<u8>, k: usize) -> Result<(), NoMemory>
 fn push_section(
     alloc: Global,
     text: &mut Vec<u8>,
-    source: &[u8],
+    lexed: &Lexed,
     t: &Typed,
     findings: &[Finding],
     finding: &Finding,
-    tokens: &[Token],
 ) -> Result<(), NoMemory>
-    requires source { length source.now < 2 ^ 32 }
-    requires tokens { AreTokensOf source.now tokens.now }
     requires findings { AreFindings t.now.program findings.now }
     requires finding { (target : ℕ) × IsFinding t.now.program target finding.now }
     ensures { OnOk result
-        (Appended (IsSection source.now t.now.program finding.now) text.old.items text.new.items) }
+        (Appended (IsSection lexed.now t.now.program finding.now) text.old.items text.new.items) }
 {
     let goal = goal_of(finding);
     let uses = uses_of(alloc, t, findings, goal)?;
-    let warned = warnings(alloc, source, tokens, t, goal)?;
+    let warned = warnings(alloc, lexed, t, goal)?;
     let remarks = Remarks {
         uses: &uses,
         warned: &warned,

@@ -8,9 +8,10 @@ use Rattle.std.specs.Option.{MatchOption}
 use Rattle.ql_lex.specs.Tokens.{AreSpans, Lexes}
 use Rattle.ql_lex.specs.declared.token.LexFault.{LexFault}
 use Rattle.ql_lex.specs.declared.token.Token.{Token}
-use Rattle.ql_warnings.specs.Brackets.{AreTokensOf, IsJoinedTo, joined, sign_of, word_of}
+use Rattle.ql_warnings.specs.Brackets.{IsJoinedTo, joined, sign_of, word_of}
 use Rattle.ql_warnings.specs.Kept.{AreBracketWarnings, AreJoined, IsBracketWarning}
 use Rattle.ql_warnings.specs.Places.{IsPlaceOf, ends_line, in_line}
+use Rattle.ql_warnings.specs.Tokens.{AreTokensOf}
 use Rattle.ql_warnings.specs.declared.unbracketed.Sign.TheVariants.{Arrow}
 use Rattle.ql_warnings.specs.declared.warning.Place.{Place}
 use Rattle.ql_warnings.specs.declared.warning.Warning.{Warning}

@@ -1,8 +1,8 @@
 -- Statements next to each other without brackets: `a => b /\ c => d`.
-use Rattle.std.specs.Prelude.{ℕ, zero, suc, ◌-◌, ◌≡◌, ◌≤◌, ◌⊎◌, Bool, ◌||◌, List, [], ◌∷◌, Option, None, Some, Ok, codes, drop, length, slice_get, take, if◌then◌else◌}
+use Rattle.std.specs.Prelude.{ℕ, zero, suc, ◌-◌, ◌≡◌, ◌≤◌, Bool, ◌||◌, List, [], ◌∷◌, Option, None, Some, Ok, codes, drop, slice_get, take, if◌then◌else◌}
 use Rattle.std.specs.Option.{option_map_or}
 use Rattle.std.specs.Str.{bytes_eq}
-use Rattle.ql_lex.specs.Tokens.{AreSpans, Lexes}
+use Rattle.ql_lex.specs.Tokens.{Lexes}
 use Rattle.ql_lex.specs.declared.token.Token.{Token}
 use Rattle.ql_warnings.specs.declared.unbracketed.Sign.{Sign}
 use Rattle.ql_warnings.specs.declared.unbracketed.Sign.TheVariants.{Opens, Closes, Arrow, Joins, Ends, Plain}
@@ -53,11 +53,6 @@ abbrev pub joined : List ℕ → ℕ → Option ℕ → List Token → Option �
 joined source depth found [] = None
 joined source depth found (t ∷ ts) =
     option_map_or (λ d. joined source d (met (sign_of (word_of source t)) depth t.from found) ts) (deeper (sign_of (word_of source t)) depth) (reported (sign_of (word_of source t)) found)
-
--- the tokens of a source, within it and in order; none where it has a fault
-abbrev pub AreTokensOf : List ℕ → List Token → Type 0
-AreTokensOf source tokens =
-    (Lexes 0 source (Ok tokens) × AreSpans 0 (length source) tokens) ⊎ ((tokens ≡ []) × ((other : List Token) → Lexes 0 source (Ok other) → ⊥))
 
 -- the token at an index is an `=>` at or after an offset of the source, and this is the offset of the `/\` or `\/`
 -- between it and the next `=>`

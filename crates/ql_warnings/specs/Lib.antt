@@ -1,5 +1,6 @@
 pub mod Names
 pub mod Places
+pub mod Tokens
 pub mod Brackets
 pub mod Premises
 pub mod Known

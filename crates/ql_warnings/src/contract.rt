@@ -3,12 +3,12 @@ ghost use Rattle.std.specs.Prelude.{◌≡◌, ◌≢◌, ◌<◌, ◌^◌, ℕ,
 ghost use Rattle.std.specs.List.{All};
 ghost use Rattle.ql_lang.specs.Formulas.{Always, resolved_of, statement_of};
 ghost use Rattle.ql_ground.specs.OfPrograms.{IsGoalOf};
-ghost use Rattle.ql_warnings.specs.Brackets.{AreTokensOf};
 ghost use Rattle.ql_warnings.specs.Premises.{AsksNothing, IsContract};
 ghost use Rattle.ql_warnings.specs.Warnings.{AreWarnings, Declares, IsWarning};
 
 use crate::always::is_given;
 use crate::clash::Scene;
+use crate::lexed::Lexed;
 use crate::named::named;
 use crate::next::next_name;
 use crate::premises::premises;
@@ -17,27 +17,19 @@ use crate::warning::{Warning, push_all};
 use ql_base::NoMemory;
 use ql_ground::Goal;
 use ql_lang::{Body, Formula, Var};
-use ql_lex::Token;
 use ql_typing::Typed;
 use std::alloc::Global;
 
 /// The warnings of a target's contract, in order of the variants of `Warning`: all but `RuledOut`.
-pub fn warnings(
-    alloc: Global,
-    source: &[u8],
-    tokens: &[Token],
-    t: &Typed,
-    g: Goal,
-) -> Result<Vec<Warning>, NoMemory>
-    requires bytes { length source.now < 2 ^ 32 }
-    requires tokens { AreTokensOf source.now tokens.now }
-    requires goal { IsGoalOf t.now.program g }
-    ensures { IfOk result (λ found. AreWarnings source.now t.now.program g found.items) }
+pub fn warnings(alloc: Global, lexed: &Lexed, t: &Typed, g: Goal) -> Result<Vec<Warning>, NoMemory>
+    requires { IsGoalOf t.now.program g }
+    ensures { IfOk result (λ found. AreWarnings lexed.now t.now.program g found.items) }
 {
+    let source = lexed.source();
     let (vars, at) = declared(t, g);
     let end = next_name(t, source, at);
     let mut found = named(alloc, t, vars)?;
-    let brackets = unbracketed(alloc, source, tokens, Extent { start: at, end })?;
+    let brackets = unbracketed(alloc, lexed, Extent { start: at, end })?;
     push_all(&mut found, &brackets)?;
     let of_contract = of_contract(alloc, source, t, g)?;
     push_all(&mut found, &of_contract)?;

@@ -7,6 +7,7 @@ mod always;
 mod clash;
 mod contract;
 mod known;
+mod lexed;
 mod named;
 mod next;
 mod others;
@@ -17,7 +18,7 @@ mod warning;
 mod words;
 
 pub use contract::{formula_of, warnings};
+pub use lexed::Lexed;
 pub use others::counter_warnings;
-pub use unbracketed::tokens_of;
 pub use warning::{Place, Warning};
 pub use words::{warning_text, warning_word};

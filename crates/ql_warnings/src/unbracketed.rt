@@ -7,12 +7,13 @@ ghost use Rattle.ql_warnings.specs.Places.{IsPlaceOf};
 ghost use Rattle.ql_warnings.specs.declared.unbracketed.Sign.TheVariants.{Arrow};
 ghost use Rattle.ql_warnings.specs.declared.warning.Place.{Place};
 ghost use Rattle.std.specs.Str.{bytes_eq};
-ghost use Rattle.ql_warnings.specs.Brackets.{AreTokensOf, IsJoinedTo, closes, deeper, joined, joins, met, opens, sign_of, reported, word_of};
+ghost use Rattle.ql_warnings.specs.Brackets.{IsJoinedTo, closes, deeper, joined, joins, met, opens, sign_of, reported, word_of};
 
+use crate::lexed::Lexed;
 use crate::place::place_in;
 use crate::warning::{Place, Warning};
 use ql_base::NoMemory;
-use ql_lex::{LexFault, Token, tokens};
+use ql_lex::Token;
 use std::alloc::Global;
 
 // What a token does in a contract.
@@ -81,33 +82,19 @@ pub(crate) struct Extent {
     pub(crate) end: u32,
 }
 
-/// The tokens of a source, or none where it has a fault.
-pub fn tokens_of(alloc: Global, source: &[u8]) -> Result<Vec<Token>, NoMemory>
-    requires { length source.now < 2 ^ 32 }
-    ensures { IfOk result (λ tokens. AreTokensOf source.now tokens.items) }
-{
-    ql_lex::one_answer();
-    match tokens(alloc, source) {
-        Ok(tokens) => Ok(tokens),
-        Err(LexFault::NoMemory) => Err(NoMemory),
-        Err(_) => Ok(Vec::new(alloc)),
-    }
-}
-
 /// A warning for each `/\` or `\/` of an extent that is between two `=>` without brackets.
 pub(crate) fn unbracketed(
     alloc: Global,
-    source: &[u8],
-    tokens: &[Token],
+    lexed: &Lexed,
     extent: Extent,
 ) -> Result<Vec<Warning>, NoMemory>
-    requires few { length source.now < 2 ^ 32 }
-    requires tokens { AreTokensOf source.now tokens.now }
     ensures { IfOk result
-        (λ found. AreBracketWarnings source.now extent.start extent.end found.items) }
+        (λ found. AreBracketWarnings lexed.now extent.start extent.end found.items) }
 {
     ql_lex::one_answer();
     let mut found = Vec::new(alloc);
+    let source = lexed.source();
+    let tokens = lexed.tokens();
     for k in 0..tokens.len() {
         push_joined(&mut found, source, tokens, k, extent)?;
     }

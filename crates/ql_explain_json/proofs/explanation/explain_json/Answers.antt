@@ -7,10 +7,10 @@ use Rattle.ql_explain_json.specs.JsonExplanations.{IsJsonExplanation}
 use Rattle.ql_explain_json.proofs.explanation.explain_json.Goals as goal
 
 pub line-requires : goal.line-requires
-line-requires c = targets_none c.args.source.now c.in-Ok.typed.program _ (map view c.in_ok-targets.targets.items) c.in_ok-targets.ensures
+line-requires c = targets_none c.in_ok-lexed.lexed c.in-Ok.typed.program _ (map view c.in_ok-targets.targets.items) c.in_ok-targets.ensures
 
 pub returns : goal.returns
 returns c =
     let p = c.in-Ok.typed.program in
     explained IsJsonExplanation c.args.source.now c.in_ok-text.text.items p c.answer_of.result c.in-Ok.ensures.source c.answer_of.ensures
-    (c.deref.result.now, subst (AreFindings p) (sym c.deref.ensures.value) c.in_ok-findings.ensures, map view c.in_ok-targets.targets.items, c.in_ok-targets.ensures, c.in_ok-text.ensures)
+    (c.deref.result.now, subst (AreFindings p) (sym c.deref.ensures.value) c.in_ok-findings.ensures, map view c.in_ok-targets.targets.items, rw (← c.in_ok-lexed.ensures) c.in_ok-targets.ensures, c.in_ok-text.ensures)

@@ -3,11 +3,11 @@ use Rattle.ql_explain_json.proofs.Targets.{all_of_them, one_more}
 use Rattle.ql_explain_json.proofs.explanation.targets.Goals as goal
 
 pub target-requires-clause-finding : goal.target-requires-clause-finding
-target-requires-clause-finding c = (c.loop-k.k, c.requires.findings.each c.loop-k.k c.finding_at.result.now c.finding_at.ensures)
+target-requires-clause-finding c = (c.loop-k.k, c.requires.each c.loop-k.k c.finding_at.result.now c.finding_at.ensures)
 
 pub loop-k-preserved : goal.loop-k-preserved
 loop-k-preserved c =
-    one_more c.args.source.now c.args.t.now.program c.args.findings.now c.loop-k.k c.finding_at.result.now c.loop-k.list.items _ _ c.finding_at.ensures c.in_ok-push.ensures.items c.in_ok-target.ensures c.loop-k.invariant
+    one_more c.args.lexed.now c.args.t.now.program c.args.findings.now c.loop-k.k c.finding_at.result.now c.loop-k.list.items _ _ c.finding_at.ensures c.in_ok-push.ensures.items c.in_ok-target.ensures c.loop-k.invariant
 
 pub returns : goal.returns
-returns c = all_of_them c.args.source.now c.args.t.now.program c.args.findings.now c.loop-k.k c.loop-k.list.items (omega arith) c.loop-k.invariant
+returns c = all_of_them c.args.lexed.now c.args.t.now.program c.args.findings.now c.loop-k.k c.loop-k.list.items (omega arith) c.loop-k.invariant

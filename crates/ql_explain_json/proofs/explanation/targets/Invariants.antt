@@ -4,4 +4,4 @@ use Rattle.ql_explain_json.specs.JsonExplanations.{AreTargets}
 use Rattle.ql_explain_json.proofs.explanation.targets.Given as goal
 
 abbrev pub invariant-loop-k : goal.invariant-loop-k
-invariant-loop-k l = AreTargets l.source l.t.program (take l.k l.findings) (map view l.list.items)
+invariant-loop-k l = AreTargets l.lexed l.t.program (take l.k l.findings) (map view l.list.items)

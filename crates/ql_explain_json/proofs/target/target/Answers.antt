@@ -6,8 +6,8 @@ use Rattle.ql_explain_json.proofs.target.target.Goals as goal
 pub uses_of-requires-clause-goal : goal.uses_of-requires-clause-goal
 uses_of-requires-clause-goal c = subst (IsGoalOf c.args.t.now.program) (sym c.goal_of-goal.ensures) (goal_known c.args.t.now.program c.args.finding.now c.requires.finding)
 
-pub warnings-requires-clause-goal : goal.warnings-requires-clause-goal
-warnings-requires-clause-goal c = subst (IsGoalOf c.args.t.now.program) (sym c.goal_of-goal.ensures) (goal_known c.args.t.now.program c.args.finding.now c.requires.finding)
+pub warnings-requires : goal.warnings-requires
+warnings-requires c = subst (IsGoalOf c.args.t.now.program) (sym c.goal_of-goal.ensures) (goal_known c.args.t.now.program c.args.finding.now c.requires.finding)
 
 pub target_value-requires-clause-goal : goal.target_value-requires-clause-goal
 target_value-requires-clause-goal c = subst (IsGoalOf c.args.t.now.program) (sym c.goal_of-goal.ensures) (goal_known c.args.t.now.program c.args.finding.now c.requires.finding)

@@ -7,4 +7,4 @@ pub returns : goal.returns
 returns c =
     let p = c.in-Ok.typed.program in
     explained IsExplanation c.args.source.now c.in_ok-text.text.items p c.answer_of.result c.in-Ok.ensures.source c.answer_of.ensures
-    (c.deref.result.now, subst (AreFindings p) (sym c.deref.ensures.value) c.in_ok-findings.ensures, c.in_ok-text.ensures)
+    (c.deref.result.now, subst (AreFindings p) (sym c.deref.ensures.value) c.in_ok-findings.ensures, rw (← c.in_ok-lexed.ensures) c.in_ok-text.ensures)

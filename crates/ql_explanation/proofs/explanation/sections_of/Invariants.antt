@@ -3,4 +3,4 @@ use Rattle.ql_explanation.specs.Explanation.{AreSections}
 use Rattle.ql_explanation.proofs.explanation.sections_of.Given as goal
 
 abbrev pub invariant-loop-k : goal.invariant-loop-k
-invariant-loop-k l = AreSections l.source l.t.program (take l.k l.findings) l.text.items
+invariant-loop-k l = AreSections l.lexed l.t.program (take l.k l.findings) l.text.items

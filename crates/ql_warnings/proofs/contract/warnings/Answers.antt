@@ -7,7 +7,8 @@ use Rattle.ql_warnings.proofs.contract.warnings.Goals as goal
 
 pub returns : goal.returns
 returns c =
-    let source = c.args.source.now in
+    let source = c.args.lexed.now in
+    let same = c.source-source.ensures.same in
     let p = c.args.t.now.program in
     let g = c.args.g in
     let vars = c.declared-at.result.0.now in
@@ -17,6 +18,6 @@ returns c =
     let brackets = c.deref.result.now in
     let rest = c.deref-2.result.now in
     let joined : AreBracketWarnings source at end brackets = subst (AreBracketWarnings source at end) (sym c.deref.ensures.value) c.in_ok-brackets.ensures in
-    let others : All (IsWarning source p g) rest = subst (All (IsWarning source p g)) (sym c.deref-2.ensures.value) c.in_ok-of_contract.ensures in
+    let others : All (IsWarning source p g) rest = rw (c.deref-2.ensures.value, ← same) c.in_ok-of_contract.ensures in
     subst (AreWarnings source p g) (sym (c.in_ok-push_all-2.ensures ∙ ap (λ ws. ws ++ rest) c.in_ok-push_all.ensures))
-    (all_warnings source p g vars at end c.declared-at.ensures c.next_name-end.ensures names brackets rest c.in_ok-found.ensures joined others)
+    (all_warnings source p g vars at end c.declared-at.ensures (rw (← same) c.next_name-end.ensures) names brackets rest c.in_ok-found.ensures joined others)
