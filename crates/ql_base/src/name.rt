@@ -1,5 +1,5 @@
-ghost use Rattle.std.specs.Prelude.{◌≡◌, ◌↔◌, ◌<◌, IsTrue, length};
-ghost use Rattle.std.specs.List.{list_all, prefix_len};
+ghost use Rattle.std.specs.Prelude.{◌≡◌, ◌↔◌, ◌<◌, ◌∷◌, [], IsTrue, bytes_eq, length};
+ghost use Rattle.std.specs.List.{list_all, list_any, prefix_len};
 ghost use Rattle.ql_base.specs.Bytes.{is_name_byte};
 ghost use Rattle.ql_base.specs.Names.{is_keyword, IsName, IsWord};
 
@@ -21,43 +21,38 @@ fn is_listed(word: &[u8]) -> bool
     ensures { result ≡ is_keyword word.now }
 {
     match word[0] {
-        b'a' => {
-            b"answer".as_slice() == word || b"apply".as_slice() == word || b"and".as_slice() == word
-        }
+        b'a' => is_one_of(word, b"answer", b"apply", b"and"),
         b'b' => b"bool".as_slice() == word,
-        b'c' => b"contract".as_slice() == word || b"cur".as_slice() == word,
-        b'e' => {
-            b"emit".as_slice() == word
-                || b"empty".as_slice() == word
-                || b"else".as_slice() == word
-                || b"eq".as_slice() == word
-        }
-        b'f' => b"forall".as_slice() == word || b"false".as_slice() == word,
-        b'h' => b"hb".as_slice() == word || b"hbo".as_slice() == word,
-        b'i' => b"if".as_slice() == word || b"int".as_slice() == word,
+        b'c' => is_either(word, b"contract", b"cur"),
+        b'e' => is_either(word, b"emit", b"empty") || is_either(word, b"else", b"eq"),
+        b'f' => is_either(word, b"forall", b"false"),
+        b'h' => is_either(word, b"hb", b"hbo"),
+        b'i' => is_either(word, b"if", b"int"),
         b'm' => b"map".as_slice() == word,
         b'n' => b"not".as_slice() == word,
-        b'o' => b"op".as_slice() == word || b"or".as_slice() == word,
-        b's' => {
-            b"state".as_slice() == word
-                || b"set".as_slice() == word
-                || b"so".as_slice() == word
-                || b"soo".as_slice() == word
-                || b"sameobj".as_slice() == word
-        }
+        b'o' => is_either(word, b"op", b"or"),
+        b's' => is_one_of(word, b"state", b"set", b"so") || is_either(word, b"soo", b"sameobj"),
         b't' => {
-            b"type".as_slice() == word
-                || b"transaction".as_slice() == word
-                || b"true".as_slice() == word
-                || b"then".as_slice() == word
-                || b"text".as_slice() == word
-                || b"txn".as_slice() == word
+            is_one_of(word, b"type", b"transaction", b"true")
+                || is_one_of(word, b"then", b"text", b"txn")
         }
-        b'u' => b"uses".as_slice() == word || b"unit".as_slice() == word,
+        b'u' => is_either(word, b"uses", b"unit"),
         b'v' => b"vis".as_slice() == word,
         b'w' => b"when".as_slice() == word,
         _ => false,
     }
+}
+
+fn is_one_of(word: &[u8], first: &[u8], second: &[u8], third: &[u8]) -> bool
+    ensures { result ≡ list_any (λ k. bytes_eq k word.now) (first.now ∷ second.now ∷ third.now ∷ []) }
+{
+    first == word || second == word || third == word
+}
+
+fn is_either(word: &[u8], first: &[u8], second: &[u8]) -> bool
+    ensures { result ≡ list_any (λ k. bytes_eq k word.now) (first.now ∷ second.now ∷ []) }
+{
+    first == word || second == word
 }
 
 /// The length in bytes of the longest prefix of `text` that a name may contain.
