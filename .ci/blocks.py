@@ -136,7 +136,7 @@ def random_sources():
     sys.path.insert(0, str(REFERENCE))
     from quelea_ref import cases, stages
 
-    stage = stages.stage_of("R15+R18")
+    stage = stages.stage_of((TOP / ".ci/stage").read_text().strip())
     for index in itertools.count():
         case = cases.make("why", 1, index, stage)
         if case.words == ["classify", "--why", "s"] and isinstance(case.files.get("s"), bytes):
