@@ -62,6 +62,20 @@ impl Clauses {
             ((a : List Bool) → all_true a self.new.clauses
             ≡ (all_true a self.old.clauses && clause_true a lits.now)) }
     {
+        self.append(lits)
+    }
+
+    // The same, with the facts that whoever appends several needs.
+    pub(crate) fn append(&mut self, lits: &[Lit]) -> Result<bool, NoMemory>
+        requires in_range { AreInRange self.old.variables lits.now }
+        requires numbered { length self.old.clauses + 1 < 2 ^ 32 }
+        ensures added { IfOk result (λ added. added ≡ is_some (clause_of lits.now)) }
+        ensures new { OnOk result (self.new ≡ with_clause self.old (clause_of lits.now)) }
+        ensures err { OnErr result (self.new ≡ self.old) }
+        ensures variables { self.new.variables ≡ self.old.variables }
+        ensures len { length self.new.clauses ≤ length self.old.clauses + 1 }
+        ensures in_range { ClausesInRange self.old.variables self.old.clauses }
+    {
         match ascending(*self.clauses.allocator(), lits)? {
             Some(clause) => {
                 self.clauses.push(clause)?;

@@ -1,5 +1,5 @@
 ghost use Rattle.std.specs.Prelude.{◌≡◌, ℕ, suc, ◌+◌, ◌*◌, ◌^◌, ◌<◌, ◌≤◌, ◌++◌, ◌∷◌, [], List, Bool, false, length, take, IfOk, OnOk, OnErr};
-ghost use Rattle.ql_cnf.specs.Satisfaction.{Satisfies};
+ghost use Rattle.ql_cnf.specs.Satisfaction.{AreInRange, Satisfies};
 ghost use Rattle.ql_cnf.specs.Circuits.{circuit_of, circuit_true, InputsInRange, gates, output, both_clauses, either_clauses, if_then_clauses, defining, denying, clauses_of, gate_values, yes};
 
 use crate::{Clauses, Ground, Lit};
@@ -45,7 +45,7 @@ fn deny(g: &Ground, c: &mut Clauses) -> Result<(), NoMemory>
     ensures kept { OnErr result (take (length c.old.clauses) c.new.clauses ≡ c.old.clauses) }
 {
     let root = define(g, c)?;
-    c.add(&[root.negated()])?;
+    c.append(&[root.negated()])?;
     Ok(())
 }
 
@@ -67,7 +67,7 @@ fn define(g: &Ground, c: &mut Clauses) -> Result<Lit, NoMemory>
     match g {
         Ground::True => {
             let t = c.add_variable();
-            c.add(&[t])?;
+            c.append(&[t])?;
             Ok(t)
         }
         Ground::Leaf(lit) => Ok(*lit),
@@ -103,9 +103,12 @@ fn define_both(x: Lit, y: Lit, c: &mut Clauses) -> Result<Lit, NoMemory>
     ensures kept { OnErr result (take (length c.old.clauses) c.new.clauses ≡ c.old.clauses) }
 {
     let t = c.add_variable();
-    c.add(&[t.negated(), x])?;
-    c.add(&[t.negated(), y])?;
-    c.add(&[t, x.negated(), y.negated()])?;
+    add_three(
+        &[t.negated(), x],
+        &[t.negated(), y],
+        &[t, x.negated(), y.negated()],
+        c,
+    )?;
     Ok(t)
 }
 
@@ -123,9 +126,12 @@ fn define_either(x: Lit, y: Lit, c: &mut Clauses) -> Result<Lit, NoMemory>
     ensures kept { OnErr result (take (length c.old.clauses) c.new.clauses ≡ c.old.clauses) }
 {
     let t = c.add_variable();
-    c.add(&[t, x.negated()])?;
-    c.add(&[t, y.negated()])?;
-    c.add(&[t.negated(), x, y])?;
+    add_three(
+        &[t, x.negated()],
+        &[t, y.negated()],
+        &[t.negated(), x, y],
+        c,
+    )?;
     Ok(t)
 }
 
@@ -143,8 +149,29 @@ fn define_if_then(x: Lit, y: Lit, c: &mut Clauses) -> Result<Lit, NoMemory>
     ensures kept { OnErr result (take (length c.old.clauses) c.new.clauses ≡ c.old.clauses) }
 {
     let t = c.add_variable();
-    c.add(&[t, x])?;
-    c.add(&[t, y.negated()])?;
-    c.add(&[t.negated(), x.negated(), y])?;
+    add_three(
+        &[t, x],
+        &[t, y.negated()],
+        &[t.negated(), x.negated(), y],
+        c,
+    )?;
     Ok(t)
+}
+
+// Appends the clauses of three lists of literals.
+fn add_three(first: &[Lit], second: &[Lit], third: &[Lit], c: &mut Clauses) -> Result<(), NoMemory>
+    requires first { AreInRange c.old.variables first.now }
+    requires second { AreInRange c.old.variables second.now }
+    requires third { AreInRange c.old.variables third.now }
+    requires numbered { length c.old.clauses + 3 < 2 ^ 32 }
+    ensures variables { c.new.variables ≡ c.old.variables }
+    ensures clauses { OnOk result
+        (c.new.clauses ≡ c.old.clauses ++ clauses_of (first.now ∷ second.now ∷ third.now ∷ [])) }
+    ensures counted { OnOk result (length c.new.clauses ≤ length c.old.clauses + 3) }
+    ensures kept { OnErr result (take (length c.old.clauses) c.new.clauses ≡ c.old.clauses) }
+{
+    c.append(first)?;
+    c.append(second)?;
+    c.append(third)?;
+    Ok(())
 }

@@ -1,6 +1,6 @@
 use Rattle.std.proofs.Common.{arith, length, sym, ◌∙◌, length-append, ◌<◌, ◌+◌, ◌^◌}
 use Rattle.ql_cnf.proofs.Truth.{added_in_range}
-use Rattle.ql_cnf.proofs.clauses.Clauses.add.Goals as goal
+use Rattle.ql_cnf.proofs.clauses.Clauses.append.Goals as goal
 
 pub invariant_of-self-in-Some : goal.invariant_of-self-in-Some
 invariant_of-self-in-Some c =
