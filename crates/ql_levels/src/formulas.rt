@@ -2,6 +2,7 @@ ghost use Rattle.std.specs.Prelude.{◌≡◌, List, IfOk, replicate};
 ghost use Rattle.ql_lang.specs.Formulas.{resolved_of, statement_of, BothOf, OneOf, IfThen, InOneTxn, Related};
 ghost use Rattle.ql_lang.specs.Trees.{Basic};
 ghost use Rattle.ql_lang.specs.declared.formula.OpChoice.TheVariants.{Any};
+ghost use Rattle.ql_levels.specs.declared.level.Level.TheVariants.{Eventual, Causal, Wide, Strong};
 ghost use Rattle.ql_levels.specs.Formulas.{formula_of, txn_formula_of, whole_transactions, monotonic_views, repeatable_views};
 
 use crate::level::{Level, TxnLevel};
@@ -22,52 +23,59 @@ pub fn formula(alloc: Global, l: Level) -> Result<Formula, NoMemory>
     ensures { IfOk result (λ f. resolved_of f ≡ formula_of l) }
 {
     match l {
-        Level::Eventual => {
-            let earlier = both(
-                alloc,
-                related(RelName::Hbo, A, B),
-                related(RelName::Vis, B, Term::Cur),
-            )?;
-            for_all(
-                alloc,
-                2,
-                implies(alloc, earlier, related(RelName::Vis, A, Term::Cur))?,
-            )
-        }
-        Level::Causal => {
-            let body = implies(
-                alloc,
-                related(RelName::Hbo, A, Term::Cur),
-                related(RelName::Vis, A, Term::Cur),
-            )?;
-            for_all(alloc, 1, body)
-        }
-        Level::Wide => {
-            let earlier = both(
-                alloc,
-                related(RelName::Hb, A, Term::Cur),
-                related(RelName::SameObj, A, Term::Cur),
-            )?;
-            for_all(
-                alloc,
-                1,
-                implies(alloc, earlier, related(RelName::Vis, A, Term::Cur))?,
-            )
-        }
-        Level::Strong => {
-            let seen = either(
-                alloc,
-                related(RelName::Vis, A, Term::Cur),
-                related(RelName::Vis, Term::Cur, A),
-            )?;
-            let seen = either(alloc, seen, related(RelName::Eq, A, Term::Cur))?;
-            for_all(
-                alloc,
-                1,
-                implies(alloc, related(RelName::SameObj, A, Term::Cur), seen)?,
-            )
-        }
+        Level::Eventual => for_all(alloc, 2, eventual(alloc)?),
+        Level::Causal => for_all(alloc, 1, causal(alloc)?),
+        Level::Wide => for_all(alloc, 1, wide(alloc)?),
+        Level::Strong => for_all(alloc, 1, strong(alloc)?),
     }
+}
+
+// What comes before an effect that is seen is seen.
+fn eventual(alloc: Global) -> Result<Body, NoMemory>
+    ensures { IfOk result (λ b. statement_of b ≡ (formula_of Eventual).body) }
+{
+    let earlier = both(
+        alloc,
+        related(RelName::Hbo, A, B),
+        related(RelName::Vis, B, Term::Cur),
+    )?;
+    implies(alloc, earlier, related(RelName::Vis, A, Term::Cur))
+}
+
+// What happened before on the object is seen.
+fn causal(alloc: Global) -> Result<Body, NoMemory>
+    ensures { IfOk result (λ b. statement_of b ≡ (formula_of Causal).body) }
+{
+    implies(
+        alloc,
+        related(RelName::Hbo, A, Term::Cur),
+        related(RelName::Vis, A, Term::Cur),
+    )
+}
+
+// What happened before, by way of whatever object, is seen.
+fn wide(alloc: Global) -> Result<Body, NoMemory>
+    ensures { IfOk result (λ b. statement_of b ≡ (formula_of Wide).body) }
+{
+    let earlier = both(
+        alloc,
+        related(RelName::Hb, A, Term::Cur),
+        related(RelName::SameObj, A, Term::Cur),
+    )?;
+    implies(alloc, earlier, related(RelName::Vis, A, Term::Cur))
+}
+
+// Each other effect on the object is seen, or sees this one.
+fn strong(alloc: Global) -> Result<Body, NoMemory>
+    ensures { IfOk result (λ b. statement_of b ≡ (formula_of Strong).body) }
+{
+    let seen = either(
+        alloc,
+        related(RelName::Vis, A, Term::Cur),
+        related(RelName::Vis, Term::Cur, A),
+    )?;
+    let seen = either(alloc, seen, related(RelName::Eq, A, Term::Cur))?;
+    implies(alloc, related(RelName::SameObj, A, Term::Cur), seen)
 }
 
 /// The formula of a transaction's level: what the store guarantees of the current transaction.
@@ -161,17 +169,26 @@ fn in_txn(alloc: Global, members: &[Term], others: &[Term]) -> Result<Body, NoMe
 fn both(alloc: Global, p: Body, q: Body) -> Result<Body, NoMemory>
     ensures { IfOk result (λ b. statement_of b ≡ BothOf (statement_of p) (statement_of q)) }
 {
-    Ok(Body::And(Box::new(alloc, p)?, Box::new(alloc, q)?))
+    let (p, q) = boxed(alloc, p, q)?;
+    Ok(Body::And(p, q))
 }
 
 fn either(alloc: Global, p: Body, q: Body) -> Result<Body, NoMemory>
     ensures { IfOk result (λ b. statement_of b ≡ OneOf (statement_of p) (statement_of q)) }
 {
-    Ok(Body::Or(Box::new(alloc, p)?, Box::new(alloc, q)?))
+    let (p, q) = boxed(alloc, p, q)?;
+    Ok(Body::Or(p, q))
 }
 
 fn implies(alloc: Global, p: Body, q: Body) -> Result<Body, NoMemory>
     ensures { IfOk result (λ b. statement_of b ≡ IfThen (statement_of p) (statement_of q)) }
 {
-    Ok(Body::Implies(Box::new(alloc, p)?, Box::new(alloc, q)?))
+    let (p, q) = boxed(alloc, p, q)?;
+    Ok(Body::Implies(p, q))
+}
+
+fn boxed(alloc: Global, p: Body, q: Body) -> Result<(Box<Body>, Box<Body>), NoMemory>
+    ensures { IfOk result (λ b. (b.0.value ≡ p) × (b.1.value ≡ q)) }
+{
+    Ok((Box::new(alloc, p)?, Box::new(alloc, q)?))
 }
