@@ -83,11 +83,11 @@ pub fn is_same(a: Terminal, b: Terminal) -> bool
     a as u8 == b as u8
 }
 
-/// The keywords that begin with `a` to `i`: only those with the same first byte are compared.
+/// The keywords that begin with `a` to `c`: only those with the same first byte are compared.
 #[tactic(auto, unfolding(crate::specs::Terminals::keyword, crate::specs::Terminals::expression_word, crate::specs::Terminals::logic_word, crate::specs::Terminals::relation_word))]
-fn keyword_a_to_i(text: &[u8]) -> Terminal
+fn keyword_a_to_c(text: &[u8]) -> Terminal
     requires some { 0 < length text.now }
-    requires first { slice_index text.now 0 ≤ 105 }
+    requires first { slice_index text.now 0 ≤ 99 }
     ensures { result ≡ keyword text.now }
 {
     match text[0] {
@@ -97,43 +97,95 @@ fn keyword_a_to_i(text: &[u8]) -> Terminal
         b'b' if text == b"bool".as_slice() => Terminal::BoolWord,
         b'c' if text == b"contract".as_slice() => Terminal::ContractWord,
         b'c' if text == b"cur".as_slice() => Terminal::CurWord,
-        b'e' if text == b"emit".as_slice() => Terminal::EmitWord,
-        b'e' if text == b"else".as_slice() => Terminal::ElseWord,
-        b'e' if text == b"empty".as_slice() => Terminal::EmptyWord,
-        b'e' if text == b"eq".as_slice() => Terminal::EqWord,
-        b'f' if text == b"forall".as_slice() => Terminal::ForallWord,
-        b'f' if text == b"false".as_slice() => Terminal::FalseWord,
-        b'h' if text == b"hb".as_slice() => Terminal::HbWord,
-        b'h' if text == b"hbo".as_slice() => Terminal::HboWord,
-        b'i' if text == b"if".as_slice() => Terminal::IfWord,
-        b'i' if text == b"int".as_slice() => Terminal::IntWord,
         _ => Terminal::NoTerminal,
     }
 }
 
-/// The keywords that begin with `j` to `z`.
+/// The keywords that begin with `e` to `h`.
 #[tactic(auto, unfolding(crate::specs::Terminals::keyword, crate::specs::Terminals::expression_word, crate::specs::Terminals::logic_word, crate::specs::Terminals::relation_word))]
-fn keyword_j_to_z(text: &[u8]) -> Terminal
+fn keyword_e_to_h(text: &[u8]) -> Terminal
     requires some { 0 < length text.now }
-    requires first { 105 < slice_index text.now 0 }
+    requires above { 99 < slice_index text.now 0 }
+    requires below { slice_index text.now 0 ≤ 104 }
     ensures { result ≡ keyword text.now }
 {
     match text[0] {
+        b'e' if text == b"emit".as_slice() => Terminal::EmitWord,
+        b'e' if text == b"empty".as_slice() => Terminal::EmptyWord,
+        b'e' if text == b"eq".as_slice() => Terminal::EqWord,
+        b'e' if text == b"else".as_slice() => Terminal::ElseWord,
+        b'f' if text == b"forall".as_slice() => Terminal::ForallWord,
+        b'f' if text == b"false".as_slice() => Terminal::FalseWord,
+        b'h' if text == b"hb".as_slice() => Terminal::HbWord,
+        b'h' if text == b"hbo".as_slice() => Terminal::HboWord,
+        _ => Terminal::NoTerminal,
+    }
+}
+
+/// The keywords that begin with `i` to `o`.
+#[tactic(auto, unfolding(crate::specs::Terminals::keyword, crate::specs::Terminals::expression_word, crate::specs::Terminals::logic_word, crate::specs::Terminals::relation_word))]
+fn keyword_i_to_o(text: &[u8]) -> Terminal
+    requires some { 0 < length text.now }
+    requires above { 104 < slice_index text.now 0 }
+    requires below { slice_index text.now 0 ≤ 111 }
+    ensures { result ≡ keyword text.now }
+{
+    match text[0] {
+        b'i' if text == b"int".as_slice() => Terminal::IntWord,
+        b'i' if text == b"if".as_slice() => Terminal::IfWord,
         b'm' if text == b"map".as_slice() => Terminal::MapWord,
         b'n' if text == b"not".as_slice() => Terminal::NotWord,
         b'o' if text == b"op".as_slice() => Terminal::OpWord,
         b'o' if text == b"or".as_slice() => Terminal::OrWord,
+        _ => Terminal::NoTerminal,
+    }
+}
+
+/// The keywords that begin with `s`.
+#[tactic(auto, unfolding(crate::specs::Terminals::keyword, crate::specs::Terminals::expression_word, crate::specs::Terminals::logic_word, crate::specs::Terminals::relation_word))]
+fn keyword_s(text: &[u8]) -> Terminal
+    requires some { 0 < length text.now }
+    requires above { 111 < slice_index text.now 0 }
+    requires below { slice_index text.now 0 ≤ 115 }
+    ensures { result ≡ keyword text.now }
+{
+    match text[0] {
         b's' if text == b"state".as_slice() => Terminal::StateWord,
         b's' if text == b"set".as_slice() => Terminal::SetWord,
         b's' if text == b"so".as_slice() => Terminal::SoWord,
         b's' if text == b"soo".as_slice() => Terminal::SooWord,
         b's' if text == b"sameobj".as_slice() => Terminal::SameObjWord,
+        _ => Terminal::NoTerminal,
+    }
+}
+
+/// The keywords that begin with `t`.
+#[tactic(auto, unfolding(crate::specs::Terminals::keyword, crate::specs::Terminals::expression_word, crate::specs::Terminals::logic_word, crate::specs::Terminals::relation_word))]
+fn keyword_t(text: &[u8]) -> Terminal
+    requires some { 0 < length text.now }
+    requires above { 115 < slice_index text.now 0 }
+    requires below { slice_index text.now 0 ≤ 116 }
+    ensures { result ≡ keyword text.now }
+{
+    match text[0] {
         b't' if text == b"type".as_slice() => Terminal::TypeWord,
         b't' if text == b"transaction".as_slice() => Terminal::TransactionWord,
         b't' if text == b"then".as_slice() => Terminal::ThenWord,
         b't' if text == b"text".as_slice() => Terminal::TextWord,
         b't' if text == b"true".as_slice() => Terminal::TrueWord,
         b't' if text == b"txn".as_slice() => Terminal::TxnWord,
+        _ => Terminal::NoTerminal,
+    }
+}
+
+/// The keywords that begin with `u` to `w`.
+#[tactic(auto, unfolding(crate::specs::Terminals::keyword, crate::specs::Terminals::expression_word, crate::specs::Terminals::logic_word, crate::specs::Terminals::relation_word))]
+fn keyword_u_to_w(text: &[u8]) -> Terminal
+    requires some { 0 < length text.now }
+    requires above { 116 < slice_index text.now 0 }
+    ensures { result ≡ keyword text.now }
+{
+    match text[0] {
         b'u' if text == b"uses".as_slice() => Terminal::UsesWord,
         b'u' if text == b"unit".as_slice() => Terminal::UnitWord,
         b'v' if text == b"vis".as_slice() => Terminal::VisWord,
@@ -149,8 +201,12 @@ fn keyword(text: &[u8]) -> Terminal
 {
     match text.first() {
         None => Terminal::NoTerminal,
-        Some(first) if *first <= b'i' => keyword_a_to_i(text),
-        Some(_) => keyword_j_to_z(text),
+        Some(first) if *first <= b'c' => keyword_a_to_c(text),
+        Some(first) if *first <= b'h' => keyword_e_to_h(text),
+        Some(first) if *first <= b'o' => keyword_i_to_o(text),
+        Some(first) if *first <= b's' => keyword_s(text),
+        Some(first) if *first <= b't' => keyword_t(text),
+        Some(_) => keyword_u_to_w(text),
     }
 }
 
