@@ -1,5 +1,5 @@
 /// The precedence of the operators of expressions, the most binding first.
-#[derive(Clone, Copy, Debug, PartialEq, Eq)]
+#[derive(Clone, Copy)]
 pub enum Precedence {
     Product,
     Sum,

@@ -1,5 +1,5 @@
 /// What a token does to the counts of the expression or contract that it stands in.
-#[derive(Clone, Copy, Debug, PartialEq, Eq)]
+#[derive(Clone, Copy)]
 pub enum Role {
     /// Nothing.
     Plain,
