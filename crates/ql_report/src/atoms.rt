@@ -1,6 +1,7 @@
 // The true atoms of an assignment.
-ghost use Rattle.std.specs.Prelude.{◌≡◌, ◌<◌, ◌++◌, false, length, slice_get, unwrap_or, OnOk};
+ghost use Rattle.std.specs.Prelude.{◌≡◌, ◌<◌, ◌++◌, codes, false, length, slice_get, unwrap_or, OnOk};
 ghost use Rattle.ql_atoms.specs.Atoms.{Fits, atom_place, size_of};
+ghost use Rattle.ql_typing.specs.Names.{op_name};
 ghost use Rattle.ql_typing.specs.Operations.{all_ops};
 ghost use Rattle.ql_report.specs.Atoms.{atom_text, atoms_line, constant_word, currents_text, pair_kind_word, operation_text, operations_text, relation_text, relations_text, row_text, reported_atom};
 ghost use Rattle.ql_report.specs.Report.{reported_of};
@@ -121,10 +122,8 @@ fn is_true(values: &[bool], atom: Atom, shape: Shape) -> bool
     requires { Fits (size_of shape) atom }
     ensures { result ≡ unwrap_or (slice_get values.now (atom_place (size_of shape) atom)) false }
 {
-    match values.get(number(atom, shape) as usize - 1) {
-        Some(value) => *value,
-        None => false,
-    }
+    let place = number(atom, shape) as usize - 1;
+    values.get(place).copied().unwrap_or(false)
 }
 
 fn push_atom(out: &mut Vec<u8>, reported: &Report, atom: Atom) -> Result<(), NoMemory>
@@ -136,24 +135,50 @@ fn push_atom(out: &mut Vec<u8>, reported: &Report, atom: Atom) -> Result<(), NoM
         ++ atom_text reported.now.typed.now.program reported.now.vars.now atom) }
 {
     match atom {
-        Atom::Pair(kind, i, j) => {
-            push_bytes(out, relation_word(kind))?;
-            push_bytes(out, b"(")?;
-            push_bytes(out, constant_word(reported.vars, i))?;
-            push_bytes(out, b",")?;
-            push_bytes(out, constant_word(reported.vars, j))?;
-        }
-        Atom::Current(i) => {
-            push_bytes(out, b"current(")?;
-            push_bytes(out, constant_word(reported.vars, i))?;
-        }
-        Atom::Is(o, i) => {
-            push_bytes(out, b"is(")?;
-            push_bytes(out, op_name(reported.typed, o))?;
-            push_bytes(out, b",")?;
-            push_bytes(out, constant_word(reported.vars, i))?;
-        }
+        Atom::Pair(kind, i, j) => push_pair(out, reported.vars, kind, i, j),
+        Atom::Current(i) => push_current(out, reported.vars, i),
+        Atom::Is(o, i) => push_is(out, reported, o, i),
     }
+}
+
+fn push_pair(
+    out: &mut Vec<u8>,
+    vars: &[Var],
+    kind: PairKind,
+    i: u32,
+    j: u32,
+) -> Result<(), NoMemory>
+    ensures { OnOk result
+        (out.new.items ≡ out.old.items ++ pair_kind_word kind ++ codes "(" ++ constant_word vars.now i
+        ++ codes "," ++ constant_word vars.now j ++ codes ")") }
+{
+    push_bytes(out, relation_word(kind))?;
+    push_bytes(out, b"(")?;
+    push_bytes(out, constant_word(vars, i))?;
+    push_bytes(out, b",")?;
+    push_bytes(out, constant_word(vars, j))?;
+    push_bytes(out, b")")
+}
+
+fn push_current(out: &mut Vec<u8>, vars: &[Var], i: u32) -> Result<(), NoMemory>
+    ensures { OnOk result
+        (out.new.items ≡ out.old.items ++ codes "current(" ++ constant_word vars.now i ++ codes ")") }
+{
+    push_bytes(out, b"current(")?;
+    push_bytes(out, constant_word(vars, i))?;
+    push_bytes(out, b")")
+}
+
+fn push_is(out: &mut Vec<u8>, reported: &Report, o: OpId, i: u32) -> Result<(), NoMemory>
+    requires { o.0 < length (all_ops reported.now.typed.now.program.types) }
+    ensures { OnOk result
+        (out.new.items ≡ out.old.items ++ codes "is(" ++ op_name reported.now.typed.now.program o.0
+        ++ codes "," ++ constant_word reported.now.vars.now i ++ codes ")") }
+{
+    push_bytes(out, b"is(")?;
+    push_bytes(out, op_name(reported.typed, o))?;
+    push_bytes(out, b",")?;
+    push_bytes(out, constant_word(reported.vars, i))?;
     push_bytes(out, b")")
 }
 
