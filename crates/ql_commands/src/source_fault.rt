@@ -11,7 +11,7 @@ use ql_typing::TypeFault;
 use std::alloc::Global;
 
 /// Why a text is no source of a typed program.
-#[derive(Clone, Copy, Debug, PartialEq, Eq)]
+#[derive(Clone, Copy)]
 pub enum SourceFault {
     /// It isn't in the grammar of sources.
     Parse(ParseFault),

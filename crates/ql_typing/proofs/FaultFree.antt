@@ -15,12 +15,9 @@ use Rattle.ql_typing.specs.ContractFaults.{contract_faults, op_faults}
 use Rattle.ql_typing.specs.Programs.{above, field_names, fields_known, init_faults, op_decl_faults, op_names, op_places, param_names, places, program_faults, too_many, txn_faults, type_faults}
 use Rattle.ql_typing.specs.Operations.{all_ops, op_contract, op_contracts, op_words, txn_contract, txn_contracts}
 use Rattle.ql_typing.specs.WellFormed.{IsOpContract, IsTxnContract}
+use Rattle.ql_typing.proofs.Mapped.{map-twice}
 use Rattle.ql_typing.proofs.Parts.{distinct_met, each-append, each_at, each_weaker, few_each, flat_of_map, left_none, right_none}
 use Rattle.ql_typing.proofs.Formed.{op_formed, txn_formed}
-
-map-twice : {A B C : Type 0} (f : A → B) (g : B → C) (xs : List A) → map g (map f xs) ≡ map (λ x. g (f x)) xs
-map-twice f g [] = refl
-map-twice f g (x ∷ xs) = ap (λ r. g (f x) ∷ r) (map-twice f g xs)
 
 -- the names of operations, as words
 words_of : (types : List TypeDecl) → map (λ n. n.word) (op_names types) ≡ op_words types

@@ -1,11 +1,12 @@
 pub mod FirstFault
 pub mod MetNames
 pub mod Each
+mod Mapped
+mod OpsAbove
 pub mod KeptNames
 pub mod KindsIn
 pub mod WordEq
 pub mod CallArgs
-pub mod Declared
 pub mod Parts
 pub mod Flat
 pub mod Positions

@@ -1,6 +1,6 @@
-ghost use Rattle.std.specs.Prelude.{◌≡◌, ◌<◌, ◌≤◌, ◌^◌, [], IfOk, IfErr, OnOk, OnErr, map, take, length, None};
+ghost use Rattle.std.specs.Prelude.{◌≡◌, ◌<◌, ◌≤◌, ◌^◌, ◌++◌, ◌∷◌, [], IfOk, IfErr, OnOk, OnErr, map, take, length, None};
 ghost use Rattle.ql_base.specs.Numbering.{with_name};
-ghost use Rattle.ql_lang.specs.Formulas.{resolved_of, statement_of};
+ghost use Rattle.ql_lang.specs.Formulas.{InOneTxn, Related, resolved_of, statement_of};
 ghost use Rattle.ql_lang.specs.Trees.{proposition_of, relation_of, sentence_of};
 ghost use Rattle.ql_typing.specs.Faults.{IsRefusal, ReportsFirst, names_met};
 ghost use Rattle.ql_typing.specs.ContractFaults.{contract_faults, var_names};
@@ -8,6 +8,7 @@ ghost use Rattle.ql_typing.specs.Resolved.{choice_of, number_in, ops_met, resolv
 
 use crate::contract::check_contract;
 use crate::fault::TypeFault;
+use crate::named::Named;
 use crate::word_set::WordSet;
 use ql_base::{IdSet, Names, NoMemory, Word};
 use ql_lang::{
@@ -16,7 +17,6 @@ use ql_lang::{
 use std::alloc::Global;
 
 /// The formula of a contract. An operation's number is its index in `ops`, to which new ones are appended.
-#[tactic(auto, unfolding(crate::specs::Faults::IsRefusal, crate::specs::Faults::ReportsFirst))]
 pub fn resolve(
     alloc: Global,
     contract: &Contract,
@@ -34,12 +34,37 @@ pub fn resolve(
         (ReportsFirst (contract_faults None for_txn (sentence_of contract.now))) }
     ensures kept { OnErr result (ops.new ≡ ops.old) }
 {
-    let Ok(checked) = check_contract(alloc, contract, None, for_txn) else {
+    let mut vars = WordSet::new(alloc);
+    resolve_with(alloc, contract, &mut vars, ops, for_txn)
+}
+
+/// The same, where the variables of the contract are put into `vars`.
+#[tactic(auto, unfolding(crate::specs::Faults::IsRefusal, crate::specs::Faults::ReportsFirst))]
+fn resolve_with(
+    alloc: Global,
+    contract: &Contract,
+    vars: &mut WordSet,
+    ops: &mut Names,
+    for_txn: bool,
+) -> Result<Formula, TypeFault>
+    requires fresh { vars.old ≡ [] }
+    requires room { length (ops_met ops.old contract.now.vars) < 2 ^ 32 }
+    ensures typed { OnOk result (contract_faults None for_txn (sentence_of contract.now) ≡ []) }
+    ensures numbered { OnOk result (ops.new ≡ ops_met ops.old contract.now.vars) }
+    ensures formula { IfOk result
+        (λ formula. resolved_of formula ≡ resolved_in ops.new (sentence_of contract.now)) }
+    ensures refused { IfErr result
+        (IsRefusal (contract_faults None for_txn (sentence_of contract.now))) }
+    ensures first { IfErr result
+        (ReportsFirst (contract_faults None for_txn (sentence_of contract.now))) }
+    ensures kept { OnErr result (ops.new ≡ ops.old) }
+{
+    let Ok(fault) = check_contract(alloc, contract, None, for_txn, vars) else {
         return Err(TypeFault::NoMemory);
     };
-    match checked.fault {
+    match fault {
         Some(fault) => Err(fault),
-        None => match number_or_undo(alloc, contract, &checked.vars, ops) {
+        None => match number_or_undo(alloc, contract, vars, ops) {
             Ok(formula) => Ok(formula),
             Err(NoMemory) => Err(TypeFault::NoMemory),
         },
@@ -102,14 +127,14 @@ fn number_all(vars: &[Var], ops: &mut Names) -> Result<(), NoMemory>
     Ok(())
 }
 
-/// Adds names to `ops`, one after another.
-pub(crate) fn number_each(names: &[Name], ops: &mut Names) -> Result<(), NoMemory>
-    requires { length (names_met ops.old names.now) < 2 ^ 32 }
-    ensures numbered { OnOk result (ops.new ≡ names_met ops.old names.now) }
+/// Adds the names of items to `ops`, one after another.
+pub(crate) fn number_each<T: Named>(items: &[T], ops: &mut Names) -> Result<(), NoMemory>
+    requires { length (names_met ops.old (map T.named items.now)) < 2 ^ 32 }
+    ensures numbered { OnOk result (ops.new ≡ names_met ops.old (map T.named items.now)) }
     ensures kept { take (length ops.old) ops.new ≡ ops.old }
 {
-    for name in names {
-        put_in(ops, &name.word)?;
+    for item in items {
+        put_in(ops, &item.name().word)?;
     }
     Ok(())
 }
@@ -159,10 +184,22 @@ fn build_choices(alloc: Global, vars: &[Var], ops: &Names) -> Result<Vec<OpChoic
 {
     let mut choices = Vec::with_capacity(alloc, vars.len())?;
     for var in vars {
-        let choice = build_choice(alloc, var.ops.items(), ops)?;
-        choices.push(choice)?;
+        push_choice(alloc, var.ops.items(), ops, &mut choices)?;
     }
     Ok(choices)
+}
+
+fn push_choice(
+    alloc: Global,
+    names: &[Name],
+    ops: &Names,
+    choices: &mut Vec<OpChoice>,
+) -> Result<(), NoMemory>
+    ensures { OnOk result
+        (choices.new.items ≡ choices.old.items ++ choice_of ops.now names.now ∷ []) }
+{
+    let choice = build_choice(alloc, names, ops)?;
+    Ok(choices.push(choice)?)
 }
 
 fn build_choice(alloc: Global, names: &[Name], ops: &Names) -> Result<OpChoice, NoMemory>
@@ -219,25 +256,36 @@ fn build_terms(alloc: Global, points: &[Point], vars: &WordSet) -> Result<Terms,
 }
 
 /// A copy of a relation.
+#[cycle(relation)]
 fn copy_rel(alloc: Global, rel: &Rel) -> Result<Rel, NoMemory>
     ensures { IfOk result (λ copy. relation_of copy ≡ relation_of rel.now) }
 {
     match rel {
         Rel::Base(name, at) => Ok(Rel::Base(*name, *at)),
         Rel::Union(left, right) => {
-            let left = Box::new(alloc, copy_rel(alloc, left)?)?;
-            let right = Box::new(alloc, copy_rel(alloc, right)?)?;
+            let left = copy_boxed(alloc, left)?;
+            let right = copy_boxed(alloc, right)?;
             Ok(Rel::Union(left, right))
         }
         Rel::Inter(left, right) => {
-            let left = Box::new(alloc, copy_rel(alloc, left)?)?;
-            let right = Box::new(alloc, copy_rel(alloc, right)?)?;
+            let left = copy_boxed(alloc, left)?;
+            let right = copy_boxed(alloc, right)?;
             Ok(Rel::Inter(left, right))
         }
     }
 }
 
+/// A copy of an operand of a relation.
+#[cycle(relation)]
+fn copy_boxed(alloc: Global, rel: &Rel) -> Result<Box<Rel>, NoMemory>
+    ensures { IfOk result (λ copy. relation_of copy.value ≡ relation_of rel.now) }
+{
+    let copy = copy_rel(alloc, rel)?;
+    Ok(Box::new(alloc, copy)?)
+}
+
 /// What a contract says, by the indices of its variables.
+#[cycle(body)]
 #[tactic(auto, unfolding(crate::specs::Resolved::statement_in))]
 fn build_body(alloc: Global, body: &Prop, vars: &WordSet) -> Result<Body, NoMemory>
     requires { length vars.now ≤ 5 }
@@ -246,29 +294,69 @@ fn build_body(alloc: Global, body: &Prop, vars: &WordSet) -> Result<Body, NoMemo
 {
     match body {
         Prop::True => Ok(Body::True),
-        Prop::Apply(rel, left, right) => {
-            let rel = copy_rel(alloc, rel)?;
-            Ok(Body::Apply(rel, build_term(left, vars), build_term(right, vars)))
-        }
+        Prop::Apply(rel, left, right) => build_application(alloc, rel, left, right, vars),
         Prop::And(left, right) => {
-            let left = Box::new(alloc, build_body(alloc, left, vars)?)?;
-            let right = Box::new(alloc, build_body(alloc, right, vars)?)?;
+            let left = build_boxed(alloc, left, vars)?;
+            let right = build_boxed(alloc, right, vars)?;
             Ok(Body::And(left, right))
         }
         Prop::Or(left, right) => {
-            let left = Box::new(alloc, build_body(alloc, left, vars)?)?;
-            let right = Box::new(alloc, build_body(alloc, right, vars)?)?;
+            let left = build_boxed(alloc, left, vars)?;
+            let right = build_boxed(alloc, right, vars)?;
             Ok(Body::Or(left, right))
         }
         Prop::Implies(left, right) => {
-            let left = Box::new(alloc, build_body(alloc, left, vars)?)?;
-            let right = Box::new(alloc, build_body(alloc, right, vars)?)?;
+            let left = build_boxed(alloc, left, vars)?;
+            let right = build_boxed(alloc, right, vars)?;
             Ok(Body::Implies(left, right))
         }
         Prop::Txn(_, members, others) => {
-            let members = build_terms(alloc, members.items(), vars)?;
-            let others = build_terms(alloc, others.items(), vars)?;
-            Ok(Body::Txn(members, others))
+            build_membership(alloc, members.items(), others.items(), vars)
         }
     }
+}
+
+/// An operand of a contract's body.
+#[cycle(body)]
+fn build_boxed(alloc: Global, body: &Prop, vars: &WordSet) -> Result<Box<Body>, NoMemory>
+    requires { length vars.now ≤ 5 }
+    ensures { IfOk result
+        (λ built. statement_of built.value ≡ statement_in vars.now (proposition_of body.now)) }
+{
+    let built = build_body(alloc, body, vars)?;
+    Ok(Box::new(alloc, built)?)
+}
+
+/// A relation between two terms.
+fn build_application(
+    alloc: Global,
+    rel: &Rel,
+    left: &Point,
+    right: &Point,
+    vars: &WordSet,
+) -> Result<Body, NoMemory>
+    requires { length vars.now ≤ 5 }
+    ensures { IfOk result
+        (λ built. statement_of built
+        ≡ Related (relation_of rel.now) (term_of vars.now left.now) (term_of vars.now right.now)) }
+{
+    let rel = copy_rel(alloc, rel)?;
+    Ok(Body::Apply(rel, build_term(left, vars), build_term(right, vars)))
+}
+
+/// That terms are in one transaction, and others together in another.
+fn build_membership(
+    alloc: Global,
+    members: &[Point],
+    others: &[Point],
+    vars: &WordSet,
+) -> Result<Body, NoMemory>
+    requires { length vars.now ≤ 5 }
+    ensures { IfOk result
+        (λ built. statement_of built
+        ≡ InOneTxn (map (term_of vars.now) members.now) (map (term_of vars.now) others.now)) }
+{
+    let members = build_terms(alloc, members, vars)?;
+    let others = build_terms(alloc, others, vars)?;
+    Ok(Body::Txn(members, others))
 }

@@ -1,10 +1,11 @@
-ghost use Rattle.std.specs.Prelude.{◌≡◌, [], Option, Some, None, IfOk, map, drop, option_copied};
+ghost use Rattle.std.specs.Prelude.{◌≡◌, [], IfOk, OnOk, option_copied};
 ghost use Rattle.ql_lang.specs.Trees.{proposition_of, relation_of, sentence_of};
 ghost use Rattle.ql_typing.specs.Faults.{each, first_fault, names_met};
 ghost use Rattle.ql_typing.specs.ContractFaults.{choice_faults, contract_faults, extra_var, is_closure, op_faults, point_faults, prop_faults, rel_faults, var_names};
 
 use crate::fault::{TypeFault, first};
-use crate::names::meet;
+use crate::limits::past_limit;
+use crate::names::{meet, repeat_fault};
 use crate::word_set::WordSet;
 use ql_base::{MAX_VARIABLES, NoMemory};
 use ql_lang::{Contract, Name, Point, Prop, Rel, RelName, Var};
@@ -127,7 +128,6 @@ pub(crate) fn ops_fault(names: &[Name], known: Option<&WordSet>) -> Option<TypeF
 }
 
 /// The first fault of the operations that a variable names.
-#[tactic(auto, unfolding(crate::specs::ContractFaults::choice_faults), using(crate::proofs::FirstFault::first_append))]
 fn choice_fault(
     alloc: Global,
     var: &Var,
@@ -136,8 +136,9 @@ fn choice_fault(
     ensures { IfOk result
         (λ fault. fault ≡ first_fault (choice_faults (option_copied known.entry) var.now)) }
 {
-    let met = meet(alloc, var.ops.items())?;
-    Ok(first(met.fault, ops_fault(var.ops.items(), known)))
+    let ops = var.ops.items();
+    let repeated = repeat_fault(alloc, ops)?;
+    Ok(first(repeated, ops_fault(ops, known)))
 }
 
 fn choices_fault(
@@ -157,60 +158,51 @@ fn choices_fault(
 }
 
 /// The fault of the first of the variables above the limit.
-fn extra_fault(names: &[Name]) -> Option<TypeFault>
-    ensures { result ≡ first_fault (each extra_var names.now) }
+fn extra_fault(vars: &[Var]) -> Option<TypeFault>
+    ensures { result ≡ first_fault (each extra_var (var_names vars.now)) }
 {
     let mut fault = None;
-    for name in names {
-        fault = first(fault, Some(TypeFault::Variables(name.at)));
+    for var in vars {
+        fault = first(fault, Some(TypeFault::Variables(var.name.at)));
     }
     fault
 }
 
-/// The variables of a contract in their order, without repeats, and the contract's first fault.
-#[derive(Drop)]
-pub(crate) struct Checked {
-    pub vars: WordSet,
-    pub fault: Option<TypeFault>,
+/// The first fault of a contract. If `known` is given, its operations have to be among those.
+pub(crate) fn contract_fault(
+    alloc: Global,
+    contract: &Contract,
+    known: Option<&WordSet>,
+    for_txn: bool,
+) -> Result<Option<TypeFault>, NoMemory>
+    ensures { IfOk result
+        (λ fault. fault
+        ≡ first_fault (contract_faults (option_copied known.entry) for_txn
+        (sentence_of contract.now))) }
+{
+    let mut vars = WordSet::new(alloc);
+    check_contract(alloc, contract, known, for_txn, &mut vars)
 }
 
-/// Checks a contract. If `known` is given, its operations have to be among those.
-#[tactic(auto, unfolding(crate::specs::ContractFaults::contract_faults), using(crate::proofs::FirstFault::first_append))]
+/// The first fault of a contract, whose variables are put into `vars` in their order, without repeats.
 pub(crate) fn check_contract(
     alloc: Global,
     contract: &Contract,
     known: Option<&WordSet>,
     for_txn: bool,
-) -> Result<Checked, NoMemory>
-    ensures vars { IfOk result
-        (λ checked. checked.vars ≡ names_met [] (var_names contract.now.vars)) }
+    vars: &mut WordSet,
+) -> Result<Option<TypeFault>, NoMemory>
+    requires { vars.old ≡ [] }
+    ensures vars { OnOk result (vars.new ≡ names_met [] (var_names contract.now.vars)) }
     ensures fault { IfOk result
-        (λ checked. checked.fault
+        (λ fault. fault
         ≡ first_fault (contract_faults (option_copied known.entry) for_txn
         (sentence_of contract.now))) }
 {
-    let vars = contract.vars.items();
-    let names = names_of(alloc, vars)?;
-    let met = meet(alloc, names.as_slice())?;
-    let choice = choices_fault(alloc, vars, known)?;
-    let body = prop_fault(&contract.body, &met.names, for_txn);
-    let extra = extra_fault(past_limit(names.as_slice()));
-    Ok(Checked {
-        fault: first(met.fault, first(extra, first(choice, body))),
-        vars: met.names,
-    })
-}
-
-/// The names of the variables above the limit of a contract.
-fn past_limit(names: &[Name]) -> &[Name]
-    ensures { result.now ≡ drop 5 names.now }
-{
-    &names[MAX_VARIABLES.min(names.len())..]
-}
-
-/// The names of variables, in order.
-pub(crate) fn names_of(alloc: Global, vars: &[Var]) -> Result<Vec<Name>, NoMemory>
-    ensures { IfOk result (λ names. names.items ≡ var_names vars.now) }
-{
-    Ok(vars.iter().map(|var| var.name).collect(alloc)?)
+    let named = contract.vars.items();
+    let repeated = meet(vars, named)?;
+    let choice = choices_fault(alloc, named, known)?;
+    let body = prop_fault(&contract.body, vars, for_txn);
+    let extra = extra_fault(past_limit(named, MAX_VARIABLES));
+    Ok(first(repeated, first(extra, first(choice, body))))
 }

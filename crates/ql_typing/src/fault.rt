@@ -5,7 +5,7 @@ use ql_base::NoMemory;
 use std::alloc::{AllocError, AllocFailed};
 
 /// Why a program or a contract isn't well typed, with the source offset of the fault.
-#[derive(Clone, Copy, Debug, PartialEq, Eq)]
+#[derive(Clone, Copy)]
 pub enum TypeFault {
     /// A name that isn't in scope.
     Unknown(u32),

@@ -1,4 +1,4 @@
-ghost use Rattle.std.specs.Prelude.{◌≡◌, ◌≤◌, ◌++◌, [], IfOk, OnOk, Some, false, length, map};
+ghost use Rattle.std.specs.Prelude.{◌≡◌, ◌≤◌, ◌++◌, ◌∷◌, [], IfOk, OnOk, Some, false, length, map};
 ghost use Rattle.ql_lang.specs.Formulas.{resolved_of};
 ghost use Rattle.ql_lang.specs.Trees.{sentence_of};
 ghost use Rattle.ql_typing.specs.ContractFaults.{contract_faults};
@@ -8,8 +8,8 @@ ghost use Rattle.ql_typing.specs.Programs.{txn_faults, type_faults};
 ghost use Rattle.ql_typing.specs.Resolved.{resolved_in};
 
 use crate::build::build_formula;
-use crate::contract::names_of;
 use crate::names::meet;
+use crate::word_set::WordSet;
 use ql_base::{Names, NoMemory};
 use ql_lang::{Contract, Formula, OpDecl, TxnDecl, TypeDecl};
 use std::alloc::Global;
@@ -20,9 +20,25 @@ fn formula_of(alloc: Global, contract: &Contract, ops: &Names) -> Result<Formula
     ensures { IfOk result
         (λ formula. resolved_of formula ≡ resolved_in ops.now (sentence_of contract.now)) }
 {
-    let list = names_of(alloc, contract.vars.items())?;
-    let met = meet(alloc, list.as_slice())?;
-    build_formula(alloc, contract, &met.names, ops)
+    let mut names = WordSet::new(alloc);
+    meet(&mut names, contract.vars.items())?;
+    build_formula(alloc, contract, &names, ops)
+}
+
+/// Appends a contract with its names resolved to others.
+fn push_formula(
+    alloc: Global,
+    contract: &Contract,
+    ops: &Names,
+    formulas: &mut Vec<Formula>,
+) -> Result<(), NoMemory>
+    requires { length contract.now.vars ≤ 5 }
+    ensures { OnOk result
+        (map resolved_of formulas.new.items ≡ map resolved_of formulas.old.items
+        ++ resolved_in ops.now (sentence_of contract.now) ∷ []) }
+{
+    let formula = formula_of(alloc, contract, ops)?;
+    Ok(formulas.push(formula)?)
 }
 
 /// The contracts of all operations, in order.
@@ -57,8 +73,7 @@ fn put_own(
         ++ map (op_contract ops.now) own.now) }
 {
     for op in own {
-        let formula = formula_of(alloc, &op.contract, ops)?;
-        formulas.push(formula)?;
+        push_formula(alloc, &op.contract, ops, formulas)?;
     }
     Ok(())
 }
@@ -75,8 +90,7 @@ pub(crate) fn formulas_of_txns(
 {
     let mut formulas = Vec::with_capacity(alloc, txns.len())?;
     for declared in txns {
-        let formula = formula_of(alloc, &declared.contract, ops)?;
-        formulas.push(formula)?;
+        push_formula(alloc, &declared.contract, ops, &mut formulas)?;
     }
     Ok(formulas)
 }

@@ -12,6 +12,7 @@ mod judge;
 mod kind;
 mod limits;
 mod lookup;
+mod named;
 mod names;
 mod operation;
 mod program;

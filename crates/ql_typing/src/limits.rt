@@ -1,22 +1,30 @@
-ghost use Rattle.std.specs.Prelude.{◌≡◌};
+ghost use Rattle.std.specs.Prelude.{◌≡◌, drop, map};
 ghost use Rattle.ql_typing.specs.Faults.{each, first_fault};
 ghost use Rattle.ql_typing.specs.Programs.{above, too_many};
 
 use crate::fault::{TypeFault, first};
+use crate::named::Named;
 
-/// The fault of the first item above a limit, by the source offsets of all.
-pub(crate) fn above_limit(places: &[u32], limit: usize) -> Option<TypeFault>
-    ensures { result ≡ first_fault (above limit places.now) }
+/// The fault of the first item above a limit.
+pub(crate) fn above_limit<T: Named>(items: &[T], limit: usize) -> Option<TypeFault>
+    ensures { result ≡ first_fault (above limit (map T.placed items.now)) }
 {
-    extra_fault(&places[limit.min(places.len())..])
+    extra_fault(past_limit(items, limit))
 }
 
-fn extra_fault(places: &[u32]) -> Option<TypeFault>
-    ensures { result ≡ first_fault (each too_many places.now) }
+/// The items above a limit.
+pub(crate) fn past_limit<T>(items: &[T], limit: usize) -> &[T]
+    ensures { result.now ≡ drop limit items.now }
+{
+    &items[limit.min(items.len())..]
+}
+
+fn extra_fault<T: Named>(items: &[T]) -> Option<TypeFault>
+    ensures { result ≡ first_fault (each too_many (map T.placed items.now)) }
 {
     let mut fault = None;
-    for at in places {
-        fault = first(fault, Some(TypeFault::TooMany(*at)));
+    for item in items {
+        fault = first(fault, Some(TypeFault::TooMany(item.place())));
     }
     fault
 }

@@ -1,49 +1,56 @@
-ghost use Rattle.std.specs.Prelude.{◌≡◌, [], IfOk, OnOk};
+ghost use Rattle.std.specs.Prelude.{◌≡◌, [], IfOk, OnOk, map};
 ghost use Rattle.ql_base.specs.Numbering.{has_name, with_name};
-ghost use Rattle.ql_typing.specs.Faults.{first_fault, repeats, names_met, where_so};
+ghost use Rattle.ql_typing.specs.Faults.{earlier, first_fault, repeats, names_met, where_so};
+ghost use Rattle.ql_typing.specs.Programs.{above};
 
 use crate::fault::{TypeFault, first};
+use crate::limits::above_limit;
+use crate::named::Named;
 use crate::word_set::WordSet;
 use ql_base::NoMemory;
 use ql_lang::Name;
 use std::alloc::Global;
 
-/// Names in their order, without repeats, and the fault of the first that repeats another.
-#[derive(Drop)]
-pub(crate) struct Met {
-    pub names: WordSet,
-    pub fault: Option<TypeFault>,
-}
-
-/// Meets the names one after another.
-pub(crate) fn meet(alloc: Global, list: &[Name]) -> Result<Met, NoMemory>
-    ensures names { IfOk result (λ met. met.names ≡ names_met [] list.now) }
-    ensures fault { IfOk result (λ met. met.fault ≡ first_fault (repeats [] list.now)) }
+/// The fault of the first item whose name is that of an earlier one.
+pub(crate) fn repeat_fault<T: Named>(
+    alloc: Global,
+    items: &[T],
+) -> Result<Option<TypeFault>, NoMemory>
+    ensures { IfOk result (λ fault. fault ≡ first_fault (repeats [] (map T.named items.now))) }
 {
     let mut names = WordSet::new(alloc);
-    let fault = meet_more(&mut names, list)?;
-    Ok(Met { names, fault })
+    meet(&mut names, items)
 }
 
-/// Meets names after others, and leaves only the others.
-pub(crate) fn meet_after(names: &mut WordSet, list: &[Name]) -> Result<Option<TypeFault>, NoMemory>
+/// The fault of the first item that is above a limit, or whose name is that of an earlier one or one of `names`.
+pub(crate) fn list_fault<T: Named>(
+    names: &mut WordSet,
+    items: &[T],
+    limit: usize,
+) -> Result<Option<TypeFault>, NoMemory>
     ensures same { OnOk result (names.new ≡ names.old) }
-    ensures fault { IfOk result (λ fault. fault ≡ first_fault (repeats names.old list.now)) }
+    ensures fault { IfOk result
+        (λ fault. fault ≡ earlier (first_fault (repeats names.old (map T.named items.now)))
+        (first_fault (above limit (map T.placed items.now)))) }
 {
     let before = names.len();
-    let fault = meet_more(names, list)?;
+    let repeated = meet(names, items)?;
     names.truncate(before);
-    Ok(fault)
+    Ok(first(repeated, above_limit(items, limit)))
 }
 
-/// Meets the names of a list after others.
-fn meet_more(names: &mut WordSet, list: &[Name]) -> Result<Option<TypeFault>, NoMemory>
-    ensures names { OnOk result (names.new ≡ names_met names.old list.now) }
-    ensures fault { IfOk result (λ fault. fault ≡ first_fault (repeats names.old list.now)) }
+/// Adds the names of items to others, and returns the fault of the first one that is there.
+pub(crate) fn meet<T: Named>(
+    names: &mut WordSet,
+    items: &[T],
+) -> Result<Option<TypeFault>, NoMemory>
+    ensures names { OnOk result (names.new ≡ names_met names.old (map T.named items.now)) }
+    ensures fault { IfOk result
+        (λ fault. fault ≡ first_fault (repeats names.old (map T.named items.now))) }
 {
     let mut fault = None;
-    for name in list {
-        let twice = meet_one(names, name)?;
+    for item in items {
+        let twice = meet_one(names, item.name())?;
         fault = first(fault, twice);
     }
     Ok(fault)

@@ -1,18 +1,19 @@
-ghost use Rattle.std.specs.Prelude.{◌≡◌, Some, IfOk, OnOk, map};
+ghost use Rattle.std.specs.Prelude.{◌≡◌, ◌++◌, Some, IfOk, OnOk};
+ghost use Rattle.ql_lang.specs.Expressions.{expression_of};
 ghost use Rattle.ql_typing.specs.Faults.{each, earlier, first_fault, repeats};
-ghost use Rattle.ql_typing.specs.Kinds.{reading_faults};
-ghost use Rattle.ql_typing.specs.Programs.{above, bind_faults, bind_names, binds_known, effect_faults, maybe_effect_faults, op_decl_faults, param_names, params_known, places, stmt_faults, target_names};
+ghost use Rattle.ql_typing.specs.Kinds.{faults_as, reading_faults};
+ghost use Rattle.ql_typing.specs.Programs.{above, bind_faults, binds_known, effect_faults, maybe_effect_faults, op_decl_faults, places, stmt_faults, target_names};
 
-use crate::contract::check_contract;
+use crate::contract::contract_fault;
 use crate::fault::{TypeFault, first};
 use crate::function::kind_of_base;
 use crate::judge::fault_as;
 use crate::limits::above_limit;
-use crate::names::meet_after;
-use crate::scope::{Known, Scope, Table};
+use crate::names::list_fault;
+use crate::scope::{Scope, Table};
 use crate::word_set::WordSet;
 use ql_base::{MAX_EMITTED, MAX_PARAMETERS, MAX_STATEMENTS, NoMemory};
-use ql_lang::{Bind, EmitDecl, Kind, Name, OpDecl, Param, Stmt};
+use ql_lang::{Bind, EmitDecl, Kind, OpDecl, Stmt};
 use std::alloc::Global;
 
 /// The first fault of an operation. `names` holds the names of the fields, before and after the call.
@@ -27,32 +28,31 @@ pub(crate) fn op_decl_fault(
     ensures fault { IfOk result
         (λ fault. fault ≡ first_fault (op_decl_faults known.now names.old fields.now op.now)) }
 {
-    let params = op.params.items();
-    let named = params_fault(alloc, params, names)?;
-    let checked = check_contract(alloc, &op.contract, Some(known), false)?;
-    let kinds = kinds_of_params(alloc, params)?;
-    let table = Table::of(alloc, kinds)?;
-    let scope = Scope::over(fields, table);
-    let answer = fault_as(&scope, Some(op.kind), &op.answer);
-    let effect = maybe_effect_fault(alloc, &op.effect, fields, names, &scope)?;
-    Ok(first(named, first(checked.fault, first(answer, effect))))
+    let listed = list_fault(names, op.params.items(), MAX_PARAMETERS)?;
+    let contract = contract_fault(alloc, &op.contract, Some(known), false)?;
+    let params = Table::of(alloc, op.params.items())?;
+    let scope = Scope::over(fields, params);
+    let call = call_fault(alloc, op, fields, names, &scope)?;
+    Ok(first(listed, first(contract, call)))
 }
 
-/// The fault of the first parameter that repeats a name of a field or an earlier parameter, or is one too many.
-fn params_fault(
+/// The first fault of an operation's answer and of what it emits, by the fields, and the fields and parameters.
+fn call_fault(
     alloc: Global,
-    params: &[Param],
+    op: &OpDecl,
+    fields: &Table,
     names: &mut WordSet,
+    scope: &Scope<'_>,
 ) -> Result<Option<TypeFault>, NoMemory>
     ensures names { OnOk result (names.new ≡ names.old) }
     ensures fault { IfOk result
-        (λ fault. fault ≡ earlier (first_fault (repeats names.old (param_names params.now)))
-        (first_fault (above 8 (places (param_names params.now))))) }
+        (λ fault. fault ≡ earlier
+        (first_fault (faults_as scope.now (Some op.now.kind) (expression_of op.now.answer)))
+        (first_fault (maybe_effect_faults names.old fields.now scope.now op.now.effect))) }
 {
-    let list = list_params(alloc, params)?;
-    let all = places_of(alloc, list.as_slice())?;
-    let repeated = meet_after(names, list.as_slice())?;
-    Ok(first(repeated, above_limit(all.as_slice(), MAX_PARAMETERS)))
+    let answer = fault_as(scope, Some(op.kind), &op.answer);
+    let effect = maybe_effect_fault(alloc, &op.effect, fields, names, scope)?;
+    Ok(first(answer, effect))
 }
 
 /// The first fault of what an operation emits, if it emits anything.
@@ -88,35 +88,29 @@ fn effect_fault(
         (λ fault. fault ≡ first_fault (effect_faults names.old fields.now scope.now effect.now)) }
 {
     let binds = effect.binds.items();
-    let stmts = effect.stmts.items();
-    let named = bind_names_fault(alloc, binds, names)?;
+    let listed = list_fault(names, binds, MAX_EMITTED)?;
     let values = binds_fault(scope, binds);
     let test = fault_as(scope, Some(Kind::Bool), &effect.test);
-    let targets = list_targets(alloc, stmts)?;
-    let steps = places_of(alloc, targets.as_slice())?;
-    let long = above_limit(steps.as_slice(), MAX_STATEMENTS);
-    let kinds = kinds_of_binds(alloc, binds)?;
-    let table = Table::of(alloc, kinds)?;
-    let inner = Scope::over(fields, table);
-    let applied = stmts_fault(fields, &inner, stmts);
-    Ok(first(named, first(values, first(test, first(long, applied)))))
+    let applied = application_fault(alloc, effect, fields)?;
+    Ok(first(listed, first(values, first(test, applied))))
 }
 
-/// The fault of the first emitted name that repeats a name of a field or an earlier one, or is one too many.
-fn bind_names_fault(
+/// The first fault of the statements that apply what an operation emits.
+fn application_fault(
     alloc: Global,
-    binds: &[Bind],
-    names: &mut WordSet,
+    effect: &EmitDecl,
+    fields: &Table,
 ) -> Result<Option<TypeFault>, NoMemory>
-    ensures names { OnOk result (names.new ≡ names.old) }
-    ensures fault { IfOk result
-        (λ fault. fault ≡ earlier (first_fault (repeats names.old (bind_names binds.now)))
-        (first_fault (above 4 (places (bind_names binds.now))))) }
+    ensures { IfOk result
+        (λ fault. fault ≡ earlier (first_fault (above 64 (places (target_names effect.now.stmts))))
+        (first_fault (each (stmt_faults fields.now (fields.now ++ binds_known effect.now.binds))
+        effect.now.stmts))) }
 {
-    let list = list_binds(alloc, binds)?;
-    let all = places_of(alloc, list.as_slice())?;
-    let twice = meet_after(names, list.as_slice())?;
-    Ok(first(twice, above_limit(all.as_slice(), MAX_EMITTED)))
+    let stmts = effect.stmts.items();
+    let binds = Table::of(alloc, effect.binds.items())?;
+    let scope = Scope::over(fields, binds);
+    let applied = stmts_fault(fields, &scope, stmts);
+    Ok(first(above_limit(stmts, MAX_STATEMENTS), applied))
 }
 
 fn binds_fault(scope: &Scope<'_>, binds: &[Bind]) -> Option<TypeFault>
@@ -165,57 +159,4 @@ fn target_fault(kind: Option<Kind>, at: u32) -> Option<TypeFault>
         Some(_) => None,
         None => Some(TypeFault::Unknown(at)),
     }
-}
-
-fn kinds_of_params(alloc: Global, params: &[Param]) -> Result<Vec<Known>, NoMemory>
-    ensures { IfOk result (λ kinds. kinds.items ≡ params_known params.now) }
-{
-    Ok(
-        params
-            .iter()
-            .map(|param| Known {
-                word: param.name.word,
-                kind: kind_of_base(param.base),
-            })
-            .collect(alloc)?,
-    )
-}
-
-fn kinds_of_binds(alloc: Global, binds: &[Bind]) -> Result<Vec<Known>, NoMemory>
-    ensures { IfOk result (λ kinds. kinds.items ≡ binds_known binds.now) }
-{
-    Ok(
-        binds
-            .iter()
-            .map(|bind| Known {
-                word: bind.name.word,
-                kind: kind_of_base(bind.base),
-            })
-            .collect(alloc)?,
-    )
-}
-
-fn list_params(alloc: Global, params: &[Param]) -> Result<Vec<Name>, NoMemory>
-    ensures { IfOk result (λ names. names.items ≡ param_names params.now) }
-{
-    Ok(params.iter().map(|param| param.name).collect(alloc)?)
-}
-
-fn list_binds(alloc: Global, binds: &[Bind]) -> Result<Vec<Name>, NoMemory>
-    ensures { IfOk result (λ names. names.items ≡ bind_names binds.now) }
-{
-    Ok(binds.iter().map(|bind| bind.name).collect(alloc)?)
-}
-
-fn list_targets(alloc: Global, stmts: &[Stmt]) -> Result<Vec<Name>, NoMemory>
-    ensures { IfOk result (λ names. names.items ≡ target_names stmts.now) }
-{
-    Ok(stmts.iter().map(|stmt| stmt.target).collect(alloc)?)
-}
-
-/// The source offsets of names.
-fn places_of(alloc: Global, names: &[Name]) -> Result<Vec<u32>, NoMemory>
-    ensures { IfOk result (λ all. all.items ≡ places names.now) }
-{
-    Ok(names.iter().map(|name| name.at).collect(alloc)?)
 }

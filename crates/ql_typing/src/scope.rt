@@ -1,7 +1,8 @@
-ghost use Rattle.std.specs.Prelude.{◌≡◌, ◌++◌, IfOk};
+ghost use Rattle.std.specs.Prelude.{◌≡◌, ◌++◌, IfOk, map};
 ghost use Rattle.ql_typing.specs.Kinds.{kind_in};
 ghost use Rattle.ql_typing.specs.Tables.{FindsKinds};
 
+use crate::named::{Kinded, Named};
 use indexmap::IndexMap;
 use ql_base::{NoMemory, Word};
 use ql_lang::Kind;
@@ -36,9 +37,13 @@ impl Model for Table {
 }
 
 impl Table {
-    pub(crate) fn of(alloc: Global, known: Vec<Known>) -> Result<Table, NoMemory>
-        ensures { IfOk result (λ table. table ≡ known.items) }
+    /// The names of items with their kinds.
+    pub(crate) fn of<T: Kinded>(alloc: Global, items: &[T]) -> Result<Table, NoMemory>
+        ensures { IfOk result
+            (λ table. table
+            ≡ map (λ x. record { word = (T.named x).word; kind = T.kinded x }) items.now) }
     {
+        let known = list_kinds(alloc, items)?;
         let kinds = index_kinds(alloc, known.as_slice())?;
         Ok(Table { known, kinds })
     }
@@ -49,6 +54,21 @@ impl Table {
     {
         self.kinds.get(word).copied()
     }
+}
+
+fn list_kinds<T: Kinded>(alloc: Global, items: &[T]) -> Result<Vec<Known>, NoMemory>
+    ensures { IfOk result
+        (λ known. known.items
+        ≡ map (λ x. record { word = (T.named x).word; kind = T.kinded x }) items.now) }
+{
+    let mut known = Vec::with_capacity(alloc, items.len())?;
+    for item in items {
+        known.push(Known {
+            word: item.name().word,
+            kind: item.kind(),
+        })?;
+    }
+    Ok(known)
 }
 
 /// The kinds of names. They are inserted from the last to the first, so that a name's first kind stays.

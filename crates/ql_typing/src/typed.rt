@@ -2,17 +2,17 @@ ghost use Rattle.std.specs.Prelude.{◌≡◌, ◌<◌, ◌≤◌, ◌^◌, [], 
 ghost use Rattle.ql_lang.specs.Formulas.{resolved_of};
 ghost use Rattle.std.specs.List.{list_any};
 ghost use Rattle.std.specs.Str.{bytes_eq};
-ghost use Rattle.ql_typing.specs.Faults.{IsRefusal, ReportsFirst, names_met};
+ghost use Rattle.ql_typing.specs.Faults.{IsRefusal, ReportsFirst, each, names_met};
 ghost use Rattle.ql_typing.specs.Lookups.{txn_place, type_place};
-ghost use Rattle.ql_typing.specs.Operations.{all_ops, op_contracts, op_kinds, op_place, op_words, txn_contracts, uses_op};
-ghost use Rattle.ql_typing.specs.Programs.{op_names, program_faults};
+ghost use Rattle.ql_typing.specs.Operations.{all_ops, op_contract, op_contracts, op_kinds, op_place, op_words, txn_contract, txn_contracts, uses_op};
+ghost use Rattle.ql_typing.specs.Programs.{op_names, program_faults, txn_faults, type_faults};
 ghost use Rattle.ql_typing.specs.WellFormed.{IsOpContract, IsTxnContract};
 
 use crate::build::number_each;
 use crate::fault::TypeFault;
 use crate::formulas::{formulas_of_ops, formulas_of_txns};
 use crate::lookup::{find_kind, find_op, find_txn, find_type};
-use crate::program::{list_ops, program_fault};
+use crate::program::program_fault;
 use ql_base::{DeclId, Names, NoMemory, OpId, TypeId};
 use ql_lang::{Formula, Name, OpDecl, Program, TxnDecl, TypeDecl};
 use std::alloc::Global;
@@ -58,14 +58,36 @@ fn number(alloc: Global, program: Program) -> Result<Typed, NoMemory>
     ensures { IfOk result (λ typed. typed.program ≡ program) }
 {
     let ops = number_ops(alloc, program.types.items())?;
-    let op_formulas = formulas_of_ops(alloc, program.types.items(), &ops)?;
-    let txn_formulas = formulas_of_txns(alloc, program.txns.items(), &ops)?;
+    let formulas = resolve_all(alloc, &program, &ops)?;
     Ok(Typed {
         program,
         ops,
-        op_formulas,
-        txn_formulas,
+        op_formulas: formulas.of_ops,
+        txn_formulas: formulas.of_txns,
     })
+}
+
+/// The contracts of a program, with their names resolved.
+#[derive(Drop)]
+struct Formulas {
+    of_ops: Vec<Formula>,
+    of_txns: Vec<Formula>,
+}
+
+/// Resolves the contracts of a program, by the names of its operations.
+fn resolve_all(alloc: Global, program: &Program, ops: &Names) -> Result<Formulas, NoMemory>
+    requires ops { each (type_faults ops.now) program.now.types ≡ [] }
+    requires txns { each (txn_faults ops.now) program.now.txns ≡ [] }
+    ensures of_ops { IfOk result
+        (λ formulas. map resolved_of formulas.of_ops.items
+        ≡ map (op_contract ops.now) (all_ops program.now.types)) }
+    ensures of_txns { IfOk result
+        (λ formulas. map resolved_of formulas.of_txns.items
+        ≡ map (txn_contract ops.now) program.now.txns) }
+{
+    let of_ops = formulas_of_ops(alloc, program.types.items(), ops)?;
+    let of_txns = formulas_of_txns(alloc, program.txns.items(), ops)?;
+    Ok(Formulas { of_ops, of_txns })
 }
 
 /// The names of the operations of types, by their numbers.
@@ -73,9 +95,10 @@ fn number_ops(alloc: Global, types: &[TypeDecl]) -> Result<Names, NoMemory>
     requires { length (names_met [] (op_names types.now)) < 2 ^ 32 }
     ensures { IfOk result (λ ops. ops ≡ names_met [] (op_names types.now)) }
 {
-    let list = list_ops(alloc, types)?;
     let mut ops = Names::new(alloc);
-    number_each(list.as_slice(), &mut ops)?;
+    for declared in types {
+        number_each(declared.ops.items(), &mut ops)?;
+    }
     Ok(ops)
 }
 

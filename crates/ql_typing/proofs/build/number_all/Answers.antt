@@ -1,4 +1,5 @@
 use Rattle.std.proofs.Common.{◌≡◌, ◌+◌, ap, arith, drop, length, sym, subst, ◌∙◌}
+use Rattle.std.proofs.lemmas.List.{map-id}
 use Rattle.ql_typing.specs.Faults.{names_met}
 use Rattle.ql_typing.specs.Resolved.{ops_met}
 use Rattle.ql_typing.proofs.Each.{next_item, no_item}
@@ -11,7 +12,7 @@ unfolding ops_met
 loop-var-preserved c =
     let here = next_item c.args.vars.now c.loop-var.var-index c.var-item.result c.loop-var-test.true c.var-item.is in
     let met = subst (λ vs. ops_met c.loop-var.ops vs ≡ ops_met c.args.ops.now c.args.vars.now) here c.loop-var.invariant.met in
-    rw (c.in_ok-number_each.ensures.numbered, c.items.ensures)
+    rw (c.in_ok-number_each.ensures.numbered, c.items.ensures, map-id)
     (record { kept = kept-names_met c.args.ops.now c.loop-var.ops c.var-item.result.ops c.loop-var.invariant.kept; met = met })
 
 pub returns-clause-numbered : goal.returns-clause-numbered
@@ -25,4 +26,4 @@ number_each-requires c =
     let here = next_item c.args.vars.now c.loop-var.var-index c.var-item.result c.loop-var-test.true c.var-item.is in
     let met = subst (λ vs. ops_met c.loop-var.ops vs ≡ ops_met c.args.ops.now c.args.vars.now) here c.loop-var.invariant.met in
     let grown = ops_grow (names_met c.loop-var.ops c.var-item.result.ops) (drop (c.loop-var.var-index + 1) c.args.vars.now) in
-    rw c.items.ensures (omega (arith, grown, ap length met, c.requires))
+    rw (c.items.ensures, map-id) (omega (arith, grown, ap length met, c.requires))

@@ -11,11 +11,11 @@ pub number_ops-requires : goal.number_ops-requires
 number_ops-requires c =
     rw c.items.ensures (omega (arith, few_ops c.args.program c.requires, ap length (known_words c.args.program c.requires), length-map (all_ops c.args.program.types) (λ o. o.name.word)))
 
-pub formulas_of_ops-requires : goal.formulas_of_ops-requires
-formulas_of_ops-requires c = rw (c.in_ok-ops.ensures, c.items.ensures, c.items-2.ensures, known_words c.args.program c.requires) (types_typed c.args.program c.requires)
+pub resolve_all-requires-clause-ops : goal.resolve_all-requires-clause-ops
+resolve_all-requires-clause-ops c = rw (c.in_ok-ops.ensures, c.items.ensures, known_words c.args.program c.requires) (types_typed c.args.program c.requires)
 
-pub formulas_of_txns-requires : goal.formulas_of_txns-requires
-formulas_of_txns-requires c = rw (c.in_ok-ops.ensures, c.items.ensures, c.items-3.ensures, known_words c.args.program c.requires) (txns_typed c.args.program c.requires)
+pub resolve_all-requires-clause-txns : goal.resolve_all-requires-clause-txns
+resolve_all-requires-clause-txns c = rw (c.in_ok-ops.ensures, c.items.ensures, known_words c.args.program c.requires) (txns_typed c.args.program c.requires)
 
 pub invariant_of-result : goal.invariant_of-result
 invariant_of-result c =
@@ -24,6 +24,6 @@ invariant_of-result c =
     record {
       well_typed = merely c.requires;
       named = named;
-      of_ops = merely (c.in_ok-op_formulas.ensures ∙ (λ i. map (op_contract (named i)) (all_ops (c.items-2.ensures i))));
-      of_txns = merely (c.in_ok-txn_formulas.ensures ∙ (λ i. map (txn_contract (named i)) (c.items-3.ensures i)));
+      of_ops = merely (c.in_ok-formulas.ensures.of_ops ∙ ap (λ ws. map (op_contract ws) (all_ops c.args.program.types)) named);
+      of_txns = merely (c.in_ok-formulas.ensures.of_txns ∙ ap (λ ws. map (txn_contract ws) c.args.program.txns) named);
     }
