@@ -1,9 +1,10 @@
 -- which rules the faults of a contract break
-use Rattle.std.proofs.Common.{◌≡◌, ℕ, Bool, true, false, ◌||◌, List, [], ◌∷◌, ◌++◌, None, Some, drop, refl, ap, sym, ◌∙◌}
+use Rattle.std.proofs.Common.{◌≡◌, ℕ, Bool, true, false, ◌||◌, List, [], ◌∷◌, ◌++◌, None, Some, Result, Ok, Err, IfOk, drop, refl, ap, sym, ◌∙◌}
 use Rattle.std.specs.Prelude.{if◌then◌else◌}
 use Rattle.std.specs.List.{list_any}
 use Rattle.std.proofs.lemmas.List.Folds.{list_any-append}
 use Rattle.ql_base.specs.Numbering.{has_name, with_name}
+use Rattle.ql_base.specs.declared.no_memory.NoMemory.{NoMemory}
 use Rattle.ql_lang.specs.declared.name.Name.{Name}
 use Rattle.ql_lang.specs.declared.contract.Var.{Var}
 use Rattle.ql_lang.specs.declared.contract.Point.{Point}
@@ -13,8 +14,9 @@ use Rattle.ql_typing.specs.declared.fault.TypeFault.{TypeFault}
 use Rattle.ql_typing.specs.declared.fault.TypeFault.TheVariants as typing
 use Rattle.ql_typing.specs.Faults.{IsRefusal, each, first_fault, names_met, repeats, unless, where_so}
 use Rattle.ql_typing.specs.ContractFaults.{choice_faults, contract_faults, extra_var, op_faults, point_faults, prop_faults, rel_faults, var_names}
+use Rattle.ql_holds_files.specs.declared.rules.HoldsRule.{HoldsRule}
 use Rattle.ql_holds_files.specs.declared.rules.HoldsRule.TheVariants.{Unknown, Twice, TxnAtom, Variables}
-use Rattle.ql_holds_files.specs.ContractLine.{sentence_faults, is_repeat, is_txn_atom, is_unknown_name, lowest_rule}
+use Rattle.ql_holds_files.specs.ContractLine.{sentence_faults, is_repeat, is_txn_atom, is_unknown_name, lowest_rule, rule_of_bound}
 
 pub unknown_either : (xs ys : List TypeFault) → list_any is_unknown_name (xs ++ ys) ≡ (list_any is_unknown_name xs || list_any is_unknown_name ys)
 unknown_either xs ys = list_any-append is_unknown_name xs ys
@@ -202,8 +204,11 @@ module _ (c : Sentence) (some : sentence_faults c ≡ [] → ⊥) where
   abbrev unknown_in : Bool
   unknown_in = list_any is_unknown_name (prop_faults false (names_met [] (var_names c.vars)) c.body)
 
+  abbrev repeat_in : Bool
+  repeat_in = list_any is_repeat (repeats [] (var_names c.vars))
+
   abbrev twice_in : Bool
-  twice_in = list_any is_repeat (repeats [] (var_names c.vars)) || list_any is_repeat (each (choice_faults None) c.vars)
+  twice_in = repeat_in || list_any is_repeat (each (choice_faults None) c.vars)
 
   abbrev txn_in : Bool
   txn_in = list_any is_txn_atom (prop_faults false (names_met [] (var_names c.vars)) c.body)
@@ -215,40 +220,24 @@ module _ (c : Sentence) (some : sentence_faults c ≡ [] → ⊥) where
       ∙ ap (λ b. Some (if unknown_in then Unknown else (if b then Twice else (if list_any is_txn_atom (sentence_faults c) then TxnAtom else Variables)))) (any_twice c)
       ∙ ap (λ b. Some (if unknown_in then Unknown else (if twice_in then Twice else (if b then TxnAtom else Variables)))) (any_txn_atom c)
 
-  pub lowest_unknown : unknown_in ≡ true → lowest_rule (sentence_faults c) ≡ Some Unknown
-  lowest_unknown e = lowest ∙ rw e refl
+  -- from what is computed of the variables
+  module _ (items : List Var) (is_items : items ≡ c.vars) (names : List (List ℕ)) (are_names : names ≡ names_met [] (var_names items)) where
+    unknown_is : (b t : Bool) → b ≡ list_any is_unknown_name (prop_faults false names c.body) → b ≡ t → unknown_in ≡ t
+    unknown_is b t e f =
+        sym (e ∙ ap (λ (ns : List (List ℕ)). list_any is_unknown_name (prop_faults false ns c.body)) (are_names ∙ ap (λ (vs : List Var). names_met [] (var_names vs)) is_items)) ∙ f
 
-  pub lowest_twice : unknown_in ≡ false → list_any is_repeat (repeats [] (var_names c.vars)) ≡ true → lowest_rule (sentence_faults c) ≡ Some Twice
-  lowest_twice e f = lowest ∙ rw (e, f) refl
+    pub lowest_unknown : (b : Bool) → b ≡ list_any is_unknown_name (prop_faults false names c.body) → b ≡ true → lowest_rule (sentence_faults c) ≡ Some Unknown
+    lowest_unknown b e f = lowest ∙ rw (unknown_is b true e f) refl
 
-  pub lowest_twice_op : unknown_in ≡ false → list_any is_repeat (repeats [] (var_names c.vars)) ≡ false → list_any is_repeat (each (choice_faults None) c.vars) ≡ true → lowest_rule (sentence_faults c) ≡ Some Twice
-  lowest_twice_op e f g = lowest ∙ rw (e, f, g) refl
+    module _ (b : Bool) (e : b ≡ list_any is_unknown_name (prop_faults false names c.body)) (f : b ≡ false) (twice : Bool) (is_twice : twice ≡ list_any is_repeat (repeats [] (var_names items))) where
+      bound : lowest_rule (sentence_faults c) ≡ Some (rule_of_bound twice c)
+      bound =
+          lowest ∙ ap (λ (u : Bool). Some (if u then Unknown else rule_of_bound repeat_in c)) (unknown_is b false e f)
+          ∙ ap (λ (t : Bool). Some (rule_of_bound t c)) (sym (is_twice ∙ ap (λ (vs : List Var). list_any is_repeat (repeats [] (var_names vs))) is_items))
 
-  pub lowest_txn : unknown_in ≡ false → list_any is_repeat (repeats [] (var_names c.vars)) ≡ false → list_any is_repeat (each (choice_faults None) c.vars) ≡ false → txn_in ≡ true
-      → lowest_rule (sentence_faults c) ≡ Some TxnAtom
-  lowest_txn e f g h = lowest ∙ rw (e, f, g, h) refl
-
-  pub lowest_variables : unknown_in ≡ false → list_any is_repeat (repeats [] (var_names c.vars)) ≡ false → list_any is_repeat (each (choice_faults None) c.vars) ≡ false → txn_in ≡ false
-      → lowest_rule (sentence_faults c) ≡ Some Variables
-  lowest_variables e f g h = lowest ∙ rw (e, f, g, h) refl
-
--- the names of a contract's variables, step by step
-module _ (vars items : List Var) (named slice : List Name) (is_items : items ≡ vars) (is_named : named ≡ var_names items) (is_slice : slice ≡ named) where
-  pub list_is : slice ≡ var_names vars
-  list_is = is_slice ∙ is_named ∙ ap (λ (vs : List Var). var_names vs) is_items
-
-  pub names_are : (names : List (List ℕ)) → names ≡ names_met [] slice → names ≡ names_met [] (var_names vars)
-  names_are names is = is ∙ ap (λ (ns : List Name). names_met [] ns) list_is
-
-  pub open_is : (names : List (List ℕ)) (q : Proposition) (b t : Bool) → names ≡ names_met [] slice → b ≡ list_any is_unknown_name (prop_faults false names q) → b ≡ t
-      → list_any is_unknown_name (prop_faults false (names_met [] (var_names vars)) q) ≡ t
-  open_is names q b t is e f = sym (e ∙ ap (λ (ns : List (List ℕ)). list_any is_unknown_name (prop_faults false ns q)) (names_are names is)) ∙ f
-
-  pub twice_is : (b t : Bool) → b ≡ list_any is_repeat (repeats [] slice) → b ≡ t → list_any is_repeat (repeats [] (var_names vars)) ≡ t
-  twice_is b t e f = sym (e ∙ ap (λ (ns : List Name). list_any is_repeat (repeats [] ns)) list_is) ∙ f
-
-  pub op_twice_is : (b t : Bool) → b ≡ list_any is_repeat (each (choice_faults None) items) → b ≡ t → list_any is_repeat (each (choice_faults None) vars) ≡ t
-  op_twice_is b t e f = sym (e ∙ ap (λ (vs : List Var). list_any is_repeat (each (choice_faults None) vs)) is_items) ∙ f
+      pub lowest_bound : (r : Result HoldsRule NoMemory) → IfOk r (λ rule. rule ≡ rule_of_bound twice c) → IfOk r (λ rule. lowest_rule (sentence_faults c) ≡ Some rule)
+      lowest_bound (Ok rule) is = bound ∙ ap (λ (k : HoldsRule). Some k) (sym is)
+      lowest_bound (Err fault) is = tt
 
 -- ---- what typing refuses has faults
 

@@ -1,5 +1,4 @@
 pub mod ContractRules
-pub mod OneEffect
 pub mod LineRefusals
 pub mod Lines
 pub mod OneFile

@@ -1,5 +1,5 @@
 -- what the readers of lines answer is given
-use Rattle.std.proofs.Common.{◌≡◌, inr, inl, ℕ, suc, List, [], Option, None, Some, Result, Ok, Err, length, map, ap, refl, sym, subst, ◌∙◌}
+use Rattle.std.proofs.Common.{◌≡◌, inr, inl, ℕ, suc, Bool, List, [], Option, None, Some, Result, Ok, Err, length, map, ap, refl, sym, subst, ◌∙◌}
 use Rattle.ql_exec.specs.declared.effect.Effect.{Effect}
 use Rattle.ql_lang.specs.Formulas.{Resolved}
 use Rattle.ql_lang.specs.Trees.{Sentence}
@@ -19,7 +19,7 @@ use Rattle.ql_holds_files.specs.declared.rules.HoldsRule.{HoldsRule}
 use Rattle.ql_holds_files.specs.declared.rules.HoldsRule.TheVariants.{Unexpected}
 use Rattle.ql_holds_files.specs.ContractLine.{sentence_faults, lowest_rule}
 use Rattle.ql_holds_files.specs.EffectLine.{IsHoldsEffectLine, effect_rule, holds_end_fields, with_named_effect}
-use Rattle.ql_holds_files.specs.HoldsFile.{ExtendsHoldsAs, IsMore, after_contract, after_more, named_formula_of, no_effects}
+use Rattle.ql_holds_files.specs.HoldsFile.{ExtendsHoldsAs, IsMore, after_contract, after_more, named_formula_of, no_effects, stage_after}
 use Rattle.ql_holds_files.specs.NamedFormulas.{NamedFormula}
 use Rattle.ql_holds_files.specs.Rules.{unless_broken}
 
@@ -85,3 +85,8 @@ module _ (formula : NamedFormula) (current : Current) (effects : NamedEffects) (
     pub effect_refused : (fault : LineFault HoldsRule) → IsLineAnswer (λ x. x ≡ unless_broken (effect_rule effects e) (with_named_effect effects e)) (Err fault) → IsLineAnswer Given (Err fault)
     effect_refused (Breaks rule) h = inl (Some e, at_next e is, broken_by (effect_rule effects e) rule (with_named_effect effects e) h)
     effect_refused NoMemory h = tt
+
+-- whether it was the last one is known
+pub stage_at : (P : Result Stage HoldsRule → Type 0) (formula : NamedFormula) (current : Current) (effects : NamedEffects) (b t : Bool) → b ≡ t → IsLineAnswer P (stage_after formula current effects (Ok b))
+    → IsLineAnswer P (stage_after formula current effects (Ok t))
+stage_at P formula current effects b t e h = subst (λ (x : Bool). IsLineAnswer P (stage_after formula current effects (Ok x))) e h

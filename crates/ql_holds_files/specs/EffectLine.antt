@@ -10,6 +10,7 @@ use Rattle.ql_base.specs.declared.limits.TheConstants.{MAX_EFFECTS}
 use Rattle.ql_lines.specs.Fields.{Fields, IsId}
 use Rattle.ql_value.specs.declared.value.Value.TheVariants.{Unit as UnitValue}
 use Rattle.ql_exec.specs.declared.effect.Draft.{Draft}
+use Rattle.ql_exec.specs.declared.effect.Effect.{Effect}
 use Rattle.ql_exec.specs.declared.effect.Payload.TheVariants.{Nothing}
 use Rattle.ql_exec.specs.declared.effect.Member.TheVariants.{Alone}
 use Rattle.ql_exec.specs.Effects.{effect_at}
@@ -77,11 +78,15 @@ with_named_effect named e = record {
   effects = named.effects ++ effect_of named.effects (named_draft named e) ∷ [];
 }
 
--- The lowest rule that an effect breaks after others: no earlier effect has an id that it sees; one that it sees is on
--- another object; there are too many.
-abbrev pub effect_rule : NamedEffects → EffectLine → Option HoldsRule
-effect_rule named e =
-    if list_any (λ id. is_none (effect_at named.effects id)) e.seen then Some NotForward
-    else (if list_any (λ id. is_elsewhere (named_draft named e).object (effect_at named.effects id)) e.seen then Some OtherObject
-    else (if nat_le MAX_EFFECTS (length named.effects) then Some TooMany
+-- The lowest rule that an effect outside any transaction breaks after others: no earlier effect has an id that it sees;
+-- one that it sees is on another object; there are too many.
+abbrev pub draft_rule : List Effect → Draft → Option HoldsRule
+draft_rule effects draft =
+    if list_any (λ id. is_none (effect_at effects id)) draft.seen then Some NotForward
+    else (if list_any (λ id. is_elsewhere draft.object (effect_at effects id)) draft.seen then Some OtherObject
+    else (if nat_le MAX_EFFECTS (length effects) then Some TooMany
     else None))
+
+-- the same of the effect of a line
+abbrev pub effect_rule : NamedEffects → EffectLine → Option HoldsRule
+effect_rule named e = draft_rule named.effects (named_draft named e)

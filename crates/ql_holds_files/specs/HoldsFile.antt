@@ -1,8 +1,9 @@
 -- The holds files: the question of one, or its first fault.
-use Rattle.std.specs.Prelude.{◌≡◌, ◌⊎◌, ℕ, suc, Bool, ◌&&◌, nat_le, [], map, length, Option, None, Some, Result, Ok, Err, if◌then◌else◌}
+use Rattle.std.specs.Prelude.{◌≡◌, ◌⊎◌, ℕ, suc, Bool, true, false, ◌&&◌, nat_le, [], map, length, Option, None, Some, Result, Ok, Err, if◌then◌else◌}
 use Rattle.ql_lines.specs.Fields.{fields_of, Fields, IsId}
 use Rattle.ql_lines.specs.Lines.{Ahead, Numbered}
 use Rattle.ql_line_files.specs.declared.fault.Broken.{Broken}
+use Rattle.ql_line_files.specs.declared.fault.LineFault.{LineFault}
 use Rattle.ql_line_files.specs.Outcomes.{Outcome}
 use Rattle.ql_lang.specs.Trees.{Sentence}
 use Rattle.ql_typing.specs.Resolved.{ops_met, resolved_in}
@@ -54,6 +55,12 @@ IsMore id fields (Some e) = IsHoldsEffectLine fields id e
 abbrev pub after_more : NamedFormula → Current → NamedEffects → Option EffectLine → Result Stage HoldsRule
 after_more formula current effects None = Ok (Ended formula current effects)
 after_more formula current effects (Some e) = unless_broken (effect_rule effects e) (WithEffects formula current (with_named_effect effects e))
+
+-- the stage that effects are read to, and whether their last line was
+abbrev pub stage_after : NamedFormula → Current → NamedEffects → Result Bool (LineFault HoldsRule) → Result Stage (LineFault HoldsRule)
+stage_after formula current effects (Ok true) = Ok (Ended formula current effects)
+stage_after formula current effects (Ok false) = Ok (WithEffects formula current effects)
+stage_after formula current effects (Err fault) = Err fault
 
 -- what a line makes of what was read before it, or the lowest rule that it breaks
 abbrev pub ExtendsHolds : Stage → Numbered → Result Stage HoldsRule → Type 0

@@ -2,6 +2,7 @@
 use Rattle.std.specs.Prelude.{ℕ, Option, None, Some, Result, Ok, Err}
 use Rattle.ql_line_files.specs.declared.fault.FileFault.{FileFault}
 use Rattle.ql_line_files.specs.declared.fault.FileFault.TheVariants as file
+use Rattle.ql_line_files.specs.declared.fault.LineFault.{LineFault}
 use Rattle.ql_holds_files.specs.declared.holds_fault.HoldsFault.{HoldsFault}
 use Rattle.ql_holds_files.specs.declared.holds_fault.HoldsFault.TheVariants as fault
 use Rattle.ql_holds_files.specs.declared.rules.HoldsRule.{HoldsRule}
@@ -11,6 +12,11 @@ use Rattle.ql_holds_files.specs.declared.rules.HoldsRule.TheVariants.{Unexpected
 abbrev pub unless_broken : {A : Type 0} → Option HoldsRule → A → Result A HoldsRule
 unless_broken None made = Ok made
 unless_broken (Some rule) made = Err rule
+
+-- a reader's answer, with the state that it leaves behind
+abbrev pub with_state : {A U : Type 0} → A → Result U (LineFault HoldsRule) → Result A (LineFault HoldsRule)
+with_state state (Ok u) = Ok state
+with_state state (Err fault) = Err fault
 
 -- a rule that is broken at a line
 abbrev pub rule_at : HoldsRule → ℕ → HoldsFault

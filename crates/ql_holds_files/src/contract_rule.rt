@@ -3,7 +3,7 @@ ghost use Rattle.std.specs.List.{list_any};
 ghost use Rattle.ql_lang.specs.Trees.{proposition_of, sentence_of};
 ghost use Rattle.ql_typing.specs.Faults.{each, names_met, repeats};
 ghost use Rattle.ql_typing.specs.ContractFaults.{choice_faults, point_faults, prop_faults, var_names};
-ghost use Rattle.ql_holds_files.specs.ContractLine.{sentence_faults, is_repeat, is_txn_atom, is_unknown_name, lowest_rule};
+ghost use Rattle.ql_holds_files.specs.ContractLine.{sentence_faults, is_repeat, is_txn_atom, is_unknown_name, lowest_rule, rule_of_bound};
 
 use crate::rules::HoldsRule;
 use ql_base::NoMemory;
@@ -17,16 +17,23 @@ pub(crate) fn lowest_rule(alloc: Global, contract: &Contract) -> Result<HoldsRul
     ensures { IfOk result
         (λ rule. lowest_rule (sentence_faults (sentence_of contract.now)) ≡ Some rule) }
 {
-    let vars = contract.vars.items();
-    let named = names_of(alloc, vars)?;
-    let met = meet(alloc, named.as_slice())?;
+    let met = meet_variables(alloc, contract.vars.items())?;
     if is_open(&contract.body, &met.names) {
-        return Ok(HoldsRule::Unknown);
+        Ok(HoldsRule::Unknown)
+    } else {
+        rule_of_bound(alloc, contract, met.twice)
     }
-    if met.twice {
+}
+
+// The lowest rule that a contract breaks which binds each variable that it uses. `twice` says whether a variable
+// repeats another.
+fn rule_of_bound(alloc: Global, contract: &Contract, twice: bool) -> Result<HoldsRule, NoMemory>
+    ensures { IfOk result (λ rule. rule ≡ rule_of_bound twice (sentence_of contract.now)) }
+{
+    if twice {
         return Ok(HoldsRule::Twice);
     }
-    if repeats_an_operation(alloc, vars)? {
+    if repeats_an_operation(alloc, contract.vars.items())? {
         return Ok(HoldsRule::Twice);
     }
     if speaks_of_txn(&contract.body) {
@@ -34,6 +41,16 @@ pub(crate) fn lowest_rule(alloc: Global, contract: &Contract) -> Result<HoldsRul
     } else {
         Ok(HoldsRule::Variables)
     }
+}
+
+// The distinct names of variables, and whether one occurs twice.
+fn meet_variables(alloc: Global, vars: &[Var]) -> Result<Met, NoMemory>
+    ensures names { IfOk result (λ met. met.names ≡ names_met [] (var_names vars.now)) }
+    ensures twice { IfOk result
+        (λ met. met.twice ≡ list_any is_repeat (repeats [] (var_names vars.now))) }
+{
+    let names = names_of(alloc, vars)?;
+    meet(alloc, names.as_slice())
 }
 
 // The names of variables, in order.

@@ -1,15 +1,17 @@
-ghost use Rattle.std.specs.Prelude.{◌≡◌, ◌≤◌, ◌<◌, ◌+◌, ◌-◌, ◌^◌, IfOk, length, slice_get};
+ghost use Rattle.std.specs.Prelude.{◌≡◌, ◌≤◌, ◌<◌, ◌+◌, ◌-◌, ◌^◌, ◌++◌, ◌∷◌, [], IfOk, length, slice_get};
 ghost use Rattle.std.specs.Option.{option_map_or};
 ghost use Rattle.ql_base.specs.Numbering.{with_name};
 ghost use Rattle.ql_base.specs.declared.limits.TheConstants.{MAX_EFFECTS};
+ghost use Rattle.ql_exec.specs.Execution.{effect_of};
+ghost use Rattle.ql_exec.specs.declared.effect.Member.TheVariants.{Alone};
 ghost use Rattle.ql_line_files.specs.Answers.{IsLineAnswer};
-ghost use Rattle.ql_holds_files.specs.EffectLine.{effect_rule, number_among, plain_draft, with_named_effect};
+ghost use Rattle.ql_holds_files.specs.EffectLine.{draft_rule, effect_rule, number_among, plain_draft, with_named_effect};
 ghost use Rattle.ql_holds_files.specs.NamedOperations.{NamesFew};
-ghost use Rattle.ql_holds_files.specs.Rules.{unless_broken};
+ghost use Rattle.ql_holds_files.specs.Rules.{unless_broken, with_state};
 
 use crate::effect_line::EffectLine;
 use crate::rules::HoldsRule;
-use ql_base::{MAX_EFFECTS, Names, NoMemory, ObjId, OpId, SessId, Word};
+use ql_base::{IdSet, MAX_EFFECTS, Names, NoMemory, ObjId, OpId, SessId, Word};
 use ql_exec::{Draft, Effect, ExecFault, Execution, Member, Payload};
 use ql_line_files::LineFault;
 use ql_value::{Value, Values};
@@ -27,32 +29,42 @@ pub struct NamedEffects {
 impl NamedEffects {
     /// Adds the effect of a line, or reports the lowest rule that it breaks.
     pub(crate) fn put(
-        self,
+        &mut self,
         alloc: Global,
         line: EffectLine,
-    ) -> Result<NamedEffects, LineFault<HoldsRule>>
-        requires few { length self.effects ≤ MAX_EFFECTS }
-        requires objects { length self.objects ≤ length self.effects }
-        requires operations { NamesFew self }
+    ) -> Result<(), LineFault<HoldsRule>>
+        requires few { length self.old.effects ≤ MAX_EFFECTS }
+        requires objects { length self.old.objects ≤ length self.old.effects }
+        requires operations { NamesFew self.old }
         ensures { IsLineAnswer
-            (λ x. x ≡ unless_broken (effect_rule self line) (with_named_effect self line)) result }
+            (λ x. x ≡ unless_broken (effect_rule self.old line) (with_named_effect self.old line))
+            (with_state self.new result) }
     {
-        let mut named = self;
-        let (last_object, last_op) = last_numbers(named.effects.effects());
-        let object = ObjId(number(&mut named.objects, &line.object, last_object)?);
-        let op = OpId(number(&mut named.ops, &line.op, last_op)?);
-        let drafted = draft(alloc, object, op, line);
-        match named.effects.push(drafted) {
-            Ok(_) => {}
-            Err(ExecFault::NotForward(_)) => return Err(LineFault::Breaks(HoldsRule::NotForward)),
-            Err(ExecFault::OtherObject(_)) => return Err(LineFault::Breaks(HoldsRule::OtherObject)),
-            Err(ExecFault::SplitTxn(_)) => unreachable!(),
-            Err(ExecFault::NoMemory) => return Err(LineFault::NoMemory),
-        }
-        if named.effects.len() > MAX_EFFECTS {
-            return Err(LineFault::Breaks(HoldsRule::TooMany));
-        }
-        Ok(named)
+        let (last_object, last_op) = last_numbers(self.effects.effects());
+        let object = ObjId(number(&mut self.objects, &line.object, last_object)?);
+        let op = OpId(number(&mut self.ops, &line.op, last_op)?);
+        push(
+            &mut self.effects,
+            draft(alloc, object, op, line.session, line.seen),
+        )
+    }
+}
+
+// Appends an effect outside any transaction, or reports the lowest rule that it breaks.
+fn push(effects: &mut Execution, draft: Draft) -> Result<(), LineFault<HoldsRule>>
+    requires few { length effects.old ≤ MAX_EFFECTS }
+    requires alone { draft.member ≡ Alone }
+    ensures { IsLineAnswer
+        (λ x. x ≡ unless_broken (draft_rule effects.old draft)
+        (effects.old ++ effect_of effects.old draft ∷ [])) (with_state effects.new result) }
+{
+    match effects.push(draft) {
+        Ok(_) if effects.len() > MAX_EFFECTS => Err(LineFault::Breaks(HoldsRule::TooMany)),
+        Ok(_) => Ok(()),
+        Err(ExecFault::NotForward(_)) => Err(LineFault::Breaks(HoldsRule::NotForward)),
+        Err(ExecFault::OtherObject(_)) => Err(LineFault::Breaks(HoldsRule::OtherObject)),
+        Err(ExecFault::SplitTxn(_)) => unreachable!(),
+        Err(ExecFault::NoMemory) => Err(LineFault::NoMemory),
     }
 }
 
@@ -82,8 +94,8 @@ fn number(names: &mut Names, word: &Word, likely: u32) -> Result<u32, NoMemory>
 }
 
 // An effect outside any transaction, without arguments, payload and answer.
-fn draft(alloc: Global, object: ObjId, op: OpId, line: EffectLine) -> Draft
-    ensures { result ≡ plain_draft object op line.session line.seen }
+fn draft(alloc: Global, object: ObjId, op: OpId, session: u32, seen: IdSet) -> Draft
+    ensures { result ≡ plain_draft object op session seen }
 {
     Draft {
         object,
@@ -91,8 +103,8 @@ fn draft(alloc: Global, object: ObjId, op: OpId, line: EffectLine) -> Draft
         args: Values::of(Vec::new(alloc)),
         payload: Payload::Nothing,
         answer: Value::Unit,
-        session: SessId(line.session),
+        session: SessId(session),
         member: Member::Alone,
-        seen: line.seen,
+        seen,
     }
 }

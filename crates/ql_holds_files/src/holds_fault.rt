@@ -7,7 +7,7 @@ use ql_line_files::{Broken, FileFault};
 /// Why a text is no holds file, with the line number of its first fault, counted from 1. A file that
 /// ends too early has its fault in the line after the last. Of the faults of one line the first in
 /// this order is reported.
-#[derive(Clone, Copy, Debug, PartialEq, Eq)]
+#[derive(Clone, Copy)]
 pub enum HoldsFault {
     /// No holds file has this line after those before it.
     Unexpected(u64),

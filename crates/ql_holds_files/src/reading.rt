@@ -1,13 +1,15 @@
-ghost use Rattle.std.specs.Prelude.{◌≡◌, ◌<◌, ◌≤◌, ◌^◌, suc, nat_le, ◌&&◌, IfOk, Ok, length, map};
+ghost use Rattle.std.specs.Prelude.{◌≡◌, ◌<◌, ◌≤◌, ◌^◌, suc, nat_le, ◌&&◌, IfOk, Ok, Err, length, map};
 ghost use Rattle.std.specs.List.{flat_map};
 ghost use Rattle.ql_base.specs.declared.limits.TheConstants.{MAX_EFFECTS};
 ghost use Rattle.ql_lang.specs.Trees.{sentence_of};
 ghost use Rattle.ql_lines.specs.Fields.{fields_of};
 ghost use Rattle.ql_line_files.specs.Answers.{IsEndAnswer, IsLineAnswer};
 ghost use Rattle.ql_line_files.specs.declared.fault.FileFault.TheVariants.{Broken as FileBroken};
-ghost use Rattle.ql_holds_files.specs.ContractLine.{IsContractLine};
-ghost use Rattle.ql_holds_files.specs.HoldsFile.{ExtendsHolds, ExtendsHoldsAs, IsCurrentLine, IsMore, after_contract, after_more, closed};
+ghost use Rattle.ql_typing.specs.Faults.{IsRefusal};
+ghost use Rattle.ql_holds_files.specs.ContractLine.{IsContractLine, sentence_faults};
+ghost use Rattle.ql_holds_files.specs.HoldsFile.{ExtendsHolds, ExtendsHoldsAs, IsCurrentLine, IsMore, after_contract, after_more, closed, stage_after};
 ghost use Rattle.ql_holds_files.specs.Limits.{IsWithin};
+ghost use Rattle.ql_holds_files.specs.NamedFormulas.{NamedFormula};
 ghost use Rattle.ql_holds_files.specs.NamedOperations.{HasNamedFew, IsShort, NamesFew};
 ghost use Rattle.ql_holds_files.specs.declared.reading.Stage.TheVariants.{WithEffects};
 
@@ -60,7 +62,10 @@ pub(crate) fn take(
         Stage::WithEffects(contract, current, effects) => {
             with_more(alloc, contract, current, effects, text)
         }
-        Stage::Ended(_, _, _) => Err(LineFault::Breaks(HoldsRule::Unexpected)),
+        ended => {
+            drop(ended);
+            Err(LineFault::Breaks(HoldsRule::Unexpected))
+        }
     }
 }
 
@@ -80,10 +85,10 @@ fn with_contract(alloc: Global, contract: &Contract) -> Result<Stage, LineFault<
     requires { length (flat_map (λ v. v.ops) contract.now.vars) < 2 ^ 32 }
     ensures { IsLineAnswer (λ x. x ≡ after_contract (sentence_of contract.now)) result }
 {
+    let names = words_of(alloc, contract.vars.items())?;
     let mut ops = Names::new(alloc);
     match resolve(alloc, contract, &mut ops, false) {
         Ok(formula) => {
-            let names = words_of(alloc, contract.vars.items())?;
             let effects = NamedEffects {
                 objects: Names::new(alloc),
                 ops,
@@ -91,9 +96,23 @@ fn with_contract(alloc: Global, contract: &Contract) -> Result<Stage, LineFault<
             };
             Ok(Stage::WithContract(ReadContract::of(formula, names), effects))
         }
-        Err(fault) => match fault {
-            TypeFault::NoMemory => Err(LineFault::NoMemory),
-            _ => Err(LineFault::Breaks(lowest_rule(alloc, contract)?)),
+        Err(fault) => {
+            drop(ops);
+            Err(refusal(alloc, contract, fault))
+        }
+    }
+}
+
+// Why a contract that isn't typed may not stand in a line.
+fn refusal(alloc: Global, contract: &Contract, fault: TypeFault) -> LineFault<HoldsRule>
+    requires { IsRefusal (sentence_faults (sentence_of contract.now)) fault }
+    ensures { IsLineAnswer (λ x. x ≡ after_contract (sentence_of contract.now)) (Err result) }
+{
+    match fault {
+        TypeFault::NoMemory => LineFault::NoMemory,
+        _ => match lowest_rule(alloc, contract) {
+            Ok(rule) => LineFault::Breaks(rule),
+            Err(NoMemory) => LineFault::NoMemory,
         },
     }
 }
@@ -122,7 +141,11 @@ fn with_current(
             let current = Current { line: number, id };
             Ok(Stage::WithEffects(contract, current, effects))
         }
-        None => Err(LineFault::Breaks(HoldsRule::Unexpected)),
+        None => {
+            drop(contract);
+            drop(effects);
+            Err(LineFault::Breaks(HoldsRule::Unexpected))
+        }
     }
 }
 
@@ -141,15 +164,41 @@ fn with_more(
         (ExtendsHoldsAs (IsMore (suc (length effects.effects)) (fields_of text.now))
         (after_more contract current effects)) result }
 {
+    let mut effects = effects;
+    match is_last(alloc, &mut effects, text) {
+        Ok(true) => Ok(Stage::Ended(contract, current, effects)),
+        Ok(false) => Ok(Stage::WithEffects(contract, current, effects)),
+        Err(fault) => {
+            drop(contract);
+            drop(effects);
+            Err(fault)
+        }
+    }
+}
+
+// Whether a line is the last one. The effect of any other is added.
+fn is_last(
+    alloc: Global,
+    effects: &mut NamedEffects,
+    text: &[u8],
+) -> Result<bool, LineFault<HoldsRule>>
+    requires few { length effects.old.effects ≤ MAX_EFFECTS }
+    requires objects { length effects.old.objects ≤ length effects.old.effects }
+    requires operations { NamesFew effects.old }
+    ensures { (formula : NamedFormula) (current : Current) → IsLineAnswer
+        (ExtendsHoldsAs (IsMore (suc (length effects.old.effects)) (fields_of text.now))
+        (after_more formula current effects.old))
+        (stage_after formula current effects.new result) }
+{
     if is_end(text) {
-        return Ok(Stage::Ended(contract, current, effects));
+        return Ok(true);
     }
     let id = effects.effects.len() + 1;
     let Some(effect) = effect_line(alloc, text, id)? else {
         return Err(LineFault::Breaks(HoldsRule::Unexpected));
     };
     match effects.put(alloc, effect) {
-        Ok(more) => Ok(Stage::WithEffects(contract, current, more)),
+        Ok(()) => Ok(false),
         Err(fault) => Err(fault),
     }
 }
@@ -158,17 +207,35 @@ fn with_more(
 pub(crate) fn finish(read: Stage, end: u64) -> Result<Asked, FileFault<HoldsRule>>
     ensures { IsEndAnswer (λ x. x ≡ closed read end) result }
 {
-    let Stage::Ended(contract, current, effects) = read else {
-        return Err(broken(end, HoldsRule::Unexpected));
-    };
-    if !is_there(current.id, effects.effects.len()) {
-        return Err(broken(current.line, HoldsRule::Range));
+    match read {
+        Stage::Ended(contract, current, effects) => {
+            if is_there(current.id, effects.effects.len()) {
+                Ok(asked(contract, current, effects))
+            } else {
+                drop(contract);
+                drop(effects);
+                Err(broken(current.line, HoldsRule::Range))
+            }
+        }
+        other => {
+            drop(other);
+            Err(broken(end, HoldsRule::Unexpected))
+        }
     }
-    Ok(Asked {
+}
+
+fn asked(contract: ReadContract, current: Current, effects: NamedEffects) -> Asked
+    ensures { result ≡ record {
+      contract = contract;
+      cur = record { 0 = current.id };
+      execution = effects.effects;
+    } }
+{
+    Asked {
         contract,
         cur: EffId(current.id),
         execution: effects.effects,
-    })
+    }
 }
 
 fn broken(line: u64, rule: HoldsRule) -> FileFault<HoldsRule>

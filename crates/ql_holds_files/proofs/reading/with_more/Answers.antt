@@ -1,32 +1,15 @@
-use Rattle.std.proofs.Common.{◌≡◌, ◌+◌, suc, length, arith, sym, ◌∙◌}
-use Rattle.std.proofs.lemmas.Bool.{false≢true}
-use Rattle.std.proofs.lemmas.Option.{MatchOption-at_none, MatchOption-at_some}
+use Rattle.std.proofs.Common.{suc, length, true, false}
 use Rattle.ql_lines.specs.Fields.{fields_of}
-use Rattle.ql_holds_files.specs.declared.effect_line.EffectLine.{EffectLine}
-use Rattle.ql_holds_files.specs.EffectLine.{IsHoldsEffectLine}
-use Rattle.ql_holds_files.proofs.Lines.{effect_made, effect_refused, no_more}
+use Rattle.ql_holds_files.specs.HoldsFile.{ExtendsHoldsAs, IsMore, after_more}
+use Rattle.ql_holds_files.proofs.Lines.{stage_at}
 use Rattle.ql_holds_files.proofs.reading.with_more.Goals as goal
 
-pub returns-in_default : goal.returns-in_default
-returns-in_default c =
-    let fields = fields_of c.args.text.now in
-    let id = c.len-id.result + 1 in
-    let none = MatchOption-at_none ((e : EffectLine) → IsHoldsEffectLine fields id e → ⊥) (λ e. IsHoldsEffectLine fields id e) c.in_default.is c.in_ok-effect.ensures in
-    let next : id ≡ suc (length c.args.effects.effects) = omega (arith, c.len-id.ensures.length) in
-    no_more c.args.contract c.args.current c.args.effects fields id next none (λ end. false≢true (sym c.if-is_end.false ∙ c.is_end.ensures.1 end))
+pub returns-in-Ok-true : goal.returns-in-Ok-true
+returns-in-Ok-true c =
+    stage_at (ExtendsHoldsAs (IsMore (suc (length c.args.effects.effects)) (fields_of c.args.text.now)) (after_more c.args.contract c.args.current c.args.effects))
+    c.args.contract c.args.current c.is_last.new.effects c.in-Ok-true.field-0 true c.in-Ok-true.field-0-test (c.in-Ok-true.ensures c.args.contract c.args.current)
 
-pub returns-in-Ok : goal.returns-in-Ok
-returns-in-Ok c =
-    let fields = fields_of c.args.text.now in
-    let id = c.len-id.result + 1 in
-    let read = MatchOption-at_some ((e : EffectLine) → IsHoldsEffectLine fields id e → ⊥) (λ e. IsHoldsEffectLine fields id e) c.in-Some.effect c.in-Some.is c.in_ok-effect.ensures in
-    let next : id ≡ suc (length c.args.effects.effects) = omega (arith, c.len-id.ensures.length) in
-    effect_made c.args.contract c.args.current c.args.effects fields id next c.in-Some.effect read c.in-Ok.more c.in-Ok.ensures
-
-pub returns-in-Err : goal.returns-in-Err
-returns-in-Err c =
-    let fields = fields_of c.args.text.now in
-    let id = c.len-id.result + 1 in
-    let read = MatchOption-at_some ((e : EffectLine) → IsHoldsEffectLine fields id e → ⊥) (λ e. IsHoldsEffectLine fields id e) c.in-Some.effect c.in-Some.is c.in_ok-effect.ensures in
-    let next : id ≡ suc (length c.args.effects.effects) = omega (arith, c.len-id.ensures.length) in
-    effect_refused c.args.contract c.args.current c.args.effects fields id next c.in-Some.effect read c.in-Err.fault c.in-Err.ensures
+pub returns-in-Ok-false : goal.returns-in-Ok-false
+returns-in-Ok-false c =
+    stage_at (ExtendsHoldsAs (IsMore (suc (length c.args.effects.effects)) (fields_of c.args.text.now)) (after_more c.args.contract c.args.current c.args.effects))
+    c.args.contract c.args.current c.is_last.new.effects c.in-Ok-false.field-0 false c.in-Ok-false.field-0-test (c.in-Ok-false.ensures c.args.contract c.args.current)
