@@ -1,4 +1,4 @@
-use Rattle.std.proofs.Common.{◌<◌, [], ◌∷◌, length, arith, length-append, ap}
+use Rattle.std.proofs.Common.{◌≡◌, ◌<◌, ◌∙◌, [], ◌∷◌, length, arith, length-append, ap}
 use Rattle.std.proofs.lemmas.Result.{err_from_is_err_and}
 use Rattle.ql_typing.specs.Operations.{all_ops}
 use Rattle.ql_classify.specs.Outcome.{OpHasLevel}
@@ -19,3 +19,13 @@ loop-o-preserved c = (
   omega (arith, ap length c.in_ok-push.ensures.items, length-append c.loop-o.levels.items (c.in_ok-level.level ∷ []), c.loop-o.invariant.0),
   ops_more c.args.t.now.program c.loop-o.levels.items c.push.new.self.items c.loop-o.evidence.items c.push-in-loop-o.new.self.items c.loop-o.o c.in_ok-level.level c.in_ok-level.found c.loop-o.invariant.0 c.in_ok-push.ensures.items c.in_ok-push-2.ensures.items c.loop-o.invariant.1 c.in_ok-level.ensures.least,
 )
+
+-- at the loop's end each operation was judged
+each : (c : goal.After-loop-o) → c.loop-o.o ≡ length (all_ops c.args.t.now.program.types)
+each c = omega (arith, c.loop-o-test.false, c.loop-o.auto.o-end, c.ops-o-end.ensures.count)
+
+pub returns-clause-count : goal.returns-clause-count
+returns-clause-count c = c.loop-o.invariant.0 ∙ each c
+
+pub returns-clause-evidence : goal.returns-clause-evidence
+returns-clause-evidence c = c.loop-o.invariant.1

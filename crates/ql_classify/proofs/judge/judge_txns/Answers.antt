@@ -1,6 +1,8 @@
-use Rattle.std.proofs.Common.{◌<◌, [], ◌∷◌, length, arith, length-append, ap}
+use Rattle.std.proofs.Common.{◌≡◌, ◌<◌, ◌∙◌, [], ◌∷◌, length, arith, length-append, ap, subst}
+use Rattle.std.specs.List.{All}
 use Rattle.std.proofs.lemmas.Result.{err_from_is_err_and}
-use Rattle.ql_classify.specs.Outcome.{txn_tests}
+use Rattle.ql_base.specs.Ranges.{upto}
+use Rattle.ql_classify.specs.Outcome.{Passes, txn_tests}
 use Rattle.ql_classify.proofs.TargetLists.{txns_more}
 use Rattle.ql_classify.proofs.TestOrder.{refusal_upto, upto_more}
 use Rattle.ql_classify.proofs.judge.judge_txns.Goals as goal
@@ -17,3 +19,24 @@ loop-d-preserved c = (
   txns_more c.args.t.now.program c.loop-d.levels.items c.push.new.self.items c.loop-d.evidence.items c.push-in-loop-d.new.self.items c.loop-d.d c.in_ok-level.level c.in_ok-level.found c.loop-d.invariant.0 c.in_ok-push.ensures.items c.in_ok-push-2.ensures.items c.loop-d.invariant.1 c.in_ok-level.ensures.evidence,
   upto_more c.args.t.now.program c.loop-d.d (txn_tests c.args.t.now.program) c.loop-d.invariant.2 c.in_ok-level.ensures.passed,
 )
+
+pub judge_txn-requires : goal.judge_txn-requires
+judge_txn-requires c = record {
+  txn = omega (arith, c.loop-d-test.true, c.txns-d-end.ensures.count);
+  few = omega (arith, c.txns-d-end.ensures.count, c.txns-d-end.ensures.few);
+  levels = c.requires.levels;
+  small = c.requires.small;
+}
+
+-- at the loop's end each transaction was judged
+each : (c : goal.After-loop-d) → c.loop-d.d ≡ length c.args.t.now.program.txns
+each c = omega (arith, c.loop-d-test.false, c.loop-d.auto.d-end, c.txns-d-end.ensures.count)
+
+pub returns-clause-count : goal.returns-clause-count
+returns-clause-count c = c.loop-d.invariant.0 ∙ each c
+
+pub returns-clause-evidence : goal.returns-clause-evidence
+returns-clause-evidence c = c.loop-d.invariant.1
+
+pub returns-clause-passed : goal.returns-clause-passed
+returns-clause-passed c = subst (λ n. All (Passes c.args.t.now.program) (upto n (txn_tests c.args.t.now.program))) (each c) c.loop-d.invariant.2
