@@ -1,9 +1,15 @@
-use Rattle.std.proofs.Common.{◌<◌, ◌∷◌, [], ℕ, List, length, slice_index_or, subst, sym}
+use Rattle.std.proofs.Common.{◌≡◌, ◌<◌, true, ◌∷◌, [], ℕ, List, length, slice_index_or, subst, sym}
 use Rattle.ql_exec.specs.declared.effect.Effect.{Effect}
 use Rattle.ql_exec.specs.Execution.{effect_of}
+use Rattle.ql_machine.specs.Sets.{AreThose}
+use Rattle.ql_machine.specs.State.{committed}
+use Rattle.ql_needs.specs.Closed.{Has}
+use Rattle.ql_needs.specs.Needs.{AreWhole}
+use Rattle.ql_shim.specs.Transactions.{open_txns}
 use Rattle.ql_store.proofs.MadeLaws.{package-alone}
 use Rattle.ql_store.proofs.NoteSets.{noted-pop, noted-some}
 use Rattle.ql_store.proofs.StrongLaws.{popped}
+use Rattle.ql_store.proofs.strong.make_strong.Given as given
 use Rattle.ql_store.proofs.strong.make_strong.Goals as goal
 
 pub synced-requires-clause-fit : goal.synced-requires-clause-fit
@@ -31,3 +37,19 @@ pub returns-in-Err-clause-noted : goal.returns-in-Err-clause-noted
 returns-in-Err-clause-noted g c =
     noted-pop c.args.x.now c.push_noted.new.x c.pop.new.self (effect_of c.args.x.now c.args.draft) c.push_noted.new.sessions c.undo.new.self
     c.in_ok-id.ensures.made c.in_ok-id.ensures.noted c.pop.ensures c.undo.ensures
+
+-- the ids that were committed before
+committed_ids : (g : given.Over) (c : goal.After-deref g) → AreThose (λ a. committed c.args.x.now (open_txns c.args.shim.now) a ≡ true) c.in_ok-done.done
+committed_ids g c = subst (λ (y : List Effect). AreThose (λ a. committed y (open_txns c.args.shim.now) a ≡ true) c.in_ok-done.done) c.effects.ensures.same c.in_ok-done.ensures
+
+pub synced-requires-clause-ascending : goal.synced-requires-clause-ascending
+synced-requires-clause-ascending g c = c.in_ok-done.ensures.ascending
+
+pub synced-requires-clause-within : goal.synced-requires-clause-within
+synced-requires-clause-within g c =
+    subst (λ (hs : List g.row.H.Denot). (k : ℕ) → (d : g.row.H.Denot) → k < length hs → (a : ℕ) → Has (g.H.Holder.received (slice_index_or hs k d)) a → Has c.in_ok-done.done a) (sym c.deref.ensures.value)
+    (λ k d inside a has. (committed_ids g c).all a (c.requires.done k d inside a has))
+
+pub synced-requires-clause-whole : goal.synced-requires-clause-whole
+synced-requires-clause-whole g c =
+    subst (λ (y : List Effect). AreWhole y c.in_ok-done.done) (sym c.in_ok-id.ensures.made) (c.requires.whole c.in_ok-done.done (committed_ids g c))
