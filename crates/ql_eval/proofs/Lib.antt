@@ -1,4 +1,5 @@
 mod CallValues
+mod Chosen
 mod Preserved
 pub mod NeverStuck
 mod FoldSteps

@@ -89,6 +89,11 @@ abbrev pub negative_of : Option Value → Option Value
 negative_of (Some (Number n)) = Some (Number (saturated (neg_ℤ n)))
 negative_of _ = None
 
+-- a value as a truth value, if it is one
+abbrev pub truth_in : Option Value → Option Bool
+truth_in (Some (Truth b)) = Some b
+truth_in _ = None
+
 -- one of two parts, by a test
 abbrev pub chosen_by : Option Value → Option Value → Option Value → Option Value
 chosen_by (Some (Truth true)) a b = a

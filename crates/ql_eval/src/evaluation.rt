@@ -2,11 +2,11 @@ ghost use Rattle.std.specs.Prelude.{◌≡◌, IfOk, IfSome, IsSome, Some, drop}
 ghost use Rattle.std.specs.Option.{option_copied};
 ghost use Rattle.ql_lang.specs.Expressions.{expression_of, operands_in, operands_of};
 ghost use Rattle.ql_eval.specs.ValueKinds.{IsAccepted, IsNeverStuck};
-ghost use Rattle.ql_eval.specs.Evaluation.{Bindings, call_value, called_on, value_in, value_of, values_of};
+ghost use Rattle.ql_eval.specs.Evaluation.{Bindings, call_value, called_on, truth_in, value_in, value_of, values_of};
 
 use crate::call::{with_one, with_three, with_two};
 use crate::env::Env;
-use crate::operator::{combine, deny, negate};
+use crate::operator::{combine, combine_values, deny, negate, truth_of};
 use crate::scalar::literal;
 use crate::scope::Scope;
 use ql_base::{NoMemory, Word};
@@ -38,7 +38,7 @@ pub fn try_eval(alloc: Global, e: &Expr, env: &Env) -> Result<Option<Value>, NoM
 
 // The value of an expression, if it has one.
 #[cycle(evaluate)]
-#[tactic(auto, unfolding(ql_lang::specs::Expressions::node_of, crate::specs::Evaluation::value_of))]
+#[tactic(auto, unfolding(ql_lang::specs::Expressions::node_of, crate::specs::Evaluation::value_of), using(crate::proofs::Chosen::chosen_first, crate::proofs::Chosen::chosen_second, crate::proofs::Chosen::chosen_none))]
 pub(crate) fn evaluate(
     alloc: Global,
     scope: &Scope<'_>,
@@ -53,10 +53,10 @@ pub(crate) fn evaluate(
         ExprNode::Unit => Ok(Some(Value::Unit)),
         ExprNode::Var(name) => read(alloc, scope, &name.word),
         ExprNode::Call(name, args) => call(alloc, scope, name, args),
-        ExprNode::If(test, left, right) => match evaluate(alloc, scope, test)? {
-            Some(Value::Bool(true)) => evaluate(alloc, scope, left),
-            Some(Value::Bool(false)) => evaluate(alloc, scope, right),
-            _ => Ok(None),
+        ExprNode::If(test, left, right) => match evaluate_truth(alloc, scope, test)? {
+            Some(true) => evaluate(alloc, scope, left),
+            Some(false) => evaluate(alloc, scope, right),
+            None => Ok(None),
         },
         ExprNode::Binary(op, left, right) => {
             // Two names are borrowed, not copied.
@@ -65,11 +65,21 @@ pub(crate) fn evaluate(
             }
             let left = evaluate(alloc, scope, left)?;
             let right = evaluate(alloc, scope, right)?;
-            Ok(combine(*op, left.as_ref(), right.as_ref()))
+            Ok(combine_values(*op, left, right))
         }
         ExprNode::Not(operand) => Ok(deny(evaluate(alloc, scope, operand)?)),
         ExprNode::Neg(operand) => Ok(negate(evaluate(alloc, scope, operand)?)),
     }
+}
+
+// The truth value of an expression, if it has one.
+#[cycle(evaluate)]
+fn evaluate_truth(alloc: Global, scope: &Scope<'_>, e: &Expr) -> Result<Option<bool>, NoMemory>
+    ensures { IfOk result
+        (λ truth. truth ≡ truth_in (value_of scope.now (expression_of e.now))) }
+{
+    let value = evaluate(alloc, scope, e)?;
+    Ok(truth_of(value))
 }
 
 // A copy of the value of a name.

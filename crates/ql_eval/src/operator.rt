@@ -1,6 +1,6 @@
 ghost use Rattle.std.specs.Prelude.{◌≡◌};
 ghost use Rattle.std.specs.Option.{option_copied};
-ghost use Rattle.ql_eval.specs.Evaluation.{combined, denied, negative_of, on_numbers, on_truths, on_values};
+ghost use Rattle.ql_eval.specs.Evaluation.{combined, denied, negative_of, on_numbers, on_truths, on_values, truth_in};
 
 use ql_lang::BinOp;
 use ql_value::{Value, order, sat_add, sat_mul, sat_neg, sat_sub};
@@ -13,6 +13,13 @@ pub(crate) fn combine(op: BinOp, left: Option<&Value>, right: Option<&Value>) ->
         (Some(left), Some(right)) => on_values(op, left, right),
         _ => None,
     }
+}
+
+/// The same of values that are dropped.
+pub(crate) fn combine_values(op: BinOp, left: Option<Value>, right: Option<Value>) -> Option<Value>
+    ensures { result ≡ combined op left right }
+{
+    combine(op, left.as_ref(), right.as_ref())
 }
 
 fn on_values(op: BinOp, left: &Value, right: &Value) -> Option<Value>
@@ -50,6 +57,16 @@ fn on_truths(op: BinOp, left: bool, right: bool) -> Option<Value>
     match op {
         BinOp::Or => Some(Value::Bool(left || right)),
         BinOp::And => Some(Value::Bool(left && right)),
+        _ => None,
+    }
+}
+
+/// A value as a truth value, if it is one.
+pub(crate) fn truth_of(value: Option<Value>) -> Option<bool>
+    ensures { result ≡ truth_in value }
+{
+    match value {
+        Some(Value::Bool(b)) => Some(b),
         _ => None,
     }
 }
