@@ -1,5 +1,7 @@
 pub mod ReaderLemmas
 pub mod RelationRules
+pub mod WordRules
+pub mod Lists
 pub mod Spans
 pub mod OneReading
 pub mod Answering

@@ -1,9 +1,9 @@
-use Rattle.std.specs.Prelude.{◌≡◌, ℕ, List, [], ◌∷◌, ◌++◌, ◌≤◌, Err, Ok, Option, Some, None, if◌then◌else◌, length, ◌<◌}
+use Rattle.std.specs.Prelude.{◌≡◌, ℕ, true, false, List, [], ◌∷◌, ◌++◌, ◌≤◌, Err, Ok, Option, Some, None, if◌then◌else◌, length, ◌<◌}
 use Rattle.ql_grammar.specs.Limits as limits
 use Rattle.ql_lang.specs.declared.relation.RelName.{RelName}
 use Rattle.ql_lang.specs.declared.relation.RelName.TheVariants.{Vis, So, Soo, SameObj, Eq, Hb, Hbo}
 use Rattle.ql_grammar.specs.declared.terminal.Terminal.{Terminal}
-use Rattle.ql_grammar.specs.declared.terminal.Terminal.TheVariants.{VisWord, SoWord, SooWord, SameObjWord, EqWord, HbWord, HboWord, CloseBrace, CloseParen, Colon, Comma, Equals, IntToken, MapWord, Minus, OpWord, OpenBrace, OpenParen, Semicolon, SetWord, TextToken, TxnWord}
+use Rattle.ql_grammar.specs.declared.terminal.Terminal.TheVariants.{VisWord, SoWord, SooWord, SameObjWord, EqWord, HbWord, HboWord, BoolWord, CloseBrace, CloseParen, Colon, Comma, EmptyWord, Equals, FalseWord, IntToken, IntWord, MapWord, Minus, OpWord, OpenBrace, OpenParen, Semicolon, SetWord, TextToken, TextWord, TrueWord, TxnWord, UnitWord}
 use Rattle.ql_grammar.specs.declared.role.Role.{Role}
 use Rattle.ql_grammar.specs.declared.role.Role.TheVariants.{Plain, Makes, Opens, Closes, Before}
 use Rattle.ql_grammar.specs.Tokens.{Lexeme}
@@ -11,7 +11,12 @@ use Rattle.ql_grammar.specs.ContractGrammar.{Applied}
 use Rattle.ql_lang.specs.Trees.{Relation}
 use Rattle.ql_grammar.specs.ExpressionGrammar.{Chosen}
 use Rattle.ql_lang.specs.declared.name.Name.{Name}
+use Rattle.ql_lang.specs.declared.operation.Base.{Base}
+use Rattle.ql_lang.specs.declared.operation.Base.TheVariants as base
 use Rattle.ql_lang.specs.declared.operation.Kind.{Kind}
+use Rattle.ql_lang.specs.declared.operation.Kind.TheVariants as kind
+use Rattle.ql_lang.specs.declared.program.InitNode.{InitNode}
+use Rattle.ql_lang.specs.declared.program.InitNode.TheVariants as init
 use Rattle.ql_lang.specs.declared.operation.Param.{Param}
 use Rattle.ql_lang.specs.Programs.{Emission, Operation, Replicated, Transaction}
 use Rattle.ql_grammar.specs.Table.{AKind, AName, APlace, ANameOf, AnEffect, AnOperation, ATransaction, AType, TheParams, AnyKind, BaseKind, Beginning, Effect, Kept, MoreFields, MoreTypes, begin_negative, begin_number, begin_text, body_symbols, contract_symbols, effect_symbols, no_effect, no_fields, operations_symbols, params_symbols, to_map, to_operation, to_set, to_transaction, to_type, to_types, type_symbols, uses_symbols, Arguments, ExprAt, Sym, Value, ARelation, APart, Do, Placed, RelationAt, Rest, Term, TermList, Then, Word, to_application, to_equality, to_txn}
@@ -67,6 +72,15 @@ relation_ahead ts =
 pub record Started (s : Sym) (l : Rest) (v : Value) (old new : Reading) : Type 0 where
   pub so_far : (below : List Sym) (vs : List Value) → read old (s ∷ below) vs ≡ read new (Then l ∷ below) (v ∷ vs)
   pub shorter : length new.tokens < length old.tokens
+
+-- A token that counts nothing came next and was passed, or didn't come next.
+pub record Passed (k : Terminal) (old new : Reading) : Type 0 where
+  pub sees : is_ahead k old.tokens ≡ true
+  pub took : Took (Word k Plain) old new
+
+pub record Missed (k : Terminal) (old new : Reading) : Type 0 where
+  pub misses : is_ahead k old.tokens ≡ false
+  pub same : new ≡ old
 
 -- Several symbols were read, and yielded this value.
 abbrev pub GaveAll : (List Sym → List Sym) → Value → Reading → Reading → Type 0
@@ -143,6 +157,11 @@ pub record Gathering (l : Rest) (a : Value) (m : Rest) (b : Value) (old new : Re
   pub so_far : (below : List Sym) (vs : List Value) → read old (Then l ∷ below) (a ∷ vs) ≡ read new (Then m ∷ below) (b ∷ vs)
   pub within : length new.tokens ≤ length old.tokens
 
+-- A list of which these items were read; one more comes next. What is done with the value that it yields adds it.
+pub record Listing {A B : Type 0} (want item : List Sym → List Sym) (l : Rest) (value : B → Value) (keep : B → A) (list : List A → Value) (items : List A) (old new : Reading) : Type 0 where
+  pub so_far : (below : List Sym) (vs : List Value) → (add : List Value → List Value) × (ws : List Value) × (read old (want below) vs ≡ read new (item (Do add ∷ Then l ∷ below)) ws) × ((x : B) → add (value x ∷ ws) ≡ list (items ++ keep x ∷ []) ∷ vs)
+  pub within : length new.tokens ≤ length old.tokens
+
 -- symbols were begun and yielded a value so far; something may follow
 pub record StartedAll (want : List Sym → List Sym) (l : Rest) (v : Value) (old new : Reading) : Type 0 where
   pub so_far : (below : List Sym) (vs : List Value) → read old (want below) vs ≡ read new (Then l ∷ below) (v ∷ vs)
@@ -150,14 +169,29 @@ pub record StartedAll (want : List Sym → List Sym) (l : Rest) (v : Value) (old
 
 -- symbols of kinds and of the initial values of fields
 
+-- the kind or the beginning of one word that comes next, with this word; or the last of them
+abbrev pub base_ahead : List Lexeme → Terminal × Base
+base_ahead ts =
+    if is_ahead IntWord ts then (IntWord, base.Int) else (
+    if is_ahead BoolWord ts then (BoolWord, base.Bool) else (TextWord, base.Text))
+
+abbrev pub kind_ahead : List Lexeme → Terminal × Kind
+kind_ahead ts =
+    if is_ahead UnitWord ts then (UnitWord, kind.Unit) else (
+    if is_ahead IntWord ts then (IntWord, kind.Int) else (
+    if is_ahead BoolWord ts then (BoolWord, kind.Bool) else (TextWord, kind.Text)))
+
+abbrev pub beginning_ahead : List Lexeme → Terminal × InitNode
+beginning_ahead ts =
+    if is_ahead TrueWord ts then (TrueWord, init.Bool true) else (
+    if is_ahead FalseWord ts then (FalseWord, init.Bool false) else (
+    if is_ahead UnitWord ts then (UnitWord, init.Unit) else (EmptyWord, init.Empty)))
+
 abbrev pub set_symbols : List Sym → List Sym
 set_symbols below = Word SetWord Plain ∷ Word OpenParen Plain ∷ APart BaseKind ∷ Word CloseParen Plain ∷ Do to_set ∷ below
 
-abbrev pub map_values_symbols : List Sym → List Sym
-map_values_symbols below = Word Comma Plain ∷ APart BaseKind ∷ Word CloseParen Plain ∷ below
-
 abbrev pub map_symbols : List Sym → List Sym
-map_symbols below = Word MapWord Plain ∷ Word OpenParen Plain ∷ APart BaseKind ∷ map_values_symbols (Do to_map ∷ below)
+map_symbols below = Word MapWord Plain ∷ Word OpenParen Plain ∷ APart BaseKind ∷ Word Comma Plain ∷ APart BaseKind ∷ Word CloseParen Plain ∷ Do to_map ∷ below
 
 abbrev pub negative_symbols : List Sym → List Sym
 negative_symbols below = Placed Minus Plain ∷ Kept IntToken Plain ∷ Do begin_negative ∷ below
@@ -173,8 +207,8 @@ text_symbols below = Kept TextToken Plain ∷ Do begin_text ∷ below
 abbrev pub typed_symbols : List Sym → List Sym
 typed_symbols below = Word Colon Plain ∷ APart AnyKind ∷ below
 
-abbrev pub based_symbols : List Sym → List Sym
-based_symbols below = Word Colon Plain ∷ APart BaseKind ∷ below
+abbrev pub based_symbols : Terminal → List Sym → List Sym
+based_symbols mark below = Word mark Plain ∷ APart BaseKind ∷ below
 
 abbrev pub initial_symbols : List Sym → List Sym
 initial_symbols below = Word Equals Plain ∷ APart Beginning ∷ Word Semicolon Plain ∷ below

@@ -2,7 +2,6 @@ ghost use Rattle.std.specs.Prelude.{◌≡◌, ◌<◌, ◌≤◌, IfErr, IfOk, 
 ghost use Rattle.ql_grammar.specs.declared.terminal.Terminal.TheVariants.{NameToken};
 ghost use Rattle.ql_grammar.specs.Machine.{is_ahead};
 ghost use Rattle.ql_grammar.specs.Table.{
-  ABase,
   ABinding,
   AKind,
   APart,
@@ -72,7 +71,6 @@ ghost use Rattle.ql_parse.specs.Readings.{
   IsBodyRefused,
   IsRefused,
   IsRestRefused,
-  based_symbols,
   closed_symbols,
   ending_symbols,
   heading_symbols,
@@ -87,7 +85,7 @@ use crate::fault::Refusal;
 use crate::reader::Reader;
 use ql_grammar::{Role, Terminal};
 use ql_lang::{
-    Base, Bind, Binds, Contract, EmitDecl, Field, Fields, Init, Kind, Name, NameList, OpDecl,
+    Bind, Binds, Contract, EmitDecl, Field, Fields, Init, Kind, Name, NameList, OpDecl,
     OpDecls, Param, Params, Program, Stmt, Stmts, TxnDecl, TxnDecls, TypeDecl, TypeDecls,
 };
 use std::alloc::Global;
@@ -132,17 +130,6 @@ impl Reader<'_> {
         self.take(Terminal::Colon, Role::Plain)?;
         let kind = self.kind()?;
         Ok(kind)
-    }
-
-    /// A colon and the kind of a single value.
-    fn base_kind(&mut self) -> Result<Base, Refusal>
-        ensures gave { IfOk result (λ b. GaveAll based_symbols (ABase b) self.old self.new) }
-        ensures shorter { OnOk result (length self.new.tokens < length self.old.tokens) }
-        ensures refused { IfErr result (AreRefused based_symbols self.old) }
-    {
-        self.take(Terminal::Colon, Role::Plain)?;
-        let base = self.base()?;
-        Ok(base)
     }
 
     /// An `=` and what a field begins with, up to the semicolon.
@@ -197,7 +184,7 @@ impl Reader<'_> {
         ensures refused { IfErr result (IsAddedRefused param_symbols TheParams self.old) }
     {
         let name = self.name(Role::Plain)?;
-        let base = self.base_kind()?;
+        let base = self.base_behind(Terminal::Colon)?;
         Ok(Param { name, base })
     }
 
@@ -299,7 +286,7 @@ impl Reader<'_> {
         ensures refused { IfErr result (AreRefused binding_symbols self.old) }
     {
         let name = self.name(Role::Plain)?;
-        let base = self.base_kind()?;
+        let base = self.base_behind(Terminal::Colon)?;
         let value = self.value_behind(alloc, Terminal::Equals)?;
         Ok(Bind {
             name,
