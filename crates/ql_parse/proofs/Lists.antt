@@ -9,6 +9,10 @@ use Rattle.ql_grammar.proofs.Rules.{then-on, then-past}
 use Rattle.ql_parse.specs.declared.fault.Refusal.{Refusal}
 use Rattle.ql_parse.specs.Readings.{AreRefused, GaveAll, Listing, Missed, Passed}
 
+-- what is read after a token that didn't come next
+pub stays : {k : Terminal} {mid new : Reading} → Missed k mid new → (below : List Sym) (vs : List Value) → read mid below vs ≡ read new below vs
+stays missed below vs = ap (λ r. read r below vs) (sym missed.same)
+
 module _ {A B : Type 0} {want item : List Sym → List Sym} {l : Rest} {value : B → Value} {keep : B → A} {list : List A → Value} where
   -- nothing was read of it yet
   pub begins : {old r : Reading} (start : List Value → List Value) → ((below : List Sym) (vs : List Value) → read old (want below) vs ≡ read r (item (Do start ∷ Then l ∷ below)) vs)
@@ -17,14 +21,14 @@ module _ {A B : Type 0} {want item : List Sym → List Sym} {l : Rest} {value : 
 
   -- an item is refused, and so is the list
   pub item_refused : {items : List A} {old r : Reading} (e : Refusal) → Listing want item l value keep list items old r → AreRefused item r e → AreRefused want old e
-  item_refused e so refused f is below vs = let s = so.so_far below vs in s.2.0 ∙ refused f is (Do s.0 ∷ Then l ∷ below) s.1
+  item_refused e so refused f is below vs = let s = so.so_far below vs in s.2 ∙ refused f is (Do s.0 ∷ Then l ∷ below) s.1
 
-  module _ {items : List A} {old r mid : Reading} (so : Listing want item l value keep list items old r) (x : B) (gave : GaveAll item (value x) r mid) where
+  module _ {items : List A} {old r : Reading} (so : Listing want item l value keep list items old r) (mid : Reading) (x : B) (gave : GaveAll item (value x) r mid) where
     -- an item was read, and more may follow
     pub read_item : (below : List Sym) (vs : List Value) → read old (want below) vs ≡ read mid (Then l ∷ below) (list (items ++ keep x ∷ []) ∷ vs)
     read_item below vs =
         let s = so.so_far below vs in
-        s.2.0 ∙ gave (Do s.0 ∷ Then l ∷ below) s.1 ∙ read-do mid s.0 (Then l ∷ below) (value x ∷ s.1) ∙ ap (λ ws. read mid (Then l ∷ below) ws) (s.2.1 x)
+        s.2 ∙ gave (Do s.0 ∷ Then l ∷ below) s.1 ∙ read-do mid s.0 (Then l ∷ below) (value x ∷ s.1) ∙ ap (λ ws. read mid (Then l ∷ below) ws) (s.3 x)
 
     -- nothing follows
     pub read_last : ((below : List Sym) → is_begun (way_on l below) mid.tokens ≡ false) → (below : List Sym) (vs : List Value) → read old (want below) vs ≡ read mid below (list (items ++ keep x ∷ []) ∷ vs)
@@ -46,7 +50,7 @@ module _ {A B : Type 0} {want item : List Sym → List Sym} {l : Rest} {value : 
     module _ {k : Terminal} {new : Reading} where
       -- the mark that stands between two items doesn't follow
       pub read_all : Missed k mid new → ((below : List Sym) → is_begun (way_on l below) mid.tokens ≡ is_ahead k mid.tokens) → (below : List Sym) (vs : List Value) → read old (want below) vs ≡ read new below (list (items ++ keep x ∷ []) ∷ vs)
-      read_all missed mark below vs = read_last (λ under. mark under ∙ missed.misses) below vs ∙ ap (λ s. read s below (list (items ++ keep x ∷ []) ∷ vs)) (sym missed.same)
+      read_all missed mark below vs = read_last (λ under. mark under ∙ missed.misses) below vs ∙ stays missed below (list (items ++ keep x ∷ []) ∷ vs)
 
       -- it follows, and one more item after it
       pub read_mark : Passed k mid new → (add : List Value → List Value) → ((below : List Sym) → way_on l below ≡ Word k Plain ∷ item (Do add ∷ Then l ∷ below)) → ((y : B) (xs : List A) (vs : List Value) → add (value y ∷ list xs ∷ vs) ≡ list (xs ++ keep y ∷ []) ∷ vs)
@@ -56,7 +60,7 @@ module _ {A B : Type 0} {want item : List Sym → List Sym} {l : Rest} {value : 
           add,
           list (items ++ keep x ∷ []) ∷ vs,
           read_item below vs ∙ then-on mid l below (list (items ++ keep x ∷ []) ∷ vs) (ap (λ st. is_begun st mid.tokens) (on below) ∙ passed.sees)
-          ∙ ap (λ st. read mid st (list (items ++ keep x ∷ []) ∷ vs)) (on below) ∙ passed.took _ _,
+              ∙ ap (λ st. read mid st (list (items ++ keep x ∷ []) ∷ vs)) (on below) ∙ passed.took _ _,
           λ y. adds y (items ++ keep x ∷ []) vs,
         );
         within = omega (arith, shorter, within, so.within);

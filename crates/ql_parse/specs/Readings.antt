@@ -19,7 +19,7 @@ use Rattle.ql_lang.specs.declared.program.InitNode.{InitNode}
 use Rattle.ql_lang.specs.declared.program.InitNode.TheVariants as init
 use Rattle.ql_lang.specs.declared.operation.Param.{Param}
 use Rattle.ql_lang.specs.Programs.{Emission, Operation, Replicated, Transaction}
-use Rattle.ql_grammar.specs.Table.{AKind, AName, APlace, ANameOf, AnEffect, AnOperation, ATransaction, AType, TheParams, AnyKind, BaseKind, Beginning, Effect, Kept, MoreFields, MoreTypes, begin_negative, begin_number, begin_text, body_symbols, contract_symbols, effect_symbols, no_effect, no_fields, operations_symbols, params_symbols, to_map, to_operation, to_set, to_transaction, to_type, to_types, type_symbols, uses_symbols, Arguments, ExprAt, Sym, Value, ARelation, APart, Do, Placed, RelationAt, Rest, Term, TermList, Then, Word, to_application, to_equality, to_txn}
+use Rattle.ql_grammar.specs.Table.{AKind, AName, APlace, ANameOf, AnEffect, AnOperation, ATransaction, AType, TheNames, TheParams, AnyKind, add_name, BaseKind, Beginning, Effect, Kept, MoreFields, MoreTypes, begin_negative, begin_number, begin_text, body_symbols, contract_symbols, effect_symbols, no_effect, no_fields, operations_symbols, params_symbols, to_map, to_names, to_operation, to_set, to_transaction, to_type, to_types, type_symbols, uses_symbols, way_on, Arguments, ExprAt, Sym, Value, ARelation, APart, Do, Placed, RelationAt, Rest, Term, TermList, Then, Word, to_application, to_equality, to_txn}
 use Rattle.ql_grammar.specs.Machine.{Reading, chosen, read, is_ahead}
 use Rattle.ql_parse.specs.declared.fault.Refusal.{Refusal}
 use Rattle.ql_parse.specs.declared.fault.Refusal.TheVariants.{Unexpected, Deep, Wide, NoMemory}
@@ -152,9 +152,9 @@ pub record Collecting (l : Rest) (a b : Value) (old new : Reading) : Type 0 wher
   pub so_far : Turned l a b old new
   pub within : length new.tokens ≤ length old.tokens
 
--- the same, where something else may follow the first item
-pub record Gathering (l : Rest) (a : Value) (m : Rest) (b : Value) (old new : Reading) : Type 0 where
-  pub so_far : (below : List Sym) (vs : List Value) → read old (Then l ∷ below) (a ∷ vs) ≡ read new (Then m ∷ below) (b ∷ vs)
+-- the same, where one more item is expected, with something else that may follow it
+pub record Gathering (l : Rest) (a : Value) (want : List Sym → List Sym) (b : Value) (old new : Reading) : Type 0 where
+  pub so_far : (below : List Sym) (vs : List Value) → read old (Then l ∷ below) (a ∷ vs) ≡ read new (want below) (b ∷ vs)
   pub within : length new.tokens ≤ length old.tokens
 
 -- A list of which these items were read; one more comes next. What is done with the value that it yields adds it.
@@ -162,10 +162,18 @@ pub record Listing {A B : Type 0} (want item : List Sym → List Sym) (l : Rest)
   pub so_far : (below : List Sym) (vs : List Value) → (add : List Value → List Value) × (ws : List Value) × (read old (want below) vs ≡ read new (item (Do add ∷ Then l ∷ below)) ws) × ((x : B) → add (value x ∷ ws) ≡ list (items ++ keep x ∷ []) ∷ vs)
   pub within : length new.tokens ≤ length old.tokens
 
--- symbols were begun and yielded a value so far; something may follow
-pub record StartedAll (want : List Sym → List Sym) (l : Rest) (v : Value) (old new : Reading) : Type 0 where
-  pub so_far : (below : List Sym) (vs : List Value) → read old (want below) vs ≡ read new (Then l ∷ below) (v ∷ vs)
-  pub shorter : length new.tokens < length old.tokens
+-- names with this mark between them, where this may follow one
+abbrev pub MarksNames : Terminal → Rest → Type 0
+MarksNames mark l = (below : List Sym) → way_on l below ≡ Word mark Plain ∷ ANameOf Plain ∷ Do add_name ∷ Then l ∷ below
+
+abbrev pub names_symbols : Rest → List Sym → List Sym
+names_symbols l below = ANameOf Plain ∷ Do to_names ∷ Then l ∷ below
+
+abbrev pub GaveNames : Terminal → List Name → Reading → Reading → Type 0
+GaveNames mark names old new = (l : Rest) → MarksNames mark l → GaveAll (names_symbols l) (TheNames names) old new
+
+abbrev pub AreNamesRefused : Terminal → Reading → Refusal → Type 0
+AreNamesRefused mark old e = (l : Rest) → MarksNames mark l → AreRefused (names_symbols l) old e
 
 -- symbols of kinds and of the initial values of fields
 

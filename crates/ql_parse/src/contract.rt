@@ -8,13 +8,11 @@ ghost use Rattle.ql_grammar.specs.Table.{
   ASentence,
   ATerm,
   AVar,
-  BarredNames,
   MoreAnds,
   MoreOrs,
   PropAt,
   Term,
   TermList,
-  TheNames,
   TheTerms,
   TheVars,
   VarList,
@@ -24,10 +22,12 @@ ghost use Rattle.ql_grammar.specs.Table.{
 ghost use Rattle.ql_lang.specs.Trees.{proposition_of, relation_of, sentence_of};
 ghost use Rattle.ql_parse.specs.Readings.{
   AreArgumentsRefused,
+  AreNamesRefused,
   AreRefused,
   Gave,
   GaveAll,
   GaveArguments,
+  GaveNames,
   IsRefused,
   IsTurnRefused,
   Turned,
@@ -75,15 +75,14 @@ impl Reader<'_> {
         ensures shorter { OnOk result (length self.new.tokens < length self.old.tokens) }
         ensures refused { IfErr result (IsRefused (APart TermList) self.old) }
     {
-        let first = self.term(Role::Makes(1))?;
         let mut terms = Vec::new(alloc);
-        terms.push(first)?;
-        'terms: while self.sees(Terminal::Comma) {
-            self.take(Terminal::Comma, Role::Plain)?;
+        'terms: loop {
             let term = self.term(Role::Makes(1))?;
             terms.push(term)?;
+            if !self.passes(Terminal::Comma) {
+                return Ok(Points::of(terms));
+            }
         }
-        Ok(Points::of(terms))
     }
 
     /// Two terms with `=` between them.
@@ -123,8 +122,7 @@ impl Reader<'_> {
         ensures refused { IfErr result (AreRefused application_symbols self.old) }
     {
         let relation = self.applied(alloc)?;
-        let applied = self.arguments(relation)?;
-        Ok(applied)
+        self.arguments(relation)
     }
 
     /// The word `txn` and its two groups of terms.
@@ -162,15 +160,12 @@ impl Reader<'_> {
         ensures refused { IfErr result (IsRefused (APart (PropAt Atom)) self.old) }
     {
         if self.sees(Terminal::TxnWord) {
-            let txn = self.txn(alloc)?;
-            return Ok(txn);
+            return self.txn(alloc);
         }
         if self.sees_term() {
-            let equality = self.equality()?;
-            return Ok(equality);
+            return self.equality();
         }
-        let application = self.application(alloc)?;
-        Ok(application)
+        self.application(alloc)
     }
 
     /// A single statement, or statements in brackets.
@@ -271,22 +266,20 @@ impl Reader<'_> {
         Ok(left)
     }
 
-    /// Names with `|` between them.
-    fn operations(&mut self, alloc: Global) -> Result<NameList, Refusal>
-        ensures gave { IfOk result
-            (λ names. Gave (APart BarredNames) (TheNames names) self.old self.new) }
+    /// Names with this mark between them.
+    pub(crate) fn names(&mut self, alloc: Global, mark: Terminal) -> Result<NameList, Refusal>
+        ensures gave { IfOk result (λ names. GaveNames mark names self.old self.new) }
         ensures shorter { OnOk result (length self.new.tokens < length self.old.tokens) }
-        ensures refused { IfErr result (IsRefused (APart BarredNames) self.old) }
+        ensures refused { IfErr result (AreNamesRefused mark self.old) }
     {
-        let first = self.name(Role::Plain)?;
         let mut names = Vec::with_capacity(alloc, USUAL_PARTS)?;
-        names.push(first)?;
-        'names: while self.sees(Terminal::Bar) {
-            self.take(Terminal::Bar, Role::Plain)?;
+        'names: loop {
             let name = self.name(Role::Plain)?;
             names.push(name)?;
+            if !self.passes(mark) {
+                return Ok(NameList::of(names));
+            }
         }
-        Ok(NameList::of(names))
     }
 
     /// A variable with the operations that it ranges over.
@@ -296,9 +289,8 @@ impl Reader<'_> {
         ensures refused { IfErr result (IsRefused (APart Variable) self.old) }
     {
         let name = self.name(Role::Plain)?;
-        if self.sees(Terminal::Colon) {
-            self.take(Terminal::Colon, Role::Plain)?;
-            let ops = self.operations(alloc)?;
+        if self.passes(Terminal::Colon) {
+            let ops = self.names(alloc, Terminal::Bar)?;
             return Ok(Var { name, ops });
         }
         let none = Vec::new(alloc);
@@ -312,15 +304,14 @@ impl Reader<'_> {
         ensures shorter { OnOk result (length self.new.tokens < length self.old.tokens) }
         ensures refused { IfErr result (IsRefused (APart VarList) self.old) }
     {
-        let first = self.variable(alloc)?;
         let mut vars = Vec::with_capacity(alloc, USUAL_PARTS)?;
-        vars.push(first)?;
-        'vars: while self.sees(Terminal::Comma) {
-            self.take(Terminal::Comma, Role::Plain)?;
+        'vars: loop {
             let var = self.variable(alloc)?;
             vars.push(var)?;
+            if !self.passes(Terminal::Comma) {
+                return Ok(Vars::of(vars));
+            }
         }
-        Ok(Vars::of(vars))
     }
 
     /// A whole contract.
@@ -330,8 +321,7 @@ impl Reader<'_> {
         ensures shorter { OnOk result (length self.new.tokens < length self.old.tokens) }
         ensures refused { IfErr result (IsRefused (APart WholeContract) self.old) }
     {
-        if self.sees(Terminal::ForallWord) {
-            self.take(Terminal::ForallWord, Role::Plain)?;
+        if self.passes(Terminal::ForallWord) {
             let vars = self.variables(alloc)?;
             self.take(Terminal::Dot, Role::Plain)?;
             let body = self.prop(alloc)?;

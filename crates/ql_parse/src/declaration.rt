@@ -14,7 +14,6 @@ ghost use Rattle.ql_grammar.specs.Table.{
   AnInit,
   AnOperation,
   Effect,
-  ListedNames,
   MoreAssignments,
   MoreFields,
   MoreTransactions,
@@ -85,8 +84,8 @@ use crate::fault::Refusal;
 use crate::reader::Reader;
 use ql_grammar::{Role, Terminal};
 use ql_lang::{
-    Bind, Binds, Contract, EmitDecl, Field, Fields, Init, Kind, Name, NameList, OpDecl,
-    OpDecls, Param, Params, Program, Stmt, Stmts, TxnDecl, TxnDecls, TypeDecl, TypeDecls,
+    Bind, Binds, Contract, EmitDecl, Field, Fields, Init, Kind, Name, NameList, OpDecl, OpDecls,
+    Param, Params, Program, Stmt, Stmts, TxnDecl, TxnDecls, TypeDecl, TypeDecls,
 };
 use std::alloc::Global;
 
@@ -103,24 +102,6 @@ struct Heading {
 }
 
 impl Reader<'_> {
-    /// Names with commas between them.
-    fn listed(&mut self, alloc: Global) -> Result<NameList, Refusal>
-        ensures gave { IfOk result
-            (λ names. Gave (APart ListedNames) (TheNames names) self.old self.new) }
-        ensures shorter { OnOk result (length self.new.tokens < length self.old.tokens) }
-        ensures refused { IfErr result (IsRefused (APart ListedNames) self.old) }
-    {
-        let first = self.name(Role::Plain)?;
-        let mut names = Vec::new(alloc);
-        names.push(first)?;
-        'more: while self.sees(Terminal::Comma) {
-            self.take(Terminal::Comma, Role::Plain)?;
-            let name = self.name(Role::Plain)?;
-            names.push(name)?;
-        }
-        Ok(NameList::of(names))
-    }
-
     /// A colon and a kind.
     fn typed(&mut self) -> Result<Kind, Refusal>
         ensures gave { IfOk result (λ k. GaveAll typed_symbols (AKind k) self.old self.new) }
@@ -128,8 +109,7 @@ impl Reader<'_> {
         ensures refused { IfErr result (AreRefused typed_symbols self.old) }
     {
         self.take(Terminal::Colon, Role::Plain)?;
-        let kind = self.kind()?;
-        Ok(kind)
+        self.kind()
     }
 
     /// An `=` and what a field begins with, up to the semicolon.
@@ -189,23 +169,21 @@ impl Reader<'_> {
     }
 
     /// Parameters with commas between them, of which one comes next.
-    fn some_params(&mut self, alloc: Global) -> Result<Vec<Param>, Refusal>
+    fn some_params(&mut self, alloc: Global) -> Result<Params, Refusal>
         requires { is_ahead NameToken self.old.tokens ≡ true }
         ensures gave { IfOk result
-            (λ found. GaveRest SomeParams (TheParams []) (TheParams found.items) self.old
-            self.new) }
+            (λ found. GaveRest SomeParams (TheParams []) (TheParams found) self.old self.new) }
         ensures within { OnOk result (length self.new.tokens ≤ length self.old.tokens) }
         ensures refused { IfErr result (IsRestRefused SomeParams (TheParams []) self.old) }
     {
-        let first = self.param()?;
         let mut found = Vec::with_capacity(alloc, USUAL_PARTS)?;
-        found.push(first)?;
-        'more: while self.sees(Terminal::Comma) {
-            self.take(Terminal::Comma, Role::Plain)?;
+        'more: loop {
             let param = self.param()?;
             found.push(param)?;
+            if !self.passes(Terminal::Comma) {
+                return Ok(Params::of(found));
+            }
         }
-        Ok(found)
     }
 
     /// Parameters, or none.
@@ -216,9 +194,7 @@ impl Reader<'_> {
         ensures refused { IfErr result (IsRestRefused SomeParams (TheParams []) self.old) }
     {
         if self.sees(Terminal::NameToken) {
-            let found = self.some_params(alloc)?;
-            let some = Params::of(found);
-            return Ok(some);
+            return self.some_params(alloc);
         }
         let none = Vec::new(alloc);
         let params = Params::of(none);
@@ -248,8 +224,7 @@ impl Reader<'_> {
         ensures refused { IfErr result (AreRefused (value_symbols word) self.old) }
     {
         self.take(word, Role::Before)?;
-        let value = self.whole_expression(alloc)?;
-        Ok(value)
+        self.whole_expression(alloc)
     }
 
     /// The same, up to a semicolon.
@@ -304,15 +279,14 @@ impl Reader<'_> {
         ensures refused { IfErr result (AreRefused bindings_symbols self.old) }
     {
         self.take(Terminal::EmitWord, Role::Plain)?;
-        let first = self.binding(alloc)?;
         let mut found = Vec::with_capacity(alloc, USUAL_PARTS)?;
-        found.push(first)?;
-        'more: while self.sees(Terminal::Comma) {
-            self.take(Terminal::Comma, Role::Plain)?;
+        'more: loop {
             let binding = self.binding(alloc)?;
             found.push(binding)?;
+            if !self.passes(Terminal::Comma) {
+                return Ok(Binds::of(found));
+            }
         }
-        Ok(Binds::of(found))
     }
 
     /// A statement.
@@ -456,8 +430,7 @@ impl Reader<'_> {
         ensures refused { IfErr result (AreRefused operation_symbols self.old) }
     {
         let heading = self.heading(alloc)?;
-        let operation = self.body(alloc, heading)?;
-        Ok(operation)
+        self.body(alloc, heading)
     }
 
     /// The operations of a type.
@@ -468,14 +441,14 @@ impl Reader<'_> {
         ensures shorter { OnOk result (length self.new.tokens < length self.old.tokens) }
         ensures refused { IfErr result (AreRefused operations_symbols self.old) }
     {
-        let first = self.operation(alloc)?;
         let mut found = Vec::new(alloc);
-        found.push(first)?;
-        'more: while self.sees(Terminal::OpWord) {
+        'more: loop {
             let item = self.operation(alloc)?;
             found.push(item)?;
+            if !self.sees(Terminal::OpWord) {
+                return Ok(OpDecls::of(found));
+            }
         }
-        Ok(OpDecls::of(found))
     }
 
     /// The members of a type, whose name was read.
@@ -505,8 +478,7 @@ impl Reader<'_> {
     {
         let at = self.take(Terminal::TypeWord, Role::Plain)?;
         let name = self.name(Role::Plain)?;
-        let decl = self.members(alloc, at, name)?;
-        Ok(decl)
+        self.members(alloc, at, name)
     }
 
     /// The types of a source.
@@ -517,14 +489,14 @@ impl Reader<'_> {
         ensures shorter { OnOk result (length self.new.tokens < length self.old.tokens) }
         ensures refused { IfErr result (AreRefused types_symbols self.old) }
     {
-        let first = self.type_decl(alloc)?;
         let mut found = Vec::new(alloc);
-        found.push(first)?;
-        'more: while self.sees(Terminal::TypeWord) {
+        'more: loop {
             let item = self.type_decl(alloc)?;
             found.push(item)?;
+            if !self.sees(Terminal::TypeWord) {
+                return Ok(TypeDecls::of(found));
+            }
         }
-        Ok(TypeDecls::of(found))
     }
 
     /// The operations that a transaction uses.
@@ -535,7 +507,7 @@ impl Reader<'_> {
         ensures refused { IfErr result (AreRefused uses_symbols self.old) }
     {
         self.take(Terminal::UsesWord, Role::Plain)?;
-        let names = self.listed(alloc)?;
+        let names = self.names(alloc, Terminal::Comma)?;
         self.take(Terminal::Semicolon, Role::Plain)?;
         Ok(names)
     }
@@ -567,8 +539,7 @@ impl Reader<'_> {
     {
         let at = self.take(Terminal::TransactionWord, Role::Plain)?;
         let name = self.name(Role::Plain)?;
-        let decl = self.terms_of_use(alloc, at, name)?;
-        Ok(decl)
+        self.terms_of_use(alloc, at, name)
     }
 
     /// The transactions of a source.

@@ -11,4 +11,3 @@ returns-in_err-take-clause-refused c =
 
 pub returns-clause-gave : goal.returns-clause-gave
 returns-clause-gave c = λ below vs. base-word c.args.self.now below vs _ c.base_word-word.ensures ∙ c.in_ok-take.ensures.took _ _ ∙ read-do _ _ _ _
-

@@ -13,4 +13,3 @@ returns-clause-gave c = if_ok c.base.result c.base.ensures.gave (λ x gave below
 
 pub returns-clause-refused : goal.returns-clause-refused
 returns-clause-refused c = if_err c.base.result c.base.ensures.refused (λ e refused f is below vs. c.in_ok-take.ensures.took _ _ ∙ refused f is _ _)
-

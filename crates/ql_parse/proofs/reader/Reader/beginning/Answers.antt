@@ -26,4 +26,3 @@ returns-clause-gave c = if_ok c.plain_beginning.result c.plain_beginning.ensures
 
 pub returns-clause-refused : goal.returns-clause-refused
 returns-clause-refused c = if_err c.plain_beginning.result c.plain_beginning.ensures.refused (λ e refused f is below vs. beginning-plain c.args.self.now below vs (sym c.sees.ensures ∙ c.if-sees.false) (sym c.sees-2.ensures ∙ c.if-sees-2.false) (sym c.sees-3.ensures ∙ c.if-sees-3.false) ∙ refused f is _ _)
-

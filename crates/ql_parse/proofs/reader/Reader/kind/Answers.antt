@@ -25,4 +25,3 @@ returns-in_err-take-clause-refused c =
 
 pub returns-clause-gave : goal.returns-clause-gave
 returns-clause-gave c = λ below vs. kind-word c.args.self.now below vs (sym c.sees.ensures ∙ c.if-sees.false) (sym c.sees-2.ensures ∙ c.if-sees-2.false) _ c.kind_word-word.ensures ∙ c.in_ok-take.ensures.took _ _ ∙ read-do _ _ _ _
-

@@ -25,4 +25,3 @@ returns-in_err-take-2-clause-refused c =
 
 pub returns-clause-gave : goal.returns-clause-gave
 returns-clause-gave c = λ below vs. c.in_ok-take.ensures.took _ _ ∙ c.in_ok-key.ensures.gave _ _ ∙ c.in_ok-value.ensures.gave _ _ ∙ c.in_ok-take-2.ensures.took _ _ ∙ read-do _ _ _ _
-

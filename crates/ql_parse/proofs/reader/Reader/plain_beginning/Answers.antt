@@ -11,4 +11,3 @@ returns-in_err-at-clause-refused c =
 
 pub returns-clause-gave : goal.returns-clause-gave
 returns-clause-gave c = λ below vs. beginning-word c.args.self.now below vs _ c.beginning_word-word.ensures ∙ c.in_ok-at.ensures.gave _ _ ∙ read-do _ _ _ _
-
