@@ -2,6 +2,7 @@ pub mod ReaderLemmas
 pub mod RelationRules
 pub mod WordRules
 pub mod Lists
+pub mod JunctionLaws
 pub mod Spans
 pub mod OneReading
 pub mod Answering

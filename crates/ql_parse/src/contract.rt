@@ -1,6 +1,6 @@
 ghost use Rattle.std.specs.Prelude.{◌||◌, ◌≡◌, ◌<◌, IfErr, IfOk, OnOk, false, length, true};
-ghost use Rattle.ql_grammar.specs.declared.terminal.Terminal.TheVariants.{AndMark, CurWord, NameToken, OpenParen, OrMark, TrueWord};
-ghost use Rattle.ql_grammar.specs.ContractGrammar.{Atom, Both, Either, Whole};
+ghost use Rattle.ql_grammar.specs.declared.terminal.Terminal.TheVariants.{CurWord, NameToken, OpenParen, TrueWord};
+ghost use Rattle.ql_grammar.specs.ContractGrammar.{Atom, Whole};
 ghost use Rattle.ql_grammar.specs.Machine.{is_ahead};
 ghost use Rattle.ql_grammar.specs.Table.{
   APart,
@@ -8,8 +8,6 @@ ghost use Rattle.ql_grammar.specs.Table.{
   ASentence,
   ATerm,
   AVar,
-  MoreAnds,
-  MoreOrs,
   PropAt,
   Term,
   TermList,
@@ -20,6 +18,7 @@ ghost use Rattle.ql_grammar.specs.Table.{
   WholeContract,
 };
 ghost use Rattle.ql_lang.specs.Trees.{proposition_of, relation_of, sentence_of};
+ghost use Rattle.ql_parse.specs.Junctions.{joined_props, more_props, prop_mark, prop_operand};
 ghost use Rattle.ql_parse.specs.Readings.{
   AreArgumentsRefused,
   AreNamesRefused,
@@ -38,6 +37,7 @@ ghost use Rattle.ql_parse.specs.Readings.{
 };
 
 use crate::fault::Refusal;
+use crate::junction::{Junction, boxed};
 use crate::reader::Reader;
 use ql_grammar::{Role, Terminal};
 use ql_lang::{Contract, NameList, Point, Points, Prop, Rel, RelName, Var, Vars};
@@ -121,7 +121,7 @@ impl Reader<'_> {
         ensures shorter { OnOk result (length self.new.tokens < length self.old.tokens) }
         ensures refused { IfErr result (AreRefused application_symbols self.old) }
     {
-        let relation = self.applied(alloc)?;
+        let relation = self.single(alloc, Role::Makes(2), Role::Opens(1))?;
         self.arguments(relation)
     }
 
@@ -189,64 +189,60 @@ impl Reader<'_> {
         self.statement(alloc)
     }
 
-    /// Statements with `/\` between them.
+    /// An operand of this operator.
     #[cycle(prop)]
-    fn both(&mut self, alloc: Global) -> Result<Prop, Refusal>
+    fn prop_operand(&mut self, alloc: Global, junction: Junction) -> Result<Prop, Refusal>
         ensures gave { IfOk result
-            (λ p. Gave (APart (PropAt Both)) (AProp (proposition_of p)) self.old self.new) }
+            (λ p. Gave (APart (PropAt (prop_operand junction))) (AProp (proposition_of p)) self.old
+            self.new) }
         ensures shorter { OnOk result (length self.new.tokens < length self.old.tokens) }
-        ensures refused { IfErr result (IsRefused (APart (PropAt Both)) self.old) }
+        ensures refused { IfErr result
+            (IsRefused (APart (PropAt (prop_operand junction))) self.old) }
     {
-        let mut left = self.atom(alloc)?;
-        'ands: while self.sees(Terminal::AndMark) {
-            left = self.more_ands(alloc, left)?;
+        match junction {
+            Junction::And => self.atom(alloc),
+            Junction::Or => self.joined_props(alloc, Junction::And),
+        }
+    }
+
+    /// Statements with this operator and tighter ones between them.
+    #[cycle(prop)]
+    fn joined_props(&mut self, alloc: Global, junction: Junction) -> Result<Prop, Refusal>
+        ensures gave { IfOk result
+            (λ p. Gave (APart (PropAt (joined_props junction))) (AProp (proposition_of p)) self.old
+            self.new) }
+        ensures shorter { OnOk result (length self.new.tokens < length self.old.tokens) }
+        ensures refused { IfErr result
+            (IsRefused (APart (PropAt (joined_props junction))) self.old) }
+    {
+        let mark = junction.prop_mark();
+        let mut left = self.prop_operand(alloc, junction)?;
+        'more: while self.sees(mark) {
+            left = self.more_props(alloc, junction, left)?;
         }
         Ok(left)
     }
 
+    /// The operator's mark and its second operand.
     #[cycle(prop)]
-    fn more_ands(&mut self, alloc: Global, left: Prop) -> Result<Prop, Refusal>
-        requires { is_ahead AndMark self.old.tokens ≡ true }
+    fn more_props(
+        &mut self,
+        alloc: Global,
+        junction: Junction,
+        left: Prop,
+    ) -> Result<Prop, Refusal>
+        requires { is_ahead (prop_mark junction) self.old.tokens ≡ true }
         ensures turned { IfOk result
-            (λ p. Turned MoreAnds (AProp (proposition_of left)) (AProp (proposition_of p)) self.old
-            self.new) }
+            (λ p. Turned (more_props junction) (AProp (proposition_of left))
+            (AProp (proposition_of p)) self.old self.new) }
         ensures shorter { OnOk result (length self.new.tokens < length self.old.tokens) }
         ensures refused { IfErr result
-            (IsTurnRefused MoreAnds (AProp (proposition_of left)) self.old) }
+            (IsTurnRefused (more_props junction) (AProp (proposition_of left)) self.old) }
     {
-        self.take(Terminal::AndMark, Role::Makes(1))?;
-        let right = self.atom(alloc)?;
-        Ok(Prop::And(Box::new(alloc, left)?, Box::new(alloc, right)?))
-    }
-
-    /// Statements with `\/` between them.
-    #[cycle(prop)]
-    fn either(&mut self, alloc: Global) -> Result<Prop, Refusal>
-        ensures gave { IfOk result
-            (λ p. Gave (APart (PropAt Either)) (AProp (proposition_of p)) self.old self.new) }
-        ensures shorter { OnOk result (length self.new.tokens < length self.old.tokens) }
-        ensures refused { IfErr result (IsRefused (APart (PropAt Either)) self.old) }
-    {
-        let mut left = self.both(alloc)?;
-        'ors: while self.sees(Terminal::OrMark) {
-            left = self.more_ors(alloc, left)?;
-        }
-        Ok(left)
-    }
-
-    #[cycle(prop)]
-    fn more_ors(&mut self, alloc: Global, left: Prop) -> Result<Prop, Refusal>
-        requires { is_ahead OrMark self.old.tokens ≡ true }
-        ensures turned { IfOk result
-            (λ p. Turned MoreOrs (AProp (proposition_of left)) (AProp (proposition_of p)) self.old
-            self.new) }
-        ensures shorter { OnOk result (length self.new.tokens < length self.old.tokens) }
-        ensures refused { IfErr result
-            (IsTurnRefused MoreOrs (AProp (proposition_of left)) self.old) }
-    {
-        self.take(Terminal::OrMark, Role::Makes(1))?;
-        let right = self.both(alloc)?;
-        Ok(Prop::Or(Box::new(alloc, left)?, Box::new(alloc, right)?))
+        self.take(junction.prop_mark(), Role::Makes(1))?;
+        let right = self.prop_operand(alloc, junction)?;
+        let (left, right) = boxed(alloc, left, right)?;
+        Ok(junction.of_props(left, right))
     }
 
     /// Statements with `=>` between them.
@@ -257,13 +253,14 @@ impl Reader<'_> {
         ensures shorter { OnOk result (length self.new.tokens < length self.old.tokens) }
         ensures refused { IfErr result (IsRefused (APart (PropAt Whole)) self.old) }
     {
-        let left = self.either(alloc)?;
-        if self.sees(Terminal::Arrow) {
-            self.take(Terminal::Arrow, Role::Makes(1))?;
-            let right = self.prop(alloc)?;
-            return Ok(Prop::Implies(Box::new(alloc, left)?, Box::new(alloc, right)?));
+        let left = self.joined_props(alloc, Junction::Or)?;
+        if !self.sees(Terminal::Arrow) {
+            return Ok(left);
         }
-        Ok(left)
+        self.take(Terminal::Arrow, Role::Makes(1))?;
+        let right = self.prop(alloc)?;
+        let (left, right) = boxed(alloc, left, right)?;
+        Ok(Prop::Implies(left, right))
     }
 
     /// Names with this mark between them.
