@@ -3,12 +3,13 @@ use Rattle.ql_grammar.specs.Limits as limits
 use Rattle.ql_lang.specs.declared.relation.RelName.{RelName}
 use Rattle.ql_lang.specs.declared.relation.RelName.TheVariants.{Vis, So, Soo, SameObj, Eq, Hb, Hbo}
 use Rattle.ql_grammar.specs.declared.terminal.Terminal.{Terminal}
-use Rattle.ql_grammar.specs.declared.terminal.Terminal.TheVariants.{VisWord, SoWord, SooWord, SameObjWord, EqWord, HbWord, HboWord, BoolWord, CloseBrace, CloseParen, Colon, Comma, EmptyWord, Equals, FalseWord, IntToken, IntWord, MapWord, Minus, OpWord, OpenBrace, OpenParen, Semicolon, SetWord, TextToken, TextWord, TrueWord, TxnWord, UnitWord}
+use Rattle.ql_grammar.specs.declared.terminal.Terminal.TheVariants.{VisWord, SoWord, SooWord, SameObjWord, EqWord, HbWord, HboWord, BoolWord, CloseBrace, CloseParen, Colon, Comma, ElseWord, EmptyWord, Equals, FalseWord, IntToken, IntWord, MapWord, Minus, OpWord, OpenBrace, OpenParen, Semicolon, SetWord, TextToken, TextWord, ThenWord, TrueWord, TxnWord, UnitWord}
 use Rattle.ql_grammar.specs.declared.role.Role.{Role}
 use Rattle.ql_grammar.specs.declared.role.Role.TheVariants.{Plain, Makes, Opens, Closes, Before}
 use Rattle.ql_grammar.specs.Tokens.{Lexeme}
 use Rattle.ql_grammar.specs.ContractGrammar.{Applied}
-use Rattle.ql_lang.specs.Trees.{Relation}
+use Rattle.ql_lang.specs.Trees.{Sentence}
+use Rattle.ql_lang.specs.Expressions.{Expression}
 use Rattle.ql_grammar.specs.ExpressionGrammar.{Chosen}
 use Rattle.ql_lang.specs.declared.name.Name.{Name}
 use Rattle.ql_lang.specs.declared.operation.Base.{Base}
@@ -18,8 +19,8 @@ use Rattle.ql_lang.specs.declared.operation.Kind.TheVariants as kind
 use Rattle.ql_lang.specs.declared.program.InitNode.{InitNode}
 use Rattle.ql_lang.specs.declared.program.InitNode.TheVariants as init
 use Rattle.ql_lang.specs.declared.operation.Param.{Param}
-use Rattle.ql_lang.specs.Programs.{Emission, Operation, Replicated, Transaction}
-use Rattle.ql_grammar.specs.Table.{AKind, AName, APlace, ANameOf, AnEffect, AnOperation, ATransaction, AType, TheNames, TheParams, AnyKind, add_name, BaseKind, Beginning, Effect, Kept, MoreFields, MoreTypes, begin_negative, begin_number, begin_text, body_symbols, contract_symbols, effect_symbols, no_effect, no_fields, operations_symbols, params_symbols, to_map, to_names, to_operation, to_set, to_transaction, to_type, to_types, type_symbols, uses_symbols, way_on, Arguments, ExprAt, Sym, Value, ARelation, APart, Do, Placed, RelationAt, Rest, Term, TermList, Then, Word, to_application, to_equality, to_txn}
+use Rattle.ql_lang.specs.Programs.{Emission, Replicated, Transaction}
+use Rattle.ql_grammar.specs.Table.{AKind, AName, APlace, ANameOf, AnEffect, AnExpr, ASentence, ATransaction, AType, TheNames, TheParams, AnyKind, add_name, BaseKind, Beginning, Effect, Kept, MoreFields, MoreTypes, begin_negative, begin_number, begin_text, body_symbols, contract_symbols, effect_symbols, no_effect, no_fields, operations_symbols, params_symbols, to_map, to_names, to_set, to_transaction, to_type, to_types, type_symbols, uses_symbols, way_on, Arguments, ExprAt, Sym, Value, APart, Do, Placed, RelationAt, Rest, Term, TermList, Then, Word, to_application, to_equality, to_txn}
 use Rattle.ql_grammar.specs.Machine.{Reading, chosen, read, is_ahead}
 use Rattle.ql_parse.specs.declared.fault.Refusal.{Refusal}
 use Rattle.ql_parse.specs.declared.fault.Refusal.TheVariants.{Unexpected, Deep, Wide, NoMemory}
@@ -89,28 +90,25 @@ GaveAll want v old new = (below : List Sym) (vs : List Value) → read old (want
 abbrev pub AreRefused : (List Sym → List Sym) → Reading → Refusal → Type 0
 AreRefused want old e = (f : limits.Fault) → fault_of e ≡ Some f → (below : List Sym) (vs : List Value) → read old (want below) vs ≡ Err f
 
+-- The same with two values.
+abbrev pub GaveTwo : (List Sym → List Sym) → Value → Value → Reading → Reading → Type 0
+GaveTwo want v w old new = (below : List Sym) (vs : List Value) → read old (want below) vs ≡ read new below (w ∷ v ∷ vs)
+
 -- an equality, after it an application and a `txn` with its terms
 abbrev pub equality_symbols : List Sym → List Sym
 equality_symbols below = APart (Term Plain) ∷ Placed Equals (Makes 2) ∷ APart (Term Plain) ∷ Do to_equality ∷ below
 
-abbrev pub argument_symbols : List Sym → List Sym
-argument_symbols below = Word OpenParen (Opens 0) ∷ APart (Term Plain) ∷ Word Comma Plain ∷ APart (Term Plain) ∷ Word CloseParen Closes ∷ Do to_application ∷ below
+abbrev pub pair_symbols : List Sym → List Sym
+pair_symbols below = Word OpenParen (Opens 0) ∷ APart (Term Plain) ∷ Word Comma Plain ∷ APart (Term Plain) ∷ Word CloseParen Closes ∷ below
 
 abbrev pub application_symbols : List Sym → List Sym
-application_symbols below = APart (RelationAt Applied) ∷ argument_symbols below
+application_symbols below = APart (RelationAt Applied) ∷ pair_symbols (Do to_application ∷ below)
 
 abbrev pub braced_symbols : List Sym → List Sym
 braced_symbols below = Word OpenBrace Plain ∷ APart TermList ∷ Word CloseBrace Plain ∷ below
 
 abbrev pub txn_symbols : List Sym → List Sym
 txn_symbols below = Placed TxnWord (Makes 1) ∷ braced_symbols (braced_symbols (Do to_txn ∷ below))
-
--- the relation, and the arguments to which it is applied
-abbrev pub GaveArguments : Relation → Value → Reading → Reading → Type 0
-GaveArguments r v old new = (below : List Sym) (vs : List Value) → read old (argument_symbols below) (ARelation r ∷ vs) ≡ read new below (v ∷ vs)
-
-abbrev pub AreArgumentsRefused : Relation → Reading → Refusal → Type 0
-AreArgumentsRefused r old e = (f : limits.Fault) → fault_of e ≡ Some f → (below : List Sym) (vs : List Value) → read old (argument_symbols below) (ARelation r ∷ vs) ≡ Err f
 
 -- nothing is left, or the fault is at what is
 abbrev pub EndsHere : Reading → Type 0
@@ -132,6 +130,9 @@ bracketed_arguments below = Word OpenParen (Opens 0) ∷ APart Arguments ∷ Wor
 
 abbrev pub branch_symbols : Terminal → List Sym → List Sym
 branch_symbols k below = Word k Plain ∷ APart (ExprAt Chosen) ∷ below
+
+abbrev pub branches_symbols : List Sym → List Sym
+branches_symbols below = branch_symbols ThenWord (branch_symbols ElseWord below)
 
 -- what may follow was read completely, and what was found so far became another value
 abbrev pub GaveRest : Rest → Value → Value → Reading → Reading → Type 0
@@ -243,15 +244,12 @@ GaveEmission e old new = (below : List Sym) (vs : List Value) → read old (effe
 abbrev pub AreEmissionsRefused : Reading → Refusal → Type 0
 AreEmissionsRefused old e = (f : limits.Fault) → fault_of e ≡ Some f → (below : List Sym) (vs : List Value) → read old (effect_symbols below) (AnEffect None ∷ vs) ≡ Err f
 
--- the heading of an operation, and the operation after it
+-- the heading of an operation, and what is in its braces
 abbrev pub GaveHeading : ℕ → Name → List Param → Kind → Reading → Reading → Type 0
 GaveHeading n name ps k old new = (below : List Sym) (vs : List Value) → read old (heading_symbols below) vs ≡ read new below (AKind k ∷ TheParams ps ∷ AName name ∷ APlace n ∷ vs)
 
-abbrev pub GaveBody : ℕ → Name → List Param → Kind → Operation → Reading → Reading → Type 0
-GaveBody n name ps k o old new = (below : List Sym) (vs : List Value) → read old (body_symbols (Do to_operation ∷ below)) (AKind k ∷ TheParams ps ∷ AName name ∷ APlace n ∷ vs) ≡ read new below (AnOperation o ∷ vs)
-
-abbrev pub IsBodyRefused : ℕ → Name → List Param → Kind → Reading → Refusal → Type 0
-IsBodyRefused n name ps k old e = (f : limits.Fault) → fault_of e ≡ Some f → (below : List Sym) (vs : List Value) → read old (body_symbols (Do to_operation ∷ below)) (AKind k ∷ TheParams ps ∷ AName name ∷ APlace n ∷ vs) ≡ Err f
+abbrev pub GaveBody : Sentence → ℕ → Expression → Option Emission → Reading → Reading → Type 0
+GaveBody k n e o old new = (below : List Sym) (vs : List Value) → read old (body_symbols below) vs ≡ read new below (AnEffect o ∷ AnExpr n e ∷ ASentence k ∷ vs)
 
 -- what stands in the braces of a type or a transaction whose name was read
 abbrev pub members_symbols : List Sym → List Sym

@@ -17,22 +17,22 @@ ghost use Rattle.ql_grammar.specs.Table.{
   Variable,
   WholeContract,
 };
-ghost use Rattle.ql_lang.specs.Trees.{proposition_of, relation_of, sentence_of};
+ghost use Rattle.ql_lang.specs.Trees.{proposition_of, sentence_of};
 ghost use Rattle.ql_parse.specs.Junctions.{joined_props, more_props, prop_mark, prop_operand};
 ghost use Rattle.ql_parse.specs.Readings.{
-  AreArgumentsRefused,
   AreNamesRefused,
   AreRefused,
   Gave,
   GaveAll,
-  GaveArguments,
   GaveNames,
+  GaveTwo,
   IsRefused,
   IsTurnRefused,
   Turned,
   application_symbols,
   braced_symbols,
   equality_symbols,
+  pair_symbols,
   txn_symbols,
 };
 
@@ -98,20 +98,18 @@ impl Reader<'_> {
         Ok(Prop::Apply(Rel::Base(RelName::Eq, at), left, right))
     }
 
-    /// Two terms in brackets, to which the relation is applied.
-    fn arguments(&mut self, relation: Rel) -> Result<Prop, Refusal>
-        ensures gave { IfOk result
-            (λ p. GaveArguments (relation_of relation) (AProp (proposition_of p)) self.old
-            self.new) }
+    /// Two terms in brackets.
+    fn pair(&mut self) -> Result<(Point, Point), Refusal>
+        ensures gave { IfOk result (λ both. GaveTwo pair_symbols (ATerm both.0) (ATerm both.1) self.old self.new) }
         ensures shorter { OnOk result (length self.new.tokens < length self.old.tokens) }
-        ensures refused { IfErr result (AreArgumentsRefused (relation_of relation) self.old) }
+        ensures refused { IfErr result (AreRefused pair_symbols self.old) }
     {
         self.take(Terminal::OpenParen, Role::Opens(0))?;
         let left = self.term(Role::Plain)?;
         self.take(Terminal::Comma, Role::Plain)?;
         let right = self.term(Role::Plain)?;
         self.take(Terminal::CloseParen, Role::Closes)?;
-        Ok(Prop::Apply(relation, left, right))
+        Ok((left, right))
     }
 
     /// A relation that is applied to two terms.
@@ -122,7 +120,8 @@ impl Reader<'_> {
         ensures refused { IfErr result (AreRefused application_symbols self.old) }
     {
         let relation = self.single(alloc, Role::Makes(2), Role::Opens(1))?;
-        self.arguments(relation)
+        let (left, right) = self.pair()?;
+        Ok(Prop::Apply(relation, left, right))
     }
 
     /// The word `txn` and its two groups of terms.

@@ -31,6 +31,7 @@ ghost use Rattle.ql_grammar.specs.Table.{
   assignments_symbols,
   binding_symbols,
   bindings_symbols,
+  body_symbols,
   contract_symbols,
   field_symbols,
   operation_symbols,
@@ -67,7 +68,6 @@ ghost use Rattle.ql_parse.specs.Readings.{
   GaveRest,
   GaveTerms,
   IsAddedRefused,
-  IsBodyRefused,
   IsRefused,
   IsRestRefused,
   closed_symbols,
@@ -99,6 +99,14 @@ struct Heading {
     name: Name,
     params: Params,
     kind: Kind,
+}
+
+/// What stands in the braces of an operation.
+#[derive(Drop)]
+struct Body {
+    contract: Contract,
+    answer: Operand,
+    effect: Option<EmitDecl>,
 }
 
 impl Reader<'_> {
@@ -398,26 +406,21 @@ impl Reader<'_> {
         Ok(effect)
     }
 
-    /// An operation after its heading.
-    fn body(&mut self, alloc: Global, heading: Heading) -> Result<OpDecl, Refusal>
+    /// What stands in the braces of an operation.
+    fn body(&mut self, alloc: Global) -> Result<Body, Refusal>
         ensures gave { IfOk result
-            (λ o. GaveBody heading.at heading.name heading.params heading.kind (operation_of o)
-            self.old self.new) }
+            (λ b. GaveBody (sentence_of b.contract) b.answer.start (expression_of b.answer.expr)
+            (option_map emission_of b.effect) self.old self.new) }
         ensures shorter { OnOk result (length self.new.tokens < length self.old.tokens) }
-        ensures refused { IfErr result
-            (IsBodyRefused heading.at heading.name heading.params heading.kind self.old) }
+        ensures refused { IfErr result (AreRefused body_symbols self.old) }
     {
         self.take(Terminal::OpenBrace, Role::Plain)?;
         let contract = self.closed_contract(alloc)?;
         let answer = self.closed_value(alloc, Terminal::AnswerWord)?;
         let effect = self.ending(alloc)?;
-        Ok(OpDecl {
-            at: heading.at,
-            name: heading.name,
-            params: heading.params,
-            kind: heading.kind,
+        Ok(Body {
             contract,
-            answer: answer.expr,
+            answer,
             effect,
         })
     }
@@ -430,7 +433,16 @@ impl Reader<'_> {
         ensures refused { IfErr result (AreRefused operation_symbols self.old) }
     {
         let heading = self.heading(alloc)?;
-        self.body(alloc, heading)
+        let body = self.body(alloc)?;
+        Ok(OpDecl {
+            at: heading.at,
+            name: heading.name,
+            params: heading.params,
+            kind: heading.kind,
+            contract: body.contract,
+            answer: body.answer.expr,
+            effect: body.effect,
+        })
     }
 
     /// The operations of a type.

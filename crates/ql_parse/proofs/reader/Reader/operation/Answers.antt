@@ -1,6 +1,6 @@
 use Rattle.std.proofs.Common.{◌∙◌}
-use Rattle.ql_parse.proofs.PrecedenceLaws.{if_ok, if_err}
 use Rattle.std.proofs.lemmas.Result.{err_from_is_err_and}
+use Rattle.ql_grammar.proofs.Choices.{read-do}
 use Rattle.ql_parse.proofs.reader.Reader.operation.Goals as goal
 
 pub returns-in_err-heading-clause-refused : goal.returns-in_err-heading-clause-refused
@@ -8,8 +8,10 @@ returns-in_err-heading-clause-refused c =
     let p = err_from_is_err_and c.from_residual.result c.from_residual.ensures.1 in
     rw (p.1, p.2) (λ f is below vs. c.in_err-heading.ensures.refused f is _ _)
 
-pub returns-clause-gave : goal.returns-clause-gave
-returns-clause-gave c = if_ok c.body.result c.body.ensures.gave (λ x gave below vs. c.in_ok-heading.ensures.gave _ _ ∙ gave _ _)
+pub returns-in_err-body-clause-refused : goal.returns-in_err-body-clause-refused
+returns-in_err-body-clause-refused c =
+    let p = err_from_is_err_and c.from_residual-in_err-body.result c.from_residual-in_err-body.ensures.1 in
+    rw (p.1, p.2) (λ f is below vs. c.in_ok-heading.ensures.gave _ _ ∙ c.in_err-body.ensures.refused f is _ _)
 
-pub returns-clause-refused : goal.returns-clause-refused
-returns-clause-refused c = if_err c.body.result c.body.ensures.refused (λ e refused f is below vs. c.in_ok-heading.ensures.gave _ _ ∙ refused f is _ _)
+pub returns-clause-gave : goal.returns-clause-gave
+returns-clause-gave c = λ below vs. c.in_ok-heading.ensures.gave _ _ ∙ c.in_ok-body.ensures.gave _ _ ∙ read-do _ _ _ _
