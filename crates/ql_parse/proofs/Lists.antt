@@ -1,5 +1,5 @@
 -- How a list is read, whatever it consists of.
-use Rattle.std.proofs.Common.{◌≡◌, ◌<◌, ◌≤◌, List, [], ◌∷◌, ◌++◌, Bool, true, false, length, sym, ap, ◌∙◌, arith}
+use Rattle.std.proofs.Common.{◌≡◌, ◌<◌, ◌≤◌, List, [], ◌∷◌, ◌++◌, true, false, length, sym, ap, ◌∙◌, arith}
 use Rattle.ql_grammar.specs.declared.terminal.Terminal.{Terminal}
 use Rattle.ql_grammar.specs.declared.role.Role.TheVariants.{Plain}
 use Rattle.ql_grammar.specs.Table.{Sym, Word, Do, Then, Rest, Value, way_on}

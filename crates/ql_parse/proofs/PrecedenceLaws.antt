@@ -1,12 +1,11 @@
 -- How a part of an expression is read, whatever the precedence of its operators.
-use Rattle.std.proofs.Common.{◌≡◌, ◌<◌, ◌≤◌, ◌+◌, ℕ, zero, suc, drop, length, arith, Result, Ok, Err, IfOk, IfErr, OnOk, [], Bool, true, false, List, ◌∷◌, Option, Some, None, refl, sym, ap, ◌∙◌, ◌||◌}
+use Rattle.std.proofs.Common.{◌≡◌, ◌<◌, ◌≤◌, ◌+◌, ℕ, zero, suc, drop, length, arith, Result, Ok, Err, IfOk, IfErr, OnOk, [], Bool, true, false, List, ◌∷◌, Some, None, refl, sym, ap, ◌∙◌, ◌||◌}
 use Rattle.std.specs.Prelude.{is_some}
 use Rattle.std.proofs.Math.ListN.{get_or}
 use Rattle.ql_grammar.specs.declared.precedence.Precedence.{Precedence}
 use Rattle.ql_grammar.specs.declared.precedence.Precedence.TheVariants.{Product, Sum, Comparison, Conjunction, Disjunction}
 use Rattle.ql_grammar.specs.ExpressionGrammar.{Unary}
-use Rattle.ql_grammar.specs.Table.{Sym, Then, Operator, APart, Do, ExprAt, Value, ways, way_on, combine, MoreTimes, MorePlus, MoreConjoined, MoreDisjoined}
-use Rattle.ql_grammar.specs.Table as table
+use Rattle.ql_grammar.specs.Table.{Sym, Then, Operator, APart, Do, ExprAt, Value, ways, way_on, combine}
 use Rattle.ql_grammar.specs.Tokens.{Lexeme}
 use Rattle.ql_grammar.specs.Machine.{Reading, read, is_begun, operator_ahead}
 use Rattle.ql_grammar.proofs.Rules.{read-as, then-on, then-past}

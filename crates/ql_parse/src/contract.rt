@@ -224,12 +224,7 @@ impl Reader<'_> {
 
     /// The operator's mark and its second operand.
     #[cycle(prop)]
-    fn more_props(
-        &mut self,
-        alloc: Global,
-        junction: Junction,
-        left: Prop,
-    ) -> Result<Prop, Refusal>
+    fn more_props(&mut self, alloc: Global, junction: Junction, left: Prop) -> Result<Prop, Refusal>
         requires { is_ahead (prop_mark junction) self.old.tokens ≡ true }
         ensures turned { IfOk result
             (λ p. Turned (more_props junction) (AProp (proposition_of left))

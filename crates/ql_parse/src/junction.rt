@@ -60,11 +60,7 @@ impl Junction {
 
 /// Two operands in boxes.
 #[inline(always)]
-pub(crate) fn boxed<T: Drop>(
-    alloc: Global,
-    left: T,
-    right: T,
-) -> Result<(Box<T>, Box<T>), Refusal>
+pub(crate) fn boxed<T: Drop>(alloc: Global, left: T, right: T) -> Result<(Box<T>, Box<T>), Refusal>
     ensures left { IfOk result (λ both. both.0.value ≡ left) }
     ensures right { IfOk result (λ both. both.1.value ≡ right) }
     ensures full { IfErr result (λ e. e ≡ Refusal.NoMemory) }

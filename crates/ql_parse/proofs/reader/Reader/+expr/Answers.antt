@@ -1,9 +1,9 @@
-use Rattle.std.proofs.Common.{◌≡◌, sym, ◌∙◌, ap, refl, ◌∷◌, arith}
+use Rattle.std.proofs.Common.{sym, ◌∙◌, ap, refl, ◌∷◌, arith}
 use Rattle.std.proofs.lemmas.Result.{err_from_is_err_and}
 use Rattle.ql_lang.specs.Expressions.{expression_of, node_of}
 use Rattle.ql_grammar.specs.ExpressionGrammar.{Chosen}
 use Rattle.ql_grammar.specs.Machine.{read}
-use Rattle.ql_grammar.specs.Table.{AnExpr, Do, Then, Arguments, ExprAt, Called, MoreArguments, TheExprs, add_argument, to_arguments}
+use Rattle.ql_grammar.specs.Table.{Do, Then, Arguments, ExprAt, Called, MoreArguments, TheExprs, add_argument, to_arguments}
 use Rattle.ql_grammar.proofs.Choices.{read-do}
 use Rattle.ql_grammar.proofs.Rules.{read-as, then-on, then-past}
 use Rattle.ql_grammar.proofs.ByToken.{unary-name, unary-group, unary-not, unary-minus, unary-constant, chosen-if, chosen-plain}
