@@ -1,15 +1,12 @@
 use Rattle.std.proofs.Common.{◌≡◌, ℕ, List, [], ◌∷◌, Bool, true, false, cond, Err, refl, sym, ap, subst, ◌∙◌}
-use Rattle.ql_lang.specs.declared.operation.Base.TheVariants as base
-use Rattle.ql_lang.specs.declared.operation.Kind.TheVariants as kind
-use Rattle.ql_lang.specs.declared.program.InitNode.TheVariants as init
 use Rattle.ql_grammar.specs.declared.terminal.Terminal.{Terminal}
-use Rattle.ql_grammar.specs.declared.terminal.Terminal.TheVariants.{NameToken, IntToken, TextToken, TypeWord, TrueWord, FalseWord, UnitWord, EmptyWord, IfWord, ThenWord, ElseWord, NotWord, IntWord, BoolWord, TextWord, SetWord, MapWord, OpenParen, CloseParen, Comma, Minus}
+use Rattle.ql_grammar.specs.declared.terminal.Terminal.TheVariants.{NameToken, IntToken, TextToken, TypeWord, TrueWord, FalseWord, UnitWord, IfWord, ThenWord, ElseWord, NotWord, SetWord, MapWord, OpenParen, CloseParen, Comma, Minus}
 use Rattle.ql_grammar.specs.declared.role.Role.TheVariants.{Plain, Makes, Opens, Closes}
 use Rattle.ql_grammar.specs.Terminals.{is_same, number}
 use Rattle.ql_grammar.specs.Tokens.{Lexeme}
 use Rattle.ql_grammar.specs.ExpressionGrammar.{Unary, Disjoined, Chosen}
 use Rattle.ql_grammar.specs.Limits.{Unexpected, Counts}
-use Rattle.ql_grammar.specs.Table.{Value, Sym, Word, Placed, ANameOf, Kept, Do, APart, Then, ExprAt, Called, BaseKind, AnyKind, Beginning, ListedNames, WholeSource, MoreListed, MoreTypes, MoreTransactions, constant_ways, plain_ways, type_symbols, to_number, to_literal, to_truth, to_nothing, to_reading, to_group, to_denial, to_negation, to_choice, add_base, add_kind, to_set, to_map, begin_number, begin_negative, begin_text, begin_with, to_names, to_types, no_transactions, to_source}
+use Rattle.ql_grammar.specs.Table.{Value, Sym, Word, Placed, ANameOf, Kept, Do, APart, Then, ExprAt, Called, BaseKind, AnyKind, Beginning, ListedNames, WholeSource, MoreListed, MoreTypes, MoreTransactions, constant_ways, plain_ways, type_symbols, to_number, to_literal, to_truth, to_nothing, to_reading, to_group, to_denial, to_negation, to_choice, to_set, to_map, begin_number, begin_negative, begin_text, to_names, to_types, no_transactions, to_source}
 use Rattle.ql_grammar.specs.Machine.{Reading, lead, first_fit, step, go_on, run, read, is_ahead, place_ahead, chosen}
 use Rattle.ql_grammar.proofs.TerminalLemmas.{same_terminal}
 use Rattle.ql_grammar.proofs.Taking.{word_missing}
@@ -86,32 +83,11 @@ module _ (r : Reading) (below : List Sym) (vs : List Value) where
 
   -- kinds
 
-  pub base-int : is_ahead IntWord r.tokens ≡ true → read r (APart BaseKind ∷ below) vs ≡ read r (Word IntWord Plain ∷ Do (add_base base.Int) ∷ below) vs
-  base-int a = read-part r BaseKind below vs ∙ rw a refl
-
-  pub base-bool : is_ahead IntWord r.tokens ≡ false → is_ahead BoolWord r.tokens ≡ true → read r (APart BaseKind ∷ below) vs ≡ read r (Word BoolWord Plain ∷ Do (add_base base.Bool) ∷ below) vs
-  base-bool a b = read-part r BaseKind below vs ∙ rw (a, b) refl
-
-  pub base-text : is_ahead IntWord r.tokens ≡ false → is_ahead BoolWord r.tokens ≡ false → read r (APart BaseKind ∷ below) vs ≡ read r (Word TextWord Plain ∷ Do (add_base base.Text) ∷ below) vs
-  base-text a b = read-part r BaseKind below vs ∙ rw (a, b) (last_word TextWord (Do (add_base base.Text) ∷ below) (is_ahead TextWord r.tokens) refl)
-
   pub kind-set : is_ahead SetWord r.tokens ≡ true → read r (APart AnyKind ∷ below) vs ≡ read r (Word SetWord Plain ∷ Word OpenParen Plain ∷ APart BaseKind ∷ Word CloseParen Plain ∷ Do to_set ∷ below) vs
   kind-set a = read-part r AnyKind below vs ∙ rw a refl
 
   pub kind-map : is_ahead SetWord r.tokens ≡ false → is_ahead MapWord r.tokens ≡ true → read r (APart AnyKind ∷ below) vs ≡ read r (Word MapWord Plain ∷ Word OpenParen Plain ∷ APart BaseKind ∷ Word Comma Plain ∷ APart BaseKind ∷ Word CloseParen Plain ∷ Do to_map ∷ below) vs
   kind-map a b = read-part r AnyKind below vs ∙ rw (a, b) refl
-
-  pub kind-unit : is_ahead SetWord r.tokens ≡ false → is_ahead MapWord r.tokens ≡ false → is_ahead UnitWord r.tokens ≡ true → read r (APart AnyKind ∷ below) vs ≡ read r (Word UnitWord Plain ∷ Do (add_kind kind.Unit) ∷ below) vs
-  kind-unit a b c = read-part r AnyKind below vs ∙ rw (a, b, c) refl
-
-  pub kind-int : is_ahead SetWord r.tokens ≡ false → is_ahead MapWord r.tokens ≡ false → is_ahead UnitWord r.tokens ≡ false → is_ahead IntWord r.tokens ≡ true → read r (APart AnyKind ∷ below) vs ≡ read r (Word IntWord Plain ∷ Do (add_kind kind.Int) ∷ below) vs
-  kind-int a b c d = read-part r AnyKind below vs ∙ rw (a, b, c, d) refl
-
-  pub kind-bool : is_ahead SetWord r.tokens ≡ false → is_ahead MapWord r.tokens ≡ false → is_ahead UnitWord r.tokens ≡ false → is_ahead IntWord r.tokens ≡ false → is_ahead BoolWord r.tokens ≡ true → read r (APart AnyKind ∷ below) vs ≡ read r (Word BoolWord Plain ∷ Do (add_kind kind.Bool) ∷ below) vs
-  kind-bool a b c d e = read-part r AnyKind below vs ∙ rw (a, b, c, d, e) refl
-
-  pub kind-text : is_ahead SetWord r.tokens ≡ false → is_ahead MapWord r.tokens ≡ false → is_ahead UnitWord r.tokens ≡ false → is_ahead IntWord r.tokens ≡ false → is_ahead BoolWord r.tokens ≡ false → read r (APart AnyKind ∷ below) vs ≡ read r (Word TextWord Plain ∷ Do (add_kind kind.Text) ∷ below) vs
-  kind-text a b c d e = read-part r AnyKind below vs ∙ rw (a, b, c, d, e) (last_word TextWord (Do (add_kind kind.Text) ∷ below) (is_ahead TextWord r.tokens) refl)
 
   -- what a field begins with
 
@@ -126,18 +102,6 @@ module _ (r : Reading) (below : List Sym) (vs : List Value) where
 
   pub beginning-plain : is_ahead IntToken r.tokens ≡ false → is_ahead Minus r.tokens ≡ false → is_ahead TextToken r.tokens ≡ false → read r (APart Beginning ∷ below) vs ≡ chosen r (plain_ways below) vs
   beginning-plain a b c = read-part r Beginning below vs ∙ rw (a, b, c) refl
-
-  pub plain-true : is_ahead TrueWord r.tokens ≡ true → chosen r (plain_ways below) vs ≡ read r (Placed TrueWord Plain ∷ Do (begin_with (init.Bool true)) ∷ below) vs
-  plain-true a = rw a refl
-
-  pub plain-false : is_ahead TrueWord r.tokens ≡ false → is_ahead FalseWord r.tokens ≡ true → chosen r (plain_ways below) vs ≡ read r (Placed FalseWord Plain ∷ Do (begin_with (init.Bool false)) ∷ below) vs
-  plain-false a b = rw (a, b) refl
-
-  pub plain-unit : is_ahead TrueWord r.tokens ≡ false → is_ahead FalseWord r.tokens ≡ false → is_ahead UnitWord r.tokens ≡ true → chosen r (plain_ways below) vs ≡ read r (Placed UnitWord Plain ∷ Do (begin_with init.Unit) ∷ below) vs
-  plain-unit a b c = rw (a, b, c) refl
-
-  pub plain-empty : is_ahead TrueWord r.tokens ≡ false → is_ahead FalseWord r.tokens ≡ false → is_ahead UnitWord r.tokens ≡ false → chosen r (plain_ways below) vs ≡ read r (Placed EmptyWord Plain ∷ Do (begin_with init.Empty) ∷ below) vs
-  plain-empty a b c = rw (a, b, c) (last_placed r EmptyWord Plain (Do (begin_with init.Empty) ∷ below) vs (is_ahead EmptyWord r.tokens) refl)
 
   -- declarations
 

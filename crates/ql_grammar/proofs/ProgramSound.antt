@@ -121,6 +121,29 @@ size (source r h) = suc (size h)
 size (stop h) = suc (size h)
 size (go h) = suc (size h)
 
+-- orders of sizes, each proved once
+
+same : (n : ℕ) → n ≤ n
+same n = omega arith
+
+up : {a b : ℕ} → a ≤ b → a ≤ suc b
+up le = omega (arith, le)
+
+up3 : {a b : ℕ} → a ≤ b → a ≤ suc (suc (suc b))
+up3 le = omega (arith, le)
+
+before : {a b : ℕ} → suc a ≤ b → a ≤ b
+before le = omega (arith, le)
+
+both_less : {a b : ℕ} → suc a ≤ suc b → a ≤ b
+both_less le = omega (arith, le)
+
+through : {a b c : ℕ} → a ≤ b → b ≤ c → a ≤ c
+through p q = omega (arith, p, q)
+
+none_less : {a : ℕ} → suc a ≤ 0 → ⊥
+none_less le = omega (arith, le)
+
 -- the front of the tokens reads as a tree, and the stack has what is left, which is of at most this size
 record Split {A : Type 0} (Reads : List Marked → List Marked → A → Type 0) (value : A → Value) (below : List Sym) (vs : List Value) (ts : List Marked) (out : List Value) (most : ℕ) : Type 0 where
   pub rest : List Marked
@@ -131,27 +154,27 @@ record Split {A : Type 0} (Reads : List Marked → List Marked → A → Type 0)
 
 -- the same, of a greater size
 wider : {A : Type 0} {Reads : List Marked → List Marked → A → Type 0} {value : A → Value} {below : List Sym} {vs : List Value} {ts : List Marked} {out : List Value} {most : ℕ} (more : ℕ) → most ≤ more → Split Reads value below vs ts out most → Split Reads value below vs ts out more
-wider more le s = let l = s.less in record { rest = s.rest; tree = s.tree; reads = s.reads; has = s.has; less = omega arith }
+wider more le s = record { rest = s.rest; tree = s.tree; reads = s.reads; has = s.has; less = through s.less le }
 
 split_fields : {ts rest : List Marked} {fs : List Field} {below : List Sym} {vs out : List Value} → grammar.ReadsFields ts rest fs → (h : Has (Then MoreFields ∷ below) (TheFields fs ∷ vs) rest out) → Split grammar.ReadsFields TheFields below vs ts out (size h)
-split_fields reads (stop h) = record { rest = _; tree = _; reads = reads; has = h; less = omega arith }
-split_fields reads (go (placed (name (word (kind k (word (init i (word (change h))))))))) = wider _ (omega arith) (split_fields (grammar.more reads (grammar.field k i)) h)
+split_fields reads (stop h) = record { rest = _; tree = _; reads = reads; has = h; less = up (same _) }
+split_fields reads (go (placed (name (word (kind k (word (init i (word (change h))))))))) = wider _ (up3 (up3 (up3 (same _)))) (split_fields (grammar.more reads (grammar.field k i)) h)
 
 split_some_params : {ts rest : List Marked} {ps : List Param} {below : List Sym} {vs out : List Value} → grammar.ReadsParams ts rest ps → (h : Has (Then MoreParams ∷ below) (TheParams ps ∷ vs) rest out) → Split grammar.ReadsAnyParams TheParams below vs ts out (size h)
-split_some_params reads (stop h) = record { rest = _; tree = _; reads = grammar.some reads; has = h; less = omega arith }
-split_some_params reads (go (word (name (word (base b (change h)))))) = wider _ (omega arith) (split_some_params (grammar.more reads (grammar.param b)) h)
+split_some_params reads (stop h) = record { rest = _; tree = _; reads = grammar.some reads; has = h; less = up (same _) }
+split_some_params reads (go (word (name (word (base b (change h)))))) = wider _ (up3 (up3 (same _))) (split_some_params (grammar.more reads (grammar.param b)) h)
 
 split_params : {ts : List Marked} {below : List Sym} {vs out : List Value} → (h : Has (Then SomeParams ∷ below) (TheParams [] ∷ vs) ts out) → Split grammar.ReadsAnyParams TheParams below vs ts out (size h)
-split_params (stop h) = record { rest = _; tree = []; reads = grammar.none; has = h; less = omega arith }
-split_params (go (name (word (base b (change h))))) = wider _ (omega arith) (split_some_params (grammar.one (grammar.param b)) h)
+split_params (stop h) = record { rest = _; tree = []; reads = grammar.none; has = h; less = up (same _) }
+split_params (go (name (word (base b (change h))))) = wider _ (up3 (up (up (same _)))) (split_some_params (grammar.one (grammar.param b)) h)
 
 split_bindings : {ts rest : List Marked} {bs : List Binding} {below : List Sym} {vs out : List Value} → grammar.ReadsBindings ts rest bs → (h : Has (Then MoreBindings ∷ below) (TheBindings bs ∷ vs) rest out) → Split grammar.ReadsBindings TheBindings below vs ts out (size h)
-split_bindings reads (stop h) = record { rest = _; tree = _; reads = reads; has = h; less = omega arith }
-split_bindings reads (go (word (name (word (base b (word (expr e (change (change h))))))))) = wider _ (omega arith) (split_bindings (grammar.more reads (grammar.binding b e)) h)
+split_bindings reads (stop h) = record { rest = _; tree = _; reads = reads; has = h; less = up (same _) }
+split_bindings reads (go (word (name (word (base b (word (expr e (change (change h))))))))) = wider _ (up3 (up3 (up3 (same _)))) (split_bindings (grammar.more reads (grammar.binding b e)) h)
 
 split_assignments : {ts rest : List Marked} {changes : List Assignment} {below : List Sym} {vs out : List Value} → grammar.ReadsAssignments ts rest changes → (h : Has (Then MoreAssignments ∷ below) (TheAssignments changes ∷ vs) rest out) → Split grammar.ReadsAssignments TheAssignments below vs ts out (size h)
-split_assignments reads (stop h) = record { rest = _; tree = _; reads = reads; has = h; less = omega arith }
-split_assignments reads (go (name (word (expr e (word (change h)))))) = wider _ (omega arith) (split_assignments (grammar.more reads (grammar.assignment e)) h)
+split_assignments reads (stop h) = record { rest = _; tree = _; reads = reads; has = h; less = up (same _) }
+split_assignments reads (go (name (word (expr e (word (change h)))))) = wider _ (up3 (up3 (same _))) (split_assignments (grammar.more reads (grammar.assignment e)) h)
 
 -- effects
 
@@ -159,20 +182,18 @@ abbrev IsEffect : List Sym → List Value → List Marked → List Value → ℕ
 IsEffect below vs ts out most = Split grammar.ReadsEffect AnEffect below vs ts out most
 
 effect_end : {x1 x2 x3 x4 x5 : List ℕ} {n1 n2 n3 n4 n5 s : ℕ} {ts us ws rest : List Marked} {bs : List Binding} {e : Expression} {changes : List Assignment} {below : List Sym} {vs out : List Value} → grammar.ReadsBindings ts (marked Before WhenWord x2 n2 ∷ us) bs → ReadsExpr Chosen us (marked Plain Semicolon x3 n3 ∷ marked Plain ApplyWord x4 n4 ∷ marked Plain OpenBrace x5 n5 ∷ ws) s e → grammar.ReadsAssignments ws rest changes → (h : Has (Word CloseBrace Plain ∷ Do set_effect ∷ below) (TheAssignments changes ∷ AnExpr s e ∷ TheBindings bs ∷ AnEffect None ∷ vs) rest out) → IsEffect below vs (marked Plain EmitWord x1 n1 ∷ ts) out (size h)
-effect_end bs e changes (word (change h)) = record { rest = _; tree = _; reads = grammar.emission bs e changes; has = h; less = omega arith }
+effect_end bs e changes (word (change h)) = record { rest = _; tree = _; reads = grammar.emission bs e changes; has = h; less = up (up (same _)) }
 
 effect_test : {x1 : List ℕ} {n1 : ℕ} {ts rest : List Marked} {bs : List Binding} {below : List Sym} {vs out : List Value} → grammar.ReadsBindings ts rest bs → (h : Has (test_symbols (assignments_symbols (Do set_effect ∷ below))) (TheBindings bs ∷ AnEffect None ∷ vs) rest out) → IsEffect below vs (marked Plain EmitWord x1 n1 ∷ ts) out (size h)
 effect_test bs (word (expr e (word (word (word (change h)))))) =
     let changes = split_assignments grammar.none h in
-    let l = changes.less in
-    wider _ (omega arith) (effect_end bs e changes.reads changes.has)
+    wider _ (up3 (up3 changes.less)) (effect_end bs e changes.reads changes.has)
 
 split_effect : {ts : List Marked} {below : List Sym} {vs out : List Value} → (h : Has (Then Effect ∷ below) (AnEffect None ∷ vs) ts out) → IsEffect below vs ts out (size h)
-split_effect (stop h) = record { rest = _; tree = None; reads = grammar.none; has = h; less = omega arith }
+split_effect (stop h) = record { rest = _; tree = None; reads = grammar.none; has = h; less = up (same _) }
 split_effect (go (word (name (word (base b (word (expr e (change (change h))))))))) =
     let bs = split_bindings (grammar.one (grammar.binding b e)) h in
-    let l = bs.less in
-    wider _ (omega arith) (effect_test bs.reads bs.has)
+    wider _ (up3 (up3 (up3 bs.less))) (effect_test bs.reads bs.has)
 
 -- operations
 
@@ -181,19 +202,17 @@ IsOperation below vs ts out most = Split grammar.ReadsOperation AnOperation belo
 
 module _ {x1 x2 x3 : List ℕ} {n1 n2 n3 : ℕ} where
   operation_end : {x4 x5 x6 x7 x8 x9 x10 : List ℕ} {n4 n5 n6 n7 n8 n9 n10 s : ℕ} {ts us ws zs ys rest : List Marked} {ps : List Param} {k : Kind} {c : Sentence} {e : Expression} {o : Option Emission} {below : List Sym} {vs out : List Value} → grammar.ReadsAnyParams ts (marked Plain CloseParen x4 n4 ∷ marked Plain Colon x5 n5 ∷ us) ps → grammar.ReadsKind us (marked Plain OpenBrace x6 n6 ∷ marked Before ContractWord x7 n7 ∷ ws) k → ReadsContract ws (marked Plain Semicolon x8 n8 ∷ marked Before AnswerWord x9 n9 ∷ zs) c → ReadsExpr Chosen zs (marked Plain Semicolon x10 n10 ∷ ys) s e → grammar.ReadsEffect ys rest o → (h : Has (Word CloseBrace Plain ∷ Do to_operation ∷ below) (AnEffect o ∷ AnExpr s e ∷ ASentence c ∷ AKind k ∷ TheParams ps ∷ AName (record { word = x2; at = n2 }) ∷ APlace n1 ∷ vs) rest out) → IsOperation below vs (marked Plain OpWord x1 n1 ∷ marked Plain NameToken x2 n2 ∷ marked Plain OpenParen x3 n3 ∷ ts) out (size h)
-  operation_end ps k c e o (word (change h)) = record { rest = _; tree = _; reads = grammar.operation ps k c e o; has = h; less = omega arith }
+  operation_end ps k c e o (word (change h)) = record { rest = _; tree = _; reads = grammar.operation ps k c e o; has = h; less = up (up (same _)) }
 
   operation_body : {ts rest : List Marked} {ps : List Param} {below : List Sym} {vs out : List Value} → grammar.ReadsAnyParams ts rest ps → (h : Has (Word CloseParen Plain ∷ Word Colon Plain ∷ APart AnyKind ∷ body_symbols (Do to_operation ∷ below)) (TheParams ps ∷ AName (record { word = x2; at = n2 }) ∷ APlace n1 ∷ vs) rest out) → IsOperation below vs (marked Plain OpWord x1 n1 ∷ marked Plain NameToken x2 n2 ∷ marked Plain OpenParen x3 n3 ∷ ts) out (size h)
   operation_body ps (word (word (kind k (word (word (contract c (word (word (expr e (word (change h))))))))))) =
       let o = split_effect h in
-      let l = o.less in
-      wider _ (omega arith) (operation_end ps k c e o.reads o.has)
+      wider _ (up3 (up3 (up3 (up (up o.less))))) (operation_end ps k c e o.reads o.has)
 
 split_operation : {ts : List Marked} {below : List Sym} {vs out : List Value} → (h : Has (operation_symbols below) vs ts out) → IsOperation below vs ts out (size h)
 split_operation (placed (name (word (change h)))) =
     let ps = split_params h in
-    let l = ps.less in
-    wider _ (omega arith) (operation_body ps.reads ps.has)
+    wider _ (up3 (up ps.less)) (operation_body ps.reads ps.has)
 
 -- a change of the values is passed
 record Changed (f : List Value → List Value) (below : List Sym) (vs : List Value) (ts : List Marked) (out : List Value) (most : ℕ) : Type 0 where
@@ -201,25 +220,22 @@ record Changed (f : List Value → List Value) (below : List Sym) (vs : List Val
   pub less : suc (size has) ≤ most
 
 changed : {f : List Value → List Value} {below : List Sym} {vs out : List Value} {ts : List Marked} → (h : Has (Do f ∷ below) vs ts out) → Changed f below vs ts out (size h)
-changed (change h) = record { has = h; less = omega arith }
+changed (change h) = record { has = h; less = same _ }
 
 more_operations : (fuel : ℕ) {ts rest : List Marked} {os : List Operation} {below : List Sym} {vs out : List Value} → grammar.ReadsOperations ts rest os → (h : Has (Then MoreOperations ∷ below) (TheOperations os ∷ vs) rest out) → size h ≤ fuel → Split grammar.ReadsOperations TheOperations below vs ts out (size h)
-more_operations fuel reads (stop h) le = record { rest = _; tree = _; reads = reads; has = h; less = omega arith }
-more_operations zero reads (go h) le = absurd (omega arith)
+more_operations fuel reads (stop h) le = record { rest = _; tree = _; reads = reads; has = h; less = up (same _) }
+more_operations zero reads (go h) le = absurd (none_less le)
 more_operations (suc fuel) reads (go h) le =
     let o = split_operation h in
-    let l = o.less in
     let c = changed o.has in
-    let d = c.less in
-    wider _ (omega arith) (more_operations fuel (grammar.more reads o.reads) c.has (omega arith))
+    let less = through (before c.less) o.less in
+    wider _ (up less) (more_operations fuel (grammar.more reads o.reads) c.has (through less (both_less le)))
 
 split_operations : {ts : List Marked} {below : List Sym} {vs out : List Value} → (h : Has (operations_symbols below) vs ts out) → Split grammar.ReadsOperations TheOperations below vs ts out (size h)
 split_operations h =
     let o = split_operation h in
-    let l = o.less in
     let c = changed o.has in
-    let d = c.less in
-    wider _ (omega arith) (more_operations (size c.has) (grammar.one o.reads) c.has (omega arith))
+    wider _ (through (before c.less) o.less) (more_operations (size c.has) (grammar.one o.reads) c.has (same _))
 
 -- types
 
@@ -227,31 +243,28 @@ abbrev IsType : List Sym → List Value → List Marked → List Value → ℕ �
 IsType below vs ts out most = Split grammar.ReadsReplicated AType below vs ts out most
 
 type_end : {x1 x2 x3 : List ℕ} {n1 n2 n3 : ℕ} {ts us rest : List Marked} {fs : List Field} {os : List Operation} {below : List Sym} {vs out : List Value} → grammar.ReadsFields ts us fs → grammar.ReadsOperations us rest os → (h : Has (Word CloseBrace Plain ∷ Do to_type ∷ below) (TheOperations os ∷ TheFields fs ∷ AName (record { word = x2; at = n2 }) ∷ APlace n1 ∷ vs) rest out) → IsType below vs (marked Plain TypeWord x1 n1 ∷ marked Plain NameToken x2 n2 ∷ marked Plain OpenBrace x3 n3 ∷ ts) out (size h)
-type_end fs os (word (change h)) = record { rest = _; tree = _; reads = grammar.replicated fs os; has = h; less = omega arith }
+type_end fs os (word (change h)) = record { rest = _; tree = _; reads = grammar.replicated fs os; has = h; less = up (up (same _)) }
 
 split_type : {ts : List Marked} {below : List Sym} {vs out : List Value} → (h : Has (type_symbols below) vs ts out) → IsType below vs ts out (size h)
 split_type (placed (name (word (change h)))) =
     let fs = split_fields grammar.none h in
-    let l = fs.less in
     let os = split_operations fs.has in
-    let d = os.less in
-    wider _ (omega arith) (type_end fs.reads os.reads os.has)
+    wider _ (up3 (up (through os.less fs.less))) (type_end fs.reads os.reads os.has)
 
 more_types : (fuel : ℕ) {ts rest : List Marked} {types : List Replicated} {below : List Sym} {vs out : List Value} → grammar.ReadsTypes ts rest types → (h : Has (Then MoreTypes ∷ below) (TheTypes types ∷ vs) rest out) → size h ≤ fuel → Split grammar.ReadsTypes TheTypes below vs ts out (size h)
-more_types fuel reads (stop h) le = record { rest = _; tree = _; reads = reads; has = h; less = omega arith }
-more_types zero reads (go h) le = absurd (omega arith)
+more_types fuel reads (stop h) le = record { rest = _; tree = _; reads = reads; has = h; less = up (same _) }
+more_types zero reads (go h) le = absurd (none_less le)
 more_types (suc fuel) reads (go h) le =
     let t = split_type h in
-    let l = t.less in
     let c = changed t.has in
-    let d = c.less in
-    wider _ (omega arith) (more_types fuel (grammar.more reads t.reads) c.has (omega arith))
+    let less = through (before c.less) t.less in
+    wider _ (up less) (more_types fuel (grammar.more reads t.reads) c.has (through less (both_less le)))
 
 -- transactions
 
 split_transactions : {ts rest : List Marked} {txns : List Transaction} {below : List Sym} {vs out : List Value} → grammar.ReadsTransactions ts rest txns → (h : Has (Then MoreTransactions ∷ below) (TheTransactions txns ∷ vs) rest out) → Split grammar.ReadsTransactions TheTransactions below vs ts out (size h)
-split_transactions reads (stop h) = record { rest = _; tree = _; reads = reads; has = h; less = omega arith }
-split_transactions reads (go (placed (name (word (word (listed ns (word (word (contract c (word (word (change (change h))))))))))))) = wider _ (omega arith) (split_transactions (grammar.more reads (grammar.transaction ns c)) h)
+split_transactions reads (stop h) = record { rest = _; tree = _; reads = reads; has = h; less = up (same _) }
+split_transactions reads (go (placed (name (word (word (listed ns (word (word (contract c (word (word (change (change h))))))))))))) = wider _ (up3 (up3 (up3 (up3 (up (same _)))))) (split_transactions (grammar.more reads (grammar.transaction ns c)) h)
 
 -- whole sources
 
@@ -262,7 +275,7 @@ source_way : {below : List Sym} → Widens (type_symbols (Do to_types ∷ Then M
 source_way vs out ts h =
     let t = split_type h in
     let c = changed t.has in
-    let types = more_types (size c.has) (grammar.one t.reads) c.has (omega arith) in
+    let types = more_types (size c.has) (grammar.one t.reads) c.has (same _) in
     let d = changed types.has in
     let txns = split_transactions grammar.none d.has in
     source_end types.reads txns.reads txns.has

@@ -1,9 +1,9 @@
 use Rattle.std.proofs.Common.{◌≡◌, List, ◌∷◌, Bool, true, false, Result, Err, refl, sym, ap, ◌∙◌, cond, ◌||◌}
 use Rattle.ql_grammar.specs.declared.terminal.Terminal.{Terminal}
-use Rattle.ql_grammar.specs.declared.terminal.Terminal.TheVariants.{NameToken, CurWord, ForallWord, TrueWord, TxnWord, OpenBrace, CloseBrace, OpenParen, CloseParen, OpenBracket, CloseBracket, Comma, Dot, Equals}
+use Rattle.ql_grammar.specs.declared.terminal.Terminal.TheVariants.{NameToken, CurWord, ForallWord, TrueWord, TxnWord, OpenBrace, CloseBrace, OpenParen, CloseParen, Comma, Dot, Equals}
 use Rattle.ql_grammar.specs.declared.role.Role.{Role}
 use Rattle.ql_grammar.specs.declared.role.Role.TheVariants.{Plain, Makes, Opens, Closes}
-use Rattle.ql_grammar.specs.ContractGrammar.{Applied, Single, Sum, Atom, Whole}
+use Rattle.ql_grammar.specs.ContractGrammar.{Applied, Atom, Whole}
 use Rattle.ql_grammar.specs.Limits.{Fault, Unexpected}
 use Rattle.ql_grammar.specs.Table.{Value, Sym, Word, Placed, ANameOf, Do, APart, Then, Part, Term, TermList, RelationAt, PropAt, BarredNames, Variable, VarList, WholeContract, Rest, ways, way_on, to_cur, to_variable, add_truth, to_equality, to_application, to_txn, to_names, to_free, to_plain, to_forall, MoreNames, Operations}
 use Rattle.ql_grammar.specs.Machine.{Reading, read, is_ahead, place_ahead, is_begun, chosen}
@@ -32,14 +32,6 @@ module _ (r : Reading) where
 
   pub term-name : (role : Role) (below : List Sym) (vs : List Value) → is_ahead CurWord r.tokens ≡ false → read r (APart (Term role) ∷ below) vs ≡ read r (ANameOf role ∷ Do to_variable ∷ below) vs
   term-name role below vs misses = read-part r (Term role) below vs ∙ rw misses (last_name role (Do to_variable ∷ below) vs (is_ahead NameToken r.tokens) refl)
-
-  -- relations
-
-  pub single-bracket : (below : List Sym) (vs : List Value) → is_ahead OpenBracket r.tokens ≡ true → read r (APart (RelationAt Single) ∷ below) vs ≡ read r (Word OpenBracket (Opens 0) ∷ APart (RelationAt Sum) ∷ Word CloseBracket Closes ∷ below) vs
-  single-bracket below vs sees = read-part r (RelationAt Single) below vs ∙ rw sees refl
-
-  pub applied-bracket : (below : List Sym) (vs : List Value) → is_ahead OpenBracket r.tokens ≡ true → read r (APart (RelationAt Applied) ∷ below) vs ≡ read r (Word OpenBracket (Opens 1) ∷ APart (RelationAt Sum) ∷ Word CloseBracket Closes ∷ below) vs
-  applied-bracket below vs sees = read-part r (RelationAt Applied) below vs ∙ rw sees refl
 
   -- what contracts say
 

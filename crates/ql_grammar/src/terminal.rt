@@ -5,7 +5,7 @@ ghost use Rattle.ql_grammar.specs.Tokens.{terminal_of};
 use ql_lex::TokenKind;
 
 /// What the grammar distinguishes in a token: a name, a number, a text, or one of the fixed words and marks.
-#[derive(Clone, Copy, PartialEq, Eq)]
+#[derive(Clone, Copy)]
 pub enum Terminal {
     NameToken,
     IntToken,

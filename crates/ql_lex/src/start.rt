@@ -17,7 +17,7 @@ const QUOTE: u8 = b'"';
 const MOST_NUMBER: u64 = 9_223_372_036_854_775_807;
 
 // What a text starts with, and its length or the offset of its fault, in bytes.
-#[derive(Clone, Copy, PartialEq, Eq)]
+#[derive(Clone, Copy)]
 pub enum Start {
     Gap(usize),
     Lexeme(TokenKind, usize),

@@ -1,7 +1,7 @@
 use std::alloc::{AllocError, AllocFailed};
 
 /// What a token is.
-#[derive(Clone, Copy, Debug, PartialEq, Eq)]
+#[derive(Clone, Copy)]
 pub enum TokenKind {
     /// A lower-case letter, then lower-case letters, digits and `_`, and no keyword.
     Name,
@@ -16,7 +16,7 @@ pub enum TokenKind {
 }
 
 /// A token: the bytes of the source from the offset `from` up to the offset `to`, which is excluded.
-#[derive(Clone, Copy, Debug, PartialEq, Eq)]
+#[derive(Clone, Copy)]
 pub struct Token {
     pub what: TokenKind,
     pub from: u32,
@@ -24,7 +24,7 @@ pub struct Token {
 }
 
 /// Why a source can't be cut into tokens, with the byte offset of the first fault, counted from 0.
-#[derive(Clone, Copy, Debug, PartialEq, Eq)]
+#[derive(Clone, Copy)]
 pub enum LexFault {
     /// A byte that begins no token, or that a text may not contain. A text that doesn't end has
     /// this fault at the source's end.

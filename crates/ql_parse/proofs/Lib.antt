@@ -1,5 +1,8 @@
 pub mod ReaderLemmas
 pub mod RelationRules
+pub mod WordRules
+pub mod Lists
+pub mod JunctionLaws
 pub mod Spans
 pub mod OneReading
 pub mod Answering

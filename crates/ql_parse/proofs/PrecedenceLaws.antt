@@ -1,15 +1,18 @@
 -- How a part of an expression is read, whatever the precedence of its operators.
-use Rattle.std.proofs.Common.{◌≡◌, ◌<◌, ◌≤◌, ◌+◌, ℕ, zero, suc, drop, length, arith, Result, Ok, Err, IfOk, IfErr, [], Bool, true, false, List, ◌∷◌, Option, Some, None, refl, sym, ap, ◌∙◌, ◌||◌}
+use Rattle.std.proofs.Common.{◌≡◌, ◌<◌, ◌≤◌, ◌+◌, ℕ, zero, suc, drop, length, arith, Result, Ok, Err, IfOk, IfErr, OnOk, [], Bool, true, false, List, ◌∷◌, Some, None, refl, sym, ap, ◌∙◌, ◌||◌}
 use Rattle.std.specs.Prelude.{is_some}
 use Rattle.std.proofs.Math.ListN.{get_or}
 use Rattle.ql_grammar.specs.declared.precedence.Precedence.{Precedence}
 use Rattle.ql_grammar.specs.declared.precedence.Precedence.TheVariants.{Product, Sum, Comparison, Conjunction, Disjunction}
 use Rattle.ql_grammar.specs.ExpressionGrammar.{Unary}
-use Rattle.ql_grammar.specs.Table.{Sym, Then, Operator, APart, Do, ExprAt, Value, ways, way_on, combine, MoreTimes, MorePlus, MoreConjoined, MoreDisjoined}
-use Rattle.ql_grammar.specs.Table as table
+use Rattle.ql_grammar.specs.Table.{Sym, Then, Operator, APart, Do, ExprAt, Value, ways, way_on, combine}
 use Rattle.ql_grammar.specs.Tokens.{Lexeme}
 use Rattle.ql_grammar.specs.Machine.{Reading, read, is_begun, operator_ahead}
 use Rattle.ql_grammar.proofs.Rules.{read-as, then-on, then-past}
+use Rattle.ql_grammar.specs.Limits.{Fault}
+use Rattle.ql_parse.specs.declared.fault.Refusal.{Refusal}
+use Rattle.ql_parse.specs.declared.fault.Refusal.TheVariants.{NoMemory}
+use Rattle.ql_parse.specs.Readings.{fault_of}
 use Rattle.ql_parse.specs.Precedences.{tighter, chains, sees_any, part_at, operand_at, more_at, up_to, following, after_two}
 
 -- an operand is a part with tighter operators, or without any
@@ -121,3 +124,11 @@ if_ok (Err e) p then = tt
 pub if_err : {T E : Type 0} {P Q : E → Type 0} (r : Result T E) → IfErr r P → ((e : E) → P e → Q e) → IfErr r Q
 if_err (Ok x) p then = tt
 if_err (Err e) p then = then e p
+
+pub on_ok : {T E : Type 0} {P : Type 0} (r : Result T E) → P → OnOk r P
+on_ok (Ok x) p = p
+on_ok (Err e) p = tt
+
+-- running out of memory says nothing about the text
+pub no_fault : {A : Type 0} (e : Refusal) (f : Fault) → e ≡ NoMemory → fault_of e ≡ Some f → A
+no_fault e f full is = absurd (let none : fault_of NoMemory ≡ Some f = rw full at is in cc)

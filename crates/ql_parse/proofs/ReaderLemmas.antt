@@ -12,7 +12,7 @@ use Rattle.std.proofs.lemmas.Fmt.{decimal_is_IsNumeral}
 use Rattle.ql_lang.specs.declared.expression.BinOp.{BinOp}
 use Rattle.ql_lex.specs.Starts.{most_number}
 use Rattle.ql_grammar.specs.declared.precedence.Precedence.{Precedence}
-use Rattle.ql_grammar.specs.declared.role.Role.TheVariants.{Makes}
+use Rattle.ql_grammar.specs.declared.role.Role.TheVariants.{Plain, Makes}
 use Rattle.ql_grammar.proofs.Fixed.{name_token, int_token, text_token}
 use Rattle.ql_grammar.proofs.TerminalLemmas.{same_terminal}
 use Rattle.ql_grammar.specs.Limits as limits
@@ -23,7 +23,7 @@ use Rattle.ql_grammar.proofs.Taking.{behind, text_ahead, word_taken, word_missin
 use Rattle.ql_parse.specs.declared.fault.Refusal.{Refusal}
 use Rattle.ql_parse.specs.declared.fault.Refusal.TheVariants.{Unexpected}
 use Rattle.ql_parse.specs.Readers.{terminal_ahead, AreSpans, lexemes_of}
-use Rattle.ql_parse.specs.Readings.{Took, Gave, Faults, IsRefused, IsPast}
+use Rattle.ql_parse.specs.Readings.{Took, Gave, Faults, IsRefused, IsPast, Passed}
 
 pub sees_some : (ts : List Lexeme) (a k : Terminal) → Some a ≡ terminal_ahead ts → is_same a k ≡ is_ahead k ts
 unfolding is_ahead
@@ -107,6 +107,17 @@ counted_ahead {old = old} sees place counts tokens end new = record {
   tokens = ap (λ (r : Reading). r.tokens) new ∙ ap (λ ts. drop 1 ts) tokens;
   end = ap (λ (r : Reading). r.end) new ∙ end;
 }
+
+pub passes_word : (old new : Reading) (k : Terminal) → is_ahead k old.tokens ≡ true → new ≡ record old { tokens = drop 1 old.tokens } → Passed k old new
+unfolding counted
+passes_word old new k sees is =
+    let taken : Takes old new k Plain = record {
+      sees = sees;
+      counts = ap (λ (r : Reading). Ok r.counts) (sym is);
+      tokens = ap (λ (r : Reading). r.tokens) is;
+      end = ap (λ (r : Reading). r.end) is;
+    } in
+    record { sees = sees; took = takes_word taken }
 
 -- a name ahead lies in the source and has 1 to 32 bytes
 pub record NameFits (bytes : List ℕ) (rest : List Token) (t : Token) : Type 0 where

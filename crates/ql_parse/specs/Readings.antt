@@ -1,20 +1,26 @@
-use Rattle.std.specs.Prelude.{◌≡◌, ℕ, List, [], ◌∷◌, ◌++◌, ◌≤◌, Err, Ok, Option, Some, None, if◌then◌else◌, length, ◌<◌}
+use Rattle.std.specs.Prelude.{◌≡◌, ℕ, true, false, List, [], ◌∷◌, ◌++◌, ◌≤◌, Err, Ok, Option, Some, None, if◌then◌else◌, length, ◌<◌}
 use Rattle.ql_grammar.specs.Limits as limits
 use Rattle.ql_lang.specs.declared.relation.RelName.{RelName}
 use Rattle.ql_lang.specs.declared.relation.RelName.TheVariants.{Vis, So, Soo, SameObj, Eq, Hb, Hbo}
 use Rattle.ql_grammar.specs.declared.terminal.Terminal.{Terminal}
-use Rattle.ql_grammar.specs.declared.terminal.Terminal.TheVariants.{VisWord, SoWord, SooWord, SameObjWord, EqWord, HbWord, HboWord, CloseBrace, CloseParen, Colon, Comma, Equals, IntToken, MapWord, Minus, OpWord, OpenBrace, OpenParen, Semicolon, SetWord, TextToken, TxnWord}
+use Rattle.ql_grammar.specs.declared.terminal.Terminal.TheVariants.{VisWord, SoWord, SooWord, SameObjWord, EqWord, HbWord, HboWord, BoolWord, CloseBrace, CloseParen, Colon, Comma, ElseWord, EmptyWord, Equals, FalseWord, IntToken, IntWord, MapWord, Minus, OpWord, OpenBrace, OpenParen, Semicolon, SetWord, TextToken, TextWord, ThenWord, TrueWord, TxnWord, UnitWord}
 use Rattle.ql_grammar.specs.declared.role.Role.{Role}
 use Rattle.ql_grammar.specs.declared.role.Role.TheVariants.{Plain, Makes, Opens, Closes, Before}
 use Rattle.ql_grammar.specs.Tokens.{Lexeme}
 use Rattle.ql_grammar.specs.ContractGrammar.{Applied}
-use Rattle.ql_lang.specs.Trees.{Relation}
+use Rattle.ql_lang.specs.Trees.{Sentence}
+use Rattle.ql_lang.specs.Expressions.{Expression}
 use Rattle.ql_grammar.specs.ExpressionGrammar.{Chosen}
 use Rattle.ql_lang.specs.declared.name.Name.{Name}
+use Rattle.ql_lang.specs.declared.operation.Base.{Base}
+use Rattle.ql_lang.specs.declared.operation.Base.TheVariants as base
 use Rattle.ql_lang.specs.declared.operation.Kind.{Kind}
+use Rattle.ql_lang.specs.declared.operation.Kind.TheVariants as kind
+use Rattle.ql_lang.specs.declared.program.InitNode.{InitNode}
+use Rattle.ql_lang.specs.declared.program.InitNode.TheVariants as init
 use Rattle.ql_lang.specs.declared.operation.Param.{Param}
-use Rattle.ql_lang.specs.Programs.{Emission, Operation, Replicated, Transaction}
-use Rattle.ql_grammar.specs.Table.{AKind, AName, APlace, ANameOf, AnEffect, AnOperation, ATransaction, AType, TheParams, AnyKind, BaseKind, Beginning, Effect, Kept, MoreFields, MoreTypes, begin_negative, begin_number, begin_text, body_symbols, contract_symbols, effect_symbols, no_effect, no_fields, operations_symbols, params_symbols, to_map, to_operation, to_set, to_transaction, to_type, to_types, type_symbols, uses_symbols, Arguments, ExprAt, Sym, Value, ARelation, APart, Do, Placed, RelationAt, Rest, Term, TermList, Then, Word, to_application, to_equality, to_txn}
+use Rattle.ql_lang.specs.Programs.{Emission, Replicated, Transaction}
+use Rattle.ql_grammar.specs.Table.{AKind, AName, APlace, ANameOf, AnEffect, AnExpr, ASentence, ATransaction, AType, TheNames, TheParams, AnyKind, add_name, BaseKind, Beginning, Effect, Kept, MoreFields, MoreTypes, begin_negative, begin_number, begin_text, body_symbols, contract_symbols, effect_symbols, no_effect, no_fields, operations_symbols, params_symbols, to_map, to_names, to_set, to_transaction, to_type, to_types, type_symbols, uses_symbols, way_on, Arguments, ExprAt, Sym, Value, APart, Do, Placed, RelationAt, Rest, Term, TermList, Then, Word, to_application, to_equality, to_txn}
 use Rattle.ql_grammar.specs.Machine.{Reading, chosen, read, is_ahead}
 use Rattle.ql_parse.specs.declared.fault.Refusal.{Refusal}
 use Rattle.ql_parse.specs.declared.fault.Refusal.TheVariants.{Unexpected, Deep, Wide, NoMemory}
@@ -68,6 +74,15 @@ pub record Started (s : Sym) (l : Rest) (v : Value) (old new : Reading) : Type 0
   pub so_far : (below : List Sym) (vs : List Value) → read old (s ∷ below) vs ≡ read new (Then l ∷ below) (v ∷ vs)
   pub shorter : length new.tokens < length old.tokens
 
+-- A token that counts nothing came next and was passed, or didn't come next.
+pub record Passed (k : Terminal) (old new : Reading) : Type 0 where
+  pub sees : is_ahead k old.tokens ≡ true
+  pub took : Took (Word k Plain) old new
+
+pub record Missed (k : Terminal) (old new : Reading) : Type 0 where
+  pub misses : is_ahead k old.tokens ≡ false
+  pub same : new ≡ old
+
 -- Several symbols were read, and yielded this value.
 abbrev pub GaveAll : (List Sym → List Sym) → Value → Reading → Reading → Type 0
 GaveAll want v old new = (below : List Sym) (vs : List Value) → read old (want below) vs ≡ read new below (v ∷ vs)
@@ -75,28 +90,25 @@ GaveAll want v old new = (below : List Sym) (vs : List Value) → read old (want
 abbrev pub AreRefused : (List Sym → List Sym) → Reading → Refusal → Type 0
 AreRefused want old e = (f : limits.Fault) → fault_of e ≡ Some f → (below : List Sym) (vs : List Value) → read old (want below) vs ≡ Err f
 
+-- The same with two values.
+abbrev pub GaveTwo : (List Sym → List Sym) → Value → Value → Reading → Reading → Type 0
+GaveTwo want v w old new = (below : List Sym) (vs : List Value) → read old (want below) vs ≡ read new below (w ∷ v ∷ vs)
+
 -- an equality, after it an application and a `txn` with its terms
 abbrev pub equality_symbols : List Sym → List Sym
 equality_symbols below = APart (Term Plain) ∷ Placed Equals (Makes 2) ∷ APart (Term Plain) ∷ Do to_equality ∷ below
 
-abbrev pub argument_symbols : List Sym → List Sym
-argument_symbols below = Word OpenParen (Opens 0) ∷ APart (Term Plain) ∷ Word Comma Plain ∷ APart (Term Plain) ∷ Word CloseParen Closes ∷ Do to_application ∷ below
+abbrev pub pair_symbols : List Sym → List Sym
+pair_symbols below = Word OpenParen (Opens 0) ∷ APart (Term Plain) ∷ Word Comma Plain ∷ APart (Term Plain) ∷ Word CloseParen Closes ∷ below
 
 abbrev pub application_symbols : List Sym → List Sym
-application_symbols below = APart (RelationAt Applied) ∷ argument_symbols below
+application_symbols below = APart (RelationAt Applied) ∷ pair_symbols (Do to_application ∷ below)
 
 abbrev pub braced_symbols : List Sym → List Sym
 braced_symbols below = Word OpenBrace Plain ∷ APart TermList ∷ Word CloseBrace Plain ∷ below
 
 abbrev pub txn_symbols : List Sym → List Sym
 txn_symbols below = Placed TxnWord (Makes 1) ∷ braced_symbols (braced_symbols (Do to_txn ∷ below))
-
--- the relation, and the arguments to which it is applied
-abbrev pub GaveArguments : Relation → Value → Reading → Reading → Type 0
-GaveArguments r v old new = (below : List Sym) (vs : List Value) → read old (argument_symbols below) (ARelation r ∷ vs) ≡ read new below (v ∷ vs)
-
-abbrev pub AreArgumentsRefused : Relation → Reading → Refusal → Type 0
-AreArgumentsRefused r old e = (f : limits.Fault) → fault_of e ≡ Some f → (below : List Sym) (vs : List Value) → read old (argument_symbols below) (ARelation r ∷ vs) ≡ Err f
 
 -- nothing is left, or the fault is at what is
 abbrev pub EndsHere : Reading → Type 0
@@ -119,6 +131,9 @@ bracketed_arguments below = Word OpenParen (Opens 0) ∷ APart Arguments ∷ Wor
 abbrev pub branch_symbols : Terminal → List Sym → List Sym
 branch_symbols k below = Word k Plain ∷ APart (ExprAt Chosen) ∷ below
 
+abbrev pub branches_symbols : List Sym → List Sym
+branches_symbols below = branch_symbols ThenWord (branch_symbols ElseWord below)
+
 -- what may follow was read completely, and what was found so far became another value
 abbrev pub GaveRest : Rest → Value → Value → Reading → Reading → Type 0
 GaveRest l a b old new = (below : List Sym) (vs : List Value) → read old (Then l ∷ below) (a ∷ vs) ≡ read new below (b ∷ vs)
@@ -138,26 +153,54 @@ pub record Collecting (l : Rest) (a b : Value) (old new : Reading) : Type 0 wher
   pub so_far : Turned l a b old new
   pub within : length new.tokens ≤ length old.tokens
 
--- the same, where something else may follow the first item
-pub record Gathering (l : Rest) (a : Value) (m : Rest) (b : Value) (old new : Reading) : Type 0 where
-  pub so_far : (below : List Sym) (vs : List Value) → read old (Then l ∷ below) (a ∷ vs) ≡ read new (Then m ∷ below) (b ∷ vs)
+-- the same, where one more item is expected, with something else that may follow it
+pub record Gathering (l : Rest) (a : Value) (want : List Sym → List Sym) (b : Value) (old new : Reading) : Type 0 where
+  pub so_far : (below : List Sym) (vs : List Value) → read old (Then l ∷ below) (a ∷ vs) ≡ read new (want below) (b ∷ vs)
   pub within : length new.tokens ≤ length old.tokens
 
--- symbols were begun and yielded a value so far; something may follow
-pub record StartedAll (want : List Sym → List Sym) (l : Rest) (v : Value) (old new : Reading) : Type 0 where
-  pub so_far : (below : List Sym) (vs : List Value) → read old (want below) vs ≡ read new (Then l ∷ below) (v ∷ vs)
-  pub shorter : length new.tokens < length old.tokens
+-- A list of which these items were read; one more comes next. What is done with the value that it yields adds it.
+pub record Listing {A B : Type 0} (want item : List Sym → List Sym) (l : Rest) (value : B → Value) (keep : B → A) (list : List A → Value) (items : List A) (old new : Reading) : Type 0 where
+  pub so_far : (below : List Sym) (vs : List Value) → (add : List Value → List Value) × (ws : List Value) × (read old (want below) vs ≡ read new (item (Do add ∷ Then l ∷ below)) ws) × ((x : B) → add (value x ∷ ws) ≡ list (items ++ keep x ∷ []) ∷ vs)
+  pub within : length new.tokens ≤ length old.tokens
+
+-- names with this mark between them, where this may follow one
+abbrev pub MarksNames : Terminal → Rest → Type 0
+MarksNames mark l = (below : List Sym) → way_on l below ≡ Word mark Plain ∷ ANameOf Plain ∷ Do add_name ∷ Then l ∷ below
+
+abbrev pub names_symbols : Rest → List Sym → List Sym
+names_symbols l below = ANameOf Plain ∷ Do to_names ∷ Then l ∷ below
+
+abbrev pub GaveNames : Terminal → List Name → Reading → Reading → Type 0
+GaveNames mark names old new = (l : Rest) → MarksNames mark l → GaveAll (names_symbols l) (TheNames names) old new
+
+abbrev pub AreNamesRefused : Terminal → Reading → Refusal → Type 0
+AreNamesRefused mark old e = (l : Rest) → MarksNames mark l → AreRefused (names_symbols l) old e
 
 -- symbols of kinds and of the initial values of fields
+
+-- the kind or the beginning of one word that comes next, with this word; or the last of them
+abbrev pub base_ahead : List Lexeme → Terminal × Base
+base_ahead ts =
+    if is_ahead IntWord ts then (IntWord, base.Int) else (
+    if is_ahead BoolWord ts then (BoolWord, base.Bool) else (TextWord, base.Text))
+
+abbrev pub kind_ahead : List Lexeme → Terminal × Kind
+kind_ahead ts =
+    if is_ahead UnitWord ts then (UnitWord, kind.Unit) else (
+    if is_ahead IntWord ts then (IntWord, kind.Int) else (
+    if is_ahead BoolWord ts then (BoolWord, kind.Bool) else (TextWord, kind.Text)))
+
+abbrev pub beginning_ahead : List Lexeme → Terminal × InitNode
+beginning_ahead ts =
+    if is_ahead TrueWord ts then (TrueWord, init.Bool true) else (
+    if is_ahead FalseWord ts then (FalseWord, init.Bool false) else (
+    if is_ahead UnitWord ts then (UnitWord, init.Unit) else (EmptyWord, init.Empty)))
 
 abbrev pub set_symbols : List Sym → List Sym
 set_symbols below = Word SetWord Plain ∷ Word OpenParen Plain ∷ APart BaseKind ∷ Word CloseParen Plain ∷ Do to_set ∷ below
 
-abbrev pub map_values_symbols : List Sym → List Sym
-map_values_symbols below = Word Comma Plain ∷ APart BaseKind ∷ Word CloseParen Plain ∷ below
-
 abbrev pub map_symbols : List Sym → List Sym
-map_symbols below = Word MapWord Plain ∷ Word OpenParen Plain ∷ APart BaseKind ∷ map_values_symbols (Do to_map ∷ below)
+map_symbols below = Word MapWord Plain ∷ Word OpenParen Plain ∷ APart BaseKind ∷ Word Comma Plain ∷ APart BaseKind ∷ Word CloseParen Plain ∷ Do to_map ∷ below
 
 abbrev pub negative_symbols : List Sym → List Sym
 negative_symbols below = Placed Minus Plain ∷ Kept IntToken Plain ∷ Do begin_negative ∷ below
@@ -173,8 +216,8 @@ text_symbols below = Kept TextToken Plain ∷ Do begin_text ∷ below
 abbrev pub typed_symbols : List Sym → List Sym
 typed_symbols below = Word Colon Plain ∷ APart AnyKind ∷ below
 
-abbrev pub based_symbols : List Sym → List Sym
-based_symbols below = Word Colon Plain ∷ APart BaseKind ∷ below
+abbrev pub based_symbols : Terminal → List Sym → List Sym
+based_symbols mark below = Word mark Plain ∷ APart BaseKind ∷ below
 
 abbrev pub initial_symbols : List Sym → List Sym
 initial_symbols below = Word Equals Plain ∷ APart Beginning ∷ Word Semicolon Plain ∷ below
@@ -201,15 +244,12 @@ GaveEmission e old new = (below : List Sym) (vs : List Value) → read old (effe
 abbrev pub AreEmissionsRefused : Reading → Refusal → Type 0
 AreEmissionsRefused old e = (f : limits.Fault) → fault_of e ≡ Some f → (below : List Sym) (vs : List Value) → read old (effect_symbols below) (AnEffect None ∷ vs) ≡ Err f
 
--- the heading of an operation, and the operation after it
+-- the heading of an operation, and what is in its braces
 abbrev pub GaveHeading : ℕ → Name → List Param → Kind → Reading → Reading → Type 0
 GaveHeading n name ps k old new = (below : List Sym) (vs : List Value) → read old (heading_symbols below) vs ≡ read new below (AKind k ∷ TheParams ps ∷ AName name ∷ APlace n ∷ vs)
 
-abbrev pub GaveBody : ℕ → Name → List Param → Kind → Operation → Reading → Reading → Type 0
-GaveBody n name ps k o old new = (below : List Sym) (vs : List Value) → read old (body_symbols (Do to_operation ∷ below)) (AKind k ∷ TheParams ps ∷ AName name ∷ APlace n ∷ vs) ≡ read new below (AnOperation o ∷ vs)
-
-abbrev pub IsBodyRefused : ℕ → Name → List Param → Kind → Reading → Refusal → Type 0
-IsBodyRefused n name ps k old e = (f : limits.Fault) → fault_of e ≡ Some f → (below : List Sym) (vs : List Value) → read old (body_symbols (Do to_operation ∷ below)) (AKind k ∷ TheParams ps ∷ AName name ∷ APlace n ∷ vs) ≡ Err f
+abbrev pub GaveBody : Sentence → ℕ → Expression → Option Emission → Reading → Reading → Type 0
+GaveBody k n e o old new = (below : List Sym) (vs : List Value) → read old (body_symbols below) vs ≡ read new below (AnEffect o ∷ AnExpr n e ∷ ASentence k ∷ vs)
 
 -- what stands in the braces of a type or a transaction whose name was read
 abbrev pub members_symbols : List Sym → List Sym

@@ -1,6 +1,6 @@
 ghost use Rattle.std.specs.Prelude.{◌||◌, ◌≡◌, ◌<◌, IfErr, IfOk, OnOk, false, length, true};
-ghost use Rattle.ql_grammar.specs.declared.terminal.Terminal.TheVariants.{AndMark, CurWord, NameToken, OpenParen, OrMark, TrueWord};
-ghost use Rattle.ql_grammar.specs.ContractGrammar.{Atom, Both, Either, Whole};
+ghost use Rattle.ql_grammar.specs.declared.terminal.Terminal.TheVariants.{CurWord, NameToken, OpenParen, TrueWord};
+ghost use Rattle.ql_grammar.specs.ContractGrammar.{Atom, Whole};
 ghost use Rattle.ql_grammar.specs.Machine.{is_ahead};
 ghost use Rattle.ql_grammar.specs.Table.{
   APart,
@@ -8,36 +8,36 @@ ghost use Rattle.ql_grammar.specs.Table.{
   ASentence,
   ATerm,
   AVar,
-  BarredNames,
-  MoreAnds,
-  MoreOrs,
   PropAt,
   Term,
   TermList,
-  TheNames,
   TheTerms,
   TheVars,
   VarList,
   Variable,
   WholeContract,
 };
-ghost use Rattle.ql_lang.specs.Trees.{proposition_of, relation_of, sentence_of};
+ghost use Rattle.ql_lang.specs.Trees.{proposition_of, sentence_of};
+ghost use Rattle.ql_parse.specs.Junctions.{joined_props, more_props, prop_mark, prop_operand};
 ghost use Rattle.ql_parse.specs.Readings.{
-  AreArgumentsRefused,
+  AreNamesRefused,
   AreRefused,
   Gave,
   GaveAll,
-  GaveArguments,
+  GaveNames,
+  GaveTwo,
   IsRefused,
   IsTurnRefused,
   Turned,
   application_symbols,
   braced_symbols,
   equality_symbols,
+  pair_symbols,
   txn_symbols,
 };
 
 use crate::fault::Refusal;
+use crate::junction::{Junction, boxed};
 use crate::reader::Reader;
 use ql_grammar::{Role, Terminal};
 use ql_lang::{Contract, NameList, Point, Points, Prop, Rel, RelName, Var, Vars};
@@ -75,15 +75,14 @@ impl Reader<'_> {
         ensures shorter { OnOk result (length self.new.tokens < length self.old.tokens) }
         ensures refused { IfErr result (IsRefused (APart TermList) self.old) }
     {
-        let first = self.term(Role::Makes(1))?;
         let mut terms = Vec::new(alloc);
-        terms.push(first)?;
-        'terms: while self.sees(Terminal::Comma) {
-            self.take(Terminal::Comma, Role::Plain)?;
+        'terms: loop {
             let term = self.term(Role::Makes(1))?;
             terms.push(term)?;
+            if !self.passes(Terminal::Comma) {
+                return Ok(Points::of(terms));
+            }
         }
-        Ok(Points::of(terms))
     }
 
     /// Two terms with `=` between them.
@@ -99,20 +98,18 @@ impl Reader<'_> {
         Ok(Prop::Apply(Rel::Base(RelName::Eq, at), left, right))
     }
 
-    /// Two terms in brackets, to which the relation is applied.
-    fn arguments(&mut self, relation: Rel) -> Result<Prop, Refusal>
-        ensures gave { IfOk result
-            (λ p. GaveArguments (relation_of relation) (AProp (proposition_of p)) self.old
-            self.new) }
+    /// Two terms in brackets.
+    fn pair(&mut self) -> Result<(Point, Point), Refusal>
+        ensures gave { IfOk result (λ both. GaveTwo pair_symbols (ATerm both.0) (ATerm both.1) self.old self.new) }
         ensures shorter { OnOk result (length self.new.tokens < length self.old.tokens) }
-        ensures refused { IfErr result (AreArgumentsRefused (relation_of relation) self.old) }
+        ensures refused { IfErr result (AreRefused pair_symbols self.old) }
     {
         self.take(Terminal::OpenParen, Role::Opens(0))?;
         let left = self.term(Role::Plain)?;
         self.take(Terminal::Comma, Role::Plain)?;
         let right = self.term(Role::Plain)?;
         self.take(Terminal::CloseParen, Role::Closes)?;
-        Ok(Prop::Apply(relation, left, right))
+        Ok((left, right))
     }
 
     /// A relation that is applied to two terms.
@@ -122,9 +119,9 @@ impl Reader<'_> {
         ensures shorter { OnOk result (length self.new.tokens < length self.old.tokens) }
         ensures refused { IfErr result (AreRefused application_symbols self.old) }
     {
-        let relation = self.applied(alloc)?;
-        let applied = self.arguments(relation)?;
-        Ok(applied)
+        let relation = self.single(alloc, Role::Makes(2), Role::Opens(1))?;
+        let (left, right) = self.pair()?;
+        Ok(Prop::Apply(relation, left, right))
     }
 
     /// The word `txn` and its two groups of terms.
@@ -162,15 +159,12 @@ impl Reader<'_> {
         ensures refused { IfErr result (IsRefused (APart (PropAt Atom)) self.old) }
     {
         if self.sees(Terminal::TxnWord) {
-            let txn = self.txn(alloc)?;
-            return Ok(txn);
+            return self.txn(alloc);
         }
         if self.sees_term() {
-            let equality = self.equality()?;
-            return Ok(equality);
+            return self.equality();
         }
-        let application = self.application(alloc)?;
-        Ok(application)
+        self.application(alloc)
     }
 
     /// A single statement, or statements in brackets.
@@ -194,64 +188,55 @@ impl Reader<'_> {
         self.statement(alloc)
     }
 
-    /// Statements with `/\` between them.
+    /// An operand of this operator.
     #[cycle(prop)]
-    fn both(&mut self, alloc: Global) -> Result<Prop, Refusal>
+    fn prop_operand(&mut self, alloc: Global, junction: Junction) -> Result<Prop, Refusal>
         ensures gave { IfOk result
-            (λ p. Gave (APart (PropAt Both)) (AProp (proposition_of p)) self.old self.new) }
+            (λ p. Gave (APart (PropAt (prop_operand junction))) (AProp (proposition_of p)) self.old
+            self.new) }
         ensures shorter { OnOk result (length self.new.tokens < length self.old.tokens) }
-        ensures refused { IfErr result (IsRefused (APart (PropAt Both)) self.old) }
+        ensures refused { IfErr result
+            (IsRefused (APart (PropAt (prop_operand junction))) self.old) }
     {
-        let mut left = self.atom(alloc)?;
-        'ands: while self.sees(Terminal::AndMark) {
-            left = self.more_ands(alloc, left)?;
+        match junction {
+            Junction::And => self.atom(alloc),
+            Junction::Or => self.joined_props(alloc, Junction::And),
+        }
+    }
+
+    /// Statements with this operator and tighter ones between them.
+    #[cycle(prop)]
+    fn joined_props(&mut self, alloc: Global, junction: Junction) -> Result<Prop, Refusal>
+        ensures gave { IfOk result
+            (λ p. Gave (APart (PropAt (joined_props junction))) (AProp (proposition_of p)) self.old
+            self.new) }
+        ensures shorter { OnOk result (length self.new.tokens < length self.old.tokens) }
+        ensures refused { IfErr result
+            (IsRefused (APart (PropAt (joined_props junction))) self.old) }
+    {
+        let mark = junction.prop_mark();
+        let mut left = self.prop_operand(alloc, junction)?;
+        'more: while self.sees(mark) {
+            left = self.more_props(alloc, junction, left)?;
         }
         Ok(left)
     }
 
+    /// The operator's mark and its second operand.
     #[cycle(prop)]
-    fn more_ands(&mut self, alloc: Global, left: Prop) -> Result<Prop, Refusal>
-        requires { is_ahead AndMark self.old.tokens ≡ true }
+    fn more_props(&mut self, alloc: Global, junction: Junction, left: Prop) -> Result<Prop, Refusal>
+        requires { is_ahead (prop_mark junction) self.old.tokens ≡ true }
         ensures turned { IfOk result
-            (λ p. Turned MoreAnds (AProp (proposition_of left)) (AProp (proposition_of p)) self.old
-            self.new) }
+            (λ p. Turned (more_props junction) (AProp (proposition_of left))
+            (AProp (proposition_of p)) self.old self.new) }
         ensures shorter { OnOk result (length self.new.tokens < length self.old.tokens) }
         ensures refused { IfErr result
-            (IsTurnRefused MoreAnds (AProp (proposition_of left)) self.old) }
+            (IsTurnRefused (more_props junction) (AProp (proposition_of left)) self.old) }
     {
-        self.take(Terminal::AndMark, Role::Makes(1))?;
-        let right = self.atom(alloc)?;
-        Ok(Prop::And(Box::new(alloc, left)?, Box::new(alloc, right)?))
-    }
-
-    /// Statements with `\/` between them.
-    #[cycle(prop)]
-    fn either(&mut self, alloc: Global) -> Result<Prop, Refusal>
-        ensures gave { IfOk result
-            (λ p. Gave (APart (PropAt Either)) (AProp (proposition_of p)) self.old self.new) }
-        ensures shorter { OnOk result (length self.new.tokens < length self.old.tokens) }
-        ensures refused { IfErr result (IsRefused (APart (PropAt Either)) self.old) }
-    {
-        let mut left = self.both(alloc)?;
-        'ors: while self.sees(Terminal::OrMark) {
-            left = self.more_ors(alloc, left)?;
-        }
-        Ok(left)
-    }
-
-    #[cycle(prop)]
-    fn more_ors(&mut self, alloc: Global, left: Prop) -> Result<Prop, Refusal>
-        requires { is_ahead OrMark self.old.tokens ≡ true }
-        ensures turned { IfOk result
-            (λ p. Turned MoreOrs (AProp (proposition_of left)) (AProp (proposition_of p)) self.old
-            self.new) }
-        ensures shorter { OnOk result (length self.new.tokens < length self.old.tokens) }
-        ensures refused { IfErr result
-            (IsTurnRefused MoreOrs (AProp (proposition_of left)) self.old) }
-    {
-        self.take(Terminal::OrMark, Role::Makes(1))?;
-        let right = self.both(alloc)?;
-        Ok(Prop::Or(Box::new(alloc, left)?, Box::new(alloc, right)?))
+        self.take(junction.prop_mark(), Role::Makes(1))?;
+        let right = self.prop_operand(alloc, junction)?;
+        let (left, right) = boxed(alloc, left, right)?;
+        Ok(junction.of_props(left, right))
     }
 
     /// Statements with `=>` between them.
@@ -262,31 +247,30 @@ impl Reader<'_> {
         ensures shorter { OnOk result (length self.new.tokens < length self.old.tokens) }
         ensures refused { IfErr result (IsRefused (APart (PropAt Whole)) self.old) }
     {
-        let left = self.either(alloc)?;
-        if self.sees(Terminal::Arrow) {
-            self.take(Terminal::Arrow, Role::Makes(1))?;
-            let right = self.prop(alloc)?;
-            return Ok(Prop::Implies(Box::new(alloc, left)?, Box::new(alloc, right)?));
+        let left = self.joined_props(alloc, Junction::Or)?;
+        if !self.sees(Terminal::Arrow) {
+            return Ok(left);
         }
-        Ok(left)
+        self.take(Terminal::Arrow, Role::Makes(1))?;
+        let right = self.prop(alloc)?;
+        let (left, right) = boxed(alloc, left, right)?;
+        Ok(Prop::Implies(left, right))
     }
 
-    /// Names with `|` between them.
-    fn operations(&mut self, alloc: Global) -> Result<NameList, Refusal>
-        ensures gave { IfOk result
-            (λ names. Gave (APart BarredNames) (TheNames names) self.old self.new) }
+    /// Names with this mark between them.
+    pub(crate) fn names(&mut self, alloc: Global, mark: Terminal) -> Result<NameList, Refusal>
+        ensures gave { IfOk result (λ names. GaveNames mark names self.old self.new) }
         ensures shorter { OnOk result (length self.new.tokens < length self.old.tokens) }
-        ensures refused { IfErr result (IsRefused (APart BarredNames) self.old) }
+        ensures refused { IfErr result (AreNamesRefused mark self.old) }
     {
-        let first = self.name(Role::Plain)?;
         let mut names = Vec::with_capacity(alloc, USUAL_PARTS)?;
-        names.push(first)?;
-        'names: while self.sees(Terminal::Bar) {
-            self.take(Terminal::Bar, Role::Plain)?;
+        'names: loop {
             let name = self.name(Role::Plain)?;
             names.push(name)?;
+            if !self.passes(mark) {
+                return Ok(NameList::of(names));
+            }
         }
-        Ok(NameList::of(names))
     }
 
     /// A variable with the operations that it ranges over.
@@ -296,9 +280,8 @@ impl Reader<'_> {
         ensures refused { IfErr result (IsRefused (APart Variable) self.old) }
     {
         let name = self.name(Role::Plain)?;
-        if self.sees(Terminal::Colon) {
-            self.take(Terminal::Colon, Role::Plain)?;
-            let ops = self.operations(alloc)?;
+        if self.passes(Terminal::Colon) {
+            let ops = self.names(alloc, Terminal::Bar)?;
             return Ok(Var { name, ops });
         }
         let none = Vec::new(alloc);
@@ -312,15 +295,14 @@ impl Reader<'_> {
         ensures shorter { OnOk result (length self.new.tokens < length self.old.tokens) }
         ensures refused { IfErr result (IsRefused (APart VarList) self.old) }
     {
-        let first = self.variable(alloc)?;
         let mut vars = Vec::with_capacity(alloc, USUAL_PARTS)?;
-        vars.push(first)?;
-        'vars: while self.sees(Terminal::Comma) {
-            self.take(Terminal::Comma, Role::Plain)?;
+        'vars: loop {
             let var = self.variable(alloc)?;
             vars.push(var)?;
+            if !self.passes(Terminal::Comma) {
+                return Ok(Vars::of(vars));
+            }
         }
-        Ok(Vars::of(vars))
     }
 
     /// A whole contract.
@@ -330,8 +312,7 @@ impl Reader<'_> {
         ensures shorter { OnOk result (length self.new.tokens < length self.old.tokens) }
         ensures refused { IfErr result (IsRefused (APart WholeContract) self.old) }
     {
-        if self.sees(Terminal::ForallWord) {
-            self.take(Terminal::ForallWord, Role::Plain)?;
+        if self.passes(Terminal::ForallWord) {
             let vars = self.variables(alloc)?;
             self.take(Terminal::Dot, Role::Plain)?;
             let body = self.prop(alloc)?;

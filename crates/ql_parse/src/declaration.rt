@@ -2,7 +2,6 @@ ghost use Rattle.std.specs.Prelude.{◌≡◌, ◌<◌, ◌≤◌, IfErr, IfOk, 
 ghost use Rattle.ql_grammar.specs.declared.terminal.Terminal.TheVariants.{NameToken};
 ghost use Rattle.ql_grammar.specs.Machine.{is_ahead};
 ghost use Rattle.ql_grammar.specs.Table.{
-  ABase,
   ABinding,
   AKind,
   APart,
@@ -15,7 +14,6 @@ ghost use Rattle.ql_grammar.specs.Table.{
   AnInit,
   AnOperation,
   Effect,
-  ListedNames,
   MoreAssignments,
   MoreFields,
   MoreTransactions,
@@ -33,6 +31,7 @@ ghost use Rattle.ql_grammar.specs.Table.{
   assignments_symbols,
   binding_symbols,
   bindings_symbols,
+  body_symbols,
   contract_symbols,
   field_symbols,
   operation_symbols,
@@ -69,10 +68,8 @@ ghost use Rattle.ql_parse.specs.Readings.{
   GaveRest,
   GaveTerms,
   IsAddedRefused,
-  IsBodyRefused,
   IsRefused,
   IsRestRefused,
-  based_symbols,
   closed_symbols,
   ending_symbols,
   heading_symbols,
@@ -87,8 +84,8 @@ use crate::fault::Refusal;
 use crate::reader::Reader;
 use ql_grammar::{Role, Terminal};
 use ql_lang::{
-    Base, Bind, Binds, Contract, EmitDecl, Field, Fields, Init, Kind, Name, NameList, OpDecl,
-    OpDecls, Param, Params, Program, Stmt, Stmts, TxnDecl, TxnDecls, TypeDecl, TypeDecls,
+    Bind, Binds, Contract, EmitDecl, Field, Fields, Init, Kind, Name, NameList, OpDecl, OpDecls,
+    Param, Params, Program, Stmt, Stmts, TxnDecl, TxnDecls, TypeDecl, TypeDecls,
 };
 use std::alloc::Global;
 
@@ -104,25 +101,15 @@ struct Heading {
     kind: Kind,
 }
 
-impl Reader<'_> {
-    /// Names with commas between them.
-    fn listed(&mut self, alloc: Global) -> Result<NameList, Refusal>
-        ensures gave { IfOk result
-            (λ names. Gave (APart ListedNames) (TheNames names) self.old self.new) }
-        ensures shorter { OnOk result (length self.new.tokens < length self.old.tokens) }
-        ensures refused { IfErr result (IsRefused (APart ListedNames) self.old) }
-    {
-        let first = self.name(Role::Plain)?;
-        let mut names = Vec::new(alloc);
-        names.push(first)?;
-        'more: while self.sees(Terminal::Comma) {
-            self.take(Terminal::Comma, Role::Plain)?;
-            let name = self.name(Role::Plain)?;
-            names.push(name)?;
-        }
-        Ok(NameList::of(names))
-    }
+/// What stands in the braces of an operation.
+#[derive(Drop)]
+struct Body {
+    contract: Contract,
+    answer: Operand,
+    effect: Option<EmitDecl>,
+}
 
+impl Reader<'_> {
     /// A colon and a kind.
     fn typed(&mut self) -> Result<Kind, Refusal>
         ensures gave { IfOk result (λ k. GaveAll typed_symbols (AKind k) self.old self.new) }
@@ -130,19 +117,7 @@ impl Reader<'_> {
         ensures refused { IfErr result (AreRefused typed_symbols self.old) }
     {
         self.take(Terminal::Colon, Role::Plain)?;
-        let kind = self.kind()?;
-        Ok(kind)
-    }
-
-    /// A colon and the kind of a single value.
-    fn base_kind(&mut self) -> Result<Base, Refusal>
-        ensures gave { IfOk result (λ b. GaveAll based_symbols (ABase b) self.old self.new) }
-        ensures shorter { OnOk result (length self.new.tokens < length self.old.tokens) }
-        ensures refused { IfErr result (AreRefused based_symbols self.old) }
-    {
-        self.take(Terminal::Colon, Role::Plain)?;
-        let base = self.base()?;
-        Ok(base)
+        self.kind()
     }
 
     /// An `=` and what a field begins with, up to the semicolon.
@@ -197,28 +172,26 @@ impl Reader<'_> {
         ensures refused { IfErr result (IsAddedRefused param_symbols TheParams self.old) }
     {
         let name = self.name(Role::Plain)?;
-        let base = self.base_kind()?;
+        let base = self.base_behind(Terminal::Colon)?;
         Ok(Param { name, base })
     }
 
     /// Parameters with commas between them, of which one comes next.
-    fn some_params(&mut self, alloc: Global) -> Result<Vec<Param>, Refusal>
+    fn some_params(&mut self, alloc: Global) -> Result<Params, Refusal>
         requires { is_ahead NameToken self.old.tokens ≡ true }
         ensures gave { IfOk result
-            (λ found. GaveRest SomeParams (TheParams []) (TheParams found.items) self.old
-            self.new) }
+            (λ found. GaveRest SomeParams (TheParams []) (TheParams found) self.old self.new) }
         ensures within { OnOk result (length self.new.tokens ≤ length self.old.tokens) }
         ensures refused { IfErr result (IsRestRefused SomeParams (TheParams []) self.old) }
     {
-        let first = self.param()?;
         let mut found = Vec::with_capacity(alloc, USUAL_PARTS)?;
-        found.push(first)?;
-        'more: while self.sees(Terminal::Comma) {
-            self.take(Terminal::Comma, Role::Plain)?;
+        'more: loop {
             let param = self.param()?;
             found.push(param)?;
+            if !self.passes(Terminal::Comma) {
+                return Ok(Params::of(found));
+            }
         }
-        Ok(found)
     }
 
     /// Parameters, or none.
@@ -229,9 +202,7 @@ impl Reader<'_> {
         ensures refused { IfErr result (IsRestRefused SomeParams (TheParams []) self.old) }
     {
         if self.sees(Terminal::NameToken) {
-            let found = self.some_params(alloc)?;
-            let some = Params::of(found);
-            return Ok(some);
+            return self.some_params(alloc);
         }
         let none = Vec::new(alloc);
         let params = Params::of(none);
@@ -261,8 +232,7 @@ impl Reader<'_> {
         ensures refused { IfErr result (AreRefused (value_symbols word) self.old) }
     {
         self.take(word, Role::Before)?;
-        let value = self.whole_expression(alloc)?;
-        Ok(value)
+        self.whole_expression(alloc)
     }
 
     /// The same, up to a semicolon.
@@ -299,7 +269,7 @@ impl Reader<'_> {
         ensures refused { IfErr result (AreRefused binding_symbols self.old) }
     {
         let name = self.name(Role::Plain)?;
-        let base = self.base_kind()?;
+        let base = self.base_behind(Terminal::Colon)?;
         let value = self.value_behind(alloc, Terminal::Equals)?;
         Ok(Bind {
             name,
@@ -317,15 +287,14 @@ impl Reader<'_> {
         ensures refused { IfErr result (AreRefused bindings_symbols self.old) }
     {
         self.take(Terminal::EmitWord, Role::Plain)?;
-        let first = self.binding(alloc)?;
         let mut found = Vec::with_capacity(alloc, USUAL_PARTS)?;
-        found.push(first)?;
-        'more: while self.sees(Terminal::Comma) {
-            self.take(Terminal::Comma, Role::Plain)?;
+        'more: loop {
             let binding = self.binding(alloc)?;
             found.push(binding)?;
+            if !self.passes(Terminal::Comma) {
+                return Ok(Binds::of(found));
+            }
         }
-        Ok(Binds::of(found))
     }
 
     /// A statement.
@@ -437,26 +406,21 @@ impl Reader<'_> {
         Ok(effect)
     }
 
-    /// An operation after its heading.
-    fn body(&mut self, alloc: Global, heading: Heading) -> Result<OpDecl, Refusal>
+    /// What stands in the braces of an operation.
+    fn body(&mut self, alloc: Global) -> Result<Body, Refusal>
         ensures gave { IfOk result
-            (λ o. GaveBody heading.at heading.name heading.params heading.kind (operation_of o)
-            self.old self.new) }
+            (λ b. GaveBody (sentence_of b.contract) b.answer.start (expression_of b.answer.expr)
+            (option_map emission_of b.effect) self.old self.new) }
         ensures shorter { OnOk result (length self.new.tokens < length self.old.tokens) }
-        ensures refused { IfErr result
-            (IsBodyRefused heading.at heading.name heading.params heading.kind self.old) }
+        ensures refused { IfErr result (AreRefused body_symbols self.old) }
     {
         self.take(Terminal::OpenBrace, Role::Plain)?;
         let contract = self.closed_contract(alloc)?;
         let answer = self.closed_value(alloc, Terminal::AnswerWord)?;
         let effect = self.ending(alloc)?;
-        Ok(OpDecl {
-            at: heading.at,
-            name: heading.name,
-            params: heading.params,
-            kind: heading.kind,
+        Ok(Body {
             contract,
-            answer: answer.expr,
+            answer,
             effect,
         })
     }
@@ -469,8 +433,16 @@ impl Reader<'_> {
         ensures refused { IfErr result (AreRefused operation_symbols self.old) }
     {
         let heading = self.heading(alloc)?;
-        let operation = self.body(alloc, heading)?;
-        Ok(operation)
+        let body = self.body(alloc)?;
+        Ok(OpDecl {
+            at: heading.at,
+            name: heading.name,
+            params: heading.params,
+            kind: heading.kind,
+            contract: body.contract,
+            answer: body.answer.expr,
+            effect: body.effect,
+        })
     }
 
     /// The operations of a type.
@@ -481,14 +453,14 @@ impl Reader<'_> {
         ensures shorter { OnOk result (length self.new.tokens < length self.old.tokens) }
         ensures refused { IfErr result (AreRefused operations_symbols self.old) }
     {
-        let first = self.operation(alloc)?;
         let mut found = Vec::new(alloc);
-        found.push(first)?;
-        'more: while self.sees(Terminal::OpWord) {
+        'more: loop {
             let item = self.operation(alloc)?;
             found.push(item)?;
+            if !self.sees(Terminal::OpWord) {
+                return Ok(OpDecls::of(found));
+            }
         }
-        Ok(OpDecls::of(found))
     }
 
     /// The members of a type, whose name was read.
@@ -518,8 +490,7 @@ impl Reader<'_> {
     {
         let at = self.take(Terminal::TypeWord, Role::Plain)?;
         let name = self.name(Role::Plain)?;
-        let decl = self.members(alloc, at, name)?;
-        Ok(decl)
+        self.members(alloc, at, name)
     }
 
     /// The types of a source.
@@ -530,14 +501,14 @@ impl Reader<'_> {
         ensures shorter { OnOk result (length self.new.tokens < length self.old.tokens) }
         ensures refused { IfErr result (AreRefused types_symbols self.old) }
     {
-        let first = self.type_decl(alloc)?;
         let mut found = Vec::new(alloc);
-        found.push(first)?;
-        'more: while self.sees(Terminal::TypeWord) {
+        'more: loop {
             let item = self.type_decl(alloc)?;
             found.push(item)?;
+            if !self.sees(Terminal::TypeWord) {
+                return Ok(TypeDecls::of(found));
+            }
         }
-        Ok(TypeDecls::of(found))
     }
 
     /// The operations that a transaction uses.
@@ -548,7 +519,7 @@ impl Reader<'_> {
         ensures refused { IfErr result (AreRefused uses_symbols self.old) }
     {
         self.take(Terminal::UsesWord, Role::Plain)?;
-        let names = self.listed(alloc)?;
+        let names = self.names(alloc, Terminal::Comma)?;
         self.take(Terminal::Semicolon, Role::Plain)?;
         Ok(names)
     }
@@ -580,8 +551,7 @@ impl Reader<'_> {
     {
         let at = self.take(Terminal::TransactionWord, Role::Plain)?;
         let name = self.name(Role::Plain)?;
-        let decl = self.terms_of_use(alloc, at, name)?;
-        Ok(decl)
+        self.terms_of_use(alloc, at, name)
     }
 
     /// The transactions of a source.

@@ -34,14 +34,17 @@ ghost use Rattle.ql_parse.specs.Readings.{
   GaveAll,
   GaveOneOf,
   GaveRest,
+  GaveTwo,
   IsOneOfRefused,
   IsRefused,
   IsRestRefused,
   bracketed_arguments,
   branch_symbols,
+  branches_symbols,
 };
 
 use crate::fault::Refusal;
+use crate::junction::boxed;
 use crate::reader::Reader;
 use ql_grammar::{Precedence, Role, Terminal};
 use ql_lang::{BinOp, Expr, ExprNode, Exprs};
@@ -109,18 +112,15 @@ fn chains(precedence: Precedence) -> bool
 /// The operator with its two operands, which starts where the first one does.
 #[inline(always)]
 fn combination(alloc: Global, left: Operand, op: BinOp, right: Operand) -> Result<Operand, Refusal>
-    ensures start { IfOk result (λ o. o.start ≡ left.start) }
     ensures tree { IfOk result
-        (λ o. expression_of o.expr
-        ≡ Combining left.start op (expression_of left.expr) (expression_of right.expr)) }
+        (λ o. AnExpr o.start (expression_of o.expr)
+        ≡ AnExpr left.start
+        (Combining left.start op (expression_of left.expr) (expression_of right.expr))) }
     ensures full { IfErr result (λ e. e ≡ Refusal.NoMemory) }
 {
     let start = left.start;
-    let node = ExprNode::Binary(
-        op,
-        Box::new(alloc, left.expr)?,
-        Box::new(alloc, right.expr)?,
-    );
+    let (first, second) = boxed(alloc, left.expr, right.expr)?;
+    let node = ExprNode::Binary(op, first, second);
     Ok(Operand {
         start,
         expr: Expr { at: start, node },
@@ -136,17 +136,15 @@ fn conditional(
     then: Expr,
     other: Expr,
 ) -> Result<Operand, Refusal>
-    ensures start { IfOk result (λ o. o.start ≡ at) }
     ensures tree { IfOk result
-        (λ o. expression_of o.expr
-        ≡ Choosing at (expression_of test) (expression_of then) (expression_of other)) }
+        (λ o. AnExpr o.start (expression_of o.expr)
+        ≡ AnExpr at
+        (Choosing at (expression_of test) (expression_of then) (expression_of other))) }
     ensures full { IfErr result (λ e. e ≡ Refusal.NoMemory) }
 {
-    let node = ExprNode::If(
-        Box::new(alloc, test)?,
-        Box::new(alloc, then)?,
-        Box::new(alloc, other)?,
-    );
+    let test = Box::new(alloc, test)?;
+    let (first, second) = boxed(alloc, then, other)?;
+    let node = ExprNode::If(test, first, second);
     Ok(Operand {
         start: at,
         expr: Expr { at, node },
@@ -285,15 +283,14 @@ impl Reader<'_> {
         ensures shorter { OnOk result (length self.new.tokens < length self.old.tokens) }
         ensures refused { IfErr result (IsRefused (APart Arguments) self.old) }
     {
-        let first = self.whole_expression(alloc)?;
         let mut found = Vec::with_capacity(alloc, MOST_ARGUMENTS)?;
-        found.push(first.expr)?;
-        'more: while self.sees(Terminal::Comma) {
-            self.take(Terminal::Comma, Role::Plain)?;
+        'more: loop {
             let arg = self.whole_expression(alloc)?;
             found.push(arg.expr)?;
+            if !self.passes(Terminal::Comma) {
+                return Ok(found);
+            }
         }
-        Ok(found)
     }
 
     /// An expression in brackets.
@@ -419,8 +416,7 @@ impl Reader<'_> {
     {
         let op = self.operator(precedence)?;
         let right = self.operand(alloc, precedence)?;
-        let both = combination(alloc, left, op, right)?;
-        Ok(both)
+        combination(alloc, left, op, right)
     }
 
     /// The next operators, which have this precedence, each with its second operand.
@@ -482,8 +478,22 @@ impl Reader<'_> {
         ensures refused { IfErr result (AreRefused (branch_symbols word) self.old) }
     {
         self.take(word, Role::Plain)?;
-        let value = self.whole_expression(alloc)?;
-        Ok(value)
+        self.whole_expression(alloc)
+    }
+
+    /// The two expressions between which a test chooses, each after its word.
+    #[cycle(expr)]
+    fn branches(&mut self, alloc: Global) -> Result<(Operand, Operand), Refusal>
+        ensures gave { IfOk result
+            (λ both. GaveTwo branches_symbols
+            (AnExpr both.0.start (expression_of both.0.expr))
+            (AnExpr both.1.start (expression_of both.1.expr)) self.old self.new) }
+        ensures shorter { OnOk result (length self.new.tokens < length self.old.tokens) }
+        ensures refused { IfErr result (AreRefused branches_symbols self.old) }
+    {
+        let then = self.branch(alloc, Terminal::ThenWord)?;
+        let other = self.branch(alloc, Terminal::ElseWord)?;
+        Ok((then, other))
     }
 
     /// A test and the two expressions between which it chooses.
@@ -498,10 +508,8 @@ impl Reader<'_> {
     {
         let at = self.take(Terminal::IfWord, Role::Makes(1))?;
         let test = self.whole_expression(alloc)?;
-        let then = self.branch(alloc, Terminal::ThenWord)?;
-        let other = self.branch(alloc, Terminal::ElseWord)?;
-        let choice = conditional(alloc, at, test.expr, then.expr, other.expr)?;
-        Ok(choice)
+        let (then, other) = self.branches(alloc)?;
+        conditional(alloc, at, test.expr, then.expr, other.expr)
     }
 
     /// A whole expression.

@@ -2,7 +2,7 @@ use ql_lex::LexFault;
 use std::alloc::{AllocError, AllocFailed};
 
 /// Why a text is not read, with the offset of its first fault, in bytes from 0.
-#[derive(Clone, Copy, Debug, PartialEq, Eq)]
+#[derive(Clone, Copy)]
 pub enum ParseFault {
     /// The text has no tokens.
     Lex(LexFault),
@@ -17,7 +17,7 @@ pub enum ParseFault {
 }
 
 /// Why a reader stops, with the offset.
-#[derive(Clone, Copy, Debug, PartialEq, Eq)]
+#[derive(Clone, Copy)]
 pub(crate) enum Refusal {
     Unexpected(u32),
     Deep(u32),

@@ -1,6 +1,4 @@
-ghost use Rattle.std.specs.Prelude.{◌≡◌, ◌<◌, ◌≤ℤ◌, IfErr, IfOk, OnOk, false, length, neg_ℤ, pos};
-ghost use Rattle.ql_grammar.specs.declared.terminal.Terminal.TheVariants.{MapWord, SetWord};
-ghost use Rattle.ql_grammar.specs.Machine.{is_ahead};
+ghost use Rattle.std.specs.Prelude.{◌≡◌, ◌<◌, ◌≤ℤ◌, IfErr, IfOk, OnOk, length, neg_ℤ, pos};
 ghost use Rattle.ql_grammar.specs.Table.{ABase, AKind, APart, AnInit, AnyKind, BaseKind, Beginning, plain_ways};
 ghost use Rattle.ql_parse.specs.Readings.{
   AreRefused,
@@ -9,8 +7,11 @@ ghost use Rattle.ql_parse.specs.Readings.{
   GaveOneOf,
   IsOneOfRefused,
   IsRefused,
+  base_ahead,
+  based_symbols,
+  beginning_ahead,
+  kind_ahead,
   map_symbols,
-  map_values_symbols,
   negative_symbols,
   number_symbols,
   set_symbols,
@@ -32,46 +33,38 @@ fn opposite(value: i64) -> i64
 }
 
 impl Reader<'_> {
+    /// The kind of a single value that comes next, with its word; where none does, the last of them.
+    fn base_word(&self) -> (Terminal, Base)
+        ensures { result ≡ base_ahead self.now.tokens }
+    {
+        if self.sees(Terminal::IntWord) {
+            (Terminal::IntWord, Base::Int)
+        } else if self.sees(Terminal::BoolWord) {
+            (Terminal::BoolWord, Base::Bool)
+        } else {
+            (Terminal::TextWord, Base::Text)
+        }
+    }
+
     /// The kind of a single value.
     pub(crate) fn base(&mut self) -> Result<Base, Refusal>
         ensures gave { IfOk result (λ b. Gave (APart BaseKind) (ABase b) self.old self.new) }
         ensures shorter { OnOk result (length self.new.tokens < length self.old.tokens) }
         ensures refused { IfErr result (IsRefused (APart BaseKind) self.old) }
     {
-        if self.sees(Terminal::IntWord) {
-            self.take(Terminal::IntWord, Role::Plain)?;
-            return Ok(Base::Int);
-        }
-        if self.sees(Terminal::BoolWord) {
-            self.take(Terminal::BoolWord, Role::Plain)?;
-            return Ok(Base::Bool);
-        }
-        self.take(Terminal::TextWord, Role::Plain)?;
-        Ok(Base::Text)
+        let (word, base) = self.base_word();
+        self.take(word, Role::Plain)?;
+        Ok(base)
     }
 
-    /// A kind that is one word.
-    fn plain_kind(&mut self) -> Result<Kind, Refusal>
-        requires no_set { is_ahead SetWord self.old.tokens ≡ false }
-        requires no_map { is_ahead MapWord self.old.tokens ≡ false }
-        ensures gave { IfOk result (λ k. Gave (APart AnyKind) (AKind k) self.old self.new) }
+    /// The kind of a single value after a mark.
+    pub(crate) fn base_behind(&mut self, mark: Terminal) -> Result<Base, Refusal>
+        ensures gave { IfOk result (λ b. GaveAll (based_symbols mark) (ABase b) self.old self.new) }
         ensures shorter { OnOk result (length self.new.tokens < length self.old.tokens) }
-        ensures refused { IfErr result (IsRefused (APart AnyKind) self.old) }
+        ensures refused { IfErr result (AreRefused (based_symbols mark) self.old) }
     {
-        if self.sees(Terminal::UnitWord) {
-            self.take(Terminal::UnitWord, Role::Plain)?;
-            return Ok(Kind::Unit);
-        }
-        if self.sees(Terminal::IntWord) {
-            self.take(Terminal::IntWord, Role::Plain)?;
-            return Ok(Kind::Int);
-        }
-        if self.sees(Terminal::BoolWord) {
-            self.take(Terminal::BoolWord, Role::Plain)?;
-            return Ok(Kind::Bool);
-        }
-        self.take(Terminal::TextWord, Role::Plain)?;
-        Ok(Kind::Text)
+        self.take(mark, Role::Plain)?;
+        self.base()
     }
 
     /// The elements' kind after the word `set`.
@@ -81,22 +74,9 @@ impl Reader<'_> {
         ensures refused { IfErr result (AreRefused set_symbols self.old) }
     {
         self.take(Terminal::SetWord, Role::Plain)?;
-        self.take(Terminal::OpenParen, Role::Plain)?;
-        let element = self.base()?;
+        let element = self.base_behind(Terminal::OpenParen)?;
         self.take(Terminal::CloseParen, Role::Plain)?;
         Ok(Kind::Set(element))
-    }
-
-    /// The kind of a map's values, up to its bracket.
-    fn map_values(&mut self) -> Result<Base, Refusal>
-        ensures gave { IfOk result (λ b. GaveAll map_values_symbols (ABase b) self.old self.new) }
-        ensures shorter { OnOk result (length self.new.tokens < length self.old.tokens) }
-        ensures refused { IfErr result (AreRefused map_values_symbols self.old) }
-    {
-        self.take(Terminal::Comma, Role::Plain)?;
-        let value = self.base()?;
-        self.take(Terminal::CloseParen, Role::Plain)?;
-        Ok(value)
     }
 
     /// The keys' and values' kinds after the word `map`.
@@ -106,10 +86,25 @@ impl Reader<'_> {
         ensures refused { IfErr result (AreRefused map_symbols self.old) }
     {
         self.take(Terminal::MapWord, Role::Plain)?;
-        self.take(Terminal::OpenParen, Role::Plain)?;
-        let key = self.base()?;
-        let value = self.map_values()?;
+        let key = self.base_behind(Terminal::OpenParen)?;
+        let value = self.base_behind(Terminal::Comma)?;
+        self.take(Terminal::CloseParen, Role::Plain)?;
         Ok(Kind::Map(key, value))
+    }
+
+    /// The kind of one word that comes next, with this word; where none does, the last of them.
+    fn kind_word(&self) -> (Terminal, Kind)
+        ensures { result ≡ kind_ahead self.now.tokens }
+    {
+        if self.sees(Terminal::UnitWord) {
+            (Terminal::UnitWord, Kind::Unit)
+        } else if self.sees(Terminal::IntWord) {
+            (Terminal::IntWord, Kind::Int)
+        } else if self.sees(Terminal::BoolWord) {
+            (Terminal::BoolWord, Kind::Bool)
+        } else {
+            (Terminal::TextWord, Kind::Text)
+        }
     }
 
     /// A kind.
@@ -119,14 +114,29 @@ impl Reader<'_> {
         ensures refused { IfErr result (IsRefused (APart AnyKind) self.old) }
     {
         if self.sees(Terminal::SetWord) {
-            let set = self.set_kind()?;
-            return Ok(set);
+            return self.set_kind();
         }
         if self.sees(Terminal::MapWord) {
-            let map = self.map_kind()?;
-            return Ok(map);
+            return self.map_kind();
         }
-        self.plain_kind()
+        let (word, kind) = self.kind_word();
+        self.take(word, Role::Plain)?;
+        Ok(kind)
+    }
+
+    /// The beginning of one word that comes next, with this word; where none does, the last of them.
+    fn beginning_word(&self) -> (Terminal, InitNode)
+        ensures { result ≡ beginning_ahead self.now.tokens }
+    {
+        if self.sees(Terminal::TrueWord) {
+            (Terminal::TrueWord, InitNode::Bool(true))
+        } else if self.sees(Terminal::FalseWord) {
+            (Terminal::FalseWord, InitNode::Bool(false))
+        } else if self.sees(Terminal::UnitWord) {
+            (Terminal::UnitWord, InitNode::Unit)
+        } else {
+            (Terminal::EmptyWord, InitNode::Empty)
+        }
     }
 
     /// A beginning that is one word.
@@ -135,32 +145,9 @@ impl Reader<'_> {
         ensures shorter { OnOk result (length self.new.tokens < length self.old.tokens) }
         ensures refused { IfErr result (IsOneOfRefused plain_ways self.old) }
     {
-        if self.sees(Terminal::TrueWord) {
-            let at = self.take(Terminal::TrueWord, Role::Plain)?;
-            return Ok(Init {
-                at,
-                node: InitNode::Bool(true),
-            });
-        }
-        if self.sees(Terminal::FalseWord) {
-            let at = self.take(Terminal::FalseWord, Role::Plain)?;
-            return Ok(Init {
-                at,
-                node: InitNode::Bool(false),
-            });
-        }
-        if self.sees(Terminal::UnitWord) {
-            let at = self.take(Terminal::UnitWord, Role::Plain)?;
-            return Ok(Init {
-                at,
-                node: InitNode::Unit,
-            });
-        }
-        let at = self.take(Terminal::EmptyWord, Role::Plain)?;
-        Ok(Init {
-            at,
-            node: InitNode::Empty,
-        })
+        let (word, node) = self.beginning_word();
+        let at = self.take(word, Role::Plain)?;
+        Ok(Init { at, node })
     }
 
     /// A number after a `-`.
@@ -213,18 +200,14 @@ impl Reader<'_> {
         ensures refused { IfErr result (IsRefused (APart Beginning) self.old) }
     {
         if self.sees(Terminal::IntToken) {
-            let number = self.plain_number()?;
-            return Ok(number);
+            return self.plain_number();
         }
         if self.sees(Terminal::Minus) {
-            let negative = self.negative()?;
-            return Ok(negative);
+            return self.negative();
         }
         if self.sees(Terminal::TextToken) {
-            let text = self.plain_text(alloc)?;
-            return Ok(text);
+            return self.plain_text(alloc);
         }
-        let word = self.plain_beginning()?;
-        Ok(word)
+        self.plain_beginning()
     }
 }

@@ -7,6 +7,7 @@ mod contract;
 mod declaration;
 mod expression;
 mod fault;
+mod junction;
 mod kind;
 mod parse;
 mod reader;

@@ -1,4 +1,4 @@
-ghost use Rattle.std.specs.Prelude.{◌≡◌, ◌<◌, ◌^◌, IfErr, IfOk, OnErr, OnOk, drop, Err, None, Ok, Some, false, if◌then◌else◌, is_some, length, pos, true};
+ghost use Rattle.std.specs.Prelude.{◌≡◌, ◌<◌, ◌≤◌, ◌^◌, IfErr, IfOk, OnErr, OnOk, drop, Err, None, Ok, Some, false, if◌then◌else◌, is_some, length, pos, true};
 ghost use Rattle.ql_grammar.specs.declared.terminal.Terminal.TheVariants.{IntToken, NameToken, TextToken};
 ghost use Rattle.ql_grammar.specs.ExpressionGrammar.{between_quotes, number_spelled as number_in};
 ghost use Rattle.ql_grammar.specs.Limits.{Wide, counted, with_nodes};
@@ -7,7 +7,7 @@ ghost use Rattle.ql_grammar.specs.Machine.{is_ahead, operator_ahead, place_ahead
 ghost use Rattle.ql_grammar.proofs.Taking.{text_ahead};
 ghost use Rattle.ql_parse.specs.Readers.{AreSpans, lexemes_of, terminal_ahead};
 ghost use Rattle.ql_parse.specs.Precedences.{sees_any};
-ghost use Rattle.ql_parse.specs.Readings.{EndsHere, EndsNot, Gave, IsPast, IsRefused, Took};
+ghost use Rattle.ql_parse.specs.Readings.{EndsHere, EndsNot, Gave, IsPast, IsRefused, Missed, Passed, Took};
 
 use crate::fault::Refusal;
 use ql_base::{MAX_BRACKETS, MAX_NODES, number_of};
@@ -97,6 +97,19 @@ impl<'a> Reader<'a> {
     {
         self.rest = &self.rest[1..];
         self.ahead = terminal_ahead(self.bytes, self.rest);
+    }
+
+    /// Goes past this token, which counts nothing, where it comes next.
+    pub(crate) fn passes(&mut self, terminal: Terminal) -> bool
+        ensures passed { result ≡ true → Passed terminal self.old self.new }
+        ensures missed { result ≡ false → Missed terminal self.old self.new }
+        ensures within { length self.new.tokens ≤ length self.old.tokens }
+    {
+        if !self.sees(terminal) {
+            return false;
+        }
+        self.advance();
+        true
     }
 
     #[tactic(auto, unfolding(ql_grammar::specs::Limits::counted, ql_grammar::specs::Limits::with_nodes))]

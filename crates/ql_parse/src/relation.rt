@@ -1,12 +1,12 @@
 ghost use Rattle.std.specs.Prelude.{◌≡◌, ◌<◌, IfErr, IfOk, OnOk, length, true};
 ghost use Rattle.ql_grammar.specs.Machine.{is_ahead};
-ghost use Rattle.ql_grammar.specs.declared.terminal.Terminal.TheVariants.{Ampersand, Bar};
-ghost use Rattle.ql_grammar.specs.ContractGrammar.{Applied, Product, Single, Sum};
-ghost use Rattle.ql_grammar.specs.Table.{APart, ARelation, MoreFactors, MoreSummands, RelationAt};
+ghost use Rattle.ql_grammar.specs.Table.{APart, ARelation, RelationAt, relation_ways};
 ghost use Rattle.ql_lang.specs.Trees.{relation_of};
-ghost use Rattle.ql_parse.specs.Readings.{Gave, IsRefused, Turned, IsTurnRefused, relation_ahead};
+ghost use Rattle.ql_parse.specs.Junctions.{joined_relations, more_relations, relation_mark, relation_operand};
+ghost use Rattle.ql_parse.specs.Readings.{Gave, GaveOneOf, IsOneOfRefused, IsRefused, IsTurnRefused, Turned, relation_ahead};
 
 use crate::fault::Refusal;
+use crate::junction::{Junction, boxed};
 use crate::reader::Reader;
 use ql_grammar::{Role, Terminal};
 use ql_lang::{Rel, RelName};
@@ -34,100 +34,84 @@ impl Reader<'_> {
         }
     }
 
-    /// A whole relation that is applied: its first token makes the application's node too.
-    pub(crate) fn applied(&mut self, alloc: Global) -> Result<Rel, Refusal>
+    /// A named relation, or one in brackets. Its name or its bracket has this role.
+    #[cycle(relation)]
+    pub(crate) fn single(
+        &mut self,
+        alloc: Global,
+        name: Role,
+        bracket: Role,
+    ) -> Result<Rel, Refusal>
         ensures gave { IfOk result
-            (λ r. Gave (APart (RelationAt Applied)) (ARelation (relation_of r)) self.old self.new) }
+            (λ r. GaveOneOf (relation_ways name bracket) (ARelation (relation_of r)) self.old
+            self.new) }
         ensures shorter { OnOk result (length self.new.tokens < length self.old.tokens) }
-        ensures refused { IfErr result (IsRefused (APart (RelationAt Applied)) self.old) }
+        ensures refused { IfErr result (IsOneOfRefused (relation_ways name bracket) self.old) }
     {
         if self.sees(Terminal::OpenBracket) {
-            self.take(Terminal::OpenBracket, Role::Opens(1))?;
-            let inside = self.sum(alloc)?;
+            self.take(Terminal::OpenBracket, bracket)?;
+            let inside = self.joined_relations(alloc, Junction::Or)?;
             self.take(Terminal::CloseBracket, Role::Closes)?;
             return Ok(inside);
         }
-        let (word, name) = self.relation_word();
-        let at = self.take(word, Role::Makes(2))?;
-        Ok(Rel::Base(name, at))
+        let (word, known) = self.relation_word();
+        let at = self.take(word, name)?;
+        Ok(Rel::Base(known, at))
     }
 
-    /// A named relation, or one in brackets.
+    /// An operand of this operator.
     #[cycle(relation)]
-    fn single(&mut self, alloc: Global) -> Result<Rel, Refusal>
+    fn relation_operand(&mut self, alloc: Global, junction: Junction) -> Result<Rel, Refusal>
         ensures gave { IfOk result
-            (λ r. Gave (APart (RelationAt Single)) (ARelation (relation_of r)) self.old self.new) }
+            (λ r. Gave (APart (RelationAt (relation_operand junction))) (ARelation (relation_of r))
+            self.old self.new) }
         ensures shorter { OnOk result (length self.new.tokens < length self.old.tokens) }
-        ensures refused { IfErr result (IsRefused (APart (RelationAt Single)) self.old) }
+        ensures refused { IfErr result
+            (IsRefused (APart (RelationAt (relation_operand junction))) self.old) }
     {
-        if self.sees(Terminal::OpenBracket) {
-            self.take(Terminal::OpenBracket, Role::Opens(0))?;
-            let inside = self.sum(alloc)?;
-            self.take(Terminal::CloseBracket, Role::Closes)?;
-            return Ok(inside);
+        match junction {
+            Junction::And => self.single(alloc, Role::Makes(1), Role::Opens(0)),
+            Junction::Or => self.joined_relations(alloc, Junction::And),
         }
-        let (word, name) = self.relation_word();
-        let at = self.take(word, Role::Makes(1))?;
-        Ok(Rel::Base(name, at))
     }
 
-    /// Relations with `&` between them.
+    /// Relations with this operator and tighter ones between them.
     #[cycle(relation)]
-    fn product(&mut self, alloc: Global) -> Result<Rel, Refusal>
+    fn joined_relations(&mut self, alloc: Global, junction: Junction) -> Result<Rel, Refusal>
         ensures gave { IfOk result
-            (λ r. Gave (APart (RelationAt Product)) (ARelation (relation_of r)) self.old self.new) }
+            (λ r. Gave (APart (RelationAt (joined_relations junction))) (ARelation (relation_of r))
+            self.old self.new) }
         ensures shorter { OnOk result (length self.new.tokens < length self.old.tokens) }
-        ensures refused { IfErr result (IsRefused (APart (RelationAt Product)) self.old) }
+        ensures refused { IfErr result
+            (IsRefused (APart (RelationAt (joined_relations junction))) self.old) }
     {
-        let mut left = self.single(alloc)?;
-        'factors: while self.sees(Terminal::Ampersand) {
-            left = self.more_factors(alloc, left)?;
+        let mark = junction.relation_mark();
+        let mut left = self.relation_operand(alloc, junction)?;
+        'more: while self.sees(mark) {
+            left = self.more_relations(alloc, junction, left)?;
         }
         Ok(left)
     }
 
+    /// The operator's mark and its second operand.
     #[cycle(relation)]
-    fn more_factors(&mut self, alloc: Global, left: Rel) -> Result<Rel, Refusal>
-        requires { is_ahead Ampersand self.old.tokens ≡ true }
+    fn more_relations(
+        &mut self,
+        alloc: Global,
+        junction: Junction,
+        left: Rel,
+    ) -> Result<Rel, Refusal>
+        requires { is_ahead (relation_mark junction) self.old.tokens ≡ true }
         ensures turned { IfOk result
-            (λ r. Turned MoreFactors (ARelation (relation_of left)) (ARelation (relation_of r))
-            self.old self.new) }
+            (λ r. Turned (more_relations junction) (ARelation (relation_of left))
+            (ARelation (relation_of r)) self.old self.new) }
         ensures shorter { OnOk result (length self.new.tokens < length self.old.tokens) }
         ensures refused { IfErr result
-            (IsTurnRefused MoreFactors (ARelation (relation_of left)) self.old) }
+            (IsTurnRefused (more_relations junction) (ARelation (relation_of left)) self.old) }
     {
-        self.take(Terminal::Ampersand, Role::Makes(1))?;
-        let right = self.single(alloc)?;
-        Ok(Rel::Inter(Box::new(alloc, left)?, Box::new(alloc, right)?))
-    }
-
-    /// Products with `|` between them.
-    #[cycle(relation)]
-    fn sum(&mut self, alloc: Global) -> Result<Rel, Refusal>
-        ensures gave { IfOk result
-            (λ r. Gave (APart (RelationAt Sum)) (ARelation (relation_of r)) self.old self.new) }
-        ensures shorter { OnOk result (length self.new.tokens < length self.old.tokens) }
-        ensures refused { IfErr result (IsRefused (APart (RelationAt Sum)) self.old) }
-    {
-        let mut left = self.product(alloc)?;
-        'summands: while self.sees(Terminal::Bar) {
-            left = self.more_summands(alloc, left)?;
-        }
-        Ok(left)
-    }
-
-    #[cycle(relation)]
-    fn more_summands(&mut self, alloc: Global, left: Rel) -> Result<Rel, Refusal>
-        requires { is_ahead Bar self.old.tokens ≡ true }
-        ensures turned { IfOk result
-            (λ r. Turned MoreSummands (ARelation (relation_of left)) (ARelation (relation_of r))
-            self.old self.new) }
-        ensures shorter { OnOk result (length self.new.tokens < length self.old.tokens) }
-        ensures refused { IfErr result
-            (IsTurnRefused MoreSummands (ARelation (relation_of left)) self.old) }
-    {
-        self.take(Terminal::Bar, Role::Makes(1))?;
-        let right = self.product(alloc)?;
-        Ok(Rel::Union(Box::new(alloc, left)?, Box::new(alloc, right)?))
+        self.take(junction.relation_mark(), Role::Makes(1))?;
+        let right = self.relation_operand(alloc, junction)?;
+        let (left, right) = boxed(alloc, left, right)?;
+        Ok(junction.of_relations(left, right))
     }
 }

@@ -4,4 +4,4 @@ use Rattle.ql_parse.proofs.expression.conditional.Goals as goal
 
 pub returns-clause-tree : goal.returns-clause-tree
 unfolding node_of
-returns-clause-tree c = rw (c.in_ok-new.ensures.ok, c.in_ok-new-2.ensures.ok, c.in_ok-new-3.ensures.ok) refl
+returns-clause-tree c = rw (c.in_ok-test.ensures.ok, c.in_ok-first.ensures.left, c.in_ok-first.ensures.right) refl

@@ -1,15 +1,16 @@
-use Rattle.std.proofs.Common.{◌≡◌, sym, ◌∙◌, ap, refl, ◌∷◌, [], ◌++◌, arith}
+use Rattle.std.proofs.Common.{sym, ◌∙◌, ap, refl, ◌∷◌, arith}
 use Rattle.std.proofs.lemmas.Result.{err_from_is_err_and}
 use Rattle.ql_lang.specs.Expressions.{expression_of, node_of}
 use Rattle.ql_grammar.specs.ExpressionGrammar.{Chosen}
 use Rattle.ql_grammar.specs.Machine.{read}
-use Rattle.ql_grammar.specs.Table.{AnExpr, Do, Then, Arguments, ExprAt, Called, MoreArguments, to_arguments}
+use Rattle.ql_grammar.specs.Table.{Do, Then, Arguments, ExprAt, Called, MoreArguments, TheExprs, add_argument, to_arguments}
 use Rattle.ql_grammar.proofs.Choices.{read-do}
 use Rattle.ql_grammar.proofs.Rules.{read-as, then-on, then-past}
 use Rattle.ql_grammar.proofs.ByToken.{unary-name, unary-group, unary-not, unary-minus, unary-constant, chosen-if, chosen-plain}
 use Rattle.ql_parse.proofs.ArgumentLemmas.{called, map_more}
-use Rattle.ql_parse.specs.Precedences.{up_to}
-use Rattle.ql_parse.proofs.PrecedenceLaws.{goes_on, goes_past, after_chain, read_part, ends, level_on, level_past, levels_done, if_ok, if_err}
+use Rattle.ql_parse.proofs.Lists.{begins, item_refused, read_all, read_mark}
+use Rattle.ql_parse.specs.Precedences.{after_two, up_to}
+use Rattle.ql_parse.proofs.PrecedenceLaws.{goes_on, goes_past, after_chain, read_part, ends, level_on, level_past, levels_done, if_ok, if_err, no_fault, on_ok}
 use Rattle.ql_parse.proofs.reader.Reader.+expr.Goals as goal
 
 pub named-returns-in_err-name-clause-refused : goal.named-returns-in_err-name-clause-refused
@@ -48,38 +49,19 @@ bracketed-returns-in_err-take-2-clause-refused t c =
 pub bracketed-returns-clause-gave : goal.bracketed-returns-clause-gave
 bracketed-returns-clause-gave t c = λ below vs. c.in_ok-take.ensures.took _ _ ∙ c.in_ok-args.ensures.gave _ _ ∙ c.in_ok-take-2.ensures.took _ _
 
-pub arguments_of_call-returns-in_err-first-clause-refused : goal.arguments_of_call-returns-in_err-first-clause-refused
-arguments_of_call-returns-in_err-first-clause-refused t c =
-    let p = err_from_is_err_and c.from_residual.result c.from_residual.ensures.1 in
-    rw (p.1, p.2) (λ f is below vs. read-as c.args.self.now Arguments (ExprAt Chosen) below (Do to_arguments ∷ Then MoreArguments ∷ below) vs refl ∙ c.in_err-first.ensures.refused f is _ _)
-
 pub arguments_of_call-more-init : goal.arguments_of_call-more-init
-arguments_of_call-more-init t c =
-    let e : c.push.new.self.items ≡ c.in_ok-first.first.expr ∷ [] = c.in_ok-push.ensures.items ∙ ap (λ l. l ++ c.in_ok-first.first.expr ∷ []) c.in_ok-found.ensures.items in
-    rw e (record {
-      so_far = λ below vs. read-as c.args.self.now Arguments (ExprAt Chosen) below (Do to_arguments ∷ Then MoreArguments ∷ below) vs refl ∙ c.in_ok-first.ensures.gave _ _ ∙ read-do _ _ _ _;
-      shorter = c.in_ok-first.ensures.shorter;
-    })
-
-pub arguments_of_call-returns-in_err-take-clause-refused : goal.arguments_of_call-returns-in_err-take-clause-refused
-arguments_of_call-returns-in_err-take-clause-refused t c =
-    let p = err_from_is_err_and c.from_residual-in_err-take.result c.from_residual-in_err-take.ensures.1 in
-    rw (p.1, p.2) (λ f is below vs. c.more.invariant.so_far below vs ∙ then-on c.more.self MoreArguments below _ (sym c.sees.ensures ∙ c.more-test.true) ∙ c.in_err-take.ensures.refused f is _ _)
+arguments_of_call-more-init t c = rw c.in_ok-found.ensures.items (begins to_arguments (λ below vs. read-as c.args.self.now Arguments (ExprAt Chosen) below (Do to_arguments ∷ Then MoreArguments ∷ below) vs refl) (λ x vs. refl) (omega arith))
 
 pub arguments_of_call-returns-in_err-arg-clause-refused : goal.arguments_of_call-returns-in_err-arg-clause-refused
 arguments_of_call-returns-in_err-arg-clause-refused t c =
     let p = err_from_is_err_and c.from_residual-in_err-arg.result c.from_residual-in_err-arg.ensures.1 in
-    rw (p.1, p.2) (λ f is below vs. c.more.invariant.so_far below vs ∙ then-on c.more.self MoreArguments below _ (sym c.sees.ensures ∙ c.more-test.true) ∙ c.in_ok-take.ensures.took _ _ ∙ c.in_err-arg.ensures.refused f is _ _)
+    rw (p.1, p.2) (item_refused _ c.more.invariant c.in_err-arg.ensures.refused)
 
 pub arguments_of_call-more-preserved : goal.arguments_of_call-more-preserved
-arguments_of_call-more-preserved t c =
-    rw (c.in_ok-push-2.ensures.items, map_more expression_of c.more.found.items c.in_ok-arg.arg.expr) (record {
-      so_far = λ below vs. c.more.invariant.so_far below vs ∙ then-on c.more.self MoreArguments below _ (sym c.sees.ensures ∙ c.more-test.true) ∙ c.in_ok-take.ensures.took _ _ ∙ c.in_ok-arg.ensures.gave _ _ ∙ read-do _ _ _ _;
-      shorter = omega (arith, c.in_ok-arg.ensures.shorter, c.in_ok-take.ensures.shorter, c.more.invariant.shorter);
-    })
+arguments_of_call-more-preserved t c = rw c.in_ok-push.ensures.items (read_mark c.more.invariant c.whole_expression.new.self c.in_ok-arg.arg c.in_ok-arg.ensures.gave (c.passes.ensures.passed c.if-not-passes.false) add_argument (λ below. refl) (λ y xs vs. ap (λ es. TheExprs es ∷ vs) (sym (map_more expression_of xs y.expr))) c.in_ok-arg.ensures.shorter c.passes.ensures.within)
 
-pub arguments_of_call-returns-clause-gave : goal.arguments_of_call-returns-clause-gave
-arguments_of_call-returns-clause-gave t c = λ below vs. c.more.invariant.so_far below vs ∙ then-past c.more.self MoreArguments below _ (sym c.sees.ensures ∙ c.more-test.false)
+pub arguments_of_call-returns-then-not-passes-clause-gave : goal.arguments_of_call-returns-then-not-passes-clause-gave
+arguments_of_call-returns-then-not-passes-clause-gave t c = λ below vs. rw c.in_ok-push.ensures.items (read_all c.more.invariant c.whole_expression.new.self c.in_ok-arg.arg c.in_ok-arg.ensures.gave (c.passes.ensures.missed c.if-not-passes.true) (λ under. refl) below vs)
 
 pub group-returns-in_err-at-clause-refused : goal.group-returns-in_err-at-clause-refused
 group-returns-in_err-at-clause-refused t c =
@@ -146,20 +128,38 @@ combined-returns-in_err-right-clause-refused t c =
     rw (p.1, p.2) (λ f is below vs. goes_on c.args.self.now c.args.precedence below _ c.requires ∙ c.in_ok-op.ensures.gave _ _ ∙ c.in_err-right.ensures.refused f is _ _)
 
 pub combined-returns-clause-gave : goal.combined-returns-clause-gave
-combined-returns-clause-gave t c = λ below vs. rw (c.in_ok-both.ensures.start, c.in_ok-both.ensures.tree) (goes_on c.args.self.now c.args.precedence below _ c.requires ∙ c.in_ok-op.ensures.gave _ _ ∙ c.in_ok-right.ensures.gave _ _ ∙ read-do _ _ _ _)
+combined-returns-clause-gave t c = if_ok c.combination.result c.combination.ensures.tree (λ o tree below vs.
+    goes_on c.args.self.now c.args.precedence below _ c.requires ∙ c.in_ok-op.ensures.gave _ _ ∙ c.in_ok-right.ensures.gave _ _ ∙ read-do _ _ _ _ ∙ ap (λ v. read c.operand.new.self (after_two c.args.precedence below) (v ∷ vs)) (sym tree))
+
+pub combined-returns-clause-refused : goal.combined-returns-clause-refused
+combined-returns-clause-refused t c = if_err c.combination.result c.combination.ensures.full (λ e full f is below vs. no_fault e f full is)
+
+pub combined-returns-clause-shorter : goal.combined-returns-clause-shorter
+combined-returns-clause-shorter t c = on_ok c.combination.result (omega (arith, c.in_ok-op.ensures.shorter, c.in_ok-right.ensures.shorter))
 
 pub branch-returns-in_err-take-clause-refused : goal.branch-returns-in_err-take-clause-refused
 branch-returns-in_err-take-clause-refused t c =
     let p = err_from_is_err_and c.from_residual.result c.from_residual.ensures.1 in
     rw (p.1, p.2) (λ f is below vs. c.in_err-take.ensures.refused f is _ _)
 
-pub branch-returns-in_err-value-clause-refused : goal.branch-returns-in_err-value-clause-refused
-branch-returns-in_err-value-clause-refused t c =
-    let p = err_from_is_err_and c.from_residual-in_err-value.result c.from_residual-in_err-value.ensures.1 in
-    rw (p.1, p.2) (λ f is below vs. c.in_ok-take.ensures.took _ _ ∙ c.in_err-value.ensures.refused f is _ _)
-
 pub branch-returns-clause-gave : goal.branch-returns-clause-gave
-branch-returns-clause-gave t c = λ below vs. c.in_ok-take.ensures.took _ _ ∙ c.in_ok-value.ensures.gave _ _
+branch-returns-clause-gave t c = if_ok c.whole_expression.result c.whole_expression.ensures.gave (λ o gave below vs. c.in_ok-take.ensures.took _ _ ∙ gave _ _)
+
+pub branch-returns-clause-refused : goal.branch-returns-clause-refused
+branch-returns-clause-refused t c = if_err c.whole_expression.result c.whole_expression.ensures.refused (λ e refused f is below vs. c.in_ok-take.ensures.took _ _ ∙ refused f is _ _)
+
+pub branches-returns-in_err-then-clause-refused : goal.branches-returns-in_err-then-clause-refused
+branches-returns-in_err-then-clause-refused t c =
+    let p = err_from_is_err_and c.from_residual.result c.from_residual.ensures.1 in
+    rw (p.1, p.2) (λ f is below vs. c.in_err-then.ensures.refused f is _ _)
+
+pub branches-returns-in_err-other-clause-refused : goal.branches-returns-in_err-other-clause-refused
+branches-returns-in_err-other-clause-refused t c =
+    let p = err_from_is_err_and c.from_residual-in_err-other.result c.from_residual-in_err-other.ensures.1 in
+    rw (p.1, p.2) (λ f is below vs. c.in_ok-then.ensures.gave _ _ ∙ c.in_err-other.ensures.refused f is _ _)
+
+pub branches-returns-clause-gave : goal.branches-returns-clause-gave
+branches-returns-clause-gave t c = λ below vs. c.in_ok-then.ensures.gave _ _ ∙ c.in_ok-other.ensures.gave _ _
 
 pub choice-returns-in_err-at-clause-refused : goal.choice-returns-in_err-at-clause-refused
 choice-returns-in_err-at-clause-refused t c =
@@ -176,13 +176,15 @@ choice-returns-in_err-then-clause-refused t c =
     let p = err_from_is_err_and c.from_residual-in_err-then.result c.from_residual-in_err-then.ensures.1 in
     rw (p.1, p.2) (λ f is below vs. chosen-if c.args.self.now below vs c.requires ∙ c.in_ok-at.ensures.gave _ _ ∙ c.in_ok-test.ensures.gave _ _ ∙ c.in_err-then.ensures.refused f is _ _)
 
-pub choice-returns-in_err-other-clause-refused : goal.choice-returns-in_err-other-clause-refused
-choice-returns-in_err-other-clause-refused t c =
-    let p = err_from_is_err_and c.from_residual-in_err-other.result c.from_residual-in_err-other.ensures.1 in
-    rw (p.1, p.2) (λ f is below vs. chosen-if c.args.self.now below vs c.requires ∙ c.in_ok-at.ensures.gave _ _ ∙ c.in_ok-test.ensures.gave _ _ ∙ c.in_ok-then.ensures.gave _ _ ∙ c.in_err-other.ensures.refused f is _ _)
-
 pub choice-returns-clause-gave : goal.choice-returns-clause-gave
-choice-returns-clause-gave t c = λ below vs. rw (c.in_ok-choice.ensures.start, c.in_ok-choice.ensures.tree) (chosen-if c.args.self.now below vs c.requires ∙ c.in_ok-at.ensures.gave _ _ ∙ c.in_ok-test.ensures.gave _ _ ∙ c.in_ok-then.ensures.gave _ _ ∙ c.in_ok-other.ensures.gave _ _ ∙ read-do _ _ _ _)
+choice-returns-clause-gave t c = if_ok c.conditional.result c.conditional.ensures.tree (λ o tree below vs.
+    chosen-if c.args.self.now below vs c.requires ∙ c.in_ok-at.ensures.gave _ _ ∙ c.in_ok-test.ensures.gave _ _ ∙ c.in_ok-then.ensures.gave _ _ ∙ read-do _ _ _ _ ∙ ap (λ v. read c.branches.new.self below (v ∷ vs)) (sym tree))
+
+pub choice-returns-clause-refused : goal.choice-returns-clause-refused
+choice-returns-clause-refused t c = if_err c.conditional.result c.conditional.ensures.full (λ e full f is below vs. no_fault e f full is)
+
+pub choice-returns-clause-shorter : goal.choice-returns-clause-shorter
+choice-returns-clause-shorter t c = on_ok c.conditional.result (omega (arith, c.in_ok-at.ensures.shorter, c.in_ok-test.ensures.shorter, c.in_ok-then.ensures.shorter))
 
 pub more_operands-returns-then-not-sees_operator-clause-gave : goal.more_operands-returns-then-not-sees_operator-clause-gave
 more_operands-returns-then-not-sees_operator-clause-gave t c = λ below vs.

@@ -1,8 +1,10 @@
-use Rattle.std.proofs.Common.{length, map, drop, ◌+◌, ◌*◌}
+use Rattle.std.proofs.Common.{◌∷◌, length, map, drop, ◌+◌, ◌*◌}
 use Rattle.ql_lang.specs.Expressions.{expression_of}
-use Rattle.ql_grammar.specs.Table.{APart, AnExpr, TheExprs, Arguments, MoreArguments}
+use Rattle.ql_grammar.specs.ExpressionGrammar.{Chosen}
+use Rattle.ql_grammar.specs.Table.{APart, AnExpr, ExprAt, TheExprs, Arguments, MoreArguments}
 use Rattle.ql_parse.specs.Precedences.{Begun}
-use Rattle.ql_parse.specs.Readings.{Started}
+use Rattle.ql_parse.specs.Readings.{Listing}
+use Rattle.ql_parse.specs.declared.expression.Operand.{Operand}
 use Rattle.ql_parse.proofs.reader.Reader.+expr.Given as goal
 
 abbrev pub decreases-named : goal.decreases-named
@@ -41,6 +43,9 @@ decreases-operands l = 9 * length l.self.now.tokens + 2
 abbrev pub decreases-branch : goal.decreases-branch
 decreases-branch l = 9 * length l.self.now.tokens
 
+abbrev pub decreases-branches : goal.decreases-branches
+decreases-branches l = 9 * length l.self.now.tokens + 1
+
 abbrev pub decreases-choice : goal.decreases-choice
 decreases-choice l = 9 * length l.self.now.tokens
 
@@ -48,7 +53,7 @@ abbrev pub decreases-whole_expression : goal.decreases-whole_expression
 decreases-whole_expression l = 9 * length l.self.now.tokens + 7
 
 abbrev pub invariant-arguments_of_call-more : goal.invariant-arguments_of_call-more
-invariant-arguments_of_call-more l = Started (APart Arguments) MoreArguments (TheExprs (map expression_of l.found.items)) l.fn.self l.self
+invariant-arguments_of_call-more l = Listing (λ below. APart Arguments ∷ below) (λ below. APart (ExprAt Chosen) ∷ below) MoreArguments (λ (o : Operand). AnExpr o.start (expression_of o.expr)) (λ (o : Operand). o.expr) (λ es. TheExprs (map expression_of es)) l.found.items l.fn.self l.self
 
 abbrev pub decreases-arguments_of_call-more : goal.decreases-arguments_of_call-more
 decreases-arguments_of_call-more l = length l.self.tokens

@@ -1,10 +1,9 @@
-use Rattle.std.proofs.Common.{◌≡◌, sym, ◌∙◌, ap, ◌∷◌, [], ◌++◌, arith}
+use Rattle.std.proofs.Common.{refl, sym, ap, ◌∷◌, arith}
 use Rattle.std.proofs.lemmas.Result.{err_from_is_err_and}
 use Rattle.ql_lang.specs.Programs.{binding_of}
-use Rattle.ql_grammar.specs.Table.{MoreBindings}
-use Rattle.ql_grammar.proofs.Choices.{read-do}
-use Rattle.ql_grammar.proofs.Rules.{then-on, then-past}
+use Rattle.ql_grammar.specs.Table.{TheBindings, add_binding, to_bindings}
 use Rattle.ql_parse.proofs.ArgumentLemmas.{map_more}
+use Rattle.ql_parse.proofs.Lists.{begins, item_refused, read_all, read_mark}
 use Rattle.ql_parse.proofs.reader.Reader.bindings.Goals as goal
 
 pub returns-in_err-take-clause-refused : goal.returns-in_err-take-clause-refused
@@ -12,35 +11,16 @@ returns-in_err-take-clause-refused c =
     let p = err_from_is_err_and c.from_residual.result c.from_residual.ensures.1 in
     rw (p.1, p.2) (λ f is below vs. c.in_err-take.ensures.refused f is _ _)
 
-pub returns-in_err-first-clause-refused : goal.returns-in_err-first-clause-refused
-returns-in_err-first-clause-refused c =
-    let p = err_from_is_err_and c.from_residual-in_err-first.result c.from_residual-in_err-first.ensures.1 in
-    rw (p.1, p.2) (λ f is below vs. c.in_ok-take.ensures.took _ _ ∙ c.in_err-first.ensures.refused f is _ _)
-
 pub more-init : goal.more-init
-more-init c =
-    let e : c.push.new.self.items ≡ c.in_ok-first.first ∷ [] = c.in_ok-push.ensures.items ∙ ap (λ l. l ++ c.in_ok-first.first ∷ []) c.in_ok-found.ensures.items in
-    rw e (record {
-      so_far = λ below vs. c.in_ok-take.ensures.took _ _ ∙ c.in_ok-first.ensures.gave _ _ ∙ read-do _ _ _ _;
-      shorter = omega (arith, c.in_ok-first.ensures.shorter, c.in_ok-take.ensures.shorter);
-    })
-
-pub returns-in_err-take-2-clause-refused : goal.returns-in_err-take-2-clause-refused
-returns-in_err-take-2-clause-refused c =
-    let p = err_from_is_err_and c.from_residual-in_err-take-2.result c.from_residual-in_err-take-2.ensures.1 in
-    rw (p.1, p.2) (λ f is below vs. c.more.invariant.so_far below vs ∙ then-on c.more.self MoreBindings below _ (sym c.sees.ensures ∙ c.more-test.true) ∙ c.in_err-take-2.ensures.refused f is _ _)
+more-init c = rw c.in_ok-found.ensures.items (begins to_bindings (λ below vs. c.in_ok-take.ensures.took _ _) (λ x vs. refl) (omega (arith, c.in_ok-take.ensures.shorter)))
 
 pub returns-in_err-binding-clause-refused : goal.returns-in_err-binding-clause-refused
 returns-in_err-binding-clause-refused c =
     let p = err_from_is_err_and c.from_residual-in_err-binding.result c.from_residual-in_err-binding.ensures.1 in
-    rw (p.1, p.2) (λ f is below vs. c.more.invariant.so_far below vs ∙ then-on c.more.self MoreBindings below _ (sym c.sees.ensures ∙ c.more-test.true) ∙ c.in_ok-take-2.ensures.took _ _ ∙ c.in_err-binding.ensures.refused f is _ _)
+    rw (p.1, p.2) (item_refused _ c.more.invariant c.in_err-binding.ensures.refused)
 
 pub more-preserved : goal.more-preserved
-more-preserved c =
-    rw (c.in_ok-push-2.ensures.items, map_more binding_of c.more.found.items c.in_ok-binding.binding) (record {
-      so_far = λ below vs. c.more.invariant.so_far below vs ∙ then-on c.more.self MoreBindings below _ (sym c.sees.ensures ∙ c.more-test.true) ∙ c.in_ok-take-2.ensures.took _ _ ∙ c.in_ok-binding.ensures.gave _ _ ∙ read-do _ _ _ _;
-      shorter = omega (arith, c.in_ok-binding.ensures.shorter, c.in_ok-take-2.ensures.shorter, c.more.invariant.shorter);
-    })
+more-preserved c = rw c.in_ok-push.ensures.items (read_mark c.more.invariant c.binding.new.self c.in_ok-binding.binding c.in_ok-binding.ensures.gave (c.passes.ensures.passed c.if-not-passes.false) add_binding (λ below. refl) (λ y xs vs. ap (λ bs. TheBindings bs ∷ vs) (sym (map_more binding_of xs y))) c.in_ok-binding.ensures.shorter c.passes.ensures.within)
 
-pub returns-clause-gave : goal.returns-clause-gave
-returns-clause-gave c = λ below vs. rw (c.of.ensures) (c.more.invariant.so_far below vs ∙ then-past c.more.self MoreBindings below _ (sym c.sees.ensures ∙ c.more-test.false))
+pub returns-then-not-passes-clause-gave : goal.returns-then-not-passes-clause-gave
+returns-then-not-passes-clause-gave c = λ below vs. rw (c.of.ensures, c.in_ok-push.ensures.items) (read_all c.more.invariant c.binding.new.self c.in_ok-binding.binding c.in_ok-binding.ensures.gave (c.passes.ensures.missed c.if-not-passes.true) (λ under. refl) below vs)

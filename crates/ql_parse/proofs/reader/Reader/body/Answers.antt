@@ -1,6 +1,5 @@
 use Rattle.std.proofs.Common.{◌∙◌}
 use Rattle.std.proofs.lemmas.Result.{err_from_is_err_and}
-use Rattle.ql_grammar.proofs.Choices.{read-do}
 use Rattle.ql_parse.proofs.reader.Reader.body.Goals as goal
 
 pub returns-in_err-take-clause-refused : goal.returns-in_err-take-clause-refused
@@ -24,4 +23,4 @@ returns-in_err-effect-clause-refused c =
     rw (p.1, p.2) (λ f is below vs. c.in_ok-take.ensures.took _ _ ∙ c.in_ok-contract.ensures.gave _ _ ∙ c.in_ok-answer.ensures.gave _ _ ∙ c.in_err-effect.ensures.refused f is _ _)
 
 pub returns-clause-gave : goal.returns-clause-gave
-returns-clause-gave c = λ below vs. c.in_ok-take.ensures.took _ _ ∙ c.in_ok-contract.ensures.gave _ _ ∙ c.in_ok-answer.ensures.gave _ _ ∙ c.in_ok-effect.ensures.gave _ _ ∙ read-do _ _ _ _
+returns-clause-gave c = λ below vs. c.in_ok-take.ensures.took _ _ ∙ c.in_ok-contract.ensures.gave _ _ ∙ c.in_ok-answer.ensures.gave _ _ ∙ c.in_ok-effect.ensures.gave _ _

@@ -8,20 +8,20 @@ returns-in_err-take-clause-refused c =
     let p = err_from_is_err_and c.from_residual.result c.from_residual.ensures.1 in
     rw (p.1, p.2) (λ f is below vs. c.in_err-take.ensures.refused f is _ _)
 
-pub returns-in_err-take-2-clause-refused : goal.returns-in_err-take-2-clause-refused
-returns-in_err-take-2-clause-refused c =
-    let p = err_from_is_err_and c.from_residual-in_err-take-2.result c.from_residual-in_err-take-2.ensures.1 in
-    rw (p.1, p.2) (λ f is below vs. c.in_ok-take.ensures.took _ _ ∙ c.in_err-take-2.ensures.refused f is _ _)
-
 pub returns-in_err-key-clause-refused : goal.returns-in_err-key-clause-refused
 returns-in_err-key-clause-refused c =
     let p = err_from_is_err_and c.from_residual-in_err-key.result c.from_residual-in_err-key.ensures.1 in
-    rw (p.1, p.2) (λ f is below vs. c.in_ok-take.ensures.took _ _ ∙ c.in_ok-take-2.ensures.took _ _ ∙ c.in_err-key.ensures.refused f is _ _)
+    rw (p.1, p.2) (λ f is below vs. c.in_ok-take.ensures.took _ _ ∙ c.in_err-key.ensures.refused f is _ _)
 
 pub returns-in_err-value-clause-refused : goal.returns-in_err-value-clause-refused
 returns-in_err-value-clause-refused c =
     let p = err_from_is_err_and c.from_residual-in_err-value.result c.from_residual-in_err-value.ensures.1 in
-    rw (p.1, p.2) (λ f is below vs. c.in_ok-take.ensures.took _ _ ∙ c.in_ok-take-2.ensures.took _ _ ∙ c.in_ok-key.ensures.gave _ _ ∙ c.in_err-value.ensures.refused f is _ _)
+    rw (p.1, p.2) (λ f is below vs. c.in_ok-take.ensures.took _ _ ∙ c.in_ok-key.ensures.gave _ _ ∙ c.in_err-value.ensures.refused f is _ _)
+
+pub returns-in_err-take-2-clause-refused : goal.returns-in_err-take-2-clause-refused
+returns-in_err-take-2-clause-refused c =
+    let p = err_from_is_err_and c.from_residual-in_err-take-2.result c.from_residual-in_err-take-2.ensures.1 in
+    rw (p.1, p.2) (λ f is below vs. c.in_ok-take.ensures.took _ _ ∙ c.in_ok-key.ensures.gave _ _ ∙ c.in_ok-value.ensures.gave _ _ ∙ c.in_err-take-2.ensures.refused f is _ _)
 
 pub returns-clause-gave : goal.returns-clause-gave
-returns-clause-gave c = λ below vs. c.in_ok-take.ensures.took _ _ ∙ c.in_ok-take-2.ensures.took _ _ ∙ c.in_ok-key.ensures.gave _ _ ∙ c.in_ok-value.ensures.gave _ _ ∙ read-do _ _ _ _
+returns-clause-gave c = λ below vs. c.in_ok-take.ensures.took _ _ ∙ c.in_ok-key.ensures.gave _ _ ∙ c.in_ok-value.ensures.gave _ _ ∙ c.in_ok-take-2.ensures.took _ _ ∙ read-do _ _ _ _

@@ -8,20 +8,15 @@ returns-in_err-take-clause-refused c =
     let p = err_from_is_err_and c.from_residual.result c.from_residual.ensures.1 in
     rw (p.1, p.2) (λ f is below vs. c.in_err-take.ensures.refused f is _ _)
 
-pub returns-in_err-take-2-clause-refused : goal.returns-in_err-take-2-clause-refused
-returns-in_err-take-2-clause-refused c =
-    let p = err_from_is_err_and c.from_residual-in_err-take-2.result c.from_residual-in_err-take-2.ensures.1 in
-    rw (p.1, p.2) (λ f is below vs. c.in_ok-take.ensures.took _ _ ∙ c.in_err-take-2.ensures.refused f is _ _)
-
 pub returns-in_err-element-clause-refused : goal.returns-in_err-element-clause-refused
 returns-in_err-element-clause-refused c =
     let p = err_from_is_err_and c.from_residual-in_err-element.result c.from_residual-in_err-element.ensures.1 in
-    rw (p.1, p.2) (λ f is below vs. c.in_ok-take.ensures.took _ _ ∙ c.in_ok-take-2.ensures.took _ _ ∙ c.in_err-element.ensures.refused f is _ _)
+    rw (p.1, p.2) (λ f is below vs. c.in_ok-take.ensures.took _ _ ∙ c.in_err-element.ensures.refused f is _ _)
 
-pub returns-in_err-take-3-clause-refused : goal.returns-in_err-take-3-clause-refused
-returns-in_err-take-3-clause-refused c =
-    let p = err_from_is_err_and c.from_residual-in_err-take-3.result c.from_residual-in_err-take-3.ensures.1 in
-    rw (p.1, p.2) (λ f is below vs. c.in_ok-take.ensures.took _ _ ∙ c.in_ok-take-2.ensures.took _ _ ∙ c.in_ok-element.ensures.gave _ _ ∙ c.in_err-take-3.ensures.refused f is _ _)
+pub returns-in_err-take-2-clause-refused : goal.returns-in_err-take-2-clause-refused
+returns-in_err-take-2-clause-refused c =
+    let p = err_from_is_err_and c.from_residual-in_err-take-2.result c.from_residual-in_err-take-2.ensures.1 in
+    rw (p.1, p.2) (λ f is below vs. c.in_ok-take.ensures.took _ _ ∙ c.in_ok-element.ensures.gave _ _ ∙ c.in_err-take-2.ensures.refused f is _ _)
 
 pub returns-clause-gave : goal.returns-clause-gave
-returns-clause-gave c = λ below vs. c.in_ok-take.ensures.took _ _ ∙ c.in_ok-take-2.ensures.took _ _ ∙ c.in_ok-element.ensures.gave _ _ ∙ c.in_ok-take-3.ensures.took _ _ ∙ read-do _ _ _ _
+returns-clause-gave c = λ below vs. c.in_ok-take.ensures.took _ _ ∙ c.in_ok-element.ensures.gave _ _ ∙ c.in_ok-take-2.ensures.took _ _ ∙ read-do _ _ _ _

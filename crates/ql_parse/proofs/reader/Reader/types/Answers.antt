@@ -1,36 +1,21 @@
-use Rattle.std.proofs.Common.{◌≡◌, sym, ◌∙◌, ap, ◌∷◌, [], ◌++◌, arith}
+use Rattle.std.proofs.Common.{refl, sym, ◌∙◌, ap, ◌∷◌, arith}
 use Rattle.std.proofs.lemmas.Result.{err_from_is_err_and}
 use Rattle.ql_lang.specs.Programs.{replicated_of}
-use Rattle.ql_grammar.specs.Table.{MoreTypes}
-use Rattle.ql_grammar.proofs.Choices.{read-do}
-use Rattle.ql_grammar.proofs.Rules.{then-on, then-past}
+use Rattle.ql_grammar.specs.Table.{TheTypes, add_type, to_types}
 use Rattle.ql_parse.proofs.ArgumentLemmas.{map_more}
+use Rattle.ql_parse.proofs.Lists.{begins, item_refused, read_last, read_more}
 use Rattle.ql_parse.proofs.reader.Reader.types.Goals as goal
 
-pub returns-in_err-first-clause-refused : goal.returns-in_err-first-clause-refused
-returns-in_err-first-clause-refused c =
-    let p = err_from_is_err_and c.from_residual.result c.from_residual.ensures.1 in
-    rw (p.1, p.2) (λ f is below vs. c.in_err-first.ensures.refused f is _ _)
-
 pub more-init : goal.more-init
-more-init c =
-    let e : c.push.new.self.items ≡ c.in_ok-first.first ∷ [] = c.in_ok-push.ensures.items ∙ ap (λ l. l ++ c.in_ok-first.first ∷ []) c.new-found.ensures.items in
-    rw e (record {
-      so_far = λ below vs. c.in_ok-first.ensures.gave _ _ ∙ read-do _ _ _ _;
-      shorter = c.in_ok-first.ensures.shorter;
-    })
+more-init c = rw c.new-found.ensures.items (begins to_types (λ below vs. refl) (λ x vs. refl) (omega arith))
 
 pub returns-in_err-item-clause-refused : goal.returns-in_err-item-clause-refused
 returns-in_err-item-clause-refused c =
-    let p = err_from_is_err_and c.from_residual-in_err-item.result c.from_residual-in_err-item.ensures.1 in
-    rw (p.1, p.2) (λ f is below vs. c.more.invariant.so_far below vs ∙ then-on c.more.self MoreTypes below _ (sym c.sees.ensures ∙ c.more-test.true) ∙ c.in_err-item.ensures.refused f is _ _)
+    let p = err_from_is_err_and c.from_residual.result c.from_residual.ensures.1 in
+    rw (p.1, p.2) (item_refused _ c.more.invariant c.in_err-item.ensures.refused)
 
 pub more-preserved : goal.more-preserved
-more-preserved c =
-    rw (c.in_ok-push-2.ensures.items, map_more replicated_of c.more.found.items c.in_ok-item.item) (record {
-      so_far = λ below vs. c.more.invariant.so_far below vs ∙ then-on c.more.self MoreTypes below _ (sym c.sees.ensures ∙ c.more-test.true) ∙ c.in_ok-item.ensures.gave _ _ ∙ read-do _ _ _ _;
-      shorter = omega (arith, c.in_ok-item.ensures.shorter, c.more.invariant.shorter);
-    })
+more-preserved c = rw c.in_ok-push.ensures.items (read_more c.more.invariant c.type_decl.new.self c.in_ok-item.item c.in_ok-item.ensures.gave add_type (λ below. refl) (λ y xs vs. ap (λ all. TheTypes all ∷ vs) (sym (map_more replicated_of xs y))) (λ below. sym c.sees.ensures ∙ c.if-not-sees.false) c.in_ok-item.ensures.shorter)
 
-pub returns-clause-gave : goal.returns-clause-gave
-returns-clause-gave c = λ below vs. rw (c.of.ensures) (c.more.invariant.so_far below vs ∙ then-past c.more.self MoreTypes below _ (sym c.sees.ensures ∙ c.more-test.false))
+pub returns-then-not-sees-clause-gave : goal.returns-then-not-sees-clause-gave
+returns-then-not-sees-clause-gave c = λ below vs. rw (c.of.ensures, c.in_ok-push.ensures.items) (read_last c.more.invariant c.type_decl.new.self c.in_ok-item.item c.in_ok-item.ensures.gave (λ under. sym c.sees.ensures ∙ c.if-not-sees.true) below vs)

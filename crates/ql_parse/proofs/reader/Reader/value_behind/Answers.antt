@@ -1,4 +1,5 @@
 use Rattle.std.proofs.Common.{◌∙◌}
+use Rattle.ql_parse.proofs.PrecedenceLaws.{if_ok, if_err}
 use Rattle.std.proofs.lemmas.Result.{err_from_is_err_and}
 use Rattle.ql_parse.proofs.reader.Reader.value_behind.Goals as goal
 
@@ -7,10 +8,8 @@ returns-in_err-take-clause-refused c =
     let p = err_from_is_err_and c.from_residual.result c.from_residual.ensures.1 in
     rw (p.1, p.2) (λ f is below vs. c.in_err-take.ensures.refused f is _ _)
 
-pub returns-in_err-value-clause-refused : goal.returns-in_err-value-clause-refused
-returns-in_err-value-clause-refused c =
-    let p = err_from_is_err_and c.from_residual-in_err-value.result c.from_residual-in_err-value.ensures.1 in
-    rw (p.1, p.2) (λ f is below vs. c.in_ok-take.ensures.took _ _ ∙ c.in_err-value.ensures.refused f is _ _)
-
 pub returns-clause-gave : goal.returns-clause-gave
-returns-clause-gave c = λ below vs. c.in_ok-take.ensures.took _ _ ∙ c.in_ok-value.ensures.gave _ _
+returns-clause-gave c = if_ok c.whole_expression.result c.whole_expression.ensures.gave (λ x gave below vs. c.in_ok-take.ensures.took _ _ ∙ gave _ _)
+
+pub returns-clause-refused : goal.returns-clause-refused
+returns-clause-refused c = if_err c.whole_expression.result c.whole_expression.ensures.refused (λ e refused f is below vs. c.in_ok-take.ensures.took _ _ ∙ refused f is _ _)

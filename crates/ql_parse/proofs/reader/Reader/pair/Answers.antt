@@ -1,7 +1,6 @@
 use Rattle.std.proofs.Common.{◌∙◌}
 use Rattle.std.proofs.lemmas.Result.{err_from_is_err_and}
-use Rattle.ql_grammar.proofs.Choices.{read-do}
-use Rattle.ql_parse.proofs.reader.Reader.arguments.Goals as goal
+use Rattle.ql_parse.proofs.reader.Reader.pair.Goals as goal
 
 pub returns-in_err-take-clause-refused : goal.returns-in_err-take-clause-refused
 returns-in_err-take-clause-refused c =
@@ -29,4 +28,4 @@ returns-in_err-take-3-clause-refused c =
     rw (p.1, p.2) (λ f is below vs. c.in_ok-take.ensures.took _ _ ∙ c.in_ok-left.ensures.gave _ _ ∙ c.in_ok-take-2.ensures.took _ _ ∙ c.in_ok-right.ensures.gave _ _ ∙ c.in_err-take-3.ensures.refused f is _ _)
 
 pub returns-clause-gave : goal.returns-clause-gave
-returns-clause-gave c = λ below vs. c.in_ok-take.ensures.took _ _ ∙ c.in_ok-left.ensures.gave _ _ ∙ c.in_ok-take-2.ensures.took _ _ ∙ c.in_ok-right.ensures.gave _ _ ∙ c.in_ok-take-3.ensures.took _ _ ∙ read-do _ _ _ _
+returns-clause-gave c = λ below vs. c.in_ok-take.ensures.took _ _ ∙ c.in_ok-left.ensures.gave _ _ ∙ c.in_ok-take-2.ensures.took _ _ ∙ c.in_ok-right.ensures.gave _ _ ∙ c.in_ok-take-3.ensures.took _ _
