@@ -231,10 +231,17 @@ fn asked(contract: ReadContract, current: Current, effects: NamedEffects) -> Ask
       execution = effects.effects;
     } }
 {
+    let NamedEffects {
+        objects,
+        ops,
+        effects,
+    } = effects;
+    drop(objects);
+    drop(ops);
     Asked {
         contract,
         cur: EffId(current.id),
-        execution: effects.effects,
+        execution: effects,
     }
 }
 
