@@ -1,7 +1,8 @@
-ghost use Rattle.std.specs.Prelude.{◌≡◌, All, IfOk, length};
+ghost use Rattle.std.specs.Prelude.{◌≡◌, [], All, IfOk, OnOk, length};
 ghost use Rattle.ql_eval.specs.Folds.{answered_of};
 ghost use Rattle.ql_machine.specs.Rules.{Rules};
 ghost use Rattle.ql_machine.specs.Runs.{IsRun, replicas_at_end};
+ghost use Rattle.ql_machine.specs.State.{empty};
 ghost use Rattle.ql_schedule.specs.Guarantees.{IsSchedule};
 ghost use Rattle.ql_store.specs.Levels.{HasLevelOfEach, promises_of, uses_of};
 ghost use Rattle.ql_runs.specs.Keeping.{FitsSchedule, IsMade};
@@ -53,16 +54,53 @@ pub fn run_schedule<H: Holder>(
     ensures answered { IfOk result
         (λ run. All (IsMade (length run.store.machine.effects)) run.replies.items) }
 {
-    let folder = TypedFolder::new(alloc, typed);
     let mut store = Store::new(alloc, schedule.replicas, levels)?;
     let mut replies = Vec::new(alloc);
+    match step_through(alloc, typed, schedule, &mut store, &mut replies) {
+        Ok(objects) => Ok(Run {
+            store,
+            replies,
+            objects,
+        }),
+        Err(NoMemory) => {
+            drop(store);
+            Err(NoMemory)
+        }
+    }
+}
+
+// Has a new store go through the events of a schedule, adds the replies, and returns the names of the objects.
+fn step_through<H: Holder>(
+    alloc: Global,
+    typed: &Typed,
+    schedule: Schedule,
+    store: &mut Store<H>,
+    replies: &mut Vec<Reply>,
+) -> Result<Names, NoMemory>
+    requires levels { HasLevelOfEach typed.now.program store.old.levels }
+    requires schedule { IsSchedule typed.now.program schedule }
+    requires empty { store.old.machine ≡ empty schedule.replicas }
+    requires none { replies.old.items ≡ [] }
+    ensures run { OnOk result
+        ((rules : Rules) → rules.promises ≡ promises_of store.old.levels
+        → rules.uses ≡ uses_of typed.now.program
+        → rules.answer ≡ (λ op args seen. answered_of typed.now.program.types op.0 args seen)
+        → IsRun rules schedule.replicas schedule.events replies.new.items store.new.machine) }
+    ensures levels { OnOk result (store.new.levels ≡ store.old.levels) }
+    ensures objects { IfOk result (λ objects. objects ≡ schedule.objects) }
+    ensures replicas { OnOk result
+        (length store.new.machine.received
+        ≡ replicas_at_end schedule.replicas schedule.events) }
+    ensures fits { OnOk result
+        (All (FitsSchedule typed.now.program (length schedule.objects) schedule.kinds)
+        store.new.machine.effects) }
+    ensures answered { OnOk result
+        (All (IsMade (length store.new.machine.effects)) replies.new.items) }
+{
+    let folder = TypedFolder::new(alloc, typed);
     for event in schedule.events.into_items() {
         let reply = store.step(event, typed, &folder)?;
         replies.push(reply)?;
     }
-    Ok(Run {
-        store,
-        replies,
-        objects: schedule.objects,
-    })
+    Ok(schedule.objects)
 }
