@@ -1,7 +1,8 @@
-ghost use Rattle.std.specs.Prelude.{◌≡◌, ◌≤◌, ◌++◌, length, IfOk, OnOk};
+ghost use Rattle.std.specs.Prelude.{◌≡◌, ◌≤◌, ◌++◌, [], length, IfOk, OnOk};
 ghost use Rattle.std.specs.List.{AllByRecursion};
 ghost use Rattle.ql_eval.specs.Folds.{answered_of};
 ghost use Rattle.ql_machine.specs.Rules.{Rules};
+ghost use Rattle.ql_machine.specs.State.{empty};
 ghost use Rattle.ql_schedule.specs.Guarantees.{IsSchedule};
 ghost use Rattle.ql_store.specs.Levels.{HasLevelOfEach, promises_of, uses_of};
 ghost use Rattle.ql_watched.specs.Watching.{Watches, new_ids};
@@ -46,17 +47,50 @@ pub fn watched_run<H: Holder>(
         (λ a. (1 ≤ a) × (a ≤ length run.store.machine.effects)) run.arrivals.items) }
     ensures few { IfOk result (λ run. length run.store.machine.effects ≤ 4000) }
 {
-    let folder = TypedFolder::new(alloc, typed);
     let mut store = Store::new(alloc, schedule.replicas, levels)?;
     let mut arrivals = Vec::new(alloc);
+    match watch(alloc, typed, schedule, replica, &mut store, &mut arrivals) {
+        Ok(()) => Ok(Watched { store, arrivals }),
+        Err(NoMemory) => {
+            drop(store);
+            Err(NoMemory)
+        }
+    }
+}
+
+// Has a new store go through the events of a schedule, and adds what a replica receives.
+fn watch<H: Holder>(
+    alloc: Global,
+    typed: &Typed,
+    schedule: Schedule,
+    replica: ReplicaId,
+    store: &mut Store<H>,
+    arrivals: &mut Vec<u32>,
+) -> Result<(), NoMemory>
+    requires levels { HasLevelOfEach typed.now.program store.old.levels }
+    requires schedule { IsSchedule typed.now.program schedule }
+    requires empty { store.old.machine ≡ empty schedule.replicas }
+    requires none { arrivals.old.items ≡ [] }
+    ensures watched { OnOk result
+        ((rules : Rules) → rules.promises ≡ promises_of store.old.levels
+        → rules.uses ≡ uses_of typed.now.program
+        → rules.answer ≡ (λ op args seen. answered_of typed.now.program.types op.0 args seen)
+        → Watches rules schedule.replicas replica.0 schedule.events store.new.machine
+        arrivals.new.items) }
+    ensures there { OnOk result
+        (AllByRecursion
+        (λ a. (1 ≤ a) × (a ≤ length store.new.machine.effects)) arrivals.new.items) }
+    ensures few { OnOk result (length store.new.machine.effects ≤ 4000) }
+{
+    let folder = TypedFolder::new(alloc, typed);
     let mut received = IdSet::new(alloc);
     for event in schedule.events.into_items() {
         store.step(event, typed, &folder)?;
         let now = store.received_at(replica)?;
-        push_new(&mut arrivals, &received, now.items())?;
+        push_new(arrivals, &received, now.items())?;
         received = now;
     }
-    Ok(Watched { store, arrivals })
+    Ok(())
 }
 
 // Adds those of the ids that weren't there before.
