@@ -7,7 +7,7 @@ use ql_line_files::{Broken, FileFault};
 /// Why a text isn't a schedule of a program, with the number of the first faulty line, from 1. If the file
 /// ends before its events, that is the line after its last. If a line has several faults, the first in this
 /// order is reported.
-#[derive(Clone, Copy, Debug, PartialEq, Eq)]
+#[derive(Clone, Copy)]
 pub enum SchedFault {
     /// The line isn't in the grammar.
     Unexpected(u64),
