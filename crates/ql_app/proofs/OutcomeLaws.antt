@@ -4,8 +4,8 @@ use Rattle.std.specs.Prelude.{IfSome, IfOk}
 use Rattle.std.specs.Global.{Vec}
 use Rattle.ql_base.specs.declared.no_memory.NoMemory.{NoMemory}
 use Rattle.ql_ports.specs.Faults.{Rose}
-use Rattle.ql_ports.specs.declared.whole.ReadError.{ReadError}
-use Rattle.ql_ports.specs.declared.whole.ReadError.TheVariants.{Failed, TooLong}
+use Rattle.ql_ports.specs.declared.whole.ReadWhy.{ReadWhy}
+use Rattle.ql_ports.specs.declared.whole.ReadWhy.TheVariants.{Failed, TooLong}
 use Rattle.ql_app.specs.declared.outcome.Limits.{Limits}
 use Rattle.ql_reply.specs.declared.status.Status.{Status}
 use Rattle.ql_reply.specs.declared.status.Status.TheVariants.{Done, No, Bad, ReadFault, WriteFault, Usage, TooLarge}
@@ -102,7 +102,7 @@ module _ (limits : Limits) (held : List ℕ → Option (List ℕ)) (before after
   two_answers command name other bytes more (Err e) same short also few says = tt
 
   -- a file that couldn't be read whole
-  pub one_unread : (command : Command) (name : List ℕ) (error : ReadError) (answer : Result (Status × Vec ℕ) NoMemory) → IfOk answer (λ a. IsUnread error name a.0 a.1.items)
+  pub one_unread : (command : Command) (name : List ℕ) (error : ReadWhy) (answer : Result (Status × Vec ℕ) NoMemory) → IfOk answer (λ a. IsUnread error name a.0 a.1.items)
       → (error ≡ Failed → Rose (before name) (after name)) → (error ≡ TooLong → IfSome (held name) (λ bytes. limits.file < length bytes))
       → IfOk answer (λ a. RequestSays limits held before after (OneFile command name) a.0 a.1.items)
   one_unread command name error answer is f l =

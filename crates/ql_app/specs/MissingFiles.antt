@@ -1,8 +1,8 @@
 -- What is reported of files that the shelf lacks.
 use Rattle.std.specs.Prelude.{◌⊎◌, ℕ, List}
 use Rattle.ql_app.specs.Words.{NamedRequest, OneFile, TwoFiles}
-use Rattle.ql_ports.specs.declared.whole.ReadError.{ReadError}
-use Rattle.ql_ports.specs.declared.whole.ReadError.TheVariants.{Failed}
+use Rattle.ql_ports.specs.declared.whole.ReadWhy.{ReadWhy}
+use Rattle.ql_ports.specs.declared.whole.ReadWhy.TheVariants.{Failed}
 use Rattle.ql_reply.specs.Unread.{IsUnread}
 use Rattle.ql_reply.specs.declared.status.Status.{Status}
 
@@ -11,4 +11,4 @@ abbrev pub ReportsMissing : (List ℕ → Type 0) → NamedRequest → Status �
 ReportsMissing Lacks (OneFile command name) status text = Lacks name → IsUnread Failed name status text
 ReportsMissing Lacks (TwoFiles command name other) status text =
     (Lacks name → IsUnread Failed name status text)
-    × (Lacks other → IsUnread Failed other status text ⊎ ((error : ReadError) × IsUnread error name status text))
+    × (Lacks other → IsUnread Failed other status text ⊎ ((error : ReadWhy) × IsUnread error name status text))

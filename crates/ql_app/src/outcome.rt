@@ -69,7 +69,7 @@ fn of_file<S: Shelf>(
     ensures same_files { (other : List ℕ) → S.lacks shelf.new other ↔ S.lacks shelf.old other }
     ensures counts_stay { (other : List ℕ) → S.faults shelf.old other ≤ S.faults shelf.new other }
 {
-    match read_whole(alloc, shelf, name, limits.file as usize) {
+    match read_whole(alloc, shelf, name, limits.file) {
         Ok(bytes) => answer_command(alloc, command, bytes.as_slice()),
         Err(error) => unread(alloc, error, name),
     }
@@ -92,11 +92,11 @@ fn of_files<S: Shelf>(
     ensures same_files { (third : List ℕ) → S.lacks shelf.new third ↔ S.lacks shelf.old third }
     ensures counts_stay { (third : List ℕ) → S.faults shelf.old third ≤ S.faults shelf.new third }
 {
-    let bytes = match read_whole(alloc, shelf, name, limits.file as usize) {
+    let bytes = match read_whole(alloc, shelf, name, limits.file) {
         Ok(bytes) => bytes,
         Err(error) => return unread(alloc, error, name),
     };
-    let more = match read_whole(alloc, shelf, other, second_limit(limits, command) as usize) {
+    let more = match read_whole(alloc, shelf, other, second_limit(limits, command)) {
         Ok(more) => more,
         Err(error) => return unread(alloc, error, other),
     };

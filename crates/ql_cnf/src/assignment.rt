@@ -32,6 +32,13 @@ impl Assignment {
     {
         &self.items
     }
+
+    /// The values.
+    pub fn into_items(self) -> Vec<bool>
+        ensures { result.items ≡ self }
+    {
+        self.items
+    }
 }
 
 /// Whether each clause has a literal that is true in the assignment.

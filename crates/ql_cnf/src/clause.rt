@@ -41,6 +41,14 @@ impl Clause {
         &self.items
     }
 
+    /// The literals.
+    pub fn into_items(self) -> Vec<Lit>
+        ensures same { result.items ≡ self }
+        ensures ascending { IsAscendingByVariable self }
+    {
+        self.items
+    }
+
     /// The clause with one more literal, in order; none if the clause has the literal's negation.
     #[tactic(auto, using(crate::proofs::Meaning::stays_ascending))]
     pub fn with(&self, alloc: Global, lit: Lit) -> Result<Option<Clause>, NoMemory>

@@ -4,8 +4,8 @@ use Rattle.std.specs.Prelude.{IfOk, IfSome}
 use Rattle.std.specs.Global.{Vec}
 use Rattle.ql_base.specs.declared.no_memory.NoMemory.{NoMemory}
 use Rattle.ql_ports.specs.Faults.{Rose}
-use Rattle.ql_ports.specs.declared.whole.ReadError.{ReadError}
-use Rattle.ql_ports.specs.declared.whole.ReadError.TheVariants.{Failed, TooLong}
+use Rattle.ql_ports.specs.declared.whole.ReadWhy.{ReadWhy}
+use Rattle.ql_ports.specs.declared.whole.ReadWhy.TheVariants.{Failed, TooLong}
 use Rattle.ql_drawing.specs.Outcomes.{IsAnswer, IsOf, Reports, limit_of}
 use Rattle.ql_reply.specs.Unread.{IsUnread}
 use Rattle.ql_reply.proofs.Replies.{answer_unread, rose_before}
@@ -29,7 +29,7 @@ module _ (held : List ℕ → Option (List ℕ)) (before after : List ℕ → �
   one_answer (Err e) is = tt
 
   -- a file couldn't be read whole
-  pub one_unread : (name : List ℕ) (limit : ℕ) → IsOf a name → limit_of a name limit → (error : ReadError) (answer : Result (Status × Vec ℕ) NoMemory)
+  pub one_unread : (name : List ℕ) (limit : ℕ) → IsOf a name → limit_of a name limit → (error : ReadWhy) (answer : Result (Status × Vec ℕ) NoMemory)
       → IfOk answer (λ x. IsUnread error name x.0 x.1.items)
       → (error ≡ Failed → Rose (before name) (after name)) → (error ≡ TooLong → IfSome (held name) (λ bytes. limit < length bytes))
       → IfOk answer (λ x. Reports held before after a x.0 x.1.items)

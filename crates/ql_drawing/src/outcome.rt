@@ -12,9 +12,9 @@ use ql_reply::{Status, unread};
 use std::alloc::Global;
 
 // The greatest lengths of a run's text and of a schedule, in bytes.
-const RUN_BYTES: usize = MAX_EXECUTION_BYTES as usize;
+const RUN_BYTES: u64 = MAX_EXECUTION_BYTES;
 
-const SCHEDULE_BYTES: usize = MAX_SCHEDULE_BYTES as usize;
+const SCHEDULE_BYTES: u64 = MAX_SCHEDULE_BYTES;
 
 /// The status and the text for these arguments. The named files are each read once, to the end, in the order of the
 /// arguments.

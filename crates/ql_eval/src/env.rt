@@ -40,6 +40,13 @@ impl Env {
         &self.pairs
     }
 
+    /// The names with their values.
+    pub fn into_items(self) -> Vec<(Word, Value)>
+        ensures { result.items ≡ self }
+    {
+        self.pairs
+    }
+
     /// Equal names with equal values.
     pub fn copy(&self, alloc: Global) -> Result<Env, NoMemory>
         ensures { IfOk result (λ copied. copied ≡ self.now) }

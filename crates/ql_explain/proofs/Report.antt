@@ -4,8 +4,8 @@ use Rattle.std.specs.Prelude.{IfOk, IfSome}
 use Rattle.std.specs.Global.{Vec}
 use Rattle.ql_base.specs.declared.no_memory.NoMemory.{NoMemory}
 use Rattle.ql_ports.specs.Faults.{Rose}
-use Rattle.ql_ports.specs.declared.whole.ReadError.{ReadError}
-use Rattle.ql_ports.specs.declared.whole.ReadError.TheVariants.{Failed, TooLong}
+use Rattle.ql_ports.specs.declared.whole.ReadWhy.{ReadWhy}
+use Rattle.ql_ports.specs.declared.whole.ReadWhy.TheVariants.{Failed, TooLong}
 use Rattle.ql_baseline.specs.Comparison.{BaselineSays}
 use Rattle.ql_explain.specs.Outcomes.{IsOf, Means, SaysIn, SaysOf, Reports, most_bytes}
 use Rattle.ql_reply.specs.Read.{IsRead}
@@ -63,7 +63,7 @@ module _ (held : List ℕ → Option (List ℕ)) (before after : List ℕ → �
   one_answer Says answered means (Err error) is = tt
 
   -- a file couldn't be read whole
-  pub one_unread : (name : List ℕ) → IsOf call name → (error : ReadError) (said : Result (Status × Vec ℕ) NoMemory) → IfOk said (λ x. IsUnread error name x.0 x.1.items)
+  pub one_unread : (name : List ℕ) → IsOf call name → (error : ReadWhy) (said : Result (Status × Vec ℕ) NoMemory) → IfOk said (λ x. IsUnread error name x.0 x.1.items)
       → (error ≡ Failed → Rose (before name) (after name)) → (error ≡ TooLong → IfSome (held name) (λ bytes. 1048576 < length bytes))
       → IfOk said (λ x. Reports held before after call x.0 x.1.items)
   one_unread name of error said is f l =

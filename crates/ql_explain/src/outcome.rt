@@ -14,7 +14,7 @@ use ql_reply::{Status, unread};
 use std::alloc::Global;
 
 // The greatest length of a source and of a stored answer, in bytes.
-const FILE_BYTES: usize = MAX_SOURCE_BYTES as usize;
+const FILE_BYTES: u64 = MAX_SOURCE_BYTES;
 
 /// The status and the text for these arguments. The named files are each read once, to the end, in the order of the
 /// arguments.

@@ -1,5 +1,5 @@
 use ql_base::{NoMemory, push_bytes};
-use ql_ports::{FileShelf, MemShelf, MemSink, ReadError, read_whole, write_whole};
+use ql_ports::{FileShelf, MemShelf, MemSink, ReadWhy, read_whole, write_whole};
 use ql_tables::{check_table, field, number};
 use std::alloc::Global;
 use std::test::Fail;
@@ -31,16 +31,16 @@ fn read(alloc: Global, row: &str) -> Result<Vec<u8>, NoMemory> {
     let failing = Vec::from_slice(alloc, &[u64::from(number(row, 1))])?;
     let piece = number(row, 0).max(1) as usize;
     let mut shelf = MemShelf::new(alloc, files, piece, failing)?;
-    let read = read_whole(alloc, &mut shelf, field(row, 2), number(row, 3) as usize);
+    let read = read_whole(alloc, &mut shelf, field(row, 2), u64::from(number(row, 3)));
     outcome(alloc, read)
 }
 
-fn outcome(alloc: Global, read: Result<Vec<u8>, ReadError>) -> Result<Vec<u8>, NoMemory> {
+fn outcome(alloc: Global, read: Result<Vec<u8>, ReadWhy>) -> Result<Vec<u8>, NoMemory> {
     match read {
         Ok(bytes) => Ok(bytes),
-        Err(ReadError::Failed) => Ok(Vec::from_slice(alloc, b"failed")?),
-        Err(ReadError::TooLong) => Ok(Vec::from_slice(alloc, b"too long")?),
-        Err(ReadError::NoMemory) => Err(NoMemory),
+        Err(ReadWhy::Failed) => Ok(Vec::from_slice(alloc, b"failed")?),
+        Err(ReadWhy::TooLong) => Ok(Vec::from_slice(alloc, b"too long")?),
+        Err(ReadWhy::NoMemory) => Err(NoMemory),
     }
 }
 
@@ -87,6 +87,6 @@ fn the_system_gives_files_and_faults(rt: HostRuntime) -> Result<(), Fail> {
 fn read_from(alloc: Global, rt: &HostRuntime, row: &str) -> Result<Vec<u8>, NoMemory> {
     let (most, name) = row.split_once(' ').unwrap_or((row, ""));
     let mut shelf = FileShelf::new(alloc, rt.clone()?);
-    let read = read_whole(alloc, &mut shelf, name, number(most, 0) as usize);
+    let read = read_whole(alloc, &mut shelf, name, u64::from(number(most, 0)));
     outcome(alloc, read)
 }

@@ -31,6 +31,12 @@ impl Words {
     {
         self.items.as_slice()
     }
+
+    pub fn into_items(self) -> Vec<Word>
+        ensures { result.items ≡ self }
+    {
+        self.items
+    }
 }
 
 /// The question of a holds file: whether the formula is true in the execution, with the effect `cur`

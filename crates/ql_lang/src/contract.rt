@@ -45,6 +45,12 @@ impl Vars {
     {
         self.items.as_slice()
     }
+
+    pub fn into_items(self) -> Vec<Var>
+        ensures { result.items ≡ self }
+    {
+        self.items
+    }
 }
 
 /// What a contract says. `Txn` has the source offset of the word `txn`.
@@ -91,5 +97,11 @@ impl Points {
         ensures { result.now ≡ self.now }
     {
         self.items.as_slice()
+    }
+
+    pub fn into_items(self) -> Vec<Point>
+        ensures { result.items ≡ self }
+    {
+        self.items
     }
 }

@@ -49,6 +49,13 @@ impl Exprs {
     {
         self.items.as_slice()
     }
+
+    pub fn into_items(self) -> Vec<Expr>
+        ensures same { result.items ≡ arguments self }
+        ensures operands { operands_of result.items ≡ operands_in self }
+    {
+        self.items
+    }
 }
 
 /// The binary operators.
@@ -92,5 +99,11 @@ impl TextLit {
         ensures { result.now ≡ self.now }
     {
         self.bytes.as_slice()
+    }
+
+    pub fn into_items(self) -> Vec<u8>
+        ensures { result.items ≡ self }
+    {
+        self.bytes
     }
 }

@@ -45,6 +45,12 @@ impl Choices {
     {
         self.items.as_slice()
     }
+
+    pub fn into_items(self) -> Vec<OpChoice>
+        ensures { result.items ≡ self }
+    {
+        self.items
+    }
 }
 
 /// What a formula says.
@@ -91,5 +97,11 @@ impl Terms {
         ensures { result.now ≡ self.now }
     {
         self.items.as_slice()
+    }
+
+    pub fn into_items(self) -> Vec<Term>
+        ensures { result.items ≡ self }
+    {
+        self.items
     }
 }

@@ -37,4 +37,10 @@ impl NameList {
     {
         self.items.as_slice()
     }
+
+    pub fn into_items(self) -> Vec<Name>
+        ensures { result.items ≡ self }
+    {
+        self.items
+    }
 }

@@ -58,6 +58,12 @@ impl Params {
     {
         self.items.as_slice()
     }
+
+    pub fn into_items(self) -> Vec<Param>
+        ensures { result.items ≡ self }
+    {
+        self.items
+    }
 }
 
 /// A value that an operation emits, under a name.
@@ -100,6 +106,12 @@ impl Binds {
     {
         self.items.as_slice()
     }
+
+    pub fn into_items(self) -> Vec<Bind>
+        ensures { result.items ≡ self }
+    {
+        self.items
+    }
 }
 
 /// A statement: the new value of a state field.
@@ -140,6 +152,12 @@ impl Stmts {
         ensures { result.now ≡ self.now }
     {
         self.items.as_slice()
+    }
+
+    pub fn into_items(self) -> Vec<Stmt>
+        ensures { result.items ≡ self }
+    {
+        self.items
     }
 }
 
@@ -196,5 +214,11 @@ impl OpDecls {
         ensures { result.now ≡ self.now }
     {
         self.items.as_slice()
+    }
+
+    pub fn into_items(self) -> Vec<OpDecl>
+        ensures { result.items ≡ self }
+    {
+        self.items
     }
 }

@@ -59,6 +59,12 @@ impl Fields {
     {
         self.items.as_slice()
     }
+
+    pub fn into_items(self) -> Vec<Field>
+        ensures { result.items ≡ self }
+    {
+        self.items
+    }
 }
 
 /// A replicated type, and the source offset of the word `type`.
@@ -104,6 +110,12 @@ impl TypeDecls {
     {
         self.items.as_slice()
     }
+
+    pub fn into_items(self) -> Vec<TypeDecl>
+        ensures { result.items ≡ self }
+    {
+        self.items
+    }
 }
 
 /// A transaction, the operations that it uses, and the source offset of the word `transaction`.
@@ -147,6 +159,12 @@ impl TxnDecls {
         ensures { result.now ≡ self.now }
     {
         self.items.as_slice()
+    }
+
+    pub fn into_items(self) -> Vec<TxnDecl>
+        ensures { result.items ≡ self }
+    {
+        self.items
     }
 }
 

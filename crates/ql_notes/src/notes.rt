@@ -13,7 +13,7 @@ use crate::verdicts::push_verdict;
 use crate::words::{has_word, is};
 use ql_base::{MAX_EXECUTION_BYTES, MAX_SOURCE_BYTES, NoMemory};
 use ql_excerpt::File;
-use ql_ports::{ReadError, Shelf, read_whole};
+use ql_ports::{ReadWhy, Shelf, read_whole};
 use ql_reply::Status;
 use std::alloc::Global;
 
@@ -21,7 +21,7 @@ use std::alloc::Global;
 pub(crate) const SOURCE_BYTES: usize = MAX_SOURCE_BYTES as usize;
 
 // The most bytes of other files.
-const FILE_BYTES: usize = MAX_EXECUTION_BYTES as usize;
+const FILE_BYTES: u64 = MAX_EXECUTION_BYTES;
 
 /// The beginning of an answer, and its last line.
 #[derive(Clone, Copy)]
@@ -253,13 +253,13 @@ fn text_of<S: Shelf>(
     alloc: Global,
     shelf: &mut S,
     name: &str,
-    most: usize,
+    most: u64,
 ) -> Result<Vec<u8>, NoMemory>
     ensures { IfOk result (λ text. length text.items ≤ most) }
 {
     match read_whole(alloc, shelf, name, most) {
         Ok(text) => Ok(text),
-        Err(ReadError::NoMemory) => Err(NoMemory),
+        Err(ReadWhy::NoMemory) => Err(NoMemory),
         Err(_) => Ok(Vec::new(alloc)),
     }
 }

@@ -15,4 +15,4 @@ pub use mem_shelf::MemShelf;
 pub use mem_sink::MemSink;
 pub use ports::{Failed, Shelf, Sink};
 pub use system::{FileShelf, StdSink};
-pub use whole::{ReadError, read_whole, write_whole};
+pub use whole::{ReadWhy, read_whole, write_whole};

@@ -2,7 +2,7 @@ ghost use Rattle.std.specs.Prelude.{◌≡◌, ◌<◌, ◌≤◌, ◌⊎◌, �
 ghost use Rattle.ql_ports.specs.Faults.{Rose};
 ghost use Rattle.ql_ports.specs.Whole.{IsPrefix};
 ghost use Rattle.ql_ports.specs.Written.{appended, AppendsPrefix};
-ghost use Rattle.ql_ports.specs.declared.whole.ReadError.{ReadError};
+ghost use Rattle.ql_ports.specs.declared.whole.ReadWhy.{ReadWhy};
 
 use crate::ports::{Failed, Shelf, Sink};
 use ql_base::NoMemory;
@@ -10,7 +10,7 @@ use std::alloc::{AllocError, Global};
 
 /// Why a file could not be read whole.
 #[derive(Clone, Copy, Debug, PartialEq, Eq)]
-pub enum ReadError {
+pub enum ReadWhy {
     /// The shelf counted a fault at this name.
     Failed,
     /// The file has more bytes than the limit.
@@ -18,27 +18,27 @@ pub enum ReadError {
     NoMemory,
 }
 
-impl From<Failed> for ReadError {
-    ghost from_gives = { λ _ error. error ≡ ReadError.Failed };
+impl From<Failed> for ReadWhy {
+    ghost from_gives = { λ _ error. error ≡ ReadWhy.Failed };
 
-    fn from(_failed: Failed) -> ReadError {
-        ReadError::Failed
+    fn from(_failed: Failed) -> ReadWhy {
+        ReadWhy::Failed
     }
 }
 
-impl From<NoMemory> for ReadError {
-    ghost from_gives = { λ _ error. error ≡ ReadError.NoMemory };
+impl From<NoMemory> for ReadWhy {
+    ghost from_gives = { λ _ error. error ≡ ReadWhy.NoMemory };
 
-    fn from(_error: NoMemory) -> ReadError {
-        ReadError::NoMemory
+    fn from(_error: NoMemory) -> ReadWhy {
+        ReadWhy::NoMemory
     }
 }
 
-impl From<AllocError> for ReadError {
-    ghost from_gives = { λ _ error. error ≡ ReadError.NoMemory };
+impl From<AllocError> for ReadWhy {
+    ghost from_gives = { λ _ error. error ≡ ReadWhy.NoMemory };
 
-    fn from(_error: AllocError) -> ReadError {
-        ReadError::NoMemory
+    fn from(_error: AllocError) -> ReadWhy {
+        ReadWhy::NoMemory
     }
 }
 
@@ -50,16 +50,16 @@ pub fn read_whole<S: Shelf>(
     alloc: Global,
     shelf: &mut S,
     name: &str,
-    limit: usize,
-) -> Result<Vec<u8>, ReadError>
+    limit: u64,
+) -> Result<Vec<u8>, ReadWhy>
     ensures whole { IfOk result (λ bytes. IfSome (S.held shelf.old name.now)
         (λ whole. bytes.items ≡ whole)) }
     ensures in_limit { IfOk result (λ bytes. vec_len bytes ≤ limit) }
-    ensures failed { IsErrOf result ReadError.Failed →
+    ensures failed { IsErrOf result ReadWhy.Failed →
         Rose (S.faults shelf.old name.now) (S.faults shelf.new name.now) }
     ensures lacking { S.lacks shelf.old name.now →
-        IsErrOf result ReadError.Failed ⊎ IsErrOf result ReadError.NoMemory }
-    ensures too_long { IsErrOf result ReadError.TooLong →
+        IsErrOf result ReadWhy.Failed ⊎ IsErrOf result ReadWhy.NoMemory }
+    ensures too_long { IsErrOf result ReadWhy.TooLong →
         IfSome (S.held shelf.old name.now) (λ whole. limit < length whole) }
     ensures same_contents { (other : List ℕ) → S.held shelf.new other ≡ S.held shelf.old other }
     ensures same_files { (other : List ℕ) → S.lacks shelf.new other ↔ S.lacks shelf.old other }
@@ -82,10 +82,10 @@ fn make_buffer(alloc: Global, size: usize) -> Result<Vec<u8>, NoMemory>
 fn read_piece<S: Shelf>(
     shelf: &mut S,
     name: &str,
-    limit: usize,
+    limit: u64,
     piece: &mut [u8],
     bytes: &mut Vec<u8>,
-) -> Result<bool, ReadError>
+) -> Result<bool, ReadWhy>
     requires room { 0 < length piece.old }
     requires in_limit { vec_len bytes.old ≤ limit }
     requires prefix { IfSome (S.held shelf.old name.now) (IsPrefix bytes.old.items) }
@@ -94,10 +94,10 @@ fn read_piece<S: Shelf>(
     ensures reads { OnOk result (IfSome (S.held shelf.old name.now) (IsPrefix bytes.new.items)) }
     ensures end { IfOk result (λ more. IsFalse more →
         IfSome (S.held shelf.old name.now) (λ whole. bytes.new.items ≡ whole)) }
-    ensures failed { IsErrOf result ReadError.Failed →
+    ensures failed { IsErrOf result ReadWhy.Failed →
         Rose (S.faults shelf.old name.now) (S.faults shelf.new name.now) }
-    ensures lacking { S.lacks shelf.old name.now → IsErrOf result ReadError.Failed }
-    ensures too_long { IsErrOf result ReadError.TooLong →
+    ensures lacking { S.lacks shelf.old name.now → IsErrOf result ReadWhy.Failed }
+    ensures too_long { IsErrOf result ReadWhy.TooLong →
         IfSome (S.held shelf.old name.now) (λ whole. limit < length whole) }
     ensures same_contents { (other : List ℕ) → S.held shelf.new other ≡ S.held shelf.old other }
     ensures same_files { (other : List ℕ) → S.lacks shelf.new other ↔ S.lacks shelf.old other }
@@ -107,8 +107,8 @@ fn read_piece<S: Shelf>(
     if count == 0 {
         return Ok(false);
     }
-    if count > limit - bytes.len() {
-        return Err(ReadError::TooLong);
+    if count as u64 > limit - bytes.len() as u64 {
+        return Err(ReadWhy::TooLong);
     }
     bytes.extend_from_slice(&piece[..count])?;
     Ok(true)

@@ -43,6 +43,13 @@ impl Hints {
     {
         &self.items
     }
+
+    /// The hints.
+    pub fn into_items(self) -> Vec<Hint>
+        ensures { result.items ≡ self }
+    {
+        self.items
+    }
 }
 
 /// A clause, and the clauses from which it follows by unit propagation.

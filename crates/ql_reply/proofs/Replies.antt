@@ -5,8 +5,8 @@ use Rattle.std.specs.Global.{Vec}
 use Rattle.ql_base.specs.declared.no_memory.NoMemory.{NoMemory}
 use Rattle.ql_ports.specs.Faults.{Rose}
 use Rattle.ql_ports.specs.Written.{appended}
-use Rattle.ql_ports.specs.declared.whole.ReadError.{ReadError}
-use Rattle.ql_ports.specs.declared.whole.ReadError.TheVariants.{Failed, TooLong, NoMemory as NoReadMemory}
+use Rattle.ql_ports.specs.declared.whole.ReadWhy.{ReadWhy}
+use Rattle.ql_ports.specs.declared.whole.ReadWhy.TheVariants.{Failed, TooLong, NoMemory as NoReadMemory}
 use Rattle.ql_reply.specs.Unread.{IsUnread}
 use Rattle.ql_reply.specs.Wrote.{IsWritten, Wrote}
 use Rattle.ql_reply.specs.declared.status.Status.{Status}
@@ -58,7 +58,7 @@ pub no_usage : WriteFault ≡ Usage → ⊥
 no_usage same = subst IsWriteFault same tt
 
 -- a file couldn't be read: the shelf failed, or it has too many bytes
-pub of_unread : (P : Status → List ℕ → Type 0) (name : List ℕ) (error : ReadError) (status : Status) (text : List ℕ) → IsUnread error name status text
+pub of_unread : (P : Status → List ℕ → Type 0) (name : List ℕ) (error : ReadWhy) (status : Status) (text : List ℕ) → IsUnread error name status text
     → (error ≡ Failed → text ≡ codes "read fault " ++ name ++ codes "\n" → P ReadFault text)
     → (error ≡ TooLong → text ≡ codes "too large " ++ name ++ codes "\n" → P TooLarge text) → P status text
 of_unread P name Failed Done text is failed long = absurd is
@@ -84,7 +84,7 @@ of_unread P name NoReadMemory Usage text is failed long = absurd is
 of_unread P name NoReadMemory TooLarge text is failed long = absurd is
 
 -- and so of an answer, which out of memory isn't there
-pub answer_unread : (P : Status → List ℕ → Type 0) (name : List ℕ) (error : ReadError) (answer : Result (Status × Vec ℕ) NoMemory)
+pub answer_unread : (P : Status → List ℕ → Type 0) (name : List ℕ) (error : ReadWhy) (answer : Result (Status × Vec ℕ) NoMemory)
     → IfOk answer (λ x. IsUnread error name x.0 x.1.items)
     → ((text : List ℕ) → error ≡ Failed → text ≡ codes "read fault " ++ name ++ codes "\n" → P ReadFault text)
     → ((text : List ℕ) → error ≡ TooLong → text ≡ codes "too large " ++ name ++ codes "\n" → P TooLarge text)

@@ -3,17 +3,17 @@ ghost use Rattle.ql_reply.specs.Unread.{IsUnread};
 
 use crate::status::Status;
 use ql_base::{NoMemory, push_bytes};
-use ql_ports::ReadError;
+use ql_ports::ReadWhy;
 use std::alloc::Global;
 
 /// The reply if the file with this name couldn't be read whole.
-pub fn unread(alloc: Global, error: ReadError, name: &str) -> Result<(Status, Vec<u8>), NoMemory>
+pub fn unread(alloc: Global, error: ReadWhy, name: &str) -> Result<(Status, Vec<u8>), NoMemory>
     ensures { IfOk result (λ answer. IsUnread error name.now answer.0 answer.1.items) }
 {
     match error {
-        ReadError::Failed => Ok((Status::ReadFault, named(alloc, b"read fault ", name)?)),
-        ReadError::TooLong => Ok((Status::TooLarge, named(alloc, b"too large ", name)?)),
-        ReadError::NoMemory => Err(NoMemory),
+        ReadWhy::Failed => Ok((Status::ReadFault, named(alloc, b"read fault ", name)?)),
+        ReadWhy::TooLong => Ok((Status::TooLarge, named(alloc, b"too large ", name)?)),
+        ReadWhy::NoMemory => Err(NoMemory),
     }
 }
 

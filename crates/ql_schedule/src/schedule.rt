@@ -67,6 +67,12 @@ impl TypeIds {
         &self.items
     }
 
+    pub fn into_items(self) -> Vec<TypeId>
+        ensures { result.items ≡ self }
+    {
+        self.items
+    }
+
     pub(crate) fn push(&mut self, item: TypeId) -> Result<(), NoMemory>
         ensures { OnOk result (self.new ≡ self.old ++ item ∷ []) }
     {

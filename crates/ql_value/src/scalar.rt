@@ -36,6 +36,14 @@ impl TextVal {
     {
         &self.bytes
     }
+
+    /// The text's bytes.
+    pub fn into_items(self) -> Vec<u8>
+        ensures same { result.items ≡ self }
+        ensures text { IsText self }
+    {
+        self.bytes
+    }
 }
 
 /// What may be an argument, an element of a set, or a key or value of a map.

@@ -39,6 +39,14 @@ impl SetVal {
     {
         &self.elements
     }
+
+    /// The elements, in ascending order.
+    pub fn into_items(self) -> Vec<Scalar>
+        ensures same { result.items ≡ self }
+        ensures set { IsSet self }
+    {
+        self.elements
+    }
 }
 
 /// A map: at most 256 pairs of a key and a value, strictly ascending by key. Seen as the list of its
@@ -76,6 +84,14 @@ impl MapVal {
         ensures map { IsMap self.now }
     {
         &self.entries
+    }
+
+    /// The entries, in ascending order of their keys.
+    pub fn into_items(self) -> Vec<(Scalar, Scalar)>
+        ensures same { result.items ≡ self }
+        ensures map { IsMap self }
+    {
+        self.entries
     }
 }
 
@@ -118,5 +134,12 @@ impl Values {
         ensures { result.now ≡ self.now }
     {
         &self.items
+    }
+
+    /// The values.
+    pub fn into_items(self) -> Vec<Value>
+        ensures { result.items ≡ self }
+    {
+        self.items
     }
 }
