@@ -41,11 +41,10 @@ impl Clauses {
 
     /// Appends the clause of these literals: sorted by variable, each literal once. Literals that hold
     /// both signs of a variable are true in any assignment; then nothing is appended, and false is
-    /// returned. Out of memory leaves the list as it was.
+    /// returned. Out of memory leaves the list as it was; so is a clause with a number above `u32::MAX`.
     #[tactic(auto, using(crate::proofs::Meaning::is_clause, crate::proofs::Meaning::is_tautology, crate::proofs::Truth::added_means, crate::proofs::Truth::left_out_means, crate::proofs::Truth::added_in_range))]
     pub fn add(&mut self, lits: &[Lit]) -> Result<bool, NoMemory>
         requires in_range { AreInRange self.old.variables lits.now }
-        requires numbered { length self.old.clauses + 1 < 2 ^ 32 }
         ensures added { IfOk result (λ added. added ≡ is_some (clause_of lits.now)) }
         ensures new { OnOk result (self.new ≡ with_clause self.old (clause_of lits.now)) }
         ensures err { OnErr result (self.new ≡ self.old) }
@@ -68,7 +67,6 @@ impl Clauses {
     // The same, with the facts that whoever appends several needs.
     pub(crate) fn append(&mut self, lits: &[Lit]) -> Result<bool, NoMemory>
         requires in_range { AreInRange self.old.variables lits.now }
-        requires numbered { length self.old.clauses + 1 < 2 ^ 32 }
         ensures added { IfOk result (λ added. added ≡ is_some (clause_of lits.now)) }
         ensures new { OnOk result (self.new ≡ with_clause self.old (clause_of lits.now)) }
         ensures err { OnErr result (self.new ≡ self.old) }
@@ -76,6 +74,9 @@ impl Clauses {
         ensures len { length self.new.clauses ≤ length self.old.clauses + 1 }
         ensures in_range { ClausesInRange self.old.variables self.old.clauses }
     {
+        if self.len() == u32::MAX {
+            return Err(NoMemory);
+        }
         match ascending(*self.clauses.allocator(), lits)? {
             Some(clause) => {
                 self.clauses.push(clause)?;
@@ -110,18 +111,21 @@ impl Clauses {
         &self.clauses
     }
 
-    // Adds a variable after the others, and returns its literal.
-    pub(crate) fn add_variable(&mut self) -> Lit
-        requires { self.old.variables + 1 < 2 ^ 32 }
-        ensures literal { result ≡ yes (suc self.old.variables) }
-        ensures new { self.new
-            ≡ record { variables = suc self.old.variables; clauses = self.old.clauses } }
+    // Adds a variable after the others, and returns its literal. A number above `u32::MAX` is out of memory.
+    pub(crate) fn add_variable(&mut self) -> Result<Lit, NoMemory>
+        ensures literal { IfOk result (λ x. x ≡ yes (suc self.old.variables)) }
+        ensures new { OnOk result (self.new
+            ≡ record { variables = suc self.old.variables; clauses = self.old.clauses }) }
+        ensures err { OnErr result (self.new ≡ self.old) }
     {
+        if self.variables == u32::MAX {
+            return Err(NoMemory);
+        }
         self.variables += 1;
-        Lit {
+        Ok(Lit {
             var: self.variables,
             positive: true,
-        }
+        })
     }
 
     // Truncates the list to this many variables and clauses.

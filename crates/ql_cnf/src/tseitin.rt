@@ -7,11 +7,10 @@ use ql_base::NoMemory;
 
 /// Appends clauses that state that the formula is false. Each node that isn't a leaf gets a variable of
 /// its own, after the existing ones, children first from left to right, and the clauses that define it;
-/// the last clause is the root's negation. Out of memory leaves the clauses as they were.
+/// the last clause is the root's negation. Out of memory leaves the clauses as they were; so is a variable or a
+/// clause with a number above `u32::MAX`.
 pub fn clausify(g: &Ground, c: &mut Clauses) -> Result<(), NoMemory>
     requires leaves { InputsInRange c.old.variables (circuit_of g.now) }
-    requires variables { c.old.variables + gates (circuit_of g.now) < 2 ^ 32 }
-    requires numbered { length c.old.clauses + 3 * gates (circuit_of g.now) + 1 < 2 ^ 32 }
     ensures variables { OnOk result (c.new.variables ≡ c.old.variables + gates (circuit_of g.now)) }
     ensures clauses { OnOk result
         (c.new.clauses ≡ c.old.clauses ++ clauses_of (denying c.old.variables (circuit_of g.now))) }
@@ -37,8 +36,6 @@ pub fn clausify(g: &Ground, c: &mut Clauses) -> Result<(), NoMemory>
 // The same, but clauses and variables may be left over when memory runs out.
 fn deny(g: &Ground, c: &mut Clauses) -> Result<(), NoMemory>
     requires leaves { InputsInRange c.old.variables (circuit_of g.now) }
-    requires variables { c.old.variables + gates (circuit_of g.now) < 2 ^ 32 }
-    requires numbered { length c.old.clauses + 3 * gates (circuit_of g.now) + 1 < 2 ^ 32 }
     ensures variables { OnOk result (c.new.variables ≡ c.old.variables + gates (circuit_of g.now)) }
     ensures clauses { OnOk result
         (c.new.clauses ≡ c.old.clauses ++ clauses_of (denying c.old.variables (circuit_of g.now))) }
@@ -52,21 +49,17 @@ fn deny(g: &Ground, c: &mut Clauses) -> Result<(), NoMemory>
 // Appends the clauses that define the formula's nodes, and returns the literal that stands for it.
 fn define(g: &Ground, c: &mut Clauses) -> Result<Lit, NoMemory>
     requires leaves { InputsInRange c.old.variables (circuit_of g.now) }
-    requires variables { c.old.variables + gates (circuit_of g.now) < 2 ^ 32 }
-    requires numbered { length c.old.clauses + 3 * gates (circuit_of g.now) < 2 ^ 32 }
     ensures output { IfOk result (λ x. x ≡ output c.old.variables (circuit_of g.now)) }
     ensures in_range { IfOk result (λ x. (1 ≤ x.var) × (x.var ≤ c.new.variables)) }
     ensures variables { OnOk result (c.new.variables ≡ c.old.variables + gates (circuit_of g.now)) }
     ensures clauses { OnOk result
         (c.new.clauses ≡ c.old.clauses
         ++ clauses_of (defining c.old.variables (circuit_of g.now))) }
-    ensures counted { OnOk result
-        (length c.new.clauses ≤ length c.old.clauses + 3 * gates (circuit_of g.now)) }
     ensures kept { OnErr result (take (length c.old.clauses) c.new.clauses ≡ c.old.clauses) }
 {
     match g {
         Ground::True => {
-            let t = c.add_variable();
+            let t = c.add_variable()?;
             c.append(&[t])?;
             Ok(t)
         }
@@ -93,16 +86,13 @@ fn define(g: &Ground, c: &mut Clauses) -> Result<Lit, NoMemory>
 fn define_both(x: Lit, y: Lit, c: &mut Clauses) -> Result<Lit, NoMemory>
     requires left { (1 ≤ x.var) × (x.var ≤ c.old.variables) }
     requires right { (1 ≤ y.var) × (y.var ≤ c.old.variables) }
-    requires variables { c.old.variables + 1 < 2 ^ 32 }
-    requires numbered { length c.old.clauses + 3 < 2 ^ 32 }
     ensures output { IfOk result (λ t. t ≡ yes (suc c.old.variables)) }
     ensures variables { OnOk result (c.new.variables ≡ suc c.old.variables) }
     ensures clauses { OnOk result
         (c.new.clauses ≡ c.old.clauses ++ clauses_of (both_clauses (suc c.old.variables) x y)) }
-    ensures counted { OnOk result (length c.new.clauses ≤ length c.old.clauses + 3) }
     ensures kept { OnErr result (take (length c.old.clauses) c.new.clauses ≡ c.old.clauses) }
 {
-    let t = c.add_variable();
+    let t = c.add_variable()?;
     add_three(
         &[t.negated(), x],
         &[t.negated(), y],
@@ -116,16 +106,13 @@ fn define_both(x: Lit, y: Lit, c: &mut Clauses) -> Result<Lit, NoMemory>
 fn define_either(x: Lit, y: Lit, c: &mut Clauses) -> Result<Lit, NoMemory>
     requires left { (1 ≤ x.var) × (x.var ≤ c.old.variables) }
     requires right { (1 ≤ y.var) × (y.var ≤ c.old.variables) }
-    requires variables { c.old.variables + 1 < 2 ^ 32 }
-    requires numbered { length c.old.clauses + 3 < 2 ^ 32 }
     ensures output { IfOk result (λ t. t ≡ yes (suc c.old.variables)) }
     ensures variables { OnOk result (c.new.variables ≡ suc c.old.variables) }
     ensures clauses { OnOk result
         (c.new.clauses ≡ c.old.clauses ++ clauses_of (either_clauses (suc c.old.variables) x y)) }
-    ensures counted { OnOk result (length c.new.clauses ≤ length c.old.clauses + 3) }
     ensures kept { OnErr result (take (length c.old.clauses) c.new.clauses ≡ c.old.clauses) }
 {
-    let t = c.add_variable();
+    let t = c.add_variable()?;
     add_three(
         &[t, x.negated()],
         &[t, y.negated()],
@@ -139,16 +126,13 @@ fn define_either(x: Lit, y: Lit, c: &mut Clauses) -> Result<Lit, NoMemory>
 fn define_if_then(x: Lit, y: Lit, c: &mut Clauses) -> Result<Lit, NoMemory>
     requires left { (1 ≤ x.var) × (x.var ≤ c.old.variables) }
     requires right { (1 ≤ y.var) × (y.var ≤ c.old.variables) }
-    requires variables { c.old.variables + 1 < 2 ^ 32 }
-    requires numbered { length c.old.clauses + 3 < 2 ^ 32 }
     ensures output { IfOk result (λ t. t ≡ yes (suc c.old.variables)) }
     ensures variables { OnOk result (c.new.variables ≡ suc c.old.variables) }
     ensures clauses { OnOk result
         (c.new.clauses ≡ c.old.clauses ++ clauses_of (if_then_clauses (suc c.old.variables) x y)) }
-    ensures counted { OnOk result (length c.new.clauses ≤ length c.old.clauses + 3) }
     ensures kept { OnErr result (take (length c.old.clauses) c.new.clauses ≡ c.old.clauses) }
 {
-    let t = c.add_variable();
+    let t = c.add_variable()?;
     add_three(
         &[t, x],
         &[t, y.negated()],
@@ -163,11 +147,9 @@ fn add_three(first: &[Lit], second: &[Lit], third: &[Lit], c: &mut Clauses) -> R
     requires first { AreInRange c.old.variables first.now }
     requires second { AreInRange c.old.variables second.now }
     requires third { AreInRange c.old.variables third.now }
-    requires numbered { length c.old.clauses + 3 < 2 ^ 32 }
     ensures variables { c.new.variables ≡ c.old.variables }
     ensures clauses { OnOk result
         (c.new.clauses ≡ c.old.clauses ++ clauses_of (first.now ∷ second.now ∷ third.now ∷ [])) }
-    ensures counted { OnOk result (length c.new.clauses ≤ length c.old.clauses + 3) }
     ensures kept { OnErr result (take (length c.old.clauses) c.new.clauses ≡ c.old.clauses) }
 {
     c.append(first)?;

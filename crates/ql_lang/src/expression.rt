@@ -51,8 +51,7 @@ impl Exprs {
     }
 
     pub fn into_items(self) -> Vec<Expr>
-        ensures same { result.items ≡ arguments self }
-        ensures operands { operands_of result.items ≡ operands_in self }
+        ensures { result.items ≡ arguments self }
     {
         self.items
     }

@@ -7,16 +7,9 @@ use Rattle.ql_cnf.proofs.tseitin.+define.Goals as goal
 pub define-requires-in-And : goal.define-requires-in-And
 define-requires-in-And t c =
     let parts = rw c.in-And.is at c.requires.leaves in
-    let sizes : gates (circuit_of c.args.g.now) ≡ suc (gates (circuit_of c.deref.result.now) + gates (circuit_of c.deref-in-And.result.now)) = rw (c.in-And.is, c.deref.ensures, c.deref-in-And.ensures) refl in
     let count : nodes (circuit_of c.args.g.now) ≡ suc (nodes (circuit_of c.deref.result.now) + nodes (circuit_of c.deref-in-And.result.now)) = rw (c.in-And.is, c.deref.ensures, c.deref-in-And.ensures) refl in (
       omega arith,
-      (
-        rw c.deref-in-And.ensures (inputs_more c.args.c.now.variables c.define.new.c.variables (circuit_of c.in-And.right.value) parts.1 (omega (arith, c.in_ok-x-in-And.ensures.variables))),
-        (
-          omega (arith, c.in_ok-x-in-And.ensures.variables),
-          omega (arith, c.in_ok-x-in-And.ensures.counted),
-        ),
-      ),
+      rw c.deref-in-And.ensures (inputs_more c.args.c.now.variables c.define.new.c.variables (circuit_of c.in-And.right.value) parts.1 (omega (arith, c.in_ok-x-in-And.ensures.variables))),
     )
 
 pub returns-in_ok-y-in-And-clause-clauses : goal.returns-in_ok-y-in-And-clause-clauses
@@ -33,16 +26,9 @@ returns-in_ok-y-in-And-clause-clauses t c = on_ok_weaker c.define_both.result
 pub define-requires-in-Or-2 : goal.define-requires-in-Or-2
 define-requires-in-Or-2 t c =
     let parts = rw c.in-Or.is at c.requires.leaves in
-    let sizes : gates (circuit_of c.args.g.now) ≡ suc (gates (circuit_of c.deref-in-Or.result.now) + gates (circuit_of c.deref-in-Or-2.result.now)) = rw (c.in-Or.is, c.deref-in-Or.ensures, c.deref-in-Or-2.ensures) refl in
     let count : nodes (circuit_of c.args.g.now) ≡ suc (nodes (circuit_of c.deref-in-Or.result.now) + nodes (circuit_of c.deref-in-Or-2.result.now)) = rw (c.in-Or.is, c.deref-in-Or.ensures, c.deref-in-Or-2.ensures) refl in (
       omega arith,
-      (
-        rw c.deref-in-Or-2.ensures (inputs_more c.args.c.now.variables c.define-in-Or.new.c.variables (circuit_of c.in-Or.right.value) parts.1 (omega (arith, c.in_ok-x-in-Or.ensures.variables))),
-        (
-          omega (arith, c.in_ok-x-in-Or.ensures.variables),
-          omega (arith, c.in_ok-x-in-Or.ensures.counted),
-        ),
-      ),
+      rw c.deref-in-Or-2.ensures (inputs_more c.args.c.now.variables c.define-in-Or.new.c.variables (circuit_of c.in-Or.right.value) parts.1 (omega (arith, c.in_ok-x-in-Or.ensures.variables))),
     )
 
 pub returns-in_ok-y-in-Or-clause-clauses : goal.returns-in_ok-y-in-Or-clause-clauses
@@ -59,16 +45,9 @@ returns-in_ok-y-in-Or-clause-clauses t c = on_ok_weaker c.define_either.result
 pub define-requires-in-Implies-2 : goal.define-requires-in-Implies-2
 define-requires-in-Implies-2 t c =
     let parts = rw c.in-Implies.is at c.requires.leaves in
-    let sizes : gates (circuit_of c.args.g.now) ≡ suc (gates (circuit_of c.deref-in-Implies.result.now) + gates (circuit_of c.deref-in-Implies-2.result.now)) = rw (c.in-Implies.is, c.deref-in-Implies.ensures, c.deref-in-Implies-2.ensures) refl in
     let count : nodes (circuit_of c.args.g.now) ≡ suc (nodes (circuit_of c.deref-in-Implies.result.now) + nodes (circuit_of c.deref-in-Implies-2.result.now)) = rw (c.in-Implies.is, c.deref-in-Implies.ensures, c.deref-in-Implies-2.ensures) refl in (
       omega arith,
-      (
-        rw c.deref-in-Implies-2.ensures (inputs_more c.args.c.now.variables c.define-in-Implies.new.c.variables (circuit_of c.in-Implies.right.value) parts.1 (omega (arith, c.in_ok-x-in-Implies.ensures.variables))),
-        (
-          omega (arith, c.in_ok-x-in-Implies.ensures.variables),
-          omega (arith, c.in_ok-x-in-Implies.ensures.counted),
-        ),
-      ),
+      rw c.deref-in-Implies-2.ensures (inputs_more c.args.c.now.variables c.define-in-Implies.new.c.variables (circuit_of c.in-Implies.right.value) parts.1 (omega (arith, c.in_ok-x-in-Implies.ensures.variables))),
     )
 
 pub returns-in_ok-y-in-Implies-clause-clauses : goal.returns-in_ok-y-in-Implies-clause-clauses
