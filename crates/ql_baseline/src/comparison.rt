@@ -2,7 +2,6 @@ ghost use Rattle.std.specs.Prelude.{◌≡◌, ◌<◌, ◌++◌, ◌^◌, ℕ, 
 ghost use Rattle.std.specs.List.{concat};
 ghost use Rattle.ql_classify.specs.Finding.{IsFinding};
 ghost use Rattle.ql_explanation.specs.Explanation.{AreFindings};
-ghost use Rattle.ql_ground.specs.SmallBodies.{HasSmallBodies};
 ghost use Rattle.ql_baseline.specs.Comparison.{BaselineSays, IsComparison, rise_of};
 
 use crate::format::Format;
@@ -39,7 +38,6 @@ pub fn compare(alloc: Global, source: &[u8], baseline: &[u8]) -> Result<(Status,
 
 // What became of the levels since this answer was stored.
 fn against(alloc: Global, t: &Typed, stored: &[Stored]) -> Result<(Status, Vec<u8>), NoMemory>
-    requires { HasSmallBodies t.now.program }
     ensures { IfOk result
         (λ answer. IsComparison t.now.program stored.now answer.0 answer.1.items) }
 {

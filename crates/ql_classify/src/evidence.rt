@@ -2,7 +2,6 @@
 ghost use Rattle.std.specs.Prelude.{◌≡◌, ◌<◌, ◌≤◌, [], ◌∷◌, length, IfOk, IfErr};
 ghost use Rattle.std.specs.List.{All};
 ghost use Rattle.ql_ground.specs.OfPrograms.{IsGoalOf};
-ghost use Rattle.ql_ground.specs.SmallBodies.{HasSmallBodies};
 ghost use Rattle.ql_typing.specs.Operations.{all_ops};
 ghost use Rattle.ql_classify.specs.Found.{IsAnswer, IsSearch};
 ghost use Rattle.ql_classify.specs.Outcome.{IsRefusal, OpHasLevel, TxnHasLevel};
@@ -38,7 +37,6 @@ enum Search {
 /// The least level of an operation.
 pub(crate) fn find_level(alloc: Global, t: &Typed, o: OpId) -> Result<(Level, Evidence), Classless>
     requires op { o.0 < length (all_ops t.now.program.types) }
-    requires small { HasSmallBodies t.now.program }
     ensures least { IfOk result (λ found. IsEvidence t.now.program (op_at o.0 found.0) found.1) }
     ensures none { IfErr result (IsRefusal t.now.program (OpHasLevel o.0 ∷ [])) }
 {
@@ -65,7 +63,6 @@ pub(crate) fn find_txn_level(
 ) -> Result<(TxnLevel, Evidence), Classless>
     requires txn { d.0 < length t.now.program.txns }
     requires few { length t.now.program.txns ≤ 16 }
-    requires small { HasSmallBodies t.now.program }
     ensures least { IfOk result (λ found. IsEvidence t.now.program (txn_at d.0 found.0) found.1) }
     ensures none { IfErr result (IsRefusal t.now.program (TxnHasLevel d.0 ∷ [])) }
 {
@@ -110,7 +107,6 @@ pub(crate) fn txn_level_above(lower: &[Assignment]) -> TxnLevel
 fn first_refuted(alloc: Global, t: &Typed, goals: &[Goal]) -> Result<Search, NoMemory>
     requires goals { All (IsGoalOf t.now.program) goals.now }
     requires some { 0 < length goals.now }
-    requires small { HasSmallBodies t.now.program }
     ensures { IfOk result (IsSearch t.now.program goals.now) }
 {
     let mut lower = Vec::new(alloc);
@@ -127,7 +123,6 @@ fn first_refuted(alloc: Global, t: &Typed, goals: &[Goal]) -> Result<Search, NoM
 
 fn answer(alloc: Global, t: &Typed, goal: Goal) -> Result<Decided, NoMemory>
     requires goal { IsGoalOf t.now.program goal }
-    requires small { HasSmallBodies t.now.program }
     ensures { IfOk result (IsAnswer t.now.program goal) }
 {
     let clauses = problem(alloc, t, goal)?;

@@ -2,7 +2,6 @@
 ghost use Rattle.std.specs.Prelude.{◌<◌, ◌+◌, ◌≤◌, IfOk, length};
 ghost use Rattle.std.specs.List.{AllZip};
 ghost use Rattle.ql_ground.specs.declared.goal.Goal.TheVariants.{OpAt, TxnAt};
-ghost use Rattle.ql_ground.specs.SmallBodies.{HasSmallBodies};
 ghost use Rattle.ql_lang.specs.declared.program.Program.{Program};
 ghost use Rattle.ql_levels.specs.declared.level.Level.{Level};
 ghost use Rattle.ql_levels.specs.declared.level.TxnLevel.{TxnLevel};
@@ -41,7 +40,6 @@ pub enum Finding {
 /// transaction uses.
 pub fn find_target(alloc: Global, t: &Typed, target: u32) -> Result<Finding, NoMemory>
     requires target { target < targets t.now.program }
-    requires small { HasSmallBodies t.now.program }
     ensures { IfOk result (IsFinding t.now.program target) }
 {
     if target < t.ops() {
@@ -55,7 +53,6 @@ pub fn find_target(alloc: Global, t: &Typed, target: u32) -> Result<Finding, NoM
 
 fn find_op(alloc: Global, t: &Typed, o: OpId) -> Result<Finding, NoMemory>
     requires op { o.0 < length (all_ops t.now.program.types) }
-    requires small { HasSmallBodies t.now.program }
     ensures { IfOk result (IsFinding t.now.program o.0) }
 {
     match find_level(alloc, t, o) {
@@ -88,7 +85,6 @@ fn last_of_op(o: OpId, mut lower: Vec<Assignment>) -> Option<Unmet>
 fn find_txn(alloc: Global, t: &Typed, d: DeclId) -> Result<Finding, NoMemory>
     requires txn { d.0 < length t.now.program.txns }
     requires few { length t.now.program.txns ≤ 16 }
-    requires small { HasSmallBodies t.now.program }
     ensures { IfOk result (IsFinding t.now.program (length (all_ops t.now.program.types) + d.0)) }
 {
     match find_txn_level(alloc, t, d) {

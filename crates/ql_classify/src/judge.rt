@@ -1,6 +1,5 @@
 ghost use Rattle.std.specs.Prelude.{◌≡◌, ◌<◌, ◌≤◌, length, IfErr, IfOk, OnOk};
 ghost use Rattle.std.specs.List.{All, AllZip};
-ghost use Rattle.ql_ground.specs.SmallBodies.{HasSmallBodies};
 ghost use Rattle.ql_typing.specs.Operations.{all_ops};
 ghost use Rattle.ql_classify.specs.Outcome.{IsAccepted, IsRefusal, Passes, all_tests, op_tests, txn_tests, every_txn_tests};
 ghost use Rattle.ql_classify.specs.Targets.{AreOpLevels, IsEvidence, ops_from, txn_at, txns_from};
@@ -20,7 +19,6 @@ use std::alloc::Global;
 /// it uses, in the order in which it names them, and then its contract. The first that fails is reported. The
 /// time is that of the solver on at most four ground problems for an operation, and three for a transaction.
 pub fn classify<'a>(alloc: Global, t: &'a Typed) -> Result<Classified<'a>, Classless>
-    requires { HasSmallBodies t.now.program }
     ensures same { IfOk result (λ c. c.program ≡ t.now.program) }
 
     // Levels are returned only if each target has a level and no transaction uses a strong operation.
@@ -37,7 +35,6 @@ pub fn classify<'a>(alloc: Global, t: &'a Typed) -> Result<Classified<'a>, Class
 
 // The levels of the operations, with their evidence.
 fn judge_ops(alloc: Global, t: &Typed) -> Result<(Vec<Level>, Vec<Evidence>), Classless>
-    requires { HasSmallBodies t.now.program }
     ensures count { IfOk result
         (λ found. length found.0.items ≡ length (all_ops t.now.program.types)) }
     ensures evidence { IfOk result
@@ -61,7 +58,6 @@ fn judge_txns(
     ops: &[Level],
 ) -> Result<(Vec<TxnLevel>, Vec<Evidence>), Classless>
     requires levels { AreOpLevels t.now.program ops.now }
-    requires small { HasSmallBodies t.now.program }
     ensures count { IfOk result (λ found. length found.0.items ≡ length t.now.program.txns) }
     ensures evidence { IfOk result
         (λ found. AllZip (IsEvidence t.now.program) (txns_from 0 found.0.items) found.1.items) }
@@ -87,7 +83,6 @@ fn judge_txn(
     requires txn { d.0 < length t.now.program.txns }
     requires few { length t.now.program.txns ≤ 16 }
     requires levels { AreOpLevels t.now.program ops.now }
-    requires small { HasSmallBodies t.now.program }
     ensures evidence { IfOk result
         (λ found. IsEvidence t.now.program (txn_at d.0 found.0) found.1) }
     ensures passed { OnOk result (All (Passes t.now.program) (txn_tests t.now.program d.0)) }

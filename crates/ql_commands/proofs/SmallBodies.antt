@@ -23,7 +23,7 @@ use Rattle.ql_typing.specs.ContractFaults.{var_names}
 use Rattle.ql_typing.specs.Faults.{names_met}
 use Rattle.ql_typing.specs.Resolved.{statement_in, resolved_in, term_of}
 use Rattle.ql_ground.specs.Bodies.{holds, constant_of, relation_circuit, grouped, all_of, other_circuits, txn_circuit, body_circuit}
-use Rattle.ql_ground.specs.SmallBodies.{IsBodyWithin, AreBodiesWithin, HasSmallBodies}
+use Rattle.ql_ground.specs.SmallBodies.{IsBodyWithin, AreBodiesWithin}
 use Rattle.ql_printed.specs.Printed.{relation_nodes, prop_nodes}
 use Rattle.ql_printed.specs.PrintedPrograms.{EachOfOperation, EachOfType, EachOfTransaction, HasFewNodes, expression_nodes}
 
@@ -128,10 +128,4 @@ pub program_few : (p : Program) → HasFewNodes (source_of p) → AreBodiesWithi
 program_few p few = record {
   ops = ops_small (op_words p.types) (all_ops p.types) (ops_few (λ e. expression_nodes e ≤ MAX_NODES) p.types few.0);
   txns = txns_small (op_words p.types) p.txns (txns_few (λ e. expression_nodes e ≤ MAX_NODES) p.txns few.1);
-}
-
-pub program_small : (p : Program) → AreBodiesWithin MAX_BODY_VARIABLES p → HasSmallBodies p
-program_small p few = record {
-  ops = λ o f is s. omega (arith, few.ops o f is s);
-  txns = λ d f is s. omega (arith, few.txns d f is s);
 }

@@ -1,5 +1,4 @@
 ghost use Rattle.std.specs.Prelude.{◌<◌, ◌^◌, length, IfOk};
-ghost use Rattle.ql_ground.specs.SmallBodies.{HasSmallBodies};
 ghost use Rattle.ql_commands.specs.Check.{CheckSays, SectionsSay};
 
 use crate::cert_fault::bad_certificate;
@@ -39,7 +38,6 @@ fn check_sections(
     t: &Typed,
     sections: &[Section],
 ) -> Result<(Status, Vec<u8>), NoMemory>
-    requires { HasSmallBodies t.now.program }
     ensures { IfOk result
         (λ answer. SectionsSay t.now.program sections.now answer.0 answer.1.items) }
 {

@@ -1,7 +1,6 @@
 // The sections of a certificate, each checked against the ground problem of its own target.
 ghost use Rattle.std.specs.Prelude.{◌≡◌, ◌≤◌, ◌+◌, ◌++◌, ℕ, List, IfOk, OnOk, length, slice_get, Some};
 ghost use Rattle.ql_ground.specs.OfPrograms.{IsGoalOf};
-ghost use Rattle.ql_ground.specs.SmallBodies.{HasSmallBodies};
 ghost use Rattle.ql_commands.specs.Check.{Reports, goal_of, refusal_end, section_text, target_of, expected_targets, verdict_text};
 ghost use Rattle.ql_commands.specs.Judging.{AreExpectedFrom, IsVerdictOn};
 
@@ -24,7 +23,6 @@ pub(crate) fn push_sections(
 ) -> Result<Status, NoMemory>
     requires expected { AreExpectedFrom t.now.program place sections.now }
     requires few { place + length sections.now ≤ 48 }
-    requires small { HasSmallBodies t.now.program }
     ensures { IfOk result
         (λ status. (text : List ℕ) × Reports t.now.program place sections.now status text
         × (out.new.items ≡ out.old.items ++ text)) }
@@ -62,7 +60,6 @@ fn verdict_on(
     refutation: &Refutation,
 ) -> Result<Verdict, NoMemory>
     requires goal { IsGoalOf t.now.program goal }
-    requires small { HasSmallBodies t.now.program }
     ensures { IfOk result (IsVerdictOn t.now.program goal refutation.now.lines) }
 {
     let clauses = problem(alloc, t, goal)?;

@@ -1,6 +1,6 @@
 ghost use Rattle.std.specs.Prelude.{◌<◌, ◌^◌, ℕ, List, length, IfErr, IfOk};
 ghost use Rattle.ql_base.specs.declared.limits.TheConstants.{MAX_BODY_VARIABLES};
-ghost use Rattle.ql_ground.specs.SmallBodies.{AreBodiesWithin, HasSmallBodies};
+ghost use Rattle.ql_ground.specs.SmallBodies.{AreBodiesWithin};
 ghost use Rattle.ql_lang.specs.declared.program.Program.{Program};
 ghost use Rattle.ql_commands.specs.Sources.{DeniesSource, IsSourceFault, IsSourceOf};
 ghost use Rattle.ql_commands.specs.declared.source_fault.SourceFault.{SourceFault};
@@ -15,7 +15,7 @@ use std::alloc::Global;
 pub fn read_source(alloc: Global, bytes: &[u8]) -> Result<Typed, SourceFault>
     requires { length bytes.now < 2 ^ 32 }
     ensures source { IfOk result (λ t. IsSourceOf bytes.now t.program) }
-    ensures small { IfOk result (λ t. HasSmallBodies t.program) }
+    ensures small { IfOk result (λ t. AreBodiesWithin MAX_BODY_VARIABLES t.program) }
     ensures fault { IfErr result (IsSourceFault bytes.now) }
     ensures none { IfErr result (DeniesSource bytes.now) }
 {
@@ -40,9 +40,8 @@ fn faults_deny_sources()
 
 /// The law that the circuit of each contract of a source's program has at most 256 gates.
 fn sources_have_small_bodies()
-    ensures few { (bytes : List ℕ) (p : Program) → IsSourceOf bytes p
+    ensures { (bytes : List ℕ) (p : Program) → IsSourceOf bytes p
         → AreBodiesWithin MAX_BODY_VARIABLES p }
-    ensures small { (bytes : List ℕ) (p : Program) → IsSourceOf bytes p → HasSmallBodies p }
 {
     source_printed_again();
 }

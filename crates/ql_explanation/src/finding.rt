@@ -1,6 +1,5 @@
 // What is found of each target.
 ghost use Rattle.std.specs.Prelude.{◌≡◌, ◌<◌, IfOk, Some, length, slice_get};
-ghost use Rattle.ql_ground.specs.SmallBodies.{HasSmallBodies};
 ghost use Rattle.ql_explanation.specs.Explanation.{AreFindings};
 
 use ql_base::NoMemory;
@@ -10,7 +9,6 @@ use std::alloc::Global;
 
 /// The finding of each target: the operations in order, and then the transactions in order.
 pub fn findings(alloc: Global, t: &Typed) -> Result<Vec<Finding>, NoMemory>
-    requires { HasSmallBodies t.now.program }
     ensures { IfOk result (λ found. AreFindings t.now.program found.items) }
 {
     let mut found = Vec::new(alloc);

@@ -12,7 +12,6 @@ use Rattle.ql_typing.specs.WellFormed.{AreBelow}
 use Rattle.ql_ground.specs.Rules.{Rule}
 use Rattle.ql_base.specs.Ranges.{upto}
 use Rattle.ql_ground.specs.Ground.{choices, instances, all_instances}
-use Rattle.ql_ground.specs.Parts.{most_instances}
 
 pub then : (old mid new a b : List (List Lit)) → mid ≡ old ++ clauses_of a → new ≡ mid ++ clauses_of b → new ≡ old ++ clauses_of (a ++ b)
 then old mid new a b h g =
@@ -71,16 +70,6 @@ pub mapped_more : {X Y Z : Type 0} (f : Y → Z) (g : X → Y) (start mid new : 
 mapped_more f g start mid new xs i d l h e =
     e ∙ ap (λ p. p ++ f (g (get_or xs i d)) ∷ []) h ∙ append_assoc start (map f (map g (take i xs))) (f (g (get_or xs i d)) ∷ [])
     ∙ ap (λ p. start ++ p) (sym (map-append f (map g (take i xs)) (g (get_or xs i d) ∷ [])) ∙ ap (λ p. map f p) (sym (map_more g xs i d l)))
-
-pub pow_next : (n places depth : ℕ) → depth < places → n ^ (places - depth) ≡ n ^ (places - (depth + 1)) * n
-pow_next n places depth l = ap (λ e. n ^ e) (omega arith) ∙ pow-suc n (places - (depth + 1))
-
--- room for one more choice of a place
-pub room_next : (n k rest : ℕ) → k < n → k * rest + rest ≤ rest * n
-room_next n k rest l = omega (arith, suc-mul k rest, mul-le-mul_right {m = suc k} {n = n} rest (omega arith), mul_comm n rest)
-
-pub few_choices : (n places : ℕ) → n ≤ 6 → places ≤ 4 → n ^ places ≤ most_instances
-few_choices n places few p = omega (arith, pow-le-pow_left few places, pow-le-pow_right {n = 6} (omega arith) p)
 
 -- one more constant for a place
 pub choices_more : (n places depth k : ℕ) (f : List ℕ → List (List Lit)) (chosen : List ℕ) (old mid new : List (List Lit)) → depth < length chosen → mid ≡ old ++ clauses_of (upto k (λ first. from n (places - (depth + 1)) f (take depth chosen ++ first ∷ []))) → new ≡ mid ++ clauses_of (from n (places - (depth + 1)) f (take (depth + 1) (set chosen depth k))) → new ≡ old ++ clauses_of (upto (k + 1) (λ first. from n (places - (depth + 1)) f (take depth chosen ++ first ∷ [])))

@@ -22,14 +22,6 @@ use Rattle.ql_base.specs.Ranges.{upto}
 use Rattle.ql_base.specs.Ids.{op}
 use Rattle.ql_ground.specs.Ground.{at, implication, instances, all_instances, alike_operations, axioms, all_variable_operations}
 
--- the most clauses of one rule: each of 4 places has one of at most 6 constants
-abbrev pub most_instances : ℕ
-most_instances = 1296
-
--- the most clauses of a problem before its body is denied
-abbrev pub most_ground_clauses : ℕ
-most_ground_clauses = 200000
-
 -- the literal of an atom, or of its negation
 abbrev pub literal_of : Size → Bool → Atom → Lit
 literal_of s positive a = record { var = number_of s a; positive = positive }

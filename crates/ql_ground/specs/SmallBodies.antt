@@ -1,5 +1,5 @@
 -- Contracts that are small, as those of a program that was read are.
-use Rattle.std.specs.Prelude.{◌≡◌, ◌≤◌, ◌^◌, ℕ, Some, slice_get}
+use Rattle.std.specs.Prelude.{◌≡◌, ◌≤◌, ℕ, Some, slice_get}
 use Rattle.ql_atoms.specs.Atoms.{Size}
 use Rattle.ql_cnf.specs.Circuits.{gates}
 use Rattle.ql_lang.specs.Formulas.{Resolved, Statement}
@@ -15,10 +15,3 @@ IsBodyWithin most body = (s : Size) → gates (body_circuit s body) ≤ most
 pub record AreBodiesWithin (most : ℕ) (p : Program) : Type 0 where
   pub ops : (o : ℕ) (f : Resolved) → slice_get (op_contracts p.types) o ≡ Some f → IsBodyWithin most f.body
   pub txns : (d : ℕ) (f : Resolved) → slice_get (txn_contracts p) d ≡ Some f → IsBodyWithin most f.body
-
--- so few that the clauses of a problem, of which each gate has at most three, number fewer than 2^32
-abbrev pub IsSmall : Statement → Type 0
-IsSmall body = IsBodyWithin (2 ^ 30) body
-
-abbrev pub HasSmallBodies : Program → Type 0
-HasSmallBodies p = AreBodiesWithin (2 ^ 30) p

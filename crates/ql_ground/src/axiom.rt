@@ -2,7 +2,7 @@ ghost use Rattle.std.specs.Prelude.{◌≡◌, ◌+◌, ◌*◌, ◌^◌, ◌<�
 ghost use Rattle.ql_atoms.specs.Atoms.{size_of, count_of};
 ghost use Rattle.ql_cnf.specs.Circuits.{clauses_of};
 ghost use Rattle.ql_ground.specs.Ground.{instances, all_instances};
-ghost use Rattle.ql_ground.specs.Parts.{axiom_of, transaction_axiom_of, most_instances};
+ghost use Rattle.ql_ground.specs.Parts.{axiom_of, transaction_axiom_of};
 
 use crate::rule::{I, J, K, Rule, add_rule};
 use ql_atoms::Atom::{Current, Pair};
@@ -57,13 +57,10 @@ pub(crate) fn add_axioms(
     c: &mut Clauses,
 ) -> Result<(), NoMemory>
     requires variables { c.old.variables ≡ count_of (size_of s) }
-    requires room { length c.old.clauses + length names.now * most_instances < 2 ^ 32 }
     ensures variables { c.new.variables ≡ c.old.variables }
     ensures clauses { OnOk result
         (c.new.clauses ≡ c.old.clauses
         ++ clauses_of (all_instances (size_of s) (map axiom_of names.now))) }
-    ensures counted { OnOk result
-        (length c.new.clauses ≤ length c.old.clauses + length names.now * most_instances) }
 {
     for name in names {
         add_axiom(alloc, *name, s, c)?;
@@ -79,11 +76,9 @@ pub(crate) fn add_axiom(
     c: &mut Clauses,
 ) -> Result<(), NoMemory>
     requires variables { c.old.variables ≡ count_of (size_of s) }
-    requires room { length c.old.clauses + most_instances < 2 ^ 32 }
     ensures variables { c.new.variables ≡ c.old.variables }
     ensures clauses { OnOk result
         (c.new.clauses ≡ c.old.clauses ++ clauses_of (instances (size_of s) (axiom_of name))) }
-    ensures counted { OnOk result (length c.new.clauses ≤ length c.old.clauses + most_instances) }
 {
     match name {
         Axiom::Reflexive(r) => add_rule(alloc, &Rule::over(1, &[], &[Pair(r, I, I)]), s, c),
@@ -134,12 +129,10 @@ fn add_transaction_axiom(
     c: &mut Clauses,
 ) -> Result<(), NoMemory>
     requires variables { c.old.variables ≡ count_of (size_of s) }
-    requires room { length c.old.clauses + most_instances < 2 ^ 32 }
     ensures variables { c.new.variables ≡ c.old.variables }
     ensures clauses { OnOk result
         (c.new.clauses ≡ c.old.clauses
         ++ clauses_of (instances (size_of s) (transaction_axiom_of name))) }
-    ensures counted { OnOk result (length c.new.clauses ≤ length c.old.clauses + most_instances) }
 {
     match name {
         TransactionAxiom::AlikeCurrent => {

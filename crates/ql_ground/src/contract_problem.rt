@@ -6,8 +6,7 @@ ghost use Rattle.ql_lang.specs.Formulas.{resolved_of, statement_of};
 ghost use Rattle.ql_ground.specs.Bodies.{body_circuit};
 ghost use Rattle.ql_ground.specs.Ground as groups;
 ghost use Rattle.ql_ground.specs.Implication.{IsContractOf, Implies, ImpliesTxn};
-ghost use Rattle.ql_ground.specs.Parts.{OverConstants, most_ground_clauses};
-ghost use Rattle.ql_ground.specs.SmallBodies.{IsSmall};
+ghost use Rattle.ql_ground.specs.Parts.{OverConstants};
 
 use crate::body::ground_body;
 use crate::goal_groups::{add_op_groups, add_txn_groups};
@@ -32,7 +31,6 @@ pub(crate) fn op_problem(
     requires operation { o.0 < length types.now }
     requires few_variables { length f.now.vars ≤ 5 }
     requires contract { IsContractOf types.now true (resolved_of f.now) }
-    requires small { IsSmall (statement_of f.now.body) }
 
     // The clauses are those of the goal, in their order.
     ensures list { IfOk result
@@ -63,7 +61,6 @@ pub(crate) fn txn_problem(
     requires few_operations { length types.now ≤ 32 }
     requires few_variables { length f.now.vars ≤ 5 }
     requires contract { IsContractOf types.now false (resolved_of f.now) }
-    requires small { IsSmall (statement_of f.now.body) }
     ensures list { IfOk result (λ c. c ≡ groups.txn_problem types.now level (resolved_of f.now)) }
     ensures sound { IfOk result
         (λ c. IsUnsatisfiable c → ImpliesTxn types.now level (resolved_of f.now)) }
@@ -81,8 +78,7 @@ pub(crate) fn txn_problem(
 
 // How many atoms a shape has.
 fn atoms(s: Shape) -> u32
-    ensures value { result ≡ count_of (size_of s) }
-    ensures few { result ≤ 450 }
+    ensures { result ≡ count_of (size_of s) }
 {
     let n = s.constants;
     7 * (n * n) + n + s.operations * n
@@ -94,9 +90,6 @@ fn deny(alloc: Global, body: &Body, s: Shape, c: &mut Clauses) -> Result<(), NoM
     requires leaves { InputsInRange (count_of (size_of s))
         (body_circuit (size_of s) (statement_of body.now)) }
     requires variables { c.old.variables ≡ count_of (size_of s) }
-    requires few { count_of (size_of s) ≤ 450 }
-    requires room { length c.old.clauses ≤ most_ground_clauses }
-    requires small { gates (body_circuit (size_of s) (statement_of body.now)) ≤ 2 ^ 30 }
     ensures variables { OnOk result
         (c.new.variables ≡ count_of (size_of s)
         + gates (body_circuit (size_of s) (statement_of body.now))) }

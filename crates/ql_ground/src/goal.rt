@@ -2,7 +2,6 @@ ghost use Rattle.std.specs.Prelude.{◌≡◌, ◌≤◌, length, IfOk};
 ghost use Rattle.ql_cnf.specs.Satisfaction.{IsUnsatisfiable};
 ghost use Rattle.ql_typing.specs.Operations.{op_kinds};
 ghost use Rattle.ql_ground.specs.OfPrograms.{IsGoalOf, IsProblemOf, IsImplied};
-ghost use Rattle.ql_ground.specs.SmallBodies.{HasSmallBodies};
 
 use crate::contract_problem::{op_problem, txn_problem};
 use ql_base::{DeclId, NoMemory, OpId};
@@ -22,7 +21,6 @@ pub enum Goal {
 /// guarantees could hold where the contract is false.
 pub fn problem(alloc: Global, t: &Typed, g: Goal) -> Result<Clauses, NoMemory>
     requires goal { IsGoalOf t.now.program g }
-    requires small { HasSmallBodies t.now.program }
 
     // The clauses are the written ones, in their order.
     ensures list { IfOk result (λ c. IsProblemOf t.now.program g c) }

@@ -3,7 +3,7 @@ ghost use Rattle.ql_atoms.specs.Atoms.{size_of, count_of};
 ghost use Rattle.ql_cnf.specs.Circuits.{clauses_of};
 ghost use Rattle.ql_typing.specs.WellFormed.{AreChoicesOf};
 ghost use Rattle.ql_ground.specs.Ground as groups;
-ghost use Rattle.ql_ground.specs.Parts.{op_groups, txn_groups, relation_axioms, most_ground_clauses, most_instances};
+ghost use Rattle.ql_ground.specs.Parts.{op_groups, txn_groups, relation_axioms};
 
 use crate::axiom::Axiom::Transaction;
 use crate::axiom::TransactionAxiom::AlikeCurrent;
@@ -36,13 +36,10 @@ pub(crate) fn add_op_groups(
     requires choices { AreChoicesOf s.operations variables.now }
     requires few { length variables.now ≤ s.constants }
     requires variables { c.old.variables ≡ count_of (size_of s) }
-    requires room { length c.old.clauses + most_ground_clauses < 2 ^ 32 }
     ensures variables { c.new.variables ≡ c.old.variables }
     ensures clauses { OnOk result
         (c.new.clauses ≡ c.old.clauses
         ++ clauses_of (op_groups types.now goal.0.0 goal.1 variables.now (size_of s))) }
-    ensures counted { OnOk result
-        (length c.new.clauses ≤ length c.old.clauses + most_ground_clauses) }
 {
     let (o, level) = goal;
     add_axioms(alloc, &EQUALITY, s, c)?;
@@ -66,13 +63,10 @@ pub(crate) fn add_txn_groups(
     requires choices { AreChoicesOf s.operations variables.now }
     requires few { length variables.now ≤ s.constants }
     requires variables { c.old.variables ≡ count_of (size_of s) }
-    requires room { length c.old.clauses + most_ground_clauses < 2 ^ 32 }
     ensures variables { c.new.variables ≡ c.old.variables }
     ensures clauses { OnOk result
         (c.new.clauses ≡ c.old.clauses
         ++ clauses_of (txn_groups types.now level variables.now (size_of s))) }
-    ensures counted { OnOk result
-        (length c.new.clauses ≤ length c.old.clauses + most_ground_clauses) }
 {
     add_axioms(alloc, &EQUALITY, s, c)?;
     add_alike_operations(alloc, s, c)?;
@@ -92,11 +86,9 @@ fn add_execution_axioms(
 ) -> Result<(), NoMemory>
     requires types { length types.now ≡ s.operations }
     requires variables { c.old.variables ≡ count_of (size_of s) }
-    requires room { length c.old.clauses + 100000 < 2 ^ 32 }
     ensures variables { c.new.variables ≡ c.old.variables }
     ensures clauses { OnOk result
         (c.new.clauses ≡ c.old.clauses ++ clauses_of (groups.axioms types.now (size_of s))) }
-    ensures counted { OnOk result (length c.new.clauses ≤ length c.old.clauses + 100000) }
 {
     add_relations(alloc, s, c)?;
     add_some_operation(alloc, s, c)?;
@@ -107,12 +99,9 @@ fn add_execution_axioms(
 // The axioms of executions on session order, objects and happens-before.
 fn add_relations(alloc: Global, s: Shape, c: &mut Clauses) -> Result<(), NoMemory>
     requires variables { c.old.variables ≡ count_of (size_of s) }
-    requires room { length c.old.clauses + 16 * most_instances < 2 ^ 32 }
     ensures variables { c.new.variables ≡ c.old.variables }
     ensures clauses { OnOk result
         (c.new.clauses ≡ c.old.clauses ++ clauses_of (relation_axioms (size_of s))) }
-    ensures counted { OnOk result
-        (length c.new.clauses ≤ length c.old.clauses + 16 * most_instances) }
 {
     add_axioms(alloc, &SESSION_ORDER, s, c)?;
     add_axioms(alloc, &OBJECTS, s, c)?;

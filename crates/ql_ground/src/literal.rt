@@ -23,10 +23,8 @@ pub(crate) fn literal(a: Atom, positive: bool, s: Shape) -> Lit
 // Appends the clause of these literals, unless they hold both signs of an atom.
 pub(crate) fn add_clause(lits: &[Lit], c: &mut Clauses) -> Result<(), NoMemory>
     requires in_range { AreInRange c.old.variables lits.now }
-    requires room { length c.old.clauses + 1 < 2 ^ 32 }
     ensures variables { c.new.variables ≡ c.old.variables }
     ensures clauses { OnOk result (c.new.clauses ≡ c.old.clauses ++ clauses_of (lits.now ∷ [])) }
-    ensures counted { OnOk result (length c.new.clauses ≤ length c.old.clauses + 1) }
 {
     c.add(lits)?;
     Ok(())

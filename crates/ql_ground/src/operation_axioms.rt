@@ -8,7 +8,7 @@ ghost use Rattle.ql_base.specs.Ids.{op};
 ghost use Rattle.ql_ground.specs.Ground.{implication};
 ghost use Rattle.ql_ground.specs.Ground as groups;
 ghost use Rattle.ql_ground.specs.Bodies.{current_effect};
-ghost use Rattle.ql_ground.specs.Parts.{not_both, not_another, one_operation_of, other_type, other_types, one_type_between, one_type_from, most_instances};
+ghost use Rattle.ql_ground.specs.Parts.{not_both, not_another, one_operation_of, other_type, other_types, one_type_between, one_type_from};
 ghost use Rattle.ql_typing.specs.WellFormed.{AreBelow, AreChoicesOf};
 
 use crate::literal::{add_clause, literal};
@@ -22,12 +22,9 @@ use std::alloc::Global;
 // Equal effects are of one operation.
 pub(crate) fn add_alike_operations(alloc: Global, s: Shape, c: &mut Clauses) -> Result<(), NoMemory>
     requires variables { c.old.variables ≡ count_of (size_of s) }
-    requires room { length c.old.clauses + 32 * most_instances < 2 ^ 32 }
     ensures variables { c.new.variables ≡ c.old.variables }
     ensures clauses { OnOk result
         (c.new.clauses ≡ c.old.clauses ++ clauses_of (groups.alike_operations (size_of s))) }
-    ensures counted { OnOk result
-        (length c.new.clauses ≤ length c.old.clauses + 32 * most_instances) }
 {
     for o in 0..s.operations {
         let equal = [Atom::Pair(PairKind::Eq, I, J), Atom::Is(OpId(o), I)];
@@ -39,11 +36,9 @@ pub(crate) fn add_alike_operations(alloc: Global, s: Shape, c: &mut Clauses) -> 
 // Each effect has an operation.
 pub(crate) fn add_some_operation(alloc: Global, s: Shape, c: &mut Clauses) -> Result<(), NoMemory>
     requires variables { c.old.variables ≡ count_of (size_of s) }
-    requires room { length c.old.clauses + 6 < 2 ^ 32 }
     ensures variables { c.new.variables ≡ c.old.variables }
     ensures clauses { OnOk result
         (c.new.clauses ≡ c.old.clauses ++ clauses_of (groups.some_operation (size_of s))) }
-    ensures counted { OnOk result (length c.new.clauses ≤ length c.old.clauses + 6) }
 {
     let mut lits = Vec::with_capacity(alloc, s.operations as usize)?;
     for i in 0..s.constants {
@@ -71,11 +66,9 @@ fn push_operations(i: u32, s: Shape, lits: &mut Vec<Lit>) -> Result<(), NoMemory
 // No effect has two operations.
 pub(crate) fn add_one_operation(s: Shape, c: &mut Clauses) -> Result<(), NoMemory>
     requires variables { c.old.variables ≡ count_of (size_of s) }
-    requires room { length c.old.clauses + 6 * 1024 < 2 ^ 32 }
     ensures variables { c.new.variables ≡ c.old.variables }
     ensures clauses { OnOk result
         (c.new.clauses ≡ c.old.clauses ++ clauses_of (groups.one_operation (size_of s))) }
-    ensures counted { OnOk result (length c.new.clauses ≤ length c.old.clauses + 6 * 1024) }
 {
     for i in 0..s.constants {
         add_one_operation_of(i, s, c)?;
@@ -86,11 +79,9 @@ pub(crate) fn add_one_operation(s: Shape, c: &mut Clauses) -> Result<(), NoMemor
 fn add_one_operation_of(i: u32, s: Shape, c: &mut Clauses) -> Result<(), NoMemory>
     requires constant { i < s.constants }
     requires variables { c.old.variables ≡ count_of (size_of s) }
-    requires room { length c.old.clauses + 1024 < 2 ^ 32 }
     ensures variables { c.new.variables ≡ c.old.variables }
     ensures clauses { OnOk result
         (c.new.clauses ≡ c.old.clauses ++ clauses_of (one_operation_of (size_of s) i)) }
-    ensures counted { OnOk result (length c.new.clauses ≤ length c.old.clauses + 1024) }
 {
     for o in 0..s.operations {
         add_not_another(i, o, s, c)?;
@@ -103,11 +94,9 @@ fn add_not_another(i: u32, o: u32, s: Shape, c: &mut Clauses) -> Result<(), NoMe
     requires constant { i < s.constants }
     requires operation { o < s.operations }
     requires variables { c.old.variables ≡ count_of (size_of s) }
-    requires room { length c.old.clauses + 32 < 2 ^ 32 }
     ensures variables { c.new.variables ≡ c.old.variables }
     ensures clauses { OnOk result
         (c.new.clauses ≡ c.old.clauses ++ clauses_of (not_another (size_of s) i o)) }
-    ensures counted { OnOk result (length c.new.clauses ≤ length c.old.clauses + 32) }
 {
     for p in 0..s.operations {
         add_not_both(i, o, p, s, c)?;
@@ -120,11 +109,9 @@ fn add_not_both(i: u32, o: u32, p: u32, s: Shape, c: &mut Clauses) -> Result<(),
     requires constant { i < s.constants }
     requires operations { (o < s.operations) × (p < s.operations) }
     requires variables { c.old.variables ≡ count_of (size_of s) }
-    requires room { length c.old.clauses + 1 < 2 ^ 32 }
     ensures variables { c.new.variables ≡ c.old.variables }
     ensures clauses { OnOk result
         (c.new.clauses ≡ c.old.clauses ++ clauses_of (not_both (size_of s) i o p)) }
-    ensures counted { OnOk result (length c.new.clauses ≤ length c.old.clauses + 1) }
 {
     if o < p {
         let is_first = literal(Atom::Is(OpId(o), i), false, s);
@@ -138,11 +125,9 @@ fn add_not_both(i: u32, o: u32, p: u32, s: Shape, c: &mut Clauses) -> Result<(),
 pub(crate) fn add_one_type(types: &[u32], s: Shape, c: &mut Clauses) -> Result<(), NoMemory>
     requires types { length types.now ≡ s.operations }
     requires variables { c.old.variables ≡ count_of (size_of s) }
-    requires room { length c.old.clauses + 36 * 1024 < 2 ^ 32 }
     ensures variables { c.new.variables ≡ c.old.variables }
     ensures clauses { OnOk result
         (c.new.clauses ≡ c.old.clauses ++ clauses_of (groups.one_type types.now (size_of s))) }
-    ensures counted { OnOk result (length c.new.clauses ≤ length c.old.clauses + 36 * 1024) }
 {
     for i in 0..s.constants {
         add_one_type_from(types, i, s, c)?;
@@ -154,11 +139,9 @@ fn add_one_type_from(types: &[u32], i: u32, s: Shape, c: &mut Clauses) -> Result
     requires types { length types.now ≡ s.operations }
     requires constant { i < s.constants }
     requires variables { c.old.variables ≡ count_of (size_of s) }
-    requires room { length c.old.clauses + 6 * 1024 < 2 ^ 32 }
     ensures variables { c.new.variables ≡ c.old.variables }
     ensures clauses { OnOk result
         (c.new.clauses ≡ c.old.clauses ++ clauses_of (one_type_from types.now (size_of s) i)) }
-    ensures counted { OnOk result (length c.new.clauses ≤ length c.old.clauses + 6 * 1024) }
 {
     for j in 0..s.constants {
         add_one_type_between(types, i, j, s, c)?;
@@ -176,11 +159,9 @@ fn add_one_type_between(
     requires types { length types.now ≡ s.operations }
     requires constants { (i < s.constants) × (j < s.constants) }
     requires variables { c.old.variables ≡ count_of (size_of s) }
-    requires room { length c.old.clauses + 1024 < 2 ^ 32 }
     ensures variables { c.new.variables ≡ c.old.variables }
     ensures clauses { OnOk result
         (c.new.clauses ≡ c.old.clauses ++ clauses_of (one_type_between types.now (size_of s) i j)) }
-    ensures counted { OnOk result (length c.new.clauses ≤ length c.old.clauses + 1024) }
 {
     for o in 0..s.operations {
         add_other_types(types, i, j, o, s, c)?;
@@ -201,11 +182,9 @@ fn add_other_types(
     requires constants { (i < s.constants) × (j < s.constants) }
     requires operation { o < s.operations }
     requires variables { c.old.variables ≡ count_of (size_of s) }
-    requires room { length c.old.clauses + 32 < 2 ^ 32 }
     ensures variables { c.new.variables ≡ c.old.variables }
     ensures clauses { OnOk result
         (c.new.clauses ≡ c.old.clauses ++ clauses_of (other_types types.now (size_of s) i j o)) }
-    ensures counted { OnOk result (length c.new.clauses ≤ length c.old.clauses + 32) }
 {
     for p in 0..s.operations {
         add_other_type(types, (i, j), (o, p), s, c)?;
@@ -225,13 +204,11 @@ fn add_other_type(
     requires constants { (effects.0 < s.constants) × (effects.1 < s.constants) }
     requires operations { (operations.0 < s.operations) × (operations.1 < s.operations) }
     requires variables { c.old.variables ≡ count_of (size_of s) }
-    requires room { length c.old.clauses + 1 < 2 ^ 32 }
     ensures variables { c.new.variables ≡ c.old.variables }
     ensures clauses { OnOk result
         (c.new.clauses ≡ c.old.clauses
         ++ clauses_of (other_type types.now (size_of s) effects.0 effects.1 operations.0
         operations.1)) }
-    ensures counted { OnOk result (length c.new.clauses ≤ length c.old.clauses + 1) }
 {
     let (i, j) = effects;
     let (o, p) = operations;
@@ -249,13 +226,11 @@ pub(crate) fn add_own_operation(o: OpId, s: Shape, c: &mut Clauses) -> Result<()
     requires some { 0 < s.constants }
     requires operation { o.0 < s.operations }
     requires variables { c.old.variables ≡ count_of (size_of s) }
-    requires room { length c.old.clauses + 1 < 2 ^ 32 }
     ensures variables { c.new.variables ≡ c.old.variables }
     ensures clauses { OnOk result
         (c.new.clauses ≡ c.old.clauses
         ++ clauses_of (implication (size_of s) []
         (Is (op o.0) (current_effect (size_of s)) ∷ []) ∷ [])) }
-    ensures counted { OnOk result (length c.new.clauses ≤ length c.old.clauses + 1) }
 {
     add_clause(&[literal(Atom::Is(o, s.constants - 1), true, s)], c)
 }
@@ -271,13 +246,10 @@ pub(crate) fn add_variables(
     requires variables { c.old.variables ≡ count_of (size_of s) }
     requires choices { AreChoicesOf s.operations choices.now }
     requires few { first + length choices.now ≤ s.constants }
-    requires room { length c.old.clauses + length choices.now < 2 ^ 32 }
     ensures variables { c.new.variables ≡ c.old.variables }
     ensures clauses { OnOk result
         (c.new.clauses ≡ c.old.clauses
         ++ clauses_of (groups.all_variable_operations (size_of s) first choices.now)) }
-    ensures counted { OnOk result
-        (length c.new.clauses ≤ length c.old.clauses + length choices.now) }
 {
     match choices.split_first() {
         None => Ok(()),
@@ -298,12 +270,10 @@ fn add_variable(
     requires variables { c.old.variables ≡ count_of (size_of s) }
     requires choice { AreChoicesOf s.operations (choice.now ∷ []) }
     requires constant { v < s.constants }
-    requires room { length c.old.clauses + 1 < 2 ^ 32 }
     ensures variables { c.new.variables ≡ c.old.variables }
     ensures clauses { OnOk result
         (c.new.clauses ≡ c.old.clauses
         ++ clauses_of (groups.variable_operations (size_of s) v choice.now)) }
-    ensures counted { OnOk result (length c.new.clauses ≤ length c.old.clauses + 1) }
 {
     match choice {
         OpChoice::Any => Ok(()),

@@ -3,7 +3,6 @@ ghost use Rattle.ql_atoms.specs.Atoms.{size_of, count_of};
 ghost use Rattle.ql_cnf.specs.Circuits.{clauses_of};
 ghost use Rattle.ql_ground.specs.Ground.{instances, all_instances};
 ghost use Rattle.ql_ground.specs.Rules as rules;
-ghost use Rattle.ql_ground.specs.Parts.{most_instances};
 
 use crate::rule::{CUR, I, J, K, L, Rule, add_rule};
 use ql_atoms::Atom::{Current, Pair};
@@ -22,12 +21,10 @@ pub(crate) fn add_level(
     c: &mut Clauses,
 ) -> Result<(), NoMemory>
     requires variables { c.old.variables ≡ count_of (size_of s) }
-    requires room { length c.old.clauses + most_instances < 2 ^ 32 }
     ensures variables { c.new.variables ≡ c.old.variables }
     ensures clauses { OnOk result
         (c.new.clauses ≡ c.old.clauses
         ++ clauses_of (instances (size_of s) (rules.level_rule level))) }
-    ensures counted { OnOk result (length c.new.clauses ≤ length c.old.clauses + most_instances) }
 {
     match level {
         // It sees what is before an effect that it sees, on one object.
@@ -62,13 +59,10 @@ pub(crate) fn add_txn_level(
     c: &mut Clauses,
 ) -> Result<(), NoMemory>
     requires variables { c.old.variables ≡ count_of (size_of s) }
-    requires room { length c.old.clauses + 2 * most_instances < 2 ^ 32 }
     ensures variables { c.new.variables ≡ c.old.variables }
     ensures clauses { OnOk result
         (c.new.clauses ≡ c.old.clauses
         ++ clauses_of (all_instances (size_of s) (rules.txn_level_rules level))) }
-    ensures counted { OnOk result
-        (length c.new.clauses ≤ length c.old.clauses + 2 * most_instances) }
 {
     match level {
         TxnLevel::Rc => add_committed(alloc, s, c),
@@ -83,11 +77,9 @@ pub(crate) fn add_txn_level(
 // An effect that sees one of another transaction sees all effects of that transaction on the object.
 fn add_committed(alloc: Global, s: Shape, c: &mut Clauses) -> Result<(), NoMemory>
     requires variables { c.old.variables ≡ count_of (size_of s) }
-    requires room { length c.old.clauses + most_instances < 2 ^ 32 }
     ensures variables { c.new.variables ≡ c.old.variables }
     ensures clauses { OnOk result
         (c.new.clauses ≡ c.old.clauses ++ clauses_of (instances (size_of s) rules.committed_rule)) }
-    ensures counted { OnOk result (length c.new.clauses ≤ length c.old.clauses + most_instances) }
 {
     let seen_in_part = [
         Current(I),
@@ -103,11 +95,9 @@ fn add_committed(alloc: Global, s: Shape, c: &mut Clauses) -> Result<(), NoMemor
 // transaction did on their objects.
 fn add_monotonic(alloc: Global, s: Shape, c: &mut Clauses) -> Result<(), NoMemory>
     requires variables { c.old.variables ≡ count_of (size_of s) }
-    requires room { length c.old.clauses + most_instances < 2 ^ 32 }
     ensures variables { c.new.variables ≡ c.old.variables }
     ensures clauses { OnOk result
         (c.new.clauses ≡ c.old.clauses ++ clauses_of (instances (size_of s) rules.monotonic_rule)) }
-    ensures counted { OnOk result (length c.new.clauses ≤ length c.old.clauses + most_instances) }
 {
     let seen_before = [
         Current(I),
@@ -125,12 +115,10 @@ fn add_monotonic(alloc: Global, s: Shape, c: &mut Clauses) -> Result<(), NoMemor
 // transaction did on their objects.
 fn add_repeatable(alloc: Global, s: Shape, c: &mut Clauses) -> Result<(), NoMemory>
     requires variables { c.old.variables ≡ count_of (size_of s) }
-    requires room { length c.old.clauses + most_instances < 2 ^ 32 }
     ensures variables { c.new.variables ≡ c.old.variables }
     ensures clauses { OnOk result
         (c.new.clauses ≡ c.old.clauses
         ++ clauses_of (instances (size_of s) rules.repeatable_rule)) }
-    ensures counted { OnOk result (length c.new.clauses ≤ length c.old.clauses + most_instances) }
 {
     let seen_by_one = [
         Current(I),

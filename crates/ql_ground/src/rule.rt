@@ -5,7 +5,7 @@ ghost use Rattle.ql_cnf.specs.Circuits.{clauses_of};
 ghost use Rattle.ql_cnf.specs.Satisfaction.{AreInRange};
 ghost use Rattle.ql_ground.specs.Ground.{at, choices, instances};
 ghost use Rattle.ql_ground.specs.Ground as groups;
-ghost use Rattle.ql_ground.specs.Parts.{IsRuleAtom, literal_of, rule_of, instance, most_instances};
+ghost use Rattle.ql_ground.specs.Parts.{IsRuleAtom, literal_of, rule_of, instance};
 
 use crate::literal::{add_clause, literal};
 use ql_atoms::{Atom, Shape};
@@ -125,12 +125,10 @@ fn add_instance(
     requires hypotheses { All (IsRuleAtom (size_of s)) r.now.hypotheses.now }
     requires conclusions { All (IsRuleAtom (size_of s)) r.now.conclusions.now }
     requires variables { c.old.variables ≡ count_of (size_of s) }
-    requires room { length c.old.clauses + 1 < 2 ^ 32 }
     ensures variables { c.new.variables ≡ c.old.variables }
     ensures clauses { OnOk result
         (c.new.clauses ≡ c.old.clauses
         ++ clauses_of (instance (size_of s) (rule_of r.now) chosen.now)) }
-    ensures counted { OnOk result (length c.new.clauses ≤ length c.old.clauses + 1) }
 {
     lits.clear();
     push_literals(r.hypotheses, false, chosen, s, lits)?;
@@ -154,14 +152,11 @@ fn add_choices(
     requires hypotheses { All (IsRuleAtom (size_of s)) r.now.hypotheses.now }
     requires conclusions { All (IsRuleAtom (size_of s)) r.now.conclusions.now }
     requires variables { c.old.variables ≡ count_of (size_of s) }
-    requires room { length c.old.clauses + s.constants ^ (r.now.places - depth) < 2 ^ 32 }
     ensures variables { c.new.variables ≡ c.old.variables }
     ensures clauses { OnOk result
         (c.new.clauses ≡ c.old.clauses
         ++ clauses_of (choices s.constants (r.now.places - depth)
         (λ rest. instance (size_of s) (rule_of r.now) (take depth chosen ++ rest)))) }
-    ensures counted { OnOk result
-        (length c.new.clauses ≤ length c.old.clauses + s.constants ^ (r.now.places - depth)) }
 {
     if depth == r.places as usize {
         return add_instance(r, &chosen[..depth], s, lits, c);
@@ -185,11 +180,9 @@ pub(crate) fn add_rule(
     requires hypotheses { All (IsRuleAtom (size_of s)) r.now.hypotheses.now }
     requires conclusions { All (IsRuleAtom (size_of s)) r.now.conclusions.now }
     requires variables { c.old.variables ≡ count_of (size_of s) }
-    requires room { length c.old.clauses + most_instances < 2 ^ 32 }
     ensures variables { c.new.variables ≡ c.old.variables }
     ensures clauses { OnOk result
         (c.new.clauses ≡ c.old.clauses ++ clauses_of (instances (size_of s) (rule_of r.now))) }
-    ensures counted { OnOk result (length c.new.clauses ≤ length c.old.clauses + most_instances) }
 {
     let mut lits = Vec::new(alloc);
     add_choices(r, [0; PLACES], 0, s, &mut lits, c)

@@ -1,7 +1,6 @@
 // Prints the ground problem of each goal of a source: its variables, its clauses, and a checksum over all
 // literals in their order. With `--clauses` as its first argument it prints the clauses themselves.
 ghost use Rattle.std.specs.Prelude.{IfOk, IfSome};
-ghost use Rattle.ql_ground.specs.SmallBodies.{HasSmallBodies};
 
 use crate::MOST_BYTES;
 use ql_base::{DeclId, NoMemory, OpId};
@@ -47,9 +46,7 @@ fn text_of(alloc: Global, text: &str, whole: bool) -> Result<Option<String>, NoM
 }
 
 // The program of a source; none where the text isn't one.
-fn typed(alloc: Global, text: &str) -> Result<Option<Typed>, NoMemory>
-    ensures { IfOk result (λ typed. IfSome typed (λ t. HasSmallBodies t.program)) }
-{
+fn typed(alloc: Global, text: &str) -> Result<Option<Typed>, NoMemory> {
     if text.len() > MOST_BYTES {
         return Ok(None);
     }
@@ -62,9 +59,7 @@ fn typed(alloc: Global, text: &str) -> Result<Option<Typed>, NoMemory>
 }
 
 // A line for each goal, and with `whole` a line for each clause after it.
-fn list_goals(alloc: Global, t: &Typed, whole: bool, out: &mut String) -> Result<(), NoMemory>
-    requires { HasSmallBodies t.now.program }
-{
+fn list_goals(alloc: Global, t: &Typed, whole: bool, out: &mut String) -> Result<(), NoMemory> {
     for o in 0..t.ops() {
         for level in [Level::Eventual, Level::Causal, Level::Wide, Level::Strong] {
             let clauses = problem(alloc, t, Goal::OpAt(OpId(o), level))?;

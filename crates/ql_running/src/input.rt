@@ -2,7 +2,6 @@ ghost use Rattle.std.specs.Prelude.{◌<◌, ◌^◌, length, IfErr, IfOk};
 ghost use Rattle.ql_classify.specs.Least.{AreLevelsOf};
 ghost use Rattle.ql_commands.specs.Levels.{RefusalSays};
 ghost use Rattle.ql_commands.specs.Sources.{IsSourceOf};
-ghost use Rattle.ql_ground.specs.SmallBodies.{HasSmallBodies};
 ghost use Rattle.ql_lines.specs.Lines.{ahead_from};
 ghost use Rattle.ql_running.specs.Runs.{NoRunSays};
 ghost use Rattle.ql_schedule.specs.Files.{IsScheduleFile};
@@ -68,7 +67,6 @@ pub fn read_run_input(
 
 // The least levels of a program, or the text that says why it has none.
 fn least_levels(alloc: Global, t: &Typed) -> Result<Result<Levels, Vec<u8>>, NoMemory>
-    requires { HasSmallBodies t.now.program }
     ensures levels { IfOk result (λ found. IfOk found (AreLevelsOf t.now.program)) }
     ensures refused { IfOk result
         (λ found. IfErr found (λ text. RefusalSays t.now.program text.items)) }

@@ -25,7 +25,6 @@ judge_txn-requires c = record {
   txn = omega (arith, c.loop-d-test.true, c.txns-d-end.ensures.count);
   few = omega (arith, c.txns-d-end.ensures.count, c.txns-d-end.ensures.few);
   levels = c.requires.levels;
-  small = c.requires.small;
 }
 
 -- at the loop's end each transaction was judged

@@ -8,5 +8,4 @@ pub loop-name-preserved : goal.loop-name-preserved
 loop-name-preserved c = record {
   clauses = rules_more (size_of c.args.s) axiom_of c.args.c.now.clauses c.loop-name.c.clauses c.add_axiom.new.c.clauses c.args.names.now c.loop-name.name-index _ c.loop-name-test.true c.loop-name.invariant.clauses c.in_ok-add_axiom.ensures.clauses;
   variables = c.in_ok-add_axiom.ensures.variables ∙ c.loop-name.invariant.variables;
-  counted = omega (arith, c.loop-name.invariant.counted, c.in_ok-add_axiom.ensures.counted);
 }

@@ -16,12 +16,6 @@ pub deny-requires-clause-leaves : goal.deny-requires-clause-leaves
 deny-requires-clause-leaves c =
     txn_inputs (size (length c.items-variables.result.now) (length c.args.types.now)) (length c.args.f.now.vars) (omega (arith, ap length c.items-variables.ensures)) (statement_of c.args.f.now.body) c.requires.contract.body
 
-pub deny-requires-clause-room : goal.deny-requires-clause-room
-deny-requires-clause-room c = omega (arith, c.in_ok-add_txn_groups.ensures.counted, ap length c.new-c.ensures.empty)
-
-pub deny-requires-clause-small : goal.deny-requires-clause-small
-deny-requires-clause-small c = c.requires.small (size (length c.items-variables.result.now) (length c.args.types.now))
-
 pub returns-clause-list : goal.returns-clause-list
 returns-clause-list c =
     let counted : length c.items-variables.result.now ≡ length c.args.f.now.vars = omega (arith, ap length c.items-variables.ensures) in

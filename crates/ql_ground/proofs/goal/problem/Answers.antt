@@ -23,9 +23,6 @@ op_problem-requires-clause-operation c =
 pub op_problem-requires-clause-contract : goal.op_problem-requires-clause-contract
 op_problem-requires-clause-contract c = op_contract c.args.t.now.program.types c.deref.result.now (resolved_of c.op_formula.result.now) (c.deref.ensures.value ∙ c.in_ok-types.ensures.types) c.op_formula.ensures.well_formed
 
-pub op_problem-requires-clause-small : goal.op_problem-requires-clause-small
-op_problem-requires-clause-small c = c.requires.small.ops c.in-OpAt.o.0 (resolved_of c.op_formula.result.now) c.op_formula.ensures.resolved
-
 pub returns-in-OpAt-clause-list : goal.returns-in-OpAt-clause-list
 returns-in-OpAt-clause-list c =
     subst (λ (g : Goal). IfOk c.op_problem.result (λ r. IsProblemOf c.args.t.now.program g r)) (sym c.in-OpAt.is)
@@ -51,9 +48,6 @@ txn_problem-requires-clause-few_operations c = omega (arith, ap length c.deref-i
 
 pub txn_problem-requires-clause-contract : goal.txn_problem-requires-clause-contract
 txn_problem-requires-clause-contract c = txn_contract c.args.t.now.program.types c.deref-in-TxnAt.result.now (resolved_of c.txn_formula.result.now) (c.deref-in-TxnAt.ensures.value ∙ c.in_ok-types.ensures.types) c.txn_formula.ensures.well_formed
-
-pub txn_problem-requires-clause-small : goal.txn_problem-requires-clause-small
-txn_problem-requires-clause-small c = c.requires.small.txns c.in-TxnAt.d.0 (resolved_of c.txn_formula.result.now) c.txn_formula.ensures.resolved
 
 pub returns-clause-list : goal.returns-clause-list
 returns-clause-list c =

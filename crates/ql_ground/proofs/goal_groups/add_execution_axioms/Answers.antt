@@ -19,11 +19,3 @@ returns-clause-clauses c = on_ok_weaker c.add_one_type.result
     h)
     c.add_one_type.ensures.clauses
 
-pub add_some_operation-requires-clause-room : goal.add_some_operation-requires-clause-room
-add_some_operation-requires-clause-room c = omega (arith, c.in_ok-add_relations.ensures.counted, c.requires.room)
-
-pub add_one_operation-requires-clause-room : goal.add_one_operation-requires-clause-room
-add_one_operation-requires-clause-room c = omega (arith, c.in_ok-add_relations.ensures.counted, c.in_ok-add_some_operation.ensures.counted, c.requires.room)
-
-pub add_one_type-requires-clause-room : goal.add_one_type-requires-clause-room
-add_one_type-requires-clause-room c = omega (arith, c.in_ok-add_relations.ensures.counted, c.in_ok-add_some_operation.ensures.counted, c.in_ok-add_one_operation.ensures.counted, c.requires.room)

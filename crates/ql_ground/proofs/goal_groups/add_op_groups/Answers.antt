@@ -26,14 +26,3 @@ returns-clause-clauses c = on_ok_weaker c.add_variables.result
     h)
     c.add_variables.ensures.clauses
 
-pub add_alike_operations-requires-clause-room : goal.add_alike_operations-requires-clause-room
-add_alike_operations-requires-clause-room c = omega (arith, c.in_ok-add_axioms.ensures.counted, c.requires.room)
-
-pub add_execution_axioms-requires-clause-room : goal.add_execution_axioms-requires-clause-room
-add_execution_axioms-requires-clause-room c = omega (arith, c.in_ok-add_axioms.ensures.counted, c.in_ok-add_alike_operations.ensures.counted, c.requires.room)
-
-pub add_level-requires-clause-room : goal.add_level-requires-clause-room
-add_level-requires-clause-room c = omega (arith, c.in_ok-add_axioms.ensures.counted, c.in_ok-add_alike_operations.ensures.counted, c.in_ok-add_execution_axioms.ensures.counted, c.requires.room)
-
-pub add_own_operation-requires-clause-room : goal.add_own_operation-requires-clause-room
-add_own_operation-requires-clause-room c = omega (arith, c.in_ok-add_axioms.ensures.counted, c.in_ok-add_alike_operations.ensures.counted, c.in_ok-add_execution_axioms.ensures.counted, c.in_ok-add_level.ensures.counted, c.requires.room)

@@ -25,17 +25,3 @@ returns-clause-clauses c = on_ok_weaker c.add_variables.result
     h)
     c.add_variables.ensures.clauses
 
-pub add_alike_operations-requires-clause-room : goal.add_alike_operations-requires-clause-room
-add_alike_operations-requires-clause-room c = omega (arith, c.in_ok-add_axioms.ensures.counted, c.requires.room)
-
-pub add_axiom-requires-clause-room : goal.add_axiom-requires-clause-room
-add_axiom-requires-clause-room c = omega (arith, c.in_ok-add_axioms.ensures.counted, c.in_ok-add_alike_operations.ensures.counted, c.requires.room)
-
-pub add_execution_axioms-requires-clause-room : goal.add_execution_axioms-requires-clause-room
-add_execution_axioms-requires-clause-room c = omega (arith, c.in_ok-add_axioms.ensures.counted, c.in_ok-add_alike_operations.ensures.counted, c.in_ok-add_axiom.ensures.counted, c.requires.room)
-
-pub add_axioms-requires-2-clause-room : goal.add_axioms-requires-2-clause-room
-add_axioms-requires-2-clause-room c = omega (arith, c.in_ok-add_axioms.ensures.counted, c.in_ok-add_alike_operations.ensures.counted, c.in_ok-add_axiom.ensures.counted, c.in_ok-add_execution_axioms.ensures.counted, c.requires.room)
-
-pub add_txn_level-requires-clause-room : goal.add_txn_level-requires-clause-room
-add_txn_level-requires-clause-room c = omega (arith, c.in_ok-add_axioms.ensures.counted, c.in_ok-add_alike_operations.ensures.counted, c.in_ok-add_axiom.ensures.counted, c.in_ok-add_execution_axioms.ensures.counted, c.in_ok-add_axioms-2.ensures.counted, c.requires.room)

@@ -12,7 +12,6 @@ loop-o-preserved c = record {
   clauses = upto_more (λ o. instances (size_of c.args.s) (alike_op (op o))) c.args.c.now.clauses c.loop-o.c.clauses c.add_rule.new.c.clauses c.loop-o.o c.loop-o.invariant.clauses
       (c.in_ok-add_rule.ensures.clauses ∙ ap (λ (r : Rule). c.loop-o.c.clauses ++ clauses_of (instances (size_of c.args.s) r)) c.over.ensures);
   variables = c.in_ok-add_rule.ensures.variables ∙ c.loop-o.invariant.variables;
-  counted = omega (arith, c.loop-o.invariant.counted, c.in_ok-add_rule.ensures.counted);
 }
 
 pub returns-clause-clauses : goal.returns-clause-clauses

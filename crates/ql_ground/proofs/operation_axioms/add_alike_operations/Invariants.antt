@@ -5,12 +5,10 @@ use Rattle.ql_base.specs.Ranges.{upto}
 use Rattle.ql_base.specs.Ids.{op}
 use Rattle.ql_ground.specs.Ground.{instances}
 use Rattle.ql_ground.specs.Rules.{alike_op}
-use Rattle.ql_ground.specs.Parts.{most_instances}
 use Rattle.ql_ground.proofs.operation_axioms.add_alike_operations.Given as goal
 
 abbrev pub invariant-loop-o : goal.invariant-loop-o
 invariant-loop-o l = record {
   clauses : l.c.clauses ≡ l.initial.c.clauses ++ clauses_of (upto l.o (λ o. instances (size_of l.s) (alike_op (op o))));
   variables : l.c.variables ≡ l.initial.c.variables;
-  counted : length l.c.clauses ≤ length l.initial.c.clauses + l.o * most_instances;
 }

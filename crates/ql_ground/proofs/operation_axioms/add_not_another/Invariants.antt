@@ -9,5 +9,4 @@ abbrev pub invariant-loop-p : goal.invariant-loop-p
 invariant-loop-p l = record {
   clauses : l.c.clauses ≡ l.initial.c.clauses ++ clauses_of (upto l.p (λ p. not_both (size_of l.s) l.i l.o p));
   variables : l.c.variables ≡ l.initial.c.variables;
-  counted : length l.c.clauses ≤ length l.initial.c.clauses + l.p * 1;
 }

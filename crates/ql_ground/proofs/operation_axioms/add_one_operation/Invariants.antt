@@ -9,5 +9,4 @@ abbrev pub invariant-loop-i : goal.invariant-loop-i
 invariant-loop-i l = record {
   clauses : l.c.clauses ≡ l.initial.c.clauses ++ clauses_of (upto l.i (λ i. one_operation_of (size_of l.s) i));
   variables : l.c.variables ≡ l.initial.c.variables;
-  counted : length l.c.clauses ≤ length l.initial.c.clauses + l.i * 1024;
 }

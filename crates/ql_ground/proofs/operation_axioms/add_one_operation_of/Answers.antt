@@ -8,7 +8,6 @@ pub loop-o-preserved : goal.loop-o-preserved
 loop-o-preserved c = record {
   clauses = upto_more (λ o. not_another (size_of c.args.s) c.args.i o) c.args.c.now.clauses c.loop-o.c.clauses c.add_not_another.new.c.clauses c.loop-o.o c.loop-o.invariant.clauses c.in_ok-add_not_another.ensures.clauses;
   variables = c.in_ok-add_not_another.ensures.variables ∙ c.loop-o.invariant.variables;
-  counted = omega (arith, c.loop-o.invariant.counted, c.in_ok-add_not_another.ensures.counted);
 }
 
 pub returns-clause-clauses : goal.returns-clause-clauses

@@ -8,7 +8,6 @@ pub loop-i-preserved : goal.loop-i-preserved
 loop-i-preserved c = record {
   clauses = upto_more (λ i. one_type_from c.args.types.now (size_of c.args.s) i) c.args.c.now.clauses c.loop-i.c.clauses c.add_one_type_from.new.c.clauses c.loop-i.i c.loop-i.invariant.clauses c.in_ok-add_one_type_from.ensures.clauses;
   variables = c.in_ok-add_one_type_from.ensures.variables ∙ c.loop-i.invariant.variables;
-  counted = omega (arith, c.loop-i.invariant.counted, c.in_ok-add_one_type_from.ensures.counted);
 }
 
 pub returns-clause-clauses : goal.returns-clause-clauses

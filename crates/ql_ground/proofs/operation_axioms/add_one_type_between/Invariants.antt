@@ -9,5 +9,4 @@ abbrev pub invariant-loop-o : goal.invariant-loop-o
 invariant-loop-o l = record {
   clauses : l.c.clauses ≡ l.initial.c.clauses ++ clauses_of (upto l.o (λ o. other_types l.types (size_of l.s) l.i l.j o));
   variables : l.c.variables ≡ l.initial.c.variables;
-  counted : length l.c.clauses ≤ length l.initial.c.clauses + l.o * 32;
 }

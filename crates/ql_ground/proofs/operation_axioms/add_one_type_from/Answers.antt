@@ -8,7 +8,6 @@ pub loop-j-preserved : goal.loop-j-preserved
 loop-j-preserved c = record {
   clauses = upto_more (λ j. one_type_between c.args.types.now (size_of c.args.s) c.args.i j) c.args.c.now.clauses c.loop-j.c.clauses c.add_one_type_between.new.c.clauses c.loop-j.j c.loop-j.invariant.clauses c.in_ok-add_one_type_between.ensures.clauses;
   variables = c.in_ok-add_one_type_between.ensures.variables ∙ c.loop-j.invariant.variables;
-  counted = omega (arith, c.loop-j.invariant.counted, c.in_ok-add_one_type_between.ensures.counted);
 }
 
 pub returns-clause-clauses : goal.returns-clause-clauses

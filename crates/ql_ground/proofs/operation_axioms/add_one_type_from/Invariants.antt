@@ -9,5 +9,4 @@ abbrev pub invariant-loop-j : goal.invariant-loop-j
 invariant-loop-j l = record {
   clauses : l.c.clauses ≡ l.initial.c.clauses ++ clauses_of (upto l.j (λ j. one_type_between l.types (size_of l.s) l.i j));
   variables : l.c.variables ≡ l.initial.c.variables;
-  counted : length l.c.clauses ≤ length l.initial.c.clauses + l.j * 1024;
 }

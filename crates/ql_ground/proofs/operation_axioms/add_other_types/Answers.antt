@@ -8,7 +8,6 @@ pub loop-p-preserved : goal.loop-p-preserved
 loop-p-preserved c = record {
   clauses = upto_more (λ p. other_type c.args.types.now (size_of c.args.s) c.args.i c.args.j c.args.o p) c.args.c.now.clauses c.loop-p.c.clauses c.add_other_type.new.c.clauses c.loop-p.p c.loop-p.invariant.clauses c.in_ok-add_other_type.ensures.clauses;
   variables = c.in_ok-add_other_type.ensures.variables ∙ c.loop-p.invariant.variables;
-  counted = omega (arith, c.loop-p.invariant.counted, c.in_ok-add_other_type.ensures.counted);
 }
 
 pub returns-clause-clauses : goal.returns-clause-clauses

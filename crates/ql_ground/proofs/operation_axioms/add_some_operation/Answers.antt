@@ -11,7 +11,6 @@ loop-i-preserved c = record {
   clauses = upto_more (λ i. some_operation_of (size_of c.args.s) i) c.args.c.now.clauses c.loop-i.c.clauses c.add_clause.new.c.clauses c.loop-i.i c.loop-i.invariant.clauses
       (c.in_ok-add_clause.ensures.clauses ∙ ap (λ (x : List Lit). c.loop-i.c.clauses ++ clauses_of (x ∷ [])) (c.deref.ensures.value ∙ c.in_ok-push_operations.ensures.lits));
   variables = c.in_ok-add_clause.ensures.variables ∙ c.loop-i.invariant.variables;
-  counted = omega (arith, c.loop-i.invariant.counted, c.in_ok-add_clause.ensures.counted);
 }
 
 pub returns-clause-clauses : goal.returns-clause-clauses

@@ -7,7 +7,7 @@ use Rattle.std.specs.List.{All}
 use Rattle.ql_atoms.specs.Atoms.{size_of}
 use Rattle.ql_cnf.specs.Circuits.{clauses_of}
 use Rattle.ql_ground.specs.Parts.{rule_of, instance}
-use Rattle.ql_ground.proofs.Growth.{pow_next, room_next, choices_more, choices_done, choices_one}
+use Rattle.ql_ground.proofs.Growth.{choices_more, choices_done, choices_one}
 use Rattle.ql_ground.proofs.rule.+add_choices.Goals as goal
 
 pub returns-then-depth-r-clause-clauses : goal.returns-then-depth-r-clause-clauses
@@ -21,9 +21,6 @@ pub add_choices-requires : goal.add_choices-requires
 add_choices-requires t c =
     let less : c.args.depth < c.args.r.now.places = omega arith in
     let inside : c.args.depth < length c.args.chosen = omega arith in
-    let rest : ℕ = c.args.s.constants ^ (c.args.r.now.places - (c.args.depth + 1)) in
-    let product : c.args.s.constants ^ (c.args.r.now.places - c.args.depth) ≡ rest * c.args.s.constants = pow_next c.args.s.constants c.args.r.now.places c.args.depth less in
-    let more : c.loop-k.k * rest + rest ≤ rest * c.args.s.constants = room_next c.args.s.constants c.loop-k.k rest c.loop-k-test.true in
     let below : All (λ (k : ℕ). k < c.args.s.constants) (take c.args.depth c.args.chosen ++ c.loop-k.k ∷ []) = All-push (λ (k : ℕ). k < c.args.s.constants) (take c.args.depth c.args.chosen) c.loop-k.k c.requires.chosen c.loop-k-test.true in (
       omega arith,
       (
@@ -38,10 +35,7 @@ add_choices-requires t c =
                 c.requires.hypotheses,
                 (
                   c.requires.conclusions,
-                  (
-                    c.loop-k.invariant.variables ∙ c.requires.variables,
-                    omega (arith, c.loop-k.invariant.counted, c.requires.room),
-                  ),
+                  c.loop-k.invariant.variables ∙ c.requires.variables,
                 ),
               ),
             ),
@@ -51,25 +45,14 @@ add_choices-requires t c =
     )
 
 pub loop-k-preserved : goal.loop-k-preserved
-loop-k-preserved t c =
-    let rest : ℕ = c.args.s.constants ^ (c.args.r.now.places - (c.args.depth + 1)) in
-    let more : (c.loop-k.k + 1) * rest ≡ c.loop-k.k * rest + rest = rw add-one (suc-mul c.loop-k.k rest) in
-    record {
-      clauses = choices_more c.args.s.constants c.args.r.now.places c.args.depth c.loop-k.k (instance (size_of c.args.s) (rule_of c.args.r.now)) c.args.chosen
-          c.args.c.now.clauses c.loop-k.c.clauses c.add_choices.new.c.clauses (omega arith) c.loop-k.invariant.clauses c.in_ok-add_choices.ensures.clauses;
-      variables = c.in_ok-add_choices.ensures.variables ∙ c.loop-k.invariant.variables;
-      counted = omega (arith, c.loop-k.invariant.counted, c.in_ok-add_choices.ensures.counted);
-    }
+loop-k-preserved t c = record {
+  clauses = choices_more c.args.s.constants c.args.r.now.places c.args.depth c.loop-k.k (instance (size_of c.args.s) (rule_of c.args.r.now)) c.args.chosen
+      c.args.c.now.clauses c.loop-k.c.clauses c.add_choices.new.c.clauses (omega arith) c.loop-k.invariant.clauses c.in_ok-add_choices.ensures.clauses;
+  variables = c.in_ok-add_choices.ensures.variables ∙ c.loop-k.invariant.variables;
+}
 
 pub returns-clause-clauses : goal.returns-clause-clauses
 returns-clause-clauses t c =
     choices_done c.args.s.constants c.args.r.now.places c.args.depth c.loop-k.k (instance (size_of c.args.s) (rule_of c.args.r.now)) (take c.args.depth c.args.chosen)
     c.args.c.now.clauses c.loop-k.c.clauses (omega arith) (omega arith) c.loop-k.invariant.clauses
 
-pub returns-clause-counted : goal.returns-clause-counted
-returns-clause-counted t c =
-    let rest : ℕ = c.args.s.constants ^ (c.args.r.now.places - (c.args.depth + 1)) in
-    let all : c.loop-k.k ≡ c.args.s.constants = omega arith in
-    let product : c.args.s.constants ^ (c.args.r.now.places - c.args.depth) ≡ rest * c.args.s.constants = pow_next c.args.s.constants c.args.r.now.places c.args.depth (omega arith) in
-    let same : c.loop-k.k * rest ≡ rest * c.args.s.constants = ap (λ (k : ℕ). k * rest) all ∙ mul_comm c.args.s.constants rest in
-    omega (arith, c.loop-k.invariant.counted)

@@ -13,5 +13,4 @@ abbrev pub invariant-loop-k : goal.invariant-loop-k
 invariant-loop-k l = record {
   clauses : l.c.clauses ≡ l.initial.c.clauses ++ clauses_of (upto l.k (λ first. from l.s.constants (l.r.places - (l.depth + 1)) (instance (size_of l.s) (rule_of l.r)) (take l.depth l.chosen ++ first ∷ [])));
   variables : l.c.variables ≡ l.initial.c.variables;
-  counted : length l.c.clauses ≤ length l.initial.c.clauses + l.k * l.s.constants ^ (l.r.places - (l.depth + 1));
 }
