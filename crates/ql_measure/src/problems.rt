@@ -1,6 +1,5 @@
 // Prints the ground problem of each goal of a source: its variables, its clauses, and a checksum over all
 // literals in their order. With `--clauses` as its first argument it prints the clauses themselves.
-ghost use Rattle.std.specs.Prelude.{IfOk, IfSome};
 
 use crate::MOST_BYTES;
 use ql_base::{DeclId, NoMemory, OpId};

@@ -11,4 +11,4 @@ mod run;
 pub mod values;
 
 pub use execution::effects;
-pub use run::print_run_json;
+pub use run::json_run;

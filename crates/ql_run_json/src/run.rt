@@ -15,7 +15,7 @@ use std::alloc::Global;
 
 /// A run in JSON, on one line: the levels of the program, the replies to the events in order, and the execution that
 /// they made, with these names for the objects. By `serde_json`'s grammar the text reads back as the same value.
-pub fn print_run_json(
+pub fn json_run(
     alloc: Global,
     t: &Typed,
     objects: &Names,

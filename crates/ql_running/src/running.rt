@@ -18,7 +18,7 @@ use ql_exec::Execution;
 use ql_levels::Levels;
 use ql_machine::Reply;
 use ql_reply::Status;
-use ql_run_json::print_run_json;
+use ql_run_json::json_run;
 use ql_run_text::print_run;
 use ql_typing::Typed;
 use std::alloc::Global;
@@ -86,6 +86,6 @@ fn print_in(
 {
     match form {
         Form::Text => print_run(alloc, t, objects, levels, replies, x),
-        Form::Json => print_run_json(alloc, t, objects, levels, replies, x),
+        Form::Json => json_run(alloc, t, objects, levels, replies, x),
     }
 }

@@ -20,8 +20,8 @@ returns-in-Text c = of-both c.print_run.result _ _ _
     c.print_run.ensures.text c.print_run.ensures.values
 
 pub returns-in-Json : goal.returns-in-Json
-returns-in-Json c = of-two c.print_run_json.result _ _ _
+returns-in-Json c = of-two c.json_run.result _ _ _
     (λ text written again.
     subst (λ (f : Form). format_of f c.args.t.now.program c.args.objects.now c.args.levels.now c.args.replies.now.items c.args.x.now text.items)
     (sym c.in-Json.is) (record { written = written; again = again }))
-    c.print_run_json.ensures.text c.print_run_json.ensures.again
+    c.json_run.ensures.text c.json_run.ensures.again

@@ -10,7 +10,7 @@ use Rattle.ql_run_json.specs.Values.{listed, text_data}
 use Rattle.ql_run_json.proofs.Depths.{run_nests}
 use Rattle.ql_run_json.proofs.LineEnd.{reads_line}
 use Rattle.ql_run_json.proofs.Texts.{run_line, run_reads_back, text_compact, text_read}
-use Rattle.ql_run_json.proofs.run.print_run_json.Goals as goal
+use Rattle.ql_run_json.proofs.run.json_run.Goals as goal
 
 pub returns-clause-text : goal.returns-clause-text
 returns-clause-text c =
