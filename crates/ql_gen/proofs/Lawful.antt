@@ -233,7 +233,7 @@ module _ (p : Program) where
   )
 
   module _ (number : ℕ) where
-    events_plain : (n : ℕ) → AllByRecursion (IsOfVersion 1) (generated_events p number n)
+    pub events_plain : (n : ℕ) → AllByRecursion (IsOfVersion 1) (generated_events p number n)
     unfolding generated_events
     events_plain zero = tt
     events_plain (suc n) =
@@ -245,7 +245,7 @@ module _ (p : Program) where
     events_fit (suc n) =
         all_more Fits (generated_events p number n) (event_of p (suc n) (state_after p number n) ∷ []) (events_fit n) (event_fits (suc n) (state_after p number n), tt)
 
-    length_events : (n : ℕ) → length (generated_events p number n) ≡ n
+    pub length_events : (n : ℕ) → length (generated_events p number n) ≡ n
     unfolding generated_events
     length_events zero = refl
     length_events (suc n) = omega (arith, length_events n, length-append (generated_events p number n) (event_of p (suc n) (state_after p number n) ∷ []))

@@ -32,6 +32,14 @@ unfoldable pub count : List ℕ → List Reply → ℕ
 count word [] = 0
 count word (r ∷ rs) = (if bytes_eq (reply_word r) word then 1 else 0) + count word rs
 
+-- how many replies the lines of a summary count together
+abbrev pub counted : List Reply → ℕ
+counted rs =
+    count (codes "ok") rs + count (codes "begun") rs + count (codes "committed") rs + count (codes "blocked") rs
+    + count (codes "unavailable") rs + count (codes "held") rs + count (codes "cut") rs + count (codes "gone") rs
+    + count (codes "again") rs + count (codes "waits") rs + count (codes "applies") rs + count (codes "lost") rs
+    + count (codes "split") rs + count (codes "healed") rs + count (codes "sent") rs + count (codes "refused") rs
+
 -- how many ids are seen by the effects together
 unfoldable pub seen_count : List Effect → ℕ
 seen_count [] = 0

@@ -1,11 +1,15 @@
-ghost use Rattle.std.specs.Prelude.{◌≤◌, ℕ, List};
+ghost use Rattle.std.specs.Prelude.{◌≡◌, ◌≤◌, ℕ, List};
 ghost use Rattle.ql_commands.specs.Sources.{IsSourceOf};
 ghost use Rattle.ql_gen.specs.Generated.{generated};
 ghost use Rattle.ql_lang.specs.declared.program.Program.{Program};
 ghost use Rattle.ql_lines.specs.Lines.{ahead_from};
 ghost use Rattle.ql_running.specs.Runs.{AreRunnable};
 ghost use Rattle.ql_schedule.specs.Files.{IsScheduleFile};
+ghost use Rattle.ql_exec.specs.declared.effect.Effect.{Effect};
+ghost use Rattle.ql_machine.specs.declared.reply.Reply.{Reply};
 ghost use Rattle.ql_generated.specs.Schedules.{ReportsSchedule};
+ghost use Rattle.ql_generated.specs.Soaks.{ReportsSoak};
+ghost use Rattle.ql_generated.specs.Summaries.{counted, summary_text};
 
 use ql_parse::one_program_answer;
 use ql_schedule::printed_is_read_again;
@@ -21,3 +25,9 @@ pub fn generated_schedules_are_read()
     one_program_answer();
     printed_is_read_again();
 }
+
+/// The counts that `soak` prints of a run's replies add up to the number of its events.
+pub fn each_event_is_counted()
+    ensures { (source text : List ℕ) (number : ℕ) → ReportsSoak source number text
+        → (replies : List Reply) × (x : List Effect) × (text ≡ summary_text replies x) × (counted replies ≡ 4000) }
+{}

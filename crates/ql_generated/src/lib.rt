@@ -9,5 +9,5 @@ mod soaking;
 mod summary;
 
 pub use generation::generate;
-pub use law::generated_schedules_are_read;
+pub use law::{each_event_is_counted, generated_schedules_are_read};
 pub use soaking::soak;
